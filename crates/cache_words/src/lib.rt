@@ -1,0 +1,4 @@
+//! The words that the cache's layers share: points in time, digests, keys and the format of files and metas.
+#![tactic(auto)]
+
+pub mod time;
