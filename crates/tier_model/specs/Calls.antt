@@ -1,0 +1,131 @@
+-- Calls of a tier, and what one call tells: what it wrote, removed and read.
+use Rattle.std.specs.Prelude.{ℕ, ◌==◌, Bool, false, ◌&&◌, ◌||◌, List, [], ◌∷◌, ◌++◌, if◌then◌else◌, Option, Some, None, Result, Ok, Err}
+use Rattle.std.specs.Result.{result_ok}
+use Rattle.cache_words.specs.Time.{Instant}
+use Rattle.tier_model.specs.declared.key.StoredKey.{StoredKey}
+use Rattle.tier_model.specs.declared.rows.FinishedBody.{FinishedBody}
+use Rattle.tier_model.specs.declared.event.Event.{Event}
+use Rattle.tier_model.specs.declared.event.Action.{Action}
+use Rattle.tier_model.specs.declared.event.Action.TheVariants.{Open, LookUp, Read, Drop, Purge, Put}
+use Rattle.tier_model.specs.declared.event.Answer.{Answer}
+use Rattle.tier_model.specs.declared.event.Answer.TheVariants.{Opened, Found, Bytes, Dropped, Finished}
+use Rattle.tier_model.specs.declared.event.Done.{Done}
+use Rattle.tier_model.specs.declared.event.TierFault.{TierFault}
+use Rattle.tier_model.specs.declared.event.TierFault.TheVariants.{NumbersSpent, TooHeavy, TooLong, Memory}
+use Rattle.tier_model.specs.Keys.{same_key}
+use Rattle.tier_model.specs.Response.{body_put}
+
+-- what a call answered, or the fault that refused it
+abbrev pub Outcome : Type 0
+Outcome = Result Answer TierFault
+
+-- an event with its outcome
+pub record Call : Type 0 where
+  pub event : Event
+  pub outcome : Outcome
+
+-- the calls of one tier, the latest first
+abbrev pub History : Type 0
+History = List Call
+
+-- the history behind further events and their outcomes
+abbrev pub extended : History → List Event → List Outcome → History
+extended past [] outcomes = past
+extended past (e ∷ es) [] = past
+extended past (e ∷ es) (o ∷ os) = extended (record { event = e; outcome = o } ∷ past) es os
+
+-- nothing was done before the refusal
+abbrev pub nothing_done : Done
+nothing_done = record { stored = false; admitted = false; evicted = [] }
+
+-- what was done before a refusal
+abbrev pub done_of : TierFault → Done
+done_of (NumbersSpent done) = done
+done_of (TooHeavy done) = done
+done_of (TooLong done) = done
+done_of (Memory done) = done
+done_of _ = nothing_done
+
+-- the entries that went
+abbrev pub evicted_by : Outcome → List StoredKey
+evicted_by (Ok (Finished length evicted)) = evicted
+evicted_by (Ok _) = []
+evicted_by (Err fault) = (done_of fault).evicted
+
+-- k stands among the keys
+abbrev pub has_key : StoredKey → List StoredKey → Bool
+has_key k [] = false
+has_key k (e ∷ es) = same_key e k || has_key k es
+
+abbrev pub purges : StoredKey → Action → Bool
+purges k (Purge key) = same_key key k
+purges k _ = false
+
+-- the event would store under k
+abbrev pub stores_under : StoredKey → Action → Bool
+stores_under k (Put key pieces) = same_key key k
+stores_under k _ = false
+
+abbrev pub was_stored : Outcome → Bool
+was_stored (Ok answer) = false
+was_stored (Err fault) = (done_of fault).stored
+
+-- the call is a removal of k: a purge, an eviction, or a refusal behind the storing
+abbrev pub removes : StoredKey → Call → Bool
+removes k c = purges k c.event.action || ((was_stored c.outcome && stores_under k c.event.action) || has_key k (evicted_by c.outcome))
+
+abbrev pub body_finished : Instant → Action → Outcome → Option FinishedBody
+body_finished t (Put key pieces) (Ok (Finished length evicted)) = result_ok (body_put t key pieces)
+body_finished t _ _ = None
+
+-- the body that a call finished, given the calls before it
+abbrev pub written_by : Call → History → Option FinishedBody
+written_by c before = body_finished c.event.moment c.event.action c.outcome
+
+abbrev pub is_of : StoredKey → Option FinishedBody → Bool
+is_of k None = false
+is_of k (Some w) = same_key w.key k
+
+-- the call finished a body of k
+abbrev pub writes : StoredKey → Call → History → Bool
+writes k c before = is_of k (written_by c before)
+
+abbrev pub key_behind : ℕ → Action → Outcome → Option StoredKey → Option StoredKey
+key_behind id (Open request key) (Ok Opened) old = if request == id then Some key else old
+key_behind id (Drop request) (Ok Dropped) old = if request == id then None else old
+key_behind id _ _ old = old
+
+-- the key that a request was last opened for, if it is open
+abbrev pub opened_key : ℕ → History → Option StoredKey
+opened_key id [] = None
+opened_key id (c ∷ h) = key_behind id c.event.action c.outcome (opened_key id h)
+
+abbrev pub is_hit : ℕ → Action → Outcome → Bool
+is_hit id (LookUp request) (Ok (Found fresh complete)) = (request == id) && complete
+is_hit id _ _ = false
+
+-- the request's look-up found all of a body
+abbrev pub hits : ℕ → Call → Bool
+hits id c = is_hit id c.event.action c.outcome
+
+abbrev pub is_end_of_reader : ℕ → Action → Outcome → Bool
+is_end_of_reader id (LookUp request) (Ok answer) = request == id
+is_end_of_reader id (Drop request) (Ok answer) = request == id
+is_end_of_reader id _ _ = false
+
+-- the call ended the request's reader: it was looked up anew, or dropped
+abbrev pub ends_reader : ℕ → Call → Bool
+ends_reader id c = is_end_of_reader id c.event.action c.outcome
+
+abbrev pub bytes_answered : Answer → List ℕ
+bytes_answered (Bytes bytes) = bytes
+bytes_answered _ = []
+
+abbrev pub bytes_given : ℕ → Action → Outcome → List ℕ
+bytes_given id (Read request) (Ok answer) = if request == id then bytes_answered answer else []
+bytes_given id _ _ = []
+
+-- what the request read, in order
+abbrev pub bytes_read : ℕ → History → List ℕ
+bytes_read id [] = []
+bytes_read id (c ∷ h) = bytes_read id h ++ bytes_given id c.event.action c.outcome

@@ -1,0 +1,47 @@
+-- The headline: what a history says of the answers in it. It names no state.
+use Rattle.std.specs.Prelude.{◌≡◌, ℕ, true, [], ◌∷◌, ◌++◌, Option, Some, Ok}
+use Rattle.cache_words.specs.Time.{Instant, at_most}
+use Rattle.tier_model.specs.declared.key.StoredKey.{StoredKey}
+use Rattle.tier_model.specs.declared.rows.FinishedBody.{FinishedBody}
+use Rattle.tier_model.specs.declared.event.Action.{Action}
+use Rattle.tier_model.specs.declared.event.Action.TheVariants.{LookUp, Read, Purge}
+use Rattle.tier_model.specs.declared.event.Answer.{Answer}
+use Rattle.tier_model.specs.declared.event.Answer.TheVariants.{Found, Absent, Purged}
+use Rattle.tier_model.specs.Calls.{History, Outcome, opened_key, bytes_read, bytes_answered}
+use Rattle.tier_model.specs.Histories.{IsFound, IsBody, HasHit, IsWithin}
+
+-- a look-up at t is answered found exactly where a write of its key is alive, and fresh exactly up to its moment
+abbrev pub LooksRight : ℕ → Instant → Answer → History → Type 0
+LooksRight id t (Found fresh complete) h =
+    (k : StoredKey) × (w : FinishedBody) × (opened_key id h ≡ Some k) × IsBody k w h × (fresh ≡ at_most t w.fresh_until) × (complete ≡ true)
+LooksRight id t Absent h = (k : StoredKey) × (opened_key id h ≡ Some k) × (¬ IsFound k h)
+LooksRight id t _ h = ⊥
+
+-- what a request read since its complete hit, joined, is the body that the look-up showed, whatever came later
+pub record ReadsWhole (id : ℕ) (answer : Answer) (h : History) : Type 0 where
+  pub body : FinishedBody
+  pub since : History
+  pub hit : HasHit id body since h
+  pub whole : bytes_read id since ++ bytes_answered answer ≡ body.bytes
+
+-- a purge is answered true exactly where a write of the key is alive
+abbrev pub PurgesRight : StoredKey → Answer → History → Type 0
+PurgesRight k (Purged was_there) h = (was_there ≡ true → IsFound k h) × (IsFound k h → was_there ≡ true)
+PurgesRight k _ h = ⊥
+
+-- what the calls before say of one call
+abbrev pub IsRight : Instant → Action → Outcome → History → Type 0
+IsRight t (LookUp id) (Ok answer) h = LooksRight id t answer h
+IsRight t (Read id) (Ok answer) h = ReadsWhole id answer h
+IsRight t (Purge k) (Ok answer) h = PurgesRight k answer h
+IsRight t _ _ h = Unit {0}
+
+-- each call is right in the light of the calls before it
+abbrev pub Headline : History → Type 0
+Headline [] = Unit {0}
+Headline (c ∷ h) = IsRight c.event.moment c.event.action c.outcome h × Headline h
+
+-- the headline of a tier that began empty under these limits
+pub record HoldsHeadline (limit : ℕ) (watermark : Option ℕ) (h : History) : Type 0 where
+  pub answers : Headline h
+  pub within : IsWithin limit watermark h

@@ -1,0 +1,10 @@
+pub mod Keys
+pub mod Response
+pub mod Calls
+pub mod Histories
+pub mod Headline
+pub mod Rows
+pub mod State
+pub mod Step
+pub mod Past
+pub mod Reports

@@ -1,0 +1,186 @@
+-- One event: the first refusal, the answers and faults that a state allows, and the state behind them.
+use Rattle.std.specs.Prelude.{◌≡◌, ℕ, ◌+◌, ◌-◌, ◌^◌, min, nat_le, Bool, true, false, List, [], length, if◌then◌else◌, Option, Some, None, is_some, Result, Ok, Err, MatchResult, MatchOption, ◌⊎◌}
+use Rattle.std.specs.FinMap.{get, insert, remove}
+use Rattle.cache_words.specs.Time.{Instant, at_most}
+use Rattle.tier_model.specs.declared.key.StoredKey.{StoredKey}
+use Rattle.tier_model.specs.declared.rows.FinishedBody.{FinishedBody}
+use Rattle.tier_model.specs.declared.rows.Tracked.{Tracked}
+use Rattle.tier_model.specs.declared.rows.Request.{Request}
+use Rattle.tier_model.specs.declared.rows.Phase.{Phase}
+use Rattle.tier_model.specs.declared.rows.Phase.TheVariants.{CacheKey, Hit, Stale, Miss}
+use Rattle.tier_model.specs.declared.rows.Reader.{Reader}
+use Rattle.tier_model.specs.declared.rows.Reader.TheVariants.{Closed, Unread, Spent}
+use Rattle.tier_model.specs.declared.event.Event.{Event}
+use Rattle.tier_model.specs.declared.event.Action.{Action}
+use Rattle.tier_model.specs.declared.event.Action.TheVariants.{Open, LookUp, Read, Drop, Purge, Put}
+use Rattle.tier_model.specs.declared.event.Answer.{Answer}
+use Rattle.tier_model.specs.declared.event.Answer.TheVariants.{Opened, Found, Absent, Bytes, End, Dropped, Purged, Finished}
+use Rattle.tier_model.specs.declared.event.Done.{Done}
+use Rattle.tier_model.specs.declared.event.TierFault.{TierFault}
+use Rattle.tier_model.specs.declared.event.TierFault.TheVariants.{NoRequest, IdInUse, WrongPhase, TooHeavy, Memory}
+use Rattle.tier_model.specs.Response.{body_put}
+use Rattle.tier_model.specs.Calls.{Outcome, nothing_done, done_of}
+use Rattle.tier_model.specs.Rows.{body_of, with_body, without_body, without_bodies, all_weights, admitted, used, without_row, without_rows, weight_for, IsLawfulEviction}
+use Rattle.tier_model.specs.State.{State}
+
+-- the phases in which a request may look up
+abbrev pub can_look_up : Phase → Bool
+can_look_up CacheKey = true
+can_look_up Hit = false
+can_look_up Stale = true
+can_look_up Miss = false
+
+abbrev pub has_reader : Reader → Bool
+has_reader Closed = false
+has_reader (Unread bytes) = true
+has_reader Spent = true
+
+abbrev pub unless_open : Option Request → (Request → Option TierFault) → Option TierFault
+unless_open None check = Some NoRequest
+unless_open (Some q) check = check q
+
+-- the checks that come before anything else, in their order: the first that fails
+abbrev pub refusal : State → Action → Option TierFault
+refusal s (Open id key) = if is_some (get s.requests id) then Some IdInUse else None
+refusal s (LookUp id) = unless_open (get s.requests id) (λ q. if can_look_up q.phase then None else Some WrongPhase)
+refusal s (Read id) = unless_open (get s.requests id) (λ q. if has_reader q.reader then None else Some WrongPhase)
+refusal s (Drop id) = unless_open (get s.requests id) (λ q. None)
+refusal s (Purge key) = None
+refusal s (Put key pieces) = None
+
+-- the state behind an event of an open request
+abbrev pub on_request : State → Option Request → (Request → State) → State
+on_request s None f = s
+on_request s (Some q) f = f q
+
+-- a request that was just opened
+abbrev pub opened_request : StoredKey → Request
+opened_request key = record { key = key; phase = CacheKey; reader = Closed }
+
+abbrev pub look_answer : Instant → Option FinishedBody → Answer
+look_answer t None = Absent
+look_answer t (Some b) = Found (at_most t b.fresh_until) true
+
+-- a request behind its look-up
+abbrev pub looked : Instant → Request → Option FinishedBody → Request
+looked t q None = record { key = q.key; phase = Miss; reader = Closed }
+looked t q (Some b) = record { key = q.key; phase = if at_most t b.fresh_until then Hit else Stale; reader = Unread b.bytes }
+
+-- what a reader gives next
+abbrev pub read_answer : Reader → Answer
+read_answer Closed = End
+read_answer (Unread bytes) = Bytes bytes
+read_answer Spent = End
+
+-- a request behind a read: all was read
+abbrev pub read_behind : Request → Request
+read_behind q = record q { reader = Spent }
+
+-- the body that was stored is gone again
+abbrev pub stored_alone : Done
+stored_alone = record { stored = true; admitted = false; evicted = [] }
+
+-- a sum of weights that doesn't fit
+abbrev pub is_too_heavy : ℕ → Bool
+is_too_heavy weights = nat_le (2 ^ 64) weights
+
+-- the weights behind an admission don't fit
+abbrev pub admission_is_too_heavy : FinishedBody → List Tracked → Bool
+admission_is_too_heavy b rows = is_too_heavy (weight_for b + all_weights (without_row b.key rows))
+
+-- the weights behind the use of an entry don't fit; never of a tracked one
+abbrev pub use_is_too_heavy : Option FinishedBody → List Tracked → Bool
+use_is_too_heavy None rows = false
+use_is_too_heavy (Some b) rows = is_too_heavy (all_weights (used b rows))
+
+-- what a put may answer, by what its response gives
+abbrev pub IsPutAnswer : State → Result FinishedBody TierFault → Answer → Type 0
+IsPutAnswer s (Ok b) (Finished n evicted) =
+    (n ≡ length b.bytes) × (admission_is_too_heavy b s.tracked ≡ false)
+    × IsLawfulEviction s.settings.limit s.settings.watermark (admitted b.key (weight_for b) s.tracked) evicted
+IsPutAnswer s _ _ = ⊥
+
+-- the faults of a put but for memory
+abbrev pub IsPutFault : State → Result FinishedBody TierFault → TierFault → Type 0
+IsPutFault s (Ok b) f = (f ≡ TooHeavy stored_alone) × (admission_is_too_heavy b s.tracked ≡ true)
+IsPutFault s (Err reason) f = f ≡ reason
+
+-- the answers to an event that is not refused
+abbrev pub IsAnswer : State → Instant → Action → Answer → Type 0
+IsAnswer s t (Open id key) a = a ≡ Opened
+IsAnswer s t (LookUp id) a =
+    MatchOption (get s.requests id) ⊥ (λ q. (a ≡ look_answer t (body_of q.key s.bodies)) × (use_is_too_heavy (body_of q.key s.bodies) s.tracked ≡ false))
+IsAnswer s t (Read id) a = MatchOption (get s.requests id) ⊥ (λ q. a ≡ read_answer q.reader)
+IsAnswer s t (Drop id) a = a ≡ Dropped
+IsAnswer s t (Purge key) a = a ≡ Purged (is_some (body_of key s.bodies))
+IsAnswer s t (Put key pieces) a = IsPutAnswer s (body_put t key pieces) a
+
+-- the events for which a growth may be refused
+abbrev pub MayTakeMemory : Action → Type 0
+MayTakeMemory (Open id key) = Unit {0}
+MayTakeMemory (LookUp id) = Unit {0}
+MayTakeMemory (Read id) = ⊥
+MayTakeMemory (Drop id) = ⊥
+MayTakeMemory (Purge key) = ⊥
+MayTakeMemory (Put key pieces) = Unit {0}
+
+-- the faults that come behind the checks, but for memory
+abbrev pub IsLateFault : State → Instant → Action → TierFault → Type 0
+IsLateFault s t (LookUp id) f =
+    MatchOption (get s.requests id) ⊥ (λ q. (f ≡ TooHeavy nothing_done) × (use_is_too_heavy (body_of q.key s.bodies) s.tracked ≡ true))
+IsLateFault s t (Put key pieces) f = IsPutFault s (body_put t key pieces) f
+IsLateFault s t _ f = ⊥
+
+abbrev pub IsFault : State → Instant → Action → TierFault → Type 0
+IsFault s t action f = ((f ≡ Memory nothing_done) × MayTakeMemory action) ⊎ IsLateFault s t action f
+
+-- the first refusal, exactly where one holds, and else an answer of the event's row or a fault behind the checks
+abbrev pub AllowsBy : Option TierFault → State → Instant → Action → Outcome → Type 0
+AllowsBy (Some f) s t action outcome = outcome ≡ Err f
+AllowsBy None s t action outcome = MatchResult outcome (IsAnswer s t action) (IsFault s t action)
+
+abbrev pub Allows : State → Event → Outcome → Type 0
+Allows s e outcome = AllowsBy (refusal s e.action) s e.moment e.action outcome
+
+-- a count that stops at 2^64 - 1
+abbrev pub counted : ℕ → ℕ → ℕ
+counted n more = min (n + more) (2 ^ 64 - 1)
+
+-- the state behind a look-up of request q, named id, that found this
+abbrev pub look_behind : State → Instant → ℕ → Request → Option FinishedBody → State
+look_behind s t id q None = record s { requests = insert s.requests id (looked t q None); absent = counted s.absent 1 }
+look_behind s t id q (Some b) =
+    record s { requests = insert s.requests id (looked t q (Some b)); tracked = used b s.tracked; found = counted s.found 1 }
+
+-- the state behind a put of a body with these evictions
+abbrev pub put_behind : State → Result FinishedBody TierFault → Answer → State
+put_behind s (Ok b) (Finished n evicted) =
+    record s { bodies = without_bodies evicted (with_body b s.bodies); tracked = without_rows evicted (admitted b.key (weight_for b) s.tracked); evicted = counted s.evicted (length evicted) }
+put_behind s _ _ = s
+
+-- the state behind a purge that found something, or nothing
+abbrev pub purge_behind : State → StoredKey → Bool → State
+purge_behind s key false = s
+purge_behind s key true = record s { bodies = without_body key s.bodies; tracked = without_row key s.tracked }
+
+-- the state behind an answer
+abbrev pub answered : State → Instant → Action → Answer → State
+answered s t (Open id key) a = record s { requests = insert s.requests id (opened_request key) }
+answered s t (LookUp id) a = on_request s (get s.requests id) (λ q. look_behind s t id q (body_of q.key s.bodies))
+answered s t (Read id) a = on_request s (get s.requests id) (λ q. record s { requests = insert s.requests id (read_behind q) })
+answered s t (Drop id) a = record s { requests = remove s.requests id }
+answered s t (Purge key) a = purge_behind s key (is_some (body_of key s.bodies))
+answered s t (Put key pieces) a = put_behind s (body_put t key pieces) a
+
+-- behind a refusal that had stored a body: that body is gone with its entry, and the evictions are done
+abbrev pub undone : State → Action → Done → State
+undone s (Put key pieces) done =
+    if done.stored
+    then record s { bodies = without_body key (without_bodies done.evicted s.bodies); tracked = without_row key (without_rows done.evicted s.tracked); evicted = counted s.evicted (length done.evicted) }
+    else s
+undone s _ done = s
+
+-- the state behind an outcome
+abbrev pub after : State → Event → Outcome → State
+after s e (Ok a) = answered s e.moment e.action a
+after s e (Err f) = undone s e.action (done_of f)

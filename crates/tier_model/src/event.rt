@@ -1,0 +1,168 @@
+//! Events, answers and faults of a tier.
+ghost use Rattle.std.specs.Prelude.{◌≡◌, []};
+
+use crate::key::StoredKey;
+use bytes::Bytes;
+use cache_words::time::Moment;
+use std::alloc::Global;
+use std::marker::Model;
+
+/// What is asked of a tier, and when.
+#[derive(Debug, Drop)]
+pub struct Event {
+    pub moment: Moment,
+    pub action: Action,
+}
+
+/// What is asked of a tier. A request is named by a number that the caller chooses.
+#[derive(Debug, Drop)]
+pub enum Action {
+    /// Opens a request for a key.
+    Open { request: u64, key: StoredKey },
+    /// Looks the request's key up.
+    LookUp { request: u64 },
+    /// Reads on in what the last look-up found.
+    Read { request: u64 },
+    /// Ends the request.
+    Drop { request: u64 },
+    /// Removes what is stored under a key.
+    Purge { key: StoredKey },
+    /// Stores the body of a whole response, whose bytes come in pieces.
+    Put { key: StoredKey, pieces: Pieces },
+}
+
+/// What a tier answers to an event.
+#[derive(Debug, Drop)]
+pub enum Answer {
+    Opened,
+    /// Something is stored. Fresh: its moment isn't past. Complete: all of the body is there.
+    Found { fresh: bool, complete: bool },
+    Absent,
+    /// The bytes that are new to the reader; none is an answer too, of an empty body.
+    Bytes(Bytes),
+    /// All was read.
+    End,
+    Dropped,
+    /// Whether something was stored.
+    Purged(bool),
+    /// The body's length in bytes, and the entries that went to make room, in order.
+    Finished { length: usize, evicted: Entries },
+}
+
+/// What a call did before it was refused.
+#[derive(Debug, Drop)]
+pub struct Done {
+    /// The body was stored, and is removed again.
+    pub stored: bool,
+    /// Its entry was admitted to the order of use, and is removed again.
+    pub admitted: bool,
+    /// The entries evicted, in order.
+    pub evicted: Entries,
+}
+
+/// Why an event was refused.
+#[derive(Debug, Drop)]
+pub enum TierFault {
+    /// No request of that number is open.
+    NoRequest,
+    /// A request of that number is open.
+    IdInUse,
+    /// The request isn't where the event is allowed.
+    WrongPhase,
+    /// The request waits for another's permit.
+    Waiting,
+    /// The write had its last piece.
+    AfterEnd,
+    /// The bytes are no head.
+    BadHead,
+    /// The write was removed while in flight.
+    WriteRemoved,
+    /// The event, or the moment up to which its response is fresh, lies before 1970.
+    BeforeEpoch,
+    /// The response ends too early.
+    Incomplete,
+    /// No number is left.
+    NumbersSpent(Done),
+    /// The weights' sum doesn't fit.
+    TooHeavy(Done),
+    /// The list is full.
+    TooLong(Done),
+    /// The growth of a part was refused.
+    Memory(Done),
+    /// The folder failed.
+    Folder,
+    /// The call's record was refused.
+    NoRecord,
+    /// A response in a form that this version doesn't read.
+    Unsupported,
+}
+
+/// The pieces of a response, in order.
+#[derive(Debug, Drop)]
+pub struct Pieces {
+    items: Vec<Bytes>,
+}
+
+impl Model for Pieces {
+    ghost use Rattle.std.specs.Prelude.{ℕ, List};
+
+    ghost Value = { List (List ℕ) };
+
+    ghost view = { λ p. p.items.items };
+}
+
+impl Pieces {
+    /// These pieces. It takes no memory.
+    pub fn from_vec(items: Vec<Bytes>) -> Pieces
+        ensures { result ≡ items.items }
+    {
+        Pieces { items }
+    }
+
+    /// The pieces.
+    pub fn as_slice(&self) -> &[Bytes]
+        ensures { result.now ≡ self.now }
+    {
+        self.items.as_slice()
+    }
+}
+
+/// Evicted entries, in order.
+#[derive(Debug, Drop)]
+pub struct Entries {
+    items: Vec<StoredKey>,
+}
+
+impl Model for Entries {
+    ghost use Rattle.std.specs.Prelude.{List};
+    ghost use Rattle.tier_model.specs.declared.key.StoredKey.{StoredKey};
+
+    ghost Value = { List StoredKey };
+
+    ghost view = { λ e. e.items.items };
+}
+
+impl Entries {
+    /// No entry. It takes no memory.
+    pub fn new(alloc: Global) -> Entries
+        ensures { result ≡ [] }
+    {
+        Entries {
+            items: Vec::new(alloc),
+        }
+    }
+
+    /// These entries. It takes no memory.
+    pub fn from_vec(items: Vec<StoredKey>) -> Entries
+        ensures { result ≡ items.items }
+    {
+        Entries { items }
+    }
+
+    /// The entries.
+    pub fn as_slice(&self) -> &[StoredKey]
+        ensures { result.now ≡ self.now }
+    {
+        self.items.as_slice()
+    }
+}
