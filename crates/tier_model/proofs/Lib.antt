@@ -1,3 +1,5 @@
 pub mod Tables
 pub mod KeyLaws
 pub mod BodyLaws
+pub mod StepLaws
+pub mod RequestLaws
