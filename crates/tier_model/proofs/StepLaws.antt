@@ -158,7 +158,7 @@ put_follows s t key pieces Dropped k h p = absurd (put_answers s (body_put t key
 put_follows s t key pieces (Purged was) k h p = absurd (put_answers s (body_put t key pieces) (Purged was) refl p)
 
 -- what is answered where no check fails
-answer_allowed : (r : Option TierFault) (s : State) (t : Instant) (action : Action) (a : Answer) → AllowsBy r s t action (Ok a) → IsAnswer s t action a
+pub answer_allowed : (r : Option TierFault) (s : State) (t : Instant) (action : Action) (a : Answer) → AllowsBy r s t action (Ok a) → IsAnswer s t action a
 answer_allowed (Some f) s t action a p = cc
 answer_allowed None s t action a p = p
 
