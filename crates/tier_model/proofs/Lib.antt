@@ -3,3 +3,5 @@ pub mod KeyLaws
 pub mod BodyLaws
 pub mod StepLaws
 pub mod RequestLaws
+pub mod HeadlineLaws
+pub mod OrderLaws

@@ -43,7 +43,7 @@ pub record IsOther (id : ℕ) (c : Call) (h : History) : Type 0 where
   pub reader : ends_reader id c ≡ false
   pub bytes : bytes_given id c.event.action c.outcome ≡ []
 
-append_nothing : (xs : List ℕ) → xs ++ [] ≡ xs
+pub append_nothing : (xs : List ℕ) → xs ++ [] ≡ xs
 append_nothing [] = refl
 append_nothing (x ∷ xs) = ap (λ (ys : List ℕ). x ∷ ys) (append_nothing xs)
 
@@ -144,7 +144,7 @@ read_reader t i Spent h e fits =
       more_read i fits.1 (call_at t (Read i) (Ok End)) fits.0.bytes [] fits.3 (ap (λ v. cond v [] []) (itself i)) ∙ append_nothing fits.0.bytes)
 
 -- the check of a read passed
-reader_there : (q : Request) → unless_open (Some q) (λ q. cond (has_reader q.reader) None (Some WrongPhase)) ≡ None → has_reader q.reader ≡ true
+pub reader_there : (q : Request) → unless_open (Some q) (λ q. cond (has_reader q.reader) None (Some WrongPhase)) ≡ None → has_reader q.reader ≡ true
 reader_there q e = by_test (has_reader q.reader) refl e
   where
     by_test : (v : Bool) → has_reader q.reader ≡ v → cond v None (Some WrongPhase) ≡ None → has_reader q.reader ≡ true
