@@ -5,3 +5,4 @@ pub mod StepLaws
 pub mod RequestLaws
 pub mod HeadlineLaws
 pub mod OrderLaws
+pub mod BoundLaws
