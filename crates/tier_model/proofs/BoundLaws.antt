@@ -1,6 +1,6 @@
 -- Bodies are tracked with at least their lengths, and so keep both limits.
-use Rattle.std.proofs.Common.{◌≡◌, ℕ, ◌+◌, ◌≤◌, ◌<◌, refl, ap, sym, ◌∙◌, true, false, subst, cond, [], ◌∷◌, ◌++◌, ◌||◌, length, arith, inl, inr}
-use Rattle.std.specs.Prelude.{Bool, List, Option, Some, None, option_map, unwrap_or, is_some, Result, Ok, Err, MatchOption, max, ◌⊎◌}
+use Rattle.std.proofs.Common.{◌≡◌, ℕ, ◌≤◌, refl, ap, sym, ◌∙◌, true, false, subst, cond, [], ◌∷◌, length, arith}
+use Rattle.std.specs.Prelude.{Bool, List, Option, Some, None, option_map, unwrap_or, is_some, Result, Ok, Err, max}
 use Rattle.std.specs.List.{AllByRecursion, sum_by}
 use Rattle.std.specs.FinMap.{get, insert}
 use Rattle.std.proofs.lemmas.List.Sums.{sum_by-cons}
@@ -18,15 +18,15 @@ use Rattle.tier_model.specs.declared.event.TierFault.{TierFault}
 use Rattle.tier_model.specs.Keys.{same_key}
 use Rattle.tier_model.specs.Response.{body_put}
 use Rattle.tier_model.specs.Calls.{Call, History, Outcome, has_key, done_of}
-use Rattle.tier_model.specs.Histories.{IsBody, IsWithin, HasDistinctKeys, is_past}
-use Rattle.tier_model.specs.Rows.{body_of, with_body, without_body, without_bodies, row_of, weight_of, all_weights, without_row, without_rows, admitted, used, weight_for, is_over, IsLawfulEviction}
+use Rattle.tier_model.specs.Histories.{IsBody, IsWithin, HasDistinctKeys}
+use Rattle.tier_model.specs.Rows.{body_of, with_body, without_body, without_bodies, row_of, weight_of, all_weights, without_row, without_rows, admitted, used, weight_for, is_over}
 use Rattle.tier_model.specs.State.{State}
-use Rattle.tier_model.specs.Step.{refusal, Allows, IsAnswer, IsPutAnswer, after, answered, undone, taken_back, on_request, look_answer, look_behind, read_answer, read_behind, purge_behind, put_behind, use_is_too_heavy}
-use Rattle.tier_model.proofs.KeyLaws.{same_key-true, same_key-refl, same_key-sym, find-key}
-use Rattle.tier_model.proofs.BodyLaws.{body_now, body_now-of, body_of-without, body_of-with, body_of-without_all}
+use Rattle.tier_model.specs.Step.{refusal, Allows, IsAnswer, IsPutAnswer, after, answered, undone, taken_back, on_request, look_behind, read_behind, purge_behind, put_behind}
+use Rattle.tier_model.proofs.KeyLaws.{same_key-true, same_key-sym, find-key}
+use Rattle.tier_model.proofs.BodyLaws.{body_now-of, body_of-without, body_of-with, body_of-without_all}
 use Rattle.tier_model.proofs.OrderLaws.{row_of-without, row_of-without_all, row_of-admitted, all_weights-tracked, length-tracked, is_past-less, is_over-less, is_over-without, is_over-without_all, is_over-evicted, kept_weight, kept_count, used_weight, used_count}
 use Rattle.tier_model.proofs.StepLaws.{answer_allowed}
-use Rattle.tier_model.proofs.RequestLaws.{Fits, unrefused}
+use Rattle.tier_model.proofs.RequestLaws.{Fits}
 
 -- an entry weighs at least n
 abbrev pub HasWeight : ℕ → Option Tracked → Type 0
@@ -168,7 +168,7 @@ within_weights [] rows d h = (omega arith, omega arith)
 within_weights (b ∷ bs) rows d h =
     let there : (w : ℕ) × (weight_of b.key rows ≡ Some w) × (length b.bytes ≤ w) = weight_there (length b.bytes) (row_of b.key rows) h.0 in
     let rest : (sum_by (λ b. length b.bytes) bs ≤ all_weights (without_row b.key rows)) × (length bs ≤ length (without_row b.key rows)) =
-      within_weights bs (without_row b.key rows) d.1 (other_rows b.key bs rows d.0 h.1) in
+    within_weights bs (without_row b.key rows) d.1 (other_rows b.key bs rows d.0 h.1) in
     (omega (arith, sum_by-cons (λ b. length b.bytes) b bs, rest.0, there.2, all_weights-tracked b.key there.0 rows there.1), omega (arith, rest.1, length-tracked b.key there.0 rows there.1))
 
 bodies_tracked : (s : State) (h : History) → Fits s h → KeepsLimits s → (bodies : List FinishedBody) → AllByRecursion (λ b. IsBody b.key b h) bodies
@@ -180,6 +180,7 @@ bodies_tracked s h fits keeps (b ∷ bs) all =
 -- the bound over histories
 pub IsWithin-kept : (s : State) (h : History) → Fits s h → KeepsLimits s → IsWithin s.settings.limit s.settings.watermark h
 IsWithin-kept s h fits keeps bodies d all =
-    let sums : (sum_by (λ b. length b.bytes) bodies ≤ all_weights s.tracked) × (length bodies ≤ length s.tracked) = within_weights bodies s.tracked d (bodies_tracked s h fits keeps bodies all) in
-    (omega (arith, sums.0, kept_weight s.settings.limit s.settings.watermark s.tracked keeps.kept),
-      is_past-less s.settings.watermark (length bodies) (length s.tracked) sums.1 (kept_count s.settings.limit s.settings.watermark s.tracked keeps.kept))
+    let sums : (sum_by (λ b. length b.bytes) bodies ≤ all_weights s.tracked) × (length bodies ≤ length s.tracked) = within_weights bodies s.tracked d (bodies_tracked s h fits keeps bodies all) in (
+      omega (arith, sums.0, kept_weight s.settings.limit s.settings.watermark s.tracked keeps.kept),
+      is_past-less s.settings.watermark (length bodies) (length s.tracked) sums.1 (kept_count s.settings.limit s.settings.watermark s.tracked keeps.kept),
+    )

@@ -6,3 +6,4 @@ pub mod RequestLaws
 pub mod HeadlineLaws
 pub mod OrderLaws
 pub mod BoundLaws
+pub mod Carried
