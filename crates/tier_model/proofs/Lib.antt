@@ -7,3 +7,4 @@ pub mod HeadlineLaws
 pub mod OrderLaws
 pub mod BoundLaws
 pub mod Carried
+pub mod UseLaws
