@@ -22,14 +22,14 @@ use Rattle.tier_model.specs.Response.{body_put}
 use Rattle.tier_model.specs.Calls.{Call, History, Outcome, opened_key, written_by, writes, is_of, has_key, nothing_done, done_of}
 use Rattle.tier_model.specs.Histories.{IsBody}
 use Rattle.tier_model.specs.Use.{is_for, hits_entry, uses, departs, use_chosen, last_use, is_tracked, IsWeightOf, WeighsBy, Weighs, IsOrderOfUse, EvictsBy, BodiesAreTracked}
-use Rattle.tier_model.specs.Rows.{body_of, weight_of, without_row, without_rows, admitted, used, weight_for, IsLawfulEviction}
+use Rattle.tier_model.specs.Rows.{body_of, row_of, weight_of, without_row, without_rows, admitted, used, weight_for, IsLawfulEviction}
 use Rattle.tier_model.specs.State.{State}
-use Rattle.tier_model.specs.Step.{refusal, Allows, IsAnswer, IsPutAnswer, after, answered, undone, taken_back, on_request, look_answer, look_behind, read_answer, read_behind, purge_behind, put_behind, use_is_too_heavy}
+use Rattle.tier_model.specs.Step.{refusal, Allows, IsAnswer, IsPutAnswer, IsPutFault, after, answered, undone, taken_back, on_request, look_answer, look_behind, read_answer, read_behind, purge_behind, put_behind, use_is_too_heavy}
 use Rattle.tier_model.proofs.KeyLaws.{same_key-true, same_key-refl, same_key-sym}
 use Rattle.tier_model.proofs.BodyLaws.{body_now, body_now-of}
-use Rattle.tier_model.proofs.StepLaws.{call_at, answer_allowed, did_nothing, both_none}
+use Rattle.tier_model.proofs.StepLaws.{call_at, answer_allowed, did_nothing, body_put-nothing, both_none}
 use Rattle.tier_model.proofs.RequestLaws.{Fits, of_request}
-use Rattle.tier_model.proofs.BoundLaws.{KeepsLimits, weight_found, body_key}
+use Rattle.tier_model.proofs.BoundLaws.{KeepsLimits, weight_found, weight_there, body_key}
 use Rattle.tier_model.proofs.UseLaws.{Ordered, Ordered-as, Ordered-without, Ordered-without_all, Ordered-admitted, WeighsUsed}
 
 -- the two accounts are one
@@ -232,5 +232,73 @@ put_used s t key pieces (Err f) a h is p o = absurd p
 put_used s t key pieces (Ok b) _ h is p o = absurd p
 
 -- the order of use behind an answer, and its evictions
-OrderBehind : State → Instant → Action → Answer → History → Type 0
+abbrev pub OrderBehind : State → Instant → Action → Answer → History → Type 0
 OrderBehind s t action a h = IsOrderOfUse (answered s t action a).tracked (call_at t action (Ok a) ∷ h) × EvictsBy s.settings.limit s.settings.watermark (record { moment = t; action = action }) (Ok a) h
+
+look_evicts : (limit : ℕ) (mark : Option ℕ) (e : Event) (t : Instant) (a : Answer) (h : History) (s : State) (o : Option Request)
+    → MatchOption o ⊥ (λ q. (a ≡ look_answer t (body_of q.key s.bodies)) × (use_is_too_heavy (body_of q.key s.bodies) s.tracked ≡ false)) → EvictsBy limit mark e (Ok a) h
+look_evicts limit mark e t a h s None p = absurd p
+look_evicts limit mark e t a h s (Some q) p = by_body (body_of q.key s.bodies) p.0
+  where
+    by_body : (b : Option FinishedBody) → a ≡ look_answer t b → EvictsBy limit mark e (Ok a) h
+    by_body None i = subst (λ (y : Answer). EvictsBy limit mark e (Ok y) h) (sym i) refl
+    by_body (Some b) i = subst (λ (y : Answer). EvictsBy limit mark e (Ok y) h) (sym i) refl
+
+read_evicts : (limit : ℕ) (mark : Option ℕ) (e : Event) (a : Answer) (h : History) (o : Option Request) → MatchOption o ⊥ (λ q. a ≡ read_answer q.reader) → EvictsBy limit mark e (Ok a) h
+read_evicts limit mark e a h None p = absurd p
+read_evicts limit mark e a h (Some q) p = by_reader q.reader p
+  where
+    by_reader : (r : Reader) → a ≡ read_answer r → EvictsBy limit mark e (Ok a) h
+    by_reader Closed i = subst (λ (y : Answer). EvictsBy limit mark e (Ok y) h) (sym i) refl
+    by_reader (Unread bytes) i = subst (λ (y : Answer). EvictsBy limit mark e (Ok y) h) (sym i) refl
+    by_reader Spent i = subst (λ (y : Answer). EvictsBy limit mark e (Ok y) h) (sym i) refl
+
+answer_used : (s : State) (t : Instant) (action : Action) (a : Answer) (h : History) → Fits s h → KeepsLimits s → IsAnswer s t action a → IsOrderOfUse s.tracked h → OrderBehind s t action a h
+answer_used s t (Open i key) a h fits keeps p o =
+    subst (λ (y : Answer). OrderBehind s t (Open i key) y h) (sym p)
+    (idle (call_at t (Open i key) (Ok Opened)) h s.tracked (record { departs = λ e. refl; writes = λ e. refl; hits = λ e. refl }) o, refl)
+answer_used s t (LookUp i) a h fits keeps p o =
+    (request_used s t i a h (get s.requests i) fits refl p keeps o,
+      look_evicts s.settings.limit s.settings.watermark (record { moment = t; action = LookUp i }) t a h s (get s.requests i) p)
+answer_used s t (Read i) a h fits keeps p o =
+    (read_used s t i a h (get s.requests i) p o, read_evicts s.settings.limit s.settings.watermark (record { moment = t; action = Read i }) a h (get s.requests i) p)
+answer_used s t (Drop i) a h fits keeps p o =
+    subst (λ (y : Answer). OrderBehind s t (Drop i) y h) (sym p)
+    (idle (call_at t (Drop i) (Ok Dropped)) h s.tracked (record { departs = λ e. refl; writes = λ e. refl; hits = λ e. refl }) o, refl)
+answer_used s t (Purge key) a h fits keeps p o =
+    subst (λ (y : Answer). OrderBehind s t (Purge key) y h) (sym p) (purge_used s t key h (is_some (body_of key s.bodies)) o, refl)
+answer_used s t (Put key pieces) a h fits keeps p o = put_used s t key pieces (body_put t key pieces) a h refl p o
+
+-- no refused call evicts
+none_gone : (done : Done) → done ≡ nothing_done → cond done.stored done.evicted [] ≡ []
+none_gone done e = subst (λ (d : Done). cond d.stored d.evicted [] ≡ []) (sym e) refl
+
+put_gone : (s : State) (t : Instant) (key : StoredKey) (pieces : List (List ℕ)) (r : Result FinishedBody TierFault) (f : TierFault) → body_put t key pieces ≡ r → IsPutFault s r f
+    → cond (done_of f).stored (done_of f).evicted [] ≡ []
+put_gone s t key pieces (Ok b) f is p = subst (λ (g : TierFault). cond (done_of g).stored (done_of g).evicted [] ≡ []) (sym p.0) refl
+put_gone s t key pieces (Err reason) f is p = none_gone (done_of f) (ap done_of p ∙ body_put-nothing t key pieces reason is)
+
+fault_evicts : (s : State) (t : Instant) (action : Action) (f : TierFault) → Allows s (record { moment = t; action = action }) (Err f) → cond (done_of f).stored (done_of f).evicted [] ≡ []
+fault_evicts s t (Open i key) f p = none_gone (done_of f) (did_nothing s t (Open i key) f p refl)
+fault_evicts s t (LookUp i) f p = none_gone (done_of f) (did_nothing s t (LookUp i) f p refl)
+fault_evicts s t (Read i) f p = none_gone (done_of f) (did_nothing s t (Read i) f p refl)
+fault_evicts s t (Drop i) f p = none_gone (done_of f) (did_nothing s t (Drop i) f p refl)
+fault_evicts s t (Purge key) f p = none_gone (done_of f) (did_nothing s t (Purge key) f p refl)
+fault_evicts s t (Put key pieces) f p = elim p [ inl m ↦ none_gone (done_of f) (ap done_of m.0) | inr x ↦ put_gone s t key pieces (body_put t key pieces) f refl x ]
+
+-- each lawful call keeps the rows the order of use, and evicts lawfully
+pub IsOrderOfUse-after : (s : State) (c : Call) (h : History) → Fits s h → KeepsLimits s → Allows s c.event c.outcome → IsOrderOfUse s.tracked h
+    → IsOrderOfUse (after s c.event c.outcome).tracked (c ∷ h) × EvictsBy s.settings.limit s.settings.watermark c.event c.outcome h
+IsOrderOfUse-after s c h fits keeps p o = by_outcome c.outcome p
+  where
+    by_outcome : (outcome : Outcome) → Allows s c.event outcome
+        → IsOrderOfUse (after s c.event outcome).tracked (record { event = c.event; outcome = outcome } ∷ h) × EvictsBy s.settings.limit s.settings.watermark c.event outcome h
+    by_outcome (Ok a) p = answer_used s c.event.moment c.event.action a h fits keeps (answer_allowed (refusal s c.event.action) s c.event.moment c.event.action a p) o
+    by_outcome (Err f) p = (fault_used s c.event.moment c.event.action f h p o, fault_evicts s c.event.moment c.event.action f p)
+
+-- each body's entry is tracked, with at least the body's length
+pub BodiesAreTracked-kept : (s : State) (h : History) → Fits s h → KeepsLimits s → IsOrderOfUse s.tracked h → BodiesAreTracked h
+BodiesAreTracked-kept s h fits keeps o k b body =
+    let there : (w : ℕ) × (weight_of k s.tracked ≡ Some w) × (length b.bytes ≤ w) =
+      weight_there (length b.bytes) (row_of k s.tracked) (keeps.tracked k b (fits.bodies k ∙ body_now-of k b h body)) in
+    (there.0, o.weights k there.0 there.1, there.2)
