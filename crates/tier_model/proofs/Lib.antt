@@ -9,3 +9,4 @@ pub mod BoundLaws
 pub mod Carried
 pub mod UseLaws
 pub mod UseSteps
+pub mod ReportLaws

@@ -1,6 +1,6 @@
 -- Each lawful call keeps the rows the order of use, and evicts lawfully.
-use Rattle.std.proofs.Common.{◌≡◌, ℕ, ◌+◌, ◌≤◌, ◌<◌, refl, ap, sym, ◌∙◌, true, false, subst, cond, [], ◌∷◌, ◌++◌, ◌||◌, length, arith, inl, inr}
-use Rattle.std.specs.Prelude.{Bool, List, Option, Some, None, option_map, unwrap_or, is_some, Result, Ok, Err, MatchOption, ◌⊎◌, ◌&&◌}
+use Rattle.std.proofs.Common.{◌≡◌, ℕ, ◌+◌, ◌≤◌, refl, ap, sym, ◌∙◌, true, false, subst, cond, [], ◌∷◌, ◌||◌, length, arith, inl, inr}
+use Rattle.std.specs.Prelude.{Bool, List, Option, Some, None, unwrap_or, is_some, Result, Ok, Err, MatchOption, ◌&&◌}
 use Rattle.std.specs.FinMap.{get, insert}
 use Rattle.cache_words.specs.Time.{Instant, at_most}
 use Rattle.tier_model.specs.declared.key.StoredKey.{StoredKey}
@@ -20,13 +20,12 @@ use Rattle.std.specs.Result.{result_ok}
 use Rattle.tier_model.specs.Keys.{same_key}
 use Rattle.tier_model.specs.Response.{body_put}
 use Rattle.tier_model.specs.Calls.{Call, History, Outcome, opened_key, written_by, writes, is_of, has_key, nothing_done, done_of}
-use Rattle.tier_model.specs.Histories.{IsBody}
-use Rattle.tier_model.specs.Use.{is_for, hits_entry, uses, departs, use_chosen, last_use, is_tracked, IsWeightOf, WeighsBy, Weighs, IsOrderOfUse, EvictsBy, BodiesAreTracked}
-use Rattle.tier_model.specs.Rows.{body_of, row_of, weight_of, without_row, without_rows, admitted, used, weight_for, IsLawfulEviction}
+use Rattle.tier_model.specs.Use.{is_for, hits_entry, uses, departs, use_chosen, last_use, is_tracked, WeighsBy, Weighs, IsOrderOfUse, EvictsBy, BodiesAreTracked}
+use Rattle.tier_model.specs.Rows.{body_of, row_of, weight_of, without_row, without_rows, admitted, used, weight_for}
 use Rattle.tier_model.specs.State.{State}
 use Rattle.tier_model.specs.Step.{refusal, Allows, IsAnswer, IsPutAnswer, IsPutFault, after, answered, undone, taken_back, on_request, look_answer, look_behind, read_answer, read_behind, purge_behind, put_behind, use_is_too_heavy}
-use Rattle.tier_model.proofs.KeyLaws.{same_key-true, same_key-refl, same_key-sym}
-use Rattle.tier_model.proofs.BodyLaws.{body_now, body_now-of}
+use Rattle.tier_model.proofs.KeyLaws.{same_key-true}
+use Rattle.tier_model.proofs.BodyLaws.{body_now-of}
 use Rattle.tier_model.proofs.StepLaws.{call_at, answer_allowed, did_nothing, body_put-nothing, both_none}
 use Rattle.tier_model.proofs.RequestLaws.{Fits, of_request}
 use Rattle.tier_model.proofs.BoundLaws.{KeepsLimits, weight_found, weight_there, body_key}
@@ -60,9 +59,9 @@ pub only_departs : (d : StoredKey → Bool) (c : Call) (h : History) (rows : Lis
     → Ordered (λ e. cond (d e) None (last_use e h)) (λ e w. Weighs e w h) (length h) rows → IsOrderOfUse rows (c ∷ h)
 only_departs d c h rows o r = from_ordered rows (c ∷ h)
     (Ordered-as (λ e. cond (d e) None (last_use e h)) (λ e. last_use e (c ∷ h)) (λ e w. Weighs e w h) (λ e w. Weighs e w (c ∷ h)) (length h) (length (c ∷ h)) rows
-      (λ e. chosen_gone (departs e c) (d e) (writes e c h) (hits_entry e c h) (length h) (last_use e h) (o.departs e) (o.writes e) (o.hits e))
-      (λ e w there was. weighs_gone (departs e c) (d e) (writes e c h) (hits_entry e c h) (is_tracked e h) e w (written_by c h) h (Weighs e w h) (o.departs e) (o.writes e) (o.hits e) (length h) (last_use e h) there was)
-      (omega arith) r)
+    (λ e. chosen_gone (departs e c) (d e) (writes e c h) (hits_entry e c h) (length h) (last_use e h) (o.departs e) (o.writes e) (o.hits e))
+    (λ e w there was. weighs_gone (departs e c) (d e) (writes e c h) (hits_entry e c h) (is_tracked e h) e w (written_by c h) h (Weighs e w h) (o.departs e) (o.writes e) (o.hits e) (length h) (last_use e h) there was)
+    (omega arith) r)
 
 -- a call that changes nothing in the order
 abbrev pub IsIdle : Call → History → Type 0
@@ -81,10 +80,10 @@ back_used true s t key pieces f h e o =
     only_departs (λ x. same_key key x || has_key x (done_of f).evicted) (call_at t (Put key pieces) (Err f)) h (without_row key (without_rows (done_of f).evicted s.tracked))
     (record { departs = λ x. ap (λ v. (v && same_key key x) || has_key x (cond v (done_of f).evicted [])) e; writes = λ x. refl; hits = λ x. refl })
     (Ordered-as (λ x. cond (same_key key x) None (cond (has_key x (done_of f).evicted) None (last_use x h))) (λ x. cond (same_key key x || has_key x (done_of f).evicted) None (last_use x h))
-      (λ x w. Weighs x w h) (λ x w. Weighs x w h) (length h) (length h) (without_row key (without_rows (done_of f).evicted s.tracked))
-      (λ x. sym (both_none (same_key key x) (has_key x (done_of f).evicted) (last_use x h))) (λ x w t h. h) (omega arith)
-      (Ordered-without (λ x. cond (has_key x (done_of f).evicted) None (last_use x h)) (λ x w. Weighs x w h) key (length h) (without_rows (done_of f).evicted s.tracked)
-        (Ordered-without_all (λ x. last_use x h) (λ x w. Weighs x w h) (done_of f).evicted (length h) s.tracked (to_ordered s.tracked h o))))
+    (λ x w. Weighs x w h) (λ x w. Weighs x w h) (length h) (length h) (without_row key (without_rows (done_of f).evicted s.tracked))
+    (λ x. sym (both_none (same_key key x) (has_key x (done_of f).evicted) (last_use x h))) (λ x w t h. h) (omega arith)
+    (Ordered-without (λ x. cond (has_key x (done_of f).evicted) None (last_use x h)) (λ x w. Weighs x w h) key (length h) (without_rows (done_of f).evicted s.tracked)
+    (Ordered-without_all (λ x. last_use x h) (λ x w. Weighs x w h) (done_of f).evicted (length h) s.tracked (to_ordered s.tracked h o))))
 
 -- a fault that did nothing
 quiet_departs : (e : StoredKey) (done : Done) → done ≡ nothing_done → ((done.stored && false) || has_key e (cond done.stored done.evicted [])) ≡ false
@@ -112,8 +111,10 @@ hit_weight s h t i q x fresh open_key key w there o e v used = elim used [ inl u
   where
     for_key : is_for e (opened_key i h) ≡ same_key x.key e
     for_key = ap (is_for e) open_key ∙ ap (λ (k : StoredKey). same_key k e) (sym key)
+
     tracked_there : (k : StoredKey) → weight_of k s.tracked ≡ Some w → is_tracked k h ≡ true
     tracked_there k z = sym (o.all k) ∙ ap is_some z
+
     same : same_key x.key e ≡ true → v ≡ unwrap_or (weight_of x.key s.tracked) (weight_for x) → Weighs e v (call_at t (LookUp i) (Ok (Found fresh true)) ∷ h)
     same k z =
         let it : x.key ≡ e = same_key-true x.key e k in
@@ -121,6 +122,7 @@ hit_weight s h t i q x fresh open_key key w there o e v used = elim used [ inl u
         let is : v ≡ w = z ∙ ap (λ m. unwrap_or m (weight_for x)) there in
         subst (λ (b : Bool). WeighsBy false false b (is_tracked e h) e v None h (Weighs e v h)) (sym (for_key ∙ k))
         (subst (λ (b : Bool). WeighsBy false false true b e v None h (Weighs e v h)) (sym (tracked_there e weight)) (subst (λ n. Weighs e n h) (sym is) (o.weights e w weight)))
+
     other : same_key x.key e ≡ false → Weighs e v h → Weighs e v (call_at t (LookUp i) (Ok (Found fresh true)) ∷ h)
     other k was = subst (λ (b : Bool). WeighsBy false false b (is_tracked e h) e v None h (Weighs e v h)) (sym (for_key ∙ k)) was
 
@@ -140,11 +142,11 @@ look_used s t i q (Some x) a h open_key be ae keeps o =
     let weight : ℕ = unwrap_or (weight_of x.key s.tracked) (weight_for x) in
     subst (λ (y : Answer). IsOrderOfUse (used x s.tracked) (call_at t (LookUp i) (Ok y) ∷ h)) (sym ae)
     (from_ordered (used x s.tracked) (call ∷ h)
-      (Ordered-as (λ e. cond (same_key x.key e) (Some (length h)) (last_use e h)) (λ e. last_use e (call ∷ h))
-        (WeighsUsed (λ e w. Weighs e w h) x.key weight) (λ e w. Weighs e w (call ∷ h)) (length h + 1) (length (call ∷ h)) (used x s.tracked)
-        (λ e. hit_use (is_for e (opened_key i h)) (same_key x.key e) (length h) (last_use e h) (ap (is_for e) open_key ∙ ap (λ (k : StoredKey). same_key k e) (sym key)))
-        (λ e w t' used_so. hit_weight s h t i q x (at_most t x.fresh_until) open_key key there.0 there.1 o e w used_so) (omega arith)
-        (Ordered-admitted (λ e. last_use e h) (λ e w. Weighs e w h) x.key weight (length h) s.tracked (to_ordered s.tracked h o))))
+    (Ordered-as (λ e. cond (same_key x.key e) (Some (length h)) (last_use e h)) (λ e. last_use e (call ∷ h))
+    (WeighsUsed (λ e w. Weighs e w h) x.key weight) (λ e w. Weighs e w (call ∷ h)) (length h + 1) (length (call ∷ h)) (used x s.tracked)
+    (λ e. hit_use (is_for e (opened_key i h)) (same_key x.key e) (length h) (last_use e h) (ap (is_for e) open_key ∙ ap (λ (k : StoredKey). same_key k e) (sym key)))
+    (λ e w t' used_so. hit_weight s h t i q x (at_most t x.fresh_until) open_key key there.0 there.1 o e w used_so) (omega arith)
+    (Ordered-admitted (λ e. last_use e h) (λ e w. Weighs e w h) x.key weight (length h) s.tracked (to_ordered s.tracked h o))))
 
 request_used : (s : State) (t : Instant) (i : ℕ) (a : Answer) (h : History) (o : Option Request) → Fits s h → get s.requests i ≡ o
     → MatchOption o ⊥ (λ q. (a ≡ look_answer t (body_of q.key s.bodies)) × (use_is_too_heavy (body_of q.key s.bodies) s.tracked ≡ false))
@@ -159,6 +161,7 @@ read_used s t i a h (Some q) p o = by_reader q.reader p
   where
     quiet_read : (y : Answer) → IsIdle (call_at t (Read i) (Ok y)) h → a ≡ y → IsOrderOfUse s.tracked (call_at t (Read i) (Ok a) ∷ h)
     quiet_read y i' e = subst (λ (z : Answer). IsOrderOfUse s.tracked (call_at t (Read i) (Ok z) ∷ h)) (sym e) (idle (call_at t (Read i) (Ok y)) h s.tracked i' o)
+
     by_reader : (r : Reader) → a ≡ read_answer r → IsOrderOfUse s.tracked (call_at t (Read i) (Ok a) ∷ h)
     by_reader Closed e = quiet_read End (record { departs = λ x. refl; writes = λ x. refl; hits = λ x. refl }) e
     by_reader (Unread bytes) e = quiet_read (Bytes bytes) (record { departs = λ x. refl; writes = λ x. refl; hits = λ x. refl }) e
@@ -196,10 +199,10 @@ admitted_used s t key pieces b n h is o =
     let call : Call = call_at t (Put key pieces) (Ok (Finished n [])) in
     from_ordered (admitted b.key (weight_for b) s.tracked) (call ∷ h)
     (Ordered-as (λ e. cond (same_key b.key e) (Some (length h)) (last_use e h)) (λ e. last_use e (call ∷ h))
-      (WeighsUsed (λ e w. Weighs e w h) b.key (weight_for b)) (λ e w. Weighs e w (call ∷ h)) (length h + 1) (length (call ∷ h)) (admitted b.key (weight_for b) s.tracked)
-      (λ e. put_use (is_of e (result_ok (body_put t key pieces))) (same_key b.key e) (length h) (last_use e h) (ap (is_of e) is))
-      (λ e w there used_so. put_weight (λ e w. Weighs e w h) b (result_ok (body_put t key pieces)) (is_tracked e h) h e w is used_so) (omega arith)
-      (Ordered-admitted (λ e. last_use e h) (λ e w. Weighs e w h) b.key (weight_for b) (length h) s.tracked (to_ordered s.tracked h o)))
+    (WeighsUsed (λ e w. Weighs e w h) b.key (weight_for b)) (λ e w. Weighs e w (call ∷ h)) (length h + 1) (length (call ∷ h)) (admitted b.key (weight_for b) s.tracked)
+    (λ e. put_use (is_of e (result_ok (body_put t key pieces))) (same_key b.key e) (length h) (last_use e h) (ap (is_of e) is))
+    (λ e w there used_so. put_weight (λ e w. Weighs e w h) b (result_ok (body_put t key pieces)) (is_tracked e h) h e w is used_so) (omega arith)
+    (Ordered-admitted (λ e. last_use e h) (λ e w. Weighs e w h) b.key (weight_for b) (length h) s.tracked (to_ordered s.tracked h o)))
 
 gone_use : (d u : Bool) (n : ℕ) (old : Option ℕ) → use_chosen d u n old ≡ cond d None (use_chosen false u n old)
 gone_use true u n old = refl
@@ -218,10 +221,10 @@ evicted_used t key pieces n es rows h o =
     let call : Call = call_at t (Put key pieces) (Ok (Finished n es)) in
     from_ordered (without_rows es rows) (call ∷ h)
     (Ordered-as (λ e. cond (has_key e es) None (last_use e (first ∷ h))) (λ e. last_use e (call ∷ h)) (λ e w. Weighs e w (first ∷ h)) (λ e w. Weighs e w (call ∷ h))
-      (length (first ∷ h)) (length (call ∷ h)) (without_rows es rows)
-      (λ e. gone_use (has_key e es) (uses e call h) (length h) (last_use e h))
-      (λ e w there was. gone_weight (has_key e es) (uses e call h) (writes e call h) (is_tracked e h) (length h) (last_use e h) e w (written_by call h) h (Weighs e w h) there was)
-      (omega arith) (Ordered-without_all (λ e. last_use e (first ∷ h)) (λ e w. Weighs e w (first ∷ h)) es (length (first ∷ h)) rows (to_ordered rows (first ∷ h) o)))
+    (length (first ∷ h)) (length (call ∷ h)) (without_rows es rows)
+    (λ e. gone_use (has_key e es) (uses e call h) (length h) (last_use e h))
+    (λ e w there was. gone_weight (has_key e es) (uses e call h) (writes e call h) (is_tracked e h) (length h) (last_use e h) e w (written_by call h) h (Weighs e w h) there was)
+    (omega arith) (Ordered-without_all (λ e. last_use e (first ∷ h)) (λ e w. Weighs e w (first ∷ h)) es (length (first ∷ h)) rows (to_ordered rows (first ∷ h) o)))
 
 put_used : (s : State) (t : Instant) (key : StoredKey) (pieces : List (List ℕ)) (r : Result FinishedBody TierFault) (a : Answer) (h : History) → body_put t key pieces ≡ r → IsPutAnswer s r a
     → IsOrderOfUse s.tracked h → IsOrderOfUse (put_behind s r a).tracked (call_at t (Put key pieces) (Ok a) ∷ h) × EvictsBy s.settings.limit s.settings.watermark (record { moment = t; action = Put key pieces }) (Ok a) h
@@ -257,9 +260,10 @@ answer_used : (s : State) (t : Instant) (action : Action) (a : Answer) (h : Hist
 answer_used s t (Open i key) a h fits keeps p o =
     subst (λ (y : Answer). OrderBehind s t (Open i key) y h) (sym p)
     (idle (call_at t (Open i key) (Ok Opened)) h s.tracked (record { departs = λ e. refl; writes = λ e. refl; hits = λ e. refl }) o, refl)
-answer_used s t (LookUp i) a h fits keeps p o =
-    (request_used s t i a h (get s.requests i) fits refl p keeps o,
-      look_evicts s.settings.limit s.settings.watermark (record { moment = t; action = LookUp i }) t a h s (get s.requests i) p)
+answer_used s t (LookUp i) a h fits keeps p o = (
+  request_used s t i a h (get s.requests i) fits refl p keeps o,
+  look_evicts s.settings.limit s.settings.watermark (record { moment = t; action = LookUp i }) t a h s (get s.requests i) p,
+)
 answer_used s t (Read i) a h fits keeps p o =
     (read_used s t i a h (get s.requests i) p o, read_evicts s.settings.limit s.settings.watermark (record { moment = t; action = Read i }) a h (get s.requests i) p)
 answer_used s t (Drop i) a h fits keeps p o =
@@ -300,5 +304,5 @@ IsOrderOfUse-after s c h fits keeps p o = by_outcome c.outcome p
 pub BodiesAreTracked-kept : (s : State) (h : History) → Fits s h → KeepsLimits s → IsOrderOfUse s.tracked h → BodiesAreTracked h
 BodiesAreTracked-kept s h fits keeps o k b body =
     let there : (w : ℕ) × (weight_of k s.tracked ≡ Some w) × (length b.bytes ≤ w) =
-      weight_there (length b.bytes) (row_of k s.tracked) (keeps.tracked k b (fits.bodies k ∙ body_now-of k b h body)) in
+    weight_there (length b.bytes) (row_of k s.tracked) (keeps.tracked k b (fits.bodies k ∙ body_now-of k b h body)) in
     (there.0, o.weights k there.0 there.1, there.2)
