@@ -1,4 +1,5 @@
 //! The cache tier: it takes events one by one, and answers each as its state allows.
 #![tactic(auto)]
 
+mod order;
 mod response;
