@@ -1,1 +1,2 @@
+pub mod EvictionLaws
 pub mod HeadLaws

@@ -106,3 +106,39 @@ pub(crate) fn is_over(limit: usize, watermark: Option<usize>, rows: &[Tracked]) 
         Some(bound) => bound < rows.len(),
     }
 }
+
+// Takes the last entry out of the order of use, and removes its body.
+fn evict_last(rows: &mut Vec<Tracked>, bodies: &mut Vec<FinishedBody>) -> StoredKey
+    requires { 0 < vec_len rows.old }
+    ensures last { IsLast result rows.old.items }
+    ensures rows { rows.new.items ≡ without_row result rows.old.items }
+    ensures shorter { vec_len rows.new < vec_len rows.old }
+    ensures bodies { bodies.new.items ≡ without_body result bodies.old.items }
+{
+    let row = rows.pop().unwrap();
+    remove_row(rows, &row.key);
+    remove_body(bodies, &row.key);
+    row.key
+}
+
+/// Evicts entries with their bodies, each as the last, until both limits are kept.
+pub(crate) fn evict(
+    limit: usize,
+    watermark: Option<usize>,
+    rows: &mut Vec<Tracked>,
+    bodies: &mut Vec<FinishedBody>,
+    evicted: &mut Vec<StoredKey>,
+)
+    requires weights { all_weights rows.old.items < 2 ^ 64 }
+    requires room { vec_len rows.old ≤ vec_capacity evicted.old }
+    requires none { evicted.old.items ≡ [] }
+    ensures lawful { IsLawfulEviction limit watermark rows.old.items evicted.new.items }
+    ensures rows { rows.new.items ≡ without_rows evicted.new.items rows.old.items }
+    ensures bodies { bodies.new.items ≡ without_bodies evicted.new.items bodies.old.items }
+    ensures weights { all_weights rows.new.items < 2 ^ 64 }
+{
+    while is_over(limit, watermark, rows) {
+        let key = evict_last(rows, bodies);
+        evicted.push_reserved(key);
+    }
+}
