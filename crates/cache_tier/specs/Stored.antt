@@ -8,12 +8,12 @@ use Rattle.tier_model.specs.declared.event.TierFault.TheVariants.{BeforeEpoch, U
 use Rattle.tier_model.specs.Response.{Response, response_of, body_given}
 use Rattle.cache_tier.specs.declared.response.Head.{Head}
 use Rattle.cache_tier.specs.declared.response.PutFault.{PutFault}
-use Rattle.cache_tier.specs.declared.response.PutFault.TheVariants.{Memory, Early, Unread}
+use Rattle.cache_tier.specs.declared.response.PutFault.TheVariants.{Early, Unread}
 
 -- the result is what the response gives, unless memory was wanting
 abbrev pub IsStored : Result FinishedBody PutFault → Result FinishedBody TierFault → Type 0
 IsStored (Ok b) given = given ≡ Ok b
-IsStored (Err Memory) given = Unit {0}
+IsStored (Err PutFault.Memory) given = Unit {0}
 IsStored (Err Early) given = given ≡ Err BeforeEpoch
 IsStored (Err Unread) given = given ≡ Err Unsupported
 

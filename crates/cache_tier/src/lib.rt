@@ -3,3 +3,4 @@
 
 mod order;
 mod response;
+pub mod tier;

@@ -1,7 +1,7 @@
 //! Finished bodies, and entries in the order of use.
 ghost use Rattle.std.specs.Prelude.{◌≡◌, ◌+◌, ◌-◌, ◌^◌, ◌<◌, ◌≤◌, [], ◌++◌, ◌∷◌, length, max, vec_len, vec_capacity, unwrap_or, option_copied, true};
 ghost use Rattle.tier_model.specs.Rows.{body_of, with_body, without_body, without_bodies, weight_of, all_weights, without_row, without_rows, admitted, weight_for, is_over, IsLast, IsLawfulEviction};
-ghost use Rattle.tier_model.specs.Step.{is_too_heavy};
+ghost use Rattle.tier_model.specs.Step.{is_too_heavy, use_is_too_heavy};
 
 use tier_model::key::StoredKey;
 use tier_model::rows::{FinishedBody, Tracked};
@@ -51,6 +51,7 @@ pub(crate) fn used_weight(rows: &[Tracked], body: &FinishedBody) -> usize
 /// Takes an entry out of the order of use.
 pub(crate) fn remove_row(rows: &mut Vec<Tracked>, key: &StoredKey)
     ensures items { rows.new.items ≡ without_row key.now rows.old.items }
+    ensures weights { all_weights rows.new.items ≤ all_weights rows.old.items }
     ensures bound { vec_len rows.new ≤ vec_len rows.old }
     ensures capacity { vec_capacity rows.new ≡ vec_capacity rows.old }
 {
@@ -60,7 +61,8 @@ pub(crate) fn remove_row(rows: &mut Vec<Tracked>, key: &StoredKey)
 /// Puts an entry to the front, with this weight.
 pub(crate) fn admit(rows: &mut Vec<Tracked>, key: StoredKey, weight: usize)
     requires { vec_len rows.old < vec_capacity rows.old }
-    ensures { rows.new.items ≡ admitted key weight rows.old.items }
+    ensures items { rows.new.items ≡ admitted key weight rows.old.items }
+    ensures bound { vec_len rows.new ≤ vec_len rows.old + 1 }
 {
     remove_row(rows, &key);
     let _ = rows.insert(0, Tracked { key, weight });
@@ -91,6 +93,14 @@ pub(crate) fn is_too_heavy(rows: &[Tracked], key: &StoredKey, weight: usize) -> 
     ensures { result ≡ is_too_heavy (weight + all_weights (without_row key.now rows.now)) }
 {
     usize::MAX - other_weights(rows, key) < weight
+}
+
+/// Whether the weights don't fit behind the use of a body's entry.
+pub(crate) fn use_is_too_heavy(rows: &[Tracked], body: &FinishedBody) -> bool
+    requires { all_weights rows.now < 2 ^ 64 }
+    ensures { result ≡ use_is_too_heavy (Some body.now) rows.now }
+{
+    is_too_heavy(rows, &body.key, used_weight(rows, body))
 }
 
 /// Whether the weights' sum passes the limit, or the number of entries the watermark.

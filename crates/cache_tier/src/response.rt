@@ -85,6 +85,7 @@ fn fresh_until(arrival: Moment, lifetime: u64) -> Option<Moment>
 }
 
 // The head of a response, if the bytes are of the form that is read.
+#[tactic(auto, unfolding(tier_model::specs::Response::response_of))]
 fn read_head(bytes: &[u8]) -> Option<Head>
     ensures within { IfSome result (λ head. head.body ≤ length bytes.now) }
     ensures value { option_map (response_at bytes.now) result ≡ response_of bytes.now }
