@@ -1,14 +1,14 @@
 -- What a key has behind a history, found call by call, is its body; and what the rows of bodies say behind edits.
-use Rattle.std.proofs.Common.{◌≡◌, refl, ap, sym, ◌∙◌, true, false, subst, cond, [], ◌∷◌, ◌++◌, ◌||◌}
-use Rattle.std.specs.Prelude.{Bool, ℕ, List, Option, Some, None, is_some, not, find, filter}
+use Rattle.std.proofs.Common.{◌≡◌, refl, ap, ◌∙◌, true, false, subst, cond, [], ◌∷◌, ◌++◌}
+use Rattle.std.specs.Prelude.{Bool, List, Option, Some, None, is_some}
 use Rattle.std.specs.List.{AllByRecursion}
 use Rattle.tier_model.specs.declared.key.StoredKey.{StoredKey}
 use Rattle.tier_model.specs.declared.rows.FinishedBody.{FinishedBody}
 use Rattle.tier_model.specs.Keys.{same_key}
 use Rattle.tier_model.specs.Calls.{Call, History, removes, writes, written_by, is_of, has_key}
-use Rattle.tier_model.specs.Histories.{IsAlive, IsFound, IsBody, NoneWrites}
+use Rattle.tier_model.specs.Histories.{IsAlive, IsBody, NoneWrites}
 use Rattle.tier_model.specs.Rows.{body_of, with_body, without_body, without_bodies}
-use Rattle.tier_model.proofs.KeyLaws.{same_key-true, same_key-refl, same_key-sym, find-without, find-at_end, find-key, either_none}
+use Rattle.tier_model.proofs.KeyLaws.{find-without, find-at_end, either_none}
 
 -- what a key has behind a call: nothing if it was removed, what was written, or what it had
 abbrev pub body_chosen : Bool → Bool → Option FinishedBody → Option FinishedBody → Option FinishedBody

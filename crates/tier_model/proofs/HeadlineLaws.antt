@@ -1,8 +1,8 @@
 -- Where a state fits a history, each call that it allows is right in the light of that history.
-use Rattle.std.proofs.Common.{◌≡◌, refl, ap, sym, ◌∙◌, true, false, subst, cond, [], ◌∷◌, ◌++◌}
-use Rattle.std.specs.Prelude.{Bool, ℕ, List, Option, Some, None, is_some, Result, Ok, Err, MatchOption}
+use Rattle.std.proofs.Common.{◌≡◌, refl, ap, sym, ◌∙◌, true, false, subst, cond, ◌++◌}
+use Rattle.std.specs.Prelude.{ℕ, List, Option, Some, None, is_some, Ok, Err, MatchOption}
 use Rattle.std.specs.FinMap.{get}
-use Rattle.cache_words.specs.Time.{Instant, at_most}
+use Rattle.cache_words.specs.Time.{Instant}
 use Rattle.tier_model.specs.declared.key.StoredKey.{StoredKey}
 use Rattle.tier_model.specs.declared.rows.FinishedBody.{FinishedBody}
 use Rattle.tier_model.specs.declared.rows.Request.{Request}
@@ -11,11 +11,11 @@ use Rattle.tier_model.specs.declared.rows.Reader.TheVariants.{Closed, Unread, Sp
 use Rattle.tier_model.specs.declared.event.Action.{Action}
 use Rattle.tier_model.specs.declared.event.Action.TheVariants.{Open, LookUp, Read, Drop, Purge, Put}
 use Rattle.tier_model.specs.declared.event.Answer.{Answer}
-use Rattle.tier_model.specs.declared.event.Answer.TheVariants.{Found, Absent, Bytes, End, Purged}
+use Rattle.tier_model.specs.declared.event.Answer.TheVariants.{Purged}
 use Rattle.tier_model.specs.declared.event.TierFault.{TierFault}
 use Rattle.tier_model.specs.declared.event.TierFault.TheVariants.{WrongPhase}
-use Rattle.tier_model.specs.Calls.{Call, History, Outcome, opened_key}
-use Rattle.tier_model.specs.Histories.{IsFound, IsBody}
+use Rattle.tier_model.specs.Calls.{Call, History, Outcome}
+use Rattle.tier_model.specs.Histories.{IsFound}
 use Rattle.tier_model.specs.Headline.{LooksRight, ReadsWhole, PurgesRight, IsRight}
 use Rattle.tier_model.specs.Rows.{body_of}
 use Rattle.tier_model.specs.State.{State}
@@ -59,6 +59,7 @@ purge_right s k h fits = (to_found, λ found. ap is_some (fits.bodies k) ∙ bod
     by_body : (o : Option FinishedBody) → body_now k h ≡ o → is_some o ≡ true → IsFound k h
     by_body None e t = cc
     by_body (Some w) e t = (w, (body_now-is k w h e).alive)
+
     to_found : is_some (body_of k s.bodies) ≡ true → IsFound k h
     to_found t = by_body (body_now k h) refl (ap is_some (sym (fits.bodies k)) ∙ t)
 

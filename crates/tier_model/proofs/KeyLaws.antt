@@ -6,7 +6,6 @@ use Rattle.std.proofs.lemmas.List.Folds.{find-append}
 use Rattle.std.specs.Option.{option_or}
 use Rattle.tier_model.specs.declared.key.StoredKey.{StoredKey}
 use Rattle.tier_model.specs.Keys.{same_key}
-use Rattle.tier_model.specs.Calls.{has_key}
 
 pub same_key-true : (a b : StoredKey) → same_key a b ≡ true → a ≡ b
 same_key-true a b e = let key : List ℕ → StoredKey = λ bytes. record { bytes = bytes } in ap key ((bytes_eq-Decides a.bytes b.bytes).0 e)
@@ -56,7 +55,7 @@ module _ {X : Type 0} (key : X → StoredKey) where
   without_step : (k j : StoredKey) (x : X) (xs : List X) (was : Bool) → same_key (key x) j ≡ was
       → find (λ x. same_key (key x) k) (filter (λ x. not (same_key (key x) j)) xs) ≡ cond (same_key j k) None (find (λ x. same_key (key x) k) xs)
       → find (λ x. same_key (key x) k) (cond (not was) (x ∷ filter (λ x. not (same_key (key x) j)) xs) (filter (λ x. not (same_key (key x) j)) xs))
-        ≡ cond (same_key j k) None (cond (same_key (key x) k) (Some x) (find (λ x. same_key (key x) k) xs))
+      ≡ cond (same_key j k) None (cond (same_key (key x) k) (Some x) (find (λ x. same_key (key x) k) xs))
   without_step k j x xs true e ih = ih ∙ twice (same_key j k) x _ ∙ ap (λ t. cond (same_key j k) None (cond t (Some x) (find (λ x. same_key (key x) k) xs))) (sym (same_key-left (key x) j k e))
   without_step k j x xs false e ih = other (same_key (key x) k) refl
     where

@@ -5,3 +5,6 @@ pub mod StepLaws
 pub mod RequestLaws
 pub mod HeadlineLaws
 pub mod OrderLaws
+pub mod BoundLaws
+pub mod Carried
+pub mod UseLaws

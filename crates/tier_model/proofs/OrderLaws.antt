@@ -1,7 +1,6 @@
 -- Weights and numbers of rows behind edits.
-use Rattle.std.proofs.Common.{◌≡◌, ℕ, ◌+◌, ◌≤◌, ◌<◌, refl, ap, sym, ◌∙◌, true, false, subst, cond, [], ◌∷◌, ◌++◌, ◌||◌, length, arith, suc}
-use Rattle.std.specs.Prelude.{Bool, List, Option, Some, None, option_map, unwrap_or, not, find, filter, nat_lt, max}
-use Rattle.std.specs.List.{sum_by}
+use Rattle.std.proofs.Common.{◌≡◌, ℕ, ◌+◌, ◌≤◌, ◌<◌, refl, ap, ◌∙◌, true, false, cond, [], ◌∷◌, ◌||◌, length, arith}
+use Rattle.std.specs.Prelude.{Bool, List, Option, Some, None, option_map, unwrap_or, not, nat_lt}
 use Rattle.std.proofs.lemmas.List.Sums.{sum_by-cons}
 use Rattle.std.proofs.lemmas.Bool.Decides.{nat_tests}
 use Rattle.tier_model.specs.declared.key.StoredKey.{StoredKey}
@@ -10,8 +9,8 @@ use Rattle.tier_model.specs.declared.rows.Tracked.{Tracked}
 use Rattle.tier_model.specs.Keys.{same_key}
 use Rattle.tier_model.specs.Calls.{has_key}
 use Rattle.tier_model.specs.Histories.{is_past}
-use Rattle.tier_model.specs.Rows.{row_of, weight_of, all_weights, without_row, without_rows, admitted, used, weight_for, is_over, IsLast, IsLawfulEviction}
-use Rattle.tier_model.proofs.KeyLaws.{find-without, either_none, same_key-refl}
+use Rattle.tier_model.specs.Rows.{row_of, weight_of, all_weights, without_row, without_rows, admitted, used, weight_for, is_over, IsLawfulEviction}
+use Rattle.tier_model.proofs.KeyLaws.{find-without, either_none}
 
 pub row_of-without : (k j : StoredKey) (rows : List Tracked) → row_of k (without_row j rows) ≡ cond (same_key j k) None (row_of k rows)
 row_of-without k j rows = find-without (λ r. r.key) k j rows
@@ -115,8 +114,12 @@ is_over-evicted limit mark (e ∷ es) rows h = is_over-evicted limit mark es (wi
 -- the use of a tracked entry changes neither sum nor number
 pub used_weight : (b : FinishedBody) (w : ℕ) (rows : List Tracked) → weight_of b.key rows ≡ Some w → all_weights (used b rows) ≤ all_weights rows
 used_weight b w rows e =
-    omega (arith, sum_by-cons (λ r. r.weight) (record { key = b.key; weight = unwrap_or (weight_of b.key rows) (weight_for b) }) (without_row b.key rows),
-      ap (λ o. unwrap_or o (weight_for b)) e, all_weights-tracked b.key w rows e)
+    omega (
+      arith,
+      sum_by-cons (λ r. r.weight) (record { key = b.key; weight = unwrap_or (weight_of b.key rows) (weight_for b) }) (without_row b.key rows),
+      ap (λ o. unwrap_or o (weight_for b)) e,
+      all_weights-tracked b.key w rows e,
+    )
 
 pub used_count : (b : FinishedBody) (w : ℕ) (rows : List Tracked) → weight_of b.key rows ≡ Some w → length (used b rows) ≤ length rows
 used_count b w rows e = omega (arith, length-tracked b.key w rows e)

@@ -1,6 +1,6 @@
 -- A request's key and reader are what its own calls say.
 use Rattle.std.proofs.Common.{◌≡◌, refl, ap, sym, ◌∙◌, true, false, subst, cond, [], ◌∷◌, ◌++◌, ◌==◌}
-use Rattle.std.specs.Prelude.{Bool, ℕ, List, Option, Some, None, is_some, Result, Ok, Err, ◌⊎◌, ◌&&◌, MatchOption}
+use Rattle.std.specs.Prelude.{Bool, ℕ, List, Option, Some, None, is_some, Result, Ok, Err, ◌&&◌, MatchOption}
 use Rattle.std.specs.FinMap.{FinMap, get, insert, remove, get-insert, get-remove}
 use Rattle.std.specs.Ordering.{nat_cmp}
 use Rattle.std.specs.Cmp.{unsigned_tied}
@@ -15,11 +15,11 @@ use Rattle.tier_model.specs.declared.rows.Reader.TheVariants.{Closed, Unread, Sp
 use Rattle.tier_model.specs.declared.event.Action.{Action}
 use Rattle.tier_model.specs.declared.event.Action.TheVariants.{Open, LookUp, Read, Drop, Purge, Put}
 use Rattle.tier_model.specs.declared.event.Answer.{Answer}
-use Rattle.tier_model.specs.declared.event.Answer.TheVariants.{Opened, Found, Absent, Bytes, End, Dropped, Purged, Finished}
+use Rattle.tier_model.specs.declared.event.Answer.TheVariants.{Opened, Found, Bytes, End, Dropped, Finished}
 use Rattle.tier_model.specs.declared.event.TierFault.{TierFault}
-use Rattle.tier_model.specs.declared.event.TierFault.TheVariants.{NoRequest, IdInUse, WrongPhase}
+use Rattle.tier_model.specs.declared.event.TierFault.TheVariants.{WrongPhase}
 use Rattle.tier_model.specs.Response.{body_put}
-use Rattle.tier_model.specs.Calls.{Call, History, Outcome, opened_key, key_behind, ends_reader, is_end_of_reader, bytes_given, bytes_read, bytes_answered, done_of}
+use Rattle.tier_model.specs.Calls.{Call, History, Outcome, opened_key, key_behind, ends_reader, bytes_given, bytes_read, bytes_answered, done_of}
 use Rattle.tier_model.specs.Histories.{IsBody, HasHit}
 use Rattle.tier_model.specs.Rows.{body_of}
 use Rattle.tier_model.specs.State.{State}
@@ -124,24 +124,33 @@ look_fits s t i a h (Some q) fits e p id = by_body (body_of q.key s.bodies) refl
   where
     open_key : opened_key i h ≡ Some q.key
     open_key = (of_request s h fits i q e).0
+
     by_body : (b : Option FinishedBody) → body_of q.key s.bodies ≡ b → a ≡ look_answer t b → RequestFits id (get (look_behind s t i q b).requests id) (call_at t (LookUp i) (Ok a) ∷ h)
     by_body None be ae =
         placed s.requests i (looked t q None) id (call_at t (LookUp i) (Ok a)) h (open_key, tt) (λ n. record { key = refl; reader = n; bytes = refl }) (fits.requests id)
     by_body (Some w) be ae =
-        placed s.requests i (looked t q (Some w)) id (call_at t (LookUp i) (Ok a)) h
-        (open_key, subst (λ (x : Answer). ReaderFits i (Unread w.bytes) (call_at t (LookUp i) (Ok x) ∷ h)) (sym ae)
-          (found_reader t i q w (at_most t w.fresh_until) h open_key (body_now-is q.key w h (sym (fits.bodies q.key) ∙ be))))
+        placed s.requests i (looked t q (Some w)) id (call_at t (LookUp i) (Ok a)) h (
+          open_key,
+          subst (λ (x : Answer). ReaderFits i (Unread w.bytes) (call_at t (LookUp i) (Ok x) ∷ h)) (sym ae)
+              (found_reader t i q w (at_most t w.fresh_until) h open_key (body_now-is q.key w h (sym (fits.bodies q.key) ∙ be))),
+        )
         (λ n. record { key = refl; reader = n; bytes = refl }) (fits.requests id)
 
 -- a read of what is unread gives all of it, and one behind it nothing
 read_reader : (t : Instant) (i : ℕ) (r : Reader) (h : History) → has_reader r ≡ true → ReaderFits i r h → ReaderFits i Spent (call_at t (Read i) (Ok (read_answer r)) ∷ h)
 read_reader t i Closed h e fits = cc
-read_reader t i (Unread bytes) h e fits =
-    (fits.0, call_at t (Read i) (Ok (Bytes bytes)) ∷ fits.1, longer_hit i fits.0 fits.1 (call_at t (Read i) (Ok (Bytes bytes))) h refl fits.2,
-      more_read i fits.1 (call_at t (Read i) (Ok (Bytes bytes))) [] bytes fits.3 (ap (λ v. cond v bytes []) (itself i)) ∙ fits.4)
-read_reader t i Spent h e fits =
-    (fits.0, call_at t (Read i) (Ok End) ∷ fits.1, longer_hit i fits.0 fits.1 (call_at t (Read i) (Ok End)) h refl fits.2,
-      more_read i fits.1 (call_at t (Read i) (Ok End)) fits.0.bytes [] fits.3 (ap (λ v. cond v [] []) (itself i)) ∙ append_nothing fits.0.bytes)
+read_reader t i (Unread bytes) h e fits = (
+  fits.0,
+  call_at t (Read i) (Ok (Bytes bytes)) ∷ fits.1,
+  longer_hit i fits.0 fits.1 (call_at t (Read i) (Ok (Bytes bytes))) h refl fits.2,
+  more_read i fits.1 (call_at t (Read i) (Ok (Bytes bytes))) [] bytes fits.3 (ap (λ v. cond v bytes []) (itself i)) ∙ fits.4,
+)
+read_reader t i Spent h e fits = (
+  fits.0,
+  call_at t (Read i) (Ok End) ∷ fits.1,
+  longer_hit i fits.0 fits.1 (call_at t (Read i) (Ok End)) h refl fits.2,
+  more_read i fits.1 (call_at t (Read i) (Ok End)) fits.0.bytes [] fits.3 (ap (λ v. cond v [] []) (itself i)) ∙ append_nothing fits.0.bytes,
+)
 
 -- the check of a read passed
 pub reader_there : (q : Request) → unless_open (Some q) (λ q. cond (has_reader q.reader) None (Some WrongPhase)) ≡ None → has_reader q.reader ≡ true
@@ -182,13 +191,13 @@ answer_fits : (s : State) (t : Instant) (action : Action) (a : Answer) (h : Hist
 answer_fits s t (Open i key) a h fits n p id =
     subst (λ (x : Answer). RequestFits id (get (insert s.requests i (opened_request key)) id) (call_at t (Open i key) (Ok x) ∷ h)) (sym p)
     (placed s.requests i (opened_request key) id (call_at t (Open i key) (Ok Opened)) h (ap (λ v. cond v (Some key) (opened_key i h)) (itself i), tt)
-      (λ m. record { key = ap (λ v. cond v (Some key) (opened_key id h)) m; reader = refl; bytes = refl }) (fits.requests id))
+    (λ m. record { key = ap (λ v. cond v (Some key) (opened_key id h)) m; reader = refl; bytes = refl }) (fits.requests id))
 answer_fits s t (LookUp i) a h fits n p id = look_fits s t i a h (get s.requests i) fits refl p id
 answer_fits s t (Read i) a h fits n p id = read_fits s t i a h (get s.requests i) fits refl n p id
 answer_fits s t (Drop i) a h fits n p id =
     subst (λ (x : Answer). RequestFits id (get (remove s.requests i) id) (call_at t (Drop i) (Ok x) ∷ h)) (sym p)
     (ended s.requests i id (call_at t (Drop i) (Ok Dropped)) h (ap (λ v. cond v None (opened_key i h)) (itself i))
-      (λ m. record { key = ap (λ v. cond v None (opened_key id h)) m; reader = m; bytes = refl }) (fits.requests id))
+    (λ m. record { key = ap (λ v. cond v None (opened_key id h)) m; reader = m; bytes = refl }) (fits.requests id))
 answer_fits s t (Purge key) a h fits n p id =
     unmoved s (purge_behind s key (is_some (body_of key s.bodies))) (call_at t (Purge key) (Ok a)) h fits (purge_requests s key (is_some (body_of key s.bodies))) (λ i. record { key = refl; reader = refl; bytes = refl }) id
 answer_fits s t (Put key pieces) a h fits n p id =

@@ -1,5 +1,5 @@
 -- One lawful step changes what a key has just as its call says.
-use Rattle.std.proofs.Common.{◌≡◌, refl, ap, sym, ◌∙◌, true, false, subst, cond, [], ◌∷◌, ◌++◌, ◌||◌, inl, inr}
+use Rattle.std.proofs.Common.{◌≡◌, refl, ap, sym, ◌∙◌, true, false, subst, cond, [], ◌||◌, inl, inr}
 use Rattle.std.specs.Prelude.{Bool, ℕ, List, Option, Some, None, is_some, Result, Ok, Err, ◌⊎◌, ◌&&◌, MatchOption}
 use Rattle.std.specs.FinMap.{get, insert}
 use Rattle.cache_words.specs.Time.{Instant}
@@ -8,22 +8,21 @@ use Rattle.tier_model.specs.declared.rows.FinishedBody.{FinishedBody}
 use Rattle.tier_model.specs.declared.rows.Request.{Request}
 use Rattle.tier_model.specs.declared.rows.Reader.{Reader}
 use Rattle.tier_model.specs.declared.rows.Reader.TheVariants.{Closed, Unread, Spent}
-use Rattle.tier_model.specs.declared.event.Event.{Event}
 use Rattle.tier_model.specs.declared.event.Action.{Action}
 use Rattle.tier_model.specs.declared.event.Action.TheVariants.{Open, LookUp, Read, Drop, Purge, Put}
 use Rattle.tier_model.specs.declared.event.Answer.{Answer}
 use Rattle.tier_model.specs.declared.event.Answer.TheVariants.{Opened, Found, Absent, Bytes, End, Dropped, Purged, Finished}
 use Rattle.tier_model.specs.declared.event.Done.{Done}
 use Rattle.tier_model.specs.declared.event.TierFault.{TierFault}
-use Rattle.tier_model.specs.declared.event.TierFault.TheVariants.{NoRequest, IdInUse, WrongPhase, TooHeavy, Memory, Unsupported, BeforeEpoch}
+use Rattle.tier_model.specs.declared.event.TierFault.TheVariants.{NoRequest, IdInUse, WrongPhase, TooHeavy, Unsupported, BeforeEpoch}
 use Rattle.std.specs.Result.{result_ok}
 use Rattle.tier_model.specs.Keys.{same_key}
 use Rattle.tier_model.specs.Response.{body_put, body_given, dated_body, response_of, joined, Response, fresh_until, is_before_epoch}
-use Rattle.tier_model.specs.Calls.{Call, History, Outcome, removes, writes, written_by, is_of, has_key, nothing_done, done_of}
-use Rattle.tier_model.specs.Rows.{body_of, with_body, without_body, without_bodies}
+use Rattle.tier_model.specs.Calls.{Call, History, Outcome, is_of, has_key, nothing_done, done_of}
+use Rattle.tier_model.specs.Rows.{body_of, with_body, without_bodies}
 use Rattle.tier_model.specs.State.{State}
-use Rattle.tier_model.specs.Step.{refusal, unless_open, can_look_up, has_reader, AllowsBy, Allows, after, answered, undone, taken_back, look_answer, read_answer, read_behind, use_is_too_heavy, on_request, IsPutAnswer, IsPutFault, IsAnswer, IsFault, put_behind, purge_behind, look_behind}
-use Rattle.tier_model.proofs.KeyLaws.{same_key-true, same_key-sym}
+use Rattle.tier_model.specs.Step.{refusal, unless_open, can_look_up, has_reader, AllowsBy, Allows, after, undone, taken_back, look_answer, read_answer, read_behind, use_is_too_heavy, on_request, IsPutAnswer, IsAnswer, IsFault, put_behind, purge_behind, look_behind}
+use Rattle.tier_model.proofs.KeyLaws.{same_key-true}
 use Rattle.tier_model.proofs.BodyLaws.{body_by, body_chosen, body_of-without, body_of-with, body_of-without_all}
 
 pub stores_nothing : Action → Bool
@@ -63,6 +62,7 @@ given_nothing t key (Some response) f e = by_date (fresh_until t response.lifeti
     by_epoch : (v : Bool) (b : FinishedBody) → cond v (Err BeforeEpoch) (Ok b) ≡ Err f → done_of f ≡ nothing_done
     by_epoch true b e = let same : BeforeEpoch ≡ f = cc in ap done_of (sym same)
     by_epoch false b e = cc
+
     by_date : (u : Option Instant) → dated_body t key response.body u ≡ Err f → done_of f ≡ nothing_done
     by_date None e = let same : Unsupported ≡ f = cc in ap done_of (sym same)
     by_date (Some until) e = by_epoch (is_before_epoch t || is_before_epoch until) _ e
