@@ -1,7 +1,8 @@
 //! Finished bodies, and entries in the order of use.
 ghost use Rattle.std.specs.Prelude.{◌≡◌, ◌+◌, ◌-◌, ◌^◌, ◌<◌, ◌≤◌, [], ◌++◌, ◌∷◌, length, max, vec_len, vec_capacity, unwrap_or, option_copied, true};
 ghost use Rattle.tier_model.specs.Rows.{body_of, with_body, without_body, without_bodies, weight_of, all_weights, without_row, without_rows, admitted, weight_for, is_over, IsLast, IsLawfulEviction};
-ghost use Rattle.tier_model.specs.Step.{is_too_heavy, use_is_too_heavy};
+ghost use Rattle.tier_model.specs.Step.{is_too_heavy, use_is_too_heavy, counted};
+ghost use Rattle.std.specs.List.{sum_by};
 
 use tier_model::key::StoredKey;
 use tier_model::rows::{FinishedBody, Tracked};
@@ -29,6 +30,17 @@ pub(crate) fn put_body(bodies: &mut Vec<FinishedBody>, body: FinishedBody)
 {
     remove_body(bodies, &body.key);
     bodies.push_reserved(body);
+}
+
+/// The bytes of all bodies, counted up to 2^64 - 1.
+pub(crate) fn all_bytes(bodies: &[FinishedBody]) -> u64
+    ensures { result ≡ counted 0 (sum_by (λ b. length b.bytes) bodies.now) }
+{
+    let mut count: u64 = 0;
+    for body in bodies {
+        count = count.saturating_add(body.bytes.len() as u64);
+    }
+    count
 }
 
 /// What a body weighs.

@@ -1,20 +1,24 @@
 //! The tier.
-ghost use Rattle.std.specs.Prelude.{◌≡◌, [], None, Ok, IfSome, MatchResult};
+ghost use Rattle.std.specs.Prelude.{◌≡◌, [], ◌∷◌, None, Ok, IfSome, MatchResult, IfOk, IfErr, OnErr};
 ghost use Rattle.tier_model.specs.State.{empty_state};
 ghost use Rattle.tier_model.specs.Calls.{nothing_done, done_of};
-ghost use Rattle.tier_model.specs.Step.{refusal, can_look_up, has_reader, read_answer, stored_alone, IsPutAnswer};
+ghost use Rattle.tier_model.specs.Step.{Allows, after, refusal, can_look_up, has_reader, read_answer, stored_alone, IsPutAnswer};
+ghost use Rattle.tier_model.specs.Past.{Runs, HasPast, CarriesHeadline};
+ghost use Rattle.tier_model.specs.Reports.{report_of};
 ghost use Rattle.cache_tier.specs.Acts.{AllowsUnrefused, after_action, IsStoreFault, behind_store};
 
 use crate::order::{
-    admit, body_of, evict, is_too_heavy, put_body, remove_body, remove_row, use_is_too_heavy,
-    used_weight, weight_for,
+    admit, all_bytes, all_weights, body_of, evict, is_too_heavy, put_body, remove_body, remove_row,
+    use_is_too_heavy, used_weight, weight_for,
 };
 use crate::response::{PutFault, body_put};
 use cache_words::time::{Duration, Moment};
+use rand_core::Rng;
 use std::alloc::Global;
 use std::marker::Model;
-use tier_model::event::{Action, Answer, Done, Entries, Pieces, TierFault};
+use tier_model::event::{Action, Answer, Done, Entries, Event, Pieces, TierFault};
 use tier_model::key::StoredKey;
+use tier_model::report::Report;
 use tier_model::requests::Requests;
 use tier_model::rows::{FinishedBody, Phase, Reader, Request, Tracked};
 
@@ -112,6 +116,7 @@ impl Tier<1> {
         wait: Option<Duration>,
     ) -> Tier<1>
         ensures state { result ≡ empty_state (record { limit = limit; watermark = watermark; age = age; wait = wait }) }
+        ensures past { HasPast (record { limit = limit; watermark = watermark; age = age; wait = wait }) result [] }
     {
         Tier {
             alloc,
@@ -130,7 +135,8 @@ impl Tier<1> {
 
     // The checks that come before anything else: the first that fails.
     fn refusal(&self, action: &Action) -> Option<TierFault>
-        ensures { result ≡ refusal self.now action.now }
+        ensures undone { IfSome result (λ fault. done_of fault ≡ nothing_done) }
+        ensures value { result ≡ refusal self.now action.now }
     {
         match action {
             Action::Open { request, .. } => match self.requests.get(*request) {
@@ -300,6 +306,70 @@ impl Tier<1> {
             Err(PutFault::Memory) => Err(TierFault::Memory(nothing_done(self.alloc))),
             Err(PutFault::Early) => Err(TierFault::BeforeEpoch),
             Err(PutFault::Unread) => Err(TierFault::Unsupported),
+        }
+    }
+
+    fn act(&mut self, event: &Event) -> Result<Answer, TierFault>
+        ensures allowed { Allows self.old event.now result }
+        ensures after { self.new ≡ after self.old event.now result }
+    {
+        if let Some(fault) = self.refusal(&event.action) {
+            return Err(fault);
+        }
+        match &event.action {
+            Action::Open { request, key } => self.open(event.moment, *request, *key),
+            Action::LookUp { request } => self.look_up(event.moment, *request),
+            Action::Read { request } => self.read(event.moment, *request),
+            Action::Drop { request } => self.drop_request(event.moment, *request),
+            Action::Purge { key } => self.purge(event.moment, *key),
+            Action::Put { key, pieces } => self.put(event.moment, *key, pieces),
+        }
+    }
+
+    /// Takes one event and answers it. A refusal says why, and leaves the tier as before, but for a body
+    /// that was stored and removed again.
+    pub fn step<R: Rng>(&mut self, _rng: &mut R, event: &Event) -> Result<Answer, TierFault>
+        ensures allowed { Allows self.old event.now result }
+        ensures after { self.new ≡ after self.old event.now result }
+        ensures headline { CarriesHeadline self.old (event.now ∷ []) (result ∷ []) self.new }
+    {
+        self.act(event)
+    }
+
+    /// Takes events in order, and gives an outcome for each. The room for the outcomes is taken first;
+    /// without it nothing is done.
+    pub fn run<R: Rng>(
+        &mut self,
+        rng: &mut R,
+        events: &[Event],
+    ) -> Result<Vec<Result<Answer, TierFault>>, TierFault>
+        ensures ran { IfOk result (λ outcomes. Runs self.old events.now outcomes.items self.new) }
+        ensures headline { IfOk result (λ outcomes. CarriesHeadline self.old events.now outcomes.items self.new) }
+        ensures fault { IfErr result (λ fault. fault ≡ TierFault.Memory nothing_done) }
+        ensures err { OnErr result (self.new ≡ self.old) }
+    {
+        let Ok(mut outcomes) = Vec::with_capacity(self.alloc, events.len()) else {
+            return Err(TierFault::Memory(nothing_done(self.alloc)));
+        };
+        for event in events {
+            let outcome = self.step(rng, event);
+            outcomes.push_reserved(outcome);
+        }
+        Ok(outcomes)
+    }
+
+    /// What the tier did and holds.
+    pub fn report(&self) -> Report
+        ensures { result ≡ report_of self.now }
+    {
+        Report {
+            found: self.found,
+            absent: self.absent,
+            bodies: self.bodies.len() as u64,
+            bytes: all_bytes(&self.bodies),
+            tracked: self.tracked.len() as u64,
+            weight: all_weights(&self.tracked) as u64,
+            evicted: self.evicted,
         }
     }
 }
