@@ -68,7 +68,7 @@ AreTracked-with x bodies rows h k b e =
     subst (HasWeight (length b.bytes)) (sym (row_of-admitted k x.key (weight_for x) rows)) (entered (same_key x.key k) b x (body_of k bodies) (row_of k rows) (h k b) (sym (body_of-with k x bodies) ∙ e))
 
 -- what a tracked entry weighs
-weight_there : (n : ℕ) (o : Option Tracked) → HasWeight n o → (w : ℕ) × (option_map (λ r. r.weight) o ≡ Some w) × (n ≤ w)
+pub weight_there : (n : ℕ) (o : Option Tracked) → HasWeight n o → (w : ℕ) × (option_map (λ r. r.weight) o ≡ Some w) × (n ≤ w)
 weight_there n None h = absurd h
 weight_there n (Some r) h = (r.weight, refl, h)
 

@@ -22,9 +22,13 @@ use Rattle.tier_model.specs.Headline.{Headline, HoldsHeadline}
 use Rattle.tier_model.specs.Rows.{body_of, is_over}
 use Rattle.tier_model.specs.State.{Settings, State, empty_state}
 use Rattle.tier_model.specs.Step.{Allows, after, answered, undone, taken_back, on_request, look_behind, read_behind, purge_behind, put_behind}
+use Rattle.tier_model.specs.Use.{IsOrderOfUse, EvictsBy, EvictsLawfully}
+use Rattle.tier_model.specs.Reports.{IsReport, report_of}
 use Rattle.tier_model.specs.Past.{state_of, IsLawful, HasPast, Runs, CarriesHeadline}
 use Rattle.tier_model.proofs.RequestLaws.{RequestFits, Fits, Fits-after}
 use Rattle.tier_model.proofs.HeadlineLaws.{IsRight-allowed}
+use Rattle.tier_model.proofs.UseSteps.{IsOrderOfUse-after, BodiesAreTracked-kept}
+use Rattle.tier_model.proofs.ReportLaws.{Tallies, Tallies-after, IsReport-kept}
 use Rattle.tier_model.proofs.BoundLaws.{KeepsLimits, KeepsLimits-after, IsWithin-kept}
 
 -- no call changes what the tier was made with
@@ -84,38 +88,76 @@ never_past settings = by_mark settings.watermark
     by_mark None = grind (arith, nat_tests)
     by_mark (Some bound) = grind (arith, nat_tests)
 
--- the state behind a lawful history fits it and keeps the limits
-pub Fits-lawful : (settings : Settings) (h : History) → IsLawful settings h → Fits (state_of settings h) h × KeepsLimits (state_of settings h)
-Fits-lawful settings [] l = (
-  record { requests = λ id. no_request id (get (empty_state settings).requests id) (get-empty nat_cmp id); bodies = λ k. refl },
-  record { kept = never_past settings; tracked = λ k b e. cc },
-)
-Fits-lawful settings (c ∷ h) l =
-    let past : Fits (state_of settings h) h × KeepsLimits (state_of settings h) = Fits-lawful settings h l.1 in
-    (Fits-after (state_of settings h) c h past.0 l.0, KeepsLimits-after (state_of settings h) c l.0 past.1)
+-- what a state is to the history behind it
+pub record Stands (settings : Settings) (s : State) (h : History) : Type 0 where
+  pub made : s.settings ≡ settings
+  pub fits : Fits s h
+  pub keeps : KeepsLimits s
+  pub order : IsOrderOfUse s.tracked h
+  pub tallies : Tallies s h
 
-pub Headline-lawful : (settings : Settings) (h : History) → IsLawful settings h → Headline h
+-- the state behind a lawful history stands for it
+pub Stands-lawful : (settings : Settings) (h : History) → IsLawful settings h → Stands settings (state_of settings h) h
+Stands-lawful settings [] l = record {
+  made = refl;
+  fits = record { requests = λ id. no_request id (get (empty_state settings).requests id) (get-empty nat_cmp id); bodies = λ k. refl };
+  keeps = record { kept = never_past settings; tracked = λ k b e. cc };
+  order = record { order = tt; all = λ e. refl; weights = λ e w there. cc };
+  tallies = record { found = omega arith; absent = omega arith; evicted = omega arith; distinct = tt };
+}
+Stands-lawful settings (c ∷ h) l =
+    let past : Stands settings (state_of settings h) h = Stands-lawful settings h l.1 in
+    record {
+      made = settings-after (state_of settings h) c.event c.outcome ∙ past.made;
+      fits = Fits-after (state_of settings h) c h past.fits l.0;
+      keeps = KeepsLimits-after (state_of settings h) c l.0 past.keeps;
+      order = (IsOrderOfUse-after (state_of settings h) c h past.fits past.keeps l.0 past.order).0;
+      tallies = Tallies-after (state_of settings h) c h l.0 past.tallies;
+    }
+
+Headline-lawful : (settings : Settings) (h : History) → IsLawful settings h → Headline h
 Headline-lawful settings [] l = tt
-Headline-lawful settings (c ∷ h) l = (IsRight-allowed (state_of settings h) c h (Fits-lawful settings h l.1).0 l.0, Headline-lawful settings h l.1)
+Headline-lawful settings (c ∷ h) l = (IsRight-allowed (state_of settings h) c h (Stands-lawful settings h l.1).fits l.0, Headline-lawful settings h l.1)
+
+EvictsLawfully-lawful : (settings : Settings) (h : History) → IsLawful settings h → EvictsLawfully settings.limit settings.watermark h
+EvictsLawfully-lawful settings [] l = tt
+EvictsLawfully-lawful settings (c ∷ h) l =
+    let past : Stands settings (state_of settings h) h = Stands-lawful settings h l.1 in (
+      subst (λ (x : Settings). EvictsBy x.limit x.watermark c.event c.outcome h) past.made (IsOrderOfUse-after (state_of settings h) c h past.fits past.keeps l.0 past.order).1,
+      EvictsLawfully-lawful settings h l.1,
+    )
 
 -- lawful histories hold the headline
 pub HoldsHeadline-lawful : (settings : Settings) (h : History) → IsLawful settings h → HoldsHeadline settings.limit settings.watermark h
 HoldsHeadline-lawful settings h l =
-    let past : Fits (state_of settings h) h × KeepsLimits (state_of settings h) = Fits-lawful settings h l in
+    let past : Stands settings (state_of settings h) h = Stands-lawful settings h l in
     record {
       answers = Headline-lawful settings h l;
       within = λ bodies. subst (λ (x : Settings). HasDistinctKeys bodies → AllByRecursion (λ b. IsBody b.key b h) bodies
-          → (sum_by (λ b. length b.bytes) bodies ≤ x.limit) × (is_past x.watermark (length bodies) ≡ false)) (settings-state_of settings h) (IsWithin-kept (state_of settings h) h past.0 past.1 bodies);
+          → (sum_by (λ b. length b.bytes) bodies ≤ x.limit) × (is_past x.watermark (length bodies) ≡ false)) past.made (IsWithin-kept (state_of settings h) h past.fits past.keeps bodies);
+      tracked = BodiesAreTracked-kept (state_of settings h) h past.fits past.keeps past.order;
+      evictions = EvictsLawfully-lawful settings h l;
+    }
+
+-- a lawful history is a past of the state behind it
+pub HasPast-lawful : (settings : Settings) (s : State) (h : History) → IsLawful settings h → s ≡ state_of settings h → HasPast settings s h
+HasPast-lawful settings s h l e =
+    let past : Stands settings (state_of settings h) h = Stands-lawful settings h l in
+    record {
+      lawful = l;
+      state = e;
+      headline = HoldsHeadline-lawful settings h l;
+      order = subst (λ (x : State). IsOrderOfUse x.tracked h) (sym e) past.order;
+      report = subst (λ (x : State). IsReport (report_of x) h) (sym e) (IsReport-kept (state_of settings h) h past.fits past.tallies past.order);
     }
 
 pub empty-past : (settings : Settings) → HasPast settings (empty_state settings) []
-empty-past settings = record { lawful = tt; state = refl; headline = HoldsHeadline-lawful settings [] tt }
+empty-past settings = HasPast-lawful settings (empty_state settings) [] tt refl
 
 more_past : (settings : Settings) (old : State) (past : History) (e : Event) (o : Outcome) (new : State) → Allows old e o → new ≡ after old e o → HasPast settings old past
     → HasPast settings new (record { event = e; outcome = o } ∷ past)
 more_past settings old past e o new allowed is h =
-    let lawful : IsLawful settings (record { event = e; outcome = o } ∷ past) = (subst (λ (s : State). Allows s e o) h.state allowed, h.lawful) in
-    record { lawful = lawful; state = is ∙ ap (λ (s : State). after s e o) h.state; headline = HoldsHeadline-lawful settings (record { event = e; outcome = o } ∷ past) lawful }
+    HasPast-lawful settings new (record { event = e; outcome = o } ∷ past) (subst (λ (s : State). Allows s e o) h.state allowed, h.lawful) (is ∙ ap (λ (s : State). after s e o) h.state)
 
 pub step-carries : (old : State) (e : Event) (o : Outcome) (new : State) → Allows old e o → new ≡ after old e o → CarriesHeadline old (e ∷ []) (o ∷ []) new
 step-carries old e o new allowed is settings past h = more_past settings old past e o new allowed is h

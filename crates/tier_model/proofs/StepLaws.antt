@@ -25,7 +25,7 @@ use Rattle.tier_model.specs.Step.{refusal, unless_open, can_look_up, has_reader,
 use Rattle.tier_model.proofs.KeyLaws.{same_key-true}
 use Rattle.tier_model.proofs.BodyLaws.{body_by, body_chosen, body_of-without, body_of-with, body_of-without_all}
 
-pub stores_nothing : Action → Bool
+abbrev pub stores_nothing : Action → Bool
 stores_nothing (Put key pieces) = false
 stores_nothing _ = true
 
@@ -70,7 +70,7 @@ given_nothing t key (Some response) f e = by_date (fresh_until t response.lifeti
 pub body_put-nothing : (t : Instant) (key : StoredKey) (pieces : List (List ℕ)) (f : TierFault) → body_put t key pieces ≡ Err f → done_of f ≡ nothing_done
 body_put-nothing t key pieces f e = given_nothing t key (response_of (joined pieces)) f e
 
-both_none : {X : Type 0} (x y : Bool) (o : Option X) → cond x None (cond y None o) ≡ cond (x || y) None o
+pub both_none : {X : Type 0} (x y : Bool) (o : Option X) → cond x None (cond y None o) ≡ cond (x || y) None o
 both_none true y o = refl
 both_none false y o = refl
 
@@ -200,7 +200,6 @@ fault_allowed None s t action f e p = inr p
 
 -- a refused event that stores nothing did nothing
 pub did_nothing : (s : State) (t : Instant) (action : Action) (f : TierFault) → Allows s (record { moment = t; action = action }) (Err f) → stores_nothing action ≡ true → done_of f ≡ nothing_done
-unfolding stores_nothing
 did_nothing s t (Put key pieces) f p e = cc
 did_nothing s t (Open id key) f p e = elim (fault_allowed (refusal s (Open id key)) s t (Open id key) f refl p) [ inl d ↦ d | inr q ↦ elim q [ inl m ↦ ap done_of m.0 | inr x ↦ absurd x ] ]
 did_nothing s t (LookUp id) f p e = elim (fault_allowed (refusal s (LookUp id)) s t (LookUp id) f refl p) [ inl d ↦ d | inr q ↦ elim q [ inl m ↦ ap done_of m.0 | inr x ↦ heavy (get s.requests id) x ] ]
@@ -217,7 +216,7 @@ quiet : (k : StoredKey) (done : Done) (o : Option FinishedBody) → done ≡ not
 quiet k done o e = subst (λ (d : Done). o ≡ body_chosen ((d.stored && false) || has_key k (cond d.stored d.evicted [])) false None o) (sym e) refl
 
 fault_follows : (s : State) (t : Instant) (action : Action) (f : TierFault) (k : StoredKey) (h : History) → Allows s (record { moment = t; action = action }) (Err f) → Follows s t action (Err f) k h
-unfolding Follows stores_nothing
+unfolding Follows
 fault_follows s t (Open id key) f k h p = quiet k (done_of f) (body_of k s.bodies) (did_nothing s t (Open id key) f p refl)
 fault_follows s t (LookUp id) f k h p = quiet k (done_of f) (body_of k s.bodies) (did_nothing s t (LookUp id) f p refl)
 fault_follows s t (Read id) f k h p = quiet k (done_of f) (body_of k s.bodies) (did_nothing s t (Read id) f p refl)

@@ -3,6 +3,8 @@ use Rattle.std.specs.Prelude.{◌≡◌, List, [], ◌∷◌}
 use Rattle.tier_model.specs.declared.event.Event.{Event}
 use Rattle.tier_model.specs.Calls.{History, Outcome, extended}
 use Rattle.tier_model.specs.Headline.{HoldsHeadline}
+use Rattle.tier_model.specs.Use.{IsOrderOfUse}
+use Rattle.tier_model.specs.Reports.{IsReport, report_of}
 use Rattle.tier_model.specs.State.{Settings, State, empty_state}
 use Rattle.tier_model.specs.Step.{Allows, after}
 
@@ -16,11 +18,13 @@ abbrev pub IsLawful : Settings → History → Type 0
 IsLawful settings [] = Unit {0}
 IsLawful settings (c ∷ h) = Allows (state_of settings h) c.event c.outcome × IsLawful settings h
 
--- the state may stand behind that history, and the headline holds of it
+-- the state may stand behind that history; the headline holds of it, the tracked rows are its order of use, and the report tells of it
 pub record HasPast (settings : Settings) (s : State) (h : History) : Type 0 where
   pub lawful : IsLawful settings h
   pub state : s ≡ state_of settings h
   pub headline : HoldsHeadline settings.limit settings.watermark h
+  pub order : IsOrderOfUse s.tracked h
+  pub report : IsReport (report_of s) h
 
 -- the events were taken in order, each with its outcome, from the old state to the new one
 abbrev pub Runs : State → List Event → List Outcome → State → Type 0

@@ -1,16 +1,14 @@
 -- The order of use over histories: uses, departures, what is tracked, what it weighs, and in which order it stands.
-use Rattle.std.specs.Prelude.{◌≡◌, ℕ, ◌<◌, ◌≤◌, max, Bool, true, false, ◌&&◌, ◌||◌, not, List, [], ◌∷◌, ◌++◌, length, if◌then◌else◌, Option, Some, None, option_map, is_some, Result, Ok, Err}
-use Rattle.std.specs.List.{AllByRecursion}
+use Rattle.std.specs.Prelude.{◌≡◌, ℕ, ◌<◌, ◌≤◌, Bool, true, false, ◌&&◌, ◌||◌, List, [], ◌∷◌, length, Option, Some, None, is_some, Ok}
 use Rattle.tier_model.specs.declared.key.StoredKey.{StoredKey}
 use Rattle.tier_model.specs.declared.rows.FinishedBody.{FinishedBody}
 use Rattle.tier_model.specs.declared.rows.Tracked.{Tracked}
 use Rattle.tier_model.specs.declared.event.Event.{Event}
 use Rattle.tier_model.specs.declared.event.Action.{Action}
-use Rattle.tier_model.specs.declared.event.Action.TheVariants.{Open, LookUp, Read, Drop, Purge, Put}
-use Rattle.tier_model.specs.declared.event.Answer.{Answer}
+use Rattle.tier_model.specs.declared.event.Action.TheVariants.{LookUp, Purge}
 use Rattle.tier_model.specs.declared.event.Answer.TheVariants.{Found, Purged, Finished}
 use Rattle.tier_model.specs.Keys.{same_key}
-use Rattle.tier_model.specs.Calls.{Call, History, Outcome, opened_key, written_by, writes, is_of, has_key, evicted_by, was_stored, stores_under}
+use Rattle.tier_model.specs.Calls.{Call, History, Outcome, opened_key, written_by, writes, has_key, evicted_by, was_stored, stores_under}
 use Rattle.tier_model.specs.Histories.{IsBody}
 use Rattle.tier_model.specs.Rows.{weight_of, weight_for, IsLawfulEviction}
 
