@@ -1,6 +1,9 @@
 //! Finished bodies, and entries in the order of use.
-ghost use Rattle.std.specs.Prelude.{◌≡◌, ◌+◌, ◌-◌, ◌^◌, ◌<◌, ◌≤◌, [], ◌++◌, ◌∷◌, length, max, vec_len, vec_capacity, unwrap_or, option_copied, true};
-ghost use Rattle.tier_model.specs.Rows.{body_of, with_body, without_body, without_bodies, weight_of, all_weights, without_row, without_rows, admitted, weight_for, is_over, IsLast, IsLawfulEviction};
+ghost use Rattle.std.specs.Prelude.{◌≡◌, ◌+◌, ◌^◌, ◌<◌, ◌≤◌, [], length};
+ghost use Rattle.std.specs.Prelude.{vec_len, vec_capacity, unwrap_or, option_copied};
+ghost use Rattle.tier_model.specs.Rows.{body_of, with_body, without_body, without_bodies};
+ghost use Rattle.tier_model.specs.Rows.{weight_of, weight_for, all_weights, without_row, without_rows};
+ghost use Rattle.tier_model.specs.Rows.{admitted, is_over, IsLast, IsLawfulEviction};
 ghost use Rattle.tier_model.specs.Step.{is_too_heavy, use_is_too_heavy, counted};
 ghost use Rattle.std.specs.List.{sum_by};
 

@@ -1,8 +1,8 @@
 //! What the bytes of a response give.
-ghost use Rattle.std.specs.Prelude.{◌≡◌, ◌+◌, ◌*◌, ◌^◌, ◌≤◌, ◌<◌, length, drop, IfOk, IfSome, option_map, true};
+ghost use Rattle.std.specs.Prelude.{◌≡◌, ◌≤◌, length, IfOk, IfSome, option_map};
 ghost use Rattle.std.specs.Char.{is_ascii_digit};
 ghost use Rattle.std.specs.List.{prefix_len};
-ghost use Rattle.tier_model.specs.Response.{joined, head_start, head_end, decimal_value, response_of, fresh_until, body_put};
+ghost use Rattle.tier_model.specs.Response.{joined, decimal_value, response_of, fresh_until, body_put};
 ghost use Rattle.cache_tier.specs.Stored.{IsStored, response_at, body_of_response};
 
 use bytes::Bytes;

@@ -1,11 +1,15 @@
 //! The tier.
-ghost use Rattle.std.specs.Prelude.{◌≡◌, [], ◌∷◌, None, Ok, IfSome, MatchResult, IfOk, IfErr, OnErr};
+ghost use Rattle.std.specs.Prelude.{◌≡◌, ◌<◌, ◌^◌, [], ◌∷◌, None, Ok, IsSome, IfSome};
+ghost use Rattle.std.specs.Prelude.{MatchResult, IfOk, IfErr, OnOk, OnErr};
+ghost use Rattle.std.specs.FinMap.{get};
+ghost use Rattle.tier_model.specs.Rows.{all_weights, admitted};
 ghost use Rattle.tier_model.specs.State.{empty_state};
 ghost use Rattle.tier_model.specs.Calls.{nothing_done, done_of};
-ghost use Rattle.tier_model.specs.Step.{Allows, after, refusal, can_look_up, has_reader, read_answer, stored_alone, IsPutAnswer};
+ghost use Rattle.tier_model.specs.Step.{Allows, after, refusal, can_look_up, has_reader};
+ghost use Rattle.tier_model.specs.Step.{read_answer, stored_alone, IsPutAnswer};
 ghost use Rattle.tier_model.specs.Past.{Runs, HasPast, CarriesHeadline};
 ghost use Rattle.tier_model.specs.Reports.{report_of};
-ghost use Rattle.cache_tier.specs.Acts.{AllowsUnrefused, after_action, IsStoreFault, behind_store};
+ghost use Rattle.cache_tier.specs.Acts.{AllowsUnrefused, after_action, hit_behind, IsStoreFault, behind_store};
 
 use crate::order::{
     admit, all_bytes, all_weights, body_of, evict, is_too_heavy, put_body, remove_body, remove_row,
@@ -14,7 +18,7 @@ use crate::order::{
 use crate::response::{PutFault, body_put};
 use cache_words::time::{Duration, Moment};
 use rand_core::Rng;
-use std::alloc::Global;
+use std::alloc::{AllocError, Global};
 use std::marker::Model;
 use tier_model::event::{Action, Answer, Done, Entries, Event, Pieces, TierFault};
 use tier_model::key::StoredKey;
@@ -48,7 +52,15 @@ impl<const N: usize> Model for Tier<N> {
 
     ghost coded = { state_code };
 
-    ghost view = { λ t. record { settings = record { limit = t.limit; watermark = t.watermark; age = t.age; wait = t.wait }; bodies = t.bodies.items; tracked = t.tracked.items; requests = t.requests; found = t.found; absent = t.absent; evicted = t.evicted } };
+    ghost view = { λ t. record {
+      settings = record { limit = t.limit; watermark = t.watermark; age = t.age; wait = t.wait };
+      bodies = t.bodies.items;
+      tracked = t.tracked.items;
+      requests = t.requests;
+      found = t.found;
+      absent = t.absent;
+      evicted = t.evicted;
+    } };
 
     ghost invariant = { λ t. all_weights t.tracked.items < 2 ^ 64 };
 }
@@ -115,8 +127,10 @@ impl Tier<1> {
         age: Duration,
         wait: Option<Duration>,
     ) -> Tier<1>
-        ensures state { result ≡ empty_state (record { limit = limit; watermark = watermark; age = age; wait = wait }) }
-        ensures past { HasPast (record { limit = limit; watermark = watermark; age = age; wait = wait }) result [] }
+        ensures state { result ≡ empty_state
+            (record { limit = limit; watermark = watermark; age = age; wait = wait }) }
+        ensures past { HasPast
+            (record { limit = limit; watermark = watermark; age = age; wait = wait }) result [] }
     {
         Tier {
             alloc,
@@ -176,6 +190,26 @@ impl Tier<1> {
         Ok(Answer::Opened)
     }
 
+    // Uses an entry for a request that found its body.
+    fn hit(
+        &mut self,
+        id: u64,
+        next: Request,
+        entry: StoredKey,
+        weight: usize,
+    ) -> Result<(), AllocError>
+        requires open { IsSome (get self.old.requests id) }
+        requires fits { all_weights (admitted entry weight self.old.tracked) < 2 ^ 64 }
+        ensures ok { OnOk result (self.new ≡ hit_behind self.old id next entry weight) }
+        ensures err { OnErr result (self.new ≡ self.old) }
+    {
+        self.tracked.reserve(1)?;
+        admit(&mut self.tracked, entry, weight);
+        let _old = self.requests.replace(id, next);
+        self.found = self.found.saturating_add(1);
+        Ok(())
+    }
+
     fn look_up(&mut self, moment: Moment, id: u64) -> Result<Answer, TierFault>
         requires { refusal self.old (Action.LookUp id) ≡ None }
         ensures allowed { AllowsUnrefused self.old moment (Action.LookUp id) result }
@@ -202,19 +236,16 @@ impl Tier<1> {
             return Err(TierFault::Memory(nothing_done(self.alloc)));
         };
         let fresh = moment.is_at_most(&body.fresh_until);
-        let entry = body.key;
-        let weight = used_weight(&self.tracked, body);
-        if self.tracked.reserve(1).is_err() {
-            return Err(TierFault::Memory(nothing_done(self.alloc)));
-        }
-        admit(&mut self.tracked, entry, weight);
         let next = Request {
             key,
             phase: if fresh { Phase::Hit } else { Phase::Stale },
             reader: Reader::Unread(bytes),
         };
-        let _old = self.requests.replace(id, next);
-        self.found = self.found.saturating_add(1);
+        let entry = body.key;
+        let weight = used_weight(&self.tracked, body);
+        if self.hit(id, next, entry, weight).is_err() {
+            return Err(TierFault::Memory(nothing_done(self.alloc)));
+        }
         Ok(Answer::Found {
             fresh,
             complete: true,
@@ -344,7 +375,8 @@ impl Tier<1> {
         events: &[Event],
     ) -> Result<Vec<Result<Answer, TierFault>>, TierFault>
         ensures ran { IfOk result (λ outcomes. Runs self.old events.now outcomes.items self.new) }
-        ensures headline { IfOk result (λ outcomes. CarriesHeadline self.old events.now outcomes.items self.new) }
+        ensures headline { IfOk result (λ outcomes.
+            CarriesHeadline self.old events.now outcomes.items self.new) }
         ensures fault { IfErr result (λ fault. fault ≡ TierFault.Memory nothing_done) }
         ensures err { OnErr result (self.new ≡ self.old) }
     {
