@@ -341,13 +341,18 @@ fn keeps_both_limits(rt: HostRuntime) {
     );
 }
 
-// A tier with a body under a, for which request 1 is open, if no allocation failed on the way.
-fn fixture(alloc: Global) -> Option<Tier<1>> {
+// A tier with a body of two bytes under each name, and request 1 open for a where that is asked, if no allocation failed on
+// the way.
+fn fixture(alloc: Global, limit: usize, names: &[u8], is_open: bool) -> Option<Tier<1>> {
     let mut rng = Pcg32::new(1, 1);
-    let mut tier = tier(alloc, 4, None);
-    let put = put_of(alloc, b'a', 2).ok()?;
-    let _ = tier.step(&mut rng, &put).ok()?;
-    let _ = tier.step(&mut rng, &open(7, 1, b'a')).ok()?;
+    let mut tier = tier(alloc, limit, None);
+    for name in names {
+        let put = put_of(alloc, *name, 2).ok()?;
+        let _ = tier.step(&mut rng, &put).ok()?;
+    }
+    if is_open {
+        let _ = tier.step(&mut rng, &open(7, 1, b'a')).ok()?;
+    }
     Some(tier)
 }
 
@@ -371,7 +376,7 @@ fn is_found(outcome: &Result<Answer, TierFault>) -> bool {
 fn a_put_without_memory_leaves_all(rt: HostRuntime) {
     let alloc = rt.alloc();
     let mut rng = Pcg32::new(1, 1);
-    let Some(mut tier) = fixture(alloc) else {
+    let Some(mut tier) = fixture(alloc, 4, b"a", true) else {
         return;
     };
     let Ok(put) = put_of(alloc, b'b', 5) else {
@@ -397,14 +402,14 @@ fn a_put_without_memory_leaves_all(rt: HostRuntime) {
 fn an_open_without_memory_leaves_all(rt: HostRuntime) {
     let alloc = rt.alloc();
     let mut rng = Pcg32::new(1, 1);
-    let Some(mut tier) = fixture(alloc) else {
+    let Some(mut tier) = fixture(alloc, 4, b"a", false) else {
         return;
     };
     let before = tier.report();
-    let outcome = tier.step(&mut rng, &open(7, 2, b'a'));
+    let outcome = tier.step(&mut rng, &open(7, 1, b'a'));
     if is_memory(&outcome) {
         assert_eq!(rt; tier.report(), before);
-        match tier.step(&mut rng, &look(7, 2)) {
+        match tier.step(&mut rng, &look(7, 1)) {
             Err(TierFault::NoRequest) => {}
             other => panic!(&rt; "{other:?}"),
         }
@@ -418,7 +423,7 @@ fn an_open_without_memory_leaves_all(rt: HostRuntime) {
 fn a_look_without_memory_leaves_all(rt: HostRuntime) {
     let alloc = rt.alloc();
     let mut rng = Pcg32::new(1, 1);
-    let Some(mut tier) = fixture(alloc) else {
+    let Some(mut tier) = fixture(alloc, 8, b"abcd", true) else {
         return;
     };
     let before = tier.report();
@@ -435,7 +440,7 @@ fn a_look_without_memory_leaves_all(rt: HostRuntime) {
 fn a_read_takes_no_memory(rt: HostRuntime) {
     let alloc = rt.alloc();
     let mut rng = Pcg32::new(1, 1);
-    let Some(mut tier) = fixture(alloc) else {
+    let Some(mut tier) = fixture(alloc, 4, b"a", true) else {
         return;
     };
     if !is_found(&tier.step(&mut rng, &look(7, 1))) {
@@ -451,7 +456,7 @@ fn a_read_takes_no_memory(rt: HostRuntime) {
 fn a_run_without_memory_does_nothing(rt: HostRuntime) {
     let alloc = rt.alloc();
     let mut rng = Pcg32::new(1, 1);
-    let Some(mut tier) = fixture(alloc) else {
+    let Some(mut tier) = fixture(alloc, 4, b"a", true) else {
         return;
     };
     let before = tier.report();
