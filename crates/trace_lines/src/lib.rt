@@ -4,4 +4,6 @@
 mod fields;
 pub mod line;
 pub mod read;
+#[cfg(test)]
+mod tests;
 pub mod text;
