@@ -46,11 +46,15 @@ done_of (TooLong done) = done
 done_of (Memory done) = done
 done_of _ = nothing_done
 
+-- the entries that went before a refusal; where nothing was stored none did
+abbrev pub evicted_before : Done → List StoredKey
+evicted_before done = if done.stored then done.evicted else []
+
 -- the entries that went
 abbrev pub evicted_by : Outcome → List StoredKey
 evicted_by (Ok (Finished length evicted)) = evicted
 evicted_by (Ok _) = []
-evicted_by (Err fault) = (done_of fault).evicted
+evicted_by (Err fault) = evicted_before (done_of fault)
 
 -- k stands among the keys
 abbrev pub has_key : StoredKey → List StoredKey → Bool

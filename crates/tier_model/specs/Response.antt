@@ -45,7 +45,7 @@ lifetime_and_body n bytes =
     else None
 
 -- the response that the bytes are, if they are of the form that is read
-abbrev pub response_of : List ℕ → Option Response
+unfoldable pub response_of : List ℕ → Option Response
 response_of bytes = option_and_then (λ rest. lifetime_and_body (prefix_len is_ascii_digit rest) rest) (behind head_start bytes)
 
 -- the last moment at which a response is fresh: its lifetime behind its arrival, and for none a second before it (RFC 9111, 4.2.1)

@@ -172,12 +172,14 @@ answered s t (Drop id) a = record s { requests = remove s.requests id }
 answered s t (Purge key) a = purge_behind s key (is_some (body_of key s.bodies))
 answered s t (Put key pieces) a = put_behind s (body_put t key pieces) a
 
--- behind a refusal that had stored a body: that body is gone with its entry, and the evictions are done
+-- behind a refusal that had stored a body under a key: that body is gone with its entry, and the evictions are done
+abbrev pub taken_back : Bool → State → StoredKey → List StoredKey → State
+taken_back false s key evicted = s
+taken_back true s key evicted =
+    record s { bodies = without_body key (without_bodies evicted s.bodies); tracked = without_row key (without_rows evicted s.tracked); evicted = counted s.evicted (length evicted) }
+
 abbrev pub undone : State → Action → Done → State
-undone s (Put key pieces) done =
-    if done.stored
-    then record s { bodies = without_body key (without_bodies done.evicted s.bodies); tracked = without_row key (without_rows done.evicted s.tracked); evicted = counted s.evicted (length done.evicted) }
-    else s
+undone s (Put key pieces) done = taken_back done.stored s key done.evicted
 undone s _ done = s
 
 -- the state behind an outcome

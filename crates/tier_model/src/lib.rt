@@ -3,6 +3,7 @@
 
 pub mod event;
 pub mod key;
+pub mod laws;
 pub mod report;
 pub mod requests;
 pub mod rows;

@@ -54,6 +54,18 @@ impl Requests {
         Ok(())
     }
 
+    /// Puts a request in the place of the open one of that number, which it hands back. It takes no memory.
+    pub fn replace(&mut self, id: u64, request: Request) -> Option<Request>
+        requires { IsSome (finite.get self.old id) }
+        ensures old { result ≡ finite.get self.old id }
+        ensures new { self.new ≡ finite.insert self.old id request }
+    {
+        let Ok(old) = self.table.insert(id, request) else {
+            return None;
+        };
+        old
+    }
+
     /// Ends the request of that number, if it is open.
     pub fn remove(&mut self, id: u64)
         ensures { self.new ≡ finite.remove self.old id }

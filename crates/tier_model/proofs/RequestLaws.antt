@@ -1,0 +1,234 @@
+-- A request's key and reader are what its own calls say.
+use Rattle.std.proofs.Common.{◌≡◌, refl, ap, sym, ◌∙◌, true, false, subst, cond, [], ◌∷◌, ◌++◌, ◌==◌}
+use Rattle.std.specs.Prelude.{Bool, ℕ, List, Option, Some, None, is_some, Result, Ok, Err, ◌&&◌, MatchOption}
+use Rattle.std.specs.FinMap.{FinMap, get, insert, remove, get-insert, get-remove}
+use Rattle.std.specs.Ordering.{nat_cmp}
+use Rattle.std.specs.Cmp.{unsigned_tied}
+use Rattle.std.proofs.lemmas.Cmp.{nat_cmp_total, eq_by_cmp_equiv}
+use Rattle.std.proofs.lemmas.Bool.{eqb-true, eq-eqb}
+use Rattle.cache_words.specs.Time.{Instant, at_most}
+use Rattle.tier_model.specs.declared.key.StoredKey.{StoredKey}
+use Rattle.tier_model.specs.declared.rows.FinishedBody.{FinishedBody}
+use Rattle.tier_model.specs.declared.rows.Request.{Request}
+use Rattle.tier_model.specs.declared.rows.Reader.{Reader}
+use Rattle.tier_model.specs.declared.rows.Reader.TheVariants.{Closed, Unread, Spent}
+use Rattle.tier_model.specs.declared.event.Action.{Action}
+use Rattle.tier_model.specs.declared.event.Action.TheVariants.{Open, LookUp, Read, Drop, Purge, Put}
+use Rattle.tier_model.specs.declared.event.Answer.{Answer}
+use Rattle.tier_model.specs.declared.event.Answer.TheVariants.{Opened, Found, Bytes, End, Dropped, Finished}
+use Rattle.tier_model.specs.declared.event.TierFault.{TierFault}
+use Rattle.tier_model.specs.declared.event.TierFault.TheVariants.{WrongPhase}
+use Rattle.tier_model.specs.Response.{body_put}
+use Rattle.tier_model.specs.Calls.{Call, History, Outcome, opened_key, key_behind, ends_reader, bytes_given, bytes_read, bytes_answered, done_of}
+use Rattle.tier_model.specs.Histories.{IsBody, HasHit}
+use Rattle.tier_model.specs.Rows.{body_of}
+use Rattle.tier_model.specs.State.{State}
+use Rattle.tier_model.specs.Step.{refusal, unless_open, has_reader, AllowsBy, Allows, IsAnswer, IsPutAnswer, after, answered, undone, taken_back, opened_request, look_answer, looked, look_behind, on_request, read_answer, read_behind, purge_behind, put_behind, use_is_too_heavy}
+use Rattle.tier_model.proofs.BodyLaws.{body_by, body_now, body_now-is}
+use Rattle.tier_model.proofs.StepLaws.{call_at, answer_allowed, body_of-after}
+
+-- a request's reader has what the body that it found has left
+abbrev pub ReaderFits : ℕ → Reader → History → Type 0
+ReaderFits id Closed h = Unit {0}
+ReaderFits id (Unread bytes) h = (w : FinishedBody) × (since : History) × HasHit id w since h × (bytes_read id since ≡ []) × (bytes ≡ w.bytes)
+ReaderFits id Spent h = (w : FinishedBody) × (since : History) × HasHit id w since h × (bytes_read id since ≡ w.bytes)
+
+abbrev pub RequestFits : ℕ → Option Request → History → Type 0
+RequestFits id None h = opened_key id h ≡ None
+RequestFits id (Some q) h = (opened_key id h ≡ Some q.key) × ReaderFits id q.reader h
+
+-- a call that doesn't concern a request
+pub record IsOther (id : ℕ) (c : Call) (h : History) : Type 0 where
+  pub key : key_behind id c.event.action c.outcome (opened_key id h) ≡ opened_key id h
+  pub reader : ends_reader id c ≡ false
+  pub bytes : bytes_given id c.event.action c.outcome ≡ []
+
+pub append_nothing : (xs : List ℕ) → xs ++ [] ≡ xs
+append_nothing [] = refl
+append_nothing (x ∷ xs) = ap (λ (ys : List ℕ). x ∷ ys) (append_nothing xs)
+
+-- a hit with one more call behind it
+longer_hit : (id : ℕ) (w : FinishedBody) (since : History) (c : Call) (h : History) → ends_reader id c ≡ false → HasHit id w since h → HasHit id w (c ∷ since) (c ∷ h)
+longer_hit id w since c h e hit = record {
+  call = hit.call;
+  before = hit.before;
+  key = hit.key;
+  split = ap (λ (past : History). c ∷ past) hit.split;
+  hit = hit.hit;
+  of_key = hit.of_key;
+  shows = hit.shows;
+  last = (e, hit.last);
+}
+
+more_read : (id : ℕ) (since : History) (c : Call) (xs ys : List ℕ) → bytes_read id since ≡ xs → bytes_given id c.event.action c.outcome ≡ ys → bytes_read id (c ∷ since) ≡ xs ++ ys
+more_read id since c xs ys e f = rw (e, f) refl
+
+other_reader : (id : ℕ) (r : Reader) (c : Call) (h : History) → IsOther id c h → ReaderFits id r h → ReaderFits id r (c ∷ h)
+other_reader id Closed c h o fits = tt
+other_reader id (Unread bytes) c h o fits =
+    (fits.0, c ∷ fits.1, longer_hit id fits.0 fits.1 c h o.reader fits.2, more_read id fits.1 c [] [] fits.3 o.bytes, fits.4)
+other_reader id Spent c h o fits =
+    (fits.0, c ∷ fits.1, longer_hit id fits.0 fits.1 c h o.reader fits.2, more_read id fits.1 c fits.0.bytes [] fits.3 o.bytes ∙ append_nothing fits.0.bytes)
+
+pub other_request : (id : ℕ) (o : Option Request) (c : Call) (h : History) → IsOther id c h → RequestFits id o h → RequestFits id o (c ∷ h)
+other_request id None c h o fits = o.key ∙ fits
+other_request id (Some q) c h o fits = (o.key ∙ fits.0, other_reader id q.reader c h o fits.1)
+
+-- the open requests behind an edit
+at-insert : (m : FinMap nat_cmp Request) (i : ℕ) (q : Request) (id : ℕ) → get (insert m i q) id ≡ cond (i == id) (Some q) (get m id)
+at-insert m i q id = get-insert nat_cmp_total m i q id ∙ ap (λ t. cond t (Some q) (get m id)) ((eq_by_cmp_equiv nat_cmp_total).symm id i ∙ unsigned_tied i id)
+
+at-remove : (m : FinMap nat_cmp Request) (i : ℕ) (id : ℕ) → get (remove m i) id ≡ cond (i == id) None (get m id)
+at-remove m i id = get-remove nat_cmp_total m i id ∙ ap (λ t. cond t None (get m id)) ((eq_by_cmp_equiv nat_cmp_total).symm id i ∙ unsigned_tied i id)
+
+-- a request takes its place: it fits, and the others go on as before
+placed : (m : FinMap nat_cmp Request) (i : ℕ) (q : Request) (id : ℕ) (c : Call) (h : History) → RequestFits i (Some q) (c ∷ h)
+    → ((i == id) ≡ false → IsOther id c h) → RequestFits id (get m id) h → RequestFits id (get (insert m i q) id) (c ∷ h)
+placed m i q id c h this other fits = subst (λ (o : Option Request). RequestFits id o (c ∷ h)) (sym (at-insert m i q id)) (by_id (i == id) refl)
+  where
+    by_id : (v : Bool) → (i == id) ≡ v → RequestFits id (cond v (Some q) (get m id)) (c ∷ h)
+    by_id true e = subst (λ (x : ℕ). RequestFits x (Some q) (c ∷ h)) (eqb-true i id e) this
+    by_id false e = other_request id (get m id) c h (other e) fits
+
+ended : (m : FinMap nat_cmp Request) (i : ℕ) (id : ℕ) (c : Call) (h : History) → RequestFits i None (c ∷ h)
+    → ((i == id) ≡ false → IsOther id c h) → RequestFits id (get m id) h → RequestFits id (get (remove m i) id) (c ∷ h)
+ended m i id c h this other fits = subst (λ (o : Option Request). RequestFits id o (c ∷ h)) (sym (at-remove m i id)) (by_id (i == id) refl)
+  where
+    by_id : (v : Bool) → (i == id) ≡ v → RequestFits id (cond v None (get m id)) (c ∷ h)
+    by_id true e = subst (λ (x : ℕ). RequestFits x None (c ∷ h)) (eqb-true i id e) this
+    by_id false e = other_request id (get m id) c h (other e) fits
+
+itself : (i : ℕ) → (i == i) ≡ true
+itself i = eq-eqb i i refl
+
+-- the state fits the history, request by request and key by key
+pub record Fits (s : State) (h : History) : Type 0 where
+  pub requests : (id : ℕ) → RequestFits id (get s.requests id) h
+  pub bodies : (k : StoredKey) → body_of k s.bodies ≡ body_now k h
+
+-- an open request fits
+pub of_request : (s : State) (h : History) → Fits s h → (i : ℕ) (q : Request) → get s.requests i ≡ Some q → RequestFits i (Some q) h
+of_request s h fits i q e = subst (λ (o : Option Request). RequestFits i o h) e (fits.requests i)
+
+-- what a complete hit showed is what the reader has
+found_reader : (t : Instant) (i : ℕ) (q : Request) (w : FinishedBody) (fresh : Bool) (h : History) → opened_key i h ≡ Some q.key → IsBody q.key w h
+    → ReaderFits i (Unread w.bytes) (call_at t (LookUp i) (Ok (Found fresh true)) ∷ h)
+found_reader t i q w fresh h key body =
+    (w, [], record { call = call_at t (LookUp i) (Ok (Found fresh true)); before = h; key = q.key; split = refl; hit = ap (λ v. v && true) (itself i); of_key = key; shows = body; last = tt }, refl, refl)
+
+look_fits : (s : State) (t : Instant) (i : ℕ) (a : Answer) (h : History) (o : Option Request) → Fits s h → get s.requests i ≡ o
+    → MatchOption o ⊥ (λ q. (a ≡ look_answer t (body_of q.key s.bodies)) × (use_is_too_heavy (body_of q.key s.bodies) s.tracked ≡ false))
+    → (id : ℕ) → RequestFits id (get (on_request s o (λ q. look_behind s t i q (body_of q.key s.bodies))).requests id) (call_at t (LookUp i) (Ok a) ∷ h)
+look_fits s t i a h None fits e p id = absurd p
+look_fits s t i a h (Some q) fits e p id = by_body (body_of q.key s.bodies) refl p.0
+  where
+    open_key : opened_key i h ≡ Some q.key
+    open_key = (of_request s h fits i q e).0
+
+    by_body : (b : Option FinishedBody) → body_of q.key s.bodies ≡ b → a ≡ look_answer t b → RequestFits id (get (look_behind s t i q b).requests id) (call_at t (LookUp i) (Ok a) ∷ h)
+    by_body None be ae =
+        placed s.requests i (looked t q None) id (call_at t (LookUp i) (Ok a)) h (open_key, tt) (λ n. record { key = refl; reader = n; bytes = refl }) (fits.requests id)
+    by_body (Some w) be ae =
+        placed s.requests i (looked t q (Some w)) id (call_at t (LookUp i) (Ok a)) h (
+          open_key,
+          subst (λ (x : Answer). ReaderFits i (Unread w.bytes) (call_at t (LookUp i) (Ok x) ∷ h)) (sym ae)
+              (found_reader t i q w (at_most t w.fresh_until) h open_key (body_now-is q.key w h (sym (fits.bodies q.key) ∙ be))),
+        )
+        (λ n. record { key = refl; reader = n; bytes = refl }) (fits.requests id)
+
+-- a read of what is unread gives all of it, and one behind it nothing
+read_reader : (t : Instant) (i : ℕ) (r : Reader) (h : History) → has_reader r ≡ true → ReaderFits i r h → ReaderFits i Spent (call_at t (Read i) (Ok (read_answer r)) ∷ h)
+read_reader t i Closed h e fits = cc
+read_reader t i (Unread bytes) h e fits = (
+  fits.0,
+  call_at t (Read i) (Ok (Bytes bytes)) ∷ fits.1,
+  longer_hit i fits.0 fits.1 (call_at t (Read i) (Ok (Bytes bytes))) h refl fits.2,
+  more_read i fits.1 (call_at t (Read i) (Ok (Bytes bytes))) [] bytes fits.3 (ap (λ v. cond v bytes []) (itself i)) ∙ fits.4,
+)
+read_reader t i Spent h e fits = (
+  fits.0,
+  call_at t (Read i) (Ok End) ∷ fits.1,
+  longer_hit i fits.0 fits.1 (call_at t (Read i) (Ok End)) h refl fits.2,
+  more_read i fits.1 (call_at t (Read i) (Ok End)) fits.0.bytes [] fits.3 (ap (λ v. cond v [] []) (itself i)) ∙ append_nothing fits.0.bytes,
+)
+
+-- the check of a read passed
+pub reader_there : (q : Request) → unless_open (Some q) (λ q. cond (has_reader q.reader) None (Some WrongPhase)) ≡ None → has_reader q.reader ≡ true
+reader_there q e = by_test (has_reader q.reader) refl e
+  where
+    by_test : (v : Bool) → has_reader q.reader ≡ v → cond v None (Some WrongPhase) ≡ None → has_reader q.reader ≡ true
+    by_test true n e = n
+    by_test false n e = cc
+
+read_fits : (s : State) (t : Instant) (i : ℕ) (a : Answer) (h : History) (o : Option Request) → Fits s h → get s.requests i ≡ o
+    → unless_open o (λ q. cond (has_reader q.reader) None (Some WrongPhase)) ≡ None → MatchOption o ⊥ (λ q. a ≡ read_answer q.reader)
+    → (id : ℕ) → RequestFits id (get (on_request s o (λ q. record s { requests = insert s.requests i (read_behind q) })).requests id) (call_at t (Read i) (Ok a) ∷ h)
+read_fits s t i a h None fits e n p id = absurd p
+read_fits s t i a h (Some q) fits e n p id =
+    placed s.requests i (read_behind q) id (call_at t (Read i) (Ok a)) h
+    ((of_request s h fits i q e).0, subst (λ (x : Answer). ReaderFits i Spent (call_at t (Read i) (Ok x) ∷ h)) (sym p) (read_reader t i q.reader h (reader_there q n) (of_request s h fits i q e).1))
+    (λ m. record { key = refl; reader = refl; bytes = ap (λ v. cond v (bytes_answered a) []) m }) (fits.requests id)
+
+-- a call that leaves the requests alone
+pub unmoved : (s new : State) (c : Call) (h : History) → Fits s h → new.requests ≡ s.requests → ((id : ℕ) → IsOther id c h) → (id : ℕ) → RequestFits id (get new.requests id) (c ∷ h)
+unmoved s new c h fits e other id = subst (λ (m : FinMap nat_cmp Request). RequestFits id (get m id) (c ∷ h)) (sym e) (other_request id (get s.requests id) c h (other id) (fits.requests id))
+
+purge_requests : (s : State) (key : StoredKey) (v : Bool) → (purge_behind s key v).requests ≡ s.requests
+purge_requests s key true = refl
+purge_requests s key false = refl
+
+put_requests : (s : State) (r : Result FinishedBody TierFault) (a : Answer) → IsPutAnswer s r a → (put_behind s r a).requests ≡ s.requests
+put_requests s (Ok b) (Finished n es) p = refl
+put_requests s (Err f) a p = absurd p
+put_requests s (Ok b) _ p = absurd p
+
+back_requests : (v : Bool) (s : State) (key : StoredKey) (es : List StoredKey) → (taken_back v s key es).requests ≡ s.requests
+back_requests true s key es = refl
+back_requests false s key es = refl
+
+answer_fits : (s : State) (t : Instant) (action : Action) (a : Answer) (h : History) → Fits s h → refusal s action ≡ None → IsAnswer s t action a
+    → (id : ℕ) → RequestFits id (get (answered s t action a).requests id) (call_at t action (Ok a) ∷ h)
+answer_fits s t (Open i key) a h fits n p id =
+    subst (λ (x : Answer). RequestFits id (get (insert s.requests i (opened_request key)) id) (call_at t (Open i key) (Ok x) ∷ h)) (sym p)
+    (placed s.requests i (opened_request key) id (call_at t (Open i key) (Ok Opened)) h (ap (λ v. cond v (Some key) (opened_key i h)) (itself i), tt)
+    (λ m. record { key = ap (λ v. cond v (Some key) (opened_key id h)) m; reader = refl; bytes = refl }) (fits.requests id))
+answer_fits s t (LookUp i) a h fits n p id = look_fits s t i a h (get s.requests i) fits refl p id
+answer_fits s t (Read i) a h fits n p id = read_fits s t i a h (get s.requests i) fits refl n p id
+answer_fits s t (Drop i) a h fits n p id =
+    subst (λ (x : Answer). RequestFits id (get (remove s.requests i) id) (call_at t (Drop i) (Ok x) ∷ h)) (sym p)
+    (ended s.requests i id (call_at t (Drop i) (Ok Dropped)) h (ap (λ v. cond v None (opened_key i h)) (itself i))
+    (λ m. record { key = ap (λ v. cond v None (opened_key id h)) m; reader = m; bytes = refl }) (fits.requests id))
+answer_fits s t (Purge key) a h fits n p id =
+    unmoved s (purge_behind s key (is_some (body_of key s.bodies))) (call_at t (Purge key) (Ok a)) h fits (purge_requests s key (is_some (body_of key s.bodies))) (λ i. record { key = refl; reader = refl; bytes = refl }) id
+answer_fits s t (Put key pieces) a h fits n p id =
+    unmoved s (put_behind s (body_put t key pieces) a) (call_at t (Put key pieces) (Ok a)) h fits (put_requests s (body_put t key pieces) a p) (λ i. record { key = refl; reader = refl; bytes = refl }) id
+
+fault_other : (t : Instant) (action : Action) (f : TierFault) (h : History) (id : ℕ) → IsOther id (call_at t action (Err f)) h
+fault_other t (Open i key) f h id = record { key = refl; reader = refl; bytes = refl }
+fault_other t (LookUp i) f h id = record { key = refl; reader = refl; bytes = refl }
+fault_other t (Read i) f h id = record { key = refl; reader = refl; bytes = refl }
+fault_other t (Drop i) f h id = record { key = refl; reader = refl; bytes = refl }
+fault_other t (Purge key) f h id = record { key = refl; reader = refl; bytes = refl }
+fault_other t (Put key pieces) f h id = record { key = refl; reader = refl; bytes = refl }
+
+undone_requests : (s : State) (action : Action) (f : TierFault) → (undone s action (done_of f)).requests ≡ s.requests
+undone_requests s (Open i key) f = refl
+undone_requests s (LookUp i) f = refl
+undone_requests s (Read i) f = refl
+undone_requests s (Drop i) f = refl
+undone_requests s (Purge key) f = refl
+undone_requests s (Put key pieces) f = back_requests (done_of f).stored s key (done_of f).evicted
+
+-- no check failed where there is an answer
+pub unrefused : (r : Option TierFault) (s : State) (t : Instant) (action : Action) (a : Answer) → refusal s action ≡ r → AllowsBy r s t action (Ok a) → refusal s action ≡ None
+unrefused (Some f) s t action a e p = cc
+unrefused None s t action a e p = e
+
+-- the state behind a lawful call fits the history with it
+pub Fits-after : (s : State) (c : Call) (h : History) → Fits s h → Allows s c.event c.outcome → Fits (after s c.event c.outcome) (c ∷ h)
+Fits-after s c h fits p = record { requests = by_outcome c.outcome p; bodies = λ k. body_of-after s c k h p ∙ ap (body_by k c h) (fits.bodies k) }
+  where
+    by_outcome : (o : Outcome) → Allows s c.event o → (id : ℕ) → RequestFits id (get (after s c.event o).requests id) (record { event = c.event; outcome = o } ∷ h)
+    by_outcome (Ok a) p = answer_fits s c.event.moment c.event.action a h fits
+        (unrefused (refusal s c.event.action) s c.event.moment c.event.action a refl p) (answer_allowed (refusal s c.event.action) s c.event.moment c.event.action a p)
+    by_outcome (Err f) p = unmoved s (undone s c.event.action (done_of f)) (call_at c.event.moment c.event.action (Err f)) h fits (undone_requests s c.event.action f) (fault_other c.event.moment c.event.action f h)

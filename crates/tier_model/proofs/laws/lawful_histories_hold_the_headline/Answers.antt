@@ -1,0 +1,5 @@
+use Rattle.tier_model.proofs.Carried.{HoldsHeadline-lawful}
+use Rattle.tier_model.proofs.laws.lawful_histories_hold_the_headline.Goals as goal
+
+pub returns : goal.returns
+returns c = HoldsHeadline-lawful
