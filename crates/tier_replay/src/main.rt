@@ -5,6 +5,8 @@
 mod options;
 mod replay;
 mod status;
+#[cfg(test)]
+mod tests;
 
 use crate::options::OptionsError;
 use crate::status::Fault;
