@@ -2,34 +2,29 @@
 //! behind the last answer a report.
 #![tactic(auto)]
 
-mod options;
-mod replay;
-mod status;
-#[cfg(test)]
-mod tests;
-
-use crate::options::OptionsError;
-use crate::status::Fault;
 use log::{Log, warn};
 use std::env;
 use std::io::{self, BufReader};
 use std::process::ExitCode;
 use std::rt::Env;
+use trace_replay::options::{OptionsError, options};
+use trace_replay::replay::run;
+use trace_replay::status::{Fault, status};
 
 fn main(rt: HostRuntime) -> ExitCode {
     let outcome = replay_input(&rt);
     show(&rt, &outcome);
-    ExitCode::from(status::status(&outcome))
+    ExitCode::from(status(&outcome))
 }
 
 // Replays standard input by the options of the command line.
 fn replay_input<R: Env + Input + Print + AllocGlobal>(rt: &R) -> Result<(), Fault> {
     let alloc = rt.alloc();
     let words: Vec<String> = env::args(rt)?.collect(alloc)?;
-    let options = options::options(alloc, words.as_slice()).map_err(Fault::Options)?;
+    let options = options(alloc, words.as_slice()).map_err(Fault::Options)?;
     let mut reader = BufReader::new(alloc, rt.reader())?;
     let mut writer = io::writer(rt);
-    replay::run(alloc, &mut reader, &mut writer, &options).map_err(Fault::Replay)
+    run(alloc, &mut reader, &mut writer, &options).map_err(Fault::Replay)
 }
 
 // Tells of a fault on standard error. A help text goes to standard output.
@@ -39,7 +34,7 @@ fn show<R: Log + Print + Eprint>(rt: &R, outcome: &Result<(), Fault>) {
         Err(Fault::Options(OptionsError::CommandLine(error))) => {
             let _ = error.print(rt);
         }
-        Err(fault) if status::status(outcome) == 2 => {
+        Err(fault) if status(outcome) == 2 => {
             let _ = eprintln!(rt; "error: {fault}");
         }
         Err(fault) => warn!(rt; "{fault}"),

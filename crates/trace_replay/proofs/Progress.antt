@@ -11,9 +11,9 @@ use Rattle.trace_lines.specs.Lines.{line_of}
 use Rattle.trace_lines.specs.Texts.{report_text}
 use Rattle.trace_lines.specs.declared.line.Line.{Line}
 use Rattle.trace_lines.specs.declared.line.Line.TheVariants.{Refused, Asked}
-use Rattle.tier_replay.specs.Replays.{asked_by, ended, Replays, IsReplay}
-use Rattle.tier_replay.specs.Steps.{Answers}
-use Rattle.tier_replay.proofs.LineLemmas.{lines_in-first}
+use Rattle.trace_replay.specs.Replays.{asked_by, ended, Replays, IsReplay}
+use Rattle.trace_replay.specs.Steps.{Answers}
+use Rattle.trace_replay.proofs.LineLemmas.{lines_in-first}
 
 -- the lines so far are answered, and whatever answers the lines that are left, behind these calls, goes on from there
 pub record GoesOn (lines left : List Line) (history : History) (answers : List ℕ) : Type 0 where

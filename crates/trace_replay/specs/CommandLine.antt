@@ -8,9 +8,9 @@ use Rattle.clap.specs.Faults.{fault_of}
 use Rattle.clap.specs.Kinds.{IsAmong}
 use Rattle.cache_words.specs.Time.{span_of}
 use Rattle.tier_model.specs.State.{Settings}
-use Rattle.tier_replay.specs.declared.options.ReplayOptions.{ReplayOptions}
-use Rattle.tier_replay.specs.declared.options.OptionsError.{OptionsError}
-use Rattle.tier_replay.specs.declared.options.OptionsError.TheVariants.{CommandLine, NoLimit, NotANumber, Memory}
+use Rattle.trace_replay.specs.declared.options.ReplayOptions.{ReplayOptions}
+use Rattle.trace_replay.specs.declared.options.OptionsError.{OptionsError}
+use Rattle.trace_replay.specs.declared.options.OptionsError.TheVariants.{CommandLine, NoLimit, NotANumber, Memory}
 
 -- an option `--name VALUE`
 abbrev pub option_rule : Text → Rule

@@ -1,6 +1,6 @@
 //! How the program ends.
 ghost use Rattle.std.specs.Prelude.{◌≡◌};
-ghost use Rattle.tier_replay.specs.Statuses.{status_of, fault_status};
+ghost use Rattle.trace_replay.specs.Statuses.{status_of, fault_status};
 
 use crate::options::OptionsError;
 use crate::replay::ReplayError;

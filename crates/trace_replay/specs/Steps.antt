@@ -6,7 +6,7 @@ use Rattle.tier_model.specs.State.{State}
 use Rattle.trace_lines.specs.Texts.{outcome_text, refusal_text}
 use Rattle.trace_lines.specs.declared.line.Line.{Line}
 use Rattle.trace_lines.specs.declared.line.Line.TheVariants.{Refused, Asked}
-use Rattle.tier_replay.specs.Replays.{ended}
+use Rattle.trace_replay.specs.Replays.{ended}
 
 -- the text answers the line: a refusal leaves the tier as it was, an event is the tier's next call
 abbrev pub Answers : State → State → Line → List ℕ → Type 0

@@ -7,9 +7,9 @@ use Rattle.clap.specs.Walk.{Text, first_of}
 use Rattle.clap.specs.declared.parser.matches.ArgMatches.{ArgMatches}
 use Rattle.clap.proofs.OnLiterals.{clap_on_literals}
 use Rattle.clap.proofs.WalkLemmas.{first_value-rows}
-use Rattle.tier_replay.specs.CommandLine.{app, value_of, IsGiven, IsFault, IsReadNumber}
-use Rattle.tier_replay.specs.declared.options.OptionsError.{OptionsError}
-use Rattle.tier_replay.specs.declared.options.OptionsError.TheVariants.{CommandLine, NoLimit, NotANumber, Memory}
+use Rattle.trace_replay.specs.CommandLine.{app, value_of, IsGiven, IsFault, IsReadNumber}
+use Rattle.trace_replay.specs.declared.options.OptionsError.{OptionsError}
+use Rattle.trace_replay.specs.declared.options.OptionsError.TheVariants.{CommandLine, NoLimit, NotANumber, Memory}
 
 app_is_simple : is_simple app ≡ true
 unfolding clap_on_literals

@@ -1,7 +1,7 @@
 use Rattle.std.proofs.Common.{map, codes, Some}
 use Rattle.std.proofs.lemmas.Result.{err_from_is_err_and}
-use Rattle.tier_replay.proofs.OptionLemmas.{given_by_words, none_by_words, fault_by_words}
-use Rattle.tier_replay.proofs.options.options.Goals as goal
+use Rattle.trace_replay.proofs.OptionLemmas.{given_by_words, none_by_words, fault_by_words}
+use Rattle.trace_replay.proofs.options.options.Goals as goal
 
 pub returns-clause-limit : goal.returns-clause-limit
 returns-clause-limit g c =

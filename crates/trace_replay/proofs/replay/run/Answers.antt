@@ -1,8 +1,8 @@
 use Rattle.std.proofs.Common.{◌<◌, length, arith}
 use Rattle.std.proofs.lemmas.Result.{on_ok_weaker}
-use Rattle.tier_replay.specs.CommandLine.{settings_of}
-use Rattle.tier_replay.proofs.Progress.{halfway_more, halfway_done}
-use Rattle.tier_replay.proofs.replay.run.Goals as goal
+use Rattle.trace_replay.specs.CommandLine.{settings_of}
+use Rattle.trace_replay.proofs.Progress.{halfway_more, halfway_done}
+use Rattle.trace_replay.proofs.replay.run.Goals as goal
 
 pub loop-preserved : goal.loop-preserved
 loop-preserved g c =

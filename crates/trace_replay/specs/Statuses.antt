@@ -3,9 +3,9 @@ use Rattle.std.specs.Prelude.{ℕ, Result, Ok, Err, ⊤}
 use Rattle.clap.specs.Values.{kind_of}
 use Rattle.clap.specs.declared.error.kind.ErrorKind.{ErrorKind}
 use Rattle.clap.specs.declared.error.kind.ErrorKind.TheVariants as kind
-use Rattle.tier_replay.specs.declared.options.OptionsError.TheVariants.{CommandLine, NoLimit, NotANumber, Memory}
-use Rattle.tier_replay.specs.declared.status.Fault.{Fault}
-use Rattle.tier_replay.specs.declared.status.Fault.TheVariants.{Options, Replay}
+use Rattle.trace_replay.specs.declared.options.OptionsError.TheVariants.{CommandLine, NoLimit, NotANumber, Memory}
+use Rattle.trace_replay.specs.declared.status.Fault.{Fault}
+use Rattle.trace_replay.specs.declared.status.Fault.TheVariants.{Options, Replay}
 
 -- a text that was asked for is no mistake
 abbrev pub command_line_status : ErrorKind → ℕ

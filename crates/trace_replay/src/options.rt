@@ -6,7 +6,7 @@ ghost use Rattle.clap.specs.Faults.{fault_of};
 ghost use Rattle.clap.specs.Matches.{found_of, first_value};
 ghost use Rattle.clap.specs.Simple.{HasMatchesOf, app_of};
 ghost use Rattle.clap.specs.Walk.{rule_of};
-ghost use Rattle.tier_replay.specs.CommandLine.{app, option_rule, value_of, IsGiven, IsFault, IsReadNumber};
+ghost use Rattle.trace_replay.specs.CommandLine.{app, option_rule, value_of, IsGiven, IsFault, IsReadNumber};
 
 use clap::error::ErrorKind;
 use clap::{Arg, ArgMatches, Command};

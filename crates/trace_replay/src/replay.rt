@@ -6,9 +6,9 @@ ghost use Rattle.tier_model.specs.Past.{HasPast};
 ghost use Rattle.tier_model.specs.Reports.{report_of};
 ghost use Rattle.trace_lines.specs.Lines.{line_of};
 ghost use Rattle.trace_lines.specs.Texts.{report_text};
-ghost use Rattle.tier_replay.specs.CommandLine.{settings_of};
-ghost use Rattle.tier_replay.specs.Replays.{asked_by, ended, IsReplay};
-ghost use Rattle.tier_replay.specs.Steps.{Answers};
+ghost use Rattle.trace_replay.specs.CommandLine.{settings_of};
+ghost use Rattle.trace_replay.specs.Replays.{asked_by, ended, IsReplay};
+ghost use Rattle.trace_replay.specs.Steps.{Answers};
 
 use crate::options::ReplayOptions;
 use cache_tier::tier::Tier;
