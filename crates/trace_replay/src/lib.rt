@@ -4,6 +4,5 @@
 pub mod options;
 pub mod replay;
 pub mod status;
-
 #[cfg(test)]
 mod tests;
