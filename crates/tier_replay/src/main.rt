@@ -1,0 +1,42 @@
+//! Answers a trace of a cache tier's events: lines of JSON on standard input, a line for each on standard output, and
+//! behind the last answer a report.
+#![tactic(auto)]
+
+use log::{Log, warn};
+use std::env;
+use std::io::{self, BufReader};
+use std::process::ExitCode;
+use std::rt::Env;
+use trace_replay::options::{OptionsError, options};
+use trace_replay::replay::run;
+use trace_replay::status::{Fault, status};
+
+fn main(rt: HostRuntime) -> ExitCode {
+    let outcome = replay_input(&rt);
+    show(&rt, &outcome);
+    ExitCode::from(status(&outcome))
+}
+
+// Replays standard input by the options of the command line.
+fn replay_input<R: Env + Input + Print + AllocGlobal>(rt: &R) -> Result<(), Fault> {
+    let alloc = rt.alloc();
+    let words: Vec<String> = env::args(rt)?.collect(alloc)?;
+    let options = options(alloc, words.as_slice()).map_err(Fault::Options)?;
+    let mut reader = BufReader::new(alloc, rt.reader())?;
+    let mut writer = io::writer(rt);
+    run(alloc, &mut reader, &mut writer, &options).map_err(Fault::Replay)
+}
+
+// Tells of a fault on standard error. A help text goes to standard output.
+fn show<R: Log + Print + Eprint>(rt: &R, outcome: &Result<(), Fault>) {
+    match outcome {
+        Ok(()) => {}
+        Err(Fault::Options(OptionsError::CommandLine(error))) => {
+            let _ = error.print(rt);
+        }
+        Err(fault) if status(outcome) == 2 => {
+            let _ = eprintln!(rt; "error: {fault}");
+        }
+        Err(fault) => warn!(rt; "{fault}"),
+    }
+}

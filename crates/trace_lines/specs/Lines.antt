@@ -1,0 +1,174 @@
+-- What a line asks: the fields of its operation, or the first refusal that holds.
+use Rattle.std.specs.Prelude.{◌≡◌, ℕ, ◌^◌, pos, nat_lt, Bool, true, false, List, [], ◌∷◌, codes, if◌then◌else◌, Option, Some, None, option_map, option_and_then, unwrap_or, Result, Ok, Err, ⊤}
+use Rattle.std.specs.Result.{result_ok}
+use Rattle.std.specs.Str.{bytes_eq, is_utf8}
+use Rattle.hex.specs.Hex.{decode_of, decode_sized}
+use Rattle.serde_json.specs.Data.{Data, Items, no_items, item, Members}
+use Rattle.serde_json.specs.Find.{get, as_array, as_bool, as_number, as_object, as_str, as_u64}
+use Rattle.serde_json.specs.Read.{read}
+use Rattle.cache_words.specs.Time.{Instant, from_seconds}
+use Rattle.tier_model.specs.declared.key.StoredKey.{StoredKey}
+use Rattle.tier_model.specs.declared.event.Event.{Event}
+use Rattle.tier_model.specs.declared.event.Action.{Action}
+use Rattle.tier_model.specs.declared.event.Action.TheVariants.{Open, LookUp, Read, Drop, Purge, Put}
+use Rattle.trace_lines.specs.declared.line.Line.{Line}
+use Rattle.trace_lines.specs.declared.line.Line.TheVariants as lines
+use Rattle.trace_lines.specs.declared.line.Refusal.{Refusal}
+use Rattle.trace_lines.specs.declared.line.Refusal.TheVariants.{NotJson, NotObject, Op, Field}
+use Rattle.trace_lines.specs.declared.line.FieldName.{FieldName}
+use Rattle.trace_lines.specs.declared.line.FieldName.TheVariants.{At, Id, Key, Tag, Lock, Pieces}
+use Rattle.trace_lines.specs.declared.line.Operation.{Operation}
+use Rattle.trace_lines.specs.declared.line.Operation.TheVariants as op
+use Rattle.trace_lines.specs.declared.line.Stop.{Stop}
+use Rattle.trace_lines.specs.declared.line.Stop.TheVariants as stop
+
+-- the next step, unless the line was refused
+infixl 10 ◌>>=◌
+abbrev pub ◌>>=◌ : {A B : Type 0} → Result A Refusal → (A → Result B Refusal) → Result B Refusal
+Ok x >>= f = f x
+Err r >>= f = Err r
+
+-- a value, or else this refusal
+abbrev pub or_refused : {A : Type 0} → Refusal → Option A → Result A Refusal
+or_refused refusal None = Err refusal
+or_refused refusal (Some x) = Ok x
+
+-- nothing more is wanted of a field than that it passes
+abbrev pub checked : FieldName → Bool → Result ⊤ Refusal
+checked field true = Ok tt
+checked field false = Err (Field field)
+
+-- a whole number from 0 to 2^64 - 1
+abbrev pub number_of : Option Data → Option ℕ
+number_of value = option_and_then as_u64 (option_and_then as_number value)
+
+abbrev pub text_of : Option Data → Option (List ℕ)
+text_of value = option_and_then as_str value
+
+-- seconds since 1970 began, at most 2^63 - 1
+abbrev pub moment_at : ℕ → Option Instant
+moment_at n = if nat_lt n (2 ^ 63) then Some (from_seconds (pos n)) else None
+
+abbrev pub moment_of : Data → Result Instant Refusal
+moment_of d = or_refused (Field At) (option_and_then moment_at (number_of (get (codes "at") d)))
+
+abbrev pub id_of : Data → Result ℕ Refusal
+id_of d = or_refused (Field Id) (number_of (get (codes "id") d))
+
+-- 32 hex digits of either case
+abbrev pub key_in : List ℕ → Option StoredKey
+key_in text = option_map (λ bytes. record { bytes = bytes }) (result_ok (decode_sized text 16))
+
+abbrev pub bare_key_of : Data → Result StoredKey Refusal
+bare_key_of d = or_refused (Field Key) (option_and_then key_in (text_of (get (codes "key") d)))
+
+abbrev pub is_empty_text : Data → Bool
+is_empty_text d = unwrap_or (option_map (λ text. bytes_eq text []) (as_str d)) false
+
+abbrev pub is_false : Data → Bool
+is_false d = unwrap_or (option_map (λ flag. if flag then false else true) (as_bool d)) false
+
+-- a field may be left out, or else it passes the test
+abbrev pub is_absent_or : (Data → Bool) → Option Data → Bool
+is_absent_or test None = true
+is_absent_or test (Some d) = test d
+
+-- no tag but the empty one
+abbrev pub tag_of : Data → Result ⊤ Refusal
+tag_of d = checked Tag (is_absent_or is_empty_text (get (codes "tag") d))
+
+-- no lock
+abbrev pub lock_of : Data → Result ⊤ Refusal
+lock_of d = checked Lock (is_absent_or is_false (get (codes "lock") d))
+
+abbrev pub key_of : Data → Result StoredKey Refusal
+key_of d = do
+  key ← bare_key_of d
+  tag ← tag_of d
+  Ok key
+
+-- the bytes of a hex text, of either case
+abbrev pub bytes_of : Data → Option (List ℕ)
+bytes_of d = option_and_then (λ text. result_ok (decode_of text)) (as_str d)
+
+abbrev pub all_bytes_of : Items → Option (List (List ℕ))
+all_bytes_of no_items = Some []
+all_bytes_of (item d ds) = option_and_then (λ b. option_map (λ bs. b ∷ bs) (all_bytes_of ds)) (bytes_of d)
+
+-- an array of hex texts
+abbrev pub pieces_of : Data → Result (List (List ℕ)) Refusal
+pieces_of d = or_refused (Field Pieces) (option_and_then all_bytes_of (option_and_then as_array (get (codes "pieces") d)))
+
+abbrev pub operation_named : List ℕ → Option Operation
+operation_named name =
+    if bytes_eq name (codes "open") then Some op.Open
+    else if bytes_eq name (codes "look") then Some op.LookUp
+    else if bytes_eq name (codes "read") then Some op.Read
+    else if bytes_eq name (codes "drop") then Some op.Drop
+    else if bytes_eq name (codes "purge") then Some op.Purge
+    else if bytes_eq name (codes "put") then Some op.Put
+    else None
+
+abbrev pub operation_of : Data → Result Operation Refusal
+operation_of d = or_refused Op (option_and_then operation_named (text_of (get (codes "op") d)))
+
+-- what an operation asks, by its own fields alone
+abbrev pub action_of : Operation → Data → Result Action Refusal
+action_of op.Open d = do
+  id ← id_of d
+  key ← key_of d
+  lock ← lock_of d
+  Ok (Open id key)
+action_of op.LookUp d = do
+  id ← id_of d
+  Ok (LookUp id)
+action_of op.Read d = do
+  id ← id_of d
+  Ok (Read id)
+action_of op.Drop d = do
+  id ← id_of d
+  Ok (Drop id)
+action_of op.Purge d = do
+  key ← key_of d
+  Ok (Purge key)
+action_of op.Put d = do
+  key ← key_of d
+  pieces ← pieces_of d
+  Ok (Put key pieces)
+
+abbrev pub event_of : Operation → Data → Result Event Refusal
+event_of operation d = do
+  moment ← moment_of d
+  action ← action_of operation d
+  Ok (record { moment = moment; action = action })
+
+-- the JSON value of some bytes
+abbrev pub json_of : List ℕ → Result Data Refusal
+json_of bytes = or_refused NotJson (if is_utf8 bytes then read bytes else None)
+
+abbrev pub members_of : Data → Result Members Refusal
+members_of d = or_refused NotObject (as_object d)
+
+abbrev pub event_in : List ℕ → Result Event Refusal
+event_in bytes = do
+  d ← json_of bytes
+  members ← members_of d
+  operation ← operation_of d
+  event_of operation d
+
+abbrev pub as_line : Result Event Refusal → Line
+as_line (Ok event) = lines.Asked event
+as_line (Err refusal) = lines.Refused refusal
+
+-- what the bytes of a line ask, without the line feed that ends it
+abbrev pub line_of : List ℕ → Line
+line_of bytes = as_line (event_in bytes)
+
+-- what was read, seen so, or why nothing was, is what was wanted; memory may have run out instead
+abbrev pub IsReadAs : {A B : Type 0} → (A → B) → Result A Stop → Result B Refusal → Type 0
+IsReadAs view (Ok x) wanted = wanted ≡ Ok (view x)
+IsReadAs view (Err (stop.Refused refusal)) wanted = wanted ≡ Err refusal
+IsReadAs view (Err stop.Memory) wanted = Unit {0}
+
+abbrev pub IsRead : {A : Type 0} → Result A Stop → Result A Refusal → Type 0
+IsRead read wanted = IsReadAs (λ x. x) read wanted

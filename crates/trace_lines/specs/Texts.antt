@@ -1,0 +1,113 @@
+-- The lines that are written, without the line feed that ends each.
+use Rattle.std.specs.Prelude.{ℕ, Bool, true, false, List, [], ◌∷◌, ◌++◌, length, codes, Ok, Err}
+use Rattle.std.specs.Fmt.{decimal}
+use Rattle.hex.specs.Hex.{encode_lower}
+use Rattle.tier_model.specs.declared.event.Answer.{Answer}
+use Rattle.tier_model.specs.declared.event.Answer.TheVariants.{Opened, Found, Absent, Bytes, End, Dropped, Purged, Finished}
+use Rattle.tier_model.specs.declared.event.TierFault.{TierFault}
+use Rattle.tier_model.specs.declared.event.TierFault.TheVariants.{NoRequest, IdInUse, WrongPhase, Waiting, AfterEnd, BadHead, WriteRemoved, BeforeEpoch, Incomplete, NumbersSpent, TooHeavy, TooLong, Memory, Folder, NoRecord, Unsupported}
+use Rattle.tier_model.specs.declared.report.Report.{Report}
+use Rattle.tier_model.specs.Calls.{Outcome}
+use Rattle.trace_lines.specs.declared.line.Refusal.{Refusal}
+use Rattle.trace_lines.specs.declared.line.Refusal.TheVariants.{NotJson, NotObject, Op, Field}
+use Rattle.trace_lines.specs.declared.line.FieldName.{FieldName}
+use Rattle.trace_lines.specs.declared.line.FieldName.TheVariants.{At, Id, Key, Tag, Lock, Pieces}
+
+abbrev pub fault_number : TierFault → ℕ
+fault_number NoRequest = 1
+fault_number IdInUse = 2
+fault_number WrongPhase = 3
+fault_number Waiting = 4
+fault_number AfterEnd = 5
+fault_number BadHead = 6
+fault_number WriteRemoved = 7
+fault_number BeforeEpoch = 8
+fault_number Incomplete = 9
+fault_number (NumbersSpent done) = 10
+fault_number (TooHeavy done) = 11
+fault_number (TooLong done) = 12
+fault_number (Memory done) = 13
+fault_number Folder = 14
+fault_number NoRecord = 15
+fault_number Unsupported = 16
+
+abbrev pub fault_name : TierFault → List ℕ
+fault_name NoRequest = codes "NoRequest"
+fault_name IdInUse = codes "IdInUse"
+fault_name WrongPhase = codes "WrongPhase"
+fault_name Waiting = codes "Waiting"
+fault_name AfterEnd = codes "AfterEnd"
+fault_name BadHead = codes "BadHead"
+fault_name WriteRemoved = codes "WriteRemoved"
+fault_name BeforeEpoch = codes "BeforeEpoch"
+fault_name Incomplete = codes "Incomplete"
+fault_name (NumbersSpent done) = codes "NumbersSpent"
+fault_name (TooHeavy done) = codes "TooHeavy"
+fault_name (TooLong done) = codes "TooLong"
+fault_name (Memory done) = codes "Memory"
+fault_name Folder = codes "Folder"
+fault_name NoRecord = codes "NoRecord"
+fault_name Unsupported = codes "Unsupported"
+
+abbrev pub freshness_text : Bool → List ℕ
+freshness_text true = codes "fresh"
+freshness_text false = codes "stale"
+
+abbrev pub extent_text : Bool → List ℕ
+extent_text true = codes "complete"
+extent_text false = codes "partial"
+
+-- lower-case hex; a hyphen where there are none
+abbrev pub bytes_text : List ℕ → List ℕ
+bytes_text [] = codes "-"
+bytes_text (b ∷ bs) = encode_lower (b ∷ bs)
+
+abbrev pub purged_text : Bool → List ℕ
+purged_text true = codes "purged"
+purged_text false = codes "nothing"
+
+abbrev pub answer_text : Answer → List ℕ
+answer_text Opened = codes "opened"
+answer_text (Found fresh complete) = codes "found " ++ (freshness_text fresh ++ (codes " " ++ (extent_text complete ++ codes " lock=none")))
+answer_text Absent = codes "absent lock=none"
+answer_text (Bytes bytes) = codes "bytes " ++ bytes_text bytes
+answer_text End = codes "end"
+answer_text Dropped = codes "dropped"
+answer_text (Purged was_stored) = purged_text was_stored
+answer_text (Finished size evicted) = codes "finished " ++ (decimal size ++ (codes " evicted=" ++ decimal (length evicted)))
+
+abbrev pub outcome_text : Outcome → List ℕ
+outcome_text (Ok answer) = answer_text answer
+outcome_text (Err fault) = codes "fault " ++ (decimal (fault_number fault) ++ (codes " " ++ fault_name fault))
+
+abbrev pub field_text : FieldName → List ℕ
+field_text At = codes "at"
+field_text Id = codes "id"
+field_text Key = codes "key"
+field_text Tag = codes "tag"
+field_text Lock = codes "lock"
+field_text Pieces = codes "pieces"
+
+abbrev pub reason_text : Refusal → List ℕ
+reason_text NotJson = codes "NotJson"
+reason_text NotObject = codes "NotObject"
+reason_text Op = codes "Op"
+reason_text (Field field) = codes "Field " ++ field_text field
+
+abbrev pub refusal_text : Refusal → List ℕ
+refusal_text refusal = codes "refused " ++ reason_text refusal
+
+-- the look-ups by their answers
+abbrev pub look_ups_text : Report → List ℕ
+look_ups_text r = codes "found=" ++ (decimal r.found ++ (codes " absent=" ++ decimal r.absent))
+
+-- the bodies and their bytes
+abbrev pub bodies_text : Report → List ℕ
+bodies_text r = codes "bodies=" ++ (decimal r.bodies ++ (codes " bytes=" ++ decimal r.bytes))
+
+-- the entries, their weights, and how many went
+abbrev pub entries_text : Report → List ℕ
+entries_text r = codes "tracked=" ++ (decimal r.tracked ++ (codes " weight=" ++ (decimal r.weight ++ (codes " evicted=" ++ decimal r.evicted))))
+
+abbrev pub report_text : Report → List ℕ
+report_text r = codes "report " ++ (look_ups_text r ++ (codes " " ++ (bodies_text r ++ (codes " " ++ entries_text r))))

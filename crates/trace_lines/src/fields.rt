@@ -1,0 +1,148 @@
+//! The fields of a line.
+ghost use Rattle.std.specs.Prelude.{◌≡◌, ◌++◌, map, option_map, IfOk};
+ghost use Rattle.serde_json.specs.View.{view, items_view};
+ghost use Rattle.trace_lines.specs.Lines.{moment_of, id_of, bare_key_of, tag_of, lock_of, key_of, bytes_of, all_bytes_of, pieces_of, operation_named, operation_of, IsRead};
+
+use crate::line::{FieldName, Operation, Refusal, Stop};
+use bytes::Bytes;
+use cache_words::time::Moment;
+use hex::FromHexError;
+use serde_json::Value;
+use std::alloc::{AllocError, Global};
+use tier_model::event::Pieces;
+use tier_model::key::StoredKey;
+
+// A moment's seconds fit in 63 bits.
+const MOMENT_END: u64 = 1 << 63;
+
+/// What the line asks for.
+pub(crate) fn operation(value: &Value) -> Result<Operation, Refusal>
+    ensures { result ≡ operation_of (view value.now) }
+{
+    value
+        .get("op")
+        .and_then(Value::as_str)
+        .and_then(operation_named)
+        .ok_or(Refusal::Op)
+}
+
+fn operation_named(name: &str) -> Option<Operation>
+    ensures { result ≡ operation_named name.now }
+{
+    match name {
+        "open" => Some(Operation::Open),
+        "look" => Some(Operation::LookUp),
+        "read" => Some(Operation::Read),
+        "drop" => Some(Operation::Drop),
+        "purge" => Some(Operation::Purge),
+        "put" => Some(Operation::Put),
+        _ => None,
+    }
+}
+
+/// The moment of the event.
+pub(crate) fn moment(value: &Value) -> Result<Moment, Refusal>
+    ensures { result ≡ moment_of (view value.now) }
+{
+    let seconds = value.get("at").and_then(Value::as_u64);
+    match seconds {
+        Some(seconds) if seconds < MOMENT_END => Ok(Moment::from_seconds(seconds as i64)),
+        _ => Err(Refusal::Field(FieldName::At)),
+    }
+}
+
+/// The number of the request.
+pub(crate) fn id(value: &Value) -> Result<u64, Refusal>
+    ensures { result ≡ id_of (view value.now) }
+{
+    value
+        .get("id")
+        .and_then(Value::as_u64)
+        .ok_or(Refusal::Field(FieldName::Id))
+}
+
+/// The stored key, whose tag is empty.
+pub(crate) fn key(value: &Value) -> Result<StoredKey, Refusal>
+    ensures { result ≡ key_of (view value.now) }
+{
+    let key = bare_key(value)?;
+    check_tag(value)?;
+    Ok(key)
+}
+
+fn bare_key(value: &Value) -> Result<StoredKey, Refusal>
+    ensures { result ≡ bare_key_of (view value.now) }
+{
+    let Some(text) = value.get("key").and_then(Value::as_str) else {
+        return Err(Refusal::Field(FieldName::Key));
+    };
+    let mut bytes = [0; 16];
+    match hex::decode_to_slice(text, &mut bytes) {
+        Ok(()) => Ok(StoredKey { bytes }),
+        Err(_) => Err(Refusal::Field(FieldName::Key)),
+    }
+}
+
+fn check_tag(value: &Value) -> Result<(), Refusal>
+    ensures { result ≡ tag_of (view value.now) }
+{
+    let Some(tag) = value.get("tag") else {
+        return Ok(());
+    };
+    match tag.as_str() {
+        Some("") => Ok(()),
+        _ => Err(Refusal::Field(FieldName::Tag)),
+    }
+}
+
+/// That no lock is asked for.
+pub(crate) fn check_lock(value: &Value) -> Result<(), Refusal>
+    ensures { result ≡ lock_of (view value.now) }
+{
+    let Some(lock) = value.get("lock") else {
+        return Ok(());
+    };
+    match lock.as_bool() {
+        Some(false) => Ok(()),
+        _ => Err(Refusal::Field(FieldName::Lock)),
+    }
+}
+
+/// The pieces of a response.
+pub(crate) fn pieces(alloc: Global, value: &Value) -> Result<Pieces, Stop>
+    ensures { IsRead result (pieces_of (view value.now)) }
+{
+    let Some(values) = value.get("pieces").and_then(Value::as_array) else {
+        return Err(Stop::Refused(Refusal::Field(FieldName::Pieces)));
+    };
+    match all_bytes(alloc, values)? {
+        Some(pieces) => Ok(Pieces::from_vec(pieces)),
+        None => Err(Stop::Refused(Refusal::Field(FieldName::Pieces))),
+    }
+}
+
+fn all_bytes(alloc: Global, values: &Vec<Value>) -> Result<Option<Vec<Bytes>>, AllocError>
+    ensures { IfOk result (λ found. option_map (λ v. v.items) found ≡ all_bytes_of (items_view values.now.items)) }
+{
+    let mut all = Vec::new(alloc);
+    for value in values {
+        match bytes(alloc, value)? {
+            Some(piece) => all.push(piece)?,
+            None => return Ok(None),
+        }
+    }
+    Ok(Some(all))
+}
+
+fn bytes(alloc: Global, value: &Value) -> Result<Option<Bytes>, AllocError>
+    ensures { IfOk result (λ found. found ≡ bytes_of (view value.now)) }
+{
+    let Some(text) = value.as_str() else {
+        return Ok(None);
+    };
+    match hex::decode(alloc, text) {
+        Ok(bytes) => Ok(Some(Bytes::from_vec(bytes)?)),
+        Err(FromHexError::OutOfMemory) => Err(AllocError),
+        Err(_) => Ok(None),
+    }
+}

@@ -1,0 +1,217 @@
+use crate::line::{Line, Refusal};
+use crate::read::read_line;
+use crate::text::{outcome_line, refusal_line, report_line};
+use bytes::Bytes;
+use std::alloc::{AllocError, Global};
+use std::process::Abort;
+use std::test::Fail;
+use tier_model::event::{Action, Answer, Done, Entries, TierFault};
+use tier_model::key::StoredKey;
+use tier_model::report::Report;
+
+const KEY: StoredKey = StoredKey {
+    bytes: [0, 0, 0, 0, 0, 0, 0, 0, 0, 0, 0, 0, 0, 0, 0, 0x6a],
+};
+
+// The line that a refused line is answered with.
+fn refused(alloc: Global, line: &[u8]) -> Result<Option<String>, AllocError> {
+    match read_line(alloc, line)? {
+        Line::Refused(refusal) => Ok(Some(refusal_line(alloc, &refusal)?)),
+        Line::Asked(_) => Ok(None),
+    }
+}
+
+fn assert_refused(rt: &impl Abort, alloc: Global, line: &[u8], want: &str) -> Result<(), Fail> {
+    let text = refused(alloc, line)?;
+    let text = text.ok_or("it asks something")?;
+    assert_eq!(rt; text.as_str(), want, "at {line:?}");
+    Ok(())
+}
+
+#[test]
+fn bad_lines_are_refused(rt: HostRuntime) -> Result<(), Fail> {
+    let table: [(&[u8], &str); 10] = [
+        (b"", "refused NotJson"),
+        (
+            b"{\"op\":\"look\",\"at\":1,\"id\":0,\"x\":1e400}",
+            "refused NotJson",
+        ),
+        (b"{\"op\":\"\xff\"}", "refused NotJson"),
+        (b"[]", "refused NotObject"),
+        (b"{}", "refused Op"),
+        (b"{\"op\":null}", "refused Op"),
+        (b"{\"op\":\"begin\",\"at\":1}", "refused Op"),
+        (b"{\"op\":\"look\"}", "refused Field at"),
+        (
+            b"{\"op\":\"look\",\"at\":9223372036854775808,\"id\":1}",
+            "refused Field at",
+        ),
+        (b"{\"op\":\"look\",\"at\":1,\"id\":1.5}", "refused Field id"),
+    ];
+    for (line, want) in table {
+        assert_refused(&rt, rt.alloc(), line, want)?;
+    }
+    Ok(())
+}
+
+#[test]
+fn bad_fields_are_refused(rt: HostRuntime) -> Result<(), Fail> {
+    let table: [(&[u8], &str); 6] = [
+        (
+            b"{\"op\":\"purge\",\"at\":1,\"key\":\"6\"}",
+            "refused Field key",
+        ),
+        (
+            b"{\"op\":\"purge\",\"at\":-0,\"key\":\"6\"}",
+            "refused Field at",
+        ),
+        (
+            b"{\"op\":\"purge\",\"at\":1,\"tag\":null,\"key\":\"0000000000000000000000000000006a\"}",
+            "refused Field tag",
+        ),
+        (
+            b"{\"op\":\"open\",\"at\":1,\"id\":0,\"lock\":true,\"key\":\"0000000000000000000000000000006A\"}",
+            "refused Field lock",
+        ),
+        (
+            b"{\"op\":\"put\",\"at\":1,\"pieces\":[1],\"key\":\"0000000000000000000000000000006a\"}",
+            "refused Field pieces",
+        ),
+        (
+            b"{\"op\":\"put\",\"at\":1,\"pieces\":[\"616\"],\"key\":\"0000000000000000000000000000006a\"}",
+            "refused Field pieces",
+        ),
+    ];
+    for (line, want) in table {
+        assert_refused(&rt, rt.alloc(), line, want)?;
+    }
+    Ok(())
+}
+
+#[test]
+fn a_put_is_asked(rt: HostRuntime) -> Result<(), Fail> {
+    let line =
+        b" {\"op\":\"look\",\"at\":9223372036854775807,\"id\":true,\"tag\":\"\",\"op\":\"put\",\"key\":\"0000000000000000000000000000006A\",\"pieces\":[\"\",\"0aFf\"]}\r";
+    let Line::Asked(event) = read_line(rt.alloc(), line)? else {
+        return Err(Fail::from("it is refused"));
+    };
+    assert_eq!(rt; event.moment.seconds(), i64::MAX);
+    let Action::Put { key, pieces } = &event.action else {
+        return Err(Fail::from("it is no put"));
+    };
+    assert!(rt; key.is_same(&KEY));
+    let pieces = pieces.as_slice();
+    assert_eq!(rt; pieces.len(), 2);
+    assert!(rt; pieces[0].as_slice().is_empty());
+    assert_eq!(rt; pieces[1].as_slice(), b"\x0a\xff".as_slice());
+    Ok(())
+}
+
+#[test]
+fn every_other_event_is_asked(rt: HostRuntime) -> Result<(), Fail> {
+    let table: [(&[u8], u8); 5] = [
+        (
+            b"{\"op\":\"open\",\"at\":0,\"id\":7,\"lock\":false,\"key\":\"0000000000000000000000000000006a\"}",
+            0,
+        ),
+        (b"{\"op\":\"look\",\"at\":0,\"id\":7}", 1),
+        (b"{\"op\":\"read\",\"at\":0,\"id\":7,\"key\":0}", 2),
+        (b"{\"op\":\"drop\",\"at\":0,\"id\":7}", 3),
+        (
+            b"{\"op\":\"purge\",\"at\":0,\"key\":\"0000000000000000000000000000006a\"}",
+            4,
+        ),
+    ];
+    for (line, want) in table {
+        let asked = match &read_line(rt.alloc(), line)? {
+            Line::Refused(_) => None,
+            Line::Asked(event) => match &event.action {
+                Action::Open { request: 7, key } if key.is_same(&KEY) => Some(0),
+                Action::LookUp { request: 7 } => Some(1),
+                Action::Read { request: 7 } => Some(2),
+                Action::Drop { request: 7 } => Some(3),
+                Action::Purge { key } if key.is_same(&KEY) => Some(4),
+                _ => None,
+            },
+        };
+        assert_eq!(rt; asked, Some(want), "at {line:?}");
+    }
+    Ok(())
+}
+
+fn assert_written(
+    rt: &impl Abort,
+    alloc: Global,
+    outcome: Result<Answer, TierFault>,
+    want: &str,
+) -> Result<(), Fail> {
+    let text = outcome_line(alloc, &outcome)?;
+    assert_eq!(rt; text.as_str(), want);
+    Ok(())
+}
+
+#[test]
+fn answers_are_written(rt: HostRuntime) -> Result<(), Fail> {
+    let alloc = rt.alloc();
+    let found = Answer::Found {
+        fresh: true,
+        complete: true,
+    };
+    assert_written(&rt, alloc, Ok(found), "found fresh complete lock=none")?;
+    let body = Bytes::from_vec(b"ab\xff".to_vec(alloc)?)?;
+    assert_written(&rt, alloc, Ok(Answer::Bytes(body)), "bytes 6162ff")?;
+    let finished = Answer::Finished {
+        length: 3,
+        evicted: Entries::from_vec([KEY, KEY].to_vec(alloc)?),
+    };
+    assert_written(&rt, alloc, Ok(finished), "finished 3 evicted=2")?;
+    let done = Done {
+        stored: true,
+        admitted: false,
+        evicted: Entries::new(alloc),
+    };
+    assert_written(
+        &rt,
+        alloc,
+        Err(TierFault::TooHeavy(done)),
+        "fault 11 TooHeavy",
+    )
+}
+
+#[test]
+fn a_report_is_written(rt: HostRuntime) -> Result<(), Fail> {
+    let report = Report {
+        found: 2,
+        absent: 18446744073709551615,
+        bodies: 4,
+        bytes: 3,
+        tracked: 5,
+        weight: 6,
+        evicted: 0,
+    };
+    let text = report_line(rt.alloc(), &report)?;
+    assert_eq!(rt;
+        text.as_str(),
+        "report found=2 absent=18446744073709551615 bodies=4 bytes=3 tracked=5 weight=6 evicted=0"
+    );
+    Ok(())
+}
+
+// With memory refused at one point the whole line is given up, or it is read as ever.
+#[test]
+fn want_of_memory_gives_no_other_line(rt: HostRuntime) {
+    let line =
+        b"{\"op\":\"put\",\"at\":1,\"key\":\"0000000000000000000000000000006a\",\"pieces\":[\"61\",\"62\"]}";
+    match &read_line(rt.alloc(), line) {
+        Ok(Line::Asked(event)) => match &event.action {
+            Action::Put { pieces, .. } => assert_eq!(rt; pieces.as_slice().len(), 2),
+            _ => assert!(rt; false, "it is no put"),
+        },
+        Ok(Line::Refused(_)) => assert!(rt; false, "it is refused"),
+        Err(AllocError) => {}
+    }
+    match refusal_line(rt.alloc(), &Refusal::Op) {
+        Ok(text) => assert_eq!(rt; text.as_str(), "refused Op"),
+        Err(AllocError) => {}
+    }
+}

@@ -1,0 +1,36 @@
+-- What the matches of a command line hold is what its words give.
+use Rattle.std.proofs.Common.{◌≡◌, ◌∙◌, ℕ, List, true, refl, ap, sym, subst}
+use Rattle.std.specs.Prelude.{Option, Some, None, Err}
+use Rattle.clap.specs.Matches.{found_of, first_value}
+use Rattle.clap.specs.Simple.{HasMatchesOf, is_simple}
+use Rattle.clap.specs.Walk.{Text, first_of}
+use Rattle.clap.specs.declared.parser.matches.ArgMatches.{ArgMatches}
+use Rattle.clap.proofs.OnLiterals.{clap_on_literals}
+use Rattle.clap.proofs.WalkLemmas.{first_value-rows}
+use Rattle.trace_replay.specs.CommandLine.{app, value_of, IsGiven, IsFault, IsReadNumber}
+use Rattle.trace_replay.specs.declared.options.OptionsError.{OptionsError}
+use Rattle.trace_replay.specs.declared.options.OptionsError.TheVariants.{CommandLine, NoLimit, NotANumber, Memory}
+
+app_is_simple : is_simple app ≡ true
+unfolding clap_on_literals
+app_is_simple = refl
+
+first_value-words : (id : Text) (m : ArgMatches) (words : List Text) → HasMatchesOf app words m → first_value (found_of m) id ≡ value_of id words
+first_value-words id m words h = first_value-rows (found_of m) id ∙ ap (first_of id) (h app_is_simple).0
+
+pub given_by_words : (id : Text) (m : ArgMatches) (words : List Text) (number : Option ℕ) → HasMatchesOf app words m
+    → IsGiven (first_value (found_of m) id) number → IsGiven (value_of id words) number
+given_by_words id m words number h given = subst (λ v. IsGiven v number) (first_value-words id m words h) given
+
+pub fault_by_words : (id : Text) (m : ArgMatches) (words : List Text) (error : OptionsError) → HasMatchesOf app words m
+    → IsReadNumber id (first_value (found_of m) id) (Err error) → IsFault words error
+fault_by_words id m words (CommandLine error) h none = absurd none
+fault_by_words id m words NoLimit h none = absurd none
+fault_by_words id m words (NotANumber shown) h found =
+    (found.1.0, ap (λ name. value_of name words) found.0 ∙ (sym (first_value-words id m words h) ∙ found.1.1), found.1.2)
+fault_by_words id m words Memory h none = absurd none
+
+pub none_by_words : (id : Text) (m : ArgMatches) (words : List Text) (number : Option ℕ) → HasMatchesOf app words m
+    → IsGiven (first_value (found_of m) id) number → ((n : ℕ) → number ≡ Some n → ⊥) → value_of id words ≡ None
+none_by_words id m words None h given other = given_by_words id m words None h given
+none_by_words id m words (Some n) h given other = absurd (other n refl)

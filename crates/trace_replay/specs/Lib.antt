@@ -1,0 +1,4 @@
+pub mod Replays
+pub mod Steps
+pub mod CommandLine
+pub mod Statuses

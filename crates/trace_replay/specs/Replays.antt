@@ -1,0 +1,48 @@
+-- What a trace is answered with.
+use Rattle.std.specs.Prelude.{◌≡◌, ℕ, ◌==◌, List, [], ◌∷◌, ◌++◌, map, if◌then◌else◌}
+use Rattle.tier_model.specs.Calls.{History, Outcome}
+use Rattle.tier_model.specs.Past.{HasPast}
+use Rattle.tier_model.specs.Reports.{report_of}
+use Rattle.tier_model.specs.State.{Settings, State}
+use Rattle.trace_lines.specs.Lines.{line_of}
+use Rattle.trace_lines.specs.Texts.{outcome_text, refusal_text, report_text}
+use Rattle.trace_lines.specs.declared.line.Line.{Line}
+use Rattle.trace_lines.specs.declared.line.Line.TheVariants.{Refused, Asked}
+
+-- a byte more at the front of the first line
+abbrev pub onto_first : ℕ → List (List ℕ) → List (List ℕ)
+onto_first x [] = (x ∷ []) ∷ []
+onto_first x (l ∷ ls) = (x ∷ l) ∷ ls
+
+-- each line ends at a line feed; a last line without one counts
+abbrev pub lines_in : List ℕ → List (List ℕ)
+lines_in [] = []
+lines_in (x ∷ xs) = if x == 10 then [] ∷ lines_in xs else onto_first x (lines_in xs)
+
+-- what the lines of a trace ask
+abbrev pub asked_by : List ℕ → List Line
+asked_by trace = map line_of (lines_in trace)
+
+-- a line that is written, with its line feed
+abbrev pub ended : List ℕ → List ℕ
+ended text = text ++ 10 ∷ []
+
+-- behind the calls of the past these lines, in their order, lead to the calls of h, the latest first in both, and the text
+-- has a line for each: the refusal of a line that asks nothing, and what the tier answered to the event of any other
+abbrev pub Replays : List Line → History → History → List ℕ → Type 0
+Replays [] past h text = (h ≡ past) × (text ≡ [])
+Replays (Refused refusal ∷ lines) past h text =
+    (rest : List ℕ) × (text ≡ ended (refusal_text refusal) ++ rest) × Replays lines past h rest
+Replays (Asked event ∷ lines) past h text =
+    (outcome : Outcome) × (rest : List ℕ) × (text ≡ ended (outcome_text outcome) ++ rest)
+    × Replays lines (record { event = event; outcome = outcome } ∷ past) h rest
+
+-- the text answers each line of a trace by one tier that began empty, whose history keeps the headline, and ends with the
+-- report of its state
+pub record IsReplay (settings : Settings) (lines : List Line) (text : List ℕ) : Type 0 where
+  pub history : History
+  pub answers : List ℕ
+  pub state : State
+  pub replays : Replays lines [] history answers
+  pub past : HasPast settings state history
+  pub reported : text ≡ answers ++ ended (report_text (report_of state))

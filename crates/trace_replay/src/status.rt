@@ -1,0 +1,50 @@
+//! How the program ends.
+ghost use Rattle.std.specs.Prelude.{◌≡◌};
+ghost use Rattle.trace_replay.specs.Statuses.{status_of, fault_status};
+
+use crate::options::OptionsError;
+use crate::replay::ReplayError;
+use clap::error::ErrorKind;
+use std::alloc::AllocError;
+use std::io;
+use thiserror::Error;
+
+/// Why the program ended early.
+#[derive(Debug, Drop, Error)]
+pub enum Fault {
+    /// The command line gives no options.
+    #[error("{0}")]
+    Options(OptionsError),
+    /// The replay ended early.
+    #[error("{0}")]
+    Replay(ReplayError),
+}
+
+impl From<io::Error> for Fault {
+    fn from(error: io::Error) -> Fault {
+        Fault::Replay(ReplayError::from(error))
+    }
+}
+
+impl From<AllocError> for Fault {
+    fn from(_error: AllocError) -> Fault {
+        Fault::Replay(ReplayError::Memory)
+    }
+}
+
+/// The exit status: 0 where all went well or help was asked for, 1 after a fault of a stream or want of memory, 2
+/// after a mistake in the command line.
+pub fn status(outcome: &Result<(), Fault>) -> u8
+    ensures { result ≡ status_of outcome.now }
+{
+    match outcome {
+        Ok(()) => 0,
+        Err(Fault::Replay(_)) => 1,
+        Err(Fault::Options(OptionsError::Memory)) => 1,
+        Err(Fault::Options(OptionsError::NoLimit | OptionsError::NotANumber(_))) => 2,
+        Err(Fault::Options(OptionsError::CommandLine(error))) => match error.kind() {
+            ErrorKind::DisplayHelp | ErrorKind::DisplayVersion => 0,
+            _ => 2,
+        },
+    }
+}
