@@ -163,6 +163,6 @@ impl Entries {
     pub fn as_slice(&self) -> &[StoredKey]
         ensures { result.now ≡ self.now }
     {
-        self.items.as_slice()
+        &self.items
     }
 }

@@ -7,3 +7,5 @@ pub mod laws;
 pub mod report;
 pub mod requests;
 pub mod rows;
+#[cfg(test)]
+mod tests;
