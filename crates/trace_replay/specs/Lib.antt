@@ -2,3 +2,4 @@ pub mod Replays
 pub mod Steps
 pub mod CommandLine
 pub mod Statuses
+pub mod Errors

@@ -1,5 +1,5 @@
 //! Answering a trace.
-ghost use Rattle.std.specs.Prelude.{◌≡◌, ℕ, List, [], ◌++◌, IfOk, OnOk, IfSome, string_bytes};
+ghost use Rattle.std.specs.Prelude.{◌≡◌, ℕ, List, [], ◌++◌, IfOk, IfErr, OnOk, IfSome, string_bytes, ◌≤◌, ◌-◌, ◌^◌, length};
 ghost use Rattle.std.specs.Io.KnownBytes.{Appends};
 ghost use Rattle.std.specs.Io.BufRead.{strip_last};
 ghost use Rattle.tier_model.specs.Past.{HasPast};
@@ -7,7 +7,9 @@ ghost use Rattle.tier_model.specs.Reports.{report_of};
 ghost use Rattle.trace_lines.specs.Lines.{line_of};
 ghost use Rattle.trace_lines.specs.Texts.{report_text};
 ghost use Rattle.trace_replay.specs.CommandLine.{settings_of};
-ghost use Rattle.trace_replay.specs.Replays.{asked_by, ended, IsReplay};
+ghost use Rattle.trace_replay.specs.Replays.{asked_by, lines_in, ended, IsReplay};
+ghost use Rattle.trace_replay.specs.Errors.{IsOther};
+ghost use Rattle.trace_replay.specs.declared.replay.ReplayError.TheVariants.{Memory};
 ghost use Rattle.trace_replay.specs.Steps.{Answers};
 
 use crate::options::ReplayOptions;
@@ -41,6 +43,8 @@ pub enum ReplayError {
 }
 
 impl From<io::Error> for ReplayError {
+    ghost from_gives = { λ _ e. IsOther e };
+
     fn from(error: io::Error) -> ReplayError {
         match error.kind() {
             io::ErrorKind::OutOfMemory => ReplayError::Memory,
@@ -50,12 +54,16 @@ impl From<io::Error> for ReplayError {
 }
 
 impl From<AllocError> for ReplayError {
+    ghost from_gives = { λ _ e. e ≡ Memory };
+
     fn from(_error: AllocError) -> ReplayError {
         ReplayError::Memory
     }
 }
 
 impl<T: Drop> From<AllocFailed<T>> for ReplayError {
+    ghost from_gives = { λ _ e. e ≡ Memory };
+
     fn from(_error: AllocFailed<T>) -> ReplayError {
         ReplayError::Memory
     }
@@ -69,9 +77,10 @@ pub fn run<R: BufRead, W: Write>(
     writer: &mut W,
     options: &ReplayOptions,
 ) -> Result<(), ReplayError>
-    ensures { OnOk result (IfSome (R.remaining reader.old) (λ input. (text : List ℕ)
+    ensures answered { OnOk result (IfSome (R.remaining reader.old) (λ input. (text : List ℕ)
         × Appends (W.contents writer.old) (W.contents writer.new) text
         × IsReplay (settings_of options.now) (asked_by input) text)) }
+    ensures too_many { result ≡ Err ReplayError.TooManyReads → IfSome (R.remaining reader.old) (λ input. 2 ^ 64 - 1 ≤ length (lines_in input)) }
 {
     let mut tier = tier_for(alloc, options);
     let mut rng = Pcg64::seed_from_u64(0);
@@ -96,7 +105,8 @@ fn tier_for(alloc: Global, options: &ReplayOptions) -> Tier<1>
 }
 
 fn finish<W: Write>(alloc: Global, tier: &Tier<1>, writer: &mut W) -> Result<(), ReplayError>
-    ensures { OnOk result (Appends (W.contents writer.old) (W.contents writer.new) (ended (report_text (report_of tier.now)))) }
+    ensures written { OnOk result (Appends (W.contents writer.old) (W.contents writer.new) (ended (report_text (report_of tier.now)))) }
+    ensures other { IfErr result IsOther }
 {
     let mut text = report_line(alloc, &tier.report())?;
     text.push('\n')?;
@@ -105,7 +115,8 @@ fn finish<W: Write>(alloc: Global, tier: &Tier<1>, writer: &mut W) -> Result<(),
 
 /// Writes a text, and hands it on at once.
 fn write<W: Write>(writer: &mut W, text: &str) -> Result<(), ReplayError>
-    ensures { OnOk result (Appends (W.contents writer.old) (W.contents writer.new) text.now) }
+    ensures written { OnOk result (Appends (W.contents writer.old) (W.contents writer.new) text.now) }
+    ensures other { IfErr result IsOther }
 {
     writer.write_all(text.as_bytes())?;
     writer.flush()?;
@@ -129,7 +140,8 @@ fn answer<G: Rng>(
     rng: &mut G,
     line: &[u8],
 ) -> Result<String, ReplayError>
-    ensures { IfOk result (λ text. Answers tier.old tier.new (line_of line.now) (string_bytes text)) }
+    ensures answered { IfOk result (λ text. Answers tier.old tier.new (line_of line.now) (string_bytes text)) }
+    ensures other { IfErr result IsOther }
 {
     let mut text = match read_line(alloc, line)? {
         Line::Refused(refusal) => refusal_line(alloc, &refusal)?,
