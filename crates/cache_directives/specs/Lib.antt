@@ -1,0 +1,5 @@
+pub mod Kinds
+pub mod Written
+pub mod Reads
+pub mod Walk
+pub mod Shown
