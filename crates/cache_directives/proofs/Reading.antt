@@ -139,12 +139,12 @@ valued_quoted b bytes value None e q h = cc
 valued_quoted b bytes value (Some n) e q h =
     let k = close_gives false bytes n e in
     let v : value ≡ 34 ∷ (k.inside ++ 34 ∷ []) =
-        (let w : value ≡ 34 ∷ take n bytes = cc in
-        w ∙ ap (λ m. 34 ∷ take m bytes) k.len ∙ ap (λ l. 34 ∷ take (suc (length k.inside)) l) k.is ∙ ap (λ l. 34 ∷ l) (take_quote k.inside k.rest)) in
+    (let w : value ≡ 34 ∷ take n bytes = cc in
+    w ∙ ap (λ m. 34 ∷ take m bytes) k.len ∙ ap (λ l. 34 ∷ take (suc (length k.inside)) l) k.is ∙ ap (λ l. 34 ∷ l) (take_quote k.inside k.rest)) in
     record {
       rest = k.rest;
       is = ap (λ c. c ∷ bytes) (eqb-true b 34 q) ∙ ap (λ l. 34 ∷ l) (k.is ∙ sym (append_assoc k.inside (34 ∷ []) k.rest)) ∙ ap (λ l. l ++ k.rest) (sym v);
-      form = inr (k.inside, k.fits, v)
+      form = inr (k.inside, k.fits, v);
     }
 
 valued_step : (b : ℕ) (bytes value : List ℕ) (q t : Bool) → (b == 34) ≡ q → is_token b ≡ t → cond q (option_map (λ n. 34 ∷ take n bytes) (close false bytes)) (cond t (Some (take (prefix_len is_token (b ∷ bytes)) (b ∷ bytes))) None) ≡ Some value → Valued (b ∷ bytes) value
@@ -187,12 +187,12 @@ directive_at b bytes h =
     let n : ℕ = prefix_len is_token text in
     let behind : List ℕ = drop n text in
     let r : drop (value_len (value_behind behind)) behind ≡ drop (length (take n text) + value_len (value_behind behind)) text =
-        drop-drop (value_len (value_behind behind)) n text ∙ ap (λ k. drop (k + value_len (value_behind behind)) text) (sym (length-prefix_len is_token text)) in
+    drop-drop (value_len (value_behind behind)) n text ∙ ap (λ k. drop (k + value_len (value_behind behind)) text) (sym (length-prefix_len is_token text)) in
     record {
       behind = behind;
       is = sym (take-append-drop n text);
       name = front_run b bytes h;
-      value = (let P : List ℕ → Type 0 = λ rest. IsValueBehind behind (value_behind behind) rest in subst P r (behind_at behind (value_behind behind) refl))
+      value = (let P : List ℕ → Type 0 = λ rest. IsValueBehind behind (value_behind behind) rest in subst P r (behind_at behind (value_behind behind) refl));
     }
 
 pub directive_is : (body : List ℕ) (d : Written) (rest : List ℕ) → IsDirective body d rest → (written_at body ≡ d) × (drop (written_len d) body ≡ rest)
@@ -201,21 +201,28 @@ directive_is body d rest k = (written, after)
   where
     n : prefix_len is_token body ≡ length d.0
     n = ap (λ l. prefix_len is_token l) k.is ∙ run_len d.0 k.behind k.name.tokens k.name.longest
+
     front : take (prefix_len is_token body) body ≡ d.0
     front = ap (λ m. take m body) n ∙ ap (λ l. take (length d.0) l) k.is ∙ take-append_seam d.0 k.behind
+
     back : drop (length d.0) body ≡ k.behind
     back = ap (λ l. drop (length d.0) l) k.is ∙ drop-append_seam d.0 k.behind
+
     value_is : (o w : Option (List ℕ)) (r : List ℕ) → value_behind k.behind ≡ w → IsValueBehind k.behind o r → w ≡ o
     value_is None None r e h = refl
     value_is None (Some v) r e h = absurd (h.1 v (drop (suc (length v)) k.behind) (behind_at_some k.behind v e))
     value_is (Some v) w r e h = sym e ∙ behind_is k.behind v r h
+
     rest_is : (o : Option (List ℕ)) → IsValueBehind k.behind o rest → drop (value_len o) k.behind ≡ rest
     rest_is None h = sym h.0
     rest_is (Some v) h = ap (λ l. drop (suc (length v)) l) h.0 ∙ drop-append_seam v rest
+
     second : value_behind (drop (prefix_len is_token body) body) ≡ d.1
     second = ap (λ m. value_behind (drop m body)) n ∙ ap value_behind back ∙ value_is d.1 (value_behind k.behind) rest refl k.value
+
     written : written_at body ≡ d
     written = rw (front, second) refl
+
     after : drop (written_len d) body ≡ rest
     after = sym (drop-drop (value_len d.1) (length d.0) body) ∙ ap (λ l. drop (value_len d.1) l) back ∙ rest_is d.1 k.value
 
@@ -250,6 +257,7 @@ step_blank b bytes ready h = go ready
     no_separator : (t : Bool) → is_separator b ≡ t → t ≡ false
     no_separator false e = refl
     no_separator true e = let f = separator_no_space b e in cc
+
     go : (ready : Bool) → walk 0 ready (b ∷ bytes) ≡ walk 0 ready bytes
     go true = rw (space_no_token b h, no_separator (is_separator b) refl, h) refl
     go false = rw (no_separator (is_separator b) refl) refl
@@ -276,12 +284,13 @@ walk_directive body d rest k = go d.0 refl
   where
     whole : (b : ℕ) (run : List ℕ) → d.0 ≡ b ∷ run → is_token b ≡ true
     whole b run e = (let P : List ℕ → Type 0 = λ l. AllByRecursion (λ c. is_token c ≡ true) l in subst P e k.name.tokens).0
+
     go : (name : List ℕ) → d.0 ≡ name → walk 0 true body ≡ d ∷ walk 0 false rest
     go [] e = absurd (omega (arith, k.name.some, ap length e))
     go (b ∷ run) e =
         let t : body ≡ b ∷ (run ++ k.behind) = k.is ∙ ap (λ l. l ++ k.behind) e in
         let w : walk 0 true body ≡ written_at body ∷ walk 0 false (drop (written_len (written_at body)) body) =
-            (let P : List ℕ → Type 0 = λ l. walk 0 true l ≡ written_at l ∷ walk 0 false (drop (written_len (written_at l)) l) in subst P (sym t) (walk_token b (run ++ k.behind) (whole b run e))) in
+        (let P : List ℕ → Type 0 = λ l. walk 0 true l ≡ written_at l ∷ walk 0 false (drop (written_len (written_at l)) l) in subst P (sym t) (walk_token b (run ++ k.behind) (whole b run e))) in
         let i = directive_is body d rest k in
         w ∙ ap (λ x. x ∷ walk 0 false (drop (written_len x) body)) i.0 ∙ ap (λ l. d ∷ walk 0 false l) i.1
 
@@ -301,6 +310,7 @@ first_gap b gap rest g = (go (is_token b) refl, ((λ (lead, c, more, l, t, is). 
     go : (t : Bool) → is_token b ≡ t → t ≡ false
     go false e = refl
     go true e = absurd (g.0 ([], b, gap ++ rest, inl (refl, refl), e, refl))
+
     later : (lead : List ℕ) → IsLead false lead → (before : List ℕ) × (s : ℕ) × (blank : List ℕ) × (lead ≡ before ++ s ∷ blank) × IsBlank before × (is_separator s ≡ true) × IsBlank blank
     later lead (inl (e, h)) = cc
     later lead (inr k) = k
@@ -364,6 +374,7 @@ begins_next b bytes no_sep (lead, c, rest, inr ([], s, blank, e, hb, hs, ha), t,
     first : List ℕ → ℕ
     first [] = 0
     first (x ∷ xs) = x
+
     differ : false ≡ true → ⊥
     differ h = cc
 begins_next b bytes no_sep (lead, c, rest, inr (x ∷ before, s, blank, e, hb, hs, ha), t, is) =
@@ -372,6 +383,7 @@ begins_next b bytes no_sep (lead, c, rest, inr (x ∷ before, s, blank, e, hb, h
     tail : List ℕ → List ℕ
     tail [] = []
     tail (y ∷ ys) = ys
+
     tail_is : bytes ≡ (before ++ s ∷ blank) ++ c ∷ rest
     tail_is = ap tail (is ∙ ap (λ l. l ++ c ∷ rest) e)
 
@@ -403,6 +415,7 @@ stuck_at b bytes no_space no_token [] c rest hb t is = differ (sym no_token ∙ 
     first : List ℕ → ℕ
     first [] = 0
     first (x ∷ xs) = x
+
     differ : false ≡ true → ⊥
     differ h = cc
 stuck_at b bytes no_space no_token (x ∷ blank) c rest hb t is = differ (sym no_space ∙ ap is_space (ap first is) ∙ hb.0)
@@ -410,6 +423,7 @@ stuck_at b bytes no_space no_token (x ∷ blank) c rest hb t is = differ (sym no
     first : List ℕ → ℕ
     first [] = 0
     first (y ∷ ys) = y
+
     differ : false ≡ true → ⊥
     differ h = cc
 
@@ -419,6 +433,7 @@ stuck_blank b bytes no_token stuck [] c rest hb t is = differ (sym no_token ∙ 
     first : List ℕ → ℕ
     first [] = 0
     first (x ∷ xs) = x
+
     differ : false ≡ true → ⊥
     differ h = cc
 stuck_blank b bytes no_token stuck (x ∷ blank) c rest hb t is = stuck blank c rest hb.1 t (ap tail is)
@@ -442,6 +457,7 @@ no_begin_stuck b bytes no_space stuck (lead, c, rest, inr (x ∷ before, s, blan
     first : List ℕ → ℕ
     first [] = 0
     first (y ∷ ys) = y
+
     differ : false ≡ true → ⊥
     differ h = cc
 
@@ -454,6 +470,7 @@ no_begin_other b bytes no_space no_sep (lead, c, rest, inr ([], s, blank, e, hb,
     first : List ℕ → ℕ
     first [] = 0
     first (y ∷ ys) = y
+
     differ : false ≡ true → ⊥
     differ h = cc
 no_begin_other b bytes no_space no_sep (lead, c, rest, inr (x ∷ before, s, blank, e, hb, hs, ha), t, is) =
@@ -462,6 +479,7 @@ no_begin_other b bytes no_space no_sep (lead, c, rest, inr (x ∷ before, s, bla
     first : List ℕ → ℕ
     first [] = 0
     first (y ∷ ys) = y
+
     differ : false ≡ true → ⊥
     differ h = cc
 
@@ -509,9 +527,11 @@ walk_reads [] = (at_end, after_end)
     nothing : (lead : List ℕ) (c : ℕ) (rest : List ℕ) → [] ≡ lead ++ c ∷ rest → ⊥
     nothing [] c rest e = cc
     nothing (x ∷ lead) c rest e = cc
+
     at_end : (ready : Bool) → ReadsIn ready [] (walk 0 ready [])
     at_end false = tt
     at_end true = inr ((λ blank c rest h t is. nothing blank c rest is), tt)
+
     after_end : (k : ℕ) → Reads false (drop k []) (walk k false [])
     after_end zero = tt
     after_end (suc k) = tt
@@ -522,6 +542,7 @@ walk_reads (b ∷ bytes) = both (walk_reads bytes)
       where
         here : (ready : Bool) → ReadsIn ready (b ∷ bytes) (walk 0 ready (b ∷ bytes))
         here ready = walk_step ready b bytes (is_token b) refl ih.0 ih.1
+
         after : (k : ℕ) → Reads false (drop k (b ∷ bytes)) (walk k false (b ∷ bytes))
         after zero = here false
         after (suc k) = ih.1 k
@@ -538,6 +559,7 @@ first_more b bytes [] no_token g = (first_none b (bytes ++ []) no_token g.0, g.1
         first : List ℕ → ℕ
         first [] = 0
         first (y ∷ ys) = y
+
         differ : false ≡ true → ⊥
         differ h = cc
 first_more b bytes (d ∷ ds) no_token ([], lead, body, rest, is, g, inl (e, i), k, more) = cc
@@ -552,6 +574,7 @@ first_more b bytes (d ∷ ds) no_token (x ∷ gap, lead, body, rest, is, g, l, k
         first : List ℕ → ℕ
         first [] = 0
         first (y ∷ ys) = y
+
         differ : false ≡ true → ⊥
         differ h = cc
 

@@ -7,5 +7,4 @@ ghost use Rattle.cache_directives.specs.Walk.{directives};
 /// A line holds one list of directives, and no other: the one that the search finds.
 pub fn one_reading()
     ensures { (line : List ℕ) (ds : List Written) → Holds line ds ↔ (directives line ≡ ds) }
-{
-}
+{}
