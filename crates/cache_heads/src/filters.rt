@@ -9,6 +9,8 @@ ghost use Rattle.cache_heads.specs.Stale.{in_range, window, revalidate_window, e
 ghost use Rattle.cache_heads.specs.Status.{status_asked};
 ghost use Rattle.cache_heads.specs.Verdict.{verdict, kept_header};
 
+pub mod upstream;
+
 use crate::defaults::{CacheMetaDefaults, FreshDurationByStatusFn};
 use crate::meta::CacheMeta;
 use crate::reason::{NoCacheReason, RespCacheable};
