@@ -6,6 +6,8 @@ pub mod defaults;
 pub mod filters;
 pub mod meta;
 pub mod reason;
+#[cfg(test)]
+mod tests;
 
 pub use cache_directives as cache_control;
 pub use cache_directives::{Error, ErrorType, RequestHeader, ResponseHeader};
