@@ -1,4 +1,7 @@
 //! Errors as a server names them.
+ghost use Rattle.std.specs.Prelude.{Some};
+ghost use Rattle.cache_directives.specs.ErrorNames.{type_name};
+
 use std::fmt;
 
 /// The kind of an error.
@@ -20,6 +23,8 @@ pub struct Error {
 }
 
 impl fmt::Display for Error {
+    ghost output = { λ e. Some (type_name e.etype) };
+
     fn fmt<W: fmt::Write>(&self, f: &mut fmt::Formatter<W>) -> fmt::Result {
         f.write_str(match self.etype {
             ErrorType::InternalError => "InternalError",

@@ -45,7 +45,7 @@ impl DirectiveValue {
     pub fn parse_as_bytes(&self) -> &[u8]
         ensures { result.now ≡ bare self.now.0.items }
     {
-        bare(self.0.as_slice())
+        bare(self.as_ref())
     }
 
     /// The value without its quotes, as text.
