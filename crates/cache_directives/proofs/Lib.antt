@@ -4,3 +4,4 @@ pub mod Texts
 pub mod Listing
 pub mod Keeping
 pub mod Lifetimes
+pub mod LastValue

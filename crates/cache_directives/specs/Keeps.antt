@@ -1,5 +1,5 @@
 -- The directives that a header's lines leave, each name once: its last value, in the place where the name came first.
-use Rattle.std.specs.Prelude.{◌≡◌, ℕ, Bool, List, [], map, fold, Option, Some, None, nat_eq, is_some, if◌then◌else◌, true, false}
+use Rattle.std.specs.Prelude.{◌≡◌, ℕ, Bool, List, [], map, fold, Option, Some, None, nat_eq, is_some, if◌then◌else◌, true, false, ◌∷◌, ◌&&◌}
 use Rattle.std.specs.List.{AllZip}
 use Rattle.std.specs.Char.{to_ascii_lowercase}
 use Rattle.std.specs.Str.{is_utf8}
@@ -54,3 +54,8 @@ joined (Some value) = value
 -- the value that stands under a name
 abbrev pub value_under : List ℕ → List Written → Option (List ℕ)
 value_under name entries = joined (value_named name entries)
+
+-- what the last directive of a name says, over all lines
+abbrev pub last_of : List ℕ → Option (Option (List ℕ)) → List Written → Option (Option (List ℕ))
+last_of name found [] = found
+last_of name found (d ∷ ds) = last_of name (if is_utf8 d.0 && pointwise nat_eq name (map to_ascii_lowercase d.0) then Some d.1 else found) ds

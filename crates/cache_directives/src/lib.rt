@@ -13,6 +13,8 @@ pub mod line;
 mod listed;
 pub mod map;
 pub mod names;
+#[cfg(test)]
+mod tests;
 pub mod value;
 
 pub use control::CacheControl;
