@@ -100,7 +100,8 @@ fn heads(rt: HostRuntime) -> Result<(), Fail> {
     let found = found.ok_or("none")?;
     found.strip_private_headers(&mut response);
     assert_eq!(rt; response.headers.len(), 1);
-    assert_eq!(rt; found.private_field_names().ok_or("none")?.count(), 1);
+    let mut names = found.private_field_names().ok_or("none")?;
+    assert!(rt; names.next().is_some() && names.next().is_none());
     Ok(())
 }
 
