@@ -1,0 +1,7 @@
+pub mod Scanning
+pub mod Reading
+pub mod Texts
+pub mod Listing
+pub mod Keeping
+pub mod Lifetimes
+pub mod LastValue

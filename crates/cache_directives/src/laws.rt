@@ -1,0 +1,19 @@
+//! Laws of the definitions: each is proved once, and no code runs.
+ghost use Rattle.std.specs.Prelude.{◌≡◌, ◌↔◌, List, ℕ};
+ghost use Rattle.cache_directives.specs.Written.{Written};
+ghost use Rattle.cache_directives.specs.Reads.{Holds};
+ghost use Rattle.std.specs.Prelude.{None};
+ghost use Rattle.std.specs.List.{flat_map};
+ghost use Rattle.cache_directives.specs.Keeps.{kept, last_of, value_named};
+ghost use Rattle.cache_directives.specs.Walk.{directives};
+
+/// A line holds one list of directives, and no other: the one that the search finds.
+pub fn one_reading()
+    ensures { (line : List ℕ) (ds : List Written) → Holds line ds ↔ (directives line ≡ ds) }
+{}
+
+/// The value under a name is that of the last directive with this name, in whatever case, over all
+/// lines.
+pub fn last_value_counts()
+    ensures { (lines : List (List ℕ)) (name : List ℕ) → value_named name (kept lines) ≡ last_of name None (flat_map directives lines) }
+{}
