@@ -1,0 +1,3 @@
+pub mod EvictionLaws
+pub mod HeadLaws
+pub mod RunLaws
