@@ -1,16 +1,221 @@
--- The parts of a response, joined.
-use Rattle.std.proofs.Common.{◌≡◌, ℕ, ◌+◌, true, Some, List, take, drop, refl, ap, sym, ◌∙◌}
-use Rattle.std.specs.Prelude.{nat_le, ◌==◌, ◌&&◌}
-use Rattle.std.proofs.lemmas.List.{drop-drop}
-use Rattle.std.specs.Char.{is_ascii_digit}
-use Rattle.std.specs.List.{prefix_len}
-use Rattle.std.specs.Cmp.Lexicographic.{pointwise}
-use Rattle.tier_model.specs.Response.{head_start, head_end, decimal_value, response_of}
+-- The lines of a map, and what heads within the bounds give.
+use Rattle.std.proofs.Common.{◌≡◌, ℕ, ◌+◌, ◌≤◌, ◌<◌, true, false, List, [], ◌∷◌, ◌++◌, length, map, take, drop, refl, ap, ap₂, sym, ◌∙◌, subst, arith, inl, inr, append_assoc, append-nil, All, Option, Some, None, length-append, get_or}
+use Rattle.std.specs.Prelude.{◌≢◌, bytes_eq, codes, ◌||◌}
+use Rattle.std.proofs.lemmas.Bool.{cases_Bool}
+use Rattle.std.proofs.lemmas.Slice.Eq.{bytes_eq-Decides}
+use Rattle.std.proofs.lemmas.List.{map-append, take_more, get_or-map, length-map}
+use Rattle.std.proofs.lemmas.List.Elements.{All-map}
+use Rattle.std.proofs.lemmas.List.Sums.{sum_by-cons}
+use Rattle.cache_words.specs.Time.{Instant}
+use Rattle.cache_directives.specs.declared.header.ResponseHeader.{ResponseHeader}
+use Rattle.http.specs.StatusCode.{IsStatusCode}
+use Rattle.http_header.specs.HeaderMap.{Entry, Entries, append, append_all, get_all, value_count}
+use Rattle.http_header.specs.FieldValue.{FieldValue, plain_value}
+use Rattle.http_header.specs.Token.{lowercase}
+use Rattle.http_header.specs.Token as token
+use Rattle.http_header.proofs.HeaderMapLemmas.{get_all-append_same, get_all-append_other}
+use Rattle.httparse.specs.Grammar.{ResponseHead, ReadsResponse, HasNoResponse, Field, IsField, is_value_byte, is_token_byte, status_code}
+use Rattle.httparse.specs.declared.spans.HeaderSpan.{HeaderSpan}
+use Rattle.httparse.specs.Spans.{header_bytes, name_and_value}
+use Rattle.httparse.proofs.TrimLemmas.{AllPass-trim_ows}
+use Rattle.httparse.proofs.GrammarLemmas.{response_unique, response_prefix_free}
+use Rattle.tier_model.specs.declared.key.StoredKey.{StoredKey}
+use Rattle.tier_model.specs.declared.rows.FinishedBody.{FinishedBody}
+use Rattle.tier_model.specs.declared.given.Given.{Given}
+use Rattle.tier_model.specs.declared.given.Given.TheVariants.{Stored, Incomplete, BadHead}
+use Rattle.tier_model.specs.Response.{values_of, is_before_epoch, body_within, given_of, given_by, IsReadable, IsPlain, Gives}
+use Rattle.cache_tier.specs.declared.response.Head.{Head}
+use Rattle.cache_tier.specs.Heads.{pair_of, map_of, IsLine, announced, kept_until, given_behind, IsHeadOf}
+use Rattle.std.specs.Prelude.{option_map, option_copied}
+use Rattle.std.specs.Borrow.{Bor}
+use Rattle.cache_directives.specs.Written.{Written}
+use Rattle.cache_directives.specs.Control.{directives_of, lines_under, named}
+use Rattle.cache_directives.specs.declared.control.CacheControl.{CacheControl}
+use Rattle.cache_heads.specs.Given.{given as lent}
+use Rattle.cache_heads.specs.FreshUntil.{fresh_until_by}
+use Rattle.cache_heads.specs.Verdict as verdict
+use Rattle.cache_heads.specs.declared.meta.CacheMeta.{CacheMeta}
+use Rattle.cache_heads.specs.declared.reason.NoCacheReason.{NoCacheReason}
+use Rattle.cache_heads.specs.declared.reason.NoCacheReason.TheVariants.{OriginNotCache}
+use Rattle.cache_heads.specs.declared.reason.RespCacheable.{RespCacheable}
+use Rattle.cache_heads.specs.declared.reason.RespCacheable.TheVariants as verdicts
 
--- bytes that have each part of the form
-pub read-all : (bytes rest behind : List ℕ) (n v : ℕ) → pointwise ◌==◌ (take 40 bytes) head_start ≡ true → rest ≡ drop 40 bytes → n ≡ prefix_len is_ascii_digit rest → (nat_le 1 n && nat_le n 9) ≡ true
-    → behind ≡ drop n rest → pointwise ◌==◌ (take 4 behind) head_end ≡ true → v ≡ decimal_value (take n rest) → Some (record { lifetime = v; body = drop (40 + n + 4) bytes }) ≡ response_of bytes
-unfolding response_of
-read-all bytes rest behind n v starts rest_is count few behind_is ends number =
-    let at : drop (40 + n + 4) bytes ≡ drop 4 (drop n rest) = rw rest_is (sym (drop-drop 4 (40 + n) bytes ∙ refl) ∙ ap (drop 4) (sym (drop-drop n 40 bytes))) in
-    rw at (rw starts (rw (← rest_is) (rw (← count) (rw few (rw (← behind_is) (rw ends (rw (← number) refl)))))))
+-- a further line adds one value, and one name at most
+value_count-append : (m : Entries FieldValue) (name : List ℕ) (value : FieldValue) → value_count (append m name value) ≡ value_count m + 1
+value_count-append [] name value = refl
+value_count-append (e ∷ m) name value =
+    let values : Entry FieldValue → ℕ = λ e. length e.1 in
+    elim (cases_Bool (bytes_eq e.0 name)) [
+      | inl t ↦
+          let more : Entry FieldValue = (e.0, e.1 ++ value ∷ []) in
+          rw t (omega (arith, sum_by-cons values more m, sum_by-cons values e m, length-append e.1 (value ∷ [])))
+      | inr n ↦ rw n (omega (arith, sum_by-cons values e (append m name value), sum_by-cons values e m, value_count-append m name value))
+    ]
+
+length-append-le : (m : Entries FieldValue) (name : List ℕ) (value : FieldValue) → length (append m name value) ≤ length m + 1
+length-append-le [] name value = omega arith
+length-append-le (e ∷ m) name value =
+    elim (cases_Bool (bytes_eq e.0 name)) [
+      | inl t ↦ rw t (omega arith)
+      | inr n ↦ rw n (omega (arith, length-append-le m name value))
+    ]
+
+pub names-more : (m next : Entries FieldValue) (name : List ℕ) (value : FieldValue) (i : ℕ) → next ≡ append m name value → length m ≤ i → length next ≤ i + 1
+names-more m next name value i e l = rw e (omega (arith, length-append-le m name value))
+
+pub values-more : (m next : Entries FieldValue) (name : List ℕ) (value : FieldValue) (i : ℕ) → next ≡ append m name value → value_count m ≤ i → value_count next ≤ i + 1
+values-more m next name value i e l = rw e (omega (arith, value_count-append m name value))
+
+-- the values of a name in a map, as bytes
+abbrev under : List ℕ → Entries FieldValue → List (List ℕ)
+under name m = map (λ v. v.bytes) (get_all m name)
+
+under-append_all : (lines : List (List ℕ × List ℕ)) (m : Entries FieldValue) (name : List ℕ) → under name (append_all m (map pair_of lines)) ≡ under name m ++ values_of name lines
+under-append_all [] m name = sym (append-nil (under name m))
+under-append_all (line ∷ lines) m name =
+    let next : Entries FieldValue = append m (lowercase line.0) (plain_value line.1) in
+    elim (cases_Bool (bytes_eq (lowercase line.0) name)) [
+      | inl t ↦
+          let same : lowercase line.0 ≡ name = (bytes_eq-Decides (lowercase line.0) name).0 t in
+          let here : get_all next name ≡ get_all m name ++ plain_value line.1 ∷ [] =
+          subst (λ (n : List ℕ). get_all (append m n (plain_value line.1)) name ≡ get_all m name ++ plain_value line.1 ∷ []) (sym same) (get_all-append_same m name (plain_value line.1)) in
+          rw t (under-append_all lines next name ∙ ap (λ (vs : List FieldValue). map (λ v. v.bytes) vs ++ values_of name lines) here
+          ∙ ap (λ (vs : List (List ℕ)). vs ++ values_of name lines) (map-append (λ (v : FieldValue). v.bytes) (get_all m name) (plain_value line.1 ∷ []))
+          ∙ append_assoc (under name m) (line.1 ∷ []) (values_of name lines))
+      | inr n ↦
+          let other : lowercase line.0 ≢ name = λ e. let t : bytes_eq (lowercase line.0) name ≡ true = (bytes_eq-Decides (lowercase line.0) name).1 e in cc in
+          rw n (under-append_all lines next name ∙ ap (λ (vs : List FieldValue). map (λ v. v.bytes) vs ++ values_of name lines) (get_all-append_other m (lowercase line.0) name (plain_value line.1) other))
+    ]
+
+-- a map has under a name the values of the lines of that name
+pub under-map_of : (lines : List (List ℕ × List ℕ)) (name : List ℕ) → under name (map_of lines) ≡ values_of name lines
+under-map_of lines name = under-append_all lines [] name
+
+-- one more line
+append_all-more : (m : Entries FieldValue) (lines : List (List ℕ × List ℕ)) (line : List ℕ × List ℕ) → append_all m (map pair_of (lines ++ line ∷ [])) ≡ append (append_all m (map pair_of lines)) (lowercase line.0) (plain_value line.1)
+append_all-more m [] line = refl
+append_all-more m (l ∷ ls) line = append_all-more (append m (lowercase l.0) (plain_value l.1)) ls line
+
+pub map_of-more : (bytes : List ℕ) (lines : List HeaderSpan) (i : ℕ) (d : HeaderSpan) → i < length lines
+    → map_of (map (header_bytes bytes) (take (i + 1) lines)) ≡ append (map_of (map (header_bytes bytes) (take i lines))) (lowercase (header_bytes bytes (get_or lines i d)).0) (plain_value (header_bytes bytes (get_or lines i d)).1)
+map_of-more bytes lines i d l =
+    rw (take_more lines i d l, map-append (header_bytes bytes) (take i lines) (get_or lines i d ∷ [])) (append_all-more [] (map (header_bytes bytes) (take i lines)) (header_bytes bytes (get_or lines i d)))
+
+pub line_at : (bytes : List ℕ) (lines : List HeaderSpan) (i : ℕ) (d : HeaderSpan) → All IsLine (map (header_bytes bytes) lines) → i < length lines → IsLine (header_bytes bytes (get_or lines i d))
+line_at bytes lines i d all l = subst IsLine (get_or-map (header_bytes bytes) lines i d (header_bytes bytes d) l) (all i (header_bytes bytes d) (rw length-map l))
+
+same_tokens : (b : ℕ) → is_token_byte b ≡ token.is_token_byte b
+unfolding is_token_byte token.is_token_byte
+same_tokens b = refl
+
+IsLine-field : (f : Field) → IsField f → length f.name ≤ 65535 → IsLine (name_and_value f)
+IsLine-field f valid short =
+    (((valid.name.0, λ k d l. rw (← same_tokens) (valid.name.1 k d l)), short), AllPass-trim_ows is_value_byte f.raw valid.raw)
+
+-- a map takes the lines of a head within the bounds
+pub IsLine-readable : (bytes : List ℕ) (h : ResponseHead) (rest : List ℕ) → ReadsResponse bytes h rest → IsReadable h → All IsLine (map name_and_value h.fields)
+IsLine-readable bytes h rest reads readable =
+    All-map IsLine name_and_value h.fields (λ k d l. IsLine-field _ (reads.0.fields k d l) (readable.names k d l))
+
+-- behind a head out of the bounds no bytes make a plain response
+pub not_plain : (bytes : List ℕ) (h : ResponseHead) (rest : List ℕ) → ReadsResponse bytes h rest → ¬ (IsReadable h) → ¬ (IsPlain bytes)
+not_plain bytes h rest reads out plain =
+    out (subst IsReadable (sym (response_prefix_free bytes plain.0 h plain.1 rest plain.2 reads plain.3).0) plain.4)
+
+-- a head as a map gives what its lines give
+given_behind-is : (arrival : Instant) (key : StoredKey) (head : ResponseHeader) (rest : List ℕ) (status : ℕ) (lines : List (List ℕ × List ℕ)) → head.status ≡ status → head.headers ≡ map_of lines
+    → given_behind arrival key head rest ≡ given_by arrival key status lines rest
+unfolding given_by
+given_behind-is arrival key head rest status lines s m =
+    rw (s, m, under-map_of lines (codes "content-length"), under-map_of lines (codes "cache-control"), under-map_of lines (codes "expires")) refl
+
+-- what a head gives is no bad head, and a body of the key
+given_of-read : (arrival : Instant) (key : StoredKey) (body : Option (List ℕ)) (until : Option Instant) → given_of arrival key body until ≢ BadHead
+given_of-read arrival key None until e = cc
+given_of-read arrival key (Some body) None e = cc
+given_of-read arrival key (Some body) (Some until) e =
+    elim (cases_Bool (is_before_epoch arrival || is_before_epoch until)) [
+      | inl t ↦ absurd (cc)
+      | inr f ↦ absurd (cc)
+    ]
+
+given_of-key : (arrival : Instant) (key : StoredKey) (body : Option (List ℕ)) (until : Option Instant) (stored : FinishedBody) → given_of arrival key body until ≡ Stored stored → stored.key ≡ key
+given_of-key arrival key None until stored e = absurd cc
+given_of-key arrival key (Some body) None stored e = absurd cc
+given_of-key arrival key (Some body) (Some until) stored e =
+    elim (cases_Bool (is_before_epoch arrival || is_before_epoch until)) [
+      | inl t ↦ absurd (cc)
+      | inr f ↦ cc
+    ]
+
+-- what is given where the head was read
+pub Gives-whole : (arrival : Instant) (key : StoredKey) (bytes : List ℕ) (head : Head) (given : Given) → IsHeadOf bytes head → given ≡ given_behind arrival key head.header (drop head.len bytes) → Gives arrival key bytes given
+Gives-whole arrival key bytes head given is e =
+    let h : ResponseHead = is.0 in
+    let by_lines : given ≡ given_by arrival key (status_code h) (map name_and_value h.fields) (drop head.len bytes) =
+    e ∙ given_behind-is arrival key head.header (drop head.len bytes) (status_code h) (map name_and_value h.fields) is.2 is.3 in
+    record {
+      whole = λ k rest reads readable.
+          let same = response_unique bytes h k (drop head.len bytes) rest is.1 reads in
+          subst (λ (x : ResponseHead). given ≡ given_by arrival key (status_code x) (map name_and_value x.fields) rest) same.0
+          (subst (λ (x : List ℕ). given ≡ given_by arrival key (status_code h) (map name_and_value h.fields) x) same.1 by_lines);
+      begun = λ none plain. absurd (none h (drop head.len bytes) is.1);
+      refused = λ bad. absurd (given_of-read arrival key _ _ (sym e ∙ bad));
+      of_key = λ body b. given_of-key arrival key _ _ body (sym e ∙ b);
+    }
+
+-- what is given where a head has begun
+pub Gives-begun : (arrival : Instant) (key : StoredKey) (bytes : List ℕ) → HasNoResponse bytes → Gives arrival key bytes Incomplete
+Gives-begun arrival key bytes none = record {
+  whole = λ h rest reads readable. absurd (none h rest reads);
+  begun = λ no plain. refl;
+  refused = λ bad. absurd cc;
+  of_key = λ body b. absurd cc;
+}
+
+-- what is given where the default options refuse
+pub Gives-refused : (arrival : Instant) (key : StoredKey) (bytes : List ℕ) (given : Given) → ¬ (IsPlain bytes) → ((body : FinishedBody) → given ≡ Stored body → body.key ≡ key) → Gives arrival key bytes given
+Gives-refused arrival key bytes given refused of_key = record {
+  whole = λ h rest reads readable. absurd (refused ([], h, rest, rw (append-nil bytes) reads, readable));
+  begun = λ none plain. absurd (refused plain);
+  refused = λ bad. refused;
+  of_key = of_key;
+}
+
+pub Gives-lenient : (arrival : Instant) (key : StoredKey) (bytes : List ℕ) (head : ResponseHeader) (rest : List ℕ) (given : Given) → ¬ (IsPlain bytes) → given ≡ given_behind arrival key head rest → Gives arrival key bytes given
+Gives-lenient arrival key bytes head rest given refused e = Gives-refused arrival key bytes given refused (λ body b. given_of-key arrival key _ _ body (sym e ∙ b))
+
+-- the directives that are lent out
+given-lent : (r : Option (Bor CacheControl)) → lent r ≡ option_map directives_of (option_copied r)
+given-lent None = refl
+given-lent (Some c) = refl
+
+pub judged-is : (arrival : Instant) (head : ResponseHeader) (r : Option (Bor CacheControl)) (control : Option CacheControl) → option_copied r ≡ control → option_map directives_of control ≡ named (lines_under (codes "cache-control") head.headers)
+    → fresh_until_by arrival (lent r) (lines_under (codes "expires") head.headers) false None ≡ kept_until arrival head
+judged-is arrival head r control e is =
+    ap (λ (ds : Option (List Written)). fresh_until_by arrival ds (lines_under (codes "expires") head.headers) false None) (given-lent r ∙ ap (option_map directives_of) e ∙ is)
+
+-- what a verdict says of the moment that it judged by
+pub until-refused : (o : Option Instant) (now : Instant) (ds : Option (List Written)) (header : ResponseHeader) (a b : ℕ) (reason : NoCacheReason) → verdict.kept_until o now ds header a b ≡ verdicts.Uncacheable reason
+    → (o ≡ None) × (reason ≡ OriginNotCache)
+until-refused None now ds header a b reason e = (refl, cc)
+until-refused (Some until) now ds header a b reason e = absurd cc
+
+kept_of : RespCacheable → Option Instant
+kept_of (verdicts.Cacheable meta) = Some meta.internal.fresh_until
+kept_of (verdicts.Uncacheable reason) = None
+
+pub until-kept : (o : Option Instant) (now : Instant) (ds : Option (List Written)) (header : ResponseHeader) (a b : ℕ) (meta : CacheMeta) → verdict.kept_until o now ds header a b ≡ verdicts.Cacheable meta
+    → o ≡ Some meta.internal.fresh_until
+unfolding kept_of
+until-kept None now ds header a b meta e = absurd cc
+until-kept (Some until) now ds header a b meta e = ap kept_of e
+
+-- a body and a moment give what the head does that they come from
+pub given_behind-from : (arrival : Instant) (key : StoredKey) (head : ResponseHeader) (rest : List ℕ) (body : Option (List ℕ)) (until : Option Instant) → body_within (announced head) rest ≡ body → kept_until arrival head ≡ until
+    → given_of arrival key body until ≡ given_behind arrival key head rest
+given_behind-from arrival key head rest body until b u = ap₂ (given_of arrival key) (sym b) (sym u)
+
+-- a readable head has a status
+pub bound_status : (h : ResponseHead) (code : ℕ) → IsReadable h → code ≡ status_code h → code < 1000 → ¬ (IsStatusCode code) → ⊥
+bound_status h code r e l refused = refused (rw e r.status, l)

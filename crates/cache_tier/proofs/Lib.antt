@@ -1,3 +1,4 @@
 pub mod EvictionLaws
 pub mod HeadLaws
+pub mod LengthLaws
 pub mod RunLaws

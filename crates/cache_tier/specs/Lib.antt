@@ -1,3 +1,3 @@
-pub mod Stored
+pub mod Heads
 pub mod Codes
 pub mod Acts

@@ -1,61 +1,50 @@
 //! What the bytes of a response give.
-ghost use Rattle.std.specs.Prelude.{◌≡◌, ◌≤◌, length, IfOk, IfSome, option_map};
-ghost use Rattle.std.specs.Char.{is_ascii_digit};
-ghost use Rattle.std.specs.List.{prefix_len};
-ghost use Rattle.tier_model.specs.Response.{joined, decimal_value, response_of, fresh_until, body_put};
-ghost use Rattle.cache_tier.specs.Stored.{IsStored, response_at, body_of_response};
+ghost use Rattle.std.specs.Prelude.{◌≡◌, ◌≢◌, ◌+◌, ◌<◌, ◌≤◌, List, length, drop, map, IfOk, IfSome, IfNone, IfErr, OnOk, OnErr, All, true};
+ghost use Rattle.http_header.specs.HeaderMap.{append, value_count};
+ghost use Rattle.http_header.specs.FieldValue.{plain_value};
+ghost use Rattle.http_header.specs.Token.{lowercase};
+ghost use Rattle.httparse.specs.Grammar.{HasNoResponse};
+ghost use Rattle.httparse.specs.Spans.{IsHeaderWithin, header_bytes};
+ghost use Rattle.tier_model.specs.Response.{joined, length_in, body_within, given_of, Gives, IsPlain};
+ghost use Rattle.cache_tier.specs.Heads.{map_of, IsLine, announced, given_behind, IsHeadOf};
 
 use bytes::Bytes;
-use cache_words::time::{Duration, Moment};
+use cache_directives::{CacheControl, ResponseHeader};
+use cache_heads::defaults::{CacheMetaDefaults, NeverByStatus};
+use cache_heads::filters::resp_cacheable;
+use cache_heads::RespCacheable;
+use cache_words::time::Moment;
+use http::StatusCode;
+use http_header::{
+    HeaderMap, HeaderMapError, HeaderName, HeaderNameError, HeaderValue, HeaderValueError,
+};
+use httparse::spans::{EMPTY_HEADER_SPAN, HeaderSpan, parse_response};
+use httparse::{ParserConfig, Status};
 use std::alloc::{AllocError, Global};
 use tier_model::event::Pieces;
+use tier_model::given::Given;
 use tier_model::key::StoredKey;
 use tier_model::rows::FinishedBody;
 
-// The status line and the header that are read so far, up to the lifetime's digits.
-const HEAD_START: &[u8] = b"HTTP/1.1 200 OK\r\nCache-Control: max-age=";
+// The most header lines of a head.
+const MOST_LINES: usize = 256;
 
-// The end of that header's line, and the empty line behind it.
-const HEAD_END: &[u8] = b"\r\n\r\n";
-
-// The most digits of a lifetime.
-const MOST_DIGITS: usize = 9;
-
-/// Why a response is not stored.
-#[derive(Drop)]
-pub(crate) enum PutFault {
-    /// The growth of a part was refused.
+// Why no head is read.
+#[derive(Clone, Copy, PartialEq, Eq)]
+enum HeadFault {
+    // The growth of a part was refused.
     Memory,
-    /// The response came, or was fresh, only before 1970.
-    Early,
-    /// The bytes are in a form that isn't read, or the last moment at which they are fresh doesn't fit.
-    Unread,
+    // The parser reads no head here, nor the beginning of one.
+    Refused,
+    // A name is too long, or the status is below 100.
+    Bounds,
 }
 
-// A head's lifetime in seconds, and where the body begins.
-#[derive(Clone, Copy)]
+// The head at the front of some bytes, and its length.
+#[derive(Drop)]
 struct Head {
-    lifetime: u64,
-    body: usize,
-}
-
-// How many of the bytes are digits, from the front on.
-fn digits(bytes: &[u8]) -> usize
-    ensures { result ≡ prefix_len is_ascii_digit bytes.now }
-{
-    bytes.iter().take_while(|b| b.is_ascii_digit()).count()
-}
-
-// The number that decimal digits stand for.
-fn decimal_value(digits: &[u8]) -> u64
-    requires { length digits.now ≤ 9 }
-    ensures { result ≡ decimal_value digits.now }
-{
-    let mut value: u64 = 0;
-    for digit in digits {
-        value = 10 * value + digit.saturating_sub(b'0') as u64;
-    }
-    value
+    header: ResponseHeader,
+    len: usize,
 }
 
 // The pieces, one after another. A piece that comes alone is shared.
@@ -74,69 +63,261 @@ fn joined(alloc: Global, pieces: &[Bytes]) -> Result<Bytes, AllocError>
     Ok(all)
 }
 
-// The last moment at which a response is fresh.
-fn fresh_until(arrival: Moment, lifetime: u64) -> Option<Moment>
-    ensures { result ≡ fresh_until arrival lifetime }
+// One more line of a head.
+fn add(alloc: Global, all: &mut HeaderMap, name: &[u8], value: &[u8]) -> Result<(), HeadFault>
+    requires names { length all.old < 256 }
+    requires values { value_count all.old < 256 }
+    ensures ok { OnOk result (all.new ≡ append all.old (lowercase name.now) (plain_value value.now)) }
+    ensures bounds { result ≡ Err HeadFault.Bounds → ¬ (IsLine (name.now, value.now)) }
+    ensures read { result ≢ Err HeadFault.Refused }
 {
-    if lifetime == 0 {
-        arrival.checked_sub(Duration::from_seconds(1))
-    } else {
-        arrival.checked_add(Duration::from_seconds(lifetime))
+    let name = match HeaderName::from_bytes(alloc, name) {
+        Ok(name) => name,
+        Err(HeaderNameError::Invalid) => return Err(HeadFault::Bounds),
+        Err(HeaderNameError::OutOfMemory) => return Err(HeadFault::Memory),
+    };
+    let value = match HeaderValue::from_bytes(alloc, value) {
+        Ok(value) => value,
+        Err(HeaderValueError::Invalid) => return Err(HeadFault::Bounds),
+        Err(HeaderValueError::OutOfMemory) => return Err(HeadFault::Memory),
+    };
+    match all.append(name, value) {
+        Ok(_) => Ok(()),
+        Err(HeaderMapError::MaxSizeReached) => Err(HeadFault::Bounds),
+        Err(HeaderMapError::OutOfMemory) => Err(HeadFault::Memory),
     }
 }
 
-// The head of a response, if the bytes are of the form that is read.
-#[tactic(auto, unfolding(tier_model::specs::Response::response_of))]
-fn read_head(bytes: &[u8]) -> Option<Head>
-    ensures within { IfSome result (λ head. head.body ≤ length bytes.now) }
-    ensures value { option_map (response_at bytes.now) result ≡ response_of bytes.now }
+// The map of header lines.
+fn collect(alloc: Global, bytes: &[u8], lines: &[HeaderSpan]) -> Result<HeaderMap, HeadFault>
+    requires within { All (IsHeaderWithin (length bytes.now)) lines.now }
+    requires few { length lines.now ≤ 256 }
+    ensures value { IfOk result (λ all. all ≡ map_of (map (header_bytes bytes.now) lines.now)) }
+    ensures bounds { result ≡ Err HeadFault.Bounds → ¬ (All IsLine (map (header_bytes bytes.now) lines.now)) }
+    ensures read { result ≢ Err HeadFault.Refused }
 {
-    let rest = bytes.strip_prefix(HEAD_START)?;
-    let count = digits(rest);
-    if count == 0 || count > MOST_DIGITS {
+    let mut all = HeaderMap::new(alloc);
+    for line in lines {
+        add(alloc, &mut all, line.name.of(bytes), line.value.of(bytes))?;
+    }
+    Ok(all)
+}
+
+// The length that a Content-Length says, if it can be read.
+fn length_in(value: &HeaderValue) -> Option<usize>
+    ensures { result ≡ length_in value.now.bytes }
+{
+    let Ok(text) = value.to_str() else {
         return None;
+    };
+    match text.parse::<usize>() {
+        Ok(length) => Some(length),
+        Err(_) => None,
     }
-    let (number, behind) = rest.split_at(count);
-    let _body = behind.strip_prefix(HEAD_END)?;
-    Some(Head {
-        lifetime: decimal_value(number),
-        body: HEAD_START.len() + count + HEAD_END.len(),
-    })
 }
 
-// What a response stores that comes at a moment.
-fn dated_body(arrival: Moment, key: StoredKey, response: Bytes) -> Result<FinishedBody, PutFault>
-    ensures { IsStored result (body_of_response arrival key response) }
+// How many bytes of body a head announces: none under 204 and 304, else what the first Content-Length says.
+fn announced(head: &ResponseHeader) -> Option<usize>
+    ensures { result ≡ announced head.now }
 {
-    let Some(head) = read_head(response.as_slice()) else {
-        return Err(PutFault::Unread);
-    };
-    let Some(until) = fresh_until(arrival, head.lifetime) else {
-        return Err(PutFault::Unread);
-    };
-    if arrival.is_before_epoch() || until.is_before_epoch() {
-        return Err(PutFault::Early);
+    if head.status == StatusCode::NO_CONTENT || head.status == StatusCode::NOT_MODIFIED {
+        return Some(0);
     }
-    let mut bytes = response;
-    bytes.advance(head.body);
-    Ok(FinishedBody {
+    let value = head.headers.get_all("content-length").iter().next()?;
+    length_in(value)
+}
+
+// The body among the bytes behind a head, if it is whole.
+fn body_within(length: Option<usize>, rest: Bytes) -> Option<Bytes>
+    ensures { result ≡ body_within length rest }
+{
+    let mut body = rest;
+    if let Some(length) = length {
+        if body.len() < length {
+            return None;
+        }
+        body.truncate(length);
+    }
+    Some(body)
+}
+
+// What a whole body gives that may be kept.
+fn stored(arrival: Moment, key: StoredKey, bytes: Bytes, fresh_until: Moment) -> Given
+    ensures { result ≡ given_of arrival key (Some bytes) (Some fresh_until) }
+{
+    if arrival.is_before_epoch() || fresh_until.is_before_epoch() {
+        return Given::BeforeEpoch;
+    }
+    Given::Stored(FinishedBody {
         key,
         bytes,
-        fresh_until: until,
+        fresh_until,
     })
 }
 
-/// What a put of these pieces at that moment stores under a key.
-pub(crate) fn body_put(
+// What a head gives, with the bytes behind it. The body is shared with the response's bytes.
+fn given_behind(
+    alloc: Global,
+    arrival: Moment,
+    key: StoredKey,
+    head: ResponseHeader,
+    rest: Bytes,
+) -> Result<Given, AllocError>
+    ensures { IfOk result (λ given. given ≡ given_behind arrival key head rest) }
+{
+    let body = body_within(announced(&head), rest);
+    let control = CacheControl::from_resp_headers(alloc, &head)?;
+    let defaults = CacheMetaDefaults::new(NeverByStatus, 0, 0);
+    let verdict = resp_cacheable(arrival, control.as_ref(), head, false, &defaults);
+    let Some(bytes) = body else {
+        return Ok(Given::Incomplete);
+    };
+    match verdict {
+        RespCacheable::Cacheable(meta) => Ok(stored(arrival, key, bytes, meta.fresh_until())),
+        RespCacheable::Uncacheable(reason) => Ok(Given::Uncacheable(reason)),
+    }
+}
+
+// The head at the front, as the parser's default options read it; none where it hasn't come whole.
+fn read_head(alloc: Global, bytes: &[u8]) -> Result<Option<Head>, HeadFault>
+    ensures within { IfOk result (λ o. IfSome o (λ head. head.len ≤ length bytes.now)) }
+    ensures whole { IfOk result (λ o. IfSome o (IsHeadOf bytes.now)) }
+    ensures begun { IfOk result (λ o. IfNone o (HasNoResponse bytes.now)) }
+    ensures bounds { result ≡ Err HeadFault.Bounds → ¬ (IsPlain bytes.now) }
+    ensures refused { result ≡ Err HeadFault.Refused → ¬ (IsPlain bytes.now) }
+{
+    let mut lines = [EMPTY_HEADER_SPAN; MOST_LINES];
+    match parse_response(bytes, &mut lines) {
+        Ok(Status::Complete(head)) => {
+            let headers = collect(alloc, bytes, &lines[..head.headers])?;
+            let Ok(status) = StatusCode::from_u16(head.code) else {
+                return Err(HeadFault::Bounds);
+            };
+            Ok(Some(Head {
+                header: ResponseHeader { status, headers },
+                len: head.len,
+            }))
+        }
+        Ok(Status::Partial) => Ok(None),
+        Err(_) => Err(HeadFault::Refused),
+    }
+}
+
+// A folded value on one line: each CR and LF is a space (RFC 9112, 5.2).
+fn unfolded(alloc: Global, value: &[u8]) -> Result<Vec<u8>, AllocError> {
+    let mut line = Vec::from_slice(alloc, value)?;
+    for b in line.iter_mut() {
+        if *b == b'\r' || *b == b'\n' {
+            *b = b' ';
+        }
+    }
+    Ok(line)
+}
+
+// The map of header lines whose values may be folded.
+fn collect_unfolded(
+    alloc: Global,
+    bytes: &[u8],
+    lines: &[HeaderSpan],
+) -> Result<HeaderMap, HeadFault>
+    requires within { All (IsHeaderWithin (length bytes.now)) lines.now }
+    requires few { length lines.now ≤ 256 }
+{
+    let mut all = HeaderMap::new(alloc);
+    for line in lines {
+        let Ok(value) = unfolded(alloc, line.value.of(bytes)) else {
+            return Err(HeadFault::Memory);
+        };
+        add(alloc, &mut all, line.name.of(bytes), value.as_slice())?;
+    }
+    Ok(all)
+}
+
+// The head at the front, where spaces may stand behind a name and values may be folded.
+fn read_leniently(alloc: Global, bytes: &[u8]) -> Result<Option<Head>, HeadFault>
+    ensures { IfOk result (λ o. IfSome o (λ head. head.len ≤ length bytes.now)) }
+{
+    let mut config = ParserConfig::default();
+    config.allow_spaces_after_header_name_in_responses(true);
+    config.allow_obsolete_multiline_headers_in_responses(true);
+    let mut lines = [EMPTY_HEADER_SPAN; MOST_LINES];
+    match config.parse_response_spans(bytes, &mut lines) {
+        Ok(Status::Complete(head)) => {
+            let headers = collect_unfolded(alloc, bytes, &lines[..head.headers])?;
+            let Ok(status) = StatusCode::from_u16(head.code) else {
+                return Err(HeadFault::Bounds);
+            };
+            Ok(Some(Head {
+                header: ResponseHeader { status, headers },
+                len: head.len,
+            }))
+        }
+        Ok(Status::Partial) => Ok(None),
+        Err(_) => Err(HeadFault::Refused),
+    }
+}
+
+// What a response gives whose head that is.
+fn given_at(
+    alloc: Global,
+    arrival: Moment,
+    key: StoredKey,
+    head: Head,
+    response: Bytes,
+) -> Result<Given, AllocError>
+    requires { head.len ≤ length response }
+    ensures { IfOk result (λ given. given ≡ given_behind arrival key head.header (drop head.len response)) }
+{
+    let mut rest = response;
+    rest.advance(head.len);
+    given_behind(alloc, arrival, key, head.header, rest)
+}
+
+// What a response gives that the parser's default options refuse.
+fn given_leniently(
+    alloc: Global,
+    arrival: Moment,
+    key: StoredKey,
+    response: Bytes,
+) -> Result<Given, AllocError>
+    requires { ¬ (IsPlain response) }
+    ensures { IfOk result (Gives arrival key response) }
+{
+    match read_leniently(alloc, response.as_slice()) {
+        Ok(Some(head)) => given_at(alloc, arrival, key, head, response),
+        Ok(None) => Ok(Given::Incomplete),
+        Err(HeadFault::Memory) => Err(AllocError),
+        Err(_) => Ok(Given::BadHead),
+    }
+}
+
+// What a response gives.
+fn given(
+    alloc: Global,
+    arrival: Moment,
+    key: StoredKey,
+    response: Bytes,
+) -> Result<Given, AllocError>
+    ensures { IfOk result (Gives arrival key response) }
+{
+    match read_head(alloc, response.as_slice()) {
+        Ok(Some(head)) => given_at(alloc, arrival, key, head, response),
+        Ok(None) => Ok(Given::Incomplete),
+        Err(HeadFault::Memory) => Err(AllocError),
+        Err(HeadFault::Bounds) => Ok(Given::BadHead),
+        Err(HeadFault::Refused) => given_leniently(alloc, arrival, key, response),
+    }
+}
+
+/// What a put of these pieces at that moment gives under a key. It is refused for want of memory alone.
+pub(crate) fn given_by_put(
     alloc: Global,
     arrival: Moment,
     key: StoredKey,
     pieces: &Pieces,
-) -> Result<FinishedBody, PutFault>
-    ensures { IsStored result (body_put arrival key pieces.now) }
+) -> Result<Given, AllocError>
+    ensures { IfOk result (Gives arrival key (joined pieces.now)) }
 {
-    let Ok(response) = joined(alloc, pieces.as_slice()) else {
-        return Err(PutFault::Memory);
-    };
-    dated_body(arrival, key, response)
+    let response = joined(alloc, pieces.as_slice())?;
+    given(alloc, arrival, key, response)
 }

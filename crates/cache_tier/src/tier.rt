@@ -1,26 +1,28 @@
 //! The tier.
-ghost use Rattle.std.specs.Prelude.{◌≡◌, ◌<◌, ◌^◌, [], ◌∷◌, None, Ok, IsSome, IfSome};
+ghost use Rattle.std.specs.Prelude.{◌≡◌, ◌<◌, ◌^◌, [], ◌∷◌, Some, None, IsSome, IfSome};
 ghost use Rattle.std.specs.Prelude.{MatchResult, IfOk, IfErr, OnOk, OnErr};
 ghost use Rattle.std.specs.FinMap.{get};
 ghost use Rattle.tier_model.specs.Rows.{all_weights, admitted};
 ghost use Rattle.tier_model.specs.State.{empty_state};
 ghost use Rattle.tier_model.specs.Calls.{nothing_done, done_of};
-ghost use Rattle.tier_model.specs.Step.{Allows, after, refusal, can_look_up, has_reader};
+ghost use Rattle.tier_model.specs.declared.given.Given.TheVariants.{Stored};
+ghost use Rattle.tier_model.specs.Step.{refusal, can_look_up, has_reader};
 ghost use Rattle.tier_model.specs.Step.{read_answer, stored_alone, IsPutAnswer};
-ghost use Rattle.tier_model.specs.Past.{Runs, HasPast, CarriesHeadline};
+ghost use Rattle.tier_model.specs.Past.{Steps, Runs, HasPast, CarriesHeadline};
 ghost use Rattle.tier_model.specs.Reports.{report_of};
-ghost use Rattle.cache_tier.specs.Acts.{AllowsUnrefused, after_action, hit_behind, IsStoreFault, behind_store};
+ghost use Rattle.cache_tier.specs.Acts.{AllowsUnrefused, after_action, hit_behind, Takes, IsStoreFault, behind_store};
 
 use crate::order::{
     admit, all_bytes, all_weights, body_of, evict, is_too_heavy, put_body, remove_body, remove_row,
     use_is_too_heavy, used_weight, weight_for,
 };
-use crate::response::{PutFault, body_put};
+use crate::response::given_by_put;
 use cache_words::time::{Duration, Moment};
 use rand_core::Rng;
 use std::alloc::{AllocError, Global};
 use std::marker::Model;
 use tier_model::event::{Action, Answer, Done, Entries, Event, Pieces, TierFault};
+use tier_model::given::Given;
 use tier_model::key::StoredKey;
 use tier_model::report::Report;
 use tier_model::requests::Requests;
@@ -293,7 +295,7 @@ impl Tier<1> {
 
     // Stores a body, admits its entry, and evicts what passes a limit.
     fn store(&mut self, body: FinishedBody) -> Result<Answer, TierFault>
-        ensures allowed { MatchResult result (IsPutAnswer self.old (Ok body)) (IsStoreFault self.old body) }
+        ensures allowed { MatchResult result (IsPutAnswer self.old (Some (Stored body))) (IsStoreFault self.old body) }
         ensures after { self.new ≡ behind_store self.old body result }
     {
         let weight = weight_for(&body);
@@ -329,20 +331,22 @@ impl Tier<1> {
     }
 
     fn put(&mut self, moment: Moment, key: StoredKey, pieces: &Pieces) -> Result<Answer, TierFault>
-        ensures allowed { AllowsUnrefused self.old moment (Action.Put key pieces.now) result }
-        ensures after { self.new ≡ after_action self.old moment (Action.Put key pieces.now) result }
+        ensures { Takes self.old moment (Action.Put key pieces.now) result self.new }
     {
-        match body_put(self.alloc, moment, key, pieces) {
-            Ok(body) => self.store(body),
-            Err(PutFault::Memory) => Err(TierFault::Memory(nothing_done(self.alloc))),
-            Err(PutFault::Early) => Err(TierFault::BeforeEpoch),
-            Err(PutFault::Unread) => Err(TierFault::Unsupported),
+        let Ok(given) = given_by_put(self.alloc, moment, key, pieces) else {
+            return Err(TierFault::Memory(nothing_done(self.alloc)));
+        };
+        match given {
+            Given::Stored(body) => self.store(body),
+            Given::Uncacheable(reason) => Ok(Answer::Uncacheable(reason)),
+            Given::Incomplete => Err(TierFault::Incomplete),
+            Given::BadHead => Err(TierFault::BadHead),
+            Given::BeforeEpoch => Err(TierFault::BeforeEpoch),
         }
     }
 
     fn act(&mut self, event: &Event) -> Result<Answer, TierFault>
-        ensures allowed { Allows self.old event.now result }
-        ensures after { self.new ≡ after self.old event.now result }
+        ensures { Steps self.old event.now result self.new }
     {
         if let Some(fault) = self.refusal(&event.action) {
             return Err(fault);
@@ -360,8 +364,7 @@ impl Tier<1> {
     /// Takes one event and answers it. A refusal says why, and leaves the tier as before, but for a body
     /// that was stored and removed again.
     pub fn step<R: Rng>(&mut self, _rng: &mut R, event: &Event) -> Result<Answer, TierFault>
-        ensures allowed { Allows self.old event.now result }
-        ensures after { self.new ≡ after self.old event.now result }
+        ensures taken { Steps self.old event.now result self.new }
         ensures headline { CarriesHeadline self.old (event.now ∷ []) (result ∷ []) self.new }
     {
         self.act(event)

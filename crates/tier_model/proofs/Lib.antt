@@ -10,3 +10,4 @@ pub mod Carried
 pub mod UseLaws
 pub mod UseSteps
 pub mod ReportLaws
+pub mod ResponseLaws

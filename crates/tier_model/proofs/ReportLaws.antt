@@ -1,10 +1,13 @@
 -- What a report tells of a state is what it tells of the history behind it.
 use Rattle.std.proofs.Common.{◌≡◌, ℕ, ◌+◌, refl, ap, sym, ◌∙◌, true, false, subst, cond, [], ◌∷◌, ◌++◌, length, arith}
-use Rattle.std.specs.Prelude.{Bool, List, Option, Some, None, is_some, not, Result, Ok, Err, MatchOption}
+use Rattle.std.specs.Prelude.{Bool, List, Option, Some, None, is_some, not, Ok, Err, MatchOption}
 use Rattle.std.specs.List.{AllByRecursion}
 use Rattle.std.specs.FinMap.{get, insert}
 use Rattle.cache_words.specs.Time.{Instant}
 use Rattle.tier_model.specs.declared.key.StoredKey.{StoredKey}
+use Rattle.tier_model.specs.declared.given.Given.{Given}
+use Rattle.tier_model.specs.declared.given.Given.TheVariants.{Stored}
+use Rattle.tier_model.specs.declared.given.Given.TheVariants as given
 use Rattle.tier_model.specs.declared.rows.FinishedBody.{FinishedBody}
 use Rattle.tier_model.specs.declared.rows.Request.{Request}
 use Rattle.tier_model.specs.declared.rows.Reader.{Reader}
@@ -13,17 +16,17 @@ use Rattle.tier_model.specs.declared.event.Action.{Action}
 use Rattle.tier_model.specs.declared.event.Action.TheVariants.{Open, LookUp, Read, Drop, Purge, Put}
 use Rattle.tier_model.specs.declared.event.Answer.{Answer}
 use Rattle.tier_model.specs.declared.event.Answer.TheVariants.{Opened, Bytes, End, Dropped, Purged, Finished}
+use Rattle.tier_model.specs.declared.event.Answer.TheVariants as answer
 use Rattle.tier_model.specs.declared.event.Done.{Done}
 use Rattle.tier_model.specs.declared.event.TierFault.{TierFault}
 use Rattle.tier_model.specs.Keys.{same_key}
-use Rattle.tier_model.specs.Response.{body_put}
 use Rattle.tier_model.specs.Calls.{Call, History, Outcome, evicted_by, nothing_done, done_of}
 use Rattle.tier_model.specs.Histories.{IsBody, HasDistinctKeys}
 use Rattle.tier_model.specs.Reports.{IsReport, report_of, found_answers, absent_answers, evictions, is_found, is_absent, shown, AreAllBodies}
 use Rattle.tier_model.specs.Use.{IsOrderOfUse}
 use Rattle.tier_model.specs.Rows.{body_of, with_body, without_body, without_bodies}
 use Rattle.tier_model.specs.State.{State}
-use Rattle.tier_model.specs.Step.{refusal, Allows, IsAnswer, IsPutAnswer, after, answered, undone, taken_back, on_request, look_answer, look_behind, read_answer, read_behind, purge_behind, put_behind, use_is_too_heavy, counted}
+use Rattle.tier_model.specs.Step.{refusal, AllowsBy, Allows, IsAnswer, IsPutAnswer, after, answered, undone, taken_back, on_request, look_answer, look_behind, read_answer, read_behind, purge_behind, put_behind, use_is_too_heavy, counted}
 use Rattle.tier_model.proofs.KeyLaws.{same_key-refl, same_key-sym}
 use Rattle.tier_model.proofs.BodyLaws.{body_now, body_now-is, body_now-of}
 use Rattle.tier_model.proofs.StepLaws.{call_at, answer_allowed, did_nothing}
@@ -111,76 +114,82 @@ uncounted s new c h f a e d nf na ne t = record {
   distinct = d;
 }
 
-look_tally : (s : State) (t : Instant) (i : ℕ) (q : Request) (b : Option FinishedBody) (a : Answer) (h : History) → a ≡ look_answer t b → Tallies s h
-    → Tallies (look_behind s t i q b) (call_at t (LookUp i) (Ok a) ∷ h)
-look_tally s t i q None a h e tally = subst (λ (y : Answer). Tallies (look_behind s t i q None) (call_at t (LookUp i) (Ok y) ∷ h)) (sym e) (record {
+look_tally : (s : State) (t : Instant) (g : Option Given) (i : ℕ) (q : Request) (b : Option FinishedBody) (a : Answer) (h : History) → a ≡ look_answer t b → Tallies s h
+    → Tallies (look_behind s t i q b) (call_at t (LookUp i) g (Ok a) ∷ h)
+look_tally s t g i q None a h e tally = subst (λ (y : Answer). Tallies (look_behind s t i q None) (call_at t (LookUp i) g (Ok y) ∷ h)) (sym e) (record {
   found = tally.found;
   absent = more_shown s.absent (absent_answers h) 1 tally.absent;
   evicted = tally.evicted ∙ ap shown (omega arith);
   distinct = tally.distinct;
 })
-look_tally s t i q (Some b) a h e tally = subst (λ (y : Answer). Tallies (look_behind s t i q (Some b)) (call_at t (LookUp i) (Ok y) ∷ h)) (sym e) (record {
+look_tally s t g i q (Some b) a h e tally = subst (λ (y : Answer). Tallies (look_behind s t i q (Some b)) (call_at t (LookUp i) g (Ok y) ∷ h)) (sym e) (record {
   found = more_shown s.found (found_answers h) 1 tally.found;
   absent = tally.absent;
   evicted = tally.evicted ∙ ap shown (omega arith);
   distinct = tally.distinct;
 })
 
-request_tally : (s : State) (t : Instant) (i : ℕ) (a : Answer) (h : History) (o : Option Request)
+request_tally : (s : State) (t : Instant) (g : Option Given) (i : ℕ) (a : Answer) (h : History) (o : Option Request)
     → MatchOption o ⊥ (λ q. (a ≡ look_answer t (body_of q.key s.bodies)) × (use_is_too_heavy (body_of q.key s.bodies) s.tracked ≡ false))
-    → Tallies s h → Tallies (on_request s o (λ q. look_behind s t i q (body_of q.key s.bodies))) (call_at t (LookUp i) (Ok a) ∷ h)
-request_tally s t i a h None p tally = absurd p
-request_tally s t i a h (Some q) p tally = look_tally s t i q (body_of q.key s.bodies) a h p.0 tally
+    → Tallies s h → Tallies (on_request s o (λ q. look_behind s t i q (body_of q.key s.bodies))) (call_at t (LookUp i) g (Ok a) ∷ h)
+request_tally s t g i a h None p tally = absurd p
+request_tally s t g i a h (Some q) p tally = look_tally s t g i q (body_of q.key s.bodies) a h p.0 tally
 
-read_tally : (s : State) (t : Instant) (i : ℕ) (a : Answer) (h : History) (o : Option Request) → MatchOption o ⊥ (λ q. a ≡ read_answer q.reader)
-    → Tallies s h → Tallies (on_request s o (λ q. record s { requests = insert s.requests i (read_behind q) })) (call_at t (Read i) (Ok a) ∷ h)
-read_tally s t i a h None p tally = absurd p
-read_tally s t i a h (Some q) p tally = by_reader q.reader p
+read_tally : (s : State) (t : Instant) (g : Option Given) (i : ℕ) (a : Answer) (h : History) (o : Option Request) → MatchOption o ⊥ (λ q. a ≡ read_answer q.reader)
+    → Tallies s h → Tallies (on_request s o (λ q. record s { requests = insert s.requests i (read_behind q) })) (call_at t (Read i) g (Ok a) ∷ h)
+read_tally s t g i a h None p tally = absurd p
+read_tally s t g i a h (Some q) p tally = by_reader q.reader p
   where
     new : State
     new = record s { requests = insert s.requests i (read_behind q) }
 
-    by_reader : (r : Reader) → a ≡ read_answer r → Tallies new (call_at t (Read i) (Ok a) ∷ h)
-    by_reader Closed e = subst (λ (y : Answer). Tallies new (call_at t (Read i) (Ok y) ∷ h)) (sym e) (uncounted s new (call_at t (Read i) (Ok End)) h refl refl refl tally.distinct refl refl refl tally)
+    by_reader : (r : Reader) → a ≡ read_answer r → Tallies new (call_at t (Read i) g (Ok a) ∷ h)
+    by_reader Closed e = subst (λ (y : Answer). Tallies new (call_at t (Read i) g (Ok y) ∷ h)) (sym e) (uncounted s new (call_at t (Read i) g (Ok End)) h refl refl refl tally.distinct refl refl refl tally)
     by_reader (Unread bytes) e =
-        subst (λ (y : Answer). Tallies new (call_at t (Read i) (Ok y) ∷ h)) (sym e) (uncounted s new (call_at t (Read i) (Ok (Bytes bytes))) h refl refl refl tally.distinct refl refl refl tally)
-    by_reader Spent e = subst (λ (y : Answer). Tallies new (call_at t (Read i) (Ok y) ∷ h)) (sym e) (uncounted s new (call_at t (Read i) (Ok End)) h refl refl refl tally.distinct refl refl refl tally)
+        subst (λ (y : Answer). Tallies new (call_at t (Read i) g (Ok y) ∷ h)) (sym e) (uncounted s new (call_at t (Read i) g (Ok (Bytes bytes))) h refl refl refl tally.distinct refl refl refl tally)
+    by_reader Spent e = subst (λ (y : Answer). Tallies new (call_at t (Read i) g (Ok y) ∷ h)) (sym e) (uncounted s new (call_at t (Read i) g (Ok End)) h refl refl refl tally.distinct refl refl refl tally)
 
-purge_tally : (s : State) (t : Instant) (key : StoredKey) (h : History) (v : Bool) → Tallies s h → Tallies (purge_behind s key v) (call_at t (Purge key) (Ok (Purged v)) ∷ h)
-purge_tally s t key h false tally = uncounted s s (call_at t (Purge key) (Ok (Purged false))) h refl refl refl tally.distinct refl refl refl tally
-purge_tally s t key h true tally =
-    uncounted s (purge_behind s key true) (call_at t (Purge key) (Ok (Purged true))) h refl refl refl (distinct_without key s.bodies tally.distinct) refl refl refl tally
+purge_tally : (s : State) (t : Instant) (g : Option Given) (key : StoredKey) (h : History) (v : Bool) → Tallies s h → Tallies (purge_behind s key v) (call_at t (Purge key) g (Ok (Purged v)) ∷ h)
+purge_tally s t g key h false tally = uncounted s s (call_at t (Purge key) g (Ok (Purged false))) h refl refl refl tally.distinct refl refl refl tally
+purge_tally s t g key h true tally =
+    uncounted s (purge_behind s key true) (call_at t (Purge key) g (Ok (Purged true))) h refl refl refl (distinct_without key s.bodies tally.distinct) refl refl refl tally
 
-put_tally : (s : State) (t : Instant) (key : StoredKey) (pieces : List (List ℕ)) (r : Result FinishedBody TierFault) (a : Answer) (h : History) → IsPutAnswer s r a
-    → Tallies s h → Tallies (put_behind s r a) (call_at t (Put key pieces) (Ok a) ∷ h)
-put_tally s t key pieces (Ok b) (Finished n es) h p tally = record {
+put_tally : (s : State) (t : Instant) (g : Option Given) (key : StoredKey) (pieces : List (List ℕ)) (a : Answer) (h : History) → IsPutAnswer s g a
+    → Tallies s h → Tallies (put_behind s g a) (call_at t (Put key pieces) g (Ok a) ∷ h)
+put_tally s t (Some (Stored b)) key pieces (Finished n es) h p tally = record {
   found = tally.found;
   absent = tally.absent;
   evicted = more_shown s.evicted (evictions h) (length es) tally.evicted;
   distinct = distinct_without_all es (with_body b s.bodies) (distinct_with b s.bodies tally.distinct);
 }
-put_tally s t key pieces (Err f) a h p tally = absurd p
-put_tally s t key pieces (Ok b) _ h p tally = absurd p
+put_tally s t (Some (given.Uncacheable reason)) key pieces (answer.Uncacheable shown) h p tally =
+    uncounted s s (call_at t (Put key pieces) (Some (given.Uncacheable reason)) (Ok (answer.Uncacheable shown))) h refl refl refl tally.distinct refl refl refl tally
+put_tally s t (Some (Stored b)) key pieces _ h p tally = absurd p
+put_tally s t (Some given.Incomplete) key pieces _ h p tally = absurd p
+put_tally s t (Some given.BadHead) key pieces _ h p tally = absurd p
+put_tally s t (Some given.BeforeEpoch) key pieces _ h p tally = absurd p
+put_tally s t (Some (given.Uncacheable reason)) key pieces _ h p tally = absurd p
+put_tally s t None key pieces _ h p tally = absurd p
 
-answer_tally : (s : State) (t : Instant) (action : Action) (a : Answer) (h : History) → IsAnswer s t action a → Tallies s h → Tallies (answered s t action a) (call_at t action (Ok a) ∷ h)
-answer_tally s t (Open i key) a h p tally =
-    subst (λ (y : Answer). Tallies (answered s t (Open i key) y) (call_at t (Open i key) (Ok y) ∷ h)) (sym p)
-    (uncounted s (answered s t (Open i key) Opened) (call_at t (Open i key) (Ok Opened)) h refl refl refl tally.distinct refl refl refl tally)
-answer_tally s t (LookUp i) a h p tally = request_tally s t i a h (get s.requests i) p tally
-answer_tally s t (Read i) a h p tally = read_tally s t i a h (get s.requests i) p tally
-answer_tally s t (Drop i) a h p tally =
-    subst (λ (y : Answer). Tallies (answered s t (Drop i) y) (call_at t (Drop i) (Ok y) ∷ h)) (sym p)
-    (uncounted s (answered s t (Drop i) Dropped) (call_at t (Drop i) (Ok Dropped)) h refl refl refl tally.distinct refl refl refl tally)
-answer_tally s t (Purge key) a h p tally =
-    subst (λ (y : Answer). Tallies (answered s t (Purge key) y) (call_at t (Purge key) (Ok y) ∷ h)) (sym p) (purge_tally s t key h (is_some (body_of key s.bodies)) tally)
-answer_tally s t (Put key pieces) a h p tally = put_tally s t key pieces (body_put t key pieces) a h p tally
+answer_tally : (s : State) (t : Instant) (g : Option Given) (action : Action) (a : Answer) (h : History) → IsAnswer s t action g a → Tallies s h → Tallies (answered s t action g a) (call_at t action g (Ok a) ∷ h)
+answer_tally s t g (Open i key) a h p tally =
+    subst (λ (y : Answer). Tallies (answered s t (Open i key) g y) (call_at t (Open i key) g (Ok y) ∷ h)) (sym p)
+    (uncounted s (answered s t (Open i key) g Opened) (call_at t (Open i key) g (Ok Opened)) h refl refl refl tally.distinct refl refl refl tally)
+answer_tally s t g (LookUp i) a h p tally = request_tally s t g i a h (get s.requests i) p tally
+answer_tally s t g (Read i) a h p tally = read_tally s t g i a h (get s.requests i) p tally
+answer_tally s t g (Drop i) a h p tally =
+    subst (λ (y : Answer). Tallies (answered s t (Drop i) g y) (call_at t (Drop i) g (Ok y) ∷ h)) (sym p)
+    (uncounted s (answered s t (Drop i) g Dropped) (call_at t (Drop i) g (Ok Dropped)) h refl refl refl tally.distinct refl refl refl tally)
+answer_tally s t g (Purge key) a h p tally =
+    subst (λ (y : Answer). Tallies (answered s t (Purge key) g y) (call_at t (Purge key) g (Ok y) ∷ h)) (sym p) (purge_tally s t g key h (is_some (body_of key s.bodies)) tally)
+answer_tally s t g (Put key pieces) a h p tally = put_tally s t g key pieces a h p tally
 
 -- a put's fault that had stored, and one that had not
-back_tally : (v : Bool) (s : State) (t : Instant) (key : StoredKey) (pieces : List (List ℕ)) (f : TierFault) (h : History) → (done_of f).stored ≡ v
-    → Tallies s h → Tallies (taken_back v s key (done_of f).evicted) (call_at t (Put key pieces) (Err f) ∷ h)
-back_tally false s t key pieces f h e tally =
-    uncounted s s (call_at t (Put key pieces) (Err f)) h refl refl refl tally.distinct refl refl (ap (λ v. cond v (done_of f).evicted []) e) tally
-back_tally true s t key pieces f h e tally = record {
+back_tally : (v : Bool) (s : State) (t : Instant) (g : Option Given) (key : StoredKey) (pieces : List (List ℕ)) (f : TierFault) (h : History) → (done_of f).stored ≡ v
+    → Tallies s h → Tallies (taken_back v s key (done_of f).evicted) (call_at t (Put key pieces) g (Err f) ∷ h)
+back_tally false s t g key pieces f h e tally =
+    uncounted s s (call_at t (Put key pieces) g (Err f)) h refl refl refl tally.distinct refl refl (ap (λ v. cond v (done_of f).evicted []) e) tally
+back_tally true s t g key pieces f h e tally = record {
   found = tally.found;
   absent = tally.absent;
   evicted = more_shown s.evicted (evictions h) (length (done_of f).evicted) tally.evicted ∙ ap (λ v. shown (evictions h + length (cond v (done_of f).evicted []))) (sym e);
@@ -190,22 +199,22 @@ back_tally true s t key pieces f h e tally = record {
 quiet_evicts : (done : Done) → done ≡ nothing_done → cond done.stored done.evicted [] ≡ []
 quiet_evicts done e = subst (λ (d : Done). cond d.stored d.evicted [] ≡ []) (sym e) refl
 
-fault_tally : (s : State) (t : Instant) (action : Action) (f : TierFault) (h : History) → Allows s (record { moment = t; action = action }) (Err f) → Tallies s h
-    → Tallies (undone s action (done_of f)) (call_at t action (Err f) ∷ h)
-fault_tally s t (Open i key) f h p tally = uncounted s s (call_at t (Open i key) (Err f)) h refl refl refl tally.distinct refl refl (quiet_evicts (done_of f) (did_nothing s t (Open i key) f p refl)) tally
-fault_tally s t (LookUp i) f h p tally = uncounted s s (call_at t (LookUp i) (Err f)) h refl refl refl tally.distinct refl refl (quiet_evicts (done_of f) (did_nothing s t (LookUp i) f p refl)) tally
-fault_tally s t (Read i) f h p tally = uncounted s s (call_at t (Read i) (Err f)) h refl refl refl tally.distinct refl refl (quiet_evicts (done_of f) (did_nothing s t (Read i) f p refl)) tally
-fault_tally s t (Drop i) f h p tally = uncounted s s (call_at t (Drop i) (Err f)) h refl refl refl tally.distinct refl refl (quiet_evicts (done_of f) (did_nothing s t (Drop i) f p refl)) tally
-fault_tally s t (Purge key) f h p tally = uncounted s s (call_at t (Purge key) (Err f)) h refl refl refl tally.distinct refl refl (quiet_evicts (done_of f) (did_nothing s t (Purge key) f p refl)) tally
-fault_tally s t (Put key pieces) f h p tally = back_tally (done_of f).stored s t key pieces f h refl tally
+fault_tally : (s : State) (t : Instant) (g : Option Given) (action : Action) (f : TierFault) (h : History) → AllowsBy (refusal s action) s t action g (Err f) → Tallies s h
+    → Tallies (undone s action (done_of f)) (call_at t action g (Err f) ∷ h)
+fault_tally s t g (Open i key) f h p tally = uncounted s s (call_at t (Open i key) g (Err f)) h refl refl refl tally.distinct refl refl (quiet_evicts (done_of f) (did_nothing s t g (Open i key) f p refl)) tally
+fault_tally s t g (LookUp i) f h p tally = uncounted s s (call_at t (LookUp i) g (Err f)) h refl refl refl tally.distinct refl refl (quiet_evicts (done_of f) (did_nothing s t g (LookUp i) f p refl)) tally
+fault_tally s t g (Read i) f h p tally = uncounted s s (call_at t (Read i) g (Err f)) h refl refl refl tally.distinct refl refl (quiet_evicts (done_of f) (did_nothing s t g (Read i) f p refl)) tally
+fault_tally s t g (Drop i) f h p tally = uncounted s s (call_at t (Drop i) g (Err f)) h refl refl refl tally.distinct refl refl (quiet_evicts (done_of f) (did_nothing s t g (Drop i) f p refl)) tally
+fault_tally s t g (Purge key) f h p tally = uncounted s s (call_at t (Purge key) g (Err f)) h refl refl refl tally.distinct refl refl (quiet_evicts (done_of f) (did_nothing s t g (Purge key) f p refl)) tally
+fault_tally s t g (Put key pieces) f h p tally = back_tally (done_of f).stored s t g key pieces f h refl tally
 
 -- each lawful call keeps the counts
-pub Tallies-after : (s : State) (c : Call) (h : History) → Allows s c.event c.outcome → Tallies s h → Tallies (after s c.event c.outcome) (c ∷ h)
-Tallies-after s c h p tally = by_outcome c.outcome p
+pub Tallies-after : (s : State) (c : Call) (h : History) → Allows s c → Tallies s h → Tallies (after s c) (c ∷ h)
+Tallies-after s c h p tally = by_outcome c.outcome p.1
   where
-    by_outcome : (o : Outcome) → Allows s c.event o → Tallies (after s c.event o) (record { event = c.event; outcome = o } ∷ h)
-    by_outcome (Ok a) p = answer_tally s c.event.moment c.event.action a h (answer_allowed (refusal s c.event.action) s c.event.moment c.event.action a p) tally
-    by_outcome (Err f) p = fault_tally s c.event.moment c.event.action f h p tally
+    by_outcome : (o : Outcome) → AllowsBy (refusal s c.event.action) s c.event.moment c.event.action c.given o → Tallies (after s (record c { outcome = o })) (record c { outcome = o } ∷ h)
+    by_outcome (Ok a) p = answer_tally s c.event.moment c.given c.event.action a h (answer_allowed (refusal s c.event.action) s c.event.moment c.given c.event.action a p) tally
+    by_outcome (Err f) p = fault_tally s c.event.moment c.given c.event.action f h p tally
 
 -- the report of the state is the history's
 pub IsReport-kept : (s : State) (h : History) → Fits s h → Tallies s h → IsOrderOfUse s.tracked h → IsReport (report_of s) h

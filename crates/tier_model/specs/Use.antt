@@ -3,6 +3,7 @@ use Rattle.std.specs.Prelude.{◌≡◌, ℕ, ◌<◌, ◌≤◌, Bool, true, fa
 use Rattle.tier_model.specs.declared.key.StoredKey.{StoredKey}
 use Rattle.tier_model.specs.declared.rows.FinishedBody.{FinishedBody}
 use Rattle.tier_model.specs.declared.rows.Tracked.{Tracked}
+use Rattle.tier_model.specs.declared.given.Given.{Given}
 use Rattle.tier_model.specs.declared.event.Event.{Event}
 use Rattle.tier_model.specs.declared.event.Action.{Action}
 use Rattle.tier_model.specs.declared.event.Action.TheVariants.{LookUp, Purge}
@@ -81,15 +82,15 @@ pub record IsOrderOfUse (rows : List Tracked) (h : History) : Type 0 where
 
 -- what went in a call went lawfully: the last in the order of use behind its admission, one by one, while a limit was passed;
 -- only a body's finish evicts
-abbrev pub EvictsBy : ℕ → Option ℕ → Event → Outcome → History → Type 0
-EvictsBy limit watermark e (Ok (Finished n evicted)) before =
-    (rows : List Tracked) × IsOrderOfUse rows (record { event = e; outcome = Ok (Finished n []) } ∷ before) × IsLawfulEviction limit watermark rows evicted
-EvictsBy limit watermark e outcome before = evicted_by outcome ≡ []
+abbrev pub EvictsBy : ℕ → Option ℕ → Event → Outcome → Option Given → History → Type 0
+EvictsBy limit watermark e (Ok (Finished n evicted)) given before =
+    (rows : List Tracked) × IsOrderOfUse rows (record { event = e; outcome = Ok (Finished n []); given = given } ∷ before) × IsLawfulEviction limit watermark rows evicted
+EvictsBy limit watermark e outcome given before = evicted_by outcome ≡ []
 
 -- each call's evictions were lawful
 abbrev pub EvictsLawfully : ℕ → Option ℕ → History → Type 0
 EvictsLawfully limit watermark [] = Unit {0}
-EvictsLawfully limit watermark (c ∷ h) = EvictsBy limit watermark c.event c.outcome h × EvictsLawfully limit watermark h
+EvictsLawfully limit watermark (c ∷ h) = EvictsBy limit watermark c.event c.outcome c.given h × EvictsLawfully limit watermark h
 
 -- each body's entry is tracked, with at least the body's length
 abbrev pub BodiesAreTracked : History → Type 0

@@ -84,6 +84,7 @@ fn show(text: &mut String, outcome: &Result<Answer, TierFault>) -> Result<(), Al
             let count = evicted.as_slice().len();
             write!(text, "finished {length} evicted={count}\n")
         }
+        Ok(Answer::Uncacheable(reason)) => write!(text, "uncacheable {reason:?}\n"),
         Err(fault) => write!(text, "fault {fault:?}\n"),
     }
 }
@@ -234,8 +235,8 @@ fn refuses_by_name(rt: HostRuntime) {
         purged true\n\
         purged false\n\
         fault BeforeEpoch\n\
-        fault Unsupported\n\
-        fault Unsupported\n\
+        uncacheable OriginNotCache\n\
+        uncacheable OriginNotCache\n\
         report found=1 absent=0 bodies=0 bytes=0 tracked=0 weight=0 evicted=0",
     );
 }

@@ -8,7 +8,7 @@ pub loop-event-preserved : goal.loop-event-preserved
 loop-event-preserved g c = record {
   ran =
       rw (c.push_reserved.ensures.items, take_more c.args.events.now c.loop-event.event-index c.event-item.result c.loop-event-test.true, ← c.event-item.is)
-      (Runs-more c.args.self.now _ _ c.loop-event.self c.event-item.result c.step-outcome.result _ c.loop-event.invariant.ran c.step-outcome.ensures.allowed c.step-outcome.ensures.after);
+      (Runs-more c.args.self.now _ _ c.loop-event.self c.event-item.result c.step-outcome.result _ c.loop-event.invariant.ran c.step-outcome.ensures.taken);
   count = omega (arith, c.push_reserved.ensures.len, c.loop-event.invariant.count);
   room = c.push_reserved.ensures.capacity ∙ c.loop-event.invariant.room;
 }

@@ -1,0 +1,12 @@
+use Rattle.std.proofs.Common.{◌≡◌, ◌≤◌, length, take, map}
+use Rattle.http_header.specs.HeaderMap.{value_count}
+use Rattle.httparse.specs.Spans.{header_bytes}
+use Rattle.cache_tier.specs.Heads.{map_of}
+use Rattle.cache_tier.proofs.response.collect.Given as goal
+
+abbrev pub invariant-loop-line : goal.invariant-loop-line
+invariant-loop-line l = record {
+  value : l.all ≡ map_of (map (header_bytes l.bytes) (take l.line-index l.lines));
+  names : length l.all ≤ l.line-index;
+  values : value_count l.all ≤ l.line-index;
+}

@@ -1,0 +1,20 @@
+use Rattle.std.proofs.Common.{Some, refl, inr}
+use Rattle.tier_model.specs.declared.given.Given.TheVariants.{Uncacheable, Incomplete, BadHead, BeforeEpoch}
+use Rattle.cache_tier.proofs.RunLaws.{Takes-stored}
+use Rattle.cache_tier.proofs.tier.Tier+1.put.Goals as goal
+
+pub returns-in-Stored : goal.returns-in-Stored
+returns-in-Stored c =
+    Takes-stored c.args.self.now c.args.moment c.args.key c.args.pieces.now c.in-Stored.body c.store.result c.store.new.self (rw c.in-Stored.is at c.in-Ok.ensures) c.store.ensures.allowed c.store.ensures.after
+
+pub returns-in-Uncacheable : goal.returns-in-Uncacheable
+returns-in-Uncacheable c = (Some (Uncacheable c.in-Uncacheable.reason), rw c.in-Uncacheable.is at c.in-Ok.ensures, refl, refl)
+
+pub returns-in-Incomplete : goal.returns-in-Incomplete
+returns-in-Incomplete c = (Some Incomplete, rw c.in-Incomplete.is at c.in-Ok.ensures, inr refl, refl)
+
+pub returns-in-BadHead : goal.returns-in-BadHead
+returns-in-BadHead c = (Some BadHead, rw c.in-BadHead.is at c.in-Ok.ensures, inr refl, refl)
+
+pub returns-in-BeforeEpoch : goal.returns-in-BeforeEpoch
+returns-in-BeforeEpoch c = (Some BeforeEpoch, rw c.in-BeforeEpoch.is at c.in-Ok.ensures, inr refl, refl)

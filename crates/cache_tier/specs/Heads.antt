@@ -1,0 +1,46 @@
+-- Heads as a map of their lines, and what a response gives by it.
+use Rattle.std.specs.Prelude.{◌≡◌, ℕ, ◌==◌, ◌||◌, false, List, [], drop, map, codes, if◌then◌else◌, Option, Some, None}
+use Rattle.cache_words.specs.Time.{Instant}
+use Rattle.cache_directives.specs.Control.{lines_under}
+use Rattle.cache_directives.specs.declared.header.ResponseHeader.{ResponseHeader}
+use Rattle.cache_heads.specs.FreshUntil.{fresh_until}
+use Rattle.http_header.specs.HeaderMap.{Entries, append_all}
+use Rattle.http_header.specs.FieldName.{IsFieldName}
+use Rattle.http_header.specs.FieldValue.{FieldValue, plain_value, IsFieldValue}
+use Rattle.http_header.specs.Token.{lowercase}
+use Rattle.httparse.specs.Grammar.{ResponseHead, ReadsResponse, status_code}
+use Rattle.httparse.specs.Spans.{name_and_value}
+use Rattle.tier_model.specs.declared.key.StoredKey.{StoredKey}
+use Rattle.tier_model.specs.declared.given.Given.{Given}
+use Rattle.tier_model.specs.Response.{first_length, body_within, given_of}
+use Rattle.cache_tier.specs.declared.response.Head.{Head}
+
+-- a line's name in lower case, with its value
+abbrev pub pair_of : List ℕ × List ℕ → List ℕ × FieldValue
+pair_of line = (lowercase line.0, plain_value line.1)
+
+-- the map of header lines
+abbrev pub map_of : List (List ℕ × List ℕ) → Entries FieldValue
+map_of lines = append_all [] (map pair_of lines)
+
+-- a name and a value that a map takes
+abbrev pub IsLine : List ℕ × List ℕ → Type 0
+IsLine line = IsFieldName line.0 × IsFieldValue line.1
+
+-- how many bytes of body a head announces
+abbrev pub announced : ResponseHeader → Option ℕ
+announced head = if head.status == 204 || head.status == 304 then Some 0 else first_length (lines_under (codes "content-length") head.headers)
+
+-- the last moment at which a response that came at that one is fresh, if it may be kept
+abbrev pub kept_until : Instant → ResponseHeader → Option Instant
+kept_until arrival head = fresh_until arrival (lines_under (codes "cache-control") head.headers) (lines_under (codes "expires") head.headers) false None
+
+-- what a head gives, with the bytes behind it
+abbrev pub given_behind : Instant → StoredKey → ResponseHeader → List ℕ → Given
+given_behind arrival key head rest = given_of arrival key (body_within (announced head) rest) (kept_until arrival head)
+
+-- the bytes begin with a head of the parser's grammar, and that is it
+abbrev pub IsHeadOf : List ℕ → Head → Type 0
+IsHeadOf bytes head =
+    (h : ResponseHead) × ReadsResponse bytes h (drop head.len bytes)
+    × (head.header.status ≡ status_code h) × (head.header.headers ≡ map_of (map name_and_value h.fields))
