@@ -1,1 +1,3 @@
+pub mod Blake
+pub mod Hasher
 pub mod Time

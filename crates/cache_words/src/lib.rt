@@ -1,4 +1,6 @@
 //! The words that the cache's layers share: points in time, digests, keys and the format of files and metas.
 #![tactic(auto)]
 
+pub mod blake;
+mod compress;
 pub mod time;
