@@ -1,3 +1,5 @@
 pub mod Blake
+pub mod CompactKey
 pub mod Hasher
+pub mod Key
 pub mod Time

@@ -3,4 +3,6 @@
 
 pub mod blake;
 mod compress;
+pub mod key;
+pub mod text;
 pub mod time;
