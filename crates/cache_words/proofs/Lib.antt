@@ -1,3 +1,4 @@
 pub mod Absorbing
 pub mod Compressing
 pub mod StandardFacts
+pub mod VarianceMap

@@ -4,5 +4,7 @@
 pub mod blake;
 mod compress;
 pub mod key;
+mod piece;
 pub mod text;
 pub mod time;
+pub mod variance;
