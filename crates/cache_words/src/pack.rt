@@ -2,6 +2,7 @@
 //! form is read. A reader answers the value and the bytes behind it, borrowed from its input: it takes no memory.
 use crate::key::HashBinary;
 
+pub mod borrowed;
 pub mod fault;
 pub mod reading;
 pub mod writing;
