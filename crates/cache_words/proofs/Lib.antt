@@ -6,3 +6,4 @@ pub mod ReadingLaws
 pub mod StandardFacts
 pub mod ValueLaws
 pub mod VarianceMap
+pub mod WritingLaws

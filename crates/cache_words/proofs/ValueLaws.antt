@@ -248,8 +248,8 @@ moment_takes bytes x fits e =
         nanoseconds = t2.0.spelled;
         low = t2.1;
         fits = ltb-true _ _ g.0;
-        value = refl;
-        parts = refl;
+        value = refl {a = carried b.0.0 c.0.0};
+        parts = refl {a = t0.text ++ (t1.text ++ t2.0.text)};
       };
       parts = join bytes t0.text a.0 (t1.text ++ t2.0.text) c.0.1 t0.parts (join a.0 t1.text b.0.1 t2.0.text c.0.1 t1.parts t2.0.parts);
       rest_fits = t2.0.rest_fits;

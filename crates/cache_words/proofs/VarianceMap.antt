@@ -1,10 +1,10 @@
 -- A tree of names and values as a finite map.
-use Rattle.std.proofs.Common.{◌≡◌, ℕ, List, [], ◌∷◌, ◌++◌, Bool, true, false, ◌&&◌, cond, Some, None, length, ap, sym, ◌∙◌, refl, subst, append_assoc, arith}
+use Rattle.std.proofs.Common.{◌≡◌, Option, ℕ, List, [], ◌∷◌, ◌++◌, Bool, true, false, ◌&&◌, cond, Some, None, length, ap, sym, ◌∙◌, refl, subst, append_assoc, arith}
 use lib.Dec.{T}
 use Rattle.std.specs.Prelude.{◌==◌}
-use Rattle.std.specs.Ordering.{nat_cmp, is_lt, eq_by_cmp}
+use Rattle.std.specs.Ordering.{nat_cmp, is_lt, is_eq, eq_by_cmp}
 use Rattle.std.specs.declared.cmp.Ordering.{Ordering}
-use Rattle.std.specs.declared.cmp.Ordering.TheVariants.{Less}
+use Rattle.std.specs.declared.cmp.Ordering.TheVariants.{Less, Equal, Greater}
 use Rattle.std.specs.Cmp.Lexicographic.{slice_cmp}
 use Rattle.std.specs.List.{AllByRecursion}
 use Rattle.std.specs.List.Sorted.{IsStrictlySortedBy}
@@ -94,3 +94,28 @@ variance_some es m h is sorted some e =
 pub text_more : (pairs : Pairs) (n v : List ℕ)
     → variance_text (pairs ++ (n, v) ∷ []) ≡ (((variance_text pairs ++ n) ++ (0 ∷ [])) ++ v) ++ (0 ∷ [])
 text_more pairs n v = rw (flat_map-append salted pairs ((n, v) ∷ [])) (simp append_assoc)
+
+tie : (r : Ordering) → is_eq r ≡ true → r ≡ Equal
+tie Less e = absurd cc
+tie Equal e = refl
+tie Greater e = absurd cc
+
+same_name : (q a : List ℕ) → eq_by_cmp order q a ≡ true → q ≡ a
+same_name q a e = exact q a (tie (order q a) e)
+
+swapped : (q a b x y : List ℕ) (old : Option (List ℕ)) → (a ≡ b → ⊥) → (s t : Bool) → eq_by_cmp order q a ≡ s → eq_by_cmp order q b ≡ t
+    → cond t (Some y) (cond s (Some x) old) ≡ cond s (Some x) (cond t (Some y) old)
+swapped q a b x y old apart true true is and = absurd (apart (sym (same_name q a is) ∙ same_name q b and))
+swapped q a b x y old apart true false is and = refl
+swapped q a b x y old apart false true is and = refl
+swapped q a b x y old apart false false is and = refl
+
+-- the order of two insertions at different names doesn't matter
+pub inserts_swap : (m : Values) (a b x y : List ℕ) → (a ≡ b → ⊥) → insert (insert m a x) b y ≡ insert (insert m b y) a x
+inserts_swap m a b x y apart =
+    same_map nat_list_cmp_total exact _ _ (λ q.
+    let left : get (insert (insert m a x) b y) q ≡ cond (eq_by_cmp order q b) (Some y) (cond (eq_by_cmp order q a) (Some x) (get m q)) =
+    get-insert nat_list_cmp_total (insert m a x) b y q ∙ ap (cond (eq_by_cmp order q b) (Some y)) (get-insert nat_list_cmp_total m a x q) in
+    let right : get (insert (insert m b y) a x) q ≡ cond (eq_by_cmp order q a) (Some x) (cond (eq_by_cmp order q b) (Some y) (get m q)) =
+    get-insert nat_list_cmp_total (insert m b y) a x q ∙ ap (cond (eq_by_cmp order q a) (Some x)) (get-insert nat_list_cmp_total m b y q) in
+    left ∙ swapped q a b x y (get m q) apart (eq_by_cmp order q a) (eq_by_cmp order q b) refl refl ∙ sym right)

@@ -1,5 +1,5 @@
 -- Values as MessagePack: which texts spell a value, and which of them is written.
-use Rattle.std.specs.Prelude.{◌≡◌, ℕ, ◌+◌, ◌/◌, ◌%◌, ◌<◌, ◌^◌, pos, nat_abs, List, [], ◌∷◌, ◌++◌, length, flat_map, Option, Some, None, IsUtf8}
+use Rattle.std.specs.Prelude.{◌≡◌, ℕ, ◌+◌, ◌/◌, ◌%◌, ◌<◌, ◌^◌, pos, nat_abs, List, [], ◌∷◌, ◌++◌, length, slice_index, flat_map, Option, Some, None, IsUtf8}
 use Rattle.cache_words.specs.Forms.{Stands, shortest, numbers, arrays, texts, byte_strings}
 use Rattle.cache_words.specs.Time.{Instant, second}
 use Rattle.cache_words.specs.Key.{Key}
@@ -30,6 +30,10 @@ abbrev pub SpellEach : List ℕ → List ℕ → Type 0
 SpellEach [] text = text ≡ []
 SpellEach (n ∷ ns) text =
     (front : List ℕ) × (behind : List ℕ) × (n < 256) × Stands numbers n front × SpellEach ns behind × (text ≡ front ++ behind)
+
+-- sixteen bytes
+abbrev pub IsHash : List ℕ → Type 0
+IsHash hash = (length hash ≡ 16) × ((i : ℕ) → slice_index hash i < 256)
 
 -- a hash: an array of 16 numbers below 256
 pub record SpellsHash (hash text : List ℕ) : Type 0 where

@@ -4,6 +4,7 @@
 pub mod blake;
 mod compress;
 pub mod key;
+pub mod laws;
 pub mod pack;
 mod piece;
 pub mod text;
