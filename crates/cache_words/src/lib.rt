@@ -7,6 +7,8 @@ pub mod key;
 pub mod laws;
 pub mod pack;
 mod piece;
+#[cfg(test)]
+mod tests;
 pub mod text;
 pub mod time;
 pub mod variance;
