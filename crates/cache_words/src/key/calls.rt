@@ -25,7 +25,7 @@ impl CacheKey {
     pub fn primary_key(&self) -> &[u8]
         ensures { result.now ≡ self.now.primary }
     {
-        self.primary.as_slice()
+        &self.primary
     }
 
     /// What is asked for as text, if it is text.
@@ -101,7 +101,7 @@ impl CacheHashKey for CacheKey {
     }
 
     fn variance_bin(&self) -> Option<HashBinary> {
-        self.variance
+        self.get_variance_key().copied()
     }
 
     fn user_tag(&self) -> &str {
