@@ -1,1 +1,11 @@
+pub mod Blake
+pub mod BorrowedKey
+pub mod CompactKey
+pub mod Forms
+pub mod Hasher
+pub mod Key
+pub mod Pack
+pub mod Piece
+pub mod Reading
 pub mod Time
+pub mod Variance

@@ -173,14 +173,13 @@ impl Duration {
     pub fn new(seconds: u64, nanoseconds: u32) -> Option<Duration>
         ensures { result ≡ (if nat_lt nanoseconds second then Some (record { seconds = seconds; nanoseconds = nanoseconds }) else None) }
     {
-        if nanoseconds < NANOSECONDS_PER_SECOND {
-            Some(Duration {
-                seconds,
-                nanoseconds,
-            })
-        } else {
-            None
+        if nanoseconds >= NANOSECONDS_PER_SECOND {
+            return None;
         }
+        Some(Duration {
+            seconds,
+            nanoseconds,
+        })
     }
 
     /// Whole seconds.

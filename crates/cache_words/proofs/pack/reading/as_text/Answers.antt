@@ -1,0 +1,17 @@
+use Rattle.std.proofs.Common.{◌≡◌, Bool, true, false, refl}
+use Rattle.std.specs.Str.{is_utf8}
+use Rattle.std.proofs.lemmas.Str.{is_utf8-from_IsUtf8, IsUtf8-from_is_utf8}
+use Rattle.cache_words.proofs.pack.reading.as_text.Goals as goal
+
+not_true : (b : Bool) → (b ≡ true → ⊥) → b ≡ false
+not_true true h = absurd (h refl)
+not_true false h = refl
+
+pub returns-in-Ok : goal.returns-in-Ok
+returns-in-Ok c = (c.in-Ok.ensures.cases.0, is_utf8-from_IsUtf8 c.args.front.now c.in-Ok.ensures.cases.1)
+
+pub returns-in-Err : goal.returns-in-Err
+returns-in-Err c = (
+  refl,
+  not_true (is_utf8 c.args.front.now) (λ e. c.in-Err.ensures.cases.0 (IsUtf8-from_is_utf8 c.args.front.now e)),
+)
