@@ -163,4 +163,5 @@ pub(crate) fn evict(
         let key = evict_last(rows, bodies);
         evicted.push_reserved(key);
     }
+    evicted.shrink_to_fit();
 }

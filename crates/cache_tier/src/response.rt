@@ -22,7 +22,7 @@ const HEAD_END: &[u8] = b"\r\n\r\n";
 const MOST_DIGITS: usize = 9;
 
 /// Why a response is not stored.
-#[derive(Debug, Drop)]
+#[derive(Drop)]
 pub(crate) enum PutFault {
     /// The growth of a part was refused.
     Memory,
@@ -69,6 +69,7 @@ fn joined(alloc: Global, pieces: &[Bytes]) -> Result<Bytes, AllocError>
     for piece in pieces {
         all.extend_from_slice(piece.as_slice())?;
     }
+    all.shrink_to_fit();
     let all = Bytes::from_vec(all)?;
     Ok(all)
 }

@@ -373,3 +373,6 @@ impl Tier<1> {
         }
     }
 }
+
+#[cfg(test)]
+mod tests;

@@ -1,12 +1,15 @@
 -- Bodies are tracked with at least their lengths, and so keep both limits.
 use Rattle.std.proofs.Common.{◌≡◌, ℕ, ◌≤◌, refl, ap, sym, ◌∙◌, true, false, subst, cond, [], ◌∷◌, length, arith}
-use Rattle.std.specs.Prelude.{Bool, List, Option, Some, None, option_map, unwrap_or, is_some, Result, Ok, Err, max}
+use Rattle.std.specs.Prelude.{Bool, List, Option, Some, None, option_map, unwrap_or, is_some, Ok, Err, max}
 use Rattle.std.specs.List.{AllByRecursion, sum_by}
 use Rattle.std.specs.FinMap.{get, insert}
 use Rattle.std.proofs.lemmas.List.Sums.{sum_by-cons}
 use Rattle.std.proofs.Math.Nat.{le-max_right}
 use Rattle.cache_words.specs.Time.{Instant}
 use Rattle.tier_model.specs.declared.key.StoredKey.{StoredKey}
+use Rattle.tier_model.specs.declared.given.Given.{Given}
+use Rattle.tier_model.specs.declared.given.Given.TheVariants.{Stored}
+use Rattle.tier_model.specs.declared.given.Given.TheVariants as given
 use Rattle.tier_model.specs.declared.rows.FinishedBody.{FinishedBody}
 use Rattle.tier_model.specs.declared.rows.Tracked.{Tracked}
 use Rattle.tier_model.specs.declared.rows.Request.{Request}
@@ -16,12 +19,11 @@ use Rattle.tier_model.specs.declared.event.Answer.{Answer}
 use Rattle.tier_model.specs.declared.event.Answer.TheVariants.{Finished}
 use Rattle.tier_model.specs.declared.event.TierFault.{TierFault}
 use Rattle.tier_model.specs.Keys.{same_key}
-use Rattle.tier_model.specs.Response.{body_put}
 use Rattle.tier_model.specs.Calls.{Call, History, Outcome, has_key, done_of}
 use Rattle.tier_model.specs.Histories.{IsBody, IsWithin, HasDistinctKeys}
 use Rattle.tier_model.specs.Rows.{body_of, with_body, without_body, without_bodies, row_of, weight_of, all_weights, without_row, without_rows, admitted, used, weight_for, is_over}
 use Rattle.tier_model.specs.State.{State}
-use Rattle.tier_model.specs.Step.{refusal, Allows, IsAnswer, IsPutAnswer, after, answered, undone, taken_back, on_request, look_behind, read_behind, purge_behind, put_behind}
+use Rattle.tier_model.specs.Step.{refusal, AllowsBy, Allows, IsAnswer, IsPutAnswer, after, answered, undone, taken_back, on_request, look_behind, read_behind, purge_behind, put_behind}
 use Rattle.tier_model.proofs.KeyLaws.{same_key-true, same_key-sym, find-key}
 use Rattle.tier_model.proofs.BodyLaws.{body_now-of, body_of-without, body_of-with, body_of-without_all}
 use Rattle.tier_model.proofs.OrderLaws.{row_of-without, row_of-without_all, row_of-admitted, all_weights-tracked, length-tracked, is_past-less, is_over-less, is_over-without, is_over-without_all, is_over-evicted, kept_weight, kept_count, used_weight, used_count}
@@ -68,7 +70,7 @@ AreTracked-with x bodies rows h k b e =
     subst (HasWeight (length b.bytes)) (sym (row_of-admitted k x.key (weight_for x) rows)) (entered (same_key x.key k) b x (body_of k bodies) (row_of k rows) (h k b) (sym (body_of-with k x bodies) ∙ e))
 
 -- what a tracked entry weighs
-weight_there : (n : ℕ) (o : Option Tracked) → HasWeight n o → (w : ℕ) × (option_map (λ r. r.weight) o ≡ Some w) × (n ≤ w)
+pub weight_there : (n : ℕ) (o : Option Tracked) → HasWeight n o → (w : ℕ) × (option_map (λ r. r.weight) o ≡ Some w) × (n ≤ w)
 weight_there n None h = absurd h
 weight_there n (Some r) h = (r.weight, refl, h)
 
@@ -115,13 +117,17 @@ purge_keeps s key true h = record {
   tracked = AreTracked-without key s.bodies s.tracked h.tracked;
 }
 
-put_keeps : (s : State) (r : Result FinishedBody TierFault) (a : Answer) → IsPutAnswer s r a → KeepsLimits s → KeepsLimits (put_behind s r a)
-put_keeps s (Ok b) (Finished n es) p h = record {
+put_keeps : (s : State) (g : Option Given) (a : Answer) → IsPutAnswer s g a → KeepsLimits s → KeepsLimits (put_behind s g a)
+put_keeps s (Some (Stored b)) (Finished n es) p h = record {
   kept = is_over-evicted s.settings.limit s.settings.watermark es (admitted b.key (weight_for b) s.tracked) p.2;
   tracked = AreTracked-without_all es (with_body b s.bodies) (admitted b.key (weight_for b) s.tracked) (AreTracked-with b s.bodies s.tracked h.tracked);
 }
-put_keeps s (Err f) a p h = absurd p
-put_keeps s (Ok b) _ p h = absurd p
+put_keeps s (Some (Stored b)) _ p h = h
+put_keeps s (Some given.Incomplete) a p h = h
+put_keeps s (Some given.BadHead) a p h = h
+put_keeps s (Some given.BeforeEpoch) a p h = h
+put_keeps s (Some (given.Uncacheable reason)) a p h = h
+put_keeps s None a p h = h
 
 back_keeps : (v : Bool) (s : State) (key : StoredKey) (es : List StoredKey) → KeepsLimits s → KeepsLimits (taken_back v s key es)
 back_keeps false s key es h = h
@@ -130,14 +136,14 @@ back_keeps true s key es h = record {
   tracked = AreTracked-without key (without_bodies es s.bodies) (without_rows es s.tracked) (AreTracked-without_all es s.bodies s.tracked h.tracked);
 }
 
-answer_keeps : (s : State) (t : Instant) (action : Action) (a : Answer) → IsAnswer s t action a → KeepsLimits s → KeepsLimits (answered s t action a)
-answer_keeps s t (Open i key) a p h = record { kept = h.kept; tracked = h.tracked }
-answer_keeps s t (LookUp i) a p h = request_keeps s (get s.requests i) (λ q. look_behind s t i q (body_of q.key s.bodies)) h (λ q. look_keeps s t i q (body_of q.key s.bodies) refl h)
-answer_keeps s t (Read i) a p h =
+answer_keeps : (s : State) (t : Instant) (g : Option Given) (action : Action) (a : Answer) → IsAnswer s t action g a → KeepsLimits s → KeepsLimits (answered s t action g a)
+answer_keeps s t g (Open i key) a p h = record { kept = h.kept; tracked = h.tracked }
+answer_keeps s t g (LookUp i) a p h = request_keeps s (get s.requests i) (λ q. look_behind s t i q (body_of q.key s.bodies)) h (λ q. look_keeps s t i q (body_of q.key s.bodies) refl h)
+answer_keeps s t g (Read i) a p h =
     request_keeps s (get s.requests i) (λ q. record s { requests = insert s.requests i (read_behind q) }) h (λ q. record { kept = h.kept; tracked = h.tracked })
-answer_keeps s t (Drop i) a p h = record { kept = h.kept; tracked = h.tracked }
-answer_keeps s t (Purge key) a p h = purge_keeps s key (is_some (body_of key s.bodies)) h
-answer_keeps s t (Put key pieces) a p h = put_keeps s (body_put t key pieces) a p h
+answer_keeps s t g (Drop i) a p h = record { kept = h.kept; tracked = h.tracked }
+answer_keeps s t g (Purge key) a p h = purge_keeps s key (is_some (body_of key s.bodies)) h
+answer_keeps s t g (Put key pieces) a p h = put_keeps s g a p h
 
 undone_keeps : (s : State) (action : Action) (f : TierFault) → KeepsLimits s → KeepsLimits (undone s action (done_of f))
 undone_keeps s (Open i key) f h = h
@@ -148,11 +154,11 @@ undone_keeps s (Purge key) f h = h
 undone_keeps s (Put key pieces) f h = back_keeps (done_of f).stored s key (done_of f).evicted h
 
 -- each lawful call keeps the limits
-pub KeepsLimits-after : (s : State) (c : Call) → Allows s c.event c.outcome → KeepsLimits s → KeepsLimits (after s c.event c.outcome)
-KeepsLimits-after s c p h = by_outcome c.outcome p
+pub KeepsLimits-after : (s : State) (c : Call) → Allows s c → KeepsLimits s → KeepsLimits (after s c)
+KeepsLimits-after s c p h = by_outcome c.outcome p.1
   where
-    by_outcome : (o : Outcome) → Allows s c.event o → KeepsLimits (after s c.event o)
-    by_outcome (Ok a) p = answer_keeps s c.event.moment c.event.action a (answer_allowed (refusal s c.event.action) s c.event.moment c.event.action a p) h
+    by_outcome : (o : Outcome) → AllowsBy (refusal s c.event.action) s c.event.moment c.event.action c.given o → KeepsLimits (after s (record c { outcome = o }))
+    by_outcome (Ok a) p = answer_keeps s c.event.moment c.given c.event.action a (answer_allowed (refusal s c.event.action) s c.event.moment c.given c.event.action a p) h
     by_outcome (Err f) p = undone_keeps s c.event.action f h
 
 -- bodies of distinct keys, each tracked with at least its length, are within what is tracked

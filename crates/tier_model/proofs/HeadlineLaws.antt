@@ -4,6 +4,7 @@ use Rattle.std.specs.Prelude.{ℕ, List, Option, Some, None, is_some, Ok, Err, M
 use Rattle.std.specs.FinMap.{get}
 use Rattle.cache_words.specs.Time.{Instant}
 use Rattle.tier_model.specs.declared.key.StoredKey.{StoredKey}
+use Rattle.tier_model.specs.declared.given.Given.{Given}
 use Rattle.tier_model.specs.declared.rows.FinishedBody.{FinishedBody}
 use Rattle.tier_model.specs.declared.rows.Request.{Request}
 use Rattle.tier_model.specs.declared.rows.Reader.{Reader}
@@ -19,7 +20,7 @@ use Rattle.tier_model.specs.Histories.{IsFound}
 use Rattle.tier_model.specs.Headline.{LooksRight, ReadsWhole, PurgesRight, IsRight}
 use Rattle.tier_model.specs.Rows.{body_of}
 use Rattle.tier_model.specs.State.{State}
-use Rattle.tier_model.specs.Step.{refusal, unless_open, has_reader, Allows, IsAnswer, look_answer, read_answer, use_is_too_heavy}
+use Rattle.tier_model.specs.Step.{refusal, AllowsBy, unless_open, has_reader, Allows, IsAnswer, look_answer, read_answer, use_is_too_heavy}
 use Rattle.tier_model.proofs.BodyLaws.{body_now, body_now-is, body_now-found}
 use Rattle.tier_model.proofs.StepLaws.{answer_allowed}
 use Rattle.tier_model.proofs.RequestLaws.{Fits, ReaderFits, of_request, reader_there, unrefused, append_nothing}
@@ -31,10 +32,10 @@ not_found k s h fits e found =
     let clash : is_some {T = FinishedBody} None ≡ true = ap is_some (sym gone) ∙ there in
     cc
 
-look_right : (s : State) (t : Instant) (i : ℕ) (a : Answer) (h : History) (o : Option Request) → Fits s h → get s.requests i ≡ o
+look_right : (s : State) (t : Instant) (g : Option Given) (i : ℕ) (a : Answer) (h : History) (o : Option Request) → Fits s h → get s.requests i ≡ o
     → MatchOption o ⊥ (λ q. (a ≡ look_answer t (body_of q.key s.bodies)) × (use_is_too_heavy (body_of q.key s.bodies) s.tracked ≡ false)) → LooksRight i t a h
-look_right s t i a h None fits e p = absurd p
-look_right s t i a h (Some q) fits e p = by_body (body_of q.key s.bodies) refl p.0
+look_right s t g i a h None fits e p = absurd p
+look_right s t g i a h (Some q) fits e p = by_body (body_of q.key s.bodies) refl p.0
   where
     by_body : (b : Option FinishedBody) → body_of q.key s.bodies ≡ b → a ≡ look_answer t b → LooksRight i t a h
     by_body None be ae = subst (λ (x : Answer). LooksRight i t x h) (sym ae) (q.key, (of_request s h fits i q e).0, not_found q.key s h fits be)
@@ -47,10 +48,10 @@ reader_right i Closed h e fits = cc
 reader_right i (Unread bytes) h e fits = record { body = fits.0; since = fits.1; hit = fits.2; whole = ap (λ (xs : List ℕ). xs ++ bytes) fits.3 ∙ fits.4 }
 reader_right i Spent h e fits = record { body = fits.0; since = fits.1; hit = fits.2; whole = append_nothing _ ∙ fits.3 }
 
-read_right : (s : State) (t : Instant) (i : ℕ) (a : Answer) (h : History) (o : Option Request) → Fits s h → get s.requests i ≡ o
+read_right : (s : State) (t : Instant) (g : Option Given) (i : ℕ) (a : Answer) (h : History) (o : Option Request) → Fits s h → get s.requests i ≡ o
     → unless_open o (λ q. cond (has_reader q.reader) None (Some WrongPhase)) ≡ None → MatchOption o ⊥ (λ q. a ≡ read_answer q.reader) → ReadsWhole i a h
-read_right s t i a h None fits e n p = absurd p
-read_right s t i a h (Some q) fits e n p =
+read_right s t g i a h None fits e n p = absurd p
+read_right s t g i a h (Some q) fits e n p =
     subst (λ (x : Answer). ReadsWhole i x h) (sym p) (reader_right i q.reader h (reader_there q n) (of_request s h fits i q e).1)
 
 purge_right : (s : State) (k : StoredKey) (h : History) → Fits s h → PurgesRight k (Purged (is_some (body_of k s.bodies))) h
@@ -63,26 +64,26 @@ purge_right s k h fits = (to_found, λ found. ap is_some (fits.bodies k) ∙ bod
     to_found : is_some (body_of k s.bodies) ≡ true → IsFound k h
     to_found t = by_body (body_now k h) refl (ap is_some (sym (fits.bodies k)) ∙ t)
 
-answer_right : (s : State) (t : Instant) (action : Action) (a : Answer) (h : History) → Fits s h → refusal s action ≡ None → IsAnswer s t action a → IsRight t action (Ok a) h
-answer_right s t (Open i key) a h fits n p = tt
-answer_right s t (LookUp i) a h fits n p = look_right s t i a h (get s.requests i) fits refl p
-answer_right s t (Read i) a h fits n p = read_right s t i a h (get s.requests i) fits refl n p
-answer_right s t (Drop i) a h fits n p = tt
-answer_right s t (Purge key) a h fits n p = subst (λ (x : Answer). PurgesRight key x h) (sym p) (purge_right s key h fits)
-answer_right s t (Put key pieces) a h fits n p = tt
+answer_right : (s : State) (t : Instant) (g : Option Given) (action : Action) (a : Answer) (h : History) → Fits s h → refusal s action ≡ None → IsAnswer s t action g a → IsRight t action (Ok a) h
+answer_right s t g (Open i key) a h fits n p = tt
+answer_right s t g (LookUp i) a h fits n p = look_right s t g i a h (get s.requests i) fits refl p
+answer_right s t g (Read i) a h fits n p = read_right s t g i a h (get s.requests i) fits refl n p
+answer_right s t g (Drop i) a h fits n p = tt
+answer_right s t g (Purge key) a h fits n p = subst (λ (x : Answer). PurgesRight key x h) (sym p) (purge_right s key h fits)
+answer_right s t g (Put key pieces) a h fits n p = tt
 
-fault_right : (t : Instant) (action : Action) (f : TierFault) (h : History) → IsRight t action (Err f) h
-fault_right t (Open i key) f h = tt
-fault_right t (LookUp i) f h = tt
-fault_right t (Read i) f h = tt
-fault_right t (Drop i) f h = tt
-fault_right t (Purge key) f h = tt
-fault_right t (Put key pieces) f h = tt
+fault_right : (t : Instant) (g : Option Given) (action : Action) (f : TierFault) (h : History) → IsRight t action (Err f) h
+fault_right t g (Open i key) f h = tt
+fault_right t g (LookUp i) f h = tt
+fault_right t g (Read i) f h = tt
+fault_right t g (Drop i) f h = tt
+fault_right t g (Purge key) f h = tt
+fault_right t g (Put key pieces) f h = tt
 
-pub IsRight-allowed : (s : State) (c : Call) (h : History) → Fits s h → Allows s c.event c.outcome → IsRight c.event.moment c.event.action c.outcome h
-IsRight-allowed s c h fits p = by_outcome c.outcome p
+pub IsRight-allowed : (s : State) (c : Call) (h : History) → Fits s h → Allows s c → IsRight c.event.moment c.event.action c.outcome h
+IsRight-allowed s c h fits p = by_outcome c.outcome p.1
   where
-    by_outcome : (o : Outcome) → Allows s c.event o → IsRight c.event.moment c.event.action o h
-    by_outcome (Ok a) p = answer_right s c.event.moment c.event.action a h fits
-        (unrefused (refusal s c.event.action) s c.event.moment c.event.action a refl p) (answer_allowed (refusal s c.event.action) s c.event.moment c.event.action a p)
-    by_outcome (Err f) p = fault_right c.event.moment c.event.action f h
+    by_outcome : (o : Outcome) → AllowsBy (refusal s c.event.action) s c.event.moment c.event.action c.given o → IsRight c.event.moment c.event.action o h
+    by_outcome (Ok a) p = answer_right s c.event.moment c.given c.event.action a h fits
+        (unrefused (refusal s c.event.action) s c.event.moment c.given c.event.action a refl p) (answer_allowed (refusal s c.event.action) s c.event.moment c.given c.event.action a p)
+    by_outcome (Err f) p = fault_right c.event.moment c.given c.event.action f h

@@ -8,3 +8,6 @@ pub mod OrderLaws
 pub mod BoundLaws
 pub mod Carried
 pub mod UseLaws
+pub mod UseSteps
+pub mod ReportLaws
+pub mod ResponseLaws

@@ -1,6 +1,6 @@
 -- A request's key and reader are what its own calls say.
 use Rattle.std.proofs.Common.{◌≡◌, refl, ap, sym, ◌∙◌, true, false, subst, cond, [], ◌∷◌, ◌++◌, ◌==◌}
-use Rattle.std.specs.Prelude.{Bool, ℕ, List, Option, Some, None, is_some, Result, Ok, Err, ◌&&◌, MatchOption}
+use Rattle.std.specs.Prelude.{Bool, ℕ, List, Option, Some, None, is_some, Ok, Err, ◌&&◌, MatchOption}
 use Rattle.std.specs.FinMap.{FinMap, get, insert, remove, get-insert, get-remove}
 use Rattle.std.specs.Ordering.{nat_cmp}
 use Rattle.std.specs.Cmp.{unsigned_tied}
@@ -8,6 +8,9 @@ use Rattle.std.proofs.lemmas.Cmp.{nat_cmp_total, eq_by_cmp_equiv}
 use Rattle.std.proofs.lemmas.Bool.{eqb-true, eq-eqb}
 use Rattle.cache_words.specs.Time.{Instant, at_most}
 use Rattle.tier_model.specs.declared.key.StoredKey.{StoredKey}
+use Rattle.tier_model.specs.declared.given.Given.{Given}
+use Rattle.tier_model.specs.declared.given.Given.TheVariants.{Stored}
+use Rattle.tier_model.specs.declared.given.Given.TheVariants as given
 use Rattle.tier_model.specs.declared.rows.FinishedBody.{FinishedBody}
 use Rattle.tier_model.specs.declared.rows.Request.{Request}
 use Rattle.tier_model.specs.declared.rows.Reader.{Reader}
@@ -18,12 +21,11 @@ use Rattle.tier_model.specs.declared.event.Answer.{Answer}
 use Rattle.tier_model.specs.declared.event.Answer.TheVariants.{Opened, Found, Bytes, End, Dropped, Finished}
 use Rattle.tier_model.specs.declared.event.TierFault.{TierFault}
 use Rattle.tier_model.specs.declared.event.TierFault.TheVariants.{WrongPhase}
-use Rattle.tier_model.specs.Response.{body_put}
 use Rattle.tier_model.specs.Calls.{Call, History, Outcome, opened_key, key_behind, ends_reader, bytes_given, bytes_read, bytes_answered, done_of}
 use Rattle.tier_model.specs.Histories.{IsBody, HasHit}
 use Rattle.tier_model.specs.Rows.{body_of}
 use Rattle.tier_model.specs.State.{State}
-use Rattle.tier_model.specs.Step.{refusal, unless_open, has_reader, AllowsBy, Allows, IsAnswer, IsPutAnswer, after, answered, undone, taken_back, opened_request, look_answer, looked, look_behind, on_request, read_answer, read_behind, purge_behind, put_behind, use_is_too_heavy}
+use Rattle.tier_model.specs.Step.{refusal, unless_open, has_reader, AllowsBy, Allows, IsAnswer, after, answered, undone, taken_back, opened_request, look_answer, looked, look_behind, on_request, read_answer, read_behind, purge_behind, put_behind, use_is_too_heavy}
 use Rattle.tier_model.proofs.BodyLaws.{body_by, body_now, body_now-is}
 use Rattle.tier_model.proofs.StepLaws.{call_at, answer_allowed, body_of-after}
 
@@ -111,45 +113,45 @@ pub of_request : (s : State) (h : History) → Fits s h → (i : ℕ) (q : Reque
 of_request s h fits i q e = subst (λ (o : Option Request). RequestFits i o h) e (fits.requests i)
 
 -- what a complete hit showed is what the reader has
-found_reader : (t : Instant) (i : ℕ) (q : Request) (w : FinishedBody) (fresh : Bool) (h : History) → opened_key i h ≡ Some q.key → IsBody q.key w h
-    → ReaderFits i (Unread w.bytes) (call_at t (LookUp i) (Ok (Found fresh true)) ∷ h)
-found_reader t i q w fresh h key body =
-    (w, [], record { call = call_at t (LookUp i) (Ok (Found fresh true)); before = h; key = q.key; split = refl; hit = ap (λ v. v && true) (itself i); of_key = key; shows = body; last = tt }, refl, refl)
+found_reader : (t : Instant) (g : Option Given) (i : ℕ) (q : Request) (w : FinishedBody) (fresh : Bool) (h : History) → opened_key i h ≡ Some q.key → IsBody q.key w h
+    → ReaderFits i (Unread w.bytes) (call_at t (LookUp i) g (Ok (Found fresh true)) ∷ h)
+found_reader t g i q w fresh h key body =
+    (w, [], record { call = call_at t (LookUp i) g (Ok (Found fresh true)); before = h; key = q.key; split = refl; hit = ap (λ v. v && true) (itself i); of_key = key; shows = body; last = tt }, refl, refl)
 
-look_fits : (s : State) (t : Instant) (i : ℕ) (a : Answer) (h : History) (o : Option Request) → Fits s h → get s.requests i ≡ o
+look_fits : (s : State) (t : Instant) (g : Option Given) (i : ℕ) (a : Answer) (h : History) (o : Option Request) → Fits s h → get s.requests i ≡ o
     → MatchOption o ⊥ (λ q. (a ≡ look_answer t (body_of q.key s.bodies)) × (use_is_too_heavy (body_of q.key s.bodies) s.tracked ≡ false))
-    → (id : ℕ) → RequestFits id (get (on_request s o (λ q. look_behind s t i q (body_of q.key s.bodies))).requests id) (call_at t (LookUp i) (Ok a) ∷ h)
-look_fits s t i a h None fits e p id = absurd p
-look_fits s t i a h (Some q) fits e p id = by_body (body_of q.key s.bodies) refl p.0
+    → (id : ℕ) → RequestFits id (get (on_request s o (λ q. look_behind s t i q (body_of q.key s.bodies))).requests id) (call_at t (LookUp i) g (Ok a) ∷ h)
+look_fits s t g i a h None fits e p id = absurd p
+look_fits s t g i a h (Some q) fits e p id = by_body (body_of q.key s.bodies) refl p.0
   where
     open_key : opened_key i h ≡ Some q.key
     open_key = (of_request s h fits i q e).0
 
-    by_body : (b : Option FinishedBody) → body_of q.key s.bodies ≡ b → a ≡ look_answer t b → RequestFits id (get (look_behind s t i q b).requests id) (call_at t (LookUp i) (Ok a) ∷ h)
+    by_body : (b : Option FinishedBody) → body_of q.key s.bodies ≡ b → a ≡ look_answer t b → RequestFits id (get (look_behind s t i q b).requests id) (call_at t (LookUp i) g (Ok a) ∷ h)
     by_body None be ae =
-        placed s.requests i (looked t q None) id (call_at t (LookUp i) (Ok a)) h (open_key, tt) (λ n. record { key = refl; reader = n; bytes = refl }) (fits.requests id)
+        placed s.requests i (looked t q None) id (call_at t (LookUp i) g (Ok a)) h (open_key, tt) (λ n. record { key = refl; reader = n; bytes = refl }) (fits.requests id)
     by_body (Some w) be ae =
-        placed s.requests i (looked t q (Some w)) id (call_at t (LookUp i) (Ok a)) h (
+        placed s.requests i (looked t q (Some w)) id (call_at t (LookUp i) g (Ok a)) h (
           open_key,
-          subst (λ (x : Answer). ReaderFits i (Unread w.bytes) (call_at t (LookUp i) (Ok x) ∷ h)) (sym ae)
-              (found_reader t i q w (at_most t w.fresh_until) h open_key (body_now-is q.key w h (sym (fits.bodies q.key) ∙ be))),
+          subst (λ (x : Answer). ReaderFits i (Unread w.bytes) (call_at t (LookUp i) g (Ok x) ∷ h)) (sym ae)
+              (found_reader t g i q w (at_most t w.fresh_until) h open_key (body_now-is q.key w h (sym (fits.bodies q.key) ∙ be))),
         )
         (λ n. record { key = refl; reader = n; bytes = refl }) (fits.requests id)
 
 -- a read of what is unread gives all of it, and one behind it nothing
-read_reader : (t : Instant) (i : ℕ) (r : Reader) (h : History) → has_reader r ≡ true → ReaderFits i r h → ReaderFits i Spent (call_at t (Read i) (Ok (read_answer r)) ∷ h)
-read_reader t i Closed h e fits = cc
-read_reader t i (Unread bytes) h e fits = (
+read_reader : (t : Instant) (g : Option Given) (i : ℕ) (r : Reader) (h : History) → has_reader r ≡ true → ReaderFits i r h → ReaderFits i Spent (call_at t (Read i) g (Ok (read_answer r)) ∷ h)
+read_reader t g i Closed h e fits = cc
+read_reader t g i (Unread bytes) h e fits = (
   fits.0,
-  call_at t (Read i) (Ok (Bytes bytes)) ∷ fits.1,
-  longer_hit i fits.0 fits.1 (call_at t (Read i) (Ok (Bytes bytes))) h refl fits.2,
-  more_read i fits.1 (call_at t (Read i) (Ok (Bytes bytes))) [] bytes fits.3 (ap (λ v. cond v bytes []) (itself i)) ∙ fits.4,
+  call_at t (Read i) g (Ok (Bytes bytes)) ∷ fits.1,
+  longer_hit i fits.0 fits.1 (call_at t (Read i) g (Ok (Bytes bytes))) h refl fits.2,
+  more_read i fits.1 (call_at t (Read i) g (Ok (Bytes bytes))) [] bytes fits.3 (ap (λ v. cond v bytes []) (itself i)) ∙ fits.4,
 )
-read_reader t i Spent h e fits = (
+read_reader t g i Spent h e fits = (
   fits.0,
-  call_at t (Read i) (Ok End) ∷ fits.1,
-  longer_hit i fits.0 fits.1 (call_at t (Read i) (Ok End)) h refl fits.2,
-  more_read i fits.1 (call_at t (Read i) (Ok End)) fits.0.bytes [] fits.3 (ap (λ v. cond v [] []) (itself i)) ∙ append_nothing fits.0.bytes,
+  call_at t (Read i) g (Ok End) ∷ fits.1,
+  longer_hit i fits.0 fits.1 (call_at t (Read i) g (Ok End)) h refl fits.2,
+  more_read i fits.1 (call_at t (Read i) g (Ok End)) fits.0.bytes [] fits.3 (ap (λ v. cond v [] []) (itself i)) ∙ append_nothing fits.0.bytes,
 )
 
 -- the check of a read passed
@@ -160,13 +162,13 @@ reader_there q e = by_test (has_reader q.reader) refl e
     by_test true n e = n
     by_test false n e = cc
 
-read_fits : (s : State) (t : Instant) (i : ℕ) (a : Answer) (h : History) (o : Option Request) → Fits s h → get s.requests i ≡ o
+read_fits : (s : State) (t : Instant) (g : Option Given) (i : ℕ) (a : Answer) (h : History) (o : Option Request) → Fits s h → get s.requests i ≡ o
     → unless_open o (λ q. cond (has_reader q.reader) None (Some WrongPhase)) ≡ None → MatchOption o ⊥ (λ q. a ≡ read_answer q.reader)
-    → (id : ℕ) → RequestFits id (get (on_request s o (λ q. record s { requests = insert s.requests i (read_behind q) })).requests id) (call_at t (Read i) (Ok a) ∷ h)
-read_fits s t i a h None fits e n p id = absurd p
-read_fits s t i a h (Some q) fits e n p id =
-    placed s.requests i (read_behind q) id (call_at t (Read i) (Ok a)) h
-    ((of_request s h fits i q e).0, subst (λ (x : Answer). ReaderFits i Spent (call_at t (Read i) (Ok x) ∷ h)) (sym p) (read_reader t i q.reader h (reader_there q n) (of_request s h fits i q e).1))
+    → (id : ℕ) → RequestFits id (get (on_request s o (λ q. record s { requests = insert s.requests i (read_behind q) })).requests id) (call_at t (Read i) g (Ok a) ∷ h)
+read_fits s t g i a h None fits e n p id = absurd p
+read_fits s t g i a h (Some q) fits e n p id =
+    placed s.requests i (read_behind q) id (call_at t (Read i) g (Ok a)) h
+    ((of_request s h fits i q e).0, subst (λ (x : Answer). ReaderFits i Spent (call_at t (Read i) g (Ok x) ∷ h)) (sym p) (read_reader t g i q.reader h (reader_there q n) (of_request s h fits i q e).1))
     (λ m. record { key = refl; reader = refl; bytes = ap (λ v. cond v (bytes_answered a) []) m }) (fits.requests id)
 
 -- a call that leaves the requests alone
@@ -177,39 +179,43 @@ purge_requests : (s : State) (key : StoredKey) (v : Bool) → (purge_behind s ke
 purge_requests s key true = refl
 purge_requests s key false = refl
 
-put_requests : (s : State) (r : Result FinishedBody TierFault) (a : Answer) → IsPutAnswer s r a → (put_behind s r a).requests ≡ s.requests
-put_requests s (Ok b) (Finished n es) p = refl
-put_requests s (Err f) a p = absurd p
-put_requests s (Ok b) _ p = absurd p
+put_requests : (s : State) (g : Option Given) (a : Answer) → (put_behind s g a).requests ≡ s.requests
+put_requests s (Some (Stored b)) (Finished n es) = refl
+put_requests s (Some (Stored b)) _ = refl
+put_requests s (Some given.Incomplete) a = refl
+put_requests s (Some given.BadHead) a = refl
+put_requests s (Some given.BeforeEpoch) a = refl
+put_requests s (Some (given.Uncacheable reason)) a = refl
+put_requests s None a = refl
 
 back_requests : (v : Bool) (s : State) (key : StoredKey) (es : List StoredKey) → (taken_back v s key es).requests ≡ s.requests
 back_requests true s key es = refl
 back_requests false s key es = refl
 
-answer_fits : (s : State) (t : Instant) (action : Action) (a : Answer) (h : History) → Fits s h → refusal s action ≡ None → IsAnswer s t action a
-    → (id : ℕ) → RequestFits id (get (answered s t action a).requests id) (call_at t action (Ok a) ∷ h)
-answer_fits s t (Open i key) a h fits n p id =
-    subst (λ (x : Answer). RequestFits id (get (insert s.requests i (opened_request key)) id) (call_at t (Open i key) (Ok x) ∷ h)) (sym p)
-    (placed s.requests i (opened_request key) id (call_at t (Open i key) (Ok Opened)) h (ap (λ v. cond v (Some key) (opened_key i h)) (itself i), tt)
+answer_fits : (s : State) (t : Instant) (g : Option Given) (action : Action) (a : Answer) (h : History) → Fits s h → refusal s action ≡ None → IsAnswer s t action g a
+    → (id : ℕ) → RequestFits id (get (answered s t action g a).requests id) (call_at t action g (Ok a) ∷ h)
+answer_fits s t g (Open i key) a h fits n p id =
+    subst (λ (x : Answer). RequestFits id (get (insert s.requests i (opened_request key)) id) (call_at t (Open i key) g (Ok x) ∷ h)) (sym p)
+    (placed s.requests i (opened_request key) id (call_at t (Open i key) g (Ok Opened)) h (ap (λ v. cond v (Some key) (opened_key i h)) (itself i), tt)
     (λ m. record { key = ap (λ v. cond v (Some key) (opened_key id h)) m; reader = refl; bytes = refl }) (fits.requests id))
-answer_fits s t (LookUp i) a h fits n p id = look_fits s t i a h (get s.requests i) fits refl p id
-answer_fits s t (Read i) a h fits n p id = read_fits s t i a h (get s.requests i) fits refl n p id
-answer_fits s t (Drop i) a h fits n p id =
-    subst (λ (x : Answer). RequestFits id (get (remove s.requests i) id) (call_at t (Drop i) (Ok x) ∷ h)) (sym p)
-    (ended s.requests i id (call_at t (Drop i) (Ok Dropped)) h (ap (λ v. cond v None (opened_key i h)) (itself i))
+answer_fits s t g (LookUp i) a h fits n p id = look_fits s t g i a h (get s.requests i) fits refl p id
+answer_fits s t g (Read i) a h fits n p id = read_fits s t g i a h (get s.requests i) fits refl n p id
+answer_fits s t g (Drop i) a h fits n p id =
+    subst (λ (x : Answer). RequestFits id (get (remove s.requests i) id) (call_at t (Drop i) g (Ok x) ∷ h)) (sym p)
+    (ended s.requests i id (call_at t (Drop i) g (Ok Dropped)) h (ap (λ v. cond v None (opened_key i h)) (itself i))
     (λ m. record { key = ap (λ v. cond v None (opened_key id h)) m; reader = m; bytes = refl }) (fits.requests id))
-answer_fits s t (Purge key) a h fits n p id =
-    unmoved s (purge_behind s key (is_some (body_of key s.bodies))) (call_at t (Purge key) (Ok a)) h fits (purge_requests s key (is_some (body_of key s.bodies))) (λ i. record { key = refl; reader = refl; bytes = refl }) id
-answer_fits s t (Put key pieces) a h fits n p id =
-    unmoved s (put_behind s (body_put t key pieces) a) (call_at t (Put key pieces) (Ok a)) h fits (put_requests s (body_put t key pieces) a p) (λ i. record { key = refl; reader = refl; bytes = refl }) id
+answer_fits s t g (Purge key) a h fits n p id =
+    unmoved s (purge_behind s key (is_some (body_of key s.bodies))) (call_at t (Purge key) g (Ok a)) h fits (purge_requests s key (is_some (body_of key s.bodies))) (λ i. record { key = refl; reader = refl; bytes = refl }) id
+answer_fits s t g (Put key pieces) a h fits n p id =
+    unmoved s (put_behind s g a) (call_at t (Put key pieces) g (Ok a)) h fits (put_requests s g a) (λ i. record { key = refl; reader = refl; bytes = refl }) id
 
-fault_other : (t : Instant) (action : Action) (f : TierFault) (h : History) (id : ℕ) → IsOther id (call_at t action (Err f)) h
-fault_other t (Open i key) f h id = record { key = refl; reader = refl; bytes = refl }
-fault_other t (LookUp i) f h id = record { key = refl; reader = refl; bytes = refl }
-fault_other t (Read i) f h id = record { key = refl; reader = refl; bytes = refl }
-fault_other t (Drop i) f h id = record { key = refl; reader = refl; bytes = refl }
-fault_other t (Purge key) f h id = record { key = refl; reader = refl; bytes = refl }
-fault_other t (Put key pieces) f h id = record { key = refl; reader = refl; bytes = refl }
+fault_other : (t : Instant) (g : Option Given) (action : Action) (f : TierFault) (h : History) (id : ℕ) → IsOther id (call_at t action g (Err f)) h
+fault_other t g (Open i key) f h id = record { key = refl; reader = refl; bytes = refl }
+fault_other t g (LookUp i) f h id = record { key = refl; reader = refl; bytes = refl }
+fault_other t g (Read i) f h id = record { key = refl; reader = refl; bytes = refl }
+fault_other t g (Drop i) f h id = record { key = refl; reader = refl; bytes = refl }
+fault_other t g (Purge key) f h id = record { key = refl; reader = refl; bytes = refl }
+fault_other t g (Put key pieces) f h id = record { key = refl; reader = refl; bytes = refl }
 
 undone_requests : (s : State) (action : Action) (f : TierFault) → (undone s action (done_of f)).requests ≡ s.requests
 undone_requests s (Open i key) f = refl
@@ -220,15 +226,15 @@ undone_requests s (Purge key) f = refl
 undone_requests s (Put key pieces) f = back_requests (done_of f).stored s key (done_of f).evicted
 
 -- no check failed where there is an answer
-pub unrefused : (r : Option TierFault) (s : State) (t : Instant) (action : Action) (a : Answer) → refusal s action ≡ r → AllowsBy r s t action (Ok a) → refusal s action ≡ None
-unrefused (Some f) s t action a e p = cc
-unrefused None s t action a e p = e
+pub unrefused : (r : Option TierFault) (s : State) (t : Instant) (g : Option Given) (action : Action) (a : Answer) → refusal s action ≡ r → AllowsBy r s t action g (Ok a) → refusal s action ≡ None
+unrefused (Some f) s t g action a e p = cc
+unrefused None s t g action a e p = e
 
 -- the state behind a lawful call fits the history with it
-pub Fits-after : (s : State) (c : Call) (h : History) → Fits s h → Allows s c.event c.outcome → Fits (after s c.event c.outcome) (c ∷ h)
-Fits-after s c h fits p = record { requests = by_outcome c.outcome p; bodies = λ k. body_of-after s c k h p ∙ ap (body_by k c h) (fits.bodies k) }
+pub Fits-after : (s : State) (c : Call) (h : History) → Fits s h → Allows s c → Fits (after s c) (c ∷ h)
+Fits-after s c h fits p = record { requests = by_outcome c.outcome p.1; bodies = λ k. body_of-after s c k h p ∙ ap (body_by k c h) (fits.bodies k) }
   where
-    by_outcome : (o : Outcome) → Allows s c.event o → (id : ℕ) → RequestFits id (get (after s c.event o).requests id) (record { event = c.event; outcome = o } ∷ h)
-    by_outcome (Ok a) p = answer_fits s c.event.moment c.event.action a h fits
-        (unrefused (refusal s c.event.action) s c.event.moment c.event.action a refl p) (answer_allowed (refusal s c.event.action) s c.event.moment c.event.action a p)
-    by_outcome (Err f) p = unmoved s (undone s c.event.action (done_of f)) (call_at c.event.moment c.event.action (Err f)) h fits (undone_requests s c.event.action f) (fault_other c.event.moment c.event.action f h)
+    by_outcome : (o : Outcome) → AllowsBy (refusal s c.event.action) s c.event.moment c.event.action c.given o → (id : ℕ) → RequestFits id (get (after s (record c { outcome = o })).requests id) (record c { outcome = o } ∷ h)
+    by_outcome (Ok a) p = answer_fits s c.event.moment c.given c.event.action a h fits
+        (unrefused (refusal s c.event.action) s c.event.moment c.given c.event.action a refl p) (answer_allowed (refusal s c.event.action) s c.event.moment c.given c.event.action a p)
+    by_outcome (Err f) p = unmoved s (undone s c.event.action (done_of f)) (call_at c.event.moment c.event.action c.given (Err f)) h fits (undone_requests s c.event.action f) (fault_other c.event.moment c.given c.event.action f h)

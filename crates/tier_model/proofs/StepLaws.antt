@@ -1,9 +1,12 @@
 -- One lawful step changes what a key has just as its call says.
 use Rattle.std.proofs.Common.{◌≡◌, refl, ap, sym, ◌∙◌, true, false, subst, cond, [], ◌||◌, inl, inr}
-use Rattle.std.specs.Prelude.{Bool, ℕ, List, Option, Some, None, is_some, Result, Ok, Err, ◌⊎◌, ◌&&◌, MatchOption}
+use Rattle.std.specs.Prelude.{Bool, ℕ, List, Option, Some, None, is_some, Ok, Err, ◌⊎◌, ◌&&◌, MatchOption}
 use Rattle.std.specs.FinMap.{get, insert}
 use Rattle.cache_words.specs.Time.{Instant}
 use Rattle.tier_model.specs.declared.key.StoredKey.{StoredKey}
+use Rattle.tier_model.specs.declared.given.Given.{Given}
+use Rattle.tier_model.specs.declared.given.Given.TheVariants.{Stored}
+use Rattle.tier_model.specs.declared.given.Given.TheVariants as given
 use Rattle.tier_model.specs.declared.rows.FinishedBody.{FinishedBody}
 use Rattle.tier_model.specs.declared.rows.Request.{Request}
 use Rattle.tier_model.specs.declared.rows.Reader.{Reader}
@@ -12,20 +15,19 @@ use Rattle.tier_model.specs.declared.event.Action.{Action}
 use Rattle.tier_model.specs.declared.event.Action.TheVariants.{Open, LookUp, Read, Drop, Purge, Put}
 use Rattle.tier_model.specs.declared.event.Answer.{Answer}
 use Rattle.tier_model.specs.declared.event.Answer.TheVariants.{Opened, Found, Absent, Bytes, End, Dropped, Purged, Finished}
+use Rattle.tier_model.specs.declared.event.Answer.TheVariants as answer
 use Rattle.tier_model.specs.declared.event.Done.{Done}
 use Rattle.tier_model.specs.declared.event.TierFault.{TierFault}
-use Rattle.tier_model.specs.declared.event.TierFault.TheVariants.{NoRequest, IdInUse, WrongPhase, TooHeavy, Unsupported, BeforeEpoch}
-use Rattle.std.specs.Result.{result_ok}
+use Rattle.tier_model.specs.declared.event.TierFault.TheVariants.{NoRequest, IdInUse, WrongPhase, TooHeavy}
 use Rattle.tier_model.specs.Keys.{same_key}
-use Rattle.tier_model.specs.Response.{body_put, body_given, dated_body, response_of, joined, Response, fresh_until, is_before_epoch}
-use Rattle.tier_model.specs.Calls.{Call, History, Outcome, is_of, has_key, nothing_done, done_of}
+use Rattle.tier_model.specs.Calls.{Call, History, Outcome, stored_in, is_of, has_key, nothing_done, done_of}
 use Rattle.tier_model.specs.Rows.{body_of, with_body, without_bodies}
 use Rattle.tier_model.specs.State.{State}
-use Rattle.tier_model.specs.Step.{refusal, unless_open, can_look_up, has_reader, AllowsBy, Allows, after, undone, taken_back, look_answer, read_answer, read_behind, use_is_too_heavy, on_request, IsPutAnswer, IsAnswer, IsFault, put_behind, purge_behind, look_behind}
+use Rattle.tier_model.specs.Step.{refusal, unless_open, can_look_up, has_reader, AllowsBy, Allows, after, behind, undone, taken_back, look_answer, read_answer, read_behind, use_is_too_heavy, on_request, IsPutAnswer, IsAnswer, IsFault, put_behind, purge_behind, look_behind}
 use Rattle.tier_model.proofs.KeyLaws.{same_key-true}
 use Rattle.tier_model.proofs.BodyLaws.{body_by, body_chosen, body_of-without, body_of-with, body_of-without_all}
 
-pub stores_nothing : Action → Bool
+abbrev pub stores_nothing : Action → Bool
 stores_nothing (Put key pieces) = false
 stores_nothing _ = true
 
@@ -54,23 +56,7 @@ refused_nothing s (Drop id) f e = by_request (get s.requests id) e
 refused_nothing s (Purge key) f e = cc
 refused_nothing s (Put key pieces) f e = cc
 
--- what a response that gives no body is refused with did nothing
-given_nothing : (t : Instant) (key : StoredKey) (o : Option Response) (f : TierFault) → body_given t key o ≡ Err f → done_of f ≡ nothing_done
-given_nothing t key None f e = let same : Unsupported ≡ f = cc in ap done_of (sym same)
-given_nothing t key (Some response) f e = by_date (fresh_until t response.lifetime) e
-  where
-    by_epoch : (v : Bool) (b : FinishedBody) → cond v (Err BeforeEpoch) (Ok b) ≡ Err f → done_of f ≡ nothing_done
-    by_epoch true b e = let same : BeforeEpoch ≡ f = cc in ap done_of (sym same)
-    by_epoch false b e = cc
-
-    by_date : (u : Option Instant) → dated_body t key response.body u ≡ Err f → done_of f ≡ nothing_done
-    by_date None e = let same : Unsupported ≡ f = cc in ap done_of (sym same)
-    by_date (Some until) e = by_epoch (is_before_epoch t || is_before_epoch until) _ e
-
-pub body_put-nothing : (t : Instant) (key : StoredKey) (pieces : List (List ℕ)) (f : TierFault) → body_put t key pieces ≡ Err f → done_of f ≡ nothing_done
-body_put-nothing t key pieces f e = given_nothing t key (response_of (joined pieces)) f e
-
-both_none : {X : Type 0} (x y : Bool) (o : Option X) → cond x None (cond y None o) ≡ cond (x || y) None o
+pub both_none : {X : Type 0} (x y : Bool) (o : Option X) → cond x None (cond y None o) ≡ cond (x || y) None o
 both_none true y o = refl
 both_none false y o = refl
 
@@ -79,9 +65,9 @@ unchosen true o new = refl
 unchosen false o new = refl
 
 -- whatever a refused put had done
-put_undone : (s : State) (t : Instant) (key : StoredKey) (pieces : List (List ℕ)) (done : Done) (k : StoredKey) (new : Option FinishedBody)
+put_undone : (s : State) (key : StoredKey) (pieces : List (List ℕ)) (done : Done) (k : StoredKey) (new : Option FinishedBody)
     → body_of k (undone s (Put key pieces) done).bodies ≡ body_chosen ((done.stored && same_key key k) || has_key k (cond done.stored done.evicted [])) false new (body_of k s.bodies)
-put_undone s t key pieces done k new = by_stored done.stored
+put_undone s key pieces done k new = by_stored done.stored
   where
     by_stored : (v : Bool)
         → body_of k (taken_back v s key done.evicted).bodies ≡ body_chosen ((v && same_key key k) || has_key k (cond v done.evicted [])) false new (body_of k s.bodies)
@@ -116,120 +102,113 @@ with_chosen true y b o = refl
 with_chosen false true b o = refl
 with_chosen false false b o = refl
 
-abbrev pub call_at : Instant → Action → Outcome → Call
-call_at t action outcome = record { event = record { moment = t; action = action }; outcome = outcome }
+abbrev pub call_at : Instant → Action → Option Given → Outcome → Call
+call_at t action g outcome = record { event = record { moment = t; action = action }; outcome = outcome; given = g }
 
 -- what a put of this body leaves
 put_finished : (s : State) (k : StoredKey) (b : FinishedBody) (n : ℕ) (es : List StoredKey)
-    → body_of k (put_behind s (Ok b) (Finished n es)).bodies ≡ body_chosen (has_key k es) (same_key b.key k) (Some b) (body_of k s.bodies)
+    → body_of k (put_behind s (Some (Stored b)) (Finished n es)).bodies ≡ body_chosen (has_key k es) (same_key b.key k) (Some b) (body_of k s.bodies)
 put_finished s k b n es =
     body_of-without_all k es (with_body b s.bodies) ∙ ap (cond (has_key k es) None) (body_of-with k b s.bodies) ∙ with_chosen (has_key k es) (same_key b.key k) b (body_of k s.bodies)
 
 -- how a call changes the body of a key
-Follows : State → Instant → Action → Outcome → StoredKey → History → Type 0
-Follows s t action outcome k h = body_of k (after s (record { moment = t; action = action }) outcome).bodies ≡ body_by k (call_at t action outcome) h (body_of k s.bodies)
+Follows : State → Instant → Option Given → Action → Outcome → StoredKey → History → Type 0
+Follows s t g action outcome k h = body_of k (behind s t action g outcome).bodies ≡ body_by k (call_at t action g outcome) h (body_of k s.bodies)
 
-is_finished : Answer → Bool
-is_finished (Finished n es) = true
-is_finished _ = false
+-- a put that is answered anything but finished leaves what a key has
+put_follows_by : (s : State) (k : StoredKey) (n : ℕ) (es : List StoredKey) (g : Option Given) → IsPutAnswer s g (Finished n es)
+    → body_of k (put_behind s g (Finished n es)).bodies ≡ body_chosen (has_key k es) (is_of k (stored_in g)) (stored_in g) (body_of k s.bodies)
+put_follows_by s k n es (Some (Stored b)) p = put_finished s k b n es
+put_follows_by s k n es (Some given.Incomplete) p = absurd p
+put_follows_by s k n es (Some given.BadHead) p = absurd p
+put_follows_by s k n es (Some given.BeforeEpoch) p = absurd p
+put_follows_by s k n es (Some (given.Uncacheable reason)) p = absurd p
+put_follows_by s k n es None p = absurd p
 
--- a put is answered finished alone
-put_answers : (s : State) (r : Result FinishedBody TierFault) (a : Answer) → is_finished a ≡ false → IsPutAnswer s r a → ⊥
-unfolding is_finished
-put_answers s (Err f) a e p = p
-put_answers s (Ok b) (Finished n es) e p = cc
-put_answers s (Ok b) _ e p = p
-
-put_follows_by : (s : State) (k : StoredKey) (n : ℕ) (es : List StoredKey) (r : Result FinishedBody TierFault) → IsPutAnswer s r (Finished n es)
-    → body_of k (put_behind s r (Finished n es)).bodies ≡ body_chosen (has_key k es) (is_of k (result_ok r)) (result_ok r) (body_of k s.bodies)
-put_follows_by s k n es (Ok b) p = put_finished s k b n es
-put_follows_by s k n es (Err f) p = absurd p
-
-put_follows : (s : State) (t : Instant) (key : StoredKey) (pieces : List (List ℕ)) (a : Answer) (k : StoredKey) (h : History)
-    → IsPutAnswer s (body_put t key pieces) a → Follows s t (Put key pieces) (Ok a) k h
-unfolding Follows is_finished
-put_follows s t key pieces (Finished n es) k h p = put_follows_by s k n es (body_put t key pieces) p
-put_follows s t key pieces Opened k h p = absurd (put_answers s (body_put t key pieces) Opened refl p)
-put_follows s t key pieces (Found fresh complete) k h p = absurd (put_answers s (body_put t key pieces) (Found fresh complete) refl p)
-put_follows s t key pieces Absent k h p = absurd (put_answers s (body_put t key pieces) Absent refl p)
-put_follows s t key pieces (Bytes bytes) k h p = absurd (put_answers s (body_put t key pieces) (Bytes bytes) refl p)
-put_follows s t key pieces End k h p = absurd (put_answers s (body_put t key pieces) End refl p)
-put_follows s t key pieces Dropped k h p = absurd (put_answers s (body_put t key pieces) Dropped refl p)
-put_follows s t key pieces (Purged was) k h p = absurd (put_answers s (body_put t key pieces) (Purged was) refl p)
+put_follows : (s : State) (t : Instant) (g : Option Given) (key : StoredKey) (pieces : List (List ℕ)) (a : Answer) (k : StoredKey) (h : History)
+    → IsPutAnswer s g a → Follows s t g (Put key pieces) (Ok a) k h
+unfolding Follows
+put_follows s t g key pieces (Finished n es) k h p = put_follows_by s k n es g p
+put_follows s t (Some (Stored b)) key pieces _ k h p = absurd p
+put_follows s t (Some given.Incomplete) key pieces _ k h p = absurd p
+put_follows s t (Some given.BadHead) key pieces _ k h p = absurd p
+put_follows s t (Some given.BeforeEpoch) key pieces _ k h p = absurd p
+put_follows s t (Some (given.Uncacheable reason)) key pieces (answer.Uncacheable shown) k h p = refl
+put_follows s t (Some (given.Uncacheable reason)) key pieces _ k h p = absurd p
+put_follows s t None key pieces _ k h p = absurd p
 
 -- what is answered where no check fails
-pub answer_allowed : (r : Option TierFault) (s : State) (t : Instant) (action : Action) (a : Answer) → AllowsBy r s t action (Ok a) → IsAnswer s t action a
-answer_allowed (Some f) s t action a p = cc
-answer_allowed None s t action a p = p
+pub answer_allowed : (r : Option TierFault) (s : State) (t : Instant) (g : Option Given) (action : Action) (a : Answer) → AllowsBy r s t action g (Ok a) → IsAnswer s t action g a
+answer_allowed (Some f) s t g action a p = cc
+answer_allowed None s t g action a p = p
 
-look_follows : (s : State) (t : Instant) (id : ℕ) (a : Answer) (k : StoredKey) (h : History) (o : Option Request)
+look_follows : (s : State) (t : Instant) (g : Option Given) (id : ℕ) (a : Answer) (k : StoredKey) (h : History) (o : Option Request)
     → MatchOption o ⊥ (λ q. (a ≡ look_answer t (body_of q.key s.bodies)) × (use_is_too_heavy (body_of q.key s.bodies) s.tracked ≡ false))
-    → body_of k (on_request s o (λ q. look_behind s t id q (body_of q.key s.bodies))).bodies ≡ body_by k (call_at t (LookUp id) (Ok a)) h (body_of k s.bodies)
-look_follows s t id a k h None p = absurd p
-look_follows s t id a k h (Some q) p = by_body (body_of q.key s.bodies) p.0
+    → body_of k (on_request s o (λ q. look_behind s t id q (body_of q.key s.bodies))).bodies ≡ body_by k (call_at t (LookUp id) g (Ok a)) h (body_of k s.bodies)
+look_follows s t g id a k h None p = absurd p
+look_follows s t g id a k h (Some q) p = by_body (body_of q.key s.bodies) p.0
   where
-    by_body : (b : Option FinishedBody) → a ≡ look_answer t b → body_of k (look_behind s t id q b).bodies ≡ body_by k (call_at t (LookUp id) (Ok a)) h (body_of k s.bodies)
-    by_body None e = subst (λ (x : Answer). body_of k s.bodies ≡ body_by k (call_at t (LookUp id) (Ok x)) h (body_of k s.bodies)) (sym e) refl
-    by_body (Some b) e = subst (λ (x : Answer). body_of k s.bodies ≡ body_by k (call_at t (LookUp id) (Ok x)) h (body_of k s.bodies)) (sym e) refl
+    by_body : (b : Option FinishedBody) → a ≡ look_answer t b → body_of k (look_behind s t id q b).bodies ≡ body_by k (call_at t (LookUp id) g (Ok a)) h (body_of k s.bodies)
+    by_body None e = subst (λ (x : Answer). body_of k s.bodies ≡ body_by k (call_at t (LookUp id) g (Ok x)) h (body_of k s.bodies)) (sym e) refl
+    by_body (Some b) e = subst (λ (x : Answer). body_of k s.bodies ≡ body_by k (call_at t (LookUp id) g (Ok x)) h (body_of k s.bodies)) (sym e) refl
 
-read_follows : (s : State) (t : Instant) (id : ℕ) (a : Answer) (k : StoredKey) (h : History) (o : Option Request)
+read_follows : (s : State) (t : Instant) (g : Option Given) (id : ℕ) (a : Answer) (k : StoredKey) (h : History) (o : Option Request)
     → MatchOption o ⊥ (λ q. a ≡ read_answer q.reader)
-    → body_of k (on_request s o (λ q. record s { requests = insert s.requests id (read_behind q) })).bodies ≡ body_by k (call_at t (Read id) (Ok a)) h (body_of k s.bodies)
-read_follows s t id a k h None p = absurd p
-read_follows s t id a k h (Some q) p = by_reader q.reader p
+    → body_of k (on_request s o (λ q. record s { requests = insert s.requests id (read_behind q) })).bodies ≡ body_by k (call_at t (Read id) g (Ok a)) h (body_of k s.bodies)
+read_follows s t g id a k h None p = absurd p
+read_follows s t g id a k h (Some q) p = by_reader q.reader p
   where
-    by_reader : (r : Reader) → a ≡ read_answer r → body_of k s.bodies ≡ body_by k (call_at t (Read id) (Ok a)) h (body_of k s.bodies)
-    by_reader Closed e = subst (λ (x : Answer). body_of k s.bodies ≡ body_by k (call_at t (Read id) (Ok x)) h (body_of k s.bodies)) (sym e) refl
-    by_reader (Unread bytes) e = subst (λ (x : Answer). body_of k s.bodies ≡ body_by k (call_at t (Read id) (Ok x)) h (body_of k s.bodies)) (sym e) refl
-    by_reader Spent e = subst (λ (x : Answer). body_of k s.bodies ≡ body_by k (call_at t (Read id) (Ok x)) h (body_of k s.bodies)) (sym e) refl
+    by_reader : (r : Reader) → a ≡ read_answer r → body_of k s.bodies ≡ body_by k (call_at t (Read id) g (Ok a)) h (body_of k s.bodies)
+    by_reader Closed e = subst (λ (x : Answer). body_of k s.bodies ≡ body_by k (call_at t (Read id) g (Ok x)) h (body_of k s.bodies)) (sym e) refl
+    by_reader (Unread bytes) e = subst (λ (x : Answer). body_of k s.bodies ≡ body_by k (call_at t (Read id) g (Ok x)) h (body_of k s.bodies)) (sym e) refl
+    by_reader Spent e = subst (λ (x : Answer). body_of k s.bodies ≡ body_by k (call_at t (Read id) g (Ok x)) h (body_of k s.bodies)) (sym e) refl
 
-answer_follows : (s : State) (t : Instant) (action : Action) (a : Answer) (k : StoredKey) (h : History) → IsAnswer s t action a → Follows s t action (Ok a) k h
+answer_follows : (s : State) (t : Instant) (g : Option Given) (action : Action) (a : Answer) (k : StoredKey) (h : History) → IsAnswer s t action g a → Follows s t g action (Ok a) k h
 unfolding Follows
-answer_follows s t (Open id key) a k h p = subst (λ (x : Answer). Follows s t (Open id key) (Ok x) k h) (sym p) refl
-answer_follows s t (LookUp id) a k h p = look_follows s t id a k h (get s.requests id) p
-answer_follows s t (Read id) a k h p = read_follows s t id a k h (get s.requests id) p
-answer_follows s t (Drop id) a k h p = subst (λ (x : Answer). Follows s t (Drop id) (Ok x) k h) (sym p) refl
-answer_follows s t (Purge key) a k h p = subst (λ (x : Answer). Follows s t (Purge key) (Ok x) k h) (sym p) (purged s key k None (is_some (body_of key s.bodies)) refl)
-answer_follows s t (Put key pieces) a k h p = put_follows s t key pieces a k h p
+answer_follows s t g (Open id key) a k h p = subst (λ (x : Answer). Follows s t g (Open id key) (Ok x) k h) (sym p) refl
+answer_follows s t g (LookUp id) a k h p = look_follows s t g id a k h (get s.requests id) p
+answer_follows s t g (Read id) a k h p = read_follows s t g id a k h (get s.requests id) p
+answer_follows s t g (Drop id) a k h p = subst (λ (x : Answer). Follows s t g (Drop id) (Ok x) k h) (sym p) refl
+answer_follows s t g (Purge key) a k h p = subst (λ (x : Answer). Follows s t g (Purge key) (Ok x) k h) (sym p) (purged s key k None (is_some (body_of key s.bodies)) refl)
+answer_follows s t g (Put key pieces) a k h p = put_follows s t g key pieces a k h p
 
 -- what is refused: a fault that did nothing leaves the body, and a put's fault what it says
-fault_allowed : (r : Option TierFault) (s : State) (t : Instant) (action : Action) (f : TierFault) → refusal s action ≡ r → AllowsBy r s t action (Err f)
-    → (done_of f ≡ nothing_done) ⊎ IsFault s t action f
-fault_allowed (Some g) s t action f e p = let same : g ≡ f = cc in inl (refused_nothing s action f (e ∙ ap (λ (x : TierFault). Some x) same))
-fault_allowed None s t action f e p = inr p
+fault_allowed : (r : Option TierFault) (s : State) (t : Instant) (g : Option Given) (action : Action) (f : TierFault) → refusal s action ≡ r → AllowsBy r s t action g (Err f)
+    → (done_of f ≡ nothing_done) ⊎ IsFault s action g f
+fault_allowed (Some f') s t g action f e p = let same : f' ≡ f = cc in inl (refused_nothing s action f (e ∙ ap (λ (x : TierFault). Some x) same))
+fault_allowed None s t g action f e p = inr p
 
 -- a refused event that stores nothing did nothing
-pub did_nothing : (s : State) (t : Instant) (action : Action) (f : TierFault) → Allows s (record { moment = t; action = action }) (Err f) → stores_nothing action ≡ true → done_of f ≡ nothing_done
-unfolding stores_nothing
-did_nothing s t (Put key pieces) f p e = cc
-did_nothing s t (Open id key) f p e = elim (fault_allowed (refusal s (Open id key)) s t (Open id key) f refl p) [ inl d ↦ d | inr q ↦ elim q [ inl m ↦ ap done_of m.0 | inr x ↦ absurd x ] ]
-did_nothing s t (LookUp id) f p e = elim (fault_allowed (refusal s (LookUp id)) s t (LookUp id) f refl p) [ inl d ↦ d | inr q ↦ elim q [ inl m ↦ ap done_of m.0 | inr x ↦ heavy (get s.requests id) x ] ]
+pub did_nothing : (s : State) (t : Instant) (g : Option Given) (action : Action) (f : TierFault) → AllowsBy (refusal s action) s t action g (Err f) → stores_nothing action ≡ true → done_of f ≡ nothing_done
+did_nothing s t g (Put key pieces) f p e = cc
+did_nothing s t g (Open id key) f p e = elim (fault_allowed (refusal s (Open id key)) s t g (Open id key) f refl p) [ inl d ↦ d | inr q ↦ elim q [ inl m ↦ ap done_of m.0 | inr x ↦ absurd x ] ]
+did_nothing s t g (LookUp id) f p e = elim (fault_allowed (refusal s (LookUp id)) s t g (LookUp id) f refl p) [ inl d ↦ d | inr q ↦ elim q [ inl m ↦ ap done_of m.0 | inr x ↦ heavy (get s.requests id) x ] ]
   where
     heavy : (o : Option Request) → MatchOption o ⊥ (λ q. (f ≡ TooHeavy nothing_done) × (use_is_too_heavy (body_of q.key s.bodies) s.tracked ≡ true)) → done_of f ≡ nothing_done
     heavy None x = absurd x
     heavy (Some q) x = ap done_of x.0
-did_nothing s t (Read id) f p e = elim (fault_allowed (refusal s (Read id)) s t (Read id) f refl p) [ inl d ↦ d | inr q ↦ elim q [ inl m ↦ absurd m.1 | inr x ↦ absurd x ] ]
-did_nothing s t (Drop id) f p e = elim (fault_allowed (refusal s (Drop id)) s t (Drop id) f refl p) [ inl d ↦ d | inr q ↦ elim q [ inl m ↦ absurd m.1 | inr x ↦ absurd x ] ]
-did_nothing s t (Purge key) f p e = elim p [ inl m ↦ absurd m.1 | inr x ↦ absurd x ]
+did_nothing s t g (Read id) f p e = elim (fault_allowed (refusal s (Read id)) s t g (Read id) f refl p) [ inl d ↦ d | inr q ↦ elim q [ inl m ↦ absurd m.1 | inr x ↦ absurd x ] ]
+did_nothing s t g (Drop id) f p e = elim (fault_allowed (refusal s (Drop id)) s t g (Drop id) f refl p) [ inl d ↦ d | inr q ↦ elim q [ inl m ↦ absurd m.1 | inr x ↦ absurd x ] ]
+did_nothing s t g (Purge key) f p e = elim p [ inl m ↦ absurd m.1 | inr x ↦ absurd x ]
 
 -- such a fault leaves what a key has
 quiet : (k : StoredKey) (done : Done) (o : Option FinishedBody) → done ≡ nothing_done → o ≡ body_chosen ((done.stored && false) || has_key k (cond done.stored done.evicted [])) false None o
 quiet k done o e = subst (λ (d : Done). o ≡ body_chosen ((d.stored && false) || has_key k (cond d.stored d.evicted [])) false None o) (sym e) refl
 
-fault_follows : (s : State) (t : Instant) (action : Action) (f : TierFault) (k : StoredKey) (h : History) → Allows s (record { moment = t; action = action }) (Err f) → Follows s t action (Err f) k h
-unfolding Follows stores_nothing
-fault_follows s t (Open id key) f k h p = quiet k (done_of f) (body_of k s.bodies) (did_nothing s t (Open id key) f p refl)
-fault_follows s t (LookUp id) f k h p = quiet k (done_of f) (body_of k s.bodies) (did_nothing s t (LookUp id) f p refl)
-fault_follows s t (Read id) f k h p = quiet k (done_of f) (body_of k s.bodies) (did_nothing s t (Read id) f p refl)
-fault_follows s t (Drop id) f k h p = quiet k (done_of f) (body_of k s.bodies) (did_nothing s t (Drop id) f p refl)
-fault_follows s t (Purge key) f k h p = elim p [ inl m ↦ absurd m.1 | inr x ↦ absurd x ]
-fault_follows s t (Put key pieces) f k h p = put_undone s t key pieces (done_of f) k None
+fault_follows : (s : State) (t : Instant) (g : Option Given) (action : Action) (f : TierFault) (k : StoredKey) (h : History) → AllowsBy (refusal s action) s t action g (Err f) → Follows s t g action (Err f) k h
+unfolding Follows
+fault_follows s t g (Open id key) f k h p = quiet k (done_of f) (body_of k s.bodies) (did_nothing s t g (Open id key) f p refl)
+fault_follows s t g (LookUp id) f k h p = quiet k (done_of f) (body_of k s.bodies) (did_nothing s t g (LookUp id) f p refl)
+fault_follows s t g (Read id) f k h p = quiet k (done_of f) (body_of k s.bodies) (did_nothing s t g (Read id) f p refl)
+fault_follows s t g (Drop id) f k h p = quiet k (done_of f) (body_of k s.bodies) (did_nothing s t g (Drop id) f p refl)
+fault_follows s t g (Purge key) f k h p = elim p [ inl m ↦ absurd m.1 | inr x ↦ absurd x ]
+fault_follows s t g (Put key pieces) f k h p = put_undone s key pieces (done_of f) k None
 
 -- what a key has behind a lawful call
-pub body_of-after : (s : State) (c : Call) (k : StoredKey) (h : History) → Allows s c.event c.outcome → body_of k (after s c.event c.outcome).bodies ≡ body_by k c h (body_of k s.bodies)
+pub body_of-after : (s : State) (c : Call) (k : StoredKey) (h : History) → Allows s c → body_of k (after s c).bodies ≡ body_by k c h (body_of k s.bodies)
 unfolding Follows
-body_of-after s c k h p = by_outcome c.outcome p
+body_of-after s c k h p = by_outcome c.outcome p.1
   where
-    by_outcome : (o : Outcome) → Allows s c.event o → body_of k (after s c.event o).bodies ≡ body_by k (record { event = c.event; outcome = o }) h (body_of k s.bodies)
-    by_outcome (Ok a) p = answer_follows s c.event.moment c.event.action a k h (answer_allowed (refusal s c.event.action) s c.event.moment c.event.action a p)
-    by_outcome (Err f) p = fault_follows s c.event.moment c.event.action f k h p
+    by_outcome : (o : Outcome) → AllowsBy (refusal s c.event.action) s c.event.moment c.event.action c.given o → body_of k (after s (record c { outcome = o })).bodies ≡ body_by k (record c { outcome = o }) h (body_of k s.bodies)
+    by_outcome (Ok a) p = answer_follows s c.event.moment c.given c.event.action a k h (answer_allowed (refusal s c.event.action) s c.event.moment c.given c.event.action a p)
+    by_outcome (Err f) p = fault_follows s c.event.moment c.given c.event.action f k h p

@@ -1,14 +1,13 @@
 -- The rows that a tier tracks are the order of use of its history.
-use Rattle.std.proofs.Common.{◌≡◌, ℕ, ◌+◌, ◌≤◌, ◌<◌, refl, ap, sym, ◌∙◌, true, false, subst, cond, [], ◌∷◌, ◌++◌, ◌||◌, length, arith, inl, inr}
-use Rattle.std.specs.Prelude.{Bool, List, Option, Some, None, option_map, unwrap_or, is_some, not, find, filter, Result, Ok, Err, MatchOption, ◌⊎◌, ◌&&◌}
+use Rattle.std.proofs.Common.{◌≡◌, ℕ, ◌+◌, ◌≤◌, refl, ap, sym, ◌∙◌, true, false, cond, [], ◌∷◌, arith, inl, inr}
+use Rattle.std.specs.Prelude.{Bool, List, Option, Some, None, option_map, is_some, not, ◌⊎◌}
 use Rattle.tier_model.specs.declared.key.StoredKey.{StoredKey}
-use Rattle.tier_model.specs.declared.rows.FinishedBody.{FinishedBody}
 use Rattle.tier_model.specs.declared.rows.Tracked.{Tracked}
 use Rattle.tier_model.specs.Keys.{same_key}
 use Rattle.tier_model.specs.Calls.{has_key}
 use Rattle.tier_model.specs.Rows.{row_of, weight_of, without_row, without_rows, admitted}
 use Rattle.tier_model.specs.Use.{AreInOrder}
-use Rattle.tier_model.proofs.KeyLaws.{same_key-true, same_key-refl, same_key-sym, either_none}
+use Rattle.tier_model.proofs.KeyLaws.{same_key-refl, same_key-sym, either_none}
 use Rattle.tier_model.proofs.OrderLaws.{row_of-without, row_of-admitted}
 
 -- rows in an order, over any account of last uses and weights

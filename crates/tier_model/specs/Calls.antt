@@ -1,9 +1,9 @@
 -- Calls of a tier, and what one call tells: what it wrote, removed and read.
-use Rattle.std.specs.Prelude.{ℕ, ◌==◌, Bool, false, ◌&&◌, ◌||◌, List, [], ◌∷◌, ◌++◌, if◌then◌else◌, Option, Some, None, Result, Ok, Err}
-use Rattle.std.specs.Result.{result_ok}
-use Rattle.cache_words.specs.Time.{Instant}
+use Rattle.std.specs.Prelude.{◌≡◌, ℕ, ◌==◌, Bool, false, ◌&&◌, ◌||◌, List, [], ◌∷◌, ◌++◌, if◌then◌else◌, Option, Some, None, Result, Ok, Err}
 use Rattle.tier_model.specs.declared.key.StoredKey.{StoredKey}
 use Rattle.tier_model.specs.declared.rows.FinishedBody.{FinishedBody}
+use Rattle.tier_model.specs.declared.given.Given.{Given}
+use Rattle.tier_model.specs.declared.given.Given.TheVariants.{Stored}
 use Rattle.tier_model.specs.declared.event.Event.{Event}
 use Rattle.tier_model.specs.declared.event.Action.{Action}
 use Rattle.tier_model.specs.declared.event.Action.TheVariants.{Open, LookUp, Read, Drop, Purge, Put}
@@ -13,26 +13,31 @@ use Rattle.tier_model.specs.declared.event.Done.{Done}
 use Rattle.tier_model.specs.declared.event.TierFault.{TierFault}
 use Rattle.tier_model.specs.declared.event.TierFault.TheVariants.{NumbersSpent, TooHeavy, TooLong, Memory}
 use Rattle.tier_model.specs.Keys.{same_key}
-use Rattle.tier_model.specs.Response.{body_put}
 
 -- what a call answered, or the fault that refused it
 abbrev pub Outcome : Type 0
 Outcome = Result Answer TierFault
 
--- an event with its outcome
+-- an event with its outcome, and what its response gave, where one was read
 pub record Call : Type 0 where
   pub event : Event
   pub outcome : Outcome
+  pub given : Option Given
 
 -- the calls of one tier, the latest first
 abbrev pub History : Type 0
 History = List Call
 
--- the history behind further events and their outcomes
-abbrev pub extended : History → List Event → List Outcome → History
-extended past [] outcomes = past
-extended past (e ∷ es) [] = past
-extended past (e ∷ es) (o ∷ os) = extended (record { event = e; outcome = o } ∷ past) es os
+-- the calls are these events, each with its outcome, in order
+abbrev pub AreCallsOf : List Event → List Outcome → List Call → Type 0
+AreCallsOf [] [] [] = Unit {0}
+AreCallsOf (e ∷ es) (o ∷ os) (c ∷ cs) = (c.event ≡ e) × (c.outcome ≡ o) × AreCallsOf es os cs
+AreCallsOf _ _ _ = ⊥
+
+-- the history behind further calls
+abbrev pub extended : History → List Call → History
+extended past [] = past
+extended past (c ∷ cs) = extended (c ∷ past) cs
 
 -- nothing was done before the refusal
 abbrev pub nothing_done : Done
@@ -78,13 +83,18 @@ was_stored (Err fault) = (done_of fault).stored
 abbrev pub removes : StoredKey → Call → Bool
 removes k c = purges k c.event.action || ((was_stored c.outcome && stores_under k c.event.action) || has_key k (evicted_by c.outcome))
 
-abbrev pub body_finished : Instant → Action → Outcome → Option FinishedBody
-body_finished t (Put key pieces) (Ok (Finished length evicted)) = result_ok (body_put t key pieces)
-body_finished t _ _ = None
+-- the body that a response gave to store
+abbrev pub stored_in : Option Given → Option FinishedBody
+stored_in (Some (Stored body)) = Some body
+stored_in _ = None
+
+abbrev pub body_finished : Action → Outcome → Option Given → Option FinishedBody
+body_finished (Put key pieces) (Ok (Finished length evicted)) given = stored_in given
+body_finished _ _ given = None
 
 -- the body that a call finished, given the calls before it
 abbrev pub written_by : Call → History → Option FinishedBody
-written_by c before = body_finished c.event.moment c.event.action c.outcome
+written_by c before = body_finished c.event.action c.outcome c.given
 
 abbrev pub is_of : StoredKey → Option FinishedBody → Bool
 is_of k None = false

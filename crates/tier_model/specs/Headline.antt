@@ -9,6 +9,7 @@ use Rattle.tier_model.specs.declared.event.Answer.{Answer}
 use Rattle.tier_model.specs.declared.event.Answer.TheVariants.{Found, Absent, Purged}
 use Rattle.tier_model.specs.Calls.{History, Outcome, opened_key, bytes_read, bytes_answered}
 use Rattle.tier_model.specs.Histories.{IsFound, IsBody, HasHit, IsWithin}
+use Rattle.tier_model.specs.Use.{BodiesAreTracked, EvictsLawfully}
 
 -- a look-up at t is answered found exactly where a write of its key is alive, and fresh exactly up to its moment
 abbrev pub LooksRight : ℕ → Instant → Answer → History → Type 0
@@ -41,7 +42,10 @@ abbrev pub Headline : History → Type 0
 Headline [] = Unit {0}
 Headline (c ∷ h) = IsRight c.event.moment c.event.action c.outcome h × Headline h
 
--- the headline of a tier that began empty under these limits
+-- the headline of a tier that began empty under these limits: its answers are right, finished bodies keep both limits, each
+-- body's entry is tracked with at least its length, and what went to make room went lawfully
 pub record HoldsHeadline (limit : ℕ) (watermark : Option ℕ) (h : History) : Type 0 where
   pub answers : Headline h
   pub within : IsWithin limit watermark h
+  pub tracked : BodiesAreTracked h
+  pub evictions : EvictsLawfully limit watermark h

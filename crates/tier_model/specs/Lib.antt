@@ -7,5 +7,5 @@ pub mod Headline
 pub mod Rows
 pub mod State
 pub mod Step
-pub mod Past
 pub mod Reports
+pub mod Past

@@ -1,34 +1,42 @@
 -- A state with the history that stands behind it.
 use Rattle.std.specs.Prelude.{◌≡◌, List, [], ◌∷◌}
 use Rattle.tier_model.specs.declared.event.Event.{Event}
-use Rattle.tier_model.specs.Calls.{History, Outcome, extended}
+use Rattle.tier_model.specs.Calls.{Call, History, Outcome, AreCallsOf, extended}
 use Rattle.tier_model.specs.Headline.{HoldsHeadline}
+use Rattle.tier_model.specs.Use.{IsOrderOfUse}
+use Rattle.tier_model.specs.Reports.{IsReport, report_of}
 use Rattle.tier_model.specs.State.{Settings, State, empty_state}
 use Rattle.tier_model.specs.Step.{Allows, after}
 
 -- the state of a tier behind a history
 abbrev pub state_of : Settings → History → State
 state_of settings [] = empty_state settings
-state_of settings (c ∷ h) = after (state_of settings h) c.event c.outcome
+state_of settings (c ∷ h) = after (state_of settings h) c
 
 -- each outcome is one that the state before it allows
 abbrev pub IsLawful : Settings → History → Type 0
 IsLawful settings [] = Unit {0}
-IsLawful settings (c ∷ h) = Allows (state_of settings h) c.event c.outcome × IsLawful settings h
+IsLawful settings (c ∷ h) = Allows (state_of settings h) c × IsLawful settings h
 
--- the state may stand behind that history, and the headline holds of it
+-- the state may stand behind that history; the headline holds of it, the tracked rows are its order of use, and the report tells of it
 pub record HasPast (settings : Settings) (s : State) (h : History) : Type 0 where
   pub lawful : IsLawful settings h
   pub state : s ≡ state_of settings h
   pub headline : HoldsHeadline settings.limit settings.watermark h
+  pub order : IsOrderOfUse s.tracked h
+  pub report : IsReport (report_of s) h
+
+-- one event was taken, with its outcome, from the old state to the new one
+abbrev pub Steps : State → Event → Outcome → State → Type 0
+Steps old e o new = (c : Call) × (c.event ≡ e) × (c.outcome ≡ o) × Allows old c × (new ≡ after old c)
 
 -- the events were taken in order, each with its outcome, from the old state to the new one
 abbrev pub Runs : State → List Event → List Outcome → State → Type 0
 Runs old [] [] new = new ≡ old
-Runs old (e ∷ es) (o ∷ os) new = Allows old e o × Runs (after old e o) es os new
+Runs old (e ∷ es) (o ∷ os) new = (mid : State) × Steps old e o mid × Runs mid es os new
 Runs old _ _ new = ⊥
 
 -- the headline holds of every past that the tier may have had, with these calls behind it
 abbrev pub CarriesHeadline : State → List Event → List Outcome → State → Type 0
 CarriesHeadline old events outcomes new =
-    (settings : Settings) (past : History) → HasPast settings old past → HasPast settings new (extended past events outcomes)
+    (settings : Settings) (past : History) → HasPast settings old past → (calls : List Call) × AreCallsOf events outcomes calls × HasPast settings new (extended past calls)

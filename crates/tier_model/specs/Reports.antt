@@ -1,12 +1,19 @@
--- The report of a state.
-use Rattle.std.specs.Prelude.{length}
-use Rattle.std.specs.List.{sum_by}
+-- The report of a tier: of a state, and of the history behind it.
+use Rattle.std.specs.Prelude.{◌≡◌, ℕ, ◌+◌, ◌-◌, ◌^◌, min, Bool, true, false, List, [], ◌∷◌, length, if◌then◌else◌, Some, Ok}
+use Rattle.std.specs.List.{sum_by, AllByRecursion}
+use Rattle.tier_model.specs.declared.key.StoredKey.{StoredKey}
+use Rattle.tier_model.specs.declared.rows.FinishedBody.{FinishedBody}
+use Rattle.tier_model.specs.declared.rows.Tracked.{Tracked}
+use Rattle.tier_model.specs.declared.event.Answer.TheVariants.{Found, Absent}
 use Rattle.tier_model.specs.declared.report.Report.{Report}
-use Rattle.tier_model.specs.Rows.{all_weights}
+use Rattle.tier_model.specs.Calls.{History, Outcome, evicted_by}
+use Rattle.tier_model.specs.Histories.{IsBody, HasDistinctKeys}
+use Rattle.tier_model.specs.Use.{IsOrderOfUse}
+use Rattle.tier_model.specs.Rows.{body_of, all_weights}
 use Rattle.tier_model.specs.State.{State}
 use Rattle.tier_model.specs.Step.{counted}
 
--- the answers counted, the bodies with their bytes, the tracked entries with their weights. The bytes keep the weight limit, so their count never stops
+-- the answers counted, the bodies with their bytes, the tracked entries with their weights
 abbrev pub report_of : State → Report
 report_of s = record {
   found = s.found;
@@ -17,3 +24,44 @@ report_of s = record {
   weight = all_weights s.tracked;
   evicted = s.evicted;
 }
+
+abbrev pub is_found : Outcome → Bool
+is_found (Ok (Found fresh complete)) = true
+is_found _ = false
+
+abbrev pub is_absent : Outcome → Bool
+is_absent (Ok Absent) = true
+is_absent _ = false
+
+-- how many look-ups were answered found
+abbrev pub found_answers : History → ℕ
+found_answers [] = 0
+found_answers (c ∷ h) = if is_found c.outcome then found_answers h + 1 else found_answers h
+
+-- how many were answered absent
+abbrev pub absent_answers : History → ℕ
+absent_answers [] = 0
+absent_answers (c ∷ h) = if is_absent c.outcome then absent_answers h + 1 else absent_answers h
+
+-- how many entries were evicted
+abbrev pub evictions : History → ℕ
+evictions [] = 0
+evictions (c ∷ h) = evictions h + length (evicted_by c.outcome)
+
+-- a count as 64 bits show it
+abbrev pub shown : ℕ → ℕ
+shown n = min n (2 ^ 64 - 1)
+
+-- the bodies are all that the history has, each once
+pub record AreAllBodies (bodies : List FinishedBody) (h : History) : Type 0 where
+  pub distinct : HasDistinctKeys bodies
+  pub each : AllByRecursion (λ b. IsBody b.key b h) bodies
+  pub all : (k : StoredKey) (b : FinishedBody) → IsBody k b h → body_of k bodies ≡ Some b
+
+-- what the report tells of a history
+pub record IsReport (r : Report) (h : History) : Type 0 where
+  pub found : r.found ≡ shown (found_answers h)
+  pub absent : r.absent ≡ shown (absent_answers h)
+  pub evicted : r.evicted ≡ shown (evictions h)
+  pub bodies : (bodies : List FinishedBody) × AreAllBodies bodies h × (r.bodies ≡ length bodies) × (r.bytes ≡ shown (sum_by (λ b. length b.bytes) bodies))
+  pub tracked : (rows : List Tracked) × IsOrderOfUse rows h × (r.tracked ≡ length rows) × (r.weight ≡ all_weights rows)

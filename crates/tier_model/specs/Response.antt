@@ -1,72 +1,86 @@
 -- What the bytes of a response give at the moment at which they come.
-use Rattle.std.specs.Prelude.{ℕ, ◌+◌, ◌-◌, ◌*◌, ◌==◌, nat_le, ◌&&◌, ◌||◌, Bool, List, [], ◌∷◌, ◌++◌, length, take, drop, fold, codes, if◌then◌else◌, Option, Some, None, option_map, option_and_then, Result, Ok, Err, pos, int_lt}
+use Rattle.std.specs.Prelude.{◌≡◌, ℕ, ◌^◌, ◌≤◌, ◌==◌, nat_le, nat_lt, ◌&&◌, ◌||◌, Bool, false, List, [], ◌∷◌, ◌++◌, length, take, codes, map, filter, if◌then◌else◌, Option, Some, None, pos, int_lt, All, bytes_eq}
 use Rattle.std.specs.Char.{is_ascii_digit}
-use Rattle.std.specs.Cmp.Lexicographic.{pointwise}
-use Rattle.std.specs.List.{prefix_len, flat_map}
-use Rattle.cache_words.specs.Time.{Instant, later_by, earlier_by, span_of}
+use Rattle.std.specs.List.{flat_map, list_all}
+use Rattle.std.specs.Str.Parse.{digits_value}
+use Rattle.cache_words.specs.Time.{Instant}
+use Rattle.cache_heads.specs.FreshUntil.{fresh_until}
+use Rattle.cache_heads.specs.declared.reason.NoCacheReason.TheVariants.{OriginNotCache}
+use Rattle.http_header.specs.Token.{lowercase}
+use Rattle.httparse.specs.Grammar.{ResponseHead, ReadsResponse, HasNoResponse, status_code}
+use Rattle.httparse.specs.Spans.{name_and_value}
 use Rattle.tier_model.specs.declared.key.StoredKey.{StoredKey}
 use Rattle.tier_model.specs.declared.rows.FinishedBody.{FinishedBody}
-use Rattle.tier_model.specs.declared.event.TierFault.{TierFault}
-use Rattle.tier_model.specs.declared.event.TierFault.TheVariants.{Unsupported, BeforeEpoch}
+use Rattle.tier_model.specs.declared.given.Given.{Given}
+use Rattle.tier_model.specs.declared.given.Given.TheVariants.{Stored, Uncacheable, Incomplete, BadHead, BeforeEpoch}
 
 -- the pieces, one after another
 abbrev pub joined : List (List ℕ) → List ℕ
 joined pieces = flat_map (λ piece. piece) pieces
 
--- the end of a header line
-abbrev pub line_end : List ℕ
-line_end = 13 ∷ 10 ∷ []
+-- the values of the header lines of a name, in order (RFC 9110, 5.1: names in any case)
+abbrev pub values_of : List ℕ → List (List ℕ × List ℕ) → List (List ℕ)
+values_of name lines = map (λ line. line.1) (filter (λ line. bytes_eq (lowercase line.0) name) lines)
 
--- the one head that is read so far: this, 1 to 9 digits, and an empty line
-abbrev pub head_start : List ℕ
-head_start = codes "HTTP/1.1 200 OK" ++ line_end ++ codes "Cache-Control: max-age="
-
-abbrev pub head_end : List ℕ
-head_end = line_end ++ line_end
-
--- what stands behind a beginning, where the bytes have it
-abbrev pub behind : List ℕ → List ℕ → Option (List ℕ)
-behind start bytes = if pointwise ◌==◌ (take (length start) bytes) start then Some (drop (length start) bytes) else None
-
--- the number that decimal digits stand for
-abbrev pub decimal_value : List ℕ → ℕ
-decimal_value digits = fold (λ n b. 10 * n + (b - 48)) 0 digits
-
--- a head's lifetime in seconds, and the body behind the head
-pub record Response : Type 0 where
-  pub lifetime : ℕ
-  pub body : List ℕ
-
--- n digits, the end of the head, and the body
-abbrev pub lifetime_and_body : ℕ → List ℕ → Option Response
-lifetime_and_body n bytes =
-    if nat_le 1 n && nat_le n 9
-    then option_map (λ body. record { lifetime = decimal_value (take n bytes); body = body }) (behind head_end (drop n bytes))
+abbrev pub decimal : List ℕ → Option ℕ
+decimal digits =
+    if nat_lt 0 (length digits) && (list_all is_ascii_digit digits && nat_lt (digits_value 10 digits) (2 ^ 64))
+    then Some (digits_value 10 digits)
     else None
 
--- the response that the bytes are, if they are of the form that is read
-unfoldable pub response_of : List ℕ → Option Response
-response_of bytes = option_and_then (λ rest. lifetime_and_body (prefix_len is_ascii_digit rest) rest) (behind head_start bytes)
+-- a length in bytes: an optional plus sign, then digits and nothing else, below 2^64 (RFC 9110, 8.6)
+abbrev pub length_in : List ℕ → Option ℕ
+length_in [] = None
+length_in (b ∷ digits) = if b == 43 then decimal digits else decimal (b ∷ digits)
 
--- the last moment at which a response is fresh: its lifetime behind its arrival, and for none a second before it (RFC 9111, 4.2.1)
-abbrev pub fresh_until : Instant → ℕ → Option Instant
-fresh_until arrival lifetime = if lifetime == 0 then earlier_by arrival (span_of 1) else later_by arrival (span_of lifetime)
+-- what the first Content-Length says, if it can be read
+abbrev pub first_length : List (List ℕ) → Option ℕ
+first_length [] = None
+first_length (value ∷ values) = length_in value
+
+-- how many bytes of body a response has: none under 204 and 304 (RFC 9112, 6.3), else as many as its Content-Length says
+abbrev pub body_length : ℕ → List (List ℕ × List ℕ) → Option ℕ
+body_length status lines = if status == 204 || status == 304 then Some 0 else first_length (values_of (codes "content-length") lines)
+
+-- the body among the bytes behind the head: so many, or without a length all of them; none where fewer came
+abbrev pub body_within : Option ℕ → List ℕ → Option (List ℕ)
+body_within None rest = Some rest
+body_within (Some n) rest = if nat_le n (length rest) then Some (take n rest) else None
 
 -- 1970 had not begun
 abbrev pub is_before_epoch : Instant → Bool
 is_before_epoch t = int_lt t.seconds (pos 0)
 
-abbrev pub dated_body : Instant → StoredKey → List ℕ → Option Instant → Result FinishedBody TierFault
-dated_body arrival key body None = Err Unsupported
-dated_body arrival key body (Some until) =
+-- a body, if it is whole, and the last moment at which it is fresh, if it may be kept
+abbrev pub given_of : Instant → StoredKey → Option (List ℕ) → Option Instant → Given
+given_of arrival key None until = Incomplete
+given_of arrival key (Some body) None = Uncacheable OriginNotCache
+given_of arrival key (Some body) (Some until) =
     if is_before_epoch arrival || is_before_epoch until
-    then Err BeforeEpoch
-    else Ok (record { key = key; bytes = body; fresh_until = until })
+    then BeforeEpoch
+    else Stored (record { key = key; bytes = body; fresh_until = until })
 
-abbrev pub body_given : Instant → StoredKey → Option Response → Result FinishedBody TierFault
-body_given arrival key None = Err Unsupported
-body_given arrival key (Some response) = dated_body arrival key response.body (fresh_until arrival response.lifetime)
+-- what a head of this status and these header lines gives, with the bytes behind it. The tier knows no default lifetimes, and
+-- its requests have no Authorization
+unfoldable pub given_by : Instant → StoredKey → ℕ → List (List ℕ × List ℕ) → List ℕ → Given
+given_by arrival key status lines rest =
+    given_of arrival key (body_within (body_length status lines) rest)
+    (fresh_until arrival (values_of (codes "cache-control") lines) (values_of (codes "expires") lines) false None)
 
--- what a put of these bytes at that moment stores under a key, or why it can't
-abbrev pub body_put : Instant → StoredKey → List (List ℕ) → Result FinishedBody TierFault
-body_put arrival key pieces = body_given arrival key (response_of (joined pieces))
+-- a head within bounds: at most 256 header lines, names of at most 65535 bytes, a status from 100
+pub record IsReadable (h : ResponseHead) : Type 0 where
+  pub lines : length h.fields ≤ 256
+  pub names : All (λ f. length f.name ≤ 65535) h.fields
+  pub status : 100 ≤ status_code h
+
+-- the bytes have such a head at their front, or are the beginning of one (RFC 9112, as the parser's default options read it)
+abbrev pub IsPlain : List ℕ → Type 0
+IsPlain bytes = (more : List ℕ) × (h : ResponseHead) × (rest : List ℕ) × ReadsResponse (bytes ++ more) h rest × IsReadable h
+
+-- what a response's bytes give, coming for a key at a moment: by its head, where that is whole; a plain beginning of a head is
+-- incomplete, and never a bad head. What the parser's lenient options make of other bytes is left open
+pub record Gives (arrival : Instant) (key : StoredKey) (bytes : List ℕ) (given : Given) : Type 0 where
+  pub whole : (h : ResponseHead) (rest : List ℕ) → ReadsResponse bytes h rest → IsReadable h → given ≡ given_by arrival key (status_code h) (map name_and_value h.fields) rest
+  pub begun : HasNoResponse bytes → IsPlain bytes → given ≡ Incomplete
+  pub refused : given ≡ BadHead → ¬ IsPlain bytes
+  pub of_key : (body : FinishedBody) → given ≡ Stored body → body.key ≡ key

@@ -1,5 +1,5 @@
 -- One event: the first refusal, the answers and faults that a state allows, and the state behind them.
-use Rattle.std.specs.Prelude.{◌≡◌, ℕ, ◌+◌, ◌-◌, ◌^◌, min, nat_le, Bool, true, false, List, [], length, if◌then◌else◌, Option, Some, None, is_some, Result, Ok, Err, MatchResult, MatchOption, ◌⊎◌}
+use Rattle.std.specs.Prelude.{◌≡◌, ℕ, ◌+◌, ◌-◌, ◌^◌, min, nat_le, Bool, true, false, List, [], length, if◌then◌else◌, Option, Some, None, is_some, Ok, Err, MatchResult, MatchOption, ◌⊎◌}
 use Rattle.std.specs.FinMap.{get, insert, remove}
 use Rattle.cache_words.specs.Time.{Instant, at_most}
 use Rattle.tier_model.specs.declared.key.StoredKey.{StoredKey}
@@ -10,7 +10,11 @@ use Rattle.tier_model.specs.declared.rows.Phase.{Phase}
 use Rattle.tier_model.specs.declared.rows.Phase.TheVariants.{CacheKey, Hit, Stale, Miss}
 use Rattle.tier_model.specs.declared.rows.Reader.{Reader}
 use Rattle.tier_model.specs.declared.rows.Reader.TheVariants.{Closed, Unread, Spent}
-use Rattle.tier_model.specs.declared.event.Event.{Event}
+use Rattle.tier_model.specs.declared.given.Given.{Given}
+use Rattle.tier_model.specs.declared.given.Given.TheVariants.{Stored}
+use Rattle.tier_model.specs.declared.given.Given.TheVariants as given
+use Rattle.tier_model.specs.declared.event.Answer.TheVariants as answer
+use Rattle.tier_model.specs.declared.event.TierFault.TheVariants as fault
 use Rattle.tier_model.specs.declared.event.Action.{Action}
 use Rattle.tier_model.specs.declared.event.Action.TheVariants.{Open, LookUp, Read, Drop, Purge, Put}
 use Rattle.tier_model.specs.declared.event.Answer.{Answer}
@@ -18,8 +22,8 @@ use Rattle.tier_model.specs.declared.event.Answer.TheVariants.{Opened, Found, Ab
 use Rattle.tier_model.specs.declared.event.Done.{Done}
 use Rattle.tier_model.specs.declared.event.TierFault.{TierFault}
 use Rattle.tier_model.specs.declared.event.TierFault.TheVariants.{NoRequest, IdInUse, WrongPhase, TooHeavy, Memory}
-use Rattle.tier_model.specs.Response.{body_put}
-use Rattle.tier_model.specs.Calls.{Outcome, nothing_done, done_of}
+use Rattle.tier_model.specs.Response.{joined, Gives}
+use Rattle.tier_model.specs.Calls.{Call, Outcome, nothing_done, done_of}
 use Rattle.tier_model.specs.Rows.{body_of, with_body, without_body, without_bodies, all_weights, admitted, used, without_row, without_rows, weight_for, IsLawfulEviction}
 use Rattle.tier_model.specs.State.{State}
 
@@ -94,26 +98,36 @@ use_is_too_heavy None rows = false
 use_is_too_heavy (Some b) rows = is_too_heavy (all_weights (used b rows))
 
 -- what a put may answer, by what its response gives
-abbrev pub IsPutAnswer : State → Result FinishedBody TierFault → Answer → Type 0
-IsPutAnswer s (Ok b) (Finished n evicted) =
+abbrev pub IsPutAnswer : State → Option Given → Answer → Type 0
+IsPutAnswer s (Some (Stored b)) (Finished n evicted) =
     (n ≡ length b.bytes) × (admission_is_too_heavy b s.tracked ≡ false)
     × IsLawfulEviction s.settings.limit s.settings.watermark (admitted b.key (weight_for b) s.tracked) evicted
+IsPutAnswer s (Some (given.Uncacheable reason)) (answer.Uncacheable shown) = shown ≡ reason
 IsPutAnswer s _ _ = ⊥
 
 -- the faults of a put but for memory
-abbrev pub IsPutFault : State → Result FinishedBody TierFault → TierFault → Type 0
-IsPutFault s (Ok b) f = (f ≡ TooHeavy stored_alone) × (admission_is_too_heavy b s.tracked ≡ true)
-IsPutFault s (Err reason) f = f ≡ reason
+abbrev pub IsPutFault : State → Option Given → TierFault → Type 0
+IsPutFault s (Some (Stored b)) f = (f ≡ TooHeavy stored_alone) × (admission_is_too_heavy b s.tracked ≡ true)
+IsPutFault s (Some given.Incomplete) f = f ≡ fault.Incomplete
+IsPutFault s (Some given.BadHead) f = f ≡ fault.BadHead
+IsPutFault s (Some given.BeforeEpoch) f = f ≡ fault.BeforeEpoch
+IsPutFault s _ f = ⊥
+
+-- what an event's response gives, where it has one and it was read
+abbrev pub IsGiven : Instant → Action → Option Given → Type 0
+IsGiven t (Put key pieces) (Some given) = Gives t key (joined pieces) given
+IsGiven t action None = Unit {0}
+IsGiven t action (Some given) = ⊥
 
 -- the answers to an event that is not refused
-abbrev pub IsAnswer : State → Instant → Action → Answer → Type 0
-IsAnswer s t (Open id key) a = a ≡ Opened
-IsAnswer s t (LookUp id) a =
+abbrev pub IsAnswer : State → Instant → Action → Option Given → Answer → Type 0
+IsAnswer s t (Open id key) g a = a ≡ Opened
+IsAnswer s t (LookUp id) g a =
     MatchOption (get s.requests id) ⊥ (λ q. (a ≡ look_answer t (body_of q.key s.bodies)) × (use_is_too_heavy (body_of q.key s.bodies) s.tracked ≡ false))
-IsAnswer s t (Read id) a = MatchOption (get s.requests id) ⊥ (λ q. a ≡ read_answer q.reader)
-IsAnswer s t (Drop id) a = a ≡ Dropped
-IsAnswer s t (Purge key) a = a ≡ Purged (is_some (body_of key s.bodies))
-IsAnswer s t (Put key pieces) a = IsPutAnswer s (body_put t key pieces) a
+IsAnswer s t (Read id) g a = MatchOption (get s.requests id) ⊥ (λ q. a ≡ read_answer q.reader)
+IsAnswer s t (Drop id) g a = a ≡ Dropped
+IsAnswer s t (Purge key) g a = a ≡ Purged (is_some (body_of key s.bodies))
+IsAnswer s t (Put key pieces) g a = IsPutAnswer s g a
 
 -- the events for which a growth may be refused
 abbrev pub MayTakeMemory : Action → Type 0
@@ -125,22 +139,23 @@ MayTakeMemory (Purge key) = ⊥
 MayTakeMemory (Put key pieces) = Unit {0}
 
 -- the faults that come behind the checks, but for memory
-abbrev pub IsLateFault : State → Instant → Action → TierFault → Type 0
-IsLateFault s t (LookUp id) f =
+abbrev pub IsLateFault : State → Action → Option Given → TierFault → Type 0
+IsLateFault s (LookUp id) g f =
     MatchOption (get s.requests id) ⊥ (λ q. (f ≡ TooHeavy nothing_done) × (use_is_too_heavy (body_of q.key s.bodies) s.tracked ≡ true))
-IsLateFault s t (Put key pieces) f = IsPutFault s (body_put t key pieces) f
-IsLateFault s t _ f = ⊥
+IsLateFault s (Put key pieces) g f = IsPutFault s g f
+IsLateFault s _ g f = ⊥
 
-abbrev pub IsFault : State → Instant → Action → TierFault → Type 0
-IsFault s t action f = ((f ≡ Memory nothing_done) × MayTakeMemory action) ⊎ IsLateFault s t action f
+abbrev pub IsFault : State → Action → Option Given → TierFault → Type 0
+IsFault s action g f = ((f ≡ Memory nothing_done) × MayTakeMemory action) ⊎ IsLateFault s action g f
 
 -- the first refusal, exactly where one holds, and else an answer of the event's row or a fault behind the checks
-abbrev pub AllowsBy : Option TierFault → State → Instant → Action → Outcome → Type 0
-AllowsBy (Some f) s t action outcome = outcome ≡ Err f
-AllowsBy None s t action outcome = MatchResult outcome (IsAnswer s t action) (IsFault s t action)
+abbrev pub AllowsBy : Option TierFault → State → Instant → Action → Option Given → Outcome → Type 0
+AllowsBy (Some f) s t action g outcome = outcome ≡ Err f
+AllowsBy None s t action g outcome = MatchResult outcome (IsAnswer s t action g) (IsFault s action g)
 
-abbrev pub Allows : State → Event → Outcome → Type 0
-Allows s e outcome = AllowsBy (refusal s e.action) s e.moment e.action outcome
+-- what a state allows for a call
+abbrev pub Allows : State → Call → Type 0
+Allows s c = IsGiven c.event.moment c.event.action c.given × AllowsBy (refusal s c.event.action) s c.event.moment c.event.action c.given c.outcome
 
 -- a count that stops at 2^64 - 1
 abbrev pub counted : ℕ → ℕ → ℕ
@@ -153,8 +168,8 @@ look_behind s t id q (Some b) =
     record s { requests = insert s.requests id (looked t q (Some b)); tracked = used b s.tracked; found = counted s.found 1 }
 
 -- the state behind a put of a body with these evictions
-abbrev pub put_behind : State → Result FinishedBody TierFault → Answer → State
-put_behind s (Ok b) (Finished n evicted) =
+abbrev pub put_behind : State → Option Given → Answer → State
+put_behind s (Some (Stored b)) (Finished n evicted) =
     record s { bodies = without_bodies evicted (with_body b s.bodies); tracked = without_rows evicted (admitted b.key (weight_for b) s.tracked); evicted = counted s.evicted (length evicted) }
 put_behind s _ _ = s
 
@@ -164,13 +179,13 @@ purge_behind s key false = s
 purge_behind s key true = record s { bodies = without_body key s.bodies; tracked = without_row key s.tracked }
 
 -- the state behind an answer
-abbrev pub answered : State → Instant → Action → Answer → State
-answered s t (Open id key) a = record s { requests = insert s.requests id (opened_request key) }
-answered s t (LookUp id) a = on_request s (get s.requests id) (λ q. look_behind s t id q (body_of q.key s.bodies))
-answered s t (Read id) a = on_request s (get s.requests id) (λ q. record s { requests = insert s.requests id (read_behind q) })
-answered s t (Drop id) a = record s { requests = remove s.requests id }
-answered s t (Purge key) a = purge_behind s key (is_some (body_of key s.bodies))
-answered s t (Put key pieces) a = put_behind s (body_put t key pieces) a
+abbrev pub answered : State → Instant → Action → Option Given → Answer → State
+answered s t (Open id key) g a = record s { requests = insert s.requests id (opened_request key) }
+answered s t (LookUp id) g a = on_request s (get s.requests id) (λ q. look_behind s t id q (body_of q.key s.bodies))
+answered s t (Read id) g a = on_request s (get s.requests id) (λ q. record s { requests = insert s.requests id (read_behind q) })
+answered s t (Drop id) g a = record s { requests = remove s.requests id }
+answered s t (Purge key) g a = purge_behind s key (is_some (body_of key s.bodies))
+answered s t (Put key pieces) g a = put_behind s g a
 
 -- behind a refusal that had stored a body under a key: that body is gone with its entry, and the evictions are done
 abbrev pub taken_back : Bool → State → StoredKey → List StoredKey → State
@@ -182,7 +197,10 @@ abbrev pub undone : State → Action → Done → State
 undone s (Put key pieces) done = taken_back done.stored s key done.evicted
 undone s _ done = s
 
--- the state behind an outcome
-abbrev pub after : State → Event → Outcome → State
-after s e (Ok a) = answered s e.moment e.action a
-after s e (Err f) = undone s e.action (done_of f)
+abbrev pub behind : State → Instant → Action → Option Given → Outcome → State
+behind s t action g (Ok a) = answered s t action g a
+behind s t action g (Err f) = undone s action (done_of f)
+
+-- the state behind a call
+abbrev pub after : State → Call → State
+after s c = behind s c.event.moment c.event.action c.given c.outcome

@@ -1,16 +1,15 @@
 -- The order of use over histories: uses, departures, what is tracked, what it weighs, and in which order it stands.
-use Rattle.std.specs.Prelude.{◌≡◌, ℕ, ◌<◌, ◌≤◌, max, Bool, true, false, ◌&&◌, ◌||◌, not, List, [], ◌∷◌, ◌++◌, length, if◌then◌else◌, Option, Some, None, option_map, is_some, Result, Ok, Err}
-use Rattle.std.specs.List.{AllByRecursion}
+use Rattle.std.specs.Prelude.{◌≡◌, ℕ, ◌<◌, ◌≤◌, Bool, true, false, ◌&&◌, ◌||◌, List, [], ◌∷◌, length, Option, Some, None, is_some, Ok}
 use Rattle.tier_model.specs.declared.key.StoredKey.{StoredKey}
 use Rattle.tier_model.specs.declared.rows.FinishedBody.{FinishedBody}
 use Rattle.tier_model.specs.declared.rows.Tracked.{Tracked}
+use Rattle.tier_model.specs.declared.given.Given.{Given}
 use Rattle.tier_model.specs.declared.event.Event.{Event}
 use Rattle.tier_model.specs.declared.event.Action.{Action}
-use Rattle.tier_model.specs.declared.event.Action.TheVariants.{Open, LookUp, Read, Drop, Purge, Put}
-use Rattle.tier_model.specs.declared.event.Answer.{Answer}
+use Rattle.tier_model.specs.declared.event.Action.TheVariants.{LookUp, Purge}
 use Rattle.tier_model.specs.declared.event.Answer.TheVariants.{Found, Purged, Finished}
 use Rattle.tier_model.specs.Keys.{same_key}
-use Rattle.tier_model.specs.Calls.{Call, History, Outcome, opened_key, written_by, writes, is_of, has_key, evicted_by, was_stored, stores_under}
+use Rattle.tier_model.specs.Calls.{Call, History, Outcome, opened_key, written_by, writes, has_key, evicted_by, was_stored, stores_under}
 use Rattle.tier_model.specs.Histories.{IsBody}
 use Rattle.tier_model.specs.Rows.{weight_of, weight_for, IsLawfulEviction}
 
@@ -83,15 +82,15 @@ pub record IsOrderOfUse (rows : List Tracked) (h : History) : Type 0 where
 
 -- what went in a call went lawfully: the last in the order of use behind its admission, one by one, while a limit was passed;
 -- only a body's finish evicts
-abbrev pub EvictsBy : ℕ → Option ℕ → Event → Outcome → History → Type 0
-EvictsBy limit watermark e (Ok (Finished n evicted)) before =
-    (rows : List Tracked) × IsOrderOfUse rows (record { event = e; outcome = Ok (Finished n []) } ∷ before) × IsLawfulEviction limit watermark rows evicted
-EvictsBy limit watermark e outcome before = evicted_by outcome ≡ []
+abbrev pub EvictsBy : ℕ → Option ℕ → Event → Outcome → Option Given → History → Type 0
+EvictsBy limit watermark e (Ok (Finished n evicted)) given before =
+    (rows : List Tracked) × IsOrderOfUse rows (record { event = e; outcome = Ok (Finished n []); given = given } ∷ before) × IsLawfulEviction limit watermark rows evicted
+EvictsBy limit watermark e outcome given before = evicted_by outcome ≡ []
 
 -- each call's evictions were lawful
 abbrev pub EvictsLawfully : ℕ → Option ℕ → History → Type 0
 EvictsLawfully limit watermark [] = Unit {0}
-EvictsLawfully limit watermark (c ∷ h) = EvictsBy limit watermark c.event c.outcome h × EvictsLawfully limit watermark h
+EvictsLawfully limit watermark (c ∷ h) = EvictsBy limit watermark c.event c.outcome c.given h × EvictsLawfully limit watermark h
 
 -- each body's entry is tracked, with at least the body's length
 abbrev pub BodiesAreTracked : History → Type 0

@@ -3,6 +3,7 @@ ghost use Rattle.std.specs.Prelude.{◌≡◌, []};
 
 use crate::key::StoredKey;
 use bytes::Bytes;
+use cache_heads::reason::NoCacheReason;
 use cache_words::time::Moment;
 use std::alloc::Global;
 use std::marker::Model;
@@ -47,6 +48,8 @@ pub enum Answer {
     Purged(bool),
     /// The body's length in bytes, and the entries that went to make room, in order.
     Finished { length: usize, evicted: Entries },
+    /// The response is whole and may not be kept.
+    Uncacheable(NoCacheReason),
 }
 
 /// What a call did before it was refused.
@@ -93,8 +96,6 @@ pub enum TierFault {
     Folder,
     /// The call's record was refused.
     NoRecord,
-    /// A response in a form that this version doesn't read.
-    Unsupported,
 }
 
 /// The pieces of a response, in order.

@@ -2,6 +2,7 @@
 #![tactic(auto)]
 
 pub mod event;
+pub mod given;
 pub mod key;
 pub mod laws;
 pub mod report;

@@ -18,4 +18,4 @@ loop-watermark-preserved c =
 pub returns-clause-lawful : goal.returns-clause-lawful
 returns-clause-lawful c =
     let kept : is_over c.args.limit c.args.watermark c.loop-watermark.rows.items ≡ false = rw (← c.deref.ensures.value) (sym c.is_over.ensures ∙ c.loop-watermark-test.false) in
-    rw (← append-nil c.loop-watermark.evicted.items) (c.loop-watermark.invariant.lawful [] kept)
+    rw (c.shrink_to_fit.ensures.items, ← append-nil c.loop-watermark.evicted.items) (c.loop-watermark.invariant.lawful [] kept)

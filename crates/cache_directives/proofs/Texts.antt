@@ -1,0 +1,47 @@
+-- Texts and the maps of directives.
+use Rattle.std.proofs.Common.{◌≡◌, ℕ, Bool, true, false, List, [], ◌∷◌, map, refl, sym, ◌∙◌, ap, cond}
+use Rattle.std.specs.Prelude.{Option, Some, None, option_map, nat_eq}
+use Rattle.std.specs.Str.{IsUtf8, is_utf8}
+use Rattle.std.specs.Map.{lookup}
+use Rattle.std.proofs.lemmas.Str.{IsUtf8-from_is_utf8, is_utf8-from_IsUtf8}
+use Rattle.std.specs.Cmp.Lexicographic.{pointwise}
+use Rattle.indexmap.specs.IndexMap.{insert_entry}
+use Rattle.cache_directives.specs.Written.{Written}
+use Rattle.cache_directives.specs.Names.{name_of}
+use Rattle.cache_directives.specs.Entries.{value_bytes, entry_of, entries_of}
+use Rattle.cache_directives.specs.declared.key.DirectiveKey.{DirectiveKey}
+use Rattle.cache_directives.specs.declared.value.DirectiveValue.{DirectiveValue}
+
+pub is_text : (bytes : List ℕ) → IsUtf8 bytes → is_utf8 bytes ≡ true
+is_text bytes h = is_utf8-from_IsUtf8 bytes h
+
+pub no_text : (bytes : List ℕ) → ¬ (IsUtf8 bytes) → is_utf8 bytes ≡ false
+no_text bytes h = go (is_utf8 bytes) refl
+  where
+    go : (t : Bool) → is_utf8 bytes ≡ t → t ≡ false
+    go false e = refl
+    go true e = absurd (h (IsUtf8-from_is_utf8 bytes e))
+
+-- two keys are the same by their names
+abbrev pub same_key : DirectiveKey → DirectiveKey → Bool
+same_key a b = pointwise nat_eq (name_of a) (name_of b)
+
+seen_step : (e : DirectiveKey × Option DirectiveValue) (es more : List (DirectiveKey × Option DirectiveValue)) (v : Option DirectiveValue) (t : Bool) → entries_of (cond t ((e.0, v) ∷ es) (e ∷ more)) ≡ cond t ((name_of e.0, value_bytes v) ∷ entries_of es) (entry_of e ∷ entries_of more)
+seen_step e es more v true = refl
+seen_step e es more v false = refl
+
+pub seen_insert : (es : List (DirectiveKey × Option DirectiveValue)) (k : DirectiveKey) (v : Option DirectiveValue) → entries_of (insert_entry same_key es k v) ≡ insert_entry (pointwise nat_eq) (entries_of es) (name_of k) (value_bytes v)
+seen_insert [] k v = refl
+seen_insert (e ∷ es) k v =
+    seen_step e es (insert_entry same_key es k v) v (same_key k e.0)
+    ∙ ap (λ l. cond (same_key k e.0) ((name_of e.0, value_bytes v) ∷ entries_of es) (entry_of e ∷ l)) (seen_insert es k v)
+
+lookup_step : (e : DirectiveKey × Option DirectiveValue) (o : Option (Option DirectiveValue)) (t : Bool) → option_map value_bytes (cond t (Some e.1) o) ≡ cond t (Some (value_bytes e.1)) (option_map value_bytes o)
+lookup_step e o true = refl
+lookup_step e o false = refl
+
+pub seen_lookup : (es : List (DirectiveKey × Option DirectiveValue)) (k : DirectiveKey) → option_map value_bytes (lookup (same_key k) es) ≡ lookup (pointwise nat_eq (name_of k)) (entries_of es)
+seen_lookup [] k = refl
+seen_lookup (e ∷ es) k =
+    lookup_step e (lookup (same_key k) es) (same_key k e.0)
+    ∙ ap (λ o. cond (same_key k e.0) (Some (value_bytes e.1)) o) (seen_lookup es k)

@@ -1,0 +1,7 @@
+use Rattle.cache_directives.specs.Control.{lines_under}
+use Rattle.cache_directives.proofs.Keeping.{kept_read}
+use Rattle.cache_directives.proofs.control.CacheControl.from_headers_named.Goals as goal
+
+pub returns-in_ok-from_fields-in-Some-clause-read : goal.returns-in_ok-from_fields-in-Some-clause-read
+returns-in_ok-from_fields-in-Some-clause-read c =
+    kept_read (lines_under c.args.header_name.now c.args.headers.now) _ c.in_ok-from_fields-in-Some.ensures

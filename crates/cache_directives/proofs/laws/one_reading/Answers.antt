@@ -1,0 +1,9 @@
+use Rattle.std.proofs.Common.{◌≡◌, List, ℕ, subst}
+use Rattle.cache_directives.specs.Written.{Written}
+use Rattle.cache_directives.specs.Reads.{Holds}
+use Rattle.cache_directives.specs.Walk.{directives}
+use Rattle.cache_directives.proofs.Reading.{holds_unique, directives_hold}
+use Rattle.cache_directives.proofs.laws.one_reading.Goals as goal
+
+pub returns : goal.returns
+returns c = λ line ds. (holds_unique line ds, λ e. subst (Holds line) e (directives_hold line))

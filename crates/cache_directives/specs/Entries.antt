@@ -1,0 +1,15 @@
+-- What a clause sees of the code's maps: each name with its value.
+use Rattle.std.specs.Prelude.{ℕ, List, map, Option, option_map}
+use Rattle.cache_directives.specs.Written.{Written}
+use Rattle.cache_directives.specs.Names.{name_of}
+use Rattle.cache_directives.specs.declared.key.DirectiveKey.{DirectiveKey}
+use Rattle.cache_directives.specs.declared.value.DirectiveValue.{DirectiveValue}
+
+abbrev pub value_bytes : Option DirectiveValue → Option (List ℕ)
+value_bytes value = option_map (λ v. v.0.items) value
+
+abbrev pub entry_of : DirectiveKey × Option DirectiveValue → Written
+entry_of e = (name_of e.0, value_bytes e.1)
+
+abbrev pub entries_of : List (DirectiveKey × Option DirectiveValue) → List Written
+entries_of entries = map entry_of entries

@@ -1,0 +1,14 @@
+pub mod Kinds
+pub mod Written
+pub mod Reads
+pub mod Walk
+pub mod Shown
+pub mod Names
+pub mod Keeps
+pub mod Seconds
+pub mod Listed
+pub mod NamesLeft
+pub mod Entries
+pub mod Control
+pub mod Lifetime
+pub mod Cacheable

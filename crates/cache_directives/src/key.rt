@@ -1,0 +1,144 @@
+//! Names of directives.
+ghost use Rattle.std.specs.Prelude.{◌≡◌, ◌↔◌, IsTrue, IfOk, IfSome, Some, nat_eq, string_bytes};
+ghost use Rattle.std.specs.Hash as fed;
+ghost use Rattle.std.specs.Cmp.{on_equiv, on_per, partial_equiv_from_equiv};
+ghost use Rattle.std.specs.Cmp.Lexicographic.{pointwise, nat_list_eq_equiv};
+ghost use Rattle.std.specs.Cmp.Rules.{hashing};
+ghost use Rattle.std.proofs.Common.{rules};
+ghost use Rattle.cache_directives.specs.Names.{name_of};
+
+use std::alloc::{AllocError, Global};
+use std::fmt;
+use std::hash::{Hash, Hasher};
+
+/// A directive's name, in lower case.
+#[derive(Debug, Drop)]
+pub enum DirectiveKey {
+    MaxAge,
+    SMaxAge,
+    NoCache,
+    NoStore,
+    Private,
+    Public,
+    MustRevalidate,
+    ProxyRevalidate,
+    MustUnderstand,
+    NoTransform,
+    Immutable,
+    StaleWhileRevalidate,
+    StaleIfError,
+    OnlyIfCached,
+    /// A name that this crate gives no meaning.
+    Unknown(String),
+}
+
+impl DirectiveKey {
+    /// The name as text.
+    pub fn as_str(&self) -> &str
+        ensures { result.now ≡ name_of self.now }
+    {
+        match self {
+            DirectiveKey::MaxAge => "max-age",
+            DirectiveKey::SMaxAge => "s-maxage",
+            DirectiveKey::NoCache => "no-cache",
+            DirectiveKey::NoStore => "no-store",
+            DirectiveKey::Private => "private",
+            DirectiveKey::Public => "public",
+            DirectiveKey::MustRevalidate => "must-revalidate",
+            DirectiveKey::ProxyRevalidate => "proxy-revalidate",
+            DirectiveKey::MustUnderstand => "must-understand",
+            DirectiveKey::NoTransform => "no-transform",
+            DirectiveKey::Immutable => "immutable",
+            DirectiveKey::StaleWhileRevalidate => "stale-while-revalidate",
+            DirectiveKey::StaleIfError => "stale-if-error",
+            DirectiveKey::OnlyIfCached => "only-if-cached",
+            DirectiveKey::Unknown(text) => text.as_str(),
+        }
+    }
+
+    // One of the names with a variant of its own.
+    pub(crate) fn known(name: &str) -> Option<Self>
+        ensures { IfSome result (λ key. name_of key ≡ name.now) }
+    {
+        match name {
+            "max-age" => Some(DirectiveKey::MaxAge),
+            "s-maxage" => Some(DirectiveKey::SMaxAge),
+            "no-cache" => Some(DirectiveKey::NoCache),
+            "no-store" => Some(DirectiveKey::NoStore),
+            "private" => Some(DirectiveKey::Private),
+            "public" => Some(DirectiveKey::Public),
+            "must-revalidate" => Some(DirectiveKey::MustRevalidate),
+            "proxy-revalidate" => Some(DirectiveKey::ProxyRevalidate),
+            "must-understand" => Some(DirectiveKey::MustUnderstand),
+            "no-transform" => Some(DirectiveKey::NoTransform),
+            "immutable" => Some(DirectiveKey::Immutable),
+            "stale-while-revalidate" => Some(DirectiveKey::StaleWhileRevalidate),
+            "stale-if-error" => Some(DirectiveKey::StaleIfError),
+            "only-if-cached" => Some(DirectiveKey::OnlyIfCached),
+            _ => None,
+        }
+    }
+
+    /// The key of a name in lower case.
+    ///
+    /// # Errors
+    ///
+    /// `AllocError` where there is no memory for a name without a variant of its own.
+    pub fn from_lowercase(alloc: Global, name: &str) -> Result<Self, AllocError>
+        ensures { IfOk result (λ key. name_of key ≡ name.now) }
+    {
+        match DirectiveKey::known(name) {
+            Some(key) => Ok(key),
+            None => Ok(DirectiveKey::Unknown(String::from_str(alloc, name)?)),
+        }
+    }
+
+    /// The key of a name in lower case, which takes no memory.
+    pub fn from_lowercase_owned(name: String) -> Self
+        ensures { name_of result ≡ string_bytes name }
+    {
+        match DirectiveKey::known(name.as_str()) {
+            Some(key) => key,
+            None => DirectiveKey::Unknown(name),
+        }
+    }
+
+    /// Whether the name is this text.
+    pub fn is_text(&self, text: &str) -> bool
+        ensures { IsTrue result ↔ (name_of self.now ≡ text.now) }
+    {
+        self.as_str() == text
+    }
+}
+
+impl fmt::Display for DirectiveKey {
+    ghost output = { λ key. Some (name_of key) };
+
+    fn fmt<W: fmt::Write>(&self, f: &mut fmt::Formatter<W>) -> fmt::Result {
+        f.write_str(self.as_str())
+    }
+}
+
+impl PartialEq for DirectiveKey {
+    ghost eq = { λ a b. pointwise nat_eq (name_of a) (name_of b) };
+
+    ghost laws = { on_per name_of (partial_equiv_from_equiv nat_list_eq_equiv) };
+
+    fn eq(&self, other: &DirectiveKey) -> bool {
+        self.as_str() == other.as_str()
+    }
+}
+
+impl Eq for DirectiveKey {
+    ghost laws = { on_equiv name_of nat_list_eq_equiv };
+}
+
+impl Hash for DirectiveKey {
+    ghost hash_input = { λ key. fed.str (name_of key) };
+
+    ghost respects_eq = { Prim.search (hashing, rules) };
+
+    fn hash<H: Hasher>(&self, state: &mut H) {
+        self.as_str().hash(state);
+    }
+}

@@ -1,0 +1,28 @@
+//! The directives of Cache-Control (RFC 9111, 5.2): what a header line holds, and what follows
+//! from it for a shared cache.
+#![tactic(auto)]
+
+pub mod control;
+pub mod error;
+mod found;
+pub mod header;
+pub mod interpret;
+pub mod key;
+pub mod laws;
+pub mod line;
+mod listed;
+pub mod map;
+pub mod names;
+pub mod value;
+
+pub use control::CacheControl;
+pub use error::{Error, ErrorType};
+pub use header::{RequestHeader, ResponseHeader};
+pub use interpret::{Cacheable, InterpretCacheControl};
+pub use key::DirectiveKey;
+pub use map::DirectiveMap;
+pub use names::ListValueIter;
+pub use value::DirectiveValue;
+
+/// What seconds past the greatest number count as (RFC 9111, 1.2.2).
+pub const DELTA_SECONDS_OVERFLOW_VALUE: u32 = 2_147_483_647;

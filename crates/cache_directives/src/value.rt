@@ -1,0 +1,102 @@
+//! Values of directives.
+ghost use Rattle.std.specs.Prelude.{◌≡◌, MatchResult, IfErr};
+ghost use Rattle.std.specs.Result.{result_ok};
+ghost use Rattle.std.specs.Str.{IsUtf8};
+ghost use Rattle.cache_directives.specs.Seconds.{bare, seconds_from, digits, seconds_of, delta_seconds};
+
+use crate::DELTA_SECONDS_OVERFLOW_VALUE;
+use crate::error::{Error, ErrorType};
+use std::str;
+
+/// A directive's value as it is written, with its quotes.
+#[derive(Debug, Drop)]
+pub struct DirectiveValue(pub Vec<u8>);
+
+// The number that a text of digits says; none without digits.
+fn number(text: &[u8]) -> Option<u32>
+    ensures { result ≡ digits text.now }
+{
+    if text.is_empty() {
+        return None;
+    }
+    let mut n: u32 = 0;
+    for b in text {
+        if !b.is_ascii_digit() {
+            return None;
+        }
+        let next = 10 * n as u64 + (*b - b'0') as u64;
+        if next > 4_294_967_295 {
+            return Some(DELTA_SECONDS_OVERFLOW_VALUE);
+        }
+        n = next as u32;
+    }
+    Some(n)
+}
+
+impl DirectiveValue {
+    /// The value as it is written.
+    pub fn as_ref(&self) -> &[u8]
+        ensures { result.now ≡ self.now.0.items }
+    {
+        self.0.as_slice()
+    }
+
+    /// The value without one pair of enclosing quotes.
+    pub fn parse_as_bytes(&self) -> &[u8]
+        ensures { result.now ≡ bare self.now.0.items }
+    {
+        bare(self.0.as_slice())
+    }
+
+    /// The value without its quotes, as text.
+    ///
+    /// # Errors
+    ///
+    /// `InternalError` where it is not UTF-8.
+    pub fn parse_as_str(&self) -> Result<&str, Error>
+        ensures value { MatchResult result (λ text. (text.now ≡ bare self.now.0.items) × IsUtf8 (bare self.now.0.items)) (λ e. ¬ (IsUtf8 (bare self.now.0.items))) }
+        ensures kind { IfErr result (λ e. e.etype ≡ ErrorType.InternalError) }
+    {
+        match str::from_utf8(self.parse_as_bytes()) {
+            Ok(text) => Ok(text),
+            Err(_) => Err(unreadable()),
+        }
+    }
+
+    #[tactic(auto, using(crate::proofs::Texts::is_text, crate::proofs::Texts::no_text))]
+    /// The seconds that the value says (RFC 9111, 1.2.2).
+    ///
+    /// # Errors
+    ///
+    /// `InternalError` where it says none.
+    pub fn parse_as_delta_seconds(&self) -> Result<u32, Error>
+        ensures value { result_ok result ≡ delta_seconds self.now.0.items }
+        ensures kind { IfErr result (λ e. e.etype ≡ ErrorType.InternalError) }
+    {
+        let text = self.parse_as_str()?.as_bytes();
+        let read = match text.split_first() {
+            Some((b'+', behind)) => number(behind),
+            _ => number(text),
+        };
+        read.ok_or(unreadable())
+    }
+}
+
+// Without one pair of enclosing quotes.
+pub(crate) fn bare(value: &[u8]) -> &[u8]
+    ensures { result.now ≡ bare value.now }
+{
+    if value.len() >= 2 && value[0] == b'"' && value[value.len() - 1] == b'"' {
+        &value[1..value.len() - 1]
+    } else {
+        value
+    }
+}
+
+fn unreadable() -> Error
+    ensures { result.etype ≡ ErrorType.InternalError }
+{
+    Error {
+        etype: ErrorType::InternalError,
+    }
+}

@@ -1,0 +1,52 @@
+-- Until when a response is fresh, over lists of header values, moments and numbers: the first source that gives a
+-- moment, or none (RFC 9111, 3.5, 4.2.1, 5.2.2 and 5.3).
+use Rattle.std.specs.Prelude.{ℕ, Bool, false, ◌&&◌, ◌||◌, ◌==◌, not, pos, if◌then◌else◌, List, [], ◌∷◌, Option, Some, None, option_map, unwrap_or}
+use Rattle.std.specs.Option.{option_and_then}
+use Rattle.cache_words.specs.Time.{Instant, Span, from_seconds, span_of, later_by, earlier_by}
+use Rattle.httpdate.specs.Date.{parse_secs}
+use Rattle.cache_directives.specs.Written.{Written}
+use Rattle.cache_directives.specs.Control.{named}
+use Rattle.cache_directives.specs.Lifetime.{forbids_storing, allows_authorized, lifetime}
+
+-- the first that is there
+abbrev pub or_else : {X : Type 0} → Option X → Option X → Option X
+or_else None other = other
+or_else (Some x) other = Some x
+
+abbrev pub is_no_time : Span → Bool
+is_no_time d = d.seconds == 0 && d.nanoseconds == 0
+
+-- the moment a lifetime later; without a lifetime the second before, so that the response is stale at once. A sum out
+-- of range gives none
+abbrev pub lasts_to : Instant → Span → Option Instant
+lasts_to now d = if is_no_time d then earlier_by now (span_of 1) else later_by now d
+
+-- what the directives give
+abbrev pub by_directives : Instant → Option (List Written) → Option Instant
+by_directives now ds = option_and_then (λ s. lasts_to now (span_of s)) (option_and_then lifetime ds)
+
+-- what the Expires values give: a lone one its date, and 1970 where it is no date; none and several nothing
+abbrev pub by_expires : List (List ℕ) → Option Instant
+by_expires [] = None
+by_expires (value ∷ []) = Some (from_seconds (pos (unwrap_or (parse_secs value) 0)))
+by_expires (value ∷ other ∷ more) = None
+
+-- the directives are there and pass the test
+abbrev pub holds_of : (List Written → Bool) → Option (List Written) → Bool
+holds_of test None = false
+holds_of test (Some ds) = test ds
+
+-- the response may not be stored, whatever its age: a request with Authorization needs leave, and some directives forbid
+abbrev pub is_barred : Option (List Written) → Bool → Bool
+is_barred ds authorized = (authorized && not (holds_of allows_authorized ds)) || holds_of forbids_storing ds
+
+-- by the directives, if there are any, the Expires values, whether the request had Authorization, and the lifetime
+-- that the status has by default
+abbrev pub fresh_until_by : Instant → Option (List Written) → List (List ℕ) → Bool → Option Span → Option Instant
+fresh_until_by now ds expires authorized default =
+    if is_barred ds authorized then None
+    else or_else (by_directives now ds) (or_else (by_expires expires) (option_and_then (lasts_to now) default))
+
+-- the same by the lines of Cache-Control
+abbrev pub fresh_until : Instant → List (List ℕ) → List (List ℕ) → Bool → Option Span → Option Instant
+fresh_until now lines expires authorized default = fresh_until_by now (named lines) expires authorized default

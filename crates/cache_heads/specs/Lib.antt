@@ -1,0 +1,10 @@
+pub mod FreshUntil
+pub mod Stale
+pub mod Fresh
+pub mod Requests
+pub mod Meta
+pub mod MetaLends
+pub mod Verdict
+pub mod Given
+pub mod Status
+pub mod Reasons

@@ -1,0 +1,31 @@
+-- What is kept beside a response.
+use Rattle.std.specs.Prelude.{ℕ, Option, Some, None, unwrap_or, option_map}
+use Rattle.cache_words.specs.Time.{Instant}
+use Rattle.cache_directives.specs.declared.header.ResponseHeader.{ResponseHeader}
+use Rattle.cache_heads.specs.declared.meta.InternalMetaV2.{InternalMetaV2}
+use Rattle.cache_heads.specs.declared.meta.CacheMeta.{CacheMeta}
+
+-- a new meta: it was updated and comes from when it was created
+abbrev pub new_meta : Instant → Instant → ℕ → ℕ → ResponseHeader → CacheMeta
+new_meta fresh_until created revalidate error header =
+    record {
+      internal = record {
+        fresh_until = fresh_until;
+        created = created;
+        updated = created;
+        stale_while_revalidate_sec = revalidate;
+        stale_if_error_sec = error;
+        variance = None;
+        epoch_override = None;
+        provenance = Some created;
+      };
+      header = header;
+    }
+
+-- the moment from which age counts: the override, else when the meta was updated
+abbrev pub epoch_of : InternalMetaV2 → Instant
+epoch_of m = unwrap_or m.epoch_override m.updated
+
+-- where the response comes from: when it was created, unless it is said
+abbrev pub provenance_of : InternalMetaV2 → Instant
+provenance_of m = unwrap_or m.provenance m.created

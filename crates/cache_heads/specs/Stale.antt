@@ -1,0 +1,19 @@
+-- How long a stale response may be served (RFC 9111, 4.2.4; RFC 5861).
+use Rattle.std.specs.Prelude.{ℕ, nat_lt, if◌then◌else◌, List, Option, option_map, unwrap_or, codes}
+use Rattle.std.specs.Option.{option_and_then}
+use Rattle.cache_directives.specs.Written.{Written}
+use Rattle.cache_directives.specs.Lifetime.{stale_window}
+
+-- seconds past the greatest number count as 2147483647 (RFC 9111, 1.2.2)
+abbrev pub in_range : ℕ → ℕ
+in_range seconds = if nat_lt 4294967295 seconds then 2147483647 else seconds
+
+-- the window by the directives, else the default
+abbrev pub window : List ℕ → Option (List Written) → ℕ → ℕ
+window name ds default = unwrap_or (option_map in_range (option_and_then (stale_window name) ds)) default
+
+abbrev pub revalidate_window : Option (List Written) → ℕ → ℕ
+revalidate_window ds default = window (codes "stale-while-revalidate") ds default
+
+abbrev pub error_window : Option (List Written) → ℕ → ℕ
+error_window ds default = window (codes "stale-if-error") ds default

@@ -1,0 +1,462 @@
+//! Worked traces, and each want of memory in turn.
+use super::*;
+use bytes::Bytes;
+use rand_pcg::Pcg32;
+use std::alloc::AllocError;
+use std::fmt::Write;
+use std::process::Abort;
+
+fn key(name: u8) -> StoredKey {
+    StoredKey { bytes: [name; 16] }
+}
+
+fn event(second: i64, action: Action) -> Event {
+    Event {
+        moment: Moment::from_seconds(second),
+        action,
+    }
+}
+
+fn open(second: i64, request: u64, name: u8) -> Event {
+    let key = key(name);
+    event(second, Action::Open { request, key })
+}
+
+fn look(second: i64, request: u64) -> Event {
+    event(second, Action::LookUp { request })
+}
+
+fn read(second: i64, request: u64) -> Event {
+    event(second, Action::Read { request })
+}
+
+fn drop_it(second: i64, request: u64) -> Event {
+    event(second, Action::Drop { request })
+}
+
+fn purge(second: i64, name: u8) -> Event {
+    event(second, Action::Purge { key: key(name) })
+}
+
+fn put(
+    alloc: Global,
+    second: i64,
+    name: u8,
+    pieces: &[&'static [u8]],
+) -> Result<Event, AllocError> {
+    let mut all = Vec::new(alloc);
+    for piece in pieces {
+        all.push(Bytes::from_static(*piece))?;
+    }
+    let pieces = Pieces::from_vec(all);
+    Ok(event(
+        second,
+        Action::Put {
+            key: key(name),
+            pieces,
+        },
+    ))
+}
+
+// A put of n bytes, fresh for 100 seconds, as the limits' rows have it.
+fn put_of(alloc: Global, name: u8, n: usize) -> Result<Event, AllocError> {
+    let head = b"HTTP/1.1 200 OK\r\nCache-Control: max-age=100\r\n\r\n";
+    let body: &'static [u8] = match n {
+        0 => b"",
+        1 => b"x",
+        2 => b"xx",
+        _ => b"xxxxx",
+    };
+    put(alloc, 7, name, &[head, body])
+}
+
+// One word or two for each outcome, as a trace has them.
+fn show(text: &mut String, outcome: &Result<Answer, TierFault>) -> Result<(), AllocError> {
+    match outcome {
+        Ok(Answer::Opened) => text.push_str("opened\n"),
+        Ok(Answer::Found { fresh, complete }) => write!(text, "found {fresh} {complete}\n"),
+        Ok(Answer::Absent) => text.push_str("absent\n"),
+        Ok(Answer::Bytes(bytes)) => write!(text, "bytes {:?}\n", bytes.as_slice()),
+        Ok(Answer::End) => text.push_str("end\n"),
+        Ok(Answer::Dropped) => text.push_str("dropped\n"),
+        Ok(Answer::Purged(was_there)) => write!(text, "purged {was_there}\n"),
+        Ok(Answer::Finished { length, evicted }) => {
+            let count = evicted.as_slice().len();
+            write!(text, "finished {length} evicted={count}\n")
+        }
+        Err(fault) => write!(text, "fault {fault:?}\n"),
+    }
+}
+
+fn show_report(text: &mut String, report: Report) -> Result<(), AllocError> {
+    write!(
+        text,
+        "report found={} absent={} bodies={} bytes={} tracked={} weight={} evicted={}",
+        report.found,
+        report.absent,
+        report.bodies,
+        report.bytes,
+        report.tracked,
+        report.weight,
+        report.evicted
+    )
+}
+
+fn tier(alloc: Global, limit: usize, watermark: Option<usize>) -> Tier<1> {
+    let age = Duration::from_seconds(1);
+    Tier::<1>::new(alloc, limit, watermark, age, None)
+}
+
+// The outcomes of a run over an empty tier, and its report.
+fn replay(
+    alloc: Global,
+    limit: usize,
+    watermark: Option<usize>,
+    events: &[Event],
+) -> Result<String, AllocError> {
+    let mut text = String::new(alloc);
+    let mut rng = Pcg32::new(1, 1);
+    let mut tier = tier(alloc, limit, watermark);
+    match tier.run(&mut rng, events) {
+        Ok(outcomes) => {
+            for outcome in outcomes.as_slice() {
+                show(&mut text, outcome)?;
+            }
+        }
+        Err(fault) => write!(&mut text, "{fault:?}\n")?,
+    }
+    show_report(&mut text, tier.report())?;
+    Ok(text)
+}
+
+// One allocation may be made to fail: then the other attempt shows the trace.
+fn shows(
+    rt: &impl Abort,
+    one: Result<String, AllocError>,
+    two: Result<String, AllocError>,
+    want: &str,
+) {
+    let is_one = one.as_ref().is_ok_and(|text| text.as_str() == want);
+    let is_two = two.as_ref().is_ok_and(|text| text.as_str() == want);
+    assert!(rt; is_one || is_two, "{one:?} or {two:?}");
+}
+
+fn first_answer(alloc: Global) -> Result<String, AllocError> {
+    let head = b"HTTP/1.1 200 OK\r\nCache-Control: max-age=10\r\n\r\n";
+    let events = vec![in alloc;
+        put(alloc, 1000, b'a', &[head, b"abc"])?,
+        open(1005, 1, b'a'),
+        look(1005, 1),
+        read(1005, 1),
+        read(1005, 1),
+        drop_it(1005, 1),
+        open(1011, 1, b'a'),
+        look(1011, 1),
+    ]?;
+    replay(alloc, 100, None, events.as_slice())
+}
+
+#[test]
+fn answers_a_first_trace(rt: HostRuntime) {
+    let alloc = rt.alloc();
+    shows(
+        &rt,
+        first_answer(alloc),
+        first_answer(alloc),
+        "\
+        finished 3 evicted=0\n\
+        opened\n\
+        found true true\n\
+        bytes [97, 98, 99]\n\
+        end\n\
+        dropped\n\
+        opened\n\
+        found false true\n\
+        report found=2 absent=0 bodies=1 bytes=3 tracked=1 weight=3 evicted=0",
+    );
+}
+
+// Each event in a wrong place, and responses that aren't stored.
+fn refusals(alloc: Global) -> Result<String, AllocError> {
+    let events = vec![in alloc;
+        look(1, 9),
+        drop_it(1, 9),
+        open(1, 1, b'a'),
+        open(1, 1, b'b'),
+        read(1, 1),
+        put_of(alloc, b'a', 0)?,
+        look(1, 1),
+        look(1, 1),
+        read(1, 1),
+        read(1, 1),
+        purge(1, b'a'),
+        purge(1, b'a'),
+        put(
+            alloc,
+            0,
+            b'a',
+            &[b"HTTP/1.1 200 OK\r\nCache-Control: max-age=0\r\n\r\n"]
+        )?,
+        put(
+            alloc,
+            1,
+            b'a',
+            &[b"HTTP/1.1 200 OK\r\nCache-Control: no-store\r\n\r\n"]
+        )?,
+        put(
+            alloc,
+            i64::MAX,
+            b'a',
+            &[b"HTTP/1.1 200 OK\r\nCache-Control: max-age=1\r\n\r\n"]
+        )?,
+    ]?;
+    replay(alloc, 100, None, events.as_slice())
+}
+
+#[test]
+fn refuses_by_name(rt: HostRuntime) {
+    let alloc = rt.alloc();
+    shows(
+        &rt,
+        refusals(alloc),
+        refusals(alloc),
+        "\
+        fault NoRequest\n\
+        fault NoRequest\n\
+        opened\n\
+        fault IdInUse\n\
+        fault WrongPhase\n\
+        finished 0 evicted=0\n\
+        found true true\n\
+        fault WrongPhase\n\
+        bytes []\n\
+        end\n\
+        purged true\n\
+        purged false\n\
+        fault BeforeEpoch\n\
+        fault Unsupported\n\
+        fault Unsupported\n\
+        report found=1 absent=0 bodies=0 bytes=0 tracked=0 weight=0 evicted=0",
+    );
+}
+
+// Puts of so many bytes under a, b, c, .. by turns, then look-ups of all.
+fn puts(
+    alloc: Global,
+    limit: usize,
+    watermark: Option<usize>,
+    puts: &[(u8, usize)],
+    first_used: bool,
+) -> Result<String, AllocError> {
+    let mut events = Vec::new(alloc);
+    for (i, (name, length)) in puts.iter().enumerate() {
+        if first_used && i == 3 {
+            events.push(open(7, 0, b'a'))?;
+            events.push(look(7, 0))?;
+            events.push(read(7, 0))?;
+        }
+        events.push(put_of(alloc, *name, *length)?)?;
+    }
+    for (name, _) in puts {
+        let request = u64::from(*name);
+        events.push(open(7, request, *name))?;
+        events.push(look(7, request))?;
+    }
+    replay(alloc, limit, watermark, events.as_slice())
+}
+
+const FOUR: &[(u8, usize)] = &[(b'a', 1), (b'b', 2), (b'c', 1), (b'd', 2)];
+
+#[test]
+fn evicts_the_least_recently_used(rt: HostRuntime) {
+    let alloc = rt.alloc();
+    let plain = || puts(alloc, 4, None, FOUR, false);
+    shows(
+        &rt,
+        plain(),
+        plain(),
+        "\
+        finished 1 evicted=0\n\
+        finished 2 evicted=0\n\
+        finished 1 evicted=0\n\
+        finished 2 evicted=2\n\
+        opened\nabsent\n\
+        opened\nabsent\n\
+        opened\nfound true true\n\
+        opened\nfound true true\n\
+        report found=2 absent=2 bodies=2 bytes=3 tracked=2 weight=3 evicted=2",
+    );
+    let used = || puts(alloc, 4, None, FOUR, true);
+    shows(
+        &rt,
+        used(),
+        used(),
+        "\
+        finished 1 evicted=0\n\
+        finished 2 evicted=0\n\
+        finished 1 evicted=0\n\
+        opened\nfound true true\nbytes [120]\n\
+        finished 2 evicted=1\n\
+        opened\nfound true true\n\
+        opened\nabsent\n\
+        opened\nfound true true\n\
+        opened\nfound true true\n\
+        report found=4 absent=1 bodies=3 bytes=4 tracked=3 weight=4 evicted=1",
+    );
+}
+
+#[test]
+fn keeps_both_limits(rt: HostRuntime) {
+    let alloc = rt.alloc();
+    let too_long = || puts(alloc, 4, None, &[(b'a', 1), (b'x', 5)], false);
+    shows(
+        &rt,
+        too_long(),
+        too_long(),
+        "\
+        finished 1 evicted=0\n\
+        finished 5 evicted=2\n\
+        opened\nabsent\n\
+        opened\nabsent\n\
+        report found=0 absent=2 bodies=0 bytes=0 tracked=0 weight=0 evicted=2",
+    );
+    let one_entry = || puts(alloc, 100, Some(1), &[(b'a', 1), (b'b', 0)], false);
+    shows(
+        &rt,
+        one_entry(),
+        one_entry(),
+        "\
+        finished 1 evicted=0\n\
+        finished 0 evicted=1\n\
+        opened\nabsent\n\
+        opened\nfound true true\n\
+        report found=1 absent=1 bodies=1 bytes=0 tracked=1 weight=1 evicted=1",
+    );
+    shows(
+        &rt,
+        replay(alloc, 4, None, &[]),
+        replay(alloc, 4, None, &[]),
+        "\
+        report found=0 absent=0 bodies=0 bytes=0 tracked=0 weight=0 evicted=0",
+    );
+}
+
+// A tier with a body under a, for which request 1 is open, if no allocation failed on the way.
+fn fixture(alloc: Global) -> Option<Tier<1>> {
+    let mut rng = Pcg32::new(1, 1);
+    let mut tier = tier(alloc, 4, None);
+    let put = put_of(alloc, b'a', 2).ok()?;
+    let _ = tier.step(&mut rng, &put).ok()?;
+    let _ = tier.step(&mut rng, &open(7, 1, b'a')).ok()?;
+    Some(tier)
+}
+
+fn is_memory(outcome: &Result<Answer, TierFault>) -> bool {
+    match outcome {
+        Err(TierFault::Memory(done)) => {
+            !done.stored && !done.admitted && done.evicted.as_slice().is_empty()
+        }
+        _ => false,
+    }
+}
+
+fn is_found(outcome: &Result<Answer, TierFault>) -> bool {
+    match outcome {
+        Ok(Answer::Found { fresh, complete }) => *fresh && *complete,
+        _ => false,
+    }
+}
+
+#[test]
+fn a_put_without_memory_leaves_all(rt: HostRuntime) {
+    let alloc = rt.alloc();
+    let mut rng = Pcg32::new(1, 1);
+    let Some(mut tier) = fixture(alloc) else {
+        return;
+    };
+    let Ok(put) = put_of(alloc, b'b', 5) else {
+        return;
+    };
+    let before = tier.report();
+    let outcome = tier.step(&mut rng, &put);
+    if is_memory(&outcome) {
+        assert_eq!(rt; tier.report(), before);
+        assert!(rt; is_found(&tier.step(&mut rng, &look(7, 1))));
+        return;
+    }
+    match &outcome {
+        Ok(Answer::Finished { length, evicted }) => {
+            assert_eq!(rt; *length, 5);
+            assert_eq!(rt; evicted.as_slice().len(), 2);
+        }
+        _ => panic!(&rt; "{outcome:?}"),
+    }
+}
+
+#[test]
+fn an_open_without_memory_leaves_all(rt: HostRuntime) {
+    let alloc = rt.alloc();
+    let mut rng = Pcg32::new(1, 1);
+    let Some(mut tier) = fixture(alloc) else {
+        return;
+    };
+    let before = tier.report();
+    let outcome = tier.step(&mut rng, &open(7, 2, b'a'));
+    if is_memory(&outcome) {
+        assert_eq!(rt; tier.report(), before);
+        match tier.step(&mut rng, &look(7, 2)) {
+            Err(TierFault::NoRequest) => {}
+            other => panic!(&rt; "{other:?}"),
+        }
+        return;
+    }
+    assert!(rt; outcome.is_ok());
+    assert!(rt; is_found(&tier.step(&mut rng, &look(7, 1))));
+}
+
+#[test]
+fn a_look_without_memory_leaves_all(rt: HostRuntime) {
+    let alloc = rt.alloc();
+    let mut rng = Pcg32::new(1, 1);
+    let Some(mut tier) = fixture(alloc) else {
+        return;
+    };
+    let before = tier.report();
+    let mut outcome = tier.step(&mut rng, &look(7, 1));
+    if is_memory(&outcome) {
+        assert_eq!(rt; tier.report(), before);
+        outcome = tier.step(&mut rng, &look(7, 1));
+    }
+    assert!(rt; is_found(&outcome));
+}
+
+// A read takes no memory, whatever fails.
+#[test]
+fn a_read_takes_no_memory(rt: HostRuntime) {
+    let alloc = rt.alloc();
+    let mut rng = Pcg32::new(1, 1);
+    let Some(mut tier) = fixture(alloc) else {
+        return;
+    };
+    if !is_found(&tier.step(&mut rng, &look(7, 1))) {
+        return;
+    }
+    match tier.step(&mut rng, &read(7, 1)) {
+        Ok(Answer::Bytes(bytes)) => assert_eq!(rt; bytes.as_slice(), b"xx".as_slice()),
+        other => panic!(&rt; "{other:?}"),
+    }
+}
+
+#[test]
+fn a_run_without_memory_does_nothing(rt: HostRuntime) {
+    let alloc = rt.alloc();
+    let mut rng = Pcg32::new(1, 1);
+    let Some(mut tier) = fixture(alloc) else {
+        return;
+    };
+    let before = tier.report();
+    match tier.run(&mut rng, &[look(7, 1)]) {
+        Ok(outcomes) => assert_eq!(rt; outcomes.len(), 1),
+        Err(_) => assert_eq!(rt; tier.report(), before),
+    }
+}

@@ -1,0 +1,18 @@
+//! What a response gives.
+use crate::rows::FinishedBody;
+use cache_heads::reason::NoCacheReason;
+
+/// What the bytes of a whole response give at the moment at which they come.
+#[derive(Debug, Drop)]
+pub enum Given {
+    /// A body to store.
+    Stored(FinishedBody),
+    /// A whole response that may not be kept, and why.
+    Uncacheable(NoCacheReason),
+    /// The response ends too early.
+    Incomplete,
+    /// The bytes are no head.
+    BadHead,
+    /// The response came, or is fresh, only before 1970.
+    BeforeEpoch,
+}
