@@ -2,10 +2,11 @@
 use Rattle.std.specs.Prelude.{ℕ, Bool, true, false, List, [], ◌∷◌, ◌++◌, length, codes, Ok, Err}
 use Rattle.std.specs.Fmt.{decimal}
 use Rattle.hex.specs.Hex.{encode_lower}
+use Rattle.cache_heads.specs.Reasons.{reason_name}
 use Rattle.tier_model.specs.declared.event.Answer.{Answer}
-use Rattle.tier_model.specs.declared.event.Answer.TheVariants.{Opened, Found, Absent, Bytes, End, Dropped, Purged, Finished}
+use Rattle.tier_model.specs.declared.event.Answer.TheVariants.{Opened, Found, Absent, Bytes, End, Dropped, Purged, Finished, Uncacheable}
 use Rattle.tier_model.specs.declared.event.TierFault.{TierFault}
-use Rattle.tier_model.specs.declared.event.TierFault.TheVariants.{NoRequest, IdInUse, WrongPhase, Waiting, AfterEnd, BadHead, WriteRemoved, BeforeEpoch, Incomplete, NumbersSpent, TooHeavy, TooLong, Memory, Folder, NoRecord, Unsupported}
+use Rattle.tier_model.specs.declared.event.TierFault.TheVariants.{NoRequest, IdInUse, WrongPhase, Waiting, AfterEnd, BadHead, WriteRemoved, BeforeEpoch, Incomplete, NumbersSpent, TooHeavy, TooLong, Memory, Folder, NoRecord}
 use Rattle.tier_model.specs.declared.report.Report.{Report}
 use Rattle.tier_model.specs.Calls.{Outcome}
 use Rattle.trace_lines.specs.declared.line.Refusal.{Refusal}
@@ -29,7 +30,6 @@ fault_number (TooLong done) = 12
 fault_number (Memory done) = 13
 fault_number Folder = 14
 fault_number NoRecord = 15
-fault_number Unsupported = 16
 
 abbrev pub fault_name : TierFault → List ℕ
 fault_name NoRequest = codes "NoRequest"
@@ -47,7 +47,6 @@ fault_name (TooLong done) = codes "TooLong"
 fault_name (Memory done) = codes "Memory"
 fault_name Folder = codes "Folder"
 fault_name NoRecord = codes "NoRecord"
-fault_name Unsupported = codes "Unsupported"
 
 abbrev pub freshness_text : Bool → List ℕ
 freshness_text true = codes "fresh"
@@ -74,6 +73,7 @@ answer_text (Bytes bytes) = codes "bytes " ++ bytes_text bytes
 answer_text End = codes "end"
 answer_text Dropped = codes "dropped"
 answer_text (Purged was_stored) = purged_text was_stored
+answer_text (Uncacheable reason) = codes "uncacheable " ++ reason_name reason
 answer_text (Finished size evicted) = codes "finished " ++ (decimal size ++ (codes " evicted=" ++ decimal (length evicted)))
 
 abbrev pub outcome_text : Outcome → List ℕ

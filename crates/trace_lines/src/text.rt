@@ -46,6 +46,10 @@ fn answer_line(alloc: Global, answer: &Answer) -> Result<String, AllocError>
             let count = evicted.as_slice().len();
             format!(in alloc; "finished {length} evicted={count}")
         }
+        Answer::Uncacheable(reason) => {
+            let reason = reason.as_str();
+            format!(in alloc; "uncacheable {reason}")
+        }
     }
 }
 
@@ -78,7 +82,6 @@ fn fault_number(fault: &TierFault) -> u8
         TierFault::Memory(_) => 13,
         TierFault::Folder => 14,
         TierFault::NoRecord => 15,
-        TierFault::Unsupported => 16,
     }
 }
 
@@ -101,7 +104,6 @@ fn fault_name(fault: &TierFault) -> &'static str
         TierFault::Memory(_) => "Memory",
         TierFault::Folder => "Folder",
         TierFault::NoRecord => "NoRecord",
-        TierFault::Unsupported => "Unsupported",
     }
 }
 

@@ -3,12 +3,13 @@ use Rattle.std.proofs.Common.{◌≡◌, ◌∙◌, ℕ, ◌+◌, ◌-◌, ◌^�
 use Rattle.std.specs.Prelude.{Option, Some, None, IfSome}
 use Rattle.std.specs.Io.KnownBytes.{Appends, IsAtEnd}
 use Rattle.std.specs.Io.BufRead.{take_through, drop_through, strip_last, DropsThrough}
-use Rattle.tier_model.specs.Calls.{History}
+use Rattle.tier_model.specs.Calls.{Call, History, Outcome, AreCallsOf, extended}
 use Rattle.tier_model.specs.Past.{HasPast}
 use Rattle.tier_model.specs.Reports.{report_of}
 use Rattle.tier_model.specs.State.{Settings, State}
 use Rattle.trace_lines.specs.Lines.{line_of}
-use Rattle.trace_lines.specs.Texts.{report_text}
+use Rattle.trace_lines.specs.Texts.{outcome_text, report_text}
+use Rattle.tier_model.specs.declared.event.Event.{Event}
 use Rattle.trace_lines.specs.declared.line.Line.{Line}
 use Rattle.trace_lines.specs.declared.line.Line.TheVariants.{Refused, Asked}
 use Rattle.trace_replay.specs.Replays.{asked_by, lines_in, ended, Replays, IsReplay}
@@ -62,6 +63,18 @@ record OneMore (settings : Settings) (lines left : List Line) (new : State) (ans
   past : HasPast settings new history
   goes_on : GoesOn lines left history answers
 
+-- the one call of an event
+one_call : (settings : Settings) (event : Event) (outcome : Outcome) (new : State) (history : History)
+    → (calls : List Call) × AreCallsOf (event ∷ []) (outcome ∷ []) calls × HasPast settings new (extended history calls)
+    → (call : Call) × (call.event ≡ event) × (call.outcome ≡ outcome) × HasPast settings new (call ∷ history)
+one_call settings event outcome new history (calls, are, past) = by_calls calls are past
+  where
+    by_calls : (calls : List Call) → AreCallsOf (event ∷ []) (outcome ∷ []) calls → HasPast settings new (extended history calls)
+        → (call : Call) × (call.event ≡ event) × (call.outcome ≡ outcome) × HasPast settings new (call ∷ history)
+    by_calls [] are past = absurd are
+    by_calls (c ∷ []) are past = (c, are.0, are.1, past)
+    by_calls (c ∷ d ∷ cs) are past = absurd are.2
+
 one_more : (settings : Settings) (old new : State) (lines : List Line) (line : Line) (left : List Line) (history : History) (answers text : List ℕ)
     → HasPast settings old history → GoesOn lines (line ∷ left) history answers → Answers old new line text → OneMore settings lines left new (answers ++ text)
 one_more settings old new lines (Refused refusal) left history answers text past on answer = record {
@@ -69,11 +82,14 @@ one_more settings old new lines (Refused refusal) left history answers text past
   past = subst (λ s. HasPast settings s history) (sym answer.0) past;
   goes_on = record { on = λ h rest replays. subst (Replays lines [] h) (sym (append_assoc answers text rest)) (on.on h (text ++ rest) (rest, ap (λ t. t ++ rest) answer.1, replays)) };
 }
-one_more settings old new lines (Asked event) left history answers text past on answer = record {
-  history = record { event = event; outcome = answer.0 } ∷ history;
-  past = answer.1 settings history past;
-  goes_on = record { on = λ h rest replays. subst (Replays lines [] h) (sym (append_assoc answers text rest)) (on.on h (text ++ rest) (answer.0, rest, ap (λ t. t ++ rest) answer.2, replays)) };
-}
+one_more settings old new lines (Asked event) left history answers text past on answer =
+    let call = one_call settings event answer.0 new history (answer.1 settings history past) in
+    record {
+      history = call.0 ∷ history;
+      past = call.3;
+      goes_on = record { on = λ h rest replays. subst (Replays lines [] h) (sym (append_assoc answers text rest))
+        (on.on h (text ++ rest) (call.0, rest, call.1, ap (λ t. t ++ rest) (answer.2 ∙ ap (λ o. ended (outcome_text o)) (sym call.2)), replays)) };
+    }
 
 progress_more : (settings : Settings) (trace left : List ℕ) (reads : ℕ) (next held written new : Option (List ℕ)) (old after : State) (history : History) (answers line text : List ℕ)
     → length (lines_in trace) ≡ reads + length (lines_in left) → next ≡ Some (drop_through 10 left) → line ≡ take_through 10 left → 0 < length line

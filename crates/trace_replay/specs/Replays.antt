@@ -1,6 +1,6 @@
 -- What a trace is answered with.
 use Rattle.std.specs.Prelude.{◌≡◌, ℕ, ◌==◌, List, [], ◌∷◌, ◌++◌, map, if◌then◌else◌}
-use Rattle.tier_model.specs.Calls.{History, Outcome}
+use Rattle.tier_model.specs.Calls.{Call, History}
 use Rattle.tier_model.specs.Past.{HasPast}
 use Rattle.tier_model.specs.Reports.{report_of}
 use Rattle.tier_model.specs.State.{Settings, State}
@@ -34,8 +34,7 @@ Replays [] past h text = (h ≡ past) × (text ≡ [])
 Replays (Refused refusal ∷ lines) past h text =
     (rest : List ℕ) × (text ≡ ended (refusal_text refusal) ++ rest) × Replays lines past h rest
 Replays (Asked event ∷ lines) past h text =
-    (outcome : Outcome) × (rest : List ℕ) × (text ≡ ended (outcome_text outcome) ++ rest)
-    × Replays lines (record { event = event; outcome = outcome } ∷ past) h rest
+    (call : Call) × (rest : List ℕ) × (call.event ≡ event) × (text ≡ ended (outcome_text call.outcome) ++ rest) × Replays lines (call ∷ past) h rest
 
 -- the text answers each line of a trace by one tier that began empty, whose history keeps the headline, and ends with the
 -- report of its state

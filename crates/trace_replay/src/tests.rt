@@ -59,7 +59,7 @@ fn rows_behind_the_first_put(rt: HostRuntime) -> Result<(), Fail> {
         ),
         (
             "{\"op\":\"put\",\"at\":1000,\"key\":\"00000000000000000000000000000061\",\"pieces\":[\"485454502f312e3120323030204f4b0d0a43616368652d436f6e74726f6c3a206e6f2d73746f72650d0a0d0a\"]}\n",
-            "fault 16 Unsupported\n",
+            "uncacheable OriginNotCache\n",
         ),
         (
             "\n[]\n{}\n{\"op\":\"look\"}\n{\"op\":\"look\",\"at\":1,\"id\":1.5}\n",
