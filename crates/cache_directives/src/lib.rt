@@ -17,6 +17,7 @@ pub mod names;
 mod tests;
 pub mod value;
 
+pub use cache_words::time::DELTA_SECONDS_OVERFLOW_DURATION;
 pub use control::CacheControl;
 pub use error::{Error, ErrorType};
 pub use header::{RequestHeader, ResponseHeader};

@@ -68,6 +68,10 @@ fn values(rt: HostRuntime) -> Result<(), Fail> {
         far.parse_as_delta_seconds(),
         Ok(DELTA_SECONDS_OVERFLOW_VALUE)
     );
+    assert_eq!(rt;
+        DELTA_SECONDS_OVERFLOW_DURATION.seconds(),
+        u64::from(DELTA_SECONDS_OVERFLOW_VALUE)
+    );
     let shown = format!(in rt.alloc();
         "{}",
         Error {

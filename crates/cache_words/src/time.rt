@@ -7,6 +7,12 @@ use std::marker::Model;
 /// The nanoseconds of a second.
 pub const NANOSECONDS_PER_SECOND: u32 = 1_000_000_000;
 
+/// The lifetime that a number of seconds past 2^32 - 1 counts as (RFC 9111, 1.2.2): 2147483647 seconds.
+pub const DELTA_SECONDS_OVERFLOW_DURATION: Duration = Duration {
+    seconds: 2_147_483_647,
+    nanoseconds: 0,
+};
+
 /// A point in time: seconds since 1970 began, negative before it, and nanoseconds below one second.
 #[derive(Clone, Copy, PartialEq, Eq, Debug)]
 pub struct Moment {
