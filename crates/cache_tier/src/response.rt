@@ -10,9 +10,9 @@ ghost use Rattle.cache_tier.specs.Heads.{map_of, IsLine, announced, given_behind
 
 use bytes::Bytes;
 use cache_directives::{CacheControl, ResponseHeader};
+use cache_heads::RespCacheable;
 use cache_heads::defaults::{CacheMetaDefaults, NeverByStatus};
 use cache_heads::filters::resp_cacheable;
-use cache_heads::RespCacheable;
 use cache_words::time::Moment;
 use http::StatusCode;
 use http_header::{

@@ -410,4 +410,6 @@ impl Tier<1> {
 }
 
 #[cfg(test)]
+mod head_tests;
+#[cfg(test)]
 mod tests;

@@ -1,0 +1,280 @@
+//! Heads as servers send them: when they are fresh, and where they are refused.
+use super::*;
+use bytes::Bytes;
+use rand_pcg::Pcg32;
+use std::alloc::AllocError;
+use std::fmt::Write;
+
+const KEY: StoredKey = StoredKey { bytes: [7; 16] };
+
+fn pieces(alloc: Global, bytes: &[u8], size: usize) -> Result<Pieces, AllocError> {
+    let mut all = Vec::new(alloc);
+    for piece in bytes.chunks(size.max(1)) {
+        all.push(Bytes::copy_from_slice(alloc, piece)?)?;
+    }
+    Ok(Pieces::from_vec(all))
+}
+
+fn answer(tier: &mut Tier<1>, second: i64, action: Action) -> Result<Answer, TierFault> {
+    let mut rng = Pcg32::new(1, 1);
+    let event = Event {
+        moment: Moment::from_seconds(second),
+        action,
+    };
+    tier.step(&mut rng, &event)
+}
+
+fn show_put(text: &mut String, outcome: &Result<Answer, TierFault>) -> Result<(), AllocError> {
+    match outcome {
+        Ok(Answer::Finished { length, .. }) => write!(text, "{length}"),
+        Ok(Answer::Uncacheable(reason)) => write!(text, "{reason:?}"),
+        Ok(_) => text.push_str("?"),
+        Err(fault) => write!(text, "{fault:?}"),
+    }
+}
+
+// How a request of its own finds the body, and the body if it is asked for.
+fn show_look(
+    text: &mut String,
+    tier: &mut Tier<1>,
+    request: u64,
+    second: i64,
+) -> Result<(), AllocError> {
+    let _ = answer(tier, second, Action::Open { request, key: KEY });
+    match answer(tier, second, Action::LookUp { request }) {
+        Ok(Answer::Found { fresh, .. }) => write!(text, " {fresh}"),
+        _ => text.push_str(" none"),
+    }
+}
+
+fn show_body(text: &mut String, tier: &mut Tier<1>) -> Result<(), AllocError> {
+    match answer(tier, 0, Action::Read { request: 0 }) {
+        Ok(Answer::Bytes(body)) => write!(text, " {:?}", body.as_slice()),
+        _ => Ok(()),
+    }
+}
+
+// What a put of these bytes answers, then how look-ups at these moments find them.
+fn outcomes(
+    alloc: Global,
+    bytes: &[u8],
+    size: usize,
+    at: i64,
+    looks: &[i64],
+) -> Result<String, AllocError> {
+    let mut text = String::new(alloc);
+    let second = Duration::from_seconds(1);
+    let mut tier = Tier::<1>::new(alloc, 1000, None, second, None);
+    let pieces = pieces(alloc, bytes, size)?;
+    let outcome = answer(&mut tier, at, Action::Put { key: KEY, pieces });
+    show_put(&mut text, &outcome)?;
+    for (request, moment) in looks.iter().enumerate() {
+        show_look(&mut text, &mut tier, request as u64, *moment)?;
+    }
+    show_body(&mut text, &mut tier)?;
+    Ok(text)
+}
+
+// The head with these lines, and what is behind it.
+fn response(alloc: Global, lines: &str, body: &str) -> Result<String, AllocError> {
+    format!(in alloc; "HTTP/1.1 200 OK\r\n{lines}\r\n{body}")
+}
+
+const DATE: &str = "Expires: Thu, 01 Jan 1970 00:16:40 GMT\r\n";
+
+// Lines, body, the moment of the put, moments of look-ups, the answers.
+const ROWS: &[(&str, &str, i64, &[i64], &str)] = &[
+    (
+        "Cache-Control: max-age=10\r\n",
+        "",
+        1000,
+        &[1005, 1010, 1011],
+        "0 true true false []",
+    ),
+    (
+        "Cache-Control: max-age=0\r\n",
+        "",
+        1000,
+        &[999, 1000],
+        "0 true false []",
+    ),
+    (DATE, "", 990, &[1000, 1001], "0 true false []"),
+    ("Expires: 0\r\n", "", 990, &[990], "0 false []"),
+    (
+        "Expires: Thu, 01 Jan 1970 00:16:40 GMT\r\nExpires: Thu, 01 Jan 1970 00:16:40 GMT\r\n",
+        "",
+        990,
+        &[],
+        "OriginNotCache",
+    ),
+    (
+        "Cache-Control: s-maxage=x, max-age=10\r\nExpires: Thu, 01 Jan 1970 00:16:40 GMT\r\n",
+        "",
+        990,
+        &[1000, 1001],
+        "0 true false []",
+    ),
+    (
+        "Cache-Control: no-cache\r\n",
+        "",
+        1000,
+        &[1000],
+        "0 false []",
+    ),
+    (
+        "Cache-Control: max-age=99999999999\r\n",
+        "",
+        0,
+        &[2147483647, 2147483648],
+        "0 true false []",
+    ),
+    (
+        "Cache-Control: max-age=10\r\n",
+        "",
+        9223372036854775807,
+        &[],
+        "OriginNotCache",
+    ),
+    (
+        "Cache-Control: no-store\r\nContent-Length: 5\r\n",
+        "abc",
+        0,
+        &[],
+        "Incomplete",
+    ),
+    (
+        "Cache-Control: no-store\r\nContent-Length: 3\r\n",
+        "abc",
+        0,
+        &[],
+        "OriginNotCache",
+    ),
+    (
+        "Cache-Control: no-store\r\nContent-Length: 0\r\n",
+        "",
+        0,
+        &[],
+        "OriginNotCache",
+    ),
+    (
+        "Cache-Control: max-age=9\r\nContent-Length: +3\r\n",
+        "abcd",
+        0,
+        &[0],
+        "3 true [97, 98, 99]",
+    ),
+    (
+        "Cache-Control: max-age=9\r\nContent-Length: 1\r\ncontent-length: 2\r\n",
+        "ab",
+        0,
+        &[0],
+        "1 true [97]",
+    ),
+    (
+        "Cache-Control: max-age=9\r\nContent-Length: 1 2\r\n",
+        "ab",
+        0,
+        &[0],
+        "2 true [97, 98]",
+    ),
+    (
+        "Cache-Control : max-age=9\r\n",
+        "a",
+        0,
+        &[9, 10],
+        "1 true false [97]",
+    ),
+    (
+        "Cache-Control: public,\r\n max-age=9\r\n",
+        "a",
+        0,
+        &[9, 10],
+        "1 true false [97]",
+    ),
+    ("A:\x01\r\n", "", 0, &[], "BadHead"),
+];
+
+#[test]
+fn judges_by_the_head(rt: HostRuntime) {
+    let alloc = rt.alloc();
+    for (lines, body, at, looks, want) in ROWS {
+        let Ok(bytes) = response(alloc, lines, body) else {
+            return;
+        };
+        for size in [1, 7, 1000] {
+            let got = outcomes(alloc, bytes.as_bytes(), size, *at, looks);
+            assert!(rt;
+                got.is_err() || got.as_ref().is_ok_and(|text| text.as_str() == *want),
+                "{lines}: {got:?}"
+            );
+        }
+    }
+}
+
+#[test]
+fn waits_for_the_whole(rt: HostRuntime) {
+    let alloc = rt.alloc();
+    let whole = b"HTTP/1.1 200 OK\r\nCache-Control: max-age=100\r\nContent-Length: 3\r\n\r\nabc";
+    assert_eq!(rt; whole.len(), 69);
+    for end in 0..69 {
+        for size in [1, 100] {
+            let got = outcomes(alloc, &whole[..end], size, 0, &[]);
+            assert!(rt;
+                got.is_err() || got.as_ref().is_ok_and(|text| text.as_str() == "Incomplete"),
+                "{end}: {got:?}"
+            );
+        }
+    }
+    for size in [1, 66, 100] {
+        let got = outcomes(alloc, whole, size, 0, &[0]);
+        assert!(rt;
+            got.is_err()
+                || got
+                    .as_ref()
+                    .is_ok_and(|text| text.as_str() == "3 true [97, 98, 99]"),
+            "{got:?}"
+        );
+    }
+}
+
+#[test]
+fn bounds_a_head(rt: HostRuntime) {
+    let alloc = rt.alloc();
+    for (lines, want) in [(255, "0"), (256, "BadHead")] {
+        let mut head = String::new(alloc);
+        for _ in 0..lines {
+            if head.push_str("A: b\r\n").is_err() {
+                return;
+            }
+        }
+        let Ok(head) = format!(in alloc; "{head}Cache-Control: max-age=1\r\n") else {
+            return;
+        };
+        let Ok(bytes) = response(alloc, head.as_str(), "") else {
+            return;
+        };
+        let got = outcomes(alloc, bytes.as_bytes(), 9000, 0, &[]);
+        assert!(rt;
+            got.is_err() || got.as_ref().is_ok_and(|text| text.as_str() == want),
+            "{lines}: {got:?}"
+        );
+    }
+    for (bytes, want) in [
+        ("HTTP/1.1 2x0", "BadHead"),
+        ("HTTP/1.1 099 Low\r\n\r\n", "BadHead"),
+        (
+            "HTTP/1.1 204 None\r\nExpires: 0\r\nContent-Length: 5\r\n\r\nab",
+            "0",
+        ),
+        (
+            "HTTP/1.1 304 Same\r\nExpires: 0\r\nContent-Length: 5\r\n\r\nab",
+            "0",
+        ),
+    ] {
+        let got = outcomes(alloc, bytes.as_bytes(), 100, 0, &[]);
+        assert!(rt;
+            got.is_err() || got.as_ref().is_ok_and(|text| text.as_str() == want),
+            "{bytes}: {got:?}"
+        );
+    }
+}
