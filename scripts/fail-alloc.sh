@@ -2,15 +2,16 @@
 # Runs the tests of the crates that the arguments name with each allocation failing in turn, the first, the second, ..,
 # until a run meets none. It proves nothing and builds anew for each run, so it is no part of the gate.
 #
-# Each test passes whichever allocation fails: it takes a refusal as an answer, and looks at what is left. One test of a
-# crate, ample_memory_meets_no_refusal, takes more memory than any other and fails where it meets a refusal: once it
-# passes, no test met one.
+# The tests with `memory` or `refused` in their names pass whichever allocation fails: each takes a refusal as an answer and
+# looks at what is left. Of the others those fail that meet the refusal. A crate's test ample_memory_meets_no_refusal
+# takes more memory than each of the first kind and fails where it meets a refusal: once it passes, none of them met one.
+# In a crate without such a test the runs go on until no test fails.
 set -u
 cd "$(dirname "$0")/.." || exit 1
 [ $# -gt 0 ] || set -- cache_tier
 log=$(mktemp) || exit 1
 trap 'rm -f "$log"' EXIT
-most=400
+most=${MOST:-400}
 for crate in "$@"; do
     n=1
     while [ "$n" -le "$most" ]; do
@@ -20,14 +21,22 @@ for crate in "$@"; do
             tail -n 5 "$log"
             exit 1
         fi
-        others=$(grep '^test .* FAILED$' "$log" | grep -v 'ample_memory_meets_no_refusal')
-        if [ -n "$others" ]; then
+        failed=$(grep '^test .* FAILED$' "$log")
+        wrong=$(echo "$failed" | grep 'memory\|refused' | grep -v 'ample_memory_meets_no_refusal')
+        if [ -n "$wrong" ]; then
             echo "$crate: at allocation $n"
-            echo "$others"
+            echo "$wrong"
             exit 1
         fi
-        grep -q '^test .*ample_memory_meets_no_refusal .* FAILED$' "$log" || break
+        if grep -q '^test .*ample_memory_meets_no_refusal' "$log"; then
+            failed=$(echo "$failed" | grep 'ample_memory_meets_no_refusal')
+        fi
+        [ -n "$failed" ] || break
         n=$((n + 1))
     done
-    echo "$crate: each of the first $((n - 1)) allocations failed in turn, and the run at $n met none"
+    if [ "$n" -gt "$most" ]; then
+        echo "$crate: each of the first $most allocations failed in turn; the runs were ended there"
+    else
+        echo "$crate: each of the first $((n - 1)) allocations failed in turn, and the run at $n met none"
+    fi
 done

@@ -466,3 +466,29 @@ fn a_run_without_memory_does_nothing(rt: HostRuntime) {
         Err(_) => assert_eq!(rt; tier.report(), before),
     }
 }
+
+// A put, an open, a look and a read, behind more puts than any test above makes.
+fn goes_through(alloc: Global) -> bool {
+    let mut rng = Pcg32::new(1, 1);
+    let Some(mut tier) = fixture(alloc, 8, b"abcd", true) else {
+        return false;
+    };
+    let Ok(put) = put_of(alloc, b'e', 5) else {
+        return false;
+    };
+    let Ok(events) = vec![in alloc; put, open(7, 2, b'e'), look(7, 2), read(7, 2)] else {
+        return false;
+    };
+    match tier.run(&mut rng, events.as_slice()) {
+        Ok(outcomes) => outcomes.iter().all(|outcome| outcome.is_ok()),
+        Err(_) => false,
+    }
+}
+
+// It takes more memory than each test of a refused growth, and fails where it meets a refusal: so a run with one allocation
+// failing in which it passes met none.
+#[test]
+fn ample_memory_meets_no_refusal(rt: HostRuntime) {
+    let alloc = rt.alloc();
+    assert!(rt; goes_through(alloc) && goes_through(alloc));
+}
