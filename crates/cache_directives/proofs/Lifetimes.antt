@@ -1,5 +1,5 @@
 -- A lifetime without `s-maxage` is that of `max-age`.
-use Rattle.std.proofs.Common.{◌≡◌, ℕ, Bool, true, false, List, refl, sym, ◌∙◌, ap, cond}
+use Rattle.std.proofs.Common.{◌≡◌, ℕ, Bool, false, List, refl, ◌∙◌, ap, cond}
 use Rattle.std.specs.Prelude.{Option, Some, None, option_map}
 use Rattle.cache_words.specs.Time.{span_of}
 use Rattle.cache_directives.specs.Seconds.{delta_seconds, read_seconds}

@@ -1,5 +1,5 @@
 -- A line holds just one list of directives: that of the search.
-use Rattle.std.proofs.Common.{◌≡◌, ℕ, ◌+◌, ◌-◌, ◌<◌, ◌≤◌, zero, suc, ◌⊎◌, inl, inr, Bool, true, false, ◌&&◌, ◌||◌, List, [], ◌∷◌, ◌++◌, length, take, drop, refl, sym, ◌∙◌, ap, subst, arith, append_assoc}
+use Rattle.std.proofs.Common.{◌≡◌, ℕ, ◌+◌, ◌-◌, ◌<◌, zero, suc, ◌⊎◌, inl, inr, Bool, true, false, ◌&&◌, ◌||◌, List, [], ◌∷◌, ◌++◌, length, take, drop, refl, sym, ◌∙◌, ap, subst, arith, append_assoc}
 use Rattle.std.specs.Prelude.{Option, Some, None, option_map, cond, ◌==◌}
 use Rattle.std.specs.List.{prefix_len, AllByRecursion}
 use Rattle.std.proofs.lemmas.Bool.{eqb-true}
@@ -11,7 +11,7 @@ use Rattle.cache_directives.specs.Kinds.{is_space, is_separator, is_token}
 use Rattle.cache_directives.specs.Written.{Written}
 use Rattle.cache_directives.specs.Reads.{HasNoToken, IsRun, IsInside, IsQuoted, HasValue, IsValueBehind, IsDirective, IsBlank, IsLead, Begins, IsGap, is_none_yet, Reads, Holds}
 use Rattle.cache_directives.specs.Walk.{close, value_at, value_behind, value_len, written_at, written_len, walk, begins_token, directives}
-use Rattle.cache_directives.proofs.Scanning.{walk_skip, written_some, drop_written, walk_token}
+use Rattle.cache_directives.proofs.Scanning.{drop_written, walk_token}
 
 -- kinds of bytes
 

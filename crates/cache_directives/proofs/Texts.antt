@@ -1,12 +1,11 @@
 -- Texts and the maps of directives.
-use Rattle.std.proofs.Common.{◌≡◌, ℕ, Bool, true, false, List, [], ◌∷◌, map, refl, sym, ◌∙◌, ap, cond}
-use Rattle.std.specs.Prelude.{Option, Some, None, option_map, nat_eq}
+use Rattle.std.proofs.Common.{◌≡◌, ℕ, Bool, true, false, List, [], ◌∷◌, refl, ◌∙◌, ap, cond}
+use Rattle.std.specs.Prelude.{Option, Some, option_map, nat_eq}
 use Rattle.std.specs.Str.{IsUtf8, is_utf8}
 use Rattle.std.specs.Map.{lookup}
 use Rattle.std.proofs.lemmas.Str.{IsUtf8-from_is_utf8, is_utf8-from_IsUtf8}
 use Rattle.std.specs.Cmp.Lexicographic.{pointwise}
 use Rattle.indexmap.specs.IndexMap.{insert_entry}
-use Rattle.cache_directives.specs.Written.{Written}
 use Rattle.cache_directives.specs.Names.{name_of}
 use Rattle.cache_directives.specs.Entries.{value_bytes, entry_of, entries_of}
 use Rattle.cache_directives.specs.declared.key.DirectiveKey.{DirectiveKey}

@@ -1,5 +1,5 @@
 -- What a clause sees of the directive that a scan found.
-use Rattle.std.specs.Prelude.{List, ℕ, option_map}
+use Rattle.std.specs.Prelude.{option_map}
 use Rattle.cache_directives.specs.Written.{Written}
 use Rattle.cache_directives.specs.declared.found.Found.{Found}
 

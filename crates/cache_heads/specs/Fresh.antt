@@ -1,6 +1,6 @@
 -- What a kept response is at a moment.
 use Rattle.std.specs.Prelude.{ℕ, Bool, true, not, ◌&&◌, ◌==◌, if◌then◌else◌, Option, Some, None}
-use Rattle.cache_words.specs.Time.{Instant, Span, at_most, later_by, span_of, elapsed}
+use Rattle.cache_words.specs.Time.{Instant, at_most, later_by, span_of}
 
 -- fresh up to the moment itself
 abbrev pub is_fresh_at : Instant → Instant → Bool

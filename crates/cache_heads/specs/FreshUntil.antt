@@ -1,6 +1,6 @@
 -- Until when a response is fresh, over lists of header values, moments and numbers: the first source that gives a
 -- moment, or none (RFC 9111, 3.5, 4.2.1, 5.2.2 and 5.3).
-use Rattle.std.specs.Prelude.{ℕ, Bool, false, ◌&&◌, ◌||◌, ◌==◌, not, pos, if◌then◌else◌, List, [], ◌∷◌, Option, Some, None, option_map, unwrap_or}
+use Rattle.std.specs.Prelude.{ℕ, Bool, false, ◌&&◌, ◌||◌, ◌==◌, not, pos, if◌then◌else◌, List, [], ◌∷◌, Option, Some, None, unwrap_or}
 use Rattle.std.specs.Option.{option_and_then}
 use Rattle.cache_words.specs.Time.{Instant, Span, from_seconds, span_of, later_by, earlier_by}
 use Rattle.httpdate.specs.Date.{parse_secs}

@@ -1,5 +1,5 @@
 -- What is kept beside a response.
-use Rattle.std.specs.Prelude.{ℕ, Option, Some, None, unwrap_or, option_map}
+use Rattle.std.specs.Prelude.{ℕ, Some, None, unwrap_or}
 use Rattle.cache_words.specs.Time.{Instant}
 use Rattle.cache_directives.specs.declared.header.ResponseHeader.{ResponseHeader}
 use Rattle.cache_heads.specs.declared.meta.InternalMetaV2.{InternalMetaV2}

@@ -8,7 +8,6 @@ use Rattle.cache_directives.specs.declared.header.ResponseHeader.{ResponseHeader
 use Rattle.cache_heads.specs.FreshUntil.{fresh_until_by}
 use Rattle.cache_heads.specs.Stale.{revalidate_window, error_window}
 use Rattle.cache_heads.specs.Meta.{new_meta}
-use Rattle.cache_heads.specs.declared.meta.CacheMeta.{CacheMeta}
 use Rattle.cache_heads.specs.declared.reason.NoCacheReason.TheVariants.{OriginNotCache}
 use Rattle.cache_heads.specs.declared.reason.RespCacheable.{RespCacheable}
 use Rattle.cache_heads.specs.declared.reason.RespCacheable.TheVariants.{Cacheable, Uncacheable}

@@ -87,8 +87,10 @@ one_more settings old new lines (Asked event) left history answers text past on 
     record {
       history = call.0 ∷ history;
       past = call.3;
-      goes_on = record { on = λ h rest replays. subst (Replays lines [] h) (sym (append_assoc answers text rest))
-        (on.on h (text ++ rest) (call.0, rest, call.1, ap (λ t. t ++ rest) (answer.2 ∙ ap (λ o. ended (outcome_text o)) (sym call.2)), replays)) };
+      goes_on = record {
+        on = λ h rest replays. subst (Replays lines [] h) (sym (append_assoc answers text rest))
+            (on.on h (text ++ rest) (call.0, rest, call.1, ap (λ t. t ++ rest) (answer.2 ∙ ap (λ o. ended (outcome_text o)) (sym call.2)), replays));
+      };
     }
 
 progress_more : (settings : Settings) (trace left : List ℕ) (reads : ℕ) (next held written new : Option (List ℕ)) (old after : State) (history : History) (answers line text : List ℕ)

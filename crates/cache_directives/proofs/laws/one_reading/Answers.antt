@@ -1,7 +1,5 @@
-use Rattle.std.proofs.Common.{◌≡◌, List, ℕ, subst}
-use Rattle.cache_directives.specs.Written.{Written}
+use Rattle.std.proofs.Common.{subst}
 use Rattle.cache_directives.specs.Reads.{Holds}
-use Rattle.cache_directives.specs.Walk.{directives}
 use Rattle.cache_directives.proofs.Reading.{holds_unique, directives_hold}
 use Rattle.cache_directives.proofs.laws.one_reading.Goals as goal
 

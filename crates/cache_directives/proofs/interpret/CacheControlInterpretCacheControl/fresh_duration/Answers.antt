@@ -1,4 +1,4 @@
-use Rattle.std.proofs.Common.{◌≡◌, sym, ap, ◌∙◌}
+use Rattle.std.proofs.Common.{sym, ap, ◌∙◌}
 use Rattle.std.specs.Prelude.{Some, codes}
 use Rattle.std.specs.Result.{result_ok}
 use Rattle.cache_directives.specs.Keeps.{is_alone, value_under}
