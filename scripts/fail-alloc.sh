@@ -5,7 +5,8 @@
 # The tests with `memory` or `refused` in their names pass whichever allocation fails: each takes a refusal as an answer and
 # looks at what is left. Of the others those fail that meet the refusal. A crate's test ample_memory_meets_no_refusal
 # takes more memory than each of the first kind and fails where it meets a refusal: once it passes, none of them met one.
-# In a crate without such a test the runs go on until no test fails.
+# In a crate without such a test the runs go on until no test fails. An allocation may fail unseen, as one that would give
+# spare room back, so the runs end only when twelve in a row met nothing.
 set -u
 cd "$(dirname "$0")/.." || exit 1
 [ $# -gt 0 ] || set -- cache_tier
@@ -14,6 +15,7 @@ trap 'rm -f "$log"' EXIT
 most=${MOST:-400}
 for crate in "$@"; do
     n=1
+    met=0
     while [ "$n" -le "$most" ]; do
         (cd "crates/$crate" && rt try --test --fail-alloc "$n") > "$log" 2>&1
         if ! grep -q '^test result' "$log"; then
@@ -31,12 +33,13 @@ for crate in "$@"; do
         if grep -q '^test .*ample_memory_meets_no_refusal' "$log"; then
             failed=$(echo "$failed" | grep 'ample_memory_meets_no_refusal')
         fi
-        [ -n "$failed" ] || break
+        [ -z "$failed" ] || met=$n
+        [ $((n - met)) -lt 12 ] || break
         n=$((n + 1))
     done
     if [ "$n" -gt "$most" ]; then
         echo "$crate: each of the first $most allocations failed in turn; the runs were ended there"
     else
-        echo "$crate: each of the first $((n - 1)) allocations failed in turn, and the run at $n met none"
+        echo "$crate: each allocation failed in turn up to number $met, and the runs from $((met + 1)) to $n met none"
     fi
 done
