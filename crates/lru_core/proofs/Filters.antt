@@ -1,7 +1,11 @@
 -- The row of a key and the rows of others, in plain lists of rows.
-use Rattle.std.proofs.Common.{◌≡◌, ℕ, not, ◌+◌, eqb, inl, inr, List, [], ◌∷◌, ◌++◌, length, refl, ap, arith}
-use Rattle.std.proofs.lemmas.Bool.{cases_eq, eq-eqb, ne_eqb}
+use Rattle.std.proofs.Common.{◌≢◌, IsTrue, ◌↔◌, is_some, slice_get, Option, Some, None, ◌≡◌, ℕ, Bool, true, not, ◌+◌, eqb, inl, inr, List, [], ◌∷◌, ◌++◌, length, sym, refl, ap, ◌∙◌, arith}
+use Rattle.std.proofs.lemmas.Bool.{cases_eq, eq-eqb, ne_eqb, true≢false, false_from_ne_true, not_from_false}
 use Rattle.std.proofs.lemmas.List.Filters.{sum_by-filter_both}
+use Rattle.std.proofs.lemmas.List.Sums.{sum_by-cons, sum_by-append}
+use Rattle.std.proofs.lemmas.List.{length-append}
+use Rattle.std.specs.Option.{option_to_list, option_copied}
+use Rattle.std.specs.Borrow.{Bor}
 use Rattle.lru_core.specs.declared.rows.Row.{Row}
 use Rattle.lru_core.specs.Rows.{only, others, weight_of}
 
@@ -45,3 +49,30 @@ module _ {T : Type 0} where
     | inl e ↦ rw (eq-eqb r.key k e) (let i = length_parts k xs in omega arith)
     | inr n ↦ rw (ne_eqb r.key k n) (let i = length_parts k xs in omega arith)
   ]
+
+  -- what one row of a key says of the whole
+  pub one_row : (k : ℕ) (xs : List (Row T)) (row : Row T) → only k xs ≡ row ∷ []
+      → (only k xs ≢ []) × (weight_of (only k xs) ≡ row.weight) × (weight_of xs ≡ row.weight + weight_of (others k xs)) × (length xs ≡ 1 + length (others k xs))
+  one_row k xs row e =
+      let w : weight_of (only k xs) ≡ row.weight = rw e (sum_by-cons (λ r. r.weight) row [] ∙ omega arith) in
+      let p = weight_parts k xs in
+      let l : length (only k xs) ≡ 1 = rw e refl in
+      let q = length_parts k xs in
+      ((λ n. let u = sym e ∙ n in cc), w, omega arith, omega arith)
+
+  pub moved : (k : ℕ) (xs : List (Row T)) → (weight_of (only k xs ++ others k xs) ≡ weight_of xs) × (length (only k xs ++ others k xs) ≡ length xs)
+  moved k xs = (sum_by-append (λ r. r.weight) (only k xs) (others k xs) ∙ weight_parts k xs, length-append (only k xs) (others k xs) ∙ length_parts k xs)
+
+-- a test of whether a list has a first element
+pub some_first : {X : Type 0} → (b : Bool) (xs : List X) → (IsTrue b ↔ (xs ≢ [])) → b ≡ is_some (slice_get xs 0)
+some_first b [] h = false_from_ne_true b (λ t. h.0 t refl)
+some_first b (x ∷ xs) h = h.1 (λ e. cc)
+
+pub none_first : {X : Type 0} → (b : Bool) (xs : List X) → (IsTrue b ↔ (xs ≢ [])) → (not b ≡ true → xs ≡ []) × (xs ≡ [] → not b ≡ true)
+none_first b [] h = (λ t. refl, λ e. not_from_false b (false_from_ne_true b (λ t. h.0 t refl)))
+none_first b (x ∷ xs) h = (λ t. absurd (let u = h.1 (λ e. cc) in let v = sym (ap not u) ∙ t in cc), λ e. cc)
+
+-- a reference to an element says that there is one
+pub referred : {X : Type 0} → (o : Option (Bor X)) (xs : List X) → true ≡ is_some o → option_to_list (option_copied o) ≡ xs → xs ≢ []
+referred None xs t e n = absurd (true≢false t)
+referred (Some y) xs t e n = let u : y.now ∷ [] ≡ [] = e ∙ n in cc

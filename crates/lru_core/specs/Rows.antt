@@ -1,5 +1,5 @@
 -- Plain lists of rows, most recent first.
-use Rattle.std.specs.Prelude.{ℕ, not, ◌==◌, List, filter, map, cond}
+use Rattle.std.specs.Prelude.{ℕ, not, ◌==◌, List, filter, map, Option, cond, slice_get}
 use Rattle.std.specs.List.{sum_by}
 use Rattle.lru_core.specs.declared.rows.Row.{Row}
 
@@ -7,9 +7,17 @@ use Rattle.lru_core.specs.declared.rows.Row.{Row}
 abbrev pub only : {T : Type 0} → ℕ → List (Row T) → List (Row T)
 only k rows = filter (λ r. r.key == k) rows
 
+-- the row of key k, if there is one
+abbrev pub row_of : {T : Type 0} → ℕ → List (Row T) → Option (Row T)
+row_of k rows = slice_get (only k rows) 0
+
 -- the rows of other keys than k
 abbrev pub others : {T : Type 0} → ℕ → List (Row T) → List (Row T)
 others k rows = filter (λ r. not (r.key == k)) rows
+
+-- the rows with another weight for key k
+abbrev pub reweighed : {T : Type 0} → ℕ → ℕ → List (Row T) → List (Row T)
+reweighed k w rows = map (λ r. cond (r.key == k) (record r { weight = w }) r) rows
 
 -- `row` in the place of the row of its key
 abbrev pub put : {T : Type 0} → Row T → List (Row T) → List (Row T)
@@ -21,3 +29,8 @@ weight_of rows = sum_by (λ r. r.weight) rows
 
 abbrev pub a_row : {T : Type 0} → ℕ → T → ℕ → Row T
 a_row k d w = record { key = k; «data» = d; weight = w }
+
+-- a shard: its rows, most recent first, and what neither their number nor their weight may pass
+pub record Shard (T : Type 0) : Type 0 where
+  pub rows : List (Row T)
+  pub bound : ℕ

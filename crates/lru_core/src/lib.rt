@@ -3,4 +3,5 @@
 
 pub use lru_list::linked_list;
 
-mod rows;
+pub mod lru_unit;
+pub mod rows;
