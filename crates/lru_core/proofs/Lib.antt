@@ -1,2 +1,3 @@
 pub mod Filters
 pub mod Tabled
+pub mod Summed

@@ -5,3 +5,5 @@ pub use lru_list::linked_list;
 
 pub mod lru_unit;
 pub mod rows;
+
+pub mod sharded;

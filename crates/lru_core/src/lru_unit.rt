@@ -89,6 +89,7 @@ impl<T> LruUnit<T> {
     pub fn access(&mut self, key: u64) -> bool
         ensures found { result ≡ is_some (row_of key self.old.rows) }
         ensures after { self.new ≡ record self.old { rows = only key self.old.rows ++ others key self.old.rows } }
+        ensures bound { self.new.bound ≡ self.old.bound }
     {
         self.rows.promote(key)
     }
@@ -130,6 +131,7 @@ impl<T: Drop> LruUnit<T> {
         ensures memory { (back : T) → result ≡ Err (LruFault.Memory back) → (back ≡ item) × (only key self.old.rows ≡ []) }
         ensures heavy { (back : T) → result ≡ Err (LruFault.Weight back) → (back ≡ item) × (self.old.bound < weight_of (others key self.old.rows) + max 1 weight) }
         ensures long { (back : T) → result ≡ Err (LruFault.Length back) → (back ≡ item) × (only key self.old.rows ≡ []) × ((self.old.bound ≤ length self.old.rows) ⊎ (length self.old.rows ≡ 4294967293)) }
+        ensures bound { self.new.bound ≡ self.old.bound }
     {
         let weight = weight.max(1);
         match weight_at(&self.rows, key) {
@@ -177,6 +179,7 @@ impl<T: Drop> LruUnit<T> {
         ensures memory { (back : T) → result ≡ Err (LruFault.Memory back) → (back ≡ item) × (only key self.old.rows ≡ []) }
         ensures heavy { (back : T) → result ≡ Err (LruFault.Weight back) → (back ≡ item) × (only key self.old.rows ≡ []) × (self.old.bound < weight_of self.old.rows + weight) }
         ensures long { (back : T) → result ≡ Err (LruFault.Length back) → (back ≡ item) × (only key self.old.rows ≡ []) × ((self.old.bound ≤ length self.old.rows) ⊎ (length self.old.rows ≡ 4294967293)) }
+        ensures bound { self.new.bound ≡ self.old.bound }
     {
         if weight_at(&self.rows, key).is_some() {
             return Ok(false);
@@ -221,6 +224,7 @@ impl<T: Drop> LruUnit<T> {
     pub fn remove(&mut self, key: u64) -> Option<(T, usize)>
         ensures value { result ≡ option_map (λ r. (r.data, r.weight)) (row_of key self.old.rows) }
         ensures after { self.new ≡ record self.old { rows = others key self.old.rows } }
+        ensures bound { self.new.bound ≡ self.old.bound }
     {
         let _ = &self.bound;
         let Row {
