@@ -1,9 +1,9 @@
 -- The row of a key and the rows of others, in plain lists of rows.
-use Rattle.std.proofs.Common.{◌≢◌, IsTrue, ◌↔◌, is_some, slice_get, Option, Some, None, ◌≡◌, ℕ, Bool, true, not, ◌+◌, eqb, inl, inr, List, [], ◌∷◌, ◌++◌, length, sym, refl, ap, ◌∙◌, arith}
+use Rattle.std.proofs.Common.{take, drop, ◌≢◌, IsTrue, ◌↔◌, is_some, slice_get, Option, Some, None, ◌≡◌, ℕ, Bool, true, not, ◌+◌, eqb, inl, inr, List, [], ◌∷◌, ◌++◌, length, sym, refl, ap, ◌∙◌, arith}
 use Rattle.std.proofs.lemmas.Bool.{cases_eq, eq-eqb, ne_eqb, true≢false, false_from_ne_true, not_from_false}
 use Rattle.std.proofs.lemmas.List.Filters.{sum_by-filter_both}
 use Rattle.std.proofs.lemmas.List.Sums.{sum_by-cons, sum_by-append}
-use Rattle.std.proofs.lemmas.List.{length-append}
+use Rattle.std.proofs.lemmas.List.{length-append, take-append-drop}
 use Rattle.std.specs.Option.{option_to_list, option_copied}
 use Rattle.std.specs.Borrow.{Bor}
 use Rattle.lru_core.specs.declared.rows.Row.{Row}
@@ -76,3 +76,14 @@ none_first b (x ∷ xs) h = (λ t. absurd (let u = h.1 (λ e. cc) in let v = sym
 pub referred : {X : Type 0} → (o : Option (Bor X)) (xs : List X) → true ≡ is_some o → option_to_list (option_copied o) ≡ xs → xs ≢ []
 referred None xs t e n = absurd (true≢false t)
 referred (Some y) xs t e n = let u : y.now ∷ [] ≡ [] = e ∙ n in cc
+
+first_nil : {X : Type 0} → (xs ys : List X) → xs ++ ys ≡ [] → xs ≡ []
+first_nil [] ys e = refl
+first_nil (x ∷ xs) ys e = absurd (let f : x ∷ (xs ++ ys) ≡ [] = e in cc)
+
+-- what is among the first is there
+pub near_there : {T : Type 0} → (k n : ℕ) (xs : List (Row T)) → only k (take n xs) ≢ [] → true ≡ is_some (slice_get (only k xs) 0)
+near_there k n xs h = elim (only k xs) as (λ l. only k xs ≡ l → true ≡ is_some (slice_get l 0)) [
+  | [] ↦ λ e. absurd (h (let a = only-append k (take n xs) (drop n xs) in let b = rw (take-append-drop n xs) at a in first_nil (only k (take n xs)) (only k (drop n xs)) (sym b ∙ e)))
+  | x ∷ l ↦ λ e. refl
+] refl

@@ -1,3 +1,5 @@
 pub mod Filters
 pub mod Tabled
 pub mod Summed
+pub mod Circles
+pub mod Evictions

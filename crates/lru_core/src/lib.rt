@@ -5,5 +5,4 @@ pub use lru_list::linked_list;
 
 pub mod lru_unit;
 pub mod rows;
-
 pub mod sharded;

@@ -94,6 +94,13 @@ impl<T> LruUnit<T> {
         self.rows.promote(key)
     }
 
+    /// Whether the row of `key` is there and among the first `limit`. It looks at that many at most.
+    pub fn is_near_head(&self, key: u64, limit: usize) -> bool
+        ensures { IsTrue result ↔ (only key (take limit self.now.rows) ≢ []) }
+    {
+        self.rows.is_near_head(key, limit)
+    }
+
     /// Whether the row of `key` is there and not among the first `limit`. It looks at that many at most.
     pub fn need_promote(&self, key: u64, limit: usize) -> bool
         ensures { IsTrue result ↔ ((only key self.now.rows ≢ []) × (only key (take limit self.now.rows) ≡ [])) }

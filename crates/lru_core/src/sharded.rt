@@ -120,6 +120,59 @@ impl<T, const N: usize> LruCore<T, N> {
         self.units[self.place_of(key)].peek_weight(key)
     }
 
+    /// The data and the weight of the last row of a shard. The order stays.
+    pub fn peek_lru(&self, shard: usize) -> Option<(&T, usize)>
+        requires { shard < N }
+        ensures { MatchOption result (rows_at self.now.shards shard ≡ []) (λ p. (front : List (Row T)) × (k : ℕ) × (rows_at self.now.shards shard ≡ front ++ a_row k p.0.now p.1 ∷ [])) }
+    {
+        self.units[shard].peek_lru()
+    }
+
+    /// Whether the weight is past the limit, or the number of rows past the watermark.
+    fn is_over(&self) -> bool
+        ensures { result ≡ is_over self.now }
+    {
+        if self.weight > self.weight_limit {
+            return true;
+        }
+        match self.len_watermark {
+            Some(mark) => self.len > mark,
+            None => false,
+        }
+    }
+
+    /// Of the shards that two draws name the longer, of equally long ones the first.
+    fn longer(&self, a: u64, b: u64) -> usize
+        ensures value { result ≡ longer self.now.shards (a % N) (b % N) }
+        ensures within { result < N }
+        ensures lists { length self.now.shards ≡ N }
+    {
+        let _ = &self.len;
+        let first = a as usize % N;
+        let second = b as usize % N;
+        if self.shard_len(first) < self.shard_len(second) {
+            second
+        } else {
+            first
+        }
+    }
+
+    /// From a shard around the circle the first that is not empty.
+    fn around(&self, from: usize) -> usize
+        requires { from < N }
+        ensures value { result ≡ around N self.now.shards N from }
+        ensures within { result < N }
+    {
+        let mut i = from;
+        'circle: for _ in 0..N {
+            if self.shard_len(i) != 0 {
+                return i;
+            }
+            i = next_of(i, N);
+        }
+        i
+    }
+
     /// The shard of `key`.
     fn place_of(&self, key: u64) -> usize
         ensures value { result ≡ key % N }
@@ -143,9 +196,185 @@ impl<T, const N: usize> LruCore<T, N> {
         self.weight = self.weight - before.1 + after.1;
         found
     }
+
+    /// Moves the row of `key` to the front of its shard where it is not among the first `top`, and answers whether
+    /// there is one. It looks at that many at most.
+    pub fn promote_top_n(&mut self, key: u64, top: usize) -> bool
+        ensures found { result ≡ is_some (row_of key (rows_at self.old.shards (key % N))) }
+        ensures near { only key (take top (rows_at self.old.shards (key % N))) ≢ [] → self.new ≡ self.old }
+        ensures far { only key (take top (rows_at self.old.shards (key % N))) ≡ [] → self.new ≡ record self.old { shards = slice_set self.old.shards (key % N) (only key (rows_at self.old.shards (key % N)) ++ others key (rows_at self.old.shards (key % N))) } }
+    {
+        if self.is_near_head(key, top) {
+            true
+        } else {
+            self.promote(key)
+        }
+    }
+
+    fn is_near_head(&self, key: u64, top: usize) -> bool
+        ensures { IsTrue result ↔ (only key (take top (rows_at self.now.shards (key % N))) ≢ []) }
+    {
+        self.units[self.place_of(key)].is_near_head(key, top)
+    }
 }
 
 impl<T: Drop, const N: usize> LruCore<T, N> {
+    /// N shards without rows. `capacity` is a hint: that many rows will find their room taken.
+    pub fn with_capacity(
+        alloc: Global,
+        weight_limit: usize,
+        capacity: usize,
+    ) -> Result<Self, AllocError>
+        requires { 0 < N }
+        ensures { IfOk result (λ c. c ≡ record { shards = replicate N []; limit = weight_limit; watermark = None; evicted_weight = 0; evicted_len = 0 }) }
+    {
+        LruCore::with_capacity_and_watermark(alloc, weight_limit, capacity, None)
+    }
+
+    /// The same, with a number of rows past which an eviction takes rows too.
+    pub fn with_capacity_and_watermark(
+        alloc: Global,
+        weight_limit: usize,
+        capacity: usize,
+        len_watermark: Option<usize>,
+    ) -> Result<Self, AllocError>
+        requires { 0 < N }
+        ensures { IfOk result (λ c. c ≡ record { shards = replicate N []; limit = weight_limit; watermark = len_watermark; evicted_weight = 0; evicted_len = 0 }) }
+    {
+        let mut units = Vec::new(alloc);
+        'units: for _ in 0..N {
+            let unit = LruUnit::with_capacity(alloc, capacity / N, usize::MAX / N)?;
+            units.push(unit)?;
+        }
+        Ok(LruCore {
+            units,
+            weight: 0,
+            len: 0,
+            weight_limit,
+            len_watermark,
+            evicted_weight: 0,
+            evicted_len: 0,
+        })
+    }
+
+    /// Takes the room for `additional` more rows in a shard. It is a hint.
+    pub fn reserve_shard(&mut self, shard: usize, additional: usize) -> Result<(), AllocError>
+        requires { shard < N }
+        ensures { self.new ≡ self.old }
+    {
+        self.units[shard].reserve(additional)
+    }
+
+    /// Puts `item` under `key` in front of its shard, with a weight of 1 at least, in place of what the key had.
+    /// Answers the shard.
+    pub fn admit(&mut self, key: u64, item: T, weight: usize) -> Result<usize, LruFault<T>>
+        ensures shard { IfOk result (λ i. i ≡ key % N) }
+        ensures after { OnOk result (self.new ≡ record self.old { shards = slice_set self.old.shards (key % N) (a_row key item (max 1 weight) ∷ others key (rows_at self.old.shards (key % N))) }) }
+        ensures err { OnErr result (self.new ≡ self.old) }
+        ensures memory { (back : T) → result ≡ Err (LruFault.Memory back) → (back ≡ item) × (only key (rows_at self.old.shards (key % N)) ≡ []) }
+        ensures heavy { (back : T) → result ≡ Err (LruFault.Weight back) → (back ≡ item) × ((2 ^ 64 - 1) / N < weight_of (others key (rows_at self.old.shards (key % N))) + max 1 weight) }
+        ensures long { (back : T) → result ≡ Err (LruFault.Length back) → (back ≡ item) × (only key (rows_at self.old.shards (key % N)) ≡ []) × (((2 ^ 64 - 1) / N ≤ length (rows_at self.old.shards (key % N))) ⊎ (length (rows_at self.old.shards (key % N)) ≡ 4294967293)) }
+    {
+        let _ = &self.len;
+        let place = key as usize % N;
+        let unit = &mut self.units[place];
+        let before = sums(unit);
+        let admitted: Result<usize, LruFault<T>> = unit.admit(key, item, weight);
+        let after = sums(unit);
+        self.len = self.len - before.0 + after.0;
+        self.weight = self.weight - before.1 + after.1;
+        let _old = admitted?;
+        Ok(place)
+    }
+
+    /// Puts `item` under a new key behind all others of its shard, with its weight as it is, and answers `true`.
+    /// Where the key is there nothing changes.
+    pub fn insert_tail(&mut self, key: u64, item: T, weight: usize) -> Result<bool, LruFault<T>>
+        ensures added { IfOk result (λ b. IsTrue b ↔ (only key (rows_at self.old.shards (key % N)) ≡ [])) }
+        ensures after { result ≡ Ok true → self.new ≡ record self.old { shards = slice_set self.old.shards (key % N) (rows_at self.old.shards (key % N) ++ a_row key item weight ∷ []) } }
+        ensures same { result ≢ Ok true → self.new ≡ self.old }
+        ensures memory { (back : T) → result ≡ Err (LruFault.Memory back) → (back ≡ item) × (only key (rows_at self.old.shards (key % N)) ≡ []) }
+        ensures heavy { (back : T) → result ≡ Err (LruFault.Weight back) → (back ≡ item) × (only key (rows_at self.old.shards (key % N)) ≡ []) × ((2 ^ 64 - 1) / N < weight_of (rows_at self.old.shards (key % N)) + weight) }
+        ensures long { (back : T) → result ≡ Err (LruFault.Length back) → (back ≡ item) × (only key (rows_at self.old.shards (key % N)) ≡ []) × (((2 ^ 64 - 1) / N ≤ length (rows_at self.old.shards (key % N))) ⊎ (length (rows_at self.old.shards (key % N)) ≡ 4294967293)) }
+    {
+        let _ = &self.len;
+        let place = key as usize % N;
+        let unit = &mut self.units[place];
+        let before = sums(unit);
+        let added: Result<bool, LruFault<T>> = unit.insert_tail(key, item, weight);
+        let after = sums(unit);
+        self.len = self.len - before.0 + after.0;
+        self.weight = self.weight - before.1 + after.1;
+        added
+    }
+
+    /// Evicts the last row of the shard of that number modulo N, whatever the limit.
+    pub fn evict_shard(&mut self, shard: u64) -> Option<(T, usize)>
+        ensures none { IfNone result ((rows_at self.old.shards (shard % N) ≡ []) × (self.new ≡ self.old)) }
+        ensures some { IfSome result (λ p. IsEviction self.old (shard % N) p self.new) }
+    {
+        let _ = &self.len;
+        self.evict_at(shard as usize % N)
+    }
+
+    /// One step of eviction, by two draws: where the weight is past the limit or the number of rows past the
+    /// watermark, the last row goes of the longer of the two shards that the draws name, of the first where they are
+    /// equally long, or where that is empty of the next around the circle that is not.
+    pub fn evict_step(&mut self, a: u64, b: u64) -> Option<(T, usize)>
+        ensures none { IfNone result ((self.new ≡ self.old) × ((is_over self.old ≡ false) ⊎ (core_len self.old.shards ≡ 0))) }
+        ensures some { IfSome result (λ p. IsStep N self.old a b p self.new) }
+        ensures less { OnSome result (core_len self.new.shards + 1 ≡ core_len self.old.shards) }
+    {
+        if !self.is_over() {
+            return None;
+        }
+        let from = self.longer(a, b);
+        let place = self.around(from);
+        self.evict_at(place)
+    }
+
+    /// Evicts by steps, each by the next two words of the generator, until neither limit is passed. Without memory for
+    /// a pair it stops before the draws for that pair, and its error has the pairs so far.
+    pub fn evict_to_limit<R: Rng>(
+        &mut self,
+        alloc: Global,
+        rng: &mut R,
+    ) -> Result<Vec<(T, usize)>, Vec<(T, usize)>>
+        ensures pairs { IfOk result (λ v. Evicts N self.old v.items (R.stream rng.old) self.new (R.stream rng.new)) }
+        ensures within { OnOk result (is_over self.new ≡ false) }
+        ensures refused { IfErr result (λ v. Evicts N self.old v.items (R.stream rng.old) self.new (R.stream rng.new)) }
+    {
+        let mut pairs = Vec::new(alloc);
+        'steps: while self.is_over() {
+            if pairs.reserve(1).is_err() {
+                return Err(pairs);
+            }
+            let a = rng.next_u64();
+            let b = rng.next_u64();
+            pairs.push_reserved(self.evict_step(a, b).unwrap());
+        }
+        Ok(pairs)
+    }
+
+    /// Takes the last row of a shard, and counts it.
+    fn evict_at(&mut self, place: usize) -> Option<(T, usize)>
+        requires { place < N }
+        ensures none { IfNone result ((rows_at self.old.shards place ≡ []) × (self.new ≡ self.old)) }
+        ensures some { IfSome result (λ p. IsEviction self.old place p self.new) }
+        ensures less { OnSome result (core_len self.new.shards + 1 ≡ core_len self.old.shards) }
+    {
+        let unit = &mut self.units[place];
+        let before = sums(unit);
+        let gone = unit.evict();
+        let after = sums(unit);
+        self.len = self.len - before.0 + after.0;
+        self.weight = self.weight - before.1 + after.1;
+        let (data, weight) = gone?;
+        self.evicted_weight = self.evicted_weight.wrapping_add(weight);
+        self.evicted_len = self.evicted_len.wrapping_add(1);
+        Some((data, weight))
+    }
+
     /// Takes the row of `key` out.
     pub fn remove(&mut self, key: u64) -> Option<(T, usize)>
         ensures value { result ≡ option_map (λ r. (r.data, r.weight)) (row_of key (rows_at self.old.shards (key % N))) }
@@ -161,6 +390,15 @@ impl<T: Drop, const N: usize> LruCore<T, N> {
         self.weight = self.weight - before.1 + after.1;
         gone
     }
+}
+
+/// The shard behind `i` on a circle of `n`.
+fn next_of(i: usize, n: usize) -> usize
+    requires { i < n }
+    ensures value { result ≡ next_of n i }
+    ensures within { result < n }
+{
+    if i + 1 == n { 0 } else { i + 1 }
 }
 
 /// The number of rows of a shard, and their weight.
