@@ -330,3 +330,11 @@ pub last_found : {X : Type 0} → (o : Option (Bor X)) (xs front : List X) (r : 
     → MatchOption o (xs ≡ []) (λ y. (front : List X) × (xs ≡ front ++ y.now ∷ []))
 last_found None xs front r e h = absurd (let u : option_copied None ≡ Some r = e in cc)
 last_found (Some y) xs front r e h = let s : y.now ≡ r = cc in (front, rw s h)
+
+-- a slot that is filled once it was taken
+pub filled : {X : Type 0} → (items : List X) (i : ℕ) (o a : X) → slice_get items i ≡ Some o → slice_get (set items i a) i ≡ Some a
+filled items i o a e = slice_get-set_same items i a (slice_get_within items i o e)
+
+pub filled_other : {X : Type 0} → (items now : List X) (is : List ℕ) (i : ℕ) (a : X) → has is i ≡ false → ((j : ℕ) → has is j ≡ true → slice_get now j ≡ slice_get items j)
+    → (j : ℕ) → has is j ≡ true → slice_get (set now i a) j ≡ slice_get items j
+filled_other items now is i a f kept j h = slice_get-set_other now i j a (has_apart is j i h f) ∙ kept j h

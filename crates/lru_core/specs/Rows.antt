@@ -1,5 +1,5 @@
 -- Plain lists of rows, most recent first.
-use Rattle.std.specs.Prelude.{ℕ, not, ◌==◌, List, filter, map, Option, cond, slice_get}
+use Rattle.std.specs.Prelude.{ℕ, ◌+◌, ◌==◌, not, min, max, List, filter, map, Option, Some, None, is_some, cond, if◌then◌else◌, slice_get}
 use Rattle.std.specs.List.{sum_by}
 use Rattle.lru_core.specs.declared.rows.Row.{Row}
 
@@ -26,6 +26,17 @@ put row rows = map (λ r. cond (r.key == row.key) row r) rows
 -- the sum of the rows' weights
 abbrev pub weight_of : {T : Type 0} → List (Row T) → ℕ
 weight_of rows = sum_by (λ r. r.weight) rows
+
+-- a weight with a cap on it, if there is one
+abbrev pub capped : Option ℕ → ℕ → ℕ
+capped None w = w
+capped (Some most) w = min w most
+
+-- the weight that key k has once `delta` is added: it never falls, and a new key has 1 at least
+abbrev pub incremented : {T : Type 0} → ℕ → ℕ → Option ℕ → List (Row T) → ℕ
+incremented k delta most rows =
+    let old = weight_of (only k rows) in
+    if is_some (row_of k rows) then max old (capped most (old + delta)) else max 1 (capped most delta)
 
 abbrev pub a_row : {T : Type 0} → ℕ → T → ℕ → Row T
 a_row k d w = record { key = k; «data» = d; weight = w }

@@ -1,8 +1,8 @@
 //! One shard: rows of keys, data and weights, most recent first.
 
-ghost use Rattle.std.specs.Prelude.{◌≡◌, ◌≢◌, ◌↔◌, ℕ, ◌+◌, ◌-◌, ◌<◌, ◌≤◌, ◌++◌, ◌∷◌, ◌⊎◌, List, [], length, take, max, min, map, true, false, IsTrue, IsSome, is_some, IfSome, IfNone, IfOk, OnOk, OnErr, MatchOption, option_copied, not};
-ghost use Rattle.std.specs.Option.{option_to_list, option_map};
-ghost use Rattle.lru_core.specs.Rows.{only, others, row_of, put, reweighed, weight_of, a_row};
+ghost use Rattle.std.specs.Prelude.{◌≡◌, ◌≢◌, ◌↔◌, ℕ, ◌+◌, ◌-◌, ◌^◌, ◌<◌, ◌≤◌, ◌++◌, ◌∷◌, ◌⊎◌, List, [], length, take, max, min, map, true, false, IsTrue, IsSome, is_some, IfSome, IfNone, IfOk, IfErr, OnOk, OnErr, MatchOption, option_copied, not};
+ghost use Rattle.std.specs.Option.{option_to_list, option_map, SomeIff};
+ghost use Rattle.lru_core.specs.Rows.{only, others, row_of, put, reweighed, weight_of, capped, incremented, a_row};
 ghost use Rattle.lru_core.specs.declared.rows.Row.{Row};
 
 use crate::rows::{Row, RowFault, Rows};
@@ -211,6 +211,79 @@ impl<T: Drop> LruUnit<T> {
         }
     }
 
+    /// Gives `key` another weight, as it is, and answers the one that it had, if it is there. The order stays.
+    pub fn set_weight(&mut self, key: u64, weight: usize) -> Result<Option<usize>, LruFault<()>>
+        ensures before { IfOk result (λ old. old ≡ option_map (λ r. r.weight) (row_of key self.old.rows)) }
+        ensures after { OnOk result (self.new ≡ record self.old { rows = reweighed key weight self.old.rows }) }
+        ensures err { OnErr result (self.new ≡ self.old) }
+        ensures heavy { IfErr result (λ fault. (fault ≡ LruFault.Weight tt) × (self.old.bound < weight_of (others key self.old.rows) + weight)) }
+        ensures bound { self.new.bound ≡ self.old.bound }
+    {
+        let Some(old) = weight_at(&self.rows, key) else {
+            return Ok(None);
+        };
+        if weight > self.bound - (self.used - old) {
+            return Err(LruFault::Weight(()));
+        }
+        let before = self.rows.reweigh(key, weight);
+        self.used = self.used - old + weight;
+        Ok(Some(before))
+    }
+
+    /// Adds `delta` to the weight of `key`, up to `max_weight` but never down, or takes the key in with that weight,
+    /// of 1 at least, and what `admit_data` makes. The key moves to the front. A refusal comes before `admit_data` is
+    /// called, and hands it back. Answers the old weight, or 0, the new one, and whether the key was absent.
+    pub fn increment_weight<F: FnOnce() -> T>(
+        &mut self,
+        key: u64,
+        admit_data: F,
+        delta: usize,
+        max_weight: Option<usize>,
+    ) -> Result<(usize, usize, bool), LruFault<F>>
+    where
+        F: Drop,
+        requires { F.IsAlwaysCallable admit_data }
+        ensures present { only key self.old.rows ≢ [] → IfOk result (λ p. (p.0 ≡ weight_of (only key self.old.rows)) × (p.1 ≡ max p.0 (capped max_weight (p.0 + delta))) × (p.2 ≡ false) × (self.new ≡ record self.old { rows = only key (reweighed key p.1 self.old.rows) ++ others key self.old.rows })) }
+        ensures absent { only key self.old.rows ≡ [] → IfOk result (λ p. (p.0 ≡ 0) × (p.1 ≡ max 1 (capped max_weight delta)) × (p.2 ≡ true) × ((d : T) × F.post admit_data d × (self.new ≡ record self.old { rows = a_row key d p.1 ∷ self.old.rows }))) }
+        ensures err { OnErr result (self.new ≡ self.old) }
+        ensures memory { (back : F) → result ≡ Err (LruFault.Memory back) → (back ≡ admit_data) × (only key self.old.rows ≡ []) }
+        ensures heavy { (back : F) → result ≡ Err (LruFault.Weight back) → (back ≡ admit_data) × (self.old.bound < weight_of (others key self.old.rows) + incremented key delta max_weight self.old.rows) }
+        ensures long { (back : F) → result ≡ Err (LruFault.Length back) → (back ≡ admit_data) × (only key self.old.rows ≡ []) × ((self.old.bound ≤ length self.old.rows) ⊎ (length self.old.rows ≡ 4294967293)) }
+        ensures bound { self.new.bound ≡ self.old.bound }
+    {
+        match weight_at(&self.rows, key) {
+            Some(old) => {
+                let Some(weight) = raised(old, delta, max_weight) else {
+                    return Err(LruFault::Weight(admit_data));
+                };
+                if weight > self.bound - (self.used - old) {
+                    return Err(LruFault::Weight(admit_data));
+                }
+                let _old = self.rows.reweigh(key, weight);
+                let _found = self.rows.promote(key);
+                self.used = self.used - old + weight;
+                Ok((old, weight, false))
+            }
+            None => {
+                let weight = lowered(delta, max_weight).max(1);
+                if self.rows.len() >= self.bound {
+                    return Err(LruFault::Length(admit_data));
+                }
+                if weight > self.bound - self.used {
+                    return Err(LruFault::Weight(admit_data));
+                }
+                match self.rows.push_first_with(key, weight, admit_data) {
+                    Ok(()) => {
+                        self.used += weight;
+                        Ok((0, weight, true))
+                    }
+                    Err(RowFault::Memory(back)) => Err(LruFault::Memory(back)),
+                    Err(RowFault::Full(back)) => Err(LruFault::Length(back)),
+                }
+            }
+        }
+    }
+
     /// Takes the last row out.
     pub fn evict(&mut self) -> Option<(T, usize)>
         ensures none { IfNone result ((self.old.rows ≡ []) × (self.new ≡ self.old)) }
@@ -241,6 +314,26 @@ impl<T: Drop> LruUnit<T> {
         } = self.rows.remove(key)?;
         self.used -= weight;
         Some((data, weight))
+    }
+}
+
+/// A weight with a cap on it.
+fn lowered(weight: usize, max_weight: Option<usize>) -> usize
+    ensures { result ≡ capped max_weight weight }
+{
+    match max_weight {
+        Some(most) => weight.min(most),
+        None => weight,
+    }
+}
+
+/// A weight with something added, up to `max_weight` but never down. None where that cannot be counted.
+fn raised(old: usize, delta: usize, max_weight: Option<usize>) -> Option<usize>
+    ensures { SomeIff result (max old (capped max_weight (old + delta)) < 2 ^ 64) (max old (capped max_weight (old + delta))) }
+{
+    match max_weight {
+        Some(most) => Some(old.saturating_add(delta).min(most).max(old)),
+        None => old.checked_add(delta),
     }
 }
 

@@ -1,9 +1,9 @@
 //! Rows in the order of their use, found by their keys.
 
-ghost use Rattle.std.specs.Prelude.{◌≡◌, ◌≢◌, ◌↔◌, ℕ, ◌+◌, ◌-◌, ◌<◌, ◌≤◌, ◌++◌, ◌∷◌, List, [], length, take, reverse, IsTrue, IsSome, is_some, IfSome, IfNone, IfOk, OnOk, OnErr, MatchOption, nat_eq, option_copied, not};
+ghost use Rattle.std.specs.Prelude.{◌≡◌, ◌≢◌, ◌↔◌, ℕ, ◌+◌, ◌-◌, ◌<◌, ◌≤◌, ◌++◌, ◌∷◌, List, [], length, take, map, IsTrue, IsSome, is_some, IfSome, IfNone, IfOk, OnOk, OnErr, MatchOption, nat_eq, option_copied, not};
 ghost use Rattle.std.specs.Option.{option_to_list};
 ghost use Rattle.std.specs.HashMap.{get, spare};
-ghost use Rattle.lru_core.specs.Rows.{only, others, put};
+ghost use Rattle.lru_core.specs.Rows.{only, others, put, reweighed, a_row};
 ghost use Rattle.lru_core.specs.declared.rows.Row.{Row};
 
 use lru_list::linked_list::{LinkedList, ListFault};
@@ -19,13 +19,13 @@ pub struct Row<T> {
     pub weight: usize,
 }
 
-/// Why a row was not taken in. It comes back.
+/// Why a row was not taken in, with what was handed in for it.
 #[derive(Drop)]
-pub enum RowFault<T> {
+pub enum RowFault<D> {
     /// No memory.
-    Memory(Row<T>),
+    Memory(D),
     /// The list is full.
-    Full(Row<T>),
+    Full(D),
 }
 
 /// Rows of distinct keys, most recent first.
@@ -141,7 +141,7 @@ impl<T: Drop> Rows<T> {
     }
 
     /// Puts a row of a new key in front of all others.
-    pub fn push_first(&mut self, row: Row<T>) -> Result<(), RowFault<T>>
+    pub fn push_first(&mut self, row: Row<T>) -> Result<(), RowFault<Row<T>>>
         requires { only row.key self.old ≡ [] }
         ensures ok { OnOk result (self.new ≡ row ∷ self.old) }
         ensures err { OnErr result (self.new ≡ self.old) }
@@ -163,7 +163,7 @@ impl<T: Drop> Rows<T> {
     }
 
     /// Puts a row of a new key behind all others.
-    pub fn push_last(&mut self, row: Row<T>) -> Result<(), RowFault<T>>
+    pub fn push_last(&mut self, row: Row<T>) -> Result<(), RowFault<Row<T>>>
         requires { only row.key self.old ≡ [] }
         ensures ok { OnOk result (self.new ≡ self.old ++ row ∷ []) }
         ensures err { OnErr result (self.new ≡ self.old) }
@@ -182,6 +182,42 @@ impl<T: Drop> Rows<T> {
             Err(ListFault::Memory(back)) => Err(RowFault::Memory(back.unwrap())),
             Err(ListFault::Full(back)) => Err(RowFault::Full(back.unwrap())),
         }
+    }
+
+    /// Puts a row of a new key in front of all others, whose data is made once its room is taken.
+    pub fn push_first_with<F: FnOnce() -> T>(&mut self, key: u64, weight: usize, make: F) -> Result<(), RowFault<F>>
+        requires callable { F.IsAlwaysCallable make }
+        requires absent { only key self.old ≡ [] }
+        ensures ok { OnOk result ((d : T) × F.post make d × (self.new ≡ a_row key d weight ∷ self.old)) }
+        ensures err { OnErr result (self.new ≡ self.old) }
+        ensures memory { (back : F) → result ≡ Err (RowFault.Memory back) → back ≡ make }
+        ensures full { (back : F) → result ≡ Err (RowFault.Full back) → (back ≡ make) × (length self.old ≡ 4294967293) }
+    {
+        if room_for(&mut self.table, 1).is_err() {
+            return Err(RowFault::Memory(make));
+        }
+        match self.list.push_head(None) {
+            Ok(i) => {
+                let data = make();
+                let _hole = self.list.replace(i, Some(Row { key, data, weight }));
+                put_key(&mut self.table, key, i);
+                Ok(())
+            }
+            Err(ListFault::Memory(_)) => Err(RowFault::Memory(make)),
+            Err(ListFault::Full(_)) => Err(RowFault::Full(make)),
+        }
+    }
+
+    /// Gives the row of `key` another weight, and answers the one that it had. The order stays.
+    pub fn reweigh(&mut self, key: u64, weight: usize) -> usize
+        requires { only key self.old ≢ [] }
+        ensures value { map (λ r. r.weight) (only key self.old) ≡ result ∷ [] }
+        ensures after { self.new ≡ reweighed key weight self.old }
+    {
+        let i = index_of(&self.table, key).unwrap();
+        let Row { key, data, weight: old } = self.list.replace(i, None).unwrap();
+        let _hole = self.list.replace(i, Some(Row { key, data, weight }));
+        old
     }
 
     /// Takes the row of `key` out.

@@ -2,7 +2,7 @@
 
 ghost use Rattle.std.specs.Prelude.{◌≡◌, ◌≢◌, ◌↔◌, ℕ, ◌+◌, ◌-◌, ◌*◌, ◌/◌, ◌%◌, ◌^◌, ◌<◌, ◌≤◌, ◌++◌, ◌∷◌, ◌⊎◌, List, [], length, take, max, min, map, replicate, true, false, not, nat_lt, nat_eq, IsTrue, is_some, IfSome, IfNone, IfOk, IfErr, OnOk, OnErr, OnSome, MatchOption, slice_set, slice_index_or};
 ghost use Rattle.std.specs.Option.{option_map};
-ghost use Rattle.lru_core.specs.Rows.{only, others, row_of, weight_of, a_row};
+ghost use Rattle.lru_core.specs.Rows.{only, others, row_of, reweighed, weight_of, capped, incremented, a_row};
 ghost use Rattle.lru_core.specs.Cores.{rows_at, core_weight, core_len, is_over, passes, longer, next_of, around, IsEviction, IsStep, Evicts};
 ghost use Rattle.lru_core.specs.declared.rows.Row.{Row};
 
@@ -306,6 +306,57 @@ impl<T: Drop, const N: usize> LruCore<T, N> {
         self.len = self.len - before.0 + after.0;
         self.weight = self.weight - before.1 + after.1;
         added
+    }
+
+    /// Gives `key` another weight, as it is, and answers the one that it had, if it is there. The order stays.
+    pub fn set_weight(&mut self, key: u64, weight: usize) -> Result<Option<usize>, LruFault<()>>
+        ensures before { IfOk result (λ old. old ≡ option_map (λ r. r.weight) (row_of key (rows_at self.old.shards (key % N)))) }
+        ensures after { OnOk result (self.new ≡ record self.old { shards = slice_set self.old.shards (key % N) (reweighed key weight (rows_at self.old.shards (key % N))) }) }
+        ensures err { OnErr result (self.new ≡ self.old) }
+        ensures heavy { IfErr result (λ fault. (fault ≡ LruFault.Weight tt) × ((2 ^ 64 - 1) / N < weight_of (others key (rows_at self.old.shards (key % N))) + weight)) }
+    {
+        let _ = &self.len;
+        let place = key as usize % N;
+        let unit = &mut self.units[place];
+        let before = sums(unit);
+        let set: Result<Option<usize>, LruFault<()>> = unit.set_weight(key, weight);
+        let after = sums(unit);
+        self.len = self.len - before.0 + after.0;
+        self.weight = self.weight - before.1 + after.1;
+        let old = set?;
+        Ok(old)
+    }
+
+    /// Adds `delta` to the weight of `key`, up to `max_weight` but never down, or takes the key in with that weight,
+    /// of 1 at least, and what `admit_data` makes. The key moves to the front of its shard. A refusal comes before
+    /// `admit_data` is called, and hands it back. Answers the new weight.
+    pub fn increment_weight<F: FnOnce() -> T>(
+        &mut self,
+        key: u64,
+        admit_data: F,
+        delta: usize,
+        max_weight: Option<usize>,
+    ) -> Result<usize, LruFault<F>>
+    where
+        F: Drop,
+        requires { F.IsAlwaysCallable admit_data }
+        ensures present { let rows = rows_at self.old.shards (key % N) in only key rows ≢ [] → IfOk result (λ w. (w ≡ max (weight_of (only key rows)) (capped max_weight (weight_of (only key rows) + delta))) × (self.new ≡ record self.old { shards = slice_set self.old.shards (key % N) (only key (reweighed key w rows) ++ others key rows) })) }
+        ensures absent { let rows = rows_at self.old.shards (key % N) in only key rows ≡ [] → IfOk result (λ w. (w ≡ max 1 (capped max_weight delta)) × ((d : T) × F.post admit_data d × (self.new ≡ record self.old { shards = slice_set self.old.shards (key % N) (a_row key d w ∷ rows) }))) }
+        ensures err { OnErr result (self.new ≡ self.old) }
+        ensures memory { (back : F) → result ≡ Err (LruFault.Memory back) → (back ≡ admit_data) × (only key (rows_at self.old.shards (key % N)) ≡ []) }
+        ensures heavy { (back : F) → result ≡ Err (LruFault.Weight back) → (back ≡ admit_data) × ((2 ^ 64 - 1) / N < weight_of (others key (rows_at self.old.shards (key % N))) + incremented key delta max_weight (rows_at self.old.shards (key % N))) }
+        ensures long { (back : F) → result ≡ Err (LruFault.Length back) → (back ≡ admit_data) × (only key (rows_at self.old.shards (key % N)) ≡ []) × (((2 ^ 64 - 1) / N ≤ length (rows_at self.old.shards (key % N))) ⊎ (length (rows_at self.old.shards (key % N)) ≡ 4294967293)) }
+    {
+        let _ = &self.len;
+        let place = key as usize % N;
+        let unit = &mut self.units[place];
+        let before = sums(unit);
+        let added: Result<(usize, usize, bool), LruFault<F>> = unit.increment_weight(key, admit_data, delta, max_weight);
+        let after = sums(unit);
+        self.len = self.len - before.0 + after.0;
+        self.weight = self.weight - before.1 + after.1;
+        let now = added?;
+        Ok(now.1)
     }
 
     /// Evicts the last row of the shard of that number modulo N, whatever the limit.
