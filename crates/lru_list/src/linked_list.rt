@@ -161,7 +161,7 @@ impl<K> LinkedList<K> {
     pub fn reserve(&mut self, additional: usize) -> Result<(), AllocError>
         ensures { self.new ≡ self.old }
     {
-        let unused = self.nodes.len() - 2 - self.free.len();
+        let unused = self.nodes.len() - self.free.len() - 2;
         self.nodes.reserve(additional)?;
         self.free.reserve(additional.saturating_add(unused))
     }
@@ -397,3 +397,6 @@ fn take_slot<K: Drop>(
     });
     Ok(i)
 }
+
+#[cfg(test)]
+mod tests;
