@@ -66,37 +66,42 @@ module _ {T : Type 0} where
   pub only-reweighed : (k w : ℕ) (xs : List (Row T)) → only k (reweighed k w xs) ≡ map {A = Row T} {B = Row T} (λ r. record r { weight = w }) (only k xs)
   only-reweighed k w [] = refl
   only-reweighed k w (r ∷ xs) = elim (cases_eq r.key k) [
-      inl e ↦ rw (eq-eqb r.key k e) (rw (eq-eqb r.key k e) (ap (λ l. record r { weight = w } ∷ l) (only-reweighed k w xs)))
-    | inr n ↦ rw (ne_eqb r.key k n) (rw (ne_eqb r.key k n) (only-reweighed k w xs)) ]
+    | inl e ↦ rw (eq-eqb r.key k e) (rw (eq-eqb r.key k e) (ap (λ l. record r { weight = w } ∷ l) (only-reweighed k w xs)))
+    | inr n ↦ rw (ne_eqb r.key k n) (rw (ne_eqb r.key k n) (only-reweighed k w xs))
+  ]
 
   pub others-reweighed : (k w : ℕ) (xs : List (Row T)) → others k (reweighed k w xs) ≡ others k xs
   others-reweighed k w [] = refl
   others-reweighed k w (r ∷ xs) = elim (cases_eq r.key k) [
-      inl e ↦ rw (eq-eqb r.key k e) (rw (eq-eqb r.key k e) (others-reweighed k w xs))
-    | inr n ↦ rw (ne_eqb r.key k n) (rw (ne_eqb r.key k n) (ap (λ l. r ∷ l) (others-reweighed k w xs))) ]
+    | inl e ↦ rw (eq-eqb r.key k e) (rw (eq-eqb r.key k e) (others-reweighed k w xs))
+    | inr n ↦ rw (ne_eqb r.key k n) (rw (ne_eqb r.key k n) (ap (λ l. r ∷ l) (others-reweighed k w xs)))
+  ]
 
   pub reweighed_absent : (k w : ℕ) (xs : List (Row T)) → only k xs ≡ [] → reweighed k w xs ≡ xs
   reweighed_absent k w [] h = refl
   reweighed_absent k w (r ∷ xs) h = elim (cases_eq r.key k) [
-      inl e ↦ absurd (let f = rw (eq-eqb r.key k e) at h in cc)
-    | inr n ↦ rw (ne_eqb r.key k n) (ap (λ l. r ∷ l) (reweighed_absent k w xs (rw (ne_eqb r.key k n) at h))) ]
+    | inl e ↦ absurd (let f = rw (eq-eqb r.key k e) at h in cc)
+    | inr n ↦ rw (ne_eqb r.key k n) (ap (λ l. r ∷ l) (reweighed_absent k w xs (rw (ne_eqb r.key k n) at h)))
+  ]
 
   put_absent : (row : Row T) (k : ℕ) (xs : List (Row T)) → row.key ≡ k → only k xs ≡ [] → put row xs ≡ xs
   put_absent row k [] s h = refl
   put_absent row k (r ∷ xs) s h = elim (cases_eq r.key k) [
-      inl e ↦ absurd (let f = rw (eq-eqb r.key k e) at h in cc)
-    | inr n ↦ rw (ne_eqb r.key row.key (λ e. n (e ∙ s))) (ap (λ l. r ∷ l) (put_absent row k xs s (rw (ne_eqb r.key k n) at h))) ]
+    | inl e ↦ absurd (let f = rw (eq-eqb r.key k e) at h in cc)
+    | inr n ↦ rw (ne_eqb r.key row.key (λ e. n (e ∙ s))) (ap (λ l. r ∷ l) (put_absent row k xs s (rw (ne_eqb r.key k n) at h)))
+  ]
 
   -- the row of a key with another weight, put in its place
   pub put-reweighed : (k w : ℕ) (row : Row T) (xs : List (Row T)) → row.key ≡ k → only k xs ≡ row ∷ [] → put (record row { weight = w }) xs ≡ reweighed k w xs
   put-reweighed k w row [] s h = refl
   put-reweighed k w row (r ∷ xs) s h = elim (cases_eq r.key k) [
-      inl e ↦
-          let f = rw (eq-eqb r.key k e) at h in
-          let same : r ≡ row = cc in
-          let rest : only k xs ≡ [] = cc in
-          rw (eq-eqb r.key row.key (e ∙ sym s), eq-eqb r.key k e, put_absent (record row { weight = w }) k xs s rest, reweighed_absent k w xs rest, same) refl
-    | inr n ↦ rw (ne_eqb r.key row.key (λ e. n (e ∙ s)), ne_eqb r.key k n) (ap (λ l. r ∷ l) (put-reweighed k w row xs s (rw (ne_eqb r.key k n) at h))) ]
+    | inl e ↦
+        let f = rw (eq-eqb r.key k e) at h in
+        let same : r ≡ row = cc in
+        let rest : only k xs ≡ [] = cc in
+        rw (eq-eqb r.key row.key (e ∙ sym s), eq-eqb r.key k e, put_absent (record row { weight = w }) k xs s rest, reweighed_absent k w xs rest, same) refl
+    | inr n ↦ rw (ne_eqb r.key row.key (λ e. n (e ∙ s)), ne_eqb r.key k n) (ap (λ l. r ∷ l) (put-reweighed k w row xs s (rw (ne_eqb r.key k n) at h)))
+  ]
 
   -- what another weight for a key that is there does to the sums
   pub weight-reweighed : (k w : ℕ) (row : Row T) (xs : List (Row T)) → only k xs ≡ row ∷ [] → (weight_of (reweighed k w xs) ≡ w + weight_of (others k xs)) × (length (reweighed k w xs) ≡ length xs)
@@ -116,8 +121,9 @@ module _ {T : Type 0} where
   -- the weight that an increment asks for, where the key is there and where it is not
   pub incremented_there : (k delta : ℕ) (most : Option ℕ) (xs : List (Row T)) → only k xs ≢ [] → incremented k delta most xs ≡ max (weight_of (only k xs)) (capped most (weight_of (only k xs) + delta))
   incremented_there k delta most xs n = elim (only k xs) as (λ l. l ≢ [] → cond (is_some (slice_get l 0)) (max (weight_of l) (capped most (weight_of l + delta))) (max 1 (capped most delta)) ≡ max (weight_of l) (capped most (weight_of l + delta))) [
-      [] ↦ λ m. absurd (m refl)
-    | x ∷ l ↦ λ m. refl ] n
+    | [] ↦ λ m. absurd (m refl)
+    | x ∷ l ↦ λ m. refl
+  ] n
 
   pub incremented_new : (k delta : ℕ) (most : Option ℕ) (xs : List (Row T)) → only k xs ≡ [] → incremented k delta most xs ≡ max 1 (capped most delta)
   incremented_new k delta most xs e = rw e refl

@@ -1,8 +1,11 @@
-//! Rows of keys, data and weights in the order of their use.
+//! Rows of keys, data and weights in the order of their use: one shard, and shards with a limit on their weight.
 #![tactic(auto)]
 
 pub use lru_list::linked_list;
+pub use sharded::LruCore;
 
 pub mod lru_unit;
-pub mod rows;
-pub mod sharded;
+mod rows;
+mod sharded;
+#[cfg(test)]
+mod tests;

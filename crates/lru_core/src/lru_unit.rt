@@ -65,16 +65,14 @@ impl<T> LruUnit<T> {
     pub fn peek(&self, key: u64) -> Option<&T>
         ensures { option_copied result ≡ option_map (λ r. r.data) (row_of key self.now.rows) }
     {
-        let row = self.rows.get(key)?;
-        Some(&row.data)
+        Some(&self.rows.get(key)?.data)
     }
 
     /// The weight of `key`. The order stays.
     pub fn peek_weight(&self, key: u64) -> Option<usize>
         ensures { result ≡ option_map (λ r. r.weight) (row_of key self.now.rows) }
     {
-        let row = self.rows.get(key)?;
-        Some(row.weight)
+        Some(self.rows.get(key)?.weight)
     }
 
     /// The data and the weight of the last row. The order stays.

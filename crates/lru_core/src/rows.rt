@@ -185,7 +185,12 @@ impl<T: Drop> Rows<T> {
     }
 
     /// Puts a row of a new key in front of all others, whose data is made once its room is taken.
-    pub fn push_first_with<F: FnOnce() -> T>(&mut self, key: u64, weight: usize, make: F) -> Result<(), RowFault<F>>
+    pub fn push_first_with<F: FnOnce() -> T>(
+        &mut self,
+        key: u64,
+        weight: usize,
+        make: F,
+    ) -> Result<(), RowFault<F>>
         requires callable { F.IsAlwaysCallable make }
         requires absent { only key self.old ≡ [] }
         ensures ok { OnOk result ((d : T) × F.post make d × (self.new ≡ a_row key d weight ∷ self.old)) }
@@ -215,7 +220,11 @@ impl<T: Drop> Rows<T> {
         ensures after { self.new ≡ reweighed key weight self.old }
     {
         let i = index_of(&self.table, key).unwrap();
-        let Row { key, data, weight: old } = self.list.replace(i, None).unwrap();
+        let Row {
+            key,
+            data,
+            weight: old,
+        } = self.list.replace(i, None).unwrap();
         let _hole = self.list.replace(i, Some(Row { key, data, weight }));
         old
     }

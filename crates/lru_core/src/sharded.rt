@@ -351,7 +351,9 @@ impl<T: Drop, const N: usize> LruCore<T, N> {
         let place = key as usize % N;
         let unit = &mut self.units[place];
         let before = sums(unit);
-        let added: Result<(usize, usize, bool), LruFault<F>> = unit.increment_weight(key, admit_data, delta, max_weight);
+        let added: Result<(usize, usize, bool), LruFault<F>> = unit.increment_weight(
+            key, admit_data, delta, max_weight,
+        );
         let after = sums(unit);
         self.len = self.len - before.0 + after.0;
         self.weight = self.weight - before.1 + after.1;

@@ -40,9 +40,12 @@ returns-then-weight-self-2-clause-heavy g c back e =
 pub returns-else-weight-self-clause-present : goal.returns-else-weight-self-clause-present
 returns-else-weight-self-clause-present g c n =
     let s = c.in-Some.ensures.some in
-    let o = others-reweighed c.args.key c.in-Some-raised.weight c.self.inside.rows in
-    (rw (← c.self.view_is) (sym s.1), c.in-Some-raised.ensures.1, refl,
-     rw (c.promote-found.ensures.after, c.reweigh-old.ensures.after, o, ← c.self.view_is) refl)
+    let o = others-reweighed c.args.key c.in-Some-raised.weight c.self.inside.rows in (
+      rw (← c.self.view_is) (sym s.1),
+      c.in-Some-raised.ensures.1,
+      refl,
+      rw (c.promote-found.ensures.after, c.reweigh-old.ensures.after, o, ← c.self.view_is) refl,
+    )
 
 pub returns-in-Ok-clause-absent : goal.returns-in-Ok-clause-absent
 returns-in-Ok-clause-absent g c n =

@@ -23,7 +23,7 @@ invariant_of-self g c =
     let s : f.0 ≡ c.unwrap-key.result = let u = slot_row c.self.inside.list.items c.unwrap-i.result _ _ c.replace.ensures.value f.1 in let v = c.unwrap-key.ensures in cc in
     let k : c.unwrap-key.result.key ≡ c.args.key = ap (λ r. r.key) (sym s) ∙ f.2 in
     rw (c.replace-hole.ensures.after, c.replace.ensures.after, set-set)
-      (exchanged _ _ _ c.self.invariant c.unwrap-i.result (record c.unwrap-key.result { weight = c.args.weight }) (ap (get nat_eq c.self.inside.table) k ∙ e))
+    (exchanged _ _ _ c.self.invariant c.unwrap-i.result (record c.unwrap-key.result { weight = c.args.weight }) (ap (get nat_eq c.self.inside.table) k ∙ e))
 
 pub returns-clause-value : goal.returns-clause-value
 returns-clause-value g c =
