@@ -1,5 +1,5 @@
 -- The row of a key and the rows of others, in plain lists of rows.
-use Rattle.std.proofs.Common.{min, max, take, drop, ◌≢◌, IsTrue, ◌↔◌, is_some, slice_get, Option, Some, None, ◌≡◌, ℕ, Bool, true, false, cond, not, ◌+◌, ◌<◌, ◌≤◌, ◌⊎◌, eqb, inl, inr, List, [], ◌∷◌, ◌++◌, length, filter, map, sym, refl, ap, ◌∙◌, arith}
+use Rattle.std.proofs.Common.{max, take, drop, ◌≢◌, IsTrue, ◌↔◌, is_some, slice_get, Option, Some, None, ◌≡◌, ℕ, Bool, true, cond, not, ◌+◌, eqb, inl, inr, List, [], ◌∷◌, ◌++◌, length, map, sym, refl, ap, ◌∙◌, arith}
 use Rattle.std.proofs.lemmas.Bool.{cases_eq, eq-eqb, ne_eqb, true≢false, false_from_ne_true, not_from_false}
 use Rattle.std.proofs.lemmas.List.Filters.{sum_by-filter_both}
 use Rattle.std.proofs.lemmas.List.Sums.{sum_by-cons, sum_by-append}

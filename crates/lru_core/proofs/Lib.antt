@@ -3,3 +3,4 @@ pub mod Tabled
 pub mod Summed
 pub mod Circles
 pub mod Evictions
+pub mod Moving

@@ -4,6 +4,7 @@
 pub use lru_list::linked_list;
 pub use sharded::LruCore;
 
+pub mod laws;
 pub mod lru_unit;
 mod rows;
 mod sharded;

@@ -1,4 +1,4 @@
-use Rattle.std.proofs.Common.{◌≡◌, ◌+◌, max, arith, sym}
+use Rattle.std.proofs.Common.{◌≡◌, ◌+◌, max, arith}
 use Rattle.lru_core.proofs.lru_unit.raised.Goals as goal
 
 pub returns-in-Some : goal.returns-in-Some

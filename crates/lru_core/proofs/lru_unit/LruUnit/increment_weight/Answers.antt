@@ -1,7 +1,6 @@
-use Rattle.std.proofs.Common.{◌≡◌, ◌+◌, ◌∙◌, ap, sym, refl, arith, Some, None, [], ◌∷◌, max, ◌++◌, length}
-use Rattle.std.proofs.lemmas.List.{length-append}
-use Rattle.lru_core.specs.Rows.{only, others, reweighed, weight_of, capped, incremented}
-use Rattle.lru_core.proofs.Filters.{single, weight-reweighed, reweighed_absent, incremented_there, incremented_new, moved, others-reweighed}
+use Rattle.std.proofs.Common.{◌≡◌, ◌+◌, sym, refl, arith, max}
+use Rattle.lru_core.specs.Rows.{reweighed, capped}
+use Rattle.lru_core.proofs.Filters.{single, weight-reweighed, incremented_there, incremented_new, moved, others-reweighed}
 use Rattle.lru_core.proofs.lru_unit.LruUnit.increment_weight.Goals as goal
 
 pub returns-in_default-clause-heavy : goal.returns-in_default-clause-heavy

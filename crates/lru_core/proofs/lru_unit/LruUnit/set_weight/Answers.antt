@@ -1,6 +1,4 @@
-use Rattle.std.proofs.Common.{◌≡◌, ◌∙◌, ap, sym, refl, arith, Some, [], ◌∷◌, slice_get}
-use Rattle.std.specs.Option.{option_map}
-use Rattle.lru_core.specs.Rows.{only, others, reweighed, weight_of}
+use Rattle.std.proofs.Common.{ap, sym, refl, arith, Some}
 use Rattle.lru_core.proofs.Filters.{single, weight-reweighed, reweighed_absent}
 use Rattle.lru_core.proofs.lru_unit.LruUnit.set_weight.Goals as goal
 

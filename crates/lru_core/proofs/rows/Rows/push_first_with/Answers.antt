@@ -1,7 +1,6 @@
-use Rattle.std.proofs.Common.{◌≡◌, ◌≢◌, ◌++◌, ℕ, List, [], ◌∷◌, Option, Some, None, Err, ap, ◌∙◌, sym, refl, nat_eq, set}
-use Rattle.std.specs.HashMap.{get}
+use Rattle.std.proofs.Common.{◌≡◌, ◌∷◌, Some, None, Err, ap, ◌∙◌, sym, set}
 use Rattle.lru_core.specs.declared.rows.Row.{Row}
-use Rattle.lru_core.specs.Rows.{only, a_row}
+use Rattle.lru_core.specs.Rows.{a_row}
 use Rattle.lru_core.specs.Tables.{rows_of}
 use Rattle.lru_core.proofs.Tabled.{added, first_rows, relooked, tabled_length, filled, filled_other}
 use Rattle.lru_core.proofs.rows.Rows.push_first_with.Goals as goal

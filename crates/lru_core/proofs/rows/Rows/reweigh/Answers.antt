@@ -1,8 +1,8 @@
-use Rattle.std.proofs.Common.{◌≡◌, ◌≢◌, ◌++◌, ℕ, List, [], ◌∷◌, Option, Some, None, IsSome, ap, ◌∙◌, sym, refl, nat_eq, set, map}
+use Rattle.std.proofs.Common.{◌≡◌, ℕ, [], ◌∷◌, Some, None, ap, ◌∙◌, sym, refl, nat_eq, set}
 use Rattle.std.specs.HashMap.{get}
 use Rattle.std.proofs.lemmas.List.{set-set}
 use Rattle.lru_core.specs.declared.rows.Row.{Row}
-use Rattle.lru_core.specs.Rows.{only, others, put, reweighed}
+use Rattle.lru_core.specs.Rows.{reweighed}
 use Rattle.lru_core.specs.Tables.{rows_of}
 use Rattle.lru_core.proofs.Filters.{put-reweighed}
 use Rattle.lru_core.proofs.Tabled.{found_only, exchanged, exchanged_rows, present, slot_row}

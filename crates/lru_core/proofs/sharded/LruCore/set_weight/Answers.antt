@@ -1,8 +1,5 @@
-use Rattle.std.proofs.Common.{◌≡◌, ◌≢◌, ◌++◌, ℕ, ◌+◌, ◌-◌, ◌%◌, ◌<◌, ◌≤◌, true, false, List, [], ◌∷◌, length, arith, ap, ◌∙◌, sym, refl, Some, None, Ok, Err, set}
-use Rattle.lru_core.specs.declared.rows.Row.{Row}
-use Rattle.lru_core.specs.Rows.{only, others, row_of, weight_of, a_row, reweighed}
-use Rattle.lru_core.specs.Cores.{rows_at}
-use Rattle.lru_core.proofs.Summed.{Changed, changed, lists}
+use Rattle.std.proofs.Common.{◌%◌, arith, refl}
+use Rattle.lru_core.proofs.Summed.{changed}
 use Rattle.lru_core.proofs.sharded.LruCore.set_weight.Goals as goal
 
 pub overflow_sub-self : goal.overflow_sub-self
