@@ -1,3 +1,4 @@
 pub mod Slots
 pub mod Links
 pub mod Nodes
+pub mod Lends

@@ -3,9 +3,12 @@
 //! Indexes 0 and 1 are the sentinels in front of the first item and behind the last. Items begin at index 2.
 
 ghost use Rattle.std.specs.Prelude.{◌≡◌, ◌≢◌, ◌↔◌, ℕ, ◌+◌, ◌-◌, ◌^◌, ◌<◌, ◌≤◌, ◌++◌, ◌∷◌, List, [], length, take, true, false, nat_lt, IsTrue, IsSome, IfSome, IfNone, IfOk, OnErr, slice_get, if◌then◌else◌, slice_index, slice_set, option_copied, vec_len, vec_capacity};
+ghost use Rattle.std.specs.Borrow.{sem};
+ghost use Rattle.std.specs.Option.{option_copied_mut};
 ghost use Rattle.std.specs.List.{All};
 ghost use Rattle.lru_list.specs.Slots.{has, without};
 ghost use Rattle.lru_list.specs.Nodes.{items_of, nexts, prevs};
+ghost use Rattle.lru_list.specs.Lends.{lends_item, lends_slot};
 
 use std::alloc::{AllocError, Global};
 use std::marker::Model;
@@ -94,6 +97,29 @@ impl<K> LinkedList<K> {
         }
         let node = self.nodes.get(i)?;
         Some(&node.item)
+    }
+
+    /// The item of slot `i`, to be changed, or the default where the slot is free. None for a sentinel, and where
+    /// there is no slot.
+    pub fn peek_mut(&mut self, i: Index) -> Option<&mut K>
+        ensures* writes_back { sem 𝓛 (lends_slot K.row self.entry i result) }
+        ensures value { option_copied_mut result ≡ (if nat_lt i 2 then None else slice_get self.old.items i) }
+    {
+        if i >= self.nodes.len() {
+            return None;
+        }
+        if i < 2 {
+            return None;
+        }
+        Some(self.slot_mut(i))
+    }
+
+    fn slot_mut(&mut self, i: Index) -> &mut K
+        requires { i < length self.old.items }
+        ensures* writes_back { sem 𝓛 (lends_item K.row self.entry i result) }
+        ensures value { slice_get self.old.items i ≡ Some result.now }
+    {
+        &mut self.nodes[i].item
     }
 
     /// The item that `i` names.
