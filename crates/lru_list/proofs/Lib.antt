@@ -4,3 +4,4 @@ pub mod Indexes
 pub mod Chains
 pub mod Linked
 pub mod Walks
+pub mod Ends

@@ -1,5 +1,6 @@
 -- What stands at a place of a list after a write or a push.
-use Rattle.std.proofs.Common.{◌≡◌, ◌≢◌, ℕ, zero, suc, ◌<◌, List, [], ◌∷◌, ◌++◌, length, set, refl, ap, arith, Some, slice_get}
+use Rattle.std.proofs.Common.{◌≡◌, ◌≢◌, ℕ, zero, suc, Bool, false, ◌+◌, ◌-◌, ◌<◌, take, List, [], ◌∷◌, ◌++◌, length, set, refl, ap, arith, Some, slice_get}
+use Rattle.std.specs.List.{list_any}
 
 pub slice_get-set_same : {X : Type 0} → (xs : List X) (i : ℕ) (a : X) → i < length xs → slice_get (set xs i a) i ≡ Some a
 slice_get-set_same [] i a h = absurd (omega arith)
@@ -32,3 +33,9 @@ pub taken_other : {X : Type 0} → (items now : List X) (free left : List ℕ) (
     → (0 < length free → A × (now ≡ set items i a)) → (free ≡ [] → (i ≡ length items) × B × (now ≡ items ++ a ∷ [])) → slice_get now j ≡ slice_get items j
 taken_other items now [] left i j a A B n h r m = let t = m refl in rw t.2 (slice_get-append_left items (a ∷ []) j h)
 taken_other items now (x ∷ xs) left i j a A B n h r m = let t = r (omega arith) in rw t.1 (slice_get-set_other items i j a n)
+
+-- a search among the first that has passed one item more
+pub any_rest : {X : Type 0} → (p : X → Bool) (xs ys : List X) (x : X) (n k : ℕ) → k < n → xs ≡ x ∷ ys → p x ≡ false → list_any p (take (n - k) xs) ≡ list_any p (take (n - (k + 1)) ys)
+any_rest p xs ys x n k l e f =
+    let m : n - k ≡ suc (n - (k + 1)) = omega arith in
+    rw (e, m, f) refl

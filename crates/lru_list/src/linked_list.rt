@@ -5,12 +5,14 @@
 ghost use Rattle.std.specs.Prelude.{◌≡◌, ◌≢◌, ◌↔◌, ℕ, ◌+◌, ◌-◌, ◌^◌, ◌<◌, ◌≤◌, ◌++◌, ◌∷◌, List, [], length, take, true, false, nat_lt, IsTrue, IsSome, IfSome, IfNone, IfOk, OnErr, slice_get, if◌then◌else◌, slice_index, slice_set, option_copied, vec_len, vec_capacity};
 ghost use Rattle.std.specs.Borrow.{sem};
 ghost use Rattle.std.specs.Option.{option_copied_mut};
-ghost use Rattle.std.specs.List.{All};
-ghost use Rattle.lru_list.specs.Slots.{has, without};
+ghost use Rattle.std.specs.List.{All, list_any};
+ghost use Rattle.std.specs.Iterator.{YieldsFirstRef, YieldsLastRef, item_count};
+ghost use Rattle.lru_list.specs.Slots.{has, without, in_order};
 ghost use Rattle.lru_list.specs.Nodes.{items_of, nexts, prevs};
 ghost use Rattle.lru_list.specs.Lends.{lends_item, lends_slot};
 
 use std::alloc::{AllocError, Global};
+use std::iter::FusedIterator;
 use std::marker::Model;
 use std::mem;
 
@@ -183,6 +185,36 @@ impl<K> LinkedList<K> {
         false
     }
 
+    /// The items, first to last. It goes from both ends.
+    pub fn iter(&self) -> LinkedListIter<'_, K>
+        ensures { result ≡ in_order self.now }
+    {
+        let left = self.len();
+        LinkedListIter {
+            list: self,
+            front: next_at(&self.nodes, HEAD) as usize,
+            back: prev_at(&self.nodes, TAIL) as usize,
+            from: 0,
+            left,
+        }
+    }
+
+    fn index_behind(&self, i: Index) -> Index
+        requires { has self.now.order i ≡ true }
+        ensures { (k : ℕ) → k < length self.now.order → slice_index self.now.order k ≡ i → result ≡ slice_index (self.now.order ++ 1 ∷ []) (k + 1) }
+    {
+        let behind = next_at(&self.nodes, i);
+        behind as usize
+    }
+
+    fn index_in_front(&self, i: Index) -> Index
+        requires { has self.now.order i ≡ true }
+        ensures { (k : ℕ) → k < length self.now.order → slice_index self.now.order k ≡ i → result ≡ slice_index (0 ∷ self.now.order) k }
+    {
+        let in_front = prev_at(&self.nodes, i);
+        in_front as usize
+    }
+
     /// Takes the room for `additional` more items. It is a hint.
     pub fn reserve(&mut self, additional: usize) -> Result<(), AllocError>
         ensures { self.new ≡ self.old }
@@ -208,6 +240,24 @@ impl<K> LinkedList<K> {
         ensures after { self.new ≡ record self.old { items = slice_set self.old.items i item } }
     {
         swap_item(&mut self.nodes, i, item)
+    }
+}
+
+impl<K: PartialEq> LinkedList<K> {
+    /// Whether an item that equals `value` is among the first `search_limit`. It looks at that many at most.
+    pub fn exist_near_head(&self, value: &K, search_limit: usize) -> bool
+        ensures { result ≡ list_any (λ item. K.eq item value.now) (take search_limit (in_order self.now)) }
+    {
+        let mut items = self.iter();
+        for _ in 0..search_limit {
+            let Some(item) = items.next() else {
+                return false;
+            };
+            if item == value {
+                return true;
+            }
+        }
+        false
     }
 }
 
@@ -290,6 +340,64 @@ impl<K: Default + Drop> LinkedList<K> {
         Some(self.remove(last))
     }
 }
+
+/// Goes over a list from both ends, and is seen as the list of the items that are left.
+#[derive(Drop)]
+pub struct LinkedListIter<'a, K = u64> {
+    list: &'a LinkedList<K>,
+    front: Index,
+    back: Index,
+    from: usize,
+    left: usize,
+}
+
+impl<'a, K> Model for LinkedListIter<'a, K> {
+    ghost use Rattle.std.specs.Prelude.{List, take, drop};
+    ghost use Rattle.lru_list.specs.Slots.{listed, IsBetween};
+
+    ghost Value = { List K };
+
+    ghost view = { λ it. listed it.list.now.items (take it.left (drop it.from it.list.now.order)) };
+
+    ghost invariant = { λ it. IsBetween it.list.now.order it.front it.back it.from it.left };
+}
+
+impl<'a, K> Iterator for LinkedListIter<'a, K> {
+    type Item = &'a K;
+
+    ghost next_gives = { YieldsFirstRef (λ rest. rest) };
+
+    ghost remaining = { item_count (λ rest. rest) };
+
+    fn next(&mut self) -> Option<&'a K> {
+        if self.left == 0 {
+            return None;
+        }
+        let list = self.list;
+        let i = self.front;
+        self.front = list.index_behind(i);
+        self.from += 1;
+        self.left -= 1;
+        Some(list.item(i))
+    }
+}
+
+impl<'a, K> DoubleEndedIterator for LinkedListIter<'a, K> {
+    ghost next_back_gives = { YieldsLastRef (λ rest. rest) };
+
+    fn next_back(&mut self) -> Option<&'a K> {
+        if self.left == 0 {
+            return None;
+        }
+        let list = self.list;
+        let i = self.back;
+        self.back = list.index_in_front(i);
+        self.left -= 1;
+        Some(list.item(i))
+    }
+}
+
+impl<'a, K> FusedIterator for LinkedListIter<'a, K> {}
 
 fn next_at<K>(nodes: &Vec<Node<K>>, i: usize) -> u32
     requires { i < vec_len nodes.now }
