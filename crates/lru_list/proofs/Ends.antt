@@ -1,5 +1,5 @@
 -- The two ends of a walk over an order, and what a step of either gives.
-use Rattle.std.proofs.Common.{◌≡◌, ◌≢◌, ℕ, zero, suc, true, ◌+◌, ◌-◌, ◌<◌, ◌≤◌, List, [], ◌∷◌, ◌++◌, length, take, drop, get_or, sym, ap, refl, ◌∙◌, arith, Some, slice_get}
+use Rattle.std.proofs.Common.{◌≡◌, ◌≢◌, ℕ, suc, true, ◌+◌, ◌-◌, ◌<◌, List, [], ◌∷◌, ◌++◌, length, take, drop, get_or, sym, ap, refl, ◌∙◌, arith, Some, slice_get}
 use Rattle.std.proofs.lemmas.List.{take_more, drop_more, get_or-drop, length-drop, get_or_append_left, get_or_push}
 use Rattle.std.proofs.lemmas.List.Elements.{filter_map-append}
 use Rattle.lru_list.specs.Slots.{has, listed, IsBetween}

@@ -1,4 +1,4 @@
-use Rattle.std.proofs.Common.{◌≡◌, ◌-◌, ◌≤◌, take}
+use Rattle.std.proofs.Common.{◌≡◌, ◌-◌, take}
 use Rattle.std.specs.List.{list_any}
 use Rattle.lru_list.specs.Slots.{in_order}
 use Rattle.lru_list.proofs.linked_list.LinkedList.exist_near_head.Given as goal

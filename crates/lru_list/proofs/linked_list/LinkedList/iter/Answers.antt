@@ -1,4 +1,4 @@
-use Rattle.std.proofs.Common.{length, arith, ◌∙◌}
+use Rattle.std.proofs.Common.{arith, ◌∙◌}
 use Rattle.lru_list.proofs.Ends.{at_back}
 use Rattle.lru_list.proofs.Walks.{at_start}
 use Rattle.lru_list.proofs.linked_list.LinkedList.iter.Goals as goal
