@@ -1,0 +1,6 @@
+pub mod Filters
+pub mod Tabled
+pub mod Summed
+pub mod Circles
+pub mod Evictions
+pub mod Moving

@@ -1,0 +1,54 @@
+use Rattle.std.proofs.Common.{◌≡◌, ◌+◌, sym, refl, arith, max}
+use Rattle.lru_core.specs.Rows.{reweighed, capped}
+use Rattle.lru_core.proofs.Filters.{single, weight-reweighed, incremented_there, incremented_new, moved, others-reweighed}
+use Rattle.lru_core.proofs.lru_unit.LruUnit.increment_weight.Goals as goal
+
+pub returns-in_default-clause-heavy : goal.returns-in_default-clause-heavy
+returns-in_default-clause-heavy g c back e =
+    let s = c.in-Some.ensures.some in
+    let i = incremented_there c.args.key c.args.delta c.args.max_weight c.self.inside.rows s.0 in
+    let d = c.in_default.ensures in
+    (cc, let r = c.self.ranges in rw (← c.self.view_is, i, s.1) (omega (arith, d)))
+
+pub returns-then-weight-self-clause-heavy : goal.returns-then-weight-self-clause-heavy
+returns-then-weight-self-clause-heavy g c back e =
+    let s = c.in-Some.ensures.some in
+    let i = incremented_there c.args.key c.args.delta c.args.max_weight c.self.inside.rows s.0 in
+    let w : c.in-Some-raised.weight ≡ max c.in-Some.old (capped c.args.max_weight (c.in-Some.old + c.args.delta)) = sym (sym (c.in-Some-raised.ensures.1)) in
+    let v = c.self.invariant in
+    (cc, rw (← c.self.view_is, i, s.1, ← w) (omega (arith, v.0, v.1, s.2)))
+
+pub invariant_of-self : goal.invariant_of-self
+invariant_of-self g c =
+    let r = single _ _ c.reweigh-old.ensures.value in
+    let q = weight-reweighed c.args.key c.in-Some-raised.weight r.0 c.self.inside.rows r.1 in
+    let m = moved c.args.key (reweighed c.args.key c.in-Some-raised.weight c.self.inside.rows) in
+    let v = c.self.invariant in
+    let s = c.in-Some.ensures.some in
+    rw (c.promote-found.ensures.after, c.reweigh-old.ensures.after, m.0, m.1, q.0, q.1) (omega (arith, v.0, s.2), omega (arith, v.0, s.2), v.2)
+
+pub returns-then-weight-self-2-clause-heavy : goal.returns-then-weight-self-2-clause-heavy
+returns-then-weight-self-2-clause-heavy g c back e =
+    let n = c.in-None.ensures.none in
+    let i = incremented_new c.args.key c.args.delta c.args.max_weight c.self.inside.rows n.0 in
+    let a = c.max-weight.ensures in
+    let b = c.lowered.ensures in
+    let v = c.self.invariant in
+    (cc, rw (← c.self.view_is, i, n.1, ← b) (omega (arith, v.0)))
+
+pub returns-else-weight-self-clause-present : goal.returns-else-weight-self-clause-present
+returns-else-weight-self-clause-present g c n =
+    let s = c.in-Some.ensures.some in
+    let o = others-reweighed c.args.key c.in-Some-raised.weight c.self.inside.rows in (
+      rw (← c.self.view_is) (sym s.1),
+      c.in-Some-raised.ensures.1,
+      refl,
+      rw (c.promote-found.ensures.after, c.reweigh-old.ensures.after, o, ← c.self.view_is) refl,
+    )
+
+pub returns-in-Ok-clause-absent : goal.returns-in-Ok-clause-absent
+returns-in-Ok-clause-absent g c n =
+    let a = c.max-weight.ensures in
+    let b = c.lowered.ensures in
+    let p = c.in-Ok.ensures.ok in
+    (refl, rw (← b) (omega arith), refl, (p.0, p.1, rw (p.2, ← c.self.view_is) refl))

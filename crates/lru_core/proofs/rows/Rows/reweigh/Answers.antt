@@ -1,0 +1,47 @@
+use Rattle.std.proofs.Common.{◌≡◌, ℕ, [], ◌∷◌, Some, None, ap, ◌∙◌, sym, refl, nat_eq, set}
+use Rattle.std.specs.HashMap.{get}
+use Rattle.std.proofs.lemmas.List.{set-set}
+use Rattle.lru_core.specs.declared.rows.Row.{Row}
+use Rattle.lru_core.specs.Rows.{reweighed}
+use Rattle.lru_core.specs.Tables.{rows_of}
+use Rattle.lru_core.proofs.Filters.{put-reweighed}
+use Rattle.lru_core.proofs.Tabled.{found_only, exchanged, exchanged_rows, present, slot_row}
+use Rattle.lru_core.proofs.rows.Rows.reweigh.Goals as goal
+
+pub unwrap-i-requires : goal.unwrap-i-requires
+unwrap-i-requires g c = rw c.index_of.ensures (present _ _ _ c.self.invariant c.args.key (rw (← c.self.view_is) at c.requires))
+
+pub unwrap-key-requires : goal.unwrap-key-requires
+unwrap-key-requires g c =
+    let f = found_only _ _ _ c.self.invariant c.args.key c.unwrap-i.result (sym c.index_of.ensures ∙ c.unwrap-i.ensures) in
+    rw (slot_row c.self.inside.list.items c.unwrap-i.result _ _ c.replace.ensures.value f.1) refl
+
+pub invariant_of-self : goal.invariant_of-self
+invariant_of-self g c =
+    let e = sym c.index_of.ensures ∙ c.unwrap-i.ensures in
+    let f = found_only _ _ _ c.self.invariant c.args.key c.unwrap-i.result e in
+    let s : f.0 ≡ c.unwrap-key.result = let u = slot_row c.self.inside.list.items c.unwrap-i.result _ _ c.replace.ensures.value f.1 in let v = c.unwrap-key.ensures in cc in
+    let k : c.unwrap-key.result.key ≡ c.args.key = ap (λ r. r.key) (sym s) ∙ f.2 in
+    rw (c.replace-hole.ensures.after, c.replace.ensures.after, set-set)
+    (exchanged _ _ _ c.self.invariant c.unwrap-i.result (record c.unwrap-key.result { weight = c.args.weight }) (ap (get nat_eq c.self.inside.table) k ∙ e))
+
+pub returns-clause-value : goal.returns-clause-value
+returns-clause-value g c =
+    let f = found_only _ _ _ c.self.invariant c.args.key c.unwrap-i.result (sym c.index_of.ensures ∙ c.unwrap-i.ensures) in
+    let s : f.0 ≡ c.unwrap-key.result = let u = slot_row c.self.inside.list.items c.unwrap-i.result _ _ c.replace.ensures.value f.1 in let v = c.unwrap-key.ensures in cc in
+    rw (← c.self.view_is, f.3, s) refl
+
+pub returns-clause-after : goal.returns-clause-after
+returns-clause-after g c =
+    let e = sym c.index_of.ensures ∙ c.unwrap-i.ensures in
+    let f = found_only _ _ _ c.self.invariant c.args.key c.unwrap-i.result e in
+    let s : f.0 ≡ c.unwrap-key.result = let u = slot_row c.self.inside.list.items c.unwrap-i.result _ _ c.replace.ensures.value f.1 in let v = c.unwrap-key.ensures in cc in
+    let k : c.unwrap-key.result.key ≡ c.args.key = ap (λ r. r.key) (sym s) ∙ f.2 in
+    let row : Row g.row.T.Denot = record c.unwrap-key.result { weight = c.args.weight } in
+    let i : ℕ = c.unwrap-i.result in
+    ap (λ v. rows_of v.items v.order) c.replace-hole.ensures.after
+    ∙ (ap (λ v. rows_of (set v.items i (Some row)) v.order) c.replace.ensures.after
+    ∙ (ap (λ items. rows_of items c.self.inside.list.order) (set-set c.self.inside.list.items i None (Some row))
+    ∙ (exchanged_rows (get nat_eq c.self.inside.table) c.self.inside.list.items c.self.inside.list.order c.self.invariant i row (ap (get nat_eq c.self.inside.table) k ∙ e)
+    ∙ (put-reweighed c.args.key c.args.weight c.unwrap-key.result (rows_of c.self.inside.list.items c.self.inside.list.order) k (f.3 ∙ ap (λ r. r ∷ []) s)
+    ∙ ap (reweighed c.args.key c.args.weight) c.self.view_is))))

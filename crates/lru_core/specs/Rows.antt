@@ -1,0 +1,47 @@
+-- Plain lists of rows, most recent first.
+use Rattle.std.specs.Prelude.{ℕ, ◌+◌, ◌==◌, not, min, max, List, filter, map, Option, Some, None, is_some, cond, if◌then◌else◌, slice_get}
+use Rattle.std.specs.List.{sum_by}
+use Rattle.lru_core.specs.declared.rows.Row.{Row}
+
+-- the row of key k, as a list of one row or none
+abbrev pub only : {T : Type 0} → ℕ → List (Row T) → List (Row T)
+only k rows = filter (λ r. r.key == k) rows
+
+-- the row of key k, if there is one
+abbrev pub row_of : {T : Type 0} → ℕ → List (Row T) → Option (Row T)
+row_of k rows = slice_get (only k rows) 0
+
+-- the rows of other keys than k
+abbrev pub others : {T : Type 0} → ℕ → List (Row T) → List (Row T)
+others k rows = filter (λ r. not (r.key == k)) rows
+
+-- the rows with another weight for key k
+abbrev pub reweighed : {T : Type 0} → ℕ → ℕ → List (Row T) → List (Row T)
+reweighed k w rows = map (λ r. cond (r.key == k) (record r { weight = w }) r) rows
+
+-- `row` in the place of the row of its key
+abbrev pub put : {T : Type 0} → Row T → List (Row T) → List (Row T)
+put row rows = map (λ r. cond (r.key == row.key) row r) rows
+
+-- the sum of the rows' weights
+abbrev pub weight_of : {T : Type 0} → List (Row T) → ℕ
+weight_of rows = sum_by (λ r. r.weight) rows
+
+-- a weight with a cap on it, if there is one
+abbrev pub capped : Option ℕ → ℕ → ℕ
+capped None w = w
+capped (Some most) w = min w most
+
+-- the weight that key k has once `delta` is added: it never falls, and a new key has 1 at least
+abbrev pub incremented : {T : Type 0} → ℕ → ℕ → Option ℕ → List (Row T) → ℕ
+incremented k delta most rows =
+    let old = weight_of (only k rows) in
+    if is_some (row_of k rows) then max old (capped most (old + delta)) else max 1 (capped most delta)
+
+abbrev pub a_row : {T : Type 0} → ℕ → T → ℕ → Row T
+a_row k d w = record { key = k; «data» = d; weight = w }
+
+-- a shard: its rows, most recent first, and what neither their number nor their weight may pass
+pub record Shard (T : Type 0) : Type 0 where
+  pub rows : List (Row T)
+  pub bound : ℕ

@@ -1,0 +1,15 @@
+//! Laws of the words that the contracts use, each the contract of a function that does nothing.
+
+ghost use Rattle.std.specs.Prelude.{◌≡◌, ℕ, ◌++◌, List, map};
+ghost use Rattle.lru_core.specs.Rows.{only, others, reweighed};
+ghost use Rattle.lru_core.specs.declared.rows.Row.{Row};
+
+/// To move a key to the front twice is to move it once.
+pub fn promoting_twice_is_once<T>()
+    ensures { (k : ℕ) (rows : List (Row T)) → let once = only k rows ++ others k rows in only k once ++ others k once ≡ once }
+{}
+
+/// Another weight changes no order.
+pub fn weights_change_no_order<T>()
+    ensures { (k w : ℕ) (rows : List (Row T)) → map (λ r. r.key) (reweighed k w rows) ≡ map (λ r. r.key) rows }
+{}

@@ -1,0 +1,12 @@
+//! Rows of keys, data and weights in the order of their use: one shard, and shards with a limit on their weight.
+#![tactic(auto)]
+
+pub use lru_list::linked_list;
+pub use sharded::LruCore;
+
+pub mod laws;
+pub mod lru_unit;
+mod rows;
+mod sharded;
+#[cfg(test)]
+mod tests;

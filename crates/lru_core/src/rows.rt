@@ -1,0 +1,280 @@
+//! Rows in the order of their use, found by their keys.
+
+ghost use Rattle.std.specs.Prelude.{◌≡◌, ◌≢◌, ◌↔◌, ℕ, ◌+◌, ◌-◌, ◌<◌, ◌≤◌, ◌++◌, ◌∷◌, List, [], length, take, map, IsTrue, IsSome, is_some, IfSome, IfNone, IfOk, OnOk, OnErr, MatchOption, nat_eq, option_copied, not};
+ghost use Rattle.std.specs.Option.{option_to_list};
+ghost use Rattle.std.specs.HashMap.{get, spare};
+ghost use Rattle.lru_core.specs.Rows.{only, others, put, reweighed, a_row};
+ghost use Rattle.lru_core.specs.declared.rows.Row.{Row};
+
+use lru_list::linked_list::{LinkedList, ListFault};
+use std::alloc::{AllocError, Global};
+use std::collections::HashMap;
+use std::marker::Model;
+
+/// A row: what a key has, and what that weighs.
+#[derive(Drop)]
+pub struct Row<T> {
+    pub key: u64,
+    pub data: T,
+    pub weight: usize,
+}
+
+/// Why a row was not taken in, with what was handed in for it.
+#[derive(Drop)]
+pub enum RowFault<D> {
+    /// No memory.
+    Memory(D),
+    /// The list is full.
+    Full(D),
+}
+
+/// Rows of distinct keys, most recent first.
+#[derive(Drop)]
+pub struct Rows<T> {
+    /// The index of each key in the list.
+    table: HashMap<u64, usize>,
+    list: LinkedList<Option<Row<T>>>,
+}
+
+impl<T> Model for Rows<T> {
+    ghost use Rattle.std.specs.Prelude.{List, nat_eq};
+    ghost use Rattle.std.specs.HashMap.{get};
+    ghost use Rattle.lru_core.specs.declared.rows.Row.{Row};
+
+    ghost Value = { List (Row T) };
+
+    ghost use Rattle.lru_core.specs.Tables.{IsTabled, rows_of};
+
+    ghost view = { λ u. rows_of u.list.items u.list.order };
+
+    ghost invariant = { λ u. IsTabled (get nat_eq u.table) u.list.items u.list.order };
+}
+
+impl<T> Rows<T> {
+    /// How many rows there are.
+    pub fn len(&self) -> usize
+        ensures { result ≡ length self.now }
+    {
+        self.list.len()
+    }
+
+    /// The row of `key`.
+    pub fn get(&self, key: u64) -> Option<&Row<T>>
+        ensures { option_to_list (option_copied result) ≡ only key self.now }
+    {
+        let i = index_of(&self.table, key)?;
+        self.list.item(i).as_ref()
+    }
+
+    /// Moves the row of `key` to the front, and answers whether there is one.
+    pub fn promote(&mut self, key: u64) -> bool
+        ensures found { IsTrue result ↔ (only key self.old ≢ []) }
+        ensures after { self.new ≡ only key self.old ++ others key self.old }
+    {
+        match index_of(&self.table, key) {
+            Some(i) => {
+                self.list.promote(i);
+                true
+            }
+            None => false,
+        }
+    }
+
+    /// Whether the row of `key` is there and among the first `limit`. It looks at that many at most.
+    pub fn is_near_head(&self, key: u64, limit: usize) -> bool
+        ensures { IsTrue result ↔ (only key (take limit self.now) ≢ []) }
+    {
+        match index_of(&self.table, key) {
+            Some(i) => self.list.is_near_head(i, limit),
+            None => false,
+        }
+    }
+
+    /// The last row.
+    pub fn last(&self) -> Option<&Row<T>>
+        ensures { MatchOption result (self.now ≡ []) (λ r. (front : List (Row T)) × (self.now ≡ front ++ r.now ∷ [])) }
+    {
+        let i = self.list.tail()?;
+        self.list.item(i).as_ref()
+    }
+
+    /// Puts another row into the place of the one of its key, which is answered.
+    pub fn replace(&mut self, row: Row<T>) -> Row<T>
+        requires { only row.key self.old ≢ [] }
+        ensures value { only row.key self.old ≡ result ∷ [] }
+        ensures after { self.new ≡ put row self.old }
+    {
+        let i = index_of(&self.table, row.key).unwrap();
+        self.list.replace(i, Some(row)).unwrap()
+    }
+
+    /// Puts another row of the same key in front of all others, and answers the one that goes.
+    pub fn replace_first(&mut self, row: Row<T>) -> Row<T>
+        requires { only row.key self.old ≢ [] }
+        ensures value { only row.key self.old ≡ result ∷ [] }
+        ensures after { self.new ≡ row ∷ others row.key self.old }
+    {
+        let i = index_of(&self.table, row.key).unwrap();
+        let old = self.list.replace(i, Some(row)).unwrap();
+        self.list.promote(i);
+        old
+    }
+}
+
+impl<T: Drop> Rows<T> {
+    /// No rows. `capacity` is a hint: that many rows will find their room taken.
+    pub fn with_capacity(alloc: Global, capacity: usize) -> Result<Self, AllocError>
+        ensures { IfOk result (λ rows. rows ≡ []) }
+    {
+        Ok(Rows {
+            table: HashMap::with_capacity(alloc, capacity)?,
+            list: LinkedList::with_capacity(alloc, capacity)?,
+        })
+    }
+
+    /// Takes the room for `additional` more rows. It is a hint.
+    pub fn reserve(&mut self, additional: usize) -> Result<(), AllocError>
+        ensures { self.new ≡ self.old }
+    {
+        room_for(&mut self.table, additional)?;
+        self.list.reserve(additional)
+    }
+
+    /// Puts a row of a new key in front of all others.
+    pub fn push_first(&mut self, row: Row<T>) -> Result<(), RowFault<Row<T>>>
+        requires { only row.key self.old ≡ [] }
+        ensures ok { OnOk result (self.new ≡ row ∷ self.old) }
+        ensures err { OnErr result (self.new ≡ self.old) }
+        ensures memory { (back : Row T) → result ≡ Err (RowFault.Memory back) → back ≡ row }
+        ensures full { (back : Row T) → result ≡ Err (RowFault.Full back) → (back ≡ row) × (length self.old ≡ 4294967293) }
+    {
+        let key = row.key;
+        if room_for(&mut self.table, 1).is_err() {
+            return Err(RowFault::Memory(row));
+        }
+        match self.list.push_head(Some(row)) {
+            Ok(i) => {
+                put_key(&mut self.table, key, i);
+                Ok(())
+            }
+            Err(ListFault::Memory(back)) => Err(RowFault::Memory(back.unwrap())),
+            Err(ListFault::Full(back)) => Err(RowFault::Full(back.unwrap())),
+        }
+    }
+
+    /// Puts a row of a new key behind all others.
+    pub fn push_last(&mut self, row: Row<T>) -> Result<(), RowFault<Row<T>>>
+        requires { only row.key self.old ≡ [] }
+        ensures ok { OnOk result (self.new ≡ self.old ++ row ∷ []) }
+        ensures err { OnErr result (self.new ≡ self.old) }
+        ensures memory { (back : Row T) → result ≡ Err (RowFault.Memory back) → back ≡ row }
+        ensures full { (back : Row T) → result ≡ Err (RowFault.Full back) → (back ≡ row) × (length self.old ≡ 4294967293) }
+    {
+        let key = row.key;
+        if room_for(&mut self.table, 1).is_err() {
+            return Err(RowFault::Memory(row));
+        }
+        match self.list.push_tail(Some(row)) {
+            Ok(i) => {
+                put_key(&mut self.table, key, i);
+                Ok(())
+            }
+            Err(ListFault::Memory(back)) => Err(RowFault::Memory(back.unwrap())),
+            Err(ListFault::Full(back)) => Err(RowFault::Full(back.unwrap())),
+        }
+    }
+
+    /// Puts a row of a new key in front of all others, whose data is made once its room is taken.
+    pub fn push_first_with<F: FnOnce() -> T>(
+        &mut self,
+        key: u64,
+        weight: usize,
+        make: F,
+    ) -> Result<(), RowFault<F>>
+        requires callable { F.IsAlwaysCallable make }
+        requires absent { only key self.old ≡ [] }
+        ensures ok { OnOk result ((d : T) × F.post make d × (self.new ≡ a_row key d weight ∷ self.old)) }
+        ensures err { OnErr result (self.new ≡ self.old) }
+        ensures memory { (back : F) → result ≡ Err (RowFault.Memory back) → back ≡ make }
+        ensures full { (back : F) → result ≡ Err (RowFault.Full back) → (back ≡ make) × (length self.old ≡ 4294967293) }
+    {
+        if room_for(&mut self.table, 1).is_err() {
+            return Err(RowFault::Memory(make));
+        }
+        match self.list.push_head(None) {
+            Ok(i) => {
+                let data = make();
+                let _hole = self.list.replace(i, Some(Row { key, data, weight }));
+                put_key(&mut self.table, key, i);
+                Ok(())
+            }
+            Err(ListFault::Memory(_)) => Err(RowFault::Memory(make)),
+            Err(ListFault::Full(_)) => Err(RowFault::Full(make)),
+        }
+    }
+
+    /// Gives the row of `key` another weight, and answers the one that it had. The order stays.
+    pub fn reweigh(&mut self, key: u64, weight: usize) -> usize
+        requires { only key self.old ≢ [] }
+        ensures value { map (λ r. r.weight) (only key self.old) ≡ result ∷ [] }
+        ensures after { self.new ≡ reweighed key weight self.old }
+    {
+        let i = index_of(&self.table, key).unwrap();
+        let Row {
+            key,
+            data,
+            weight: old,
+        } = self.list.replace(i, None).unwrap();
+        let _hole = self.list.replace(i, Some(Row { key, data, weight }));
+        old
+    }
+
+    /// Takes the row of `key` out.
+    pub fn remove(&mut self, key: u64) -> Option<Row<T>>
+        ensures value { option_to_list result ≡ only key self.old }
+        ensures after { self.new ≡ others key self.old }
+    {
+        let i = take_key(&mut self.table, key)?;
+        self.list.remove(i)
+    }
+
+    /// Takes the last row out.
+    pub fn pop_last(&mut self) -> Option<Row<T>>
+        ensures { MatchOption result ((self.old ≡ []) × (self.new ≡ self.old)) (λ r. self.old ≡ self.new ++ r ∷ []) }
+    {
+        let i = self.list.tail()?;
+        let row = self.list.remove(i).unwrap();
+        let _index = take_key(&mut self.table, row.key);
+        Some(row)
+    }
+}
+
+fn index_of(table: &HashMap<u64, usize>, key: u64) -> Option<usize>
+    ensures { result ≡ get nat_eq table.now key }
+{
+    table.get(&key).copied()
+}
+
+fn take_key(table: &mut HashMap<u64, usize>, key: u64) -> Option<usize>
+    ensures value { result ≡ get nat_eq table.old key }
+    ensures gone { get nat_eq table.new key ≡ None }
+    ensures kept { (q : ℕ) → (q ≡ key → ⊥) → get nat_eq table.new q ≡ get nat_eq table.old q }
+{
+    table.remove(&key)
+}
+
+fn put_key(table: &mut HashMap<u64, usize>, key: u64, i: usize)
+    requires { 0 < spare table.old }
+    ensures here { get nat_eq table.new key ≡ Some i }
+    ensures kept { (q : ℕ) → (q ≡ key → ⊥) → get nat_eq table.new q ≡ get nat_eq table.old q }
+{
+    let inserted: Result<_, _> = table.insert(key, i);
+    let _old = inserted.unwrap();
+}
+
+fn room_for(table: &mut HashMap<u64, usize>, additional: usize) -> Result<(), AllocError>
+    ensures same { (q : ℕ) → get nat_eq table.new q ≡ get nat_eq table.old q }
+    ensures ok { OnOk result (additional ≤ spare table.new) }
+{
+    table.reserve(additional)
+}

@@ -1,0 +1,4 @@
+pub mod Slots
+pub mod Links
+pub mod Nodes
+pub mod Lends

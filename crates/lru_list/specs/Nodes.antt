@@ -1,0 +1,12 @@
+-- The columns of a list of nodes.
+use Rattle.std.specs.Prelude.{ℕ, List, map}
+use Rattle.lru_list.specs.declared.linked_list.Node.{Node}
+
+abbrev pub items_of : {K : Type 0} → List (Node K) → List K
+items_of ns = map (λ n. n.item) ns
+
+abbrev pub nexts : {K : Type 0} → List (Node K) → List ℕ
+nexts ns = map (λ n. n.next) ns
+
+abbrev pub prevs : {K : Type 0} → List (Node K) → List ℕ
+prevs ns = map (λ n. n.prev) ns
