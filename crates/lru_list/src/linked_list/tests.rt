@@ -111,3 +111,23 @@ fn looks_at_the_first_items(rt: HostRuntime) -> Result<(), Fail> {
     assert!(rt; list.peek_mut(1).is_none() && list.peek_mut(4).is_none());
     Ok(())
 }
+
+#[test]
+fn a_refused_push_leaves_the_list(rt: HostRuntime) -> Result<(), Fail> {
+    let made: Result<LinkedListU64, _> = LinkedList::with_capacity(rt.alloc(), 0);
+    let Ok(mut list) = made else {
+        return Ok(());
+    };
+    for item in 1..4 {
+        let len = list.len();
+        match list.push_head(item) {
+            Ok(_) => assert!(rt; list.len() > len, "an item more"),
+            Err(ListFault::Memory(back)) => {
+                assert_eq!(rt; back, item);
+                assert_eq!(rt; list.len(), len);
+            }
+            Err(ListFault::Full(_)) => return Err(Fail::from("it has room")),
+        }
+    }
+    Ok(())
+}
