@@ -2,3 +2,4 @@ pub mod Rows
 pub mod Tables
 pub mod Cores
 pub mod Units
+pub mod Updates
