@@ -4,3 +4,4 @@ pub mod Summed
 pub mod Circles
 pub mod Evictions
 pub mod Moving
+pub mod Updating
