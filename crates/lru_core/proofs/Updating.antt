@@ -1,11 +1,13 @@
 -- Rows of which one has other data.
-use Rattle.std.proofs.Common.{◌≡◌, ◌≢◌, ℕ, ◌+◌, cond, eqb, inl, inr, List, [], ◌∷◌, ◌++◌, length, map, refl, ap, ◌∙◌, arith}
+use Rattle.std.proofs.Common.{◌≡◌, ℕ, ◌+◌, cond, eqb, inl, inr, List, [], ◌∷◌, ◌++◌, length, map, get_or, set, sym, refl, ap, ◌∙◌, arith}
 use Rattle.std.proofs.lemmas.Bool.{cases_eq, eq-eqb, ne_eqb}
 use Rattle.std.proofs.lemmas.List.Sums.{sum_by-cons}
-use Rattle.std.proofs.lemmas.List.{length-map}
+use Rattle.std.proofs.lemmas.List.{length-map, set-get_or}
 use Rattle.lru_core.specs.declared.rows.Row.{Row}
-use Rattle.lru_core.specs.Rows.{only, others, put, reweighed, weight_of, a_row}
+use Rattle.lru_core.specs.Rows.{Shard, only, others, put, reweighed, weight_of, a_row}
+use Rattle.lru_core.specs.Cores.{rows_at}
 use Rattle.lru_core.proofs.Filters.{one_row, weight_parts, only-reweighed, others-reweighed}
+use Rattle.lru_core.proofs.Summed.{Changed, lists}
 
 module _ {T : Type 0} where
   only-put : (k w : ℕ) (d : T) (xs : List (Row T)) → only k (put (a_row k d w) xs) ≡ map {A = Row T} {B = Row T} (λ r. a_row k d w) (only k xs)
@@ -52,3 +54,12 @@ module _ {T : Type 0} where
       let f = updated_first k v w d row xs h in
       let o = one_row k xs row h in
       (ap weight_of f ∙ sum_by-cons (λ r. r.weight) (a_row k d w) (others k xs), ap length f ∙ omega (arith, o.3))
+
+-- the shards after a change of one of them that f makes of its rows
+pub core_after : {T : Type 0} → (n : ℕ) (units : List (Shard T)) (weight len i : ℕ) (was now : Shard T) (f : List (Row T) → List (Row T)) → Changed n units weight len i was now
+    → now.rows ≡ f was.rows → lists (set units i now) ≡ set (lists units) i (f (rows_at (lists units) i))
+core_after n units weight len i was now f k e = k.shards ∙ ap (set (lists units) i) (e ∙ ap f (sym k.rows))
+
+-- and after none
+pub core_same : {T : Type 0} → (units : List (Shard T)) (i : ℕ) (was now : Shard T) → was ≡ get_or units i was → now ≡ was → lists (set units i now) ≡ lists units
+core_same units i was now e s = ap lists (ap (set units i) (s ∙ e) ∙ set-get_or units i was)

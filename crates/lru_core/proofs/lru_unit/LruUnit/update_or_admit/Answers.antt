@@ -1,6 +1,5 @@
-use Rattle.std.proofs.Common.{◌≡◌, ℕ, ◌+◌, [], ◌∷◌, Some, sym, refl, ap, ◌∙◌, arith, max}
-use Rattle.lru_core.specs.Rows.{weight_of, others}
-use Rattle.lru_core.proofs.Filters.{one_row, moved, weight-reweighed}
+use Rattle.std.proofs.Common.{◌≡◌, sym, refl, ◌∙◌, arith, max}
+use Rattle.lru_core.proofs.Filters.{one_row}
 use Rattle.lru_core.proofs.Updating.{put_there, weight-put, updated_first, weight-updated}
 use Rattle.lru_core.proofs.lru_unit.LruUnit.update_or_admit.Goals as goal
 

@@ -1,4 +1,4 @@
-use Rattle.std.proofs.Common.{◌≡◌, ℕ, [], ◌∷◌, Some, None, ap, ◌∙◌, sym, refl, nat_eq, set}
+use Rattle.std.proofs.Common.{◌≡◌, ℕ, Some, None, ap, ◌∙◌, sym, refl, nat_eq, set}
 use Rattle.std.specs.HashMap.{get}
 use Rattle.std.proofs.lemmas.List.{set-set}
 use Rattle.lru_core.specs.declared.rows.Row.{Row}
