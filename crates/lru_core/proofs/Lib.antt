@@ -5,3 +5,4 @@ pub mod Circles
 pub mod Evictions
 pub mod Moving
 pub mod Updating
+pub mod Ordering

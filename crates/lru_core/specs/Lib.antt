@@ -3,3 +3,4 @@ pub mod Tables
 pub mod Cores
 pub mod Units
 pub mod Updates
+pub mod Orders
