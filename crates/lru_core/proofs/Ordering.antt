@@ -25,6 +25,13 @@ module _ {T : Type 0} where
   taken_behind : (r : Row T) (xs : List (Row T)) → only r.key xs ≡ [] → behind xs r ≡ xs ++ r ∷ []
   taken_behind r xs e = ap (λ l. cond (is_some (slice_get l 0)) xs (xs ++ r ∷ [])) e
 
+  -- a row whose key is there is not taken
+  pub left_as_is : (r : Row T) (xs : List (Row T)) → only r.key xs ≢ [] → xs ≡ behind xs r
+  left_as_is r xs n = elim (only r.key xs) as (λ l. l ≢ [] → xs ≡ cond (is_some (slice_get l 0)) xs (xs ++ r ∷ [])) [
+    | [] ↦ λ m. absurd (m refl)
+    | x ∷ l ↦ λ m. refl
+  ] n
+
   one_more : (xs : List (Row T)) (r : Row T) (ys : List (Row T)) → (xs ++ r ∷ []) ++ ys ≡ xs ++ r ∷ ys
   one_more [] r ys = refl
   one_more (x ∷ xs) r ys = ap (λ l. x ∷ l) (one_more xs r ys)

@@ -4,6 +4,7 @@ ghost use Rattle.std.specs.Prelude.{◌≡◌, ◌≢◌, ◌↔◌, ℕ, ◌+�
 ghost use Rattle.std.specs.Option.{option_to_list, option_map, SomeIff};
 ghost use Rattle.lru_core.specs.Rows.{only, others, row_of, put, reweighed, weight_of, capped, incremented, a_row};
 ghost use Rattle.lru_core.specs.Updates.{Updates};
+ghost use Rattle.lru_core.specs.Orders.{behind};
 ghost use Rattle.lru_core.specs.declared.rows.Row.{Row};
 
 use crate::rows::{Row, RowFault, Rows};
@@ -182,6 +183,7 @@ impl<T: Drop> LruUnit<T> {
         ensures added { IfOk result (λ b. IsTrue b ↔ (only key self.old.rows ≡ [])) }
         ensures after { result ≡ Ok true → self.new ≡ record self.old { rows = self.old.rows ++ a_row key item weight ∷ [] } }
         ensures same { result ≢ Ok true → self.new ≡ self.old }
+        ensures behind { OnOk result (self.new.rows ≡ behind self.old.rows (a_row key item weight)) }
         ensures memory { (back : T) → result ≡ Err (LruFault.Memory back) → (back ≡ item) × (only key self.old.rows ≡ []) }
         ensures heavy { (back : T) → result ≡ Err (LruFault.Weight back) → (back ≡ item) × (only key self.old.rows ≡ []) × (self.old.bound < weight_of self.old.rows + weight) }
         ensures long { (back : T) → result ≡ Err (LruFault.Length back) → (back ≡ item) × (only key self.old.rows ≡ []) × ((self.old.bound ≤ length self.old.rows) ⊎ (length self.old.rows ≡ 4294967293)) }
