@@ -4,3 +4,5 @@ pub mod Summed
 pub mod Circles
 pub mod Evictions
 pub mod Moving
+pub mod Updating
+pub mod Ordering

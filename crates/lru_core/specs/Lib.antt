@@ -2,3 +2,5 @@ pub mod Rows
 pub mod Tables
 pub mod Cores
 pub mod Units
+pub mod Updates
+pub mod Orders

@@ -1,7 +1,8 @@
 //! Laws of the words that the contracts use, each the contract of a function that does nothing.
 
-ghost use Rattle.std.specs.Prelude.{◌≡◌, ℕ, ◌++◌, List, map};
+ghost use Rattle.std.specs.Prelude.{◌≡◌, ℕ, ◌++◌, List, [], map};
 ghost use Rattle.lru_core.specs.Rows.{only, others, reweighed};
+ghost use Rattle.lru_core.specs.Orders.{Distinct, all_behind};
 ghost use Rattle.lru_core.specs.declared.rows.Row.{Row};
 
 /// To move a key to the front twice is to move it once.
@@ -12,4 +13,9 @@ pub fn promoting_twice_is_once<T>()
 /// Another weight changes no order.
 pub fn weights_change_no_order<T>()
     ensures { (k w : ℕ) (rows : List (Row T)) → map (λ r. r.key) (reweighed k w rows) ≡ map (λ r. r.key) rows }
+{}
+
+/// Rows of distinct keys, put in order behind no rows, are those rows.
+pub fn rows_put_in_order_keep_it<T>()
+    ensures { (rows : List (Row T)) → Distinct rows → all_behind [] rows ≡ rows }
 {}

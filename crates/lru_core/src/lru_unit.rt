@@ -1,8 +1,10 @@
 //! One shard: rows of keys, data and weights, most recent first.
 
-ghost use Rattle.std.specs.Prelude.{◌≡◌, ◌≢◌, ◌↔◌, ℕ, ◌+◌, ◌-◌, ◌^◌, ◌<◌, ◌≤◌, ◌++◌, ◌∷◌, ◌⊎◌, List, [], length, take, max, min, map, true, false, IsTrue, IsSome, is_some, IfSome, IfNone, IfOk, IfErr, OnOk, OnErr, MatchOption, option_copied, not};
+ghost use Rattle.std.specs.Prelude.{◌≡◌, ◌≢◌, ◌↔◌, ℕ, ◌+◌, ◌-◌, ◌^◌, ◌<◌, ◌≤◌, ◌++◌, ◌∷◌, ◌⊎◌, List, [], length, take, max, min, map, true, false, IsTrue, IsSome, is_some, IfSome, IfNone, IfOk, IfErr, OnOk, OnErr, MatchOption, MatchResult, option_copied, not};
 ghost use Rattle.std.specs.Option.{option_to_list, option_map, SomeIff};
 ghost use Rattle.lru_core.specs.Rows.{only, others, row_of, put, reweighed, weight_of, capped, incremented, a_row};
+ghost use Rattle.lru_core.specs.Updates.{Updates};
+ghost use Rattle.lru_core.specs.Orders.{behind};
 ghost use Rattle.lru_core.specs.declared.rows.Row.{Row};
 
 use crate::rows::{Row, RowFault, Rows};
@@ -181,6 +183,7 @@ impl<T: Drop> LruUnit<T> {
         ensures added { IfOk result (λ b. IsTrue b ↔ (only key self.old.rows ≡ [])) }
         ensures after { result ≡ Ok true → self.new ≡ record self.old { rows = self.old.rows ++ a_row key item weight ∷ [] } }
         ensures same { result ≢ Ok true → self.new ≡ self.old }
+        ensures behind { OnOk result (self.new.rows ≡ behind self.old.rows (a_row key item weight)) }
         ensures memory { (back : T) → result ≡ Err (LruFault.Memory back) → (back ≡ item) × (only key self.old.rows ≡ []) }
         ensures heavy { (back : T) → result ≡ Err (LruFault.Weight back) → (back ≡ item) × (only key self.old.rows ≡ []) × (self.old.bound < weight_of self.old.rows + weight) }
         ensures long { (back : T) → result ≡ Err (LruFault.Length back) → (back ≡ item) × (only key self.old.rows ≡ []) × ((self.old.bound ≤ length self.old.rows) ⊎ (length self.old.rows ≡ 4294967293)) }
@@ -277,6 +280,48 @@ impl<T: Drop> LruUnit<T> {
                     }
                     Err(RowFault::Memory(back)) => Err(LruFault::Memory(back)),
                     Err(RowFault::Full(back)) => Err(LruFault::Length(back)),
+                }
+            }
+        }
+    }
+
+    /// Has `update` change the data of `key` and answer the key's next weight, or takes the key in with the data and the
+    /// weight that `admit_data` makes; the weight is 1 at least. The key moves to the front. Answers the old weight, if
+    /// the key was there, and the new one. An update whose weight is refused leaves the old weight and the place, and
+    /// the data as `update` left it; a refused admission hands the data back.
+    pub fn update_or_admit<U: FnOnce(&mut T, usize) -> usize, A: FnOnce() -> (T, usize)>(
+        &mut self,
+        key: u64,
+        update: U,
+        admit_data: A,
+    ) -> Result<(Option<usize>, usize), LruFault<Option<T>>>
+    where
+        U: Drop,
+        A: Drop,
+        requires update { U.IsAlwaysCallable update }
+        requires admit { A.IsAlwaysCallable admit_data }
+        ensures present { only key self.old.rows ≢ [] → (row : Row T) × (d : T) × (w : ℕ) × (only key self.old.rows ≡ row ∷ []) × Updates U.FnOnce update row.data row.weight d w × MatchResult result (λ p. (p ≡ (Some row.weight, max 1 w)) × (self.new ≡ record self.old { rows = a_row key d (max 1 w) ∷ others key self.old.rows })) (λ fault. (fault ≡ LruFault.Weight None) × (self.old.bound < weight_of (others key self.old.rows) + max 1 w) × (self.new ≡ record self.old { rows = put (a_row key d row.weight) self.old.rows })) }
+        ensures absent { only key self.old.rows ≡ [] → (d : T) × (w : ℕ) × A.post admit_data (d, w) × MatchResult result (λ p. (p ≡ (None, max 1 w)) × (self.new ≡ record self.old { rows = a_row key d (max 1 w) ∷ self.old.rows })) (λ fault. (self.new ≡ self.old) × ((fault ≡ LruFault.Memory (Some d)) ⊎ (((fault ≡ LruFault.Weight (Some d)) × (self.old.bound < weight_of self.old.rows + max 1 w)) ⊎ ((fault ≡ LruFault.Length (Some d)) × ((self.old.bound ≤ length self.old.rows) ⊎ (length self.old.rows ≡ 4294967293)))))) }
+        ensures bound { self.new.bound ≡ self.old.bound }
+    {
+        match weight_at(&self.rows, key) {
+            Some(old) => {
+                let weight = self.rows.update(key, update).max(1);
+                if weight > self.bound - (self.used - old) {
+                    return Err(LruFault::Weight(None));
+                }
+                let _old = self.rows.reweigh(key, weight);
+                let _found = self.rows.promote(key);
+                self.used = self.used - old + weight;
+                Ok((Some(old), weight))
+            }
+            None => {
+                let (item, weight) = admit_data();
+                match self.admit(key, item, weight) {
+                    Ok(_) => Ok((None, weight.max(1))),
+                    Err(LruFault::Memory(back)) => Err(LruFault::Memory(Some(back))),
+                    Err(LruFault::Weight(back)) => Err(LruFault::Weight(Some(back))),
+                    Err(LruFault::Length(back)) => Err(LruFault::Length(Some(back))),
                 }
             }
         }

@@ -4,6 +4,7 @@ ghost use Rattle.std.specs.Prelude.{◌≡◌, ◌≢◌, ◌↔◌, ℕ, ◌+�
 ghost use Rattle.std.specs.Option.{option_to_list};
 ghost use Rattle.std.specs.HashMap.{get, spare};
 ghost use Rattle.lru_core.specs.Rows.{only, others, put, reweighed, a_row};
+ghost use Rattle.lru_core.specs.Updates.{Updates};
 ghost use Rattle.lru_core.specs.declared.rows.Row.{Row};
 
 use lru_list::linked_list::{LinkedList, ListFault};
@@ -227,6 +228,23 @@ impl<T: Drop> Rows<T> {
         } = self.list.replace(i, None).unwrap();
         let _hole = self.list.replace(i, Some(Row { key, data, weight }));
         old
+    }
+
+    /// Has `update` change the data of `key`, and answers the weight that it asks for. The weight and the order stay.
+    pub fn update<U: FnOnce(&mut T, usize) -> usize>(&mut self, key: u64, update: U) -> usize
+        requires callable { U.IsAlwaysCallable update }
+        requires present { only key self.old ≢ [] }
+        ensures { (row : Row T) × (d : T) × (only key self.old ≡ row ∷ []) × Updates U.FnOnce update row.data row.weight d result × (self.new ≡ put (a_row key d row.weight) self.old) }
+    {
+        let i = index_of(&self.table, key).unwrap();
+        let Row {
+            key,
+            mut data,
+            weight,
+        } = self.list.replace(i, None).unwrap();
+        let wanted = update(&mut data, weight);
+        let _hole = self.list.replace(i, Some(Row { key, data, weight }));
+        wanted
     }
 
     /// Takes the row of `key` out.

@@ -1,9 +1,10 @@
 //! Shards of weighted rows with a limit on their weight: a key lives in the shard of its number modulo N.
 
-ghost use Rattle.std.specs.Prelude.{◌≡◌, ◌≢◌, ◌↔◌, ℕ, ◌+◌, ◌-◌, ◌*◌, ◌/◌, ◌%◌, ◌^◌, ◌<◌, ◌≤◌, ◌++◌, ◌∷◌, ◌⊎◌, List, [], length, take, max, min, map, replicate, true, false, not, nat_lt, nat_eq, IsTrue, is_some, IfSome, IfNone, IfOk, IfErr, OnOk, OnErr, OnSome, MatchOption, slice_set, slice_index_or};
+ghost use Rattle.std.specs.Prelude.{◌≡◌, ◌≢◌, ◌↔◌, ℕ, ◌+◌, ◌-◌, ◌*◌, ◌/◌, ◌%◌, ◌^◌, ◌<◌, ◌≤◌, ◌++◌, ◌∷◌, ◌⊎◌, List, [], length, take, max, min, map, replicate, true, false, not, nat_lt, nat_eq, IsTrue, is_some, IfSome, IfNone, IfOk, IfErr, OnOk, OnErr, OnSome, MatchOption, MatchResult, slice_set, slice_index_or};
 ghost use Rattle.std.specs.Option.{option_map};
-ghost use Rattle.lru_core.specs.Rows.{only, others, row_of, reweighed, weight_of, capped, incremented, a_row};
+ghost use Rattle.lru_core.specs.Rows.{only, others, row_of, put, reweighed, weight_of, capped, incremented, a_row};
 ghost use Rattle.lru_core.specs.Cores.{rows_at, core_weight, core_len, is_over, passes, longer, next_of, around, IsEviction, IsStep, Evicts};
+ghost use Rattle.lru_core.specs.Updates.{Updates};
 ghost use Rattle.lru_core.specs.declared.rows.Row.{Row};
 
 use crate::lru_unit::{LruFault, LruUnit};
@@ -359,6 +360,41 @@ impl<T: Drop, const N: usize> LruCore<T, N> {
         self.weight = self.weight - before.1 + after.1;
         let now = added?;
         Ok(now.1)
+    }
+
+    /// Has `update` change the data of `key` and answer the key's next weight, or takes the key in with the data and the
+    /// weight that `admit_data` makes; the weight is 1 at least. The key moves to the front of its shard. Answers the old
+    /// weight, if the key was there. An update whose weight is refused leaves the old weight and the place, and the data
+    /// as `update` left it; a refused admission hands the data back.
+    pub fn update_or_admit<U: FnOnce(&mut T, usize) -> usize, A: FnOnce() -> (T, usize)>(
+        &mut self,
+        key: u64,
+        update: U,
+        admit_data: A,
+    ) -> Result<Option<usize>, LruFault<Option<T>>>
+    where
+        U: Drop,
+        A: Drop,
+        requires update { U.IsAlwaysCallable update }
+        requires admit { A.IsAlwaysCallable admit_data }
+        ensures present { let rows = rows_at self.old.shards (key % N) in only key rows ≢ [] → (row : Row T) × (d : T) × (w : ℕ) × (only key rows ≡ row ∷ []) × Updates U.FnOnce update row.data row.weight d w × MatchResult result (λ p. (p ≡ Some row.weight) × (self.new ≡ record self.old { shards = slice_set self.old.shards (key % N) (a_row key d (max 1 w) ∷ others key rows) })) (λ fault. (fault ≡ LruFault.Weight None) × ((2 ^ 64 - 1) / N < weight_of (others key rows) + max 1 w) × (self.new ≡ record self.old { shards = slice_set self.old.shards (key % N) (put (a_row key d row.weight) rows) })) }
+        ensures absent { let rows = rows_at self.old.shards (key % N) in only key rows ≡ [] → (d : T) × (w : ℕ) × A.post admit_data (d, w) × MatchResult result (λ p. (p ≡ None) × (self.new ≡ record self.old { shards = slice_set self.old.shards (key % N) (a_row key d (max 1 w) ∷ rows) })) (λ fault. (self.new ≡ self.old) × ((fault ≡ LruFault.Memory (Some d)) ⊎ (((fault ≡ LruFault.Weight (Some d)) × ((2 ^ 64 - 1) / N < weight_of rows + max 1 w)) ⊎ ((fault ≡ LruFault.Length (Some d)) × (((2 ^ 64 - 1) / N ≤ length rows) ⊎ (length rows ≡ 4294967293)))))) }
+    {
+        let _ = &self.len;
+        let place = key as usize % N;
+        let unit = &mut self.units[place];
+        let before = sums(unit);
+        let added: Result<(Option<usize>, usize), LruFault<Option<T>>> = unit.update_or_admit(
+            key, update, admit_data,
+        );
+        let after = sums(unit);
+        self.len = self.len - before.0 + after.0;
+        self.weight = self.weight - before.1 + after.1;
+        let now = match added {
+            Ok(now) => now,
+            Err(fault) => return Err(fault),
+        };
+        Ok(now.0)
     }
 
     /// Evicts the last row of the shard of that number modulo N, whatever the limit.

@@ -154,3 +154,82 @@ fn a_shard_is_not_past_its_part(rt: HostRuntime) -> Result<(), Fail> {
     );
     Ok(())
 }
+
+#[test]
+fn a_core_updates_or_admits(rt: HostRuntime) -> Result<(), Fail> {
+    let mut core: LruCore<u32, 1> = LruCore::with_capacity(rt.alloc(), 99, 0)?;
+    ok(core.admit(2, 20, 2))?;
+    ok(core.admit(4, 40, 4))?;
+    let raise = |d: &mut u32, w: usize| {
+        *d = d.wrapping_add(1);
+        w.saturating_add(3)
+    };
+    assert_eq!(rt; ok(core.update_or_admit(2, raise, || (0, 0)))?, Some(2));
+    assert_eq!(rt; core.weight(), 9);
+    let keep = |_: &mut u32, w: usize| w;
+    assert_eq!(rt; ok(core.update_or_admit(6, keep, || (60, 0)))?, None);
+    assert_eq!(rt; core.weight(), 10);
+    let drain = |d: &mut u32, _: usize| {
+        *d = d.wrapping_add(1);
+        0
+    };
+    assert_eq!(rt; ok(core.update_or_admit(4, drain, || (0, 0)))?, Some(4));
+    assert_eq!(rt; core.weight(), 7);
+    assert_eq!(rt; core.evict_shard(0), Some((21, 5)));
+    assert_eq!(rt; core.evict_shard(0), Some((60, 1)));
+    assert_eq!(rt; core.evict_shard(0), Some((41, 1)));
+    Ok(())
+}
+
+#[test]
+fn a_refused_update_leaves_weight_and_place(rt: HostRuntime) -> Result<(), Fail> {
+    let mut unit: LruUnit<u32> = LruUnit::with_capacity(rt.alloc(), 0, 10)?;
+    ok(unit.admit(1, 10, 4))?;
+    ok(unit.admit(2, 20, 1))?;
+    let overload = |d: &mut u32, _: usize| {
+        *d = 11;
+        10
+    };
+    match unit.update_or_admit(1, overload, || (0, 0)) {
+        Err(LruFault::Weight(None)) => {}
+        _ => return Err(Fail::from("it was to be refused for its weight")),
+    }
+    assert_eq!(rt; unit.peek_lru(), Some((&11, 4)));
+    match unit.update_or_admit(3, |_: &mut u32, w: usize| w, || (30, 6)) {
+        Err(LruFault::Weight(Some(back))) => assert_eq!(rt; back, 30),
+        _ => return Err(Fail::from("it was to be refused for its weight")),
+    }
+    assert_eq!(rt; unit.weight(), 5);
+    Ok(())
+}
+
+#[test]
+fn refused_rows_leave_the_shard(rt: HostRuntime) -> Result<(), Fail> {
+    let Ok(mut unit) = LruUnit::<u32>::with_capacity(rt.alloc(), 0, 100) else {
+        return Ok(());
+    };
+    match unit.admit(1, 10, 2) {
+        Ok(old) => assert_eq!(rt; old, 0),
+        Err(LruFault::Memory(back)) => {
+            assert_eq!(rt; back, 10);
+            assert_eq!(rt; unit.len(), 0);
+        }
+        Err(_) => return Err(Fail::from("neither taken in nor without memory")),
+    }
+    let before = (unit.len(), unit.weight());
+    match unit.insert_tail(2, 20, 3) {
+        Ok(added) => assert!(rt; added),
+        Err(LruFault::Memory(back)) => {
+            assert_eq!(rt; back, 20);
+            assert_eq!(rt; (unit.len(), unit.weight()), before);
+        }
+        Err(_) => return Err(Fail::from("neither taken in nor without memory")),
+    }
+    let before = (unit.len(), unit.weight());
+    match unit.increment_weight(3, || 30, 5, None) {
+        Ok(given) => assert_eq!(rt; given, (0, 5, true)),
+        Err(LruFault::Memory(_)) => assert_eq!(rt; (unit.len(), unit.weight()), before),
+        Err(_) => return Err(Fail::from("neither taken in nor without memory")),
+    }
+    Ok(())
+}

@@ -1,0 +1,60 @@
+use Rattle.std.proofs.Common.{◌≡◌, sym, refl, ◌∙◌, arith, max}
+use Rattle.lru_core.proofs.Filters.{one_row}
+use Rattle.lru_core.proofs.Updating.{put_there, weight-put, updated_first, weight-updated}
+use Rattle.lru_core.proofs.lru_unit.LruUnit.update_or_admit.Goals as goal
+
+pub invariant_of-self : goal.invariant_of-self
+invariant_of-self g c =
+    let u = c.update.ensures in
+    let o = one_row c.args.key c.self.inside.rows u.0 u.2 in
+    let q = weight-put c.args.key u.0.weight u.1 u.0 c.self.inside.rows u.2 in
+    let v = c.self.invariant in
+    rw (u.4, q.0, q.1) (omega (arith, v.0, o.2), v.1, v.2)
+
+pub returns-then-weight-self-clause-present : goal.returns-then-weight-self-clause-present
+returns-then-weight-self-clause-present g c n =
+    let u = c.update.ensures in
+    let s = c.in-Some.ensures.some in
+    let m = c.max-weight.ensures in
+    let t = c.if-weight-self.true in
+    let v = c.self.invariant in (
+      u.0,
+      u.1,
+      c.update.result,
+      rw (← c.self.view_is) u.2,
+      u.3,
+      (refl, rw (← c.self.view_is) (omega (arith, v.0, v.1, s.2, m, t)), rw (u.4, ← c.self.view_is) refl),
+    )
+
+pub reweigh-old-requires : goal.reweigh-old-requires
+reweigh-old-requires g c e =
+    let u = c.update.ensures in
+    let p = put_there c.args.key u.0.weight u.1 u.0 c.self.inside.rows u.2 in
+    let f = rw u.4 at e in
+    let x = sym p ∙ f in
+    cc
+
+pub invariant_of-self-in-Some : goal.invariant_of-self-in-Some
+invariant_of-self-in-Some g c =
+    let u = c.update.ensures in
+    let s = c.in-Some.ensures.some in
+    let q = weight-updated c.args.key u.0.weight c.max-weight.result u.1 u.0 c.self.inside.rows u.2 in
+    let v = c.self.invariant in
+    let t = c.if-weight-self.false in
+    rw (c.promote-found.ensures.after, c.reweigh-old.ensures.after, u.4, q.0, q.1) (omega (arith, v.0, s.2), omega (arith, v.0, v.1, s.2, t), v.2)
+
+pub returns-in-Some-clause-present : goal.returns-in-Some-clause-present
+returns-in-Some-clause-present g c n =
+    let u = c.update.ensures in
+    let s = c.in-Some.ensures.some in
+    let o = one_row c.args.key c.self.inside.rows u.0 u.2 in
+    let m : c.max-weight.result ≡ max 1 c.update.result = omega (arith, c.max-weight.ensures) in
+    let r : c.in-Some.old ≡ u.0.weight = sym s.1 ∙ o.1 in
+    let f = updated_first c.args.key u.0.weight c.max-weight.result u.1 u.0 c.self.inside.rows u.2 in (
+      u.0,
+      u.1,
+      c.update.result,
+      rw (← c.self.view_is) u.2,
+      u.3,
+      (rw (r, m) refl, rw (c.promote-found.ensures.after, c.reweigh-old.ensures.after, u.4, f, m, ← c.self.view_is) refl),
+    )
