@@ -3,6 +3,7 @@
 # the same machine. It builds two small proved programs over cache_words in a temporary folder.
 set -eu
 top=$(cd "$(dirname "$0")/.." && pwd)
+. "$top/scripts/seconds.sh"
 work=$(mktemp -d)
 trap 'rm -rf "$work"' EXIT
 mkdir -p "$work/crates"
@@ -51,14 +52,6 @@ cd "$work"
 for name in megabytes keys; do
     (cd "crates/$name" && rt run) > "$work/log" 2>&1 || { tail -n 20 "$work/log"; exit 1; }
 done
-seconds() { # of the best of five runs, in user time
-    best=
-    for _ in 1 2 3 4 5; do
-        now=$( { /usr/bin/time -f %U "$@" > /dev/null; } 2>&1 )
-        best=$(printf '%s\n%s\n' "${best:-$now}" "$now" | sort -n | head -n 1)
-    done
-    echo "$best"
-}
 a=$(seconds "crates/megabytes/out/megabytes")
 b=$(seconds python3 -c 'import hashlib
 h = hashlib.blake2b(digest_size=16)

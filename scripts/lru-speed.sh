@@ -4,6 +4,7 @@
 # small proved program over lru_core and a Rust program in a temporary folder.
 set -eu
 top=$(cd "$(dirname "$0")/.." && pwd)
+. "$top/scripts/seconds.sh"
 work=$(mktemp -d)
 trap 'rm -rf "$work"' EXIT
 mkdir -p "$work/crates/calls/src"
@@ -15,7 +16,7 @@ cat > "$work/crates/calls/src/main.rt" <<'R'
 //! Fills a core with as many rows as the first word says, and then makes as many mixed calls as the second says.
 #![tactic(auto)]
 
-use lru_core::sharded::LruCore;
+use lru_core::LruCore;
 use std::alloc::Global;
 use std::process::ExitCode;
 use std::rt::Env;
@@ -152,14 +153,6 @@ R
 cd "$work"
 rustc -O -o rust_calls calls.rs
 (cd crates/calls && rt run -- 10 10) > log 2>&1 || { grep -v ': proved' log | tail -n 30; exit 1; }
-seconds() { # of the best of five runs, in user time
-    best=
-    for _ in 1 2 3 4 5; do
-        now=$( { /usr/bin/time -f %U "$@" > /dev/null; } 2>&1 )
-        best=$(printf '%s\n%s\n' "${best:-$now}" "$now" | sort -n | head -n 1)
-    done
-    echo "$best"
-}
 for rows in 1000 1000000; do
     a=$(seconds crates/calls/out/calls "$rows" 0)
     b=$(seconds crates/calls/out/calls "$rows" 1000000)
