@@ -1,0 +1,57 @@
+//! Entries and stored keys.
+ghost use Rattle.std.specs.Prelude.{◌≡◌, IfOk};
+ghost use Rattle.tier_entries.specs.Keys.{entry_of, stored_key, same_key, same_entry};
+
+use cache_words::key::{CacheHashKey, CacheKey, CompactCacheKey, HashBinary};
+use std::alloc::AllocError;
+
+/// The entry of a key that is asked for.
+pub fn entry_of(key: &CacheKey) -> Result<CompactCacheKey, AllocError>
+    ensures { IfOk result (λ entry. entry ≡ entry_of key.now) }
+{
+    key.to_compact()
+}
+
+/// The same entry once more.
+pub fn copy_of(entry: &CompactCacheKey) -> Result<CompactCacheKey, AllocError>
+    ensures { IfOk result (λ copy. copy ≡ entry.now) }
+{
+    entry.clone()
+}
+
+/// The stored key of an entry: 16 bytes, in which its tag isn't.
+pub fn stored_key(entry: &CompactCacheKey) -> HashBinary
+    ensures { result ≡ stored_key entry.now }
+{
+    entry.combined_bin()
+}
+
+/// The stored key of a key that is asked for.
+pub fn stored_key_of(key: &CacheKey) -> HashBinary
+    ensures { result ≡ stored_key (entry_of key.now) }
+{
+    key.combined_bin()
+}
+
+/// Whether the entry has that stored key.
+pub fn has_stored_key(entry: &CompactCacheKey, key: &HashBinary) -> bool
+    ensures { result ≡ same_key (stored_key entry.now) key.now }
+{
+    entry.combined_bin() == *key
+}
+
+/// Whether both are one entry, the tag too.
+pub fn is_same_entry(a: &CompactCacheKey, b: &CompactCacheKey) -> bool
+    ensures { result ≡ same_entry a.now b.now }
+{
+    a == b
+}
+
+/// Whether it is the entry of a key that is asked for, the tag too.
+pub fn is_entry_of(entry: &CompactCacheKey, key: &CacheKey) -> bool
+    ensures { result ≡ same_entry entry.now (entry_of key.now) }
+{
+    entry.primary == key.primary_bin()
+        && entry.variance == key.variance_bin()
+        && entry.user_tag.as_str() == key.user_tag.as_str()
+}
