@@ -3,6 +3,7 @@ use crate::keys::{
     copy_of, entry_of, has_stored_key, is_entry_of, is_same_entry, stored_key, stored_key_of,
 };
 use cache_words::key::{CacheHashKey, CacheKey};
+use std::alloc::Global;
 use std::test::Fail;
 
 fn key(alloc: Global, primary: &str, tag: &str) -> Result<CacheKey, Fail> {
