@@ -19,7 +19,7 @@ use Rattle.httparse.specs.declared.spans.HeaderSpan.{HeaderSpan}
 use Rattle.httparse.specs.Spans.{header_bytes, name_and_value}
 use Rattle.httparse.proofs.TrimLemmas.{AllPass-trim_ows}
 use Rattle.httparse.proofs.GrammarLemmas.{response_unique, response_prefix_free}
-use Rattle.tier_model.specs.declared.key.StoredKey.{StoredKey}
+use Rattle.tier_model.specs.Keys.{Entry}
 use Rattle.tier_model.specs.declared.rows.FinishedBody.{FinishedBody}
 use Rattle.tier_model.specs.declared.given.Given.{Given}
 use Rattle.tier_model.specs.declared.given.Given.TheVariants.{Stored, Incomplete, BadHead}
@@ -123,67 +123,67 @@ not_plain bytes h rest reads out plain =
     out (subst IsReadable (sym (response_prefix_free bytes plain.0 h plain.1 rest plain.2 reads plain.3).0) plain.4)
 
 -- a head as a map gives what its lines give
-given_behind-is : (arrival : Instant) (key : StoredKey) (head : ResponseHeader) (rest : List ℕ) (status : ℕ) (lines : List (List ℕ × List ℕ)) → head.status ≡ status → head.headers ≡ map_of lines
-    → given_behind arrival key head rest ≡ given_by arrival key status lines rest
+given_behind-is : (arrival : Instant) (entry : Entry) (head : ResponseHeader) (rest : List ℕ) (status : ℕ) (lines : List (List ℕ × List ℕ)) → head.status ≡ status → head.headers ≡ map_of lines
+    → given_behind arrival entry head rest ≡ given_by arrival entry status lines rest
 unfolding given_by
-given_behind-is arrival key head rest status lines s m =
+given_behind-is arrival entry head rest status lines s m =
     rw (s, m, under-map_of lines (codes "content-length"), under-map_of lines (codes "cache-control"), under-map_of lines (codes "expires")) refl
 
 -- what a head gives is no bad head, and a body of the key
-given_of-read : (arrival : Instant) (key : StoredKey) (body : Option (List ℕ)) (until : Option Instant) → given_of arrival key body until ≢ BadHead
-given_of-read arrival key None until e = cc
-given_of-read arrival key (Some body) None e = cc
-given_of-read arrival key (Some body) (Some until) e =
+given_of-read : (arrival : Instant) (entry : Entry) (body : Option (List ℕ)) (until : Option Instant) → given_of arrival entry body until ≢ BadHead
+given_of-read arrival entry None until e = cc
+given_of-read arrival entry (Some body) None e = cc
+given_of-read arrival entry (Some body) (Some until) e =
     elim (cases_Bool (is_before_epoch arrival || is_before_epoch until)) [
       | inl t ↦ absurd (cc)
       | inr f ↦ absurd (cc)
     ]
 
-given_of-key : (arrival : Instant) (key : StoredKey) (body : Option (List ℕ)) (until : Option Instant) (stored : FinishedBody) → given_of arrival key body until ≡ Stored stored → stored.key ≡ key
-given_of-key arrival key None until stored e = absurd cc
-given_of-key arrival key (Some body) None stored e = absurd cc
-given_of-key arrival key (Some body) (Some until) stored e =
+given_of-entry : (arrival : Instant) (entry : Entry) (body : Option (List ℕ)) (until : Option Instant) (stored : FinishedBody) → given_of arrival entry body until ≡ Stored stored → stored.entry ≡ entry
+given_of-entry arrival entry None until stored e = absurd cc
+given_of-entry arrival entry (Some body) None stored e = absurd cc
+given_of-entry arrival entry (Some body) (Some until) stored e =
     elim (cases_Bool (is_before_epoch arrival || is_before_epoch until)) [
       | inl t ↦ absurd (cc)
       | inr f ↦ cc
     ]
 
 -- what is given where the head was read
-pub Gives-whole : (arrival : Instant) (key : StoredKey) (bytes : List ℕ) (head : Head) (given : Given) → IsHeadOf bytes head → given ≡ given_behind arrival key head.header (drop head.len bytes) → Gives arrival key bytes given
-Gives-whole arrival key bytes head given is e =
+pub Gives-whole : (arrival : Instant) (entry : Entry) (bytes : List ℕ) (head : Head) (given : Given) → IsHeadOf bytes head → given ≡ given_behind arrival entry head.header (drop head.len bytes) → Gives arrival entry bytes given
+Gives-whole arrival entry bytes head given is e =
     let h : ResponseHead = is.0 in
-    let by_lines : given ≡ given_by arrival key (status_code h) (map name_and_value h.fields) (drop head.len bytes) =
-    e ∙ given_behind-is arrival key head.header (drop head.len bytes) (status_code h) (map name_and_value h.fields) is.2 is.3 in
+    let by_lines : given ≡ given_by arrival entry (status_code h) (map name_and_value h.fields) (drop head.len bytes) =
+    e ∙ given_behind-is arrival entry head.header (drop head.len bytes) (status_code h) (map name_and_value h.fields) is.2 is.3 in
     record {
       whole = λ k rest reads readable.
           let same = response_unique bytes h k (drop head.len bytes) rest is.1 reads in
-          subst (λ (x : ResponseHead). given ≡ given_by arrival key (status_code x) (map name_and_value x.fields) rest) same.0
-          (subst (λ (x : List ℕ). given ≡ given_by arrival key (status_code h) (map name_and_value h.fields) x) same.1 by_lines);
+          subst (λ (x : ResponseHead). given ≡ given_by arrival entry (status_code x) (map name_and_value x.fields) rest) same.0
+          (subst (λ (x : List ℕ). given ≡ given_by arrival entry (status_code h) (map name_and_value h.fields) x) same.1 by_lines);
       begun = λ none plain. absurd (none h (drop head.len bytes) is.1);
-      refused = λ bad. absurd (given_of-read arrival key _ _ (sym e ∙ bad));
-      of_key = λ body b. given_of-key arrival key _ _ body (sym e ∙ b);
+      refused = λ bad. absurd (given_of-read arrival entry _ _ (sym e ∙ bad));
+      of_entry = λ body b. given_of-entry arrival entry _ _ body (sym e ∙ b);
     }
 
 -- what is given where a head has begun
-pub Gives-begun : (arrival : Instant) (key : StoredKey) (bytes : List ℕ) → HasNoResponse bytes → Gives arrival key bytes Incomplete
-Gives-begun arrival key bytes none = record {
+pub Gives-begun : (arrival : Instant) (entry : Entry) (bytes : List ℕ) → HasNoResponse bytes → Gives arrival entry bytes Incomplete
+Gives-begun arrival entry bytes none = record {
   whole = λ h rest reads readable. absurd (none h rest reads);
   begun = λ no plain. refl;
   refused = λ bad. absurd cc;
-  of_key = λ body b. absurd cc;
+  of_entry = λ body b. absurd cc;
 }
 
 -- what is given where the default options refuse
-pub Gives-refused : (arrival : Instant) (key : StoredKey) (bytes : List ℕ) (given : Given) → ¬ (IsPlain bytes) → ((body : FinishedBody) → given ≡ Stored body → body.key ≡ key) → Gives arrival key bytes given
-Gives-refused arrival key bytes given refused of_key = record {
+pub Gives-refused : (arrival : Instant) (entry : Entry) (bytes : List ℕ) (given : Given) → ¬ (IsPlain bytes) → ((body : FinishedBody) → given ≡ Stored body → body.entry ≡ entry) → Gives arrival entry bytes given
+Gives-refused arrival entry bytes given refused of_entry = record {
   whole = λ h rest reads readable. absurd (refused ([], h, rest, rw (append-nil bytes) reads, readable));
   begun = λ none plain. absurd (refused plain);
   refused = λ bad. refused;
-  of_key = of_key;
+  of_entry = of_entry;
 }
 
-pub Gives-lenient : (arrival : Instant) (key : StoredKey) (bytes : List ℕ) (head : ResponseHeader) (rest : List ℕ) (given : Given) → ¬ (IsPlain bytes) → given ≡ given_behind arrival key head rest → Gives arrival key bytes given
-Gives-lenient arrival key bytes head rest given refused e = Gives-refused arrival key bytes given refused (λ body b. given_of-key arrival key _ _ body (sym e ∙ b))
+pub Gives-lenient : (arrival : Instant) (entry : Entry) (bytes : List ℕ) (head : ResponseHeader) (rest : List ℕ) (given : Given) → ¬ (IsPlain bytes) → given ≡ given_behind arrival entry head rest → Gives arrival entry bytes given
+Gives-lenient arrival entry bytes head rest given refused e = Gives-refused arrival entry bytes given refused (λ body b. given_of-entry arrival entry _ _ body (sym e ∙ b))
 
 -- the directives that are lent out
 given-lent : (r : Option (Bor CacheControl)) → lent r ≡ option_map directives_of (option_copied r)
@@ -212,9 +212,9 @@ until-kept None now ds header a b meta e = absurd cc
 until-kept (Some until) now ds header a b meta e = ap kept_of e
 
 -- a body and a moment give what the head does that they come from
-pub given_behind-from : (arrival : Instant) (key : StoredKey) (head : ResponseHeader) (rest : List ℕ) (body : Option (List ℕ)) (until : Option Instant) → body_within (announced head) rest ≡ body → kept_until arrival head ≡ until
-    → given_of arrival key body until ≡ given_behind arrival key head rest
-given_behind-from arrival key head rest body until b u = ap₂ (given_of arrival key) (sym b) (sym u)
+pub given_behind-from : (arrival : Instant) (entry : Entry) (head : ResponseHeader) (rest : List ℕ) (body : Option (List ℕ)) (until : Option Instant) → body_within (announced head) rest ≡ body → kept_until arrival head ≡ until
+    → given_of arrival entry body until ≡ given_behind arrival entry head rest
+given_behind-from arrival entry head rest body until b u = ap₂ (given_of arrival entry) (sym b) (sym u)
 
 -- a readable head has a status
 pub bound_status : (h : ResponseHead) (code : ℕ) → IsReadable h → code ≡ status_code h → code < 1000 → ¬ (IsStatusCode code) → ⊥

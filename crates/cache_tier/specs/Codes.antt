@@ -5,10 +5,10 @@ use Rattle.std.specs.FinMap as finite
 use Rattle.std.specs.Ordering.{nat_cmp}
 use Rattle.cache_words.specs.Time.{Span}
 use Rattle.tier_model.specs.declared.rows.FinishedBody.{FinishedBody}
-use Rattle.tier_model.specs.declared.rows.Tracked.{Tracked}
+use Rattle.tier_entries.specs.declared.rows.Tracked.{Tracked}
 use Rattle.tier_model.specs.declared.rows.Request.{Request}
 use Rattle.tier_model.specs.contracts.rows.FinishedBody.{the_row as body_row}
-use Rattle.tier_model.specs.contracts.rows.Tracked.{the_row as tracked_row}
+use Rattle.tier_entries.specs.contracts.rows.Tracked.{the_row as tracked_row}
 use Rattle.tier_model.specs.contracts.rows.Request.{the_row as request_row}
 use Rattle.tier_model.specs.State.{Settings, State}
 

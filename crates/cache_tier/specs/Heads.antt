@@ -10,7 +10,7 @@ use Rattle.http_header.specs.FieldValue.{FieldValue, plain_value, IsFieldValue}
 use Rattle.http_header.specs.Token.{lowercase}
 use Rattle.httparse.specs.Grammar.{ResponseHead, ReadsResponse, status_code}
 use Rattle.httparse.specs.Spans.{name_and_value}
-use Rattle.tier_model.specs.declared.key.StoredKey.{StoredKey}
+use Rattle.tier_model.specs.Keys.{Entry}
 use Rattle.tier_model.specs.declared.given.Given.{Given}
 use Rattle.tier_model.specs.Response.{first_length, body_within, given_of}
 use Rattle.cache_tier.specs.declared.response.Head.{Head}
@@ -36,8 +36,8 @@ abbrev pub kept_until : Instant → ResponseHeader → Option Instant
 kept_until arrival head = fresh_until arrival (lines_under (codes "cache-control") head.headers) (lines_under (codes "expires") head.headers) false None
 
 -- what a head gives, with the bytes behind it
-abbrev pub given_behind : Instant → StoredKey → ResponseHeader → List ℕ → Given
-given_behind arrival key head rest = given_of arrival key (body_within (announced head) rest) (kept_until arrival head)
+abbrev pub given_behind : Instant → Entry → ResponseHeader → List ℕ → Given
+given_behind arrival entry head rest = given_of arrival entry (body_within (announced head) rest) (kept_until arrival head)
 
 -- the bytes begin with a head of the parser's grammar, and that is it
 abbrev pub IsHeadOf : List ℕ → Head → Type 0

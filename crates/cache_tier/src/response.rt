@@ -13,6 +13,7 @@ use cache_directives::{CacheControl, ResponseHeader};
 use cache_heads::RespCacheable;
 use cache_heads::defaults::{CacheMetaDefaults, NeverByStatus};
 use cache_heads::filters::resp_cacheable;
+use cache_words::key::CompactCacheKey;
 use cache_words::time::Moment;
 use http::StatusCode;
 use http_header::{
@@ -23,7 +24,6 @@ use httparse::{ParserConfig, Status};
 use std::alloc::{AllocError, Global};
 use tier_model::event::Pieces;
 use tier_model::given::Given;
-use tier_model::key::StoredKey;
 use tier_model::rows::FinishedBody;
 
 // The most header lines of a head.
@@ -142,14 +142,14 @@ fn body_within(length: Option<usize>, rest: Bytes) -> Option<Bytes>
 }
 
 // What a whole body gives that may be kept.
-fn stored(arrival: Moment, key: StoredKey, bytes: Bytes, fresh_until: Moment) -> Given
-    ensures { result ≡ given_of arrival key (Some bytes) (Some fresh_until) }
+fn stored(arrival: Moment, entry: CompactCacheKey, bytes: Bytes, fresh_until: Moment) -> Given
+    ensures { result ≡ given_of arrival entry (Some bytes) (Some fresh_until) }
 {
     if arrival.is_before_epoch() || fresh_until.is_before_epoch() {
         return Given::BeforeEpoch;
     }
     Given::Stored(FinishedBody {
-        key,
+        entry,
         bytes,
         fresh_until,
     })
@@ -159,11 +159,11 @@ fn stored(arrival: Moment, key: StoredKey, bytes: Bytes, fresh_until: Moment) ->
 fn given_behind(
     alloc: Global,
     arrival: Moment,
-    key: StoredKey,
+    entry: CompactCacheKey,
     head: ResponseHeader,
     rest: Bytes,
 ) -> Result<Given, AllocError>
-    ensures { IfOk result (λ given. given ≡ given_behind arrival key head rest) }
+    ensures { IfOk result (λ given. given ≡ given_behind arrival entry head rest) }
 {
     let body = body_within(announced(&head), rest);
     let control = CacheControl::from_resp_headers(alloc, &head)?;
@@ -173,7 +173,7 @@ fn given_behind(
         return Ok(Given::Incomplete);
     };
     match verdict {
-        RespCacheable::Cacheable(meta) => Ok(stored(arrival, key, bytes, meta.fresh_until())),
+        RespCacheable::Cacheable(meta) => Ok(stored(arrival, entry, bytes, meta.fresh_until())),
         RespCacheable::Uncacheable(reason) => Ok(Given::Uncacheable(reason)),
     }
 }
@@ -261,30 +261,30 @@ fn read_leniently(alloc: Global, bytes: &[u8]) -> Result<Option<Head>, HeadFault
 fn given_at(
     alloc: Global,
     arrival: Moment,
-    key: StoredKey,
+    entry: CompactCacheKey,
     head: Head,
     response: Bytes,
 ) -> Result<Given, AllocError>
     requires { head.len ≤ length response }
-    ensures { IfOk result (λ given. given ≡ given_behind arrival key head.header (drop head.len response)) }
+    ensures { IfOk result (λ given. given ≡ given_behind arrival entry head.header (drop head.len response)) }
 {
     let mut rest = response;
     rest.advance(head.len);
-    given_behind(alloc, arrival, key, head.header, rest)
+    given_behind(alloc, arrival, entry, head.header, rest)
 }
 
 // What a response gives that the parser's default options refuse.
 fn given_leniently(
     alloc: Global,
     arrival: Moment,
-    key: StoredKey,
+    entry: CompactCacheKey,
     response: Bytes,
 ) -> Result<Given, AllocError>
     requires { ¬ (IsPlain response) }
-    ensures { IfOk result (Gives arrival key response) }
+    ensures { IfOk result (Gives arrival entry response) }
 {
     match read_leniently(alloc, response.as_slice()) {
-        Ok(Some(head)) => given_at(alloc, arrival, key, head, response),
+        Ok(Some(head)) => given_at(alloc, arrival, entry, head, response),
         Ok(None) => Ok(Given::Incomplete),
         Err(HeadFault::Memory) => Err(AllocError),
         Err(_) => Ok(Given::BadHead),
@@ -295,29 +295,29 @@ fn given_leniently(
 fn given(
     alloc: Global,
     arrival: Moment,
-    key: StoredKey,
+    entry: CompactCacheKey,
     response: Bytes,
 ) -> Result<Given, AllocError>
-    ensures { IfOk result (Gives arrival key response) }
+    ensures { IfOk result (Gives arrival entry response) }
 {
     match read_head(alloc, response.as_slice()) {
-        Ok(Some(head)) => given_at(alloc, arrival, key, head, response),
+        Ok(Some(head)) => given_at(alloc, arrival, entry, head, response),
         Ok(None) => Ok(Given::Incomplete),
         Err(HeadFault::Memory) => Err(AllocError),
         Err(HeadFault::Bounds) => Ok(Given::BadHead),
-        Err(HeadFault::Refused) => given_leniently(alloc, arrival, key, response),
+        Err(HeadFault::Refused) => given_leniently(alloc, arrival, entry, response),
     }
 }
 
-/// What a put of these pieces at that moment gives under a key. It is refused for want of memory alone.
+/// What a put of these pieces at that moment gives under an entry. It is refused for want of memory alone.
 pub(crate) fn given_by_put(
     alloc: Global,
     arrival: Moment,
-    key: StoredKey,
+    entry: CompactCacheKey,
     pieces: &Pieces,
 ) -> Result<Given, AllocError>
-    ensures { IfOk result (Gives arrival key (joined pieces.now)) }
+    ensures { IfOk result (Gives arrival entry (joined pieces.now)) }
 {
     let response = joined(alloc, pieces.as_slice())?;
-    given(alloc, arrival, key, response)
+    given(alloc, arrival, entry, response)
 }

@@ -99,7 +99,7 @@ pub trait CacheHashKey {
 }
 
 /// A key as it is asked for. Its primary part is mostly text, but may be any bytes.
-#[derive(Drop)]
+#[derive(Debug, Drop)]
 pub struct CacheKey {
     primary: Vec<u8>,
     primary_bin_override: Option<HashBinary>,

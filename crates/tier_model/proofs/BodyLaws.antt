@@ -2,13 +2,13 @@
 use Rattle.std.proofs.Common.{◌≡◌, refl, ap, ◌∙◌, true, false, subst, cond, [], ◌∷◌, ◌++◌}
 use Rattle.std.specs.Prelude.{Bool, List, Option, Some, None, is_some}
 use Rattle.std.specs.List.{AllByRecursion}
-use Rattle.tier_model.specs.declared.key.StoredKey.{StoredKey}
+use Rattle.tier_entries.specs.Keys.{stored_key, same_key, has_key}
 use Rattle.tier_model.specs.declared.rows.FinishedBody.{FinishedBody}
-use Rattle.tier_model.specs.Keys.{same_key}
-use Rattle.tier_model.specs.Calls.{Call, History, removes, writes, written_by, is_of, has_key}
+use Rattle.tier_model.specs.Keys.{StoredKey, Entry}
+use Rattle.tier_model.specs.Calls.{Call, History, removes, writes, written_by, is_of}
 use Rattle.tier_model.specs.Histories.{IsAlive, IsBody, NoneWrites}
 use Rattle.tier_model.specs.Rows.{body_of, with_body, without_body, without_bodies}
-use Rattle.tier_model.proofs.KeyLaws.{find-without, find-at_end, either_none}
+use Rattle.tier_entries.proofs.KeyLaws.{same_key-tells, find-without, find-at_end, either_none}
 
 -- what a key has behind a call: nothing if it was removed, what was written, or what it had
 abbrev pub body_chosen : Bool → Bool → Option FinishedBody → Option FinishedBody → Option FinishedBody
@@ -24,9 +24,9 @@ abbrev pub body_now : StoredKey → History → Option FinishedBody
 body_now k [] = None
 body_now k (c ∷ h) = body_by k c h (body_now k h)
 
-written : (k : StoredKey) (w : FinishedBody) (o : Option FinishedBody) → is_of k o ≡ true → o ≡ Some w → same_key w.key k ≡ true
+written : (k : StoredKey) (w : FinishedBody) (o : Option FinishedBody) → is_of k o ≡ true → o ≡ Some w → same_key (stored_key w.entry) k ≡ true
 written k w None t e = cc
-written k w (Some v) t e = let same : v ≡ w = cc in subst (λ (z : FinishedBody). same_key z.key k ≡ true) same t
+written k w (Some v) t e = let same : v ≡ w = cc in subst (λ (z : FinishedBody). same_key (stored_key z.entry) k ≡ true) same t
 
 later : (k : StoredKey) (w : FinishedBody) (c : Call) (h : History) → removes k c ≡ false → writes k c h ≡ false → IsBody k w h → IsBody k w (c ∷ h)
 later k w c h r n b = record {
@@ -68,11 +68,11 @@ chosen_new r n new old e f = rw (e, f) refl
 chosen_old : (r n : Bool) (new old : Option FinishedBody) → r ≡ false → n ≡ false → body_chosen r n new old ≡ old
 chosen_old r n new old e f = rw (e, f) refl
 
-is_of-written : (k : StoredKey) (w : FinishedBody) (o : Option FinishedBody) → o ≡ Some w → same_key w.key k ≡ true → is_of k o ≡ true
+is_of-written : (k : StoredKey) (w : FinishedBody) (o : Option FinishedBody) → o ≡ Some w → same_key (stored_key w.entry) k ≡ true → is_of k o ≡ true
 is_of-written k w o e t = rw e t
 
 -- the body is what is found call by call
-body_now-since : (k : StoredKey) (w : FinishedBody) (since : History) (call : Call) (before : History) → written_by call before ≡ Some w → same_key w.key k ≡ true
+body_now-since : (k : StoredKey) (w : FinishedBody) (since : History) (call : Call) (before : History) → written_by call before ≡ Some w → same_key (stored_key w.entry) k ≡ true
     → removes k call ≡ false → AllByRecursion (λ c. removes k c ≡ false) since → NoneWrites k since (call ∷ before) → body_now k (since ++ call ∷ before) ≡ Some w
 body_now-since k w [] call before e t r kept last = chosen_new (removes k call) (writes k call before) _ _ r (is_of-written k w (written_by call before) e t) ∙ e
 body_now-since k w (c ∷ since) call before e t r kept last =
@@ -87,7 +87,7 @@ some_written k None t = t
 some_written k (Some w) t = refl
 
 -- a key of an alive write has a body
-found_since : (k : StoredKey) (w : FinishedBody) (since : History) (call : Call) (before : History) → written_by call before ≡ Some w → same_key w.key k ≡ true
+found_since : (k : StoredKey) (w : FinishedBody) (since : History) (call : Call) (before : History) → written_by call before ≡ Some w → same_key (stored_key w.entry) k ≡ true
     → removes k call ≡ false → AllByRecursion (λ c. removes k c ≡ false) since → is_some (body_now k (since ++ call ∷ before)) ≡ true
 found_since k w [] call before e t r kept = ap is_some (chosen_new (removes k call) (writes k call before) _ _ r (is_of-written k w (written_by call before) e t) ∙ e)
 found_since k w (c ∷ since) call before e t r kept = by_test (found_since k w since call before e t r kept.1) (writes k c (since ++ call ∷ before)) refl
@@ -101,12 +101,12 @@ body_now-found k w h a = ap (λ (past : History). is_some (body_now k past)) a.s
 
 -- rows behind edits
 pub body_of-without : (k j : StoredKey) (bodies : List FinishedBody) → body_of k (without_body j bodies) ≡ cond (same_key j k) None (body_of k bodies)
-body_of-without k j bodies = find-without (λ b. b.key) k j bodies
+body_of-without k j bodies = find-without same_key same_key-tells (λ b. stored_key b.entry) k j bodies
 
-pub body_of-with : (k : StoredKey) (b : FinishedBody) (bodies : List FinishedBody) → body_of k (with_body b bodies) ≡ cond (same_key b.key k) (Some b) (body_of k bodies)
-body_of-with k b bodies = find-at_end (λ b. b.key) k b bodies
+pub body_of-with : (k : StoredKey) (b : FinishedBody) (bodies : List FinishedBody) → body_of k (with_body b bodies) ≡ cond (same_key (stored_key b.entry) k) (Some b) (body_of k bodies)
+body_of-with k b bodies = find-at_end same_key same_key-tells (λ b. stored_key b.entry) k b bodies
 
-pub body_of-without_all : (k : StoredKey) (es : List StoredKey) (bodies : List FinishedBody) → body_of k (without_bodies es bodies) ≡ cond (has_key k es) None (body_of k bodies)
+pub body_of-without_all : (k : StoredKey) (es : List Entry) (bodies : List FinishedBody) → body_of k (without_bodies es bodies) ≡ cond (has_key k es) None (body_of k bodies)
 body_of-without_all k [] bodies = refl
 body_of-without_all k (e ∷ es) bodies =
-    body_of-without_all k es (without_body e bodies) ∙ ap (cond (has_key k es) None) (body_of-without k e bodies) ∙ either_none (same_key e k) (has_key k es) (body_of k bodies)
+    body_of-without_all k es (without_body (stored_key e) bodies) ∙ ap (cond (has_key k es) None) (body_of-without k (stored_key e) bodies) ∙ either_none (same_key (stored_key e) k) (has_key k es) (body_of k bodies)

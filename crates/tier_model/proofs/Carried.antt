@@ -4,7 +4,10 @@ use Rattle.std.specs.Prelude.{Bool, List, Option, Some, None, is_some, Ok, Err}
 use Rattle.std.specs.FinMap.{get, insert, get-empty}
 use Rattle.std.specs.Ordering.{nat_cmp}
 use Rattle.std.proofs.lemmas.Bool.Decides.{nat_tests}
-use Rattle.tier_model.specs.declared.key.StoredKey.{StoredKey}
+use Rattle.cache_words.specs.Key.{FullKey}
+use Rattle.tier_entries.specs.Keys.{entry_of, stored_key}
+use Rattle.tier_entries.specs.Rows.{is_past}
+use Rattle.tier_model.specs.Keys.{Entry, key_asked}
 use Rattle.tier_model.specs.declared.given.Given.{Given}
 use Rattle.tier_model.specs.declared.given.Given.TheVariants.{Stored}
 use Rattle.tier_model.specs.declared.given.Given.TheVariants as given
@@ -19,11 +22,11 @@ use Rattle.tier_model.specs.declared.event.TierFault.{TierFault}
 use Rattle.cache_words.specs.Time.{Instant}
 use Rattle.tier_model.specs.Calls.{Call, History, AreCallsOf, extended, Outcome, done_of}
 use Rattle.std.specs.List.{AllByRecursion, sum_by}
-use Rattle.tier_model.specs.Histories.{HasDistinctKeys, IsBody, is_past}
+use Rattle.tier_model.specs.Histories.{HasDistinctKeys, IsBody}
 use Rattle.tier_model.specs.Headline.{Headline, HoldsHeadline}
-use Rattle.tier_model.specs.Rows.{body_of, is_over}
+use Rattle.tier_model.specs.Rows.{body_of}
 use Rattle.tier_model.specs.State.{Settings, State, empty_state}
-use Rattle.tier_model.specs.Step.{Allows, after, answered, undone, taken_back, on_request, look_behind, read_behind, purge_behind, put_behind}
+use Rattle.tier_model.specs.Step.{Allows, after, answered, undone, taken_back, on_request, look_behind, read_behind, purge_behind, put_behind, body_for}
 use Rattle.tier_model.specs.Use.{IsOrderOfUse, EvictsBy, EvictsLawfully}
 use Rattle.tier_model.specs.Reports.{IsReport, report_of}
 use Rattle.tier_model.specs.Past.{Steps, state_of, IsLawful, HasPast, Runs, CarriesHeadline}
@@ -31,7 +34,7 @@ use Rattle.tier_model.proofs.RequestLaws.{RequestFits, Fits, Fits-after}
 use Rattle.tier_model.proofs.HeadlineLaws.{IsRight-allowed}
 use Rattle.tier_model.proofs.UseSteps.{IsOrderOfUse-after, BodiesAreTracked-kept}
 use Rattle.tier_model.proofs.ReportLaws.{Tallies, Tallies-after, IsReport-kept}
-use Rattle.tier_model.proofs.BoundLaws.{KeepsLimits, KeepsLimits-after, IsWithin-kept}
+use Rattle.tier_model.proofs.BoundLaws.{KeepsWithin, KeepsLimits, KeepsLimits-after, IsWithin-kept}
 
 -- no call changes what the tier was made with
 request_settings : (s : State) (o : Option Request) (f : Request → State) → ((q : Request) → (f q).settings ≡ s.settings) → (on_request s o f).settings ≡ s.settings
@@ -42,7 +45,7 @@ look_settings : (s : State) (t : Instant) (i : ℕ) (q : Request) (b : Option Fi
 look_settings s t i q None = refl
 look_settings s t i q (Some b) = refl
 
-purge_settings : (s : State) (key : StoredKey) (v : Bool) → (purge_behind s key v).settings ≡ s.settings
+purge_settings : (s : State) (key : FullKey) (v : Bool) → (purge_behind s key v).settings ≡ s.settings
 purge_settings s key false = refl
 purge_settings s key true = refl
 
@@ -55,16 +58,16 @@ put_settings s (Some given.BeforeEpoch) a = refl
 put_settings s (Some (given.Uncacheable reason)) a = refl
 put_settings s None a = refl
 
-back_settings : (v : Bool) (s : State) (key : StoredKey) (es : List StoredKey) → (taken_back v s key es).settings ≡ s.settings
+back_settings : (v : Bool) (s : State) (key : Entry) (es : List Entry) → (taken_back v s key es).settings ≡ s.settings
 back_settings false s key es = refl
 back_settings true s key es = refl
 
 answer_settings : (s : State) (t : Instant) (g : Option Given) (action : Action) (a : Answer) → (answered s t action g a).settings ≡ s.settings
 answer_settings s t g (Open i key) a = refl
-answer_settings s t g (LookUp i) a = request_settings s (get s.requests i) (λ q. look_behind s t i q (body_of q.key s.bodies)) (λ q. look_settings s t i q (body_of q.key s.bodies))
+answer_settings s t g (LookUp i) a = request_settings s (get s.requests i) (λ q. look_behind s t i q (body_for q s.bodies)) (λ q. look_settings s t i q (body_for q s.bodies))
 answer_settings s t g (Read i) a = request_settings s (get s.requests i) (λ q. record s { requests = insert s.requests i (read_behind q) }) (λ q. refl)
 answer_settings s t g (Drop i) a = refl
-answer_settings s t g (Purge key) a = purge_settings s key (is_some (body_of key s.bodies))
+answer_settings s t g (Purge key) a = purge_settings s key (is_some (body_of (key_asked key) s.bodies))
 answer_settings s t g (Put key pieces) a = put_settings s g a
 
 undone_settings : (s : State) (action : Action) (f : TierFault) → (undone s action (done_of f)).settings ≡ s.settings
@@ -73,7 +76,7 @@ undone_settings s (LookUp i) f = refl
 undone_settings s (Read i) f = refl
 undone_settings s (Drop i) f = refl
 undone_settings s (Purge key) f = refl
-undone_settings s (Put key pieces) f = back_settings (done_of f).stored s key (done_of f).evicted
+undone_settings s (Put key pieces) f = back_settings (done_of f).stored s (entry_of key) (done_of f).evicted
 
 pub settings-after : (s : State) (c : Call) → (after s c).settings ≡ s.settings
 settings-after s c = by_outcome c.outcome
@@ -90,12 +93,17 @@ no_request : (id : ℕ) (o : Option Request) → o ≡ None → RequestFits id o
 no_request id None e = refl
 no_request id (Some q) e = cc
 
-never_past : (settings : Settings) → is_over settings.limit settings.watermark [] ≡ false
-never_past settings = by_mark settings.watermark
+never_past : (mark : Option ℕ) → is_past mark 0 ≡ false
+never_past None = refl
+never_past (Some bound) = grind (arith, nat_tests)
+
+-- no bodies keep any limits
+within_none : (limit : ℕ) (mark : Option ℕ) → KeepsWithin limit mark []
+within_none limit mark [] d held = (omega arith, never_past mark)
+within_none limit mark (b ∷ bs) d held = absurd_none held.0
   where
-    by_mark : (mark : Option ℕ) → is_over settings.limit mark [] ≡ false
-    by_mark None = grind (arith, nat_tests)
-    by_mark (Some bound) = grind (arith, nat_tests)
+    absurd_none : body_of (stored_key b.entry) [] ≡ Some b → (sum_by (λ b. length b.bytes) (b ∷ bs) ≤ limit) × (is_past mark (length (b ∷ bs)) ≡ false)
+    absurd_none e = cc
 
 -- what a state is to the history behind it
 pub record Stands (settings : Settings) (s : State) (h : History) : Type 0 where
@@ -110,7 +118,7 @@ pub Stands-lawful : (settings : Settings) (h : History) → IsLawful settings h 
 Stands-lawful settings [] l = record {
   made = refl;
   fits = record { requests = λ id. no_request id (get (empty_state settings).requests id) (get-empty nat_cmp id); bodies = λ k. refl };
-  keeps = record { kept = never_past settings; tracked = λ k b e. cc };
+  keeps = record { within = within_none settings.limit settings.watermark; tracked = λ k b e. cc };
   order = record { order = tt; all = λ e. refl; weights = λ e w there. cc };
   tallies = record { found = omega arith; absent = omega arith; evicted = omega arith; distinct = tt };
 }
@@ -142,7 +150,7 @@ HoldsHeadline-lawful settings h l =
     let past : Stands settings (state_of settings h) h = Stands-lawful settings h l in
     record {
       answers = Headline-lawful settings h l;
-      within = λ bodies. subst (λ (x : Settings). HasDistinctKeys bodies → AllByRecursion (λ b. IsBody b.key b h) bodies
+      within = λ bodies. subst (λ (x : Settings). HasDistinctKeys bodies → AllByRecursion (λ b. IsBody (stored_key b.entry) b h) bodies
           → (sum_by (λ b. length b.bytes) bodies ≤ x.limit) × (is_past x.watermark (length bodies) ≡ false)) past.made (IsWithin-kept (state_of settings h) h past.fits past.keeps bodies);
       tracked = BodiesAreTracked-kept (state_of settings h) h past.fits past.keeps past.order;
       evictions = EvictsLawfully-lawful settings h l;

@@ -3,7 +3,9 @@ use Rattle.std.proofs.Common.{◌≡◌, refl, ap, sym, ◌∙◌, true, false, 
 use Rattle.std.specs.Prelude.{ℕ, List, Option, Some, None, is_some, Ok, Err, MatchOption}
 use Rattle.std.specs.FinMap.{get}
 use Rattle.cache_words.specs.Time.{Instant}
-use Rattle.tier_model.specs.declared.key.StoredKey.{StoredKey}
+use Rattle.cache_words.specs.Key.{FullKey}
+use Rattle.tier_entries.specs.Keys.{stored_key}
+use Rattle.tier_model.specs.Keys.{StoredKey, Entry, key_asked}
 use Rattle.tier_model.specs.declared.given.Given.{Given}
 use Rattle.tier_model.specs.declared.rows.FinishedBody.{FinishedBody}
 use Rattle.tier_model.specs.declared.rows.Request.{Request}
@@ -20,7 +22,7 @@ use Rattle.tier_model.specs.Histories.{IsFound}
 use Rattle.tier_model.specs.Headline.{LooksRight, ReadsWhole, PurgesRight, IsRight}
 use Rattle.tier_model.specs.Rows.{body_of}
 use Rattle.tier_model.specs.State.{State}
-use Rattle.tier_model.specs.Step.{refusal, AllowsBy, unless_open, has_reader, Allows, IsAnswer, look_answer, read_answer, use_is_too_heavy}
+use Rattle.tier_model.specs.Step.{refusal, AllowsBy, unless_open, has_reader, Allows, IsAnswer, look_answer, read_answer, use_is_too_heavy, body_for}
 use Rattle.tier_model.proofs.BodyLaws.{body_now, body_now-is, body_now-found}
 use Rattle.tier_model.proofs.StepLaws.{answer_allowed}
 use Rattle.tier_model.proofs.RequestLaws.{Fits, ReaderFits, of_request, reader_there, unrefused, append_nothing}
@@ -33,15 +35,15 @@ not_found k s h fits e found =
     cc
 
 look_right : (s : State) (t : Instant) (g : Option Given) (i : ℕ) (a : Answer) (h : History) (o : Option Request) → Fits s h → get s.requests i ≡ o
-    → MatchOption o ⊥ (λ q. (a ≡ look_answer t (body_of q.key s.bodies)) × (use_is_too_heavy (body_of q.key s.bodies) s.tracked ≡ false)) → LooksRight i t a h
+    → MatchOption o ⊥ (λ q. (a ≡ look_answer t (body_for q s.bodies)) × (use_is_too_heavy q.entry (body_for q s.bodies) s.tracked ≡ false)) → LooksRight i t a h
 look_right s t g i a h None fits e p = absurd p
-look_right s t g i a h (Some q) fits e p = by_body (body_of q.key s.bodies) refl p.0
+look_right s t g i a h (Some q) fits e p = by_body (body_for q s.bodies) refl p.0
   where
-    by_body : (b : Option FinishedBody) → body_of q.key s.bodies ≡ b → a ≡ look_answer t b → LooksRight i t a h
-    by_body None be ae = subst (λ (x : Answer). LooksRight i t x h) (sym ae) (q.key, (of_request s h fits i q e).0, not_found q.key s h fits be)
+    by_body : (b : Option FinishedBody) → body_for q s.bodies ≡ b → a ≡ look_answer t b → LooksRight i t a h
+    by_body None be ae = subst (λ (x : Answer). LooksRight i t x h) (sym ae) (q.entry, (of_request s h fits i q e).0, not_found (stored_key q.entry) s h fits be)
     by_body (Some w) be ae =
         subst (λ (x : Answer). LooksRight i t x h) (sym ae)
-        (q.key, w, (of_request s h fits i q e).0, body_now-is q.key w h (sym (fits.bodies q.key) ∙ be), refl, refl)
+        (q.entry, w, (of_request s h fits i q e).0, body_now-is (stored_key q.entry) w h (sym (fits.bodies (stored_key q.entry)) ∙ be), refl, refl)
 
 reader_right : (i : ℕ) (r : Reader) (h : History) → has_reader r ≡ true → ReaderFits i r h → ReadsWhole i (read_answer r) h
 reader_right i Closed h e fits = cc
@@ -69,7 +71,7 @@ answer_right s t g (Open i key) a h fits n p = tt
 answer_right s t g (LookUp i) a h fits n p = look_right s t g i a h (get s.requests i) fits refl p
 answer_right s t g (Read i) a h fits n p = read_right s t g i a h (get s.requests i) fits refl n p
 answer_right s t g (Drop i) a h fits n p = tt
-answer_right s t g (Purge key) a h fits n p = subst (λ (x : Answer). PurgesRight key x h) (sym p) (purge_right s key h fits)
+answer_right s t g (Purge key) a h fits n p = subst (λ (x : Answer). PurgesRight (key_asked key) x h) (sym p) (purge_right s (key_asked key) h fits)
 answer_right s t g (Put key pieces) a h fits n p = tt
 
 fault_right : (t : Instant) (g : Option Given) (action : Action) (f : TierFault) (h : History) → IsRight t action (Err f) h

@@ -1,10 +1,8 @@
 pub mod Tables
-pub mod KeyLaws
 pub mod BodyLaws
 pub mod StepLaws
 pub mod RequestLaws
 pub mod HeadlineLaws
-pub mod OrderLaws
 pub mod BoundLaws
 pub mod Carried
 pub mod UseLaws

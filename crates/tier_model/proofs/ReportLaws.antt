@@ -4,7 +4,8 @@ use Rattle.std.specs.Prelude.{Bool, List, Option, Some, None, is_some, not, Ok, 
 use Rattle.std.specs.List.{AllByRecursion}
 use Rattle.std.specs.FinMap.{get, insert}
 use Rattle.cache_words.specs.Time.{Instant}
-use Rattle.tier_model.specs.declared.key.StoredKey.{StoredKey}
+use Rattle.cache_words.specs.Key.{FullKey}
+use Rattle.tier_entries.specs.Keys.{entry_of, stored_key, same_key}
 use Rattle.tier_model.specs.declared.given.Given.{Given}
 use Rattle.tier_model.specs.declared.given.Given.TheVariants.{Stored}
 use Rattle.tier_model.specs.declared.given.Given.TheVariants as given
@@ -19,15 +20,15 @@ use Rattle.tier_model.specs.declared.event.Answer.TheVariants.{Opened, Bytes, En
 use Rattle.tier_model.specs.declared.event.Answer.TheVariants as answer
 use Rattle.tier_model.specs.declared.event.Done.{Done}
 use Rattle.tier_model.specs.declared.event.TierFault.{TierFault}
-use Rattle.tier_model.specs.Keys.{same_key}
+use Rattle.tier_model.specs.Keys.{StoredKey, Entry, key_asked}
 use Rattle.tier_model.specs.Calls.{Call, History, Outcome, evicted_by, nothing_done, done_of}
 use Rattle.tier_model.specs.Histories.{IsBody, HasDistinctKeys}
 use Rattle.tier_model.specs.Reports.{IsReport, report_of, found_answers, absent_answers, evictions, is_found, is_absent, shown, AreAllBodies}
 use Rattle.tier_model.specs.Use.{IsOrderOfUse}
 use Rattle.tier_model.specs.Rows.{body_of, with_body, without_body, without_bodies}
 use Rattle.tier_model.specs.State.{State}
-use Rattle.tier_model.specs.Step.{refusal, AllowsBy, Allows, IsAnswer, IsPutAnswer, after, answered, undone, taken_back, on_request, look_answer, look_behind, read_answer, read_behind, purge_behind, put_behind, use_is_too_heavy, counted}
-use Rattle.tier_model.proofs.KeyLaws.{same_key-refl, same_key-sym}
+use Rattle.tier_model.specs.Step.{refusal, AllowsBy, Allows, IsAnswer, IsPutAnswer, after, answered, undone, taken_back, on_request, look_answer, look_behind, read_answer, read_behind, purge_behind, put_behind, use_is_too_heavy, body_for, counted}
+use Rattle.tier_entries.proofs.KeyLaws.{same_key-tells, same-sym}
 use Rattle.tier_model.proofs.BodyLaws.{body_now, body_now-is, body_now-of}
 use Rattle.tier_model.proofs.StepLaws.{call_at, answer_allowed, did_nothing}
 use Rattle.tier_model.proofs.RequestLaws.{Fits}
@@ -35,7 +36,7 @@ use Rattle.tier_model.proofs.RequestLaws.{Fits}
 -- distinct keys stay distinct
 all_without : (P : FinishedBody → Type 0) (k : StoredKey) (bodies : List FinishedBody) → AllByRecursion P bodies → AllByRecursion P (without_body k bodies)
 all_without P k [] all = tt
-all_without P k (b ∷ bs) all = by_key (same_key b.key k) (all_without P k bs all.1)
+all_without P k (b ∷ bs) all = by_key (same_key (stored_key b.entry) k) (all_without P k bs all.1)
   where
     by_key : (v : Bool) → AllByRecursion P (without_body k bs) → AllByRecursion P (cond (not v) (b ∷ without_body k bs) (without_body k bs))
     by_key true rest = rest
@@ -43,49 +44,49 @@ all_without P k (b ∷ bs) all = by_key (same_key b.key k) (all_without P k bs a
 
 distinct_without : (k : StoredKey) (bodies : List FinishedBody) → HasDistinctKeys bodies → HasDistinctKeys (without_body k bodies)
 distinct_without k [] d = tt
-distinct_without k (b ∷ bs) d = by_key (same_key b.key k) (distinct_without k bs d.1)
+distinct_without k (b ∷ bs) d = by_key (same_key (stored_key b.entry) k) (distinct_without k bs d.1)
   where
     by_key : (v : Bool) → HasDistinctKeys (without_body k bs) → HasDistinctKeys (cond (not v) (b ∷ without_body k bs) (without_body k bs))
     by_key true rest = rest
-    by_key false rest = (all_without (λ c. same_key c.key b.key ≡ false) k bs d.0, rest)
+    by_key false rest = (all_without (λ c. same_key (stored_key c.entry) (stored_key b.entry) ≡ false) k bs d.0, rest)
 
-distinct_without_all : (es : List StoredKey) (bodies : List FinishedBody) → HasDistinctKeys bodies → HasDistinctKeys (without_bodies es bodies)
+distinct_without_all : (es : List Entry) (bodies : List FinishedBody) → HasDistinctKeys bodies → HasDistinctKeys (without_bodies es bodies)
 distinct_without_all [] bodies d = d
-distinct_without_all (e ∷ es) bodies d = distinct_without_all es (without_body e bodies) (distinct_without e bodies d)
+distinct_without_all (e ∷ es) bodies d = distinct_without_all es (without_body (stored_key e) bodies) (distinct_without (stored_key e) bodies d)
 
 all_and : (P : FinishedBody → Type 0) (x : FinishedBody) (bodies : List FinishedBody) → AllByRecursion P bodies → P x → AllByRecursion P (bodies ++ x ∷ [])
 all_and P x [] all p = (p, tt)
 all_and P x (b ∷ bs) all p = (all.0, all_and P x bs all.1 p)
 
-distinct_end : (x : FinishedBody) (bodies : List FinishedBody) → HasDistinctKeys bodies → AllByRecursion (λ c. same_key c.key x.key ≡ false) bodies → HasDistinctKeys (bodies ++ x ∷ [])
+distinct_end : (x : FinishedBody) (bodies : List FinishedBody) → HasDistinctKeys bodies → AllByRecursion (λ c. same_key (stored_key c.entry) (stored_key x.entry) ≡ false) bodies → HasDistinctKeys (bodies ++ x ∷ [])
 distinct_end x [] d all = (tt, tt)
-distinct_end x (b ∷ bs) d all = (all_and (λ c. same_key c.key b.key ≡ false) x bs d.0 (same_key-sym x.key b.key ∙ all.0), distinct_end x bs d.1 all.1)
+distinct_end x (b ∷ bs) d all = (all_and (λ c. same_key (stored_key c.entry) (stored_key b.entry) ≡ false) x bs d.0 (same-sym same_key same_key-tells (stored_key x.entry) (stored_key b.entry) ∙ all.0), distinct_end x bs d.1 all.1)
 
-none_left : (k : StoredKey) (bodies : List FinishedBody) → AllByRecursion (λ c. same_key c.key k ≡ false) (without_body k bodies)
+none_left : (k : StoredKey) (bodies : List FinishedBody) → AllByRecursion (λ c. same_key (stored_key c.entry) k ≡ false) (without_body k bodies)
 none_left k [] = tt
-none_left k (b ∷ bs) = by_key (same_key b.key k) refl (none_left k bs)
+none_left k (b ∷ bs) = by_key (same_key (stored_key b.entry) k) refl (none_left k bs)
   where
-    by_key : (v : Bool) → same_key b.key k ≡ v → AllByRecursion (λ c. same_key c.key k ≡ false) (without_body k bs)
-        → AllByRecursion (λ c. same_key c.key k ≡ false) (cond (not v) (b ∷ without_body k bs) (without_body k bs))
+    by_key : (v : Bool) → same_key (stored_key b.entry) k ≡ v → AllByRecursion (λ c. same_key (stored_key c.entry) k ≡ false) (without_body k bs)
+        → AllByRecursion (λ c. same_key (stored_key c.entry) k ≡ false) (cond (not v) (b ∷ without_body k bs) (without_body k bs))
     by_key true e rest = rest
     by_key false e rest = (e, rest)
 
 distinct_with : (x : FinishedBody) (bodies : List FinishedBody) → HasDistinctKeys bodies → HasDistinctKeys (with_body x bodies)
-distinct_with x bodies d = distinct_end x (without_body x.key bodies) (distinct_without x.key bodies d) (none_left x.key bodies)
+distinct_with x bodies d = distinct_end x (without_body (stored_key x.entry) bodies) (distinct_without (stored_key x.entry) bodies d) (none_left (stored_key x.entry) bodies)
 
 -- each of distinct bodies is found by its key
-found_each : (bodies : List FinishedBody) → HasDistinctKeys bodies → AllByRecursion (λ b. body_of b.key bodies ≡ Some b) bodies
+found_each : (bodies : List FinishedBody) → HasDistinctKeys bodies → AllByRecursion (λ b. body_of (stored_key b.entry) bodies ≡ Some b) bodies
 found_each [] d = tt
-found_each (x ∷ xs) d = (ap (λ v. cond v (Some x) (body_of x.key xs)) (same_key-refl x.key), others xs (found_each xs d.1) d.0)
+found_each (x ∷ xs) d = (ap (λ v. cond v (Some x) (body_of (stored_key x.entry) xs)) (same_key-tells.itself (stored_key x.entry)), others xs (found_each xs d.1) d.0)
   where
-    others : (ys : List FinishedBody) → AllByRecursion (λ b. body_of b.key xs ≡ Some b) ys → AllByRecursion (λ c. same_key c.key x.key ≡ false) ys
-        → AllByRecursion (λ b. body_of b.key (x ∷ xs) ≡ Some b) ys
+    others : (ys : List FinishedBody) → AllByRecursion (λ b. body_of (stored_key b.entry) xs ≡ Some b) ys → AllByRecursion (λ c. same_key (stored_key c.entry) (stored_key x.entry) ≡ false) ys
+        → AllByRecursion (λ b. body_of (stored_key b.entry) (x ∷ xs) ≡ Some b) ys
     others [] found apart = tt
-    others (y ∷ ys) found apart = (ap (λ v. cond v (Some x) (body_of y.key xs)) (same_key-sym x.key y.key ∙ apart.0) ∙ found.0, others ys found.1 apart.1)
+    others (y ∷ ys) found apart = (ap (λ v. cond v (Some x) (body_of (stored_key y.entry) xs)) (same-sym same_key same_key-tells (stored_key x.entry) (stored_key y.entry) ∙ apart.0) ∙ found.0, others ys found.1 apart.1)
 
-bodies_in : (h : History) (bodies ys : List FinishedBody) → ((k : StoredKey) → body_of k bodies ≡ body_now k h) → AllByRecursion (λ b. body_of b.key bodies ≡ Some b) ys → AllByRecursion (λ b. IsBody b.key b h) ys
+bodies_in : (h : History) (bodies ys : List FinishedBody) → ((k : StoredKey) → body_of k bodies ≡ body_now k h) → AllByRecursion (λ b. body_of (stored_key b.entry) bodies ≡ Some b) ys → AllByRecursion (λ b. IsBody (stored_key b.entry) b h) ys
 bodies_in h bodies [] fits found = tt
-bodies_in h bodies (y ∷ ys) fits found = (body_now-is y.key y h (sym (fits y.key) ∙ found.0), bodies_in h bodies ys fits found.1)
+bodies_in h bodies (y ∷ ys) fits found = (body_now-is (stored_key y.entry) y h (sym (fits (stored_key y.entry)) ∙ found.0), bodies_in h bodies ys fits found.1)
 
 pub AreAllBodies-kept : (s : State) (h : History) → Fits s h → HasDistinctKeys s.bodies → AreAllBodies s.bodies h
 AreAllBodies-kept s h fits d = record {
@@ -130,10 +131,10 @@ look_tally s t g i q (Some b) a h e tally = subst (λ (y : Answer). Tallies (loo
 })
 
 request_tally : (s : State) (t : Instant) (g : Option Given) (i : ℕ) (a : Answer) (h : History) (o : Option Request)
-    → MatchOption o ⊥ (λ q. (a ≡ look_answer t (body_of q.key s.bodies)) × (use_is_too_heavy (body_of q.key s.bodies) s.tracked ≡ false))
-    → Tallies s h → Tallies (on_request s o (λ q. look_behind s t i q (body_of q.key s.bodies))) (call_at t (LookUp i) g (Ok a) ∷ h)
+    → MatchOption o ⊥ (λ q. (a ≡ look_answer t (body_for q s.bodies)) × (use_is_too_heavy q.entry (body_for q s.bodies) s.tracked ≡ false))
+    → Tallies s h → Tallies (on_request s o (λ q. look_behind s t i q (body_for q s.bodies))) (call_at t (LookUp i) g (Ok a) ∷ h)
 request_tally s t g i a h None p tally = absurd p
-request_tally s t g i a h (Some q) p tally = look_tally s t g i q (body_of q.key s.bodies) a h p.0 tally
+request_tally s t g i a h (Some q) p tally = look_tally s t g i q (body_for q s.bodies) a h p.0 tally
 
 read_tally : (s : State) (t : Instant) (g : Option Given) (i : ℕ) (a : Answer) (h : History) (o : Option Request) → MatchOption o ⊥ (λ q. a ≡ read_answer q.reader)
     → Tallies s h → Tallies (on_request s o (λ q. record s { requests = insert s.requests i (read_behind q) })) (call_at t (Read i) g (Ok a) ∷ h)
@@ -149,12 +150,12 @@ read_tally s t g i a h (Some q) p tally = by_reader q.reader p
         subst (λ (y : Answer). Tallies new (call_at t (Read i) g (Ok y) ∷ h)) (sym e) (uncounted s new (call_at t (Read i) g (Ok (Bytes bytes))) h refl refl refl tally.distinct refl refl refl tally)
     by_reader Spent e = subst (λ (y : Answer). Tallies new (call_at t (Read i) g (Ok y) ∷ h)) (sym e) (uncounted s new (call_at t (Read i) g (Ok End)) h refl refl refl tally.distinct refl refl refl tally)
 
-purge_tally : (s : State) (t : Instant) (g : Option Given) (key : StoredKey) (h : History) (v : Bool) → Tallies s h → Tallies (purge_behind s key v) (call_at t (Purge key) g (Ok (Purged v)) ∷ h)
+purge_tally : (s : State) (t : Instant) (g : Option Given) (key : FullKey) (h : History) (v : Bool) → Tallies s h → Tallies (purge_behind s key v) (call_at t (Purge key) g (Ok (Purged v)) ∷ h)
 purge_tally s t g key h false tally = uncounted s s (call_at t (Purge key) g (Ok (Purged false))) h refl refl refl tally.distinct refl refl refl tally
 purge_tally s t g key h true tally =
-    uncounted s (purge_behind s key true) (call_at t (Purge key) g (Ok (Purged true))) h refl refl refl (distinct_without key s.bodies tally.distinct) refl refl refl tally
+    uncounted s (purge_behind s key true) (call_at t (Purge key) g (Ok (Purged true))) h refl refl refl (distinct_without (key_asked key) s.bodies tally.distinct) refl refl refl tally
 
-put_tally : (s : State) (t : Instant) (g : Option Given) (key : StoredKey) (pieces : List (List ℕ)) (a : Answer) (h : History) → IsPutAnswer s g a
+put_tally : (s : State) (t : Instant) (g : Option Given) (key : FullKey) (pieces : List (List ℕ)) (a : Answer) (h : History) → IsPutAnswer s g a
     → Tallies s h → Tallies (put_behind s g a) (call_at t (Put key pieces) g (Ok a) ∷ h)
 put_tally s t (Some (Stored b)) key pieces (Finished n es) h p tally = record {
   found = tally.found;
@@ -181,19 +182,19 @@ answer_tally s t g (Drop i) a h p tally =
     subst (λ (y : Answer). Tallies (answered s t (Drop i) g y) (call_at t (Drop i) g (Ok y) ∷ h)) (sym p)
     (uncounted s (answered s t (Drop i) g Dropped) (call_at t (Drop i) g (Ok Dropped)) h refl refl refl tally.distinct refl refl refl tally)
 answer_tally s t g (Purge key) a h p tally =
-    subst (λ (y : Answer). Tallies (answered s t (Purge key) g y) (call_at t (Purge key) g (Ok y) ∷ h)) (sym p) (purge_tally s t g key h (is_some (body_of key s.bodies)) tally)
+    subst (λ (y : Answer). Tallies (answered s t (Purge key) g y) (call_at t (Purge key) g (Ok y) ∷ h)) (sym p) (purge_tally s t g key h (is_some (body_of (key_asked key) s.bodies)) tally)
 answer_tally s t g (Put key pieces) a h p tally = put_tally s t g key pieces a h p tally
 
 -- a put's fault that had stored, and one that had not
-back_tally : (v : Bool) (s : State) (t : Instant) (g : Option Given) (key : StoredKey) (pieces : List (List ℕ)) (f : TierFault) (h : History) → (done_of f).stored ≡ v
-    → Tallies s h → Tallies (taken_back v s key (done_of f).evicted) (call_at t (Put key pieces) g (Err f) ∷ h)
+back_tally : (v : Bool) (s : State) (t : Instant) (g : Option Given) (key : FullKey) (pieces : List (List ℕ)) (f : TierFault) (h : History) → (done_of f).stored ≡ v
+    → Tallies s h → Tallies (taken_back v s (entry_of key) (done_of f).evicted) (call_at t (Put key pieces) g (Err f) ∷ h)
 back_tally false s t g key pieces f h e tally =
     uncounted s s (call_at t (Put key pieces) g (Err f)) h refl refl refl tally.distinct refl refl (ap (λ v. cond v (done_of f).evicted []) e) tally
 back_tally true s t g key pieces f h e tally = record {
   found = tally.found;
   absent = tally.absent;
   evicted = more_shown s.evicted (evictions h) (length (done_of f).evicted) tally.evicted ∙ ap (λ v. shown (evictions h + length (cond v (done_of f).evicted []))) (sym e);
-  distinct = distinct_without key (without_bodies (done_of f).evicted s.bodies) (distinct_without_all (done_of f).evicted s.bodies tally.distinct);
+  distinct = distinct_without (key_asked key) (without_bodies (done_of f).evicted s.bodies) (distinct_without_all (done_of f).evicted s.bodies tally.distinct);
 }
 
 quiet_evicts : (done : Done) → done ≡ nothing_done → cond done.stored done.evicted [] ≡ []

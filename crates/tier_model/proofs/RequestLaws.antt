@@ -7,7 +7,9 @@ use Rattle.std.specs.Cmp.{unsigned_tied}
 use Rattle.std.proofs.lemmas.Cmp.{nat_cmp_total, eq_by_cmp_equiv}
 use Rattle.std.proofs.lemmas.Bool.{eqb-true, eq-eqb}
 use Rattle.cache_words.specs.Time.{Instant, at_most}
-use Rattle.tier_model.specs.declared.key.StoredKey.{StoredKey}
+use Rattle.cache_words.specs.Key.{FullKey}
+use Rattle.tier_entries.specs.Keys.{entry_of, stored_key}
+use Rattle.tier_model.specs.Keys.{StoredKey, Entry, key_asked}
 use Rattle.tier_model.specs.declared.given.Given.{Given}
 use Rattle.tier_model.specs.declared.given.Given.TheVariants.{Stored}
 use Rattle.tier_model.specs.declared.given.Given.TheVariants as given
@@ -21,11 +23,11 @@ use Rattle.tier_model.specs.declared.event.Answer.{Answer}
 use Rattle.tier_model.specs.declared.event.Answer.TheVariants.{Opened, Found, Bytes, End, Dropped, Finished}
 use Rattle.tier_model.specs.declared.event.TierFault.{TierFault}
 use Rattle.tier_model.specs.declared.event.TierFault.TheVariants.{WrongPhase}
-use Rattle.tier_model.specs.Calls.{Call, History, Outcome, opened_key, key_behind, ends_reader, bytes_given, bytes_read, bytes_answered, done_of}
+use Rattle.tier_model.specs.Calls.{Call, History, Outcome, opened_for, entry_behind, ends_reader, bytes_given, bytes_read, bytes_answered, done_of}
 use Rattle.tier_model.specs.Histories.{IsBody, HasHit}
 use Rattle.tier_model.specs.Rows.{body_of}
 use Rattle.tier_model.specs.State.{State}
-use Rattle.tier_model.specs.Step.{refusal, unless_open, has_reader, AllowsBy, Allows, IsAnswer, after, answered, undone, taken_back, opened_request, look_answer, looked, look_behind, on_request, read_answer, read_behind, purge_behind, put_behind, use_is_too_heavy}
+use Rattle.tier_model.specs.Step.{refusal, unless_open, has_reader, AllowsBy, Allows, IsAnswer, after, answered, undone, taken_back, opened_request, look_answer, looked, look_behind, on_request, read_answer, read_behind, purge_behind, put_behind, use_is_too_heavy, body_for}
 use Rattle.tier_model.proofs.BodyLaws.{body_by, body_now, body_now-is}
 use Rattle.tier_model.proofs.StepLaws.{call_at, answer_allowed, body_of-after}
 
@@ -36,12 +38,12 @@ ReaderFits id (Unread bytes) h = (w : FinishedBody) × (since : History) × HasH
 ReaderFits id Spent h = (w : FinishedBody) × (since : History) × HasHit id w since h × (bytes_read id since ≡ w.bytes)
 
 abbrev pub RequestFits : ℕ → Option Request → History → Type 0
-RequestFits id None h = opened_key id h ≡ None
-RequestFits id (Some q) h = (opened_key id h ≡ Some q.key) × ReaderFits id q.reader h
+RequestFits id None h = opened_for id h ≡ None
+RequestFits id (Some q) h = (opened_for id h ≡ Some q.entry) × ReaderFits id q.reader h
 
 -- a call that doesn't concern a request
 pub record IsOther (id : ℕ) (c : Call) (h : History) : Type 0 where
-  pub key : key_behind id c.event.action c.outcome (opened_key id h) ≡ opened_key id h
+  pub key : entry_behind id c.event.action c.outcome (opened_for id h) ≡ opened_for id h
   pub reader : ends_reader id c ≡ false
   pub bytes : bytes_given id c.event.action c.outcome ≡ []
 
@@ -54,10 +56,10 @@ longer_hit : (id : ℕ) (w : FinishedBody) (since : History) (c : Call) (h : His
 longer_hit id w since c h e hit = record {
   call = hit.call;
   before = hit.before;
-  key = hit.key;
+  entry = hit.entry;
   split = ap (λ (past : History). c ∷ past) hit.split;
   hit = hit.hit;
-  of_key = hit.of_key;
+  of_entry = hit.of_entry;
   shows = hit.shows;
   last = (e, hit.last);
 }
@@ -113,28 +115,28 @@ pub of_request : (s : State) (h : History) → Fits s h → (i : ℕ) (q : Reque
 of_request s h fits i q e = subst (λ (o : Option Request). RequestFits i o h) e (fits.requests i)
 
 -- what a complete hit showed is what the reader has
-found_reader : (t : Instant) (g : Option Given) (i : ℕ) (q : Request) (w : FinishedBody) (fresh : Bool) (h : History) → opened_key i h ≡ Some q.key → IsBody q.key w h
+found_reader : (t : Instant) (g : Option Given) (i : ℕ) (q : Request) (w : FinishedBody) (fresh : Bool) (h : History) → opened_for i h ≡ Some q.entry → IsBody (stored_key q.entry) w h
     → ReaderFits i (Unread w.bytes) (call_at t (LookUp i) g (Ok (Found fresh true)) ∷ h)
 found_reader t g i q w fresh h key body =
-    (w, [], record { call = call_at t (LookUp i) g (Ok (Found fresh true)); before = h; key = q.key; split = refl; hit = ap (λ v. v && true) (itself i); of_key = key; shows = body; last = tt }, refl, refl)
+    (w, [], record { call = call_at t (LookUp i) g (Ok (Found fresh true)); before = h; entry = q.entry; split = refl; hit = ap (λ v. v && true) (itself i); of_entry = key; shows = body; last = tt }, refl, refl)
 
 look_fits : (s : State) (t : Instant) (g : Option Given) (i : ℕ) (a : Answer) (h : History) (o : Option Request) → Fits s h → get s.requests i ≡ o
-    → MatchOption o ⊥ (λ q. (a ≡ look_answer t (body_of q.key s.bodies)) × (use_is_too_heavy (body_of q.key s.bodies) s.tracked ≡ false))
-    → (id : ℕ) → RequestFits id (get (on_request s o (λ q. look_behind s t i q (body_of q.key s.bodies))).requests id) (call_at t (LookUp i) g (Ok a) ∷ h)
+    → MatchOption o ⊥ (λ q. (a ≡ look_answer t (body_for q s.bodies)) × (use_is_too_heavy q.entry (body_for q s.bodies) s.tracked ≡ false))
+    → (id : ℕ) → RequestFits id (get (on_request s o (λ q. look_behind s t i q (body_for q s.bodies))).requests id) (call_at t (LookUp i) g (Ok a) ∷ h)
 look_fits s t g i a h None fits e p id = absurd p
-look_fits s t g i a h (Some q) fits e p id = by_body (body_of q.key s.bodies) refl p.0
+look_fits s t g i a h (Some q) fits e p id = by_body (body_for q s.bodies) refl p.0
   where
-    open_key : opened_key i h ≡ Some q.key
+    open_key : opened_for i h ≡ Some q.entry
     open_key = (of_request s h fits i q e).0
 
-    by_body : (b : Option FinishedBody) → body_of q.key s.bodies ≡ b → a ≡ look_answer t b → RequestFits id (get (look_behind s t i q b).requests id) (call_at t (LookUp i) g (Ok a) ∷ h)
+    by_body : (b : Option FinishedBody) → body_for q s.bodies ≡ b → a ≡ look_answer t b → RequestFits id (get (look_behind s t i q b).requests id) (call_at t (LookUp i) g (Ok a) ∷ h)
     by_body None be ae =
         placed s.requests i (looked t q None) id (call_at t (LookUp i) g (Ok a)) h (open_key, tt) (λ n. record { key = refl; reader = n; bytes = refl }) (fits.requests id)
     by_body (Some w) be ae =
         placed s.requests i (looked t q (Some w)) id (call_at t (LookUp i) g (Ok a)) h (
           open_key,
           subst (λ (x : Answer). ReaderFits i (Unread w.bytes) (call_at t (LookUp i) g (Ok x) ∷ h)) (sym ae)
-              (found_reader t g i q w (at_most t w.fresh_until) h open_key (body_now-is q.key w h (sym (fits.bodies q.key) ∙ be))),
+              (found_reader t g i q w (at_most t w.fresh_until) h open_key (body_now-is (stored_key q.entry) w h (sym (fits.bodies (stored_key q.entry)) ∙ be))),
         )
         (λ n. record { key = refl; reader = n; bytes = refl }) (fits.requests id)
 
@@ -175,7 +177,7 @@ read_fits s t g i a h (Some q) fits e n p id =
 pub unmoved : (s new : State) (c : Call) (h : History) → Fits s h → new.requests ≡ s.requests → ((id : ℕ) → IsOther id c h) → (id : ℕ) → RequestFits id (get new.requests id) (c ∷ h)
 unmoved s new c h fits e other id = subst (λ (m : FinMap nat_cmp Request). RequestFits id (get m id) (c ∷ h)) (sym e) (other_request id (get s.requests id) c h (other id) (fits.requests id))
 
-purge_requests : (s : State) (key : StoredKey) (v : Bool) → (purge_behind s key v).requests ≡ s.requests
+purge_requests : (s : State) (key : FullKey) (v : Bool) → (purge_behind s key v).requests ≡ s.requests
 purge_requests s key true = refl
 purge_requests s key false = refl
 
@@ -188,24 +190,24 @@ put_requests s (Some given.BeforeEpoch) a = refl
 put_requests s (Some (given.Uncacheable reason)) a = refl
 put_requests s None a = refl
 
-back_requests : (v : Bool) (s : State) (key : StoredKey) (es : List StoredKey) → (taken_back v s key es).requests ≡ s.requests
+back_requests : (v : Bool) (s : State) (key : Entry) (es : List Entry) → (taken_back v s key es).requests ≡ s.requests
 back_requests true s key es = refl
 back_requests false s key es = refl
 
 answer_fits : (s : State) (t : Instant) (g : Option Given) (action : Action) (a : Answer) (h : History) → Fits s h → refusal s action ≡ None → IsAnswer s t action g a
     → (id : ℕ) → RequestFits id (get (answered s t action g a).requests id) (call_at t action g (Ok a) ∷ h)
 answer_fits s t g (Open i key) a h fits n p id =
-    subst (λ (x : Answer). RequestFits id (get (insert s.requests i (opened_request key)) id) (call_at t (Open i key) g (Ok x) ∷ h)) (sym p)
-    (placed s.requests i (opened_request key) id (call_at t (Open i key) g (Ok Opened)) h (ap (λ v. cond v (Some key) (opened_key i h)) (itself i), tt)
-    (λ m. record { key = ap (λ v. cond v (Some key) (opened_key id h)) m; reader = refl; bytes = refl }) (fits.requests id))
+    subst (λ (x : Answer). RequestFits id (get (insert s.requests i (opened_request (entry_of key))) id) (call_at t (Open i key) g (Ok x) ∷ h)) (sym p)
+    (placed s.requests i (opened_request (entry_of key)) id (call_at t (Open i key) g (Ok Opened)) h (ap (λ v. cond v (Some (entry_of key)) (opened_for i h)) (itself i), tt)
+    (λ m. record { key = ap (λ v. cond v (Some (entry_of key)) (opened_for id h)) m; reader = refl; bytes = refl }) (fits.requests id))
 answer_fits s t g (LookUp i) a h fits n p id = look_fits s t g i a h (get s.requests i) fits refl p id
 answer_fits s t g (Read i) a h fits n p id = read_fits s t g i a h (get s.requests i) fits refl n p id
 answer_fits s t g (Drop i) a h fits n p id =
     subst (λ (x : Answer). RequestFits id (get (remove s.requests i) id) (call_at t (Drop i) g (Ok x) ∷ h)) (sym p)
-    (ended s.requests i id (call_at t (Drop i) g (Ok Dropped)) h (ap (λ v. cond v None (opened_key i h)) (itself i))
-    (λ m. record { key = ap (λ v. cond v None (opened_key id h)) m; reader = m; bytes = refl }) (fits.requests id))
+    (ended s.requests i id (call_at t (Drop i) g (Ok Dropped)) h (ap (λ v. cond v None (opened_for i h)) (itself i))
+    (λ m. record { key = ap (λ v. cond v None (opened_for id h)) m; reader = m; bytes = refl }) (fits.requests id))
 answer_fits s t g (Purge key) a h fits n p id =
-    unmoved s (purge_behind s key (is_some (body_of key s.bodies))) (call_at t (Purge key) g (Ok a)) h fits (purge_requests s key (is_some (body_of key s.bodies))) (λ i. record { key = refl; reader = refl; bytes = refl }) id
+    unmoved s (purge_behind s key (is_some (body_of (key_asked key) s.bodies))) (call_at t (Purge key) g (Ok a)) h fits (purge_requests s key (is_some (body_of (key_asked key) s.bodies))) (λ i. record { key = refl; reader = refl; bytes = refl }) id
 answer_fits s t g (Put key pieces) a h fits n p id =
     unmoved s (put_behind s g a) (call_at t (Put key pieces) g (Ok a)) h fits (put_requests s g a) (λ i. record { key = refl; reader = refl; bytes = refl }) id
 
@@ -223,7 +225,7 @@ undone_requests s (LookUp i) f = refl
 undone_requests s (Read i) f = refl
 undone_requests s (Drop i) f = refl
 undone_requests s (Purge key) f = refl
-undone_requests s (Put key pieces) f = back_requests (done_of f).stored s key (done_of f).evicted
+undone_requests s (Put key pieces) f = back_requests (done_of f).stored s (entry_of key) (done_of f).evicted
 
 -- no check failed where there is an answer
 pub unrefused : (r : Option TierFault) (s : State) (t : Instant) (g : Option Given) (action : Action) (a : Answer) → refusal s action ≡ r → AllowsBy r s t action g (Ok a) → refusal s action ≡ None

@@ -6,7 +6,7 @@ use Rattle.std.proofs.Math.Seq.{take-append_seam}
 use Rattle.cache_words.specs.Time.{Instant}
 use Rattle.httparse.specs.Grammar.{ResponseHead, ReadsResponse, HasNoResponse, print_response}
 use Rattle.httparse.proofs.GrammarLemmas.{response_prefix_free}
-use Rattle.tier_model.specs.declared.key.StoredKey.{StoredKey}
+use Rattle.tier_model.specs.Keys.{Entry}
 use Rattle.tier_model.specs.declared.given.Given.{Given}
 use Rattle.tier_model.specs.Response.{IsPlain, Gives}
 
@@ -24,8 +24,8 @@ read_none bytes more h rest r l k other s =
     omega (arith, ap length s.1, length-append (print_response k) other, ap (λ (x : ResponseHead). length (print_response x)) same)
 
 -- a head that is read, or the beginning of one, settles what is given
-pub Gives-plain : (arrival : Instant) (key : StoredKey) (bytes : List ℕ) (a b : Given) → IsPlain bytes → Gives arrival key bytes a → Gives arrival key bytes b → a ≡ b
-Gives-plain arrival key bytes a b plain x y =
+pub Gives-plain : (arrival : Instant) (entry : Entry) (bytes : List ℕ) (a b : Given) → IsPlain bytes → Gives arrival entry bytes a → Gives arrival entry bytes b → a ≡ b
+Gives-plain arrival entry bytes a b plain x y =
     let head : ResponseHead = plain.1 in
     elim (cases_lt (length bytes) (length (print_response head))) [
       | inr l ↦

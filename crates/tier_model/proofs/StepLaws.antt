@@ -3,7 +3,8 @@ use Rattle.std.proofs.Common.{◌≡◌, refl, ap, sym, ◌∙◌, true, false, 
 use Rattle.std.specs.Prelude.{Bool, ℕ, List, Option, Some, None, is_some, Ok, Err, ◌⊎◌, ◌&&◌, MatchOption}
 use Rattle.std.specs.FinMap.{get, insert}
 use Rattle.cache_words.specs.Time.{Instant}
-use Rattle.tier_model.specs.declared.key.StoredKey.{StoredKey}
+use Rattle.cache_words.specs.Key.{FullKey}
+use Rattle.tier_entries.specs.Keys.{entry_of, stored_key, same_key, has_key}
 use Rattle.tier_model.specs.declared.given.Given.{Given}
 use Rattle.tier_model.specs.declared.given.Given.TheVariants.{Stored}
 use Rattle.tier_model.specs.declared.given.Given.TheVariants as given
@@ -18,13 +19,13 @@ use Rattle.tier_model.specs.declared.event.Answer.TheVariants.{Opened, Found, Ab
 use Rattle.tier_model.specs.declared.event.Answer.TheVariants as answer
 use Rattle.tier_model.specs.declared.event.Done.{Done}
 use Rattle.tier_model.specs.declared.event.TierFault.{TierFault}
-use Rattle.tier_model.specs.declared.event.TierFault.TheVariants.{NoRequest, IdInUse, WrongPhase, TooHeavy}
-use Rattle.tier_model.specs.Keys.{same_key}
-use Rattle.tier_model.specs.Calls.{Call, History, Outcome, stored_in, is_of, has_key, nothing_done, done_of}
+use Rattle.tier_model.specs.declared.event.TierFault.TheVariants.{NoRequest, IdInUse, WrongPhase}
+use Rattle.tier_model.specs.Keys.{StoredKey, Entry, key_asked}
+use Rattle.tier_model.specs.Calls.{Call, History, Outcome, stored_in, is_of, nothing_done, done_of}
 use Rattle.tier_model.specs.Rows.{body_of, with_body, without_bodies}
 use Rattle.tier_model.specs.State.{State}
-use Rattle.tier_model.specs.Step.{refusal, unless_open, can_look_up, has_reader, AllowsBy, Allows, after, behind, undone, taken_back, look_answer, read_answer, read_behind, use_is_too_heavy, on_request, IsPutAnswer, IsAnswer, IsFault, put_behind, purge_behind, look_behind}
-use Rattle.tier_model.proofs.KeyLaws.{same_key-true}
+use Rattle.tier_model.specs.Step.{refusal, unless_open, can_look_up, has_reader, AllowsBy, Allows, after, behind, undone, taken_back, look_answer, read_answer, read_behind, use_is_too_heavy, body_for, IsUseFault, on_request, IsPutAnswer, IsAnswer, IsFault, put_behind, purge_behind, look_behind}
+use Rattle.tier_entries.proofs.KeyLaws.{same_key-tells}
 use Rattle.tier_model.proofs.BodyLaws.{body_by, body_chosen, body_of-without, body_of-with, body_of-without_all}
 
 abbrev pub stores_nothing : Action → Bool
@@ -65,15 +66,15 @@ unchosen true o new = refl
 unchosen false o new = refl
 
 -- whatever a refused put had done
-put_undone : (s : State) (key : StoredKey) (pieces : List (List ℕ)) (done : Done) (k : StoredKey) (new : Option FinishedBody)
-    → body_of k (undone s (Put key pieces) done).bodies ≡ body_chosen ((done.stored && same_key key k) || has_key k (cond done.stored done.evicted [])) false new (body_of k s.bodies)
+put_undone : (s : State) (key : FullKey) (pieces : List (List ℕ)) (done : Done) (k : StoredKey) (new : Option FinishedBody)
+    → body_of k (undone s (Put key pieces) done).bodies ≡ body_chosen ((done.stored && same_key (key_asked key) k) || has_key k (cond done.stored done.evicted [])) false new (body_of k s.bodies)
 put_undone s key pieces done k new = by_stored done.stored
   where
     by_stored : (v : Bool)
-        → body_of k (taken_back v s key done.evicted).bodies ≡ body_chosen ((v && same_key key k) || has_key k (cond v done.evicted [])) false new (body_of k s.bodies)
+        → body_of k (taken_back v s (entry_of key) done.evicted).bodies ≡ body_chosen ((v && same_key (key_asked key) k) || has_key k (cond v done.evicted [])) false new (body_of k s.bodies)
     by_stored true =
-        body_of-without k key (without_bodies done.evicted s.bodies) ∙ ap (cond (same_key key k) None) (body_of-without_all k done.evicted s.bodies)
-        ∙ both_none (same_key key k) (has_key k done.evicted) (body_of k s.bodies) ∙ unchosen (same_key key k || has_key k done.evicted) (body_of k s.bodies) new
+        body_of-without k (key_asked key) (without_bodies done.evicted s.bodies) ∙ ap (cond (same_key (key_asked key) k) None) (body_of-without_all k done.evicted s.bodies)
+        ∙ both_none (same_key (key_asked key) k) (has_key k done.evicted) (body_of k s.bodies) ∙ unchosen (same_key (key_asked key) k || has_key k done.evicted) (body_of k s.bodies) new
     by_stored false = refl
 
 or_false : (x : Bool) → (x || false) ≡ x
@@ -89,13 +90,13 @@ not_some None e = refl
 not_some (Some b) e = cc
 
 -- what a purge leaves, by whether something was there
-purged : (s : State) (key k : StoredKey) (new : Option FinishedBody) (v : Bool) → is_some (body_of key s.bodies) ≡ v
-    → body_of k (purge_behind s key v).bodies ≡ body_chosen (same_key key k || false) false new (body_of k s.bodies)
+purged : (s : State) (key : FullKey) (k : StoredKey) (new : Option FinishedBody) (v : Bool) → is_some (body_of (key_asked key) s.bodies) ≡ v
+    → body_of k (purge_behind s key v).bodies ≡ body_chosen (same_key (key_asked key) k || false) false new (body_of k s.bodies)
 purged s key k new true e =
-    body_of-without k key s.bodies ∙ unchosen (same_key key k) (body_of k s.bodies) new ∙ ap (λ x. body_chosen x false new (body_of k s.bodies)) (sym (or_false (same_key key k)))
+    body_of-without k (key_asked key) s.bodies ∙ unchosen (same_key (key_asked key) k) (body_of k s.bodies) new ∙ ap (λ x. body_chosen x false new (body_of k s.bodies)) (sym (or_false (same_key (key_asked key) k)))
 purged s key k new false e =
-    gone_none (same_key key k) (body_of k s.bodies) new
-    (λ same. ap (λ (j : StoredKey). body_of j s.bodies) (sym (same_key-true key k same)) ∙ not_some (body_of key s.bodies) e)
+    gone_none (same_key (key_asked key) k) (body_of k s.bodies) new
+    (λ same. ap (λ (j : StoredKey). body_of j s.bodies) (sym (same_key-tells.equal (key_asked key) k same)) ∙ not_some (body_of (key_asked key) s.bodies) e)
 
 with_chosen : (x y : Bool) (b : FinishedBody) (o : Option FinishedBody) → cond x None (cond y (Some b) o) ≡ body_chosen x y (Some b) o
 with_chosen true y b o = refl
@@ -106,17 +107,17 @@ abbrev pub call_at : Instant → Action → Option Given → Outcome → Call
 call_at t action g outcome = record { event = record { moment = t; action = action }; outcome = outcome; given = g }
 
 -- what a put of this body leaves
-put_finished : (s : State) (k : StoredKey) (b : FinishedBody) (n : ℕ) (es : List StoredKey)
-    → body_of k (put_behind s (Some (Stored b)) (Finished n es)).bodies ≡ body_chosen (has_key k es) (same_key b.key k) (Some b) (body_of k s.bodies)
+put_finished : (s : State) (k : StoredKey) (b : FinishedBody) (n : ℕ) (es : List Entry)
+    → body_of k (put_behind s (Some (Stored b)) (Finished n es)).bodies ≡ body_chosen (has_key k es) (same_key (stored_key b.entry) k) (Some b) (body_of k s.bodies)
 put_finished s k b n es =
-    body_of-without_all k es (with_body b s.bodies) ∙ ap (cond (has_key k es) None) (body_of-with k b s.bodies) ∙ with_chosen (has_key k es) (same_key b.key k) b (body_of k s.bodies)
+    body_of-without_all k es (with_body b s.bodies) ∙ ap (cond (has_key k es) None) (body_of-with k b s.bodies) ∙ with_chosen (has_key k es) (same_key (stored_key b.entry) k) b (body_of k s.bodies)
 
 -- how a call changes the body of a key
 Follows : State → Instant → Option Given → Action → Outcome → StoredKey → History → Type 0
 Follows s t g action outcome k h = body_of k (behind s t action g outcome).bodies ≡ body_by k (call_at t action g outcome) h (body_of k s.bodies)
 
 -- a put that is answered anything but finished leaves what a key has
-put_follows_by : (s : State) (k : StoredKey) (n : ℕ) (es : List StoredKey) (g : Option Given) → IsPutAnswer s g (Finished n es)
+put_follows_by : (s : State) (k : StoredKey) (n : ℕ) (es : List Entry) (g : Option Given) → IsPutAnswer s g (Finished n es)
     → body_of k (put_behind s g (Finished n es)).bodies ≡ body_chosen (has_key k es) (is_of k (stored_in g)) (stored_in g) (body_of k s.bodies)
 put_follows_by s k n es (Some (Stored b)) p = put_finished s k b n es
 put_follows_by s k n es (Some given.Incomplete) p = absurd p
@@ -125,7 +126,7 @@ put_follows_by s k n es (Some given.BeforeEpoch) p = absurd p
 put_follows_by s k n es (Some (given.Uncacheable reason)) p = absurd p
 put_follows_by s k n es None p = absurd p
 
-put_follows : (s : State) (t : Instant) (g : Option Given) (key : StoredKey) (pieces : List (List ℕ)) (a : Answer) (k : StoredKey) (h : History)
+put_follows : (s : State) (t : Instant) (g : Option Given) (key : FullKey) (pieces : List (List ℕ)) (a : Answer) (k : StoredKey) (h : History)
     → IsPutAnswer s g a → Follows s t g (Put key pieces) (Ok a) k h
 unfolding Follows
 put_follows s t g key pieces (Finished n es) k h p = put_follows_by s k n es g p
@@ -143,10 +144,10 @@ answer_allowed (Some f) s t g action a p = cc
 answer_allowed None s t g action a p = p
 
 look_follows : (s : State) (t : Instant) (g : Option Given) (id : ℕ) (a : Answer) (k : StoredKey) (h : History) (o : Option Request)
-    → MatchOption o ⊥ (λ q. (a ≡ look_answer t (body_of q.key s.bodies)) × (use_is_too_heavy (body_of q.key s.bodies) s.tracked ≡ false))
-    → body_of k (on_request s o (λ q. look_behind s t id q (body_of q.key s.bodies))).bodies ≡ body_by k (call_at t (LookUp id) g (Ok a)) h (body_of k s.bodies)
+    → MatchOption o ⊥ (λ q. (a ≡ look_answer t (body_for q s.bodies)) × (use_is_too_heavy q.entry (body_for q s.bodies) s.tracked ≡ false))
+    → body_of k (on_request s o (λ q. look_behind s t id q (body_for q s.bodies))).bodies ≡ body_by k (call_at t (LookUp id) g (Ok a)) h (body_of k s.bodies)
 look_follows s t g id a k h None p = absurd p
-look_follows s t g id a k h (Some q) p = by_body (body_of q.key s.bodies) p.0
+look_follows s t g id a k h (Some q) p = by_body (body_for q s.bodies) p.0
   where
     by_body : (b : Option FinishedBody) → a ≡ look_answer t b → body_of k (look_behind s t id q b).bodies ≡ body_by k (call_at t (LookUp id) g (Ok a)) h (body_of k s.bodies)
     by_body None e = subst (λ (x : Answer). body_of k s.bodies ≡ body_by k (call_at t (LookUp id) g (Ok x)) h (body_of k s.bodies)) (sym e) refl
@@ -169,7 +170,7 @@ answer_follows s t g (Open id key) a k h p = subst (λ (x : Answer). Follows s t
 answer_follows s t g (LookUp id) a k h p = look_follows s t g id a k h (get s.requests id) p
 answer_follows s t g (Read id) a k h p = read_follows s t g id a k h (get s.requests id) p
 answer_follows s t g (Drop id) a k h p = subst (λ (x : Answer). Follows s t g (Drop id) (Ok x) k h) (sym p) refl
-answer_follows s t g (Purge key) a k h p = subst (λ (x : Answer). Follows s t g (Purge key) (Ok x) k h) (sym p) (purged s key k None (is_some (body_of key s.bodies)) refl)
+answer_follows s t g (Purge key) a k h p = subst (λ (x : Answer). Follows s t g (Purge key) (Ok x) k h) (sym p) (purged s key k None (is_some (body_of (key_asked key) s.bodies)) refl)
 answer_follows s t g (Put key pieces) a k h p = put_follows s t g key pieces a k h p
 
 -- what is refused: a fault that did nothing leaves the body, and a put's fault what it says
@@ -182,11 +183,11 @@ fault_allowed None s t g action f e p = inr p
 pub did_nothing : (s : State) (t : Instant) (g : Option Given) (action : Action) (f : TierFault) → AllowsBy (refusal s action) s t action g (Err f) → stores_nothing action ≡ true → done_of f ≡ nothing_done
 did_nothing s t g (Put key pieces) f p e = cc
 did_nothing s t g (Open id key) f p e = elim (fault_allowed (refusal s (Open id key)) s t g (Open id key) f refl p) [ inl d ↦ d | inr q ↦ elim q [ inl m ↦ ap done_of m.0 | inr x ↦ absurd x ] ]
-did_nothing s t g (LookUp id) f p e = elim (fault_allowed (refusal s (LookUp id)) s t g (LookUp id) f refl p) [ inl d ↦ d | inr q ↦ elim q [ inl m ↦ ap done_of m.0 | inr x ↦ heavy (get s.requests id) x ] ]
+did_nothing s t g (LookUp id) f p e = elim (fault_allowed (refusal s (LookUp id)) s t g (LookUp id) f refl p) [ inl d ↦ d | inr q ↦ elim q [ inl m ↦ ap done_of m.0 | inr x ↦ unused (get s.requests id) x ] ]
   where
-    heavy : (o : Option Request) → MatchOption o ⊥ (λ q. (f ≡ TooHeavy nothing_done) × (use_is_too_heavy (body_of q.key s.bodies) s.tracked ≡ true)) → done_of f ≡ nothing_done
-    heavy None x = absurd x
-    heavy (Some q) x = ap done_of x.0
+    unused : (o : Option Request) → MatchOption o ⊥ (λ q. IsUseFault s q f) → done_of f ≡ nothing_done
+    unused None x = absurd x
+    unused (Some q) x = elim x [ inl y ↦ ap done_of y.0 | inr y ↦ ap done_of y.0 ]
 did_nothing s t g (Read id) f p e = elim (fault_allowed (refusal s (Read id)) s t g (Read id) f refl p) [ inl d ↦ d | inr q ↦ elim q [ inl m ↦ absurd m.1 | inr x ↦ absurd x ] ]
 did_nothing s t g (Drop id) f p e = elim (fault_allowed (refusal s (Drop id)) s t g (Drop id) f refl p) [ inl d ↦ d | inr q ↦ elim q [ inl m ↦ absurd m.1 | inr x ↦ absurd x ] ]
 did_nothing s t g (Purge key) f p e = elim p [ inl m ↦ absurd m.1 | inr x ↦ absurd x ]

@@ -1,6 +1,6 @@
 -- Calls of a tier, and what one call tells: what it wrote, removed and read.
 use Rattle.std.specs.Prelude.{◌≡◌, ℕ, ◌==◌, Bool, false, ◌&&◌, ◌||◌, List, [], ◌∷◌, ◌++◌, if◌then◌else◌, Option, Some, None, Result, Ok, Err}
-use Rattle.tier_model.specs.declared.key.StoredKey.{StoredKey}
+use Rattle.tier_entries.specs.Keys.{entry_of, stored_key, same_key, has_key}
 use Rattle.tier_model.specs.declared.rows.FinishedBody.{FinishedBody}
 use Rattle.tier_model.specs.declared.given.Given.{Given}
 use Rattle.tier_model.specs.declared.given.Given.TheVariants.{Stored}
@@ -12,7 +12,7 @@ use Rattle.tier_model.specs.declared.event.Answer.TheVariants.{Opened, Found, By
 use Rattle.tier_model.specs.declared.event.Done.{Done}
 use Rattle.tier_model.specs.declared.event.TierFault.{TierFault}
 use Rattle.tier_model.specs.declared.event.TierFault.TheVariants.{NumbersSpent, TooHeavy, TooLong, Memory}
-use Rattle.tier_model.specs.Keys.{same_key}
+use Rattle.tier_model.specs.Keys.{StoredKey, Entry, key_asked}
 
 -- what a call answered, or the fault that refused it
 abbrev pub Outcome : Type 0
@@ -52,34 +52,29 @@ done_of (Memory done) = done
 done_of _ = nothing_done
 
 -- the entries that went before a refusal; where nothing was stored none did
-abbrev pub evicted_before : Done → List StoredKey
+abbrev pub evicted_before : Done → List Entry
 evicted_before done = if done.stored then done.evicted else []
 
 -- the entries that went
-abbrev pub evicted_by : Outcome → List StoredKey
+abbrev pub evicted_by : Outcome → List Entry
 evicted_by (Ok (Finished length evicted)) = evicted
 evicted_by (Ok _) = []
 evicted_by (Err fault) = evicted_before (done_of fault)
 
--- k stands among the keys
-abbrev pub has_key : StoredKey → List StoredKey → Bool
-has_key k [] = false
-has_key k (e ∷ es) = same_key e k || has_key k es
-
 abbrev pub purges : StoredKey → Action → Bool
-purges k (Purge key) = same_key key k
+purges k (Purge key) = same_key (key_asked key) k
 purges k _ = false
 
 -- the event would store under k
 abbrev pub stores_under : StoredKey → Action → Bool
-stores_under k (Put key pieces) = same_key key k
+stores_under k (Put key pieces) = same_key (key_asked key) k
 stores_under k _ = false
 
 abbrev pub was_stored : Outcome → Bool
 was_stored (Ok answer) = false
 was_stored (Err fault) = (done_of fault).stored
 
--- the call is a removal of k: a purge, an eviction, or a refusal behind the storing
+-- the call is a removal of k: a purge, the eviction of an entry with that stored key, or a refusal behind the storing
 abbrev pub removes : StoredKey → Call → Bool
 removes k c = purges k c.event.action || ((was_stored c.outcome && stores_under k c.event.action) || has_key k (evicted_by c.outcome))
 
@@ -98,21 +93,21 @@ written_by c before = body_finished c.event.action c.outcome c.given
 
 abbrev pub is_of : StoredKey → Option FinishedBody → Bool
 is_of k None = false
-is_of k (Some w) = same_key w.key k
+is_of k (Some w) = same_key (stored_key w.entry) k
 
 -- the call finished a body of k
 abbrev pub writes : StoredKey → Call → History → Bool
 writes k c before = is_of k (written_by c before)
 
-abbrev pub key_behind : ℕ → Action → Outcome → Option StoredKey → Option StoredKey
-key_behind id (Open request key) (Ok Opened) old = if request == id then Some key else old
-key_behind id (Drop request) (Ok Dropped) old = if request == id then None else old
-key_behind id _ _ old = old
+abbrev pub entry_behind : ℕ → Action → Outcome → Option Entry → Option Entry
+entry_behind id (Open request key) (Ok Opened) old = if request == id then Some (entry_of key) else old
+entry_behind id (Drop request) (Ok Dropped) old = if request == id then None else old
+entry_behind id _ _ old = old
 
--- the key that a request was last opened for, if it is open
-abbrev pub opened_key : ℕ → History → Option StoredKey
-opened_key id [] = None
-opened_key id (c ∷ h) = key_behind id c.event.action c.outcome (opened_key id h)
+-- the entry that a request was last opened for, if it is open
+abbrev pub opened_for : ℕ → History → Option Entry
+opened_for id [] = None
+opened_for id (c ∷ h) = entry_behind id c.event.action c.outcome (opened_for id h)
 
 abbrev pub is_hit : ℕ → Action → Outcome → Bool
 is_hit id (LookUp request) (Ok (Found fresh complete)) = (request == id) && complete

@@ -1,21 +1,22 @@
 -- The headline: what a history says of the answers in it. It names no state.
 use Rattle.std.specs.Prelude.{◌≡◌, ℕ, true, [], ◌∷◌, ◌++◌, Option, Some, Ok}
 use Rattle.cache_words.specs.Time.{Instant, at_most}
-use Rattle.tier_model.specs.declared.key.StoredKey.{StoredKey}
+use Rattle.tier_entries.specs.Keys.{stored_key}
 use Rattle.tier_model.specs.declared.rows.FinishedBody.{FinishedBody}
 use Rattle.tier_model.specs.declared.event.Action.{Action}
 use Rattle.tier_model.specs.declared.event.Action.TheVariants.{LookUp, Read, Purge}
 use Rattle.tier_model.specs.declared.event.Answer.{Answer}
 use Rattle.tier_model.specs.declared.event.Answer.TheVariants.{Found, Absent, Purged}
-use Rattle.tier_model.specs.Calls.{History, Outcome, opened_key, bytes_read, bytes_answered}
+use Rattle.tier_model.specs.Keys.{StoredKey, Entry, key_asked}
+use Rattle.tier_model.specs.Calls.{History, Outcome, opened_for, bytes_read, bytes_answered}
 use Rattle.tier_model.specs.Histories.{IsFound, IsBody, HasHit, IsWithin}
 use Rattle.tier_model.specs.Use.{BodiesAreTracked, EvictsLawfully}
 
 -- a look-up at t is answered found exactly where a write of its key is alive, and fresh exactly up to its moment
 abbrev pub LooksRight : ℕ → Instant → Answer → History → Type 0
 LooksRight id t (Found fresh complete) h =
-    (k : StoredKey) × (w : FinishedBody) × (opened_key id h ≡ Some k) × IsBody k w h × (fresh ≡ at_most t w.fresh_until) × (complete ≡ true)
-LooksRight id t Absent h = (k : StoredKey) × (opened_key id h ≡ Some k) × (¬ IsFound k h)
+    (e : Entry) × (w : FinishedBody) × (opened_for id h ≡ Some e) × IsBody (stored_key e) w h × (fresh ≡ at_most t w.fresh_until) × (complete ≡ true)
+LooksRight id t Absent h = (e : Entry) × (opened_for id h ≡ Some e) × (¬ IsFound (stored_key e) h)
 LooksRight id t _ h = ⊥
 
 -- what a request read since its complete hit, joined, is the body that the look-up showed, whatever came later
@@ -34,7 +35,7 @@ PurgesRight k _ h = ⊥
 abbrev pub IsRight : Instant → Action → Outcome → History → Type 0
 IsRight t (LookUp id) (Ok answer) h = LooksRight id t answer h
 IsRight t (Read id) (Ok answer) h = ReadsWhole id answer h
-IsRight t (Purge k) (Ok answer) h = PurgesRight k answer h
+IsRight t (Purge key) (Ok answer) h = PurgesRight (key_asked key) answer h
 IsRight t _ _ h = Unit {0}
 
 -- each call is right in the light of the calls before it

@@ -1,10 +1,11 @@
 -- What stands behind a history of calls: writes that are alive, and what a key has.
 use Rattle.std.specs.Prelude.{◌≡◌, ℕ, ◌≤◌, nat_lt, Bool, true, false, List, [], ◌∷◌, ◌++◌, length, Option, Some, None}
 use Rattle.std.specs.List.{AllByRecursion, sum_by}
-use Rattle.tier_model.specs.declared.key.StoredKey.{StoredKey}
+use Rattle.tier_entries.specs.Keys.{stored_key, same_key}
+use Rattle.tier_entries.specs.Rows.{is_past}
 use Rattle.tier_model.specs.declared.rows.FinishedBody.{FinishedBody}
-use Rattle.tier_model.specs.Keys.{same_key}
-use Rattle.tier_model.specs.Calls.{Call, History, removes, written_by, writes, opened_key, hits, ends_reader}
+use Rattle.tier_model.specs.Keys.{StoredKey, Entry}
+use Rattle.tier_model.specs.Calls.{Call, History, removes, written_by, writes, opened_for, hits, ends_reader}
 
 -- w is a write of k that met no removal since it began
 pub record IsAlive (k : StoredKey) (w : FinishedBody) (h : History) : Type 0 where
@@ -13,7 +14,7 @@ pub record IsAlive (k : StoredKey) (w : FinishedBody) (h : History) : Type 0 whe
   pub before : History
   pub split : h ≡ since ++ call ∷ before
   pub writes_it : written_by call before ≡ Some w
-  pub of_key : same_key w.key k ≡ true
+  pub of_key : same_key (stored_key w.entry) k ≡ true
   pub stays : removes k call ≡ false
   pub kept : AllByRecursion (λ c. removes k c ≡ false) since
 
@@ -35,24 +36,20 @@ pub record IsBody (k : StoredKey) (w : FinishedBody) (h : History) : Type 0 wher
 pub record HasHit (id : ℕ) (w : FinishedBody) (since h : History) : Type 0 where
   pub call : Call
   pub before : History
-  pub key : StoredKey
+  pub entry : Entry
   pub split : h ≡ since ++ call ∷ before
   pub hit : hits id call ≡ true
-  pub of_key : opened_key id before ≡ Some key
-  pub shows : IsBody key w before
+  pub of_entry : opened_for id before ≡ Some entry
+  pub shows : IsBody (stored_key entry) w before
   pub last : AllByRecursion (λ c. ends_reader id c ≡ false) since
 
+-- bodies of different stored keys
 abbrev pub HasDistinctKeys : List FinishedBody → Type 0
 HasDistinctKeys [] = Unit {0}
-HasDistinctKeys (b ∷ bs) = AllByRecursion (λ c. same_key c.key b.key ≡ false) bs × HasDistinctKeys bs
-
--- a number is past a bound, if there is one
-abbrev pub is_past : Option ℕ → ℕ → Bool
-is_past None n = false
-is_past (Some bound) n = nat_lt bound n
+HasDistinctKeys (b ∷ bs) = AllByRecursion (λ c. same_key (stored_key c.entry) (stored_key b.entry) ≡ false) bs × HasDistinctKeys bs
 
 -- finished bodies, one a key, keep the weight limit with their bytes, and the watermark with their number
 abbrev pub IsWithin : ℕ → Option ℕ → History → Type 0
 IsWithin limit watermark h =
-    (bodies : List FinishedBody) → HasDistinctKeys bodies → AllByRecursion (λ b. IsBody b.key b h) bodies
+    (bodies : List FinishedBody) → HasDistinctKeys bodies → AllByRecursion (λ b. IsBody (stored_key b.entry) b h) bodies
     → (sum_by (λ b. length b.bytes) bodies ≤ limit) × (is_past watermark (length bodies) ≡ false)

@@ -1,15 +1,17 @@
 -- The report of a tier: of a state, and of the history behind it.
 use Rattle.std.specs.Prelude.{◌≡◌, ℕ, ◌+◌, ◌-◌, ◌^◌, min, Bool, true, false, List, [], ◌∷◌, length, if◌then◌else◌, Some, Ok}
 use Rattle.std.specs.List.{sum_by, AllByRecursion}
-use Rattle.tier_model.specs.declared.key.StoredKey.{StoredKey}
+use Rattle.tier_entries.specs.Keys.{stored_key}
+use Rattle.tier_entries.specs.declared.rows.Tracked.{Tracked}
+use Rattle.tier_entries.specs.Rows.{all_weights}
 use Rattle.tier_model.specs.declared.rows.FinishedBody.{FinishedBody}
-use Rattle.tier_model.specs.declared.rows.Tracked.{Tracked}
 use Rattle.tier_model.specs.declared.event.Answer.TheVariants.{Found, Absent}
 use Rattle.tier_model.specs.declared.report.Report.{Report}
+use Rattle.tier_model.specs.Keys.{StoredKey}
 use Rattle.tier_model.specs.Calls.{History, Outcome, evicted_by}
 use Rattle.tier_model.specs.Histories.{IsBody, HasDistinctKeys}
 use Rattle.tier_model.specs.Use.{IsOrderOfUse}
-use Rattle.tier_model.specs.Rows.{body_of, all_weights}
+use Rattle.tier_model.specs.Rows.{body_of}
 use Rattle.tier_model.specs.State.{State}
 use Rattle.tier_model.specs.Step.{counted}
 
@@ -55,7 +57,7 @@ shown n = min n (2 ^ 64 - 1)
 -- the bodies are all that the history has, each once
 pub record AreAllBodies (bodies : List FinishedBody) (h : History) : Type 0 where
   pub distinct : HasDistinctKeys bodies
-  pub each : AllByRecursion (λ b. IsBody b.key b h) bodies
+  pub each : AllByRecursion (λ b. IsBody (stored_key b.entry) b h) bodies
   pub all : (k : StoredKey) (b : FinishedBody) → IsBody k b h → body_of k bodies ≡ Some b
 
 -- what the report tells of a history

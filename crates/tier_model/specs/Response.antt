@@ -9,7 +9,7 @@ use Rattle.cache_heads.specs.declared.reason.NoCacheReason.TheVariants.{OriginNo
 use Rattle.http_header.specs.Token.{lowercase}
 use Rattle.httparse.specs.Grammar.{ResponseHead, ReadsResponse, HasNoResponse, status_code}
 use Rattle.httparse.specs.Spans.{name_and_value}
-use Rattle.tier_model.specs.declared.key.StoredKey.{StoredKey}
+use Rattle.tier_model.specs.Keys.{Entry}
 use Rattle.tier_model.specs.declared.rows.FinishedBody.{FinishedBody}
 use Rattle.tier_model.specs.declared.given.Given.{Given}
 use Rattle.tier_model.specs.declared.given.Given.TheVariants.{Stored, Uncacheable, Incomplete, BadHead, BeforeEpoch}
@@ -52,19 +52,19 @@ abbrev pub is_before_epoch : Instant → Bool
 is_before_epoch t = int_lt t.seconds (pos 0)
 
 -- a body, if it is whole, and the last moment at which it is fresh, if it may be kept
-abbrev pub given_of : Instant → StoredKey → Option (List ℕ) → Option Instant → Given
-given_of arrival key None until = Incomplete
-given_of arrival key (Some body) None = Uncacheable OriginNotCache
-given_of arrival key (Some body) (Some until) =
+abbrev pub given_of : Instant → Entry → Option (List ℕ) → Option Instant → Given
+given_of arrival entry None until = Incomplete
+given_of arrival entry (Some body) None = Uncacheable OriginNotCache
+given_of arrival entry (Some body) (Some until) =
     if is_before_epoch arrival || is_before_epoch until
     then BeforeEpoch
-    else Stored (record { key = key; bytes = body; fresh_until = until })
+    else Stored (record { entry = entry; bytes = body; fresh_until = until })
 
 -- what a head of this status and these header lines gives, with the bytes behind it. The tier knows no default lifetimes, and
 -- its requests have no Authorization
-unfoldable pub given_by : Instant → StoredKey → ℕ → List (List ℕ × List ℕ) → List ℕ → Given
-given_by arrival key status lines rest =
-    given_of arrival key (body_within (body_length status lines) rest)
+unfoldable pub given_by : Instant → Entry → ℕ → List (List ℕ × List ℕ) → List ℕ → Given
+given_by arrival entry status lines rest =
+    given_of arrival entry (body_within (body_length status lines) rest)
     (fresh_until arrival (values_of (codes "cache-control") lines) (values_of (codes "expires") lines) false None)
 
 -- a head within bounds: at most 256 header lines, names of at most 65535 bytes, a status from 100
@@ -77,10 +77,10 @@ pub record IsReadable (h : ResponseHead) : Type 0 where
 abbrev pub IsPlain : List ℕ → Type 0
 IsPlain bytes = (more : List ℕ) × (h : ResponseHead) × (rest : List ℕ) × ReadsResponse (bytes ++ more) h rest × IsReadable h
 
--- what a response's bytes give, coming for a key at a moment: by its head, where that is whole; a plain beginning of a head is
+-- what a response's bytes give, coming for an entry at a moment: by its head, where that is whole; a plain beginning of a head is
 -- incomplete, and never a bad head. What the parser's lenient options make of other bytes is left open
-pub record Gives (arrival : Instant) (key : StoredKey) (bytes : List ℕ) (given : Given) : Type 0 where
-  pub whole : (h : ResponseHead) (rest : List ℕ) → ReadsResponse bytes h rest → IsReadable h → given ≡ given_by arrival key (status_code h) (map name_and_value h.fields) rest
+pub record Gives (arrival : Instant) (entry : Entry) (bytes : List ℕ) (given : Given) : Type 0 where
+  pub whole : (h : ResponseHead) (rest : List ℕ) → ReadsResponse bytes h rest → IsReadable h → given ≡ given_by arrival entry (status_code h) (map name_and_value h.fields) rest
   pub begun : HasNoResponse bytes → IsPlain bytes → given ≡ Incomplete
   pub refused : given ≡ BadHead → ¬ IsPlain bytes
-  pub of_key : (body : FinishedBody) → given ≡ Stored body → body.key ≡ key
+  pub of_entry : (body : FinishedBody) → given ≡ Stored body → body.entry ≡ entry

@@ -1,10 +1,13 @@
 -- One event: the first refusal, the answers and faults that a state allows, and the state behind them.
-use Rattle.std.specs.Prelude.{◌≡◌, ℕ, ◌+◌, ◌-◌, ◌^◌, min, nat_le, Bool, true, false, List, [], length, if◌then◌else◌, Option, Some, None, is_some, Ok, Err, MatchResult, MatchOption, ◌⊎◌}
+use Rattle.std.specs.Prelude.{◌≡◌, ℕ, ◌+◌, ◌-◌, ◌^◌, min, nat_le, Bool, true, false, ◌&&◌, not, List, [], length, if◌then◌else◌, Option, Some, None, is_some, Ok, Err, MatchResult, MatchOption, ◌⊎◌}
 use Rattle.std.specs.FinMap.{get, insert, remove}
 use Rattle.cache_words.specs.Time.{Instant, at_most}
-use Rattle.tier_model.specs.declared.key.StoredKey.{StoredKey}
+use Rattle.cache_words.specs.Key.{FullKey}
+use Rattle.tier_entries.specs.Keys.{entry_of, stored_key}
+use Rattle.tier_entries.specs.declared.rows.Tracked.{Tracked}
+use Rattle.tier_entries.specs.Rows.{weight_of, all_weights, admitted, used, without_row, without_rows, IsLawfulEviction, IsBegunEviction}
+use Rattle.tier_model.specs.Keys.{Entry, key_asked}
 use Rattle.tier_model.specs.declared.rows.FinishedBody.{FinishedBody}
-use Rattle.tier_model.specs.declared.rows.Tracked.{Tracked}
 use Rattle.tier_model.specs.declared.rows.Request.{Request}
 use Rattle.tier_model.specs.declared.rows.Phase.{Phase}
 use Rattle.tier_model.specs.declared.rows.Phase.TheVariants.{CacheKey, Hit, Stale, Miss}
@@ -21,10 +24,10 @@ use Rattle.tier_model.specs.declared.event.Answer.{Answer}
 use Rattle.tier_model.specs.declared.event.Answer.TheVariants.{Opened, Found, Absent, Bytes, End, Dropped, Purged, Finished}
 use Rattle.tier_model.specs.declared.event.Done.{Done}
 use Rattle.tier_model.specs.declared.event.TierFault.{TierFault}
-use Rattle.tier_model.specs.declared.event.TierFault.TheVariants.{NoRequest, IdInUse, WrongPhase, TooHeavy, Memory}
+use Rattle.tier_model.specs.declared.event.TierFault.TheVariants.{NoRequest, IdInUse, WrongPhase, TooHeavy, TooLong, Memory}
 use Rattle.tier_model.specs.Response.{joined, Gives}
 use Rattle.tier_model.specs.Calls.{Call, Outcome, nothing_done, done_of}
-use Rattle.tier_model.specs.Rows.{body_of, with_body, without_body, without_bodies, all_weights, admitted, used, without_row, without_rows, weight_for, IsLawfulEviction}
+use Rattle.tier_model.specs.Rows.{body_of, with_body, without_body, without_bodies, weight_for}
 use Rattle.tier_model.specs.State.{State}
 
 -- the phases in which a request may look up
@@ -58,8 +61,12 @@ on_request s None f = s
 on_request s (Some q) f = f q
 
 -- a request that was just opened
-abbrev pub opened_request : StoredKey → Request
-opened_request key = record { key = key; phase = CacheKey; reader = Closed }
+abbrev pub opened_request : Entry → Request
+opened_request entry = record { entry = entry; phase = CacheKey; reader = Closed }
+
+-- the body that a request finds
+abbrev pub body_for : Request → List FinishedBody → Option FinishedBody
+body_for q bodies = body_of (stored_key q.entry) bodies
 
 abbrev pub look_answer : Instant → Option FinishedBody → Answer
 look_answer t None = Absent
@@ -67,8 +74,8 @@ look_answer t (Some b) = Found (at_most t b.fresh_until) true
 
 -- a request behind its look-up
 abbrev pub looked : Instant → Request → Option FinishedBody → Request
-looked t q None = record { key = q.key; phase = Miss; reader = Closed }
-looked t q (Some b) = record { key = q.key; phase = if at_most t b.fresh_until then Hit else Stale; reader = Unread b.bytes }
+looked t q None = record q { phase = Miss; reader = Closed }
+looked t q (Some b) = record q { phase = if at_most t b.fresh_until then Hit else Stale; reader = Unread b.bytes }
 
 -- what a reader gives next
 abbrev pub read_answer : Reader → Answer
@@ -84,30 +91,54 @@ read_behind q = record q { reader = Spent }
 abbrev pub stored_alone : Done
 stored_alone = record { stored = true; admitted = false; evicted = [] }
 
+-- the body is stored and its entry admitted, these are evicted, and then the body is taken back
+abbrev pub all_done : List Entry → Done
+all_done evicted = record { stored = true; admitted = true; evicted = evicted }
+
 -- a sum of weights that doesn't fit
 abbrev pub is_too_heavy : ℕ → Bool
 is_too_heavy weights = nat_le (2 ^ 64) weights
 
 -- the weights behind an admission don't fit
 abbrev pub admission_is_too_heavy : FinishedBody → List Tracked → Bool
-admission_is_too_heavy b rows = is_too_heavy (weight_for b + all_weights (without_row b.key rows))
+admission_is_too_heavy b rows = is_too_heavy (weight_for b + all_weights (without_row b.entry rows))
 
 -- the weights behind the use of an entry don't fit; never of a tracked one
-abbrev pub use_is_too_heavy : Option FinishedBody → List Tracked → Bool
-use_is_too_heavy None rows = false
-use_is_too_heavy (Some b) rows = is_too_heavy (all_weights (used b rows))
+abbrev pub use_is_too_heavy : Entry → Option FinishedBody → List Tracked → Bool
+use_is_too_heavy e None rows = false
+use_is_too_heavy e (Some b) rows = is_too_heavy (all_weights (used e (weight_for b) rows))
+
+-- the list is full, and the entry not in it
+abbrev pub is_too_long : Entry → List Tracked → Bool
+is_too_long e rows = nat_le 4294967293 (length rows) && not (is_some (weight_of e rows))
+
+abbrev pub use_is_too_long : Entry → Option FinishedBody → List Tracked → Bool
+use_is_too_long e None rows = false
+use_is_too_long e (Some b) rows = is_too_long e rows
 
 -- what a put may answer, by what its response gives
 abbrev pub IsPutAnswer : State → Option Given → Answer → Type 0
 IsPutAnswer s (Some (Stored b)) (Finished n evicted) =
     (n ≡ length b.bytes) × (admission_is_too_heavy b s.tracked ≡ false)
-    × IsLawfulEviction s.settings.limit s.settings.watermark (admitted b.key (weight_for b) s.tracked) evicted
+    × IsLawfulEviction s.settings.limit s.settings.watermark (admitted b.entry (weight_for b) s.tracked) evicted
 IsPutAnswer s (Some (given.Uncacheable reason)) (answer.Uncacheable shown) = shown ≡ reason
 IsPutAnswer s _ _ = ⊥
 
--- the faults of a put but for memory
+-- memory ran out in the midst of the evictions
+abbrev pub IsCutShort : State → FinishedBody → TierFault → Type 0
+IsCutShort s b f =
+    (evicted : List Entry) × (f ≡ Memory (all_done evicted))
+    × IsBegunEviction s.settings.limit s.settings.watermark (admitted b.entry (weight_for b) s.tracked) evicted
+
+-- why a body that was stored is taken back
+abbrev pub IsStoreFault : State → FinishedBody → TierFault → Type 0
+IsStoreFault s b f =
+    ((f ≡ TooHeavy stored_alone) × (admission_is_too_heavy b s.tracked ≡ true))
+    ⊎ (((f ≡ TooLong stored_alone) × (is_too_long b.entry s.tracked ≡ true)) ⊎ IsCutShort s b f)
+
+-- the faults of a put but for memory that is refused before anything is stored
 abbrev pub IsPutFault : State → Option Given → TierFault → Type 0
-IsPutFault s (Some (Stored b)) f = (f ≡ TooHeavy stored_alone) × (admission_is_too_heavy b s.tracked ≡ true)
+IsPutFault s (Some (Stored b)) f = IsStoreFault s b f
 IsPutFault s (Some given.Incomplete) f = f ≡ fault.Incomplete
 IsPutFault s (Some given.BadHead) f = f ≡ fault.BadHead
 IsPutFault s (Some given.BeforeEpoch) f = f ≡ fault.BeforeEpoch
@@ -115,7 +146,7 @@ IsPutFault s _ f = ⊥
 
 -- what an event's response gives, where it has one and it was read
 abbrev pub IsGiven : Instant → Action → Option Given → Type 0
-IsGiven t (Put key pieces) (Some given) = Gives t key (joined pieces) given
+IsGiven t (Put key pieces) (Some given) = Gives t (entry_of key) (joined pieces) given
 IsGiven t action None = Unit {0}
 IsGiven t action (Some given) = ⊥
 
@@ -123,10 +154,10 @@ IsGiven t action (Some given) = ⊥
 abbrev pub IsAnswer : State → Instant → Action → Option Given → Answer → Type 0
 IsAnswer s t (Open id key) g a = a ≡ Opened
 IsAnswer s t (LookUp id) g a =
-    MatchOption (get s.requests id) ⊥ (λ q. (a ≡ look_answer t (body_of q.key s.bodies)) × (use_is_too_heavy (body_of q.key s.bodies) s.tracked ≡ false))
+    MatchOption (get s.requests id) ⊥ (λ q. (a ≡ look_answer t (body_for q s.bodies)) × (use_is_too_heavy q.entry (body_for q s.bodies) s.tracked ≡ false))
 IsAnswer s t (Read id) g a = MatchOption (get s.requests id) ⊥ (λ q. a ≡ read_answer q.reader)
 IsAnswer s t (Drop id) g a = a ≡ Dropped
-IsAnswer s t (Purge key) g a = a ≡ Purged (is_some (body_of key s.bodies))
+IsAnswer s t (Purge key) g a = a ≡ Purged (is_some (body_of (key_asked key) s.bodies))
 IsAnswer s t (Put key pieces) g a = IsPutAnswer s g a
 
 -- the events for which a growth may be refused
@@ -138,10 +169,16 @@ MayTakeMemory (Drop id) = ⊥
 MayTakeMemory (Purge key) = ⊥
 MayTakeMemory (Put key pieces) = Unit {0}
 
+-- why the entry of what a request found isn't used
+abbrev pub IsUseFault : State → Request → TierFault → Type 0
+IsUseFault s q f =
+    ((f ≡ TooHeavy nothing_done) × (use_is_too_heavy q.entry (body_for q s.bodies) s.tracked ≡ true))
+    ⊎ ((f ≡ TooLong nothing_done) × (use_is_too_long q.entry (body_for q s.bodies) s.tracked ≡ true))
+
 -- the faults that come behind the checks, but for memory
 abbrev pub IsLateFault : State → Action → Option Given → TierFault → Type 0
 IsLateFault s (LookUp id) g f =
-    MatchOption (get s.requests id) ⊥ (λ q. (f ≡ TooHeavy nothing_done) × (use_is_too_heavy (body_of q.key s.bodies) s.tracked ≡ true))
+    MatchOption (get s.requests id) ⊥ (λ q. IsUseFault s q f)
 IsLateFault s (Put key pieces) g f = IsPutFault s g f
 IsLateFault s _ g f = ⊥
 
@@ -165,36 +202,36 @@ counted n more = min (n + more) (2 ^ 64 - 1)
 abbrev pub look_behind : State → Instant → ℕ → Request → Option FinishedBody → State
 look_behind s t id q None = record s { requests = insert s.requests id (looked t q None); absent = counted s.absent 1 }
 look_behind s t id q (Some b) =
-    record s { requests = insert s.requests id (looked t q (Some b)); tracked = used b s.tracked; found = counted s.found 1 }
+    record s { requests = insert s.requests id (looked t q (Some b)); tracked = used q.entry (weight_for b) s.tracked; found = counted s.found 1 }
 
 -- the state behind a put of a body with these evictions
 abbrev pub put_behind : State → Option Given → Answer → State
 put_behind s (Some (Stored b)) (Finished n evicted) =
-    record s { bodies = without_bodies evicted (with_body b s.bodies); tracked = without_rows evicted (admitted b.key (weight_for b) s.tracked); evicted = counted s.evicted (length evicted) }
+    record s { bodies = without_bodies evicted (with_body b s.bodies); tracked = without_rows evicted (admitted b.entry (weight_for b) s.tracked); evicted = counted s.evicted (length evicted) }
 put_behind s _ _ = s
 
 -- the state behind a purge that found something, or nothing
-abbrev pub purge_behind : State → StoredKey → Bool → State
+abbrev pub purge_behind : State → FullKey → Bool → State
 purge_behind s key false = s
-purge_behind s key true = record s { bodies = without_body key s.bodies; tracked = without_row key s.tracked }
+purge_behind s key true = record s { bodies = without_body (key_asked key) s.bodies; tracked = without_row (entry_of key) s.tracked }
 
 -- the state behind an answer
 abbrev pub answered : State → Instant → Action → Option Given → Answer → State
-answered s t (Open id key) g a = record s { requests = insert s.requests id (opened_request key) }
-answered s t (LookUp id) g a = on_request s (get s.requests id) (λ q. look_behind s t id q (body_of q.key s.bodies))
+answered s t (Open id key) g a = record s { requests = insert s.requests id (opened_request (entry_of key)) }
+answered s t (LookUp id) g a = on_request s (get s.requests id) (λ q. look_behind s t id q (body_for q s.bodies))
 answered s t (Read id) g a = on_request s (get s.requests id) (λ q. record s { requests = insert s.requests id (read_behind q) })
 answered s t (Drop id) g a = record s { requests = remove s.requests id }
-answered s t (Purge key) g a = purge_behind s key (is_some (body_of key s.bodies))
+answered s t (Purge key) g a = purge_behind s key (is_some (body_of (key_asked key) s.bodies))
 answered s t (Put key pieces) g a = put_behind s g a
 
--- behind a refusal that had stored a body under a key: that body is gone with its entry, and the evictions are done
-abbrev pub taken_back : Bool → State → StoredKey → List StoredKey → State
-taken_back false s key evicted = s
-taken_back true s key evicted =
-    record s { bodies = without_body key (without_bodies evicted s.bodies); tracked = without_row key (without_rows evicted s.tracked); evicted = counted s.evicted (length evicted) }
+-- behind a refusal that had stored a body under an entry: that body is gone with its entry, and the evictions are done
+abbrev pub taken_back : Bool → State → Entry → List Entry → State
+taken_back false s entry evicted = s
+taken_back true s entry evicted =
+    record s { bodies = without_body (stored_key entry) (without_bodies evicted s.bodies); tracked = without_row entry (without_rows evicted s.tracked); evicted = counted s.evicted (length evicted) }
 
 abbrev pub undone : State → Action → Done → State
-undone s (Put key pieces) done = taken_back done.stored s key done.evicted
+undone s (Put key pieces) done = taken_back done.stored s (entry_of key) done.evicted
 undone s _ done = s
 
 abbrev pub behind : State → Instant → Action → Option Given → Outcome → State

@@ -1,9 +1,9 @@
 //! Events, answers and faults of a tier.
-ghost use Rattle.std.specs.Prelude.{◌≡◌, []};
+ghost use Rattle.std.specs.Prelude.{◌≡◌, [], map};
 
-use crate::key::StoredKey;
 use bytes::Bytes;
 use cache_heads::reason::NoCacheReason;
+use cache_words::key::{CacheKey, CompactCacheKey};
 use cache_words::time::Moment;
 use std::alloc::Global;
 use std::marker::Model;
@@ -19,17 +19,17 @@ pub struct Event {
 #[derive(Debug, Drop)]
 pub enum Action {
     /// Opens a request for a key.
-    Open { request: u64, key: StoredKey },
-    /// Looks the request's key up.
+    Open { request: u64, key: CacheKey },
+    /// Looks up what is stored for the request's key.
     LookUp { request: u64 },
     /// Reads on in what the last look-up found.
     Read { request: u64 },
     /// Ends the request.
     Drop { request: u64 },
-    /// Removes what is stored under a key.
-    Purge { key: StoredKey },
+    /// Removes what is stored for a key, under whatever tag.
+    Purge { key: CacheKey },
     /// Stores the body of a whole response, whose bytes come in pieces.
-    Put { key: StoredKey, pieces: Pieces },
+    Put { key: CacheKey, pieces: Pieces },
 }
 
 /// What a tier answers to an event.
@@ -128,19 +128,21 @@ impl Pieces {
     }
 }
 
-/// Evicted entries, in order.
+/// Evicted entries, in order, each with what it weighed.
 #[derive(Debug, Drop)]
 pub struct Entries {
-    items: Vec<StoredKey>,
+    items: Vec<(CompactCacheKey, usize)>,
 }
 
 impl Model for Entries {
     ghost use Rattle.std.specs.Prelude.{List};
-    ghost use Rattle.tier_model.specs.declared.key.StoredKey.{StoredKey};
+    ghost use Rattle.tier_model.specs.Keys.{Entry};
 
-    ghost Value = { List StoredKey };
+    ghost Value = { List Entry };
 
-    ghost view = { λ e. e.items.items };
+    ghost use Rattle.std.specs.Prelude.{map};
+
+    ghost view = { λ e. map (λ pair. pair.0) e.items.items };
 }
 
 impl Entries {
@@ -154,15 +156,15 @@ impl Entries {
     }
 
     /// These entries. It takes no memory.
-    pub fn from_vec(items: Vec<StoredKey>) -> Entries
-        ensures { result ≡ items.items }
+    pub fn from_vec(items: Vec<(CompactCacheKey, usize)>) -> Entries
+        ensures { result ≡ map (λ pair. pair.0) items.items }
     {
         Entries { items }
     }
 
-    /// The entries.
-    pub fn as_slice(&self) -> &[StoredKey]
-        ensures { result.now ≡ self.now }
+    /// The entries, each with what it weighed.
+    pub fn as_slice(&self) -> &[(CompactCacheKey, usize)]
+        ensures { map (λ pair. pair.0) result.now ≡ self.now }
     {
         &self.items
     }

@@ -3,7 +3,6 @@
 
 pub mod event;
 pub mod given;
-pub mod key;
 pub mod laws;
 pub mod report;
 pub mod requests;

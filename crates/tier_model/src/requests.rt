@@ -1,12 +1,14 @@
 //! The open requests.
-ghost use Rattle.std.specs.Prelude.{◌≡◌, ◌<◌, ◌-◌, ◌+◌, OnOk, OnErr, IsSome, IfSome, option_copied};
+ghost use Rattle.std.specs.Prelude.{◌≡◌, OnOk, OnErr, Some, None, option_copied};
+ghost use Rattle.tier_model.specs.declared.rows.Request.{Request};
 ghost use Rattle.std.specs.FinMap as finite;
 ghost use Rattle.std.specs.Ordering.{nat_cmp};
 
-use crate::rows::Request;
+use crate::rows::{Phase, Reader, Request};
 use std::alloc::{AllocError, Global};
 use std::collections::HashMap;
 use std::marker::Model;
+use std::mem;
 
 /// The open requests by their numbers: a finite map.
 #[derive(Drop)]
@@ -54,16 +56,15 @@ impl Requests {
         Ok(())
     }
 
-    /// Puts a request in the place of the open one of that number, which it hands back. It takes no memory.
-    pub fn replace(&mut self, id: u64, request: Request) -> Option<Request>
-        requires { IsSome (finite.get self.old id) }
-        ensures old { result ≡ finite.get self.old id }
-        ensures new { self.new ≡ finite.insert self.old id request }
+    /// Puts a phase and a reader in the place of those that the open request of that number has, and hands the
+    /// reader back. It takes no memory.
+    pub fn update(&mut self, id: u64, phase: Phase, reader: Reader) -> Option<Reader>
+        ensures some { (q : Request) → finite.get self.old id ≡ Some q → (result ≡ Some q.reader) × (self.new ≡ finite.insert self.old id (record q { phase = phase; reader = reader })) }
+        ensures none { finite.get self.old id ≡ None → (result ≡ None) × (self.new ≡ self.old) }
     {
-        let Ok(old) = self.table.insert(id, request) else {
-            return None;
-        };
-        old
+        let request = self.table.get_mut(&id)?;
+        request.phase = phase;
+        Some(mem::replace(&mut request.reader, reader))
     }
 
     /// Ends the request of that number, if it is open.

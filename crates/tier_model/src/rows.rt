@@ -1,21 +1,14 @@
-//! What a tier holds: finished bodies, entries in the order of use, and open requests.
-use crate::key::StoredKey;
+//! What a tier holds: finished bodies and open requests.
 use bytes::Bytes;
+use cache_words::key::CompactCacheKey;
 use cache_words::time::Moment;
 
-/// A body that was finished under a key, and the last moment at which it is fresh.
+/// A body that was finished under an entry, and the last moment at which it is fresh.
 #[derive(Debug, Drop)]
 pub struct FinishedBody {
-    pub key: StoredKey,
+    pub entry: CompactCacheKey,
     pub bytes: Bytes,
     pub fresh_until: Moment,
-}
-
-/// An entry in the order of use, with what it weighs.
-#[derive(Clone, Copy, Debug)]
-pub struct Tracked {
-    pub key: StoredKey,
-    pub weight: usize,
 }
 
 /// Where a request stands.
@@ -42,10 +35,10 @@ pub enum Reader {
     Spent,
 }
 
-/// An open request.
+/// An open request, and the entry that it was opened for.
 #[derive(Debug, Drop)]
 pub struct Request {
-    pub key: StoredKey,
+    pub entry: CompactCacheKey,
     pub phase: Phase,
     pub reader: Reader,
 }

@@ -1,27 +1,27 @@
 //! Each small type once.
 use crate::event::{Entries, Pieces};
-use crate::key::StoredKey;
 use crate::requests::Requests;
 use crate::rows::{Phase, Reader, Request};
 use bytes::Bytes;
+use cache_words::key::CompactCacheKey;
+use cache_words::text::Text;
+use std::alloc::Global;
 use std::test::Fail;
 
-fn key(last: u8) -> StoredKey {
-    StoredKey { bytes: [last; 16] }
-}
-
-fn opened(last: u8) -> Request {
-    Request {
-        key: key(last),
-        phase: Phase::CacheKey,
-        reader: Reader::Closed,
+fn entry(alloc: Global, last: u8) -> CompactCacheKey {
+    CompactCacheKey {
+        primary: [last; 16],
+        variance: None,
+        user_tag: Text::from_string(String::new(alloc)),
     }
 }
 
-#[test]
-fn keys_are_same_by_their_bytes(rt: HostRuntime) {
-    assert!(rt; key(1).is_same(&key(1)));
-    assert!(rt; !key(1).is_same(&key(2)));
+fn opened(alloc: Global, last: u8) -> Request {
+    Request {
+        entry: entry(alloc, last),
+        phase: Phase::CacheKey,
+        reader: Reader::Closed,
+    }
 }
 
 #[test]
@@ -35,22 +35,40 @@ fn pieces_and_entries_keep_their_order(rt: HostRuntime) -> Result<(), Fail> {
     let first = pieces.as_slice().first().ok_or("no piece")?;
     assert_eq!(rt; first.as_slice(), b"ab".as_slice());
     assert!(rt; Entries::new(alloc).as_slice().is_empty());
-    let entries = Entries::from_vec(vec![in alloc; key(1), key(2)]?);
-    assert_eq!(rt; entries.as_slice(), [key(1), key(2)].as_slice());
+    let entries = Entries::from_vec(vec![in alloc; (entry(alloc, 1), 3), (entry(alloc, 2), 4)]?);
+    let first = entries.as_slice().first().ok_or("no entry")?;
+    assert!(rt; first.0 == entry(alloc, 1));
+    assert_eq!(rt; first.1, 3);
+    assert_eq!(rt; entries.as_slice().len(), 2);
     Ok(())
 }
 
 #[test]
 fn requests_are_found_by_their_numbers(rt: HostRuntime) -> Result<(), Fail> {
-    let mut requests = Requests::new(rt.alloc());
+    let alloc = rt.alloc();
+    let mut requests = Requests::new(alloc);
     assert!(rt; requests.get(7).is_none());
-    requests.insert(7, opened(1))?;
-    requests.insert(8, opened(2))?;
-    assert!(rt; requests.get(7).is_some_and(|request| request.key == key(1)));
+    requests.insert(7, opened(alloc, 1))?;
+    requests.insert(8, opened(alloc, 2))?;
+    assert!(rt;
+        requests
+            .get(7)
+            .is_some_and(|request| request.entry == entry(alloc, 1))
+    );
     assert!(rt; requests.get(8).is_some());
-    let old = requests.replace(8, opened(3));
-    assert!(rt; old.is_some_and(|request| request.key == key(2)));
-    assert!(rt; requests.get(8).is_some_and(|request| request.key == key(3)));
+    let old = requests.update(8, Phase::Miss, Reader::Spent);
+    assert!(rt; old.is_some_and(|reader| matches!(reader, Reader::Closed)));
+    assert!(rt;
+        requests
+            .get(8)
+            .is_some_and(|request| request.phase == Phase::Miss)
+    );
+    assert!(rt;
+        requests
+            .get(7)
+            .is_some_and(|request| request.phase == Phase::CacheKey)
+    );
+    assert!(rt; requests.update(9, Phase::Miss, Reader::Spent).is_none());
     requests.remove(7);
     assert!(rt; requests.get(7).is_none());
     Ok(())
