@@ -9,7 +9,7 @@ use Rattle.std.proofs.lemmas.List.Sums.{sum_by-cons}
 use Rattle.cache_words.specs.Time.{Instant}
 use Rattle.cache_directives.specs.declared.header.ResponseHeader.{ResponseHeader}
 use Rattle.http.specs.StatusCode.{IsStatusCode}
-use Rattle.http_header.specs.HeaderMap.{Entry, Entries, append, append_all, get_all, value_count}
+use Rattle.http_header.specs.HeaderMap.{Entry as MapEntry, Entries, append, append_all, get_all, value_count}
 use Rattle.http_header.specs.FieldValue.{FieldValue, plain_value}
 use Rattle.http_header.specs.Token.{lowercase}
 use Rattle.http_header.specs.Token as token
@@ -44,10 +44,10 @@ use Rattle.cache_heads.specs.declared.reason.RespCacheable.TheVariants as verdic
 value_count-append : (m : Entries FieldValue) (name : List ℕ) (value : FieldValue) → value_count (append m name value) ≡ value_count m + 1
 value_count-append [] name value = refl
 value_count-append (e ∷ m) name value =
-    let values : Entry FieldValue → ℕ = λ e. length e.1 in
+    let values : MapEntry FieldValue → ℕ = λ e. length e.1 in
     elim (cases_Bool (bytes_eq e.0 name)) [
       | inl t ↦
-          let more : Entry FieldValue = (e.0, e.1 ++ value ∷ []) in
+          let more : MapEntry FieldValue = (e.0, e.1 ++ value ∷ []) in
           rw t (omega (arith, sum_by-cons values more m, sum_by-cons values e m, length-append e.1 (value ∷ [])))
       | inr n ↦ rw n (omega (arith, sum_by-cons values e (append m name value), sum_by-cons values e m, value_count-append m name value))
     ]

@@ -1,7 +1,9 @@
 -- Puts, single steps, and a run that goes on by one event.
 use Rattle.std.proofs.Common.{◌≡◌, ℕ, List, Some, None, Ok, Err, MatchResult, [], ◌∷◌, ◌++◌, subst, sym, inl, inr, refl, ap, ◌∙◌}
 use Rattle.cache_words.specs.Time.{Instant}
-use Rattle.tier_model.specs.declared.key.StoredKey.{StoredKey}
+use Rattle.cache_words.specs.Key.{FullKey}
+use Rattle.tier_entries.specs.Keys.{entry_of}
+use Rattle.tier_model.specs.Keys.{Entry}
 use Rattle.tier_model.specs.declared.rows.FinishedBody.{FinishedBody}
 use Rattle.tier_model.specs.declared.given.Given.TheVariants.{Stored}
 use Rattle.tier_model.specs.declared.event.Event.{Event}
@@ -13,14 +15,14 @@ use Rattle.tier_model.specs.Response.{joined, Gives}
 use Rattle.tier_model.specs.State.{State}
 use Rattle.tier_model.specs.Step.{AllowsBy, IsGiven, IsPutAnswer, IsFault, refusal, taken_back, undone}
 use Rattle.tier_model.specs.Past.{Steps, Runs}
-use Rattle.cache_tier.specs.Acts.{AllowsUnrefused, after_action, Takes, IsStoreFault, behind_store}
+use Rattle.cache_tier.specs.Acts.{AllowsUnrefused, after_action, Takes, IsRefusal, behind_store}
 
 -- a body is stored that the response of a put gave
-pub Takes-stored : (old : State) (t : Instant) (key : StoredKey) (pieces : List (List ℕ)) (b : FinishedBody) (o : Outcome) (new : State) → Gives t key (joined pieces) (Stored b)
-    → MatchResult o (IsPutAnswer old (Some (Stored b))) (IsStoreFault old b) → new ≡ behind_store old b o → Takes old t (Put key pieces) o new
+pub Takes-stored : (old : State) (t : Instant) (key : FullKey) (pieces : List (List ℕ)) (b : FinishedBody) (o : Outcome) (new : State) → Gives t (entry_of key) (joined pieces) (Stored b)
+    → MatchResult o (IsPutAnswer old (Some (Stored b))) (IsRefusal old b) → new ≡ behind_store old b o → Takes old t (Put key pieces) o new
 Takes-stored old t key pieces b (Ok a) new gives allowed is = (Some (Stored b), gives, allowed, is)
 Takes-stored old t key pieces b (Err f) new gives allowed is =
-    (Some (Stored b), gives, fault, subst (λ (k : StoredKey). new ≡ taken_back (done_of f).stored old k (done_of f).evicted) (gives.of_key b refl) is)
+    (Some (Stored b), gives, fault, subst (λ (k : Entry). new ≡ taken_back (done_of f).stored old k (done_of f).evicted) (gives.of_entry b refl) is)
   where
     fault : IsFault old (Put key pieces) (Some (Stored b)) f
     fault = elim allowed [ inl memory ↦ inl (memory, tt) | inr late ↦ inr late ]

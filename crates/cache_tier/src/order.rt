@@ -156,10 +156,10 @@ fn evict_last(rows: &mut Vec<Tracked>, bodies: &mut Vec<FinishedBody>) -> (Compa
     ensures shorter { vec_len rows.new < vec_len rows.old }
     ensures bodies { bodies.new.items ≡ without_body (stored_key result.0) bodies.old.items }
 {
-    let Tracked { entry, weight } = rows.pop().unwrap();
-    remove_row(rows, &entry);
-    remove_body(bodies, &stored_key(&entry));
-    (entry, weight)
+    let row = rows.pop().unwrap();
+    remove_row(rows, &row.entry);
+    remove_body(bodies, &stored_key(&row.entry));
+    (row.entry, row.weight)
 }
 
 /// Evicts entries with their bodies, each as the last, until both limits are kept.

@@ -2,7 +2,9 @@
 ghost use Rattle.std.specs.Prelude.{◌≡◌, ◌<◌, ◌^◌, [], ◌∷◌, Some, None, IsSome, IfSome};
 ghost use Rattle.std.specs.Prelude.{MatchResult, IfOk, IfErr, OnOk, OnErr};
 ghost use Rattle.std.specs.FinMap.{get};
-ghost use Rattle.tier_model.specs.Rows.{all_weights, admitted};
+ghost use Rattle.tier_entries.specs.Keys.{entry_of};
+ghost use Rattle.tier_entries.specs.Rows.{all_weights, admitted};
+ghost use Rattle.tier_model.specs.declared.rows.Request.{Request};
 ghost use Rattle.tier_model.specs.State.{empty_state};
 ghost use Rattle.tier_model.specs.Calls.{nothing_done, done_of};
 ghost use Rattle.tier_model.specs.declared.given.Given.TheVariants.{Stored};
@@ -10,23 +12,25 @@ ghost use Rattle.tier_model.specs.Step.{refusal, can_look_up, has_reader};
 ghost use Rattle.tier_model.specs.Step.{read_answer, stored_alone, IsPutAnswer};
 ghost use Rattle.tier_model.specs.Past.{Steps, Runs, HasPast, CarriesHeadline};
 ghost use Rattle.tier_model.specs.Reports.{report_of};
-ghost use Rattle.cache_tier.specs.Acts.{AllowsUnrefused, after_action, hit_behind, Takes, IsStoreFault, behind_store};
+ghost use Rattle.cache_tier.specs.Acts.{AllowsUnrefused, after_action, hit_behind, Takes, IsRefusal, behind_store};
 
 use crate::order::{
     admit, all_bytes, all_weights, body_of, evict, is_too_heavy, put_body, remove_body, remove_row,
-    use_is_too_heavy, used_weight, weight_for,
+    remove_row_of, use_is_too_heavy, used_weight, weight_for,
 };
 use crate::response::given_by_put;
+use cache_words::key::{CacheKey, CompactCacheKey};
 use cache_words::time::{Duration, Moment};
 use rand_core::Rng;
 use std::alloc::{AllocError, Global};
 use std::marker::Model;
+use tier_entries::keys::{copy_of, entry_of, stored_key, stored_key_of};
+use tier_entries::rows::Tracked;
 use tier_model::event::{Action, Answer, Done, Entries, Event, Pieces, TierFault};
 use tier_model::given::Given;
-use tier_model::key::StoredKey;
 use tier_model::report::Report;
 use tier_model::requests::Requests;
-use tier_model::rows::{FinishedBody, Phase, Reader, Request, Tracked};
+use tier_model::rows::{FinishedBody, Phase, Reader, Request};
 
 /// A cache tier over N shards.
 #[derive(Drop)]
@@ -47,7 +51,7 @@ pub struct Tier<const N: usize> {
 impl<const N: usize> Model for Tier<N> {
     ghost use Rattle.std.specs.Prelude.{◌<◌, ◌^◌};
     ghost use Rattle.tier_model.specs.State.{State};
-    ghost use Rattle.tier_model.specs.Rows.{all_weights};
+    ghost use Rattle.tier_entries.specs.Rows.{all_weights};
     ghost use Rattle.cache_tier.specs.Codes.{state_code};
 
     ghost Value = { State };
@@ -177,12 +181,15 @@ impl Tier<1> {
         }
     }
 
-    fn open(&mut self, moment: Moment, id: u64, key: StoredKey) -> Result<Answer, TierFault>
-        ensures allowed { AllowsUnrefused self.old moment (Action.Open id key) result }
-        ensures after { self.new ≡ after_action self.old moment (Action.Open id key) result }
+    fn open(&mut self, moment: Moment, id: u64, key: &CacheKey) -> Result<Answer, TierFault>
+        ensures allowed { AllowsUnrefused self.old moment (Action.Open id key.now) result }
+        ensures after { self.new ≡ after_action self.old moment (Action.Open id key.now) result }
     {
+        let Ok(entry) = entry_of(key) else {
+            return Err(TierFault::Memory(nothing_done(self.alloc)));
+        };
         let request = Request {
-            key,
+            entry,
             phase: Phase::CacheKey,
             reader: Reader::Closed,
         };
@@ -192,22 +199,22 @@ impl Tier<1> {
         Ok(Answer::Opened)
     }
 
-    // Uses an entry for a request that found its body.
+    // Uses the entry of a request that found a body: it moves to the front with this weight.
     fn hit(
         &mut self,
         id: u64,
-        next: Request,
-        entry: StoredKey,
+        phase: Phase,
+        reader: Reader,
+        entry: CompactCacheKey,
         weight: usize,
     ) -> Result<(), AllocError>
-        requires open { IsSome (get self.old.requests id) }
         requires fits { all_weights (admitted entry weight self.old.tracked) < 2 ^ 64 }
-        ensures ok { OnOk result (self.new ≡ hit_behind self.old id next entry weight) }
+        ensures ok { OnOk result ((q : Request) → get self.old.requests id ≡ Some q → q.entry ≡ entry → self.new ≡ hit_behind self.old id q phase reader weight) }
         ensures err { OnErr result (self.new ≡ self.old) }
     {
         self.tracked.reserve(1)?;
         admit(&mut self.tracked, entry, weight);
-        let _old = self.requests.replace(id, next);
+        let _old = self.requests.update(id, phase, reader);
         self.found = self.found.saturating_add(1);
         Ok(())
     }
@@ -220,32 +227,27 @@ impl Tier<1> {
         let Some(request) = self.requests.get(id) else {
             return Err(TierFault::NoRequest);
         };
-        let key = request.key;
-        let Some(body) = body_of(&self.bodies, &key) else {
-            let next = Request {
-                key,
-                phase: Phase::Miss,
-                reader: Reader::Closed,
-            };
-            let _old = self.requests.replace(id, next);
+        let Some(body) = body_of(&self.bodies, &stored_key(&request.entry)) else {
+            let _old = self.requests.update(id, Phase::Miss, Reader::Closed);
             self.absent = self.absent.saturating_add(1);
             return Ok(Answer::Absent);
         };
-        if use_is_too_heavy(&self.tracked, body) {
+        if use_is_too_heavy(&self.tracked, &request.entry, body) {
             return Err(TierFault::TooHeavy(nothing_done(self.alloc)));
         }
         let Ok(bytes) = body.bytes.clone() else {
             return Err(TierFault::Memory(nothing_done(self.alloc)));
         };
-        let fresh = moment.is_at_most(&body.fresh_until);
-        let next = Request {
-            key,
-            phase: if fresh { Phase::Hit } else { Phase::Stale },
-            reader: Reader::Unread(bytes),
+        let Ok(entry) = copy_of(&request.entry) else {
+            return Err(TierFault::Memory(nothing_done(self.alloc)));
         };
-        let entry = body.key;
-        let weight = used_weight(&self.tracked, body);
-        if self.hit(id, next, entry, weight).is_err() {
+        let fresh = moment.is_at_most(&body.fresh_until);
+        let phase = if fresh { Phase::Hit } else { Phase::Stale };
+        let weight = used_weight(&self.tracked, &entry, body);
+        if self
+            .hit(id, phase, Reader::Unread(bytes), entry, weight)
+            .is_err()
+        {
             return Err(TierFault::Memory(nothing_done(self.alloc)));
         }
         Ok(Answer::Found {
@@ -262,15 +264,11 @@ impl Tier<1> {
         let Some(request) = self.requests.get(id) else {
             return Err(TierFault::NoRequest);
         };
-        let next = Request {
-            key: request.key,
-            phase: request.phase,
-            reader: Reader::Spent,
-        };
-        let Some(read) = self.requests.replace(id, next) else {
+        let phase = request.phase;
+        let Some(reader) = self.requests.update(id, phase, Reader::Spent) else {
             return Err(TierFault::NoRequest);
         };
-        Ok(read_answer(read.reader))
+        Ok(read_answer(reader))
     }
 
     fn drop_request(&mut self, moment: Moment, id: u64) -> Result<Answer, TierFault>
@@ -281,27 +279,28 @@ impl Tier<1> {
         Ok(Answer::Dropped)
     }
 
-    fn purge(&mut self, moment: Moment, key: StoredKey) -> Result<Answer, TierFault>
-        ensures allowed { AllowsUnrefused self.old moment (Action.Purge key) result }
-        ensures after { self.new ≡ after_action self.old moment (Action.Purge key) result }
+    fn purge(&mut self, moment: Moment, key: &CacheKey) -> Result<Answer, TierFault>
+        ensures allowed { AllowsUnrefused self.old moment (Action.Purge key.now) result }
+        ensures after { self.new ≡ after_action self.old moment (Action.Purge key.now) result }
     {
-        if body_of(&self.bodies, &key).is_none() {
+        let stored = stored_key_of(key);
+        if body_of(&self.bodies, &stored).is_none() {
             return Ok(Answer::Purged(false));
         }
-        remove_body(&mut self.bodies, &key);
-        remove_row(&mut self.tracked, &key);
+        remove_body(&mut self.bodies, &stored);
+        remove_row_of(&mut self.tracked, key);
         Ok(Answer::Purged(true))
     }
 
     // Stores a body, admits its entry, and evicts what passes a limit.
     fn store(&mut self, body: FinishedBody) -> Result<Answer, TierFault>
-        ensures allowed { MatchResult result (IsPutAnswer self.old (Some (Stored body))) (IsStoreFault self.old body) }
+        ensures allowed { MatchResult result (IsPutAnswer self.old (Some (Stored body))) (IsRefusal self.old body) }
         ensures after { self.new ≡ behind_store self.old body result }
     {
         let weight = weight_for(&body);
-        if is_too_heavy(&self.tracked, &body.key, weight) {
-            remove_body(&mut self.bodies, &body.key);
-            remove_row(&mut self.tracked, &body.key);
+        if is_too_heavy(&self.tracked, &body.entry, weight) {
+            remove_body(&mut self.bodies, &stored_key(&body.entry));
+            remove_row(&mut self.tracked, &body.entry);
             return Err(TierFault::TooHeavy(stored_alone(self.alloc)));
         }
         if self.bodies.reserve(1).is_err() {
@@ -313,8 +312,11 @@ impl Tier<1> {
         let Ok(mut evicted) = Vec::with_capacity(self.alloc, self.tracked.len() + 1) else {
             return Err(TierFault::Memory(nothing_done(self.alloc)));
         };
+        let Ok(entry) = copy_of(&body.entry) else {
+            return Err(TierFault::Memory(nothing_done(self.alloc)));
+        };
         let length = body.bytes.len();
-        admit(&mut self.tracked, body.key, weight);
+        admit(&mut self.tracked, entry, weight);
         put_body(&mut self.bodies, body);
         evict(
             self.limit,
@@ -330,10 +332,13 @@ impl Tier<1> {
         })
     }
 
-    fn put(&mut self, moment: Moment, key: StoredKey, pieces: &Pieces) -> Result<Answer, TierFault>
-        ensures { Takes self.old moment (Action.Put key pieces.now) result self.new }
+    fn put(&mut self, moment: Moment, key: &CacheKey, pieces: &Pieces) -> Result<Answer, TierFault>
+        ensures { Takes self.old moment (Action.Put key.now pieces.now) result self.new }
     {
-        let Ok(given) = given_by_put(self.alloc, moment, key, pieces) else {
+        let Ok(entry) = entry_of(key) else {
+            return Err(TierFault::Memory(nothing_done(self.alloc)));
+        };
+        let Ok(given) = given_by_put(self.alloc, moment, entry, pieces) else {
             return Err(TierFault::Memory(nothing_done(self.alloc)));
         };
         match given {
@@ -352,12 +357,12 @@ impl Tier<1> {
             return Err(fault);
         }
         match &event.action {
-            Action::Open { request, key } => self.open(event.moment, *request, *key),
+            Action::Open { request, key } => self.open(event.moment, *request, key),
             Action::LookUp { request } => self.look_up(event.moment, *request),
             Action::Read { request } => self.read(event.moment, *request),
             Action::Drop { request } => self.drop_request(event.moment, *request),
-            Action::Purge { key } => self.purge(event.moment, *key),
-            Action::Put { key, pieces } => self.put(event.moment, *key, pieces),
+            Action::Purge { key } => self.purge(event.moment, key),
+            Action::Put { key, pieces } => self.put(event.moment, key, pieces),
         }
     }
 

@@ -37,7 +37,7 @@ pub fn stored_key_of(key: &CacheKey) -> HashBinary
 pub fn has_stored_key(entry: &CompactCacheKey, key: &HashBinary) -> bool
     ensures { result ≡ same_key (stored_key entry.now) key.now }
 {
-    entry.combined_bin() == *key
+    stored_key(entry) == *key
 }
 
 /// Whether both are one entry, the tag too.

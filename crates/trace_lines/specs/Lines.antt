@@ -2,12 +2,12 @@
 use Rattle.std.specs.Prelude.{◌≡◌, ℕ, ◌^◌, pos, nat_lt, Bool, true, false, List, [], ◌∷◌, codes, if◌then◌else◌, Option, Some, None, option_map, option_and_then, unwrap_or, Result, Ok, Err, ⊤}
 use Rattle.std.specs.Result.{result_ok}
 use Rattle.std.specs.Str.{bytes_eq, is_utf8}
-use Rattle.hex.specs.Hex.{decode_of, decode_sized}
+use Rattle.hex.specs.Hex.{decode_of}
 use Rattle.serde_json.specs.Data.{Data, Items, no_items, item, Members}
 use Rattle.serde_json.specs.Find.{get, as_array, as_bool, as_number, as_object, as_str, as_u64}
 use Rattle.serde_json.specs.Read.{read}
 use Rattle.cache_words.specs.Time.{Instant, from_seconds}
-use Rattle.tier_model.specs.declared.key.StoredKey.{StoredKey}
+use Rattle.cache_words.specs.Key.{FullKey}
 use Rattle.tier_model.specs.declared.event.Event.{Event}
 use Rattle.tier_model.specs.declared.event.Action.{Action}
 use Rattle.tier_model.specs.declared.event.Action.TheVariants.{Open, LookUp, Read, Drop, Purge, Put}
@@ -55,15 +55,13 @@ moment_of d = or_refused (Field At) (option_and_then moment_at (number_of (get (
 abbrev pub id_of : Data → Result ℕ Refusal
 id_of d = or_refused (Field Id) (number_of (get (codes "id") d))
 
--- 32 hex digits of either case
-abbrev pub key_in : List ℕ → Option StoredKey
-key_in text = option_map (λ bytes. record { bytes = bytes }) (result_ok (decode_sized text 16))
+-- the bytes that pairs of hex digits of either case spell
+abbrev pub hex_bytes : List ℕ → Option (List ℕ)
+hex_bytes text = result_ok (decode_of text)
 
-abbrev pub bare_key_of : Data → Result StoredKey Refusal
-bare_key_of d = or_refused (Field Key) (option_and_then key_in (text_of (get (codes "key") d)))
-
-abbrev pub is_empty_text : Data → Bool
-is_empty_text d = unwrap_or (option_map (λ text. bytes_eq text []) (as_str d)) false
+-- the bytes that a key names
+abbrev pub primary_of : Data → Result (List ℕ) Refusal
+primary_of d = or_refused (Field Key) (option_and_then hex_bytes (text_of (get (codes "key") d)))
 
 abbrev pub is_false : Data → Bool
 is_false d = unwrap_or (option_map (λ flag. if flag then false else true) (as_bool d)) false
@@ -73,23 +71,27 @@ abbrev pub is_absent_or : (Data → Bool) → Option Data → Bool
 is_absent_or test None = true
 is_absent_or test (Some d) = test d
 
--- no tag but the empty one
-abbrev pub tag_of : Data → Result ⊤ Refusal
-tag_of d = checked Tag (is_absent_or is_empty_text (get (codes "tag") d))
+-- any text, and the empty one where the field is left out
+abbrev pub tag_in : Option Data → Option (List ℕ)
+tag_in None = Some []
+tag_in (Some d) = as_str d
+
+abbrev pub tag_of : Data → Result (List ℕ) Refusal
+tag_of d = or_refused (Field Tag) (tag_in (get (codes "tag") d))
 
 -- no lock
 abbrev pub lock_of : Data → Result ⊤ Refusal
 lock_of d = checked Lock (is_absent_or is_false (get (codes "lock") d))
 
-abbrev pub key_of : Data → Result StoredKey Refusal
+abbrev pub key_of : Data → Result FullKey Refusal
 key_of d = do
-  key ← bare_key_of d
+  primary ← primary_of d
   tag ← tag_of d
-  Ok key
+  Ok (record { primary = primary; primary_bin_override = None; variance = None; user_tag = tag })
 
 -- the bytes of a hex text, of either case
 abbrev pub bytes_of : Data → Option (List ℕ)
-bytes_of d = option_and_then (λ text. result_ok (decode_of text)) (as_str d)
+bytes_of d = option_and_then hex_bytes (as_str d)
 
 abbrev pub all_bytes_of : Items → Option (List (List ℕ))
 all_bytes_of no_items = Some []

@@ -1,16 +1,16 @@
 //! The fields of a line.
-ghost use Rattle.std.specs.Prelude.{◌≡◌, ◌++◌, map, option_map, IfOk};
+ghost use Rattle.std.specs.Prelude.{◌≡◌, ◌++◌, map, option_map, IfOk, string_bytes};
 ghost use Rattle.serde_json.specs.View.{view, items_view};
-ghost use Rattle.trace_lines.specs.Lines.{moment_of, id_of, bare_key_of, tag_of, lock_of, key_of, bytes_of, all_bytes_of, pieces_of, operation_named, operation_of, IsRead};
+ghost use Rattle.trace_lines.specs.Lines.{moment_of, id_of, primary_of, tag_of, lock_of, key_of, bytes_of, all_bytes_of, pieces_of, operation_named, operation_of, IsRead, IsReadAs};
 
 use crate::line::{FieldName, Operation, Refusal, Stop};
 use bytes::Bytes;
+use cache_words::key::CacheKey;
 use cache_words::time::Moment;
 use hex::FromHexError;
 use serde_json::Value;
 use std::alloc::{AllocError, Global};
 use tier_model::event::Pieces;
-use tier_model::key::StoredKey;
 
 // A moment's seconds fit in 63 bits.
 const MOMENT_END: u64 = 1 << 63;
@@ -61,37 +61,37 @@ pub(crate) fn id(value: &Value) -> Result<u64, Refusal>
         .ok_or(Refusal::Field(FieldName::Id))
 }
 
-/// The stored key, whose tag is empty.
-pub(crate) fn key(value: &Value) -> Result<StoredKey, Refusal>
-    ensures { result ≡ key_of (view value.now) }
+/// The key: the bytes that it names, and its tag.
+pub(crate) fn key(alloc: Global, value: &Value) -> Result<CacheKey, Stop>
+    ensures { IsRead result (key_of (view value.now)) }
 {
-    let key = bare_key(value)?;
-    check_tag(value)?;
-    Ok(key)
+    let primary = primary(alloc, value)?;
+    let tag = tag(alloc, value)?;
+    Ok(CacheKey::new(primary, tag))
 }
 
-fn bare_key(value: &Value) -> Result<StoredKey, Refusal>
-    ensures { result ≡ bare_key_of (view value.now) }
+fn primary(alloc: Global, value: &Value) -> Result<Vec<u8>, Stop>
+    ensures { IsReadAs (λ bytes. bytes.items) result (primary_of (view value.now)) }
 {
     let Some(text) = value.get("key").and_then(Value::as_str) else {
-        return Err(Refusal::Field(FieldName::Key));
+        return Err(Stop::Refused(Refusal::Field(FieldName::Key)));
     };
-    let mut bytes = [0; 16];
-    match hex::decode_to_slice(text, &mut bytes) {
-        Ok(()) => Ok(StoredKey { bytes }),
-        Err(_) => Err(Refusal::Field(FieldName::Key)),
+    match hex::decode(alloc, text) {
+        Ok(bytes) => Ok(bytes),
+        Err(FromHexError::OutOfMemory) => Err(Stop::Memory),
+        Err(_) => Err(Stop::Refused(Refusal::Field(FieldName::Key))),
     }
 }
 
-fn check_tag(value: &Value) -> Result<(), Refusal>
-    ensures { result ≡ tag_of (view value.now) }
+fn tag(alloc: Global, value: &Value) -> Result<String, Stop>
+    ensures { IsReadAs string_bytes result (tag_of (view value.now)) }
 {
     let Some(tag) = value.get("tag") else {
-        return Ok(());
+        return Ok(String::new(alloc));
     };
     match tag.as_str() {
-        Some("") => Ok(()),
-        _ => Err(Refusal::Field(FieldName::Tag)),
+        Some(text) => Ok(String::from_str(alloc, text)?),
+        None => Err(Stop::Refused(Refusal::Field(FieldName::Tag))),
     }
 }
 

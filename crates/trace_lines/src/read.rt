@@ -55,7 +55,7 @@ fn action(alloc: Global, operation: Operation, value: &Value) -> Result<Action, 
     ensures { IsRead result (action_of operation (view value.now)) }
 {
     match operation {
-        Operation::Open => Ok(open(value)?),
+        Operation::Open => open(alloc, value),
         Operation::LookUp => Ok(Action::LookUp {
             request: fields::id(value)?,
         }),
@@ -66,17 +66,17 @@ fn action(alloc: Global, operation: Operation, value: &Value) -> Result<Action, 
             request: fields::id(value)?,
         }),
         Operation::Purge => Ok(Action::Purge {
-            key: fields::key(value)?,
+            key: fields::key(alloc, value)?,
         }),
         Operation::Put => put(alloc, value),
     }
 }
 
-fn open(value: &Value) -> Result<Action, Refusal>
-    ensures { result ≡ action_of Operation.Open (view value.now) }
+fn open(alloc: Global, value: &Value) -> Result<Action, Stop>
+    ensures { IsRead result (action_of Operation.Open (view value.now)) }
 {
     let request = fields::id(value)?;
-    let key = fields::key(value)?;
+    let key = fields::key(alloc, value)?;
     fields::check_lock(value)?;
     Ok(Action::Open { request, key })
 }
@@ -84,7 +84,7 @@ fn open(value: &Value) -> Result<Action, Refusal>
 fn put(alloc: Global, value: &Value) -> Result<Action, Stop>
     ensures { IsRead result (action_of Operation.Put (view value.now)) }
 {
-    let key = fields::key(value)?;
+    let key = fields::key(alloc, value)?;
     let pieces = fields::pieces(alloc, value)?;
     Ok(Action::Put { key, pieces })
 }

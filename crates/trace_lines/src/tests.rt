@@ -2,16 +2,26 @@ use crate::line::{Line, Refusal};
 use crate::read::read_line;
 use crate::text::{outcome_line, refusal_line, report_line};
 use bytes::Bytes;
+use cache_words::key::{CacheHashKey, CacheKey, CompactCacheKey};
+use cache_words::text::Text;
 use std::alloc::{AllocError, Global};
 use std::process::Abort;
 use std::test::Fail;
 use tier_model::event::{Action, Answer, Done, Entries, TierFault};
-use tier_model::key::StoredKey;
 use tier_model::report::Report;
 
-const KEY: StoredKey = StoredKey {
-    bytes: [0, 0, 0, 0, 0, 0, 0, 0, 0, 0, 0, 0, 0, 0, 0, 0x6a],
-};
+// Whether the key is that of the lines below, with this tag.
+fn is_wanted(key: &CacheKey, tag: &str) -> bool {
+    key.primary_key() == b"\0\x6a".as_slice() && key.user_tag() == tag
+}
+
+fn entry(alloc: Global) -> CompactCacheKey {
+    CompactCacheKey {
+        primary: [1; 16],
+        variance: None,
+        user_tag: Text::from_string(String::new(alloc)),
+    }
+}
 
 // The line that a refused line is answered with.
 fn refused(alloc: Global, line: &[u8]) -> Result<Option<String>, AllocError> {
@@ -56,29 +66,37 @@ fn bad_lines_are_refused(rt: HostRuntime) -> Result<(), Fail> {
 
 #[test]
 fn bad_fields_are_refused(rt: HostRuntime) -> Result<(), Fail> {
-    let table: [(&[u8], &str); 6] = [
+    let table: [(&[u8], &str); 8] = [
         (
             b"{\"op\":\"purge\",\"at\":1,\"key\":\"6\"}",
             "refused Field key",
+        ),
+        (
+            b"{\"op\":\"purge\",\"at\":1,\"key\":\"6g\",\"tag\":1}",
+            "refused Field key",
+        ),
+        (
+            b"{\"op\":\"purge\",\"at\":1,\"key\":\"\",\"tag\":1}",
+            "refused Field tag",
         ),
         (
             b"{\"op\":\"purge\",\"at\":-0,\"key\":\"6\"}",
             "refused Field at",
         ),
         (
-            b"{\"op\":\"purge\",\"at\":1,\"tag\":null,\"key\":\"0000000000000000000000000000006a\"}",
+            b"{\"op\":\"purge\",\"at\":1,\"tag\":null,\"key\":\"006a\"}",
             "refused Field tag",
         ),
         (
-            b"{\"op\":\"open\",\"at\":1,\"id\":0,\"lock\":true,\"key\":\"0000000000000000000000000000006A\"}",
+            b"{\"op\":\"open\",\"at\":1,\"id\":0,\"lock\":true,\"key\":\"006A\"}",
             "refused Field lock",
         ),
         (
-            b"{\"op\":\"put\",\"at\":1,\"pieces\":[1],\"key\":\"0000000000000000000000000000006a\"}",
+            b"{\"op\":\"put\",\"at\":1,\"pieces\":[1],\"key\":\"006a\"}",
             "refused Field pieces",
         ),
         (
-            b"{\"op\":\"put\",\"at\":1,\"pieces\":[\"616\"],\"key\":\"0000000000000000000000000000006a\"}",
+            b"{\"op\":\"put\",\"at\":1,\"pieces\":[\"616\"],\"key\":\"006a\"}",
             "refused Field pieces",
         ),
     ];
@@ -91,7 +109,7 @@ fn bad_fields_are_refused(rt: HostRuntime) -> Result<(), Fail> {
 #[test]
 fn a_put_is_asked(rt: HostRuntime) -> Result<(), Fail> {
     let line =
-        b" {\"op\":\"look\",\"at\":9223372036854775807,\"id\":true,\"tag\":\"\",\"op\":\"put\",\"key\":\"0000000000000000000000000000006A\",\"pieces\":[\"\",\"0aFf\"]}\r";
+        b" {\"op\":\"look\",\"at\":9223372036854775807,\"id\":true,\"tag\":\"t\",\"op\":\"put\",\"key\":\"006A\",\"pieces\":[\"\",\"0aFf\"]}\r";
     let Line::Asked(event) = read_line(rt.alloc(), line)? else {
         return Err(Fail::from("it is refused"));
     };
@@ -99,7 +117,7 @@ fn a_put_is_asked(rt: HostRuntime) -> Result<(), Fail> {
     let Action::Put { key, pieces } = &event.action else {
         return Err(Fail::from("it is no put"));
     };
-    assert!(rt; key.is_same(&KEY));
+    assert!(rt; is_wanted(key, "t"));
     let pieces = pieces.as_slice();
     assert_eq!(rt; pieces.len(), 2);
     assert!(rt; pieces[0].as_slice().is_empty());
@@ -111,26 +129,23 @@ fn a_put_is_asked(rt: HostRuntime) -> Result<(), Fail> {
 fn every_other_event_is_asked(rt: HostRuntime) -> Result<(), Fail> {
     let table: [(&[u8], u8); 5] = [
         (
-            b"{\"op\":\"open\",\"at\":0,\"id\":7,\"lock\":false,\"key\":\"0000000000000000000000000000006a\"}",
+            b"{\"op\":\"open\",\"at\":0,\"id\":7,\"lock\":false,\"key\":\"006a\"}",
             0,
         ),
         (b"{\"op\":\"look\",\"at\":0,\"id\":7}", 1),
         (b"{\"op\":\"read\",\"at\":0,\"id\":7,\"key\":0}", 2),
         (b"{\"op\":\"drop\",\"at\":0,\"id\":7}", 3),
-        (
-            b"{\"op\":\"purge\",\"at\":0,\"key\":\"0000000000000000000000000000006a\"}",
-            4,
-        ),
+        (b"{\"op\":\"purge\",\"at\":0,\"key\":\"006a\"}", 4),
     ];
     for (line, want) in table {
         let asked = match &read_line(rt.alloc(), line)? {
             Line::Refused(_) => None,
             Line::Asked(event) => match &event.action {
-                Action::Open { request: 7, key } if key.is_same(&KEY) => Some(0),
+                Action::Open { request: 7, key } if is_wanted(key, "") => Some(0),
                 Action::LookUp { request: 7 } => Some(1),
                 Action::Read { request: 7 } => Some(2),
                 Action::Drop { request: 7 } => Some(3),
-                Action::Purge { key } if key.is_same(&KEY) => Some(4),
+                Action::Purge { key } if is_wanted(key, "") => Some(4),
                 _ => None,
             },
         };
@@ -162,7 +177,7 @@ fn answers_are_written(rt: HostRuntime) -> Result<(), Fail> {
     assert_written(&rt, alloc, Ok(Answer::Bytes(body)), "bytes 6162ff")?;
     let finished = Answer::Finished {
         length: 3,
-        evicted: Entries::from_vec([KEY, KEY].to_vec(alloc)?),
+        evicted: Entries::from_vec(vec![in alloc; (entry(alloc), 1), (entry(alloc), 2)]?),
     };
     assert_written(&rt, alloc, Ok(finished), "finished 3 evicted=2")?;
     let done = Done {
@@ -200,8 +215,7 @@ fn a_report_is_written(rt: HostRuntime) -> Result<(), Fail> {
 // With memory refused at one point the whole line is given up, or it is read as ever.
 #[test]
 fn want_of_memory_gives_no_other_line(rt: HostRuntime) {
-    let line =
-        b"{\"op\":\"put\",\"at\":1,\"key\":\"0000000000000000000000000000006a\",\"pieces\":[\"61\",\"62\"]}";
+    let line = b"{\"op\":\"put\",\"at\":1,\"key\":\"006a\",\"pieces\":[\"61\",\"62\"]}";
     match &read_line(rt.alloc(), line) {
         Ok(Line::Asked(event)) => match &event.action {
             Action::Put { pieces, .. } => assert_eq!(rt; pieces.as_slice().len(), 2),

@@ -5,7 +5,9 @@ use rand_pcg::Pcg32;
 use std::alloc::AllocError;
 use std::fmt::Write;
 
-const KEY: StoredKey = StoredKey { bytes: [7; 16] };
+fn key(alloc: Global) -> Result<CacheKey, AllocError> {
+    Ok(CacheKey::new(Vec::from_slice(alloc, b"/")?, String::new(alloc)))
+}
 
 fn pieces(alloc: Global, bytes: &[u8], size: usize) -> Result<Pieces, AllocError> {
     let mut all = Vec::new(alloc);
@@ -40,7 +42,8 @@ fn show_look(
     request: u64,
     second: i64,
 ) -> Result<(), AllocError> {
-    let _ = answer(tier, second, Action::Open { request, key: KEY });
+    let key = key(tier.alloc)?;
+    let _ = answer(tier, second, Action::Open { request, key });
     match answer(tier, second, Action::LookUp { request }) {
         Ok(Answer::Found { fresh, .. }) => write!(text, " {fresh}"),
         _ => text.push_str(" none"),
@@ -66,7 +69,8 @@ fn outcomes(
     let second = Duration::from_seconds(1);
     let mut tier = Tier::<1>::new(alloc, 1000, None, second, None);
     let pieces = pieces(alloc, bytes, size)?;
-    let outcome = answer(&mut tier, at, Action::Put { key: KEY, pieces });
+    let key = key(alloc)?;
+    let outcome = answer(&mut tier, at, Action::Put { key, pieces });
     show_put(&mut text, &outcome)?;
     for (request, moment) in looks.iter().enumerate() {
         show_look(&mut text, &mut tier, request as u64, *moment)?;

@@ -6,8 +6,16 @@ use std::alloc::AllocError;
 use std::fmt::Write;
 use std::process::Abort;
 
-fn key(name: u8) -> StoredKey {
-    StoredKey { bytes: [name; 16] }
+// The key of one byte, under a tag.
+fn tagged(alloc: Global, name: u8, tag: &str) -> Result<CacheKey, AllocError> {
+    Ok(CacheKey::new(
+        Vec::from_slice(alloc, &[name])?,
+        String::from_str(alloc, tag)?,
+    ))
+}
+
+fn key(alloc: Global, name: u8) -> Result<CacheKey, AllocError> {
+    tagged(alloc, name, "")
 }
 
 fn event(second: i64, action: Action) -> Event {
@@ -17,9 +25,9 @@ fn event(second: i64, action: Action) -> Event {
     }
 }
 
-fn open(second: i64, request: u64, name: u8) -> Event {
-    let key = key(name);
-    event(second, Action::Open { request, key })
+fn open(alloc: Global, second: i64, request: u64, name: u8) -> Result<Event, AllocError> {
+    let key = key(alloc, name)?;
+    Ok(event(second, Action::Open { request, key }))
 }
 
 fn look(second: i64, request: u64) -> Event {
@@ -34,8 +42,9 @@ fn drop_it(second: i64, request: u64) -> Event {
     event(second, Action::Drop { request })
 }
 
-fn purge(second: i64, name: u8) -> Event {
-    event(second, Action::Purge { key: key(name) })
+fn purge(alloc: Global, second: i64, name: u8) -> Result<Event, AllocError> {
+    let key = key(alloc, name)?;
+    Ok(event(second, Action::Purge { key }))
 }
 
 fn put(
@@ -52,7 +61,7 @@ fn put(
     Ok(event(
         second,
         Action::Put {
-            key: key(name),
+            key: key(alloc, name)?,
             pieces,
         },
     ))
@@ -65,6 +74,7 @@ fn put_of(alloc: Global, name: u8, n: usize) -> Result<Event, AllocError> {
         0 => b"",
         1 => b"x",
         2 => b"xx",
+        3 => b"xxx",
         _ => b"xxxxx",
     };
     put(alloc, 7, name, &[head, body])
@@ -146,12 +156,12 @@ fn first_answer(alloc: Global) -> Result<String, AllocError> {
     let head = b"HTTP/1.1 200 OK\r\nCache-Control: max-age=10\r\n\r\n";
     let events = vec![in alloc;
         put(alloc, 1000, b'a', &[head, b"abc"])?,
-        open(1005, 1, b'a'),
+        open(alloc, 1005, 1, b'a')?,
         look(1005, 1),
         read(1005, 1),
         read(1005, 1),
         drop_it(1005, 1),
-        open(1011, 1, b'a'),
+        open(alloc, 1011, 1, b'a')?,
         look(1011, 1),
     ]?;
     replay(alloc, 100, None, events.as_slice())
@@ -182,16 +192,16 @@ fn refusals(alloc: Global) -> Result<String, AllocError> {
     let events = vec![in alloc;
         look(1, 9),
         drop_it(1, 9),
-        open(1, 1, b'a'),
-        open(1, 1, b'b'),
+        open(alloc, 1, 1, b'a')?,
+        open(alloc, 1, 1, b'b')?,
         read(1, 1),
         put_of(alloc, b'a', 0)?,
         look(1, 1),
         look(1, 1),
         read(1, 1),
         read(1, 1),
-        purge(1, b'a'),
-        purge(1, b'a'),
+        purge(alloc, 1, b'a')?,
+        purge(alloc, 1, b'a')?,
         put(
             alloc,
             0,
@@ -252,7 +262,7 @@ fn puts(
     let mut events = Vec::new(alloc);
     for (i, (name, length)) in puts.iter().enumerate() {
         if first_used && i == 3 {
-            events.push(open(7, 0, b'a'))?;
+            events.push(open(alloc, 7, 0, b'a')?)?;
             events.push(look(7, 0))?;
             events.push(read(7, 0))?;
         }
@@ -260,7 +270,7 @@ fn puts(
     }
     for (name, _) in puts {
         let request = u64::from(*name);
-        events.push(open(7, request, *name))?;
+        events.push(open(alloc, 7, request, *name)?)?;
         events.push(look(7, request))?;
     }
     replay(alloc, limit, watermark, events.as_slice())
@@ -342,6 +352,68 @@ fn keeps_both_limits(rt: HostRuntime) {
     );
 }
 
+// A put of n bytes under a key and a tag.
+fn tagged_put(alloc: Global, name: u8, tag: &str, n: usize) -> Result<Event, AllocError> {
+    let Event { moment, action } = put_of(alloc, name, n)?;
+    let key = tagged(alloc, name, tag)?;
+    let action = match action {
+        Action::Put { pieces, .. } => Action::Put { key, pieces },
+        other => other,
+    };
+    Ok(Event { moment, action })
+}
+
+// Of one stored key under two tags both entries weigh, and the eviction of one removes what is stored.
+fn tags(alloc: Global) -> Result<String, AllocError> {
+    let mut text = String::new(alloc);
+    let mut rng = Pcg32::new(1, 1);
+    let mut tier = tier(alloc, 4, None);
+    let key = tagged(alloc, b'a', "2")?;
+    let first = vec![in alloc;
+        tagged_put(alloc, b'a', "1", 3)?,
+        event(7, Action::Open { request: 1, key }),
+        look(7, 1),
+        read(7, 1),
+    ]?;
+    let behind = vec![in alloc;
+        tagged_put(alloc, b'b', "", 1)?,
+        open(alloc, 7, 2, b'a')?,
+        look(7, 2),
+        open(alloc, 7, 3, b'b')?,
+        look(7, 3),
+    ]?;
+    for events in [first.as_slice(), behind.as_slice()] {
+        if let Ok(outcomes) = tier.run(&mut rng, events) {
+            for outcome in outcomes.as_slice() {
+                show(&mut text, outcome)?;
+            }
+        }
+        show_report(&mut text, tier.report())?;
+        text.push_str("\n")?;
+    }
+    Ok(text)
+}
+
+#[test]
+fn tags_of_one_stored_key_weigh_apart(rt: HostRuntime) {
+    let alloc = rt.alloc();
+    shows(
+        &rt,
+        tags(alloc),
+        tags(alloc),
+        "\
+        finished 3 evicted=0\n\
+        opened\n\
+        found true true\n\
+        bytes [120, 120, 120]\n\
+        report found=1 absent=0 bodies=1 bytes=3 tracked=2 weight=6 evicted=0\n\
+        finished 1 evicted=1\n\
+        opened\nabsent\n\
+        opened\nfound true true\n\
+        report found=2 absent=1 bodies=1 bytes=1 tracked=2 weight=4 evicted=1\n",
+    );
+}
+
 // A tier with a body of two bytes under each name, and request 1 open for a where that is asked, if no allocation failed on
 // the way.
 fn fixture(alloc: Global, limit: usize, names: &[u8], is_open: bool) -> Option<Tier<1>> {
@@ -352,7 +424,7 @@ fn fixture(alloc: Global, limit: usize, names: &[u8], is_open: bool) -> Option<T
         let _ = tier.step(&mut rng, &put).ok()?;
     }
     if is_open {
-        let _ = tier.step(&mut rng, &open(7, 1, b'a')).ok()?;
+        let _ = tier.step(&mut rng, &open(alloc, 7, 1, b'a').ok()?).ok()?;
     }
     Some(tier)
 }
@@ -406,8 +478,11 @@ fn an_open_without_memory_leaves_all(rt: HostRuntime) {
     let Some(mut tier) = fixture(alloc, 4, b"a", false) else {
         return;
     };
+    let Ok(open) = open(alloc, 7, 1, b'a') else {
+        return;
+    };
     let before = tier.report();
-    let outcome = tier.step(&mut rng, &open(7, 1, b'a'));
+    let outcome = tier.step(&mut rng, &open);
     if is_memory(&outcome) {
         assert_eq!(rt; tier.report(), before);
         match tier.step(&mut rng, &look(7, 1)) {
@@ -476,7 +551,10 @@ fn goes_through(alloc: Global) -> bool {
     let Ok(put) = put_of(alloc, b'e', 5) else {
         return false;
     };
-    let Ok(events) = vec![in alloc; put, open(7, 2, b'e'), look(7, 2), read(7, 2)] else {
+    let Ok(open) = open(alloc, 7, 2, b'e') else {
+        return false;
+    };
+    let Ok(events) = vec![in alloc; put, open, look(7, 2), read(7, 2)] else {
         return false;
     };
     match tier.run(&mut rng, events.as_slice()) {

@@ -12,8 +12,8 @@ returns-in-Cacheable c =
     let body : body_within (announced c.args.head) c.args.rest ≡ Some c.in-Some.bytes = ap (λ n. body_within n c.args.rest) (sym c.announced.ensures) ∙ sym c.body_within-body.ensures ∙ c.in-Some.is in
     c.stored.ensures ∙ given_behind-from c.args.arrival c.args.entry c.args.head c.args.rest _ _ body (sym judged ∙ until ∙ ap (λ t. Some t) (sym c.fresh_until.ensures))
 
-pub returns : goal.returns
-returns c =
+pub returns-in-Uncacheable : goal.returns-in-Uncacheable
+returns-in-Uncacheable c =
     let until = until-refused _ _ _ _ _ _ _ (sym c.resp_cacheable-verdict.ensures ∙ c.in-Uncacheable.is) in
     let judged = judged-is c.args.arrival c.args.head c.as_ref.result c.in_ok-control.control c.as_ref.ensures.value c.in_ok-control.ensures in
     let body : body_within (announced c.args.head) c.args.rest ≡ Some c.in-Some.bytes = ap (λ n. body_within n c.args.rest) (sym c.announced.ensures) ∙ sym c.body_within-body.ensures ∙ c.in-Some.is in

@@ -5,16 +5,16 @@ use Rattle.cache_tier.proofs.tier.Tier+1.put.Goals as goal
 
 pub returns-in-Stored : goal.returns-in-Stored
 returns-in-Stored c =
-    Takes-stored c.args.self.now c.args.moment c.args.key c.args.pieces.now c.in-Stored.body c.store.result c.store.new.self (rw c.in-Stored.is at c.in-Ok.ensures) c.store.ensures.allowed c.store.ensures.after
+    Takes-stored c.args.self.now c.args.moment c.args.key.now c.args.pieces.now c.in-Stored.body c.store.result c.store.new.self (rw (c.in-Stored.is, c.in-Ok.ensures) at c.in-Ok-given_by_put.ensures) c.store.ensures.allowed c.store.ensures.after
 
 pub returns-in-Uncacheable : goal.returns-in-Uncacheable
-returns-in-Uncacheable c = (Some (Uncacheable c.in-Uncacheable.reason), rw c.in-Uncacheable.is at c.in-Ok.ensures, refl, refl)
+returns-in-Uncacheable c = (Some (Uncacheable c.in-Uncacheable.reason), rw (c.in-Uncacheable.is, c.in-Ok.ensures) at c.in-Ok-given_by_put.ensures, refl, refl)
 
 pub returns-in-Incomplete : goal.returns-in-Incomplete
-returns-in-Incomplete c = (Some Incomplete, rw c.in-Incomplete.is at c.in-Ok.ensures, inr refl, refl)
+returns-in-Incomplete c = (Some Incomplete, rw (c.in-Incomplete.is, c.in-Ok.ensures) at c.in-Ok-given_by_put.ensures, inr refl, refl)
 
 pub returns-in-BadHead : goal.returns-in-BadHead
-returns-in-BadHead c = (Some BadHead, rw c.in-BadHead.is at c.in-Ok.ensures, inr refl, refl)
+returns-in-BadHead c = (Some BadHead, rw (c.in-BadHead.is, c.in-Ok.ensures) at c.in-Ok-given_by_put.ensures, inr refl, refl)
 
 pub returns-in-BeforeEpoch : goal.returns-in-BeforeEpoch
-returns-in-BeforeEpoch c = (Some BeforeEpoch, rw c.in-BeforeEpoch.is at c.in-Ok.ensures, inr refl, refl)
+returns-in-BeforeEpoch c = (Some BeforeEpoch, rw (c.in-BeforeEpoch.is, c.in-Ok.ensures) at c.in-Ok-given_by_put.ensures, inr refl, refl)
