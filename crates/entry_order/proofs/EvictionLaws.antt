@@ -1,7 +1,9 @@
 -- Evictions over one shard.
-use Rattle.std.proofs.Common.{◌≡◌, ℕ, ◌%◌, cond, Bool, true, false, List, [], ◌∷◌, map, slice_get, Option, Some, sym, refl, ap, ◌∙◌, subst}
+use Rattle.std.proofs.Common.{None, ◌≡◌, ℕ, ◌%◌, cond, Bool, true, false, List, [], ◌∷◌, map, slice_get, Option, Some, sym, refl, ap, ◌∙◌, subst}
 use Rattle.std.specs.Prelude.{option_map}
+use Rattle.std.specs.List.{All}
 use Rattle.std.proofs.lemmas.List.{map-append}
+use Rattle.std.proofs.lemmas.List.Elements.{All-nil, All-cons, All-weaker}
 use Rattle.rand_core.specs.Stream.{Stream, next_u64}
 use Rattle.cache_words.specs.declared.key.CompactCacheKey.{CompactCacheKey}
 use Rattle.lru_core.specs.declared.rows.Row.{Row}
@@ -9,6 +11,8 @@ use Rattle.lru_core.specs.Rows.{others, a_row}
 use Rattle.lru_core.specs.Cores.{Core, rows_at, longer, around, IsTail, IsStep, Evicts, is_over as is_core_over}
 use Rattle.tier_entries.specs.declared.rows.Tracked.{Tracked}
 use Rattle.tier_entries.specs.Rows.{weight_of, without_row, without_rows, is_over, IsLast, IsLawfulEviction, IsBegunEviction}
+use Rattle.tier_entries.specs.Keys.{same_entry}
+use Rattle.tier_entries.proofs.RowLaws.{row_of-without}
 use Rattle.entry_order.specs.Names.{unless, unless_any}
 use Rattle.entry_order.specs.Named.{IsNamed, IsKept}
 use Rattle.entry_order.specs.Orders.{tracked_row, order_in}
@@ -80,6 +84,24 @@ left name old new (pair ∷ pairs) s rest single named e =
       marked = more.marked ∙ one.marked;
       rows = more.rows ∙ ap (without_rows (map (λ p. p.0) pairs)) one.rows;
     }
+
+-- each goes with the weight that it has from the start
+weight_found : (b : Bool) (o : Option Tracked) (w : ℕ) → option_map (λ r. r.weight) (cond b None o) ≡ Some w → option_map (λ r. r.weight) o ≡ Some w
+weight_found true o w e = cc
+weight_found false o w e = e
+
+weight_before : (k e : CompactCacheKey) (w : ℕ) (rows : List Tracked) → weight_of k (without_row e rows) ≡ Some w → weight_of k rows ≡ Some w
+weight_before k e w rows h = weight_found (same_entry e k) _ w (sym (ap (option_map (λ r. r.weight)) (row_of-without k e rows)) ∙ h)
+
+pub weighed : (name : ℕ → Option CompactCacheKey) (old new : Core CompactCacheKey) (pairs : List (CompactCacheKey × ℕ)) (s rest : Stream) → old.shards ≡ rows_at old.shards 0 ∷ [] → IsNamed name (rows_at old.shards 0)
+    → Evicts 1 old pairs s new rest → All (λ p. weight_of p.0 (tracked (rows_at old.shards 0)) ≡ Some p.1) pairs
+weighed name old new [] s rest single named e = All-nil (λ (p : CompactCacheKey × ℕ). weight_of p.0 (tracked (rows_at old.shards 0)) ≡ Some p.1)
+weighed name old new (pair ∷ pairs) s rest single named e =
+    let one = gone name old e.0 (next_u64 s).0 (next_u64 (next_u64 s).1).0 pair single named e.1 in
+    let more = weighed (λ i. unless pair.0 (name i)) e.0 new pairs (next_u64 (next_u64 s).1).1 rest one.single one.named e.2 in
+    All-cons (λ (p : CompactCacheKey × ℕ). weight_of p.0 (tracked (rows_at old.shards 0)) ≡ Some p.1) pair pairs one.weighed
+    (All-weaker (λ (p : CompactCacheKey × ℕ). weight_of p.0 (tracked (rows_at e.0.shards 0)) ≡ Some p.1) (λ (p : CompactCacheKey × ℕ). weight_of p.0 (tracked (rows_at old.shards 0)) ≡ Some p.1)
+    (λ p h. weight_before p.0 pair.0 p.1 (tracked (rows_at old.shards 0)) (rw one.rows at h)) pairs more)
 
 -- what evictions of the rows say, where the steps end at a core whose limits are passed or not
 module _ (P : ℕ → Option ℕ → List Tracked → List CompactCacheKey → Type 0) (over : Bool)

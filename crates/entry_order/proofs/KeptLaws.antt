@@ -1,4 +1,5 @@
 -- What each call of the core makes of the order.
+use Rattle.std.specs.Prelude.{Result, Ok, Err, OnErr}
 use Rattle.std.proofs.Common.{◌≡◌, ◌≢◌, ℕ, ◌%◌, replicate, List, [], ◌∷◌, ◌++◌, set, Option, Some, None, sym, refl, ap, ◌∙◌, subst}
 use Rattle.cache_words.specs.declared.key.CompactCacheKey.{CompactCacheKey}
 use Rattle.lru_core.specs.declared.rows.Row.{Row}
@@ -11,6 +12,11 @@ use Rattle.entry_order.specs.Orders.{order_in}
 use Rattle.entry_order.proofs.NameLaws.{one-given, none_had}
 use Rattle.entry_order.proofs.NamedLaws.{IsNamed-same, IsNamed-none, IsNamed-front, IsNamed-without, IsNumber, IsNumber-named}
 use Rattle.entry_order.proofs.TrackedLaws.{tracked, others-without, weight_of-named, weight_of-unnamed, without-unnamed, unnamed, used-named, all_weights-tracked_rows, modulo_one, single_set}
+
+-- a fact that holds holds of an error too
+pub on_error : {T E : Type 0} (r : Result T E) (P : Type 0) → P → OnErr r P
+on_error (Ok x) P p = tt
+on_error (Err e) P p = p
 
 pub IsKept-same : (name now : ℕ → Option CompactCacheKey) (core left : Core CompactCacheKey) (mark : Option ℕ) → IsKept name core mark → ((i : ℕ) → now i ≡ name i) → left ≡ core → IsKept now left mark
 IsKept-same name now core left mark h same e =

@@ -5,3 +5,5 @@ pub use order::{EntryOrder, OrderFault};
 
 mod names;
 mod order;
+#[cfg(test)]
+mod tests;

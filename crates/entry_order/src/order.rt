@@ -110,8 +110,8 @@ impl EntryOrder {
         ensures heavy { result ≡ Err OrderFault.TooHeavy → 2 ^ 64 ≤ max 1 weight + all_weights (without_row entry self.old.rows) }
         ensures long { result ≡ Err OrderFault.TooLong → (weight_of entry self.old.rows ≡ None) × (4294967293 ≤ length self.old.rows) }
     {
-        if let Some(number) = self.names.number_of(&entry) {
-            put_first(&mut self.core, number, entry, weight)?;
+        if let Some(own) = self.names.number_of(&entry) {
+            put_first(&mut self.core, own, entry, weight)?;
             return Ok(());
         }
         self.take_in(entry, weight)
@@ -124,6 +124,7 @@ impl EntryOrder {
         ensures fits { OnOk result (all_weights self.new.rows < 2 ^ 64) }
         ensures err { OnErr result (self.new ≡ self.old) }
         ensures tracked { weight_of entry.now self.old.rows ≢ None → IsOk result }
+        ensures untracked { OnErr result (weight_of entry.now self.old.rows ≡ None) }
         ensures heavy { result ≡ Err OrderFault.TooHeavy → 2 ^ 64 ≤ max 1 weight + all_weights (without_row entry.now self.old.rows) }
         ensures long { result ≡ Err OrderFault.TooLong → 4294967293 ≤ length self.old.rows }
     {
@@ -166,8 +167,10 @@ impl EntryOrder {
         ensures begun { IfErr result (λ v. IsBegunEviction self.old.limit self.old.watermark self.old.rows (map (λ p. p.0) v.items)) }
         ensures ok { IfOk result (λ v. self.new ≡ record self.old { rows = without_rows (map (λ p. p.0) v.items) self.old.rows }) }
         ensures err { IfErr result (λ v. self.new ≡ record self.old { rows = without_rows (map (λ p. p.0) v.items) self.old.rows }) }
+        ensures weights { IfOk result (λ v. All (λ p. weight_of p.0 self.old.rows ≡ Some p.1) v.items) }
+        ensures begun_weights { IfErr result (λ v. All (λ p. weight_of p.0 self.old.rows ≡ Some p.1) v.items) }
         ensures drawn { IfOk result (λ v. IsDrawn self.old (map (λ p. p.0) v.items) (R.stream rng.old) self.new (R.stream rng.new)) }
-        ensures drawn_begun { IfErr result (λ v. IsDrawn self.old (map (λ p. p.0) v.items) (R.stream rng.old) self.new (R.stream rng.new)) }
+        ensures begun_drawn { IfErr result (λ v. IsDrawn self.old (map (λ p. p.0) v.items) (R.stream rng.old) self.new (R.stream rng.new)) }
     {
         match evict_rows(&mut self.core, self.watermark, alloc, rng) {
             Ok(pairs) => {

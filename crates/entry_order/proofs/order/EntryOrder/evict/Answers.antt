@@ -1,6 +1,6 @@
 use Rattle.std.proofs.Common.{map}
 use Rattle.entry_order.specs.Names.{name_at}
-use Rattle.entry_order.proofs.EvictionLaws.{left, lawful, begun, IsKept-left, order-left}
+use Rattle.entry_order.proofs.EvictionLaws.{left, lawful, begun, weighed, IsKept-left, order-left}
 use Rattle.entry_order.proofs.order.EntryOrder.evict.Goals as goal
 
 pub invariant_of-self : goal.invariant_of-self
@@ -36,3 +36,13 @@ returns-in-Err-clause-err g c =
     let h = c.self.invariant in
     rw (← c.self.view_is) (order-left (name_at c.self.inside.names) c.self.inside.core c.evict_rows.new.core (map (λ p. p.0) c.in-Err.pairs.items)
     (left (name_at c.self.inside.names) c.self.inside.core c.evict_rows.new.core c.in-Err.pairs.items _ _ h.single h.named c.in-Err.ensures.begun))
+
+pub returns-in-Ok-clause-weights : goal.returns-in-Ok-clause-weights
+returns-in-Ok-clause-weights g c =
+    let h = c.self.invariant in
+    rw (← c.self.view_is) (weighed (name_at c.self.inside.names) c.self.inside.core c.evict_rows.new.core c.in-Ok.pairs.items _ _ h.single h.named c.in-Ok.ensures.whole)
+
+pub returns-in-Err-clause-begun_weights : goal.returns-in-Err-clause-begun_weights
+returns-in-Err-clause-begun_weights g c =
+    let h = c.self.invariant in
+    rw (← c.self.view_is) (weighed (name_at c.self.inside.names) c.self.inside.core c.evict_rows.new.core c.in-Err.pairs.items _ _ h.single h.named c.in-Err.ensures.begun)

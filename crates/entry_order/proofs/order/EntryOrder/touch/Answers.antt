@@ -2,7 +2,7 @@ use Rattle.std.proofs.Common.{◌≡◌, max}
 use Rattle.std.proofs.Common.{None}
 use Rattle.tier_entries.specs.Rows.{weight_of}
 use Rattle.entry_order.specs.Names.{name_at}
-use Rattle.entry_order.proofs.KeptLaws.{IsKept-moved, order-moved, weight_of-none}
+use Rattle.entry_order.proofs.KeptLaws.{IsKept-moved, order-moved, weight_of-none, on_error}
 use Rattle.entry_order.proofs.order.EntryOrder.touch.Goals as goal
 
 pub invariant_of-self : goal.invariant_of-self
@@ -30,3 +30,13 @@ returns-clause-ok c =
     let none : weight_of c.args.entry.now c.args.self.now.rows ≡ None =
     rw (← c.self.view_is) (weight_of-none (name_at c.self.inside.names) (name_at c.self.inside.names) c.self.inside.core c.self.inside.watermark c.args.entry.now c.self.invariant c.in_default.ensures.none) in
     rw none (rw c.in_ok-copy.ensures at c.take_in.ensures.ok)
+
+pub returns-in_err-copy-clause-untracked : goal.returns-in_err-copy-clause-untracked
+returns-in_err-copy-clause-untracked c =
+    on_error c.from_residual.result _
+    (rw (← c.self.view_is) (weight_of-none (name_at c.self.inside.names) (name_at c.self.inside.names) c.self.inside.core c.self.inside.watermark c.args.entry.now c.self.invariant c.in_default.ensures.none))
+
+pub returns-clause-untracked : goal.returns-clause-untracked
+returns-clause-untracked c =
+    on_error c.take_in.result _
+    (rw (← c.self.view_is) (weight_of-none (name_at c.self.inside.names) (name_at c.self.inside.names) c.self.inside.core c.self.inside.watermark c.args.entry.now c.self.invariant c.in_default.ensures.none))
