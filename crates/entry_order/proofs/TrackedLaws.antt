@@ -1,7 +1,8 @@
 -- Rows seen without their numbers.
-use Rattle.std.proofs.Common.{◌≡◌, ℕ, ◌+◌, ◌%◌, eqb, cond, Bool, true, false, List, [], ◌∷◌, ◌++◌, length, map, set, slice_get, Option, Some, None, sym, refl, ap, ◌∙◌, arith}
+use Rattle.std.proofs.Common.{◌≤◌, ◌≡◌, ℕ, ◌+◌, ◌%◌, eqb, cond, Bool, true, false, List, [], ◌∷◌, ◌++◌, length, map, set, slice_get, Option, Some, None, sym, refl, ap, ◌∙◌, arith}
 use Rattle.std.specs.Prelude.{not, option_map}
-use Rattle.std.proofs.lemmas.List.{length-map}
+use Rattle.std.proofs.lemmas.Bool.{eq-eqb}
+use Rattle.std.proofs.lemmas.List.{length-map, nil_from_length}
 use Rattle.std.proofs.lemmas.List.Sums.{sum_by-cons}
 use Rattle.cache_words.specs.declared.key.CompactCacheKey.{CompactCacheKey}
 use Rattle.lru_core.specs.declared.rows.Row.{Row}
@@ -10,9 +11,9 @@ use Rattle.lru_core.specs.Cores.{Core, rows_at, core_weight, core_len, is_over a
 use Rattle.tier_entries.specs.declared.rows.Tracked.{Tracked}
 use Rattle.tier_entries.specs.Keys.{same_entry}
 use Rattle.tier_entries.specs.Rows.{row_of, weight_of, all_weights, without_row, used, is_past, is_over}
-use Rattle.entry_order.specs.Names.{HasNoNumber}
+use Rattle.entry_order.specs.Names.{IsOneToOne, HasNoNumber}
 use Rattle.entry_order.specs.Named.{AreNamed, IsNamed}
-use Rattle.entry_order.specs.Orders.{tracked_row}
+use Rattle.entry_order.specs.Orders.{tracked_row, AreDistinct}
 use Rattle.entry_order.proofs.NameLaws.{another}
 use Rattle.entry_order.proofs.NamedLaws.{IsNumber, IsNumber-named}
 
@@ -116,3 +117,19 @@ modulo_one k = omega arith
 -- what is written as the one shard
 pub single_set : (shards : List (List (Row CompactCacheKey))) (rows : List (Row CompactCacheKey)) → shards ≡ rows_at shards 0 ∷ [] → set shards 0 rows ≡ rows ∷ []
 single_set shards rows e = ap (λ (l : List (List (Row CompactCacheKey))). set l 0 rows) e
+
+-- no entry has two rows
+at_most_one : (b : Bool) (r : Row CompactCacheKey) (rows : List (Row CompactCacheKey)) → length (cond b (r ∷ rows) rows) ≤ 1 → length rows ≤ 1
+at_most_one true r rows h = omega arith
+at_most_one false r rows h = h
+
+distinct_from : (name : ℕ → Option CompactCacheKey) (rows : List (Row CompactCacheKey)) → IsOneToOne name → AreNamed name rows → ((k : ℕ) (e : CompactCacheKey) → name k ≡ Some e → length (only k rows) ≤ 1) → AreDistinct (tracked rows)
+distinct_from name [] one a most = tt
+distinct_from name (r ∷ rows) one a most =
+    let own : length (r ∷ only r.key rows) ≤ 1 = rw (eq-eqb r.key r.key refl) at (most r.key r.data a.0) in
+    let none : only r.key rows ≡ [] = nil_from_length (only r.key rows) (omega arith) in
+    (row_of-tracked r.key r.data rows (agrees name r.key r.data rows (IsNumber-named name r.key r.data one a.0) a.1) ∙ ap (λ (l : List (Row CompactCacheKey)). option_map tracked_row (slice_get l 0)) none,
+    distinct_from name rows one a.1 (λ k e p. at_most_one (eqb r.key k) r (only k rows) (most k e p)))
+
+pub AreDistinct-tracked : (name : ℕ → Option CompactCacheKey) (rows : List (Row CompactCacheKey)) → IsNamed name rows → AreDistinct (tracked rows)
+AreDistinct-tracked name rows h = distinct_from name rows h.one h.named (λ k e p. let known = h.known k e p in let l : length (only k rows) ≡ 1 = ap length known.1 in omega arith)

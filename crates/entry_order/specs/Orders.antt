@@ -1,16 +1,22 @@
 -- Entries in the order of their use, and the draws of an eviction.
-use Rattle.std.specs.Prelude.{◌≡◌, ℕ, List, length, map, Option}
+use Rattle.std.specs.Prelude.{◌≡◌, ℕ, List, [], ◌∷◌, length, map, Option, None}
 use Rattle.rand_core.specs.Stream.{Stream}
 use Rattle.cache_words.specs.declared.key.CompactCacheKey.{CompactCacheKey}
 use Rattle.lru_core.specs.declared.rows.Row.{Row}
 use Rattle.lru_core.specs.Cores.{Core, rows_at, Evicts}
 use Rattle.tier_entries.specs.declared.rows.Tracked.{Tracked}
+use Rattle.tier_entries.specs.Rows.{row_of}
 
 -- entries and their weights, latest first, the weight that they may have together, and the number past which an eviction takes some too
 pub record Order : Type 0 where
   pub rows : List Tracked
   pub limit : ℕ
   pub watermark : Option ℕ
+
+-- no entry has two rows
+abbrev pub AreDistinct : List Tracked → Type 0
+AreDistinct [] = Unit {0}
+AreDistinct (r ∷ rows) = (row_of r.entry rows ≡ None) × AreDistinct rows
 
 -- a row without its number
 abbrev pub tracked_row : Row CompactCacheKey → Tracked

@@ -6,7 +6,7 @@ ghost use Rattle.lru_core.specs.Rows.{only, others, weight_of as rows_weight, a_
 ghost use Rattle.lru_core.specs.Cores.{rows_at, core_weight, is_over as is_core_over, Evicts};
 ghost use Rattle.tier_entries.specs.Keys.{entry_of};
 ghost use Rattle.tier_entries.specs.Rows.{weight_of, all_weights, without_row, without_rows, admitted, used, IsLawfulEviction, IsBegunEviction};
-ghost use Rattle.entry_order.specs.Orders.{IsDrawn};
+ghost use Rattle.entry_order.specs.Orders.{AreDistinct, IsDrawn};
 ghost use Rattle.entry_order.specs.declared.order.OrderFault.TheVariants.{Memory};
 
 use crate::names::Names;
@@ -78,7 +78,8 @@ impl EntryOrder {
 
     /// The number of tracked entries.
     pub fn len(&self) -> usize
-        ensures { result ≡ length self.now.rows }
+        ensures count { result ≡ length self.now.rows }
+        ensures distinct { AreDistinct self.now.rows }
     {
         self.core.len()
     }
