@@ -1,0 +1,5 @@
+pub mod NameLaws
+pub mod NamedLaws
+pub mod TrackedLaws
+pub mod KeptLaws
+pub mod EvictionLaws

@@ -1,0 +1,276 @@
+//! Entries in the order of their use.
+
+ghost use Rattle.std.specs.Prelude.{◌≡◌, ◌≢◌, ℕ, ◌+◌, ◌%◌, ◌^◌, ◌<◌, ◌≤◌, ◌∷◌, [], length, map, max, true, false, Some, None, IfOk, IfErr, OnOk, OnErr, IsOk, slice_set};
+ghost use Rattle.std.specs.List.{All};
+ghost use Rattle.lru_core.specs.Rows.{only, others, weight_of as rows_weight, a_row};
+ghost use Rattle.lru_core.specs.Cores.{rows_at, core_weight, is_over as is_core_over, Evicts};
+ghost use Rattle.tier_entries.specs.Keys.{entry_of};
+ghost use Rattle.tier_entries.specs.Rows.{weight_of, all_weights, without_row, without_rows, admitted, used, IsLawfulEviction, IsBegunEviction};
+ghost use Rattle.entry_order.specs.Orders.{AreDistinct, IsDrawn};
+ghost use Rattle.entry_order.specs.declared.order.OrderFault.TheVariants.{Memory};
+
+use crate::names::Names;
+use cache_words::key::{CacheKey, CompactCacheKey};
+use lru_core::LruCore;
+use lru_core::lru_unit::LruFault;
+use rand_core::Rng;
+use std::alloc::{AllocError, Global};
+use std::marker::Model;
+use tier_entries::keys::copy_of;
+
+/// Why an entry was not taken in.
+#[derive(Clone, Copy, Debug, PartialEq, Eq)]
+pub enum OrderFault {
+    /// No memory.
+    Memory,
+    /// The weights could not be summed.
+    TooHeavy,
+    /// There are as many entries as can be linked.
+    TooLong,
+}
+
+impl From<AllocError> for OrderFault {
+    ghost from_gives = { λ _ fault. fault ≡ Memory };
+
+    fn from(_e: AllocError) -> OrderFault {
+        OrderFault::Memory
+    }
+}
+
+/// Entries in the order of their use, latest first, with what they weigh.
+#[derive(Drop)]
+pub struct EntryOrder {
+    names: Names,
+    core: LruCore<CompactCacheKey, 1>,
+    /// The core's own, which it doesn't tell.
+    watermark: Option<usize>,
+}
+
+impl Model for EntryOrder {
+    ghost use Rattle.entry_order.specs.Orders.{Order, order_in};
+    ghost use Rattle.entry_order.specs.Names.{name_at};
+    ghost use Rattle.entry_order.specs.Named.{IsKept};
+
+    ghost Value = { Order };
+
+    ghost view = { λ o. order_in o.core };
+
+    ghost invariant = { λ o. IsKept (name_at o.names) o.core o.watermark };
+}
+
+impl EntryOrder {
+    /// No entry is tracked. The entries may weigh `limit` together, and past `watermark` entries an eviction takes
+    /// some too.
+    pub fn new(
+        alloc: Global,
+        limit: usize,
+        watermark: Option<usize>,
+    ) -> Result<EntryOrder, AllocError>
+        ensures { IfOk result (λ order. order ≡ record { rows = []; limit = limit; watermark = watermark }) }
+    {
+        let core = LruCore::with_capacity_and_watermark(alloc, limit, 0, watermark)?;
+        Ok(EntryOrder {
+            names: Names::new(alloc),
+            core,
+            watermark,
+        })
+    }
+
+    /// The number of tracked entries.
+    pub fn len(&self) -> usize
+        ensures count { result ≡ length self.now.rows }
+        ensures distinct { AreDistinct self.now.rows }
+    {
+        self.core.len()
+    }
+
+    /// What the tracked entries weigh together.
+    pub fn weight(&self) -> usize
+        ensures { result ≡ all_weights self.now.rows }
+    {
+        self.core.weight()
+    }
+
+    /// What an entry weighs, if it is tracked. The order stays.
+    pub fn weight_of(&self, entry: &CompactCacheKey) -> Option<usize>
+        ensures { result ≡ weight_of entry.now self.now.rows }
+    {
+        match self.names.number_of(entry) {
+            Some(number) => self.core.peek_weight(number),
+            None => None,
+        }
+    }
+
+    /// Puts an entry in front of all others with that weight, of 1 at least, wherever it was. It takes memory only
+    /// for an entry that isn't tracked.
+    pub fn admit(&mut self, entry: CompactCacheKey, weight: usize) -> Result<(), OrderFault>
+        ensures ok { OnOk result (self.new ≡ record self.old { rows = admitted entry (max 1 weight) self.old.rows }) }
+        ensures fits { OnOk result (all_weights self.new.rows < 2 ^ 64) }
+        ensures err { OnErr result (self.new ≡ self.old) }
+        ensures memory { result ≡ Err OrderFault.Memory → weight_of entry self.old.rows ≡ None }
+        ensures heavy { result ≡ Err OrderFault.TooHeavy → 2 ^ 64 ≤ max 1 weight + all_weights (without_row entry self.old.rows) }
+        ensures long { result ≡ Err OrderFault.TooLong → (weight_of entry self.old.rows ≡ None) × (4294967293 ≤ length self.old.rows) }
+    {
+        if let Some(own) = self.names.number_of(&entry) {
+            put_first(&mut self.core, own, entry, weight)?;
+            return Ok(());
+        }
+        self.take_in(entry, weight)
+    }
+
+    /// A use of an entry: it goes to the front with the weight that it has, or is taken in with that weight, of 1 at
+    /// least. It takes memory, and may fail, only for an entry that isn't tracked.
+    pub fn touch(&mut self, entry: &CompactCacheKey, weight: usize) -> Result<(), OrderFault>
+        ensures ok { OnOk result (self.new ≡ record self.old { rows = used entry.now (max 1 weight) self.old.rows }) }
+        ensures fits { OnOk result (all_weights self.new.rows < 2 ^ 64) }
+        ensures err { OnErr result (self.new ≡ self.old) }
+        ensures tracked { weight_of entry.now self.old.rows ≢ None → IsOk result }
+        ensures untracked { OnErr result (weight_of entry.now self.old.rows ≡ None) }
+        ensures heavy { result ≡ Err OrderFault.TooHeavy → 2 ^ 64 ≤ max 1 weight + all_weights (without_row entry.now self.old.rows) }
+        ensures long { result ≡ Err OrderFault.TooLong → 4294967293 ≤ length self.old.rows }
+    {
+        if let Some(number) = self.names.number_of(entry) {
+            let _found = self.core.promote(number);
+            // A usize, so that the sum is known to be below 2^64.
+            let _weight = self.core.weight();
+            return Ok(());
+        }
+        let copy = copy_of(entry)?;
+        self.take_in(copy, weight)
+    }
+
+    /// Takes an entry out. It takes no memory.
+    pub fn remove(&mut self, entry: &CompactCacheKey)
+        ensures { self.new ≡ record self.old { rows = without_row entry.now self.old.rows } }
+    {
+        if let Some(number) = self.names.take_back(entry) {
+            take_out(&mut self.core, number);
+        }
+    }
+
+    /// Takes the entry of a key that is asked for out. It takes no memory.
+    pub fn remove_key(&mut self, key: &CacheKey)
+        ensures { self.new ≡ record self.old { rows = without_row (entry_of key.now) self.old.rows } }
+    {
+        if let Some(number) = self.names.take_back_key(key) {
+            take_out(&mut self.core, number);
+        }
+    }
+
+    /// Evicts the last entry again and again, each by two draws, until neither limit is passed. Without memory for the
+    /// list of what went it stops in the midst, and its error has what went so far.
+    pub fn evict<R: Rng>(
+        &mut self,
+        alloc: Global,
+        rng: &mut R,
+    ) -> Result<Vec<(CompactCacheKey, usize)>, Vec<(CompactCacheKey, usize)>>
+        ensures whole { IfOk result (λ v. IsLawfulEviction self.old.limit self.old.watermark self.old.rows (map (λ p. p.0) v.items)) }
+        ensures begun { IfErr result (λ v. IsBegunEviction self.old.limit self.old.watermark self.old.rows (map (λ p. p.0) v.items)) }
+        ensures ok { IfOk result (λ v. self.new ≡ record self.old { rows = without_rows (map (λ p. p.0) v.items) self.old.rows }) }
+        ensures err { IfErr result (λ v. self.new ≡ record self.old { rows = without_rows (map (λ p. p.0) v.items) self.old.rows }) }
+        ensures weights { IfOk result (λ v. All (λ p. weight_of p.0 self.old.rows ≡ Some p.1) v.items) }
+        ensures begun_weights { IfErr result (λ v. All (λ p. weight_of p.0 self.old.rows ≡ Some p.1) v.items) }
+        ensures drawn { IfOk result (λ v. IsDrawn self.old (map (λ p. p.0) v.items) (R.stream rng.old) self.new (R.stream rng.new)) }
+        ensures begun_drawn { IfErr result (λ v. IsDrawn self.old (map (λ p. p.0) v.items) (R.stream rng.old) self.new (R.stream rng.new)) }
+    {
+        match evict_rows(&mut self.core, self.watermark, alloc, rng) {
+            Ok(pairs) => {
+                self.names.take_back_all(&pairs);
+                Ok(pairs)
+            }
+            Err(pairs) => {
+                self.names.take_back_all(&pairs);
+                Err(pairs)
+            }
+        }
+    }
+
+    /// Puts an entry that isn't tracked in front of all others. All memory is taken before anything changes.
+    fn take_in(&mut self, entry: CompactCacheKey, weight: usize) -> Result<(), OrderFault>
+        requires { weight_of entry self.old.rows ≡ None }
+        ensures ok { OnOk result (self.new ≡ record self.old { rows = admitted entry (max 1 weight) self.old.rows }) }
+        ensures fits { OnOk result (all_weights self.new.rows < 2 ^ 64) }
+        ensures err { OnErr result (self.new ≡ self.old) }
+        ensures heavy { result ≡ Err OrderFault.TooHeavy → 2 ^ 64 ≤ max 1 weight + all_weights (without_row entry self.old.rows) }
+        ensures long { result ≡ Err OrderFault.TooLong → 4294967293 ≤ length self.old.rows }
+    {
+        let number = self.names.free_number()?;
+        let name = copy_of(&entry)?;
+        put_first(&mut self.core, number, entry, weight)?;
+        self.names.give(number, name);
+        Ok(())
+    }
+}
+
+/// Puts a row in front of all others, in place of what its number had.
+fn put_first(
+    core: &mut LruCore<CompactCacheKey, 1>,
+    number: u64,
+    entry: CompactCacheKey,
+    weight: usize,
+) -> Result<(), OrderFault>
+    ensures ok { OnOk result (core.new ≡ record core.old { shards = slice_set core.old.shards (number % 1) (a_row number entry (max 1 weight) ∷ others number (rows_at core.old.shards (number % 1))) }) }
+    ensures fits { OnOk result (core_weight core.new.shards < 2 ^ 64) }
+    ensures err { OnErr result (core.new ≡ core.old) }
+    ensures memory { result ≡ Err OrderFault.Memory → only number (rows_at core.old.shards (number % 1)) ≡ [] }
+    ensures heavy { result ≡ Err OrderFault.TooHeavy → 2 ^ 64 ≤ max 1 weight + rows_weight (others number (rows_at core.old.shards (number % 1))) }
+    ensures long { result ≡ Err OrderFault.TooLong → (only number (rows_at core.old.shards (number % 1)) ≡ []) × (4294967293 ≤ length (rows_at core.old.shards (number % 1))) }
+{
+    match core.admit(number, entry, weight) {
+        Ok(_) => {
+            // A usize, so that the sum is known to be below 2^64.
+            let _weight = core.weight();
+            Ok(())
+        }
+        Err(LruFault::Memory(_)) => Err(OrderFault::Memory),
+        Err(LruFault::Weight(_)) => Err(OrderFault::TooHeavy),
+        Err(LruFault::Length(_)) => Err(OrderFault::TooLong),
+    }
+}
+
+/// Takes the row of a number out.
+fn take_out(core: &mut LruCore<CompactCacheKey, 1>, number: u64)
+    ensures { core.new ≡ record core.old { shards = slice_set core.old.shards (number % 1) (others number (rows_at core.old.shards (number % 1))) } }
+{
+    let _row = core.remove(number);
+}
+
+/// Whether the weight is past the limit, or the number of rows past the watermark.
+fn is_over(core: &LruCore<CompactCacheKey, 1>, watermark: Option<usize>) -> bool
+    requires { core.now.watermark ≡ watermark }
+    ensures { result ≡ is_core_over core.now }
+{
+    if core.weight() > core.weight_limit() {
+        return true;
+    }
+    match watermark {
+        Some(mark) => core.len() > mark,
+        None => false,
+    }
+}
+
+/// Evicts rows until neither limit is passed. The core doesn't say of a refusal that a limit is still passed, so it is
+/// looked at.
+fn evict_rows<R: Rng>(
+    core: &mut LruCore<CompactCacheKey, 1>,
+    watermark: Option<usize>,
+    alloc: Global,
+    rng: &mut R,
+) -> Result<Vec<(CompactCacheKey, usize)>, Vec<(CompactCacheKey, usize)>>
+    requires { core.old.watermark ≡ watermark }
+    ensures whole { IfOk result (λ v. Evicts 1 core.old v.items (R.stream rng.old) core.new (R.stream rng.new)) }
+    ensures within { OnOk result (is_core_over core.new ≡ false) }
+    ensures begun { IfErr result (λ v. Evicts 1 core.old v.items (R.stream rng.old) core.new (R.stream rng.new)) }
+    ensures over { OnErr result (is_core_over core.new ≡ true) }
+{
+    match core.evict_to_limit(alloc, rng) {
+        Ok(pairs) => Ok(pairs),
+        Err(pairs) => {
+            if is_over(core, watermark) {
+                Err(pairs)
+            } else {
+                Ok(pairs)
+            }
+        }
+    }
+}
