@@ -1,4 +1,4 @@
-pub mod EvictionLaws
+pub mod StoreLaws
 pub mod HeadLaws
 pub mod LengthLaws
 pub mod RunLaws

@@ -10,19 +10,23 @@ use Rattle.tier_model.specs.declared.event.Event.{Event}
 use Rattle.tier_model.specs.declared.event.Action.{Action}
 use Rattle.tier_model.specs.declared.event.Action.TheVariants.{Open, LookUp, Read, Drop, Purge, Put}
 use Rattle.tier_model.specs.declared.event.TierFault.{TierFault}
-use Rattle.tier_model.specs.Calls.{Outcome, nothing_done, done_of}
+use Rattle.tier_model.specs.Calls.{Outcome, nothing_done, done_of, evicted_by}
 use Rattle.tier_model.specs.Response.{joined, Gives}
 use Rattle.tier_model.specs.State.{State}
 use Rattle.tier_model.specs.Step.{AllowsBy, IsGiven, IsPutAnswer, IsFault, refusal, taken_back, undone}
 use Rattle.tier_model.specs.Past.{Steps, Runs}
-use Rattle.cache_tier.specs.Acts.{AllowsUnrefused, after_action, Takes, IsRefusal, behind_store}
+use Rattle.rand_core.specs.Stream.{Stream}
+use Rattle.entry_order.specs.Orders.{Order, IsDrawn}
+use Rattle.cache_tier.specs.Draws.{order_behind, AreDrawn, StepsBy, RunsBy}
+use Rattle.cache_tier.specs.Acts.{AllowsUnrefused, after_action, TakesBy, IsRefusal, behind_store}
 
 -- a body is stored that the response of a put gave
-pub Takes-stored : (old : State) (t : Instant) (key : FullKey) (pieces : List (List ℕ)) (b : FinishedBody) (o : Outcome) (new : State) → Gives t (entry_of key) (joined pieces) (Stored b)
-    → MatchResult o (IsPutAnswer old (Some (Stored b))) (IsRefusal old b) → new ≡ behind_store old b o → Takes old t (Put key pieces) o new
-Takes-stored old t key pieces b (Ok a) new gives allowed is = (Some (Stored b), gives, allowed, is)
-Takes-stored old t key pieces b (Err f) new gives allowed is =
-    (Some (Stored b), gives, fault, subst (λ (k : Entry). new ≡ taken_back (done_of f).stored old k (done_of f).evicted) (gives.of_entry b refl) is)
+pub Takes-stored : (old : State) (s : Stream) (t : Instant) (key : FullKey) (pieces : List (List ℕ)) (b : FinishedBody) (o : Outcome) (new : State) (rest : Stream)
+    → Gives t (entry_of key) (joined pieces) (Stored b) → MatchResult o (IsPutAnswer old (Some (Stored b))) (IsRefusal old b) → new ≡ behind_store old b o
+    → (left : Order) × IsDrawn (order_behind old b) (evicted_by o) s left rest → TakesBy old s t (Put key pieces) o new rest
+Takes-stored old s t key pieces b (Ok a) new rest gives allowed is drawn = (Some (Stored b), gives, allowed, is, drawn)
+Takes-stored old s t key pieces b (Err f) new rest gives allowed is drawn =
+    (Some (Stored b), gives, fault, subst (λ (k : Entry). new ≡ taken_back (done_of f).stored old k (done_of f).evicted) (gives.of_entry b refl) is, drawn)
   where
     fault : IsFault old (Put key pieces) (Some (Stored b)) f
     fault = elim allowed [ inl memory ↦ inl (memory, tt) | inr late ↦ inr late ]
@@ -45,26 +49,41 @@ undone-nothing old (Drop id) = refl
 undone-nothing old (Purge key) = refl
 undone-nothing old (Put key pieces) = refl
 
-pub Steps-refused : (old : State) (e : Event) (f : TierFault) → refusal old e.action ≡ Some f → done_of f ≡ nothing_done → Steps old e (Err f) old
-Steps-refused old e f refused nothing = (
+pub Steps-refused : (old : State) (s : Stream) (e : Event) (f : TierFault) → refusal old e.action ≡ Some f → done_of f ≡ nothing_done → StepsBy old s e (Err f) old s
+Steps-refused old s e f refused nothing = (
   record { event = e; outcome = Err f; given = None },
   refl,
   refl,
   (IsGiven-none e.moment e.action, subst (λ r. AllowsBy r old e.moment e.action None (Err f)) (sym refused) refl),
   sym (ap (undone old e.action) nothing ∙ undone-nothing old e.action),
+  refl,
 )
 
 -- the checks let an event pass, and its action is taken
-pub Steps-taken : (old : State) (e : Event) (action : Action) (o : Outcome) (new : State) → e.action ≡ action → refusal old e.action ≡ None → Takes old e.moment action o new → Steps old e o new
-Steps-taken old e action o new is passed takes =
-    let taken : Takes old e.moment e.action o new = subst (λ (a : Action). Takes old e.moment a o new) (sym is) takes in
-    (record { event = e; outcome = o; given = taken.0 }, refl, refl, (taken.1, subst (λ r. AllowsBy r old e.moment e.action taken.0 o) (sym passed) taken.2), taken.3)
+pub Steps-taken : (old : State) (s : Stream) (e : Event) (action : Action) (o : Outcome) (new : State) (rest : Stream) → e.action ≡ action → refusal old e.action ≡ None → TakesBy old s e.moment action o new rest
+    → StepsBy old s e o new rest
+Steps-taken old s e action o new rest is passed takes =
+    let taken : TakesBy old s e.moment e.action o new rest = subst (λ (a : Action). TakesBy old s e.moment a o new rest) (sym is) takes in
+    (record { event = e; outcome = o; given = taken.0 }, refl, refl, (taken.1, subst (λ r. AllowsBy r old e.moment e.action taken.0 o) (sym passed) taken.2), taken.3, taken.4)
 
-pub Steps-plain : (old : State) (e : Event) (action : Action) (o : Outcome) (new : State) → e.action ≡ action → refusal old e.action ≡ None → AllowsUnrefused old e.moment action o → new ≡ after_action old e.moment action o → Steps old e o new
-Steps-plain old e action o new is passed allowed after = Steps-taken old e action o new is passed (None, IsGiven-none e.moment action, allowed, after)
+pub Steps-plain : (old : State) (s : Stream) (e : Event) (action : Action) (o : Outcome) (new : State) → e.action ≡ action → refusal old e.action ≡ None → AllowsUnrefused old e.moment action o
+    → new ≡ after_action old e.moment action o → StepsBy old s e o new s
+Steps-plain old s e action o new is passed allowed after = Steps-taken old s e action o new s is passed (None, IsGiven-none e.moment action, allowed, after, refl)
 
-pub Runs-more : (old : State) (es : List Event) (os : List Outcome) (new : State) (e : Event) (o : Outcome) (next : State) → Runs old es os new → Steps new e o next → Runs old (es ++ e ∷ []) (os ++ o ∷ []) next
-Runs-more old [] [] new e o next ran step = (next, subst (λ s. Steps s e o next) ran step, refl)
-Runs-more old [] (p ∷ os) new e o next ran step = absurd ran
-Runs-more old (d ∷ es) [] new e o next ran step = absurd ran
-Runs-more old (d ∷ es) (p ∷ os) new e o next ran step = (ran.0, ran.1, Runs-more ran.0 es os new e o next ran.2 step)
+-- what is said with the words says it without them
+pub Steps-of : (old : State) (s : Stream) (e : Event) (o : Outcome) (new : State) (rest : Stream) → StepsBy old s e o new rest → Steps old e o new
+Steps-of old s e o new rest step = (step.0, step.1, step.2, step.3, step.4)
+
+pub Runs-of : (old : State) (s : Stream) (es : List Event) (os : List Outcome) (new : State) (rest : Stream) → RunsBy old s es os new rest → Runs old es os new
+Runs-of old s [] [] new rest ran = ran.0
+Runs-of old s [] (o ∷ os) new rest ran = absurd ran
+Runs-of old s (e ∷ es) [] new rest ran = absurd ran
+Runs-of old s (e ∷ es) (o ∷ os) new rest ran = (ran.0, Steps-of old s e o ran.0 ran.1 ran.2, Runs-of ran.0 ran.1 es os new rest ran.3)
+
+pub Runs-more : (old : State) (s : Stream) (es : List Event) (os : List Outcome) (new : State) (rest : Stream) (e : Event) (o : Outcome) (next : State) (left : Stream)
+    → RunsBy old s es os new rest → StepsBy new rest e o next left → RunsBy old s (es ++ e ∷ []) (os ++ o ∷ []) next left
+Runs-more old s [] [] new rest e o next left ran step =
+    (next, left, subst (λ (x : State). StepsBy x s e o next left) ran.0 (subst (λ (x : Stream). StepsBy new x e o next left) ran.1 step), (refl, refl))
+Runs-more old s [] (p ∷ os) new rest e o next left ran step = absurd ran
+Runs-more old s (d ∷ es) [] new rest e o next left ran step = absurd ran
+Runs-more old s (d ∷ es) (p ∷ os) new rest e o next left ran step = (ran.0, ran.1, ran.2, Runs-more ran.0 ran.1 es os new rest e o next left ran.3 step)

@@ -1,3 +1,4 @@
 pub mod Heads
 pub mod Codes
 pub mod Acts
+pub mod Draws

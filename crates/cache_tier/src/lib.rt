@@ -1,6 +1,6 @@
 //! The cache tier: it takes events one by one, and answers each as its state allows.
 #![tactic(auto)]
 
-mod order;
+mod bodies;
 mod response;
 pub mod tier;

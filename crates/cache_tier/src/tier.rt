@@ -1,31 +1,31 @@
 //! The tier.
-ghost use Rattle.std.specs.Prelude.{◌≡◌, ◌<◌, ◌^◌, [], ◌∷◌, Some, None, IsSome, IfSome};
-ghost use Rattle.std.specs.Prelude.{MatchResult, IfOk, IfErr, OnOk, OnErr};
-ghost use Rattle.std.specs.FinMap.{get};
+ghost use Rattle.std.specs.Prelude.{◌≡◌, ◌≢◌, ◌∷◌, [], length, map, true, Some, None, IsSome, IfSome};
+ghost use Rattle.std.specs.Prelude.{MatchResult, IfOk, IfErr, OnOk, OnErr, List};
 ghost use Rattle.tier_entries.specs.Keys.{entry_of};
-ghost use Rattle.tier_entries.specs.Rows.{all_weights, admitted};
-ghost use Rattle.tier_model.specs.declared.rows.Request.{Request};
+ghost use Rattle.tier_entries.specs.Rows.{without_row, IsLawfulEviction, IsBegunEviction};
+ghost use Rattle.entry_order.specs.Orders.{Order, IsDrawn};
+ghost use Rattle.entry_order.specs.declared.order.OrderFault.{OrderFault};
+ghost use Rattle.tier_model.specs.Keys.{Entry, key_asked};
+ghost use Rattle.tier_model.specs.Rows.{without_body, without_bodies};
 ghost use Rattle.tier_model.specs.State.{empty_state};
-ghost use Rattle.tier_model.specs.Calls.{nothing_done, done_of};
+ghost use Rattle.tier_model.specs.Calls.{nothing_done, done_of, evicted_by};
 ghost use Rattle.tier_model.specs.declared.given.Given.TheVariants.{Stored};
-ghost use Rattle.tier_model.specs.Step.{refusal, can_look_up, has_reader};
-ghost use Rattle.tier_model.specs.Step.{read_answer, stored_alone, IsPutAnswer};
+ghost use Rattle.tier_model.specs.Step.{refusal, can_look_up, has_reader, counted, taken_back};
+ghost use Rattle.tier_model.specs.Step.{read_answer, stored_alone, all_done, IsPutAnswer};
 ghost use Rattle.tier_model.specs.Past.{Steps, Runs, HasPast, CarriesHeadline};
 ghost use Rattle.tier_model.specs.Reports.{report_of};
-ghost use Rattle.cache_tier.specs.Acts.{AllowsUnrefused, after_action, hit_behind, Takes, IsRefusal, behind_store};
+ghost use Rattle.cache_tier.specs.Acts.{AllowsUnrefused, after_action, IsRefusal, behind_store, fault_for, TakesBy};
+ghost use Rattle.cache_tier.specs.Draws.{order_of, order_behind, evicted_from, StepsBy, RunsBy};
 
-use crate::order::{
-    admit, all_bytes, all_weights, body_of, evict, is_too_heavy, put_body, remove_body, remove_row,
-    remove_row_of, use_is_too_heavy, used_weight, weight_for,
-};
+use crate::bodies::{all_bytes, body_of, put_body, remove_bodies, remove_body, weight_for};
 use crate::response::given_by_put;
 use cache_words::key::{CacheKey, CompactCacheKey};
 use cache_words::time::{Duration, Moment};
+use entry_order::{EntryOrder, OrderFault};
 use rand_core::Rng;
 use std::alloc::{AllocError, Global};
 use std::marker::Model;
 use tier_entries::keys::{copy_of, entry_of, stored_key, stored_key_of};
-use tier_entries::rows::Tracked;
 use tier_model::event::{Action, Answer, Done, Entries, Event, Pieces, TierFault};
 use tier_model::given::Given;
 use tier_model::report::Report;
@@ -36,12 +36,11 @@ use tier_model::rows::{FinishedBody, Phase, Reader, Request};
 #[derive(Drop)]
 pub struct Tier<const N: usize> {
     alloc: Global,
-    limit: usize,
-    watermark: Option<usize>,
     age: Duration,
     wait: Option<Duration>,
     bodies: Vec<FinishedBody>,
-    tracked: Vec<Tracked>,
+    /// The order of use, with the limits.
+    order: EntryOrder,
     requests: Requests,
     found: u64,
     absent: u64,
@@ -49,9 +48,7 @@ pub struct Tier<const N: usize> {
 }
 
 impl<const N: usize> Model for Tier<N> {
-    ghost use Rattle.std.specs.Prelude.{◌<◌, ◌^◌};
     ghost use Rattle.tier_model.specs.State.{State};
-    ghost use Rattle.tier_entries.specs.Rows.{all_weights};
     ghost use Rattle.cache_tier.specs.Codes.{state_code};
 
     ghost Value = { State };
@@ -59,16 +56,14 @@ impl<const N: usize> Model for Tier<N> {
     ghost coded = { state_code };
 
     ghost view = { λ t. record {
-      settings = record { limit = t.limit; watermark = t.watermark; age = t.age; wait = t.wait };
+      settings = record { limit = t.order.limit; watermark = t.order.watermark; age = t.age; wait = t.wait };
       bodies = t.bodies.items;
-      tracked = t.tracked.items;
+      tracked = t.order.rows;
       requests = t.requests;
       found = t.found;
       absent = t.absent;
       evicted = t.evicted;
     } };
-
-    ghost invariant = { λ t. all_weights t.tracked.items < 2 ^ 64 };
 }
 
 // Whether a look-up is allowed in that phase.
@@ -123,34 +118,47 @@ fn read_answer(reader: Reader) -> Answer
     }
 }
 
+// A fault of the order of use, behind what was done.
+fn fault_for(fault: OrderFault, done: Done) -> TierFault
+    ensures { result ≡ fault_for fault done }
+{
+    match fault {
+        OrderFault::Memory => TierFault::Memory(done),
+        OrderFault::TooHeavy => TierFault::TooHeavy(done),
+        OrderFault::TooLong => TierFault::TooLong(done),
+    }
+}
+
 impl Tier<1> {
     /// An empty tier. `limit` bounds the sum of the entries' weights, `watermark` their number. `age` is
     /// how long a permit holds, `wait` how long a request waits for one; neither is looked at yet.
+    ///
+    /// # Errors
+    ///
+    /// `AllocError` where there is no memory for its one shard.
     pub fn new(
         alloc: Global,
         limit: usize,
         watermark: Option<usize>,
         age: Duration,
         wait: Option<Duration>,
-    ) -> Tier<1>
-        ensures state { result ≡ empty_state
-            (record { limit = limit; watermark = watermark; age = age; wait = wait }) }
-        ensures past { HasPast
-            (record { limit = limit; watermark = watermark; age = age; wait = wait }) result [] }
+    ) -> Result<Tier<1>, AllocError>
+        ensures state { IfOk result (λ tier. tier ≡ empty_state
+            (record { limit = limit; watermark = watermark; age = age; wait = wait })) }
+        ensures past { IfOk result (λ tier. HasPast
+            (record { limit = limit; watermark = watermark; age = age; wait = wait }) tier []) }
     {
-        Tier {
+        Ok(Tier {
             alloc,
-            limit,
-            watermark,
             age,
             wait,
             bodies: Vec::new(alloc),
-            tracked: Vec::new(alloc),
+            order: EntryOrder::new(alloc, limit, watermark)?,
             requests: Requests::new(alloc),
             found: 0,
             absent: 0,
             evicted: 0,
-        }
+        })
     }
 
     // The checks that come before anything else: the first that fails.
@@ -199,26 +207,6 @@ impl Tier<1> {
         Ok(Answer::Opened)
     }
 
-    // Uses the entry of a request that found a body: it moves to the front with this weight.
-    fn hit(
-        &mut self,
-        id: u64,
-        phase: Phase,
-        reader: Reader,
-        entry: CompactCacheKey,
-        weight: usize,
-    ) -> Result<(), AllocError>
-        requires fits { all_weights (admitted entry weight self.old.tracked) < 2 ^ 64 }
-        ensures ok { OnOk result ((q : Request) → get self.old.requests id ≡ Some q → q.entry ≡ entry → self.new ≡ hit_behind self.old id q phase reader weight) }
-        ensures err { OnErr result (self.new ≡ self.old) }
-    {
-        self.tracked.reserve(1)?;
-        admit(&mut self.tracked, entry, weight);
-        let _old = self.requests.update(id, phase, reader);
-        self.found = self.found.saturating_add(1);
-        Ok(())
-    }
-
     fn look_up(&mut self, moment: Moment, id: u64) -> Result<Answer, TierFault>
         requires { refusal self.old (Action.LookUp id) ≡ None }
         ensures allowed { AllowsUnrefused self.old moment (Action.LookUp id) result }
@@ -232,24 +220,16 @@ impl Tier<1> {
             self.absent = self.absent.saturating_add(1);
             return Ok(Answer::Absent);
         };
-        if use_is_too_heavy(&self.tracked, &request.entry, body) {
-            return Err(TierFault::TooHeavy(nothing_done(self.alloc)));
-        }
         let Ok(bytes) = body.bytes.clone() else {
             return Err(TierFault::Memory(nothing_done(self.alloc)));
         };
-        let Ok(entry) = copy_of(&request.entry) else {
-            return Err(TierFault::Memory(nothing_done(self.alloc)));
-        };
+        if let Err(fault) = self.order.touch(&request.entry, weight_for(body)) {
+            return Err(fault_for(fault, nothing_done(self.alloc)));
+        }
         let fresh = moment.is_at_most(&body.fresh_until);
         let phase = if fresh { Phase::Hit } else { Phase::Stale };
-        let weight = used_weight(&self.tracked, &entry, body);
-        if self
-            .hit(id, phase, Reader::Unread(bytes), entry, weight)
-            .is_err()
-        {
-            return Err(TierFault::Memory(nothing_done(self.alloc)));
-        }
+        let _old = self.requests.update(id, phase, Reader::Unread(bytes));
+        self.found = self.found.saturating_add(1);
         Ok(Answer::Found {
             fresh,
             complete: true,
@@ -288,52 +268,119 @@ impl Tier<1> {
             return Ok(Answer::Purged(false));
         }
         remove_body(&mut self.bodies, &stored);
-        remove_row_of(&mut self.tracked, key);
+        self.order.remove_key(key);
         Ok(Answer::Purged(true))
     }
 
-    // Stores a body, admits its entry, and evicts what passes a limit.
-    fn store(&mut self, body: FinishedBody) -> Result<Answer, TierFault>
+    // Removes the bodies of evicted entries, and counts those.
+    fn forget(&mut self, evicted: &[(CompactCacheKey, usize)])
+        ensures { self.new ≡ record self.old {
+          bodies = without_bodies (map (λ p. p.0) evicted.now) self.old.bodies;
+          evicted = counted self.old.evicted (length (map (λ p. p.0) evicted.now));
+        } }
+    {
+        remove_bodies(&mut self.bodies, evicted);
+        self.evicted = self.evicted.saturating_add(evicted.len() as u64);
+    }
+
+    // Takes the body of a key back, with its entry, behind these evictions.
+    fn take_back(&mut self, key: &CacheKey, evicted: &[(CompactCacheKey, usize)])
+        ensures { self.new ≡ record self.old {
+          bodies = without_body (key_asked key.now) (without_bodies (map (λ p. p.0) evicted.now) self.old.bodies);
+          tracked = without_row (entry_of key.now) self.old.tracked;
+          evicted = counted self.old.evicted (length (map (λ p. p.0) evicted.now));
+        } }
+    {
+        self.forget(evicted);
+        remove_body(&mut self.bodies, &stored_key_of(key));
+        self.order.remove_key(key);
+    }
+
+    // Evicts what passes a limit, behind the storing of a body under a key. Where memory runs out in the midst
+    // of it the body is taken back.
+    fn make_room<R: Rng>(
+        &mut self,
+        rng: &mut R,
+        key: &CacheKey,
+        length: usize,
+    ) -> Result<Answer, TierFault>
+        ensures kept { IfOk result (λ answer. (es : List Entry) × (answer ≡ Answer.Finished length es)
+            × IsLawfulEviction self.old.settings.limit self.old.settings.watermark self.old.tracked es
+            × (self.new ≡ evicted_from self.old es)) }
+        ensures cut { IfErr result (λ fault. (es : List Entry) × (fault ≡ TierFault.Memory (all_done es))
+            × IsBegunEviction self.old.settings.limit self.old.settings.watermark self.old.tracked es
+            × (self.new ≡ taken_back true self.old (entry_of key.now) es)) }
+        ensures drawn { (left : Order) × IsDrawn (order_of self.old) (evicted_by result)
+            (R.stream rng.old) left (R.stream rng.new) }
+    {
+        match self.order.evict(self.alloc, rng) {
+            Ok(evicted) => {
+                self.forget(&evicted);
+                Ok(Answer::Finished {
+                    length,
+                    evicted: Entries::from_vec(evicted),
+                })
+            }
+            Err(evicted) => {
+                self.take_back(key, &evicted);
+                Err(TierFault::Memory(Done {
+                    stored: true,
+                    admitted: true,
+                    evicted: Entries::from_vec(evicted),
+                }))
+            }
+        }
+    }
+
+    // Takes the body of a key back whose entry the order of use refused; without memory nothing was done.
+    fn unadmitted(&mut self, key: &CacheKey, fault: OrderFault) -> TierFault
+        ensures memory { fault ≡ OrderFault.Memory → (result ≡ TierFault.Memory nothing_done) × (self.new ≡ self.old) }
+        ensures other { fault ≢ OrderFault.Memory → (result ≡ fault_for fault stored_alone)
+            × (self.new ≡ taken_back true self.old (entry_of key.now) []) }
+    {
+        if fault == OrderFault::Memory {
+            return TierFault::Memory(nothing_done(self.alloc));
+        }
+        self.take_back(key, &[]);
+        fault_for(fault, stored_alone(self.alloc))
+    }
+
+    // Stores a body under a key, admits its entry, and evicts what passes a limit.
+    fn store<R: Rng>(
+        &mut self,
+        rng: &mut R,
+        key: &CacheKey,
+        body: FinishedBody,
+    ) -> Result<Answer, TierFault>
+        requires { body.entry ≡ entry_of key.now }
         ensures allowed { MatchResult result (IsPutAnswer self.old (Some (Stored body))) (IsRefusal self.old body) }
         ensures after { self.new ≡ behind_store self.old body result }
+        ensures drawn { (left : Order) × IsDrawn (order_behind self.old body) (evicted_by result)
+            (R.stream rng.old) left (R.stream rng.new) }
     {
-        let weight = weight_for(&body);
-        if is_too_heavy(&self.tracked, &body.entry, weight) {
-            remove_body(&mut self.bodies, &stored_key(&body.entry));
-            remove_row(&mut self.tracked, &body.entry);
-            return Err(TierFault::TooHeavy(stored_alone(self.alloc)));
-        }
-        if self.bodies.reserve(1).is_err() {
-            return Err(TierFault::Memory(nothing_done(self.alloc)));
-        }
-        if self.tracked.reserve(1).is_err() {
-            return Err(TierFault::Memory(nothing_done(self.alloc)));
-        }
-        let Ok(mut evicted) = Vec::with_capacity(self.alloc, self.tracked.len() + 1) else {
-            return Err(TierFault::Memory(nothing_done(self.alloc)));
-        };
         let Ok(entry) = copy_of(&body.entry) else {
             return Err(TierFault::Memory(nothing_done(self.alloc)));
         };
+        if self.bodies.reserve(1).is_err() {
+            return Err(TierFault::Memory(nothing_done(self.alloc)));
+        }
         let length = body.bytes.len();
-        admit(&mut self.tracked, entry, weight);
+        if let Err(fault) = self.order.admit(entry, weight_for(&body)) {
+            return Err(self.unadmitted(key, fault));
+        }
         put_body(&mut self.bodies, body);
-        evict(
-            self.limit,
-            self.watermark,
-            &mut self.tracked,
-            &mut self.bodies,
-            &mut evicted,
-        );
-        self.evicted = self.evicted.saturating_add(evicted.len() as u64);
-        Ok(Answer::Finished {
-            length,
-            evicted: Entries::from_vec(evicted),
-        })
+        self.make_room(rng, key, length)
     }
 
-    fn put(&mut self, moment: Moment, key: &CacheKey, pieces: &Pieces) -> Result<Answer, TierFault>
-        ensures { Takes self.old moment (Action.Put key.now pieces.now) result self.new }
+    fn put<R: Rng>(
+        &mut self,
+        rng: &mut R,
+        moment: Moment,
+        key: &CacheKey,
+        pieces: &Pieces,
+    ) -> Result<Answer, TierFault>
+        ensures { TakesBy self.old (R.stream rng.old) moment (Action.Put key.now pieces.now) result
+            self.new (R.stream rng.new) }
     {
         let Ok(entry) = entry_of(key) else {
             return Err(TierFault::Memory(nothing_done(self.alloc)));
@@ -342,7 +389,7 @@ impl Tier<1> {
             return Err(TierFault::Memory(nothing_done(self.alloc)));
         };
         match given {
-            Given::Stored(body) => self.store(body),
+            Given::Stored(body) => self.store(rng, key, body),
             Given::Uncacheable(reason) => Ok(Answer::Uncacheable(reason)),
             Given::Incomplete => Err(TierFault::Incomplete),
             Given::BadHead => Err(TierFault::BadHead),
@@ -350,8 +397,8 @@ impl Tier<1> {
         }
     }
 
-    fn act(&mut self, event: &Event) -> Result<Answer, TierFault>
-        ensures { Steps self.old event.now result self.new }
+    fn act<R: Rng>(&mut self, rng: &mut R, event: &Event) -> Result<Answer, TierFault>
+        ensures { StepsBy self.old (R.stream rng.old) event.now result self.new (R.stream rng.new) }
     {
         if let Some(fault) = self.refusal(&event.action) {
             return Err(fault);
@@ -362,17 +409,18 @@ impl Tier<1> {
             Action::Read { request } => self.read(event.moment, *request),
             Action::Drop { request } => self.drop_request(event.moment, *request),
             Action::Purge { key } => self.purge(event.moment, key),
-            Action::Put { key, pieces } => self.put(event.moment, key, pieces),
+            Action::Put { key, pieces } => self.put(rng, event.moment, key, pieces),
         }
     }
 
     /// Takes one event and answers it. A refusal says why, and leaves the tier as before, but for a body
-    /// that was stored and removed again.
-    pub fn step<R: Rng>(&mut self, _rng: &mut R, event: &Event) -> Result<Answer, TierFault>
+    /// that was stored and removed again. The generator's words pick the shard of each eviction, two by two.
+    pub fn step<R: Rng>(&mut self, rng: &mut R, event: &Event) -> Result<Answer, TierFault>
         ensures taken { Steps self.old event.now result self.new }
         ensures headline { CarriesHeadline self.old (event.now ∷ []) (result ∷ []) self.new }
+        ensures draws { StepsBy self.old (R.stream rng.old) event.now result self.new (R.stream rng.new) }
     {
-        self.act(event)
+        self.act(rng, event)
     }
 
     /// Takes events in order, and gives an outcome for each. The room for the outcomes is taken first;
@@ -385,6 +433,8 @@ impl Tier<1> {
         ensures ran { IfOk result (λ outcomes. Runs self.old events.now outcomes.items self.new) }
         ensures headline { IfOk result (λ outcomes.
             CarriesHeadline self.old events.now outcomes.items self.new) }
+        ensures draws { IfOk result (λ outcomes.
+            RunsBy self.old (R.stream rng.old) events.now outcomes.items self.new (R.stream rng.new)) }
         ensures fault { IfErr result (λ fault. fault ≡ TierFault.Memory nothing_done) }
         ensures err { OnErr result (self.new ≡ self.old) }
     {
@@ -407,8 +457,8 @@ impl Tier<1> {
             absent: self.absent,
             bodies: self.bodies.len() as u64,
             bytes: all_bytes(&self.bodies),
-            tracked: self.tracked.len() as u64,
-            weight: all_weights(&self.tracked) as u64,
+            tracked: self.order.len() as u64,
+            weight: self.order.weight() as u64,
             evicted: self.evicted,
         }
     }

@@ -82,7 +82,7 @@ pub fn run<R: BufRead, W: Write>(
         × IsReplay (settings_of options.now) (asked_by input) text)) }
     ensures too_many { result ≡ Err ReplayError.TooManyReads → IfSome (R.remaining reader.old) (λ input. 2 ^ 64 - 1 ≤ length (lines_in input)) }
 {
-    let mut tier = tier_for(alloc, options);
+    let mut tier = tier_for(alloc, options)?;
     let mut rng = Pcg64::seed_from_u64(0);
     let mut line = Vec::new(alloc);
     for _ in 0..u64::MAX {
@@ -96,8 +96,8 @@ pub fn run<R: BufRead, W: Write>(
     Err(ReplayError::TooManyReads)
 }
 
-fn tier_for(alloc: Global, options: &ReplayOptions) -> Tier<1>
-    ensures { HasPast (settings_of options.now) result [] }
+fn tier_for(alloc: Global, options: &ReplayOptions) -> Result<Tier<1>, AllocError>
+    ensures { IfOk result (λ tier. HasPast (settings_of options.now) tier []) }
 {
     let watermark = options.watermark.map(|entries| entries as usize);
     let age = Duration::from_seconds(PERMIT_AGE);

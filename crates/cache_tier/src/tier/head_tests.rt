@@ -67,7 +67,7 @@ fn outcomes(
 ) -> Result<String, AllocError> {
     let mut text = String::new(alloc);
     let second = Duration::from_seconds(1);
-    let mut tier = Tier::<1>::new(alloc, 1000, None, second, None);
+    let mut tier = Tier::<1>::new(alloc, 1000, None, second, None)?;
     let pieces = pieces(alloc, bytes, size)?;
     let key = key(alloc)?;
     let outcome = answer(&mut tier, at, Action::Put { key, pieces });

@@ -113,7 +113,7 @@ fn show_report(text: &mut String, report: Report) -> Result<(), AllocError> {
     )
 }
 
-fn tier(alloc: Global, limit: usize, watermark: Option<usize>) -> Tier<1> {
+fn tier(alloc: Global, limit: usize, watermark: Option<usize>) -> Result<Tier<1>, AllocError> {
     let age = Duration::from_seconds(1);
     Tier::<1>::new(alloc, limit, watermark, age, None)
 }
@@ -127,7 +127,7 @@ fn replay(
 ) -> Result<String, AllocError> {
     let mut text = String::new(alloc);
     let mut rng = Pcg32::new(1, 1);
-    let mut tier = tier(alloc, limit, watermark);
+    let mut tier = tier(alloc, limit, watermark)?;
     match tier.run(&mut rng, events) {
         Ok(outcomes) => {
             for outcome in outcomes.as_slice() {
@@ -367,7 +367,7 @@ fn tagged_put(alloc: Global, name: u8, tag: &str, n: usize) -> Result<Event, All
 fn tags(alloc: Global) -> Result<String, AllocError> {
     let mut text = String::new(alloc);
     let mut rng = Pcg32::new(1, 1);
-    let mut tier = tier(alloc, 4, None);
+    let mut tier = tier(alloc, 4, None)?;
     let key = tagged(alloc, b'a', "2")?;
     let first = vec![in alloc;
         tagged_put(alloc, b'a', "1", 3)?,
@@ -418,7 +418,7 @@ fn tags_of_one_stored_key_weigh_apart(rt: HostRuntime) {
 // the way.
 fn fixture(alloc: Global, limit: usize, names: &[u8], is_open: bool) -> Option<Tier<1>> {
     let mut rng = Pcg32::new(1, 1);
-    let mut tier = tier(alloc, limit, None);
+    let mut tier = tier(alloc, limit, None).ok()?;
     for name in names {
         let put = put_of(alloc, *name, 2).ok()?;
         let _ = tier.step(&mut rng, &put).ok()?;

@@ -4,17 +4,18 @@ use Rattle.cache_tier.proofs.RunLaws.{Takes-stored}
 use Rattle.cache_tier.proofs.tier.Tier+1.put.Goals as goal
 
 pub returns-in-Stored : goal.returns-in-Stored
-returns-in-Stored c =
-    Takes-stored c.args.self.now c.args.moment c.args.key.now c.args.pieces.now c.in-Stored.body c.store.result c.store.new.self (rw (c.in-Stored.is, c.in-Ok.ensures) at c.in-Ok-given_by_put.ensures) c.store.ensures.allowed c.store.ensures.after
+returns-in-Stored g c =
+    Takes-stored c.args.self.now _ c.args.moment c.args.key.now c.args.pieces.now c.in-Stored.body c.store.result c.store.new.self _ (rw (c.in-Stored.is, c.in-Ok.ensures) at c.in-Ok-given_by_put.ensures)
+    c.store.ensures.allowed c.store.ensures.after c.store.ensures.drawn
 
 pub returns-in-Uncacheable : goal.returns-in-Uncacheable
-returns-in-Uncacheable c = (Some (Uncacheable c.in-Uncacheable.reason), rw (c.in-Uncacheable.is, c.in-Ok.ensures) at c.in-Ok-given_by_put.ensures, refl, refl)
+returns-in-Uncacheable g c = (Some (Uncacheable c.in-Uncacheable.reason), rw (c.in-Uncacheable.is, c.in-Ok.ensures) at c.in-Ok-given_by_put.ensures, refl, refl, refl)
 
 pub returns-in-Incomplete : goal.returns-in-Incomplete
-returns-in-Incomplete c = (Some Incomplete, rw (c.in-Incomplete.is, c.in-Ok.ensures) at c.in-Ok-given_by_put.ensures, inr refl, refl)
+returns-in-Incomplete g c = (Some Incomplete, rw (c.in-Incomplete.is, c.in-Ok.ensures) at c.in-Ok-given_by_put.ensures, inr refl, refl, refl)
 
 pub returns-in-BadHead : goal.returns-in-BadHead
-returns-in-BadHead c = (Some BadHead, rw (c.in-BadHead.is, c.in-Ok.ensures) at c.in-Ok-given_by_put.ensures, inr refl, refl)
+returns-in-BadHead g c = (Some BadHead, rw (c.in-BadHead.is, c.in-Ok.ensures) at c.in-Ok-given_by_put.ensures, inr refl, refl, refl)
 
 pub returns-in-BeforeEpoch : goal.returns-in-BeforeEpoch
-returns-in-BeforeEpoch c = (Some BeforeEpoch, rw (c.in-BeforeEpoch.is, c.in-Ok.ensures) at c.in-Ok-given_by_put.ensures, inr refl, refl)
+returns-in-BeforeEpoch g c = (Some BeforeEpoch, rw (c.in-BeforeEpoch.is, c.in-Ok.ensures) at c.in-Ok-given_by_put.ensures, inr refl, refl, refl)
