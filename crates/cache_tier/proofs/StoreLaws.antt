@@ -1,5 +1,5 @@
 -- Bodies and rows behind a storing, its evictions, and its taking back.
-use Rattle.std.proofs.Common.{◌≡◌, ℕ, ◌+◌, ◌≤◌, ◌<◌, ◌^◌, Bool, true, false, List, [], ◌∷◌, ◌++◌, length, map, refl, ap, ap₂, sym, ◌∙◌, arith, append-nil, cond, Some, None, Option, Err, max, ◌≢◌}
+use Rattle.std.proofs.Common.{◌≡◌, ℕ, ◌+◌, ◌≤◌, ◌<◌, ◌^◌, Bool, true, false, List, [], ◌∷◌, ◌++◌, length, map, refl, ap, ap₂, sym, ◌∙◌, arith, append-nil, cond, Some, None, Option, Ok, Err, IfOk, IfErr, subst, max, ◌≢◌}
 use Rattle.std.specs.Prelude.{not, filter, nat_le, unwrap_or, is_some, option_map}
 use Rattle.std.proofs.lemmas.List.Elements.{filter-append}
 use Rattle.std.proofs.lemmas.List.Sums.{sum_by-cons}
@@ -10,7 +10,7 @@ use Rattle.lru_core.specs.Rows.{a_row}
 use Rattle.lru_core.specs.Cores.{Core}
 use Rattle.tier_entries.specs.declared.rows.Tracked.{Tracked}
 use Rattle.tier_entries.specs.Keys.{stored_key, same_key, same_entry}
-use Rattle.tier_entries.specs.Rows.{row_of, weight_of, without_row, without_rows, all_weights, admitted, used}
+use Rattle.tier_entries.specs.Rows.{row_of, weight_of, without_row, without_rows, all_weights, admitted, used, IsLawfulEviction, IsBegunEviction}
 use Rattle.tier_entries.proofs.KeyLaws.{same_key-tells, same_entry-tells}
 use Rattle.entry_order.specs.declared.order.OrderFault.{OrderFault}
 use Rattle.entry_order.specs.declared.order.OrderFault.TheVariants as order
@@ -18,12 +18,16 @@ use Rattle.entry_order.specs.Orders.{Order, IsDrawn, order_in, tracked_row}
 use Rattle.tier_model.specs.Keys.{Entry, StoredKey}
 use Rattle.tier_model.specs.declared.event.TierFault.{TierFault}
 use Rattle.tier_model.specs.declared.event.TierFault.TheVariants.{Memory}
-use Rattle.tier_model.specs.Calls.{nothing_done, evicted_by}
-use Rattle.cache_tier.specs.Acts.{fault_for}
+use Rattle.tier_model.specs.declared.event.Answer.{Answer}
+use Rattle.tier_model.specs.declared.event.Answer.TheVariants.{Finished}
+use Rattle.tier_model.specs.declared.given.Given.TheVariants.{Stored}
+use Rattle.tier_model.specs.Calls.{Outcome, nothing_done, evicted_by}
+use Rattle.cache_tier.specs.Acts.{fault_for, behind_store}
+use Rattle.cache_tier.specs.Draws.{evicted_from}
 use Rattle.tier_model.specs.declared.rows.FinishedBody.{FinishedBody}
 use Rattle.tier_model.specs.Rows.{without_body, without_bodies, with_body, weight_for}
 use Rattle.tier_model.specs.State.{State}
-use Rattle.tier_model.specs.Step.{taken_back, is_too_heavy, is_too_long, use_is_too_heavy, stored_alone}
+use Rattle.tier_model.specs.Step.{taken_back, is_too_heavy, is_too_long, use_is_too_heavy, stored_alone, all_done, put_behind}
 
 -- one more eviction
 pub without_bodies-more : (es : List Entry) (e : Entry) (bodies : List FinishedBody) → without_bodies (es ++ e ∷ []) bodies ≡ without_body (stored_key e) (without_bodies es bodies)
@@ -117,3 +121,12 @@ pub unadmitted_none : (fault : OrderFault) (x : TierFault) → (fault ≡ order.
 unadmitted_none order.Memory x memory other = ap (λ (f : TierFault). evicted_by (Err f)) (memory refl)
 unadmitted_none order.TooHeavy x memory other = ap (λ (f : TierFault). evicted_by (Err f)) (other (λ e. cc))
 unadmitted_none order.TooLong x memory other = ap (λ (f : TierFault). evicted_by (Err f)) (other (λ e. cc))
+
+-- a body that was stored and admitted, behind the making of room for it
+pub room-behind : (s mid new : State) (b : FinishedBody) (e : Entry) (n : ℕ) (o : Outcome) → mid ≡ record s { bodies = with_body b s.bodies; tracked = admitted b.entry (weight_for b) s.tracked } → b.entry ≡ e
+    → IfOk o (λ a. (es : List Entry) × (a ≡ Finished n es) × IsLawfulEviction mid.settings.limit mid.settings.watermark mid.tracked es × (new ≡ evicted_from mid es))
+    → IfErr o (λ f. (es : List Entry) × (f ≡ Memory (all_done es)) × IsBegunEviction mid.settings.limit mid.settings.watermark mid.tracked es × (new ≡ taken_back true mid e es))
+    → new ≡ behind_store s b o
+room-behind s mid new b e n (Ok a) is same kept cut = subst (λ (x : Answer). new ≡ put_behind s (Some (Stored b)) x) (sym kept.1) (kept.3 ∙ ap (λ (m : State). evicted_from m kept.0) is)
+room-behind s mid new b e n (Err f) is same kept cut =
+    subst (λ (x : TierFault). new ≡ behind_store s b (Err x)) (sym cut.1) (cut.3 ∙ ap (λ (y : Entry). taken_back true mid y cut.0) (sym same) ∙ taken_back-stored s mid b (weight_for b) cut.0 is)
