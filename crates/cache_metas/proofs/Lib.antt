@@ -1,0 +1,3 @@
+pub mod InternalLaws
+pub mod InternalWriting
+pub mod ItemLaws

@@ -1,0 +1,4 @@
+pub mod Internal
+pub mod InternalReading
+pub mod Items
+pub mod Versions

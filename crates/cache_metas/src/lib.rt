@@ -1,0 +1,8 @@
+//! What is kept beside a response, as bytes: its moments and numbers, and its head.
+#![tactic(auto)]
+
+mod cursor;
+pub mod fault;
+pub mod internal;
+pub mod laws;
+pub mod versions;
