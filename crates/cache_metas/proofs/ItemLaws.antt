@@ -7,7 +7,7 @@ use Rattle.cache_words.specs.declared.pack.fault.PackFault.TheVariants.{Short, K
 use Rattle.cache_words.specs.Pack.{nil}
 use Rattle.cache_words.specs.Reading.{◌>>=◌, array_of_at, number_at, moment_at}
 use Rattle.cache_words.specs.Time.{Instant}
-use Rattle.cache_words.proofs.ReadingLaws.{IsBytes, IsBytes-rest, Takes, Agrees, bind_ok, test_ok, chosen, done, ok_is}
+use Rattle.cache_words.proofs.ReadingLaws.{IsBytes, IsBytes-rest, Takes, Agrees, Skips, bind_ok, test_ok, chosen, done, ok_is}
 use Rattle.cache_words.proofs.ValueLaws.{moment_agrees}
 use Rattle.cache_metas.specs.Items.{SpellThere, there_at, seen_as, byte_at, SpellsOptionalMoment, optional_moment_at}
 
@@ -159,3 +159,54 @@ optional_again (Some m) text rest s = moment_is_some (text ++ rest) (m, rest) (m
 
 pub optional_moment_agrees : Agrees optional_moment_at SpellsOptionalMoment
 optional_moment_agrees = record { takes = optional_takes; again = optional_again }
+
+-- what answers no value, and a value behind it
+abbrev pub SpellBehind : {V : Type 0} → (List ℕ → Type 0) → (V → List ℕ → Type 0) → V → List ℕ → Type 0
+SpellBehind P Q v text = (front : List ℕ) × (behind : List ℕ) × P front × Q v behind × (text ≡ front ++ behind)
+
+abbrev pub behind_at : {V : Type 0} → (List ℕ → Result (List ℕ) PackFault) → (List ℕ → Result (V × List ℕ) PackFault) → List ℕ → Result (V × List ℕ) PackFault
+behind_at f k bytes = f bytes >>= λ rest. k rest
+
+pub behind_agrees : {V : Type 0} (f : List ℕ → Result (List ℕ) PackFault) (P : List ℕ → Type 0) (k : List ℕ → Result (V × List ℕ) PackFault) (Q : V → List ℕ → Type 0)
+    → Skips f P → Agrees k Q → Agrees (behind_at f k) (SpellBehind P Q)
+behind_agrees {V} f P k Q a b = record {
+  takes = λ bytes y fits e.
+      let s = bind_ok (f bytes) (λ rest. k rest) y e in
+      let t = a.takes bytes s.0 fits s.1 in
+      let u = b.takes s.0 y t.rest_fits s.2 in
+      record {
+        text = t.text ++ u.text;
+        spelled = (t.text, u.text, t.spelled, u.spelled, refl);
+        parts = join bytes t.text s.0 u.text y.1 t.parts u.parts;
+        rest_fits = u.rest_fits;
+      };
+  again = λ v text rest s.
+      let regrouped : text ++ rest ≡ s.0 ++ (s.1 ++ rest) = rw s.4 (append_assoc s.0 s.1 rest) in
+      ap (behind_at f k) regrouped ∙ rw (a.again s.0 (s.1 ++ rest) s.2) (b.again v s.1 rest s.3);
+}
+
+-- a test that takes no bytes, and a value by what it answered
+abbrev pub SpellBy : {X V : Type 0} → Result X PackFault → (X → V → List ℕ → Type 0) → V → List ℕ → Type 0
+SpellBy {X} r Q v text = (x : X) × (r ≡ Ok x) × Q x v text
+
+pub by_agrees : {X V : Type 0} (r : Result X PackFault) (k : X → List ℕ → Result (V × List ℕ) PackFault) (Q : X → V → List ℕ → Type 0)
+    → ((x : X) → r ≡ Ok x → Agrees (k x) (Q x)) → Agrees (λ bytes. r >>= λ x. k x bytes) (SpellBy r Q)
+by_agrees {X} {V} r k Q a = record {
+  takes = λ bytes y fits e.
+      let s = bind_ok r (λ x. k x bytes) y e in
+      let t = (a s.0 s.1).takes bytes y fits s.2 in
+      record { text = t.text; spelled = (s.0, s.1, t.spelled); parts = t.parts; rest_fits = t.rest_fits };
+  again = λ v text rest s. rw s.1 ((a s.0 s.1).again v text rest s.2);
+}
+
+-- a value that stands by itself, with no bytes
+abbrev pub SpellNothing : {V : Type 0} → V → V → List ℕ → Type 0
+SpellNothing w v text = (v ≡ w) × (text ≡ [])
+
+pub nothing_agrees : {V : Type 0} (w : V) → Agrees (λ bytes. Ok (w, bytes)) (SpellNothing w)
+nothing_agrees {V} w = record {
+  takes = λ bytes y fits e.
+      subst (λ (z : V × List ℕ). Takes (SpellNothing w) bytes z.0 z.1) (ok_is (w, bytes) y e)
+      (record { text = []; spelled = (refl, refl); parts = refl; rest_fits = fits });
+  again = λ v text rest s. rw (s.0, s.1) refl;
+}

@@ -1,3 +1,6 @@
+pub mod HeadLaws
+pub mod HeadLines
+pub mod HeadLoop
 pub mod InternalLaws
 pub mod InternalWriting
 pub mod ItemLaws

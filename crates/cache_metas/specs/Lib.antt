@@ -1,3 +1,5 @@
+pub mod Head
+pub mod HeadReading
 pub mod Internal
 pub mod InternalReading
 pub mod Items

@@ -1,7 +1,7 @@
 //! A place in bytes that are read from left to right.
-ghost use Rattle.std.specs.Prelude.{◌≡◌, ◌^◌, ◌<◌, ℕ, List, Ok, IfOk};
-ghost use Rattle.cache_words.specs.Forms.{arrays};
-ghost use Rattle.cache_words.specs.Reading.{number_at, moment_at, optional_hash_at};
+ghost use Rattle.std.specs.Prelude.{◌≡◌, Ok, Err, IfOk, IfErr, OnOk};
+ghost use Rattle.cache_words.specs.Forms.{numbers, arrays};
+ghost use Rattle.cache_words.specs.Reading.{number_at, array_of_at, text_at, bytes_at, moment_at, optional_hash_at};
 ghost use Rattle.cache_metas.specs.Items.{Steps, byte_at, seconds_at, optional_moment_at, there_at};
 
 use cache_words::pack::fault::PackFault;
@@ -22,6 +22,44 @@ impl<'a> Cursor<'a> {
         let (count, rest) = reading::array(self.rest)?;
         self.rest = rest;
         Ok(count)
+    }
+
+    /// The head of an array of two.
+    pub(crate) fn two(&mut self) -> Result<(), PackFault>
+        ensures ok { OnOk result (array_of_at 2 self.old.rest.now ≡ Ok self.new.rest.now) }
+        ensures err { IfErr result (λ e. array_of_at 2 self.old.rest.now ≡ Err e) }
+    {
+        self.rest = reading::array_of(self.rest, 2)?;
+        Ok(())
+    }
+
+    /// A number.
+    pub(crate) fn number(&mut self) -> Result<u64, PackFault>
+        ensures { Steps (number_at numbers) self.old.rest.now self.new.rest.now result }
+    {
+        let (number, rest) = reading::number(self.rest)?;
+        self.rest = rest;
+        Ok(number)
+    }
+
+    /// A text.
+    pub(crate) fn text(&mut self) -> Result<&'a str, PackFault>
+        ensures ok { IfOk result (λ text. text_at self.old.rest.now ≡ Ok (text.now, self.new.rest.now)) }
+        ensures err { IfErr result (λ e. text_at self.old.rest.now ≡ Err e) }
+    {
+        let (text, rest) = reading::text(self.rest)?;
+        self.rest = rest;
+        Ok(text)
+    }
+
+    /// A byte string.
+    pub(crate) fn byte_string(&mut self) -> Result<&'a [u8], PackFault>
+        ensures ok { IfOk result (λ bytes. bytes_at self.old.rest.now ≡ Ok (bytes.now, self.new.rest.now)) }
+        ensures err { IfErr result (λ e. bytes_at self.old.rest.now ≡ Err e) }
+    {
+        let (bytes, rest) = reading::byte_string(self.rest)?;
+        self.rest = rest;
+        Ok(bytes)
     }
 
     /// A byte below 0x80.

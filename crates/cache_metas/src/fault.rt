@@ -33,3 +33,45 @@ impl From<AllocError> for MetaFault {
         MetaFault::Memory
     }
 }
+
+/// Why a meta is not read.
+#[derive(Clone, Copy, Debug, PartialEq, Eq)]
+pub enum MetaReadFault {
+    /// There is no memory for its head.
+    Memory,
+    /// The bytes are no meta: the first fault from the left.
+    Pack(PackFault),
+}
+
+impl fmt::Display for MetaReadFault {
+    fn fmt<W: fmt::Write>(&self, f: &mut fmt::Formatter<W>) -> fmt::Result {
+        f.write_str(match self {
+            MetaReadFault::Memory => "out of memory",
+            MetaReadFault::Pack(_) => "no meta",
+        })
+    }
+}
+
+impl std::error::Error for MetaReadFault {}
+
+impl From<AllocError> for MetaReadFault {
+    ghost use Rattle.std.specs.Prelude.{◌≡◌};
+    ghost use Rattle.cache_metas.specs.declared.fault.MetaReadFault.TheVariants.{Memory};
+
+    ghost from_gives = { λ _ fault. fault ≡ Memory };
+
+    fn from(_error: AllocError) -> MetaReadFault {
+        MetaReadFault::Memory
+    }
+}
+
+impl From<PackFault> for MetaReadFault {
+    ghost use Rattle.std.specs.Prelude.{◌≡◌};
+    ghost use Rattle.cache_metas.specs.declared.fault.MetaReadFault.TheVariants.{Pack};
+
+    ghost from_gives = { λ pack fault. fault ≡ Pack pack };
+
+    fn from(pack: PackFault) -> MetaReadFault {
+        MetaReadFault::Pack(pack)
+    }
+}

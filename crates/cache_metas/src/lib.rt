@@ -3,6 +3,7 @@
 
 mod cursor;
 pub mod fault;
+pub mod head;
 pub mod internal;
 pub mod laws;
 pub mod versions;
