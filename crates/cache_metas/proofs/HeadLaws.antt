@@ -1,5 +1,5 @@
 -- Heads: what is read is spelled, and each spelling is read.
-use Rattle.std.proofs.Common.{◌≡◌, ℕ, zero, suc, ◌+◌, ◌-◌, ◌^◌, ◌<◌, ◌≤◌, ◌⊎◌, Bool, true, false, cond, List, [], ◌∷◌, ◌++◌, length, map, All, Option, Some, None, Result, Ok, Err, refl, sym, ap, subst, ◌∙◌, append_assoc, arith, inl, inr, nat_lt, lit≤}
+use Rattle.std.proofs.Common.{◌≡◌, ℕ, zero, suc, ◌<◌, ◌≤◌, Bool, true, false, List, [], ◌∷◌, ◌++◌, length, map, All, Result, Ok, Err, refl, sym, ap, subst, ◌∙◌, arith, inl, inr, nat_lt, lit≤}
 use Rattle.std.specs.Prelude.{nat_le, ◌&&◌}
 use Rattle.std.proofs.lemmas.Bool.{cases_Bool, le-ltb}
 use Rattle.std.proofs.lemmas.Bool.Decides.{nat_tests}
@@ -11,15 +11,15 @@ use Rattle.http_header.specs.FieldValue.{FieldValue, plain_value, IsFieldValue}
 use Rattle.http_header.specs.HeaderMap.{Entries, append, append_all}
 use Rattle.http_header.specs.Token.{lowercase}
 use Rattle.cache_words.specs.declared.pack.fault.PackFault.{PackFault}
-use Rattle.cache_words.specs.declared.pack.fault.PackFault.TheVariants.{Kind, Range, Length}
+use Rattle.cache_words.specs.declared.pack.fault.PackFault.TheVariants.{Kind, Range}
 use Rattle.cache_words.specs.Forms.{Stands, numbers, arrays}
 use Rattle.cache_words.specs.Pack.{SpellsText, SpellsBytes}
-use Rattle.cache_words.specs.Reading.{◌>>=◌, number_at, array_of_at, text_at, bytes_at}
-use Rattle.cache_words.proofs.ReadingLaws.{IsBytes, Takes, Agrees, bind_ok, ok_is, one_spelling}
+use Rattle.cache_words.specs.Reading.{number_at, array_of_at, text_at, bytes_at}
+use Rattle.cache_words.proofs.ReadingLaws.{IsBytes, Agrees, bind_ok, ok_is, one_spelling}
 use Rattle.cache_words.proofs.FormLaws.{number_agrees, are_numbers, are_arrays}
 use Rattle.cache_words.proofs.ValueLaws.{array_skips, text_agrees, bytes_agrees}
 use Rattle.cache_directives.specs.declared.header.ResponseHeader.{ResponseHeader}
-use Rattle.cache_metas.specs.Head.{Line, pair_of, map_of, IsLine, SpellsLine, SpellLines, SpellsHead, most_names}
+use Rattle.cache_metas.specs.Head.{Line, pair_of, IsLine, SpellsLine, SpellLines, SpellsHead, most_names}
 use Rattle.cache_metas.specs.declared.fault.MetaReadFault.{MetaReadFault}
 use Rattle.cache_metas.specs.InternalReading.{value_of}
 use Rattle.cache_metas.specs.HeadReading.{Gives, FindsHead, ReadsEachHead, is_name, is_value, field_name_of, field_value_of, line_at, with_line, lines_at, status_at, head_at}
@@ -69,10 +69,10 @@ line_steps : Agrees line_at LineSteps
 unfolding line_at
 line_steps =
     behind_agrees (array_of_at 2) (Stands arrays 2) _ _ (array_skips 2) (
-      then_agrees text_at SpellsText _ _ text_agrees (λ t.
-      by_agrees (field_name_of t) _ _ (λ name e.
-      then_agrees bytes_at SpellsBytes _ _ bytes_agrees (λ s.
-      by_agrees (field_value_of s) _ _ (λ value f. nothing_agrees (name, value))))))
+    then_agrees text_at SpellsText _ _ text_agrees (λ t.
+    by_agrees (field_name_of t) _ _ (λ name e.
+    then_agrees bytes_at SpellsBytes _ _ bytes_agrees (λ s.
+    by_agrees (field_value_of s) _ _ (λ value f. nothing_agrees (name, value))))))
 
 line_to : (v : List ℕ × FieldValue) (text : List ℕ) → LineSteps v text → SpellsPair v text
 line_to v text s =
@@ -91,9 +91,31 @@ line_from : (v : List ℕ × FieldValue) (text : List ℕ) → SpellsPair v text
 line_from v text s =
     let line = s.0 in
     let a = s.3 in
-    let b = a.3 in
-    (a.0, a.1, a.2, (line.0, b.0, b.1, b.2, (lowercase line.0, name_of-is line.0 s.2.0, (line.1, b.1, [], b.3,
-    (plain_value line.1, value_of-is line.1 s.2.1, (s.1, refl)), sym (append-nil b.1))), b.4), a.4)
+    let b = a.3 in (
+      a.0,
+      a.1,
+      a.2,
+      (
+        line.0,
+        b.0,
+        b.1,
+        b.2,
+        (
+          lowercase line.0,
+          name_of-is line.0 s.2.0,
+          (
+            line.1,
+            b.1,
+            [],
+            b.3,
+            (plain_value line.1, value_of-is line.1 s.2.1, (s.1, refl)),
+            sym (append-nil b.1),
+          ),
+        ),
+        b.4,
+      ),
+      a.4,
+    )
 
 pub line_agrees : Agrees line_at SpellsPair
 line_agrees = agrees_with line_at LineSteps SpellsPair line_steps line_to line_from
@@ -147,15 +169,25 @@ more_from_by : (n : ℕ) (m next : Entries FieldValue) (text : List ℕ) (lines 
 more_from_by n m next text [] count are room made spelled = absurd (omega arith)
 more_from_by n m next text (line ∷ lines) count are room made spelled =
     let more : Entries FieldValue = append m (lowercase line.0) (plain_value line.1) in
-    let few : length more ≤ most_names = omega (arith, append_all-grows (map pair_of lines) more, ap length made) in
-    (pair_of line, spelled.0, spelled.1, (line, refl, are 0 line (omega arith), spelled.2), (more, with_line-is m (pair_of line) few, record {
-      lines = lines;
-      count = omega arith;
-      are_lines = λ k d lt. are (suc k) d (omega arith);
-      room = room;
-      made = made;
-      spelled = spelled.3;
-    }), spelled.4)
+    let few : length more ≤ most_names = omega (arith, append_all-grows (map pair_of lines) more, ap length made) in (
+      pair_of line,
+      spelled.0,
+      spelled.1,
+      (line, refl, are 0 line (omega arith), spelled.2),
+      (
+        more,
+        with_line-is m (pair_of line) few,
+        record {
+          lines = lines;
+          count = omega arith;
+          are_lines = λ k d lt. are (suc k) d (omega arith);
+          room = room;
+          made = made;
+          spelled = spelled.3;
+        },
+      ),
+      spelled.4,
+    )
 
 more_from : (n : ℕ) (m next : Entries FieldValue) (text : List ℕ) → SpellsMore (suc n) m next text → MoreSteps n m next text
 more_from n m next text s = more_from_by n m next text s.lines s.count s.are_lines s.room s.made s.spelled
@@ -229,9 +261,9 @@ head_steps : Agrees head_at HeadSteps
 unfolding head_at
 head_steps =
     behind_agrees (array_of_at 2) (Stands arrays 2) _ _ (array_skips 2) (
-      then_agrees status_at SpellsStatus _ _ status_agrees (λ status.
-      then_agrees (number_at arrays) (Stands arrays) _ _ (number_agrees arrays are_arrays) (λ n.
-      seen_agrees (head_made status) (lines_at n []) (SpellsMore n []) (lines_agrees n [] (lit≤ tt)))))
+    then_agrees status_at SpellsStatus _ _ status_agrees (λ status.
+    then_agrees (number_at arrays) (Stands arrays) _ _ (number_agrees arrays are_arrays) (λ n.
+    seen_agrees (head_made status) (lines_at n []) (SpellsMore n []) (lines_agrees n [] (lit≤ tt)))))
 
 head_to : (v : ResponseHeader) (text : List ℕ) → HeadSteps v text → SpellsHead v text
 head_to v text s =
@@ -255,12 +287,31 @@ head_from v text s =
     let p = s.spelled in
     let a = p.3 in
     let b = a.3 in
-    let room : length v.headers ≤ most_names = rw s.headers s.room in
-    (p.0, p.1, p.2, (v.status, a.0, a.1, (s.status, a.2), (length s.lines, b.0, b.1, b.2, (
-      v.headers,
-      record { lines = s.lines; count = refl; are_lines = s.are_lines; room = room; made = s.headers; spelled = b.3 },
-      refl,
-    ), b.4), a.4), p.4)
+    let room : length v.headers ≤ most_names = rw s.headers s.room in (
+      p.0,
+      p.1,
+      p.2,
+      (
+        v.status,
+        a.0,
+        a.1,
+        (s.status, a.2),
+        (
+          length s.lines,
+          b.0,
+          b.1,
+          b.2,
+          (
+            v.headers,
+            record { lines = s.lines; count = refl; are_lines = s.are_lines; room = room; made = s.headers; spelled = b.3 },
+            refl,
+          ),
+          b.4,
+        ),
+        a.4,
+      ),
+      p.4,
+    )
 
 pub head_agrees : Agrees head_at SpellsHead
 head_agrees = agrees_with head_at HeadSteps SpellsHead head_steps head_to head_from

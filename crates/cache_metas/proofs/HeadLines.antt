@@ -1,20 +1,19 @@
 -- Names, values and maps, as their tests and calls have them.
-use Rattle.std.proofs.Common.{◌≡◌, ℕ, suc, ◌+◌, ◌-◌, ◌^◌, ◌<◌, ◌≤◌, ◌⊎◌, Bool, true, false, cond, List, [], ◌∷◌, ◌++◌, length, Option, Some, None, MatchOption, IsTrue, Result, Ok, Err, refl, sym, ap, subst, ◌∙◌, arith, inl, inr, nat_lt, length-append}
+use Rattle.std.proofs.Common.{◌≡◌, ℕ, ◌+◌, ◌^◌, ◌<◌, ◌≤◌, ◌⊎◌, Bool, true, false, List, [], ◌∷◌, ◌++◌, length, Option, Some, None, MatchOption, IsTrue, Ok, Err, refl, ap, ◌∙◌, arith, inl, inr, nat_lt, length-append}
 use Rattle.std.specs.Prelude.{bytes_eq}
 use Rattle.std.specs.List.{list_all}
 use Rattle.std.proofs.Math.ListN.{length-set}
 use Rattle.std.proofs.lemmas.Bool.{cases_Bool, ltb-true, ltb-false, lt-ltb, le-ltb}
 use Rattle.std.proofs.lemmas.Bool.Decides.{nat_tests, Decides-by_and}
 use Rattle.std.proofs.lemmas.List.Sums.{sum_by-cons}
-use Rattle.http_header.specs.FieldName.{IsFieldName, is_field_name}
+use Rattle.http_header.specs.FieldName.{IsFieldName}
 use Rattle.http_header.specs.FieldValue.{FieldValue, IsFieldValue}
 use Rattle.http_header.specs.HeaderMap.{Entry, Entries, append, value_count, index_of, RefusesAppend, ContainsKey}
 use Rattle.http_header.specs.Places.{IsAt, IsAbsent}
 use Rattle.http_header.specs.Token.{AllPass, token_test, is_token_byte, is_value_byte}
 use Rattle.http_header.proofs.PlacesLemmas.{index_of_cases}
 use Rattle.http_header.proofs.TokenLemmas.{IsFieldName-from_test, AllPass-from_test}
-use Rattle.cache_words.specs.declared.pack.fault.PackFault.{PackFault}
-use Rattle.cache_words.specs.declared.pack.fault.PackFault.TheVariants.{Kind, Length}
+use Rattle.cache_words.specs.declared.pack.fault.PackFault.TheVariants.{Length}
 use Rattle.cache_metas.specs.Head.{most_names}
 use Rattle.cache_metas.specs.HeadReading.{is_name, is_value, with_line}
 

@@ -1,7 +1,7 @@
 //! The head of a response as MessagePack: its status, and each value beside its name.
-ghost use Rattle.std.specs.Prelude.{◌≡◌, ◌+◌, ◌++◌, ◌<◌, ◌≤◌, ◌^◌, [], length, Ok, OnOk, IfErr};
-ghost use Rattle.http_header.specs.HeaderMap.{value_count};
-ghost use Rattle.cache_metas.specs.Head.{most_names};
+ghost use Rattle.std.specs.Prelude.{◌≡◌, ◌+◌, ◌++◌, ◌<◌, ◌≤◌, ◌^◌, [], length, flat_map, All, Ok, IfOk, OnOk, IfErr};
+ghost use Rattle.http_header.specs.HeaderMap.{value_count, pairs};
+ghost use Rattle.cache_metas.specs.Head.{most_names, line_of, lines_of, written_head, IsCountable};
 ghost use Rattle.cache_metas.specs.HeadReading.{Fails, Gives, StepsTo, FindsHead, ReadsEachHead, field_name_of, field_value_of, line_at, with_line, lines_at, status_at, head_at};
 ghost use Rattle.cache_metas.specs.InternalReading.{value_of};
 ghost use Rattle.cache_metas.specs.Items.{Steps};
@@ -10,9 +10,12 @@ use crate::cursor::Cursor;
 use crate::fault::MetaReadFault;
 use cache_directives::ResponseHeader;
 use cache_words::pack::fault::PackFault;
+use cache_words::pack::writing;
 use http::StatusCode;
-use http_header::{HeaderMap, HeaderMapError, HeaderName, HeaderNameError, HeaderValue, HeaderValueError};
-use std::alloc::Global;
+use http_header::{
+    HeaderMap, HeaderMapError, HeaderName, HeaderNameError, HeaderValue, HeaderValueError,
+};
+use std::alloc::{AllocError, Global};
 
 // The bytes as a name, in lower case.
 fn field_name(alloc: Global, bytes: &[u8]) -> Result<HeaderName, MetaReadFault>
@@ -116,4 +119,58 @@ pub fn read(alloc: Global, bytes: &[u8]) -> Result<ResponseHeader, MetaReadFault
     ensures exact { Gives result (value_of (head_at bytes.now)) }
 {
     whole(alloc, bytes)
+}
+
+// One line. A value that no form counts is refused.
+fn put_line(out: &mut Vec<u8>, name: &HeaderName, value: &HeaderValue) -> Result<(), AllocError>
+    ensures ok { OnOk result (out.new.items ≡ out.old.items ++ line_of (name.now, value.now)) }
+    ensures counted { OnOk result (length value.now.bytes < 2 ^ 32) }
+{
+    let bytes = value.as_bytes();
+    if bytes.len() > u32::MAX as usize {
+        return Err(AllocError);
+    }
+    writing::put_array(out, 2)?;
+    writing::put_text(out, name.as_str())?;
+    writing::put_byte_string(out, bytes)
+}
+
+fn put_each(out: &mut Vec<u8>, headers: &HeaderMap) -> Result<(), AllocError>
+    ensures ok { OnOk result (out.new.items ≡ out.old.items ++ flat_map line_of (pairs headers.now)) }
+    ensures counted { OnOk result (All (λ p. length p.1.bytes < 2 ^ 32) (pairs headers.now)) }
+{
+    'each: for (name, value) in headers.iter() {
+        put_line(out, name, value)?;
+    }
+    Ok(())
+}
+
+fn put_lines(out: &mut Vec<u8>, headers: &HeaderMap) -> Result<(), AllocError>
+    ensures ok { OnOk result (out.new.items ≡ out.old.items ++ lines_of headers.now) }
+    ensures counted { OnOk result (IsCountable headers.now) }
+{
+    if headers.len() > u32::MAX as usize {
+        return Err(AllocError);
+    }
+    writing::put_array(out, headers.len() as u32)?;
+    put_each(out, headers)?;
+    Ok(())
+}
+
+/// The head: its status, and each value beside its name in the map's order, each item in its shortest form.
+///
+/// # Errors
+///
+/// `AllocError` where there is no memory, and where the head has 2^32 values, or a value of 2^32 bytes: no form counts
+/// these.
+#[tactic(auto, unfolding(crate::specs::Head::written_head))]
+pub fn write(alloc: Global, header: &ResponseHeader) -> Result<Vec<u8>, AllocError>
+    ensures ok { IfOk result (λ text. text.items ≡ written_head header.now) }
+    ensures counted { OnOk result (IsCountable header.now.headers) }
+{
+    let mut out = Vec::new(alloc);
+    writing::put_array(&mut out, 2)?;
+    writing::put_number(&mut out, header.status.as_u16() as u64)?;
+    put_lines(&mut out, &header.headers)?;
+    Ok(out)
 }

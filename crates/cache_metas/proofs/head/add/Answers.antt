@@ -1,4 +1,4 @@
-use Rattle.std.proofs.Common.{refl, sym, ap, ◌∙◌, Ok}
+use Rattle.std.proofs.Common.{refl}
 use Rattle.cache_metas.proofs.HeadLines.{takes_line, refuses_line}
 use Rattle.cache_metas.proofs.head.add.Goals as goal
 

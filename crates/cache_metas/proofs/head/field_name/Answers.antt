@@ -1,4 +1,4 @@
-use Rattle.std.proofs.Common.{◌≡◌, Ok, Err, true, false, refl}
+use Rattle.std.proofs.Common.{◌≡◌, true, false, refl}
 use Rattle.http_header.specs.FieldName.{IsFieldName}
 use Rattle.cache_metas.specs.HeadReading.{is_name}
 use Rattle.cache_metas.proofs.HeadLines.{name_named, name_test, passes, fails}

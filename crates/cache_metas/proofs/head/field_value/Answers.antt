@@ -1,4 +1,4 @@
-use Rattle.std.proofs.Common.{◌≡◌, Ok, Err, true, false, refl}
+use Rattle.std.proofs.Common.{◌≡◌, true, false, refl}
 use Rattle.http_header.specs.FieldValue.{IsFieldValue}
 use Rattle.cache_metas.specs.HeadReading.{is_value}
 use Rattle.cache_metas.proofs.HeadLines.{value_valued, value_test, passes, fails}

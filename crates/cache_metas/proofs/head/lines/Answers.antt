@@ -18,8 +18,8 @@ pub returns-in_err-name : goal.returns-in_err-name
 returns-in_err-name c =
     let p = err_from_is_err_and c.from_residual.result c.from_residual.ensures.1 in
     rw (p.1, p.2) (
-      ends c.in_err-name.field-0.0 c.args.count c.each._i c.each.all c.each.bytes.rest.now (lines_at c.args.count [] c.args.bytes.now.rest.now)
-      c.each-test.true c.in_err-name.ensures c.each.invariant.same)
+    ends c.in_err-name.field-0.0 c.args.count c.each._i c.each.all c.each.bytes.rest.now (lines_at c.args.count [] c.args.bytes.now.rest.now)
+    c.each-test.true c.in_err-name.ensures c.each.invariant.same)
 
 pub add-requires-clause-room : goal.add-requires-clause-room
 add-requires-clause-room c =
@@ -32,8 +32,8 @@ pub returns-in_err-add : goal.returns-in_err-add
 returns-in_err-add c =
     let p = err_from_is_err_and c.from_residual-in_err-add.result c.from_residual-in_err-add.ensures.1 in
     rw (p.1, p.2) (
-      ends_full c.in_err-add.field-0.0 c.args.count c.each._i c.each.all c.each.bytes.rest.now c.line.new.bytes.rest.now (c.in_ok-name.name, c.in_ok-name.value)
-      (lines_at c.args.count [] c.args.bytes.now.rest.now) c.each-test.true c.in_ok-name.ensures c.in_err-add.ensures.err c.each.invariant.same)
+    ends_full c.in_err-add.field-0.0 c.args.count c.each._i c.each.all c.each.bytes.rest.now c.line.new.bytes.rest.now (c.in_ok-name.name, c.in_ok-name.value)
+    (lines_at c.args.count [] c.args.bytes.now.rest.now) c.each-test.true c.in_ok-name.ensures c.in_err-add.ensures.err c.each.invariant.same)
 
 pub each-preserved : goal.each-preserved
 each-preserved c =
