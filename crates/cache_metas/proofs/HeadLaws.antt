@@ -1,6 +1,6 @@
 -- Heads: what is read is spelled, and each spelling is read.
 use Rattle.std.proofs.Common.{◌≡◌, ℕ, zero, suc, ◌<◌, ◌≤◌, Bool, true, false, List, [], ◌∷◌, ◌++◌, length, map, All, Result, Ok, Err, refl, sym, ap, subst, ◌∙◌, arith, inl, inr, nat_lt, lit≤}
-use Rattle.std.specs.Prelude.{nat_le, ◌&&◌}
+use Rattle.std.specs.Prelude.{nat_le, ◌&&◌, IfOk}
 use Rattle.std.proofs.lemmas.Bool.{cases_Bool, le-ltb}
 use Rattle.std.proofs.lemmas.Bool.Decides.{nat_tests}
 use Rattle.std.proofs.lemmas.List.{append-nil}
@@ -19,10 +19,10 @@ use Rattle.cache_words.proofs.ReadingLaws.{IsBytes, Agrees, bind_ok, ok_is, one_
 use Rattle.cache_words.proofs.FormLaws.{number_agrees, are_numbers, are_arrays}
 use Rattle.cache_words.proofs.ValueLaws.{array_skips, text_agrees, bytes_agrees}
 use Rattle.cache_directives.specs.declared.header.ResponseHeader.{ResponseHeader}
-use Rattle.cache_metas.specs.Head.{Line, pair_of, IsLine, SpellsLine, SpellLines, SpellsHead, most_names}
+use Rattle.cache_metas.specs.Head.{Line, pair_of, IsLine, SpellsLine, SpellLines, SpellsHead, BeginsWithHead, most_names}
 use Rattle.cache_metas.specs.declared.fault.MetaReadFault.{MetaReadFault}
 use Rattle.cache_metas.specs.InternalReading.{value_of}
-use Rattle.cache_metas.specs.HeadReading.{Gives, FindsHead, ReadsEachHead, is_name, is_value, field_name_of, field_value_of, line_at, with_line, lines_at, status_at, head_at}
+use Rattle.cache_metas.specs.HeadReading.{Gives, is_name, is_value, field_name_of, field_value_of, line_at, with_line, lines_at, status_at, head_at}
 use Rattle.cache_metas.proofs.HeadLines.{name_named, name_test, value_valued, value_test, grows, line_fits, line_counts}
 use Rattle.cache_metas.proofs.ItemLaws.{agrees_with, SpellThen, then_agrees, seen_agrees, SpellAs, SpellEither, either_agrees, Never, refused_agrees, SpellBehind, behind_agrees, SpellBy, by_agrees, SpellNothing, nothing_agrees}
 
@@ -322,13 +322,15 @@ one_head = one_spelling head_at SpellsHead head_agrees
 
 -- ---- a whole input
 
-pub head_found : (bytes : List ℕ) (r : Result ResponseHeader MetaReadFault) → IsBytes bytes → Gives r (value_of (head_at bytes)) → FindsHead bytes r
+pub head_found : (bytes : List ℕ) (r : Result ResponseHeader MetaReadFault) → IsBytes bytes → Gives r (value_of (head_at bytes)) → IfOk r (BeginsWithHead bytes)
 head_found bytes (Err f) fits e = tt
 head_found bytes (Ok h) fits e =
     let a = bind_ok (head_at bytes) (λ x. Ok x.0) h e in
     let t = head_agrees.takes bytes a.0 fits a.1 in
     (t.text, a.0.1, subst (λ (v : ResponseHeader). SpellsHead v t.text) (ok_is a.0.0 h a.2) t.spelled, t.parts)
 
-pub head_read : (bytes : List ℕ) (r : Result ResponseHeader MetaReadFault) → Gives r (value_of (head_at bytes)) → ReadsEachHead bytes r
-head_read bytes r e = λ h text rest s parts.
-    subst (λ (read : Result ResponseHeader PackFault). Gives r read) (ap (λ (b : List ℕ). value_of (head_at b)) parts ∙ ap value_of (head_agrees.again h text rest s)) e
+pub head_read : (bytes : List ℕ) (r : Result ResponseHeader MetaReadFault) → Gives r (value_of (head_at bytes))
+    → (h : ResponseHeader) → BeginsWithHead bytes h → Gives {X = ResponseHeader} r (Ok h)
+head_read bytes r e h begins =
+    subst (λ (read : Result ResponseHeader PackFault). Gives r read)
+    (ap (λ (b : List ℕ). value_of (head_at b)) begins.3 ∙ ap value_of (head_agrees.again h begins.0 begins.1 begins.2)) e

@@ -1,6 +1,6 @@
 -- The moments and numbers of a meta: what is read is spelled, and each spelling is read.
 use Rattle.std.proofs.Common.{◌≡◌, ℕ, ◌^◌, ◌≤◌, Bool, true, false, cond, List, [], ◌∷◌, ◌++◌, length, Option, Result, Ok, Err, refl, sym, ap, subst, ◌∙◌, arith, inl, inr, nat_lt, lit<}
-use Rattle.std.specs.Prelude.{◌==◌, nat_le, ◌&&◌}
+use Rattle.std.specs.Prelude.{◌==◌, nat_le, ◌&&◌, IfOk}
 use Rattle.std.proofs.lemmas.Bool.{eqb-true, ltb-false, le-ltb}
 use Rattle.std.proofs.lemmas.Bool.Decides.{nat_tests}
 use Rattle.cache_words.specs.declared.pack.fault.PackFault.{PackFault}
@@ -17,8 +17,8 @@ use Rattle.cache_metas.specs.declared.versions.InternalMetaV1.{InternalMetaV1}
 use Rattle.cache_metas.specs.declared.versions.InternalMetaV2.{InternalMetaV2}
 use Rattle.cache_metas.specs.Items.{SpellThere, there_at, seen_as, seconds_at, SpellsSeconds, byte_at, optional_moment_at, SpellsOptionalMoment}
 use Rattle.cache_metas.specs.Versions.{of_v0, of_v1}
-use Rattle.cache_metas.specs.Internal.{SpellsV0, SpellsV1, SpellsV2, SpellsMeta, IsLongEnough}
-use Rattle.cache_metas.specs.InternalReading.{v0_at, v1_at, v2_at, version_at, form_at, meta_at, value_of, FindsMeta, ReadsEachMeta}
+use Rattle.cache_metas.specs.Internal.{SpellsV0, SpellsV1, SpellsV2, SpellsMeta, IsLongEnough, BeginsWithMeta}
+use Rattle.cache_metas.specs.InternalReading.{v0_at, v1_at, v2_at, version_at, form_at, meta_at, value_of}
 use Rattle.cache_metas.proofs.ItemLaws.{agrees_with, SpellThen, then_at, then_agrees, SpellAs, seen_agrees, SpellEither, either_agrees, Never, refused_agrees, SpellsByte, byte_agrees, there_agrees, optional_moment_agrees}
 
 seconds_agrees : Agrees seconds_at SpellsSeconds
@@ -261,7 +261,7 @@ past_test : {A : Type 0} (b : Bool) (d : PackFault) (r : Result A PackFault) (y 
 past_test true d r y e = absurd cc
 past_test false d r y e = (refl, e)
 
-pub meta_found : (bytes : List ℕ) (r : Result InternalMetaV2 PackFault) → IsBytes bytes → r ≡ value_of (meta_at bytes) → FindsMeta bytes r
+pub meta_found : (bytes : List ℕ) (r : Result InternalMetaV2 PackFault) → IsBytes bytes → r ≡ value_of (meta_at bytes) → IfOk r (BeginsWithMeta bytes)
 unfolding meta_at
 meta_found bytes (Err f) fits e = tt
 meta_found bytes (Ok m) fits e =
@@ -277,7 +277,8 @@ meta_again m text rest long s =
     let test : nat_lt (length (text ++ rest)) 10 ≡ false = le-ltb _ _ long in
     rw test (form_agrees.again m text rest s)
 
-pub meta_read : (bytes : List ℕ) (r : Result InternalMetaV2 PackFault) → r ≡ value_of (meta_at bytes) → ReadsEachMeta bytes r
-meta_read bytes r e = λ m text rest long s parts.
-    let whole : IsLongEnough (text ++ rest) = subst IsLongEnough parts long in
-    e ∙ ap (λ (b : List ℕ). value_of (meta_at b)) parts ∙ ap value_of (meta_again m text rest whole s)
+pub meta_read : (bytes : List ℕ) (r : Result InternalMetaV2 PackFault) → r ≡ value_of (meta_at bytes)
+    → (m : InternalMetaV2) → BeginsWithMeta bytes m → r ≡ Ok m
+meta_read bytes r e m begins =
+    let whole : IsLongEnough (begins.1 ++ begins.2) = subst IsLongEnough begins.4 begins.0 in
+    e ∙ ap (λ (b : List ℕ). value_of (meta_at b)) begins.4 ∙ ap value_of (meta_again m begins.1 begins.2 whole begins.3)

@@ -51,6 +51,10 @@ pub record SpellsHead (h : ResponseHeader) (text : List ℕ) : Type 0 where
   pub status : IsStatusCode h.status
   pub spelled : SpellItems 2 (SpellBoth (Stands numbers) SpellsLines) (h.status, lines) text
 
+-- the input begins with a head
+abbrev pub BeginsWithHead : List ℕ → ResponseHeader → Type 0
+BeginsWithHead bytes h = (text : List ℕ) × (rest : List ℕ) × SpellsHead h text × (bytes ≡ text ++ rest)
+
 -- one value under its name
 abbrev pub line_of : List ℕ × FieldValue → List ℕ
 line_of pair = shortest arrays 2 ++ (text_of pair.0 ++ bytes_of pair.1.bytes)

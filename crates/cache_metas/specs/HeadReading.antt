@@ -1,5 +1,5 @@
 -- Reading the head of a response, with the first fault that is met.
-use Rattle.std.specs.Prelude.{◌≡◌, ℕ, zero, suc, Bool, ◌&&◌, nat_lt, nat_le, if◌then◌else◌, List, [], ◌++◌, length, Result, Ok, Err, IfOk}
+use Rattle.std.specs.Prelude.{◌≡◌, ℕ, zero, suc, Bool, ◌&&◌, nat_lt, nat_le, if◌then◌else◌, List, [], length, Result, Ok, Err}
 use Rattle.std.specs.List.{list_all}
 use Rattle.http_header.specs.HeaderMap.{Entries, append}
 use Rattle.http_header.specs.FieldName.{is_field_name}
@@ -12,7 +12,7 @@ use Rattle.cache_words.specs.Reading.{◌>>=◌, number_at, array_of_at, text_at
 use Rattle.cache_directives.specs.declared.header.ResponseHeader.{ResponseHeader}
 use Rattle.cache_metas.specs.declared.fault.MetaReadFault.{MetaReadFault}
 use Rattle.cache_metas.specs.declared.fault.MetaReadFault.TheVariants.{Memory, Pack}
-use Rattle.cache_metas.specs.Head.{most_names, SpellsHead}
+use Rattle.cache_metas.specs.Head.{most_names}
 
 -- bytes that are a name, in any case
 unfoldable pub is_name : List ℕ → Bool
@@ -78,11 +78,3 @@ Gives (Err e) read = Fails e read
 abbrev pub StepsTo : {X : Type 0} → (List ℕ → Result (X × List ℕ) PackFault) → List ℕ → List ℕ → Result X MetaReadFault → Type 0
 StepsTo read old new (Ok x) = read old ≡ Ok (x, new)
 StepsTo read old new (Err e) = Fails e (read old)
-
--- what a reader returned is a head that the input begins with
-abbrev pub FindsHead : List ℕ → Result ResponseHeader MetaReadFault → Type 0
-FindsHead bytes result = IfOk result (λ h. (text : List ℕ) × (rest : List ℕ) × SpellsHead h text × (bytes ≡ text ++ rest))
-
--- a head that the input begins with is what the reader returned, unless memory ran out
-abbrev pub ReadsEachHead : List ℕ → Result ResponseHeader MetaReadFault → Type 0
-ReadsEachHead bytes result = (h : ResponseHeader) (text rest : List ℕ) → SpellsHead h text → bytes ≡ text ++ rest → Gives {X = ResponseHeader} result (Ok h)

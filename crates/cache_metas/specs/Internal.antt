@@ -54,6 +54,10 @@ SpellsMeta m text =
 abbrev pub IsLongEnough : List ℕ → Type 0
 IsLongEnough bytes = 10 ≤ length bytes
 
+-- the input begins with a meta
+abbrev pub BeginsWithMeta : List ℕ → InternalMetaV2 → Type 0
+BeginsWithMeta bytes m = IsLongEnough bytes × (text : List ℕ) × (rest : List ℕ) × SpellsMeta m text × (bytes ≡ text ++ rest)
+
 -- not before 1970
 abbrev pub IsSinceEpoch : Instant → Type 0
 IsSinceEpoch moment = pos 0 ≤ℤ moment.seconds

@@ -1,5 +1,5 @@
 -- Reading the moments and numbers of a meta, with the first fault that is met.
-use Rattle.std.specs.Prelude.{◌≡◌, ℕ, ◌==◌, ◌&&◌, nat_lt, nat_le, if◌then◌else◌, List, ◌++◌, length, Result, Ok, Err, IfOk}
+use Rattle.std.specs.Prelude.{ℕ, ◌==◌, ◌&&◌, nat_lt, nat_le, if◌then◌else◌, List, length, Result, Ok, Err}
 use Rattle.cache_words.specs.declared.pack.fault.PackFault.{PackFault}
 use Rattle.cache_words.specs.declared.pack.fault.PackFault.TheVariants.{Short, Range, Length}
 use Rattle.cache_words.specs.Forms.{arrays}
@@ -8,7 +8,6 @@ use Rattle.cache_metas.specs.declared.versions.InternalMetaV0.{InternalMetaV0}
 use Rattle.cache_metas.specs.declared.versions.InternalMetaV1.{InternalMetaV1}
 use Rattle.cache_metas.specs.declared.versions.InternalMetaV2.{InternalMetaV2}
 use Rattle.cache_metas.specs.Items.{seen_as, there_at, byte_at, seconds_at, optional_moment_at}
-use Rattle.cache_metas.specs.Internal.{IsLongEnough, SpellsMeta}
 use Rattle.cache_metas.specs.Versions.{of_v0, of_v1}
 
 unfoldable pub v0_at : List ℕ → Result (InternalMetaV0 × List ℕ) PackFault
@@ -88,13 +87,3 @@ meta_at bytes = if nat_lt (length bytes) 10 then Err Short else form_at bytes
 -- a value that was read, without what stands behind it
 abbrev pub value_of : {X : Type 0} → Result (X × List ℕ) PackFault → Result X PackFault
 value_of read = read >>= λ x. Ok x.0
-
--- what a reader returned is a meta that the input, which is long enough, begins with
-abbrev pub FindsMeta : List ℕ → Result InternalMetaV2 PackFault → Type 0
-FindsMeta bytes result =
-    IfOk result (λ m. IsLongEnough bytes × (text : List ℕ) × (rest : List ℕ) × SpellsMeta m text × (bytes ≡ text ++ rest))
-
--- a meta that the input, which is long enough, begins with is what the reader returned
-abbrev pub ReadsEachMeta : List ℕ → Result InternalMetaV2 PackFault → Type 0
-ReadsEachMeta bytes result =
-    (m : InternalMetaV2) (text rest : List ℕ) → IsLongEnough bytes → SpellsMeta m text → bytes ≡ text ++ rest → result ≡ Ok m

@@ -1,8 +1,9 @@
 //! The head of a response as MessagePack: its status, and each value beside its name.
 ghost use Rattle.std.specs.Prelude.{◌≡◌, ◌+◌, ◌++◌, ◌<◌, ◌≤◌, ◌^◌, [], length, flat_map, All, Ok, IfOk, OnOk, IfErr};
 ghost use Rattle.http_header.specs.HeaderMap.{value_count, pairs};
-ghost use Rattle.cache_metas.specs.Head.{most_names, line_of, lines_of, written_head, IsCountable};
-ghost use Rattle.cache_metas.specs.HeadReading.{Fails, Gives, StepsTo, FindsHead, ReadsEachHead, field_name_of, field_value_of, line_at, with_line, lines_at, status_at, head_at};
+ghost use Rattle.cache_directives.specs.declared.header.ResponseHeader.{ResponseHeader};
+ghost use Rattle.cache_metas.specs.Head.{BeginsWithHead, most_names, line_of, lines_of, written_head, IsCountable};
+ghost use Rattle.cache_metas.specs.HeadReading.{Fails, Gives, StepsTo, field_name_of, field_value_of, line_at, with_line, lines_at, status_at, head_at};
 ghost use Rattle.cache_metas.specs.InternalReading.{value_of};
 ghost use Rattle.cache_metas.specs.Items.{Steps};
 
@@ -114,8 +115,8 @@ fn whole(alloc: Global, bytes: &[u8]) -> Result<ResponseHeader, MetaReadFault>
 ///
 /// The first fault from the left, or `Memory` where there is none for the head.
 pub fn read(alloc: Global, bytes: &[u8]) -> Result<ResponseHeader, MetaReadFault>
-    ensures found { FindsHead bytes.now result }
-    ensures only { ReadsEachHead bytes.now result }
+    ensures found { IfOk result (BeginsWithHead bytes.now) }
+    ensures only { (h : ResponseHeader) → BeginsWithHead bytes.now h → Gives {X = ResponseHeader} result (Ok h) }
     ensures exact { Gives result (value_of (head_at bytes.now)) }
 {
     whole(alloc, bytes)

@@ -1,8 +1,9 @@
 //! The moments and numbers of a meta as MessagePack. Any of the three forms is read; the latest is written.
 ghost use Rattle.std.specs.Prelude.{◌≡◌, ◌≢◌, ◌++◌, ◌∷◌, ◌↔◌, Ok, IsTrue, IfOk, IfSome, OnOk, IsErrOf};
+ghost use Rattle.cache_metas.specs.declared.versions.InternalMetaV2.{InternalMetaV2};
 ghost use Rattle.cache_metas.specs.Items.{Steps};
-ghost use Rattle.cache_metas.specs.Internal.{IsSinceEpoch, IsWritable, written_meta, item_count, times_of, variant_of};
-ghost use Rattle.cache_metas.specs.InternalReading.{v0_at, v1_at, v2_at, version_at, form_at, meta_at, value_of, FindsMeta, ReadsEachMeta};
+ghost use Rattle.cache_metas.specs.Internal.{BeginsWithMeta, IsSinceEpoch, IsWritable, written_meta, item_count, times_of, variant_of};
+ghost use Rattle.cache_metas.specs.InternalReading.{v0_at, v1_at, v2_at, version_at, form_at, meta_at, value_of};
 
 use crate::cursor::Cursor;
 use crate::fault::MetaFault;
@@ -121,8 +122,8 @@ fn whole(bytes: &[u8]) -> Result<InternalMetaV2, PackFault>
 ///
 /// The first fault from the left; a shorter input is `Short`.
 pub fn read(bytes: &[u8]) -> Result<InternalMetaV2, PackFault>
-    ensures found { FindsMeta bytes.now result }
-    ensures only { ReadsEachMeta bytes.now result }
+    ensures found { IfOk result (BeginsWithMeta bytes.now) }
+    ensures only { (m : InternalMetaV2) → BeginsWithMeta bytes.now m → result ≡ Ok m }
     ensures exact { result ≡ value_of (meta_at bytes.now) }
 {
     whole(bytes)
