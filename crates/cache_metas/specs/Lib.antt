@@ -1,3 +1,4 @@
+pub mod FaultTexts
 pub mod Head
 pub mod HeadReading
 pub mod Internal

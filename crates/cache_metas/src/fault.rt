@@ -1,4 +1,7 @@
 //! Why a meta is not written, or not read.
+ghost use Rattle.std.specs.Prelude.{Some};
+ghost use Rattle.cache_metas.specs.FaultTexts.{fault_text, read_fault_text};
+
 use cache_words::pack::fault::PackFault;
 use std::alloc::AllocError;
 use std::fmt;
@@ -13,6 +16,8 @@ pub enum MetaFault {
 }
 
 impl fmt::Display for MetaFault {
+    ghost output = { λ fault. Some (fault_text fault) };
+
     fn fmt<W: fmt::Write>(&self, f: &mut fmt::Formatter<W>) -> fmt::Result {
         f.write_str(match self {
             MetaFault::Memory => "out of memory",
@@ -44,6 +49,8 @@ pub enum MetaReadFault {
 }
 
 impl fmt::Display for MetaReadFault {
+    ghost output = { λ fault. Some (read_fault_text fault) };
+
     fn fmt<W: fmt::Write>(&self, f: &mut fmt::Formatter<W>) -> fmt::Result {
         f.write_str(match self {
             MetaReadFault::Memory => "out of memory",
