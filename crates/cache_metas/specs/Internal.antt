@@ -26,22 +26,8 @@ abbrev pub SpellsV2 : ℕ → InternalMetaV2 → List ℕ → Type 0
 SpellsV2 count m text =
     SpellBoth SpellsMoment (SpellBoth SpellsMoment (SpellBoth SpellsMoment (SpellBoth SpellsSeconds (SpellBoth SpellsSeconds
     (SpellBoth (SpellThere (nat_lt 6 count) SpellsOptionalHash)
-    (SpellBoth (SpellThere (nat_lt 7 count) SpellsOptionalMoment) (SpellThere (nat_lt 8 count) SpellsOptionalMoment))))))) (
-      m.fresh_until,
-      (
-        m.created,
-        (
-          m.updated,
-          (
-            m.stale_while_revalidate_sec,
-            (
-              m.stale_if_error_sec,
-              (m.variance, (m.epoch_override, m.provenance)),
-            ),
-          ),
-        ),
-      ),
-    ) text
+    (SpellBoth (SpellThere (nat_lt 7 count) SpellsOptionalMoment) (SpellThere (nat_lt 8 count) SpellsOptionalMoment)))))))
+    (m.fresh_until, (m.created, (m.updated, (m.stale_while_revalidate_sec, (m.stale_if_error_sec, (m.variance, (m.epoch_override, m.provenance))))))) text
 
 -- a meta in one of its forms: an array of 4 is the first, any other begins with its version
 abbrev pub SpellsMeta : InternalMetaV2 → List ℕ → Type 0
