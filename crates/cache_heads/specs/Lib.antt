@@ -3,6 +3,7 @@ pub mod Stale
 pub mod Fresh
 pub mod Requests
 pub mod Meta
+pub mod MetaBytes
 pub mod MetaLends
 pub mod Verdict
 pub mod Given

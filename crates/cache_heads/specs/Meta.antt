@@ -2,7 +2,7 @@
 use Rattle.std.specs.Prelude.{ℕ, Some, None, unwrap_or}
 use Rattle.cache_words.specs.Time.{Instant}
 use Rattle.cache_directives.specs.declared.header.ResponseHeader.{ResponseHeader}
-use Rattle.cache_heads.specs.declared.meta.InternalMetaV2.{InternalMetaV2}
+use Rattle.cache_metas.specs.declared.versions.InternalMetaV2.{InternalMetaV2}
 use Rattle.cache_heads.specs.declared.meta.CacheMeta.{CacheMeta}
 
 -- a new meta: it was updated and comes from when it was created

@@ -4,6 +4,7 @@
 
 pub mod defaults;
 pub mod filters;
+pub mod laws;
 pub mod meta;
 pub mod reason;
 #[cfg(test)]

@@ -1,41 +1,23 @@
 //! What is kept beside a response, in memory.
-ghost use Rattle.std.specs.Prelude.{◌≡◌, ℕ, Some, None, IfOk};
+ghost use Rattle.std.specs.Prelude.{◌≡◌, ◌≢◌, ◌↔◌, ℕ, Some, None, Ok, Err, IfOk, OnOk, IsErrOf};
 ghost use Rattle.std.specs.Borrow.{sem};
 ghost use Rattle.cache_words.specs.Time.{elapsed};
+ghost use Rattle.cache_metas.specs.Head.{IsCountable, written_head};
+ghost use Rattle.cache_metas.specs.HeadReading.{Gives};
+ghost use Rattle.cache_metas.specs.Internal.{IsWritable, written_meta};
+ghost use Rattle.cache_heads.specs.declared.meta.CacheMeta.{CacheMeta};
 ghost use Rattle.cache_heads.specs.Fresh.{is_fresh_at, serves_stale, earlier_of};
 ghost use Rattle.cache_heads.specs.Meta.{new_meta, epoch_of, provenance_of};
+ghost use Rattle.cache_heads.specs.MetaBytes.{BeginWithMeta, cache_meta_at};
 ghost use Rattle.cache_heads.specs.MetaLends.{lends_header};
 
 use cache_directives::ResponseHeader;
+use cache_metas::fault::{MetaFault, MetaReadFault};
+pub use cache_metas::versions::{InternalMetaV0, InternalMetaV1, InternalMetaV2};
+use cache_metas::{head, internal};
 use cache_words::time::{Duration, Moment};
 use http_header::HeaderMap;
-use std::alloc::AllocError;
-
-/// The moments and numbers of a meta.
-#[derive(Clone, Copy, Debug, PartialEq, Eq)]
-pub struct InternalMetaV2 {
-    /// Until when the response is fresh.
-    pub fresh_until: Moment,
-    /// When the response came.
-    pub created: Moment,
-    /// When it was last found valid.
-    pub updated: Moment,
-    /// For how many seconds it is served stale while it is validated.
-    pub stale_while_revalidate_sec: u32,
-    /// For how many seconds it is served stale on errors.
-    pub stale_if_error_sec: u32,
-    /// The variant of the response.
-    pub variance: Option<[u8; 16]>,
-    /// From when its age counts, in place of `updated`.
-    pub epoch_override: Option<Moment>,
-    /// Where the response comes from, in place of `created`.
-    pub provenance: Option<Moment>,
-}
-
-impl InternalMetaV2 {
-    /// The version of this form.
-    pub const VERSION: u8 = 2;
-}
+use std::alloc::{AllocError, Global};
 
 /// What is kept beside a response: its head, and when it is fresh.
 #[derive(Debug, Drop)]
@@ -291,6 +273,45 @@ impl CacheMeta {
         ensures { result.now ≡ self.now.header.headers }
     {
         &self.header.headers
+    }
+
+    /// The meta as bytes: its moments and numbers, and its head.
+    ///
+    /// # Errors
+    ///
+    /// `MetaMoment` exactly where one of its moments is before 1970. `Memory` where there is none, and where the head
+    /// has 2^32 values, or a value of 2^32 bytes: no form counts these.
+    pub fn serialize(&self, alloc: Global) -> Result<(Vec<u8>, Vec<u8>), MetaFault>
+        ensures internal { IfOk result (λ halves. halves.0.items ≡ written_meta self.now.internal) }
+        ensures header { IfOk result (λ halves. halves.1.items ≡ written_head self.now.header) }
+        ensures counted { OnOk result (IsCountable self.now.header.headers) }
+
+        ensures moment { IsErrOf result MetaFault.MetaMoment ↔ ¬ (IsWritable self.now.internal) }
+        ensures writable { result ≢ Err MetaFault.MetaMoment → IsWritable self.now.internal }
+    {
+        let internal = internal::write(alloc, &self.internal)?;
+        let header = head::write(alloc, &self.header)?;
+        Ok((internal, header))
+    }
+
+    /// The meta whose halves these bytes begin with.
+    ///
+    /// # Errors
+    ///
+    /// The first fault from the left, of the moments and numbers before the head's; or `Memory` where there is none for
+    /// the head.
+    pub fn deserialize(
+        alloc: Global,
+        internal: &[u8],
+        header: &[u8],
+    ) -> Result<CacheMeta, MetaReadFault>
+        ensures found { IfOk result (BeginWithMeta internal.now header.now) }
+        ensures only { (m : CacheMeta) → BeginWithMeta internal.now header.now m → Gives {X = CacheMeta} result (Ok m) }
+        ensures exact { Gives result (cache_meta_at internal.now header.now) }
+    {
+        let internal = internal::read(internal)?;
+        let header = head::read(alloc, header)?;
+        Ok(CacheMeta { internal, header })
     }
 
     // Whether a window behind freshness reaches a moment.

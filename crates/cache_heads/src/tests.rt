@@ -7,6 +7,8 @@ use crate::filters::{
     request_cacheable, resp_cacheable,
 };
 use crate::meta::CacheMeta;
+use cache_metas::fault::{MetaFault, MetaReadFault};
+use cache_words::pack::fault::PackFault;
 use cache_words::time::Moment;
 use http::{Method, StatusCode};
 use http_header::{HeaderMap, HeaderName, HeaderValue};
@@ -151,5 +153,50 @@ fn refused_growth(rt: HostRuntime) {
     match kept.response_header_copy() {
         Ok(copy) => assert_eq!(rt; copy.headers.len(), 1),
         Err(_) => assert_eq!(rt; kept.headers().len(), 1),
+    }
+}
+
+const INTERNAL: &[u8] =
+    b"\x99\x02\x92\xcd\x03\xf2\0\x92\xcd\x03\xe8\0\x92\xcd\x03\xe8\0\x05\x3c\xc0\xc0\x92\xcd\x03\xe8\0";
+
+const HEADER: &[u8] = b"\x92\xcc\xc8\x91\x92\xa4etag\xc4\x03\"a\"";
+
+#[test]
+fn metas_as_bytes(rt: HostRuntime) -> Result<(), Fail> {
+    laws::meta_is_read_again();
+    laws::one_meta();
+    let mut m = meta(rt.alloc()).ok_or("memory")?;
+    let (internal, header) = m.serialize(rt.alloc())?;
+    assert!(rt; internal.as_slice() == INTERNAL && header.as_slice() == HEADER);
+    let read = CacheMeta::deserialize(rt.alloc(), INTERNAL, HEADER)?;
+    assert!(rt; read.internal == m.internal && *read.headers() == *m.headers());
+    m.set_epoch_override(Moment::from_seconds(-1));
+    assert!(rt; matches!(m.serialize(rt.alloc()), Err(MetaFault::MetaMoment)));
+    Ok(())
+}
+
+// The moments and numbers are read before the head.
+#[test]
+fn faults_of_metas(rt: HostRuntime) {
+    let first = CacheMeta::deserialize(rt.alloc(), b"\x96", b"\xc0");
+    assert!(rt; matches!(first, Err(MetaReadFault::Pack(PackFault::Short))));
+    let second = CacheMeta::deserialize(rt.alloc(), INTERNAL, b"\xc0");
+    assert!(rt; matches!(second, Err(MetaReadFault::Pack(PackFault::Kind))));
+}
+
+#[test]
+fn refused_bytes(rt: HostRuntime) {
+    let Some(kept) = meta(rt.alloc()) else {
+        return;
+    };
+    match kept.serialize(rt.alloc()) {
+        Ok((internal, header)) => {
+            assert!(rt; internal.as_slice() == INTERNAL && header.as_slice() == HEADER);
+        }
+        Err(fault) => assert_eq!(rt; fault, MetaFault::Memory),
+    }
+    match CacheMeta::deserialize(rt.alloc(), INTERNAL, HEADER) {
+        Ok(read) => assert_eq!(rt; read.headers().len(), 1),
+        Err(fault) => assert_eq!(rt; fault, MetaReadFault::Memory),
     }
 }

@@ -1,0 +1,32 @@
+-- Metas as bytes, each in two halves: its moments and numbers, and its head.
+use Rattle.std.specs.Prelude.{List, ℕ, Result, Ok}
+use Rattle.cache_words.specs.declared.pack.fault.PackFault.{PackFault}
+use Rattle.cache_words.specs.Reading.{◌>>=◌}
+use Rattle.cache_metas.specs.Head.{BeginsWithHead, IsCountable, IsHead, plain_head}
+use Rattle.cache_metas.specs.HeadReading.{head_at}
+use Rattle.cache_metas.specs.Internal.{BeginsWithMeta, IsMeta, IsWritable}
+use Rattle.cache_metas.specs.InternalReading.{meta_at, value_of}
+use Rattle.cache_heads.specs.declared.meta.CacheMeta.{CacheMeta}
+
+-- each half begins with its part of the meta
+abbrev pub BeginWithMeta : List ℕ → List ℕ → CacheMeta → Type 0
+BeginWithMeta internal header m = BeginsWithMeta internal m.internal × BeginsWithHead header m.header
+
+-- reading both halves, with the first fault
+abbrev pub cache_meta_at : List ℕ → List ℕ → Result CacheMeta PackFault
+cache_meta_at internal header = do
+  m ← value_of (meta_at internal)
+  h ← value_of (head_at header)
+  Ok (record { internal = m; header = h })
+
+-- a meta that can be written: its moments are not before 1970, and forms count its head. The other parts hold of each
+-- meta in memory
+pub record CanBeWritten (m : CacheMeta) : Type 0 where
+  pub internal : IsMeta m.internal
+  pub moments : IsWritable m.internal
+  pub header : IsHead m.header
+  pub counted : IsCountable m.header.headers
+
+-- the same meta without a word on which values are sensitive
+abbrev pub plain_meta : CacheMeta → CacheMeta
+plain_meta m = record { internal = m.internal; header = plain_head m.header }

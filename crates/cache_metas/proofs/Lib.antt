@@ -1,0 +1,8 @@
+pub mod HeadLaws
+pub mod HeadLines
+pub mod HeadLoop
+pub mod HeadWriting
+pub mod InternalLaws
+pub mod InternalWriting
+pub mod ItemLaws
+pub mod MapLines

@@ -1,0 +1,7 @@
+pub mod FaultTexts
+pub mod Head
+pub mod HeadReading
+pub mod Internal
+pub mod InternalReading
+pub mod Items
+pub mod Versions

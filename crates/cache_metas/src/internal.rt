@@ -1,0 +1,216 @@
+//! The moments and numbers of a meta as MessagePack. Any of the three forms is read; the latest is written.
+ghost use Rattle.std.specs.Prelude.{◌≡◌, ◌≢◌, ◌++◌, ◌∷◌, ◌↔◌, Ok, IsTrue, IfOk, IfSome, OnOk, IsErrOf};
+ghost use Rattle.cache_metas.specs.declared.versions.InternalMetaV2.{InternalMetaV2};
+ghost use Rattle.cache_metas.specs.Items.{Steps};
+ghost use Rattle.cache_metas.specs.Internal.{BeginsWithMeta, IsSinceEpoch, IsWritable, written_meta, item_count, times_of, variant_of};
+ghost use Rattle.cache_metas.specs.InternalReading.{v0_at, v1_at, v2_at, version_at, form_at, meta_at, value_of};
+
+use crate::cursor::Cursor;
+use crate::fault::MetaFault;
+use crate::versions::{InternalMetaV0, InternalMetaV1, InternalMetaV2};
+use cache_words::pack::fault::PackFault;
+use cache_words::pack::writing;
+use cache_words::time::Moment;
+use std::alloc::{AllocError, Global};
+
+// The fewest bytes of a meta.
+const LEAST_LEN: usize = 10;
+
+#[tactic(auto, unfolding(crate::specs::InternalReading::v0_at))]
+fn v0(bytes: &mut Cursor<'_>) -> Result<InternalMetaV0, PackFault>
+    ensures { Steps v0_at bytes.old.rest.now bytes.new.rest.now result }
+{
+    let fresh_until = bytes.moment()?;
+    let created = bytes.moment()?;
+    let stale_while_revalidate_sec = bytes.seconds()?;
+    let stale_if_error_sec = bytes.seconds()?;
+    Ok(InternalMetaV0 {
+        fresh_until,
+        created,
+        stale_while_revalidate_sec,
+        stale_if_error_sec,
+    })
+}
+
+#[tactic(auto, unfolding(crate::specs::InternalReading::v1_at))]
+fn v1(bytes: &mut Cursor<'_>) -> Result<InternalMetaV1, PackFault>
+    ensures { Steps v1_at bytes.old.rest.now bytes.new.rest.now result }
+{
+    let fresh_until = bytes.moment()?;
+    let created = bytes.moment()?;
+    let stale_while_revalidate_sec = bytes.seconds()?;
+    let stale_if_error_sec = bytes.seconds()?;
+    Ok(InternalMetaV1 {
+        fresh_until,
+        created,
+        stale_while_revalidate_sec,
+        stale_if_error_sec,
+    })
+}
+
+#[tactic(auto, unfolding(crate::specs::InternalReading::v2_at))]
+fn v2(bytes: &mut Cursor<'_>, count: u64) -> Result<InternalMetaV2, PackFault>
+    ensures { Steps (v2_at count) bytes.old.rest.now bytes.new.rest.now result }
+{
+    let fresh_until = bytes.moment()?;
+    let created = bytes.moment()?;
+    let updated = bytes.moment()?;
+    let stale_while_revalidate_sec = bytes.seconds()?;
+    let stale_if_error_sec = bytes.seconds()?;
+    let variance = bytes.hash_there(6 < count)?;
+    let epoch_override = bytes.moment_there(7 < count)?;
+    let provenance = bytes.moment_there(8 < count)?;
+    Ok(InternalMetaV2 {
+        fresh_until,
+        created,
+        updated,
+        stale_while_revalidate_sec,
+        stale_if_error_sec,
+        variance,
+        epoch_override,
+        provenance,
+    })
+}
+
+#[tactic(auto, unfolding(crate::specs::InternalReading::version_at))]
+fn version(bytes: &mut Cursor<'_>, number: u8, count: u64) -> Result<InternalMetaV2, PackFault>
+    ensures { Steps (version_at number count) bytes.old.rest.now bytes.new.rest.now result }
+{
+    match number {
+        InternalMetaV1::VERSION => {
+            if count != 5 {
+                return Err(PackFault::Length);
+            }
+            Ok(InternalMetaV2::from(v1(bytes)?))
+        }
+        InternalMetaV2::VERSION => {
+            if count < 6 || count > 9 {
+                return Err(PackFault::Length);
+            }
+            v2(bytes, count)
+        }
+        _ => Err(PackFault::Range),
+    }
+}
+
+#[tactic(auto, unfolding(crate::specs::InternalReading::form_at))]
+fn form(bytes: &mut Cursor<'_>) -> Result<InternalMetaV2, PackFault>
+    ensures { Steps form_at bytes.old.rest.now bytes.new.rest.now result }
+{
+    let count = bytes.array()?;
+    if count == 4 {
+        return Ok(InternalMetaV2::from(v0(bytes)?));
+    }
+    let number = bytes.byte()?;
+    version(bytes, number, count)
+}
+
+#[tactic(auto, unfolding(crate::specs::InternalReading::meta_at))]
+fn whole(bytes: &[u8]) -> Result<InternalMetaV2, PackFault>
+    ensures { result ≡ value_of (meta_at bytes.now) }
+{
+    if bytes.len() < LEAST_LEN {
+        return Err(PackFault::Short);
+    }
+    let mut cursor = Cursor { rest: bytes };
+    form(&mut cursor)
+}
+
+/// The meta at the front of an input of at least ten bytes; what stands behind it is passed over.
+///
+/// # Errors
+///
+/// The first fault from the left; a shorter input is `Short`.
+pub fn read(bytes: &[u8]) -> Result<InternalMetaV2, PackFault>
+    ensures found { IfOk result (BeginsWithMeta bytes.now) }
+    ensures only { (m : InternalMetaV2) → BeginsWithMeta bytes.now m → result ≡ Ok m }
+    ensures exact { result ≡ value_of (meta_at bytes.now) }
+{
+    whole(bytes)
+}
+
+// Whether a moment, where there is one, isn't before 1970.
+fn is_since_epoch(moment: &Option<Moment>) -> bool
+    ensures { IsTrue result ↔ IfSome moment.now IsSinceEpoch }
+{
+    match moment {
+        Some(moment) => !moment.is_before_epoch(),
+        None => true,
+    }
+}
+
+// Whether each moment can be written.
+fn is_writable(meta: &InternalMetaV2) -> bool
+    ensures { IsTrue result ↔ IsWritable meta.now }
+{
+    !meta.fresh_until.is_before_epoch()
+        && !meta.created.is_before_epoch()
+        && !meta.updated.is_before_epoch()
+        && is_since_epoch(&meta.epoch_override)
+        && is_since_epoch(&meta.provenance)
+}
+
+// How many items are written.
+fn item_count(provenance: &Option<Moment>) -> u32
+    ensures { result ≡ item_count provenance.now }
+{
+    match provenance {
+        Some(_) => 9,
+        None => 8,
+    }
+}
+
+fn put_times(out: &mut Vec<u8>, meta: &InternalMetaV2) -> Result<(), AllocError>
+    requires { IsWritable meta.now }
+    ensures { OnOk result (out.new.items ≡ out.old.items ++ times_of meta.now) }
+{
+    writing::put_moment(out, meta.fresh_until)?;
+    writing::put_moment(out, meta.created)?;
+    writing::put_moment(out, meta.updated)?;
+    writing::put_number(out, meta.stale_while_revalidate_sec as u64)?;
+    writing::put_number(out, meta.stale_if_error_sec as u64)
+}
+
+fn put_variant(out: &mut Vec<u8>, meta: &InternalMetaV2) -> Result<(), AllocError>
+    requires { IsWritable meta.now }
+    ensures { OnOk result (out.new.items ≡ out.old.items ++ variant_of meta.now) }
+{
+    writing::put_optional_hash(out, meta.variance)?;
+    match meta.epoch_override {
+        Some(epoch) => writing::put_moment(out, epoch)?,
+        None => writing::put_nil(out)?,
+    }
+    match meta.provenance {
+        Some(provenance) => writing::put_moment(out, provenance),
+        None => Ok(()),
+    }
+}
+
+#[tactic(auto, unfolding(crate::specs::Internal::written_meta))]
+fn written(alloc: Global, meta: &InternalMetaV2) -> Result<Vec<u8>, AllocError>
+    requires { IsWritable meta.now }
+    ensures { IfOk result (λ text. text.items ≡ written_meta meta.now) }
+{
+    let mut out = Vec::new(alloc);
+    writing::put_array(&mut out, item_count(&meta.provenance))?;
+    out.push(InternalMetaV2::VERSION)?;
+    put_times(&mut out, meta)?;
+    put_variant(&mut out, meta)?;
+    Ok(out)
+}
+
+/// The meta in its latest form, each item in its shortest.
+///
+/// # Errors
+///
+/// `MetaMoment` exactly where one of its moments is before 1970; else `Memory` where there is none.
+pub fn write(alloc: Global, meta: &InternalMetaV2) -> Result<Vec<u8>, MetaFault>
+    ensures ok { IfOk result (λ text. text.items ≡ written_meta meta.now) }
+    ensures moment { IsErrOf result MetaFault.MetaMoment ↔ ¬ (IsWritable meta.now) }
+    ensures writable { result ≢ Err MetaFault.MetaMoment → IsWritable meta.now }
+{
+    if !is_writable(meta) {
+        return Err(MetaFault::MetaMoment);
+    }
+    Ok(written(alloc, meta)?)
+}
