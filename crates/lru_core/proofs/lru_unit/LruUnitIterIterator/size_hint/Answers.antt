@@ -1,4 +1,4 @@
-use Rattle.std.proofs.Common.{arith, refl}
+use Rattle.std.proofs.Common.{arith}
 use Rattle.lru_core.proofs.Pairs.{length-pairs_in}
 use Rattle.lru_core.proofs.lru_unit.LruUnitIterIterator.size_hint.Goals as goal
 

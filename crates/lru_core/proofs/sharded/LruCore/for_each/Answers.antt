@@ -1,4 +1,3 @@
-use Rattle.std.proofs.Common.{arith}
 use Rattle.std.proofs.lemmas.List.{take_all}
 use Rattle.lru_core.proofs.Pairs.{more_pairs, FoldsTo-append}
 use Rattle.lru_core.proofs.sharded.LruCore.for_each.Goals as goal

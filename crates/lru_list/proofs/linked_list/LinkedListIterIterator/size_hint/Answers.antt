@@ -1,4 +1,4 @@
-use Rattle.std.proofs.Common.{◌≡◌, length, refl, arith}
+use Rattle.std.proofs.Common.{refl, arith}
 use Rattle.lru_list.proofs.linked_list.LinkedListIterIterator.size_hint.Goals as goal
 
 pub returns-clause-lower : goal.returns-clause-lower
