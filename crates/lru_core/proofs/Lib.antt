@@ -6,3 +6,4 @@ pub mod Evictions
 pub mod Moving
 pub mod Updating
 pub mod Ordering
+pub mod Pairs

@@ -1,6 +1,8 @@
 -- Plain lists of rows, most recent first.
-use Rattle.std.specs.Prelude.{ℕ, ◌+◌, ◌==◌, not, min, max, List, filter, map, Option, Some, None, is_some, cond, if◌then◌else◌, slice_get}
+use Rattle.std.specs.Prelude.{ℕ, ◌+◌, ◌==◌, not, min, max, List, filter, map, Option, Some, None, is_some, cond, if◌then◌else◌, slice_get, filter_map}
 use Rattle.std.specs.List.{sum_by}
+use Rattle.std.specs.Option.{option_map}
+use Rattle.std.specs.Borrow.{Bor}
 use Rattle.lru_core.specs.declared.rows.Row.{Row}
 
 -- the row of key k, as a list of one row or none
@@ -40,6 +42,22 @@ incremented k delta most rows =
 
 abbrev pub a_row : {T : Type 0} → ℕ → T → ℕ → Row T
 a_row k d w = record { key = k; «data» = d; weight = w }
+
+-- the data and the weight of a row
+abbrev pub pair_of : {T : Type 0} → Row T → T × ℕ
+pair_of r = (r.«data», r.weight)
+
+-- those of each row, in order
+abbrev pub pairs_of : {T : Type 0} → List (Row T) → List (T × ℕ)
+pairs_of rows = map pair_of rows
+
+-- those of the rows that slots hold
+abbrev pub pairs_in : {T : Type 0} → List (Option (Row T)) → List (T × ℕ)
+pairs_in slots = filter_map (λ o. option_map pair_of o) slots
+
+-- what an iterator shows of such a pair
+abbrev pub shown_pair : {T : Type 0} → Bor T × ℕ → T × ℕ
+shown_pair p = (p.0.now, p.1)
 
 -- a shard: its rows, most recent first, and what neither their number nor their weight may pass
 pub record Shard (T : Type 0) : Type 0 where

@@ -1,7 +1,9 @@
 //! Laws of the words that the contracts use, each the contract of a function that does nothing.
 
-ghost use Rattle.std.specs.Prelude.{◌≡◌, ℕ, ◌++◌, List, [], map};
-ghost use Rattle.lru_core.specs.Rows.{only, others, reweighed};
+ghost use Rattle.std.specs.Prelude.{◌≡◌, ℕ, ◌≤◌, ◌++◌, List, [], length, map, reverse};
+ghost use Rattle.std.specs.Borrow.{Bor};
+ghost use Rattle.lru_list.specs.BothEnds.{Call, Gives, from_front, from_back};
+ghost use Rattle.lru_core.specs.Rows.{only, others, reweighed, shown_pair};
 ghost use Rattle.lru_core.specs.Orders.{Distinct, all_behind};
 ghost use Rattle.lru_core.specs.declared.rows.Row.{Row};
 
@@ -18,4 +20,11 @@ pub fn weights_change_no_order<T>()
 /// Rows of distinct keys, put in order behind no rows, are those rows.
 pub fn rows_put_in_order_keep_it<T>()
     ensures { (rows : List (Row T)) → Distinct rows → all_behind [] rows ≡ rows }
+{}
+
+/// Any mixture of calls at both ends of a shard's iterator gives each item once, those from the front in order and those
+/// from the back in reverse, and as many calls as there are items leave none.
+pub fn a_shard_gives_each_item_once<T>()
+    ensures once { (calls : List (Call (Bor T × ℕ))) (xs rest : List (T × ℕ)) → Gives shown_pair xs calls rest → from_front shown_pair calls ++ (rest ++ reverse (from_back shown_pair calls)) ≡ xs }
+    ensures ends { (calls : List (Call (Bor T × ℕ))) (xs rest : List (T × ℕ)) → Gives shown_pair xs calls rest → length xs ≤ length calls → rest ≡ [] }
 {}

@@ -2,13 +2,17 @@
 
 ghost use Rattle.std.specs.Prelude.{◌≡◌, ◌≢◌, ◌↔◌, ℕ, ◌+◌, ◌-◌, ◌^◌, ◌<◌, ◌≤◌, ◌++◌, ◌∷◌, ◌⊎◌, List, [], length, take, max, min, map, true, false, IsTrue, IsSome, is_some, IfSome, IfNone, IfOk, IfErr, OnOk, OnErr, MatchOption, MatchResult, option_copied, not};
 ghost use Rattle.std.specs.Option.{option_to_list, option_map, SomeIff};
-ghost use Rattle.lru_core.specs.Rows.{only, others, row_of, put, reweighed, weight_of, capped, incremented, a_row};
+ghost use Rattle.std.specs.Iterator.{YieldsFirstBy, YieldsLastBy, item_count, at_most, UpTo};
+ghost use Rattle.std.specs.Iterator.SizeHint.{IsWithinCount};
+ghost use Rattle.lru_core.specs.Rows.{only, others, row_of, put, reweighed, weight_of, capped, incremented, a_row, pairs_of, shown_pair};
 ghost use Rattle.lru_core.specs.Updates.{Updates};
 ghost use Rattle.lru_core.specs.Orders.{behind};
 ghost use Rattle.lru_core.specs.declared.rows.Row.{Row};
 
 use crate::rows::{Row, RowFault, Rows};
+use lru_list::linked_list::LinkedListIter;
 use std::alloc::{AllocError, Global};
+use std::iter::FusedIterator;
 use std::marker::Model;
 
 /// Why a row was not taken in, with what was handed in for it.
@@ -85,6 +89,15 @@ impl<T> LruUnit<T> {
         Some((&row.data, row.weight))
     }
 
+    /// The data and the weights of the rows, most recent first. It goes from both ends. The order stays.
+    pub fn iter(&self) -> LruUnitIter<'_, T>
+        ensures { result ≡ pairs_of self.now.rows }
+    {
+        LruUnitIter {
+            slots: self.rows.iter(),
+        }
+    }
+
     /// Moves the row of `key` to the front, and answers whether there is one.
     pub fn access(&mut self, key: u64) -> bool
         ensures found { result ≡ is_some (row_of key self.old.rows) }
@@ -124,7 +137,8 @@ impl<T: Drop> LruUnit<T> {
 
     /// Takes the room for `additional` more rows. It is a hint.
     pub fn reserve(&mut self, additional: usize) -> Result<(), AllocError>
-        ensures { self.new ≡ self.old }
+        ensures same { self.new ≡ self.old }
+        ensures refused { OnErr result (0 < additional) }
     {
         self.rows.reserve(additional)
     }
@@ -359,6 +373,59 @@ impl<T: Drop> LruUnit<T> {
         Some((data, weight))
     }
 }
+
+/// Goes over a shard from both ends, and is seen as the list of the data and the weights that are left.
+#[derive(Drop)]
+pub struct LruUnitIter<'a, T> {
+    slots: LinkedListIter<'a, Option<Row<T>>>,
+}
+
+impl<'a, T> Model for LruUnitIter<'a, T> {
+    ghost use Rattle.std.specs.Prelude.{ℕ, List, IsSome};
+    ghost use Rattle.std.specs.List.{All};
+
+    ghost Value = { List (T × ℕ) };
+
+    ghost use Rattle.lru_core.specs.Rows.{pairs_in};
+
+    ghost view = { λ it. pairs_in it.slots };
+
+    ghost invariant = { λ it. All IsSome it.slots };
+}
+
+impl<'a, T> Iterator for LruUnitIter<'a, T> {
+    type Item = (&'a T, usize);
+
+    ghost next_gives = { YieldsFirstBy shown_pair (λ rest. rest) };
+
+    ghost remaining = { item_count (λ rest. rest) };
+
+    fn next(&mut self) -> Option<(&'a T, usize)> {
+        let slot = self.slots.next()?;
+        let row = slot.as_ref().unwrap();
+        Some((&row.data, row.weight))
+    }
+
+    fn size_hint(&self) -> (usize, Option<usize>)
+        ensures lower { IsWithinCount result.0 (at_most (length self.now)) }
+        ensures upper { IfSome result.1 (UpTo (at_most (length self.now))) }
+        ensures exact { result ≡ (length self.now, Some (length self.now)) }
+    {
+        self.slots.size_hint()
+    }
+}
+
+impl<'a, T> DoubleEndedIterator for LruUnitIter<'a, T> {
+    ghost next_back_gives = { YieldsLastBy shown_pair (λ rest. rest) };
+
+    fn next_back(&mut self) -> Option<(&'a T, usize)> {
+        let slot = self.slots.next_back()?;
+        let row = slot.as_ref().unwrap();
+        Some((&row.data, row.weight))
+    }
+}
+
+impl<'a, T> FusedIterator for LruUnitIter<'a, T> {}
 
 /// A weight with a cap on it.
 fn lowered(weight: usize, max_weight: Option<usize>) -> usize

@@ -7,7 +7,7 @@ ghost use Rattle.lru_core.specs.Rows.{only, others, put, reweighed, a_row};
 ghost use Rattle.lru_core.specs.Updates.{Updates};
 ghost use Rattle.lru_core.specs.declared.rows.Row.{Row};
 
-use lru_list::linked_list::{LinkedList, ListFault};
+use lru_list::linked_list::{LinkedList, LinkedListIter, ListFault};
 use std::alloc::{AllocError, Global};
 use std::collections::HashMap;
 use std::marker::Model;
@@ -99,6 +99,13 @@ impl<T> Rows<T> {
         self.list.item(i).as_ref()
     }
 
+    /// The slots of the rows, in order. Each has its row.
+    pub fn iter(&self) -> LinkedListIter<'_, Option<Row<T>>>
+        ensures { result ≡ map (λ r. Some r) self.now }
+    {
+        self.list.iter()
+    }
+
     /// Puts another row into the place of the one of its key, which is answered.
     pub fn replace(&mut self, row: Row<T>) -> Row<T>
         requires { only row.key self.old ≢ [] }
@@ -135,7 +142,8 @@ impl<T: Drop> Rows<T> {
 
     /// Takes the room for `additional` more rows. It is a hint.
     pub fn reserve(&mut self, additional: usize) -> Result<(), AllocError>
-        ensures { self.new ≡ self.old }
+        ensures same { self.new ≡ self.old }
+        ensures refused { OnErr result (0 < additional) }
     {
         room_for(&mut self.table, additional)?;
         self.list.reserve(additional)
@@ -293,6 +301,7 @@ fn put_key(table: &mut HashMap<u64, usize>, key: u64, i: usize)
 fn room_for(table: &mut HashMap<u64, usize>, additional: usize) -> Result<(), AllocError>
     ensures same { (q : ℕ) → get nat_eq table.new q ≡ get nat_eq table.old q }
     ensures ok { OnOk result (additional ≤ spare table.new) }
+    ensures refused { OnErr result (0 < additional) }
 {
     table.reserve(additional)
 }

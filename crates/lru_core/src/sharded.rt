@@ -2,9 +2,10 @@
 
 ghost use Rattle.std.specs.Prelude.{◌≡◌, ◌≢◌, ◌↔◌, ℕ, ◌+◌, ◌-◌, ◌*◌, ◌/◌, ◌%◌, ◌^◌, ◌<◌, ◌≤◌, ◌++◌, ◌∷◌, ◌⊎◌, List, [], length, take, max, min, map, replicate, true, false, not, nat_lt, nat_eq, IsTrue, is_some, IfSome, IfNone, IfOk, IfErr, OnOk, OnErr, OnSome, MatchOption, MatchResult, slice_set, slice_index_or};
 ghost use Rattle.std.specs.Option.{option_map};
-ghost use Rattle.lru_core.specs.Rows.{only, others, row_of, put, reweighed, weight_of, capped, incremented, a_row};
+ghost use Rattle.std.specs.List.{FoldsTo, flat_map};
+ghost use Rattle.lru_core.specs.Rows.{only, others, row_of, put, reweighed, weight_of, capped, incremented, a_row, pairs_of};
 ghost use Rattle.lru_core.specs.Cores.{rows_at, core_weight, core_len, is_over, passes, longer, next_of, around, IsEviction, IsStep, Evicts};
-ghost use Rattle.lru_core.specs.Updates.{Updates};
+ghost use Rattle.lru_core.specs.Updates.{Updates, Visits};
 ghost use Rattle.lru_core.specs.declared.rows.Row.{Row};
 
 use crate::lru_unit::{LruFault, LruUnit};
@@ -127,6 +128,25 @@ impl<T, const N: usize> LruCore<T, N> {
         ensures { MatchOption result (rows_at self.now.shards shard ≡ []) (λ p. (front : List (Row T)) × (k : ℕ) × (rows_at self.now.shards shard ≡ front ++ a_row k p.0.now p.1 ∷ [])) }
     {
         self.units[shard].peek_lru()
+    }
+
+    /// Calls `f` with the data and the weight of each row of a shard, most recent first.
+    pub fn iter_for_each<F: FnMut((&T, usize))>(&self, shard: usize, mut f: F)
+        requires within { shard < N }
+        requires callable { F.IsAlwaysCallable f }
+        ensures { (last : F) × FoldsTo (Visits F.FnMut) f (pairs_of (rows_at self.now.shards shard)) last }
+    {
+        visit(&self.units[shard], &mut f);
+    }
+
+    /// Calls `f` with the data and the weight of each row, shard by shard from 0, each most recent first.
+    pub fn for_each<F: FnMut((&T, usize))>(&self, mut f: F)
+        requires { F.IsAlwaysCallable f }
+        ensures { (last : F) × FoldsTo (Visits F.FnMut) f (flat_map pairs_of self.now.shards) last }
+    {
+        for unit in &self.units {
+            visit(unit, &mut f);
+        }
     }
 
     /// Whether the weight is past the limit, or the number of rows past the watermark.
@@ -261,7 +281,8 @@ impl<T: Drop, const N: usize> LruCore<T, N> {
     /// Takes the room for `additional` more rows in a shard. It is a hint.
     pub fn reserve_shard(&mut self, shard: usize, additional: usize) -> Result<(), AllocError>
         requires { shard < N }
-        ensures { self.new ≡ self.old }
+        ensures same { self.new ≡ self.old }
+        ensures refused { OnErr result (0 < additional) }
     {
         self.units[shard].reserve(additional)
     }
@@ -432,6 +453,7 @@ impl<T: Drop, const N: usize> LruCore<T, N> {
         ensures pairs { IfOk result (λ v. Evicts N self.old v.items (R.stream rng.old) self.new (R.stream rng.new)) }
         ensures within { OnOk result (is_over self.new ≡ false) }
         ensures refused { IfErr result (λ v. Evicts N self.old v.items (R.stream rng.old) self.new (R.stream rng.new)) }
+        ensures more { OnErr result (is_over self.new ≡ true) }
     {
         let mut pairs = Vec::new(alloc);
         'steps: while self.is_over() {
@@ -488,6 +510,18 @@ fn next_of(i: usize, n: usize) -> usize
     ensures within { result < n }
 {
     if i + 1 == n { 0 } else { i + 1 }
+}
+
+/// Calls `f` with the data and the weight of each row, most recent first.
+fn visit<T, F: FnMut((&T, usize))>(unit: &LruUnit<T>, f: &mut F)
+    requires { F.IsAlwaysCallable f.old }
+    ensures called { FoldsTo (Visits F.FnMut) f.old (pairs_of unit.now.rows) f.new }
+    ensures again { F.IsAlwaysCallable f.new }
+{
+    let mut items = unit.iter();
+    'items: while let Some(item) = items.next() {
+        f(item);
+    }
 }
 
 /// The number of rows of a shard, and their weight.

@@ -40,6 +40,45 @@ fn a_shard_keeps_the_order_of_use(rt: HostRuntime) -> Result<(), Fail> {
 }
 
 #[test]
+fn a_shard_is_gone_over_from_both_ends(rt: HostRuntime) -> Result<(), Fail> {
+    let mut unit: LruUnit<u32> = LruUnit::with_capacity(rt.alloc(), 3, 100)?;
+    for key in [4, 3, 1] {
+        assert!(rt; ok(unit.insert_tail(key, key as u32, key as usize * 10))?);
+    }
+    let mut items = unit.iter();
+    assert_eq!(rt; items.next(), Some((&4, 40)));
+    assert_eq!(rt; items.next_back(), Some((&1, 10)));
+    assert_eq!(rt; items.size_hint(), (1, Some(1)));
+    assert_eq!(rt; items.next(), Some((&3, 30)));
+    assert_eq!(rt; items.next(), None);
+    assert_eq!(rt; items.next_back(), None);
+    assert_eq!(rt; unit.peek_lru(), Some((&1, 10)));
+    Ok(())
+}
+
+#[test]
+fn a_core_calls_at_each_row(rt: HostRuntime) -> Result<(), Fail> {
+    let mut core: LruCore<u64, 2> = LruCore::with_capacity(rt.alloc(), 9, 4)?;
+    for key in 1..5 {
+        let _shard = ok(core.admit(key, key, 1))?;
+    }
+    let mut digits = 0u64;
+    core.iter_for_each(1, |item| {
+        digits = digits.wrapping_mul(10).wrapping_add(*item.0);
+    });
+    assert_eq!(rt; digits, 31);
+    let mut digits = 0u64;
+    let mut weight = 0usize;
+    core.for_each(|item| {
+        digits = digits.wrapping_mul(10).wrapping_add(*item.0);
+        weight = weight.wrapping_add(item.1);
+    });
+    assert_eq!(rt; digits, 4231);
+    assert_eq!(rt; weight, 4);
+    Ok(())
+}
+
+#[test]
 fn weights_are_incremented_up_to_a_cap(rt: HostRuntime) -> Result<(), Fail> {
     let mut unit: LruUnit<u32> = LruUnit::with_capacity(rt.alloc(), 0, 100)?;
     assert_eq!(rt;

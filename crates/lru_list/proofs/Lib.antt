@@ -5,3 +5,4 @@ pub mod Chains
 pub mod Linked
 pub mod Walks
 pub mod Ends
+pub mod Calls

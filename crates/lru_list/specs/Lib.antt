@@ -2,3 +2,4 @@ pub mod Slots
 pub mod Links
 pub mod Nodes
 pub mod Lends
+pub mod BothEnds

@@ -6,7 +6,8 @@ ghost use Rattle.std.specs.Prelude.{◌≡◌, ◌≢◌, ◌↔◌, ℕ, ◌+�
 ghost use Rattle.std.specs.Borrow.{sem};
 ghost use Rattle.std.specs.Option.{option_copied_mut};
 ghost use Rattle.std.specs.List.{All, list_any};
-ghost use Rattle.std.specs.Iterator.{YieldsFirstRef, YieldsLastRef, item_count};
+ghost use Rattle.std.specs.Iterator.{YieldsFirstRef, YieldsLastRef, item_count, at_most, UpTo};
+ghost use Rattle.std.specs.Iterator.SizeHint.{IsWithinCount};
 ghost use Rattle.lru_list.specs.Slots.{has, without, in_order};
 ghost use Rattle.lru_list.specs.Nodes.{items_of, nexts, prevs};
 ghost use Rattle.lru_list.specs.Lends.{lends_item, lends_slot};
@@ -217,7 +218,8 @@ impl<K> LinkedList<K> {
 
     /// Takes the room for `additional` more items. It is a hint.
     pub fn reserve(&mut self, additional: usize) -> Result<(), AllocError>
-        ensures { self.new ≡ self.old }
+        ensures same { self.new ≡ self.old }
+        ensures refused { OnErr result (0 < additional) }
     {
         let unused = self.nodes.len() - self.free.len() - 2;
         self.nodes.reserve(additional)?;
@@ -352,14 +354,14 @@ pub struct LinkedListIter<'a, K = u64> {
 }
 
 impl<'a, K> Model for LinkedListIter<'a, K> {
-    ghost use Rattle.std.specs.Prelude.{List, take, drop};
+    ghost use Rattle.std.specs.Prelude.{◌≡◌, List, take, drop, length};
     ghost use Rattle.lru_list.specs.Slots.{listed, IsBetween};
 
     ghost Value = { List K };
 
     ghost view = { λ it. listed it.list.now.items (take it.left (drop it.from it.list.now.order)) };
 
-    ghost invariant = { λ it. IsBetween it.list.now.order it.front it.back it.from it.left };
+    ghost invariant = { λ it. IsBetween it.list.now.order it.front it.back it.from it.left × (length (listed it.list.now.items (take it.left (drop it.from it.list.now.order))) ≡ it.left) };
 }
 
 impl<'a, K> Iterator for LinkedListIter<'a, K> {
@@ -379,6 +381,14 @@ impl<'a, K> Iterator for LinkedListIter<'a, K> {
         self.from += 1;
         self.left -= 1;
         Some(list.item(i))
+    }
+
+    fn size_hint(&self) -> (usize, Option<usize>)
+        ensures lower { IsWithinCount result.0 (at_most (length self.now)) }
+        ensures upper { IfSome result.1 (UpTo (at_most (length self.now))) }
+        ensures exact { result ≡ (length self.now, Some (length self.now)) }
+    {
+        (self.left, Some(self.left))
     }
 }
 

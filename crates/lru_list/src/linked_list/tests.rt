@@ -88,6 +88,7 @@ fn goes_from_both_ends(rt: HostRuntime) -> Result<(), Fail> {
     let mut items = list.iter();
     assert_eq!(rt; items.next(), Some(&4));
     assert_eq!(rt; items.next_back(), Some(&1));
+    assert_eq!(rt; items.size_hint(), (1, Some(1)));
     assert_eq!(rt; items.next(), Some(&3));
     assert_eq!(rt; items.next(), None);
     assert_eq!(rt; items.next_back(), None);

@@ -1,0 +1,71 @@
+-- What an iterator over the slots of rows shows, and calls at each pair in turn.
+use Rattle.std.proofs.Common.{◌≡◌, ℕ, zero, suc, true, List, [], ◌∷◌, ◌++◌, ◌+◌, ◌<◌, length, map, take, get_or, Option, Some, None, IsSome, sym, refl, ap, ◌∙◌, subst, arith, slice_get}
+use Rattle.std.specs.List.{All, FoldsTo, flat_map}
+use Rattle.std.specs.Option.{option_and_then, option_map}
+use Rattle.std.proofs.lemmas.Bool.{false≢true}
+use Rattle.std.proofs.lemmas.List.{get_or-map, take_more, map-append, append-nil}
+use Rattle.std.proofs.lemmas.Grind.{flat_map-append}
+use Rattle.std.proofs.lemmas.List.Elements.{filter_map-append}
+use Rattle.lru_list.specs.Slots.{has, listed}
+use Rattle.lru_list.proofs.Indexes.{has_here, has_rest}
+use Rattle.lru_core.specs.declared.rows.Row.{Row}
+use Rattle.lru_core.specs.Rows.{Shard, pair_of, pairs_of, pairs_in}
+use Rattle.lru_core.specs.Cores.{rows_at}
+use Rattle.lru_core.specs.Tables.{row_at, rows_of}
+
+module _ {T : Type 0} where
+  full_slot : (items : List (Option (Row T))) (i : ℕ) (r : Row T) → row_at items i ≡ Some r → slice_get items i ≡ Some (Some r)
+  full_slot items i r e = elim (slice_get items i) as (λ o. option_and_then (λ o. o) o ≡ Some r → o ≡ Some (Some r)) [
+    | None ↦ λ f. absurd (cc f)
+    | Some o ↦ λ f. ap Some f
+  ] e
+
+  -- where each index has a row, the slots of an order are its rows
+  pub slots_full : (items : List (Option (Row T))) (is : List ℕ) → ((j : ℕ) → has is j ≡ true → (r : Row T) × (row_at items j ≡ Some r))
+      → listed items is ≡ map (λ r. Some r) (rows_of items is)
+  slots_full items [] a = refl
+  slots_full items (x ∷ is) a =
+      let r = a x (has_here x is) in
+      rw (full_slot items x r.0 r.1) (ap (λ l. Some r.0 ∷ l) (slots_full items is (λ j h. a j (has_rest x is j h))))
+
+  pub all_full : (rows : List (Row T)) → All IsSome (map {A = Row T} {B = Option (Row T)} (λ r. Some r) rows)
+  all_full [] k d l = absurd (omega arith)
+  all_full (r ∷ rows) zero d l = refl
+  all_full (r ∷ rows) (suc k) d l = all_full rows k d (omega arith)
+
+  pub rest_full : (s : Option (Row T)) (slots : List (Option (Row T))) → All IsSome (s ∷ slots) → All IsSome slots
+  rest_full s slots a k d l = a (suc k) d (omega arith)
+
+  pub pairs_full : (rows : List (Row T)) → pairs_in (map {A = Row T} {B = Option (Row T)} (λ r. Some r) rows) ≡ pairs_of rows
+  pairs_full [] = refl
+  pairs_full (r ∷ rows) = ap (λ l. pair_of r ∷ l) (pairs_full rows)
+
+  pub length-pairs_in : (slots : List (Option (Row T))) → All IsSome slots → length (pairs_in slots) ≡ length slots
+  length-pairs_in [] a = refl
+  length-pairs_in (None ∷ slots) a = absurd (false≢true (a 0 None (omega arith)))
+  length-pairs_in (Some r ∷ slots) a = ap suc (length-pairs_in slots (rest_full (Some r) slots a))
+
+  pub first_pair : (s : Option (Row T)) (slots : List (Option (Row T))) (r : Row T) → s ≡ Some r → pairs_in (s ∷ slots) ≡ pair_of r ∷ pairs_in slots
+  first_pair s slots r e = rw e refl
+
+  pub last_pair : (s : Option (Row T)) (slots : List (Option (Row T))) (r : Row T) → s ≡ Some r → pairs_in (slots ++ s ∷ []) ≡ pairs_in slots ++ pair_of r ∷ []
+  last_pair s slots r e = filter_map-append (option_map pair_of) slots (s ∷ []) ∙ ap (λ l. pairs_in slots ++ l) (first_pair s [] r e)
+
+  -- the rows of a shard that was read
+  pub rows_there : (units : List (Shard T)) (i : ℕ) (u : Shard T) → i < length units → u ≡ get_or units i u → rows_at (map (λ v. v.rows) units) i ≡ u.rows
+  rows_there units i u l e = get_or-map (λ v. v.rows) units i u [] l ∙ ap (λ v. v.rows) (sym e)
+
+  -- the pairs of one shard more
+  pub more_pairs : (units : List (Shard T)) (i : ℕ) (u : Shard T) → i < length units → u ≡ get_or units i u
+      → flat_map pairs_of (map (λ v. v.rows) (take (i + 1) units)) ≡ flat_map pairs_of (map (λ v. v.rows) (take i units)) ++ pairs_of u.rows
+  more_pairs units i u l e =
+      let more : take (i + 1) units ≡ take i units ++ u ∷ [] = take_more units i u l ∙ ap (λ v. take i units ++ v ∷ []) (sym e) in
+      ap (λ us. flat_map pairs_of (map (λ v. v.rows) us)) more
+      ∙ (ap (flat_map pairs_of) (map-append (λ v. v.rows) (take i units) (u ∷ []))
+      ∙ (flat_map-append pairs_of (map (λ v. v.rows) (take i units)) (u.rows ∷ [])
+      ∙ ap (λ l. flat_map pairs_of (map (λ v. v.rows) (take i units)) ++ l) (append-nil (pairs_of u.rows))))
+
+-- a run and one behind it are one
+pub FoldsTo-append : {P A : Type 0} (R : P → A → P → Type 0) (p q r : P) (xs ys : List A) → FoldsTo R p xs q → FoldsTo R q ys r → FoldsTo R p (xs ++ ys) r
+FoldsTo-append R p q r [] ys h k = subst (λ s. FoldsTo R s ys r) (sym h) k
+FoldsTo-append R p q r (x ∷ xs) ys h k = (h.0, h.1, FoldsTo-append R h.0 q r xs ys h.2 k)
