@@ -127,9 +127,10 @@ distinct_from : (name : ℕ → Option CompactCacheKey) (rows : List (Row Compac
 distinct_from name [] one a most = tt
 distinct_from name (r ∷ rows) one a most =
     let own : length (r ∷ only r.key rows) ≤ 1 = rw (eq-eqb r.key r.key refl) at (most r.key r.data a.0) in
-    let none : only r.key rows ≡ [] = nil_from_length (only r.key rows) (omega arith) in
-    (row_of-tracked r.key r.data rows (agrees name r.key r.data rows (IsNumber-named name r.key r.data one a.0) a.1) ∙ ap (λ (l : List (Row CompactCacheKey)). option_map tracked_row (slice_get l 0)) none,
-    distinct_from name rows one a.1 (λ k e p. at_most_one (eqb r.key k) r (only k rows) (most k e p)))
+    let none : only r.key rows ≡ [] = nil_from_length (only r.key rows) (omega arith) in (
+      row_of-tracked r.key r.data rows (agrees name r.key r.data rows (IsNumber-named name r.key r.data one a.0) a.1) ∙ ap (λ (l : List (Row CompactCacheKey)). option_map tracked_row (slice_get l 0)) none,
+      distinct_from name rows one a.1 (λ k e p. at_most_one (eqb r.key k) r (only k rows) (most k e p)),
+    )
 
 pub AreDistinct-tracked : (name : ℕ → Option CompactCacheKey) (rows : List (Row CompactCacheKey)) → IsNamed name rows → AreDistinct (tracked rows)
 AreDistinct-tracked name rows h = distinct_from name rows h.one h.named (λ k e p. let known = h.known k e p in let l : length (only k rows) ≡ 1 = ap length known.1 in omega arith)
