@@ -1,5 +1,5 @@
 #!/bin/sh
-# Measures one million mixed calls on a core of 1,000 and of 1,000,000 rows (half of them promotions, a quarter admissions with
+# Measures ten million mixed calls on a core of 1,000 and of 1,000,000 rows (half of them promotions, a quarter admissions with
 # the eviction that follows, a quarter look-ups), beside a Rust hash map with an index list on the same machine. It builds a
 # small proved program over lru_core and a Rust program in a temporary folder.
 set -eu
@@ -155,8 +155,8 @@ rustc -O -o rust_calls calls.rs
 (cd crates/calls && rt run -- 10 10) > log 2>&1 || { grep -v ': proved' log | tail -n 30; exit 1; }
 for rows in 1000 1000000; do
     a=$(seconds crates/calls/out/calls "$rows" 0)
-    b=$(seconds crates/calls/out/calls "$rows" 1000000)
+    b=$(seconds crates/calls/out/calls "$rows" 10000000)
     c=$(seconds ./rust_calls "$rows" 0)
-    d=$(seconds ./rust_calls "$rows" 1000000)
-    awk -v r="$rows" -v a="$a" -v b="$b" -v c="$c" -v d="$d" 'BEGIN { printf "%d rows: a million calls %.2f s (and %.2f s to fill), the Rust list %.2f s (and %.2f s)\n", r, b - a, a, d - c, c }'
+    d=$(seconds ./rust_calls "$rows" 10000000)
+    awk -v r="$rows" -v a="$a" -v b="$b" -v c="$c" -v d="$d" 'BEGIN { printf "%d rows: ten million calls %.2f s (and %.2f s to fill), the Rust list %.2f s (and %.2f s)\n", r, b - a, a, d - c, c }'
 done
