@@ -152,8 +152,8 @@ impl EntryOrder {
     pub fn remove_key(&mut self, key: &CacheKey)
         ensures { self.new ≡ record self.old { rows = without_row (entry_of key.now) self.old.rows } }
     {
-        if let Some(number) = self.names.take_back_key(key) {
-            take_out(&mut self.core, number);
+        if let Some(own) = self.names.take_back_key(key) {
+            take_out(&mut self.core, own);
         }
     }
 
