@@ -14,62 +14,66 @@ fn tagged(alloc: Global, name: u8, tag: &str) -> Result<CacheKey, AllocError> {
     ))
 }
 
-fn key(alloc: Global, name: u8) -> Result<CacheKey, AllocError> {
-    tagged(alloc, name, "")
+// What a trace asks, of keys of one byte.
+#[derive(Clone, Copy)]
+enum Ask {
+    Open(u64, u8, &'static str),
+    Look(u64),
+    Read(u64),
+    Drop(u64),
+    Purge(u8),
+    Put(u8, &'static str, &'static [u8], &'static [u8]),
 }
 
-fn event(second: i64, action: Action) -> Event {
-    Event {
-        moment: Moment::from_seconds(second),
-        action,
-    }
-}
-
-fn open(alloc: Global, second: i64, request: u64, name: u8) -> Result<Event, AllocError> {
-    let key = key(alloc, name)?;
-    Ok(event(second, Action::Open { request, key }))
-}
-
-fn look(second: i64, request: u64) -> Event {
-    event(second, Action::LookUp { request })
-}
-
-fn read(second: i64, request: u64) -> Event {
-    event(second, Action::Read { request })
-}
-
-fn drop_it(second: i64, request: u64) -> Event {
-    event(second, Action::Drop { request })
-}
-
-fn purge(alloc: Global, second: i64, name: u8) -> Result<Event, AllocError> {
-    let key = key(alloc, name)?;
-    Ok(event(second, Action::Purge { key }))
+fn pieces(alloc: Global, head: &'static [u8], body: &'static [u8]) -> Result<Pieces, AllocError> {
+    Ok(Pieces::from_vec(vec![in alloc; Bytes::from_static(head), Bytes::from_static(body)]?))
 }
 
 fn put(
     alloc: Global,
-    second: i64,
-    name: u8,
-    pieces: &[&'static [u8]],
-) -> Result<Event, AllocError> {
-    let mut all = Vec::new(alloc);
-    for piece in pieces {
-        all.push(Bytes::from_static(*piece))?;
-    }
-    let pieces = Pieces::from_vec(all);
-    Ok(event(
-        second,
-        Action::Put {
-            key: key(alloc, name)?,
-            pieces,
-        },
-    ))
+    key: CacheKey,
+    head: &'static [u8],
+    body: &'static [u8],
+) -> Result<Action, AllocError> {
+    let pieces = pieces(alloc, head, body)?;
+    Ok(Action::Put { key, pieces })
 }
 
+fn action(alloc: Global, ask: Ask) -> Result<Action, AllocError> {
+    match ask {
+        Ask::Open(request, name, tag) => {
+            let key = tagged(alloc, name, tag)?;
+            Ok(Action::Open { request, key })
+        }
+        Ask::Look(request) => Ok(Action::LookUp { request }),
+        Ask::Read(request) => Ok(Action::Read { request }),
+        Ask::Drop(request) => Ok(Action::Drop { request }),
+        Ask::Purge(name) => {
+            let key = tagged(alloc, name, "")?;
+            Ok(Action::Purge { key })
+        }
+        Ask::Put(name, tag, head, body) => put(alloc, tagged(alloc, name, tag)?, head, body),
+    }
+}
+
+fn event(alloc: Global, second: i64, ask: Ask) -> Result<Event, AllocError> {
+    let moment = Moment::from_seconds(second);
+    let action = action(alloc, ask)?;
+    Ok(Event { moment, action })
+}
+
+fn events(alloc: Global, asks: &[(i64, Ask)]) -> Result<Vec<Event>, AllocError> {
+    let mut all = Vec::new(alloc);
+    for (second, ask) in asks {
+        all.push(event(alloc, *second, *ask)?)?;
+    }
+    Ok(all)
+}
+
+const HUNDRED: &[u8] = b"HTTP/1.1 200 OK\r\nCache-Control: max-age=100\r\n\r\n";
+
 // A put of n bytes, fresh for 100 seconds, as the limits' rows have it.
-fn put_of(alloc: Global, name: u8, n: usize) -> Result<Event, AllocError> {
-    let head = b"HTTP/1.1 200 OK\r\nCache-Control: max-age=100\r\n\r\n";
+fn put_of(name: u8, tag: &'static str, n: usize) -> Ask {
     let body: &'static [u8] = match n {
         0 => b"",
         1 => b"x",
@@ -77,7 +81,7 @@ fn put_of(alloc: Global, name: u8, n: usize) -> Result<Event, AllocError> {
         3 => b"xxx",
         _ => b"xxxxx",
     };
-    put(alloc, 7, name, &[head, body])
+    Ask::Put(name, tag, HUNDRED, body)
 }
 
 // One word or two for each outcome, as a trace has them.
@@ -152,18 +156,21 @@ fn shows(
     assert!(rt; is_one || is_two, "{one:?} or {two:?}");
 }
 
-fn first_answer(alloc: Global) -> Result<String, AllocError> {
-    let head = b"HTTP/1.1 200 OK\r\nCache-Control: max-age=10\r\n\r\n";
-    let events = vec![in alloc;
-        put(alloc, 1000, b'a', &[head, b"abc"])?,
-        open(alloc, 1005, 1, b'a')?,
-        look(1005, 1),
-        read(1005, 1),
-        read(1005, 1),
-        drop_it(1005, 1),
-        open(alloc, 1011, 1, b'a')?,
-        look(1011, 1),
-    ]?;
+const TEN: &[u8] = b"HTTP/1.1 200 OK\r\nCache-Control: max-age=10\r\n\r\n";
+
+const FIRST: &[(i64, Ask)] = &[
+    (1000, Ask::Put(b'a', "", TEN, b"abc")),
+    (1005, Ask::Open(1, b'a', "")),
+    (1005, Ask::Look(1)),
+    (1005, Ask::Read(1)),
+    (1005, Ask::Read(1)),
+    (1005, Ask::Drop(1)),
+    (1011, Ask::Open(1, b'a', "")),
+    (1011, Ask::Look(1)),
+];
+
+fn traced(alloc: Global, asks: &[(i64, Ask)]) -> Result<String, AllocError> {
+    let events = events(alloc, asks)?;
     replay(alloc, 100, None, events.as_slice())
 }
 
@@ -172,8 +179,8 @@ fn answers_a_first_trace(rt: HostRuntime) {
     let alloc = rt.alloc();
     shows(
         &rt,
-        first_answer(alloc),
-        first_answer(alloc),
+        traced(alloc, FIRST),
+        traced(alloc, FIRST),
         "\
         finished 3 evicted=0\n\
         opened\n\
@@ -188,49 +195,55 @@ fn answers_a_first_trace(rt: HostRuntime) {
 }
 
 // Each event in a wrong place, and responses that aren't stored.
-fn refusals(alloc: Global) -> Result<String, AllocError> {
-    let events = vec![in alloc;
-        look(1, 9),
-        drop_it(1, 9),
-        open(alloc, 1, 1, b'a')?,
-        open(alloc, 1, 1, b'b')?,
-        read(1, 1),
-        put_of(alloc, b'a', 0)?,
-        look(1, 1),
-        look(1, 1),
-        read(1, 1),
-        read(1, 1),
-        purge(alloc, 1, b'a')?,
-        purge(alloc, 1, b'a')?,
-        put(
-            alloc,
-            0,
+const REFUSED: &[(i64, Ask)] = &[
+    (1, Ask::Look(9)),
+    (1, Ask::Drop(9)),
+    (1, Ask::Open(1, b'a', "")),
+    (1, Ask::Open(1, b'b', "")),
+    (1, Ask::Read(1)),
+    (7, Ask::Put(b'a', "", HUNDRED, b"")),
+    (1, Ask::Look(1)),
+    (1, Ask::Look(1)),
+    (1, Ask::Read(1)),
+    (1, Ask::Read(1)),
+    (1, Ask::Purge(b'a')),
+    (1, Ask::Purge(b'a')),
+    (
+        0,
+        Ask::Put(
             b'a',
-            &[b"HTTP/1.1 200 OK\r\nCache-Control: max-age=0\r\n\r\n"]
-        )?,
-        put(
-            alloc,
-            1,
+            "",
+            b"HTTP/1.1 200 OK\r\nCache-Control: max-age=0\r\n\r\n",
+            b"",
+        ),
+    ),
+    (
+        1,
+        Ask::Put(
             b'a',
-            &[b"HTTP/1.1 200 OK\r\nCache-Control: no-store\r\n\r\n"]
-        )?,
-        put(
-            alloc,
-            i64::MAX,
+            "",
+            b"HTTP/1.1 200 OK\r\nCache-Control: no-store\r\n\r\n",
+            b"",
+        ),
+    ),
+    (
+        i64::MAX,
+        Ask::Put(
             b'a',
-            &[b"HTTP/1.1 200 OK\r\nCache-Control: max-age=1\r\n\r\n"]
-        )?,
-    ]?;
-    replay(alloc, 100, None, events.as_slice())
-}
+            "",
+            b"HTTP/1.1 200 OK\r\nCache-Control: max-age=1\r\n\r\n",
+            b"",
+        ),
+    ),
+];
 
 #[test]
 fn refuses_by_name(rt: HostRuntime) {
     let alloc = rt.alloc();
     shows(
         &rt,
-        refusals(alloc),
-        refusals(alloc),
+        traced(alloc, REFUSED),
+        traced(alloc, REFUSED),
         "\
         fault NoRequest\n\
         fault NoRequest\n\
@@ -251,6 +264,19 @@ fn refuses_by_name(rt: HostRuntime) {
     );
 }
 
+// The look-up of a key by a request of its own.
+fn look_for(all: &mut Vec<(i64, Ask)>, request: u64, name: u8) -> Result<(), AllocError> {
+    all.push((7, Ask::Open(request, name, "")))?;
+    all.push((7, Ask::Look(request)))?;
+    Ok(())
+}
+
+fn look_and_read(all: &mut Vec<(i64, Ask)>) -> Result<(), AllocError> {
+    look_for(all, 0, b'a')?;
+    all.push((7, Ask::Read(0)))?;
+    Ok(())
+}
+
 // Puts of so many bytes under a, b, c, .. by turns, then look-ups of all.
 fn puts(
     alloc: Global,
@@ -259,20 +285,17 @@ fn puts(
     puts: &[(u8, usize)],
     first_used: bool,
 ) -> Result<String, AllocError> {
-    let mut events = Vec::new(alloc);
+    let mut asks = Vec::new(alloc);
     for (i, (name, length)) in puts.iter().enumerate() {
         if first_used && i == 3 {
-            events.push(open(alloc, 7, 0, b'a')?)?;
-            events.push(look(7, 0))?;
-            events.push(read(7, 0))?;
+            look_and_read(&mut asks)?;
         }
-        events.push(put_of(alloc, *name, *length)?)?;
+        asks.push((7, put_of(*name, "", *length)))?;
     }
     for (name, _) in puts {
-        let request = u64::from(*name);
-        events.push(open(alloc, 7, request, *name)?)?;
-        events.push(look(7, request))?;
+        look_for(&mut asks, u64::from(*name), *name)?;
     }
+    let events = events(alloc, asks.as_slice())?;
     replay(alloc, limit, watermark, events.as_slice())
 }
 
@@ -352,44 +375,40 @@ fn keeps_both_limits(rt: HostRuntime) {
     );
 }
 
-// A put of n bytes under a key and a tag.
-fn tagged_put(alloc: Global, name: u8, tag: &str, n: usize) -> Result<Event, AllocError> {
-    let Event { moment, action } = put_of(alloc, name, n)?;
-    let key = tagged(alloc, name, tag)?;
-    let action = match action {
-        Action::Put { pieces, .. } => Action::Put { key, pieces },
-        other => other,
-    };
-    Ok(Event { moment, action })
+// Of one stored key under two tags both entries weigh, and the eviction of one removes what is stored.
+const TAGS: &[(i64, Ask)] = &[
+    (7, Ask::Put(b'a', "1", HUNDRED, b"xxx")),
+    (7, Ask::Open(1, b'a', "2")),
+    (7, Ask::Look(1)),
+    (7, Ask::Read(1)),
+];
+
+const BEHIND: &[(i64, Ask)] = &[
+    (7, Ask::Put(b'b', "", HUNDRED, b"x")),
+    (7, Ask::Open(2, b'a', "")),
+    (7, Ask::Look(2)),
+    (7, Ask::Open(3, b'b', "")),
+    (7, Ask::Look(3)),
+];
+
+// Takes events, and shows their outcomes and the report behind them.
+fn go_on(text: &mut String, tier: &mut Tier<1>, events: &[Event]) -> Result<(), AllocError> {
+    let mut rng = Pcg32::new(1, 1);
+    if let Ok(outcomes) = tier.run(&mut rng, events) {
+        for outcome in outcomes.as_slice() {
+            show(text, outcome)?;
+        }
+    }
+    show_report(text, tier.report())?;
+    text.push_str("\n")
 }
 
-// Of one stored key under two tags both entries weigh, and the eviction of one removes what is stored.
 fn tags(alloc: Global) -> Result<String, AllocError> {
     let mut text = String::new(alloc);
-    let mut rng = Pcg32::new(1, 1);
     let mut tier = tier(alloc, 4, None)?;
-    let key = tagged(alloc, b'a', "2")?;
-    let first = vec![in alloc;
-        tagged_put(alloc, b'a', "1", 3)?,
-        event(7, Action::Open { request: 1, key }),
-        look(7, 1),
-        read(7, 1),
-    ]?;
-    let behind = vec![in alloc;
-        tagged_put(alloc, b'b', "", 1)?,
-        open(alloc, 7, 2, b'a')?,
-        look(7, 2),
-        open(alloc, 7, 3, b'b')?,
-        look(7, 3),
-    ]?;
-    for events in [first.as_slice(), behind.as_slice()] {
-        if let Ok(outcomes) = tier.run(&mut rng, events) {
-            for outcome in outcomes.as_slice() {
-                show(&mut text, outcome)?;
-            }
-        }
-        show_report(&mut text, tier.report())?;
-        text.push_str("\n")?;
+    for asks in [TAGS, BEHIND] {
+        let events = events(alloc, asks)?;
+        go_on(&mut text, &mut tier, events.as_slice())?;
     }
     Ok(text)
 }
@@ -414,17 +433,27 @@ fn tags_of_one_stored_key_weigh_apart(rt: HostRuntime) {
     );
 }
 
+const OPEN: Ask = Ask::Open(1, b'a', "");
+
+fn look() -> Event {
+    Event {
+        moment: Moment::from_seconds(7),
+        action: Action::LookUp { request: 1 },
+    }
+}
+
 // A tier with a body of two bytes under each name, and request 1 open for a where that is asked, if no allocation failed on
 // the way.
 fn fixture(alloc: Global, limit: usize, names: &[u8], is_open: bool) -> Option<Tier<1>> {
     let mut rng = Pcg32::new(1, 1);
     let mut tier = tier(alloc, limit, None).ok()?;
     for name in names {
-        let put = put_of(alloc, *name, 2).ok()?;
+        let put = event(alloc, 7, put_of(*name, "", 2)).ok()?;
         let _ = tier.step(&mut rng, &put).ok()?;
     }
     if is_open {
-        let _ = tier.step(&mut rng, &open(alloc, 7, 1, b'a').ok()?).ok()?;
+        let open = event(alloc, 7, OPEN).ok()?;
+        let _ = tier.step(&mut rng, &open).ok()?;
     }
     Some(tier)
 }
@@ -452,14 +481,14 @@ fn a_put_without_memory_leaves_all(rt: HostRuntime) {
     let Some(mut tier) = fixture(alloc, 4, b"a", true) else {
         return;
     };
-    let Ok(put) = put_of(alloc, b'b', 5) else {
+    let Ok(put) = event(alloc, 7, put_of(b'b', "", 5)) else {
         return;
     };
     let before = tier.report();
     let outcome = tier.step(&mut rng, &put);
     if is_memory(&outcome) {
         assert_eq!(rt; tier.report(), before);
-        assert!(rt; is_found(&tier.step(&mut rng, &look(7, 1))));
+        assert!(rt; is_found(&tier.step(&mut rng, &look())));
         return;
     }
     match &outcome {
@@ -478,21 +507,21 @@ fn an_open_without_memory_leaves_all(rt: HostRuntime) {
     let Some(mut tier) = fixture(alloc, 4, b"a", false) else {
         return;
     };
-    let Ok(open) = open(alloc, 7, 1, b'a') else {
+    let Ok(open) = event(alloc, 7, OPEN) else {
         return;
     };
     let before = tier.report();
     let outcome = tier.step(&mut rng, &open);
     if is_memory(&outcome) {
         assert_eq!(rt; tier.report(), before);
-        match tier.step(&mut rng, &look(7, 1)) {
+        match tier.step(&mut rng, &look()) {
             Err(TierFault::NoRequest) => {}
             other => panic!(&rt; "{other:?}"),
         }
         return;
     }
     assert!(rt; outcome.is_ok());
-    assert!(rt; is_found(&tier.step(&mut rng, &look(7, 1))));
+    assert!(rt; is_found(&tier.step(&mut rng, &look())));
 }
 
 #[test]
@@ -503,10 +532,10 @@ fn a_look_without_memory_leaves_all(rt: HostRuntime) {
         return;
     };
     let before = tier.report();
-    let mut outcome = tier.step(&mut rng, &look(7, 1));
+    let mut outcome = tier.step(&mut rng, &look());
     if is_memory(&outcome) {
         assert_eq!(rt; tier.report(), before);
-        outcome = tier.step(&mut rng, &look(7, 1));
+        outcome = tier.step(&mut rng, &look());
     }
     assert!(rt; is_found(&outcome));
 }
@@ -519,10 +548,14 @@ fn a_read_takes_no_memory(rt: HostRuntime) {
     let Some(mut tier) = fixture(alloc, 4, b"a", true) else {
         return;
     };
-    if !is_found(&tier.step(&mut rng, &look(7, 1))) {
+    if !is_found(&tier.step(&mut rng, &look())) {
         return;
     }
-    match tier.step(&mut rng, &read(7, 1)) {
+    let read = Event {
+        moment: Moment::from_seconds(7),
+        action: Action::Read { request: 1 },
+    };
+    match tier.step(&mut rng, &read) {
         Ok(Answer::Bytes(bytes)) => assert_eq!(rt; bytes.as_slice(), b"xx".as_slice()),
         other => panic!(&rt; "{other:?}"),
     }
@@ -536,7 +569,7 @@ fn a_run_without_memory_does_nothing(rt: HostRuntime) {
         return;
     };
     let before = tier.report();
-    match tier.run(&mut rng, &[look(7, 1)]) {
+    match tier.run(&mut rng, &[look()]) {
         Ok(outcomes) => assert_eq!(rt; outcomes.len(), 1),
         Err(_) => assert_eq!(rt; tier.report(), before),
     }
@@ -548,13 +581,13 @@ fn goes_through(alloc: Global) -> bool {
     let Some(mut tier) = fixture(alloc, 8, b"abcd", true) else {
         return false;
     };
-    let Ok(put) = put_of(alloc, b'e', 5) else {
-        return false;
-    };
-    let Ok(open) = open(alloc, 7, 2, b'e') else {
-        return false;
-    };
-    let Ok(events) = vec![in alloc; put, open, look(7, 2), read(7, 2)] else {
+    let asks = [
+        (7, put_of(b'e', "", 5)),
+        (7, Ask::Open(2, b'e', "")),
+        (7, Ask::Look(2)),
+        (7, Ask::Read(2)),
+    ];
+    let Ok(events) = events(alloc, &asks) else {
         return false;
     };
     match tier.run(&mut rng, events.as_slice()) {
