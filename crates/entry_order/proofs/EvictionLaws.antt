@@ -123,19 +123,13 @@ pub begun : (name : ℕ → Option CompactCacheKey) (old new : Core CompactCache
     → Evicts 1 old pairs s new rest → is_core_over new ≡ true → IsBegunEviction old.limit old.watermark (tracked (rows_at old.shards 0)) (map (λ p. p.0) pairs)
 begun = evicted IsBegunEviction true (λ limit mark rows h. h) (λ limit mark rows e es a b c. (a, b, c))
 
-pub IsKept-left : (name now : ℕ → Option CompactCacheKey) (core new : Core CompactCacheKey) (mark : Option ℕ) (es : List CompactCacheKey) → IsKept name core mark → IsLeft name core new es
-    → ((i : ℕ) → now i ≡ unless_any es (name i)) → IsKept now new mark
-IsKept-left name now core new mark es h l same = record {
+pub IsKept-left : (name now : ℕ → Option CompactCacheKey) (core new : Core CompactCacheKey) (es : List CompactCacheKey) → IsKept name core → IsLeft name core new es
+    → ((i : ℕ) → now i ≡ unless_any es (name i)) → IsKept now new
+IsKept-left name now core new es h l same = record {
   single = l.single;
   named = IsNamed-same (λ i. unless_any es (name i)) now (rows_at new.shards 0) same l.named;
-  marked = l.marked ∙ h.marked;
 }
 
 pub order-left : (name : ℕ → Option CompactCacheKey) (core new : Core CompactCacheKey) (es : List CompactCacheKey) → IsLeft name core new es
     → order_in new ≡ record (order_in core) { rows = without_rows es (order_in core).rows }
 order-left name core new es l = rw (l.rows, l.limit, l.marked) refl
-
--- steps of eviction keep the watermark
-pub watermark-evicted : (n : ℕ) (old new : Core CompactCacheKey) (pairs : List (CompactCacheKey × ℕ)) (s rest : Stream) → Evicts n old pairs s new rest → new.watermark ≡ old.watermark
-watermark-evicted n old new [] s rest e = ap (λ c. c.watermark) e.0
-watermark-evicted n old new (pair ∷ pairs) s rest e = watermark-evicted n e.0 new pairs (next_u64 (next_u64 s).1).1 rest e.2 ∙ e.1.1.2

@@ -17,8 +17,7 @@ pub record IsNamed (name : ℕ → Option CompactCacheKey) (rows : List (Row Com
   pub named : AreNamed name rows
   pub known : (k : ℕ) (e : CompactCacheKey) → name k ≡ Some e → (w : ℕ) × (only k rows ≡ a_row k e w ∷ [])
 
--- a core of one shard, whose rows are named, with this watermark
-pub record IsKept (name : ℕ → Option CompactCacheKey) (core : Core CompactCacheKey) (mark : Option ℕ) : Type 0 where
+-- a core of one shard, whose rows are named
+pub record IsKept (name : ℕ → Option CompactCacheKey) (core : Core CompactCacheKey) : Type 0 where
   pub single : core.shards ≡ rows_at core.shards 0 ∷ []
   pub named : IsNamed name (rows_at core.shards 0)
-  pub marked : core.watermark ≡ mark

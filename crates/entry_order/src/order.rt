@@ -3,7 +3,7 @@
 ghost use Rattle.std.specs.Prelude.{◌≡◌, ◌≢◌, ℕ, ◌+◌, ◌%◌, ◌^◌, ◌<◌, ◌≤◌, ◌∷◌, [], length, map, max, true, false, Some, None, IfOk, IfErr, OnOk, OnErr, IsOk, slice_set};
 ghost use Rattle.std.specs.List.{All};
 ghost use Rattle.lru_core.specs.Rows.{only, others, weight_of as rows_weight, a_row};
-ghost use Rattle.lru_core.specs.Cores.{rows_at, core_weight, is_over as is_core_over, Evicts};
+ghost use Rattle.lru_core.specs.Cores.{rows_at, core_weight};
 ghost use Rattle.tier_entries.specs.Keys.{entry_of};
 ghost use Rattle.tier_entries.specs.Rows.{weight_of, all_weights, without_row, without_rows, admitted, used, IsLawfulEviction, IsBegunEviction};
 ghost use Rattle.entry_order.specs.Orders.{AreDistinct, IsDrawn};
@@ -42,8 +42,6 @@ impl From<AllocError> for OrderFault {
 pub struct EntryOrder {
     names: Names,
     core: LruCore<CompactCacheKey, 1>,
-    /// The core's own, which it doesn't tell.
-    watermark: Option<usize>,
 }
 
 impl Model for EntryOrder {
@@ -55,7 +53,7 @@ impl Model for EntryOrder {
 
     ghost view = { λ o. order_in o.core };
 
-    ghost invariant = { λ o. IsKept (name_at o.names) o.core o.watermark };
+    ghost invariant = { λ o. IsKept (name_at o.names) o.core };
 }
 
 impl EntryOrder {
@@ -72,7 +70,6 @@ impl EntryOrder {
         Ok(EntryOrder {
             names: Names::new(alloc),
             core,
-            watermark,
         })
     }
 
@@ -173,7 +170,7 @@ impl EntryOrder {
         ensures drawn { IfOk result (λ v. IsDrawn self.old (map (λ p. p.0) v.items) (R.stream rng.old) self.new (R.stream rng.new)) }
         ensures begun_drawn { IfErr result (λ v. IsDrawn self.old (map (λ p. p.0) v.items) (R.stream rng.old) self.new (R.stream rng.new)) }
     {
-        match evict_rows(&mut self.core, self.watermark, alloc, rng) {
+        match self.core.evict_to_limit(alloc, rng) {
             Ok(pairs) => {
                 self.names.take_back_all(&pairs);
                 Ok(pairs)
@@ -233,44 +230,4 @@ fn take_out(core: &mut LruCore<CompactCacheKey, 1>, number: u64)
     ensures { core.new ≡ record core.old { shards = slice_set core.old.shards (number % 1) (others number (rows_at core.old.shards (number % 1))) } }
 {
     let _row = core.remove(number);
-}
-
-/// Whether the weight is past the limit, or the number of rows past the watermark.
-fn is_over(core: &LruCore<CompactCacheKey, 1>, watermark: Option<usize>) -> bool
-    requires { core.now.watermark ≡ watermark }
-    ensures { result ≡ is_core_over core.now }
-{
-    if core.weight() > core.weight_limit() {
-        return true;
-    }
-    match watermark {
-        Some(mark) => core.len() > mark,
-        None => false,
-    }
-}
-
-/// Evicts rows until neither limit is passed. The core doesn't say of a refusal that a limit is still passed, so it is
-/// looked at.
-fn evict_rows<R: Rng>(
-    core: &mut LruCore<CompactCacheKey, 1>,
-    watermark: Option<usize>,
-    alloc: Global,
-    rng: &mut R,
-) -> Result<Vec<(CompactCacheKey, usize)>, Vec<(CompactCacheKey, usize)>>
-    requires { core.old.watermark ≡ watermark }
-    ensures whole { IfOk result (λ v. Evicts 1 core.old v.items (R.stream rng.old) core.new (R.stream rng.new)) }
-    ensures within { OnOk result (is_core_over core.new ≡ false) }
-    ensures begun { IfErr result (λ v. Evicts 1 core.old v.items (R.stream rng.old) core.new (R.stream rng.new)) }
-    ensures over { OnErr result (is_core_over core.new ≡ true) }
-{
-    match core.evict_to_limit(alloc, rng) {
-        Ok(pairs) => Ok(pairs),
-        Err(pairs) => {
-            if is_over(core, watermark) {
-                Err(pairs)
-            } else {
-                Ok(pairs)
-            }
-        }
-    }
 }

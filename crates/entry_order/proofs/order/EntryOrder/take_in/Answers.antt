@@ -8,32 +8,32 @@ use Rattle.entry_order.proofs.order.EntryOrder.take_in.Goals as goal
 
 pub invariant_of-self-in_err-name : goal.invariant_of-self-in_err-name
 invariant_of-self-in_err-name c =
-    IsKept-same (name_at c.self.inside.names) (name_at c.free_number.new.self) c.self.inside.core c.self.inside.core c.self.inside.watermark c.self.invariant c.free_number.ensures.same refl
+    IsKept-same (name_at c.self.inside.names) (name_at c.free_number.new.self) c.self.inside.core c.self.inside.core c.self.invariant c.free_number.ensures.same refl
 
 pub invariant_of-self-in_err-put_first : goal.invariant_of-self-in_err-put_first
 invariant_of-self-in_err-put_first c =
-    IsKept-same (name_at c.self.inside.names) (name_at c.free_number.new.self) c.self.inside.core c.put_first.new.core c.self.inside.watermark c.self.invariant c.free_number.ensures.same c.in_err-put_first.ensures.err
+    IsKept-same (name_at c.self.inside.names) (name_at c.free_number.new.self) c.self.inside.core c.put_first.new.core c.self.invariant c.free_number.ensures.same c.in_err-put_first.ensures.err
 
 pub returns-in_err-put_first-clause-heavy : goal.returns-in_err-put_first-clause-heavy
 returns-in_err-put_first-clause-heavy c =
-    let none = HasNoNumber-untracked (name_at c.self.inside.names) (name_at c.self.inside.names) c.self.inside.core c.self.inside.watermark c.args.entry c.args.entry c.self.invariant (rw (← c.self.view_is) at c.requires) (λ i. refl) refl in
-    let rest = all_weights-others (name_at c.self.inside.names) c.self.inside.core c.self.inside.watermark c.in_ok-number.number c.args.entry c.self.invariant
+    let none = HasNoNumber-untracked (name_at c.self.inside.names) (name_at c.self.inside.names) c.self.inside.core c.args.entry c.args.entry c.self.invariant (rw (← c.self.view_is) at c.requires) (λ i. refl) refl in
+    let rest = all_weights-others (name_at c.self.inside.names) c.self.inside.core c.in_ok-number.number c.args.entry c.self.invariant
     (IsNumber-free (name_at c.self.inside.names) c.in_ok-number.number c.args.entry c.in_ok-number.ensures.least.0 none) in
     rw (← c.self.view_is) (grind (arith, common_steps))
 
 pub give-requires-clause-unnamed : goal.give-requires-clause-unnamed
 give-requires-clause-unnamed c =
-    HasNoNumber-untracked (name_at c.self.inside.names) (name_at c.free_number.new.self) c.self.inside.core c.self.inside.watermark c.args.entry c.in_ok-name.name c.self.invariant (rw (← c.self.view_is) at c.requires) c.free_number.ensures.same c.in_ok-name.ensures
+    HasNoNumber-untracked (name_at c.self.inside.names) (name_at c.free_number.new.self) c.self.inside.core c.args.entry c.in_ok-name.name c.self.invariant (rw (← c.self.view_is) at c.requires) c.free_number.ensures.same c.in_ok-name.ensures
 
 pub invariant_of-self-2 : goal.invariant_of-self-2
 invariant_of-self-2 c =
-    let none = HasNoNumber-untracked (name_at c.self.inside.names) (name_at c.self.inside.names) c.self.inside.core c.self.inside.watermark c.args.entry c.args.entry c.self.invariant (rw (← c.self.view_is) at c.requires) (λ i. refl) refl in
-    IsKept-given (name_at c.self.inside.names) (name_at c.give.new.self) c.self.inside.core c.self.inside.watermark c.args.entry c.self.invariant none c.in_ok-number.number (max 1 c.args.weight) c.put_first.new.core
+    let none = HasNoNumber-untracked (name_at c.self.inside.names) (name_at c.self.inside.names) c.self.inside.core c.args.entry c.args.entry c.self.invariant (rw (← c.self.view_is) at c.requires) (λ i. refl) refl in
+    IsKept-given (name_at c.self.inside.names) (name_at c.give.new.self) c.self.inside.core c.args.entry c.self.invariant none c.in_ok-number.number (max 1 c.args.weight) c.put_first.new.core
     (c.give.ensures.named ∙ ap (λ (x : CompactCacheKey). Some x) c.in_ok-name.ensures)
     (λ i n. c.give.ensures.others i n ∙ c.free_number.ensures.same i) c.in_ok-put_first.ensures.ok
 
 pub returns-clause-ok : goal.returns-clause-ok
 returns-clause-ok c =
-    let none = HasNoNumber-untracked (name_at c.self.inside.names) (name_at c.self.inside.names) c.self.inside.core c.self.inside.watermark c.args.entry c.args.entry c.self.invariant (rw (← c.self.view_is) at c.requires) (λ i. refl) refl in
-    rw (← c.self.view_is) (order-front (name_at c.self.inside.names) (name_at c.self.inside.names) c.self.inside.core c.put_first.new.core c.self.inside.watermark c.in_ok-number.number c.args.entry c.self.invariant (max 1 c.args.weight)
+    let none = HasNoNumber-untracked (name_at c.self.inside.names) (name_at c.self.inside.names) c.self.inside.core c.args.entry c.args.entry c.self.invariant (rw (← c.self.view_is) at c.requires) (λ i. refl) refl in
+    rw (← c.self.view_is) (order-front (name_at c.self.inside.names) (name_at c.self.inside.names) c.self.inside.core c.put_first.new.core c.in_ok-number.number c.args.entry c.self.invariant (max 1 c.args.weight)
     (IsNumber-free (name_at c.self.inside.names) c.in_ok-number.number c.args.entry c.in_ok-number.ensures.least.0 none) c.in_ok-put_first.ensures.ok)
