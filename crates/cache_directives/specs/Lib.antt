@@ -13,3 +13,4 @@ pub mod Control
 pub mod Lifetime
 pub mod Cacheable
 pub mod ErrorNames
+pub mod Lines

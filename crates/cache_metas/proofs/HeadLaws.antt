@@ -19,7 +19,8 @@ use Rattle.cache_words.proofs.ReadingLaws.{IsBytes, Agrees, bind_ok, ok_is, one_
 use Rattle.cache_words.proofs.FormLaws.{number_agrees, are_numbers, are_arrays}
 use Rattle.cache_words.proofs.ValueLaws.{array_skips, text_agrees, bytes_agrees}
 use Rattle.cache_directives.specs.declared.header.ResponseHeader.{ResponseHeader}
-use Rattle.cache_metas.specs.Head.{Line, pair_of, IsLine, SpellsLine, SpellLines, SpellsHead, BeginsWithHead, most_names}
+use Rattle.cache_directives.specs.Lines.{Line, pair_of, IsLine}
+use Rattle.cache_metas.specs.Head.{SpellsLine, SpellLines, SpellsHead, BeginsWithHead, most_names}
 use Rattle.cache_metas.specs.declared.fault.MetaReadFault.{MetaReadFault}
 use Rattle.cache_metas.specs.InternalReading.{value_of}
 use Rattle.cache_metas.specs.HeadReading.{Gives, is_name, is_value, field_name_of, field_value_of, line_at, with_line, lines_at, status_at, head_at}

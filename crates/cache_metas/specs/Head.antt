@@ -1,30 +1,14 @@
 -- The head of a response as MessagePack: which texts spell it, and which of these is written.
 use Rattle.std.specs.Prelude.{◌≡◌, ℕ, ◌^◌, ◌<◌, ◌≤◌, List, [], ◌∷◌, ◌++◌, length, map, flat_map, All}
 use Rattle.http.specs.StatusCode.{IsStatusCode}
-use Rattle.http_header.specs.HeaderMap.{Entries, append_all, pairs, IsHeaderMap}
-use Rattle.http_header.specs.FieldName.{IsFieldName, IsHeaderName}
+use Rattle.http_header.specs.HeaderMap.{Entries, pairs, IsHeaderMap}
+use Rattle.http_header.specs.FieldName.{IsHeaderName}
 use Rattle.http_header.specs.FieldValue.{FieldValue, plain_value, IsFieldValue}
-use Rattle.http_header.specs.Token.{lowercase}
 use Rattle.cache_words.specs.Forms.{Stands, shortest, numbers, arrays}
 use Rattle.cache_words.specs.Pack.{SpellsText, SpellsBytes, text_of, bytes_of}
+use Rattle.cache_directives.specs.Lines.{Line, map_of, IsLine}
 use Rattle.cache_directives.specs.declared.header.ResponseHeader.{ResponseHeader}
 use Rattle.cache_metas.specs.Items.{SpellBoth, SpellItems}
-
--- a line: its name in any case, and its value
-abbrev pub Line : Type 0
-Line = List ℕ × List ℕ
-
--- the line as a map keeps it
-abbrev pub pair_of : Line → List ℕ × FieldValue
-pair_of line = (lowercase line.0, plain_value line.1)
-
--- the map that lines give
-abbrev pub map_of : List Line → Entries FieldValue
-map_of lines = append_all [] (map pair_of lines)
-
--- a name and a value that a map takes
-abbrev pub IsLine : Line → Type 0
-IsLine line = IsFieldName line.0 × IsFieldValue line.1
 
 -- a line: an array of its name as a text and its value as a byte string
 abbrev pub SpellsLine : Line → List ℕ → Type 0

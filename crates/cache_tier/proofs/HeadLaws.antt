@@ -25,7 +25,8 @@ use Rattle.tier_model.specs.declared.given.Given.{Given}
 use Rattle.tier_model.specs.declared.given.Given.TheVariants.{Stored, Incomplete, BadHead}
 use Rattle.tier_model.specs.Response.{values_of, is_before_epoch, body_within, given_of, given_by, IsReadable, IsPlain, Gives}
 use Rattle.cache_tier.specs.declared.response.Head.{Head}
-use Rattle.cache_tier.specs.Heads.{pair_of, map_of, IsLine, announced, kept_until, given_behind, IsHeadOf}
+use Rattle.cache_directives.specs.Lines.{pair_of, map_of, IsLine}
+use Rattle.cache_tier.specs.Heads.{announced, kept_until, given_behind, IsHeadOf}
 use Rattle.std.specs.Prelude.{option_map, option_copied}
 use Rattle.std.specs.Borrow.{Bor}
 use Rattle.cache_directives.specs.Written.{Written}

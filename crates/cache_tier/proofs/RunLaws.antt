@@ -17,7 +17,7 @@ use Rattle.tier_model.specs.Step.{AllowsBy, IsGiven, IsPutAnswer, IsFault, refus
 use Rattle.tier_model.specs.Past.{Steps, Runs}
 use Rattle.rand_core.specs.Stream.{Stream}
 use Rattle.entry_order.specs.Orders.{Order, IsDrawn}
-use Rattle.cache_tier.specs.Draws.{order_behind, AreDrawn, StepsBy, RunsBy}
+use Rattle.cache_tier.specs.Draws.{order_behind, StepsBy, RunsBy}
 use Rattle.cache_tier.specs.Acts.{AllowsUnrefused, after_action, TakesBy, IsRefusal, behind_store}
 
 -- a body is stored that the response of a put gave

@@ -1,6 +1,6 @@
 -- Bodies and rows behind a storing, its evictions, and its taking back.
 use Rattle.std.proofs.Common.{◌≡◌, ℕ, ◌+◌, ◌≤◌, ◌<◌, ◌^◌, Bool, true, false, List, [], ◌∷◌, ◌++◌, length, map, refl, ap, ap₂, sym, ◌∙◌, arith, append-nil, cond, Some, None, Option, Ok, Err, IfOk, IfErr, subst, max, ◌≢◌}
-use Rattle.std.specs.Prelude.{not, filter, nat_le, unwrap_or, is_some, option_map}
+use Rattle.std.specs.Prelude.{not, filter, unwrap_or}
 use Rattle.std.proofs.lemmas.List.Elements.{filter-append}
 use Rattle.std.proofs.lemmas.List.Sums.{sum_by-cons}
 use Rattle.std.proofs.lemmas.Bool.Decides.{nat_tests}
@@ -10,7 +10,7 @@ use Rattle.lru_core.specs.Rows.{a_row}
 use Rattle.lru_core.specs.Cores.{Core}
 use Rattle.tier_entries.specs.declared.rows.Tracked.{Tracked}
 use Rattle.tier_entries.specs.Keys.{stored_key, same_key, same_entry}
-use Rattle.tier_entries.specs.Rows.{row_of, weight_of, without_row, without_rows, all_weights, admitted, used, IsLawfulEviction, IsBegunEviction}
+use Rattle.tier_entries.specs.Rows.{weight_of, without_row, without_rows, all_weights, admitted, used, IsLawfulEviction, IsBegunEviction}
 use Rattle.tier_entries.proofs.KeyLaws.{same_key-tells, same_entry-tells}
 use Rattle.entry_order.specs.declared.order.OrderFault.{OrderFault}
 use Rattle.entry_order.specs.declared.order.OrderFault.TheVariants as order

@@ -1,5 +1,5 @@
 -- One action at a moment: the outcomes that a state allows behind the checks, and the state behind an outcome.
-use Rattle.std.specs.Prelude.{◌≡◌, ℕ, Option, Some, None, Ok, Err, ◌⊎◌}
+use Rattle.std.specs.Prelude.{◌≡◌, Option, Some, None, Ok, Err, ◌⊎◌}
 use Rattle.cache_words.specs.Time.{Instant}
 use Rattle.tier_model.specs.declared.rows.FinishedBody.{FinishedBody}
 use Rattle.tier_model.specs.declared.event.Done.{Done}

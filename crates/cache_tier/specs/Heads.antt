@@ -1,31 +1,16 @@
 -- Heads as a map of their lines, and what a response gives by it.
-use Rattle.std.specs.Prelude.{◌≡◌, ℕ, ◌==◌, ◌||◌, false, List, [], drop, map, codes, if◌then◌else◌, Option, Some, None}
+use Rattle.std.specs.Prelude.{◌≡◌, ℕ, ◌==◌, ◌||◌, false, List, drop, map, codes, if◌then◌else◌, Option, Some, None}
 use Rattle.cache_words.specs.Time.{Instant}
 use Rattle.cache_directives.specs.Control.{lines_under}
+use Rattle.cache_directives.specs.Lines.{map_of}
 use Rattle.cache_directives.specs.declared.header.ResponseHeader.{ResponseHeader}
 use Rattle.cache_heads.specs.FreshUntil.{fresh_until}
-use Rattle.http_header.specs.HeaderMap.{Entries, append_all}
-use Rattle.http_header.specs.FieldName.{IsFieldName}
-use Rattle.http_header.specs.FieldValue.{FieldValue, plain_value, IsFieldValue}
-use Rattle.http_header.specs.Token.{lowercase}
 use Rattle.httparse.specs.Grammar.{ResponseHead, ReadsResponse, status_code}
 use Rattle.httparse.specs.Spans.{name_and_value}
 use Rattle.tier_model.specs.Keys.{Entry}
 use Rattle.tier_model.specs.declared.given.Given.{Given}
 use Rattle.tier_model.specs.Response.{first_length, body_within, given_of}
 use Rattle.cache_tier.specs.declared.response.Head.{Head}
-
--- a line's name in lower case, with its value
-abbrev pub pair_of : List ℕ × List ℕ → List ℕ × FieldValue
-pair_of line = (lowercase line.0, plain_value line.1)
-
--- the map of header lines
-abbrev pub map_of : List (List ℕ × List ℕ) → Entries FieldValue
-map_of lines = append_all [] (map pair_of lines)
-
--- a name and a value that a map takes
-abbrev pub IsLine : List ℕ × List ℕ → Type 0
-IsLine line = IsFieldName line.0 × IsFieldValue line.1
 
 -- how many bytes of body a head announces
 abbrev pub announced : ResponseHeader → Option ℕ

@@ -3,9 +3,8 @@ use Rattle.std.proofs.Common.{◌≡◌, refl, ap, sym, ◌∙◌, true, false, 
 use Rattle.std.specs.Prelude.{ℕ, List, Option, Some, None, is_some, Ok, Err, MatchOption}
 use Rattle.std.specs.FinMap.{get}
 use Rattle.cache_words.specs.Time.{Instant}
-use Rattle.cache_words.specs.Key.{FullKey}
 use Rattle.tier_entries.specs.Keys.{stored_key}
-use Rattle.tier_model.specs.Keys.{StoredKey, Entry, key_asked}
+use Rattle.tier_model.specs.Keys.{StoredKey, key_asked}
 use Rattle.tier_model.specs.declared.given.Given.{Given}
 use Rattle.tier_model.specs.declared.rows.FinishedBody.{FinishedBody}
 use Rattle.tier_model.specs.declared.rows.Request.{Request}

@@ -8,7 +8,7 @@ use Rattle.tier_entries.specs.declared.rows.Tracked.{Tracked}
 use Rattle.tier_entries.specs.Keys.{entry_of, stored_key, same_entry, has_entry}
 use Rattle.tier_entries.specs.Rows.{row_of, weight_of, without_row, without_rows, admitted, used, IsBegunEviction}
 use Rattle.tier_entries.proofs.KeyLaws.{same_entry-tells}
-use Rattle.tier_model.specs.Keys.{StoredKey, Entry, key_asked}
+use Rattle.tier_model.specs.Keys.{Entry, key_asked}
 use Rattle.tier_model.specs.declared.given.Given.{Given}
 use Rattle.tier_model.specs.declared.given.Given.TheVariants.{Stored}
 use Rattle.tier_model.specs.declared.given.Given.TheVariants as given
@@ -25,11 +25,11 @@ use Rattle.tier_model.specs.declared.event.Answer.TheVariants as answer
 use Rattle.tier_model.specs.declared.event.Done.{Done}
 use Rattle.tier_model.specs.declared.event.TierFault.{TierFault}
 use Rattle.tier_model.specs.Histories.{IsBody}
-use Rattle.tier_model.specs.Calls.{Call, History, Outcome, stored_in, opened_for, written_by, nothing_done, done_of, evicted_by, evicted_before}
-use Rattle.tier_model.specs.Use.{is_for, is_under, admits, hits_entry, uses, departs, use_chosen, last_use, is_tracked, WeighsBy, Weighs, IsOrderOfUse, IsOrderBehind, EvictsBy, BodiesAreTracked}
+use Rattle.tier_model.specs.Calls.{Call, History, Outcome, stored_in, opened_for, written_by, nothing_done, done_of, evicted_before}
+use Rattle.tier_model.specs.Use.{is_for, is_under, admits, hits_entry, uses, departs, use_chosen, last_use, is_tracked, WeighsBy, Weighs, IsOrderOfUse, EvictsBy, BodiesAreTracked}
 use Rattle.tier_model.specs.Rows.{body_of, weight_for}
 use Rattle.tier_model.specs.State.{State}
-use Rattle.tier_model.specs.Step.{refusal, AllowsBy, Allows, IsAnswer, IsPutAnswer, IsPutFault, IsStoreFault, IsCutShort, all_done, after, answered, undone, taken_back, on_request, look_answer, look_behind, read_answer, read_behind, purge_behind, put_behind, use_is_too_heavy, body_for}
+use Rattle.tier_model.specs.Step.{refusal, AllowsBy, Allows, IsAnswer, IsPutAnswer, IsPutFault, after, answered, undone, taken_back, on_request, look_answer, look_behind, read_answer, read_behind, purge_behind, put_behind, use_is_too_heavy, body_for}
 use Rattle.tier_model.proofs.BodyLaws.{body_now-is, body_now-of}
 use Rattle.tier_model.proofs.StepLaws.{call_at, answer_allowed, did_nothing, both_none}
 use Rattle.tier_model.proofs.RequestLaws.{Fits, of_request}

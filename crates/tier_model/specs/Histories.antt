@@ -1,5 +1,5 @@
 -- What stands behind a history of calls: writes that are alive, and what a key has.
-use Rattle.std.specs.Prelude.{◌≡◌, ℕ, ◌≤◌, nat_lt, Bool, true, false, List, [], ◌∷◌, ◌++◌, length, Option, Some, None}
+use Rattle.std.specs.Prelude.{◌≡◌, ℕ, ◌≤◌, true, false, List, [], ◌∷◌, ◌++◌, length, Option, Some}
 use Rattle.std.specs.List.{AllByRecursion, sum_by}
 use Rattle.tier_entries.specs.Keys.{stored_key, same_key}
 use Rattle.tier_entries.specs.Rows.{is_past}

@@ -1,4 +1,4 @@
-use Rattle.std.proofs.Common.{◌≡◌, Some, sym, ap, ◌∙◌}
+use Rattle.std.proofs.Common.{◌≡◌, sym, ap, ◌∙◌}
 use Rattle.tier_model.specs.declared.rows.Reader.{Reader}
 use Rattle.tier_model.specs.Step.{read_answer}
 use Rattle.cache_tier.proofs.tier.Tier+1.read.Goals as goal
