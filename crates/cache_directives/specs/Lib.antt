@@ -12,5 +12,3 @@ pub mod Entries
 pub mod Control
 pub mod Lifetime
 pub mod Cacheable
-pub mod ErrorNames
-pub mod Lines

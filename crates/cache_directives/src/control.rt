@@ -10,12 +10,11 @@ ghost use Rattle.cache_directives.specs.Listed.{listed};
 ghost use Rattle.cache_directives.specs.NamesLeft.{names_left};
 ghost use Rattle.cache_directives.specs.Control.{directives_of, lines_under, named};
 
-use crate::error::{Error, ErrorType};
-use crate::header::{RequestHeader, ResponseHeader};
 use crate::key::DirectiveKey;
 use crate::map::{DirectiveMap, from_fields};
 use crate::names::ListValueIter;
 use crate::value::DirectiveValue;
+use cache_headers::{Error, ErrorType, RequestHeader, ResponseHeader};
 use http_header::HeaderMap;
 use std::alloc::{AllocError, Global};
 

@@ -9,10 +9,9 @@ ghost use Rattle.cache_directives.specs.Lifetime.{allows_authorized, lifetime, s
 ghost use Rattle.cache_directives.specs.NamesLeft.{names_left};
 
 use crate::control::CacheControl;
-use crate::error::Error;
-use crate::header::ResponseHeader;
 use crate::key::DirectiveKey;
 use crate::names::ListValueIter;
+use cache_headers::{Error, ResponseHeader};
 use cache_words::time::Duration;
 
 /// Whether a response may be stored, by its directives alone.

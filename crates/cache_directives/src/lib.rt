@@ -3,9 +3,7 @@
 #![tactic(auto)]
 
 pub mod control;
-pub mod error;
 mod found;
-pub mod header;
 pub mod interpret;
 pub mod key;
 pub mod laws;
@@ -17,10 +15,9 @@ pub mod names;
 mod tests;
 pub mod value;
 
+pub use cache_headers::{Error, ErrorType, RequestHeader, ResponseHeader};
 pub use cache_words::time::DELTA_SECONDS_OVERFLOW_DURATION;
 pub use control::CacheControl;
-pub use error::{Error, ErrorType};
-pub use header::{RequestHeader, ResponseHeader};
 pub use interpret::{Cacheable, InterpretCacheControl};
 pub use key::DirectiveKey;
 pub use map::DirectiveMap;

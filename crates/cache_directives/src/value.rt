@@ -5,7 +5,7 @@ ghost use Rattle.std.specs.Str.{IsUtf8};
 ghost use Rattle.cache_directives.specs.Seconds.{bare, seconds_from, digits, seconds_of, delta_seconds};
 
 use crate::DELTA_SECONDS_OVERFLOW_VALUE;
-use crate::error::{Error, ErrorType};
+use cache_headers::{Error, ErrorType};
 use std::str;
 
 /// A directive's value as it is written, with its quotes.

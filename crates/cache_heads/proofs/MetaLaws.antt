@@ -1,6 +1,6 @@
 -- Metas that are written are read again, and halves begin with one meta at most.
 use Rattle.std.proofs.Common.{◌≡◌, ℕ, List, ◌++◌, Ok, refl, sym, ap₂, ◌∙◌}
-use Rattle.cache_directives.specs.declared.header.ResponseHeader.{ResponseHeader}
+use Rattle.cache_headers.specs.declared.header.ResponseHeader.{ResponseHeader}
 use Rattle.cache_metas.specs.declared.versions.InternalMetaV2.{InternalMetaV2}
 use Rattle.cache_metas.specs.Head.{written_head}
 use Rattle.cache_metas.specs.Internal.{written_meta}

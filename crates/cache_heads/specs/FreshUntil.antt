@@ -2,7 +2,7 @@
 -- moment, or none (RFC 9111, 3.5, 4.2.1, 5.2.2 and 5.3).
 use Rattle.std.specs.Prelude.{ℕ, Bool, false, ◌&&◌, ◌||◌, ◌==◌, not, pos, if◌then◌else◌, List, [], ◌∷◌, Option, Some, None, unwrap_or}
 use Rattle.std.specs.Option.{option_and_then}
-use Rattle.cache_words.specs.Time.{Instant, Span, from_seconds, span_of, later_by, earlier_by}
+use Rattle.cache_words.specs.Time.{MomentValue, DurationValue, from_seconds, span_of, later_by, earlier_by}
 use Rattle.httpdate.specs.Date.{parse_secs}
 use Rattle.cache_directives.specs.Written.{Written}
 use Rattle.cache_directives.specs.Control.{named}
@@ -13,20 +13,20 @@ abbrev pub or_else : {X : Type 0} → Option X → Option X → Option X
 or_else None other = other
 or_else (Some x) other = Some x
 
-abbrev pub is_no_time : Span → Bool
+abbrev pub is_no_time : DurationValue → Bool
 is_no_time d = d.seconds == 0 && d.nanoseconds == 0
 
 -- the moment a lifetime later; without a lifetime the second before, so that the response is stale at once. A sum out
 -- of range gives none
-abbrev pub lasts_to : Instant → Span → Option Instant
+abbrev pub lasts_to : MomentValue → DurationValue → Option MomentValue
 lasts_to now d = if is_no_time d then earlier_by now (span_of 1) else later_by now d
 
 -- what the directives give
-abbrev pub by_directives : Instant → Option (List Written) → Option Instant
+abbrev pub by_directives : MomentValue → Option (List Written) → Option MomentValue
 by_directives now ds = option_and_then (λ s. lasts_to now (span_of s)) (option_and_then lifetime ds)
 
 -- what the Expires values give: a lone one its date, and 1970 where it is no date; none and several nothing
-abbrev pub by_expires : List (List ℕ) → Option Instant
+abbrev pub by_expires : List (List ℕ) → Option MomentValue
 by_expires [] = None
 by_expires (value ∷ []) = Some (from_seconds (pos (unwrap_or (parse_secs value) 0)))
 by_expires (value ∷ other ∷ more) = None
@@ -42,11 +42,11 @@ is_barred ds authorized = (authorized && not (holds_of allows_authorized ds)) ||
 
 -- by the directives, if there are any, the Expires values, whether the request had Authorization, and the lifetime
 -- that the status has by default
-abbrev pub fresh_until_by : Instant → Option (List Written) → List (List ℕ) → Bool → Option Span → Option Instant
+abbrev pub fresh_until_by : MomentValue → Option (List Written) → List (List ℕ) → Bool → Option DurationValue → Option MomentValue
 fresh_until_by now ds expires authorized default =
     if is_barred ds authorized then None
     else or_else (by_directives now ds) (or_else (by_expires expires) (option_and_then (lasts_to now) default))
 
 -- the same by the lines of Cache-Control
-abbrev pub fresh_until : Instant → List (List ℕ) → List (List ℕ) → Bool → Option Span → Option Instant
+abbrev pub fresh_until : MomentValue → List (List ℕ) → List (List ℕ) → Bool → Option DurationValue → Option MomentValue
 fresh_until now lines expires authorized default = fresh_until_by now (named lines) expires authorized default

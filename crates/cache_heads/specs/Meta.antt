@@ -1,12 +1,12 @@
 -- What is kept beside a response.
 use Rattle.std.specs.Prelude.{ℕ, Some, None, unwrap_or}
-use Rattle.cache_words.specs.Time.{Instant}
-use Rattle.cache_directives.specs.declared.header.ResponseHeader.{ResponseHeader}
+use Rattle.cache_words.specs.Time.{MomentValue}
+use Rattle.cache_headers.specs.declared.header.ResponseHeader.{ResponseHeader}
 use Rattle.cache_metas.specs.declared.versions.InternalMetaV2.{InternalMetaV2}
 use Rattle.cache_heads.specs.declared.meta.CacheMeta.{CacheMeta}
 
 -- a new meta: it was updated and comes from when it was created
-abbrev pub new_meta : Instant → Instant → ℕ → ℕ → ResponseHeader → CacheMeta
+abbrev pub new_meta : MomentValue → MomentValue → ℕ → ℕ → ResponseHeader → CacheMeta
 new_meta fresh_until created revalidate error header =
     record {
       internal = record {
@@ -23,9 +23,9 @@ new_meta fresh_until created revalidate error header =
     }
 
 -- the moment from which age counts: the override, else when the meta was updated
-abbrev pub epoch_of : InternalMetaV2 → Instant
+abbrev pub epoch_of : InternalMetaV2 → MomentValue
 epoch_of m = unwrap_or m.epoch_override m.updated
 
 -- where the response comes from: when it was created, unless it is said
-abbrev pub provenance_of : InternalMetaV2 → Instant
+abbrev pub provenance_of : InternalMetaV2 → MomentValue
 provenance_of m = unwrap_or m.provenance m.created

@@ -1,10 +1,10 @@
 -- Whether a response is kept, and as what.
 use Rattle.std.specs.Prelude.{ℕ, Bool, List, Option, Some, None, codes}
-use Rattle.cache_words.specs.Time.{Instant, Span}
+use Rattle.cache_words.specs.Time.{MomentValue, DurationValue}
 use Rattle.cache_directives.specs.Written.{Written}
 use Rattle.cache_directives.specs.Control.{lines_under}
 use Rattle.cache_directives.specs.Lifetime.{stripped}
-use Rattle.cache_directives.specs.declared.header.ResponseHeader.{ResponseHeader}
+use Rattle.cache_headers.specs.declared.header.ResponseHeader.{ResponseHeader}
 use Rattle.cache_heads.specs.FreshUntil.{fresh_until_by}
 use Rattle.cache_heads.specs.Stale.{revalidate_window, error_window}
 use Rattle.cache_heads.specs.Meta.{new_meta}
@@ -17,13 +17,13 @@ abbrev pub kept_header : ResponseHeader → Option (List Written) → ResponseHe
 kept_header header None = header
 kept_header header (Some ds) = record header { headers = stripped header.headers ds }
 
-abbrev pub kept_until : Option Instant → Instant → Option (List Written) → ResponseHeader → ℕ → ℕ → RespCacheable
+abbrev pub kept_until : Option MomentValue → MomentValue → Option (List Written) → ResponseHeader → ℕ → ℕ → RespCacheable
 kept_until None now ds header revalidate error = Uncacheable OriginNotCache
 kept_until (Some until) now ds header revalidate error =
     Cacheable (new_meta until now (revalidate_window ds revalidate) (error_window ds error) (kept_header header ds))
 
 -- by the moment at which the response came, its directives and head, whether its request had Authorization, and the
 -- defaults: the lifetime of its status and both windows
-abbrev pub verdict : Instant → Option (List Written) → ResponseHeader → Bool → Option Span → ℕ → ℕ → RespCacheable
+abbrev pub verdict : MomentValue → Option (List Written) → ResponseHeader → Bool → Option DurationValue → ℕ → ℕ → RespCacheable
 verdict now ds header authorized default revalidate error =
     kept_until (fresh_until_by now ds (lines_under (codes "expires") header.headers) authorized default) now ds header revalidate error

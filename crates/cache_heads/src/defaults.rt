@@ -1,6 +1,6 @@
 //! What counts where a response says nothing.
 ghost use Rattle.std.specs.Prelude.{◌≡◌, ◌==◌, ℕ, Option, None, if◌then◌else◌};
-ghost use Rattle.cache_words.specs.Time.{Span};
+ghost use Rattle.cache_words.specs.Time.{DurationValue};
 ghost use Rattle.cache_heads.specs.Status.{status_asked};
 
 use cache_words::time::Duration;
@@ -9,7 +9,7 @@ use http::StatusCode;
 /// How long a response is fresh by its status alone; `None` where such a response is not kept.
 pub trait FreshDurationByStatusFn {
     // The time by status.
-    ghost duration: { Self → ℕ → Option Span };
+    ghost duration: { Self → ℕ → Option DurationValue };
 
     /// The time for a status.
     fn fresh_duration(&self, status: StatusCode) -> Option<Duration>

@@ -1,6 +1,6 @@
 //! What a shared cache does with requests and responses.
 ghost use Rattle.std.specs.Prelude.{◌≡◌, ◌⊎◌, ◌↔◌, IsTrue, OnOk, OnErr, option_map, option_copied, unwrap_or, codes};
-ghost use Rattle.cache_words.specs.Time.{Instant};
+ghost use Rattle.cache_words.specs.Time.{MomentValue};
 ghost use Rattle.cache_directives.specs.Control.{directives_of, lines_under};
 ghost use Rattle.cache_directives.specs.Lifetime.{allows_authorized, forbids_storing};
 ghost use Rattle.cache_heads.specs.FreshUntil.{lasts_to, by_directives, by_expires, holds_of, is_barred, fresh_until_by};

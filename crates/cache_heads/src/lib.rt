@@ -11,5 +11,5 @@ pub mod reason;
 mod tests;
 
 pub use cache_directives as cache_control;
-pub use cache_directives::{Error, ErrorType, RequestHeader, ResponseHeader};
+pub use cache_headers::{Error, ErrorType, RequestHeader, ResponseHeader};
 pub use reason::{NoCacheReason, RespCacheable};

@@ -11,7 +11,7 @@ ghost use Rattle.cache_heads.specs.Meta.{new_meta, epoch_of, provenance_of};
 ghost use Rattle.cache_heads.specs.MetaBytes.{BeginWithMeta, cache_meta_at};
 ghost use Rattle.cache_heads.specs.MetaLends.{lends_header};
 
-use cache_directives::ResponseHeader;
+use cache_headers::ResponseHeader;
 use cache_metas::fault::{MetaFault, MetaReadFault};
 pub use cache_metas::versions::{InternalMetaV0, InternalMetaV1, InternalMetaV2};
 use cache_metas::{head, internal};

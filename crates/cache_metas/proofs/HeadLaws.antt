@@ -18,8 +18,8 @@ use Rattle.cache_words.specs.Reading.{number_at, array_of_at, text_at, bytes_at}
 use Rattle.cache_words.proofs.ReadingLaws.{IsBytes, Agrees, bind_ok, ok_is, one_spelling}
 use Rattle.cache_words.proofs.FormLaws.{number_agrees, are_numbers, are_arrays}
 use Rattle.cache_words.proofs.ValueLaws.{array_skips, text_agrees, bytes_agrees}
-use Rattle.cache_directives.specs.declared.header.ResponseHeader.{ResponseHeader}
-use Rattle.cache_directives.specs.Lines.{Line, pair_of, IsLine}
+use Rattle.cache_headers.specs.declared.header.ResponseHeader.{ResponseHeader}
+use Rattle.cache_headers.specs.Lines.{Line, pair_of, IsLine}
 use Rattle.cache_metas.specs.Head.{SpellsLine, SpellLines, SpellsHead, BeginsWithHead, most_names}
 use Rattle.cache_metas.specs.declared.fault.MetaReadFault.{MetaReadFault}
 use Rattle.cache_metas.specs.InternalReading.{value_of}

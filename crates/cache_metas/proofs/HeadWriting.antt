@@ -10,8 +10,8 @@ use Rattle.http_header.proofs.TokenLemmas.{IsUtf8-from_token}
 use Rattle.cache_words.specs.Forms.{shortest, numbers, arrays}
 use Rattle.cache_words.specs.Pack.{text_of, bytes_of}
 use Rattle.cache_words.proofs.WritingLaws.{number_spelled, array_spelled, text_spelled, bytes_spelled}
-use Rattle.cache_directives.specs.declared.header.ResponseHeader.{ResponseHeader}
-use Rattle.cache_directives.specs.Lines.{Line, pair_of, map_of, IsLine}
+use Rattle.cache_headers.specs.declared.header.ResponseHeader.{ResponseHeader}
+use Rattle.cache_headers.specs.Lines.{Line, pair_of, map_of, IsLine}
 use Rattle.cache_metas.specs.Head.{SpellsLine, SpellLines, SpellsHead, line_of, lines_of, written_head, IsCountable, IsHead, plain_values, plain_head}
 use Rattle.cache_metas.specs.HeadReading.{head_at}
 use Rattle.cache_metas.proofs.HeadLaws.{head_agrees}

@@ -8,7 +8,7 @@ use Rattle.cache_words.specs.declared.pack.fault.PackFault.TheVariants.{Short, R
 use Rattle.cache_words.specs.Forms.{arrays, Stands}
 use Rattle.cache_words.specs.Pack.{SpellsMoment, SpellsOptionalHash}
 use Rattle.cache_words.specs.Reading.{number_at, moment_at, optional_hash_at}
-use Rattle.cache_words.specs.Time.{Instant}
+use Rattle.cache_words.specs.Time.{MomentValue}
 use Rattle.cache_words.proofs.ReadingLaws.{IsBytes, Agrees, bind_ok, ok_is, one_spelling}
 use Rattle.cache_words.proofs.FormLaws.{number_agrees, are_arrays}
 use Rattle.cache_words.proofs.ValueLaws.{moment_agrees, below_agrees, optional_hash_agrees}
@@ -26,7 +26,7 @@ seconds_agrees = below_agrees (2 ^ 32)
 
 -- ---- the first form, and the second
 
-abbrev v0_made : Instant → Instant → ℕ → ℕ → InternalMetaV0
+abbrev v0_made : MomentValue → MomentValue → ℕ → ℕ → InternalMetaV0
 v0_made a b c d = record { fresh_until = a; created = b; stale_while_revalidate_sec = c; stale_if_error_sec = d }
 
 v0_steps : Agrees v0_at (SpellThen SpellsMoment (λ a. SpellThen SpellsMoment (λ b. SpellThen SpellsSeconds (λ c. SpellAs (λ d. v0_made a b c d) SpellsSeconds))))
@@ -47,7 +47,7 @@ v0_agrees =
     let a = s.3 in let b = a.3 in
     (v.fresh_until, s.0, s.1, s.2, (v.created, a.0, a.1, a.2, (v.stale_while_revalidate_sec, b.0, b.1, b.2, (v.stale_if_error_sec, b.3, refl), b.4), a.4), s.4))
 
-abbrev v1_made : Instant → Instant → ℕ → ℕ → InternalMetaV1
+abbrev v1_made : MomentValue → MomentValue → ℕ → ℕ → InternalMetaV1
 v1_made a b c d = record { fresh_until = a; created = b; stale_while_revalidate_sec = c; stale_if_error_sec = d }
 
 v1_steps : Agrees v1_at (SpellThen SpellsMoment (λ a. SpellThen SpellsMoment (λ b. SpellThen SpellsSeconds (λ c. SpellAs (λ d. v1_made a b c d) SpellsSeconds))))
@@ -70,7 +70,7 @@ v1_agrees =
 
 -- ---- the latest form
 
-abbrev v2_made : Instant → Instant → Instant → ℕ → ℕ → Option (List ℕ) → Option Instant → Option Instant → InternalMetaV2
+abbrev v2_made : MomentValue → MomentValue → MomentValue → ℕ → ℕ → Option (List ℕ) → Option MomentValue → Option MomentValue → InternalMetaV2
 v2_made a b c d e f g h = record {
   fresh_until = a;
   created = b;
@@ -85,10 +85,10 @@ v2_made a b c d e f g h = record {
 abbrev hash_in : ℕ → Option (List ℕ) → List ℕ → Type 0
 hash_in count = SpellThere (nat_lt 6 count) SpellsOptionalHash
 
-abbrev epoch_in : ℕ → Option Instant → List ℕ → Type 0
+abbrev epoch_in : ℕ → Option MomentValue → List ℕ → Type 0
 epoch_in count = SpellThere (nat_lt 7 count) SpellsOptionalMoment
 
-abbrev provenance_in : ℕ → Option Instant → List ℕ → Type 0
+abbrev provenance_in : ℕ → Option MomentValue → List ℕ → Type 0
 provenance_in count = SpellThere (nat_lt 8 count) SpellsOptionalMoment
 
 v2_steps : (count : ℕ) → Agrees (v2_at count) (SpellThen SpellsMoment (λ a. SpellThen SpellsMoment (λ b. SpellThen SpellsMoment (λ c.

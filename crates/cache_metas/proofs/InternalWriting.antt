@@ -5,7 +5,7 @@ use Rattle.std.proofs.lemmas.Int.{ints}
 use Rattle.std.specs.Int.{to_be_bytes}
 use Rattle.cache_words.specs.Forms.{Form, Forms, Stands, StandsBehind, shortest, numbers, arrays}
 use Rattle.cache_words.specs.Pack.{SpellsMoment, moment_of, optional_hash_of, SpellsOptionalHash}
-use Rattle.cache_words.specs.Time.{Instant, second}
+use Rattle.cache_words.specs.Time.{MomentValue, second}
 use Rattle.cache_words.proofs.WritingLaws.{number_spelled, array_spelled, moment_spelled, optional_hash_spelled}
 use Rattle.cache_metas.specs.declared.versions.InternalMetaV2.{InternalMetaV2}
 use Rattle.cache_metas.specs.Items.{SpellThere, SpellsSeconds, SpellsOptionalMoment, optional_moment_of}
@@ -18,10 +18,10 @@ moment_by : (z : ℤ) (n : ℕ) → z <ℤ pos (2 ^ 63) → n < second → pos 0
 moment_by (pos s) n high low since = moment_spelled s n (omega (arith, ints)) low
 moment_by (negsuc s) n high low since = absurd (omega (arith, ints))
 
-moment_written : (t : Instant) → IsMoment t → IsSinceEpoch t → SpellsMoment t (moment_of t)
+moment_written : (t : MomentValue) → IsMoment t → IsSinceEpoch t → SpellsMoment t (moment_of t)
 moment_written t is since = moment_by t.seconds t.nanoseconds is.0 is.1 since
 
-optional_written : (o : Option Instant) → IfSome o IsMoment → IfSome o IsSinceEpoch → SpellsOptionalMoment o (optional_moment_of o)
+optional_written : (o : Option MomentValue) → IfSome o IsMoment → IfSome o IsSinceEpoch → SpellsOptionalMoment o (optional_moment_of o)
 optional_written None is since = refl
 optional_written (Some t) is since = moment_written t is since
 
@@ -29,23 +29,23 @@ seconds_written : (n : ℕ) → n < 2 ^ 32 → SpellsSeconds n (shortest numbers
 seconds_written n low = (low, number_spelled n (omega arith))
 
 -- in an array of eight or nine the seventh and the eighth item stand
-seventh_there : {X : Type 0} (p : Option Instant) (P : Option X → List ℕ → Type 0) (v : Option X) (text : List ℕ) → P v text → SpellThere (nat_lt 6 (item_count p)) P v text
+seventh_there : {X : Type 0} (p : Option MomentValue) (P : Option X → List ℕ → Type 0) (v : Option X) (text : List ℕ) → P v text → SpellThere (nat_lt 6 (item_count p)) P v text
 seventh_there None P v text s = s
 seventh_there (Some t) P v text s = s
 
-eighth_there : {X : Type 0} (p : Option Instant) (P : Option X → List ℕ → Type 0) (v : Option X) (text : List ℕ) → P v text → SpellThere (nat_lt 7 (item_count p)) P v text
+eighth_there : {X : Type 0} (p : Option MomentValue) (P : Option X → List ℕ → Type 0) (v : Option X) (text : List ℕ) → P v text → SpellThere (nat_lt 7 (item_count p)) P v text
 eighth_there None P v text s = s
 eighth_there (Some t) P v text s = s
 
-ninth_there : (p : Option Instant) → IfSome p IsMoment → IfSome p IsSinceEpoch → SpellThere (nat_lt 8 (item_count p)) SpellsOptionalMoment p (provenance_of p)
+ninth_there : (p : Option MomentValue) → IfSome p IsMoment → IfSome p IsSinceEpoch → SpellThere (nat_lt 8 (item_count p)) SpellsOptionalMoment p (provenance_of p)
 ninth_there None is since = (refl, refl)
 ninth_there (Some t) is since = moment_written t is since
 
-count_low : (p : Option Instant) → 6 ≤ item_count p
+count_low : (p : Option MomentValue) → 6 ≤ item_count p
 count_low None = lit≤ tt
 count_low (Some t) = lit≤ tt
 
-count_high : (p : Option Instant) → item_count p ≤ 9
+count_high : (p : Option MomentValue) → item_count p ≤ 9
 count_high None = lit≤ tt
 count_high (Some t) = lit≤ tt
 
@@ -150,7 +150,7 @@ stands_some forms n text s =
     ]
 
 -- a moment has at least three bytes
-moment_long : (t : Instant) (text : List ℕ) → SpellsMoment t text → 3 ≤ length text
+moment_long : (t : MomentValue) (text : List ℕ) → SpellsMoment t text → 3 ≤ length text
 moment_long t text s =
     let len : length text ≡ length (s.head ++ (s.first ++ s.behind)) = ap length s.parts in
     omega (

@@ -6,7 +6,7 @@ use Rattle.cache_words.specs.declared.pack.fault.PackFault.{PackFault}
 use Rattle.cache_words.specs.declared.pack.fault.PackFault.TheVariants.{Short, Kind}
 use Rattle.cache_words.specs.Pack.{nil}
 use Rattle.cache_words.specs.Reading.{◌>>=◌, array_of_at, number_at, moment_at}
-use Rattle.cache_words.specs.Time.{Instant}
+use Rattle.cache_words.specs.Time.{MomentValue}
 use Rattle.cache_words.proofs.ReadingLaws.{IsBytes, IsBytes-rest, Takes, Agrees, Skips, bind_ok, test_ok, chosen, done, ok_is}
 use Rattle.cache_words.proofs.ValueLaws.{moment_agrees}
 use Rattle.cache_metas.specs.Items.{SpellThere, there_at, seen_as, byte_at, SpellsOptionalMoment, optional_moment_at}
@@ -120,24 +120,24 @@ moment_of_nothing : moment_at [] ≡ Err Short
 unfolding moment_at array_of_at number_at
 moment_of_nothing = refl
 
-optional_takes : (bytes : List ℕ) (x : Option Instant × List ℕ) → IsBytes bytes → optional_moment_at bytes ≡ Ok x → Takes SpellsOptionalMoment bytes x.0 x.1
+optional_takes : (bytes : List ℕ) (x : Option MomentValue × List ℕ) → IsBytes bytes → optional_moment_at bytes ≡ Ok x → Takes SpellsOptionalMoment bytes x.0 x.1
 unfolding optional_moment_at
 optional_takes [] x fits e = absurd cc
 optional_takes (b ∷ bytes) x fits e =
     elim (chosen (b == 0xc0) (Ok (None, bytes)) (moment_at (b ∷ bytes) >>= λ t. Ok (Some t.0, t.1)) (done x) e) [
       | inl here ↦
           let same : b ≡ 0xc0 = eqb-true _ _ here.0 in
-          subst (λ (y : Option Instant × List ℕ). Takes SpellsOptionalMoment (b ∷ bytes) y.0 y.1) (ok_is (None, bytes) x here.1)
+          subst (λ (y : Option MomentValue × List ℕ). Takes SpellsOptionalMoment (b ∷ bytes) y.0 y.1) (ok_is (None, bytes) x here.1)
           (record { text = nil; spelled = refl; parts = rw same refl; rest_fits = IsBytes-rest b bytes fits })
       | inr later ↦
           let a = bind_ok (moment_at (b ∷ bytes)) (λ t. Ok (Some t.0, t.1)) x later.1 in
           let t = moment_agrees.takes (b ∷ bytes) a.0 fits a.1 in
-          subst (λ (y : Option Instant × List ℕ). Takes SpellsOptionalMoment (b ∷ bytes) y.0 y.1) (ok_is (Some a.0.0, a.0.1) x a.2)
+          subst (λ (y : Option MomentValue × List ℕ). Takes SpellsOptionalMoment (b ∷ bytes) y.0 y.1) (ok_is (Some a.0.0, a.0.1) x a.2)
           (record { text = t.text; spelled = t.spelled; parts = t.parts; rest_fits = t.rest_fits })
     ]
 
-moment_is_some_by : (b : ℕ) (bytes : List ℕ) (x : Instant × List ℕ) (t : Bool) → (b == 0xc0) ≡ t → moment_at (b ∷ bytes) ≡ Ok x
-    → cond {A = Result (Option Instant × List ℕ) PackFault} t (Ok (None, bytes)) (moment_at (b ∷ bytes) >>= λ m. Ok (Some m.0, m.1)) ≡ Ok (Some x.0, x.1)
+moment_is_some_by : (b : ℕ) (bytes : List ℕ) (x : MomentValue × List ℕ) (t : Bool) → (b == 0xc0) ≡ t → moment_at (b ∷ bytes) ≡ Ok x
+    → cond {A = Result (Option MomentValue × List ℕ) PackFault} t (Ok (None, bytes)) (moment_at (b ∷ bytes) >>= λ m. Ok (Some m.0, m.1)) ≡ Ok (Some x.0, x.1)
 moment_is_some_by b bytes x true is e =
     let same : b ≡ 0xc0 = eqb-true _ _ is in
     let begins : moment_at (b ∷ bytes) ≡ Err Kind = rw same (moment_begins bytes) in
@@ -145,14 +145,14 @@ moment_is_some_by b bytes x true is e =
 moment_is_some_by b bytes x false is e = rw e refl
 
 -- where a moment is read, so is it where no value may stand
-moment_is_some : (bytes : List ℕ) (x : Instant × List ℕ) → moment_at bytes ≡ Ok x → optional_moment_at bytes ≡ Ok (Some x.0, x.1)
+moment_is_some : (bytes : List ℕ) (x : MomentValue × List ℕ) → moment_at bytes ≡ Ok x → optional_moment_at bytes ≡ Ok (Some x.0, x.1)
 unfolding optional_moment_at
 moment_is_some [] x e =
     let none : moment_at [] ≡ Err Short = moment_of_nothing in
     absurd cc
 moment_is_some (b ∷ bytes) x e = moment_is_some_by b bytes x (b == 0xc0) refl e
 
-optional_again : (v : Option Instant) (text rest : List ℕ) → SpellsOptionalMoment v text → optional_moment_at (text ++ rest) ≡ Ok (v, rest)
+optional_again : (v : Option MomentValue) (text rest : List ℕ) → SpellsOptionalMoment v text → optional_moment_at (text ++ rest) ≡ Ok (v, rest)
 unfolding optional_moment_at
 optional_again None text rest s = rw s refl
 optional_again (Some m) text rest s = moment_is_some (text ++ rest) (m, rest) (moment_agrees.again m text rest s)

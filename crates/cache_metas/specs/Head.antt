@@ -6,8 +6,8 @@ use Rattle.http_header.specs.FieldName.{IsHeaderName}
 use Rattle.http_header.specs.FieldValue.{FieldValue, plain_value, IsFieldValue}
 use Rattle.cache_words.specs.Forms.{Stands, shortest, numbers, arrays}
 use Rattle.cache_words.specs.Pack.{SpellsText, SpellsBytes, text_of, bytes_of}
-use Rattle.cache_directives.specs.Lines.{Line, map_of, IsLine}
-use Rattle.cache_directives.specs.declared.header.ResponseHeader.{ResponseHeader}
+use Rattle.cache_headers.specs.Lines.{Line, map_of, IsLine}
+use Rattle.cache_headers.specs.declared.header.ResponseHeader.{ResponseHeader}
 use Rattle.cache_metas.specs.Items.{SpellBoth, SpellItems}
 
 -- a line: an array of its name as a text and its value as a byte string

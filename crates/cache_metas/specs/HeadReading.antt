@@ -9,7 +9,7 @@ use Rattle.cache_words.specs.declared.pack.fault.PackFault.{PackFault}
 use Rattle.cache_words.specs.declared.pack.fault.PackFault.TheVariants.{Kind, Range, Length}
 use Rattle.cache_words.specs.Forms.{numbers, arrays}
 use Rattle.cache_words.specs.Reading.{◌>>=◌, number_at, array_of_at, text_at, bytes_at}
-use Rattle.cache_directives.specs.declared.header.ResponseHeader.{ResponseHeader}
+use Rattle.cache_headers.specs.declared.header.ResponseHeader.{ResponseHeader}
 use Rattle.cache_metas.specs.declared.fault.MetaReadFault.{MetaReadFault}
 use Rattle.cache_metas.specs.declared.fault.MetaReadFault.TheVariants.{Memory, Pack}
 use Rattle.cache_metas.specs.Head.{most_names}

@@ -3,7 +3,7 @@
 use Rattle.std.specs.Prelude.{◌≡◌, ℕ, ◌^◌, ◌<◌, ◌≤◌, ◌⊎◌, ◌<ℤ◌, ◌≤ℤ◌, pos, nat_lt, List, [], ◌∷◌, ◌++◌, length, Option, Some, None, IfSome}
 use Rattle.cache_words.specs.Forms.{shortest, numbers, arrays}
 use Rattle.cache_words.specs.Pack.{moment_of, optional_hash_of, SpellsMoment, SpellsOptionalHash, IsHash}
-use Rattle.cache_words.specs.Time.{Instant, second}
+use Rattle.cache_words.specs.Time.{MomentValue, second}
 use Rattle.cache_metas.specs.declared.versions.InternalMetaV0.{InternalMetaV0}
 use Rattle.cache_metas.specs.declared.versions.InternalMetaV1.{InternalMetaV1}
 use Rattle.cache_metas.specs.declared.versions.InternalMetaV2.{InternalMetaV2}
@@ -45,7 +45,7 @@ abbrev pub BeginsWithMeta : List ℕ → InternalMetaV2 → Type 0
 BeginsWithMeta bytes m = IsLongEnough bytes × (text : List ℕ) × (rest : List ℕ) × SpellsMeta m text × (bytes ≡ text ++ rest)
 
 -- not before 1970
-abbrev pub IsSinceEpoch : Instant → Type 0
+abbrev pub IsSinceEpoch : MomentValue → Type 0
 IsSinceEpoch moment = pos 0 ≤ℤ moment.seconds
 
 -- each of its moments can be written
@@ -57,7 +57,7 @@ pub record IsWritable (m : InternalMetaV2) : Type 0 where
   pub provenance : IfSome m.provenance IsSinceEpoch
 
 -- seconds in 64 bits with a sign, and nanoseconds below a second
-abbrev pub IsMoment : Instant → Type 0
+abbrev pub IsMoment : MomentValue → Type 0
 IsMoment moment = (moment.seconds <ℤ pos (2 ^ 63)) × (moment.nanoseconds < second)
 
 -- what holds of each meta in memory, by the types of its fields
@@ -72,11 +72,11 @@ pub record IsMeta (m : InternalMetaV2) : Type 0 where
   pub provenance : IfSome m.provenance IsMoment
 
 -- the provenance is an item only where there is one
-abbrev pub item_count : Option Instant → ℕ
+abbrev pub item_count : Option MomentValue → ℕ
 item_count None = 8
 item_count (Some provenance) = 9
 
-abbrev pub provenance_of : Option Instant → List ℕ
+abbrev pub provenance_of : Option MomentValue → List ℕ
 provenance_of None = []
 provenance_of (Some provenance) = moment_of provenance
 

@@ -5,7 +5,7 @@ use Rattle.cache_words.specs.declared.pack.fault.PackFault.TheVariants.{Short, K
 use Rattle.cache_words.specs.Forms.{Stands, StandsBelow, arrays}
 use Rattle.cache_words.specs.Pack.{nil, moment_of, SpellsMoment}
 use Rattle.cache_words.specs.Reading.{◌>>=◌, below_at, moment_at}
-use Rattle.cache_words.specs.Time.{Instant}
+use Rattle.cache_words.specs.Time.{MomentValue}
 
 -- which texts spell a value
 abbrev pub Spelling : Type 0 → Type 1
@@ -53,15 +53,15 @@ abbrev pub seconds_at : Reader ℕ
 seconds_at = below_at (2 ^ 32)
 
 -- a moment, or no value
-abbrev pub SpellsOptionalMoment : Spelling (Option Instant)
+abbrev pub SpellsOptionalMoment : Spelling (Option MomentValue)
 SpellsOptionalMoment None text = text ≡ nil
 SpellsOptionalMoment (Some moment) text = SpellsMoment moment text
 
-abbrev pub optional_moment_of : Option Instant → List ℕ
+abbrev pub optional_moment_of : Option MomentValue → List ℕ
 optional_moment_of None = nil
 optional_moment_of (Some moment) = moment_of moment
 
-unfoldable pub optional_moment_at : Reader (Option Instant)
+unfoldable pub optional_moment_at : Reader (Option MomentValue)
 optional_moment_at [] = Err Short
 optional_moment_at (b ∷ rest) =
     if b == 0xc0 then Ok (None, rest)

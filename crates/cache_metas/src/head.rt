@@ -1,7 +1,7 @@
 //! The head of a response as MessagePack: its status, and each value beside its name.
 ghost use Rattle.std.specs.Prelude.{◌≡◌, ◌+◌, ◌++◌, ◌<◌, ◌≤◌, ◌^◌, [], length, flat_map, All, Ok, IfOk, OnOk, IfErr};
 ghost use Rattle.http_header.specs.HeaderMap.{value_count, pairs};
-ghost use Rattle.cache_directives.specs.declared.header.ResponseHeader.{ResponseHeader};
+ghost use Rattle.cache_headers.specs.declared.header.ResponseHeader.{ResponseHeader};
 ghost use Rattle.cache_metas.specs.Head.{BeginsWithHead, most_names, line_of, lines_of, written_head, IsCountable};
 ghost use Rattle.cache_metas.specs.HeadReading.{Fails, Gives, StepsTo, field_name_of, field_value_of, line_at, with_line, lines_at, status_at, head_at};
 ghost use Rattle.cache_metas.specs.InternalReading.{value_of};
@@ -9,7 +9,7 @@ ghost use Rattle.cache_metas.specs.Items.{Steps};
 
 use crate::cursor::Cursor;
 use crate::fault::MetaReadFault;
-use cache_directives::ResponseHeader;
+use cache_headers::ResponseHeader;
 use cache_words::pack::fault::PackFault;
 use cache_words::pack::writing;
 use http::StatusCode;

@@ -2,7 +2,7 @@
 ghost use Rattle.std.specs.Prelude.{◌≡◌, ◌++◌, List, [], ℕ, Ok};
 ghost use Rattle.http_header.specs.HeaderMap.{Entries, append_all, pairs, IsHeaderMap};
 ghost use Rattle.http_header.specs.FieldValue.{FieldValue};
-ghost use Rattle.cache_directives.specs.declared.header.ResponseHeader.{ResponseHeader};
+ghost use Rattle.cache_headers.specs.declared.header.ResponseHeader.{ResponseHeader};
 ghost use Rattle.cache_metas.specs.declared.versions.InternalMetaV2.{InternalMetaV2};
 ghost use Rattle.cache_metas.specs.Internal.{SpellsMeta, IsLongEnough, IsMeta, IsWritable, written_meta};
 ghost use Rattle.cache_metas.specs.InternalReading.{meta_at};

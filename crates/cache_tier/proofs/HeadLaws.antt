@@ -6,8 +6,8 @@ use Rattle.std.proofs.lemmas.Slice.Eq.{bytes_eq-Decides}
 use Rattle.std.proofs.lemmas.List.{map-append, take_more, get_or-map, length-map}
 use Rattle.std.proofs.lemmas.List.Elements.{All-map}
 use Rattle.std.proofs.lemmas.List.Sums.{sum_by-cons}
-use Rattle.cache_words.specs.Time.{Instant}
-use Rattle.cache_directives.specs.declared.header.ResponseHeader.{ResponseHeader}
+use Rattle.cache_words.specs.Time.{MomentValue}
+use Rattle.cache_headers.specs.declared.header.ResponseHeader.{ResponseHeader}
 use Rattle.http.specs.StatusCode.{IsStatusCode}
 use Rattle.http_header.specs.HeaderMap.{Entry as MapEntry, Entries, append, append_all, get_all, value_count}
 use Rattle.http_header.specs.FieldValue.{FieldValue, plain_value}
@@ -25,7 +25,7 @@ use Rattle.tier_model.specs.declared.given.Given.{Given}
 use Rattle.tier_model.specs.declared.given.Given.TheVariants.{Stored, Incomplete, BadHead}
 use Rattle.tier_model.specs.Response.{values_of, is_before_epoch, body_within, given_of, given_by, IsReadable, IsPlain, Gives}
 use Rattle.cache_tier.specs.declared.response.Head.{Head}
-use Rattle.cache_directives.specs.Lines.{pair_of, map_of, IsLine}
+use Rattle.cache_headers.specs.Lines.{pair_of, map_of, IsLine}
 use Rattle.cache_tier.specs.Heads.{announced, kept_until, given_behind, IsHeadOf}
 use Rattle.std.specs.Prelude.{option_map, option_copied}
 use Rattle.std.specs.Borrow.{Bor}
@@ -124,14 +124,14 @@ not_plain bytes h rest reads out plain =
     out (subst IsReadable (sym (response_prefix_free bytes plain.0 h plain.1 rest plain.2 reads plain.3).0) plain.4)
 
 -- a head as a map gives what its lines give
-given_behind-is : (arrival : Instant) (entry : Entry) (head : ResponseHeader) (rest : List ℕ) (status : ℕ) (lines : List (List ℕ × List ℕ)) → head.status ≡ status → head.headers ≡ map_of lines
+given_behind-is : (arrival : MomentValue) (entry : Entry) (head : ResponseHeader) (rest : List ℕ) (status : ℕ) (lines : List (List ℕ × List ℕ)) → head.status ≡ status → head.headers ≡ map_of lines
     → given_behind arrival entry head rest ≡ given_by arrival entry status lines rest
 unfolding given_by
 given_behind-is arrival entry head rest status lines s m =
     rw (s, m, under-map_of lines (codes "content-length"), under-map_of lines (codes "cache-control"), under-map_of lines (codes "expires")) refl
 
 -- what a head gives is no bad head, and a body of the key
-given_of-read : (arrival : Instant) (entry : Entry) (body : Option (List ℕ)) (until : Option Instant) → given_of arrival entry body until ≢ BadHead
+given_of-read : (arrival : MomentValue) (entry : Entry) (body : Option (List ℕ)) (until : Option MomentValue) → given_of arrival entry body until ≢ BadHead
 given_of-read arrival entry None until e = cc
 given_of-read arrival entry (Some body) None e = cc
 given_of-read arrival entry (Some body) (Some until) e =
@@ -140,7 +140,7 @@ given_of-read arrival entry (Some body) (Some until) e =
       | inr f ↦ absurd (cc)
     ]
 
-given_of-entry : (arrival : Instant) (entry : Entry) (body : Option (List ℕ)) (until : Option Instant) (stored : FinishedBody) → given_of arrival entry body until ≡ Stored stored → stored.entry ≡ entry
+given_of-entry : (arrival : MomentValue) (entry : Entry) (body : Option (List ℕ)) (until : Option MomentValue) (stored : FinishedBody) → given_of arrival entry body until ≡ Stored stored → stored.entry ≡ entry
 given_of-entry arrival entry None until stored e = absurd cc
 given_of-entry arrival entry (Some body) None stored e = absurd cc
 given_of-entry arrival entry (Some body) (Some until) stored e =
@@ -150,7 +150,7 @@ given_of-entry arrival entry (Some body) (Some until) stored e =
     ]
 
 -- what is given where the head was read
-pub Gives-whole : (arrival : Instant) (entry : Entry) (bytes : List ℕ) (head : Head) (given : Given) → IsHeadOf bytes head → given ≡ given_behind arrival entry head.header (drop head.len bytes) → Gives arrival entry bytes given
+pub Gives-whole : (arrival : MomentValue) (entry : Entry) (bytes : List ℕ) (head : Head) (given : Given) → IsHeadOf bytes head → given ≡ given_behind arrival entry head.header (drop head.len bytes) → Gives arrival entry bytes given
 Gives-whole arrival entry bytes head given is e =
     let h : ResponseHead = is.0 in
     let by_lines : given ≡ given_by arrival entry (status_code h) (map name_and_value h.fields) (drop head.len bytes) =
@@ -166,7 +166,7 @@ Gives-whole arrival entry bytes head given is e =
     }
 
 -- what is given where a head has begun
-pub Gives-begun : (arrival : Instant) (entry : Entry) (bytes : List ℕ) → HasNoResponse bytes → Gives arrival entry bytes Incomplete
+pub Gives-begun : (arrival : MomentValue) (entry : Entry) (bytes : List ℕ) → HasNoResponse bytes → Gives arrival entry bytes Incomplete
 Gives-begun arrival entry bytes none = record {
   whole = λ h rest reads readable. absurd (none h rest reads);
   begun = λ no plain. refl;
@@ -175,7 +175,7 @@ Gives-begun arrival entry bytes none = record {
 }
 
 -- what is given where the default options refuse
-pub Gives-refused : (arrival : Instant) (entry : Entry) (bytes : List ℕ) (given : Given) → ¬ (IsPlain bytes) → ((body : FinishedBody) → given ≡ Stored body → body.entry ≡ entry) → Gives arrival entry bytes given
+pub Gives-refused : (arrival : MomentValue) (entry : Entry) (bytes : List ℕ) (given : Given) → ¬ (IsPlain bytes) → ((body : FinishedBody) → given ≡ Stored body → body.entry ≡ entry) → Gives arrival entry bytes given
 Gives-refused arrival entry bytes given refused of_entry = record {
   whole = λ h rest reads readable. absurd (refused ([], h, rest, rw (append-nil bytes) reads, readable));
   begun = λ none plain. absurd (refused plain);
@@ -183,7 +183,7 @@ Gives-refused arrival entry bytes given refused of_entry = record {
   of_entry = of_entry;
 }
 
-pub Gives-lenient : (arrival : Instant) (entry : Entry) (bytes : List ℕ) (head : ResponseHeader) (rest : List ℕ) (given : Given) → ¬ (IsPlain bytes) → given ≡ given_behind arrival entry head rest → Gives arrival entry bytes given
+pub Gives-lenient : (arrival : MomentValue) (entry : Entry) (bytes : List ℕ) (head : ResponseHeader) (rest : List ℕ) (given : Given) → ¬ (IsPlain bytes) → given ≡ given_behind arrival entry head rest → Gives arrival entry bytes given
 Gives-lenient arrival entry bytes head rest given refused e = Gives-refused arrival entry bytes given refused (λ body b. given_of-entry arrival entry _ _ body (sym e ∙ b))
 
 -- the directives that are lent out
@@ -191,29 +191,29 @@ given-lent : (r : Option (Bor CacheControl)) → lent r ≡ option_map directive
 given-lent None = refl
 given-lent (Some c) = refl
 
-pub judged-is : (arrival : Instant) (head : ResponseHeader) (r : Option (Bor CacheControl)) (control : Option CacheControl) → option_copied r ≡ control → option_map directives_of control ≡ named (lines_under (codes "cache-control") head.headers)
+pub judged-is : (arrival : MomentValue) (head : ResponseHeader) (r : Option (Bor CacheControl)) (control : Option CacheControl) → option_copied r ≡ control → option_map directives_of control ≡ named (lines_under (codes "cache-control") head.headers)
     → fresh_until_by arrival (lent r) (lines_under (codes "expires") head.headers) false None ≡ kept_until arrival head
 judged-is arrival head r control e is =
     ap (λ (ds : Option (List Written)). fresh_until_by arrival ds (lines_under (codes "expires") head.headers) false None) (given-lent r ∙ ap (option_map directives_of) e ∙ is)
 
 -- what a verdict says of the moment that it judged by
-pub until-refused : (o : Option Instant) (now : Instant) (ds : Option (List Written)) (header : ResponseHeader) (a b : ℕ) (reason : NoCacheReason) → verdict.kept_until o now ds header a b ≡ verdicts.Uncacheable reason
+pub until-refused : (o : Option MomentValue) (now : MomentValue) (ds : Option (List Written)) (header : ResponseHeader) (a b : ℕ) (reason : NoCacheReason) → verdict.kept_until o now ds header a b ≡ verdicts.Uncacheable reason
     → (o ≡ None) × (reason ≡ OriginNotCache)
 until-refused None now ds header a b reason e = (refl, cc)
 until-refused (Some until) now ds header a b reason e = absurd cc
 
-kept_of : RespCacheable → Option Instant
+kept_of : RespCacheable → Option MomentValue
 kept_of (verdicts.Cacheable meta) = Some meta.internal.fresh_until
 kept_of (verdicts.Uncacheable reason) = None
 
-pub until-kept : (o : Option Instant) (now : Instant) (ds : Option (List Written)) (header : ResponseHeader) (a b : ℕ) (meta : CacheMeta) → verdict.kept_until o now ds header a b ≡ verdicts.Cacheable meta
+pub until-kept : (o : Option MomentValue) (now : MomentValue) (ds : Option (List Written)) (header : ResponseHeader) (a b : ℕ) (meta : CacheMeta) → verdict.kept_until o now ds header a b ≡ verdicts.Cacheable meta
     → o ≡ Some meta.internal.fresh_until
 unfolding kept_of
 until-kept None now ds header a b meta e = absurd cc
 until-kept (Some until) now ds header a b meta e = ap kept_of e
 
 -- a body and a moment give what the head does that they come from
-pub given_behind-from : (arrival : Instant) (entry : Entry) (head : ResponseHeader) (rest : List ℕ) (body : Option (List ℕ)) (until : Option Instant) → body_within (announced head) rest ≡ body → kept_until arrival head ≡ until
+pub given_behind-from : (arrival : MomentValue) (entry : Entry) (head : ResponseHeader) (rest : List ℕ) (body : Option (List ℕ)) (until : Option MomentValue) → body_within (announced head) rest ≡ body → kept_until arrival head ≡ until
     → given_of arrival entry body until ≡ given_behind arrival entry head rest
 given_behind-from arrival entry head rest body until b u = ap₂ (given_of arrival entry) (sym b) (sym u)
 

@@ -1,7 +1,7 @@
 -- Puts, single steps, and a run that goes on by one event.
 use Rattle.std.proofs.Common.{◌≡◌, ℕ, List, Some, None, Ok, Err, MatchResult, [], ◌∷◌, ◌++◌, subst, sym, inl, inr, refl, ap, ◌∙◌}
-use Rattle.cache_words.specs.Time.{Instant}
-use Rattle.cache_words.specs.Key.{FullKey}
+use Rattle.cache_words.specs.Time.{MomentValue}
+use Rattle.cache_words.specs.Key.{CacheKeyValue}
 use Rattle.tier_entries.specs.Keys.{entry_of}
 use Rattle.tier_model.specs.Keys.{Entry}
 use Rattle.tier_model.specs.declared.rows.FinishedBody.{FinishedBody}
@@ -21,7 +21,7 @@ use Rattle.cache_tier.specs.Draws.{order_behind, StepsBy, RunsBy}
 use Rattle.cache_tier.specs.Acts.{AllowsUnrefused, after_action, TakesBy, IsRefusal, behind_store}
 
 -- a body is stored that the response of a put gave
-pub Takes-stored : (old : State) (s : Stream) (t : Instant) (key : FullKey) (pieces : List (List ℕ)) (b : FinishedBody) (o : Outcome) (new : State) (rest : Stream)
+pub Takes-stored : (old : State) (s : Stream) (t : MomentValue) (key : CacheKeyValue) (pieces : List (List ℕ)) (b : FinishedBody) (o : Outcome) (new : State) (rest : Stream)
     → Gives t (entry_of key) (joined pieces) (Stored b) → MatchResult o (IsPutAnswer old (Some (Stored b))) (IsRefusal old b) → new ≡ behind_store old b o
     → (left : Order) × IsDrawn (order_behind old b) (evicted_by o) s left rest → TakesBy old s t (Put key pieces) o new rest
 Takes-stored old s t key pieces b (Ok a) new rest gives allowed is drawn = (Some (Stored b), gives, allowed, is, drawn)
@@ -32,7 +32,7 @@ Takes-stored old s t key pieces b (Err f) new rest gives allowed is drawn =
     fault = elim allowed [ inl memory ↦ inl (memory, tt) | inr late ↦ inr late ]
 
 -- an action without a response
-IsGiven-none : (t : Instant) (action : Action) → IsGiven t action None
+IsGiven-none : (t : MomentValue) (action : Action) → IsGiven t action None
 IsGiven-none t (Open id key) = tt
 IsGiven-none t (LookUp id) = tt
 IsGiven-none t (Read id) = tt

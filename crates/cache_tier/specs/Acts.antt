@@ -1,6 +1,6 @@
 -- One action at a moment: the outcomes that a state allows behind the checks, and the state behind an outcome.
 use Rattle.std.specs.Prelude.{◌≡◌, Option, Some, None, Ok, Err, ◌⊎◌}
-use Rattle.cache_words.specs.Time.{Instant}
+use Rattle.cache_words.specs.Time.{MomentValue}
 use Rattle.tier_model.specs.declared.rows.FinishedBody.{FinishedBody}
 use Rattle.tier_model.specs.declared.event.Done.{Done}
 use Rattle.rand_core.specs.Stream.{Stream}
@@ -17,10 +17,10 @@ use Rattle.tier_model.specs.State.{State}
 use Rattle.tier_model.specs.Step.{AllowsBy, IsGiven, IsStoreFault, put_behind, taken_back, behind}
 
 -- an outcome of an action that is not refused and has no response
-abbrev pub AllowsUnrefused : State → Instant → Action → Outcome → Type 0
+abbrev pub AllowsUnrefused : State → MomentValue → Action → Outcome → Type 0
 AllowsUnrefused s t action outcome = AllowsBy None s t action None outcome
 
-abbrev pub after_action : State → Instant → Action → Outcome → State
+abbrev pub after_action : State → MomentValue → Action → Outcome → State
 after_action s t action outcome = behind s t action None outcome
 
 -- why a body is not stored, or not kept
@@ -39,6 +39,6 @@ fault_for order.TooHeavy done = TooHeavy done
 fault_for order.TooLong done = TooLong done
 
 -- an action that is not refused was taken, by what its response gave, and with it the words from s to rest
-abbrev pub TakesBy : State → Stream → Instant → Action → Outcome → State → Stream → Type 0
+abbrev pub TakesBy : State → Stream → MomentValue → Action → Outcome → State → Stream → Type 0
 TakesBy old s t action outcome new rest =
     (given : Option Given) × IsGiven t action given × AllowsBy None old t action given outcome × (new ≡ behind old t action given outcome) × AreDrawn old given outcome s rest

@@ -3,7 +3,7 @@ use Rattle.std.specs.Prelude.{ℕ, List, Option, refl}
 use Rattle.std.specs.Coded.{Coded, code_by, coded×, coded_ℕ, coded_list, coded_option}
 use Rattle.std.specs.FinMap as finite
 use Rattle.std.specs.Ordering.{nat_cmp}
-use Rattle.cache_words.specs.Time.{Span}
+use Rattle.cache_words.specs.Time.{DurationValue}
 use Rattle.tier_model.specs.declared.rows.FinishedBody.{FinishedBody}
 use Rattle.tier_entries.specs.declared.rows.Tracked.{Tracked}
 use Rattle.tier_model.specs.declared.rows.Request.{Request}
@@ -12,12 +12,12 @@ use Rattle.tier_entries.specs.contracts.rows.Tracked.{the_row as tracked_row}
 use Rattle.tier_model.specs.contracts.rows.Request.{the_row as request_row}
 use Rattle.tier_model.specs.State.{Settings, State}
 
-abbrev pub span_code : Coded Span
+abbrev pub span_code : Coded DurationValue
 span_code = code_by (ℕ × ℕ) (coded× coded_ℕ coded_ℕ) (λ s. (s.seconds, s.nanoseconds)) (λ p. record { seconds = p.0; nanoseconds = p.1 }) (λ _. refl)
 
 abbrev pub settings_code : Coded Settings
 settings_code =
-    code_by (ℕ × (Option ℕ × (Span × Option Span))) (coded× coded_ℕ (coded× (coded_option coded_ℕ) (coded× span_code (coded_option span_code))))
+    code_by (ℕ × (Option ℕ × (DurationValue × Option DurationValue))) (coded× coded_ℕ (coded× (coded_option coded_ℕ) (coded× span_code (coded_option span_code))))
     (λ s. (s.limit, (s.watermark, (s.age, s.wait)))) (λ p. record { limit = p.0; watermark = p.1.0; age = p.1.1.0; wait = p.1.1.1 }) (λ _. refl)
 
 abbrev pub state_code : Coded State

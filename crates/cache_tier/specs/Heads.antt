@@ -1,9 +1,9 @@
 -- Heads as a map of their lines, and what a response gives by it.
 use Rattle.std.specs.Prelude.{◌≡◌, ℕ, ◌==◌, ◌||◌, false, List, drop, map, codes, if◌then◌else◌, Option, Some, None}
-use Rattle.cache_words.specs.Time.{Instant}
+use Rattle.cache_words.specs.Time.{MomentValue}
 use Rattle.cache_directives.specs.Control.{lines_under}
-use Rattle.cache_directives.specs.Lines.{map_of}
-use Rattle.cache_directives.specs.declared.header.ResponseHeader.{ResponseHeader}
+use Rattle.cache_headers.specs.Lines.{map_of}
+use Rattle.cache_headers.specs.declared.header.ResponseHeader.{ResponseHeader}
 use Rattle.cache_heads.specs.FreshUntil.{fresh_until}
 use Rattle.httparse.specs.Grammar.{ResponseHead, ReadsResponse, status_code}
 use Rattle.httparse.specs.Spans.{name_and_value}
@@ -17,11 +17,11 @@ abbrev pub announced : ResponseHeader → Option ℕ
 announced head = if head.status == 204 || head.status == 304 then Some 0 else first_length (lines_under (codes "content-length") head.headers)
 
 -- the last moment at which a response that came at that one is fresh, if it may be kept
-abbrev pub kept_until : Instant → ResponseHeader → Option Instant
+abbrev pub kept_until : MomentValue → ResponseHeader → Option MomentValue
 kept_until arrival head = fresh_until arrival (lines_under (codes "cache-control") head.headers) (lines_under (codes "expires") head.headers) false None
 
 -- what a head gives, with the bytes behind it
-abbrev pub given_behind : Instant → Entry → ResponseHeader → List ℕ → Given
+abbrev pub given_behind : MomentValue → Entry → ResponseHeader → List ℕ → Given
 given_behind arrival entry head rest = given_of arrival entry (body_within (announced head) rest) (kept_until arrival head)
 
 -- the bytes begin with a head of the parser's grammar, and that is it

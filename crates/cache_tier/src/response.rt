@@ -6,11 +6,12 @@ ghost use Rattle.http_header.specs.Token.{lowercase};
 ghost use Rattle.httparse.specs.Grammar.{HasNoResponse};
 ghost use Rattle.httparse.specs.Spans.{IsHeaderWithin, header_bytes};
 ghost use Rattle.tier_model.specs.Response.{joined, length_in, body_within, given_of, Gives, IsPlain};
-ghost use Rattle.cache_directives.specs.Lines.{map_of, IsLine};
+ghost use Rattle.cache_headers.specs.Lines.{map_of, IsLine};
 ghost use Rattle.cache_tier.specs.Heads.{announced, given_behind, IsHeadOf};
 
 use bytes::Bytes;
-use cache_directives::{CacheControl, ResponseHeader};
+use cache_directives::CacheControl;
+use cache_headers::ResponseHeader;
 use cache_heads::RespCacheable;
 use cache_heads::defaults::{CacheMetaDefaults, NeverByStatus};
 use cache_heads::filters::resp_cacheable;

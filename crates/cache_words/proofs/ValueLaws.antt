@@ -7,7 +7,7 @@ use Rattle.std.proofs.lemmas.Bool.Decides.{nat_tests}
 use Rattle.std.proofs.lemmas.Str.{is_utf8-from_IsUtf8, IsUtf8-from_is_utf8}
 use Rattle.cache_words.specs.declared.pack.fault.PackFault.{PackFault}
 use Rattle.cache_words.specs.declared.pack.fault.PackFault.TheVariants.{Short, Kind, Range, Utf8, Length}
-use Rattle.cache_words.specs.Time.{Instant, second}
+use Rattle.cache_words.specs.Time.{MomentValue, second}
 use Rattle.cache_words.specs.Key.{Key}
 use Rattle.cache_words.specs.Forms.{Stands, StandsBelow, numbers, arrays, texts, byte_strings}
 use Rattle.cache_words.specs.Pack.{SpellsText, SpellsBytes, SpellEach, SpellsHash, SpellsOptionalHash, SpellsMoment, SpellsKey, carried, nil, IsNil}
@@ -225,7 +225,7 @@ optional_again (Some h) text rest s = hash_is_some (text ++ rest) (h, rest) (has
 pub optional_hash_agrees : Agrees optional_hash_at SpellsOptionalHash
 optional_hash_agrees = record { takes = optional_takes; again = optional_again }
 
-moment_takes : (bytes : List ℕ) (x : Instant × List ℕ) → IsBytes bytes → moment_at bytes ≡ Ok x → Takes SpellsMoment bytes x.0 x.1
+moment_takes : (bytes : List ℕ) (x : MomentValue × List ℕ) → IsBytes bytes → moment_at bytes ≡ Ok x → Takes SpellsMoment bytes x.0 x.1
 unfolding moment_at
 moment_takes bytes x fits e =
     let a = bind_ok (array_of_at 2 bytes) (λ rest. number_at numbers rest >>= λ s. below_at (2 ^ 32) s.1 >>= λ n. cond (nat_lt (s.0 + n.0 / second) (2 ^ 63)) (Ok (carried s.0 n.0, n.1)) (Err Range)) x e in
@@ -235,7 +235,7 @@ moment_takes bytes x fits e =
     let t0 = array_takes 2 bytes a.0 fits a.1 in
     let t1 = (number_agrees numbers are_numbers).takes a.0 b.0 t0.rest_fits b.1 in
     let t2 = below_takes (2 ^ 32) b.0.1 c.0 t1.rest_fits c.1 in
-    subst (λ (y : Instant × List ℕ). Takes SpellsMoment bytes y.0 y.1) g.1 (record {
+    subst (λ (y : MomentValue × List ℕ). Takes SpellsMoment bytes y.0 y.1) g.1 (record {
       text = t0.text ++ (t1.text ++ t2.0.text);
       spelled = record {
         head = t0.text;
@@ -255,7 +255,7 @@ moment_takes bytes x fits e =
       rest_fits = t2.0.rest_fits;
     })
 
-moment_again : (v : Instant) (text rest : List ℕ) → SpellsMoment v text → moment_at (text ++ rest) ≡ Ok (v, rest)
+moment_again : (v : MomentValue) (text rest : List ℕ) → SpellsMoment v text → moment_at (text ++ rest) ≡ Ok (v, rest)
 unfolding moment_at
 moment_again v text rest t =
     let regrouped : text ++ rest ≡ t.head ++ (t.first ++ (t.behind ++ rest)) =

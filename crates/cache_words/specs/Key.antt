@@ -10,7 +10,7 @@ pub record Key : Type 0 where
   pub user_tag : List ℕ
 
 -- a key as it is asked for: the bytes that it names, and a hash that stands in place of theirs, if any
-pub record FullKey : Type 0 where
+pub record CacheKeyValue : Type 0 where
   pub primary : List ℕ
   pub primary_bin_override : Option (List ℕ)
   pub variance : Option (List ℕ)
@@ -22,7 +22,7 @@ primary_hash None bytes = blake2b_128 bytes
 primary_hash (Some hash) bytes = hash
 
 -- the key that a cache keeps
-abbrev pub key_of : FullKey → Key
+abbrev pub key_of : CacheKeyValue → Key
 key_of k = record {
   primary = primary_hash k.primary_bin_override k.primary;
   variance = k.variance;

@@ -1,7 +1,7 @@
 -- Values as MessagePack: which texts spell a value, and which of them is written.
 use Rattle.std.specs.Prelude.{◌≡◌, ℕ, ◌+◌, ◌/◌, ◌%◌, ◌<◌, ◌^◌, pos, nat_abs, List, [], ◌∷◌, ◌++◌, length, slice_index, flat_map, Option, Some, None, IsUtf8}
 use Rattle.cache_words.specs.Forms.{Stands, shortest, numbers, arrays, texts, byte_strings}
-use Rattle.cache_words.specs.Time.{Instant, second}
+use Rattle.cache_words.specs.Time.{MomentValue, second}
 use Rattle.cache_words.specs.Key.{Key}
 
 -- no value
@@ -57,11 +57,11 @@ optional_hash_of None = nil
 optional_hash_of (Some hash) = hash_of hash
 
 -- whole seconds and nanoseconds as an instant: what passes a second is carried
-abbrev pub carried : ℕ → ℕ → Instant
+abbrev pub carried : ℕ → ℕ → MomentValue
 carried s n = record { seconds = pos (s + n / second); nanoseconds = n % second }
 
 -- an instant that isn't before 1970: an array of its seconds and its nanoseconds, which are below 2 ^ 32
-pub record SpellsMoment (t : Instant) (text : List ℕ) : Type 0 where
+pub record SpellsMoment (t : MomentValue) (text : List ℕ) : Type 0 where
   pub head : List ℕ
   pub first : List ℕ
   pub behind : List ℕ
@@ -75,7 +75,7 @@ pub record SpellsMoment (t : Instant) (text : List ℕ) : Type 0 where
   pub value : t ≡ carried s n
   pub parts : text ≡ head ++ (first ++ behind)
 
-abbrev pub moment_of : Instant → List ℕ
+abbrev pub moment_of : MomentValue → List ℕ
 moment_of t = shortest arrays 2 ++ (shortest numbers (nat_abs t.seconds) ++ shortest numbers t.nanoseconds)
 
 -- a kept key: an array of the primary hash, the variance or no value, and the tag

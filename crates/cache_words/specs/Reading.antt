@@ -6,7 +6,7 @@ use Rattle.cache_words.specs.declared.pack.fault.PackFault.{PackFault}
 use Rattle.cache_words.specs.declared.pack.fault.PackFault.TheVariants.{Short, Kind, Range, Utf8, Length}
 use Rattle.cache_words.specs.Forms.{Form, Forms, numbers, arrays, texts, byte_strings}
 use Rattle.cache_words.specs.Pack.{carried}
-use Rattle.cache_words.specs.Time.{Instant, second}
+use Rattle.cache_words.specs.Time.{MomentValue, second}
 use Rattle.cache_words.specs.Key.{Key}
 
 infixl 10 ◌>>=◌
@@ -98,7 +98,7 @@ optional_hash_at (b ∷ rest) =
     if b == 0xc0 then Ok (None, rest)
     else hash_at (b ∷ rest) >>= λ hash. Ok (Some hash.0, hash.1)
 
-unfoldable pub moment_at : List ℕ → Result (Instant × List ℕ) PackFault
+unfoldable pub moment_at : List ℕ → Result (MomentValue × List ℕ) PackFault
 moment_at bytes = do
   rest ← array_of_at 2 bytes
   s ← number_at numbers rest

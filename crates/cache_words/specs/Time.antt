@@ -2,12 +2,12 @@
 use Rattle.std.specs.Prelude.{ℕ, ◌+◌, ◌-◌, ◌/◌, ◌%◌, ◌^◌, ℤ, pos, negsuc, ◌+ℤ◌, ◌-ℤ◌, nat_abs, Bool, true, ◌&&◌, nat_lt, nat_le, int_lt, int_le, if◌then◌else◌, Option, Some, None}
 
 -- a point in time: whole seconds since 1970, negative before it, and the nanoseconds behind them, below a second
-pub record Instant : Type 0 where
+pub record MomentValue : Type 0 where
   pub seconds : ℤ
   pub nanoseconds : ℕ
 
 -- a length of time
-pub record Span : Type 0 where
+pub record DurationValue : Type 0 where
   pub seconds : ℕ
   pub nanoseconds : ℕ
 
@@ -15,21 +15,21 @@ pub record Span : Type 0 where
 abbrev pub second : ℕ
 second = 1000000000
 
-abbrev pub from_seconds : ℤ → Instant
+abbrev pub from_seconds : ℤ → MomentValue
 from_seconds s = record { seconds = s; nanoseconds = 0 }
 
-abbrev pub span_of : ℕ → Span
+abbrev pub span_of : ℕ → DurationValue
 span_of s = record { seconds = s; nanoseconds = 0 }
 
 -- the first is no later than the second
-abbrev pub at_most : Instant → Instant → Bool
+abbrev pub at_most : MomentValue → MomentValue → Bool
 at_most a b =
     if int_lt a.seconds b.seconds
     then true
     else int_le a.seconds b.seconds && nat_le a.nanoseconds b.nanoseconds
 
 -- the first is at least as long as the second
-abbrev pub at_least : Span → Span → Bool
+abbrev pub at_least : DurationValue → DurationValue → Bool
 at_least a b =
     if nat_lt b.seconds a.seconds
     then true
@@ -41,24 +41,24 @@ fits_i64 (pos n) = nat_lt n (2 ^ 63)
 fits_i64 (negsuc n) = nat_lt n (2 ^ 63)
 
 -- an instant whose seconds fit, else none
-abbrev pub instant : ℤ → ℕ → Option Instant
+abbrev pub instant : ℤ → ℕ → Option MomentValue
 instant s n = if fits_i64 s then Some (record { seconds = s; nanoseconds = n }) else None
 
 -- the instant a span later; none where its seconds don't fit
-abbrev pub later_by : Instant → Span → Option Instant
+abbrev pub later_by : MomentValue → DurationValue → Option MomentValue
 later_by t d =
     let n : ℕ = t.nanoseconds + d.nanoseconds in
     instant (t.seconds +ℤ pos (d.seconds + n / second)) (n % second)
 
 -- the instant a span earlier; none where its seconds don't fit. A missing nanosecond is borrowed from the seconds
-abbrev pub earlier_by : Instant → Span → Option Instant
+abbrev pub earlier_by : MomentValue → DurationValue → Option MomentValue
 earlier_by t d =
     if nat_lt t.nanoseconds d.nanoseconds
     then instant (t.seconds -ℤ pos (d.seconds + 1)) (t.nanoseconds + second - d.nanoseconds)
     else instant (t.seconds -ℤ pos d.seconds) (t.nanoseconds - d.nanoseconds)
 
 -- the time from the first to the second; nothing where the second is before the first
-abbrev pub elapsed : Instant → Instant → Span
+abbrev pub elapsed : MomentValue → MomentValue → DurationValue
 elapsed a b =
     let between : ℕ = nat_abs (b.seconds -ℤ a.seconds) in
     if at_most a b
@@ -68,7 +68,7 @@ elapsed a b =
     else span_of 0
 
 -- both spans, one after the other; none from 2^64 seconds
-abbrev pub sum_of : Span → Span → Option Span
+abbrev pub sum_of : DurationValue → DurationValue → Option DurationValue
 sum_of a b =
     let n : ℕ = a.nanoseconds + b.nanoseconds in
     let s : ℕ = a.seconds + b.seconds + n / second in

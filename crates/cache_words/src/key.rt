@@ -3,7 +3,7 @@ ghost use Rattle.std.specs.Prelude.{◌≡◌, ◌↔◌, ◌++◌, ◌<◌, len
 ghost use Rattle.std.specs.List.{AllPass};
 ghost use Rattle.hex.specs.Hex.{encode_lower, decode_of, is_hex_digit};
 ghost use Rattle.cache_words.specs.Blake.{blake2b_128};
-ghost use Rattle.cache_words.specs.Key.{Key, FullKey, key_of, combined, shown};
+ghost use Rattle.cache_words.specs.Key.{Key, CacheKeyValue, key_of, combined, shown};
 
 use crate::blake::Blake2b128;
 use crate::text::Text;
@@ -109,9 +109,9 @@ pub struct CacheKey {
 }
 
 impl Model for CacheKey {
-    ghost use Rattle.cache_words.specs.Key.{FullKey};
+    ghost use Rattle.cache_words.specs.Key.{CacheKeyValue};
 
-    ghost Value = { FullKey };
+    ghost Value = { CacheKeyValue };
 
     ghost view = { λ k. record { primary = k.primary.items; primary_bin_override = k.primary_bin_override; variance = k.variance; user_tag = k.user_tag } };
 }

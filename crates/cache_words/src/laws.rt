@@ -4,7 +4,7 @@ ghost use Rattle.std.specs.FinMap as map;
 ghost use Rattle.cache_words.specs.Forms.{Stands, shortest, numbers, arrays, texts, byte_strings};
 ghost use Rattle.cache_words.specs.Key.{Key};
 ghost use Rattle.cache_words.specs.Pack.{SpellsText, SpellsBytes, SpellsHash, SpellsOptionalHash, SpellsMoment, SpellsKey, IsHash, text_of, bytes_of, hash_of, optional_hash_of, moment_of, key_text_of};
-ghost use Rattle.cache_words.specs.Time.{Instant, second};
+ghost use Rattle.cache_words.specs.Time.{MomentValue, second};
 ghost use Rattle.cache_words.specs.Variance.{Values};
 
 /// What a writer writes is a spelling of its value, so a reader reads it again, whatever follows.
@@ -28,7 +28,7 @@ pub fn one_spelling()
     ensures byte_string { (v w a b x y : List ℕ) → SpellsBytes v a → SpellsBytes w b → a ++ x ≡ b ++ y → (v ≡ w) × (x ≡ y) }
     ensures hash { (v w a b x y : List ℕ) → SpellsHash v a → SpellsHash w b → a ++ x ≡ b ++ y → (v ≡ w) × (x ≡ y) }
     ensures optional_hash { (v w : Option (List ℕ)) (a b x y : List ℕ) → SpellsOptionalHash v a → SpellsOptionalHash w b → a ++ x ≡ b ++ y → (v ≡ w) × (x ≡ y) }
-    ensures moment { (v w : Instant) (a b x y : List ℕ) → SpellsMoment v a → SpellsMoment w b → a ++ x ≡ b ++ y → (v ≡ w) × (x ≡ y) }
+    ensures moment { (v w : MomentValue) (a b x y : List ℕ) → SpellsMoment v a → SpellsMoment w b → a ++ x ≡ b ++ y → (v ≡ w) × (x ≡ y) }
     ensures key { (v w : Key) (a b x y : List ℕ) → SpellsKey v a → SpellsKey w b → a ++ x ≡ b ++ y → (v ≡ w) × (x ≡ y) }
 {}
 

@@ -1,6 +1,6 @@
 //! Points in time and lengths of time, to the nanosecond. No call reads a clock: moments are handed in.
 ghost use Rattle.std.specs.Prelude.{◌≡◌, ◌<◌, ℤ, pos, ◌<ℤ◌, ◌↔◌, IsTrue, Option, Some, None, if◌then◌else◌, nat_lt};
-ghost use Rattle.cache_words.specs.Time.{Instant, Span, at_most, at_least, later_by, earlier_by, elapsed, sum_of, from_seconds, span_of, instant, second};
+ghost use Rattle.cache_words.specs.Time.{MomentValue, DurationValue, at_most, at_least, later_by, earlier_by, elapsed, sum_of, from_seconds, span_of, instant, second};
 
 use std::marker::Model;
 
@@ -22,9 +22,9 @@ pub struct Moment {
 
 impl Model for Moment {
     ghost use Rattle.std.specs.Prelude.{◌<◌};
-    ghost use Rattle.cache_words.specs.Time.{Instant, second};
+    ghost use Rattle.cache_words.specs.Time.{MomentValue, second};
 
-    ghost Value = { Instant };
+    ghost Value = { MomentValue };
 
     ghost view = { λ m. record { seconds = m.seconds; nanoseconds = m.nanoseconds } };
 
@@ -42,9 +42,9 @@ pub struct Duration {
 
 impl Model for Duration {
     ghost use Rattle.std.specs.Prelude.{◌<◌};
-    ghost use Rattle.cache_words.specs.Time.{Span, second};
+    ghost use Rattle.cache_words.specs.Time.{DurationValue, second};
 
-    ghost Value = { Span };
+    ghost Value = { DurationValue };
 
     ghost view = { λ d. record { seconds = d.seconds; nanoseconds = d.nanoseconds } };
 

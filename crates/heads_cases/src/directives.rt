@@ -1,6 +1,7 @@
 //! Cases of directives: the lines of a header in hex, between commas.
 use crate::fields::add;
-use cache_directives::{CacheControl, Cacheable, Error, InterpretCacheControl, ListValueIter};
+use cache_directives::{CacheControl, Cacheable, InterpretCacheControl, ListValueIter};
+use cache_headers::Error;
 use cache_words::time::Duration;
 use http_header::HeaderMap;
 use std::alloc::{AllocError, Global};

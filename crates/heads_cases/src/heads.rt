@@ -3,7 +3,8 @@
 ghost use Rattle.heads_cases.specs.ByStatus.{by_status};
 
 use crate::fields::add;
-use cache_directives::{CacheControl, ResponseHeader};
+use cache_directives::CacheControl;
+use cache_headers::ResponseHeader;
 use cache_heads::RespCacheable;
 use cache_heads::defaults::{CacheMetaDefaults, FreshDurationByStatusFn};
 use cache_heads::filters::resp_cacheable;

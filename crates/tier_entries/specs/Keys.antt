@@ -1,12 +1,12 @@
 -- Stored keys and entries.
 use Rattle.std.specs.Prelude.{ℕ, ◌==◌, ◌&&◌, ◌||◌, Bool, true, false, List, [], ◌∷◌, Option, Some, None}
 use Rattle.std.specs.Cmp.Lexicographic.{pointwise}
-use Rattle.cache_words.specs.Key.{FullKey, primary_hash, combined}
+use Rattle.cache_words.specs.Key.{CacheKeyValue, primary_hash, combined}
 use Rattle.cache_words.specs.CompactKey.{compact_view}
 use Rattle.cache_words.specs.declared.key.CompactCacheKey.{CompactCacheKey}
 
 -- the entry of a key that is asked for
-abbrev pub entry_of : FullKey → CompactCacheKey
+abbrev pub entry_of : CacheKeyValue → CompactCacheKey
 entry_of k = record { primary = primary_hash k.primary_bin_override k.primary; variance = k.variance; user_tag = k.user_tag }
 
 -- the stored key of an entry: the 16 bytes of its two hashes. The tag is not in it, so entries of several tags have one stored key

@@ -5,8 +5,8 @@ use Rattle.std.specs.List.{AllByRecursion, sum_by}
 use Rattle.std.specs.FinMap.{get, insert}
 use Rattle.std.proofs.lemmas.List.Sums.{sum_by-cons}
 use Rattle.std.proofs.Math.Nat.{le-max_right}
-use Rattle.cache_words.specs.Time.{Instant}
-use Rattle.cache_words.specs.Key.{FullKey}
+use Rattle.cache_words.specs.Time.{MomentValue}
+use Rattle.cache_words.specs.Key.{CacheKeyValue}
 use Rattle.tier_entries.specs.declared.rows.Tracked.{Tracked}
 use Rattle.tier_entries.specs.Keys.{entry_of, stored_key, same_key, same_entry}
 use Rattle.tier_entries.specs.Rows.{row_of, weight_of, all_weights, without_row, without_rows, admitted, used, is_past, is_over}
@@ -172,7 +172,7 @@ tracked_within limit mark held rows t e bodies d h =
     let sums : (sum_by (λ b. length b.bytes) bodies ≤ all_weights rows) × (length bodies ≤ length rows) = within_weights bodies rows d (held_tracked held bodies rows t h) in
     (omega (arith, sums.0, kept_weight limit mark rows e), is_past-less mark (length bodies) (length rows) sums.1 (kept_count limit mark rows e))
 
-look_keeps : (s : State) (t : Instant) (i : ℕ) (q : Request) (b : Option FinishedBody) → KeepsLimits s → KeepsLimits (look_behind s t i q b)
+look_keeps : (s : State) (t : MomentValue) (i : ℕ) (q : Request) (b : Option FinishedBody) → KeepsLimits s → KeepsLimits (look_behind s t i q b)
 look_keeps s t i q None h = record { within = h.within; tracked = h.tracked }
 look_keeps s t i q (Some x) h = record { within = h.within; tracked = AreTracked-used q.entry (weight_for x) s.bodies s.tracked h.tracked }
 
@@ -180,7 +180,7 @@ request_keeps : (s : State) (o : Option Request) (f : Request → State) → Kee
 request_keeps s None f h k = h
 request_keeps s (Some q) f h k = k q
 
-purge_keeps : (s : State) (key : FullKey) (v : Bool) → KeepsLimits s → KeepsLimits (purge_behind s key v)
+purge_keeps : (s : State) (key : CacheKeyValue) (v : Bool) → KeepsLimits s → KeepsLimits (purge_behind s key v)
 purge_keeps s key false h = h
 purge_keeps s key true h = record {
   within = fewer_within s.settings.limit s.settings.watermark s.bodies (without_body (key_asked key) s.bodies) (fewer_without (key_asked key) s.bodies) h.within;
@@ -211,7 +211,7 @@ back_keeps true s x es h = record {
   tracked = AreTracked-without x (without_bodies es s.bodies) (without_rows es s.tracked) (AreTracked-without_all es s.bodies s.tracked h.tracked);
 }
 
-answer_keeps : (s : State) (t : Instant) (g : Option Given) (action : Action) (a : Answer) → IsAnswer s t action g a → KeepsLimits s → KeepsLimits (answered s t action g a)
+answer_keeps : (s : State) (t : MomentValue) (g : Option Given) (action : Action) (a : Answer) → IsAnswer s t action g a → KeepsLimits s → KeepsLimits (answered s t action g a)
 answer_keeps s t g (Open i key) a p h = record { within = h.within; tracked = h.tracked }
 answer_keeps s t g (LookUp i) a p h = request_keeps s (get s.requests i) (λ q. look_behind s t i q (body_for q s.bodies)) h (λ q. look_keeps s t i q (body_for q s.bodies) h)
 answer_keeps s t g (Read i) a p h =

@@ -4,7 +4,7 @@ use Rattle.std.specs.Prelude.{Bool, List, Option, Some, None, is_some, Ok, Err}
 use Rattle.std.specs.FinMap.{get, insert, get-empty}
 use Rattle.std.specs.Ordering.{nat_cmp}
 use Rattle.std.proofs.lemmas.Bool.Decides.{nat_tests}
-use Rattle.cache_words.specs.Key.{FullKey}
+use Rattle.cache_words.specs.Key.{CacheKeyValue}
 use Rattle.tier_entries.specs.Keys.{entry_of, stored_key}
 use Rattle.tier_entries.specs.Rows.{is_past}
 use Rattle.tier_model.specs.Keys.{Entry, key_asked}
@@ -19,7 +19,7 @@ use Rattle.tier_model.specs.declared.event.Action.TheVariants.{Open, LookUp, Rea
 use Rattle.tier_model.specs.declared.event.Answer.{Answer}
 use Rattle.tier_model.specs.declared.event.Answer.TheVariants.{Finished}
 use Rattle.tier_model.specs.declared.event.TierFault.{TierFault}
-use Rattle.cache_words.specs.Time.{Instant}
+use Rattle.cache_words.specs.Time.{MomentValue}
 use Rattle.tier_model.specs.Calls.{Call, History, AreCallsOf, extended, Outcome, done_of}
 use Rattle.std.specs.List.{AllByRecursion, sum_by}
 use Rattle.tier_model.specs.Histories.{HasDistinctKeys, IsBody}
@@ -41,11 +41,11 @@ request_settings : (s : State) (o : Option Request) (f : Request → State) → 
 request_settings s None f h = refl
 request_settings s (Some q) f h = h q
 
-look_settings : (s : State) (t : Instant) (i : ℕ) (q : Request) (b : Option FinishedBody) → (look_behind s t i q b).settings ≡ s.settings
+look_settings : (s : State) (t : MomentValue) (i : ℕ) (q : Request) (b : Option FinishedBody) → (look_behind s t i q b).settings ≡ s.settings
 look_settings s t i q None = refl
 look_settings s t i q (Some b) = refl
 
-purge_settings : (s : State) (key : FullKey) (v : Bool) → (purge_behind s key v).settings ≡ s.settings
+purge_settings : (s : State) (key : CacheKeyValue) (v : Bool) → (purge_behind s key v).settings ≡ s.settings
 purge_settings s key false = refl
 purge_settings s key true = refl
 
@@ -62,7 +62,7 @@ back_settings : (v : Bool) (s : State) (key : Entry) (es : List Entry) → (take
 back_settings false s key es = refl
 back_settings true s key es = refl
 
-answer_settings : (s : State) (t : Instant) (g : Option Given) (action : Action) (a : Answer) → (answered s t action g a).settings ≡ s.settings
+answer_settings : (s : State) (t : MomentValue) (g : Option Given) (action : Action) (a : Answer) → (answered s t action g a).settings ≡ s.settings
 answer_settings s t g (Open i key) a = refl
 answer_settings s t g (LookUp i) a = request_settings s (get s.requests i) (λ q. look_behind s t i q (body_for q s.bodies)) (λ q. look_settings s t i q (body_for q s.bodies))
 answer_settings s t g (Read i) a = request_settings s (get s.requests i) (λ q. record s { requests = insert s.requests i (read_behind q) }) (λ q. refl)

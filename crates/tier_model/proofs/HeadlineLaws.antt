@@ -2,7 +2,7 @@
 use Rattle.std.proofs.Common.{◌≡◌, refl, ap, sym, ◌∙◌, true, false, subst, cond, ◌++◌}
 use Rattle.std.specs.Prelude.{ℕ, List, Option, Some, None, is_some, Ok, Err, MatchOption}
 use Rattle.std.specs.FinMap.{get}
-use Rattle.cache_words.specs.Time.{Instant}
+use Rattle.cache_words.specs.Time.{MomentValue}
 use Rattle.tier_entries.specs.Keys.{stored_key}
 use Rattle.tier_model.specs.Keys.{StoredKey, key_asked}
 use Rattle.tier_model.specs.declared.given.Given.{Given}
@@ -33,7 +33,7 @@ not_found k s h fits e found =
     let clash : is_some {T = FinishedBody} None ≡ true = ap is_some (sym gone) ∙ there in
     cc
 
-look_right : (s : State) (t : Instant) (g : Option Given) (i : ℕ) (a : Answer) (h : History) (o : Option Request) → Fits s h → get s.requests i ≡ o
+look_right : (s : State) (t : MomentValue) (g : Option Given) (i : ℕ) (a : Answer) (h : History) (o : Option Request) → Fits s h → get s.requests i ≡ o
     → MatchOption o ⊥ (λ q. (a ≡ look_answer t (body_for q s.bodies)) × (use_is_too_heavy q.entry (body_for q s.bodies) s.tracked ≡ false)) → LooksRight i t a h
 look_right s t g i a h None fits e p = absurd p
 look_right s t g i a h (Some q) fits e p = by_body (body_for q s.bodies) refl p.0
@@ -49,7 +49,7 @@ reader_right i Closed h e fits = cc
 reader_right i (Unread bytes) h e fits = record { body = fits.0; since = fits.1; hit = fits.2; whole = ap (λ (xs : List ℕ). xs ++ bytes) fits.3 ∙ fits.4 }
 reader_right i Spent h e fits = record { body = fits.0; since = fits.1; hit = fits.2; whole = append_nothing _ ∙ fits.3 }
 
-read_right : (s : State) (t : Instant) (g : Option Given) (i : ℕ) (a : Answer) (h : History) (o : Option Request) → Fits s h → get s.requests i ≡ o
+read_right : (s : State) (t : MomentValue) (g : Option Given) (i : ℕ) (a : Answer) (h : History) (o : Option Request) → Fits s h → get s.requests i ≡ o
     → unless_open o (λ q. cond (has_reader q.reader) None (Some WrongPhase)) ≡ None → MatchOption o ⊥ (λ q. a ≡ read_answer q.reader) → ReadsWhole i a h
 read_right s t g i a h None fits e n p = absurd p
 read_right s t g i a h (Some q) fits e n p =
@@ -65,7 +65,7 @@ purge_right s k h fits = (to_found, λ found. ap is_some (fits.bodies k) ∙ bod
     to_found : is_some (body_of k s.bodies) ≡ true → IsFound k h
     to_found t = by_body (body_now k h) refl (ap is_some (sym (fits.bodies k)) ∙ t)
 
-answer_right : (s : State) (t : Instant) (g : Option Given) (action : Action) (a : Answer) (h : History) → Fits s h → refusal s action ≡ None → IsAnswer s t action g a → IsRight t action (Ok a) h
+answer_right : (s : State) (t : MomentValue) (g : Option Given) (action : Action) (a : Answer) (h : History) → Fits s h → refusal s action ≡ None → IsAnswer s t action g a → IsRight t action (Ok a) h
 answer_right s t g (Open i key) a h fits n p = tt
 answer_right s t g (LookUp i) a h fits n p = look_right s t g i a h (get s.requests i) fits refl p
 answer_right s t g (Read i) a h fits n p = read_right s t g i a h (get s.requests i) fits refl n p
@@ -73,7 +73,7 @@ answer_right s t g (Drop i) a h fits n p = tt
 answer_right s t g (Purge key) a h fits n p = subst (λ (x : Answer). PurgesRight (key_asked key) x h) (sym p) (purge_right s (key_asked key) h fits)
 answer_right s t g (Put key pieces) a h fits n p = tt
 
-fault_right : (t : Instant) (g : Option Given) (action : Action) (f : TierFault) (h : History) → IsRight t action (Err f) h
+fault_right : (t : MomentValue) (g : Option Given) (action : Action) (f : TierFault) (h : History) → IsRight t action (Err f) h
 fault_right t g (Open i key) f h = tt
 fault_right t g (LookUp i) f h = tt
 fault_right t g (Read i) f h = tt

@@ -3,8 +3,8 @@ use Rattle.std.proofs.Common.{◌≡◌, ℕ, ◌+◌, refl, ap, sym, ◌∙◌,
 use Rattle.std.specs.Prelude.{Bool, List, Option, Some, None, is_some, not, Ok, Err, MatchOption}
 use Rattle.std.specs.List.{AllByRecursion}
 use Rattle.std.specs.FinMap.{get, insert}
-use Rattle.cache_words.specs.Time.{Instant}
-use Rattle.cache_words.specs.Key.{FullKey}
+use Rattle.cache_words.specs.Time.{MomentValue}
+use Rattle.cache_words.specs.Key.{CacheKeyValue}
 use Rattle.tier_entries.specs.Keys.{entry_of, stored_key, same_key}
 use Rattle.tier_model.specs.declared.given.Given.{Given}
 use Rattle.tier_model.specs.declared.given.Given.TheVariants.{Stored}
@@ -115,7 +115,7 @@ uncounted s new c h f a e d nf na ne t = record {
   distinct = d;
 }
 
-look_tally : (s : State) (t : Instant) (g : Option Given) (i : ℕ) (q : Request) (b : Option FinishedBody) (a : Answer) (h : History) → a ≡ look_answer t b → Tallies s h
+look_tally : (s : State) (t : MomentValue) (g : Option Given) (i : ℕ) (q : Request) (b : Option FinishedBody) (a : Answer) (h : History) → a ≡ look_answer t b → Tallies s h
     → Tallies (look_behind s t i q b) (call_at t (LookUp i) g (Ok a) ∷ h)
 look_tally s t g i q None a h e tally = subst (λ (y : Answer). Tallies (look_behind s t i q None) (call_at t (LookUp i) g (Ok y) ∷ h)) (sym e) (record {
   found = tally.found;
@@ -130,13 +130,13 @@ look_tally s t g i q (Some b) a h e tally = subst (λ (y : Answer). Tallies (loo
   distinct = tally.distinct;
 })
 
-request_tally : (s : State) (t : Instant) (g : Option Given) (i : ℕ) (a : Answer) (h : History) (o : Option Request)
+request_tally : (s : State) (t : MomentValue) (g : Option Given) (i : ℕ) (a : Answer) (h : History) (o : Option Request)
     → MatchOption o ⊥ (λ q. (a ≡ look_answer t (body_for q s.bodies)) × (use_is_too_heavy q.entry (body_for q s.bodies) s.tracked ≡ false))
     → Tallies s h → Tallies (on_request s o (λ q. look_behind s t i q (body_for q s.bodies))) (call_at t (LookUp i) g (Ok a) ∷ h)
 request_tally s t g i a h None p tally = absurd p
 request_tally s t g i a h (Some q) p tally = look_tally s t g i q (body_for q s.bodies) a h p.0 tally
 
-read_tally : (s : State) (t : Instant) (g : Option Given) (i : ℕ) (a : Answer) (h : History) (o : Option Request) → MatchOption o ⊥ (λ q. a ≡ read_answer q.reader)
+read_tally : (s : State) (t : MomentValue) (g : Option Given) (i : ℕ) (a : Answer) (h : History) (o : Option Request) → MatchOption o ⊥ (λ q. a ≡ read_answer q.reader)
     → Tallies s h → Tallies (on_request s o (λ q. record s { requests = insert s.requests i (read_behind q) })) (call_at t (Read i) g (Ok a) ∷ h)
 read_tally s t g i a h None p tally = absurd p
 read_tally s t g i a h (Some q) p tally = by_reader q.reader p
@@ -150,12 +150,12 @@ read_tally s t g i a h (Some q) p tally = by_reader q.reader p
         subst (λ (y : Answer). Tallies new (call_at t (Read i) g (Ok y) ∷ h)) (sym e) (uncounted s new (call_at t (Read i) g (Ok (Bytes bytes))) h refl refl refl tally.distinct refl refl refl tally)
     by_reader Spent e = subst (λ (y : Answer). Tallies new (call_at t (Read i) g (Ok y) ∷ h)) (sym e) (uncounted s new (call_at t (Read i) g (Ok End)) h refl refl refl tally.distinct refl refl refl tally)
 
-purge_tally : (s : State) (t : Instant) (g : Option Given) (key : FullKey) (h : History) (v : Bool) → Tallies s h → Tallies (purge_behind s key v) (call_at t (Purge key) g (Ok (Purged v)) ∷ h)
+purge_tally : (s : State) (t : MomentValue) (g : Option Given) (key : CacheKeyValue) (h : History) (v : Bool) → Tallies s h → Tallies (purge_behind s key v) (call_at t (Purge key) g (Ok (Purged v)) ∷ h)
 purge_tally s t g key h false tally = uncounted s s (call_at t (Purge key) g (Ok (Purged false))) h refl refl refl tally.distinct refl refl refl tally
 purge_tally s t g key h true tally =
     uncounted s (purge_behind s key true) (call_at t (Purge key) g (Ok (Purged true))) h refl refl refl (distinct_without (key_asked key) s.bodies tally.distinct) refl refl refl tally
 
-put_tally : (s : State) (t : Instant) (g : Option Given) (key : FullKey) (pieces : List (List ℕ)) (a : Answer) (h : History) → IsPutAnswer s g a
+put_tally : (s : State) (t : MomentValue) (g : Option Given) (key : CacheKeyValue) (pieces : List (List ℕ)) (a : Answer) (h : History) → IsPutAnswer s g a
     → Tallies s h → Tallies (put_behind s g a) (call_at t (Put key pieces) g (Ok a) ∷ h)
 put_tally s t (Some (Stored b)) key pieces (Finished n es) h p tally = record {
   found = tally.found;
@@ -172,7 +172,7 @@ put_tally s t (Some given.BeforeEpoch) key pieces _ h p tally = absurd p
 put_tally s t (Some (given.Uncacheable reason)) key pieces _ h p tally = absurd p
 put_tally s t None key pieces _ h p tally = absurd p
 
-answer_tally : (s : State) (t : Instant) (g : Option Given) (action : Action) (a : Answer) (h : History) → IsAnswer s t action g a → Tallies s h → Tallies (answered s t action g a) (call_at t action g (Ok a) ∷ h)
+answer_tally : (s : State) (t : MomentValue) (g : Option Given) (action : Action) (a : Answer) (h : History) → IsAnswer s t action g a → Tallies s h → Tallies (answered s t action g a) (call_at t action g (Ok a) ∷ h)
 answer_tally s t g (Open i key) a h p tally =
     subst (λ (y : Answer). Tallies (answered s t (Open i key) g y) (call_at t (Open i key) g (Ok y) ∷ h)) (sym p)
     (uncounted s (answered s t (Open i key) g Opened) (call_at t (Open i key) g (Ok Opened)) h refl refl refl tally.distinct refl refl refl tally)
@@ -186,7 +186,7 @@ answer_tally s t g (Purge key) a h p tally =
 answer_tally s t g (Put key pieces) a h p tally = put_tally s t g key pieces a h p tally
 
 -- a put's fault that had stored, and one that had not
-back_tally : (v : Bool) (s : State) (t : Instant) (g : Option Given) (key : FullKey) (pieces : List (List ℕ)) (f : TierFault) (h : History) → (done_of f).stored ≡ v
+back_tally : (v : Bool) (s : State) (t : MomentValue) (g : Option Given) (key : CacheKeyValue) (pieces : List (List ℕ)) (f : TierFault) (h : History) → (done_of f).stored ≡ v
     → Tallies s h → Tallies (taken_back v s (entry_of key) (done_of f).evicted) (call_at t (Put key pieces) g (Err f) ∷ h)
 back_tally false s t g key pieces f h e tally =
     uncounted s s (call_at t (Put key pieces) g (Err f)) h refl refl refl tally.distinct refl refl (ap (λ v. cond v (done_of f).evicted []) e) tally
@@ -200,7 +200,7 @@ back_tally true s t g key pieces f h e tally = record {
 quiet_evicts : (done : Done) → done ≡ nothing_done → cond done.stored done.evicted [] ≡ []
 quiet_evicts done e = subst (λ (d : Done). cond d.stored d.evicted [] ≡ []) (sym e) refl
 
-fault_tally : (s : State) (t : Instant) (g : Option Given) (action : Action) (f : TierFault) (h : History) → AllowsBy (refusal s action) s t action g (Err f) → Tallies s h
+fault_tally : (s : State) (t : MomentValue) (g : Option Given) (action : Action) (f : TierFault) (h : History) → AllowsBy (refusal s action) s t action g (Err f) → Tallies s h
     → Tallies (undone s action (done_of f)) (call_at t action g (Err f) ∷ h)
 fault_tally s t g (Open i key) f h p tally = uncounted s s (call_at t (Open i key) g (Err f)) h refl refl refl tally.distinct refl refl (quiet_evicts (done_of f) (did_nothing s t g (Open i key) f p refl)) tally
 fault_tally s t g (LookUp i) f h p tally = uncounted s s (call_at t (LookUp i) g (Err f)) h refl refl refl tally.distinct refl refl (quiet_evicts (done_of f) (did_nothing s t g (LookUp i) f p refl)) tally

@@ -6,8 +6,8 @@ use Rattle.std.specs.Ordering.{nat_cmp}
 use Rattle.std.specs.Cmp.{unsigned_tied}
 use Rattle.std.proofs.lemmas.Cmp.{nat_cmp_total, eq_by_cmp_equiv}
 use Rattle.std.proofs.lemmas.Bool.{eqb-true, eq-eqb}
-use Rattle.cache_words.specs.Time.{Instant, at_most}
-use Rattle.cache_words.specs.Key.{FullKey}
+use Rattle.cache_words.specs.Time.{MomentValue, at_most}
+use Rattle.cache_words.specs.Key.{CacheKeyValue}
 use Rattle.tier_entries.specs.Keys.{entry_of, stored_key}
 use Rattle.tier_model.specs.Keys.{StoredKey, Entry, key_asked}
 use Rattle.tier_model.specs.declared.given.Given.{Given}
@@ -115,12 +115,12 @@ pub of_request : (s : State) (h : History) → Fits s h → (i : ℕ) (q : Reque
 of_request s h fits i q e = subst (λ (o : Option Request). RequestFits i o h) e (fits.requests i)
 
 -- what a complete hit showed is what the reader has
-found_reader : (t : Instant) (g : Option Given) (i : ℕ) (q : Request) (w : FinishedBody) (fresh : Bool) (h : History) → opened_for i h ≡ Some q.entry → IsBody (stored_key q.entry) w h
+found_reader : (t : MomentValue) (g : Option Given) (i : ℕ) (q : Request) (w : FinishedBody) (fresh : Bool) (h : History) → opened_for i h ≡ Some q.entry → IsBody (stored_key q.entry) w h
     → ReaderFits i (Unread w.bytes) (call_at t (LookUp i) g (Ok (Found fresh true)) ∷ h)
 found_reader t g i q w fresh h key body =
     (w, [], record { call = call_at t (LookUp i) g (Ok (Found fresh true)); before = h; entry = q.entry; split = refl; hit = ap (λ v. v && true) (itself i); of_entry = key; shows = body; last = tt }, refl, refl)
 
-look_fits : (s : State) (t : Instant) (g : Option Given) (i : ℕ) (a : Answer) (h : History) (o : Option Request) → Fits s h → get s.requests i ≡ o
+look_fits : (s : State) (t : MomentValue) (g : Option Given) (i : ℕ) (a : Answer) (h : History) (o : Option Request) → Fits s h → get s.requests i ≡ o
     → MatchOption o ⊥ (λ q. (a ≡ look_answer t (body_for q s.bodies)) × (use_is_too_heavy q.entry (body_for q s.bodies) s.tracked ≡ false))
     → (id : ℕ) → RequestFits id (get (on_request s o (λ q. look_behind s t i q (body_for q s.bodies))).requests id) (call_at t (LookUp i) g (Ok a) ∷ h)
 look_fits s t g i a h None fits e p id = absurd p
@@ -141,7 +141,7 @@ look_fits s t g i a h (Some q) fits e p id = by_body (body_for q s.bodies) refl 
         (λ n. record { key = refl; reader = n; bytes = refl }) (fits.requests id)
 
 -- a read of what is unread gives all of it, and one behind it nothing
-read_reader : (t : Instant) (g : Option Given) (i : ℕ) (r : Reader) (h : History) → has_reader r ≡ true → ReaderFits i r h → ReaderFits i Spent (call_at t (Read i) g (Ok (read_answer r)) ∷ h)
+read_reader : (t : MomentValue) (g : Option Given) (i : ℕ) (r : Reader) (h : History) → has_reader r ≡ true → ReaderFits i r h → ReaderFits i Spent (call_at t (Read i) g (Ok (read_answer r)) ∷ h)
 read_reader t g i Closed h e fits = cc
 read_reader t g i (Unread bytes) h e fits = (
   fits.0,
@@ -164,7 +164,7 @@ reader_there q e = by_test (has_reader q.reader) refl e
     by_test true n e = n
     by_test false n e = cc
 
-read_fits : (s : State) (t : Instant) (g : Option Given) (i : ℕ) (a : Answer) (h : History) (o : Option Request) → Fits s h → get s.requests i ≡ o
+read_fits : (s : State) (t : MomentValue) (g : Option Given) (i : ℕ) (a : Answer) (h : History) (o : Option Request) → Fits s h → get s.requests i ≡ o
     → unless_open o (λ q. cond (has_reader q.reader) None (Some WrongPhase)) ≡ None → MatchOption o ⊥ (λ q. a ≡ read_answer q.reader)
     → (id : ℕ) → RequestFits id (get (on_request s o (λ q. record s { requests = insert s.requests i (read_behind q) })).requests id) (call_at t (Read i) g (Ok a) ∷ h)
 read_fits s t g i a h None fits e n p id = absurd p
@@ -177,7 +177,7 @@ read_fits s t g i a h (Some q) fits e n p id =
 pub unmoved : (s new : State) (c : Call) (h : History) → Fits s h → new.requests ≡ s.requests → ((id : ℕ) → IsOther id c h) → (id : ℕ) → RequestFits id (get new.requests id) (c ∷ h)
 unmoved s new c h fits e other id = subst (λ (m : FinMap nat_cmp Request). RequestFits id (get m id) (c ∷ h)) (sym e) (other_request id (get s.requests id) c h (other id) (fits.requests id))
 
-purge_requests : (s : State) (key : FullKey) (v : Bool) → (purge_behind s key v).requests ≡ s.requests
+purge_requests : (s : State) (key : CacheKeyValue) (v : Bool) → (purge_behind s key v).requests ≡ s.requests
 purge_requests s key true = refl
 purge_requests s key false = refl
 
@@ -194,7 +194,7 @@ back_requests : (v : Bool) (s : State) (key : Entry) (es : List Entry) → (take
 back_requests true s key es = refl
 back_requests false s key es = refl
 
-answer_fits : (s : State) (t : Instant) (g : Option Given) (action : Action) (a : Answer) (h : History) → Fits s h → refusal s action ≡ None → IsAnswer s t action g a
+answer_fits : (s : State) (t : MomentValue) (g : Option Given) (action : Action) (a : Answer) (h : History) → Fits s h → refusal s action ≡ None → IsAnswer s t action g a
     → (id : ℕ) → RequestFits id (get (answered s t action g a).requests id) (call_at t action g (Ok a) ∷ h)
 answer_fits s t g (Open i key) a h fits n p id =
     subst (λ (x : Answer). RequestFits id (get (insert s.requests i (opened_request (entry_of key))) id) (call_at t (Open i key) g (Ok x) ∷ h)) (sym p)
@@ -211,7 +211,7 @@ answer_fits s t g (Purge key) a h fits n p id =
 answer_fits s t g (Put key pieces) a h fits n p id =
     unmoved s (put_behind s g a) (call_at t (Put key pieces) g (Ok a)) h fits (put_requests s g a) (λ i. record { key = refl; reader = refl; bytes = refl }) id
 
-fault_other : (t : Instant) (g : Option Given) (action : Action) (f : TierFault) (h : History) (id : ℕ) → IsOther id (call_at t action g (Err f)) h
+fault_other : (t : MomentValue) (g : Option Given) (action : Action) (f : TierFault) (h : History) (id : ℕ) → IsOther id (call_at t action g (Err f)) h
 fault_other t g (Open i key) f h id = record { key = refl; reader = refl; bytes = refl }
 fault_other t g (LookUp i) f h id = record { key = refl; reader = refl; bytes = refl }
 fault_other t g (Read i) f h id = record { key = refl; reader = refl; bytes = refl }
@@ -228,7 +228,7 @@ undone_requests s (Purge key) f = refl
 undone_requests s (Put key pieces) f = back_requests (done_of f).stored s (entry_of key) (done_of f).evicted
 
 -- no check failed where there is an answer
-pub unrefused : (r : Option TierFault) (s : State) (t : Instant) (g : Option Given) (action : Action) (a : Answer) → refusal s action ≡ r → AllowsBy r s t action g (Ok a) → refusal s action ≡ None
+pub unrefused : (r : Option TierFault) (s : State) (t : MomentValue) (g : Option Given) (action : Action) (a : Answer) → refusal s action ≡ r → AllowsBy r s t action g (Ok a) → refusal s action ≡ None
 unrefused (Some f) s t g action a e p = cc
 unrefused None s t g action a e p = e
 

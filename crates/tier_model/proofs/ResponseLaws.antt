@@ -3,7 +3,7 @@ use Rattle.std.proofs.Common.{◌≡◌, ℕ, ◌≤◌, ◌<◌, List, ◌++◌
 use Rattle.std.proofs.lemmas.Bool.{cases_lt}
 use Rattle.std.proofs.lemmas.List.{take-append-le, take-append-drop}
 use Rattle.std.proofs.Math.Seq.{take-append_seam}
-use Rattle.cache_words.specs.Time.{Instant}
+use Rattle.cache_words.specs.Time.{MomentValue}
 use Rattle.httparse.specs.Grammar.{ResponseHead, ReadsResponse, HasNoResponse, print_response}
 use Rattle.httparse.proofs.GrammarLemmas.{response_prefix_free}
 use Rattle.tier_model.specs.Keys.{Entry}
@@ -24,7 +24,7 @@ read_none bytes more h rest r l k other s =
     omega (arith, ap length s.1, length-append (print_response k) other, ap (λ (x : ResponseHead). length (print_response x)) same)
 
 -- a head that is read, or the beginning of one, settles what is given
-pub Gives-plain : (arrival : Instant) (entry : Entry) (bytes : List ℕ) (a b : Given) → IsPlain bytes → Gives arrival entry bytes a → Gives arrival entry bytes b → a ≡ b
+pub Gives-plain : (arrival : MomentValue) (entry : Entry) (bytes : List ℕ) (a b : Given) → IsPlain bytes → Gives arrival entry bytes a → Gives arrival entry bytes b → a ≡ b
 Gives-plain arrival entry bytes a b plain x y =
     let head : ResponseHead = plain.1 in
     elim (cases_lt (length bytes) (length (print_response head))) [

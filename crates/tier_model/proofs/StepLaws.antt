@@ -2,8 +2,8 @@
 use Rattle.std.proofs.Common.{◌≡◌, refl, ap, sym, ◌∙◌, true, false, subst, cond, [], ◌||◌, inl, inr}
 use Rattle.std.specs.Prelude.{Bool, ℕ, List, Option, Some, None, is_some, Ok, Err, ◌⊎◌, ◌&&◌, MatchOption}
 use Rattle.std.specs.FinMap.{get, insert}
-use Rattle.cache_words.specs.Time.{Instant}
-use Rattle.cache_words.specs.Key.{FullKey}
+use Rattle.cache_words.specs.Time.{MomentValue}
+use Rattle.cache_words.specs.Key.{CacheKeyValue}
 use Rattle.tier_entries.specs.Keys.{entry_of, stored_key, same_key, has_key}
 use Rattle.tier_model.specs.declared.given.Given.{Given}
 use Rattle.tier_model.specs.declared.given.Given.TheVariants.{Stored}
@@ -66,7 +66,7 @@ unchosen true o new = refl
 unchosen false o new = refl
 
 -- whatever a refused put had done
-put_undone : (s : State) (key : FullKey) (pieces : List (List ℕ)) (done : Done) (k : StoredKey) (new : Option FinishedBody)
+put_undone : (s : State) (key : CacheKeyValue) (pieces : List (List ℕ)) (done : Done) (k : StoredKey) (new : Option FinishedBody)
     → body_of k (undone s (Put key pieces) done).bodies ≡ body_chosen ((done.stored && same_key (key_asked key) k) || has_key k (cond done.stored done.evicted [])) false new (body_of k s.bodies)
 put_undone s key pieces done k new = by_stored done.stored
   where
@@ -90,7 +90,7 @@ not_some None e = refl
 not_some (Some b) e = cc
 
 -- what a purge leaves, by whether something was there
-purged : (s : State) (key : FullKey) (k : StoredKey) (new : Option FinishedBody) (v : Bool) → is_some (body_of (key_asked key) s.bodies) ≡ v
+purged : (s : State) (key : CacheKeyValue) (k : StoredKey) (new : Option FinishedBody) (v : Bool) → is_some (body_of (key_asked key) s.bodies) ≡ v
     → body_of k (purge_behind s key v).bodies ≡ body_chosen (same_key (key_asked key) k || false) false new (body_of k s.bodies)
 purged s key k new true e =
     body_of-without k (key_asked key) s.bodies ∙ unchosen (same_key (key_asked key) k) (body_of k s.bodies) new ∙ ap (λ x. body_chosen x false new (body_of k s.bodies)) (sym (or_false (same_key (key_asked key) k)))
@@ -103,7 +103,7 @@ with_chosen true y b o = refl
 with_chosen false true b o = refl
 with_chosen false false b o = refl
 
-abbrev pub call_at : Instant → Action → Option Given → Outcome → Call
+abbrev pub call_at : MomentValue → Action → Option Given → Outcome → Call
 call_at t action g outcome = record { event = record { moment = t; action = action }; outcome = outcome; given = g }
 
 -- what a put of this body leaves
@@ -113,7 +113,7 @@ put_finished s k b n es =
     body_of-without_all k es (with_body b s.bodies) ∙ ap (cond (has_key k es) None) (body_of-with k b s.bodies) ∙ with_chosen (has_key k es) (same_key (stored_key b.entry) k) b (body_of k s.bodies)
 
 -- how a call changes the body of a key
-Follows : State → Instant → Option Given → Action → Outcome → StoredKey → History → Type 0
+Follows : State → MomentValue → Option Given → Action → Outcome → StoredKey → History → Type 0
 Follows s t g action outcome k h = body_of k (behind s t action g outcome).bodies ≡ body_by k (call_at t action g outcome) h (body_of k s.bodies)
 
 -- a put that is answered anything but finished leaves what a key has
@@ -126,7 +126,7 @@ put_follows_by s k n es (Some given.BeforeEpoch) p = absurd p
 put_follows_by s k n es (Some (given.Uncacheable reason)) p = absurd p
 put_follows_by s k n es None p = absurd p
 
-put_follows : (s : State) (t : Instant) (g : Option Given) (key : FullKey) (pieces : List (List ℕ)) (a : Answer) (k : StoredKey) (h : History)
+put_follows : (s : State) (t : MomentValue) (g : Option Given) (key : CacheKeyValue) (pieces : List (List ℕ)) (a : Answer) (k : StoredKey) (h : History)
     → IsPutAnswer s g a → Follows s t g (Put key pieces) (Ok a) k h
 unfolding Follows
 put_follows s t g key pieces (Finished n es) k h p = put_follows_by s k n es g p
@@ -139,11 +139,11 @@ put_follows s t (Some (given.Uncacheable reason)) key pieces _ k h p = absurd p
 put_follows s t None key pieces _ k h p = absurd p
 
 -- what is answered where no check fails
-pub answer_allowed : (r : Option TierFault) (s : State) (t : Instant) (g : Option Given) (action : Action) (a : Answer) → AllowsBy r s t action g (Ok a) → IsAnswer s t action g a
+pub answer_allowed : (r : Option TierFault) (s : State) (t : MomentValue) (g : Option Given) (action : Action) (a : Answer) → AllowsBy r s t action g (Ok a) → IsAnswer s t action g a
 answer_allowed (Some f) s t g action a p = cc
 answer_allowed None s t g action a p = p
 
-look_follows : (s : State) (t : Instant) (g : Option Given) (id : ℕ) (a : Answer) (k : StoredKey) (h : History) (o : Option Request)
+look_follows : (s : State) (t : MomentValue) (g : Option Given) (id : ℕ) (a : Answer) (k : StoredKey) (h : History) (o : Option Request)
     → MatchOption o ⊥ (λ q. (a ≡ look_answer t (body_for q s.bodies)) × (use_is_too_heavy q.entry (body_for q s.bodies) s.tracked ≡ false))
     → body_of k (on_request s o (λ q. look_behind s t id q (body_for q s.bodies))).bodies ≡ body_by k (call_at t (LookUp id) g (Ok a)) h (body_of k s.bodies)
 look_follows s t g id a k h None p = absurd p
@@ -153,7 +153,7 @@ look_follows s t g id a k h (Some q) p = by_body (body_for q s.bodies) p.0
     by_body None e = subst (λ (x : Answer). body_of k s.bodies ≡ body_by k (call_at t (LookUp id) g (Ok x)) h (body_of k s.bodies)) (sym e) refl
     by_body (Some b) e = subst (λ (x : Answer). body_of k s.bodies ≡ body_by k (call_at t (LookUp id) g (Ok x)) h (body_of k s.bodies)) (sym e) refl
 
-read_follows : (s : State) (t : Instant) (g : Option Given) (id : ℕ) (a : Answer) (k : StoredKey) (h : History) (o : Option Request)
+read_follows : (s : State) (t : MomentValue) (g : Option Given) (id : ℕ) (a : Answer) (k : StoredKey) (h : History) (o : Option Request)
     → MatchOption o ⊥ (λ q. a ≡ read_answer q.reader)
     → body_of k (on_request s o (λ q. record s { requests = insert s.requests id (read_behind q) })).bodies ≡ body_by k (call_at t (Read id) g (Ok a)) h (body_of k s.bodies)
 read_follows s t g id a k h None p = absurd p
@@ -164,7 +164,7 @@ read_follows s t g id a k h (Some q) p = by_reader q.reader p
     by_reader (Unread bytes) e = subst (λ (x : Answer). body_of k s.bodies ≡ body_by k (call_at t (Read id) g (Ok x)) h (body_of k s.bodies)) (sym e) refl
     by_reader Spent e = subst (λ (x : Answer). body_of k s.bodies ≡ body_by k (call_at t (Read id) g (Ok x)) h (body_of k s.bodies)) (sym e) refl
 
-answer_follows : (s : State) (t : Instant) (g : Option Given) (action : Action) (a : Answer) (k : StoredKey) (h : History) → IsAnswer s t action g a → Follows s t g action (Ok a) k h
+answer_follows : (s : State) (t : MomentValue) (g : Option Given) (action : Action) (a : Answer) (k : StoredKey) (h : History) → IsAnswer s t action g a → Follows s t g action (Ok a) k h
 unfolding Follows
 answer_follows s t g (Open id key) a k h p = subst (λ (x : Answer). Follows s t g (Open id key) (Ok x) k h) (sym p) refl
 answer_follows s t g (LookUp id) a k h p = look_follows s t g id a k h (get s.requests id) p
@@ -174,13 +174,13 @@ answer_follows s t g (Purge key) a k h p = subst (λ (x : Answer). Follows s t g
 answer_follows s t g (Put key pieces) a k h p = put_follows s t g key pieces a k h p
 
 -- what is refused: a fault that did nothing leaves the body, and a put's fault what it says
-fault_allowed : (r : Option TierFault) (s : State) (t : Instant) (g : Option Given) (action : Action) (f : TierFault) → refusal s action ≡ r → AllowsBy r s t action g (Err f)
+fault_allowed : (r : Option TierFault) (s : State) (t : MomentValue) (g : Option Given) (action : Action) (f : TierFault) → refusal s action ≡ r → AllowsBy r s t action g (Err f)
     → (done_of f ≡ nothing_done) ⊎ IsFault s action g f
 fault_allowed (Some f') s t g action f e p = let same : f' ≡ f = cc in inl (refused_nothing s action f (e ∙ ap (λ (x : TierFault). Some x) same))
 fault_allowed None s t g action f e p = inr p
 
 -- a refused event that stores nothing did nothing
-pub did_nothing : (s : State) (t : Instant) (g : Option Given) (action : Action) (f : TierFault) → AllowsBy (refusal s action) s t action g (Err f) → stores_nothing action ≡ true → done_of f ≡ nothing_done
+pub did_nothing : (s : State) (t : MomentValue) (g : Option Given) (action : Action) (f : TierFault) → AllowsBy (refusal s action) s t action g (Err f) → stores_nothing action ≡ true → done_of f ≡ nothing_done
 did_nothing s t g (Put key pieces) f p e = cc
 did_nothing s t g (Open id key) f p e = elim (fault_allowed (refusal s (Open id key)) s t g (Open id key) f refl p) [ inl d ↦ d | inr q ↦ elim q [ inl m ↦ ap done_of m.0 | inr x ↦ absurd x ] ]
 did_nothing s t g (LookUp id) f p e = elim (fault_allowed (refusal s (LookUp id)) s t g (LookUp id) f refl p) [ inl d ↦ d | inr q ↦ elim q [ inl m ↦ ap done_of m.0 | inr x ↦ unused (get s.requests id) x ] ]
@@ -196,7 +196,7 @@ did_nothing s t g (Purge key) f p e = elim p [ inl m ↦ absurd m.1 | inr x ↦ 
 quiet : (k : StoredKey) (done : Done) (o : Option FinishedBody) → done ≡ nothing_done → o ≡ body_chosen ((done.stored && false) || has_key k (cond done.stored done.evicted [])) false None o
 quiet k done o e = subst (λ (d : Done). o ≡ body_chosen ((d.stored && false) || has_key k (cond d.stored d.evicted [])) false None o) (sym e) refl
 
-fault_follows : (s : State) (t : Instant) (g : Option Given) (action : Action) (f : TierFault) (k : StoredKey) (h : History) → AllowsBy (refusal s action) s t action g (Err f) → Follows s t g action (Err f) k h
+fault_follows : (s : State) (t : MomentValue) (g : Option Given) (action : Action) (f : TierFault) (k : StoredKey) (h : History) → AllowsBy (refusal s action) s t action g (Err f) → Follows s t g action (Err f) k h
 unfolding Follows
 fault_follows s t g (Open id key) f k h p = quiet k (done_of f) (body_of k s.bodies) (did_nothing s t g (Open id key) f p refl)
 fault_follows s t g (LookUp id) f k h p = quiet k (done_of f) (body_of k s.bodies) (did_nothing s t g (LookUp id) f p refl)

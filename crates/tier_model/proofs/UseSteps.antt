@@ -2,8 +2,8 @@
 use Rattle.std.proofs.Common.{◌≡◌, ℕ, ◌+◌, ◌≤◌, refl, ap, sym, ◌∙◌, true, false, subst, cond, [], ◌∷◌, ◌||◌, length, arith, inl, inr}
 use Rattle.std.specs.Prelude.{Bool, List, Option, Some, None, unwrap_or, is_some, Ok, Err, MatchOption, ◌&&◌}
 use Rattle.std.specs.FinMap.{get, insert}
-use Rattle.cache_words.specs.Time.{Instant, at_most}
-use Rattle.cache_words.specs.Key.{FullKey}
+use Rattle.cache_words.specs.Time.{MomentValue, at_most}
+use Rattle.cache_words.specs.Key.{CacheKeyValue}
 use Rattle.tier_entries.specs.declared.rows.Tracked.{Tracked}
 use Rattle.tier_entries.specs.Keys.{entry_of, stored_key, same_entry, has_entry}
 use Rattle.tier_entries.specs.Rows.{row_of, weight_of, without_row, without_rows, admitted, used, IsBegunEviction}
@@ -76,7 +76,7 @@ pub idle : (c : Call) (h : History) (rows : List Tracked) → IsIdle c h → IsO
 idle c h rows i o = only_departs (λ e. false) c h rows i (to_ordered rows h o)
 
 -- a put's fault that had stored, and one that had not
-back_used : (v : Bool) (s : State) (t : Instant) (g : Option Given) (key : FullKey) (pieces : List (List ℕ)) (f : TierFault) (h : History) → (done_of f).stored ≡ v
+back_used : (v : Bool) (s : State) (t : MomentValue) (g : Option Given) (key : CacheKeyValue) (pieces : List (List ℕ)) (f : TierFault) (h : History) → (done_of f).stored ≡ v
     → IsOrderOfUse s.tracked h → IsOrderOfUse (taken_back v s (entry_of key) (done_of f).evicted).tracked (call_at t (Put key pieces) g (Err f) ∷ h)
 back_used false s t g key pieces f h e o =
     idle (call_at t (Put key pieces) g (Err f)) h s.tracked
@@ -94,7 +94,7 @@ back_used true s t g key pieces f h e o =
 quiet_departs : (e : Entry) (done : Done) → done ≡ nothing_done → ((done.stored && false) || has_entry e (cond done.stored done.evicted [])) ≡ false
 quiet_departs e done i = subst (λ (d : Done). ((d.stored && false) || has_entry e (cond d.stored d.evicted [])) ≡ false) (sym i) refl
 
-pub fault_used : (s : State) (t : Instant) (g : Option Given) (action : Action) (f : TierFault) (h : History) → AllowsBy (refusal s action) s t action g (Err f)
+pub fault_used : (s : State) (t : MomentValue) (g : Option Given) (action : Action) (f : TierFault) (h : History) → AllowsBy (refusal s action) s t action g (Err f)
     → IsOrderOfUse s.tracked h → IsOrderOfUse (undone s action (done_of f)).tracked (call_at t action g (Err f) ∷ h)
 fault_used s t g (Open i key) f h p o = idle (call_at t (Open i key) g (Err f)) h s.tracked
     (record { departs = λ e. quiet_departs e (done_of f) (did_nothing s t g (Open i key) f p refl); admits = λ e. refl; hits = λ e. refl }) o
@@ -109,7 +109,7 @@ fault_used s t g (Purge key) f h p o = idle (call_at t (Purge key) g (Err f)) h 
 fault_used s t g (Put key pieces) f h p o = back_used (done_of f).stored s t g key pieces f h refl o
 
 -- a complete hit moves an entry to the front, with the weight that it has, or else with that of the body found
-hit_weight : (s : State) (h : History) (t : Instant) (g : Option Given) (i : ℕ) (q : Request) (x : FinishedBody) (fresh : Bool) → opened_for i h ≡ Some q.entry
+hit_weight : (s : State) (h : History) (t : MomentValue) (g : Option Given) (i : ℕ) (q : Request) (x : FinishedBody) (fresh : Bool) → opened_for i h ≡ Some q.entry
     → IsBody (stored_key q.entry) x h → IsOrderOfUse s.tracked h
     → (e : Entry) (v : ℕ) → WeighsUsed (λ e w. Weighs e w h) q.entry (unwrap_or (weight_of q.entry s.tracked) (weight_for x)) e v → Weighs e v (call_at t (LookUp i) g (Ok (Found fresh true)) ∷ h)
 hit_weight s h t g i q x fresh open_for body o e v used = elim used [ inl u ↦ same u.0 u.1 | inr u ↦ other u.0 u.1 ]
@@ -136,7 +136,7 @@ hit_use : (v u : Bool) (n : ℕ) (old : Option ℕ) → v ≡ u → use_chosen f
 hit_use v true n old e = rw e refl
 hit_use v false n old e = rw e refl
 
-look_used : (s : State) (t : Instant) (g : Option Given) (i : ℕ) (q : Request) (b : Option FinishedBody) (a : Answer) (h : History) → opened_for i h ≡ Some q.entry
+look_used : (s : State) (t : MomentValue) (g : Option Given) (i : ℕ) (q : Request) (b : Option FinishedBody) (a : Answer) (h : History) → opened_for i h ≡ Some q.entry
     → ((x : FinishedBody) → b ≡ Some x → IsBody (stored_key q.entry) x h) → a ≡ look_answer t b
     → IsOrderOfUse s.tracked h → IsOrderOfUse (look_behind s t i q b).tracked (call_at t (LookUp i) g (Ok a) ∷ h)
 look_used s t g i q None a h open_for is ae o =
@@ -154,14 +154,14 @@ look_used s t g i q (Some x) a h open_for is ae o =
     (λ e w t' used_so. hit_weight s h t g i q x (at_most t x.fresh_until) open_for (is x refl) o e w used_so) (omega arith)
     (Ordered-admitted (λ e. last_use e h) (λ e w. Weighs e w h) q.entry weight (length h) s.tracked (to_ordered s.tracked h o))))
 
-request_used : (s : State) (t : Instant) (g : Option Given) (i : ℕ) (a : Answer) (h : History) (o : Option Request) → Fits s h → get s.requests i ≡ o
+request_used : (s : State) (t : MomentValue) (g : Option Given) (i : ℕ) (a : Answer) (h : History) (o : Option Request) → Fits s h → get s.requests i ≡ o
     → MatchOption o ⊥ (λ q. (a ≡ look_answer t (body_for q s.bodies)) × (use_is_too_heavy q.entry (body_for q s.bodies) s.tracked ≡ false))
     → IsOrderOfUse s.tracked h → IsOrderOfUse (on_request s o (λ q. look_behind s t i q (body_for q s.bodies))).tracked (call_at t (LookUp i) g (Ok a) ∷ h)
 request_used s t g i a h None fits e p o = absurd p
 request_used s t g i a h (Some q) fits e p o =
     look_used s t g i q (body_for q s.bodies) a h (of_request s h fits i q e).0 (λ x there. body_now-is (stored_key q.entry) x h (sym (fits.bodies (stored_key q.entry)) ∙ there)) p.0 o
 
-read_used : (s : State) (t : Instant) (g : Option Given) (i : ℕ) (a : Answer) (h : History) (o : Option Request) → MatchOption o ⊥ (λ q. a ≡ read_answer q.reader)
+read_used : (s : State) (t : MomentValue) (g : Option Given) (i : ℕ) (a : Answer) (h : History) (o : Option Request) → MatchOption o ⊥ (λ q. a ≡ read_answer q.reader)
     → IsOrderOfUse s.tracked h → IsOrderOfUse (on_request s o (λ q. record s { requests = insert s.requests i (read_behind q) })).tracked (call_at t (Read i) g (Ok a) ∷ h)
 read_used s t g i a h None p o = absurd p
 read_used s t g i a h (Some q) p o = by_reader q.reader p
@@ -178,7 +178,7 @@ or_nothing : (x : Bool) → (x || false) ≡ x
 or_nothing true = refl
 or_nothing false = refl
 
-purge_used : (s : State) (t : Instant) (g : Option Given) (key : FullKey) (h : History) (v : Bool) → IsOrderOfUse s.tracked h
+purge_used : (s : State) (t : MomentValue) (g : Option Given) (key : CacheKeyValue) (h : History) (v : Bool) → IsOrderOfUse s.tracked h
     → IsOrderOfUse (purge_behind s key v).tracked (call_at t (Purge key) g (Ok (Purged v)) ∷ h)
 purge_used s t g key h false o = idle (call_at t (Purge key) g (Ok (Purged false))) h s.tracked (record { departs = λ e. refl; admits = λ e. refl; hits = λ e. refl }) o
 purge_used s t g key h true o =
@@ -200,7 +200,7 @@ put_weight W b r tracked h e w is used =
     ])
 
 -- the rows behind an admission are the order of use of the put with nothing gone yet
-pub admitted_used : (s : State) (t : Instant) (g : Option Given) (key : FullKey) (pieces : List (List ℕ)) (b : FinishedBody) (n : ℕ) (h : History) → stored_in g ≡ Some b
+pub admitted_used : (s : State) (t : MomentValue) (g : Option Given) (key : CacheKeyValue) (pieces : List (List ℕ)) (b : FinishedBody) (n : ℕ) (h : History) → stored_in g ≡ Some b
     → IsOrderOfUse s.tracked h → IsOrderOfUse (admitted b.entry (weight_for b) s.tracked) (call_at t (Put key pieces) g (Ok (Finished n [])) ∷ h)
 admitted_used s t g key pieces b n h is o =
     let call : Call = call_at t (Put key pieces) g (Ok (Finished n [])) in
@@ -221,7 +221,7 @@ gone_weight true u a tracked n old e w new h Was there was = cc
 gone_weight false u a tracked n old e w new h Was there was = was
 
 -- and behind the evictions, of the put as it was answered
-pub evicted_used : (t : Instant) (g : Option Given) (key : FullKey) (pieces : List (List ℕ)) (n : ℕ) (es : List Entry) (rows : List Tracked) (h : History)
+pub evicted_used : (t : MomentValue) (g : Option Given) (key : CacheKeyValue) (pieces : List (List ℕ)) (n : ℕ) (es : List Entry) (rows : List Tracked) (h : History)
     → IsOrderOfUse rows (call_at t (Put key pieces) g (Ok (Finished n [])) ∷ h) → IsOrderOfUse (without_rows es rows) (call_at t (Put key pieces) g (Ok (Finished n es)) ∷ h)
 evicted_used t g key pieces n es rows h o =
     let first : Call = call_at t (Put key pieces) g (Ok (Finished n [])) in
@@ -233,7 +233,7 @@ evicted_used t g key pieces n es rows h o =
     (λ e w there was. gone_weight (has_entry e es) (uses e call h) (admits e call h) (is_tracked e h) (length h) (last_use e h) e w (written_by call h) h (Weighs e w h) there was)
     (omega arith) (Ordered-without_all (λ e. last_use e (first ∷ h)) (λ e w. Weighs e w (first ∷ h)) es (length (first ∷ h)) rows (to_ordered rows (first ∷ h) o)))
 
-put_used : (s : State) (t : Instant) (g : Option Given) (key : FullKey) (pieces : List (List ℕ)) (a : Answer) (h : History) → IsPutAnswer s g a → IsOrderOfUse s.tracked h
+put_used : (s : State) (t : MomentValue) (g : Option Given) (key : CacheKeyValue) (pieces : List (List ℕ)) (a : Answer) (h : History) → IsPutAnswer s g a → IsOrderOfUse s.tracked h
     → IsOrderOfUse (put_behind s g a).tracked (call_at t (Put key pieces) g (Ok a) ∷ h) × EvictsBy s.settings.limit s.settings.watermark (record { moment = t; action = Put key pieces }) (Ok a) g h
 put_used s t (Some (Stored b)) key pieces (Finished n es) h p o = (
   evicted_used t (Some (Stored b)) key pieces n es (admitted b.entry (weight_for b) s.tracked) h (admitted_used s t (Some (Stored b)) key pieces b n h refl o),
@@ -249,10 +249,10 @@ put_used s t (Some (given.Uncacheable reason)) key pieces _ h p o = absurd p
 put_used s t None key pieces _ h p o = absurd p
 
 -- the order of use behind an answer, and its evictions
-abbrev pub OrderBehind : State → Instant → Option Given → Action → Answer → History → Type 0
+abbrev pub OrderBehind : State → MomentValue → Option Given → Action → Answer → History → Type 0
 OrderBehind s t g action a h = IsOrderOfUse (answered s t action g a).tracked (call_at t action g (Ok a) ∷ h) × EvictsBy s.settings.limit s.settings.watermark (record { moment = t; action = action }) (Ok a) g h
 
-look_evicts : (limit : ℕ) (mark : Option ℕ) (e : Event) (t : Instant) (g : Option Given) (a : Answer) (h : History) (s : State) (o : Option Request)
+look_evicts : (limit : ℕ) (mark : Option ℕ) (e : Event) (t : MomentValue) (g : Option Given) (a : Answer) (h : History) (s : State) (o : Option Request)
     → MatchOption o ⊥ (λ q. (a ≡ look_answer t (body_for q s.bodies)) × (use_is_too_heavy q.entry (body_for q s.bodies) s.tracked ≡ false)) → EvictsBy limit mark e (Ok a) g h
 look_evicts limit mark e t g a h s None p = absurd p
 look_evicts limit mark e t g a h s (Some q) p = by_body (body_for q s.bodies) p.0
@@ -270,7 +270,7 @@ read_evicts limit mark e g a h (Some q) p = by_reader q.reader p
     by_reader (Unread bytes) i = subst (λ (y : Answer). EvictsBy limit mark e (Ok y) g h) (sym i) refl
     by_reader Spent i = subst (λ (y : Answer). EvictsBy limit mark e (Ok y) g h) (sym i) refl
 
-answer_used : (s : State) (t : Instant) (g : Option Given) (action : Action) (a : Answer) (h : History) → Fits s h → KeepsLimits s → IsAnswer s t action g a → IsOrderOfUse s.tracked h → OrderBehind s t g action a h
+answer_used : (s : State) (t : MomentValue) (g : Option Given) (action : Action) (a : Answer) (h : History) → Fits s h → KeepsLimits s → IsAnswer s t action g a → IsOrderOfUse s.tracked h → OrderBehind s t g action a h
 answer_used s t g (Open i key) a h fits keeps p o =
     subst (λ (y : Answer). OrderBehind s t g (Open i key) y h) (sym p)
     (idle (call_at t (Open i key) g (Ok Opened)) h s.tracked (record { departs = λ e. refl; admits = λ e. refl; hits = λ e. refl }) o, refl)
@@ -291,7 +291,7 @@ answer_used s t g (Put key pieces) a h fits keeps p o = put_used s t g key piece
 none_gone : (done : Done) → done ≡ nothing_done → evicted_before done ≡ []
 none_gone done e = subst (λ (d : Done). evicted_before d ≡ []) (sym e) refl
 
-put_gone : (s : State) (t : Instant) (g : Option Given) (key : FullKey) (pieces : List (List ℕ)) (f : TierFault) (h : History) → IsPutFault s g f → IsOrderOfUse s.tracked h
+put_gone : (s : State) (t : MomentValue) (g : Option Given) (key : CacheKeyValue) (pieces : List (List ℕ)) (f : TierFault) (h : History) → IsPutFault s g f → IsOrderOfUse s.tracked h
     → EvictsBy s.settings.limit s.settings.watermark (record { moment = t; action = Put key pieces }) (Err f) g h
 put_gone s t (Some (Stored b)) key pieces f h p o = elim p [
   | inl heavy ↦ inl (subst (λ (x : TierFault). evicted_before (done_of x) ≡ []) (sym heavy.0) refl)
@@ -312,7 +312,7 @@ put_gone s t (Some given.BeforeEpoch) key pieces f h p o = inl (none_gone (done_
 put_gone s t (Some (given.Uncacheable reason)) key pieces f h p o = absurd p
 put_gone s t None key pieces f h p o = absurd p
 
-fault_evicts : (s : State) (t : Instant) (g : Option Given) (action : Action) (f : TierFault) (h : History) → AllowsBy (refusal s action) s t action g (Err f) → IsOrderOfUse s.tracked h
+fault_evicts : (s : State) (t : MomentValue) (g : Option Given) (action : Action) (f : TierFault) (h : History) → AllowsBy (refusal s action) s t action g (Err f) → IsOrderOfUse s.tracked h
     → EvictsBy s.settings.limit s.settings.watermark (record { moment = t; action = action }) (Err f) g h
 fault_evicts s t g (Open i key) f h p o = inl (none_gone (done_of f) (did_nothing s t g (Open i key) f p refl))
 fault_evicts s t g (LookUp i) f h p o = inl (none_gone (done_of f) (did_nothing s t g (LookUp i) f p refl))

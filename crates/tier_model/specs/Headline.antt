@@ -1,6 +1,6 @@
 -- The headline: what a history says of the answers in it. It names no state.
 use Rattle.std.specs.Prelude.{◌≡◌, ℕ, true, [], ◌∷◌, ◌++◌, Option, Some, Ok}
-use Rattle.cache_words.specs.Time.{Instant, at_most}
+use Rattle.cache_words.specs.Time.{MomentValue, at_most}
 use Rattle.tier_entries.specs.Keys.{stored_key}
 use Rattle.tier_model.specs.declared.rows.FinishedBody.{FinishedBody}
 use Rattle.tier_model.specs.declared.event.Action.{Action}
@@ -13,7 +13,7 @@ use Rattle.tier_model.specs.Histories.{IsFound, IsBody, HasHit, IsWithin}
 use Rattle.tier_model.specs.Use.{BodiesAreTracked, EvictsLawfully}
 
 -- a look-up at t is answered found exactly where a write of its key is alive, and fresh exactly up to its moment
-abbrev pub LooksRight : ℕ → Instant → Answer → History → Type 0
+abbrev pub LooksRight : ℕ → MomentValue → Answer → History → Type 0
 LooksRight id t (Found fresh complete) h =
     (e : Entry) × (w : FinishedBody) × (opened_for id h ≡ Some e) × IsBody (stored_key e) w h × (fresh ≡ at_most t w.fresh_until) × (complete ≡ true)
 LooksRight id t Absent h = (e : Entry) × (opened_for id h ≡ Some e) × (¬ IsFound (stored_key e) h)
@@ -32,7 +32,7 @@ PurgesRight k (Purged was_there) h = (was_there ≡ true → IsFound k h) × (Is
 PurgesRight k _ h = ⊥
 
 -- what the calls before say of one call
-abbrev pub IsRight : Instant → Action → Outcome → History → Type 0
+abbrev pub IsRight : MomentValue → Action → Outcome → History → Type 0
 IsRight t (LookUp id) (Ok answer) h = LooksRight id t answer h
 IsRight t (Read id) (Ok answer) h = ReadsWhole id answer h
 IsRight t (Purge key) (Ok answer) h = PurgesRight (key_asked key) answer h

@@ -1,6 +1,6 @@
 -- Stored keys and entries.
 use Rattle.std.specs.Prelude.{ℕ, List}
-use Rattle.cache_words.specs.Key.{FullKey}
+use Rattle.cache_words.specs.Key.{CacheKeyValue}
 use Rattle.cache_words.specs.declared.key.CompactCacheKey.{CompactCacheKey}
 use Rattle.tier_entries.specs.Keys.{entry_of, stored_key}
 
@@ -13,5 +13,5 @@ abbrev pub Entry : Type 0
 Entry = CompactCacheKey
 
 -- the stored key of a key that is asked for
-abbrev pub key_asked : FullKey → StoredKey
+abbrev pub key_asked : CacheKeyValue → StoredKey
 key_asked k = stored_key (entry_of k)

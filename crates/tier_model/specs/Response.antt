@@ -3,7 +3,7 @@ use Rattle.std.specs.Prelude.{◌≡◌, ℕ, ◌^◌, ◌≤◌, ◌==◌, nat_
 use Rattle.std.specs.Char.{is_ascii_digit}
 use Rattle.std.specs.List.{flat_map, list_all}
 use Rattle.std.specs.Str.Parse.{digits_value}
-use Rattle.cache_words.specs.Time.{Instant}
+use Rattle.cache_words.specs.Time.{MomentValue}
 use Rattle.cache_heads.specs.FreshUntil.{fresh_until}
 use Rattle.cache_heads.specs.declared.reason.NoCacheReason.TheVariants.{OriginNotCache}
 use Rattle.http_header.specs.Token.{lowercase}
@@ -48,11 +48,11 @@ body_within None rest = Some rest
 body_within (Some n) rest = if nat_le n (length rest) then Some (take n rest) else None
 
 -- 1970 had not begun
-abbrev pub is_before_epoch : Instant → Bool
+abbrev pub is_before_epoch : MomentValue → Bool
 is_before_epoch t = int_lt t.seconds (pos 0)
 
 -- a body, if it is whole, and the last moment at which it is fresh, if it may be kept
-abbrev pub given_of : Instant → Entry → Option (List ℕ) → Option Instant → Given
+abbrev pub given_of : MomentValue → Entry → Option (List ℕ) → Option MomentValue → Given
 given_of arrival entry None until = Incomplete
 given_of arrival entry (Some body) None = Uncacheable OriginNotCache
 given_of arrival entry (Some body) (Some until) =
@@ -62,7 +62,7 @@ given_of arrival entry (Some body) (Some until) =
 
 -- what a head of this status and these header lines gives, with the bytes behind it. The tier knows no default lifetimes, and
 -- its requests have no Authorization
-unfoldable pub given_by : Instant → Entry → ℕ → List (List ℕ × List ℕ) → List ℕ → Given
+unfoldable pub given_by : MomentValue → Entry → ℕ → List (List ℕ × List ℕ) → List ℕ → Given
 given_by arrival entry status lines rest =
     given_of arrival entry (body_within (body_length status lines) rest)
     (fresh_until arrival (values_of (codes "cache-control") lines) (values_of (codes "expires") lines) false None)
@@ -79,7 +79,7 @@ IsPlain bytes = (more : List ℕ) × (h : ResponseHead) × (rest : List ℕ) × 
 
 -- what a response's bytes give, coming for an entry at a moment: by its head, where that is whole; a plain beginning of a head is
 -- incomplete, and never a bad head. What the parser's lenient options make of other bytes is left open
-pub record Gives (arrival : Instant) (entry : Entry) (bytes : List ℕ) (given : Given) : Type 0 where
+pub record Gives (arrival : MomentValue) (entry : Entry) (bytes : List ℕ) (given : Given) : Type 0 where
   pub whole : (h : ResponseHead) (rest : List ℕ) → ReadsResponse bytes h rest → IsReadable h → given ≡ given_by arrival entry (status_code h) (map name_and_value h.fields) rest
   pub begun : HasNoResponse bytes → IsPlain bytes → given ≡ Incomplete
   pub refused : given ≡ BadHead → ¬ IsPlain bytes

@@ -2,7 +2,7 @@
 use Rattle.std.specs.Prelude.{ℕ, List, [], Option}
 use Rattle.std.specs.FinMap.{FinMap, empty}
 use Rattle.std.specs.Ordering.{nat_cmp}
-use Rattle.cache_words.specs.Time.{Span}
+use Rattle.cache_words.specs.Time.{DurationValue}
 use Rattle.tier_entries.specs.declared.rows.Tracked.{Tracked}
 use Rattle.tier_model.specs.declared.rows.FinishedBody.{FinishedBody}
 use Rattle.tier_model.specs.declared.rows.Request.{Request}
@@ -11,8 +11,8 @@ use Rattle.tier_model.specs.declared.rows.Request.{Request}
 pub record Settings : Type 0 where
   pub limit : ℕ
   pub watermark : Option ℕ
-  pub age : Span
-  pub wait : Option Span
+  pub age : DurationValue
+  pub wait : Option DurationValue
 
 pub record State : Type 0 where
   pub settings : Settings

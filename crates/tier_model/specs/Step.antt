@@ -1,8 +1,8 @@
 -- One event: the first refusal, the answers and faults that a state allows, and the state behind them.
 use Rattle.std.specs.Prelude.{◌≡◌, ℕ, ◌+◌, ◌-◌, ◌^◌, min, nat_le, Bool, true, false, ◌&&◌, not, List, [], length, if◌then◌else◌, Option, Some, None, is_some, Ok, Err, MatchResult, MatchOption, ◌⊎◌}
 use Rattle.std.specs.FinMap.{get, insert, remove}
-use Rattle.cache_words.specs.Time.{Instant, at_most}
-use Rattle.cache_words.specs.Key.{FullKey}
+use Rattle.cache_words.specs.Time.{MomentValue, at_most}
+use Rattle.cache_words.specs.Key.{CacheKeyValue}
 use Rattle.tier_entries.specs.Keys.{entry_of, stored_key}
 use Rattle.tier_entries.specs.declared.rows.Tracked.{Tracked}
 use Rattle.tier_entries.specs.Rows.{weight_of, all_weights, admitted, used, without_row, without_rows, IsLawfulEviction, IsBegunEviction}
@@ -68,12 +68,12 @@ opened_request entry = record { entry = entry; phase = CacheKey; reader = Closed
 abbrev pub body_for : Request → List FinishedBody → Option FinishedBody
 body_for q bodies = body_of (stored_key q.entry) bodies
 
-abbrev pub look_answer : Instant → Option FinishedBody → Answer
+abbrev pub look_answer : MomentValue → Option FinishedBody → Answer
 look_answer t None = Absent
 look_answer t (Some b) = Found (at_most t b.fresh_until) true
 
 -- a request behind its look-up
-abbrev pub looked : Instant → Request → Option FinishedBody → Request
+abbrev pub looked : MomentValue → Request → Option FinishedBody → Request
 looked t q None = record q { phase = Miss; reader = Closed }
 looked t q (Some b) = record q { phase = if at_most t b.fresh_until then Hit else Stale; reader = Unread b.bytes }
 
@@ -145,13 +145,13 @@ IsPutFault s (Some given.BeforeEpoch) f = f ≡ fault.BeforeEpoch
 IsPutFault s _ f = ⊥
 
 -- what an event's response gives, where it has one and it was read
-abbrev pub IsGiven : Instant → Action → Option Given → Type 0
+abbrev pub IsGiven : MomentValue → Action → Option Given → Type 0
 IsGiven t (Put key pieces) (Some given) = Gives t (entry_of key) (joined pieces) given
 IsGiven t action None = Unit {0}
 IsGiven t action (Some given) = ⊥
 
 -- the answers to an event that is not refused
-abbrev pub IsAnswer : State → Instant → Action → Option Given → Answer → Type 0
+abbrev pub IsAnswer : State → MomentValue → Action → Option Given → Answer → Type 0
 IsAnswer s t (Open id key) g a = a ≡ Opened
 IsAnswer s t (LookUp id) g a =
     MatchOption (get s.requests id) ⊥ (λ q. (a ≡ look_answer t (body_for q s.bodies)) × (use_is_too_heavy q.entry (body_for q s.bodies) s.tracked ≡ false))
@@ -186,7 +186,7 @@ abbrev pub IsFault : State → Action → Option Given → TierFault → Type 0
 IsFault s action g f = ((f ≡ Memory nothing_done) × MayTakeMemory action) ⊎ IsLateFault s action g f
 
 -- the first refusal, exactly where one holds, and else an answer of the event's row or a fault behind the checks
-abbrev pub AllowsBy : Option TierFault → State → Instant → Action → Option Given → Outcome → Type 0
+abbrev pub AllowsBy : Option TierFault → State → MomentValue → Action → Option Given → Outcome → Type 0
 AllowsBy (Some f) s t action g outcome = outcome ≡ Err f
 AllowsBy None s t action g outcome = MatchResult outcome (IsAnswer s t action g) (IsFault s action g)
 
@@ -199,7 +199,7 @@ abbrev pub counted : ℕ → ℕ → ℕ
 counted n more = min (n + more) (2 ^ 64 - 1)
 
 -- the state behind a look-up of request q, named id, that found this
-abbrev pub look_behind : State → Instant → ℕ → Request → Option FinishedBody → State
+abbrev pub look_behind : State → MomentValue → ℕ → Request → Option FinishedBody → State
 look_behind s t id q None = record s { requests = insert s.requests id (looked t q None); absent = counted s.absent 1 }
 look_behind s t id q (Some b) =
     record s { requests = insert s.requests id (looked t q (Some b)); tracked = used q.entry (weight_for b) s.tracked; found = counted s.found 1 }
@@ -211,12 +211,12 @@ put_behind s (Some (Stored b)) (Finished n evicted) =
 put_behind s _ _ = s
 
 -- the state behind a purge that found something, or nothing
-abbrev pub purge_behind : State → FullKey → Bool → State
+abbrev pub purge_behind : State → CacheKeyValue → Bool → State
 purge_behind s key false = s
 purge_behind s key true = record s { bodies = without_body (key_asked key) s.bodies; tracked = without_row (entry_of key) s.tracked }
 
 -- the state behind an answer
-abbrev pub answered : State → Instant → Action → Option Given → Answer → State
+abbrev pub answered : State → MomentValue → Action → Option Given → Answer → State
 answered s t (Open id key) g a = record s { requests = insert s.requests id (opened_request (entry_of key)) }
 answered s t (LookUp id) g a = on_request s (get s.requests id) (λ q. look_behind s t id q (body_for q s.bodies))
 answered s t (Read id) g a = on_request s (get s.requests id) (λ q. record s { requests = insert s.requests id (read_behind q) })
@@ -234,7 +234,7 @@ abbrev pub undone : State → Action → Done → State
 undone s (Put key pieces) done = taken_back done.stored s (entry_of key) done.evicted
 undone s _ done = s
 
-abbrev pub behind : State → Instant → Action → Option Given → Outcome → State
+abbrev pub behind : State → MomentValue → Action → Option Given → Outcome → State
 behind s t action g (Ok a) = answered s t action g a
 behind s t action g (Err f) = undone s action (done_of f)
 

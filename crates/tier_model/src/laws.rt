@@ -2,7 +2,7 @@
 ghost use Rattle.tier_model.specs.Calls.{History};
 ghost use Rattle.tier_model.specs.Headline.{HoldsHeadline};
 ghost use Rattle.std.specs.Prelude.{◌≡◌, ℕ, List};
-ghost use Rattle.cache_words.specs.Time.{Instant};
+ghost use Rattle.cache_words.specs.Time.{MomentValue};
 ghost use Rattle.tier_model.specs.Keys.{Entry};
 ghost use Rattle.tier_model.specs.declared.given.Given.{Given};
 ghost use Rattle.tier_model.specs.Response.{IsPlain, Gives};
@@ -23,5 +23,5 @@ pub fn lawful_states_tell_their_history()
 
 /// A plain response, whose head the parser's default options read or begin to read, gives one thing at a moment.
 pub fn plain_responses_give_one_thing()
-    ensures { (arrival : Instant) (entry : Entry) (bytes : List ℕ) (a b : Given) → IsPlain bytes → Gives arrival entry bytes a → Gives arrival entry bytes b → a ≡ b }
+    ensures { (arrival : MomentValue) (entry : Entry) (bytes : List ℕ) (a b : Given) → IsPlain bytes → Gives arrival entry bytes a → Gives arrival entry bytes b → a ≡ b }
 {}

@@ -6,8 +6,8 @@ use Rattle.hex.specs.Hex.{decode_of}
 use Rattle.serde_json.specs.Data.{Data, Items, no_items, item, Members}
 use Rattle.serde_json.specs.Find.{get, as_array, as_bool, as_number, as_object, as_str, as_u64}
 use Rattle.serde_json.specs.Read.{read}
-use Rattle.cache_words.specs.Time.{Instant, from_seconds}
-use Rattle.cache_words.specs.Key.{FullKey}
+use Rattle.cache_words.specs.Time.{MomentValue, from_seconds}
+use Rattle.cache_words.specs.Key.{CacheKeyValue}
 use Rattle.tier_model.specs.declared.event.Event.{Event}
 use Rattle.tier_model.specs.declared.event.Action.{Action}
 use Rattle.tier_model.specs.declared.event.Action.TheVariants.{Open, LookUp, Read, Drop, Purge, Put}
@@ -46,10 +46,10 @@ abbrev pub text_of : Option Data → Option (List ℕ)
 text_of value = option_and_then as_str value
 
 -- seconds since 1970 began, at most 2^63 - 1
-abbrev pub moment_at : ℕ → Option Instant
+abbrev pub moment_at : ℕ → Option MomentValue
 moment_at n = if nat_lt n (2 ^ 63) then Some (from_seconds (pos n)) else None
 
-abbrev pub moment_of : Data → Result Instant Refusal
+abbrev pub moment_of : Data → Result MomentValue Refusal
 moment_of d = or_refused (Field At) (option_and_then moment_at (number_of (get (codes "at") d)))
 
 abbrev pub id_of : Data → Result ℕ Refusal
@@ -83,7 +83,7 @@ tag_of d = or_refused (Field Tag) (tag_in (get (codes "tag") d))
 abbrev pub lock_of : Data → Result ⊤ Refusal
 lock_of d = checked Lock (is_absent_or is_false (get (codes "lock") d))
 
-abbrev pub key_of : Data → Result FullKey Refusal
+abbrev pub key_of : Data → Result CacheKeyValue Refusal
 key_of d = do
   primary ← primary_of d
   tag ← tag_of d

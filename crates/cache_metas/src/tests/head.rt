@@ -1,6 +1,6 @@
 use crate::fault::MetaReadFault;
 use crate::{head, laws};
-use cache_directives::ResponseHeader;
+use cache_headers::ResponseHeader;
 use cache_words::pack::fault::PackFault;
 use http::StatusCode;
 use http_header::{HeaderMap, HeaderName, HeaderValue};

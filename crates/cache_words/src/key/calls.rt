@@ -1,6 +1,6 @@
 //! The calls of keys.
 ghost use Rattle.std.specs.Prelude.{◌≡◌, Some, None, IfSome, IfNone, IfOk, IsUtf8, string_bytes};
-ghost use Rattle.cache_words.specs.Key.{FullKey, key_of, shown};
+ghost use Rattle.cache_words.specs.Key.{CacheKeyValue, key_of, shown};
 ghost use Rattle.cache_words.specs.CompactKey.{compact_view};
 
 use super::{CacheHashKey, CacheKey, CompactCacheKey, HashBinary, hash_key};

@@ -1,7 +1,7 @@
 use Rattle.std.proofs.Common.{◌≡◌, ◌≤◌, length, take, map}
 use Rattle.http_header.specs.HeaderMap.{value_count}
 use Rattle.httparse.specs.Spans.{header_bytes}
-use Rattle.cache_directives.specs.Lines.{map_of}
+use Rattle.cache_headers.specs.Lines.{map_of}
 use Rattle.cache_tier.proofs.response.collect.Given as goal
 
 abbrev pub invariant-loop-line : goal.invariant-loop-line

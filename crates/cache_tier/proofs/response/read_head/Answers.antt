@@ -1,5 +1,5 @@
 use Rattle.std.proofs.Common.{◌≡◌, Err, rules, sym, subst, All}
-use Rattle.cache_directives.specs.Lines.{IsLine}
+use Rattle.cache_headers.specs.Lines.{IsLine}
 use Rattle.cache_tier.specs.declared.response.HeadFault.TheVariants.{Bounds}
 use Rattle.cache_tier.proofs.HeadLaws.{not_plain, IsLine-readable, bound_status}
 use Rattle.cache_tier.proofs.response.read_head.Goals as goal

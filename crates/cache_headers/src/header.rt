@@ -3,7 +3,7 @@ use http::{Method, StatusCode};
 use http_header::HeaderMap;
 
 /// The head of a response.
-#[derive(Debug, Drop)]
+#[derive(Clone, Debug, Drop)]
 pub struct ResponseHeader {
     /// Its status.
     pub status: StatusCode,
@@ -12,7 +12,7 @@ pub struct ResponseHeader {
 }
 
 /// The head of a request.
-#[derive(Debug, Drop)]
+#[derive(Clone, Debug, Drop)]
 pub struct RequestHeader {
     /// Its method.
     pub method: Method,

@@ -1,7 +1,7 @@
 -- Names of errors.
 use Rattle.std.specs.Prelude.{List, ℕ, codes}
-use Rattle.cache_directives.specs.declared.error.ErrorType.{ErrorType}
-use Rattle.cache_directives.specs.declared.error.ErrorType.TheVariants.{InternalError, InvalidHTTPHeader, Custom}
+use Rattle.cache_headers.specs.declared.error.ErrorType.{ErrorType}
+use Rattle.cache_headers.specs.declared.error.ErrorType.TheVariants.{InternalError, InvalidHTTPHeader, Custom}
 
 abbrev pub type_name : ErrorType → List ℕ
 type_name InternalError = codes "InternalError"

@@ -1,6 +1,6 @@
 //! Errors as a server names them.
 ghost use Rattle.std.specs.Prelude.{Some};
-ghost use Rattle.cache_directives.specs.ErrorNames.{type_name};
+ghost use Rattle.cache_headers.specs.ErrorNames.{type_name};
 
 use std::fmt;
 

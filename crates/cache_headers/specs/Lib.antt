@@ -1,0 +1,2 @@
+pub mod ErrorNames
+pub mod Lines
