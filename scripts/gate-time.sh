@@ -1,0 +1,112 @@
+#!/bin/sh
+# Runs the gate (rt ci) and prints what it took, by crate and by kind, as docs/gate.md shows it:
+#
+#     sh scripts/gate-time.sh [LOG]
+#
+# What the gate itself prints goes to LOG (gate.log without one). Times are processor minutes, read from the processes of
+# the run five times a second; the last lines give the wall time and the sums. Nothing else may run beside it.
+top=$(cd "$(dirname "$0")/.." && pwd)
+cd "$top" || exit 1
+exec python3 - "${1:-gate.log}" <<'PYTHON'
+import os, re, subprocess, sys, threading, time
+
+log = sys.argv[1]
+tick = os.sysconf("SC_CLK_TCK")
+begun = time.time()
+gate = subprocess.Popen(["rt", "ci"], stdin=subprocess.DEVNULL, stdout=subprocess.PIPE, stderr=subprocess.STDOUT, text=True, errors="replace")
+seen = {}  # (process, start) -> [kind, crate, ticks, peak]
+
+
+def kind_of(words, folder):
+    name = words[words.index("--crate-name") + 1] if "--crate-name" in words else ""
+    if not name:
+        return "runs", ""
+    if "rt-edit" in folder:
+        return "edits", name
+    if "--test" in words or any(it.endswith("_tests.o") for it in words):
+        return "tests", name.removesuffix("_tests")
+    if "--crate-checked" in words:
+        return "runs", name
+    return "proofs", name
+
+
+def read(path):
+    with open(path, "rb") as it:
+        return it.read().decode(errors="replace")
+
+
+def sample():
+    parents, stats = {}, {}
+    for pid in filter(str.isdigit, os.listdir("/proc")):
+        try:
+            stat = read(f"/proc/{pid}/stat").rpartition(")")[2].split()
+        except OSError:
+            continue
+        parents[int(pid)], stats[int(pid)] = int(stat[1]), stat
+    ours = {gate.pid}
+    grown = True
+    while grown:
+        more = {pid for pid, parent in parents.items() if parent in ours} - ours
+        ours, grown = ours | more, bool(more)
+    for pid in ours & stats.keys():
+        stat = stats[pid]
+        key = pid, stat[19]
+        try:
+            if key not in seen or not seen[key][1] and time.time() - begun < 1e9 and seen[key][4] < 5:
+                words = read(f"/proc/{pid}/cmdline").split("\0")
+                tries = seen[key][4] + 1 if key in seen else 0
+                seen[key] = [*kind_of(words, os.readlink(f"/proc/{pid}/cwd")), 0, 0, tries]
+            peak = re.search(r"VmHWM:\s+(\d+)", read(f"/proc/{pid}/status"))
+        except OSError:
+            continue
+        seen[key][2] = int(stat[11]) + int(stat[12])
+        seen[key][3] = max(seen[key][3], int(peak[1]) if peak else 0)
+
+
+def watch():
+    while gate.poll() is None:
+        sample()
+        time.sleep(0.2)
+
+
+threading.Thread(target=watch, daemon=True).start()
+ended, functions, edits, last, name, tests = {}, {}, {}, "", "", False
+with open(log, "w") as out:
+    for line in gate.stdout:
+        at = (time.time() - begun) / 60
+        out.write(f"{at:6.1f} {line}")
+        out.flush()
+        last = line.strip() or last
+        told = re.match(r"rt: (\S+?)(: its tests)? (?:are )?proved$", last)
+        if told:
+            ended[told[1], "tests" if told[2] else "proof"] = at
+        told = re.match(r"rt: (\S+): trying its must-fail edits \((\d+)\)", last)
+        if told:
+            edits[told[1]] = int(told[2])
+        told = re.match(r"== (\S+?)(:.*)?$", last)
+        if told:
+            name, tests = told[1], bool(told[2])
+        told = re.search(r"^logic=proved functions=(\d+)", last)
+        if told and not tests:
+            functions[name] = int(told[1])
+status = gate.wait()
+wall = (time.time() - begun) / 60
+sums, peaks = {}, {}
+for kind, crate, ticks, peak, _ in seen.values():
+    sums[crate, kind] = sums.get((crate, kind), 0) + ticks / tick / 60
+    peaks[crate] = max(peaks.get(crate, 0), peak)
+kinds = ["proofs", "tests", "edits", "runs"]
+lines = int(subprocess.run("cat $(git ls-files '*.rt' | grep /src/) | wc -l", shell=True, capture_output=True, text=True).stdout)
+print("| Crate | Functions | Edits | Proofs | Tests | Edits tried | Programs | Memory, GB |")
+print("|---|---|---|---|---|---|---|---|")
+for crate in sorted({it for it, _ in sums} - {""}, key=lambda it: -sum(sums.get((it, k), 0) for k in kinds)):
+    row = " | ".join(f"{sums.get((crate, k), 0):.1f}" for k in kinds)
+    print(f"| `{crate}` | {functions.get(crate, 0)} | {edits.get(crate, 0)} | {row} | {peaks[crate] / 1e6:.1f} |")
+whole = {k: sum(v for (_, it), v in sums.items() if it == k) for k in kinds}
+print(f"| all | {sum(functions.values())} | {sum(edits.values())} | " + " | ".join(f"{whole[k]:.1f}" for k in kinds) + " | |")
+total = sum(whole.values())
+print(f"\nTotal: {wall:.0f} min on {os.cpu_count()} cores\n")
+print(f"{total:.0f} processor minutes, {total / max(1, sum(functions.values())):.2f} a function, {1000 * total / max(1, lines):.1f} for each thousand lines of source.")
+print(f"The gate's last line: {last}")
+sys.exit(status)
+PYTHON
