@@ -5,8 +5,8 @@ set -eu
 cd "$(dirname "$0")/.."
 room=$(mktemp -d)
 trap 'rm -rf "$room"' EXIT
-python3 scripts/access-log-to-trace.py --no-query < examples/access.log > "$room/trace" 2> "$room/told"
-diff examples/access.jsonl "$room/trace"
+python3 scripts/access-log-to-trace.py --no-query < examples/logs/access-log.txt > "$room/trace" 2> "$room/told"
+diff examples/logs/access.jsonl "$room/trace"
 echo "lines passed over: 1 method POST, 1 status 404, 1 status 304, 1 time not read, 1 no request in it, 1 not a log line" | diff - "$room/told"
 # an eighth of each length, another lifetime, another method, and bytes that aren't UTF-8
 printf '%b\n' '- - - [01/Jan/1970:01:00:00 +0100] "HEAD /\0377 HTTP/1.1" 206 16 "-" "-"' '5 k 7' |
