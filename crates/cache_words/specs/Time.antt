@@ -1,7 +1,7 @@
 -- Points in time and lengths of time, as seconds and nanoseconds. What the contracts of `Moment` and `Duration` say.
 use Rattle.std.specs.Prelude.{ℕ, ◌+◌, ◌-◌, ◌/◌, ◌%◌, ◌^◌, ℤ, pos, negsuc, ◌+ℤ◌, ◌-ℤ◌, nat_abs, Bool, true, ◌&&◌, nat_lt, nat_le, int_lt, int_le, if◌then◌else◌, Option, Some, None}
 
--- a point in time: whole seconds since 1970, negative before it, and the nanoseconds behind them, below a second
+-- a point in time: whole seconds since 1970, negative before it, and the nanoseconds after them, below a second
 pub record MomentValue : Type 0 where
   pub seconds : ℤ
   pub nanoseconds : ℕ

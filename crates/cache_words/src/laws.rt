@@ -3,7 +3,8 @@ ghost use Rattle.std.specs.Prelude.{◌≡◌, ◌≢◌, ◌<◌, ◌≤◌, �
 ghost use Rattle.std.specs.FinMap as map;
 ghost use Rattle.cache_words.specs.Forms.{Stands, shortest, numbers, arrays, texts, byte_strings};
 ghost use Rattle.cache_words.specs.Key.{Key};
-ghost use Rattle.cache_words.specs.Pack.{SpellsText, SpellsBytes, SpellsHash, SpellsOptionalHash, SpellsMoment, SpellsKey, IsHash, text_of, bytes_of, hash_of, optional_hash_of, moment_of, key_text_of};
+ghost use Rattle.cache_words.specs.Pack.{SpellsText, SpellsBytes, SpellsHash, SpellsOptionalHash, SpellsMoment, SpellsKey, IsHash};
+ghost use Rattle.cache_words.specs.Pack.{text_of, bytes_of, hash_of, optional_hash_of, moment_of, key_text_of};
 ghost use Rattle.cache_words.specs.Time.{MomentValue, DurationValue, second, at_most, at_least};
 ghost use Rattle.std.specs.Ordering.{is_le};
 ghost use Rattle.cache_words.specs.Variance.{Values};

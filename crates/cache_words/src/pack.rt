@@ -10,6 +10,7 @@ mod cursor;
 pub mod fault;
 mod reading;
 mod sink;
+mod wide;
 pub mod writing;
 
 /// A kept key whose tag is borrowed from the bytes that it was read from.

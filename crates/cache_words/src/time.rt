@@ -7,9 +7,9 @@ use std::marker::Model;
 /// The nanoseconds of a second.
 pub const NANOSECONDS_PER_SECOND: u32 = 1_000_000_000;
 
-/// The lifetime that a number of seconds past 2^32 - 1 counts as (RFC 9111, 1.2.2): 2147483647 seconds.
+/// The lifetime that a number of seconds past 2^32 - 1 counts as (RFC 9111, 1.2.2): 2^31 - 1 seconds.
 pub const DELTA_SECONDS_OVERFLOW_DURATION: Duration = Duration {
-    seconds: 2_147_483_647,
+    seconds: (1 << 31) - 1,
     nanoseconds: 0,
 };
 
@@ -85,7 +85,7 @@ impl Moment {
         self.seconds
     }
 
-    /// The nanoseconds behind the whole seconds.
+    /// The nanoseconds after the whole seconds.
     pub fn nanoseconds(&self) -> u32
         ensures value { result ≡ self.now.nanoseconds }
         ensures below { result < second }
@@ -212,7 +212,7 @@ impl Duration {
         self.seconds
     }
 
-    /// The nanoseconds behind the whole seconds.
+    /// The nanoseconds after the whole seconds.
     pub fn nanoseconds(&self) -> u32
         ensures value { result ≡ self.now.nanoseconds }
         ensures below { result < second }

@@ -1,4 +1,4 @@
-//! The hash of what an answer varies by.
+//! The hash of what a response varies by.
 ghost use Rattle.std.specs.Prelude.{◌≡◌, ◌≢◌, ◌↔◌, IsTrue, OnOk, OnErr, string_bytes};
 ghost use Rattle.std.specs.FinMap as map;
 ghost use Rattle.cache_words.specs.Variance.{variance_hash};
@@ -11,8 +11,9 @@ use std::alloc::{AllocError, Global};
 use std::collections::BTreeMap;
 use std::marker::Model;
 
-/// The names and values that an answer varies by, mostly of request headers. A name has the last value that it got, and
-/// the order in which they came doesn't matter.
+/// The names and values that a response varies by, mostly of request headers. A name has the last value that it got,
+/// and the order in which they came doesn't matter. The names are kept in their order, so no choice of names makes an
+/// insertion take more than logarithmic time.
 #[derive(Drop)]
 pub struct VarianceBuilder<'a> {
     values: BTreeMap<MaybeOwnedBytes<'a>, MaybeOwnedBytes<'a>>,

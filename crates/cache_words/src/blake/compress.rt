@@ -100,15 +100,9 @@ fn load_le(block: &[u8], i: usize) -> u64
     requires { i + 8 ≤ length block.now }
     ensures { result ≡ word_at block.now i }
 {
+    let word = &block[i..i + 8];
     u64::from_le_bytes([
-        block[i],
-        block[i + 1],
-        block[i + 2],
-        block[i + 3],
-        block[i + 4],
-        block[i + 5],
-        block[i + 6],
-        block[i + 7],
+        word[0], word[1], word[2], word[3], word[4], word[5], word[6], word[7],
     ])
 }
 

@@ -1,63 +1,19 @@
 // Each reader returns the value at the front of its input, in any of the listed forms, and the bytes after it.
 ghost use Rattle.std.specs.Prelude.{◌≡◌, ◌++◌, ◌^◌, ◌<◌, List, ℕ, length, Ok, Err, IfOk, IsUtf8, MatchResult, true, false, string_bytes};
-ghost use Rattle.std.specs.Int.{w8, w16, w32, w64};
 ghost use Rattle.std.specs.Str.{is_utf8};
 ghost use Rattle.cache_words.specs.Key.{Key};
 ghost use Rattle.cache_words.specs.BorrowedKey.{borrowed_view};
 ghost use Rattle.cache_words.specs.Forms.{numbers, arrays, texts, byte_strings};
-ghost use Rattle.cache_words.specs.Reading.{Gives, wide_at, number_at, below_at, array_of_at, front_at, bytes_at, text_at, nil_at, each_at, optional_at, hash_at, optional_hash_at, moment_at, optional_moment_at, key_at};
+ghost use Rattle.cache_words.specs.Reading.{Gives, number_at, below_at, array_of_at, front_at, bytes_at, text_at, nil_at, each_at};
+ghost use Rattle.cache_words.specs.Reading.{optional_at, hash_at, optional_hash_at, moment_at, optional_moment_at, key_at};
 ghost use Rattle.cache_words.specs.Items.{byte_at, seconds_at};
 
 use super::BorrowedKey;
 use super::fault::PackFault;
+use super::wide::{u8_at, u16_at, u32_at, u64_at};
 use crate::key::HashBinary;
-use crate::time::Moment;
+use crate::time::{Moment, NANOSECONDS_PER_SECOND};
 use std::str;
-
-fn u8_at(bytes: &[u8]) -> Result<(u64, &[u8]), PackFault>
-    ensures { Gives (λ x. (x.0, x.1.now)) result (wide_at w8 bytes.now) }
-{
-    if bytes.len() < 1 {
-        return Err(PackFault::Short);
-    }
-    let (front, rest) = bytes.split_at(1);
-    Ok((front[0] as u64, rest))
-}
-
-fn u16_at(bytes: &[u8]) -> Result<(u64, &[u8]), PackFault>
-    ensures { Gives (λ x. (x.0, x.1.now)) result (wide_at w16 bytes.now) }
-{
-    if bytes.len() < 2 {
-        return Err(PackFault::Short);
-    }
-    let (front, rest) = bytes.split_at(2);
-    let number = u16::from_be_bytes([front[0], front[1]]);
-    Ok((number as u64, rest))
-}
-
-fn u32_at(bytes: &[u8]) -> Result<(u64, &[u8]), PackFault>
-    ensures { Gives (λ x. (x.0, x.1.now)) result (wide_at w32 bytes.now) }
-{
-    if bytes.len() < 4 {
-        return Err(PackFault::Short);
-    }
-    let (front, rest) = bytes.split_at(4);
-    let number = u32::from_be_bytes([front[0], front[1], front[2], front[3]]);
-    Ok((number as u64, rest))
-}
-
-fn u64_at(bytes: &[u8]) -> Result<(u64, &[u8]), PackFault>
-    ensures { Gives (λ x. (x.0, x.1.now)) result (wide_at w64 bytes.now) }
-{
-    if bytes.len() < 8 {
-        return Err(PackFault::Short);
-    }
-    let (front, rest) = bytes.split_at(8);
-    let number = u64::from_be_bytes([
-        front[0], front[1], front[2], front[3], front[4], front[5], front[6], front[7],
-    ]);
-    Ok((number, rest))
-}
 
 #[tactic(auto, unfolding(crate::specs::Reading::number_at))]
 pub(super) fn number(bytes: &[u8]) -> Result<(u64, &[u8]), PackFault>
@@ -262,12 +218,12 @@ pub(super) fn moment(bytes: &[u8]) -> Result<(Moment, &[u8]), PackFault>
     let rest = array_of(bytes, 2)?;
     let (seconds, rest) = number(rest)?;
     let (nanoseconds, rest) = number_below(rest, 1 << 32)?;
-    let carry = nanoseconds / 1_000_000_000;
+    let carry = nanoseconds / NANOSECONDS_PER_SECOND as u64;
     if seconds >= (1 << 63) - carry {
         return Err(PackFault::Range);
     }
     let whole = (seconds + carry) as i64;
-    match Moment::new(whole, (nanoseconds % 1_000_000_000) as u32) {
+    match Moment::new(whole, (nanoseconds % NANOSECONDS_PER_SECOND as u64) as u32) {
         Some(moment) => Ok((moment, rest)),
         None => Err(PackFault::Range),
     }

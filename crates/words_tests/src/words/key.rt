@@ -4,6 +4,7 @@ use cache_words::key::{
 };
 use std::alloc::{AllocError, Global};
 use std::collections::HashMap;
+use std::fmt;
 use std::test::*;
 
 // Keys with their hashes and texts, made by the original cache's own code. Bytes are in hex.
@@ -122,16 +123,16 @@ fn hashes_of_keys(rt: HostRuntime) -> Result<(), Fail> {
     Ok(())
 }
 
+fn is_shown<K: fmt::Display>(alloc: Global, key: &K, text: &str) -> Result<bool, AllocError> {
+    Ok(format!(in alloc; "{key}")?.as_str() == text)
+}
+
 #[test]
 fn keys_are_shown(rt: HostRuntime) -> Result<(), Fail> {
     for case in &CASES {
         let key = made(rt.alloc(), case)?;
-        let compact = key.to_compact()?;
-        let shown = format!(in rt.alloc(); "{key}{compact}{key}")?;
-        assert_eq!(rt; shown.as_str().len(), 3 * case.display.len());
-        for part in shown.as_bytes().chunks(case.display.len().max(1)) {
-            assert_eq!(rt; part, case.display.as_bytes());
-        }
+        assert!(rt; is_shown(rt.alloc(), &key, case.display)?);
+        assert!(rt; is_shown(rt.alloc(), &key.to_compact()?, case.display)?);
         assert_eq!(rt; key.combined(rt.alloc())?.as_str(), case.combined);
     }
     Ok(())
