@@ -117,7 +117,7 @@ number_takes forms are (b ∷ rest) x fits e =
           record { text = t.0; spelled = inr t.1; parts = t.2; rest_fits = t.3 }
     ]
 
--- what stands behind a tag: the tag, and that it is read again
+-- what follows a tag: the tag, and that it is read again
 record IsBehind (fs : List Form) (n : ℕ) (text : List ℕ) : Type 0 where
   tag : ℕ
   body : List ℕ
@@ -220,7 +220,7 @@ behind_stands (f ∷ fs) n fits =
           rw test (inr (behind_stands fs n (elim fits [ inl low ↦ absurd (omega arith) | inr more ↦ more ])))
     ]
 
--- a number that has a form stands in its shortest one
+-- a number that has a form has its shortest one
 pub shortest_stands : (forms : Forms) (n : ℕ) → FitsBehind forms.wide n → Stands forms n (shortest forms n)
 shortest_stands forms n fits =
     elim (cases_lt n forms.count) [

@@ -77,7 +77,7 @@ some_name (e ∷ es) h =
     let none : get (from_entries {R = order} (e ∷ es)) e.0 ≡ None = ap (λ (m : Values). get m e.0) h ∙ get-empty order e.0 in
     cc
 
--- what finalize answers
+-- what finalize returns
 pub variance_none : (es : Pairs) (m : Values) → from_entries es ≡ m → length es ≡ 0 → None ≡ variance_hash m
 variance_none es m is none =
     let zero : len m ≡ 0 = ap (λ (m : Values). len m) (sym is ∙ no_names es none) ∙ len-empty order (List ℕ) in

@@ -1,14 +1,14 @@
 -- The forms of MessagePack that a cache's files and metas have, as the public standard lists them. A form begins with
--- one byte, its tag, and a number behind it, high byte first; small numbers stand in the first byte itself.
+-- one byte, its tag, and a number after it, high byte first; small numbers are in the first byte itself.
 use Rattle.std.specs.Prelude.{◌≡◌, ℕ, ◌+◌, ◌*◌, ◌<◌, ◌^◌, ◌⊎◌, nat_lt, if◌then◌else◌, List, [], ◌∷◌}
 use Rattle.std.specs.Int.{Width, w8, w16, w32, w64, byte_len, to_be_bytes}
 
--- a tag, and the width of the number behind it
+-- a tag, and the width of the number after it
 pub record Form : Type 0 where
   pub tag : ℕ
   pub width : Width
 
--- how a number of one kind may stand: one below `count` within the first byte, above `first`, or behind a tag
+-- how a number of one kind may be written: one below `count` within the first byte, above `first`, or after a tag
 pub record Forms : Type 0 where
   pub first : ℕ
   pub count : ℕ

@@ -1,15 +1,15 @@
--- What a key is: the hash of what it names, the variance of the answer, and a tag of its owner's.
+-- What a key is: the hash of what it names, the variance of the response, and a tag of its owner's.
 use Rattle.std.specs.Prelude.{ℕ, List, ◌++◌, Option, Some, None, codes}
 use Rattle.hex.specs.Hex.{encode_lower}
 use Rattle.cache_words.specs.Blake.{blake2b_128}
 
--- a key as a cache keeps it: two hashes of 16 bytes, the second where an answer has variants, and the tag's text
+-- a key as a cache keeps it: two hashes of 16 bytes, the second where a response has variants, and the tag's text
 pub record Key : Type 0 where
   pub primary : List ℕ
   pub variance : Option (List ℕ)
   pub user_tag : List ℕ
 
--- a key as it is asked for: the bytes that it names, and a hash that stands in place of theirs, if any
+-- a key as it is requested: the bytes that it names, and a hash in place of theirs, if any
 pub record CacheKeyValue : Type 0 where
   pub primary : List ℕ
   pub primary_bin_override : Option (List ℕ)

@@ -1,4 +1,4 @@
--- What an answer varies by: names with their values, and the hash of them.
+-- What a response varies by: names with their values, and the hash of them.
 use Rattle.std.specs.Prelude.{ℕ, List, [], ◌∷◌, ◌++◌, ◌==◌, flat_map, Option, Some, None, if◌then◌else◌}
 use Rattle.std.specs.Ordering.{nat_cmp}
 use Rattle.std.specs.Cmp.Lexicographic.{slice_cmp}
@@ -9,7 +9,7 @@ use Rattle.cache_words.specs.Blake.{blake2b_128}
 abbrev pub Values : Type 0
 Values = FinMap (slice_cmp nat_cmp) (List ℕ)
 
--- a name and its value, each with a zero byte behind it
+-- a name and its value, each with a zero byte after it
 abbrev pub salted : List ℕ × List ℕ → List ℕ
 salted e = e.0 ++ (0 ∷ (e.1 ++ (0 ∷ [])))
 

@@ -40,16 +40,16 @@ pub fn str2hex(s: &str) -> Option<HashBinary>
     <HashBinary as FromHex>::from_hex(s).ok()
 }
 
-/// What names a cached answer: a hash of what is asked for, and one of what the answer varies by.
+/// What names a cached response: a hash of what is requested, and one of what the response varies by.
 pub trait CacheHashKey {
     // The key as a cache keeps it.
     ghost key: { Self → Key };
 
-    /// The hash of what is asked for.
+    /// The hash of what is requested.
     fn primary_bin(&self) -> HashBinary
         ensures { result ≡ (key self.now).primary };
 
-    /// The hash of what the answer varies by, if it does.
+    /// The hash of what the response varies by, if it does.
     fn variance_bin(&self) -> Option<HashBinary>
         ensures { result ≡ (key self.now).variance };
 
@@ -98,7 +98,7 @@ pub trait CacheHashKey {
     }
 }
 
-/// A key as it is asked for. Its primary part is mostly text, but may be any bytes.
+/// A key as it is requested. Its primary part is mostly text, but may be any bytes.
 #[derive(Debug, Drop)]
 pub struct CacheKey {
     primary: Vec<u8>,
@@ -116,16 +116,16 @@ impl Model for CacheKey {
     ghost view = { λ k. record { primary = k.primary.items; primary_bin_override = k.primary_bin_override; variance = k.variance; user_tag = k.user_tag } };
 }
 
-/// A key as a cache keeps it: hashes in place of what is asked for.
+/// A key as a cache keeps it: hashes in place of what is requested.
 #[derive(Clone, PartialEq, Eq, PartialOrd, Ord, Hash, Debug, Drop)]
 pub struct CompactCacheKey {
-    /// The hash of what is asked for.
+    /// The hash of what is requested.
     pub primary: HashBinary,
-    /// The hash of what the answer varies by, if it does.
+    /// The hash of what the response varies by, if it does.
     pub variance: Option<HashBinary>,
     /// The owner's tag.
     pub user_tag: Text,
 }
 
-pub mod calls;
-mod shown;
+mod calls;
+mod display;

@@ -1,11 +1,11 @@
 //! The calls of keys.
-ghost use Rattle.std.specs.Prelude.{◌≡◌, Some, None, IfSome, IfNone, IfOk, IsUtf8, string_bytes};
+ghost use Rattle.std.specs.Prelude.{◌≡◌, Some, None, IfSome, IfNone, IfOk, IsUtf8, string_bytes, [], replicate};
 ghost use Rattle.cache_words.specs.Key.{CacheKeyValue, key_of, shown};
 ghost use Rattle.cache_words.specs.CompactKey.{compact_view};
 
 use super::{CacheHashKey, CacheKey, CompactCacheKey, HashBinary, hash_key};
 use crate::text::Text;
-use std::alloc::AllocError;
+use std::alloc::{AllocError, Global};
 use std::{fmt, str};
 
 impl CacheKey {
@@ -21,14 +21,14 @@ impl CacheKey {
         }
     }
 
-    /// The bytes of what is asked for.
+    /// The bytes of what is requested.
     pub fn primary_key(&self) -> &[u8]
         ensures { result.now ≡ self.now.primary }
     {
         &self.primary
     }
 
-    /// What is asked for as text, if it is text.
+    /// What is requested as text, if it is text.
     pub fn primary_key_str(&self) -> Option<&str>
         ensures some { IfSome result (λ s. (s.now ≡ self.now.primary) × IsUtf8 s.now) }
         ensures none { IfNone result (IsUtf8 self.now.primary → ⊥) }
@@ -36,14 +36,14 @@ impl CacheKey {
         str::from_utf8(self.primary.as_slice()).ok()
     }
 
-    /// Says what the answer varies by.
+    /// Sets what the response varies by.
     pub fn set_variance_key(&mut self, key: HashBinary)
         ensures { self.new ≡ record self.old { variance = Some key } }
     {
         self.variance = Some(key);
     }
 
-    /// What the answer varies by, if that was said.
+    /// What the response varies by, if that was set.
     pub fn get_variance_key(&self) -> Option<&HashBinary>
         ensures some { IfSome result (λ v. self.now.variance ≡ Some v.now) }
         ensures none { IfNone result (self.now.variance ≡ None) }
@@ -51,14 +51,14 @@ impl CacheKey {
         self.variance.as_ref()
     }
 
-    /// Takes back what the answer varies by.
+    /// Removes what the response varies by.
     pub fn remove_variance_key(&mut self)
         ensures { self.new ≡ record self.old { variance = None } }
     {
         self.variance = None;
     }
 
-    /// Puts a hash in place of that of what is asked for.
+    /// Puts a hash in place of that of what is requested.
     pub fn set_primary_bin_override(&mut self, key: HashBinary)
         ensures { self.new ≡ record self.old { primary_bin_override = Some key } }
     {
@@ -74,6 +74,19 @@ impl CacheKey {
             variance: self.variance,
             user_tag: self.user_tag.clone()?,
         })
+    }
+}
+
+impl CompactCacheKey {
+    /// A key of zeros, without a variance and with an empty tag.
+    pub fn empty(alloc: Global) -> CompactCacheKey
+        ensures { compact_view result ≡ record { primary = replicate 16 0; variance = None; user_tag = [] } }
+    {
+        CompactCacheKey {
+            primary: [0; 16],
+            variance: None,
+            user_tag: Text::from_string(String::new(alloc)),
+        }
     }
 }
 

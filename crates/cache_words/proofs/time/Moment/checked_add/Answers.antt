@@ -1,0 +1,5 @@
+use Rattle.std.proofs.Common.{rules}
+use Rattle.cache_words.proofs.time.Moment.checked_add.Goals as goal
+
+pub returns : goal.returns
+returns c = search rules
