@@ -6,7 +6,7 @@ use Rattle.std.specs.List.{list_any}
 abbrev pub is_space : ℕ → Bool
 is_space b = (nat_lt 8 b && nat_lt b 14) || b == 32
 
--- what stands between directives: a comma, and a semicolon too
+-- what separates directives: a comma, and a semicolon too
 abbrev pub is_separator : ℕ → Bool
 is_separator b = b == 44 || b == 59
 

@@ -5,7 +5,7 @@ use Rattle.http_header.specs.HeaderMap.{Entries, remove}
 use Rattle.http_header.specs.Token.{lowercase}
 use Rattle.cache_directives.specs.Written.{Written}
 use Rattle.cache_directives.specs.Keeps.{has, is_alone, value_under}
-use Rattle.cache_directives.specs.Seconds.{bare, delta_seconds}
+use Rattle.cache_directives.specs.Seconds.{unquoted, delta_seconds}
 use Rattle.cache_directives.specs.Listed.{listed}
 
 -- nothing of the response may be stored
@@ -59,7 +59,7 @@ without head names = fold (λ h name. remove h (lowercase name)) head names
 
 -- the names that a value lists; none without a value
 abbrev pub names_in : Option (List ℕ) → List (List ℕ)
-names_in value = unwrap_or (option_map (λ v. listed (bare v)) value) []
+names_in value = unwrap_or (option_map (λ v. listed (unquoted v)) value) []
 
 -- the head without the fields that `private` lists, and those that `no-cache` lists
 abbrev pub stripped : {X : Type 0} → Entries X → List Written → Entries X

@@ -4,4 +4,4 @@ use Rattle.cache_directives.proofs.control.CacheControl.from_headers_named.Goals
 
 pub returns-in_ok-from_fields-in-Some-clause-read : goal.returns-in_ok-from_fields-in-Some-clause-read
 returns-in_ok-from_fields-in-Some-clause-read c =
-    kept_read (lines_under c.args.header_name.now c.args.headers.now) _ c.in_ok-from_fields-in-Some.ensures
+    kept_read (lines_under c.args.header_name.now c.args.headers.now) _ c.in_ok-from_fields-in-Some.ensures.read

@@ -1,5 +1,5 @@
 use Rattle.cache_directives.proofs.Scanning.{written_is, rest_is}
-use Rattle.cache_directives.proofs.line.directive.Goals as goal
+use Rattle.cache_directives.proofs.line.RawDirective.split_front.Goals as goal
 
 pub returns-clause-is : goal.returns-clause-is
 returns-clause-is c =

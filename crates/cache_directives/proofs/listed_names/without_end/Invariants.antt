@@ -1,6 +1,6 @@
 use Rattle.std.proofs.Common.{◌≡◌, length}
 use Rattle.cache_directives.specs.Listed.{trim_end}
-use Rattle.cache_directives.proofs.listed.without_end.Given as goal
+use Rattle.cache_directives.proofs.listed_names.without_end.Given as goal
 
 abbrev pub invariant-loop-b : goal.invariant-loop-b
 invariant-loop-b l = trim_end l.rest ≡ trim_end l.bytes
