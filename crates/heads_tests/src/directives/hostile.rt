@@ -1,0 +1,88 @@
+//! Lines that are made to cost much, and memory that is refused.
+use crate::directives::lines::shown_line;
+use crate::directives::values::{Made, NAMES, make_key};
+use crate::directives::{control, fields};
+use cache_directives::CacheControl;
+use std::alloc::{AllocError, Global};
+use std::process::Abort;
+
+// A quote that never closes is read to the line's end, once: no second one can begin inside it. LF, the one byte that no
+// backslash takes along, is in no header value.
+fn unclosed(alloc: Global) -> Result<Vec<u8>, AllocError> {
+    let mut line = b"a=\"".to_vec(alloc)?;
+    for _ in 0..200_000 {
+        line.extend_from_slice(b",b=\\\"")?;
+    }
+    Ok(line)
+}
+
+#[test]
+fn unclosed_quote(rt: HostRuntime) -> Result<(), AllocError> {
+    let line = unclosed(rt.alloc())?;
+    let text = shown_line(rt.alloc(), line.as_slice());
+    assert!(rt; text.is_some_and(|t| t.as_str() == "a;b"));
+    Ok(())
+}
+
+// These names hash alike from a start that is the same for each map, whatever the eight letters, and reading so many
+// then takes longer than a test may (60 seconds).
+const ALIKE: u32 = 100_000;
+
+fn alike(alloc: Global) -> Result<Vec<u8>, AllocError> {
+    let mut line = Vec::new(alloc);
+    for number in 0..ALIKE {
+        line.extend_from_slice(b",r36lokwfmi3jvlur057ofkl|")?;
+        let mut rest = number;
+        for _ in 0..8 {
+            line.push(b'a' + (rest % 16) as u8)?;
+            rest /= 16;
+        }
+        line.extend_from_slice(b"abcdefghijklmnop")?;
+    }
+    Ok(line)
+}
+
+#[test]
+fn names_chosen_to_collide(rt: HostRuntime) -> Result<(), AllocError> {
+    let line = alike(rt.alloc())?;
+    let found = control(rt.alloc(), line.as_slice());
+    assert!(rt; found.is_some_and(|c| c.directives.len() == ALIKE as usize));
+    Ok(())
+}
+
+// Lines that are read, and keys that are made, with memory or without.
+const READ: [&str; 3] = [
+    "x-a=\"1\", public",
+    "public, a=b",
+    "x-a, x-b, x-c, x-d, x-e",
+];
+
+// Whether memory sufficed: a refusal is told, and nothing else is `None`.
+fn reads(alloc: Global, line: &str) -> Option<bool> {
+    let headers = fields(alloc, &[("cache-control", line.as_bytes())])?;
+    let found = CacheControl::from_headers_named(alloc, "cache-control", &headers).ok()?;
+    Some(found.is_some() && headers.len() == 1)
+}
+
+fn check_memory(rt: &impl Abort, alloc: Global, may_refuse: bool) {
+    for line in READ {
+        let found = reads(alloc, line);
+        assert!(rt; found == Some(true) || may_refuse && found.is_none());
+    }
+    for (name, _) in NAMES {
+        let key = make_key(alloc, name, Made::Borrowed);
+        assert!(rt; key.map_or(may_refuse, |k| k.is_text(name)));
+    }
+}
+
+#[test]
+fn refused_memory(rt: HostRuntime) {
+    check_memory(&rt, rt.alloc(), true);
+}
+
+#[test]
+fn ample_memory_meets_no_refusal(rt: HostRuntime) {
+    for _ in 0..2 {
+        check_memory(&rt, rt.alloc(), false);
+    }
+}
