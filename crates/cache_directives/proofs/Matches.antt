@@ -1,17 +1,16 @@
 -- What one match at the front of bytes is: the search finds it, and no other is there.
-use Rattle.std.proofs.Common.{◌≡◌, ℕ, ◌+◌, ◌-◌, ◌<◌, zero, suc, ◌⊎◌, inl, inr, Bool, true, false, ◌&&◌, ◌||◌, List, [], ◌∷◌, ◌++◌, length, take, drop, refl, sym, ◌∙◌, ap, subst, arith, append_assoc}
+use Rattle.std.proofs.Common.{◌≡◌, ℕ, ◌+◌, ◌<◌, suc, ◌⊎◌, inl, inr, Bool, true, false, List, [], ◌∷◌, ◌++◌, length, take, drop, refl, sym, ◌∙◌, ap, subst, arith, append_assoc}
 use Rattle.std.specs.Prelude.{Option, Some, None, option_map, cond, ◌==◌}
 use Rattle.std.specs.List.{prefix_len, AllByRecursion}
 use Rattle.std.proofs.lemmas.Bool.{eqb-true}
 use Rattle.std.proofs.lemmas.Bool.Decides.{nat_tests}
-use Rattle.std.proofs.lemmas.List.{take-append-drop, drop-drop, append-nil}
+use Rattle.std.proofs.lemmas.List.{take-append-drop, drop-drop}
 use Rattle.std.proofs.lemmas.List.Folds.{length-prefix_len}
 use Rattle.std.proofs.Math.Seq.{drop-append_seam, take-append_seam}
 use Rattle.cache_directives.specs.Kinds.{is_space, is_separator, is_token}
 use Rattle.cache_directives.specs.Written.{Written}
-use Rattle.cache_directives.specs.Reads.{HasNoToken, IsRun, IsInside, IsQuoted, HasValue, IsValueAfter, IsDirective, IsBlank, IsLead, Begins, IsGap, is_none_yet, Reads, Holds}
-use Rattle.cache_directives.specs.Walk.{close, value_at, value_after, value_len, written_at, written_len, walk, begins_token, directives}
-use Rattle.cache_directives.proofs.Scanning.{drop_written, walk_token}
+use Rattle.cache_directives.specs.Reads.{HasNoToken, IsRun, IsInside, IsQuoted, HasValue, IsValueAfter, IsDirective}
+use Rattle.cache_directives.specs.Walk.{close, value_at, value_after, value_len, written_at, written_len}
 
 -- lists and tests
 

@@ -1,4 +1,5 @@
 -- The directives that a header's lines leave, each name once: its last value, in the place where the name came first.
+-- That the last value counts is this cache's choice; RFC 9111, 4.2.1 asks for the first, or for none.
 use Rattle.std.specs.Prelude.{◌≡◌, ℕ, Bool, List, [], map, fold, Option, Some, None, nat_eq, is_some, if◌then◌else◌, true, false, ◌∷◌, ◌&&◌}
 use Rattle.std.specs.List.{AllZip}
 use Rattle.std.specs.Char.{to_ascii_lowercase}

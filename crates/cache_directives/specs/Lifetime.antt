@@ -38,14 +38,15 @@ abbrev pub first_of_two : Option (List ℕ) → Option ℕ → Option ℕ
 first_of_two None other = other
 first_of_two (Some value) other = delta_seconds value
 
--- the seconds for which a response is fresh: none at all under `no-cache` alone; else those of `s-maxage`, which
--- counts for shared caches, and where that says nothing those of `max-age`. An `s-maxage` that cannot be read gives none
+-- the seconds for which a response is fresh: 0 under `no-cache` alone, so that it is validated each time; else those of
+-- `s-maxage`, which counts for shared caches, and where that says nothing those of `max-age`. An `s-maxage` that cannot be
+-- read gives none
 abbrev pub lifetime : List Written → Option ℕ
 lifetime ds =
     if is_alone (codes "no-cache") ds then Some 0
     else first_of_two (value_under (codes "s-maxage") ds) (seconds_under (codes "max-age") ds)
 
--- stale responses may not be served at all
+-- stale responses may not be served at all. RFC 9111, 4.2.4 names `no-cache` too; here such a response keeps its windows
 abbrev pub forbids_stale : List Written → Bool
 forbids_stale ds = has (codes "must-revalidate") ds || has (codes "proxy-revalidate") ds || has (codes "s-maxage") ds
 

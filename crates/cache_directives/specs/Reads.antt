@@ -1,4 +1,4 @@
--- What a header line holds: gap, match, gap, match, .. to its end (RFC 9111, 5.2). Bytes are numbers:
+-- What a header line holds: gap, match, gap, match, .. to its end, a lenient reading of RFC 9111, 5.2. Bytes are numbers:
 -- 10 LF, 34 a quote, 61 `=`, 92 a backslash.
 use Rattle.std.specs.Prelude.{◌≡◌, ℕ, ◌<◌, ◌⊎◌, Bool, true, false, ◌&&◌, ◌==◌, List, [], ◌∷◌, ◌++◌, length, Option, Some, None}
 use Rattle.std.specs.List.{AllByRecursion}

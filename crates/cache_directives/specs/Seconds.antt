@@ -1,4 +1,4 @@
--- Delta-seconds (RFC 9111, 1.2.2): a value without its quotes, an optional `+` and digits.
+-- Delta-seconds: a value without its quotes, an optional `+`, which RFC 9111, 1.2.2 does not have, and digits.
 use Rattle.std.specs.Prelude.{ℕ, ◌+◌, ◌-◌, ◌*◌, ◌^◌, ◌&&◌, ◌==◌, nat_le, if◌then◌else◌, List, [], ◌∷◌, length, slice_index, slice_range, Option, Some, None, option_map}
 use Rattle.std.specs.Char.{is_ascii_digit}
 use Rattle.std.specs.Str.{is_utf8}

@@ -21,5 +21,5 @@ pub use listed_names::ListValueIter;
 pub use map::{BuildDirectiveHasher, DirectiveMap};
 pub use value::DirectiveValue;
 
-/// What seconds past the greatest number count as (RFC 9111, 1.2.2).
+/// What a number of seconds past 32 bits counts as. RFC 9111, 1.2.2 names 2147483648, or the greatest number at hand.
 pub const DELTA_SECONDS_OVERFLOW_VALUE: u32 = 2_147_483_647;

@@ -19,7 +19,7 @@ use std::str;
 
 impl CacheControl {
     /// The directives of all lines under a name, whatever its case; `None` without such a line.
-    /// A name that comes again takes its last value.
+    /// A name that comes again takes its last value: RFC 9111, 4.2.1 would take the first, or none.
     ///
     /// # Errors
     ///

@@ -15,7 +15,7 @@ pub const UNREADABLE: Error = Error {
 
 // Each of these functions gives `None` where memory is refused.
 
-fn add(alloc: Global, headers: &mut HeaderMap, name: &str, line: &[u8]) -> Option<()> {
+pub fn add(alloc: Global, headers: &mut HeaderMap, name: &str, line: &[u8]) -> Option<()> {
     let name = HeaderName::from_bytes(alloc, name.as_bytes()).ok()?;
     let value = HeaderValue::from_bytes(alloc, line).ok()?;
     headers.append(name, value).ok()?;
