@@ -8,8 +8,8 @@ use std::alloc::{AllocError, Global};
 use std::hash::BuildHasher;
 use std::process::Abort;
 
-// A quote that never closes is read to the line's end, once: no second one can begin inside it. LF, the one byte that no
-// backslash takes along, is in no header value.
+// The worst that a header value can hold: a quote that never closes is read to the line's end, and once, since no second
+// one can begin inside it. Only LF, which is in no header value, would end such a reading earlier.
 fn unclosed(alloc: Global) -> Result<Vec<u8>, AllocError> {
     let mut line = b"a=\"".to_vec(alloc)?;
     for _ in 0..200_000 {
@@ -26,8 +26,9 @@ fn unclosed_quote(rt: HostRuntime) -> Result<(), AllocError> {
     Ok(())
 }
 
-// Lines of heads. The hash of a name starts differently after each of these, so nobody can search for names that collide
-// before the lines are written: from a start that is the same for each map, 4000 such names took a test 300 times as long.
+// Lines of heads. After each of these the hash of a name starts differently, so names that collide cannot be searched for
+// before the lines are there. From a start that is the same for each map they can, and to read n of them then takes n * n
+// comparisons.
 const STARTS: [&[&str]; 6] = [
     &["public"],
     &["public,"],
