@@ -1,10 +1,11 @@
 //! What a cache asks the directives.
 use crate::directives::{UNREADABLE, control};
 use cache_directives::{
-    CacheControl, Cacheable, DELTA_SECONDS_OVERFLOW_DURATION, DELTA_SECONDS_OVERFLOW_VALUE,
-    DirectiveKey, Error, InterpretCacheControl,
+    BuildDirectiveHasher, CacheControl, Cacheable, DELTA_SECONDS_OVERFLOW_DURATION,
+    DELTA_SECONDS_OVERFLOW_VALUE, DirectiveKey, DirectiveMap, Error, InterpretCacheControl,
 };
 use cache_words::time::Duration;
+use std::alloc::Global;
 
 #[derive(Clone, Copy)]
 enum Question {
@@ -134,4 +135,16 @@ fn seconds_of_directives(rt: HostRuntime) {
     }
     let most = u64::from(DELTA_SECONDS_OVERFLOW_VALUE);
     assert_eq!(rt; DELTA_SECONDS_OVERFLOW_DURATION.seconds(), most);
+}
+
+fn made_by_hand(alloc: Global) -> Option<CacheControl> {
+    let mut directives = DirectiveMap::with_hasher(alloc, BuildDirectiveHasher::default());
+    directives.insert(DirectiveKey::Public, None).ok()?;
+    Some(CacheControl { directives })
+}
+
+#[test]
+fn control_made_by_hand(rt: HostRuntime) {
+    let control = made_by_hand(rt.alloc());
+    assert!(rt; control.is_some_and(|c| c.public() && !c.private()));
 }
