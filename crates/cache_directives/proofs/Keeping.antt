@@ -6,7 +6,7 @@ use Rattle.cache_directives.specs.Written.{Written}
 use Rattle.cache_directives.specs.Reads.{Holds}
 use Rattle.cache_directives.specs.Walk.{directives}
 use Rattle.cache_directives.specs.Keeps.{keep_all, keep_lines, kept, IsKept}
-use Rattle.cache_directives.proofs.Reading.{directives_hold}
+use Rattle.cache_directives.proofs.SomeReading.{directives_hold}
 
 all_hold : (lines : List (List ℕ)) → AllZip Holds lines (map directives lines)
 all_hold [] = tt

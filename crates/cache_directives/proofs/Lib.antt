@@ -1,5 +1,7 @@
 pub mod Scanning
-pub mod Reading
+pub mod Matches
+pub mod OneReading
+pub mod SomeReading
 pub mod Texts
 pub mod Listing
 pub mod Keeping

@@ -6,8 +6,8 @@ use Rattle.std.specs.Map.{lookup}
 use Rattle.std.proofs.lemmas.Str.{IsUtf8-from_is_utf8, is_utf8-from_IsUtf8}
 use Rattle.std.specs.Cmp.Lexicographic.{pointwise}
 use Rattle.indexmap.specs.IndexMap.{insert_entry}
-use Rattle.cache_directives.specs.Names.{name_of}
-use Rattle.cache_directives.specs.Entries.{value_bytes, entry_of, entries_of}
+use Rattle.cache_directives.specs.Names.{name_of, IsOwnKey}
+use Rattle.cache_directives.specs.Entries.{value_bytes, entry_of, entries_of, HasOwnKeys}
 use Rattle.cache_directives.specs.declared.key.DirectiveKey.{DirectiveKey}
 use Rattle.cache_directives.specs.declared.value.DirectiveValue.{DirectiveValue}
 
@@ -34,6 +34,14 @@ seen_insert [] k v = refl
 seen_insert (e ∷ es) k v =
     seen_step e es (insert_entry same_key es k v) v (same_key k e.0)
     ∙ ap (λ l. cond (same_key k e.0) ((name_of e.0, value_bytes v) ∷ entries_of es) (entry_of e ∷ l)) (seen_insert es k v)
+
+own_step : (e : DirectiveKey × Option DirectiveValue) (es more : List (DirectiveKey × Option DirectiveValue)) (v : Option DirectiveValue) (t : Bool) → IsOwnKey e.0 → HasOwnKeys es → HasOwnKeys more → HasOwnKeys (cond t ((e.0, v) ∷ es) (e ∷ more))
+own_step e es more v true h hs hm = (h, hs)
+own_step e es more v false h hs hm = (h, hm)
+
+pub own_insert : (es : List (DirectiveKey × Option DirectiveValue)) (k : DirectiveKey) (v : Option DirectiveValue) → IsOwnKey k → HasOwnKeys es → HasOwnKeys (insert_entry same_key es k v)
+own_insert [] k v h hs = (h, tt)
+own_insert (e ∷ es) k v h hs = own_step e es (insert_entry same_key es k v) v (same_key k e.0) hs.0 hs.1 (own_insert es k v h hs.1)
 
 lookup_step : (e : DirectiveKey × Option DirectiveValue) (o : Option (Option DirectiveValue)) (t : Bool) → option_map value_bytes (cond t (Some e.1) o) ≡ cond t (Some (value_bytes e.1)) (option_map value_bytes o)
 lookup_step e o true = refl

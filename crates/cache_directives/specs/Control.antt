@@ -5,7 +5,7 @@ use Rattle.http_header.specs.Token.{lowercase}
 use Rattle.http_header.specs.FieldValue.{FieldValue}
 use Rattle.cache_directives.specs.Keeps.{kept}
 use Rattle.cache_directives.specs.Written.{Written}
-use Rattle.cache_directives.specs.Entries.{entries_of}
+use Rattle.cache_directives.specs.Entries.{entries_of, HasOwnKeys}
 use Rattle.cache_directives.specs.declared.control.CacheControl.{CacheControl}
 
 abbrev pub directives_of : CacheControl → List Written
@@ -19,3 +19,7 @@ lines_under name head = map (λ line. line.bytes) (get_all head (lowercase name)
 abbrev pub named : List (List ℕ) → Option (List Written)
 named [] = None
 named (line ∷ lines) = Some (kept (line ∷ lines))
+
+-- each named directive is its own variant
+abbrev pub HasOwnVariants : CacheControl → Type 0
+HasOwnVariants c = HasOwnKeys c.directives.entries

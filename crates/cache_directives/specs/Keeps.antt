@@ -1,4 +1,5 @@
 -- The directives that a header's lines leave, each name once: its last value, in the place where the name came first.
+-- That the last value counts is this cache's choice; RFC 9111, 4.2.1 asks for the first, or for none.
 use Rattle.std.specs.Prelude.{◌≡◌, ℕ, Bool, List, [], map, fold, Option, Some, None, nat_eq, is_some, if◌then◌else◌, true, false, ◌∷◌, ◌&&◌}
 use Rattle.std.specs.List.{AllZip}
 use Rattle.std.specs.Char.{to_ascii_lowercase}
@@ -31,7 +32,7 @@ kept lines = keep_lines [] lines
 abbrev pub IsKept : List (List ℕ) → List Written → Type 0
 IsKept lines entries = (held : List (List Written)) × AllZip Holds lines held × (entries ≡ fold keep_all [] held)
 
--- what stands under a name: none without the name, and some none where it has no value
+-- the value under a name: none without the name, and some none where it has no value
 abbrev pub value_named : List ℕ → List Written → Option (Option (List ℕ))
 value_named name entries = lookup (pointwise nat_eq name) entries
 
@@ -43,7 +44,7 @@ is_none_value None = false
 is_none_value (Some None) = true
 is_none_value (Some (Some value)) = false
 
--- the name stands there without a value
+-- the name is there without a value
 abbrev pub is_alone : List ℕ → List Written → Bool
 is_alone name entries = is_none_value (value_named name entries)
 
@@ -51,7 +52,7 @@ abbrev pub joined : Option (Option (List ℕ)) → Option (List ℕ)
 joined None = None
 joined (Some value) = value
 
--- the value that stands under a name
+-- the value under a name, where there is one
 abbrev pub value_under : List ℕ → List Written → Option (List ℕ)
 value_under name entries = joined (value_named name entries)
 

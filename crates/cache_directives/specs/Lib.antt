@@ -2,7 +2,7 @@ pub mod Kinds
 pub mod Written
 pub mod Reads
 pub mod Walk
-pub mod Shown
+pub mod Found
 pub mod Names
 pub mod Keeps
 pub mod Seconds

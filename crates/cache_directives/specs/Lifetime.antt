@@ -5,7 +5,7 @@ use Rattle.http_header.specs.HeaderMap.{Entries, remove}
 use Rattle.http_header.specs.Token.{lowercase}
 use Rattle.cache_directives.specs.Written.{Written}
 use Rattle.cache_directives.specs.Keeps.{has, is_alone, value_under}
-use Rattle.cache_directives.specs.Seconds.{bare, delta_seconds}
+use Rattle.cache_directives.specs.Seconds.{unquoted, delta_seconds}
 use Rattle.cache_directives.specs.Listed.{listed}
 
 -- nothing of the response may be stored
@@ -38,14 +38,15 @@ abbrev pub first_of_two : Option (List ℕ) → Option ℕ → Option ℕ
 first_of_two None other = other
 first_of_two (Some value) other = delta_seconds value
 
--- the seconds for which a response is fresh: none at all under `no-cache` alone; else those of `s-maxage`, which
--- counts for shared caches, and where that says nothing those of `max-age`. An `s-maxage` that cannot be read gives none
+-- the seconds for which a response is fresh: 0 under `no-cache` alone, so that it is validated each time; else those of
+-- `s-maxage`, which counts for shared caches, and where that says nothing those of `max-age`. An `s-maxage` that cannot be
+-- read gives none
 abbrev pub lifetime : List Written → Option ℕ
 lifetime ds =
     if is_alone (codes "no-cache") ds then Some 0
     else first_of_two (value_under (codes "s-maxage") ds) (seconds_under (codes "max-age") ds)
 
--- stale responses may not be served at all
+-- stale responses may not be served at all. RFC 9111, 4.2.4 names `no-cache` too; here such a response keeps its windows
 abbrev pub forbids_stale : List Written → Bool
 forbids_stale ds = has (codes "must-revalidate") ds || has (codes "proxy-revalidate") ds || has (codes "s-maxage") ds
 
@@ -59,7 +60,7 @@ without head names = fold (λ h name. remove h (lowercase name)) head names
 
 -- the names that a value lists; none without a value
 abbrev pub names_in : Option (List ℕ) → List (List ℕ)
-names_in value = unwrap_or (option_map (λ v. listed (bare v)) value) []
+names_in value = unwrap_or (option_map (λ v. listed (unquoted v)) value) []
 
 -- the head without the fields that `private` lists, and those that `no-cache` lists
 abbrev pub stripped : {X : Type 0} → Entries X → List Written → Entries X

@@ -1,5 +1,7 @@
--- The text of a directive's name.
-use Rattle.std.specs.Prelude.{List, ℕ, codes, string_bytes}
+-- The text of a directive's name, and the key that it has.
+use Rattle.std.specs.Prelude.{◌≡◌, List, [], ◌∷◌, ℕ, Bool, false, codes, string_bytes, nat_eq}
+use Rattle.std.specs.List.{list_any}
+use Rattle.std.specs.Cmp.Lexicographic.{pointwise}
 use Rattle.cache_directives.specs.declared.key.DirectiveKey.{DirectiveKey}
 use Rattle.cache_directives.specs.declared.key.DirectiveKey.TheVariants.{MaxAge, SMaxAge, NoCache, NoStore, Private, Public, MustRevalidate, ProxyRevalidate, MustUnderstand, NoTransform, Immutable, StaleWhileRevalidate, StaleIfError, OnlyIfCached, Unknown}
 
@@ -19,3 +21,30 @@ name_of StaleWhileRevalidate = codes "stale-while-revalidate"
 name_of StaleIfError = codes "stale-if-error"
 name_of OnlyIfCached = codes "only-if-cached"
 name_of (Unknown text) = string_bytes text
+
+-- the names that have a variant of their own
+abbrev pub own_names : List (List ℕ)
+own_names =
+    codes "max-age"
+    ∷ codes "s-maxage"
+    ∷ codes "no-cache"
+    ∷ codes "no-store"
+    ∷ codes "private"
+    ∷ codes "public"
+    ∷ codes "must-revalidate"
+    ∷ codes "proxy-revalidate"
+    ∷ codes "must-understand"
+    ∷ codes "no-transform"
+    ∷ codes "immutable"
+    ∷ codes "stale-while-revalidate"
+    ∷ codes "stale-if-error"
+    ∷ codes "only-if-cached"
+    ∷ []
+
+unfoldable pub has_own_variant : List ℕ → Bool
+has_own_variant name = list_any (λ own. pointwise nat_eq name own) own_names
+
+-- a name that has a variant of its own is that variant
+abbrev pub IsOwnKey : DirectiveKey → Type 0
+IsOwnKey (Unknown text) = has_own_variant (string_bytes text) ≡ false
+IsOwnKey known = Unit {0}

@@ -1,4 +1,4 @@
--- What a header line holds: gap, match, gap, match, .. to its end (RFC 9111, 5.2). Bytes are numbers:
+-- What a header line holds: gap, match, gap, match, .. to its end, a lenient reading of RFC 9111, 5.2. Bytes are numbers:
 -- 10 LF, 34 a quote, 61 `=`, 92 a backslash.
 use Rattle.std.specs.Prelude.{◌≡◌, ℕ, ◌<◌, ◌⊎◌, Bool, true, false, ◌&&◌, ◌==◌, List, [], ◌∷◌, ◌++◌, length, Option, Some, None}
 use Rattle.std.specs.List.{AllByRecursion}
@@ -27,21 +27,21 @@ IsInside false (b ∷ bytes) = ((b == 34) ≡ false) × IsInside (b == 92) bytes
 abbrev pub IsQuoted : List ℕ → Type 0
 IsQuoted text = (inside : List ℕ) × IsInside false inside × (text ≡ 34 ∷ (inside ++ 34 ∷ []))
 
--- behind a name: `=`, a longest token run or a closed quoted text, and the rest
+-- after a name: `=`, a longest token run or a closed quoted text, and the rest
 abbrev pub HasValue : List ℕ → List ℕ → List ℕ → Type 0
 HasValue bytes value rest = (bytes ≡ 61 ∷ (value ++ rest)) × (IsRun value rest ⊎ IsQuoted value)
 
--- the value behind a name, and the rest. There is none only where none can be read
-abbrev pub IsValueBehind : List ℕ → Option (List ℕ) → List ℕ → Type 0
-IsValueBehind bytes None rest = (rest ≡ bytes) × ((value rest : List ℕ) → HasValue bytes value rest → ⊥)
-IsValueBehind bytes (Some value) rest = HasValue bytes value rest
+-- the value after a name, and the rest. There is none only where none can be read
+abbrev pub IsValueAfter : List ℕ → Option (List ℕ) → List ℕ → Type 0
+IsValueAfter bytes None rest = (rest ≡ bytes) × ((value rest : List ℕ) → HasValue bytes value rest → ⊥)
+IsValueAfter bytes (Some value) rest = HasValue bytes value rest
 
 -- a directive at the front of bytes, as long as it can be, and the rest
 pub record IsDirective (bytes : List ℕ) (d : Written) (rest : List ℕ) : Type 0 where
-  pub behind : List ℕ
-  pub is : bytes ≡ d.0 ++ behind
-  pub name : IsRun d.0 behind
-  pub value : IsValueBehind behind d.1 rest
+  pub after : List ℕ
+  pub is : bytes ≡ d.0 ++ after
+  pub name : IsRun d.0 after
+  pub value : IsValueAfter after d.1 rest
 
 abbrev pub IsBlank : List ℕ → Type 0
 IsBlank bytes = AllByRecursion (λ b. is_space b ≡ true) bytes

@@ -1,22 +1,23 @@
--- Delta-seconds (RFC 9111, 1.2.2): a value without its quotes, an optional `+` and digits.
-use Rattle.std.specs.Prelude.{ℕ, ◌+◌, ◌-◌, ◌*◌, ◌&&◌, ◌==◌, nat_lt, nat_le, if◌then◌else◌, List, [], ◌∷◌, length, slice_index, slice_range, Option, Some, None, option_map}
+-- Delta-seconds: a value without its quotes, an optional `+`, which RFC 9111, 1.2.2 does not have, and digits.
+use Rattle.std.specs.Prelude.{ℕ, ◌+◌, ◌-◌, ◌*◌, ◌^◌, ◌&&◌, ◌==◌, nat_le, if◌then◌else◌, List, [], ◌∷◌, length, slice_index, slice_range, Option, Some, None, option_map}
 use Rattle.std.specs.Char.{is_ascii_digit}
 use Rattle.std.specs.Str.{is_utf8}
+use Rattle.cache_directives.specs.declared.TheConstants.{DELTA_SECONDS_OVERFLOW_VALUE}
 
 -- without one pair of enclosing quotes
-abbrev pub bare : List ℕ → List ℕ
-bare value =
+abbrev pub unquoted : List ℕ → List ℕ
+unquoted value =
     if nat_le 2 (length value) && (slice_index value 0 == 34 && slice_index value (length value - 1) == 34)
     then slice_range value 1 (length value - 1)
     else value
 
--- the number that digits give behind n. A byte that is no digit is an error where it comes first, and past
--- 4294967295 the number is 2147483647
+-- the number that digits after n give. A byte that is no digit is an error where it comes first, and a number past 32
+-- bits counts as `DELTA_SECONDS_OVERFLOW_VALUE`
 abbrev pub seconds_from : ℕ → List ℕ → Option ℕ
 seconds_from n [] = Some n
 seconds_from n (b ∷ bytes) =
     if is_ascii_digit b
-    then (if nat_lt 4294967295 (10 * n + (b - 48)) then Some 2147483647 else seconds_from (10 * n + (b - 48)) bytes)
+    then (if nat_le (2 ^ 32) (10 * n + (b - 48)) then Some DELTA_SECONDS_OVERFLOW_VALUE else seconds_from (10 * n + (b - 48)) bytes)
     else None
 
 abbrev pub digits : List ℕ → Option ℕ
@@ -29,7 +30,7 @@ seconds_of (b ∷ bytes) = if b == 43 then digits bytes else digits (b ∷ bytes
 
 -- the seconds that a value says; none where it cannot be read
 abbrev pub delta_seconds : List ℕ → Option ℕ
-delta_seconds value = if is_utf8 (bare value) then seconds_of (bare value) else None
+delta_seconds value = if is_utf8 (unquoted value) then seconds_of (unquoted value) else None
 
 -- the seconds under a name: none where a value is there that cannot be read
 abbrev pub read_seconds : Option (List ℕ) → Option (Option ℕ)

@@ -10,17 +10,17 @@ close escaped [] = None
 close true (b ∷ bytes) = if b == 10 then None else option_map suc (close false bytes)
 close false (b ∷ bytes) = if b == 34 then Some 1 else option_map suc (close (b == 92) bytes)
 
--- the value behind `=`
+-- the value after `=`
 abbrev pub value_at : List ℕ → Option (List ℕ)
 value_at [] = None
 value_at (b ∷ bytes) =
     if b == 34 then option_map (λ n. 34 ∷ take n bytes) (close false bytes)
     else (if is_token b then Some (take (prefix_len is_token (b ∷ bytes)) (b ∷ bytes)) else None)
 
--- the value behind a name
-abbrev pub value_behind : List ℕ → Option (List ℕ)
-value_behind [] = None
-value_behind (b ∷ bytes) = if b == 61 then value_at bytes else None
+-- the value after a name
+abbrev pub value_after : List ℕ → Option (List ℕ)
+value_after [] = None
+value_after (b ∷ bytes) = if b == 61 then value_at bytes else None
 
 abbrev pub value_len : Option (List ℕ) → ℕ
 value_len None = 0
@@ -28,7 +28,7 @@ value_len (Some value) = suc (length value)
 
 -- the directive at the front
 unfoldable pub written_at : List ℕ → Written
-written_at bytes = let n = prefix_len is_token bytes in (take n bytes, value_behind (drop n bytes))
+written_at bytes = let n = prefix_len is_token bytes in (take n bytes, value_after (drop n bytes))
 
 abbrev pub written_len : Written → ℕ
 written_len d = length d.0 + value_len d.1

@@ -5,51 +5,27 @@ ghost use Rattle.http_header.specs.HeaderMap.{get_all};
 ghost use Rattle.http_header.specs.Token.{lowercase};
 ghost use Rattle.cache_directives.specs.Names.{name_of};
 ghost use Rattle.cache_directives.specs.Keeps.{kept, value_named, value_under, has, is_alone, IsKept};
-ghost use Rattle.cache_directives.specs.Seconds.{bare, read_seconds};
+ghost use Rattle.cache_directives.specs.Seconds.{unquoted, read_seconds};
 ghost use Rattle.cache_directives.specs.Listed.{listed};
 ghost use Rattle.cache_directives.specs.NamesLeft.{names_left};
-ghost use Rattle.cache_directives.specs.Control.{directives_of, lines_under, named};
+ghost use Rattle.cache_directives.specs.Control.{directives_of, lines_under, named, HasOwnVariants};
 
 use crate::key::DirectiveKey;
-use crate::map::{DirectiveMap, from_fields};
-use crate::names::ListValueIter;
+use crate::listed_names::ListValueIter;
+use crate::map::DirectiveMap;
 use crate::value::DirectiveValue;
-use cache_headers::{Error, ErrorType, RequestHeader, ResponseHeader};
-use http_header::HeaderMap;
-use std::alloc::{AllocError, Global};
+use cache_headers::{Error, ErrorType};
 
 /// The directives of one header.
-#[derive(Drop)]
+#[derive(Debug, Drop)]
 pub struct CacheControl {
     /// The directives by name, in the order in which the names first came.
     pub directives: DirectiveMap,
 }
 
 impl CacheControl {
-    /// The directives of all lines under a name, whatever its case; `None` without such a line.
-    /// A name that comes again takes its last value.
-    ///
-    /// # Errors
-    ///
-    /// `AllocError` where there is no memory for them.
-    pub fn from_headers_named(
-        alloc: Global,
-        header_name: &str,
-        headers: &HeaderMap,
-    ) -> Result<Option<Self>, AllocError>
-        ensures is { IfOk result (λ o. option_map directives_of o ≡ named (lines_under header_name.now headers.now)) }
-        ensures read { IfOk result (λ o. IfSome o (λ c. IsKept (lines_under header_name.now headers.now) (directives_of c))) }
-    {
-        match headers.get(header_name) {
-            None => Ok(None),
-            Some(_) => Ok(Some(CacheControl {
-                directives: from_fields(alloc, header_name, headers)?,
-            })),
-        }
-    }
-
     // The value under a key.
-    fn under(&self, key: &DirectiveKey) -> Option<Option<&DirectiveValue>>
+    fn lookup(&self, key: &DirectiveKey) -> Option<Option<&DirectiveValue>>
         ensures { option_map (λ o. option_map (λ v. v.now.0.items) o) result ≡ value_named (name_of key.now) (directives_of self.now) }
     {
         match self.directives.get(key) {
@@ -63,19 +39,19 @@ impl CacheControl {
     fn value(&self, key: &DirectiveKey) -> Option<&DirectiveValue>
         ensures { option_map (λ v. v.now.0.items) result ≡ value_under (name_of key.now) (directives_of self.now) }
     {
-        self.under(key)?
+        self.lookup(key)?
     }
 
     // Whether the directive is there without a value.
     fn has_key_without_value(&self, key: &DirectiveKey) -> bool
         ensures { result ≡ is_alone (name_of key.now) (directives_of self.now) }
     {
-        matches!(self.under(key), Some(None))
+        matches!(self.lookup(key), Some(None))
     }
 
     // The names that the value under a key lists.
     fn get_field_names(&self, key: &DirectiveKey) -> Option<ListValueIter<'_>>
-        ensures { option_map names_left result ≡ option_map (λ v. listed (bare v)) (value_under (name_of key.now) (directives_of self.now)) }
+        ensures { option_map names_left result ≡ option_map (λ v. listed (unquoted v)) (value_under (name_of key.now) (directives_of self.now)) }
     {
         Some(ListValueIter::from(self.value(key)?))
     }
@@ -89,66 +65,6 @@ impl CacheControl {
             Some(value) => Ok(Some(value.parse_as_delta_seconds()?)),
             None => Ok(None),
         }
-    }
-
-    /// The directives of a request's lines under a name, whatever its case; `None` without such a
-    /// line.
-    ///
-    /// # Errors
-    ///
-    /// `AllocError` where there is no memory for them.
-    pub fn from_req_headers_named(
-        alloc: Global,
-        header_name: &str,
-        req_header: &RequestHeader,
-    ) -> Result<Option<Self>, AllocError>
-        ensures { IfOk result (λ o. option_map directives_of o ≡ named (lines_under header_name.now req_header.now.headers)) }
-    {
-        CacheControl::from_headers_named(alloc, header_name, &req_header.headers)
-    }
-
-    /// The directives of a request's Cache-Control; `None` without one.
-    ///
-    /// # Errors
-    ///
-    /// `AllocError` where there is no memory for them.
-    pub fn from_req_headers(
-        alloc: Global,
-        req_header: &RequestHeader,
-    ) -> Result<Option<Self>, AllocError>
-        ensures { IfOk result (λ o. option_map directives_of o ≡ named (lines_under (codes "cache-control") req_header.now.headers)) }
-    {
-        CacheControl::from_req_headers_named(alloc, "cache-control", req_header)
-    }
-
-    /// The directives of a response's lines under a name, whatever its case; `None` without such a
-    /// line.
-    ///
-    /// # Errors
-    ///
-    /// `AllocError` where there is no memory for them.
-    pub fn from_resp_headers_named(
-        alloc: Global,
-        header_name: &str,
-        resp_header: &ResponseHeader,
-    ) -> Result<Option<Self>, AllocError>
-        ensures { IfOk result (λ o. option_map directives_of o ≡ named (lines_under header_name.now resp_header.now.headers)) }
-    {
-        CacheControl::from_headers_named(alloc, header_name, &resp_header.headers)
-    }
-
-    /// The directives of a response's Cache-Control; `None` without one.
-    ///
-    /// # Errors
-    ///
-    /// `AllocError` where there is no memory for them.
-    pub fn from_resp_headers(
-        alloc: Global,
-        resp_header: &ResponseHeader,
-    ) -> Result<Option<Self>, AllocError>
-        ensures { IfOk result (λ o. option_map directives_of o ≡ named (lines_under (codes "cache-control") resp_header.now.headers)) }
-    {
-        CacheControl::from_resp_headers_named(alloc, "cache-control", resp_header)
     }
 
     /// Whether the directive is there. It takes no memory: a name without a variant of its own is
@@ -166,7 +82,7 @@ impl CacheControl {
     pub fn has_directive(&self, key: &DirectiveKey) -> bool
         ensures { result ≡ has (name_of key.now) (directives_of self.now) }
     {
-        self.under(key).is_some()
+        self.lookup(key).is_some()
     }
 
     /// Whether `public` is there (RFC 9111, 5.2.2.9).
@@ -186,7 +102,7 @@ impl CacheControl {
 
     /// The field names that `private` lists.
     pub fn private_field_names(&self) -> Option<ListValueIter<'_>>
-        ensures { option_map names_left result ≡ option_map (λ v. listed (bare v)) (value_under (codes "private") (directives_of self.now)) }
+        ensures { option_map names_left result ≡ option_map (λ v. listed (unquoted v)) (value_under (codes "private") (directives_of self.now)) }
     {
         self.get_field_names(&DirectiveKey::Private)
     }
@@ -201,7 +117,7 @@ impl CacheControl {
 
     /// The field names that `no-cache` lists.
     pub fn no_cache_field_names(&self) -> Option<ListValueIter<'_>>
-        ensures { option_map names_left result ≡ option_map (λ v. listed (bare v)) (value_under (codes "no-cache") (directives_of self.now)) }
+        ensures { option_map names_left result ≡ option_map (λ v. listed (unquoted v)) (value_under (codes "no-cache") (directives_of self.now)) }
     {
         self.get_field_names(&DirectiveKey::NoCache)
     }

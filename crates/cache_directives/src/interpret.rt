@@ -10,7 +10,7 @@ ghost use Rattle.cache_directives.specs.NamesLeft.{names_left};
 
 use crate::control::CacheControl;
 use crate::key::DirectiveKey;
-use crate::names::ListValueIter;
+use crate::listed_names::ListValueIter;
 use cache_headers::{Error, ResponseHeader};
 use cache_words::time::Duration;
 

@@ -1,18 +1,18 @@
 //! Names of directives.
-ghost use Rattle.std.specs.Prelude.{◌≡◌, ◌↔◌, IsTrue, IfOk, IfSome, Some, nat_eq, string_bytes};
+ghost use Rattle.std.specs.Prelude.{◌≡◌, ◌↔◌, IsTrue, IfOk, IfSome, IfNone, Some, false, nat_eq, string_bytes};
 ghost use Rattle.std.specs.Hash as fed;
 ghost use Rattle.std.specs.Cmp.{on_equiv, on_per, partial_equiv_from_equiv};
 ghost use Rattle.std.specs.Cmp.Lexicographic.{pointwise, nat_list_eq_equiv};
 ghost use Rattle.std.specs.Cmp.Rules.{hashing};
 ghost use Rattle.std.proofs.Common.{rules};
-ghost use Rattle.cache_directives.specs.Names.{name_of};
+ghost use Rattle.cache_directives.specs.Names.{name_of, has_own_variant, IsOwnKey};
 
 use std::alloc::{AllocError, Global};
 use std::fmt;
 use std::hash::{Hash, Hasher};
 
 /// A directive's name, in lower case.
-#[derive(Debug, Drop)]
+#[derive(Clone, Debug, Drop)]
 pub enum DirectiveKey {
     MaxAge,
     SMaxAge,
@@ -57,8 +57,11 @@ impl DirectiveKey {
     }
 
     // One of the names with a variant of its own.
+    #[tactic(auto, unfolding(crate::specs::Names::has_own_variant))]
     pub(crate) fn known(name: &str) -> Option<Self>
-        ensures { IfSome result (λ key. name_of key ≡ name.now) }
+        ensures name { IfSome result (λ key. name_of key ≡ name.now) }
+        ensures own { IfSome result IsOwnKey }
+        ensures none { IfNone result (has_own_variant name.now ≡ false) }
     {
         match name {
             "max-age" => Some(DirectiveKey::MaxAge),
@@ -85,7 +88,8 @@ impl DirectiveKey {
     ///
     /// `AllocError` where there is no memory for a name without a variant of its own.
     pub fn from_lowercase(alloc: Global, name: &str) -> Result<Self, AllocError>
-        ensures { IfOk result (λ key. name_of key ≡ name.now) }
+        ensures name { IfOk result (λ key. name_of key ≡ name.now) }
+        ensures own { IfOk result IsOwnKey }
     {
         match DirectiveKey::known(name) {
             Some(key) => Ok(key),
@@ -95,7 +99,8 @@ impl DirectiveKey {
 
     /// The key of a name in lower case, which takes no memory.
     pub fn from_lowercase_owned(name: String) -> Self
-        ensures { name_of result ≡ string_bytes name }
+        ensures name { name_of result ≡ string_bytes name }
+        ensures own { IsOwnKey result }
     {
         match DirectiveKey::known(name.as_str()) {
             Some(key) => key,

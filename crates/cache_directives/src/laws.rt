@@ -1,4 +1,4 @@
-//! Laws of the definitions: each is proved once, and no code runs.
+//! Laws of the definitions. No code runs.
 ghost use Rattle.std.specs.Prelude.{◌≡◌, ◌↔◌, List, ℕ};
 ghost use Rattle.cache_directives.specs.Written.{Written};
 ghost use Rattle.cache_directives.specs.Reads.{Holds};
@@ -13,7 +13,7 @@ pub fn one_reading()
 {}
 
 /// The value under a name is that of the last directive with this name, in whatever case, over all
-/// lines.
+/// lines. That is this cache's choice, and not RFC 9111's.
 pub fn last_value_counts()
     ensures { (lines : List (List ℕ)) (name : List ℕ) → value_named name (kept lines) ≡ last_of name None (flat_map directives lines) }
 {}

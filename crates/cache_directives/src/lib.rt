@@ -2,27 +2,24 @@
 //! from it for a shared cache.
 #![tactic(auto)]
 
-pub mod control;
-mod found;
-pub mod interpret;
-pub mod key;
+mod control;
+mod interpret;
+mod key;
 pub mod laws;
-pub mod line;
-mod listed;
-pub mod map;
-pub mod names;
-#[cfg(test)]
-mod tests;
-pub mod value;
+mod line;
+mod listed_names;
+mod map;
+mod reading;
+mod value;
 
 pub use cache_headers::{Error, ErrorType, RequestHeader, ResponseHeader};
 pub use cache_words::time::DELTA_SECONDS_OVERFLOW_DURATION;
 pub use control::CacheControl;
 pub use interpret::{Cacheable, InterpretCacheControl};
 pub use key::DirectiveKey;
-pub use map::DirectiveMap;
-pub use names::ListValueIter;
+pub use listed_names::ListValueIter;
+pub use map::{BuildDirectiveHasher, DirectiveMap};
 pub use value::DirectiveValue;
 
-/// What seconds past the greatest number count as (RFC 9111, 1.2.2).
+/// What a number of seconds past 32 bits counts as. RFC 9111, 1.2.2 names 2147483648, or the greatest number at hand.
 pub const DELTA_SECONDS_OVERFLOW_VALUE: u32 = 2_147_483_647;

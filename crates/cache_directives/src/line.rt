@@ -1,13 +1,8 @@
 //! The search through one header line, in one pass.
-ghost use Rattle.std.specs.Prelude.{◌≡◌, ◌≤◌, List, ℕ, length, drop, map, option_map, IfOk, IfSome, false};
+ghost use Rattle.std.specs.Prelude.{◌≡◌, ◌≤◌, length, drop, option_map, IfSome, false};
 ghost use Rattle.std.specs.List.{prefix_len};
 ghost use Rattle.cache_directives.specs.Kinds.{is_space, is_separator, is_token};
-ghost use Rattle.cache_directives.specs.Walk.{close, value_behind, value_len, written_at, written_len, directives};
-ghost use Rattle.cache_directives.specs.Reads.{Holds};
-ghost use Rattle.cache_directives.specs.Shown.{written};
-
-pub use crate::found::Found;
-use std::alloc::{AllocError, Global};
+ghost use Rattle.cache_directives.specs.Walk.{close, value_after, value_len, written_at, written_len};
 
 fn space(b: u8) -> bool
     ensures { result ≡ is_space b }
@@ -48,7 +43,7 @@ fn token(b: u8) -> bool
         ))
 }
 
-// How many token bytes stand at the front.
+// How many token bytes there are at the front.
 fn token_len(bytes: &[u8]) -> usize
     ensures is { result ≡ prefix_len is_token bytes.now }
     ensures within { result ≤ length bytes.now }
@@ -82,10 +77,10 @@ fn quoted_len(bytes: &[u8]) -> Option<usize>
     None
 }
 
-// The value behind a name, and what follows it.
+// The value after a name, and what follows it.
 fn value(bytes: &[u8]) -> (Option<&[u8]>, &[u8])
-    ensures is { option_map (λ v. v.now) result.0 ≡ value_behind bytes.now }
-    ensures rest { result.1.now ≡ drop (value_len (value_behind bytes.now)) bytes.now }
+    ensures is { option_map (λ v. v.now) result.0 ≡ value_after bytes.now }
+    ensures rest { result.1.now ≡ drop (value_len (value_after bytes.now)) bytes.now }
 {
     let Some((b'=', text)) = bytes.split_first() else {
         return (None, bytes);
@@ -105,42 +100,71 @@ fn value(bytes: &[u8]) -> (Option<&[u8]>, &[u8])
     (Some(value), rest)
 }
 
-// The directive at the front, and what follows it.
-fn directive(bytes: &[u8]) -> (Found<'_>, &[u8])
-    ensures is { written result.0 ≡ written_at bytes.now }
-    ensures rest { result.1.now ≡ drop (written_len (written_at bytes.now)) bytes.now }
-{
-    let (name, behind) = bytes.split_at(token_len(bytes));
-    let (value, rest) = value(behind);
-    (Found { name, value }, rest)
+// A directive as a line has it: its name, and its value with its quotes.
+#[derive(Clone, Copy)]
+pub(crate) struct RawDirective<'a> {
+    pub(crate) name: &'a [u8],
+    pub(crate) value: Option<&'a [u8]>,
 }
 
-/// The directives that a header line holds, in order. Each byte is read a bounded number of times,
-/// whatever the line.
-///
-/// # Errors
-///
-/// `AllocError` where there is no memory for the list.
-pub fn scan(alloc: Global, line: &[u8]) -> Result<Vec<Found<'_>>, AllocError>
-    ensures holds { IfOk result (λ found. Holds line.now (map written found.items)) }
-    ensures is { IfOk result (λ found. map written found.items ≡ directives line.now) }
-{
-    let mut found = Vec::new(alloc);
-    let mut ready = match line.first() {
-        Some(b) => token(*b),
-        None => false,
-    };
-    let mut rest = line;
-    while let Some((b, behind)) = rest.split_first() {
-        if ready && token(*b) {
-            let (d, after) = directive(rest);
-            found.push(d)?;
-            rest = after;
-            ready = false;
-        } else {
-            ready = separator(*b) || ready && space(*b);
-            rest = behind;
+// The directives of a line that are still to be found. Each byte is read a bounded number of times.
+#[derive(Drop)]
+pub(crate) struct Scan<'a> {
+    rest: &'a [u8],
+    // Whether a name may begin here.
+    ready: bool,
+}
+
+impl<'a> RawDirective<'a> {
+    ghost use Rattle.cache_directives.specs.Found.{written};
+
+    // The directive at the front, and what follows it.
+    fn split_front(bytes: &'a [u8]) -> (RawDirective<'a>, &'a [u8])
+        ensures is { written result.0 ≡ written_at bytes.now }
+        ensures rest { result.1.now ≡ drop (written_len (written_at bytes.now)) bytes.now }
+    {
+        let (name, after) = bytes.split_at(token_len(bytes));
+        let (value, rest) = value(after);
+        (RawDirective { name, value }, rest)
+    }
+}
+
+impl<'a> Scan<'a> {
+    ghost use Rattle.cache_directives.specs.Walk.{directives};
+    ghost use Rattle.cache_directives.specs.Found.{directives_left};
+
+    // The directives of a line, in order.
+    pub(crate) fn of(line: &'a [u8]) -> Self
+        ensures { directives_left result ≡ directives line.now }
+    {
+        Scan {
+            rest: line,
+            ready: line.first().is_some_and(|b| token(*b)),
         }
     }
-    Ok(found)
+}
+
+impl<'a> Iterator for Scan<'a> {
+    ghost use Rattle.std.specs.Iterator.{YieldsFirstBy, item_count};
+    ghost use Rattle.cache_directives.specs.Found.{written, directives_left};
+
+    type Item = RawDirective<'a>;
+
+    ghost next_gives = { YieldsFirstBy written directives_left };
+
+    ghost remaining = { item_count directives_left };
+
+    fn next(&mut self) -> Option<RawDirective<'a>> {
+        while let Some((b, after)) = self.rest.split_first() {
+            if self.ready && token(*b) {
+                let (found, rest) = RawDirective::split_front(self.rest);
+                self.rest = rest;
+                self.ready = false;
+                return Some(found);
+            }
+            self.ready = separator(*b) || self.ready && space(*b);
+            self.rest = after;
+        }
+        None
+    }
 }

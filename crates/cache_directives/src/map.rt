@@ -1,63 +1,51 @@
 //! The directives of all lines, each name once.
-ghost use Rattle.std.specs.Prelude.{◌≡◌, map, IfOk, OnOk, OnErr};
-ghost use Rattle.cache_directives.specs.Shown.{written};
-ghost use Rattle.cache_directives.specs.Entries.{entries_of};
-ghost use Rattle.cache_directives.specs.Keeps.{keep, keep_line, kept};
-ghost use Rattle.http_header.specs.HeaderMap.{get_all};
-ghost use Rattle.http_header.specs.Token.{lowercase};
-
 use crate::key::DirectiveKey;
-use crate::line::{Found, scan};
 use crate::value::DirectiveValue;
+use cache_words::blake::Blake2b128;
 use http_header::HeaderMap;
 use indexmap::IndexMap;
-use std::alloc::{AllocError, Global};
-use std::str;
+use std::hash::{BuildHasher, DefaultHasher, Hasher};
 
 /// The directives by name, in the order in which the names first came.
-pub type DirectiveMap = IndexMap<DirectiveKey, Option<DirectiveValue>>;
+pub type DirectiveMap = IndexMap<DirectiveKey, Option<DirectiveValue>, BuildDirectiveHasher>;
 
-// One more directive.
-#[tactic(auto, using(crate::proofs::Texts::is_text, crate::proofs::Texts::no_text, crate::proofs::Texts::seen_insert))]
-fn insert(alloc: Global, all: &mut DirectiveMap, found: Found<'_>) -> Result<(), AllocError>
-    ensures ok { OnOk result (entries_of all.new.entries ≡ keep (entries_of all.old.entries) (written found.entry)) }
-    ensures err { OnErr result (entries_of all.new.entries ≡ entries_of all.old.entries) }
-{
-    let Ok(name) = str::from_utf8(found.name) else {
-        return Ok(());
-    };
-    let mut name = String::from_str(alloc, name)?;
-    name.make_ascii_lowercase();
-    let value = match found.value {
-        Some(bytes) => Some(DirectiveValue(bytes.to_vec(alloc)?)),
-        None => None,
-    };
-    all.insert(DirectiveKey::from_lowercase_owned(name), value)?;
-    Ok(())
+/// Makes the hashers of a map of directives.
+///
+/// The hashers of a map that was read start from a digest of all its lines, so whoever writes the
+/// lines cannot choose names that collide. This needs neither randomness nor memory.
+#[derive(Clone, Copy)]
+pub struct BuildDirectiveHasher {
+    start: DefaultHasher,
 }
 
-// The directives of one more line.
-pub(crate) fn add_line(alloc: Global, all: &mut DirectiveMap, line: &[u8]) -> Result<(), AllocError>
-    ensures ok { OnOk result (entries_of all.new.entries ≡ keep_line (entries_of all.old.entries) line.now) }
-{
-    let found = scan(alloc, line)?;
-    for d in &found {
-        insert(alloc, all, *d)?;
+impl Default for BuildDirectiveHasher {
+    /// Hashers that start alike in each map: for names that no stranger chooses.
+    fn default() -> Self {
+        BuildDirectiveHasher {
+            start: DefaultHasher::new(),
+        }
     }
-    Ok(())
 }
 
-// The directives of all lines under a name.
-pub(crate) fn from_fields(
-    alloc: Global,
-    name: &str,
-    headers: &HeaderMap,
-) -> Result<DirectiveMap, AllocError>
-    ensures { IfOk result (λ all. entries_of all.entries ≡ kept (map (λ line. line.bytes) (get_all headers.now (lowercase name.now)))) }
-{
-    let mut all = IndexMap::new(alloc);
-    for line in headers.get_all(name).iter() {
-        add_line(alloc, &mut all, line.as_bytes())?;
+impl BuildHasher for BuildDirectiveHasher {
+    type Hasher = DefaultHasher;
+
+    ghost build_hasher = { λ b. b.start };
+
+    fn build_hasher(&self) -> DefaultHasher {
+        self.start
     }
-    Ok(all)
+}
+
+impl BuildDirectiveHasher {
+    // For the lines under a name.
+    pub(crate) fn of_lines(name: &str, headers: &HeaderMap) -> Self {
+        let mut lines = Blake2b128::new();
+        for line in headers.get_all(name).iter() {
+            lines.update(line.as_bytes());
+        }
+        let mut start = DefaultHasher::new();
+        start.write(&lines.finalize());
+        BuildDirectiveHasher { start }
+    }
 }

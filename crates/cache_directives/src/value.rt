@@ -2,14 +2,14 @@
 ghost use Rattle.std.specs.Prelude.{◌≡◌, MatchResult, IfErr};
 ghost use Rattle.std.specs.Result.{result_ok};
 ghost use Rattle.std.specs.Str.{IsUtf8};
-ghost use Rattle.cache_directives.specs.Seconds.{bare, seconds_from, digits, seconds_of, delta_seconds};
+ghost use Rattle.cache_directives.specs.Seconds.{unquoted, seconds_from, digits, seconds_of, delta_seconds};
 
 use crate::DELTA_SECONDS_OVERFLOW_VALUE;
 use cache_headers::{Error, ErrorType};
 use std::str;
 
 /// A directive's value as it is written, with its quotes.
-#[derive(Debug, Drop)]
+#[derive(Clone, Debug, Drop)]
 pub struct DirectiveValue(pub Vec<u8>);
 
 // The number that a text of digits says; none without digits.
@@ -25,10 +25,10 @@ fn number(text: &[u8]) -> Option<u32>
             return None;
         }
         let next = 10 * n as u64 + (*b - b'0') as u64;
-        if next > 4_294_967_295 {
+        let Ok(next) = u32::try_from(next) else {
             return Some(DELTA_SECONDS_OVERFLOW_VALUE);
-        }
-        n = next as u32;
+        };
+        n = next;
     }
     Some(n)
 }
@@ -43,9 +43,14 @@ impl DirectiveValue {
 
     /// The value without one pair of enclosing quotes.
     pub fn parse_as_bytes(&self) -> &[u8]
-        ensures { result.now ≡ bare self.now.0.items }
+        ensures { result.now ≡ unquoted self.now.0.items }
     {
-        bare(self.as_ref())
+        let value = self.as_ref();
+        if value.len() >= 2 && value[0] == b'"' && value[value.len() - 1] == b'"' {
+            &value[1..value.len() - 1]
+        } else {
+            value
+        }
     }
 
     /// The value without its quotes, as text.
@@ -54,7 +59,7 @@ impl DirectiveValue {
     ///
     /// `InternalError` where it is not UTF-8.
     pub fn parse_as_str(&self) -> Result<&str, Error>
-        ensures value { MatchResult result (λ text. (text.now ≡ bare self.now.0.items) × IsUtf8 (bare self.now.0.items)) (λ e. ¬ (IsUtf8 (bare self.now.0.items))) }
+        ensures value { let value = unquoted self.now.0.items in MatchResult result (λ text. (text.now ≡ value) × IsUtf8 value) (λ e. ¬ (IsUtf8 value)) }
         ensures kind { IfErr result (λ e. e.etype ≡ ErrorType.InternalError) }
     {
         match str::from_utf8(self.parse_as_bytes()) {
@@ -75,21 +80,10 @@ impl DirectiveValue {
     {
         let text = self.parse_as_str()?.as_bytes();
         let read = match text.split_first() {
-            Some((b'+', behind)) => number(behind),
+            Some((b'+', digits)) => number(digits),
             _ => number(text),
         };
         read.ok_or(unreadable())
-    }
-}
-
-// Without one pair of enclosing quotes.
-pub(crate) fn bare(value: &[u8]) -> &[u8]
-    ensures { result.now ≡ bare value.now }
-{
-    if value.len() >= 2 && value[0] == b'"' && value[value.len() - 1] == b'"' {
-        &value[1..value.len() - 1]
-    } else {
-        value
     }
 }
 

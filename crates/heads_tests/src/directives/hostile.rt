@@ -1,0 +1,96 @@
+//! Lines that are made to cost much, and memory that is refused.
+use crate::directives::lines::shown_line;
+use crate::directives::values::{Made, NAMES, make_key};
+use crate::directives::{add, fields};
+use cache_directives::{CacheControl, DirectiveKey};
+use http_header::HeaderMap;
+use std::alloc::{AllocError, Global};
+use std::hash::BuildHasher;
+use std::process::Abort;
+
+// The worst that a header value can hold: a quote that never closes is read to the line's end, and once, since no second
+// one can begin inside it. Only LF, which is in no header value, would end such a reading earlier.
+fn unclosed(alloc: Global) -> Result<Vec<u8>, AllocError> {
+    let mut line = b"a=\"".to_vec(alloc)?;
+    for _ in 0..200_000 {
+        line.extend_from_slice(b",b=\\\"")?;
+    }
+    Ok(line)
+}
+
+#[test]
+fn unclosed_quote(rt: HostRuntime) -> Result<(), AllocError> {
+    let line = unclosed(rt.alloc())?;
+    let text = shown_line(rt.alloc(), line.as_slice());
+    assert!(rt; text.is_some_and(|t| t.as_str() == "a;b"));
+    Ok(())
+}
+
+// Lines of heads. After each of these the hash of a name starts differently, so names that collide cannot be searched for
+// before the lines are there. From a start that is the same for each map they can, and to read n of them then takes n * n
+// comparisons.
+const STARTS: [&[&str]; 6] = [
+    &["public"],
+    &["public,"],
+    &["public=1"],
+    &["public", "x"],
+    &["x", "public"],
+    &["public", "y"],
+];
+
+fn hash_after(alloc: Global, lines: &[&str]) -> Option<u64> {
+    let mut headers = HeaderMap::new(alloc);
+    for line in lines {
+        add(alloc, &mut headers, "cache-control", line.as_bytes())?;
+    }
+    let found = CacheControl::from_headers_named(alloc, "cache-control", &headers).ok()??;
+    Some(found.directives.hasher().hash_one(DirectiveKey::Public))
+}
+
+#[test]
+fn names_chosen_to_collide(rt: HostRuntime) {
+    for (i, lines) in STARTS.iter().enumerate() {
+        let hash = hash_after(rt.alloc(), lines);
+        assert!(rt; hash.is_some() && hash == hash_after(rt.alloc(), lines));
+        for earlier in &STARTS[..i] {
+            assert!(rt; hash != hash_after(rt.alloc(), earlier));
+        }
+    }
+}
+
+// Lines that are read, and keys that are made, with memory or without.
+const READ: [&str; 3] = [
+    "x-a=\"1\", public",
+    "public, a=b",
+    "x-a, x-b, x-c, x-d, x-e",
+];
+
+// Whether memory sufficed: a refusal is told, and nothing else is `None`.
+fn reads(alloc: Global, line: &str) -> Option<bool> {
+    let headers = fields(alloc, &[("cache-control", line.as_bytes())])?;
+    let found = CacheControl::from_headers_named(alloc, "cache-control", &headers).ok()?;
+    Some(found.is_some() && headers.len() == 1)
+}
+
+fn check_memory(rt: &impl Abort, alloc: Global, may_refuse: bool) {
+    for line in READ {
+        let found = reads(alloc, line);
+        assert!(rt; found == Some(true) || may_refuse && found.is_none());
+    }
+    for (name, _) in NAMES {
+        let key = make_key(alloc, name, Made::Borrowed);
+        assert!(rt; key.map_or(may_refuse, |k| k.is_text(name)));
+    }
+}
+
+#[test]
+fn refused_memory(rt: HostRuntime) {
+    check_memory(&rt, rt.alloc(), true);
+}
+
+#[test]
+fn ample_memory_meets_no_refusal(rt: HostRuntime) {
+    for _ in 0..2 {
+        check_memory(&rt, rt.alloc(), false);
+    }
+}
