@@ -15,44 +15,33 @@ use Rattle.cache_words.specs.declared.pack.fault.PackFault.TheVariants.{Kind, Ra
 use Rattle.cache_words.specs.Forms.{Stands, numbers, arrays}
 use Rattle.cache_words.specs.Pack.{SpellsText, SpellsBytes}
 use Rattle.cache_words.specs.Reading.{number_at, array_of_at, text_at, bytes_at}
-use Rattle.cache_words.proofs.ReadingLaws.{IsBytes, Agrees, bind_ok, ok_is, one_spelling}
+use Rattle.cache_words.proofs.ReadingLaws.{IsBytes, Agrees, bind_ok, ok_is, test_ok, one_spelling}
 use Rattle.cache_words.proofs.FormLaws.{number_agrees, are_numbers, are_arrays}
 use Rattle.cache_words.proofs.ValueLaws.{array_skips, text_agrees, bytes_agrees}
 use Rattle.cache_headers.specs.declared.header.ResponseHeader.{ResponseHeader}
 use Rattle.cache_headers.specs.Lines.{Line, pair_of, IsLine}
 use Rattle.cache_metas.specs.Head.{SpellsLine, SpellLines, SpellsHead, BeginsWithHead, most_names}
 use Rattle.cache_metas.specs.declared.fault.MetaReadFault.{MetaReadFault}
+use Rattle.cache_metas.specs.declared.fault.MetaReadFault.TheVariants.{Memory, Pack}
 use Rattle.cache_metas.specs.InternalReading.{value_of}
-use Rattle.cache_metas.specs.HeadReading.{Gives, is_name, is_value, field_name_of, field_value_of, line_at, with_line, lines_at, status_at, head_at}
-use Rattle.cache_metas.proofs.HeadLines.{name_named, name_test, value_valued, value_test, grows, line_fits, line_counts}
+use Rattle.cache_metas.specs.HeadReading.{Gives, StepsTo, is_name, is_value, field_name_of, field_value_of, line_at, with_line, lines_at, status_at, head_at}
+use Rattle.cache_metas.proofs.HeadLines.{name_named, name_test, value_valued, value_test, grows, line_added}
 use Rattle.cache_metas.proofs.ItemLaws.{agrees_with, SpellThen, then_agrees, seen_agrees, SpellAs, SpellEither, either_agrees, Never, refused_agrees, SpellBehind, behind_agrees, SpellBy, by_agrees, SpellNothing, nothing_agrees}
 
 -- ---- a line
 
 name_of-ok : (bytes name : List ℕ) → field_name_of bytes ≡ Ok name → IsFieldName bytes × (name ≡ lowercase bytes)
 name_of-ok bytes name e =
-    elim (cases_Bool (is_name bytes)) [
-      | inl t ↦
-          let made : field_name_of bytes ≡ Ok (lowercase bytes) = rw t refl in
-          (name_named bytes t, cc)
-      | inr f ↦
-          let none : field_name_of bytes ≡ Err Kind = rw f refl in
-          absurd cc
-    ]
+    let t = test_ok (is_name bytes) Kind (lowercase bytes) name e in
+    (name_named bytes t.0, sym t.1)
 
 name_of-is : (bytes : List ℕ) → IsFieldName bytes → field_name_of bytes ≡ Ok (lowercase bytes)
 name_of-is bytes h = rw (name_test bytes h) refl
 
 value_of-ok : (bytes : List ℕ) (value : FieldValue) → field_value_of bytes ≡ Ok value → IsFieldValue bytes × (value ≡ plain_value bytes)
 value_of-ok bytes value e =
-    elim (cases_Bool (is_value bytes)) [
-      | inl t ↦
-          let made : field_value_of bytes ≡ Ok (plain_value bytes) = rw t refl in
-          (value_valued bytes t, cc)
-      | inr f ↦
-          let none : field_value_of bytes ≡ Err Kind = rw f refl in
-          absurd cc
-    ]
+    let t = test_ok (is_value bytes) Kind (plain_value bytes) value e in
+    (value_valued bytes t.0, sym t.1)
 
 value_of-is : (bytes : List ℕ) → IsFieldValue bytes → field_value_of bytes ≡ Ok (plain_value bytes)
 value_of-is bytes h = rw (value_test bytes h) refl
@@ -155,7 +144,7 @@ more_to n m next text s =
     let line = s.3 in
     let by = s.4 in
     let rest = by.2 in
-    let added : by.0 ≡ append m (lowercase line.0.0) (plain_value line.0.1) = line_counts m s.0 by.0 by.1 ∙ ap (λ (p : List ℕ × FieldValue). append m p.0 p.1) line.1 in
+    let added : by.0 ≡ append m (lowercase line.0.0) (plain_value line.0.1) = (line_added m s.0 by.0 by.1).1 ∙ ap (λ (p : List ℕ × FieldValue). append m p.0 p.1) line.1 in
     record {
       lines = line.0 ∷ rest.lines;
       count = ap suc rest.count;
@@ -207,7 +196,7 @@ lines_agrees zero m few =
 lines_agrees (suc n) m few =
     agrees_with (lines_at (suc n) m) (MoreSteps n m) (SpellsMore (suc n) m)
     (then_agrees line_at SpellsPair _ _ line_agrees (λ line.
-    by_agrees (with_line m line) _ _ (λ more e. lines_agrees n more (line_fits m line more e))))
+    by_agrees (with_line m line) _ _ (λ more e. lines_agrees n more (line_added m line more e).0)))
     (more_to n m) (more_from n m)
 
 -- ---- a head
@@ -322,6 +311,12 @@ pub one_head : (v w : ResponseHeader) (a b x y : List ℕ) → SpellsHead v a �
 one_head = one_spelling head_at SpellsHead head_agrees
 
 -- ---- a whole input
+
+pub given : {X : Type 0} (read : List ℕ → Result (X × List ℕ) PackFault) (old new : List ℕ) (r : Result X MetaReadFault)
+    → StepsTo read old new r → Gives r (value_of (read old))
+given read old new (Ok x) steps = rw steps refl
+given read old new (Err Memory) steps = tt
+given read old new (Err (Pack f)) steps = rw steps refl
 
 pub head_found : (bytes : List ℕ) (r : Result ResponseHeader MetaReadFault) → IsBytes bytes → Gives r (value_of (head_at bytes)) → IfOk r (BeginsWithHead bytes)
 head_found bytes (Err f) fits e = tt

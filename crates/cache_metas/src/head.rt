@@ -102,13 +102,6 @@ fn head(alloc: Global, bytes: &mut Cursor<'_>) -> Result<ResponseHeader, MetaRea
     Ok(ResponseHeader { status, headers })
 }
 
-fn whole(alloc: Global, bytes: &[u8]) -> Result<ResponseHeader, MetaReadFault>
-    ensures { Gives result (value_of (head_at bytes.now)) }
-{
-    let mut cursor = Cursor { rest: bytes };
-    head(alloc, &mut cursor)
-}
-
 /// The head at the front; what stands behind it is passed over.
 ///
 /// # Errors
@@ -119,7 +112,8 @@ pub fn read(alloc: Global, bytes: &[u8]) -> Result<ResponseHeader, MetaReadFault
     ensures only { (h : ResponseHeader) → BeginsWithHead bytes.now h → Gives {X = ResponseHeader} result (Ok h) }
     ensures exact { Gives result (value_of (head_at bytes.now)) }
 {
-    whole(alloc, bytes)
+    let mut cursor = Cursor { rest: bytes };
+    head(alloc, &mut cursor)
 }
 
 // One line. A value that no form counts is refused.

@@ -3,11 +3,11 @@ ghost use Rattle.std.specs.Prelude.{◌≡◌, ◌≢◌, ◌++◌, ◌∷◌, �
 ghost use Rattle.cache_metas.specs.declared.versions.InternalMetaV2.{InternalMetaV2};
 ghost use Rattle.cache_metas.specs.Items.{Steps};
 ghost use Rattle.cache_metas.specs.Internal.{BeginsWithMeta, IsSinceEpoch, IsWritable, written_meta, item_count, times_of, variant_of};
-ghost use Rattle.cache_metas.specs.InternalReading.{v0_at, v1_at, v2_at, version_at, form_at, meta_at, value_of};
+ghost use Rattle.cache_metas.specs.InternalReading.{early_at, v2_at, version_at, form_at, meta_at, value_of};
 
 use crate::cursor::Cursor;
 use crate::fault::MetaFault;
-use crate::versions::{InternalMetaV0, InternalMetaV1, InternalMetaV2};
+use crate::versions::{EarlyInternalMeta, InternalMetaV1, InternalMetaV2};
 use cache_words::pack::fault::PackFault;
 use cache_words::pack::writing;
 use cache_words::time::Moment;
@@ -16,31 +16,17 @@ use std::alloc::{AllocError, Global};
 // The fewest bytes of a meta.
 const LEAST_LEN: usize = 10;
 
-#[tactic(auto, unfolding(crate::specs::InternalReading::v0_at))]
-fn v0(bytes: &mut Cursor<'_>) -> Result<InternalMetaV0, PackFault>
-    ensures { Steps v0_at bytes.old.rest.now bytes.new.rest.now result }
+#[tactic(auto, unfolding(crate::specs::InternalReading::early_at))]
+fn early<const VERSION: u8>(
+    bytes: &mut Cursor<'_>,
+) -> Result<EarlyInternalMeta<VERSION>, PackFault>
+    ensures { Steps (early_at VERSION) bytes.old.rest.now bytes.new.rest.now result }
 {
     let fresh_until = bytes.moment()?;
     let created = bytes.moment()?;
     let stale_while_revalidate_sec = bytes.seconds()?;
     let stale_if_error_sec = bytes.seconds()?;
-    Ok(InternalMetaV0 {
-        fresh_until,
-        created,
-        stale_while_revalidate_sec,
-        stale_if_error_sec,
-    })
-}
-
-#[tactic(auto, unfolding(crate::specs::InternalReading::v1_at))]
-fn v1(bytes: &mut Cursor<'_>) -> Result<InternalMetaV1, PackFault>
-    ensures { Steps v1_at bytes.old.rest.now bytes.new.rest.now result }
-{
-    let fresh_until = bytes.moment()?;
-    let created = bytes.moment()?;
-    let stale_while_revalidate_sec = bytes.seconds()?;
-    let stale_if_error_sec = bytes.seconds()?;
-    Ok(InternalMetaV1 {
+    Ok(EarlyInternalMeta {
         fresh_until,
         created,
         stale_while_revalidate_sec,
@@ -81,7 +67,7 @@ fn version(bytes: &mut Cursor<'_>, number: u8, count: u64) -> Result<InternalMet
             if count != 5 {
                 return Err(PackFault::Length);
             }
-            Ok(InternalMetaV2::from(v1(bytes)?))
+            Ok(InternalMetaV2::from(early::<1>(bytes)?))
         }
         InternalMetaV2::VERSION => {
             if count < 6 || count > 9 {
@@ -99,21 +85,10 @@ fn form(bytes: &mut Cursor<'_>) -> Result<InternalMetaV2, PackFault>
 {
     let count = bytes.array()?;
     if count == 4 {
-        return Ok(InternalMetaV2::from(v0(bytes)?));
+        return Ok(InternalMetaV2::from(early::<0>(bytes)?));
     }
     let number = bytes.byte()?;
     version(bytes, number, count)
-}
-
-#[tactic(auto, unfolding(crate::specs::InternalReading::meta_at))]
-fn whole(bytes: &[u8]) -> Result<InternalMetaV2, PackFault>
-    ensures { result ≡ value_of (meta_at bytes.now) }
-{
-    if bytes.len() < LEAST_LEN {
-        return Err(PackFault::Short);
-    }
-    let mut cursor = Cursor { rest: bytes };
-    form(&mut cursor)
 }
 
 /// The meta at the front of an input of at least ten bytes; what stands behind it is passed over.
@@ -126,7 +101,11 @@ pub fn read(bytes: &[u8]) -> Result<InternalMetaV2, PackFault>
     ensures only { (m : InternalMetaV2) → BeginsWithMeta bytes.now m → result ≡ Ok m }
     ensures exact { result ≡ value_of (meta_at bytes.now) }
 {
-    whole(bytes)
+    if bytes.len() < LEAST_LEN {
+        return Err(PackFault::Short);
+    }
+    let mut cursor = Cursor { rest: bytes };
+    form(&mut cursor)
 }
 
 // Whether a moment, where there is one, isn't before 1970.
