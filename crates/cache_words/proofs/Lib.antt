@@ -2,6 +2,7 @@ pub mod Absorbing
 pub mod Compressing
 pub mod EachLoop
 pub mod FormLaws
+pub mod ItemLaws
 pub mod ReadingLaws
 pub mod StandardFacts
 pub mod ValueLaws

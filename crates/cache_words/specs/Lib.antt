@@ -3,6 +3,7 @@ pub mod BorrowedKey
 pub mod CompactKey
 pub mod Forms
 pub mod Hasher
+pub mod Items
 pub mod Key
 pub mod Pack
 pub mod Piece

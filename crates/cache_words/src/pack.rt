@@ -1,8 +1,11 @@
 //! Values as MessagePack, the format of a cache's files and metas. What is written is the shortest form; every listed
 //! form is read. A reader answers the value and the bytes behind it, borrowed from its input: it takes no memory.
 use crate::key::HashBinary;
+pub use cursor::Cursor;
+pub use fault::PackFault;
 
 pub mod borrowed;
+mod cursor;
 pub mod fault;
 pub mod reading;
 pub mod writing;
