@@ -10,9 +10,10 @@ use Rattle.http_header.proofs.TokenLemmas.{IsUtf8-from_token}
 use Rattle.cache_words.specs.Forms.{shortest, numbers, arrays}
 use Rattle.cache_words.specs.Pack.{text_of, bytes_of}
 use Rattle.cache_words.proofs.WritingLaws.{number_spelled, array_spelled, text_spelled, bytes_spelled}
+use Rattle.cache_words.specs.Items.{SpellList}
 use Rattle.cache_headers.specs.declared.header.ResponseHeader.{ResponseHeader}
 use Rattle.cache_headers.specs.Lines.{Line, pair_of, map_of, IsLine}
-use Rattle.cache_metas.specs.Head.{SpellsLine, SpellLines, SpellsHead, line_of, lines_of, written_head, IsCountable, IsHead, plain_values, plain_head}
+use Rattle.cache_metas.specs.Head.{SpellsLine, SpellsHead, line_of, lines_of, written_head, IsCountable, IsHead, plain_values, plain_head}
 use Rattle.cache_metas.specs.HeadReading.{head_at}
 use Rattle.cache_metas.proofs.HeadLaws.{head_agrees}
 use Rattle.cache_metas.proofs.MapLines.{append_all-apart}
@@ -83,7 +84,7 @@ line_spelled p name few =
     )
 
 lines_spelled : (ps : List (List ℕ × FieldValue)) → All (λ p. IsHeaderName p.0) ps → All (λ p. length p.1.bytes < 2 ^ 32) ps
-    → SpellLines (map bare ps) (flat_map line_of ps)
+    → SpellList SpellsLine (map bare ps) (flat_map line_of ps)
 lines_spelled [] names few = refl
 lines_spelled (p ∷ ps) names few = (
   line_of p,

@@ -14,11 +14,11 @@ use Rattle.cache_words.proofs.FormLaws.{number_agrees, are_arrays}
 use Rattle.cache_words.proofs.ValueLaws.{moment_agrees, below_agrees, optional_hash_agrees}
 use Rattle.cache_metas.specs.declared.versions.EarlyInternalMeta.{EarlyInternalMeta}
 use Rattle.cache_metas.specs.declared.versions.InternalMetaV2.{InternalMetaV2}
-use Rattle.cache_metas.specs.Items.{Steps, SpellThere, there_at, seen_as, seconds_at, SpellsSeconds, byte_at, optional_moment_at, SpellsOptionalMoment}
+use Rattle.cache_words.specs.Items.{Steps, SpellThere, there_at, seen_as, seconds_at, SpellsSeconds, byte_at, optional_moment_at, SpellsOptionalMoment}
 use Rattle.cache_metas.specs.Versions.{of_early}
 use Rattle.cache_metas.specs.Internal.{least_len, SpellsEarly, SpellsV2, SpellsMeta, IsLongEnough, BeginsWithMeta}
 use Rattle.cache_metas.specs.InternalReading.{early_at, v2_at, version_at, form_at, meta_at, value_of}
-use Rattle.cache_metas.proofs.ItemLaws.{agrees_with, SpellThen, then_at, then_agrees, SpellAs, seen_agrees, SpellEither, either_agrees, Never, refused_agrees, SpellsByte, byte_agrees, there_agrees, optional_moment_agrees}
+use Rattle.cache_words.proofs.ItemLaws.{agrees_with, SpellThen, then_at, then_agrees, SpellAs, seen_agrees, SpellEither, either_agrees, Never, refused_agrees, SpellsByte, byte_agrees, there_agrees, optional_moment_agrees}
 
 seconds_agrees : Agrees seconds_at SpellsSeconds
 seconds_agrees = below_agrees (2 ^ 32)

@@ -8,7 +8,7 @@ use Rattle.cache_words.specs.Pack.{SpellsMoment, moment_of, optional_hash_of, Sp
 use Rattle.cache_words.specs.Time.{MomentValue, second}
 use Rattle.cache_words.proofs.WritingLaws.{number_spelled, array_spelled, moment_spelled, optional_hash_spelled}
 use Rattle.cache_metas.specs.declared.versions.InternalMetaV2.{InternalMetaV2}
-use Rattle.cache_metas.specs.Items.{SpellThere, SpellsSeconds, SpellsOptionalMoment, optional_moment_of}
+use Rattle.cache_words.specs.Items.{SpellThere, SpellsSeconds, SpellsOptionalMoment, optional_moment_of}
 use Rattle.cache_metas.specs.Internal.{SpellsV2, SpellsMeta, IsLongEnough, IsSinceEpoch, IsMoment, IsMeta, IsWritable, item_count, provenance_of, times_of, variant_of, written_meta}
 use Rattle.cache_metas.specs.InternalReading.{meta_at}
 use Rattle.cache_metas.proofs.InternalLaws.{meta_again}

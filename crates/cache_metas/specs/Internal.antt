@@ -6,7 +6,7 @@ use Rattle.cache_words.specs.Pack.{moment_of, optional_hash_of, SpellsMoment, Sp
 use Rattle.cache_words.specs.Time.{MomentValue, second}
 use Rattle.cache_metas.specs.declared.versions.EarlyInternalMeta.{EarlyInternalMeta}
 use Rattle.cache_metas.specs.declared.versions.InternalMetaV2.{InternalMetaV2}
-use Rattle.cache_metas.specs.Items.{SpellBoth, SpellItems, SpellUnder, SpellThere, SpellsSeconds, SpellsOptionalMoment, optional_moment_of}
+use Rattle.cache_words.specs.Items.{SpellBoth, SpellItems, SpellUnder, SpellThere, SpellsSeconds, SpellsOptionalMoment, optional_moment_of}
 use Rattle.cache_metas.specs.Versions.{of_early}
 
 -- the fields of an early form

@@ -7,7 +7,7 @@ use Rattle.cache_words.specs.Reading.{◌>>=◌, number_at, moment_at, optional_
 use Rattle.cache_metas.specs.declared.versions.EarlyInternalMeta.{EarlyInternalMeta}
 use Rattle.cache_metas.specs.declared.versions.InternalMetaV2.{InternalMetaV2}
 use Rattle.cache_metas.specs.Internal.{least_len}
-use Rattle.cache_metas.specs.Items.{seen_as, there_at, byte_at, seconds_at, optional_moment_at}
+use Rattle.cache_words.specs.Items.{seen_as, there_at, byte_at, seconds_at, optional_moment_at}
 use Rattle.cache_metas.specs.Versions.{of_early}
 
 unfoldable pub early_at : (version : ℕ) → List ℕ → Result (EarlyInternalMeta version × List ℕ) PackFault

@@ -2,7 +2,7 @@
 ghost use Rattle.std.specs.Prelude.{Some};
 ghost use Rattle.cache_metas.specs.FaultTexts.{fault_text, read_fault_text};
 
-use cache_words::pack::fault::PackFault;
+use cache_words::pack::PackFault;
 use std::alloc::AllocError;
 use std::fmt;
 

@@ -5,13 +5,11 @@ ghost use Rattle.cache_headers.specs.declared.header.ResponseHeader.{ResponseHea
 ghost use Rattle.cache_metas.specs.Head.{BeginsWithHead, most_names, line_of, lines_of, written_head, IsCountable};
 ghost use Rattle.cache_metas.specs.HeadReading.{Fails, Gives, StepsTo, field_name_of, field_value_of, line_at, with_line, lines_at, status_at, head_at};
 ghost use Rattle.cache_metas.specs.InternalReading.{value_of};
-ghost use Rattle.cache_metas.specs.Items.{Steps};
+ghost use Rattle.cache_words.specs.Items.{Steps};
 
-use crate::cursor::Cursor;
 use crate::fault::MetaReadFault;
 use cache_headers::ResponseHeader;
-use cache_words::pack::fault::PackFault;
-use cache_words::pack::writing;
+use cache_words::pack::{Cursor, PackFault, writing};
 use http::StatusCode;
 use http_header::{
     HeaderMap, HeaderMapError, HeaderName, HeaderNameError, HeaderValue, HeaderValueError,
@@ -44,7 +42,7 @@ fn field_value(alloc: Global, bytes: &[u8]) -> Result<HeaderValue, MetaReadFault
 fn line(alloc: Global, bytes: &mut Cursor<'_>) -> Result<(HeaderName, HeaderValue), MetaReadFault>
     ensures { StepsTo line_at bytes.old.rest.now bytes.new.rest.now result }
 {
-    bytes.two()?;
+    bytes.array_of(2)?;
     let text = bytes.text()?;
     let name = field_name(alloc, text.as_bytes())?;
     let string = bytes.byte_string()?;
@@ -95,7 +93,7 @@ fn status(bytes: &mut Cursor<'_>) -> Result<StatusCode, PackFault>
 fn head(alloc: Global, bytes: &mut Cursor<'_>) -> Result<ResponseHeader, MetaReadFault>
     ensures { StepsTo head_at bytes.old.rest.now bytes.new.rest.now result }
 {
-    bytes.two()?;
+    bytes.array_of(2)?;
     let status = status(bytes)?;
     let count = bytes.array()?;
     let headers = lines(alloc, bytes, count)?;

@@ -1,15 +1,13 @@
 //! The moments and numbers of a meta as MessagePack. Any of the three forms is read; the latest is written.
 ghost use Rattle.std.specs.Prelude.{◌≡◌, ◌≢◌, ◌++◌, ◌∷◌, ◌↔◌, Ok, IsTrue, IfOk, IfSome, OnOk, IsErrOf};
 ghost use Rattle.cache_metas.specs.declared.versions.InternalMetaV2.{InternalMetaV2};
-ghost use Rattle.cache_metas.specs.Items.{Steps};
+ghost use Rattle.cache_words.specs.Items.{Steps};
 ghost use Rattle.cache_metas.specs.Internal.{BeginsWithMeta, IsSinceEpoch, IsWritable, written_meta, item_count, times_of, variant_of};
 ghost use Rattle.cache_metas.specs.InternalReading.{early_at, v2_at, version_at, form_at, meta_at, value_of};
 
-use crate::cursor::Cursor;
 use crate::fault::MetaFault;
 use crate::versions::{EarlyInternalMeta, InternalMetaV1, InternalMetaV2};
-use cache_words::pack::fault::PackFault;
-use cache_words::pack::writing;
+use cache_words::pack::{Cursor, PackFault, writing};
 use cache_words::time::Moment;
 use std::alloc::{AllocError, Global};
 

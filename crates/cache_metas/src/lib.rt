@@ -1,7 +1,6 @@
 //! What is kept beside a response, as bytes: its moments and numbers, and its head.
 #![tactic(auto)]
 
-mod cursor;
 pub mod fault;
 pub mod head;
 pub mod internal;
