@@ -165,9 +165,9 @@ v2_count_test count low high = grind (arith, nat_tests)
 not_four : (count : ℕ) → 6 ≤ count → (count == 4) ≡ false
 not_four count low = grind (arith, nat_tests)
 
--- one byte stands below 0x80 and another part behind it
-byte_is : (n tag : ℕ) (front behind text : List ℕ) → n ≡ tag → front ≡ n ∷ [] → text ≡ front ++ behind → text ≡ tag ∷ behind
-byte_is n tag front behind text same one parts = rw (parts, one, same) refl
+-- a part that is one byte, and the part after it
+byte_is : (n tag : ℕ) (first rest text : List ℕ) → n ≡ tag → first ≡ n ∷ [] → text ≡ first ++ rest → text ≡ tag ∷ rest
+byte_is n tag first rest text same one parts = rw (parts, one, same) refl
 
 form_to : (m : InternalMetaV2) (text : List ℕ) → FormSteps m text → SpellsMeta m text
 form_to m text s =
@@ -264,7 +264,7 @@ meta_found bytes (Ok m) fits e =
     let t = form_agrees.takes bytes a.0 fits g.1 in
     (ltb-false _ _ g.0, t.text, a.0.1, subst (λ (v : InternalMetaV2). SpellsMeta v t.text) (ok_is a.0.0 m a.2) t.spelled, t.parts)
 
--- a spelling with what stands behind it is read, where both have at least ten bytes
+-- a spelling is read whatever follows it, where both are long enough
 pub meta_again : (m : InternalMetaV2) (text rest : List ℕ) → IsLongEnough (text ++ rest) → SpellsMeta m text → meta_at (text ++ rest) ≡ Ok (m, rest)
 unfolding meta_at
 meta_again m text rest long s =

@@ -1,5 +1,5 @@
 -- The head of a response as MessagePack: which texts spell it, and which of these is written.
-use Rattle.std.specs.Prelude.{◌≡◌, ℕ, ◌^◌, ◌<◌, ◌≤◌, List, [], ◌∷◌, ◌++◌, length, map, flat_map, All}
+use Rattle.std.specs.Prelude.{◌≡◌, ℕ, ◌^◌, ◌<◌, ◌≤◌, List, ◌++◌, length, map, flat_map, All}
 use Rattle.http.specs.StatusCode.{IsStatusCode}
 use Rattle.http_header.specs.HeaderMap.{Entries, pairs, IsHeaderMap}
 use Rattle.http_header.specs.FieldName.{IsHeaderName}

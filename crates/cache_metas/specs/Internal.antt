@@ -77,14 +77,14 @@ abbrev pub provenance_of : Option MomentValue → List ℕ
 provenance_of None = []
 provenance_of (Some provenance) = moment_of provenance
 
-abbrev pub times_of : InternalMetaV2 → List ℕ
-times_of m =
+abbrev pub required_of : InternalMetaV2 → List ℕ
+required_of m =
     moment_of m.fresh_until ++ (moment_of m.created ++ (moment_of m.updated
     ++ (shortest numbers m.stale_while_revalidate_sec ++ shortest numbers m.stale_if_error_sec)))
 
-abbrev pub variant_of : InternalMetaV2 → List ℕ
-variant_of m = optional_hash_of m.variance ++ (optional_moment_of m.epoch_override ++ provenance_of m.provenance)
+abbrev pub optional_of : InternalMetaV2 → List ℕ
+optional_of m = optional_hash_of m.variance ++ (optional_moment_of m.epoch_override ++ provenance_of m.provenance)
 
 -- the text that is written
 unfoldable pub written_meta : InternalMetaV2 → List ℕ
-written_meta m = shortest arrays (item_count m.provenance) ++ (2 ∷ (times_of m ++ variant_of m))
+written_meta m = shortest arrays (item_count m.provenance) ++ (2 ∷ (required_of m ++ optional_of m))

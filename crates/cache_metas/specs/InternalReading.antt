@@ -51,7 +51,7 @@ v2_at count bytes = do
     provenance.1,
   )
 
--- what a version has behind it, in an array of so many items
+-- what follows the version, in an array of so many items
 unfoldable pub version_at : ℕ → ℕ → List ℕ → Result (InternalMetaV2 × List ℕ) PackFault
 version_at version count bytes =
     if version == 1 then (if count == 5 then seen_as (of_early 1) (early_at 1 bytes) else Err Length)
@@ -68,6 +68,6 @@ form_at bytes = do
 unfoldable pub meta_at : List ℕ → Result (InternalMetaV2 × List ℕ) PackFault
 meta_at bytes = if nat_lt (length bytes) least_len then Err Short else form_at bytes
 
--- a value that was read, without what stands behind it
+-- a value that was read, without the bytes after it
 abbrev pub value_of : {X : Type 0} → Result (X × List ℕ) PackFault → Result X PackFault
 value_of read = read >>= λ x. Ok x.0

@@ -1,4 +1,4 @@
-//! The head of a response as MessagePack: its status, and each value beside its name.
+//! The head of a response as MessagePack: its status, and each value with its name.
 ghost use Rattle.std.specs.Prelude.{◌≡◌, ◌+◌, ◌++◌, ◌<◌, ◌≤◌, ◌^◌, [], length, flat_map, All, Ok, IfOk, OnOk, IfErr};
 ghost use Rattle.http_header.specs.HeaderMap.{value_count, pairs};
 ghost use Rattle.cache_headers.specs.declared.header.ResponseHeader.{ResponseHeader};
@@ -16,7 +16,7 @@ use http_header::{
 };
 use std::alloc::{AllocError, Global};
 
-// The bytes as a name, in lower case.
+// Returns the bytes as a name, in lower case.
 fn field_name(alloc: Global, bytes: &[u8]) -> Result<HeaderName, MetaReadFault>
     ensures { Gives result (field_name_of bytes.now) }
 {
@@ -27,7 +27,7 @@ fn field_name(alloc: Global, bytes: &[u8]) -> Result<HeaderName, MetaReadFault>
     }
 }
 
-// The bytes as a value.
+// Returns the bytes as a value.
 fn field_value(alloc: Global, bytes: &[u8]) -> Result<HeaderValue, MetaReadFault>
     ensures { Gives result (field_value_of bytes.now) }
 {
@@ -38,6 +38,7 @@ fn field_value(alloc: Global, bytes: &[u8]) -> Result<HeaderValue, MetaReadFault
     }
 }
 
+// Takes a line: a name and a value.
 #[tactic(auto, unfolding(crate::specs::HeadReading::line_at))]
 fn line(alloc: Global, bytes: &mut Cursor<'_>) -> Result<(HeaderName, HeaderValue), MetaReadFault>
     ensures { StepsTo line_at bytes.old.rest.now bytes.new.rest.now result }
@@ -50,7 +51,7 @@ fn line(alloc: Global, bytes: &mut Cursor<'_>) -> Result<(HeaderName, HeaderValu
     Ok((name, value))
 }
 
-// One more line of a map.
+// Adds a line to the map.
 fn add(all: &mut HeaderMap, name: HeaderName, value: HeaderValue) -> Result<(), MetaReadFault>
     requires names { length all.old ≤ most_names }
     requires room { value_count all.old + 1 < 2 ^ 64 }
@@ -64,6 +65,7 @@ fn add(all: &mut HeaderMap, name: HeaderName, value: HeaderValue) -> Result<(), 
     }
 }
 
+// Takes this many lines, and returns them as a map.
 fn lines(alloc: Global, bytes: &mut Cursor<'_>, count: u64) -> Result<HeaderMap, MetaReadFault>
     ensures { StepsTo (lines_at count []) bytes.old.rest.now bytes.new.rest.now result }
 {
@@ -75,6 +77,7 @@ fn lines(alloc: Global, bytes: &mut Cursor<'_>, count: u64) -> Result<HeaderMap,
     Ok(all)
 }
 
+// Takes a status.
 #[tactic(auto, unfolding(crate::specs::HeadReading::status_at))]
 fn status(bytes: &mut Cursor<'_>) -> Result<StatusCode, PackFault>
     ensures { Steps status_at bytes.old.rest.now bytes.new.rest.now result }
@@ -89,6 +92,7 @@ fn status(bytes: &mut Cursor<'_>) -> Result<StatusCode, PackFault>
     }
 }
 
+// Takes a head.
 #[tactic(auto, unfolding(crate::specs::HeadReading::head_at))]
 fn head(alloc: Global, bytes: &mut Cursor<'_>) -> Result<ResponseHeader, MetaReadFault>
     ensures { StepsTo head_at bytes.old.rest.now bytes.new.rest.now result }
@@ -100,11 +104,11 @@ fn head(alloc: Global, bytes: &mut Cursor<'_>) -> Result<ResponseHeader, MetaRea
     Ok(ResponseHeader { status, headers })
 }
 
-/// The head at the front; what stands behind it is passed over.
+/// Reads the head at the front of the bytes, and ignores what follows it.
 ///
 /// # Errors
 ///
-/// The first fault from the left, or `Memory` where there is none for the head.
+/// The first fault from the left, or `Memory` if memory runs out.
 pub fn read(alloc: Global, bytes: &[u8]) -> Result<ResponseHeader, MetaReadFault>
     ensures found { IfOk result (BeginsWithHead bytes.now) }
     ensures only { (h : ResponseHeader) → BeginsWithHead bytes.now h → Gives {X = ResponseHeader} result (Ok h) }
@@ -114,7 +118,7 @@ pub fn read(alloc: Global, bytes: &[u8]) -> Result<ResponseHeader, MetaReadFault
     head(alloc, &mut cursor)
 }
 
-// One line. A value that no form counts is refused.
+// Writes a line. A value that is too long for every form is refused.
 fn put_line(out: &mut Vec<u8>, name: &HeaderName, value: &HeaderValue) -> Result<(), AllocError>
     ensures ok { OnOk result (out.new.items ≡ out.old.items ++ line_of (name.now, value.now)) }
     ensures counted { OnOk result (length value.now.bytes < 2 ^ 32) }
@@ -128,6 +132,7 @@ fn put_line(out: &mut Vec<u8>, name: &HeaderName, value: &HeaderValue) -> Result
     writing::put_byte_string(out, bytes)
 }
 
+// Writes each line of the map.
 fn put_each(out: &mut Vec<u8>, headers: &HeaderMap) -> Result<(), AllocError>
     ensures ok { OnOk result (out.new.items ≡ out.old.items ++ flat_map line_of (pairs headers.now)) }
     ensures counted { OnOk result (All (λ p. length p.1.bytes < 2 ^ 32) (pairs headers.now)) }
@@ -138,6 +143,7 @@ fn put_each(out: &mut Vec<u8>, headers: &HeaderMap) -> Result<(), AllocError>
     Ok(())
 }
 
+// Writes the array of the lines of the map.
 fn put_lines(out: &mut Vec<u8>, headers: &HeaderMap) -> Result<(), AllocError>
     ensures ok { OnOk result (out.new.items ≡ out.old.items ++ lines_of headers.now) }
     ensures counted { OnOk result (IsCountable headers.now) }
@@ -150,12 +156,12 @@ fn put_lines(out: &mut Vec<u8>, headers: &HeaderMap) -> Result<(), AllocError>
     Ok(())
 }
 
-/// The head: its status, and each value beside its name in the map's order, each item in its shortest form.
+/// Writes the head: its status, and each value with its name in the map's order, each item in its shortest form.
 ///
 /// # Errors
 ///
-/// `AllocError` where there is no memory, and where the head has 2^32 values, or a value of 2^32 bytes: no form counts
-/// these.
+/// `AllocError` if memory runs out, and for a head of 2^32 values or with a value of 2^32 bytes, which MessagePack
+/// cannot hold.
 #[tactic(auto, unfolding(crate::specs::Head::written_head))]
 pub fn write(alloc: Global, header: &ResponseHeader) -> Result<Vec<u8>, AllocError>
     ensures ok { IfOk result (λ text. text.items ≡ written_head header.now) }

@@ -1,4 +1,4 @@
-//! What is kept beside a response, as bytes: its moments and numbers, and its head.
+//! The metadata that a cache keeps with a response, as MessagePack: its moments and numbers, and its head.
 #![tactic(auto)]
 
 pub mod fault;

@@ -1,12 +1,13 @@
-//! The moments and numbers of a meta, in the three forms that they were written in. Only the latest is kept in memory.
+//! The moments and numbers of a meta, in the three forms that caches have written. Memory holds the latest alone.
 ghost use Rattle.cache_metas.specs.Versions.{of_early};
 
+use cache_words::key::HashBinary;
 use cache_words::time::Moment;
 
-/// The first two forms, which have the same fields. Form 0 is written without its version.
+/// The first two forms, which have the same fields. The first is written without a version.
 #[derive(Clone, Copy, Debug, PartialEq, Eq)]
 pub struct EarlyInternalMeta<const VERSION: u8> {
-    /// Until when the response is fresh.
+    /// The last moment at which the response is fresh.
     pub fresh_until: Moment,
     /// When the response was stored.
     pub created: Moment,
@@ -30,21 +31,21 @@ impl EarlyInternalMeta<1> {
 /// The latest form.
 #[derive(Clone, Copy, Debug, PartialEq, Eq)]
 pub struct InternalMetaV2 {
-    /// Until when the response is fresh.
+    /// The last moment at which the response is fresh.
     pub fresh_until: Moment,
-    /// When the response came.
+    /// When the response was stored.
     pub created: Moment,
-    /// When it was last found valid.
+    /// When it was stored or last revalidated.
     pub updated: Moment,
     /// For how many seconds it is served stale while it is validated.
     pub stale_while_revalidate_sec: u32,
     /// For how many seconds it is served stale on errors.
     pub stale_if_error_sec: u32,
-    /// The variant of the response.
-    pub variance: Option<[u8; 16]>,
-    /// From when its age counts, in place of `updated`.
+    /// Which variant of the response this is, where it varies.
+    pub variance: Option<HashBinary>,
+    /// The moment from which its age counts; `updated` where there is none.
     pub epoch_override: Option<Moment>,
-    /// Where the response comes from, in place of `created`.
+    /// The timestamp that hit filters compare with, which a refresh keeps; `created` where there is none.
     pub provenance: Option<Moment>,
 }
 
