@@ -5,6 +5,4 @@ pub mod fault;
 pub mod head;
 pub mod internal;
 pub mod laws;
-#[cfg(test)]
-mod tests;
 pub mod versions;

@@ -1,0 +1,5 @@
+//! Tests of words and metas against values from outside.
+#![tactic(auto)]
+
+#[cfg(test)]
+mod metas;
