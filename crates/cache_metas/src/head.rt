@@ -83,10 +83,10 @@ fn status(bytes: &mut Cursor<'_>) -> Result<StatusCode, PackFault>
     ensures { Steps status_at bytes.old.rest.now bytes.new.rest.now result }
 {
     let number = bytes.number()?;
-    if number < 100 || number > 999 {
+    let Ok(code) = u16::try_from(number) else {
         return Err(PackFault::Range);
-    }
-    match StatusCode::from_u16(number as u16) {
+    };
+    match StatusCode::from_u16(code) {
         Ok(status) => Ok(status),
         Err(_) => Err(PackFault::Range),
     }

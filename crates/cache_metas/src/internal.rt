@@ -14,6 +14,12 @@ use std::alloc::{AllocError, Global};
 // A shorter input is refused unread, as the original cache refuses it.
 const LEAST_LEN: usize = 10;
 
+// How many items the array of each form has. Of the latest form the seventh to the ninth may be absent.
+const V0_ITEMS: u64 = 4;
+const V1_ITEMS: u64 = 5;
+const V2_FEWEST_ITEMS: u64 = 6;
+const V2_MOST_ITEMS: u64 = 9;
+
 // Takes the fields of an early form.
 #[tactic(auto, unfolding(crate::specs::InternalReading::early_at))]
 fn early<const VERSION: u8>(bytes: &mut Cursor<'_>) -> Result<EarlyInternalMeta<VERSION>, PackFault>
@@ -63,13 +69,13 @@ fn version(bytes: &mut Cursor<'_>, number: u8, count: u64) -> Result<InternalMet
 {
     match number {
         InternalMetaV1::VERSION => {
-            if count != 5 {
+            if count != V1_ITEMS {
                 return Err(PackFault::Length);
             }
             Ok(InternalMetaV2::from(early::<1>(bytes)?))
         }
         InternalMetaV2::VERSION => {
-            if count < 6 || count > 9 {
+            if count < V2_FEWEST_ITEMS || count > V2_MOST_ITEMS {
                 return Err(PackFault::Length);
             }
             v2(bytes, count)
@@ -84,7 +90,7 @@ fn form(bytes: &mut Cursor<'_>) -> Result<InternalMetaV2, PackFault>
     ensures { Steps form_at bytes.old.rest.now bytes.new.rest.now result }
 {
     let count = bytes.array()?;
-    if count == 4 {
+    if count == V0_ITEMS {
         return Ok(InternalMetaV2::from(early::<0>(bytes)?));
     }
     let number = bytes.byte()?;

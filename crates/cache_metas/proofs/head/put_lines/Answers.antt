@@ -1,4 +1,4 @@
-use Rattle.std.proofs.Common.{◌≡◌, ◌++◌, ◌≤◌, ◌<◌, ◌^◌, ℕ, List, length, flat_map, ◌∙◌, sym, ap, arith, append_assoc}
+use Rattle.std.proofs.Common.{◌≡◌, ◌++◌, ◌<◌, ◌^◌, ℕ, List, length, flat_map, ◌∙◌, sym, ap, arith, append_assoc}
 use Rattle.http_header.specs.HeaderMap.{pairs}
 use Rattle.http_header.proofs.CountLemmas.{length-pairs}
 use Rattle.cache_words.specs.Forms.{shortest, arrays}
@@ -16,6 +16,5 @@ returns-clause-ok c =
 
 pub returns-clause-counted : goal.returns-clause-counted
 returns-clause-counted c =
-    let few : c.len.result ≤ 4294967295 = c.if-len.false in
-    let lines : length (pairs c.args.headers.now) < 2 ^ 32 = omega (arith, few, c.len.ensures.value, length-pairs c.args.headers.now) in
+    let lines : length (pairs c.args.headers.now) < 2 ^ 32 = omega (arith, c.if-len.false, c.len.ensures.value, length-pairs c.args.headers.now) in
     record { lines = lines; values = c.in_ok-put_each.ensures.counted }
