@@ -17,7 +17,7 @@ use Rattle.cache_metas.specs.declared.versions.InternalMetaV2.{InternalMetaV2}
 use Rattle.cache_words.specs.Items.{Steps, SpellThere, there_at, seen_as, seconds_at, SpellsSeconds, byte_at, optional_moment_at, SpellsOptionalMoment}
 use Rattle.cache_metas.specs.Versions.{of_early}
 use Rattle.cache_metas.specs.Internal.{least_len, SpellsEarly, SpellsV2, SpellsMeta, IsLongEnough, BeginsWithMeta}
-use Rattle.cache_metas.specs.InternalReading.{early_at, v2_at, version_at, form_at, meta_at, value_of}
+use Rattle.cache_metas.specs.InternalReading.{early_at, v2_at, versioned_at, form_at, meta_at, value_of}
 use Rattle.cache_words.proofs.ItemLaws.{agrees_with, SpellThen, then_at, then_agrees, SpellAs, seen_agrees, SpellEither, either_agrees, Never, refused_agrees, SpellsByte, byte_agrees, there_agrees, optional_moment_agrees}
 
 seconds_agrees : Agrees seconds_at SpellsSeconds
@@ -128,14 +128,14 @@ v2_agrees count =
 abbrev is_v2_count : ℕ → Bool
 is_v2_count count = nat_le 6 count && nat_le count 9
 
-abbrev VersionSteps : ℕ → ℕ → InternalMetaV2 → List ℕ → Type 0
-VersionSteps count version =
+abbrev VersionedSteps : ℕ → ℕ → InternalMetaV2 → List ℕ → Type 0
+VersionedSteps count version =
     SpellEither (version == 1) (SpellEither (count == 5) (SpellAs (of_early 1) (SpellsEarly 1)) Never)
     (SpellEither (version == 2) (SpellEither (is_v2_count count) (SpellsV2 count) Never) Never)
 
-version_steps : (count version : ℕ) → Agrees (version_at version count) (VersionSteps count version)
-unfolding version_at
-version_steps count version =
+versioned_steps : (count version : ℕ) → Agrees (versioned_at version count) (VersionedSteps count version)
+unfolding versioned_at
+versioned_steps count version =
     either_agrees (version == 1) _ _ _ _
     (either_agrees (count == 5) (λ bytes. seen_as (of_early 1) (early_at 1 bytes)) (λ _. Err Length) (SpellAs (of_early 1) (SpellsEarly 1)) Never
     (seen_agrees (of_early 1) (early_at 1) (SpellsEarly 1) (early_agrees 1)) (refused_agrees Length))
@@ -145,16 +145,16 @@ version_steps count version =
 
 abbrev FormSteps : InternalMetaV2 → List ℕ → Type 0
 FormSteps =
-    SpellThen (Stands arrays) (λ count. SpellEither (count == 4) (SpellAs (of_early 0) (SpellsEarly 0)) (SpellThen SpellsByte (VersionSteps count)))
+    SpellThen (Stands arrays) (λ count. SpellEither (count == 4) (SpellAs (of_early 0) (SpellsEarly 0)) (SpellThen SpellsByte (VersionedSteps count)))
 
 form_steps : Agrees form_at FormSteps
 unfolding form_at
 form_steps =
     then_agrees (number_at arrays) (Stands arrays) _ _ (number_agrees arrays are_arrays) (λ count.
-    either_agrees (count == 4) (λ bytes. seen_as (of_early 0) (early_at 0 bytes)) (then_at byte_at (λ version. version_at version count))
-    (SpellAs (of_early 0) (SpellsEarly 0)) (SpellThen SpellsByte (VersionSteps count))
+    either_agrees (count == 4) (λ bytes. seen_as (of_early 0) (early_at 0 bytes)) (then_at byte_at (λ version. versioned_at version count))
+    (SpellAs (of_early 0) (SpellsEarly 0)) (SpellThen SpellsByte (VersionedSteps count))
     (seen_agrees (of_early 0) (early_at 0) (SpellsEarly 0) (early_agrees 0))
-    (then_agrees byte_at SpellsByte _ _ byte_agrees (λ version. version_steps count version)))
+    (then_agrees byte_at SpellsByte _ _ byte_agrees (λ version. versioned_steps count version)))
 
 v2_count : (count : ℕ) → is_v2_count count ≡ true → (6 ≤ count) × (count ≤ 9)
 v2_count count h = (grind (arith, nat_tests), grind (arith, nat_tests))

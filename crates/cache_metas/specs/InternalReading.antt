@@ -52,8 +52,8 @@ v2_at count bytes = do
   )
 
 -- what follows the version, in an array of so many items
-unfoldable pub version_at : ℕ → ℕ → List ℕ → Result (InternalMetaV2 × List ℕ) PackFault
-version_at version count bytes =
+unfoldable pub versioned_at : ℕ → ℕ → List ℕ → Result (InternalMetaV2 × List ℕ) PackFault
+versioned_at version count bytes =
     if version == 1 then (if count == 5 then seen_as (of_early 1) (early_at 1 bytes) else Err Length)
     else if version == 2 then (if nat_le 6 count && nat_le count 9 then v2_at count bytes else Err Length)
     else Err Range
@@ -62,7 +62,7 @@ version_at version count bytes =
 unfoldable pub form_at : List ℕ → Result (InternalMetaV2 × List ℕ) PackFault
 form_at bytes = do
   n ← number_at arrays bytes
-  if n.0 == 4 then seen_as (of_early 0) (early_at 0 n.1) else (byte_at n.1 >>= λ version. version_at version.0 n.0 version.1)
+  if n.0 == 4 then seen_as (of_early 0) (early_at 0 n.1) else (byte_at n.1 >>= λ version. versioned_at version.0 n.0 version.1)
 
 -- the same of a whole input, which is not too short
 unfoldable pub meta_at : List ℕ → Result (InternalMetaV2 × List ℕ) PackFault

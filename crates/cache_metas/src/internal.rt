@@ -3,7 +3,7 @@ ghost use Rattle.std.specs.Prelude.{◌≡◌, ◌≢◌, ◌++◌, ◌∷◌, �
 ghost use Rattle.cache_metas.specs.declared.versions.InternalMetaV2.{InternalMetaV2};
 ghost use Rattle.cache_words.specs.Items.{Steps};
 ghost use Rattle.cache_metas.specs.Internal.{BeginsWithMeta, IsSinceEpoch, IsWritable, written_meta, item_count, required_of, optional_of};
-ghost use Rattle.cache_metas.specs.InternalReading.{early_at, v2_at, version_at, form_at, meta_at, value_of};
+ghost use Rattle.cache_metas.specs.InternalReading.{early_at, v2_at, versioned_at, form_at, meta_at, value_of};
 
 use crate::fault::MetaFault;
 use crate::versions::{EarlyInternalMeta, InternalMetaV1, InternalMetaV2};
@@ -63,9 +63,9 @@ fn v2(bytes: &mut Cursor<'_>, count: u64) -> Result<InternalMetaV2, PackFault>
 }
 
 // Takes the fields that follow the version number in an array of this many items.
-#[tactic(auto, unfolding(crate::specs::InternalReading::version_at))]
-fn version(bytes: &mut Cursor<'_>, number: u8, count: u64) -> Result<InternalMetaV2, PackFault>
-    ensures { Steps (version_at number count) bytes.old.rest.now bytes.new.rest.now result }
+#[tactic(auto, unfolding(crate::specs::InternalReading::versioned_at))]
+fn versioned(bytes: &mut Cursor<'_>, number: u8, count: u64) -> Result<InternalMetaV2, PackFault>
+    ensures { Steps (versioned_at number count) bytes.old.rest.now bytes.new.rest.now result }
 {
     match number {
         InternalMetaV1::VERSION => {
@@ -94,7 +94,7 @@ fn form(bytes: &mut Cursor<'_>) -> Result<InternalMetaV2, PackFault>
         return Ok(InternalMetaV2::from(early::<0>(bytes)?));
     }
     let number = bytes.byte()?;
-    version(bytes, number, count)
+    versioned(bytes, number, count)
 }
 
 /// Reads the meta at the front of the bytes, and ignores what follows it.
