@@ -9,7 +9,7 @@ ghost use Rattle.cache_words.specs.Items.{Steps};
 
 use crate::fault::MetaReadFault;
 use cache_headers::ResponseHeader;
-use cache_words::pack::{Cursor, PackFault, writing};
+use cache_words::pack::{Cursor, PackFault, PackWriteFault, writing};
 use http::StatusCode;
 use http_header::{
     HeaderMap, HeaderMapError, HeaderName, HeaderNameError, HeaderValue, HeaderValueError,
@@ -118,22 +118,18 @@ pub fn read(alloc: Global, bytes: &[u8]) -> Result<ResponseHeader, MetaReadFault
     head(alloc, &mut cursor)
 }
 
-// Writes a line. A value that is too long for every form is refused.
-fn put_line(out: &mut Vec<u8>, name: &HeaderName, value: &HeaderValue) -> Result<(), AllocError>
+// Writes a line.
+fn put_line(out: &mut Vec<u8>, name: &HeaderName, value: &HeaderValue) -> Result<(), PackWriteFault>
     ensures ok { OnOk result (out.new.items ≡ out.old.items ++ line_of (name.now, value.now)) }
     ensures counted { OnOk result (length value.now.bytes < 2 ^ 32) }
 {
-    let bytes = value.as_bytes();
-    if bytes.len() > u32::MAX as usize {
-        return Err(AllocError);
-    }
     writing::put_array(out, 2)?;
     writing::put_text(out, name.as_str())?;
-    writing::put_byte_string(out, bytes)
+    writing::put_byte_string(out, value.as_bytes())
 }
 
 // Writes each line of the map.
-fn put_each(out: &mut Vec<u8>, headers: &HeaderMap) -> Result<(), AllocError>
+fn put_each(out: &mut Vec<u8>, headers: &HeaderMap) -> Result<(), PackWriteFault>
     ensures ok { OnOk result (out.new.items ≡ out.old.items ++ flat_map line_of (pairs headers.now)) }
     ensures counted { OnOk result (All (λ p. length p.1.bytes < 2 ^ 32) (pairs headers.now)) }
 {
@@ -152,8 +148,10 @@ fn put_lines(out: &mut Vec<u8>, headers: &HeaderMap) -> Result<(), AllocError>
         return Err(AllocError);
     }
     writing::put_array(out, headers.len() as u32)?;
-    put_each(out, headers)?;
-    Ok(())
+    match put_each(out, headers) {
+        Ok(()) => Ok(()),
+        Err(_) => Err(AllocError),
+    }
 }
 
 /// Writes the head: its status, and each value with its name in the map's order, each item in its shortest form.

@@ -16,8 +16,11 @@ const LEAST_LEN: usize = 10;
 
 // How many items the array of each form has. Of the latest form the seventh to the ninth may be absent.
 const V0_ITEMS: u64 = 4;
+
 const V1_ITEMS: u64 = 5;
+
 const V2_FEWEST_ITEMS: u64 = 6;
+
 const V2_MOST_ITEMS: u64 = 9;
 
 // Takes the fields of an early form.

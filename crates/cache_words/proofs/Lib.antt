@@ -1,9 +1,12 @@
 pub mod Absorbing
 pub mod Compressing
-pub mod EachLoop
+pub mod CursorLaws
 pub mod FormLaws
 pub mod ItemLaws
+pub mod ListLoop
 pub mod ReadingLaws
+pub mod RoomLaws
+pub mod SequenceLaws
 pub mod StandardFacts
 pub mod ValueLaws
 pub mod VarianceMap

@@ -7,7 +7,7 @@ use Rattle.std.proofs.lemmas.Nat.{be_bytes_2, be_bytes_4, be_bytes_8, from_be_by
 use Rattle.cache_words.specs.declared.pack.fault.PackFault.{PackFault}
 use Rattle.cache_words.specs.declared.pack.fault.PackFault.TheVariants.{Short}
 use Rattle.cache_words.specs.Forms.{room}
-use Rattle.cache_words.specs.Reading.{◌>>=◌, Gives, Finds, ReadsEach, FindsRest, ReadsRest, wide_at, front_at}
+use Rattle.cache_words.specs.Reading.{◌>>=◌, wide_at, front_at}
 
 abbrev pub IsBytes : List ℕ → Type 0
 IsBytes bytes = (i : ℕ) → get_or bytes i 0 < 256
@@ -62,18 +62,6 @@ pub record Agrees {V : Type 0} (read : List ℕ → Result (V × List ℕ) PackF
   pub takes : (bytes : List ℕ) (x : V × List ℕ) → IsBytes bytes → read bytes ≡ Ok x → Takes Spells bytes x.0 x.1
   pub again : (v : V) (text rest : List ℕ) → Spells v text → read (text ++ rest) ≡ Ok (v, rest)
 
-pub is_found : {X V : Type 0} (view : X → V × List ℕ) (read : List ℕ → Result (V × List ℕ) PackFault) (Spells : V → List ℕ → Type 0)
-    → Agrees read Spells → (bytes : List ℕ) (r : Result X PackFault) → IsBytes bytes → Gives view r (read bytes) → Finds view Spells bytes r
-is_found view read Spells a bytes (Ok x) fits given =
-    let t = a.takes bytes (view x) fits given in
-    (t.text, t.spelled, t.parts)
-is_found view read Spells a bytes (Err e) fits given = tt
-
-pub is_read : {X V : Type 0} (view : X → V × List ℕ) (read : List ℕ → Result (V × List ℕ) PackFault) (Spells : V → List ℕ → Type 0)
-    → Agrees read Spells → (bytes : List ℕ) (r : Result X PackFault) → Gives view r (read bytes) → ReadsEach view Spells bytes r
-is_read {V = V} view read Spells a bytes r given = λ v text rest s e.
-    subst (λ (f : Result (V × List ℕ) PackFault). Gives view r f) (ap read e ∙ a.again v text rest s) given
-
 -- no spelling of one value begins a spelling of another
 pub one_spelling : {V : Type 0} (read : List ℕ → Result (V × List ℕ) PackFault) (Spells : V → List ℕ → Type 0) → Agrees read Spells
     → (v w : V) (a b x y : List ℕ) → Spells v a → Spells w b → a ++ x ≡ b ++ y → (v ≡ w) × (x ≡ y)
@@ -81,22 +69,10 @@ one_spelling {V} read Spells agree v w a b x y s t e =
     let same : (v, x) ≡ (w, y) = ok_is (v, x) (w, y) (sym (agree.again v a x s) ∙ ap read e ∙ agree.again w b y t) in
     (ap (λ (p : V × List ℕ). p.0) same, ap (λ (p : V × List ℕ). p.1) same)
 
--- the same of a reader that answers no value
+-- the same of a reader that gives no value
 pub record Skips (read : List ℕ → Result (List ℕ) PackFault) (IsText : List ℕ → Type 0) : Type 0 where
   pub takes : (bytes rest : List ℕ) → IsBytes bytes → read bytes ≡ Ok rest → Takes {V = List ℕ} (λ _ text. IsText text) bytes [] rest
   pub again : (text rest : List ℕ) → IsText text → read (text ++ rest) ≡ Ok rest
-
-pub rest_is_found : {X : Type 0} (view : X → List ℕ) (read : List ℕ → Result (List ℕ) PackFault) (IsText : List ℕ → Type 0)
-    → Skips read IsText → (bytes : List ℕ) (r : Result X PackFault) → IsBytes bytes → Gives view r (read bytes) → FindsRest view IsText bytes r
-rest_is_found view read IsText a bytes (Ok x) fits given =
-    let t = a.takes bytes (view x) fits given in
-    (t.text, t.spelled, t.parts)
-rest_is_found view read IsText a bytes (Err e) fits given = tt
-
-pub rest_is_read : {X : Type 0} (view : X → List ℕ) (read : List ℕ → Result (List ℕ) PackFault) (IsText : List ℕ → Type 0)
-    → Skips read IsText → (bytes : List ℕ) (r : Result X PackFault) → Gives view r (read bytes) → ReadsRest view IsText bytes r
-rest_is_read view read IsText a bytes r given = λ text rest s e.
-    subst (λ (f : Result (List ℕ) PackFault). Gives view r f) (ap read e ∙ a.again text rest s) given
 
 -- ---- numbers of one width
 

@@ -1,23 +1,19 @@
 -- Values that are read are those that the bytes spell, and each spelling is read.
-use Rattle.std.proofs.Common.{◌≡◌, ℕ, zero, suc, ◌+◌, ◌/◌, ◌^◌, ◌<◌, Bool, true, false, cond, List, [], ◌∷◌, ◌++◌, length, Option, Some, None, Result, Ok, Err, refl, sym, ap, subst, ◌∙◌, append_assoc, arith, inl, inr, nat_lt}
+use Rattle.std.proofs.Common.{◌≡◌, ℕ, ◌+◌, ◌/◌, ◌^◌, ◌<◌, true, cond, List, [], ◌∷◌, ◌++◌, length, Ok, Err, refl, ap, subst, ◌∙◌, append_assoc, arith, nat_lt}
 use Rattle.std.specs.Prelude.{◌==◌}
 use Rattle.std.specs.Str.{is_utf8}
 use Rattle.std.proofs.lemmas.Bool.{eqb-true, ltb-true, lt-ltb}
 use Rattle.std.proofs.lemmas.Bool.Decides.{nat_tests}
 use Rattle.std.proofs.lemmas.Str.{is_utf8-from_IsUtf8, IsUtf8-from_is_utf8}
-use Rattle.cache_words.specs.declared.pack.fault.PackFault.{PackFault}
-use Rattle.cache_words.specs.declared.pack.fault.PackFault.TheVariants.{Short, Kind, Range, Utf8, Length}
+use Rattle.cache_words.specs.declared.pack.fault.PackFault.TheVariants.{Kind, Range, Utf8, Length}
 use Rattle.cache_words.specs.Time.{MomentValue, second}
 use Rattle.cache_words.specs.Key.{Key}
 use Rattle.cache_words.specs.Forms.{Stands, StandsBelow, numbers, arrays, texts, byte_strings}
-use Rattle.cache_words.specs.Pack.{SpellsText, SpellsBytes, SpellEach, SpellsHash, SpellsOptionalHash, SpellsMoment, SpellsKey, carried, nil, IsNil}
-use Rattle.cache_words.specs.Reading.{◌>>=◌, number_at, below_at, array_of_at, front_at, bytes_at, text_at, nil_at, each_at, hash_at, optional_hash_at, moment_at, key_at}
-use Rattle.cache_words.proofs.ReadingLaws.{IsBytes, IsBytes-rest, Takes, Agrees, Skips, bind_ok, test_ok, chosen, done, ok_is, front_takes, front_again}
+use Rattle.cache_words.specs.Pack.{SpellsText, SpellsBytes, SpellOptional, SpellsHash, SpellsOptionalHash, SpellsMoment, SpellsOptionalMoment, SpellsKey, carried, nil, IsNil}
+use Rattle.cache_words.specs.Reading.{◌>>=◌, number_at, below_at, array_of_at, front_at, bytes_at, text_at, nil_at, each_at, optional_at, hash_at, optional_hash_at, moment_at, optional_moment_at, key_at}
+use Rattle.cache_words.proofs.ReadingLaws.{IsBytes, IsBytes-rest, Takes, Agrees, Skips, bind_ok, test_ok, ok_is, front_takes, front_again}
+use Rattle.cache_words.proofs.SequenceLaws.{join, SpellsCount, list_agrees, IsNoNil, optional_agrees}
 use Rattle.cache_words.proofs.FormLaws.{number_agrees, are_numbers, are_arrays, are_texts, are_byte_strings}
-
--- two parts, one after the other
-join : (a x b y c : List ℕ) → a ≡ x ++ b → b ≡ y ++ c → a ≡ (x ++ y) ++ c
-join a x b y c p q = p ∙ ap (λ (t : List ℕ). x ++ t) q ∙ sym (append_assoc x y c)
 
 equal_test : (a b : ℕ) → a ≡ b → (a == b) ≡ true
 equal_test a b e = grind (arith, nat_tests)
@@ -125,45 +121,20 @@ text_again v text rest s =
 pub text_agrees : Agrees text_at SpellsText
 text_agrees = record { takes = text_takes; again = text_again }
 
-each_takes : (n : ℕ) (bytes : List ℕ) (x : List ℕ × List ℕ) → IsBytes bytes → each_at n bytes ≡ Ok x → Takes SpellEach bytes x.0 x.1 × (length x.0 ≡ n)
-unfolding each_at
-each_takes zero bytes x fits e =
-    subst (λ (y : List ℕ × List ℕ). Takes SpellEach bytes y.0 y.1 × (length y.0 ≡ 0)) (ok_is ([], bytes) x e)
-    (record { text = []; spelled = refl; parts = refl; rest_fits = fits }, refl)
-each_takes (suc n) bytes x fits e =
-    let a = bind_ok (below_at 256 bytes) (λ first. each_at n first.1 >>= λ others. Ok (first.0 ∷ others.0, others.1)) x e in
-    let b = bind_ok (each_at n a.0.1) (λ others. Ok (a.0.0 ∷ others.0, others.1)) x a.2 in
-    let t = below_takes 256 bytes a.0 fits a.1 in
-    let r = each_takes n a.0.1 b.0 t.0.rest_fits b.1 in
-    let made : List ℕ × List ℕ = (a.0.0 ∷ b.0.0, b.0.1) in
-    subst (λ (y : List ℕ × List ℕ). Takes SpellEach bytes y.0 y.1 × (length y.0 ≡ suc n)) (ok_is made x b.2) (
-      record {
-        text = t.0.text ++ r.0.text;
-        spelled = (t.0.text, r.0.text, t.1, t.0.spelled, r.0.spelled, refl);
-        parts = join bytes t.0.text a.0.1 r.0.text b.0.1 t.0.parts r.0.parts;
-        rest_fits = r.0.rest_fits;
-      },
-      ap suc r.1,
-    )
-
-each_again : (ns text rest : List ℕ) → SpellEach ns text → each_at (length ns) (text ++ rest) ≡ Ok (ns, rest)
-unfolding each_at
-each_again [] text rest s = rw s refl
-each_again (n ∷ ns) text rest s =
-    let regrouped : text ++ rest ≡ s.0 ++ (s.1 ++ rest) = rw s.5 (append_assoc s.0 s.1 rest) in
-    ap (each_at (suc (length ns))) regrouped ∙ rw (below_again 256 n s.0 (s.1 ++ rest) s.3 s.2, each_again ns s.1 rest s.4) refl
+below_256 : (n : ℕ) → Agrees (each_at n) (SpellsCount (StandsBelow 256) n)
+below_256 n = list_agrees (below_at 256) (StandsBelow 256) (below_agrees 256) n
 
 hash_takes : (bytes : List ℕ) (x : List ℕ × List ℕ) → IsBytes bytes → hash_at bytes ≡ Ok x → Takes SpellsHash bytes x.0 x.1
 unfolding hash_at
 hash_takes bytes x fits e =
     let a = bind_ok (array_of_at 16 bytes) (λ rest. each_at 16 rest) x e in
     let t = array_takes 16 bytes a.0 fits a.1 in
-    let r = each_takes 16 a.0 x t.rest_fits a.2 in
+    let r = (below_256 16).takes a.0 x t.rest_fits a.2 in
     record {
-      text = t.text ++ r.0.text;
-      spelled = record { head = t.text; body = r.0.text; sixteen = r.1; array = t.spelled; each = r.0.spelled; parts = refl };
-      parts = join bytes t.text a.0 r.0.text x.1 t.parts r.0.parts;
-      rest_fits = r.0.rest_fits;
+      text = t.text ++ r.text;
+      spelled = record { head = t.text; body = r.text; sixteen = r.spelled.0; array = t.spelled; each = r.spelled.1; parts = refl };
+      parts = join bytes t.text a.0 r.text x.1 t.parts r.parts;
+      rest_fits = r.rest_fits;
     }
 
 hash_again : (h text rest : List ℕ) → SpellsHash h text → hash_at (text ++ rest) ≡ Ok (h, rest)
@@ -171,59 +142,29 @@ unfolding hash_at
 hash_again h text rest s =
     let regrouped : text ++ rest ≡ s.head ++ (s.body ++ rest) = rw s.parts (append_assoc s.head s.body rest) in
     ap hash_at regrouped ∙ rw (array_again 16 s.head (s.body ++ rest) s.array)
-    (subst (λ (k : ℕ). each_at k (s.body ++ rest) ≡ Ok (h, rest)) s.sixteen (each_again h s.body rest s.each))
+    ((below_256 16).again h s.body rest (s.sixteen, s.each))
 
 pub hash_agrees : Agrees hash_at SpellsHash
 hash_agrees = record { takes = hash_takes; again = hash_again }
 
-optional_takes : (bytes : List ℕ) (x : Option (List ℕ) × List ℕ) → IsBytes bytes → optional_hash_at bytes ≡ Ok x → Takes SpellsOptionalHash bytes x.0 x.1
-unfolding optional_hash_at
-optional_takes [] x fits e = absurd cc
-optional_takes (b ∷ bytes) x fits e =
-    elim (chosen (b == 0xc0) (Ok (None, bytes)) (hash_at (b ∷ bytes) >>= λ h. Ok (Some h.0, h.1)) (done x) e) [
-      | inl here ↦
-          let same : b ≡ 0xc0 = eqb-true _ _ here.0 in
-          subst (λ (y : Option (List ℕ) × List ℕ). Takes SpellsOptionalHash (b ∷ bytes) y.0 y.1) (ok_is (None, bytes) x here.1)
-          (record { text = nil; spelled = refl; parts = rw same refl; rest_fits = IsBytes-rest b bytes fits })
-      | inr later ↦
-          let a = bind_ok (hash_at (b ∷ bytes)) (λ h. Ok (Some h.0, h.1)) x later.1 in
-          let t = hash_takes (b ∷ bytes) a.0 fits a.1 in
-          subst (λ (y : Option (List ℕ) × List ℕ). Takes SpellsOptionalHash (b ∷ bytes) y.0 y.1) (ok_is (Some a.0.0, a.0.1) x a.2)
-          (record { text = t.text; spelled = t.spelled; parts = t.parts; rest_fits = t.rest_fits })
-    ]
+-- neither a number, a hash nor a moment begins as no value does
+number_no_nil : IsNoNil (number_at numbers)
+unfolding number_at
+number_no_nil = record { at_nil = λ rest. refl; at_end = refl }
 
--- a hash doesn't begin as no value does
-hash_begins : (bytes : List ℕ) → hash_at (0xc0 ∷ bytes) ≡ Err Kind
+hash_no_nil : IsNoNil hash_at
 unfolding hash_at array_of_at number_at
-hash_begins bytes = refl
+hash_no_nil = record { at_nil = λ rest. refl; at_end = refl }
 
-hash_is_some_by : (b : ℕ) (bytes : List ℕ) (x : List ℕ × List ℕ) (t : Bool) → (b == 0xc0) ≡ t → hash_at (b ∷ bytes) ≡ Ok x
-    → cond {A = Result (Option (List ℕ) × List ℕ) PackFault} t (Ok (None, bytes)) (hash_at (b ∷ bytes) >>= λ hash. Ok (Some hash.0, hash.1)) ≡ Ok (Some x.0, x.1)
-hash_is_some_by b bytes x true is e =
-    let same : b ≡ 0xc0 = eqb-true _ _ is in
-    let begins : hash_at (b ∷ bytes) ≡ Err Kind = rw same (hash_begins bytes) in
-    absurd cc
-hash_is_some_by b bytes x false is e = rw e refl
+moment_no_nil : IsNoNil moment_at
+unfolding moment_at array_of_at number_at
+moment_no_nil = record { at_nil = λ rest. refl; at_end = refl }
 
-hash_of_nothing : hash_at [] ≡ Err Short
-unfolding hash_at array_of_at number_at
-hash_of_nothing = refl
-
--- where a hash is read, so is it where no value may stand
-hash_is_some : (bytes : List ℕ) (x : List ℕ × List ℕ) → hash_at bytes ≡ Ok x → optional_hash_at bytes ≡ Ok (Some x.0, x.1)
-unfolding optional_hash_at
-hash_is_some [] x e =
-    let none : hash_at [] ≡ Err Short = hash_of_nothing in
-    absurd cc
-hash_is_some (b ∷ bytes) x e = hash_is_some_by b bytes x (b == 0xc0) refl e
-
-optional_again : (v : Option (List ℕ)) (text rest : List ℕ) → SpellsOptionalHash v text → optional_hash_at (text ++ rest) ≡ Ok (v, rest)
-unfolding optional_hash_at
-optional_again None text rest s = rw s refl
-optional_again (Some h) text rest s = hash_is_some (text ++ rest) (h, rest) (hash_again h text rest s)
+pub optional_number_agrees : Agrees (optional_at (number_at numbers)) (SpellOptional (Stands numbers))
+optional_number_agrees = optional_agrees (number_at numbers) (Stands numbers) number_no_nil (number_agrees numbers are_numbers)
 
 pub optional_hash_agrees : Agrees optional_hash_at SpellsOptionalHash
-optional_hash_agrees = record { takes = optional_takes; again = optional_again }
+optional_hash_agrees = optional_agrees hash_at SpellsHash hash_no_nil hash_agrees
 
 moment_takes : (bytes : List ℕ) (x : MomentValue × List ℕ) → IsBytes bytes → moment_at bytes ≡ Ok x → Takes SpellsMoment bytes x.0 x.1
 unfolding moment_at
@@ -271,6 +212,9 @@ moment_again v text rest t =
 pub moment_agrees : Agrees moment_at SpellsMoment
 moment_agrees = record { takes = moment_takes; again = moment_again }
 
+pub optional_moment_agrees : Agrees optional_moment_at SpellsOptionalMoment
+optional_moment_agrees = optional_agrees moment_at SpellsMoment moment_no_nil moment_agrees
+
 key_takes : (bytes : List ℕ) (x : Key × List ℕ) → IsBytes bytes → key_at bytes ≡ Ok x → Takes SpellsKey bytes x.0 x.1
 unfolding key_at
 key_takes bytes x fits e =
@@ -280,7 +224,7 @@ key_takes bytes x fits e =
     let d = bind_ok (text_at c.0.1) (λ tag. Ok (record { primary = b.0.0; variance = c.0.0; user_tag = tag.0 }, tag.1)) x c.2 in
     let t0 = array_takes 3 bytes a.0 fits a.1 in
     let t1 = hash_takes a.0 b.0 t0.rest_fits b.1 in
-    let t2 = optional_takes b.0.1 c.0 t1.rest_fits c.1 in
+    let t2 = optional_hash_agrees.takes b.0.1 c.0 t1.rest_fits c.1 in
     let t3 = text_takes c.0.1 d.0 t2.rest_fits d.1 in
     let made : Key × List ℕ = (record { primary = b.0.0; variance = c.0.0; user_tag = d.0.0 }, d.0.1) in
     subst (λ (y : Key × List ℕ). Takes SpellsKey bytes y.0 y.1) (ok_is made x d.2) (record {
@@ -310,7 +254,7 @@ key_again v text rest t =
     ap key_at regrouped ∙ rw (
       array_again 3 t.head (t.first ++ (t.second ++ (t.third ++ rest))) t.array,
       hash_again v.primary t.first (t.second ++ (t.third ++ rest)) t.primary,
-      optional_again v.variance t.second (t.third ++ rest) t.variance,
+      optional_hash_agrees.again v.variance t.second (t.third ++ rest) t.variance,
       text_again v.user_tag t.third rest t.user_tag,
     ) refl
 

@@ -6,8 +6,9 @@ use Rattle.std.proofs.lemmas.Bool.{cases_lt}
 use Rattle.std.proofs.lemmas.Bool.Decides.{nat_tests}
 use Rattle.cache_words.specs.Time.{second}
 use Rattle.cache_words.specs.Key.{Key}
-use Rattle.cache_words.specs.Forms.{Form, Forms, Stands, StandsBehind, shortest, shortest_behind, numbers, arrays, texts, byte_strings, room}
-use Rattle.cache_words.specs.Pack.{SpellsText, SpellsBytes, SpellEach, SpellsHash, SpellsOptionalHash, SpellsMoment, SpellsKey, IsHash, text_of, bytes_of, hash_of, optional_hash_of, moment_of, key_text_of}
+use Rattle.cache_words.specs.Forms.{Form, Forms, Stands, StandsBelow, StandsBehind, shortest, shortest_behind, numbers, arrays, texts, byte_strings, room}
+use Rattle.cache_words.specs.Spelling.{SpellList}
+use Rattle.cache_words.specs.Pack.{SpellsText, SpellsBytes, SpellsHash, SpellsOptionalHash, SpellsMoment, SpellsKey, IsHash, text_of, bytes_of, hash_of, optional_hash_of, moment_of, key_text_of}
 use Rattle.cache_words.proofs.FormLaws.{shortest_stands}
 
 pub number_spelled : (n : ℕ) → n < 2 ^ 64 → Stands numbers n (shortest numbers n)
@@ -22,9 +23,9 @@ text_spelled v lt utf8 = (shortest texts (length v), shortest_stands texts (leng
 pub bytes_spelled : (v : List ℕ) → length v < 2 ^ 32 → SpellsBytes v (bytes_of v)
 bytes_spelled v lt = (shortest byte_strings (length v), shortest_stands byte_strings (length v) (inr (inr (inl lt))), refl)
 
-each_spelled : (ns : List ℕ) → ((i : ℕ) → get_or ns i 0 < 256) → SpellEach ns (flat_map (shortest numbers) ns)
+each_spelled : (ns : List ℕ) → ((i : ℕ) → get_or ns i 0 < 256) → SpellList (StandsBelow 256) ns (flat_map (shortest numbers) ns)
 each_spelled [] fits = refl
-each_spelled (n ∷ ns) fits = (shortest numbers n, flat_map (shortest numbers) ns, fits 0, number_spelled n (omega (arith, fits 0)), each_spelled ns (λ i. fits (suc i)), refl)
+each_spelled (n ∷ ns) fits = (shortest numbers n, flat_map (shortest numbers) ns, (fits 0, number_spelled n (omega (arith, fits 0))), each_spelled ns (λ i. fits (suc i)), refl)
 
 pub hash_spelled : (v : List ℕ) → IsHash v → SpellsHash v (hash_of v)
 hash_spelled v h = record {

@@ -1,12 +1,15 @@
 pub mod Blake
 pub mod BorrowedKey
 pub mod CompactKey
+pub mod Cursor
+pub mod FaultTexts
 pub mod Forms
 pub mod Hasher
 pub mod Items
 pub mod Key
+pub mod MaybeOwnedBytes
 pub mod Pack
-pub mod Piece
 pub mod Reading
+pub mod Spelling
 pub mod Time
 pub mod Variance

@@ -1,6 +1,7 @@
 -- Values as MessagePack: which texts spell a value, and which of them is written.
 use Rattle.std.specs.Prelude.{◌≡◌, ℕ, ◌+◌, ◌/◌, ◌%◌, ◌<◌, ◌^◌, pos, nat_abs, List, [], ◌∷◌, ◌++◌, length, slice_index, flat_map, Option, Some, None, IsUtf8}
-use Rattle.cache_words.specs.Forms.{Stands, shortest, numbers, arrays, texts, byte_strings}
+use Rattle.cache_words.specs.Forms.{Stands, StandsBelow, shortest, numbers, arrays, texts, byte_strings}
+use Rattle.cache_words.specs.Spelling.{Spelling, SpellList}
 use Rattle.cache_words.specs.Time.{MomentValue, second}
 use Rattle.cache_words.specs.Key.{Key}
 
@@ -25,12 +26,6 @@ SpellsBytes bytes text = (head : List ℕ) × Stands byte_strings (length bytes)
 abbrev pub bytes_of : List ℕ → List ℕ
 bytes_of bytes = shortest byte_strings (length bytes) ++ bytes
 
--- numbers below 256, one after the other
-abbrev pub SpellEach : List ℕ → List ℕ → Type 0
-SpellEach [] text = text ≡ []
-SpellEach (n ∷ ns) text =
-    (front : List ℕ) × (behind : List ℕ) × (n < 256) × Stands numbers n front × SpellEach ns behind × (text ≡ front ++ behind)
-
 -- sixteen bytes
 abbrev pub IsHash : List ℕ → Type 0
 IsHash hash = (length hash ≡ 16) × ((i : ℕ) → slice_index hash i < 256)
@@ -41,20 +36,26 @@ pub record SpellsHash (hash text : List ℕ) : Type 0 where
   pub body : List ℕ
   pub sixteen : length hash ≡ 16
   pub array : Stands arrays 16 head
-  pub each : SpellEach hash body
+  pub each : SpellList (StandsBelow 256) hash body
   pub parts : text ≡ head ++ body
 
 abbrev pub hash_of : List ℕ → List ℕ
 hash_of hash = shortest arrays 16 ++ flat_map (shortest numbers) hash
 
--- a hash, or no value
-abbrev pub SpellsOptionalHash : Option (List ℕ) → List ℕ → Type 0
-SpellsOptionalHash None text = text ≡ nil
-SpellsOptionalHash (Some hash) text = SpellsHash hash text
+-- a value, or none
+abbrev pub SpellOptional : {X : Type 0} → Spelling X → Spelling (Option X)
+SpellOptional P None text = text ≡ nil
+SpellOptional P (Some v) text = P v text
+
+abbrev pub optional_text : {X : Type 0} → (X → List ℕ) → Option X → List ℕ
+optional_text text_of None = nil
+optional_text text_of (Some v) = text_of v
+
+abbrev pub SpellsOptionalHash : Spelling (Option (List ℕ))
+SpellsOptionalHash = SpellOptional SpellsHash
 
 abbrev pub optional_hash_of : Option (List ℕ) → List ℕ
-optional_hash_of None = nil
-optional_hash_of (Some hash) = hash_of hash
+optional_hash_of = optional_text hash_of
 
 -- whole seconds and nanoseconds as an instant: what passes a second is carried
 abbrev pub carried : ℕ → ℕ → MomentValue
@@ -77,6 +78,12 @@ pub record SpellsMoment (t : MomentValue) (text : List ℕ) : Type 0 where
 
 abbrev pub moment_of : MomentValue → List ℕ
 moment_of t = shortest arrays 2 ++ (shortest numbers (nat_abs t.seconds) ++ shortest numbers t.nanoseconds)
+
+abbrev pub SpellsOptionalMoment : Spelling (Option MomentValue)
+SpellsOptionalMoment = SpellOptional SpellsMoment
+
+abbrev pub optional_moment_of : Option MomentValue → List ℕ
+optional_moment_of = optional_text moment_of
 
 -- a kept key: an array of the primary hash, the variance or no value, and the tag
 pub record SpellsKey (k : Key) (text : List ℕ) : Type 0 where

@@ -1,5 +1,5 @@
 -- Reading MessagePack from left to right, with the first fault that is met.
-use Rattle.std.specs.Prelude.{◌≡◌, ℕ, zero, suc, ◌+◌, ◌-◌, ◌/◌, ◌^◌, Bool, ◌&&◌, ◌==◌, nat_lt, nat_le, if◌then◌else◌, List, [], ◌∷◌, ◌++◌, length, take, drop, Option, Some, None, Result, Ok, Err, IfOk}
+use Rattle.std.specs.Prelude.{◌≡◌, ℕ, zero, suc, ◌+◌, ◌-◌, ◌/◌, ◌^◌, Bool, ◌&&◌, ◌==◌, nat_lt, nat_le, if◌then◌else◌, List, [], ◌∷◌, length, take, drop, Option, Some, None, Result, Ok, Err}
 use Rattle.std.specs.Int.{Width, byte_len, from_be_bytes}
 use Rattle.std.specs.Str.{is_utf8}
 use Rattle.cache_words.specs.declared.pack.fault.PackFault.{PackFault}
@@ -19,14 +19,24 @@ abbrev pub Gives : {X Y : Type 0} → (X → Y) → Result X PackFault → Resul
 Gives view (Ok x) read = read ≡ Ok (view x)
 Gives view (Err e) read = read ≡ Err e
 
--- what a reader returned is a value that the front of the bytes spells, and the rest
-abbrev pub Finds : {X V : Type 0} → (X → V × List ℕ) → (V → List ℕ → Type 0) → List ℕ → Result X PackFault → Type 0
-Finds view Spells bytes result = IfOk result (λ x. (text : List ℕ) × Spells (view x).0 text × (bytes ≡ text ++ (view x).1))
+-- the value at the front, and the bytes after it
+abbrev pub Reader : Type 0 → Type 0
+Reader X = List ℕ → Result (X × List ℕ) PackFault
 
--- a value that the front of the bytes spells is what the reader returned, with the rest
-abbrev pub ReadsEach : {X V : Type 0} → (X → V × List ℕ) → (V → List ℕ → Type 0) → List ℕ → Result X PackFault → Type 0
-ReadsEach {X} {V} view Spells bytes result =
-    (v : V) (text rest : List ℕ) → Spells v text → bytes ≡ text ++ rest → Gives {Y = V × List ℕ} view result (Ok (v, rest))
+-- so many values, one after the other
+unfoldable pub list_at : {X : Type 0} → Reader X → ℕ → Reader (List X)
+list_at read zero bytes = Ok ([], bytes)
+list_at read (suc n) bytes = do
+  first ← read bytes
+  others ← list_at read n first.1
+  Ok (first.0 ∷ others.0, others.1)
+
+-- a value, or none
+unfoldable pub optional_at : {X : Type 0} → Reader X → Reader (Option X)
+optional_at read [] = Err Short
+optional_at read (b ∷ rest) =
+    if b == 0xc0 then Ok (None, rest)
+    else read (b ∷ rest) >>= λ x. Ok (Some x.0, x.1)
 
 -- a number of some width, and the bytes after it
 abbrev pub wide_at : Width → List ℕ → Result (ℕ × List ℕ) PackFault
@@ -34,7 +44,7 @@ wide_at w bytes =
     if nat_lt (length bytes) (byte_len w) then Err Short
     else Ok (from_be_bytes w (take (byte_len w) bytes), drop (byte_len w) bytes)
 
--- the number behind the tag b
+-- the number after the tag b
 abbrev pub behind_at : List Form → ℕ → List ℕ → Result (ℕ × List ℕ) PackFault
 behind_at [] b rest = Err Kind
 behind_at (f ∷ fs) b rest = if b == f.tag then wide_at f.width rest else behind_at fs b rest
@@ -80,23 +90,16 @@ nil_at [] = Err Short
 nil_at (b ∷ rest) = if b == 0xc0 then Ok rest else Err Kind
 
 -- n numbers below 256
-unfoldable pub each_at : ℕ → List ℕ → Result (List ℕ × List ℕ) PackFault
-each_at zero bytes = Ok ([], bytes)
-each_at (suc n) bytes = do
-  first ← below_at 256 bytes
-  others ← each_at n first.1
-  Ok (first.0 ∷ others.0, others.1)
+abbrev pub each_at : ℕ → Reader (List ℕ)
+each_at = list_at (below_at 256)
 
 unfoldable pub hash_at : List ℕ → Result (List ℕ × List ℕ) PackFault
 hash_at bytes = do
   rest ← array_of_at 16 bytes
   each_at 16 rest
 
-unfoldable pub optional_hash_at : List ℕ → Result (Option (List ℕ) × List ℕ) PackFault
-optional_hash_at [] = Err Short
-optional_hash_at (b ∷ rest) =
-    if b == 0xc0 then Ok (None, rest)
-    else hash_at (b ∷ rest) >>= λ hash. Ok (Some hash.0, hash.1)
+abbrev pub optional_hash_at : Reader (Option (List ℕ))
+optional_hash_at = optional_at hash_at
 
 unfoldable pub moment_at : List ℕ → Result (MomentValue × List ℕ) PackFault
 moment_at bytes = do
@@ -105,6 +108,9 @@ moment_at bytes = do
   n ← below_at (2 ^ 32) s.1
   if nat_lt (s.0 + n.0 / second) (2 ^ 63) then Ok (carried s.0 n.0, n.1) else Err Range
 
+abbrev pub optional_moment_at : Reader (Option MomentValue)
+optional_moment_at = optional_at moment_at
+
 unfoldable pub key_at : List ℕ → Result (Key × List ℕ) PackFault
 key_at bytes = do
   rest ← array_of_at 3 bytes
@@ -112,11 +118,3 @@ key_at bytes = do
   variance ← optional_hash_at primary.1
   tag ← text_at variance.1
   Ok (record { primary = primary.0; variance = variance.0; user_tag = tag.0 }, tag.1)
-
--- the same of what stands for no value: the bytes behind it
-abbrev pub FindsRest : {X : Type 0} → (X → List ℕ) → (List ℕ → Type 0) → List ℕ → Result X PackFault → Type 0
-FindsRest view IsText bytes result = IfOk result (λ x. (text : List ℕ) × IsText text × (bytes ≡ text ++ view x))
-
-abbrev pub ReadsRest : {X : Type 0} → (X → List ℕ) → (List ℕ → Type 0) → List ℕ → Result X PackFault → Type 0
-ReadsRest {X} view IsText bytes result =
-    (text rest : List ℕ) → IsText text → bytes ≡ text ++ rest → Gives {Y = List ℕ} view result (Ok rest)

@@ -57,14 +57,25 @@ earlier_by t d =
     then instant (t.seconds -ℤ pos (d.seconds + 1)) (t.nanoseconds + second - d.nanoseconds)
     else instant (t.seconds -ℤ pos d.seconds) (t.nanoseconds - d.nanoseconds)
 
+-- one time less another that is no longer: a missing nanosecond is borrowed from the seconds
+abbrev pub less : ℕ → ℕ → ℕ → DurationValue
+less seconds later earlier =
+    if nat_lt later earlier
+    then record { seconds = seconds - 1; nanoseconds = later + second - earlier }
+    else record { seconds = seconds; nanoseconds = later - earlier }
+
 -- the time from the first to the second; nothing where the second is before the first
 abbrev pub elapsed : MomentValue → MomentValue → DurationValue
 elapsed a b =
-    let between : ℕ = nat_abs (b.seconds -ℤ a.seconds) in
     if at_most a b
-    then (if nat_lt b.nanoseconds a.nanoseconds
-    then record { seconds = between - 1; nanoseconds = b.nanoseconds + second - a.nanoseconds }
-    else record { seconds = between; nanoseconds = b.nanoseconds - a.nanoseconds })
+    then less (nat_abs (b.seconds -ℤ a.seconds)) b.nanoseconds a.nanoseconds
+    else span_of 0
+
+-- what is left of the first after the second; nothing where the second is longer
+abbrev pub difference : DurationValue → DurationValue → DurationValue
+difference a b =
+    if at_least a b
+    then less (a.seconds - b.seconds) a.nanoseconds b.nanoseconds
     else span_of 0
 
 -- both spans, one after the other; none from 2^64 seconds

@@ -127,5 +127,5 @@ pub struct CompactCacheKey {
     pub user_tag: Text,
 }
 
-pub mod calls;
-mod shown;
+mod calls;
+mod display;

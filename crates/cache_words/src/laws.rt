@@ -4,8 +4,11 @@ ghost use Rattle.std.specs.FinMap as map;
 ghost use Rattle.cache_words.specs.Forms.{Stands, shortest, numbers, arrays, texts, byte_strings};
 ghost use Rattle.cache_words.specs.Key.{Key};
 ghost use Rattle.cache_words.specs.Pack.{SpellsText, SpellsBytes, SpellsHash, SpellsOptionalHash, SpellsMoment, SpellsKey, IsHash, text_of, bytes_of, hash_of, optional_hash_of, moment_of, key_text_of};
-ghost use Rattle.cache_words.specs.Time.{MomentValue, second};
+ghost use Rattle.cache_words.specs.Time.{MomentValue, DurationValue, second, at_most, at_least};
+ghost use Rattle.std.specs.Ordering.{is_le};
 ghost use Rattle.cache_words.specs.Variance.{Values};
+
+use crate::time::{Duration, Moment};
 
 /// What a writer writes is a spelling of its value, so a reader reads it again, whatever follows.
 pub fn written_is_spelled()
@@ -43,4 +46,10 @@ pub fn shortest_is_shortest()
 /// The order in which two names got their values doesn't matter to a `VarianceBuilder`.
 pub fn any_order()
     ensures { (values : Values) (a b x y : List ℕ) → a ≢ b → map.insert (map.insert values a x) b y ≡ map.insert (map.insert values b y) a x }
+{}
+
+/// Moments and durations compare by time.
+pub fn order_is_by_time()
+    ensures moments { (a b : MomentValue) → at_most a b ≡ is_le (⟦<Moment as Ord>⟧.cmp a b) }
+    ensures durations { (a b : DurationValue) → at_least b a ≡ is_le (⟦<Duration as Ord>⟧.cmp a b) }
 {}

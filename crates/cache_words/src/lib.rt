@@ -2,13 +2,11 @@
 #![tactic(auto)]
 
 pub mod blake;
-mod compress;
 pub mod key;
 pub mod laws;
+mod lend_bytes;
+mod maybe_owned_bytes;
 pub mod pack;
-mod piece;
-#[cfg(test)]
-mod tests;
 pub mod text;
 pub mod time;
 pub mod variance;

@@ -1,21 +1,23 @@
-//! Values as MessagePack, the format of a cache's files and metas. What is written is the shortest form; every listed
-//! form is read. A reader answers the value and the bytes behind it, borrowed from its input: it takes no memory.
+//! Values as MessagePack, the format of a cache's files and metas. Writers write the shortest form to a `Sink`; a `Cursor`
+//! reads every listed form, borrows from its input and allocates nothing.
 use crate::key::HashBinary;
 pub use cursor::Cursor;
-pub use fault::PackFault;
+pub use fault::{PackFault, PackWriteFault};
+pub use sink::Sink;
 
-pub mod borrowed;
+mod borrowed;
 mod cursor;
 pub mod fault;
-pub mod reading;
+mod reading;
+mod sink;
 pub mod writing;
 
 /// A kept key whose tag is borrowed from the bytes that it was read from.
 #[derive(Clone, Copy, Debug)]
 pub struct BorrowedKey<'a> {
-    /// The hash of what is asked for.
+    /// The hash of what is requested.
     pub primary: HashBinary,
-    /// The hash of what the answer varies by, if it does.
+    /// The hash of what the response varies by, if it does.
     pub variance: Option<HashBinary>,
     /// The owner's tag.
     pub user_tag: &'a str,

@@ -1,6 +1,6 @@
 //! Points in time and lengths of time, to the nanosecond. No call reads a clock: moments are handed in.
 ghost use Rattle.std.specs.Prelude.{◌≡◌, ◌<◌, ℤ, pos, ◌<ℤ◌, ◌↔◌, IsTrue, Option, Some, None, if◌then◌else◌, nat_lt};
-ghost use Rattle.cache_words.specs.Time.{MomentValue, DurationValue, at_most, at_least, later_by, earlier_by, elapsed, sum_of, from_seconds, span_of, instant, second};
+ghost use Rattle.cache_words.specs.Time.{MomentValue, DurationValue, at_most, at_least, later_by, earlier_by, elapsed, sum_of, difference, from_seconds, span_of, instant, second};
 
 use std::marker::Model;
 
@@ -14,7 +14,7 @@ pub const DELTA_SECONDS_OVERFLOW_DURATION: Duration = Duration {
 };
 
 /// A point in time: seconds since 1970 began, negative before it, and nanoseconds below one second.
-#[derive(Clone, Copy, PartialEq, Eq, Debug)]
+#[derive(Clone, Copy, PartialEq, Eq, PartialOrd, Ord, Hash, Debug)]
 pub struct Moment {
     seconds: i64,
     nanoseconds: u32,
@@ -34,7 +34,7 @@ impl Model for Moment {
 }
 
 /// A length of time: seconds, and nanoseconds below one second.
-#[derive(Clone, Copy, PartialEq, Eq, Debug)]
+#[derive(Clone, Copy, PartialEq, Eq, PartialOrd, Ord, Hash, Debug)]
 pub struct Duration {
     seconds: u64,
     nanoseconds: u32,
@@ -235,6 +235,27 @@ impl Duration {
                 seconds: seconds as u64,
                 nanoseconds: nanoseconds % NANOSECONDS_PER_SECOND,
             })
+        }
+    }
+
+    /// The time that is left after the other; nothing where the other is longer.
+    pub fn saturating_sub(&self, other: Duration) -> Duration
+        ensures { result ≡ difference self.now other }
+    {
+        if !self.is_at_least(&other) {
+            return Duration::zero();
+        }
+        let seconds = self.seconds - other.seconds;
+        if self.nanoseconds < other.nanoseconds {
+            Duration {
+                seconds: seconds - 1,
+                nanoseconds: self.nanoseconds + NANOSECONDS_PER_SECOND - other.nanoseconds,
+            }
+        } else {
+            Duration {
+                seconds,
+                nanoseconds: self.nanoseconds - other.nanoseconds,
+            }
         }
     }
 

@@ -5,7 +5,8 @@ ghost use Rattle.cache_words.specs.Variance.{variance_hash};
 
 use crate::blake::Blake2b128;
 use crate::key::HashBinary;
-use crate::piece::Piece;
+pub use crate::lend_bytes::LendBytes;
+use crate::maybe_owned_bytes::MaybeOwnedBytes;
 use std::alloc::{AllocError, Global};
 use std::collections::BTreeMap;
 use std::marker::Model;
@@ -14,7 +15,7 @@ use std::marker::Model;
 /// the order in which they came doesn't matter.
 #[derive(Drop)]
 pub struct VarianceBuilder<'a> {
-    values: BTreeMap<Piece<'a>, Piece<'a>>,
+    values: BTreeMap<MaybeOwnedBytes<'a>, MaybeOwnedBytes<'a>>,
 }
 
 impl<'a> Model for VarianceBuilder<'a> {
@@ -39,12 +40,13 @@ impl<'a> VarianceBuilder<'a> {
         }
     }
 
-    /// Gives a name its value, both borrowed.
-    pub fn add_value(&mut self, name: &'a str, value: &'a [u8]) -> Result<(), AllocError>
-        ensures ok { OnOk result (self.new ≡ map.insert self.old name.now value.now) }
+    /// Gives a name its value, both borrowed: a text, a slice, an array, a `String` or a `Vec`.
+    pub fn add_value<V: LendBytes<'a>>(&mut self, name: &'a str, value: V) -> Result<(), AllocError>
+        ensures ok { OnOk result (self.new ≡ map.insert self.old name.now (V.bytes value)) }
         ensures err { OnErr result (self.new ≡ self.old) }
     {
-        self.add(Piece::borrowed(name.as_bytes()), Piece::borrowed(value))
+        let value = MaybeOwnedBytes::borrowed(value.lend_bytes());
+        self.add(MaybeOwnedBytes::borrowed(name.as_bytes()), value)
     }
 
     /// Gives a name its value, which becomes the builder's.
@@ -52,7 +54,10 @@ impl<'a> VarianceBuilder<'a> {
         ensures ok { OnOk result (self.new ≡ map.insert self.old name.now value.items) }
         ensures err { OnErr result (self.new ≡ self.old) }
     {
-        self.add(Piece::borrowed(name.as_bytes()), Piece::owned(value))
+        self.add(
+            MaybeOwnedBytes::borrowed(name.as_bytes()),
+            MaybeOwnedBytes::owned(value),
+        )
     }
 
     /// Gives a name its value, both of which become the builder's.
@@ -60,7 +65,10 @@ impl<'a> VarianceBuilder<'a> {
         ensures ok { OnOk result (self.new ≡ map.insert self.old (string_bytes name) value.items) }
         ensures err { OnErr result (self.new ≡ self.old) }
     {
-        self.add(Piece::owned(name.into_bytes()), Piece::owned(value))
+        self.add(
+            MaybeOwnedBytes::owned(name.into_bytes()),
+            MaybeOwnedBytes::owned(value),
+        )
     }
 
     /// Whether there is any name.
@@ -87,7 +95,11 @@ impl<'a> VarianceBuilder<'a> {
         Some(hasher.finalize())
     }
 
-    fn add(&mut self, name: Piece<'a>, value: Piece<'a>) -> Result<(), AllocError>
+    fn add(
+        &mut self,
+        name: MaybeOwnedBytes<'a>,
+        value: MaybeOwnedBytes<'a>,
+    ) -> Result<(), AllocError>
         ensures ok { OnOk result (self.new ≡ map.insert self.old name.entry value.entry) }
         ensures err { OnErr result (self.new ≡ self.old) }
     {

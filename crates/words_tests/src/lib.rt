@@ -3,3 +3,5 @@
 
 #[cfg(test)]
 mod metas;
+#[cfg(test)]
+mod words;

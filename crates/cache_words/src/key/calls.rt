@@ -1,11 +1,11 @@
 //! The calls of keys.
-ghost use Rattle.std.specs.Prelude.{◌≡◌, Some, None, IfSome, IfNone, IfOk, IsUtf8, string_bytes};
+ghost use Rattle.std.specs.Prelude.{◌≡◌, Some, None, IfSome, IfNone, IfOk, IsUtf8, string_bytes, [], replicate};
 ghost use Rattle.cache_words.specs.Key.{CacheKeyValue, key_of, shown};
 ghost use Rattle.cache_words.specs.CompactKey.{compact_view};
 
 use super::{CacheHashKey, CacheKey, CompactCacheKey, HashBinary, hash_key};
 use crate::text::Text;
-use std::alloc::AllocError;
+use std::alloc::{AllocError, Global};
 use std::{fmt, str};
 
 impl CacheKey {
@@ -74,6 +74,19 @@ impl CacheKey {
             variance: self.variance,
             user_tag: self.user_tag.clone()?,
         })
+    }
+}
+
+impl CompactCacheKey {
+    /// A key of zeros, without a variance and with an empty tag.
+    pub fn empty(alloc: Global) -> CompactCacheKey
+        ensures { compact_view result ≡ record { primary = replicate 16 0; variance = None; user_tag = [] } }
+    {
+        CompactCacheKey {
+            primary: [0; 16],
+            variance: None,
+            user_tag: Text::from_string(String::new(alloc)),
+        }
     }
 }
 

@@ -1,12 +1,12 @@
-//! Readers. Each answers the value at the front of its input, in any of the listed forms, and the bytes behind it.
+// Each reader returns the value at the front of its input, in any of the listed forms, and the bytes after it.
 ghost use Rattle.std.specs.Prelude.{◌≡◌, ◌++◌, ◌^◌, ◌<◌, List, ℕ, length, Ok, Err, IfOk, IsUtf8, MatchResult, true, false, string_bytes};
 ghost use Rattle.std.specs.Int.{w8, w16, w32, w64};
 ghost use Rattle.std.specs.Str.{is_utf8};
 ghost use Rattle.cache_words.specs.Key.{Key};
 ghost use Rattle.cache_words.specs.BorrowedKey.{borrowed_view};
-ghost use Rattle.cache_words.specs.Forms.{Stands, StandsBelow, numbers, arrays, texts, byte_strings};
-ghost use Rattle.cache_words.specs.Pack.{SpellsText, SpellsBytes, SpellsHash, SpellsOptionalHash, SpellsMoment, SpellsKey, IsNil};
-ghost use Rattle.cache_words.specs.Reading.{Gives, Finds, ReadsEach, FindsRest, ReadsRest, wide_at, number_at, below_at, array_of_at, front_at, bytes_at, text_at, nil_at, each_at, hash_at, optional_hash_at, moment_at, key_at};
+ghost use Rattle.cache_words.specs.Forms.{numbers, arrays, texts, byte_strings};
+ghost use Rattle.cache_words.specs.Reading.{Gives, wide_at, number_at, below_at, array_of_at, front_at, bytes_at, text_at, nil_at, each_at, optional_at, hash_at, optional_hash_at, moment_at, optional_moment_at, key_at};
+ghost use Rattle.cache_words.specs.Items.{byte_at, seconds_at};
 
 use super::BorrowedKey;
 use super::fault::PackFault;
@@ -60,7 +60,7 @@ fn u64_at(bytes: &[u8]) -> Result<(u64, &[u8]), PackFault>
 }
 
 #[tactic(auto, unfolding(crate::specs::Reading::number_at))]
-fn number_of(bytes: &[u8]) -> Result<(u64, &[u8]), PackFault>
+pub(super) fn number(bytes: &[u8]) -> Result<(u64, &[u8]), PackFault>
     ensures { Gives (λ x. (x.0, x.1.now)) result (number_at numbers bytes.now) }
 {
     match bytes {
@@ -75,7 +75,7 @@ fn number_of(bytes: &[u8]) -> Result<(u64, &[u8]), PackFault>
 }
 
 #[tactic(auto, unfolding(crate::specs::Reading::number_at))]
-fn array_head(bytes: &[u8]) -> Result<(u64, &[u8]), PackFault>
+pub(super) fn array(bytes: &[u8]) -> Result<(u64, &[u8]), PackFault>
     ensures { Gives (λ x. (x.0, x.1.now)) result (number_at arrays bytes.now) }
 {
     match bytes {
@@ -115,11 +115,11 @@ fn bytes_head(bytes: &[u8]) -> Result<(u64, &[u8]), PackFault>
 }
 
 #[tactic(auto, unfolding(crate::specs::Reading::below_at))]
-fn below(bytes: &[u8], limit: u64) -> Result<(u64, &[u8]), PackFault>
+pub(super) fn number_below(bytes: &[u8], limit: u64) -> Result<(u64, &[u8]), PackFault>
     ensures gives { Gives (λ x. (x.0, x.1.now)) result (below_at limit bytes.now) }
     ensures less { IfOk result (λ x. x.0 < limit) }
 {
-    let (number, rest) = number_of(bytes)?;
+    let (number, rest) = number(bytes)?;
     if number < limit {
         Ok((number, rest))
     } else {
@@ -127,11 +127,30 @@ fn below(bytes: &[u8], limit: u64) -> Result<(u64, &[u8]), PackFault>
     }
 }
 
+// A number that is one byte.
+#[tactic(auto, unfolding(crate::specs::Items::byte_at))]
+pub(super) fn byte(bytes: &[u8]) -> Result<(u8, &[u8]), PackFault>
+    ensures { Gives (λ x. (x.0, x.1.now)) result (byte_at bytes.now) }
+{
+    match bytes {
+        [] => Err(PackFault::Short),
+        [n, rest @ ..] if *n < 128 => Ok((*n, rest)),
+        [_, ..] => Err(PackFault::Kind),
+    }
+}
+
+pub(super) fn seconds(bytes: &[u8]) -> Result<(u32, &[u8]), PackFault>
+    ensures { Gives (λ x. (x.0, x.1.now)) result (seconds_at bytes.now) }
+{
+    let (number, rest) = number_below(bytes, 1 << 32)?;
+    Ok((number as u32, rest))
+}
+
 #[tactic(auto, unfolding(crate::specs::Reading::array_of_at))]
-fn fixed(bytes: &[u8], count: u64) -> Result<&[u8], PackFault>
+pub(super) fn array_of(bytes: &[u8], count: u64) -> Result<&[u8], PackFault>
     ensures { Gives (λ x. x.now) result (array_of_at count bytes.now) }
 {
-    let (number, rest) = array_head(bytes)?;
+    let (number, rest) = array(bytes)?;
     if number == count {
         Ok(rest)
     } else {
@@ -150,7 +169,7 @@ fn front(bytes: &[u8], count: u64) -> Result<(&[u8], &[u8]), PackFault>
 }
 
 #[tactic(auto, unfolding(crate::specs::Reading::bytes_at))]
-fn bytes_of(bytes: &[u8]) -> Result<(&[u8], &[u8]), PackFault>
+pub(super) fn byte_string(bytes: &[u8]) -> Result<(&[u8], &[u8]), PackFault>
     ensures { Gives (λ x. (x.0.now, x.1.now)) result (bytes_at bytes.now) }
 {
     let (count, rest) = bytes_head(bytes)?;
@@ -167,7 +186,7 @@ fn as_text(front: &[u8]) -> Result<&str, PackFault>
 }
 
 #[tactic(auto, unfolding(crate::specs::Reading::text_at))]
-fn text_of(bytes: &[u8]) -> Result<(&str, &[u8]), PackFault>
+pub(super) fn text(bytes: &[u8]) -> Result<(&str, &[u8]), PackFault>
     ensures { Gives (λ x. (x.0.now, x.1.now)) result (text_at bytes.now) }
 {
     let (count, rest) = text_head(bytes)?;
@@ -177,7 +196,7 @@ fn text_of(bytes: &[u8]) -> Result<(&str, &[u8]), PackFault>
 }
 
 #[tactic(auto, unfolding(crate::specs::Reading::nil_at))]
-fn nil_of(bytes: &[u8]) -> Result<&[u8], PackFault>
+pub(super) fn nil(bytes: &[u8]) -> Result<&[u8], PackFault>
     ensures { Gives (λ x. x.now) result (nil_at bytes.now) }
 {
     match bytes {
@@ -193,7 +212,7 @@ fn sixteen(bytes: &[u8]) -> Result<(HashBinary, &[u8]), PackFault>
     let mut hash = [0u8; 16];
     let mut rest = bytes;
     'each: for i in 0..16 {
-        let (number, after) = below(rest, 256)?;
+        let (number, after) = number_below(rest, 256)?;
         hash[i] = number as u8;
         rest = after;
     }
@@ -201,34 +220,48 @@ fn sixteen(bytes: &[u8]) -> Result<(HashBinary, &[u8]), PackFault>
 }
 
 #[tactic(auto, unfolding(crate::specs::Reading::hash_at))]
-fn hash_of(bytes: &[u8]) -> Result<(HashBinary, &[u8]), PackFault>
+pub(super) fn hash(bytes: &[u8]) -> Result<(HashBinary, &[u8]), PackFault>
     ensures { Gives (λ x. (x.0, x.1.now)) result (hash_at bytes.now) }
 {
-    let rest = fixed(bytes, 16)?;
+    let rest = array_of(bytes, 16)?;
     sixteen(rest)
 }
 
-#[tactic(auto, unfolding(crate::specs::Reading::optional_hash_at))]
-fn optional_hash_of(bytes: &[u8]) -> Result<(Option<HashBinary>, &[u8]), PackFault>
+#[tactic(auto, unfolding(crate::specs::Reading::optional_at))]
+pub(super) fn optional_number(bytes: &[u8]) -> Result<(Option<u64>, &[u8]), PackFault>
+    ensures { Gives (λ x. (x.0, x.1.now)) result (optional_at (number_at numbers) bytes.now) }
+{
+    match bytes {
+        [] => Err(PackFault::Short),
+        [0xc0, rest @ ..] => Ok((None, rest)),
+        [_, ..] => {
+            let (number, rest) = number(bytes)?;
+            Ok((Some(number), rest))
+        }
+    }
+}
+
+#[tactic(auto, unfolding(crate::specs::Reading::optional_at))]
+pub(super) fn optional_hash(bytes: &[u8]) -> Result<(Option<HashBinary>, &[u8]), PackFault>
     ensures { Gives (λ x. (x.0, x.1.now)) result (optional_hash_at bytes.now) }
 {
     match bytes {
         [] => Err(PackFault::Short),
         [0xc0, rest @ ..] => Ok((None, rest)),
         [_, ..] => {
-            let (hash, rest) = hash_of(bytes)?;
+            let (hash, rest) = hash(bytes)?;
             Ok((Some(hash), rest))
         }
     }
 }
 
 #[tactic(auto, unfolding(crate::specs::Reading::moment_at))]
-fn moment_of(bytes: &[u8]) -> Result<(Moment, &[u8]), PackFault>
+pub(super) fn moment(bytes: &[u8]) -> Result<(Moment, &[u8]), PackFault>
     ensures { Gives (λ x. (x.0, x.1.now)) result (moment_at bytes.now) }
 {
-    let rest = fixed(bytes, 2)?;
-    let (seconds, rest) = number_of(rest)?;
-    let (nanoseconds, rest) = below(rest, 1 << 32)?;
+    let rest = array_of(bytes, 2)?;
+    let (seconds, rest) = number(rest)?;
+    let (nanoseconds, rest) = number_below(rest, 1 << 32)?;
     let carry = nanoseconds / 1_000_000_000;
     if seconds >= (1 << 63) - carry {
         return Err(PackFault::Range);
@@ -240,14 +273,30 @@ fn moment_of(bytes: &[u8]) -> Result<(Moment, &[u8]), PackFault>
     }
 }
 
+#[tactic(auto, unfolding(crate::specs::Reading::optional_at))]
+pub(super) fn optional_moment(bytes: &[u8]) -> Result<(Option<Moment>, &[u8]), PackFault>
+    ensures { Gives (λ x. (x.0, x.1.now)) result (optional_moment_at bytes.now) }
+{
+    match bytes {
+        [] => Err(PackFault::Short),
+        [0xc0, rest @ ..] => Ok((None, rest)),
+        [_, ..] => {
+            match moment(bytes) {
+                Ok((moment, rest)) => Ok((Some(moment), rest)),
+                Err(fault) => Err(fault),
+            }
+        }
+    }
+}
+
 #[tactic(auto, unfolding(crate::specs::Reading::key_at))]
-fn key_of(bytes: &[u8]) -> Result<(BorrowedKey<'_>, &[u8]), PackFault>
+pub(super) fn key(bytes: &[u8]) -> Result<(BorrowedKey<'_>, &[u8]), PackFault>
     ensures { Gives (λ x. (borrowed_view x.0, x.1.now)) result (key_at bytes.now) }
 {
-    let rest = fixed(bytes, 3)?;
-    let (primary, rest) = hash_of(rest)?;
-    let (variance, rest) = optional_hash_of(rest)?;
-    let (user_tag, rest) = text_of(rest)?;
+    let rest = array_of(bytes, 3)?;
+    let (primary, rest) = hash(rest)?;
+    let (variance, rest) = optional_hash(rest)?;
+    let (user_tag, rest) = text(rest)?;
     Ok((
         BorrowedKey {
             primary,
@@ -256,103 +305,4 @@ fn key_of(bytes: &[u8]) -> Result<(BorrowedKey<'_>, &[u8]), PackFault>
         },
         rest,
     ))
-}
-
-/// The number at the front.
-pub fn number(bytes: &[u8]) -> Result<(u64, &[u8]), PackFault>
-    ensures found { Finds (λ x. (x.0, x.1.now)) (Stands numbers) bytes.now result }
-    ensures only { ReadsEach (λ x. (x.0, x.1.now)) (Stands numbers) bytes.now result }
-    ensures exact { Gives (λ x. (x.0, x.1.now)) result (number_at numbers bytes.now) }
-{
-    number_of(bytes)
-}
-
-/// The number at the front, which is to be below the limit: a greater one is `Range`.
-pub fn number_below(bytes: &[u8], limit: u64) -> Result<(u64, &[u8]), PackFault>
-    ensures found { Finds (λ x. (x.0, x.1.now)) (StandsBelow limit) bytes.now result }
-    ensures only { ReadsEach (λ x. (x.0, x.1.now)) (StandsBelow limit) bytes.now result }
-    ensures exact { Gives (λ x. (x.0, x.1.now)) result (below_at limit bytes.now) }
-{
-    below(bytes, limit)
-}
-
-/// How many items the array at the front has. The items stand behind it.
-pub fn array(bytes: &[u8]) -> Result<(u64, &[u8]), PackFault>
-    ensures found { Finds (λ x. (x.0, x.1.now)) (Stands arrays) bytes.now result }
-    ensures only { ReadsEach (λ x. (x.0, x.1.now)) (Stands arrays) bytes.now result }
-    ensures exact { Gives (λ x. (x.0, x.1.now)) result (number_at arrays bytes.now) }
-{
-    array_head(bytes)
-}
-
-/// The items of an array of this length: any other length is `Length`, whatever follows.
-pub fn array_of(bytes: &[u8], count: u64) -> Result<&[u8], PackFault>
-    ensures found { FindsRest (λ x. x.now) (Stands arrays count) bytes.now result }
-    ensures only { ReadsRest (λ x. x.now) (Stands arrays count) bytes.now result }
-    ensures exact { Gives (λ x. x.now) result (array_of_at count bytes.now) }
-{
-    fixed(bytes, count)
-}
-
-/// The text at the front, borrowed.
-pub fn text(bytes: &[u8]) -> Result<(&str, &[u8]), PackFault>
-    ensures found { Finds (λ x. (x.0.now, x.1.now)) SpellsText bytes.now result }
-    ensures only { ReadsEach (λ x. (x.0.now, x.1.now)) SpellsText bytes.now result }
-    ensures exact { Gives (λ x. (x.0.now, x.1.now)) result (text_at bytes.now) }
-{
-    text_of(bytes)
-}
-
-/// The byte string at the front, borrowed.
-pub fn byte_string(bytes: &[u8]) -> Result<(&[u8], &[u8]), PackFault>
-    ensures found { Finds (λ x. (x.0.now, x.1.now)) SpellsBytes bytes.now result }
-    ensures only { ReadsEach (λ x. (x.0.now, x.1.now)) SpellsBytes bytes.now result }
-    ensures exact { Gives (λ x. (x.0.now, x.1.now)) result (bytes_at bytes.now) }
-{
-    bytes_of(bytes)
-}
-
-/// What stands behind the nil at the front.
-pub fn nil(bytes: &[u8]) -> Result<&[u8], PackFault>
-    ensures found { FindsRest (λ x. x.now) IsNil bytes.now result }
-    ensures only { ReadsRest (λ x. x.now) IsNil bytes.now result }
-    ensures exact { Gives (λ x. x.now) result (nil_at bytes.now) }
-{
-    nil_of(bytes)
-}
-
-/// The hash at the front.
-pub fn hash(bytes: &[u8]) -> Result<(HashBinary, &[u8]), PackFault>
-    ensures found { Finds (λ x. (x.0, x.1.now)) SpellsHash bytes.now result }
-    ensures only { ReadsEach (λ x. (x.0, x.1.now)) SpellsHash bytes.now result }
-    ensures exact { Gives (λ x. (x.0, x.1.now)) result (hash_at bytes.now) }
-{
-    hash_of(bytes)
-}
-
-/// The hash at the front, or `None` for nil.
-pub fn optional_hash(bytes: &[u8]) -> Result<(Option<HashBinary>, &[u8]), PackFault>
-    ensures found { Finds (λ x. (x.0, x.1.now)) SpellsOptionalHash bytes.now result }
-    ensures only { ReadsEach (λ x. (x.0, x.1.now)) SpellsOptionalHash bytes.now result }
-    ensures exact { Gives (λ x. (x.0, x.1.now)) result (optional_hash_at bytes.now) }
-{
-    optional_hash_of(bytes)
-}
-
-/// The moment at the front.
-pub fn moment(bytes: &[u8]) -> Result<(Moment, &[u8]), PackFault>
-    ensures found { Finds (λ x. (x.0, x.1.now)) SpellsMoment bytes.now result }
-    ensures only { ReadsEach (λ x. (x.0, x.1.now)) SpellsMoment bytes.now result }
-    ensures exact { Gives (λ x. (x.0, x.1.now)) result (moment_at bytes.now) }
-{
-    moment_of(bytes)
-}
-
-/// The kept key at the front, with its tag borrowed.
-pub fn key(bytes: &[u8]) -> Result<(BorrowedKey<'_>, &[u8]), PackFault>
-    ensures found { Finds (λ x. (borrowed_view x.0, x.1.now)) SpellsKey bytes.now result }
-    ensures only { ReadsEach (λ x. (borrowed_view x.0, x.1.now)) SpellsKey bytes.now result }
-    ensures exact { Gives (λ x. (borrowed_view x.0, x.1.now)) result (key_at bytes.now) }
-{
-    key_of(bytes)
 }

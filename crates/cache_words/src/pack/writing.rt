@@ -1,226 +1,258 @@
-//! Writers. Each adds the shortest form of a value behind the bytes that are there. An `Err` leaves these as they were.
-ghost use Rattle.std.specs.Prelude.{◌≡◌, ◌++◌, ◌<◌, ◌^◌, ◌≤ℤ◌, pos, length, take, OnOk, OnErr};
+//! Writers. Each adds the shortest form of a value to a sink. An `Err` leaves the sink as it was.
+ghost use Rattle.std.specs.Prelude.{◌≡◌, ◌+◌, ◌++◌, ◌<◌, ◌≤◌, ◌^◌, ◌≤ℤ◌, ◌↔◌, ℕ, pos, nat_abs, length, OnOk, OnErr, IsOk, IsErrOf};
 ghost use Rattle.cache_words.specs.Forms.{shortest, numbers, arrays, texts, byte_strings};
 ghost use Rattle.cache_words.specs.Pack.{nil, text_of, bytes_of, hash_of, optional_hash_of, moment_of, key_text_of};
 ghost use Rattle.cache_words.specs.CompactKey.{compact_view};
 
+use super::fault::PackWriteFault;
+use super::sink::Sink;
 use crate::key::{CompactCacheKey, HashBinary};
 use crate::time::Moment;
 use std::alloc::AllocError;
 
-/// Adds a number.
-pub fn put_number(out: &mut Vec<u8>, number: u64) -> Result<(), AllocError>
-    ensures ok { OnOk result (out.new.items ≡ out.old.items ++ shortest numbers number) }
-    ensures err { OnErr result (out.new.items ≡ out.old.items) }
+/// The most bytes of a number.
+pub const NUMBER_ROOM: usize = 9;
+
+/// The most bytes ahead of an array's items, a text's bytes or a byte string's bytes.
+pub const HEAD_ROOM: usize = 5;
+
+/// The most bytes of a hash.
+pub const HASH_ROOM: usize = 35;
+
+/// The most bytes of a moment.
+pub const MOMENT_ROOM: usize = 15;
+
+/// The most bytes of a kept key beside those of its tag.
+pub const KEY_ROOM: usize = 76;
+
+// The private writers find room for what they add.
+
+fn add_number<S: Sink>(out: &mut S, number: u64)
+    requires { S.has_room out.old (length (shortest numbers number)) }
+    ensures adds { S.adds out.old (shortest numbers number) out.new }
+    ensures room { (n : ℕ) → S.has_room out.old (length (shortest numbers number) + n) → S.has_room out.new n }
 {
     if number < 1 << 7 {
-        out.push(number as u8)?;
+        out.put(&[number as u8]);
     } else if number < 1 << 8 {
-        out.extend_from_slice(&[0xcc, number as u8])?;
+        out.put(&[0xcc, number as u8]);
     } else if number < 1 << 16 {
         let [a, b] = (number as u16).to_be_bytes();
-        out.extend_from_slice(&[0xcd, a, b])?;
+        out.put(&[0xcd, a, b]);
     } else if number < 1 << 32 {
         let [a, b, c, d] = (number as u32).to_be_bytes();
-        out.extend_from_slice(&[0xce, a, b, c, d])?;
+        out.put(&[0xce, a, b, c, d]);
     } else {
         let [a, b, c, d, e, f, g, h] = number.to_be_bytes();
-        out.extend_from_slice(&[0xcf, a, b, c, d, e, f, g, h])?;
+        out.put(&[0xcf, a, b, c, d, e, f, g, h]);
     }
+}
+
+fn add_array<S: Sink>(out: &mut S, count: u32)
+    requires { S.has_room out.old (length (shortest arrays count)) }
+    ensures adds { S.adds out.old (shortest arrays count) out.new }
+    ensures room { (n : ℕ) → S.has_room out.old (length (shortest arrays count) + n) → S.has_room out.new n }
+{
+    if count < 16 {
+        out.put(&[0x90 + count as u8]);
+    } else if count < 1 << 16 {
+        let [a, b] = (count as u16).to_be_bytes();
+        out.put(&[0xdc, a, b]);
+    } else {
+        let [a, b, c, d] = count.to_be_bytes();
+        out.put(&[0xdd, a, b, c, d]);
+    }
+}
+
+fn add_text_head<S: Sink>(out: &mut S, count: u32)
+    requires { S.has_room out.old (length (shortest texts count)) }
+    ensures adds { S.adds out.old (shortest texts count) out.new }
+    ensures room { (n : ℕ) → S.has_room out.old (length (shortest texts count) + n) → S.has_room out.new n }
+{
+    if count < 32 {
+        out.put(&[0xa0 + count as u8]);
+    } else if count < 1 << 8 {
+        out.put(&[0xd9, count as u8]);
+    } else if count < 1 << 16 {
+        let [a, b] = (count as u16).to_be_bytes();
+        out.put(&[0xda, a, b]);
+    } else {
+        let [a, b, c, d] = count.to_be_bytes();
+        out.put(&[0xdb, a, b, c, d]);
+    }
+}
+
+fn add_bytes_head<S: Sink>(out: &mut S, count: u32)
+    requires { S.has_room out.old (length (shortest byte_strings count)) }
+    ensures adds { S.adds out.old (shortest byte_strings count) out.new }
+    ensures room { (n : ℕ) → S.has_room out.old (length (shortest byte_strings count) + n) → S.has_room out.new n }
+{
+    if count < 1 << 8 {
+        out.put(&[0xc4, count as u8]);
+    } else if count < 1 << 16 {
+        let [a, b] = (count as u16).to_be_bytes();
+        out.put(&[0xc5, a, b]);
+    } else {
+        let [a, b, c, d] = count.to_be_bytes();
+        out.put(&[0xc6, a, b, c, d]);
+    }
+}
+
+fn add_text<S: Sink>(out: &mut S, text: &str)
+    requires short { length text.now < 2 ^ 32 }
+    requires room { S.has_room out.old (length (text_of text.now)) }
+    ensures adds { S.adds out.old (text_of text.now) out.new }
+    ensures room { (n : ℕ) → S.has_room out.old (length (text_of text.now) + n) → S.has_room out.new n }
+{
+    add_text_head(out, text.len() as u32);
+    out.put(text.as_bytes());
+}
+
+fn add_hash<S: Sink>(out: &mut S, hash: &HashBinary)
+    requires { S.has_room out.old HASH_ROOM }
+    ensures adds { S.adds out.old (hash_of hash.now) out.new }
+    ensures room { (n : ℕ) → S.has_room out.old (HASH_ROOM + n) → S.has_room out.new n }
+{
+    add_array(out, 16);
+    'each: for byte in hash {
+        add_number(out, *byte as u64);
+    }
+}
+
+fn add_optional_hash<S: Sink>(out: &mut S, hash: Option<HashBinary>)
+    requires { S.has_room out.old HASH_ROOM }
+    ensures adds { S.adds out.old (optional_hash_of hash) out.new }
+    ensures room { (n : ℕ) → S.has_room out.old (HASH_ROOM + n) → S.has_room out.new n }
+{
+    match hash {
+        Some(hash) => add_hash(out, &hash),
+        None => out.put(&[0xc0]),
+    }
+}
+
+/// Adds a number.
+pub fn put_number<S: Sink>(out: &mut S, number: u64) -> Result<(), AllocError>
+    ensures ok { OnOk result (S.adds out.old (shortest numbers number) out.new) }
+    ensures err { OnErr result (S.same out.old out.new) }
+    ensures succeeds { S.has_room out.old NUMBER_ROOM → IsOk result }
+{
+    out.reserve(NUMBER_ROOM)?;
+    add_number(out, number);
     Ok(())
 }
 
 /// Adds how many items an array has. The items are to follow.
-pub fn put_array(out: &mut Vec<u8>, count: u32) -> Result<(), AllocError>
-    ensures ok { OnOk result (out.new.items ≡ out.old.items ++ shortest arrays count) }
-    ensures err { OnErr result (out.new.items ≡ out.old.items) }
+pub fn put_array<S: Sink>(out: &mut S, count: u32) -> Result<(), AllocError>
+    ensures ok { OnOk result (S.adds out.old (shortest arrays count) out.new) }
+    ensures err { OnErr result (S.same out.old out.new) }
+    ensures succeeds { S.has_room out.old HEAD_ROOM → IsOk result }
 {
-    if count < 16 {
-        out.push(0x90 + count as u8)?;
-    } else if count < 1 << 16 {
-        let [a, b] = (count as u16).to_be_bytes();
-        out.extend_from_slice(&[0xdc, a, b])?;
-    } else {
-        let [a, b, c, d] = count.to_be_bytes();
-        out.extend_from_slice(&[0xdd, a, b, c, d])?;
-    }
-    Ok(())
-}
-
-fn put_text_head(out: &mut Vec<u8>, count: u32) -> Result<(), AllocError>
-    ensures ok { OnOk result (out.new.items ≡ out.old.items ++ shortest texts count) }
-    ensures err { OnErr result (out.new.items ≡ out.old.items) }
-{
-    if count < 32 {
-        out.push(0xa0 + count as u8)?;
-    } else if count < 1 << 8 {
-        out.extend_from_slice(&[0xd9, count as u8])?;
-    } else if count < 1 << 16 {
-        let [a, b] = (count as u16).to_be_bytes();
-        out.extend_from_slice(&[0xda, a, b])?;
-    } else {
-        let [a, b, c, d] = count.to_be_bytes();
-        out.extend_from_slice(&[0xdb, a, b, c, d])?;
-    }
-    Ok(())
-}
-
-fn put_bytes_head(out: &mut Vec<u8>, count: u32) -> Result<(), AllocError>
-    ensures ok { OnOk result (out.new.items ≡ out.old.items ++ shortest byte_strings count) }
-    ensures err { OnErr result (out.new.items ≡ out.old.items) }
-{
-    if count < 1 << 8 {
-        out.extend_from_slice(&[0xc4, count as u8])?;
-    } else if count < 1 << 16 {
-        let [a, b] = (count as u16).to_be_bytes();
-        out.extend_from_slice(&[0xc5, a, b])?;
-    } else {
-        let [a, b, c, d] = count.to_be_bytes();
-        out.extend_from_slice(&[0xc6, a, b, c, d])?;
-    }
+    out.reserve(HEAD_ROOM)?;
+    add_array(out, count);
     Ok(())
 }
 
 /// Adds nil.
-pub fn put_nil(out: &mut Vec<u8>) -> Result<(), AllocError>
-    ensures ok { OnOk result (out.new.items ≡ out.old.items ++ nil) }
-    ensures err { OnErr result (out.new.items ≡ out.old.items) }
+pub fn put_nil<S: Sink>(out: &mut S) -> Result<(), AllocError>
+    ensures ok { OnOk result (S.adds out.old nil out.new) }
+    ensures err { OnErr result (S.same out.old out.new) }
+    ensures succeeds { S.has_room out.old 1 → IsOk result }
 {
-    out.push(0xc0)?;
+    out.reserve(1)?;
+    out.put(&[0xc0]);
     Ok(())
 }
 
-// The parts of a value, one after the other. An `Err` may leave some of them behind the bytes that were there.
-fn text_parts(out: &mut Vec<u8>, text: &str) -> Result<(), AllocError>
-    requires { length text.now < 2 ^ 32 }
-    ensures ok { OnOk result (out.new.items ≡ out.old.items ++ text_of text.now) }
-    ensures err { OnErr result (take (length out.old.items) out.new.items ≡ out.old.items) }
+/// Adds a text. One of 2^32 bytes or more is `TooLong`, since no form counts its bytes.
+pub fn put_text<S: Sink>(out: &mut S, text: &str) -> Result<(), PackWriteFault>
+    ensures ok { OnOk result (S.adds out.old (text_of text.now) out.new) }
+    ensures err { OnErr result (S.same out.old out.new) }
+    ensures long { IsErrOf result PackWriteFault.TooLong ↔ (2 ^ 32 ≤ length text.now) }
+    ensures succeeds { length text.now < 2 ^ 32 → S.has_room out.old (HEAD_ROOM + length text.now) → IsOk result }
 {
-    put_text_head(out, text.len() as u32)?;
-    out.extend_from_slice(text.as_bytes())?;
+    if text.len() > u32::MAX as usize {
+        return Err(PackWriteFault::TooLong);
+    }
+    out.reserve(HEAD_ROOM + text.len())?;
+    add_text(out, text);
     Ok(())
 }
 
-/// Adds a text.
-pub fn put_text(out: &mut Vec<u8>, text: &str) -> Result<(), AllocError>
-    requires { length text.now < 2 ^ 32 }
-    ensures ok { OnOk result (out.new.items ≡ out.old.items ++ text_of text.now) }
-    ensures err { OnErr result (out.new.items ≡ out.old.items) }
+/// Adds a byte string. One of 2^32 bytes or more is `TooLong`, since no form counts its bytes.
+pub fn put_byte_string<S: Sink>(out: &mut S, bytes: &[u8]) -> Result<(), PackWriteFault>
+    ensures ok { OnOk result (S.adds out.old (bytes_of bytes.now) out.new) }
+    ensures err { OnErr result (S.same out.old out.new) }
+    ensures long { IsErrOf result PackWriteFault.TooLong ↔ (2 ^ 32 ≤ length bytes.now) }
+    ensures succeeds { length bytes.now < 2 ^ 32 → S.has_room out.old (HEAD_ROOM + length bytes.now) → IsOk result }
 {
-    let start = out.len();
-    let result = text_parts(out, text);
-    if result.is_err() {
-        out.truncate(start);
+    if bytes.len() > u32::MAX as usize {
+        return Err(PackWriteFault::TooLong);
     }
-    result
-}
-
-fn bytes_parts(out: &mut Vec<u8>, bytes: &[u8]) -> Result<(), AllocError>
-    requires { length bytes.now < 2 ^ 32 }
-    ensures ok { OnOk result (out.new.items ≡ out.old.items ++ bytes_of bytes.now) }
-    ensures err { OnErr result (take (length out.old.items) out.new.items ≡ out.old.items) }
-{
-    put_bytes_head(out, bytes.len() as u32)?;
-    out.extend_from_slice(bytes)?;
-    Ok(())
-}
-
-/// Adds a byte string.
-pub fn put_byte_string(out: &mut Vec<u8>, bytes: &[u8]) -> Result<(), AllocError>
-    requires { length bytes.now < 2 ^ 32 }
-    ensures ok { OnOk result (out.new.items ≡ out.old.items ++ bytes_of bytes.now) }
-    ensures err { OnErr result (out.new.items ≡ out.old.items) }
-{
-    let start = out.len();
-    let result = bytes_parts(out, bytes);
-    if result.is_err() {
-        out.truncate(start);
-    }
-    result
-}
-
-fn hash_parts(out: &mut Vec<u8>, hash: &HashBinary) -> Result<(), AllocError>
-    ensures ok { OnOk result (out.new.items ≡ out.old.items ++ hash_of hash.now) }
-    ensures err { OnErr result (take (length out.old.items) out.new.items ≡ out.old.items) }
-{
-    put_array(out, 16)?;
-    'each: for byte in hash {
-        put_number(out, *byte as u64)?;
-    }
+    out.reserve(HEAD_ROOM + bytes.len())?;
+    add_bytes_head(out, bytes.len() as u32);
+    out.put(bytes);
     Ok(())
 }
 
 /// Adds a hash.
-pub fn put_hash(out: &mut Vec<u8>, hash: &HashBinary) -> Result<(), AllocError>
-    ensures ok { OnOk result (out.new.items ≡ out.old.items ++ hash_of hash.now) }
-    ensures err { OnErr result (out.new.items ≡ out.old.items) }
+pub fn put_hash<S: Sink>(out: &mut S, hash: &HashBinary) -> Result<(), AllocError>
+    ensures ok { OnOk result (S.adds out.old (hash_of hash.now) out.new) }
+    ensures err { OnErr result (S.same out.old out.new) }
+    ensures succeeds { S.has_room out.old HASH_ROOM → IsOk result }
 {
-    let start = out.len();
-    let result = hash_parts(out, hash);
-    if result.is_err() {
-        out.truncate(start);
-    }
-    result
+    out.reserve(HASH_ROOM)?;
+    add_hash(out, hash);
+    Ok(())
 }
 
 /// Adds a hash, or nil for none.
-pub fn put_optional_hash(out: &mut Vec<u8>, hash: Option<HashBinary>) -> Result<(), AllocError>
-    ensures ok { OnOk result (out.new.items ≡ out.old.items ++ optional_hash_of hash) }
-    ensures err { OnErr result (out.new.items ≡ out.old.items) }
+pub fn put_optional_hash<S: Sink>(out: &mut S, hash: Option<HashBinary>) -> Result<(), AllocError>
+    ensures ok { OnOk result (S.adds out.old (optional_hash_of hash) out.new) }
+    ensures err { OnErr result (S.same out.old out.new) }
+    ensures succeeds { S.has_room out.old HASH_ROOM → IsOk result }
 {
-    match hash {
-        Some(hash) => put_hash(out, &hash),
-        None => put_nil(out),
-    }
+    out.reserve(HASH_ROOM)?;
+    add_optional_hash(out, hash);
+    Ok(())
 }
 
-fn moment_parts(out: &mut Vec<u8>, moment: Moment) -> Result<(), AllocError>
-    requires { pos 0 ≤ℤ moment.seconds }
-    ensures ok { OnOk result (out.new.items ≡ out.old.items ++ moment_of moment) }
-    ensures err { OnErr result (take (length out.old.items) out.new.items ≡ out.old.items) }
+// The seconds of a moment that isn't before 1970.
+fn seconds_of(moment: &Moment) -> u64
+    requires { pos 0 ≤ℤ moment.now.seconds }
+    ensures { result ≡ nat_abs moment.now.seconds }
 {
-    put_array(out, 2)?;
-    put_number(out, moment.seconds() as u64)?;
-    put_number(out, moment.nanoseconds() as u64)?;
-    Ok(())
+    moment.seconds() as u64
 }
 
 /// Adds a moment that isn't before 1970 (`is_before_epoch` tests it).
-pub fn put_moment(out: &mut Vec<u8>, moment: Moment) -> Result<(), AllocError>
+pub fn put_moment<S: Sink>(out: &mut S, moment: Moment) -> Result<(), AllocError>
     requires { pos 0 ≤ℤ moment.seconds }
-    ensures ok { OnOk result (out.new.items ≡ out.old.items ++ moment_of moment) }
-    ensures err { OnErr result (out.new.items ≡ out.old.items) }
+    ensures ok { OnOk result (S.adds out.old (moment_of moment) out.new) }
+    ensures err { OnErr result (S.same out.old out.new) }
+    ensures succeeds { S.has_room out.old MOMENT_ROOM → IsOk result }
 {
-    let start = out.len();
-    let result = moment_parts(out, moment);
-    if result.is_err() {
-        out.truncate(start);
-    }
-    result
-}
-
-fn key_parts(out: &mut Vec<u8>, key: &CompactCacheKey) -> Result<(), AllocError>
-    requires { length key.now.user_tag < 2 ^ 32 }
-    ensures ok { OnOk result (out.new.items ≡ out.old.items ++ key_text_of (compact_view key.now)) }
-    ensures err { OnErr result (take (length out.old.items) out.new.items ≡ out.old.items) }
-{
-    put_array(out, 3)?;
-    put_hash(out, &key.primary)?;
-    put_optional_hash(out, key.variance)?;
-    put_text(out, key.user_tag.as_str())?;
+    out.reserve(MOMENT_ROOM)?;
+    add_array(out, 2);
+    add_number(out, seconds_of(&moment));
+    add_number(out, moment.nanoseconds() as u64);
     Ok(())
 }
 
-/// Adds a kept key, whose tag has fewer than 2^32 bytes.
-pub fn put_key(out: &mut Vec<u8>, key: &CompactCacheKey) -> Result<(), AllocError>
-    requires { length key.now.user_tag < 2 ^ 32 }
-    ensures ok { OnOk result (out.new.items ≡ out.old.items ++ key_text_of (compact_view key.now)) }
-    ensures err { OnErr result (out.new.items ≡ out.old.items) }
+/// Adds a kept key. One whose tag has 2^32 bytes or more is `TooLong`, since no form counts its bytes.
+pub fn put_key<S: Sink>(out: &mut S, key: &CompactCacheKey) -> Result<(), PackWriteFault>
+    ensures ok { OnOk result (S.adds out.old (key_text_of (compact_view key.now)) out.new) }
+    ensures err { OnErr result (S.same out.old out.new) }
+    ensures long { IsErrOf result PackWriteFault.TooLong ↔ (2 ^ 32 ≤ length key.now.user_tag) }
+    ensures succeeds { length key.now.user_tag < 2 ^ 32 → S.has_room out.old (KEY_ROOM + length key.now.user_tag) → IsOk result }
 {
-    let start = out.len();
-    let result = key_parts(out, key);
-    if result.is_err() {
-        out.truncate(start);
+    let user_tag = key.user_tag.as_str();
+    if user_tag.len() > u32::MAX as usize {
+        return Err(PackWriteFault::TooLong);
     }
-    result
+    out.reserve(KEY_ROOM + user_tag.len())?;
+    add_array(out, 3);
+    add_hash(out, &key.primary);
+    add_optional_hash(out, key.variance);
+    add_text(out, user_tag);
+    Ok(())
 }

@@ -1,6 +1,6 @@
 use Rattle.std.proofs.Common.{◌≡◌, ◌-◌, length, take}
 use Rattle.cache_words.specs.Reading.{each_at}
-use Rattle.cache_words.proofs.EachLoop.{with_front}
+use Rattle.cache_words.proofs.ListLoop.{with_front}
 use Rattle.cache_words.proofs.pack.reading.sixteen.Given as goal
 
 abbrev pub invariant-each : goal.invariant-each

@@ -1,5 +1,0 @@
-use Rattle.cache_words.proofs.Compressing.{row_below}
-use Rattle.cache_words.proofs.compress.row.Goals as goal
-
-pub returns-clause-below : goal.returns-clause-below
-returns-clause-below c = row_below c.args.r

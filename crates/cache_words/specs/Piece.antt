@@ -1,8 +1,0 @@
--- Bytes, borrowed or owned.
-use Rattle.std.specs.Prelude.{ℕ, List}
-use Rattle.cache_words.specs.declared.piece.Part.{Part}
-use Rattle.cache_words.specs.declared.piece.Part.TheVariants.{Borrowed, Owned}
-
-abbrev pub part_bytes : Part → List ℕ
-part_bytes (Borrowed bytes) = bytes.now
-part_bytes (Owned bytes) = bytes.items

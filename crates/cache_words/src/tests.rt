@@ -1,8 +1,0 @@
-//! Tests against values from outside: an independent implementation of BLAKE2b, and the original cache's own keys.
-mod blake;
-mod key;
-mod pack;
-mod refused;
-mod text;
-mod time;
-mod variance;

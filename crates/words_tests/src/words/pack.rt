@@ -1,0 +1,412 @@
+//! Values as MessagePack: written in the shortest form, read in any.
+use cache_words::blake::Blake2b128;
+use cache_words::key::{CompactCacheKey, HashBinary, hash_key, str2hex};
+use cache_words::laws;
+use cache_words::pack::{Cursor, PackFault, PackWriteFault, Sink, writing};
+use cache_words::text::Text;
+use cache_words::time::Moment;
+use std::alloc::Global;
+use std::process::Abort;
+use std::test::*;
+
+// What a cursor is asked for.
+#[derive(Clone, Copy, Debug)]
+enum Ask {
+    Number,
+    Below(u64),
+    OptionalNumber,
+    Array,
+    ArrayOf(u64),
+    Byte,
+    Seconds,
+    Text,
+    Bytes,
+    Nil,
+    Hash,
+    OptionalHash,
+    Moment,
+    OptionalMoment,
+    HashThere(bool),
+    MomentThere(bool),
+}
+
+#[derive(Clone, Copy, PartialEq, Debug)]
+enum Value {
+    Unit,
+    Number(u64),
+    OptionalNumber(Option<u64>),
+    Text(&'static str),
+    Bytes(&'static [u8]),
+    Hash(HashBinary),
+    OptionalHash(Option<HashBinary>),
+    Moment(i64, u32),
+    OptionalMoment(Option<(i64, u32)>),
+}
+
+fn parts_of(moment: Moment) -> (i64, u32) {
+    (moment.seconds(), moment.nanoseconds())
+}
+
+fn read_number(cursor: &mut Cursor<'static>, ask: Ask) -> Option<Result<Value, PackFault>> {
+    match ask {
+        Ask::Number => Some(cursor.number().map(Value::Number)),
+        Ask::Below(limit) => Some(cursor.number_below(limit).map(Value::Number)),
+        Ask::OptionalNumber => Some(cursor.optional_number().map(Value::OptionalNumber)),
+        Ask::Array => Some(cursor.array().map(Value::Number)),
+        Ask::ArrayOf(count) => Some(cursor.array_of(count).map(|()| Value::Unit)),
+        Ask::Byte => Some(cursor.byte().map(|byte| Value::Number(byte as u64))),
+        Ask::Seconds => Some(
+            cursor
+                .seconds()
+                .map(|seconds| Value::Number(seconds as u64)),
+        ),
+        _ => None,
+    }
+}
+
+fn optional(moment: Result<Option<Moment>, PackFault>) -> Result<Value, PackFault> {
+    moment.map(|moment| Value::OptionalMoment(moment.map(parts_of)))
+}
+
+fn read_value(cursor: &mut Cursor<'static>, ask: Ask) -> Option<Result<Value, PackFault>> {
+    match ask {
+        Ask::Text => Some(cursor.text().map(Value::Text)),
+        Ask::Bytes => Some(cursor.byte_string().map(Value::Bytes)),
+        Ask::Nil => Some(cursor.nil().map(|()| Value::Unit)),
+        Ask::Hash => Some(cursor.hash().map(Value::Hash)),
+        Ask::OptionalHash => Some(cursor.optional_hash().map(Value::OptionalHash)),
+        Ask::HashThere(is_there) => Some(cursor.hash_there(is_there).map(Value::OptionalHash)),
+        Ask::Moment => Some(
+            cursor.moment().map(|moment| Value::Moment(moment.seconds(), moment.nanoseconds())),
+        ),
+        Ask::OptionalMoment => Some(optional(cursor.optional_moment())),
+        Ask::MomentThere(is_there) => Some(optional(cursor.moment_there(is_there))),
+        _ => read_number(cursor, ask),
+    }
+}
+
+const HASH: HashBinary = [0, 128, 1, 2, 3, 4, 5, 6, 7, 8, 9, 10, 11, 12, 13, 14];
+
+const HASH_TEXT: &[u8] =
+    b"\xdc\x00\x10\x00\xcc\x80\x01\x02\x03\x04\x05\x06\x07\x08\x09\x0a\x0b\x0c\x0d\x0e";
+
+// What is asked for, the bytes, and what is returned with how many bytes are left.
+type Row = (Ask, &'static [u8], Result<(Value, usize), PackFault>);
+
+const NUMBERS: [Row; 21] = [
+    (Ask::Number, b"\xcd\x00\x05", Ok((Value::Number(5), 0))),
+    (Ask::Number, b"", Err(PackFault::Short)),
+    (Ask::Number, b"\xcd\x00", Err(PackFault::Short)),
+    (Ask::Number, b"\xd0\x05", Err(PackFault::Kind)),
+    (Ask::Below(6), b"\x05", Ok((Value::Number(5), 0))),
+    (Ask::Below(5), b"\x05", Err(PackFault::Range)),
+    (
+        Ask::OptionalNumber,
+        b"\xc0\x07",
+        Ok((Value::OptionalNumber(None), 1)),
+    ),
+    (
+        Ask::OptionalNumber,
+        b"\xcc\x80",
+        Ok((Value::OptionalNumber(Some(128)), 0)),
+    ),
+    (Ask::OptionalNumber, b"", Err(PackFault::Short)),
+    (Ask::OptionalNumber, b"\xa0", Err(PackFault::Kind)),
+    (Ask::Array, b"", Err(PackFault::Short)),
+    (Ask::Array, b"\xc0", Err(PackFault::Kind)),
+    (
+        Ask::Array,
+        b"\xdd\xff\xff\xff\xff",
+        Ok((Value::Number(u32::MAX as u64), 0)),
+    ),
+    (Ask::Array, b"\xdc\x00\x03\x07", Ok((Value::Number(3), 1))),
+    (Ask::Array, b"\xdc\x00", Err(PackFault::Short)),
+    (
+        Ask::ArrayOf(3),
+        b"\xdd\xff\xff\xff\xff",
+        Err(PackFault::Length),
+    ),
+    (Ask::ArrayOf(3), b"\xdc\x00\x03", Ok((Value::Unit, 0))),
+    (Ask::Byte, b"\x7f", Ok((Value::Number(127), 0))),
+    (Ask::Byte, b"\xcc\x05", Err(PackFault::Kind)),
+    (
+        Ask::Seconds,
+        b"\xce\xff\xff\xff\xff",
+        Ok((Value::Number(u32::MAX as u64), 0)),
+    ),
+    (
+        Ask::Seconds,
+        b"\xcf\0\0\0\x01\0\0\0\0",
+        Err(PackFault::Range),
+    ),
+];
+
+const TEXTS: [Row; 13] = [
+    (Ask::Text, b"\xa1h\x07", Ok((Value::Text("h"), 1))),
+    (Ask::Text, b"\xd9\x01h", Ok((Value::Text("h"), 0))),
+    (Ask::Text, b"\xda\0\x01h", Ok((Value::Text("h"), 0))),
+    (Ask::Text, b"\xdb\0\0\0\x01h", Ok((Value::Text("h"), 0))),
+    (Ask::Text, b"\xa1\xff", Err(PackFault::Utf8)),
+    (Ask::Text, b"\xa2h", Err(PackFault::Short)),
+    (Ask::Text, b"\xc4\x01h", Err(PackFault::Kind)),
+    (
+        Ask::Bytes,
+        b"\xc4\x01\x05\x07",
+        Ok((Value::Bytes(b"\x05"), 1)),
+    ),
+    (
+        Ask::Bytes,
+        b"\xc5\0\x01\x05",
+        Ok((Value::Bytes(b"\x05"), 0)),
+    ),
+    (
+        Ask::Bytes,
+        b"\xc6\0\0\0\x01\x05",
+        Ok((Value::Bytes(b"\x05"), 0)),
+    ),
+    (Ask::Bytes, b"\xa1\x05", Err(PackFault::Kind)),
+    (Ask::Nil, b"\xc0", Ok((Value::Unit, 0))),
+    (Ask::Nil, b"\x00", Err(PackFault::Kind)),
+];
+
+const HASHES: [Row; 10] = [
+    (Ask::Hash, HASH_TEXT, Ok((Value::Hash(HASH), 0))),
+    (Ask::Hash, b"\x9f", Err(PackFault::Length)),
+    (
+        Ask::Hash,
+        b"\xdc\x00\x10\xcd\x01\x00",
+        Err(PackFault::Range),
+    ),
+    (Ask::Hash, b"\xc0", Err(PackFault::Kind)),
+    (
+        Ask::OptionalHash,
+        b"\xc0",
+        Ok((Value::OptionalHash(None), 0)),
+    ),
+    (
+        Ask::OptionalHash,
+        HASH_TEXT,
+        Ok((Value::OptionalHash(Some(HASH)), 0)),
+    ),
+    (
+        Ask::HashThere(true),
+        b"\xc0",
+        Ok((Value::OptionalHash(None), 0)),
+    ),
+    (
+        Ask::HashThere(true),
+        HASH_TEXT,
+        Ok((Value::OptionalHash(Some(HASH)), 0)),
+    ),
+    (Ask::HashThere(true), b"", Err(PackFault::Short)),
+    (
+        Ask::HashThere(false),
+        b"\xc0",
+        Ok((Value::OptionalHash(None), 1)),
+    ),
+];
+
+const MOMENTS: [Row; 9] = [
+    (
+        Ask::Moment,
+        b"\x92\xcd\x03\xe8\x00",
+        Ok((Value::Moment(1000, 0), 0)),
+    ),
+    (
+        Ask::Moment,
+        b"\x92\x05\xce\x3b\x9a\xca\x00",
+        Ok((Value::Moment(6, 0), 0)),
+    ),
+    (
+        Ask::Moment,
+        b"\x92\x05\xcf\0\0\0\x01\0\0\0\0",
+        Err(PackFault::Range),
+    ),
+    (
+        Ask::Moment,
+        b"\x92\xcf\x7f\xff\xff\xff\xff\xff\xff\xff\x01",
+        Ok((Value::Moment(i64::MAX, 1), 0)),
+    ),
+    (
+        Ask::Moment,
+        b"\x92\xcf\x80\0\0\0\0\0\0\0\x00",
+        Err(PackFault::Range),
+    ),
+    (
+        Ask::OptionalMoment,
+        b"\xc0",
+        Ok((Value::OptionalMoment(None), 0)),
+    ),
+    (
+        Ask::OptionalMoment,
+        b"\x92\x05\x06",
+        Ok((Value::OptionalMoment(Some((5, 6))), 0)),
+    ),
+    (Ask::MomentThere(true), b"\x92\x05", Err(PackFault::Short)),
+    (
+        Ask::MomentThere(false),
+        b"",
+        Ok((Value::OptionalMoment(None), 0)),
+    ),
+];
+
+// After a fault the cursor is where it was.
+fn check(rt: &impl Abort, rows: &[Row]) {
+    for (ask, bytes, want) in rows {
+        let mut cursor = Cursor { rest: bytes };
+        let found = read_value(&mut cursor, *ask);
+        let left = cursor.rest.len();
+        assert_eq!(rt; found, Some(want.map(|x| x.0)), "{ask:?} {bytes:?}");
+        assert_eq!(rt;
+            left,
+            want.map_or(bytes.len(), |x| x.1),
+            "{ask:?} {bytes:?}"
+        );
+    }
+}
+
+#[test]
+fn values_are_read(rt: HostRuntime) {
+    check(&rt, &NUMBERS);
+    check(&rt, &TEXTS);
+    check(&rt, &HASHES);
+    check(&rt, &MOMENTS);
+}
+
+// What is written, and its text.
+#[derive(Clone, Copy)]
+enum Put {
+    Number(u64),
+    Array(u32),
+    Text(&'static str),
+    Bytes(&'static [u8]),
+    Nil,
+    Hash(HashBinary),
+    OptionalHash(Option<HashBinary>),
+    Moment(i64),
+}
+
+const WRITTEN: [(Put, &[u8]); 14] = [
+    (Put::Number(127), b"\x7f"),
+    (Put::Number(128), b"\xcc\x80"),
+    (Put::Number(256), b"\xcd\x01\x00"),
+    (Put::Number(65536), b"\xce\x00\x01\x00\x00"),
+    (Put::Number(1 << 32), b"\xcf\0\0\0\x01\0\0\0\0"),
+    (Put::Array(15), b"\x9f"),
+    (Put::Array(16), b"\xdc\x00\x10"),
+    (Put::Array(65536), b"\xdd\x00\x01\x00\x00"),
+    (Put::Text("hi"), b"\xa2hi"),
+    (Put::Bytes(b"hi"), b"\xc4\x02hi"),
+    (Put::Nil, b"\xc0"),
+    (Put::Hash(HASH), HASH_TEXT),
+    (Put::OptionalHash(None), b"\xc0"),
+    (Put::Moment(1000), b"\x92\xcd\x03\xe8\x00"),
+];
+
+fn write_value<S: Sink>(out: &mut S, value: Put) -> Result<(), PackWriteFault> {
+    match value {
+        Put::Number(number) => writing::put_number(out, number)?,
+        Put::Array(count) => writing::put_array(out, count)?,
+        Put::Text(text) => writing::put_text(out, text)?,
+        Put::Bytes(bytes) => writing::put_byte_string(out, bytes)?,
+        Put::Nil => writing::put_nil(out)?,
+        Put::Hash(hash) => writing::put_hash(out, &hash)?,
+        Put::OptionalHash(hash) => writing::put_optional_hash(out, hash)?,
+        Put::Moment(seconds) => {
+            let moment = Moment::from_seconds(seconds);
+            if !moment.is_before_epoch() {
+                writing::put_moment(out, moment)?;
+            }
+        }
+    }
+    Ok(())
+}
+
+// The text, and its digest without a copy of the text.
+fn text_and_digest(alloc: Global, value: Put) -> Result<(Vec<u8>, HashBinary), PackWriteFault> {
+    let mut out = Vec::new(alloc);
+    write_value(&mut out, value)?;
+    let mut hasher = Blake2b128::new();
+    write_value(&mut hasher, value)?;
+    Ok((out, hasher.finalize()))
+}
+
+#[test]
+fn values_are_written_and_hashed(rt: HostRuntime) {
+    laws::written_is_spelled();
+    laws::one_spelling();
+    laws::shortest_is_shortest();
+    for (value, text) in WRITTEN {
+        let found = text_and_digest(rt.alloc(), value);
+        let is_right = found.is_ok_and(|x| x.0.as_slice() == text && x.1 == hash_key(text));
+        assert!(rt; is_right, "{text:?}");
+    }
+}
+
+// Kept keys and their texts, made by the original cache's own code: primary hash, variance, tag, text in hex.
+const KEYS: [(&str, Option<&str>, &str, &str); 2] = [
+    (
+        "3bf0bdcb7f2d9a170292a964cab8214e",
+        None,
+        " aa",
+        "93dc00103bccf0ccbdcccb7f2dcc9a1702cc92cca964cccaccb8214ec0a3206161",
+    ),
+    (
+        "a7874f48e08accdf7c714d77c2b4a1d6",
+        Some("0871623dff61d145cadd69a6cd60428b"),
+        "-bYb9",
+        "93dc0010cca7cc874f48cce0cc8accccccdf7c714d77ccc2ccb4cca1ccd6dc00100871623dccff61ccd145cccaccdd69cca6cccd6042cc8ba52d62596239",
+    ),
+];
+
+fn kept_key(
+    alloc: Global,
+    primary: &str,
+    variance: Option<&str>,
+    tag: &str,
+) -> Result<CompactCacheKey, Fail> {
+    Ok(CompactCacheKey {
+        primary: str2hex(primary).ok_or("32 hex digits")?,
+        variance: variance.and_then(str2hex),
+        user_tag: Text::from_string(String::from_str(alloc, tag)?),
+    })
+}
+
+#[test]
+fn keys_are_written_and_read(rt: HostRuntime) -> Result<(), Fail> {
+    for (primary, variance, tag, text) in KEYS {
+        let key = kept_key(rt.alloc(), primary, variance, tag)?;
+        let bytes = hex::decode(rt.alloc(), text)?;
+        let mut out = Vec::new(rt.alloc());
+        writing::put_key(&mut out, &key).ok().ok_or("memory")?;
+        assert_eq!(rt; out.as_slice(), bytes.as_slice());
+        let mut hasher = Blake2b128::new();
+        assert!(rt; writing::put_key(&mut hasher, &key).is_ok());
+        assert_eq!(rt; hasher.finalize(), hash_key(bytes.as_slice()));
+        let read = Cursor { rest: &bytes }.key().ok().ok_or("a key")?;
+        assert!(rt; read.to_compact(rt.alloc())? == key);
+    }
+    Ok(())
+}
+
+const FAULTS: [(PackFault, &str); 5] = [
+    (PackFault::Short, "the input ends within a value"),
+    (PackFault::Kind, "a value of another kind"),
+    (PackFault::Range, "a number out of range"),
+    (PackFault::Utf8, "a text that is not UTF-8"),
+    (PackFault::Length, "an array of another length"),
+];
+
+#[test]
+fn faults_are_shown(rt: HostRuntime) -> Result<(), Fail> {
+    for (fault, text) in FAULTS {
+        assert_eq!(rt; format!(in rt.alloc(); "{fault}")?.as_str(), text);
+    }
+    let fault = PackWriteFault::TooLong;
+    let shown = format!(in rt.alloc(); "{fault}")?;
+    assert_eq!(rt;
+        shown.as_str(),
+        "a text or byte string of 2^32 bytes or more"
+    );
+    Ok(())
+}
