@@ -1,7 +1,7 @@
 -- Heads: what is read is spelled, and each spelling is read.
 use Rattle.std.proofs.Common.{◌≡◌, ℕ, zero, suc, ◌<◌, ◌≤◌, Bool, true, false, List, [], ◌∷◌, ◌++◌, length, map, All, Result, Ok, Err, refl, sym, ap, subst, ◌∙◌, arith, inl, inr, nat_lt, lit≤}
 use Rattle.std.specs.Prelude.{nat_le, ◌&&◌, IfOk}
-use Rattle.std.proofs.lemmas.Bool.{cases_Bool, le-ltb}
+use Rattle.std.proofs.lemmas.Bool.{le-ltb}
 use Rattle.std.proofs.lemmas.Bool.Decides.{nat_tests}
 use Rattle.std.proofs.lemmas.List.{append-nil}
 use Rattle.std.proofs.lemmas.List.Elements.{All-cons, All-nil}
@@ -15,44 +15,34 @@ use Rattle.cache_words.specs.declared.pack.fault.PackFault.TheVariants.{Kind, Ra
 use Rattle.cache_words.specs.Forms.{Stands, numbers, arrays}
 use Rattle.cache_words.specs.Pack.{SpellsText, SpellsBytes}
 use Rattle.cache_words.specs.Reading.{number_at, array_of_at, text_at, bytes_at}
-use Rattle.cache_words.proofs.ReadingLaws.{IsBytes, Agrees, bind_ok, ok_is, one_spelling}
+use Rattle.cache_words.proofs.ReadingLaws.{IsBytes, Agrees, bind_ok, ok_is, test_ok, one_spelling}
 use Rattle.cache_words.proofs.FormLaws.{number_agrees, are_numbers, are_arrays}
 use Rattle.cache_words.proofs.ValueLaws.{array_skips, text_agrees, bytes_agrees}
+use Rattle.cache_words.specs.Items.{SpellList}
 use Rattle.cache_headers.specs.declared.header.ResponseHeader.{ResponseHeader}
 use Rattle.cache_headers.specs.Lines.{Line, pair_of, IsLine}
-use Rattle.cache_metas.specs.Head.{SpellsLine, SpellLines, SpellsHead, BeginsWithHead, most_names}
+use Rattle.cache_metas.specs.Head.{SpellsLine, SpellsHead, BeginsWithHead, most_names}
 use Rattle.cache_metas.specs.declared.fault.MetaReadFault.{MetaReadFault}
+use Rattle.cache_metas.specs.declared.fault.MetaReadFault.TheVariants.{Memory, Pack}
 use Rattle.cache_metas.specs.InternalReading.{value_of}
-use Rattle.cache_metas.specs.HeadReading.{Gives, is_name, is_value, field_name_of, field_value_of, line_at, with_line, lines_at, status_at, head_at}
-use Rattle.cache_metas.proofs.HeadLines.{name_named, name_test, value_valued, value_test, grows, line_fits, line_counts}
-use Rattle.cache_metas.proofs.ItemLaws.{agrees_with, SpellThen, then_agrees, seen_agrees, SpellAs, SpellEither, either_agrees, Never, refused_agrees, SpellBehind, behind_agrees, SpellBy, by_agrees, SpellNothing, nothing_agrees}
+use Rattle.cache_metas.specs.HeadReading.{Gives, StepsTo, is_name, is_value, field_name_of, field_value_of, line_at, with_line, lines_at, status_at, head_at}
+use Rattle.cache_metas.proofs.HeadLines.{name_named, name_test, value_valued, value_test, grows, line_added}
+use Rattle.cache_words.proofs.ItemLaws.{agrees_with, SpellThen, then_agrees, seen_agrees, SpellAs, SpellEither, either_agrees, Never, refused_agrees, SpellAfter, after_agrees, SpellBy, by_agrees, SpellNothing, nothing_agrees}
 
 -- ---- a line
 
 name_of-ok : (bytes name : List ℕ) → field_name_of bytes ≡ Ok name → IsFieldName bytes × (name ≡ lowercase bytes)
 name_of-ok bytes name e =
-    elim (cases_Bool (is_name bytes)) [
-      | inl t ↦
-          let made : field_name_of bytes ≡ Ok (lowercase bytes) = rw t refl in
-          (name_named bytes t, cc)
-      | inr f ↦
-          let none : field_name_of bytes ≡ Err Kind = rw f refl in
-          absurd cc
-    ]
+    let t = test_ok (is_name bytes) Kind (lowercase bytes) name e in
+    (name_named bytes t.0, sym t.1)
 
 name_of-is : (bytes : List ℕ) → IsFieldName bytes → field_name_of bytes ≡ Ok (lowercase bytes)
 name_of-is bytes h = rw (name_test bytes h) refl
 
 value_of-ok : (bytes : List ℕ) (value : FieldValue) → field_value_of bytes ≡ Ok value → IsFieldValue bytes × (value ≡ plain_value bytes)
 value_of-ok bytes value e =
-    elim (cases_Bool (is_value bytes)) [
-      | inl t ↦
-          let made : field_value_of bytes ≡ Ok (plain_value bytes) = rw t refl in
-          (value_valued bytes t, cc)
-      | inr f ↦
-          let none : field_value_of bytes ≡ Err Kind = rw f refl in
-          absurd cc
-    ]
+    let t = test_ok (is_value bytes) Kind (plain_value bytes) value e in
+    (value_valued bytes t.0, sym t.1)
 
 value_of-is : (bytes : List ℕ) → IsFieldValue bytes → field_value_of bytes ≡ Ok (plain_value bytes)
 value_of-is bytes h = rw (value_test bytes h) refl
@@ -63,13 +53,13 @@ SpellsPair v text = (line : Line) × (v ≡ pair_of line) × IsLine line × Spel
 
 abbrev LineSteps : List ℕ × FieldValue → List ℕ → Type 0
 LineSteps =
-    SpellBehind (Stands arrays 2) (SpellThen SpellsText (λ t. SpellBy (field_name_of t) (λ name.
+    SpellAfter (Stands arrays 2) (SpellThen SpellsText (λ t. SpellBy (field_name_of t) (λ name.
     SpellThen SpellsBytes (λ s. SpellBy (field_value_of s) (λ value. SpellNothing (name, value))))))
 
 line_steps : Agrees line_at LineSteps
 unfolding line_at
 line_steps =
-    behind_agrees (array_of_at 2) (Stands arrays 2) _ _ (array_skips 2) (
+    after_agrees (array_of_at 2) (Stands arrays 2) _ _ (array_skips 2) (
     then_agrees text_at SpellsText _ _ text_agrees (λ t.
     by_agrees (field_name_of t) _ _ (λ name e.
     then_agrees bytes_at SpellsBytes _ _ bytes_agrees (λ s.
@@ -145,7 +135,7 @@ pub record SpellsMore (n : ℕ) (m next : Entries FieldValue) (text : List ℕ) 
   pub are_lines : All IsLine lines
   pub room : length next ≤ most_names
   pub made : next ≡ append_all m (map pair_of lines)
-  pub spelled : SpellLines lines text
+  pub spelled : SpellList SpellsLine lines text
 
 abbrev MoreSteps : ℕ → Entries FieldValue → Entries FieldValue → List ℕ → Type 0
 MoreSteps n m = SpellThen SpellsPair (λ line. SpellBy (with_line m line) (λ more. SpellsMore n more))
@@ -155,7 +145,7 @@ more_to n m next text s =
     let line = s.3 in
     let by = s.4 in
     let rest = by.2 in
-    let added : by.0 ≡ append m (lowercase line.0.0) (plain_value line.0.1) = line_counts m s.0 by.0 by.1 ∙ ap (λ (p : List ℕ × FieldValue). append m p.0 p.1) line.1 in
+    let added : by.0 ≡ append m (lowercase line.0.0) (plain_value line.0.1) = (line_added m s.0 by.0 by.1).1 ∙ ap (λ (p : List ℕ × FieldValue). append m p.0 p.1) line.1 in
     record {
       lines = line.0 ∷ rest.lines;
       count = ap suc rest.count;
@@ -166,7 +156,7 @@ more_to n m next text s =
     }
 
 more_from_by : (n : ℕ) (m next : Entries FieldValue) (text : List ℕ) (lines : List Line) → length lines ≡ suc n → All IsLine lines → length next ≤ most_names
-    → next ≡ append_all m (map pair_of lines) → SpellLines lines text → MoreSteps n m next text
+    → next ≡ append_all m (map pair_of lines) → SpellList SpellsLine lines text → MoreSteps n m next text
 more_from_by n m next text [] count are room made spelled = absurd (omega arith)
 more_from_by n m next text (line ∷ lines) count are room made spelled =
     let more : Entries FieldValue = append m (lowercase line.0) (plain_value line.1) in
@@ -193,7 +183,7 @@ more_from_by n m next text (line ∷ lines) count are room made spelled =
 more_from : (n : ℕ) (m next : Entries FieldValue) (text : List ℕ) → SpellsMore (suc n) m next text → MoreSteps n m next text
 more_from n m next text s = more_from_by n m next text s.lines s.count s.are_lines s.room s.made s.spelled
 
-none_from_by : (m next : Entries FieldValue) (text : List ℕ) (lines : List Line) → length lines ≡ 0 → next ≡ append_all m (map pair_of lines) → SpellLines lines text
+none_from_by : (m next : Entries FieldValue) (text : List ℕ) (lines : List Line) → length lines ≡ 0 → next ≡ append_all m (map pair_of lines) → SpellList SpellsLine lines text
     → SpellNothing m next text
 none_from_by m next text [] count made spelled = (made, spelled)
 none_from_by m next text (line ∷ lines) count made spelled = absurd (omega arith)
@@ -207,7 +197,7 @@ lines_agrees zero m few =
 lines_agrees (suc n) m few =
     agrees_with (lines_at (suc n) m) (MoreSteps n m) (SpellsMore (suc n) m)
     (then_agrees line_at SpellsPair _ _ line_agrees (λ line.
-    by_agrees (with_line m line) _ _ (λ more e. lines_agrees n more (line_fits m line more e))))
+    by_agrees (with_line m line) _ _ (λ more e. lines_agrees n more (line_added m line more e).0)))
     (more_to n m) (more_from n m)
 
 -- ---- a head
@@ -256,12 +246,12 @@ head_made status headers = record { status = status; headers = headers }
 
 abbrev HeadSteps : ResponseHeader → List ℕ → Type 0
 HeadSteps =
-    SpellBehind (Stands arrays 2) (SpellThen SpellsStatus (λ status. SpellThen (Stands arrays) (λ n. SpellAs (head_made status) (SpellsMore n []))))
+    SpellAfter (Stands arrays 2) (SpellThen SpellsStatus (λ status. SpellThen (Stands arrays) (λ n. SpellAs (head_made status) (SpellsMore n []))))
 
 head_steps : Agrees head_at HeadSteps
 unfolding head_at
 head_steps =
-    behind_agrees (array_of_at 2) (Stands arrays 2) _ _ (array_skips 2) (
+    after_agrees (array_of_at 2) (Stands arrays 2) _ _ (array_skips 2) (
     then_agrees status_at SpellsStatus _ _ status_agrees (λ status.
     then_agrees (number_at arrays) (Stands arrays) _ _ (number_agrees arrays are_arrays) (λ n.
     seen_agrees (head_made status) (lines_at n []) (SpellsMore n []) (lines_agrees n [] (lit≤ tt)))))
@@ -322,6 +312,12 @@ pub one_head : (v w : ResponseHeader) (a b x y : List ℕ) → SpellsHead v a �
 one_head = one_spelling head_at SpellsHead head_agrees
 
 -- ---- a whole input
+
+pub given : {X : Type 0} (read : List ℕ → Result (X × List ℕ) PackFault) (old new : List ℕ) (r : Result X MetaReadFault)
+    → StepsTo read old new r → Gives r (value_of (read old))
+given read old new (Ok x) steps = rw steps refl
+given read old new (Err Memory) steps = tt
+given read old new (Err (Pack f)) steps = rw steps refl
 
 pub head_found : (bytes : List ℕ) (r : Result ResponseHeader MetaReadFault) → IsBytes bytes → Gives r (value_of (head_at bytes)) → IfOk r (BeginsWithHead bytes)
 head_found bytes (Err f) fits e = tt

@@ -1,5 +1,5 @@
 -- Names, values and maps, as their tests and calls have them.
-use Rattle.std.proofs.Common.{◌≡◌, ℕ, ◌+◌, ◌^◌, ◌<◌, ◌≤◌, ◌⊎◌, Bool, true, false, List, [], ◌∷◌, ◌++◌, length, Option, Some, None, MatchOption, IsTrue, Ok, Err, refl, ap, ◌∙◌, arith, inl, inr, nat_lt, length-append}
+use Rattle.std.proofs.Common.{◌≡◌, ℕ, ◌+◌, ◌^◌, ◌<◌, ◌≤◌, ◌⊎◌, Bool, true, false, List, [], ◌∷◌, ◌++◌, length, Option, Some, None, MatchOption, IsTrue, Ok, Err, refl, sym, ap, ◌∙◌, arith, inl, inr, nat_lt, length-append}
 use Rattle.std.specs.Prelude.{bytes_eq}
 use Rattle.std.specs.List.{list_all}
 use Rattle.std.proofs.Math.ListN.{length-set}
@@ -14,6 +14,7 @@ use Rattle.http_header.specs.Token.{AllPass, token_test, is_token_byte, is_value
 use Rattle.http_header.proofs.PlacesLemmas.{index_of_cases}
 use Rattle.http_header.proofs.TokenLemmas.{IsFieldName-from_test, AllPass-from_test}
 use Rattle.cache_words.specs.declared.pack.fault.PackFault.TheVariants.{Length}
+use Rattle.cache_words.proofs.ReadingLaws.{guard_ok}
 use Rattle.cache_metas.specs.Head.{most_names}
 use Rattle.cache_metas.specs.HeadReading.{is_name, is_value, with_line}
 
@@ -101,7 +102,7 @@ refuses_line m name value room refused =
     elim refused [
       | inl full ↦ absurd (omega (arith, full))
       | inr new ↦
-          let many : 24576 ≤ length m = elim new.1 [ inl names ↦ names | inr full ↦ absurd (omega (arith, full)) ] in
+          let many : most_names ≤ length m = elim new.1 [ inl names ↦ names | inr full ↦ absurd (omega (arith, full)) ] in
           elim (grows m name value) [
             | inl h ↦ absurd (new.0 h.0)
             | inr h ↦
@@ -110,28 +111,10 @@ refuses_line m name value room refused =
           ]
     ]
 
--- a map with one more line has room for it
-pub line_fits : (m : Entries FieldValue) (line : List ℕ × FieldValue) (next : Entries FieldValue) → with_line m line ≡ Ok next → length next ≤ most_names
+-- a map that a line was added to has room for it
+pub line_added : (m : Entries FieldValue) (line : List ℕ × FieldValue) (next : Entries FieldValue) → with_line m line ≡ Ok next
+    → (length next ≤ most_names) × (next ≡ append m line.0 line.1)
 unfolding with_line
-line_fits m line next e =
-    elim (cases_Bool (nat_lt most_names (length (append m line.0 line.1)))) [
-      | inl t ↦
-          let no : with_line m line ≡ Err Length = rw t refl in
-          absurd cc
-      | inr f ↦
-          let made : with_line m line ≡ Ok (append m line.0 line.1) = rw f refl in
-          let same : append m line.0 line.1 ≡ next = cc in
-          rw (← same) (ltb-false _ _ f)
-    ]
-
-pub line_counts : (m : Entries FieldValue) (line : List ℕ × FieldValue) (next : Entries FieldValue) → with_line m line ≡ Ok next → next ≡ append m line.0 line.1
-unfolding with_line
-line_counts m line next e =
-    elim (cases_Bool (nat_lt most_names (length (append m line.0 line.1)))) [
-      | inl t ↦
-          let no : with_line m line ≡ Err Length = rw t refl in
-          absurd cc
-      | inr f ↦
-          let made : with_line m line ≡ Ok (append m line.0 line.1) = rw f refl in
-          cc
-    ]
+line_added m line next e =
+    let g = guard_ok (nat_lt most_names (length (append m line.0 line.1))) Length (append m line.0 line.1) next e in
+    (rw (← g.1) (ltb-false _ _ g.0), sym g.1)

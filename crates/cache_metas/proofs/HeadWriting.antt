@@ -10,16 +10,17 @@ use Rattle.http_header.proofs.TokenLemmas.{IsUtf8-from_token}
 use Rattle.cache_words.specs.Forms.{shortest, numbers, arrays}
 use Rattle.cache_words.specs.Pack.{text_of, bytes_of}
 use Rattle.cache_words.proofs.WritingLaws.{number_spelled, array_spelled, text_spelled, bytes_spelled}
+use Rattle.cache_words.specs.Items.{SpellList}
 use Rattle.cache_headers.specs.declared.header.ResponseHeader.{ResponseHeader}
 use Rattle.cache_headers.specs.Lines.{Line, pair_of, map_of, IsLine}
-use Rattle.cache_metas.specs.Head.{SpellsLine, SpellLines, SpellsHead, line_of, lines_of, written_head, IsCountable, IsHead, plain_values, plain_head}
+use Rattle.cache_metas.specs.Head.{SpellsLine, SpellsHead, line_of, lines_of, written_head, IsCountable, IsHead, plain_values, plain_head}
 use Rattle.cache_metas.specs.HeadReading.{head_at}
 use Rattle.cache_metas.proofs.HeadLaws.{head_agrees}
 use Rattle.cache_metas.proofs.MapLines.{append_all-apart}
 
--- the line that a value under its name is
-abbrev bare : List ℕ × FieldValue → Line
-bare p = (p.0, p.1.bytes)
+-- the line that a value and its name are
+abbrev line_in : List ℕ × FieldValue → Line
+line_in p = (p.0, p.1.bytes)
 
 -- ---- the map
 
@@ -41,7 +42,7 @@ pairs-plain (e ∷ m) =
     ∙ ap (λ (ps : List (List ℕ × FieldValue)). entry_pairs (plain_entry e) ++ ps) (pairs-plain m)
 
 -- names that are in lower case stay
-lowered : (ps : List (List ℕ × FieldValue)) → All (λ p. IsHeaderName p.0) ps → map pair_of (map bare ps) ≡ map plain_pair ps
+lowered : (ps : List (List ℕ × FieldValue)) → All (λ p. IsHeaderName p.0) ps → map pair_of (map line_in ps) ≡ map plain_pair ps
 lowered [] names = refl
 lowered (p ∷ ps) names =
     let low : lowercase p.0 ≡ p.0 = (names 0 p (omega arith)).1 in
@@ -64,14 +65,14 @@ plain-filled m filled k d lt =
     let some : 0 < length (get_or m k ([], [])).1 = filled k ([], []) low in
     rw (at_k, length-map) some
 
-pub map_of-bare : (m : Entries FieldValue) → IsHeaderMap m → All (λ p. IsHeaderName p.0) (pairs m) → map_of (map bare (pairs m)) ≡ plain_values m
-map_of-bare m is names =
+pub map_of-lines : (m : Entries FieldValue) → IsHeaderMap m → All (λ p. IsHeaderName p.0) (pairs m) → map_of (map line_in (pairs m)) ≡ plain_values m
+map_of-lines m is names =
     ap (append_all []) (lowered (pairs m) names ∙ pairs-plain m)
     ∙ append_all-apart (plain_values m) (plain-unique m is.unique) (plain-filled m is.filled)
 
 -- ---- the text
 
-line_spelled : (p : List ℕ × FieldValue) → IsHeaderName p.0 → length p.1.bytes < 2 ^ 32 → SpellsLine (bare p) (line_of p)
+line_spelled : (p : List ℕ × FieldValue) → IsHeaderName p.0 → length p.1.bytes < 2 ^ 32 → SpellsLine (line_in p) (line_of p)
 line_spelled p name few =
     let short : length p.0 ≤ 65535 = name.0.1 in
     let fits : length p.0 < 2 ^ 32 = omega arith in (
@@ -83,7 +84,7 @@ line_spelled p name few =
     )
 
 lines_spelled : (ps : List (List ℕ × FieldValue)) → All (λ p. IsHeaderName p.0) ps → All (λ p. length p.1.bytes < 2 ^ 32) ps
-    → SpellLines (map bare ps) (flat_map line_of ps)
+    → SpellList SpellsLine (map line_in ps) (flat_map line_of ps)
 lines_spelled [] names few = refl
 lines_spelled (p ∷ ps) names few = (
   line_of p,
@@ -93,23 +94,23 @@ lines_spelled (p ∷ ps) names few = (
   refl,
 )
 
-are_lines : (ps : List (List ℕ × FieldValue)) → All (λ p. IsHeaderName p.0) ps → All (λ p. IsFieldValue p.1.bytes) ps → All IsLine (map bare ps)
+are_lines : (ps : List (List ℕ × FieldValue)) → All (λ p. IsHeaderName p.0) ps → All (λ p. IsFieldValue p.1.bytes) ps → All IsLine (map line_in ps)
 are_lines ps names values k d lt =
-    let inside : length (map bare ps) ≡ length ps = length-map ps bare in
+    let inside : length (map line_in ps) ≡ length ps = length-map ps line_in in
     let low : k < length ps = omega arith in
     let none : List ℕ × FieldValue = ([], plain_value []) in
-    let at_k : get_or (map bare ps) k d ≡ bare (get_or ps k none) = get_or-map bare ps k none d low in
+    let at_k : get_or (map line_in ps) k d ≡ line_in (get_or ps k none) = get_or-map line_in ps k none d low in
     rw at_k ((names k none low).0, values k none low)
 
 pub written_spelled : (h : ResponseHeader) → IsHead h → IsCountable h.headers → SpellsHead (plain_head h) (written_head h)
 unfolding written_head
 written_spelled h is fits =
     let ps = pairs h.headers in
-    let same : map_of (map bare ps) ≡ plain_values h.headers = map_of-bare h.headers is.map is.names in
+    let same : map_of (map line_in ps) ≡ plain_values h.headers = map_of-lines h.headers is.map is.names in
     let most : length h.headers ≤ 24576 = is.map.names_fit in
     let below : h.status < 2 ^ 64 = omega (arith, is.status.1) in
     record {
-      lines = map bare ps;
+      lines = map line_in ps;
       are_lines = are_lines ps is.names is.values;
       room = rw (same, length-map) most;
       headers = sym same;

@@ -1,7 +1,7 @@
 -- The moments and numbers of a meta: what is read is spelled, and each spelling is read.
-use Rattle.std.proofs.Common.{◌≡◌, ℕ, ◌^◌, ◌≤◌, Bool, true, false, cond, List, [], ◌∷◌, ◌++◌, length, Option, Result, Ok, Err, refl, sym, ap, subst, ◌∙◌, arith, inl, inr, nat_lt, lit<}
+use Rattle.std.proofs.Common.{◌≡◌, ℕ, ◌^◌, ◌<◌, ◌≤◌, Bool, true, false, cond, List, [], ◌∷◌, ◌++◌, length, Option, Result, Ok, Err, refl, sym, ap, subst, ◌∙◌, arith, inl, inr, nat_lt, lit<}
 use Rattle.std.specs.Prelude.{◌==◌, nat_le, ◌&&◌, IfOk}
-use Rattle.std.proofs.lemmas.Bool.{eqb-true, ltb-false, le-ltb}
+use Rattle.std.proofs.lemmas.Bool.{eqb-true, ltb-false, lt-ltb, le-ltb}
 use Rattle.std.proofs.lemmas.Bool.Decides.{nat_tests}
 use Rattle.cache_words.specs.declared.pack.fault.PackFault.{PackFault}
 use Rattle.cache_words.specs.declared.pack.fault.PackFault.TheVariants.{Short, Range, Length}
@@ -12,58 +12,37 @@ use Rattle.cache_words.specs.Time.{MomentValue}
 use Rattle.cache_words.proofs.ReadingLaws.{IsBytes, Agrees, bind_ok, ok_is, one_spelling}
 use Rattle.cache_words.proofs.FormLaws.{number_agrees, are_arrays}
 use Rattle.cache_words.proofs.ValueLaws.{moment_agrees, below_agrees, optional_hash_agrees}
-use Rattle.cache_metas.specs.declared.versions.InternalMetaV0.{InternalMetaV0}
-use Rattle.cache_metas.specs.declared.versions.InternalMetaV1.{InternalMetaV1}
+use Rattle.cache_metas.specs.declared.versions.EarlyInternalMeta.{EarlyInternalMeta}
 use Rattle.cache_metas.specs.declared.versions.InternalMetaV2.{InternalMetaV2}
-use Rattle.cache_metas.specs.Items.{SpellThere, there_at, seen_as, seconds_at, SpellsSeconds, byte_at, optional_moment_at, SpellsOptionalMoment}
-use Rattle.cache_metas.specs.Versions.{of_v0, of_v1}
-use Rattle.cache_metas.specs.Internal.{SpellsV0, SpellsV1, SpellsV2, SpellsMeta, IsLongEnough, BeginsWithMeta}
-use Rattle.cache_metas.specs.InternalReading.{v0_at, v1_at, v2_at, version_at, form_at, meta_at, value_of}
-use Rattle.cache_metas.proofs.ItemLaws.{agrees_with, SpellThen, then_at, then_agrees, SpellAs, seen_agrees, SpellEither, either_agrees, Never, refused_agrees, SpellsByte, byte_agrees, there_agrees, optional_moment_agrees}
+use Rattle.cache_words.specs.Items.{Steps, SpellThere, there_at, seen_as, seconds_at, SpellsSeconds, byte_at, optional_moment_at, SpellsOptionalMoment}
+use Rattle.cache_metas.specs.Versions.{of_early}
+use Rattle.cache_metas.specs.Internal.{least_len, SpellsEarly, SpellsV2, SpellsMeta, IsLongEnough, BeginsWithMeta}
+use Rattle.cache_metas.specs.InternalReading.{early_at, v2_at, versioned_at, form_at, meta_at, value_of}
+use Rattle.cache_words.proofs.ItemLaws.{agrees_with, SpellThen, then_at, then_agrees, SpellAs, seen_agrees, SpellEither, either_agrees, Never, refused_agrees, SpellsByte, byte_agrees, there_agrees, optional_moment_agrees}
 
 seconds_agrees : Agrees seconds_at SpellsSeconds
 seconds_agrees = below_agrees (2 ^ 32)
 
--- ---- the first form, and the second
+-- ---- an early form
 
-abbrev v0_made : MomentValue → MomentValue → ℕ → ℕ → InternalMetaV0
-v0_made a b c d = record { fresh_until = a; created = b; stale_while_revalidate_sec = c; stale_if_error_sec = d }
+abbrev early_made : (version : ℕ) → MomentValue → MomentValue → ℕ → ℕ → EarlyInternalMeta version
+early_made version a b c d = record { fresh_until = a; created = b; stale_while_revalidate_sec = c; stale_if_error_sec = d }
 
-v0_steps : Agrees v0_at (SpellThen SpellsMoment (λ a. SpellThen SpellsMoment (λ b. SpellThen SpellsSeconds (λ c. SpellAs (λ d. v0_made a b c d) SpellsSeconds))))
-unfolding v0_at
-v0_steps =
+early_steps : (version : ℕ) → Agrees (early_at version)
+    (SpellThen SpellsMoment (λ a. SpellThen SpellsMoment (λ b. SpellThen SpellsSeconds (λ c. SpellAs (λ d. early_made version a b c d) SpellsSeconds))))
+unfolding early_at
+early_steps version =
     then_agrees moment_at SpellsMoment _ _ moment_agrees (λ a.
     then_agrees moment_at SpellsMoment _ _ moment_agrees (λ b.
     then_agrees seconds_at SpellsSeconds _ _ seconds_agrees (λ c.
-    seen_agrees (λ d. v0_made a b c d) seconds_at SpellsSeconds seconds_agrees)))
+    seen_agrees (λ d. early_made version a b c d) seconds_at SpellsSeconds seconds_agrees)))
 
-v0_agrees : Agrees v0_at SpellsV0
-v0_agrees =
-    agrees_with v0_at _ SpellsV0 v0_steps
+early_agrees : (version : ℕ) → Agrees (early_at version) (SpellsEarly version)
+early_agrees version =
+    agrees_with (early_at version) _ (SpellsEarly version) (early_steps version)
     (λ v text s.
     let a = s.4 in let b = a.4 in let c = b.4 in
-    subst (λ (m : InternalMetaV0). SpellsV0 m text) (sym c.2) (s.1, s.2, s.3, (a.1, a.2, a.3, (b.1, b.2, b.3, c.1, b.5), a.5), s.5))
-    (λ v text s.
-    let a = s.3 in let b = a.3 in
-    (v.fresh_until, s.0, s.1, s.2, (v.created, a.0, a.1, a.2, (v.stale_while_revalidate_sec, b.0, b.1, b.2, (v.stale_if_error_sec, b.3, refl), b.4), a.4), s.4))
-
-abbrev v1_made : MomentValue → MomentValue → ℕ → ℕ → InternalMetaV1
-v1_made a b c d = record { fresh_until = a; created = b; stale_while_revalidate_sec = c; stale_if_error_sec = d }
-
-v1_steps : Agrees v1_at (SpellThen SpellsMoment (λ a. SpellThen SpellsMoment (λ b. SpellThen SpellsSeconds (λ c. SpellAs (λ d. v1_made a b c d) SpellsSeconds))))
-unfolding v1_at
-v1_steps =
-    then_agrees moment_at SpellsMoment _ _ moment_agrees (λ a.
-    then_agrees moment_at SpellsMoment _ _ moment_agrees (λ b.
-    then_agrees seconds_at SpellsSeconds _ _ seconds_agrees (λ c.
-    seen_agrees (λ d. v1_made a b c d) seconds_at SpellsSeconds seconds_agrees)))
-
-v1_agrees : Agrees v1_at SpellsV1
-v1_agrees =
-    agrees_with v1_at _ SpellsV1 v1_steps
-    (λ v text s.
-    let a = s.4 in let b = a.4 in let c = b.4 in
-    subst (λ (m : InternalMetaV1). SpellsV1 m text) (sym c.2) (s.1, s.2, s.3, (a.1, a.2, a.3, (b.1, b.2, b.3, c.1, b.5), a.5), s.5))
+    subst (λ (m : EarlyInternalMeta version). SpellsEarly version m text) (sym c.2) (s.1, s.2, s.3, (a.1, a.2, a.3, (b.1, b.2, b.3, c.1, b.5), a.5), s.5))
     (λ v text s.
     let a = s.3 in let b = a.3 in
     (v.fresh_until, s.0, s.1, s.2, (v.created, a.0, a.1, a.2, (v.stale_while_revalidate_sec, b.0, b.1, b.2, (v.stale_if_error_sec, b.3, refl), b.4), a.4), s.4))
@@ -149,33 +128,33 @@ v2_agrees count =
 abbrev is_v2_count : ℕ → Bool
 is_v2_count count = nat_le 6 count && nat_le count 9
 
-abbrev VersionSteps : ℕ → ℕ → InternalMetaV2 → List ℕ → Type 0
-VersionSteps count version =
-    SpellEither (version == 1) (SpellEither (count == 5) (SpellAs of_v1 SpellsV1) Never)
+abbrev VersionedSteps : ℕ → ℕ → InternalMetaV2 → List ℕ → Type 0
+VersionedSteps count version =
+    SpellEither (version == 1) (SpellEither (count == 5) (SpellAs (of_early 1) (SpellsEarly 1)) Never)
     (SpellEither (version == 2) (SpellEither (is_v2_count count) (SpellsV2 count) Never) Never)
 
-version_steps : (count version : ℕ) → Agrees (version_at version count) (VersionSteps count version)
-unfolding version_at
-version_steps count version =
+versioned_steps : (count version : ℕ) → Agrees (versioned_at version count) (VersionedSteps count version)
+unfolding versioned_at
+versioned_steps count version =
     either_agrees (version == 1) _ _ _ _
-    (either_agrees (count == 5) (λ bytes. seen_as of_v1 (v1_at bytes)) (λ _. Err Length) (SpellAs of_v1 SpellsV1) Never
-    (seen_agrees of_v1 v1_at SpellsV1 v1_agrees) (refused_agrees Length))
+    (either_agrees (count == 5) (λ bytes. seen_as (of_early 1) (early_at 1 bytes)) (λ _. Err Length) (SpellAs (of_early 1) (SpellsEarly 1)) Never
+    (seen_agrees (of_early 1) (early_at 1) (SpellsEarly 1) (early_agrees 1)) (refused_agrees Length))
     (either_agrees (version == 2) _ _ _ _
     (either_agrees (is_v2_count count) (v2_at count) (λ _. Err Length) (SpellsV2 count) Never (v2_agrees count) (refused_agrees Length))
     (refused_agrees Range))
 
 abbrev FormSteps : InternalMetaV2 → List ℕ → Type 0
 FormSteps =
-    SpellThen (Stands arrays) (λ count. SpellEither (count == 4) (SpellAs of_v0 SpellsV0) (SpellThen SpellsByte (VersionSteps count)))
+    SpellThen (Stands arrays) (λ count. SpellEither (count == 4) (SpellAs (of_early 0) (SpellsEarly 0)) (SpellThen SpellsByte (VersionedSteps count)))
 
 form_steps : Agrees form_at FormSteps
 unfolding form_at
 form_steps =
     then_agrees (number_at arrays) (Stands arrays) _ _ (number_agrees arrays are_arrays) (λ count.
-    either_agrees (count == 4) (λ bytes. seen_as of_v0 (v0_at bytes)) (then_at byte_at (λ version. version_at version count))
-    (SpellAs of_v0 SpellsV0) (SpellThen SpellsByte (VersionSteps count))
-    (seen_agrees of_v0 v0_at SpellsV0 v0_agrees)
-    (then_agrees byte_at SpellsByte _ _ byte_agrees (λ version. version_steps count version)))
+    either_agrees (count == 4) (λ bytes. seen_as (of_early 0) (early_at 0 bytes)) (then_at byte_at (λ version. versioned_at version count))
+    (SpellAs (of_early 0) (SpellsEarly 0)) (SpellThen SpellsByte (VersionedSteps count))
+    (seen_agrees (of_early 0) (early_at 0) (SpellsEarly 0) (early_agrees 0))
+    (then_agrees byte_at SpellsByte _ _ byte_agrees (λ version. versioned_steps count version)))
 
 v2_count : (count : ℕ) → is_v2_count count ≡ true → (6 ≤ count) × (count ≤ 9)
 v2_count count h = (grind (arith, nat_tests), grind (arith, nat_tests))
@@ -186,9 +165,9 @@ v2_count_test count low high = grind (arith, nat_tests)
 not_four : (count : ℕ) → 6 ≤ count → (count == 4) ≡ false
 not_four count low = grind (arith, nat_tests)
 
--- one byte stands below 0x80 and another part behind it
-byte_is : (n tag : ℕ) (front behind text : List ℕ) → n ≡ tag → front ≡ n ∷ [] → text ≡ front ++ behind → text ≡ tag ∷ behind
-byte_is n tag front behind text same one parts = rw (parts, one, same) refl
+-- a part that is one byte, and the part after it
+byte_is : (n tag : ℕ) (first rest text : List ℕ) → n ≡ tag → first ≡ n ∷ [] → text ≡ first ++ rest → text ≡ tag ∷ rest
+byte_is n tag first rest text same one parts = rw (parts, one, same) refl
 
 form_to : (m : InternalMetaV2) (text : List ℕ) → FormSteps m text → SpellsMeta m text
 form_to m text s =
@@ -257,6 +236,21 @@ one_meta = one_spelling form_at SpellsMeta form_agrees
 
 -- ---- a whole input
 
+pub too_short : (bytes : List ℕ) → length bytes < least_len → Err Short ≡ value_of (meta_at bytes)
+unfolding meta_at
+too_short bytes short =
+    let test : nat_lt (length bytes) least_len ≡ true = lt-ltb _ _ short in
+    rw test refl
+
+pub long_enough : (bytes new : List ℕ) (r : Result InternalMetaV2 PackFault) → least_len ≤ length bytes → Steps form_at bytes new r → r ≡ value_of (meta_at bytes)
+unfolding meta_at
+long_enough bytes new (Ok m) long steps =
+    let test : nat_lt (length bytes) least_len ≡ false = le-ltb _ _ long in
+    rw (test, steps) refl
+long_enough bytes new (Err f) long steps =
+    let test : nat_lt (length bytes) least_len ≡ false = le-ltb _ _ long in
+    rw (test, steps) refl
+
 past_test : {A : Type 0} (b : Bool) (d : PackFault) (r : Result A PackFault) (y : A) → cond b (Err d) r ≡ Ok y → (b ≡ false) × (r ≡ Ok y)
 past_test true d r y e = absurd cc
 past_test false d r y e = (refl, e)
@@ -266,15 +260,15 @@ unfolding meta_at
 meta_found bytes (Err f) fits e = tt
 meta_found bytes (Ok m) fits e =
     let a = bind_ok (meta_at bytes) (λ x. Ok x.0) m (sym e) in
-    let g = past_test (nat_lt (length bytes) 10) Short (form_at bytes) a.0 a.1 in
+    let g = past_test (nat_lt (length bytes) least_len) Short (form_at bytes) a.0 a.1 in
     let t = form_agrees.takes bytes a.0 fits g.1 in
     (ltb-false _ _ g.0, t.text, a.0.1, subst (λ (v : InternalMetaV2). SpellsMeta v t.text) (ok_is a.0.0 m a.2) t.spelled, t.parts)
 
--- a spelling with what stands behind it is read, where both have at least ten bytes
+-- a spelling is read whatever follows it, where both are long enough
 pub meta_again : (m : InternalMetaV2) (text rest : List ℕ) → IsLongEnough (text ++ rest) → SpellsMeta m text → meta_at (text ++ rest) ≡ Ok (m, rest)
 unfolding meta_at
 meta_again m text rest long s =
-    let test : nat_lt (length (text ++ rest)) 10 ≡ false = le-ltb _ _ long in
+    let test : nat_lt (length (text ++ rest)) least_len ≡ false = le-ltb _ _ long in
     rw test (form_agrees.again m text rest s)
 
 pub meta_read : (bytes : List ℕ) (r : Result InternalMetaV2 PackFault) → r ≡ value_of (meta_at bytes)

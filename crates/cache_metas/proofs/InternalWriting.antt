@@ -1,6 +1,7 @@
 -- The moments and numbers of a meta that are written: a spelling, and long enough.
-use Rattle.std.proofs.Common.{◌≡◌, ℕ, suc, ◌^◌, ◌<◌, ◌≤◌, ℤ, pos, negsuc, ◌<ℤ◌, ◌≤ℤ◌, List, [], ◌∷◌, ◌++◌, length, Option, Some, None, Ok, refl, ap, append_assoc, arith, inl, inr, length-append, nat_lt, lit≤}
+use Rattle.std.proofs.Common.{◌≡◌, ℕ, suc, true, ◌^◌, ◌<◌, ◌≤◌, ℤ, pos, negsuc, ◌<ℤ◌, ◌≤ℤ◌, List, [], ◌∷◌, ◌++◌, length, Option, Some, None, Ok, refl, ap, append_assoc, arith, inl, inr, length-append, nat_lt, lit≤}
 use Rattle.std.specs.Prelude.{IfSome}
+use Rattle.std.proofs.lemmas.Bool.{lt-ltb}
 use Rattle.std.proofs.lemmas.Int.{ints}
 use Rattle.std.specs.Int.{to_be_bytes}
 use Rattle.cache_words.specs.Forms.{Form, Forms, Stands, StandsBehind, shortest, numbers, arrays}
@@ -8,8 +9,8 @@ use Rattle.cache_words.specs.Pack.{SpellsMoment, moment_of, optional_hash_of, Sp
 use Rattle.cache_words.specs.Time.{MomentValue, second}
 use Rattle.cache_words.proofs.WritingLaws.{number_spelled, array_spelled, moment_spelled, optional_hash_spelled}
 use Rattle.cache_metas.specs.declared.versions.InternalMetaV2.{InternalMetaV2}
-use Rattle.cache_metas.specs.Items.{SpellThere, SpellsSeconds, SpellsOptionalMoment, optional_moment_of}
-use Rattle.cache_metas.specs.Internal.{SpellsV2, SpellsMeta, IsLongEnough, IsSinceEpoch, IsMoment, IsMeta, IsWritable, item_count, provenance_of, times_of, variant_of, written_meta}
+use Rattle.cache_words.specs.Items.{SpellThere, SpellsSeconds, SpellsOptionalMoment, optional_moment_of}
+use Rattle.cache_metas.specs.Internal.{least_len, SpellsV2, SpellsMeta, IsLongEnough, IsSinceEpoch, IsMoment, IsMeta, IsWritable, item_count, provenance_of, required_of, optional_of, written_meta}
 use Rattle.cache_metas.specs.InternalReading.{meta_at}
 use Rattle.cache_metas.proofs.InternalLaws.{meta_again}
 
@@ -28,20 +29,11 @@ optional_written (Some t) is since = moment_written t is since
 seconds_written : (n : ℕ) → n < 2 ^ 32 → SpellsSeconds n (shortest numbers n)
 seconds_written n low = (low, number_spelled n (omega arith))
 
--- in an array of eight or nine the seventh and the eighth item stand
-seventh_there : {X : Type 0} (p : Option MomentValue) (P : Option X → List ℕ → Type 0) (v : Option X) (text : List ℕ) → P v text → SpellThere (nat_lt 6 (item_count p)) P v text
-seventh_there None P v text s = s
-seventh_there (Some t) P v text s = s
-
-eighth_there : {X : Type 0} (p : Option MomentValue) (P : Option X → List ℕ → Type 0) (v : Option X) (text : List ℕ) → P v text → SpellThere (nat_lt 7 (item_count p)) P v text
-eighth_there None P v text s = s
-eighth_there (Some t) P v text s = s
-
 ninth_there : (p : Option MomentValue) → IfSome p IsMoment → IfSome p IsSinceEpoch → SpellThere (nat_lt 8 (item_count p)) SpellsOptionalMoment p (provenance_of p)
 ninth_there None is since = (refl, refl)
 ninth_there (Some t) is since = moment_written t is since
 
-count_low : (p : Option MomentValue) → 6 ≤ item_count p
+count_low : (p : Option MomentValue) → 8 ≤ item_count p
 count_low None = lit≤ tt
 count_low (Some t) = lit≤ tt
 
@@ -49,7 +41,15 @@ count_high : (p : Option MomentValue) → item_count p ≤ 9
 count_high None = lit≤ tt
 count_high (Some t) = lit≤ tt
 
--- the items behind the version, one after the other
+-- each of the first eight items is there
+item_there : {X : Type 0} (k : ℕ) (p : Option MomentValue) (P : Option X → List ℕ → Type 0) (v : Option X) (text : List ℕ) → k < 8 → P v text
+    → SpellThere (nat_lt k (item_count p)) P v text
+item_there k p P v text low s =
+    let least = count_low p in
+    let test : nat_lt k (item_count p) ≡ true = lt-ltb _ _ (omega arith) in
+    rw test s
+
+-- the items after the version, one after the other
 abbrev in_turn : InternalMetaV2 → List ℕ
 in_turn m =
     moment_of m.fresh_until ++ (moment_of m.created ++ (moment_of m.updated
@@ -59,10 +59,10 @@ in_turn m =
 regrouped : (a b c d e rest : List ℕ) → (a ++ (b ++ (c ++ (d ++ e)))) ++ rest ≡ a ++ (b ++ (c ++ (d ++ (e ++ rest))))
 regrouped a b c d e rest = simp append_assoc
 
-in_turn-is : (m : InternalMetaV2) → times_of m ++ variant_of m ≡ in_turn m
+in_turn-is : (m : InternalMetaV2) → required_of m ++ optional_of m ≡ in_turn m
 in_turn-is m =
     regrouped (moment_of m.fresh_until) (moment_of m.created) (moment_of m.updated)
-    (shortest numbers m.stale_while_revalidate_sec) (shortest numbers m.stale_if_error_sec) (variant_of m)
+    (shortest numbers m.stale_while_revalidate_sec) (shortest numbers m.stale_if_error_sec) (optional_of m)
 
 items_spelled : (m : InternalMetaV2) → IsMeta m → IsWritable m → SpellsV2 (item_count m.provenance) m (in_turn m)
 items_spelled m is since = (
@@ -88,11 +88,11 @@ items_spelled m is since = (
           (
             _,
             _,
-            seventh_there m.provenance SpellsOptionalHash m.variance (optional_hash_of m.variance) (optional_hash_spelled m.variance is.variance),
+            item_there 6 m.provenance SpellsOptionalHash m.variance (optional_hash_of m.variance) (omega arith) (optional_hash_spelled m.variance is.variance),
             (
               _,
               _,
-              eighth_there m.provenance SpellsOptionalMoment m.epoch_override (optional_moment_of m.epoch_override) (optional_written m.epoch_override is.epoch_override since.epoch_override),
+              item_there 7 m.provenance SpellsOptionalMoment m.epoch_override (optional_moment_of m.epoch_override) (omega arith) (optional_written m.epoch_override is.epoch_override since.epoch_override),
               ninth_there m.provenance is.provenance since.provenance,
               refl,
             ),
@@ -117,13 +117,13 @@ written_spelled m is since =
     let fits : item_count m.provenance < 2 ^ 32 = omega arith in
     inr (inr (
       item_count m.provenance,
-      low,
+      omega (arith, low),
       high,
       (
         shortest arrays (item_count m.provenance),
-        2 ∷ (times_of m ++ variant_of m),
+        2 ∷ (required_of m ++ optional_of m),
         array_spelled (item_count m.provenance) fits,
-        (times_of m ++ variant_of m, rw (in_turn-is m) (items_spelled m is since), refl),
+        (required_of m ++ optional_of m, rw (in_turn-is m) (items_spelled m is since), refl),
         refl,
       ),
     ))
@@ -162,7 +162,7 @@ moment_long t text s =
       length-append s.first s.behind,
     )
 
-long : (head a b c d rest : List ℕ) → 3 ≤ length a → 3 ≤ length b → 3 ≤ length c → 10 ≤ length ((head ++ (2 ∷ (a ++ (b ++ (c ++ d))))) ++ rest)
+long : (head a b c d rest : List ℕ) → 3 ≤ length a → 3 ≤ length b → 3 ≤ length c → least_len ≤ length ((head ++ (2 ∷ (a ++ (b ++ (c ++ d))))) ++ rest)
 long head a b c d rest x y z =
     omega (
       arith,

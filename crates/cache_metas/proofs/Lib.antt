@@ -4,5 +4,4 @@ pub mod HeadLoop
 pub mod HeadWriting
 pub mod InternalLaws
 pub mod InternalWriting
-pub mod ItemLaws
 pub mod MapLines

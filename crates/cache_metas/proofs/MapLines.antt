@@ -12,7 +12,7 @@ abbrev pub IsNew : Entries FieldValue → List ℕ → Type 0
 IsNew [] name = Unit {0}
 IsNew (e ∷ m) name = (bytes_eq e.0 name ≡ false) × IsNew m name
 
--- each name stands once, under at least one value
+-- each name is there once, with at least one value
 abbrev AreApart : Entries FieldValue → Type 0
 AreApart [] = Unit {0}
 AreApart (e ∷ m) = (0 < length e.1) × ((k : ℕ) (d : Entry FieldValue) → k < length m → bytes_eq e.0 (get_or m k d).0 ≡ false) × AreApart m
@@ -53,13 +53,13 @@ IsNew-more : (m : Entries FieldValue) (e : Entry FieldValue) (name : List ℕ) �
 IsNew-more [] e name new other = (other, tt)
 IsNew-more (d ∷ m) e name new other = (new.0, IsNew-more m e name new.1 other)
 
-behind : (done rest : Entries FieldValue) → AreApart rest → ((k : ℕ) (d : Entry FieldValue) → k < length rest → IsNew done (get_or rest k d).0)
+append_all-rest : (done rest : Entries FieldValue) → AreApart rest → ((k : ℕ) (d : Entry FieldValue) → k < length rest → IsNew done (get_or rest k d).0)
     → append_all done (pairs rest) ≡ done ++ rest
-behind done [] apart new = sym (append-nil done)
-behind done (e ∷ rest) apart new =
+append_all-rest done [] apart new = sym (append-nil done)
+append_all-rest done (e ∷ rest) apart new =
     append_all-append (entry_pairs e) (pairs rest) done
     ∙ ap (λ (m : Entries FieldValue). append_all m (pairs rest)) (append_all-entry done e.0 e.1 apart.0 (new 0 e (omega arith)))
-    ∙ behind (done ++ e ∷ []) rest apart.2 (λ k d lt. IsNew-more done e (get_or rest k d).0 (new (suc k) d (omega arith)) (apart.1 k d lt))
+    ∙ append_all-rest (done ++ e ∷ []) rest apart.2 (λ k d lt. IsNew-more done e (get_or rest k d).0 (new (suc k) d (omega arith)) (apart.1 k d lt))
     ∙ append_assoc done (e ∷ []) rest
 
 differ : (a b : List ℕ) → (a ≡ b → ⊥) → bytes_eq a b ≡ false
@@ -79,7 +79,7 @@ apart (e ∷ m) unique filled = (
 )
 
 pub append_all-apart : (m : Entries FieldValue) → IsUnique m → All (λ e. 0 < length e.1) m → append_all [] (pairs m) ≡ m
-append_all-apart m unique filled = behind [] m (apart m unique filled) (λ k d lt. tt)
+append_all-apart m unique filled = append_all-rest [] m (apart m unique filled) (λ k d lt. tt)
 
 pub append_all-pairs : (m : Entries FieldValue) → IsHeaderMap m → append_all [] (pairs m) ≡ m
 append_all-pairs m is = append_all-apart m is.unique is.filled

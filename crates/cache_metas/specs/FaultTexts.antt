@@ -1,4 +1,4 @@
--- Faults as text.
+-- The texts of faults.
 use Rattle.std.specs.Prelude.{List, ℕ, codes}
 use Rattle.cache_metas.specs.declared.fault.MetaFault.{MetaFault}
 use Rattle.cache_metas.specs.declared.fault.MetaFault.TheVariants.{Memory, MetaMoment}
@@ -10,5 +10,5 @@ fault_text Memory = codes "out of memory"
 fault_text MetaMoment = codes "a moment before 1970"
 
 abbrev pub read_fault_text : MetaReadFault → List ℕ
-read_fault_text (Pack fault) = codes "no meta"
+read_fault_text (Pack fault) = codes "not a meta"
 read_fault_text _ = codes "out of memory"

@@ -1,5 +1,5 @@
 -- The head of a response as MessagePack: which texts spell it, and which of these is written.
-use Rattle.std.specs.Prelude.{◌≡◌, ℕ, ◌^◌, ◌<◌, ◌≤◌, List, [], ◌∷◌, ◌++◌, length, map, flat_map, All}
+use Rattle.std.specs.Prelude.{◌≡◌, ℕ, ◌^◌, ◌<◌, ◌≤◌, List, ◌++◌, length, map, flat_map, All}
 use Rattle.http.specs.StatusCode.{IsStatusCode}
 use Rattle.http_header.specs.HeaderMap.{Entries, pairs, IsHeaderMap}
 use Rattle.http_header.specs.FieldName.{IsHeaderName}
@@ -8,19 +8,15 @@ use Rattle.cache_words.specs.Forms.{Stands, shortest, numbers, arrays}
 use Rattle.cache_words.specs.Pack.{SpellsText, SpellsBytes, text_of, bytes_of}
 use Rattle.cache_headers.specs.Lines.{Line, map_of, IsLine}
 use Rattle.cache_headers.specs.declared.header.ResponseHeader.{ResponseHeader}
-use Rattle.cache_metas.specs.Items.{SpellBoth, SpellItems}
+use Rattle.cache_words.specs.Items.{SpellBoth, SpellItems, SpellArray}
 
 -- a line: an array of its name as a text and its value as a byte string
 abbrev pub SpellsLine : Line → List ℕ → Type 0
 SpellsLine line text = SpellItems 2 (SpellBoth SpellsText SpellsBytes) line text
 
-abbrev pub SpellLines : List Line → List ℕ → Type 0
-SpellLines [] text = text ≡ []
-SpellLines (line ∷ lines) text = (front : List ℕ) × (behind : List ℕ) × SpellsLine line front × SpellLines lines behind × (text ≡ front ++ behind)
-
 -- an array of lines
 abbrev pub SpellsLines : List Line → List ℕ → Type 0
-SpellsLines lines text = SpellItems (length lines) SpellLines lines text
+SpellsLines lines text = SpellArray SpellsLine lines text
 
 -- how many names a map holds
 abbrev pub most_names : ℕ

@@ -4,20 +4,14 @@ use Rattle.std.specs.Prelude.{◌≡◌, ℕ, ◌^◌, ◌<◌, ◌≤◌, ◌�
 use Rattle.cache_words.specs.Forms.{shortest, numbers, arrays}
 use Rattle.cache_words.specs.Pack.{moment_of, optional_hash_of, SpellsMoment, SpellsOptionalHash, IsHash}
 use Rattle.cache_words.specs.Time.{MomentValue, second}
-use Rattle.cache_metas.specs.declared.versions.InternalMetaV0.{InternalMetaV0}
-use Rattle.cache_metas.specs.declared.versions.InternalMetaV1.{InternalMetaV1}
+use Rattle.cache_metas.specs.declared.versions.EarlyInternalMeta.{EarlyInternalMeta}
 use Rattle.cache_metas.specs.declared.versions.InternalMetaV2.{InternalMetaV2}
-use Rattle.cache_metas.specs.Items.{SpellBoth, SpellItems, SpellUnder, SpellThere, SpellsSeconds, SpellsOptionalMoment, optional_moment_of}
-use Rattle.cache_metas.specs.Versions.{of_v0, of_v1}
+use Rattle.cache_words.specs.Items.{SpellBoth, SpellItems, SpellUnder, SpellThere, SpellsSeconds, SpellsOptionalMoment, optional_moment_of}
+use Rattle.cache_metas.specs.Versions.{of_early}
 
--- the fields of the first form
-abbrev pub SpellsV0 : InternalMetaV0 → List ℕ → Type 0
-SpellsV0 m text =
-    SpellBoth SpellsMoment (SpellBoth SpellsMoment (SpellBoth SpellsSeconds SpellsSeconds))
-    (m.fresh_until, (m.created, (m.stale_while_revalidate_sec, m.stale_if_error_sec))) text
-
-abbrev pub SpellsV1 : InternalMetaV1 → List ℕ → Type 0
-SpellsV1 m text =
+-- the fields of an early form
+abbrev pub SpellsEarly : (version : ℕ) → EarlyInternalMeta version → List ℕ → Type 0
+SpellsEarly version m text =
     SpellBoth SpellsMoment (SpellBoth SpellsMoment (SpellBoth SpellsSeconds SpellsSeconds))
     (m.fresh_until, (m.created, (m.stale_while_revalidate_sec, m.stale_if_error_sec))) text
 
@@ -32,13 +26,16 @@ SpellsV2 count m text =
 -- a meta in one of its forms: an array of 4 is the first, any other begins with its version
 abbrev pub SpellsMeta : InternalMetaV2 → List ℕ → Type 0
 SpellsMeta m text =
-    ((old : InternalMetaV0) × (m ≡ of_v0 old) × SpellItems 4 SpellsV0 old text)
-    ⊎ (((old : InternalMetaV1) × (m ≡ of_v1 old) × SpellItems 5 (SpellUnder 1 SpellsV1) old text)
+    ((early : EarlyInternalMeta 0) × (m ≡ of_early 0 early) × SpellItems 4 (SpellsEarly 0) early text)
+    ⊎ (((early : EarlyInternalMeta 1) × (m ≡ of_early 1 early) × SpellItems 5 (SpellUnder 1 (SpellsEarly 1)) early text)
     ⊎ ((count : ℕ) × (6 ≤ count) × (count ≤ 9) × SpellItems count (SpellUnder 2 (SpellsV2 count)) m text))
 
--- fewer bytes are no meta, whatever they are
+-- fewer bytes are not a meta, whatever they are
+abbrev pub least_len : ℕ
+least_len = 10
+
 abbrev pub IsLongEnough : List ℕ → Type 0
-IsLongEnough bytes = 10 ≤ length bytes
+IsLongEnough bytes = least_len ≤ length bytes
 
 -- the input begins with a meta
 abbrev pub BeginsWithMeta : List ℕ → InternalMetaV2 → Type 0
@@ -80,14 +77,14 @@ abbrev pub provenance_of : Option MomentValue → List ℕ
 provenance_of None = []
 provenance_of (Some provenance) = moment_of provenance
 
-abbrev pub times_of : InternalMetaV2 → List ℕ
-times_of m =
+abbrev pub required_of : InternalMetaV2 → List ℕ
+required_of m =
     moment_of m.fresh_until ++ (moment_of m.created ++ (moment_of m.updated
     ++ (shortest numbers m.stale_while_revalidate_sec ++ shortest numbers m.stale_if_error_sec)))
 
-abbrev pub variant_of : InternalMetaV2 → List ℕ
-variant_of m = optional_hash_of m.variance ++ (optional_moment_of m.epoch_override ++ provenance_of m.provenance)
+abbrev pub optional_of : InternalMetaV2 → List ℕ
+optional_of m = optional_hash_of m.variance ++ (optional_moment_of m.epoch_override ++ provenance_of m.provenance)
 
 -- the text that is written
 unfoldable pub written_meta : InternalMetaV2 → List ℕ
-written_meta m = shortest arrays (item_count m.provenance) ++ (2 ∷ (times_of m ++ variant_of m))
+written_meta m = shortest arrays (item_count m.provenance) ++ (2 ∷ (required_of m ++ optional_of m))

@@ -4,30 +4,14 @@ use Rattle.cache_words.specs.declared.pack.fault.PackFault.{PackFault}
 use Rattle.cache_words.specs.declared.pack.fault.PackFault.TheVariants.{Short, Range, Length}
 use Rattle.cache_words.specs.Forms.{arrays}
 use Rattle.cache_words.specs.Reading.{◌>>=◌, number_at, moment_at, optional_hash_at}
-use Rattle.cache_metas.specs.declared.versions.InternalMetaV0.{InternalMetaV0}
-use Rattle.cache_metas.specs.declared.versions.InternalMetaV1.{InternalMetaV1}
+use Rattle.cache_metas.specs.declared.versions.EarlyInternalMeta.{EarlyInternalMeta}
 use Rattle.cache_metas.specs.declared.versions.InternalMetaV2.{InternalMetaV2}
-use Rattle.cache_metas.specs.Items.{seen_as, there_at, byte_at, seconds_at, optional_moment_at}
-use Rattle.cache_metas.specs.Versions.{of_v0, of_v1}
+use Rattle.cache_metas.specs.Internal.{least_len}
+use Rattle.cache_words.specs.Items.{seen_as, there_at, byte_at, seconds_at, optional_moment_at}
+use Rattle.cache_metas.specs.Versions.{of_early}
 
-unfoldable pub v0_at : List ℕ → Result (InternalMetaV0 × List ℕ) PackFault
-v0_at bytes = do
-  fresh_until ← moment_at bytes
-  created ← moment_at fresh_until.1
-  revalidate ← seconds_at created.1
-  error ← seconds_at revalidate.1
-  Ok (
-    record {
-      fresh_until = fresh_until.0;
-      created = created.0;
-      stale_while_revalidate_sec = revalidate.0;
-      stale_if_error_sec = error.0;
-    },
-    error.1,
-  )
-
-unfoldable pub v1_at : List ℕ → Result (InternalMetaV1 × List ℕ) PackFault
-v1_at bytes = do
+unfoldable pub early_at : (version : ℕ) → List ℕ → Result (EarlyInternalMeta version × List ℕ) PackFault
+early_at version bytes = do
   fresh_until ← moment_at bytes
   created ← moment_at fresh_until.1
   revalidate ← seconds_at created.1
@@ -67,10 +51,10 @@ v2_at count bytes = do
     provenance.1,
   )
 
--- what a version has behind it, in an array of so many items
-unfoldable pub version_at : ℕ → ℕ → List ℕ → Result (InternalMetaV2 × List ℕ) PackFault
-version_at version count bytes =
-    if version == 1 then (if count == 5 then seen_as of_v1 (v1_at bytes) else Err Length)
+-- what follows the version, in an array of so many items
+unfoldable pub versioned_at : ℕ → ℕ → List ℕ → Result (InternalMetaV2 × List ℕ) PackFault
+versioned_at version count bytes =
+    if version == 1 then (if count == 5 then seen_as (of_early 1) (early_at 1 bytes) else Err Length)
     else if version == 2 then (if nat_le 6 count && nat_le count 9 then v2_at count bytes else Err Length)
     else Err Range
 
@@ -78,12 +62,12 @@ version_at version count bytes =
 unfoldable pub form_at : List ℕ → Result (InternalMetaV2 × List ℕ) PackFault
 form_at bytes = do
   n ← number_at arrays bytes
-  if n.0 == 4 then seen_as of_v0 (v0_at n.1) else (byte_at n.1 >>= λ version. version_at version.0 n.0 version.1)
+  if n.0 == 4 then seen_as (of_early 0) (early_at 0 n.1) else (byte_at n.1 >>= λ version. versioned_at version.0 n.0 version.1)
 
--- the same of a whole input, which has at least ten bytes
+-- the same of a whole input, which is not too short
 unfoldable pub meta_at : List ℕ → Result (InternalMetaV2 × List ℕ) PackFault
-meta_at bytes = if nat_lt (length bytes) 10 then Err Short else form_at bytes
+meta_at bytes = if nat_lt (length bytes) least_len then Err Short else form_at bytes
 
--- a value that was read, without what stands behind it
+-- a value that was read, without the bytes after it
 abbrev pub value_of : {X : Type 0} → Result (X × List ℕ) PackFault → Result X PackFault
 value_of read = read >>= λ x. Ok x.0

@@ -3,5 +3,4 @@ pub mod Head
 pub mod HeadReading
 pub mod Internal
 pub mod InternalReading
-pub mod Items
 pub mod Versions

@@ -1,15 +1,15 @@
-//! Why a meta is not written, or not read.
+//! Why a meta could not be written or read.
 ghost use Rattle.std.specs.Prelude.{Some};
 ghost use Rattle.cache_metas.specs.FaultTexts.{fault_text, read_fault_text};
 
-use cache_words::pack::fault::PackFault;
+use cache_words::pack::PackFault;
 use std::alloc::AllocError;
 use std::fmt;
 
-/// Why a meta is not written.
+/// Why a meta could not be written.
 #[derive(Clone, Copy, Debug, PartialEq, Eq)]
 pub enum MetaFault {
-    /// There is no memory for the bytes.
+    /// Out of memory.
     Memory = 1,
     /// One of its moments is before 1970.
     MetaMoment = 2,
@@ -39,12 +39,12 @@ impl From<AllocError> for MetaFault {
     }
 }
 
-/// Why a meta is not read.
+/// Why a meta could not be read.
 #[derive(Clone, Copy, Debug, PartialEq, Eq)]
 pub enum MetaReadFault {
-    /// There is no memory for its head.
+    /// Out of memory.
     Memory,
-    /// The bytes are no meta: the first fault from the left.
+    /// The bytes are not a meta: the first fault from the left.
     Pack(PackFault),
 }
 
@@ -54,7 +54,7 @@ impl fmt::Display for MetaReadFault {
     fn fmt<W: fmt::Write>(&self, f: &mut fmt::Formatter<W>) -> fmt::Result {
         f.write_str(match self {
             MetaReadFault::Memory => "out of memory",
-            MetaReadFault::Pack(_) => "no meta",
+            MetaReadFault::Pack(_) => "not a meta",
         })
     }
 }

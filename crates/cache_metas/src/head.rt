@@ -1,24 +1,22 @@
-//! The head of a response as MessagePack: its status, and each value beside its name.
+//! The head of a response as MessagePack: its status, and each value with its name.
 ghost use Rattle.std.specs.Prelude.{◌≡◌, ◌+◌, ◌++◌, ◌<◌, ◌≤◌, ◌^◌, [], length, flat_map, All, Ok, IfOk, OnOk, IfErr};
 ghost use Rattle.http_header.specs.HeaderMap.{value_count, pairs};
 ghost use Rattle.cache_headers.specs.declared.header.ResponseHeader.{ResponseHeader};
 ghost use Rattle.cache_metas.specs.Head.{BeginsWithHead, most_names, line_of, lines_of, written_head, IsCountable};
 ghost use Rattle.cache_metas.specs.HeadReading.{Fails, Gives, StepsTo, field_name_of, field_value_of, line_at, with_line, lines_at, status_at, head_at};
 ghost use Rattle.cache_metas.specs.InternalReading.{value_of};
-ghost use Rattle.cache_metas.specs.Items.{Steps};
+ghost use Rattle.cache_words.specs.Items.{Steps};
 
-use crate::cursor::Cursor;
 use crate::fault::MetaReadFault;
 use cache_headers::ResponseHeader;
-use cache_words::pack::fault::PackFault;
-use cache_words::pack::writing;
+use cache_words::pack::{Cursor, PackFault, PackWriteFault, writing};
 use http::StatusCode;
 use http_header::{
     HeaderMap, HeaderMapError, HeaderName, HeaderNameError, HeaderValue, HeaderValueError,
 };
 use std::alloc::{AllocError, Global};
 
-// The bytes as a name, in lower case.
+// Returns the bytes as a name, in lower case.
 fn field_name(alloc: Global, bytes: &[u8]) -> Result<HeaderName, MetaReadFault>
     ensures { Gives result (field_name_of bytes.now) }
 {
@@ -29,7 +27,7 @@ fn field_name(alloc: Global, bytes: &[u8]) -> Result<HeaderName, MetaReadFault>
     }
 }
 
-// The bytes as a value.
+// Returns the bytes as a value.
 fn field_value(alloc: Global, bytes: &[u8]) -> Result<HeaderValue, MetaReadFault>
     ensures { Gives result (field_value_of bytes.now) }
 {
@@ -40,11 +38,12 @@ fn field_value(alloc: Global, bytes: &[u8]) -> Result<HeaderValue, MetaReadFault
     }
 }
 
+// Takes a line: a name and a value.
 #[tactic(auto, unfolding(crate::specs::HeadReading::line_at))]
 fn line(alloc: Global, bytes: &mut Cursor<'_>) -> Result<(HeaderName, HeaderValue), MetaReadFault>
     ensures { StepsTo line_at bytes.old.rest.now bytes.new.rest.now result }
 {
-    bytes.two()?;
+    bytes.array_of(2)?;
     let text = bytes.text()?;
     let name = field_name(alloc, text.as_bytes())?;
     let string = bytes.byte_string()?;
@@ -52,7 +51,7 @@ fn line(alloc: Global, bytes: &mut Cursor<'_>) -> Result<(HeaderName, HeaderValu
     Ok((name, value))
 }
 
-// One more line of a map.
+// Adds a line to the map.
 fn add(all: &mut HeaderMap, name: HeaderName, value: HeaderValue) -> Result<(), MetaReadFault>
     requires names { length all.old ≤ most_names }
     requires room { value_count all.old + 1 < 2 ^ 64 }
@@ -66,6 +65,7 @@ fn add(all: &mut HeaderMap, name: HeaderName, value: HeaderValue) -> Result<(), 
     }
 }
 
+// Takes this many lines, and returns them as a map.
 fn lines(alloc: Global, bytes: &mut Cursor<'_>, count: u64) -> Result<HeaderMap, MetaReadFault>
     ensures { StepsTo (lines_at count []) bytes.old.rest.now bytes.new.rest.now result }
 {
@@ -77,66 +77,59 @@ fn lines(alloc: Global, bytes: &mut Cursor<'_>, count: u64) -> Result<HeaderMap,
     Ok(all)
 }
 
+// Takes a status.
 #[tactic(auto, unfolding(crate::specs::HeadReading::status_at))]
 fn status(bytes: &mut Cursor<'_>) -> Result<StatusCode, PackFault>
     ensures { Steps status_at bytes.old.rest.now bytes.new.rest.now result }
 {
     let number = bytes.number()?;
-    if number < 100 || number > 999 {
+    let Ok(code) = u16::try_from(number) else {
         return Err(PackFault::Range);
-    }
-    match StatusCode::from_u16(number as u16) {
+    };
+    match StatusCode::from_u16(code) {
         Ok(status) => Ok(status),
         Err(_) => Err(PackFault::Range),
     }
 }
 
+// Takes a head.
 #[tactic(auto, unfolding(crate::specs::HeadReading::head_at))]
 fn head(alloc: Global, bytes: &mut Cursor<'_>) -> Result<ResponseHeader, MetaReadFault>
     ensures { StepsTo head_at bytes.old.rest.now bytes.new.rest.now result }
 {
-    bytes.two()?;
+    bytes.array_of(2)?;
     let status = status(bytes)?;
     let count = bytes.array()?;
     let headers = lines(alloc, bytes, count)?;
     Ok(ResponseHeader { status, headers })
 }
 
-fn whole(alloc: Global, bytes: &[u8]) -> Result<ResponseHeader, MetaReadFault>
-    ensures { Gives result (value_of (head_at bytes.now)) }
-{
-    let mut cursor = Cursor { rest: bytes };
-    head(alloc, &mut cursor)
-}
-
-/// The head at the front; what stands behind it is passed over.
+/// Reads the head at the front of the bytes, and ignores what follows it.
 ///
 /// # Errors
 ///
-/// The first fault from the left, or `Memory` where there is none for the head.
+/// The first fault from the left, or `Memory` if memory runs out.
 pub fn read(alloc: Global, bytes: &[u8]) -> Result<ResponseHeader, MetaReadFault>
     ensures found { IfOk result (BeginsWithHead bytes.now) }
     ensures only { (h : ResponseHeader) → BeginsWithHead bytes.now h → Gives {X = ResponseHeader} result (Ok h) }
     ensures exact { Gives result (value_of (head_at bytes.now)) }
 {
-    whole(alloc, bytes)
+    let mut cursor = Cursor { rest: bytes };
+    head(alloc, &mut cursor)
 }
 
-// One line. A value that no form counts is refused.
-fn put_line(out: &mut Vec<u8>, name: &HeaderName, value: &HeaderValue) -> Result<(), AllocError>
+// Writes a line.
+fn put_line(out: &mut Vec<u8>, name: &HeaderName, value: &HeaderValue) -> Result<(), PackWriteFault>
     ensures ok { OnOk result (out.new.items ≡ out.old.items ++ line_of (name.now, value.now)) }
     ensures counted { OnOk result (length value.now.bytes < 2 ^ 32) }
 {
-    let bytes = value.as_bytes();
-    if bytes.len() > u32::MAX as usize {
-        return Err(AllocError);
-    }
     writing::put_array(out, 2)?;
     writing::put_text(out, name.as_str())?;
-    writing::put_byte_string(out, bytes)
+    writing::put_byte_string(out, value.as_bytes())
 }
 
-fn put_each(out: &mut Vec<u8>, headers: &HeaderMap) -> Result<(), AllocError>
+// Writes each line of the map.
+fn put_each(out: &mut Vec<u8>, headers: &HeaderMap) -> Result<(), PackWriteFault>
     ensures ok { OnOk result (out.new.items ≡ out.old.items ++ flat_map line_of (pairs headers.now)) }
     ensures counted { OnOk result (All (λ p. length p.1.bytes < 2 ^ 32) (pairs headers.now)) }
 {
@@ -146,6 +139,7 @@ fn put_each(out: &mut Vec<u8>, headers: &HeaderMap) -> Result<(), AllocError>
     Ok(())
 }
 
+// Writes the array of the lines of the map.
 fn put_lines(out: &mut Vec<u8>, headers: &HeaderMap) -> Result<(), AllocError>
     ensures ok { OnOk result (out.new.items ≡ out.old.items ++ lines_of headers.now) }
     ensures counted { OnOk result (IsCountable headers.now) }
@@ -154,16 +148,18 @@ fn put_lines(out: &mut Vec<u8>, headers: &HeaderMap) -> Result<(), AllocError>
         return Err(AllocError);
     }
     writing::put_array(out, headers.len() as u32)?;
-    put_each(out, headers)?;
-    Ok(())
+    match put_each(out, headers) {
+        Ok(()) => Ok(()),
+        Err(_) => Err(AllocError),
+    }
 }
 
-/// The head: its status, and each value beside its name in the map's order, each item in its shortest form.
+/// Writes the head: its status, and each value with its name in the map's order, each item in its shortest form.
 ///
 /// # Errors
 ///
-/// `AllocError` where there is no memory, and where the head has 2^32 values, or a value of 2^32 bytes: no form counts
-/// these.
+/// `AllocError` if memory runs out, and for a head of 2^32 values or with a value of 2^32 bytes, which MessagePack
+/// cannot hold.
 #[tactic(auto, unfolding(crate::specs::Head::written_head))]
 pub fn write(alloc: Global, header: &ResponseHeader) -> Result<Vec<u8>, AllocError>
     ensures ok { IfOk result (λ text. text.items ≡ written_head header.now) }

@@ -1,30 +1,38 @@
-//! The moments and numbers of a meta as MessagePack. Any of the three forms is read; the latest is written.
+//! The moments and numbers of a meta as MessagePack. All three forms are read; the latest is written.
 ghost use Rattle.std.specs.Prelude.{◌≡◌, ◌≢◌, ◌++◌, ◌∷◌, ◌↔◌, Ok, IsTrue, IfOk, IfSome, OnOk, IsErrOf};
 ghost use Rattle.cache_metas.specs.declared.versions.InternalMetaV2.{InternalMetaV2};
-ghost use Rattle.cache_metas.specs.Items.{Steps};
-ghost use Rattle.cache_metas.specs.Internal.{BeginsWithMeta, IsSinceEpoch, IsWritable, written_meta, item_count, times_of, variant_of};
-ghost use Rattle.cache_metas.specs.InternalReading.{v0_at, v1_at, v2_at, version_at, form_at, meta_at, value_of};
+ghost use Rattle.cache_words.specs.Items.{Steps};
+ghost use Rattle.cache_metas.specs.Internal.{BeginsWithMeta, IsSinceEpoch, IsWritable, written_meta, item_count, required_of, optional_of};
+ghost use Rattle.cache_metas.specs.InternalReading.{early_at, v2_at, versioned_at, form_at, meta_at, value_of};
 
-use crate::cursor::Cursor;
 use crate::fault::MetaFault;
-use crate::versions::{InternalMetaV0, InternalMetaV1, InternalMetaV2};
-use cache_words::pack::fault::PackFault;
-use cache_words::pack::writing;
+use crate::versions::{EarlyInternalMeta, InternalMetaV1, InternalMetaV2};
+use cache_words::pack::{Cursor, PackFault, writing};
 use cache_words::time::Moment;
 use std::alloc::{AllocError, Global};
 
-// The fewest bytes of a meta.
+// A shorter input is refused unread, as the original cache refuses it.
 const LEAST_LEN: usize = 10;
 
-#[tactic(auto, unfolding(crate::specs::InternalReading::v0_at))]
-fn v0(bytes: &mut Cursor<'_>) -> Result<InternalMetaV0, PackFault>
-    ensures { Steps v0_at bytes.old.rest.now bytes.new.rest.now result }
+// How many items the array of each form has. Of the latest form the seventh to the ninth may be absent.
+const V0_ITEMS: u64 = 4;
+
+const V1_ITEMS: u64 = 5;
+
+const V2_FEWEST_ITEMS: u64 = 6;
+
+const V2_MOST_ITEMS: u64 = 9;
+
+// Takes the fields of an early form.
+#[tactic(auto, unfolding(crate::specs::InternalReading::early_at))]
+fn early<const VERSION: u8>(bytes: &mut Cursor<'_>) -> Result<EarlyInternalMeta<VERSION>, PackFault>
+    ensures { Steps (early_at VERSION) bytes.old.rest.now bytes.new.rest.now result }
 {
     let fresh_until = bytes.moment()?;
     let created = bytes.moment()?;
     let stale_while_revalidate_sec = bytes.seconds()?;
     let stale_if_error_sec = bytes.seconds()?;
-    Ok(InternalMetaV0 {
+    Ok(EarlyInternalMeta {
         fresh_until,
         created,
         stale_while_revalidate_sec,
@@ -32,22 +40,7 @@ fn v0(bytes: &mut Cursor<'_>) -> Result<InternalMetaV0, PackFault>
     })
 }
 
-#[tactic(auto, unfolding(crate::specs::InternalReading::v1_at))]
-fn v1(bytes: &mut Cursor<'_>) -> Result<InternalMetaV1, PackFault>
-    ensures { Steps v1_at bytes.old.rest.now bytes.new.rest.now result }
-{
-    let fresh_until = bytes.moment()?;
-    let created = bytes.moment()?;
-    let stale_while_revalidate_sec = bytes.seconds()?;
-    let stale_if_error_sec = bytes.seconds()?;
-    Ok(InternalMetaV1 {
-        fresh_until,
-        created,
-        stale_while_revalidate_sec,
-        stale_if_error_sec,
-    })
-}
-
+// Takes the fields of the latest form in an array of this many items.
 #[tactic(auto, unfolding(crate::specs::InternalReading::v2_at))]
 fn v2(bytes: &mut Cursor<'_>, count: u64) -> Result<InternalMetaV2, PackFault>
     ensures { Steps (v2_at count) bytes.old.rest.now bytes.new.rest.now result }
@@ -72,19 +65,20 @@ fn v2(bytes: &mut Cursor<'_>, count: u64) -> Result<InternalMetaV2, PackFault>
     })
 }
 
-#[tactic(auto, unfolding(crate::specs::InternalReading::version_at))]
-fn version(bytes: &mut Cursor<'_>, number: u8, count: u64) -> Result<InternalMetaV2, PackFault>
-    ensures { Steps (version_at number count) bytes.old.rest.now bytes.new.rest.now result }
+// Takes the fields that follow the version number in an array of this many items.
+#[tactic(auto, unfolding(crate::specs::InternalReading::versioned_at))]
+fn versioned(bytes: &mut Cursor<'_>, number: u8, count: u64) -> Result<InternalMetaV2, PackFault>
+    ensures { Steps (versioned_at number count) bytes.old.rest.now bytes.new.rest.now result }
 {
     match number {
         InternalMetaV1::VERSION => {
-            if count != 5 {
+            if count != V1_ITEMS {
                 return Err(PackFault::Length);
             }
-            Ok(InternalMetaV2::from(v1(bytes)?))
+            Ok(InternalMetaV2::from(early::<1>(bytes)?))
         }
         InternalMetaV2::VERSION => {
-            if count < 6 || count > 9 {
+            if count < V2_FEWEST_ITEMS || count > V2_MOST_ITEMS {
                 return Err(PackFault::Length);
             }
             v2(bytes, count)
@@ -93,21 +87,28 @@ fn version(bytes: &mut Cursor<'_>, number: u8, count: u64) -> Result<InternalMet
     }
 }
 
+// Takes a meta in any of its forms.
 #[tactic(auto, unfolding(crate::specs::InternalReading::form_at))]
 fn form(bytes: &mut Cursor<'_>) -> Result<InternalMetaV2, PackFault>
     ensures { Steps form_at bytes.old.rest.now bytes.new.rest.now result }
 {
     let count = bytes.array()?;
-    if count == 4 {
-        return Ok(InternalMetaV2::from(v0(bytes)?));
+    if count == V0_ITEMS {
+        return Ok(InternalMetaV2::from(early::<0>(bytes)?));
     }
     let number = bytes.byte()?;
-    version(bytes, number, count)
+    versioned(bytes, number, count)
 }
 
-#[tactic(auto, unfolding(crate::specs::InternalReading::meta_at))]
-fn whole(bytes: &[u8]) -> Result<InternalMetaV2, PackFault>
-    ensures { result ≡ value_of (meta_at bytes.now) }
+/// Reads the meta at the front of the bytes, and ignores what follows it.
+///
+/// # Errors
+///
+/// `Short` for an input of fewer than ten bytes, and otherwise the first fault from the left.
+pub fn read(bytes: &[u8]) -> Result<InternalMetaV2, PackFault>
+    ensures found { IfOk result (BeginsWithMeta bytes.now) }
+    ensures only { (m : InternalMetaV2) → BeginsWithMeta bytes.now m → result ≡ Ok m }
+    ensures exact { result ≡ value_of (meta_at bytes.now) }
 {
     if bytes.len() < LEAST_LEN {
         return Err(PackFault::Short);
@@ -116,20 +117,7 @@ fn whole(bytes: &[u8]) -> Result<InternalMetaV2, PackFault>
     form(&mut cursor)
 }
 
-/// The meta at the front of an input of at least ten bytes; what stands behind it is passed over.
-///
-/// # Errors
-///
-/// The first fault from the left; a shorter input is `Short`.
-pub fn read(bytes: &[u8]) -> Result<InternalMetaV2, PackFault>
-    ensures found { IfOk result (BeginsWithMeta bytes.now) }
-    ensures only { (m : InternalMetaV2) → BeginsWithMeta bytes.now m → result ≡ Ok m }
-    ensures exact { result ≡ value_of (meta_at bytes.now) }
-{
-    whole(bytes)
-}
-
-// Whether a moment, where there is one, isn't before 1970.
+// Returns whether the moment, if there is one, is not before 1970.
 fn is_since_epoch(moment: &Option<Moment>) -> bool
     ensures { IsTrue result ↔ IfSome moment.now IsSinceEpoch }
 {
@@ -139,7 +127,7 @@ fn is_since_epoch(moment: &Option<Moment>) -> bool
     }
 }
 
-// Whether each moment can be written.
+// Returns whether each moment can be written.
 fn is_writable(meta: &InternalMetaV2) -> bool
     ensures { IsTrue result ↔ IsWritable meta.now }
 {
@@ -150,7 +138,7 @@ fn is_writable(meta: &InternalMetaV2) -> bool
         && is_since_epoch(&meta.provenance)
 }
 
-// How many items are written.
+// Returns how many items are written: the provenance is one only if it is set.
 fn item_count(provenance: &Option<Moment>) -> u32
     ensures { result ≡ item_count provenance.now }
 {
@@ -160,9 +148,10 @@ fn item_count(provenance: &Option<Moment>) -> u32
     }
 }
 
-fn put_times(out: &mut Vec<u8>, meta: &InternalMetaV2) -> Result<(), AllocError>
+// Writes the items that are always present.
+fn put_required(out: &mut Vec<u8>, meta: &InternalMetaV2) -> Result<(), AllocError>
     requires { IsWritable meta.now }
-    ensures { OnOk result (out.new.items ≡ out.old.items ++ times_of meta.now) }
+    ensures { OnOk result (out.new.items ≡ out.old.items ++ required_of meta.now) }
 {
     writing::put_moment(out, meta.fresh_until)?;
     writing::put_moment(out, meta.created)?;
@@ -171,9 +160,10 @@ fn put_times(out: &mut Vec<u8>, meta: &InternalMetaV2) -> Result<(), AllocError>
     writing::put_number(out, meta.stale_if_error_sec as u64)
 }
 
-fn put_variant(out: &mut Vec<u8>, meta: &InternalMetaV2) -> Result<(), AllocError>
+// Writes the items that may be absent: the first two as nil, the provenance not at all.
+fn put_optional(out: &mut Vec<u8>, meta: &InternalMetaV2) -> Result<(), AllocError>
     requires { IsWritable meta.now }
-    ensures { OnOk result (out.new.items ≡ out.old.items ++ variant_of meta.now) }
+    ensures { OnOk result (out.new.items ≡ out.old.items ++ optional_of meta.now) }
 {
     writing::put_optional_hash(out, meta.variance)?;
     match meta.epoch_override {
@@ -194,16 +184,16 @@ fn written(alloc: Global, meta: &InternalMetaV2) -> Result<Vec<u8>, AllocError>
     let mut out = Vec::new(alloc);
     writing::put_array(&mut out, item_count(&meta.provenance))?;
     out.push(InternalMetaV2::VERSION)?;
-    put_times(&mut out, meta)?;
-    put_variant(&mut out, meta)?;
+    put_required(&mut out, meta)?;
+    put_optional(&mut out, meta)?;
     Ok(out)
 }
 
-/// The meta in its latest form, each item in its shortest.
+/// Writes the meta in the latest form, each item in its shortest.
 ///
 /// # Errors
 ///
-/// `MetaMoment` exactly where one of its moments is before 1970; else `Memory` where there is none.
+/// `MetaMoment` if and only if one of its moments is before 1970, and otherwise `Memory` if memory runs out.
 pub fn write(alloc: Global, meta: &InternalMetaV2) -> Result<Vec<u8>, MetaFault>
     ensures ok { IfOk result (λ text. text.items ≡ written_meta meta.now) }
     ensures moment { IsErrOf result MetaFault.MetaMoment ↔ ¬ (IsWritable meta.now) }

@@ -9,7 +9,7 @@ ghost use Rattle.cache_metas.specs.InternalReading.{meta_at};
 ghost use Rattle.cache_metas.specs.Head.{SpellsHead, IsHead, IsCountable, plain_head, written_head};
 ghost use Rattle.cache_metas.specs.HeadReading.{head_at};
 
-/// The moments and numbers that are written are read again, whatever follows them.
+/// What `internal::write` writes is read back as the same meta, whatever follows it.
 pub fn internal_is_read_again()
     ensures spelled { (m : InternalMetaV2) → IsMeta m → IsWritable m → SpellsMeta m (written_meta m) }
     ensures long_enough { (m : InternalMetaV2) (rest : List ℕ) → IsMeta m → IsWritable m → IsLongEnough (written_meta m ++ rest) }
@@ -21,7 +21,7 @@ pub fn one_internal()
     ensures { (v w : InternalMetaV2) (a b x y : List ℕ) → SpellsMeta v a → SpellsMeta w b → a ++ x ≡ b ++ y → (v ≡ w) × (x ≡ y) }
 {}
 
-/// A head that is written is read again, whatever follows it, with each value plain.
+/// What `head::write` writes is read back as the same head, whatever follows it, except that no value is sensitive.
 pub fn head_is_read_again()
     ensures spelled { (h : ResponseHeader) → IsHead h → IsCountable h.headers → SpellsHead (plain_head h) (written_head h) }
     ensures read { (h : ResponseHeader) (rest : List ℕ) → IsHead h → IsCountable h.headers → head_at (written_head h ++ rest) ≡ Ok (plain_head h, rest) }
@@ -32,7 +32,7 @@ pub fn one_head()
     ensures { (v w : ResponseHeader) (a b x y : List ℕ) → SpellsHead v a → SpellsHead w b → a ++ x ≡ b ++ y → (v ≡ w) × (x ≡ y) }
 {}
 
-/// A map is what its values, added one by one in its order, give.
+/// A map is what its values give when they are added one by one in its order.
 pub fn map_of_its_lines()
     ensures { (m : Entries FieldValue) → IsHeaderMap m → append_all [] (pairs m) ≡ m }
 {}

@@ -1,11 +1,8 @@
-//! What is kept beside a response, as bytes: its moments and numbers, and its head.
+//! The metadata that a cache keeps with a response, as MessagePack: its moments and numbers, and its head.
 #![tactic(auto)]
 
-mod cursor;
 pub mod fault;
 pub mod head;
 pub mod internal;
 pub mod laws;
-#[cfg(test)]
-mod tests;
 pub mod versions;

@@ -1,14 +1,15 @@
-//! The moments and numbers of a meta, in the three forms that they were written in. Only the latest is kept in memory.
-ghost use Rattle.cache_metas.specs.Versions.{of_v0, of_v1};
+//! The moments and numbers of a meta, in the three forms that caches have written. Memory holds the latest alone.
+ghost use Rattle.cache_metas.specs.Versions.{of_early};
 
+use cache_words::key::HashBinary;
 use cache_words::time::Moment;
 
-/// The first form, which says no version.
+/// The first two forms, which have the same fields. The first is written without a version.
 #[derive(Clone, Copy, Debug, PartialEq, Eq)]
-pub struct InternalMetaV0 {
-    /// Until when the response is fresh.
+pub struct EarlyInternalMeta<const VERSION: u8> {
+    /// The last moment at which the response is fresh.
     pub fresh_until: Moment,
-    /// When the response came.
+    /// When the response was stored.
     pub created: Moment,
     /// For how many seconds it is served stale while it is validated.
     pub stale_while_revalidate_sec: u32,
@@ -16,20 +17,13 @@ pub struct InternalMetaV0 {
     pub stale_if_error_sec: u32,
 }
 
-/// The second form: the same fields behind their version.
-#[derive(Clone, Copy, Debug, PartialEq, Eq)]
-pub struct InternalMetaV1 {
-    /// Until when the response is fresh.
-    pub fresh_until: Moment,
-    /// When the response came.
-    pub created: Moment,
-    /// For how many seconds it is served stale while it is validated.
-    pub stale_while_revalidate_sec: u32,
-    /// For how many seconds it is served stale on errors.
-    pub stale_if_error_sec: u32,
-}
+/// The first form.
+pub type InternalMetaV0 = EarlyInternalMeta<0>;
 
-impl InternalMetaV1 {
+/// The second form.
+pub type InternalMetaV1 = EarlyInternalMeta<1>;
+
+impl EarlyInternalMeta<1> {
     /// The version of this form.
     pub const VERSION: u8 = 1;
 }
@@ -37,21 +31,21 @@ impl InternalMetaV1 {
 /// The latest form.
 #[derive(Clone, Copy, Debug, PartialEq, Eq)]
 pub struct InternalMetaV2 {
-    /// Until when the response is fresh.
+    /// The last moment at which the response is fresh.
     pub fresh_until: Moment,
-    /// When the response came.
+    /// When the response was stored.
     pub created: Moment,
-    /// When it was last found valid.
+    /// When it was stored or last revalidated.
     pub updated: Moment,
     /// For how many seconds it is served stale while it is validated.
     pub stale_while_revalidate_sec: u32,
     /// For how many seconds it is served stale on errors.
     pub stale_if_error_sec: u32,
-    /// The variant of the response.
-    pub variance: Option<[u8; 16]>,
-    /// From when its age counts, in place of `updated`.
+    /// Which variant of the response this is, where it varies.
+    pub variance: Option<HashBinary>,
+    /// The moment from which its age counts; `updated` where there is none.
     pub epoch_override: Option<Moment>,
-    /// Where the response comes from, in place of `created`.
+    /// The timestamp that hit filters compare with, which a refresh keeps; `created` where there is none.
     pub provenance: Option<Moment>,
 }
 
@@ -60,37 +54,18 @@ impl InternalMetaV2 {
     pub const VERSION: u8 = 2;
 }
 
-impl From<InternalMetaV0> for InternalMetaV2 {
+impl<const VERSION: u8> From<EarlyInternalMeta<VERSION>> for InternalMetaV2 {
     ghost use Rattle.std.specs.Prelude.{◌≡◌};
 
-    ghost from_gives = { λ old meta. meta ≡ of_v0 old };
+    ghost from_gives = { λ early meta. meta ≡ of_early VERSION early };
 
-    fn from(old: InternalMetaV0) -> InternalMetaV2 {
+    fn from(early: EarlyInternalMeta<VERSION>) -> InternalMetaV2 {
         InternalMetaV2 {
-            fresh_until: old.fresh_until,
-            created: old.created,
-            updated: old.created,
-            stale_while_revalidate_sec: old.stale_while_revalidate_sec,
-            stale_if_error_sec: old.stale_if_error_sec,
-            variance: None,
-            epoch_override: None,
-            provenance: None,
-        }
-    }
-}
-
-impl From<InternalMetaV1> for InternalMetaV2 {
-    ghost use Rattle.std.specs.Prelude.{◌≡◌};
-
-    ghost from_gives = { λ old meta. meta ≡ of_v1 old };
-
-    fn from(old: InternalMetaV1) -> InternalMetaV2 {
-        InternalMetaV2 {
-            fresh_until: old.fresh_until,
-            created: old.created,
-            updated: old.created,
-            stale_while_revalidate_sec: old.stale_while_revalidate_sec,
-            stale_if_error_sec: old.stale_if_error_sec,
+            fresh_until: early.fresh_until,
+            created: early.created,
+            updated: early.created,
+            stale_while_revalidate_sec: early.stale_while_revalidate_sec,
+            stale_if_error_sec: early.stale_if_error_sec,
             variance: None,
             epoch_override: None,
             provenance: None,

@@ -2,4 +2,6 @@
 #![tactic(auto)]
 
 #[cfg(test)]
+mod metas;
+#[cfg(test)]
 mod words;

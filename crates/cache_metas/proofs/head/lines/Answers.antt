@@ -3,7 +3,7 @@ use Rattle.std.proofs.lemmas.Result.{err_from_is_err_and}
 use Rattle.http_header.specs.FieldValue.{FieldValue}
 use Rattle.http_header.specs.HeaderMap.{value_count}
 use Rattle.cache_metas.specs.HeadReading.{lines_at}
-use Rattle.cache_metas.proofs.HeadLines.{line_fits, line_counts, value_count-append}
+use Rattle.cache_metas.proofs.HeadLines.{line_added, value_count-append}
 use Rattle.cache_metas.proofs.HeadLoop.{goes_on, ends, ends_full, is_done}
 use Rattle.cache_metas.proofs.head.lines.Goals as goal
 
@@ -38,13 +38,13 @@ returns-in_err-add c =
 pub each-preserved : goal.each-preserved
 each-preserved c =
     let line : List ℕ × FieldValue = (c.in_ok-name.name, c.in_ok-name.value) in
-    let added = line_counts c.each.all line c.add.new.all c.in_ok-add.ensures.ok in
+    let added = line_added c.each.all line c.add.new.all c.in_ok-add.ensures.ok in
     let few : value_count c.each.all ≤ c.each._i = c.each.invariant.values in
     record {
       same = goes_on c.args.count c.each._i c.each.all c.add.new.all c.each.bytes.rest.now c.line.new.bytes.rest.now line
           (lines_at c.args.count [] c.args.bytes.now.rest.now) c.each-test.true c.in_ok-name.ensures c.in_ok-add.ensures.ok c.each.invariant.same;
-      names = line_fits c.each.all line c.add.new.all c.in_ok-add.ensures.ok;
-      values = rw (added, value_count-append c.each.all c.in_ok-name.name c.in_ok-name.value) (omega (arith, few));
+      names = added.0;
+      values = rw (added.1, value_count-append c.each.all c.in_ok-name.name c.in_ok-name.value) (omega (arith, few));
     }
 
 pub returns : goal.returns

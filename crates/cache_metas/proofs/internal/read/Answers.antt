@@ -1,9 +1,18 @@
 use Rattle.std.proofs.Common.{arith}
-use Rattle.cache_metas.proofs.InternalLaws.{meta_found, meta_read}
+use Rattle.cache_metas.proofs.InternalLaws.{too_short, long_enough, meta_found, meta_read}
 use Rattle.cache_metas.proofs.internal.read.Goals as goal
 
-pub returns-clause-found : goal.returns-clause-found
-returns-clause-found c = meta_found c.args.bytes.now c.whole.result (λ i. omega (arith, c.type_inv.bytes i)) c.whole.ensures
+pub returns-then-bytes-lt-LEAST_LEN-clause-exact : goal.returns-then-bytes-lt-LEAST_LEN-clause-exact
+returns-then-bytes-lt-LEAST_LEN-clause-exact c = too_short c.args.bytes.now (omega (arith, c.if-bytes-lt-LEAST_LEN.true))
 
-pub returns-clause-only : goal.returns-clause-only
-returns-clause-only c = meta_read c.args.bytes.now c.whole.result c.whole.ensures
+pub returns-then-bytes-lt-LEAST_LEN-clause-only : goal.returns-then-bytes-lt-LEAST_LEN-clause-only
+returns-then-bytes-lt-LEAST_LEN-clause-only c = meta_read c.args.bytes.now _ (too_short c.args.bytes.now (omega (arith, c.if-bytes-lt-LEAST_LEN.true)))
+
+pub returns : goal.returns
+returns c =
+    let exact = long_enough c.args.bytes.now _ c.form.result (omega (arith, c.if-bytes-lt-LEAST_LEN.false)) c.form.ensures in
+    record {
+      found = meta_found c.args.bytes.now c.form.result (λ i. omega (arith, c.type_inv.bytes i)) exact;
+      only = meta_read c.args.bytes.now c.form.result exact;
+      exact = exact;
+    }

@@ -1,22 +1,16 @@
-//! Each call that takes memory, with a look at what a refusal is. Nothing here makes an allocation fail: a run that makes
-//! the n-th one fail shows the other arm.
+//! Calls that take memory. Nothing here makes an allocation fail: a run that makes the n-th one fail shows the other arm.
 use super::head::made;
-use crate::fault::{MetaFault, MetaReadFault};
-use crate::versions::{InternalMetaV0, InternalMetaV2};
-use crate::{head, internal};
-use cache_words::time::Moment;
+use super::internal::early;
+use cache_metas::fault::{MetaFault, MetaReadFault};
+use cache_metas::versions::{InternalMetaV0, InternalMetaV2};
+use cache_metas::{head, internal};
 use std::alloc::AllocError;
 use std::test::*;
 
 #[test]
 fn refused_write_of_moments(rt: HostRuntime) {
-    let meta = InternalMetaV2::from(InternalMetaV0 {
-        fresh_until: Moment::from_seconds(1010),
-        created: Moment::from_seconds(1000),
-        stale_while_revalidate_sec: 0,
-        stale_if_error_sec: 0,
-    });
-    match internal::write(rt.alloc(), &meta) {
+    let first: InternalMetaV0 = early();
+    match internal::write(rt.alloc(), &InternalMetaV2::from(first)) {
         Ok(text) => assert_eq!(rt; text.len(), 21),
         Err(fault) => assert_eq!(rt; fault, MetaFault::Memory),
     }
@@ -24,10 +18,8 @@ fn refused_write_of_moments(rt: HostRuntime) {
 
 #[test]
 fn refused_write_of_a_head(rt: HostRuntime) {
-    let Some(header) = made(
-        rt.alloc(),
-        &[("x-name-of-its-own", b"a value of some length")],
-    ) else {
+    let fields: [(&str, &[u8]); 1] = [("x-name-of-its-own", b"a value of some length")];
+    let Some(header) = made(rt.alloc(), &fields) else {
         return;
     };
     match head::write(rt.alloc(), &header) {

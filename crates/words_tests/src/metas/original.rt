@@ -1,6 +1,6 @@
-//! Metas as bytes, made by the original cache's own meta.rs. A line has the seconds of fresh_until, created and updated,
-//! both windows, the variance in hex, the seconds of epoch_override and provenance, `-` where one is missing, and the
-//! bytes in hex.
+//! Metas as bytes, written by the original cache's own meta.rs. A line has the seconds of fresh_until, created and
+//! updated, both windows, the variance in hex, the seconds of epoch_override and provenance, `-` where one is absent,
+//! and the bytes in hex.
 
 /// The lines.
 pub const METAS: &str = "\
