@@ -1,0 +1,5 @@
+//! Tests of directives, heads and metas against values from outside.
+#![tactic(auto)]
+
+#[cfg(test)]
+mod heads;
