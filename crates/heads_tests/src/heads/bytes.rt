@@ -6,6 +6,7 @@ use cache_heads::laws;
 use cache_heads::meta::{CacheMeta, CacheMetaDefaults, MetaFault, MetaReadFault, NeverByStatus};
 use cache_words::pack::fault::PackFault;
 use cache_words::time::Moment;
+use std::alloc::Global;
 use std::test::Fail;
 
 pub(super) const INTERNAL: &[u8] =
@@ -34,16 +35,26 @@ fn metas_are_read_again(rt: HostRuntime) -> Result<(), Fail> {
     Ok(())
 }
 
-#[test]
-fn the_meta_of_a_put_is_written(rt: HostRuntime) -> Result<(), Fail> {
-    let line = "max-age=46, stale-while-revalidate=70000, stale-if-error=60";
-    let header = head(rt.alloc(), "cache-control", line).ok_or("memory")?;
-    let control = CacheControl::from_resp_headers(rt.alloc(), &header)?;
+// What is kept of a response with this Cache-Control that came at 127; `None` when out of memory, and
+// where it isn't kept.
+fn put(alloc: Global, line: &str) -> Option<CacheMeta> {
+    let header = head(alloc, "cache-control", line)?;
+    let control = CacheControl::from_resp_headers(alloc, &header).ok()?;
     let defaults = CacheMetaDefaults::new(NeverByStatus, 0, 0);
     let now = Moment::from_seconds(127);
     let found = resp_cacheable(now, control.as_ref(), header, false, &defaults);
-    assert!(rt; found.is_cacheable());
-    let (internal, header) = found.unwrap_meta().serialize(rt.alloc())?;
+    if found.is_cacheable() {
+        Some(found.unwrap_meta())
+    } else {
+        None
+    }
+}
+
+#[test]
+fn the_meta_of_a_put_is_written(rt: HostRuntime) -> Result<(), Fail> {
+    let line = "max-age=46, stale-while-revalidate=70000, stale-if-error=60";
+    let meta = put(rt.alloc(), line).ok_or("a meta")?;
+    let (internal, header) = meta.serialize(rt.alloc())?;
     assert!(rt; internal.as_slice() == PUT_INTERNAL && header.as_slice() == PUT_HEADER);
     Ok(())
 }

@@ -60,6 +60,15 @@ fn spans(meta: &CacheMeta) -> [u64; 3] {
     ]
 }
 
+// Whether the response is fresh, may be served while it is validated, and on errors.
+fn served(meta: &CacheMeta, time: Moment) -> [bool; 3] {
+    [
+        meta.is_fresh(time),
+        meta.serve_stale_while_revalidate(time),
+        meta.serve_stale_if_error(time),
+    ]
+}
+
 #[test]
 fn each_call_changes_what_it_names(rt: HostRuntime) -> Result<(), Fail> {
     let mut meta = meta(rt.alloc()).ok_or("memory")?;
@@ -120,22 +129,15 @@ fn an_override_and_a_variance_are_shown(rt: HostRuntime) -> Result<(), Fail> {
 #[test]
 fn freshness_and_windows_end(rt: HostRuntime) -> Result<(), Fail> {
     let meta = meta(rt.alloc()).ok_or("memory")?;
-    for (at, is_fresh, revalidate, error) in [
-        (1010, true, true, true),
-        (1011, false, true, true),
-        (1015, false, true, true),
-        (1016, false, false, true),
-        (1070, false, false, true),
-        (1071, false, false, false),
+    for (at, expected) in [
+        (1010, [true, true, true]),
+        (1011, [false, true, true]),
+        (1015, [false, true, true]),
+        (1016, [false, false, true]),
+        (1070, [false, false, true]),
+        (1071, [false, false, false]),
     ] {
-        let time = Moment::from_seconds(at);
-        assert_eq!(rt; meta.is_fresh(time), is_fresh, "fresh at {at}");
-        assert_eq!(rt;
-            meta.serve_stale_while_revalidate(time),
-            revalidate,
-            "validated at {at}"
-        );
-        assert_eq!(rt; meta.serve_stale_if_error(time), error, "on errors at {at}");
+        assert_eq!(rt; served(&meta, Moment::from_seconds(at)), expected, "at {at}");
     }
     for (at, age) in [(999, 0), (1000, 0), (1010, 10)] {
         assert_eq!(rt;
