@@ -19,8 +19,8 @@ cache_meta_at internal header = do
   h ← value_of (head_at header)
   Ok (record { internal = m; header = h })
 
--- a meta that can be written: no moment is before 1970, and the numbers of its head fit the forms. The other parts hold of each
--- meta in memory
+-- a meta that can be written: no moment is before 1970, and the counts of its head fit the forms. The other parts hold
+-- of each meta in memory
 pub record CanBeWritten (m : CacheMeta) : Type 0 where
   pub internal : IsMeta m.internal
   pub moments : IsWritable m.internal
