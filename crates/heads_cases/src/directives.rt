@@ -34,8 +34,16 @@ fn shown(alloc: Global, control: &CacheControl) -> Result<String, AllocError> {
     for flag in [control.private(), control.no_cache()] {
         push_word(&mut text, ' ', digit(flag))?;
     }
-    push_word(&mut text, ' ', names(alloc, control.private_field_names())?.as_str())?;
-    push_word(&mut text, ' ', names(alloc, control.no_cache_field_names())?.as_str())?;
+    push_word(
+        &mut text,
+        ' ',
+        names(alloc, control.private_field_names())?.as_str(),
+    )?;
+    push_word(
+        &mut text,
+        ' ',
+        names(alloc, control.no_cache_field_names())?.as_str(),
+    )?;
     Ok(text)
 }
 
@@ -101,17 +109,20 @@ fn seconds_or_error(
     }
 }
 
-// The listed names in hex, between brackets.
+// The listed names in hex, between brackets. A name may be empty.
 fn names(alloc: Global, names: Option<ListValueIter<'_>>) -> Result<String, AllocError> {
     let Some(names) = names else {
         return String::from_str(alloc, "-");
     };
-    let mut list = String::new(alloc);
-    for (i, name) in names.enumerate() {
-        if i > 0 {
+    let mut list = String::from_str(alloc, "[")?;
+    let mut is_first = true;
+    for name in names {
+        if !is_first {
             list.push(',')?;
         }
+        is_first = false;
         list.push_str(hex::encode(alloc, name)?.as_str())?;
     }
-    format!(in alloc; "[{list}]")
+    list.push(']')?;
+    Ok(list)
 }
