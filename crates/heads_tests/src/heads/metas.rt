@@ -137,7 +137,11 @@ fn freshness_and_windows_end(rt: HostRuntime) -> Result<(), Fail> {
         (1070, [false, false, true]),
         (1071, [false, false, false]),
     ] {
-        assert_eq!(rt; served(&meta, Moment::from_seconds(at)), expected, "at {at}");
+        assert_eq!(rt;
+            served(&meta, Moment::from_seconds(at)),
+            expected,
+            "at {at}"
+        );
     }
     for (at, age) in [(999, 0), (1000, 0), (1010, 10)] {
         assert_eq!(rt;
