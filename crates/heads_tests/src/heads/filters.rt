@@ -15,7 +15,7 @@ use http::{Method, StatusCode};
 use http_header::HeaderMap;
 use std::test::Fail;
 
-// 5 and 10 seconds after second 1000.
+// 5 seconds after second 1000.
 const DATE: &str = "Thu, 01 Jan 1970 00:16:45 GMT";
 
 // Nothing is fresh by its status, and the windows are 7 and 8 seconds.
