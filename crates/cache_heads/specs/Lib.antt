@@ -1,11 +1,11 @@
-pub mod FreshUntil
-pub mod Stale
+pub mod Defaults
+pub mod Directives
 pub mod Fresh
-pub mod Requests
+pub mod FreshUntil
 pub mod Meta
 pub mod MetaBytes
 pub mod MetaLends
-pub mod Verdict
-pub mod Given
-pub mod Status
 pub mod Reasons
+pub mod Requests
+pub mod Stale
+pub mod Verdict

@@ -1,11 +1,11 @@
--- What is kept beside a response.
+-- What is kept of a response, without its body.
 use Rattle.std.specs.Prelude.{ℕ, Some, None, unwrap_or}
 use Rattle.cache_words.specs.Time.{MomentValue}
 use Rattle.cache_headers.specs.declared.header.ResponseHeader.{ResponseHeader}
 use Rattle.cache_metas.specs.declared.versions.InternalMetaV2.{InternalMetaV2}
 use Rattle.cache_heads.specs.declared.meta.CacheMeta.{CacheMeta}
 
--- a new meta: it was updated and comes from when it was created
+-- a new meta: updated when it was created, which is its provenance too
 abbrev pub new_meta : MomentValue → MomentValue → ℕ → ℕ → ResponseHeader → CacheMeta
 new_meta fresh_until created revalidate error header =
     record {
@@ -26,6 +26,16 @@ new_meta fresh_until created revalidate error header =
 abbrev pub epoch_of : InternalMetaV2 → MomentValue
 epoch_of m = unwrap_or m.epoch_override m.updated
 
--- where the response comes from: when it was created, unless it is said
+-- the moment to which the stored object goes back: when it was created, unless another is set
 abbrev pub provenance_of : InternalMetaV2 → MomentValue
 provenance_of m = unwrap_or m.provenance m.created
+
+-- a response that was validated at `now`, with another freshness and other windows
+abbrev pub refreshed : InternalMetaV2 → MomentValue → ℕ → ℕ → MomentValue → InternalMetaV2
+refreshed m fresh_until revalidate error now =
+    record m {
+      fresh_until = fresh_until;
+      updated = now;
+      stale_while_revalidate_sec = revalidate;
+      stale_if_error_sec = error;
+    }

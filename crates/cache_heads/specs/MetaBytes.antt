@@ -19,14 +19,14 @@ cache_meta_at internal header = do
   h ← value_of (head_at header)
   Ok (record { internal = m; header = h })
 
--- a meta that can be written: its moments are not before 1970, and forms count its head. The other parts hold of each
--- meta in memory
+-- a meta that can be written: no moment is before 1970, and the counts of its head fit the forms. The other parts hold
+-- of each meta in memory
 pub record CanBeWritten (m : CacheMeta) : Type 0 where
   pub internal : IsMeta m.internal
   pub moments : IsWritable m.internal
   pub header : IsHead m.header
   pub counted : IsCountable m.header.headers
 
--- the same meta without a word on which values are sensitive
+-- the same meta with no value marked as sensitive
 abbrev pub plain_meta : CacheMeta → CacheMeta
 plain_meta m = record { internal = m.internal; header = plain_head m.header }

@@ -1,7 +1,8 @@
--- Names of reasons, and the answers that keep a response.
+-- Names of reasons, and the verdicts that keep a response.
 use Rattle.std.specs.Prelude.{List, ℕ, codes}
 use Rattle.cache_heads.specs.declared.reason.NoCacheReason.{NoCacheReason}
-use Rattle.cache_heads.specs.declared.reason.NoCacheReason.TheVariants.{NeverEnabled, OriginNotCache, ResponseTooLarge, PredictedResponseTooLarge, StorageError, InternalError, Deferred, DeclinedToUpstream, UpstreamError, CacheLockGiveUp, CacheLockTimeout, CacheLockRetryLimit, Custom}
+use Rattle.cache_heads.specs.declared.reason.NoCacheReason.TheVariants.{NeverEnabled, OriginNotCache, ResponseTooLarge, PredictedResponseTooLarge, StorageError, InternalError, Deferred}
+use Rattle.cache_heads.specs.declared.reason.NoCacheReason.TheVariants.{DeclinedToUpstream, UpstreamError, CacheLockGiveUp, CacheLockTimeout, CacheLockRetryLimit, Custom}
 use Rattle.cache_heads.specs.declared.reason.RespCacheable.{RespCacheable}
 use Rattle.cache_heads.specs.declared.reason.RespCacheable.TheVariants.{Cacheable, Uncacheable}
 

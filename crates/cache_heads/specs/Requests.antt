@@ -1,4 +1,4 @@
--- The request that a cache sends on: whole, without the client's conditions, and with its own where it has a response
+-- The request that a cache sends on: for the whole response, without the client's conditions, and with its own where it has a response
 -- (RFC 9110, 13.1; RFC 9111, 4.3.1).
 use Rattle.std.specs.Prelude.{◌⊎◌, ℕ, List, [], ◌∷◌, Option, Some, None, codes, fold, if◌then◌else◌, bytes_eq}
 use Rattle.http_header.specs.HeaderMap.{Entries, get, insert, remove, RefusesInsert}

@@ -1,12 +1,13 @@
--- How long a stale response may be served (RFC 9111, 4.2.4; RFC 5861).
-use Rattle.std.specs.Prelude.{ℕ, nat_lt, if◌then◌else◌, List, Option, option_map, unwrap_or, codes}
+-- How long a stale response may be served (RFC 5861): by its directives, else by the defaults. A `no-cache` directive
+-- leaves the windows as they are, as in the original; RFC 9111, 4.2.4, counts it among those that forbid stale responses.
+use Rattle.std.specs.Prelude.{ℕ, ◌^◌, nat_lt, if◌then◌else◌, List, Option, option_map, unwrap_or, codes}
 use Rattle.std.specs.Option.{option_and_then}
 use Rattle.cache_directives.specs.Written.{Written}
 use Rattle.cache_directives.specs.Lifetime.{stale_window}
 
--- seconds past the greatest number count as 2147483647 (RFC 9111, 1.2.2)
+-- seconds from 2^32 on count as 2147483647, as in the original; RFC 9111, 1.2.2, has 2^31 or the greatest number that fits
 abbrev pub in_range : ℕ → ℕ
-in_range seconds = if nat_lt 4294967295 seconds then 2147483647 else seconds
+in_range seconds = if nat_lt seconds (2 ^ 32) then seconds else 2147483647
 
 -- the window by the directives, else the default
 abbrev pub window : List ℕ → Option (List Written) → ℕ → ℕ

@@ -1,13 +1,14 @@
 -- Whether a response is kept, and as what.
-use Rattle.std.specs.Prelude.{ℕ, Bool, List, Option, Some, None, codes}
+use Rattle.std.specs.Prelude.{ℕ, Bool, List, Option, Some, None}
 use Rattle.cache_words.specs.Time.{MomentValue, DurationValue}
 use Rattle.cache_directives.specs.Written.{Written}
-use Rattle.cache_directives.specs.Control.{lines_under}
 use Rattle.cache_directives.specs.Lifetime.{stripped}
 use Rattle.cache_headers.specs.declared.header.ResponseHeader.{ResponseHeader}
-use Rattle.cache_heads.specs.FreshUntil.{fresh_until_by}
+use Rattle.cache_heads.specs.FreshUntil.{fresh_until_of}
 use Rattle.cache_heads.specs.Stale.{revalidate_window, error_window}
 use Rattle.cache_heads.specs.Meta.{new_meta}
+use Rattle.cache_heads.specs.Defaults.{status_lifetime}
+use Rattle.cache_heads.specs.declared.defaults.CacheMetaDefaults.{CacheMetaDefaults}
 use Rattle.cache_heads.specs.declared.reason.NoCacheReason.TheVariants.{OriginNotCache}
 use Rattle.cache_heads.specs.declared.reason.RespCacheable.{RespCacheable}
 use Rattle.cache_heads.specs.declared.reason.RespCacheable.TheVariants.{Cacheable, Uncacheable}
@@ -26,4 +27,9 @@ kept_until (Some until) now ds header revalidate error =
 -- defaults: the lifetime of its status and both windows
 abbrev pub verdict : MomentValue → Option (List Written) → ResponseHeader → Bool → Option DurationValue → ℕ → ℕ → RespCacheable
 verdict now ds header authorized default revalidate error =
-    kept_until (fresh_until_by now ds (lines_under (codes "expires") header.headers) authorized default) now ds header revalidate error
+    kept_until (fresh_until_of now ds header authorized default) now ds header revalidate error
+
+-- the same with the defaults together; `duration` gives the lifetime by status
+abbrev pub verdict_by : {F : Type 0} → MomentValue → Option (List Written) → ResponseHeader → Bool → (F → ℕ → Option DurationValue) → CacheMetaDefaults F → RespCacheable
+verdict_by now ds header authorized duration defaults =
+    verdict now ds header authorized (status_lifetime duration defaults header.status) defaults.stale_while_revalidate_sec defaults.stale_if_error_sec

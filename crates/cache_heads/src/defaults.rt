@@ -1,7 +1,7 @@
-//! What counts where a response says nothing.
+//! Defaults for what a response does not say.
 ghost use Rattle.std.specs.Prelude.{◌≡◌, ◌==◌, ℕ, Option, None, if◌then◌else◌};
 ghost use Rattle.cache_words.specs.Time.{DurationValue};
-ghost use Rattle.cache_heads.specs.Status.{status_asked};
+ghost use Rattle.cache_heads.specs.Defaults.{status_lifetime};
 
 use cache_words::time::Duration;
 use http::StatusCode;
@@ -11,7 +11,7 @@ pub trait FreshDurationByStatusFn {
     // The time by status.
     ghost duration: { Self → ℕ → Option DurationValue };
 
-    /// The time for a status.
+    /// Returns how long a response of this status is fresh.
     fn fresh_duration(&self, status: StatusCode) -> Option<Duration>
         ensures { result ≡ duration self.now status };
 }
@@ -28,21 +28,25 @@ impl FreshDurationByStatusFn for NeverByStatus {
     }
 }
 
-/// What counts where a response says nothing: its freshness by status, and how long it may be
-/// served stale.
+/// Defaults for what a response does not say: how long it is fresh, by its status, and how long
+/// it may be served stale.
 #[derive(Debug, Drop)]
 pub struct CacheMetaDefaults<F> {
-    /// How long a response is fresh by its status.
+    /// How long a response is fresh, by its status.
     pub fresh_sec_fn: F,
-    /// For how many seconds a stale response is served while it is validated.
+    /// For how many seconds a stale response may be served while it is validated.
     pub stale_while_revalidate_sec: u32,
-    /// For how many seconds a stale response is served on errors.
+    /// For how many seconds a stale response may be served on errors.
     pub stale_if_error_sec: u32,
 }
 
 impl<F: FreshDurationByStatusFn> CacheMetaDefaults<F> {
-    /// The defaults of these three.
-    pub fn new(fresh_sec_fn: F, stale_while_revalidate_sec: u32, stale_if_error_sec: u32) -> Self
+    /// Makes the defaults of these three.
+    pub const fn new(
+        fresh_sec_fn: F,
+        stale_while_revalidate_sec: u32,
+        stale_if_error_sec: u32,
+    ) -> Self
         ensures by_status { result.fresh_sec_fn ≡ fresh_sec_fn }
         ensures revalidate { result.stale_while_revalidate_sec ≡ stale_while_revalidate_sec }
         ensures error { result.stale_if_error_sec ≡ stale_if_error_sec }
@@ -54,9 +58,10 @@ impl<F: FreshDurationByStatusFn> CacheMetaDefaults<F> {
         }
     }
 
-    /// How long a response of this status is fresh. A 304 has the time of a 200, which it renews.
+    /// Returns how long a response of this status is fresh. A 304 has the lifetime of a 200, since
+    /// it renews one.
     pub fn fresh_sec(&self, resp_status: StatusCode) -> Option<Duration>
-        ensures { result ≡ F.duration self.now.fresh_sec_fn (status_asked resp_status) }
+        ensures { result ≡ status_lifetime F.duration self.now resp_status }
     {
         if resp_status == StatusCode::NOT_MODIFIED {
             self.fresh_sec_fn.fresh_duration(StatusCode::OK)
@@ -65,14 +70,14 @@ impl<F: FreshDurationByStatusFn> CacheMetaDefaults<F> {
         }
     }
 
-    /// For how many seconds a stale response is served while it is validated.
+    /// Returns for how many seconds a stale response may be served while it is validated.
     pub fn serve_stale_while_revalidate_sec(&self) -> u32
         ensures { result ≡ self.now.stale_while_revalidate_sec }
     {
         self.stale_while_revalidate_sec
     }
 
-    /// For how many seconds a stale response is served on errors.
+    /// Returns for how many seconds a stale response may be served on errors.
     pub fn serve_stale_if_error_sec(&self) -> u32
         ensures { result ≡ self.now.stale_if_error_sec }
     {

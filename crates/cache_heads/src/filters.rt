@@ -3,11 +3,11 @@ ghost use Rattle.std.specs.Prelude.{◌≡◌, ◌⊎◌, ◌↔◌, IsTrue, OnO
 ghost use Rattle.cache_words.specs.Time.{MomentValue};
 ghost use Rattle.cache_directives.specs.Control.{directives_of, lines_under};
 ghost use Rattle.cache_directives.specs.Lifetime.{allows_authorized, forbids_storing};
-ghost use Rattle.cache_heads.specs.FreshUntil.{lasts_to, by_directives, by_expires, holds_of, is_barred, fresh_until_by};
-ghost use Rattle.cache_heads.specs.Given.{given};
+ghost use Rattle.cache_heads.specs.Defaults.{status_lifetime};
+ghost use Rattle.cache_heads.specs.Directives.{directives_in};
+ghost use Rattle.cache_heads.specs.FreshUntil.{lasts_to, by_directives, by_expires, trimmed, holds_of, is_barred, fresh_until_of};
 ghost use Rattle.cache_heads.specs.Stale.{in_range, window, revalidate_window, error_window};
-ghost use Rattle.cache_heads.specs.Status.{status_asked};
-ghost use Rattle.cache_heads.specs.Verdict.{verdict, kept_header};
+ghost use Rattle.cache_heads.specs.Verdict.{verdict_by, kept_header};
 
 pub mod upstream;
 
@@ -15,23 +15,23 @@ use crate::defaults::{CacheMetaDefaults, FreshDurationByStatusFn};
 use crate::meta::CacheMeta;
 use crate::reason::{NoCacheReason, RespCacheable};
 use cache_directives::{
-    CacheControl, Cacheable, DELTA_SECONDS_OVERFLOW_VALUE, InterpretCacheControl, RequestHeader,
-    ResponseHeader,
+    CacheControl, Cacheable, DELTA_SECONDS_OVERFLOW_VALUE, InterpretCacheControl,
 };
+use cache_headers::{RequestHeader, ResponseHeader};
 use cache_words::time::{Duration, Moment};
 use http::Method;
 use httpdate::HttpDate;
 
-/// Whether the response to a request may be kept by the request's method (RFC 9110, 9.2.3): GET
-/// or HEAD.
+/// Returns whether the response to a request may be stored by the request's method: GET or HEAD,
+/// of the methods that RFC 9110, 9.2.3, allows.
 pub fn request_cacheable(req_header: &RequestHeader) -> bool
     ensures { IsTrue result ↔ ((req_header.now.method ≡ codes "GET") ⊎ (req_header.now.method ≡ codes "HEAD")) }
 {
     req_header.method == Method::GET || req_header.method == Method::HEAD
 }
 
-/// Whether a response that came at `now` is kept, and with which meta. Its directives are those of
-/// `cache_control`; `authorization_present` says that its request had Authorization.
+/// Returns whether a response that came at `now` is kept, and with which meta. `cache_control` has
+/// its directives; `authorization_present` says that its request had Authorization.
 pub fn resp_cacheable<F: FreshDurationByStatusFn>(
     now: Moment,
     cache_control: Option<&CacheControl>,
@@ -39,7 +39,7 @@ pub fn resp_cacheable<F: FreshDurationByStatusFn>(
     authorization_present: bool,
     defaults: &CacheMetaDefaults<F>,
 ) -> RespCacheable
-    ensures { result ≡ verdict now (given cache_control.entry) resp_header authorization_present (F.duration defaults.now.fresh_sec_fn (status_asked resp_header.status)) defaults.now.stale_while_revalidate_sec defaults.now.stale_if_error_sec }
+    ensures { result ≡ verdict_by now (directives_in cache_control.entry) resp_header authorization_present F.duration defaults.now }
 {
     let until = calculate_fresh_until(
         now,
@@ -56,9 +56,9 @@ pub fn resp_cacheable<F: FreshDurationByStatusFn>(
     RespCacheable::Cacheable(CacheMeta::new(fresh_until, now, revalidate, error, header))
 }
 
-/// Until when a response that came at `now` is fresh: the first source that gives a moment, of the
-/// directives, Expires and the default of the status (RFC 9111, 4.2.1). `None` where none does, and
-/// where the response may not be stored (RFC 9111, 3).
+/// Returns until when a response that came at `now` is fresh: by its directives, else by Expires,
+/// else by its status (RFC 9111, 4.2.1). `None` where none of these gives a moment, and where the
+/// response may not be stored (RFC 9111, 3 and 3.5).
 pub fn calculate_fresh_until<F: FreshDurationByStatusFn>(
     now: Moment,
     cache_control: Option<&CacheControl>,
@@ -66,7 +66,7 @@ pub fn calculate_fresh_until<F: FreshDurationByStatusFn>(
     authorization_present: bool,
     defaults: &CacheMetaDefaults<F>,
 ) -> Option<Moment>
-    ensures { result ≡ fresh_until_by now (given cache_control.entry) (lines_under (codes "expires") resp_header.now.headers) authorization_present (F.duration defaults.now.fresh_sec_fn (status_asked resp_header.now.status)) }
+    ensures { result ≡ fresh_until_of now (directives_in cache_control.entry) resp_header.now authorization_present (status_lifetime F.duration defaults.now resp_header.now.status) }
 {
     if is_barred(cache_control, authorization_present) {
         return None;
@@ -80,8 +80,9 @@ pub fn calculate_fresh_until<F: FreshDurationByStatusFn>(
     lasts_to(now, defaults.fresh_sec(resp_header.status)?)
 }
 
-/// The moment that Expires gives (RFC 9111, 5.3): 1970 where its value is no date; `None` without
-/// it and where it comes more than once.
+/// Returns the moment that Expires gives, or 1970 where its value is no date, which counts as past
+/// (RFC 9111, 5.3). White space around the value is no part of it. `None` without Expires, and
+/// where it comes more than once: then it is ignored, as in the original.
 pub fn calculate_expires_header_time(resp_header: &ResponseHeader) -> Option<Moment>
     ensures { result ≡ by_expires (lines_under (codes "expires") resp_header.now.headers) }
 {
@@ -90,20 +91,21 @@ pub fn calculate_expires_header_time(resp_header: &ResponseHeader) -> Option<Mom
     if values.next().is_some() {
         return None;
     }
-    match HttpDate::parse_ascii(value.as_bytes()) {
+    match HttpDate::parse_ascii(trimmed(value.as_bytes())) {
         Ok(date) => Some(Moment::from_seconds(date.unix_secs() as i64)),
         Err(_) => Some(Moment::from_seconds(0)),
     }
 }
 
-/// For how many seconds a stale response is served while it is validated, and on errors: by its
-/// directives, else by the defaults (RFC 5861). Seconds past 4294967295 count as 2147483647.
-pub fn calculate_serve_stale_durations<F: FreshDurationByStatusFn>(
-    cache_control: Option<&CacheControl>,
+/// Returns for how many seconds a stale response may be served while it is validated, and on
+/// errors (RFC 5861): by its directives, else by the defaults. Seconds past `u32::MAX` count as
+/// `DELTA_SECONDS_OVERFLOW_VALUE`.
+pub fn calculate_serve_stale_durations<C: InterpretCacheControl, F: FreshDurationByStatusFn>(
+    cache_control: Option<&C>,
     defaults: &CacheMetaDefaults<F>,
 ) -> (u32, u32)
-    ensures revalidate { result.0 ≡ revalidate_window (given cache_control.entry) defaults.now.stale_while_revalidate_sec }
-    ensures error { result.1 ≡ error_window (given cache_control.entry) defaults.now.stale_if_error_sec }
+    ensures revalidate { result.0 ≡ revalidate_window (option_map (λ c. C.directives c.now) cache_control.entry) defaults.now.stale_while_revalidate_sec }
+    ensures error { result.1 ≡ error_window (option_map (λ c. C.directives c.now) cache_control.entry) defaults.now.stale_if_error_sec }
 {
     let Some(control) = cache_control else {
         return (
@@ -125,18 +127,22 @@ fn seconds_or(window: Option<Duration>, default: u32) -> u32
 {
     match window {
         None => default,
-        Some(duration) => {
-            let seconds = duration.seconds();
-            if seconds > 4_294_967_295 {
-                DELTA_SECONDS_OVERFLOW_VALUE
-            } else {
-                seconds as u32
-            }
-        }
+        Some(duration) => match u32::try_from(duration.seconds()) {
+            Ok(seconds) => seconds,
+            Err(_) => DELTA_SECONDS_OVERFLOW_VALUE,
+        },
     }
 }
 
-// The moment a lifetime later.
+// The bytes without the white space around them.
+fn trimmed(value: &[u8]) -> &[u8]
+    ensures { result.now ≡ trimmed value.now }
+{
+    value.trim_ascii()
+}
+
+// The moment a lifetime later; a lifetime of 0 gives the second before, so that the response is
+// stale at once.
 fn lasts_to(now: Moment, lifetime: Duration) -> Option<Moment>
     ensures { result ≡ lasts_to now lifetime }
 {
@@ -147,9 +153,9 @@ fn lasts_to(now: Moment, lifetime: Duration) -> Option<Moment>
     }
 }
 
-// Whether the response may not be stored, whatever its age.
+// Whether the response may not be stored, however long it would be fresh.
 fn is_barred(cache_control: Option<&CacheControl>, authorization_present: bool) -> bool
-    ensures { result ≡ is_barred (given cache_control.entry) authorization_present }
+    ensures { result ≡ is_barred (directives_in cache_control.entry) authorization_present }
 {
     match cache_control {
         None => authorization_present,
@@ -162,14 +168,14 @@ fn is_barred(cache_control: Option<&CacheControl>, authorization_present: bool) 
 
 // The moment that the directives give.
 fn moment_by_directives(now: Moment, cache_control: Option<&CacheControl>) -> Option<Moment>
-    ensures { result ≡ by_directives now (given cache_control.entry) }
+    ensures { result ≡ by_directives now (directives_in cache_control.entry) }
 {
     lasts_to(now, cache_control?.fresh_duration()?)
 }
 
 // The head that is kept: without the fields that the directives list.
 fn kept_header(cache_control: Option<&CacheControl>, resp_header: ResponseHeader) -> ResponseHeader
-    ensures { result ≡ kept_header resp_header (given cache_control.entry) }
+    ensures { result ≡ kept_header resp_header (directives_in cache_control.entry) }
 {
     let mut header = resp_header;
     if let Some(control) = cache_control {

@@ -9,11 +9,11 @@ use crate::meta::CacheMeta;
 pub enum NoCacheReason {
     /// The cache was never enabled.
     NeverEnabled,
-    /// The origin says so, or says nothing.
+    /// The origin forbids it, or does not say how long the response is fresh.
     OriginNotCache,
-    /// The response is larger than is kept.
+    /// The response is larger than the greatest size that is kept.
     ResponseTooLarge,
-    /// The response was expected to be larger than is kept.
+    /// The response was predicted to be larger than the greatest size that is kept.
     PredictedResponseTooLarge,
     /// The store failed.
     StorageError,
@@ -29,14 +29,14 @@ pub enum NoCacheReason {
     CacheLockGiveUp,
     /// The cache lock was held too long.
     CacheLockTimeout,
-    /// The cache lock was waited for too often.
+    /// The cache lock was waited for too many times.
     CacheLockRetryLimit,
     /// A reason of the user's own.
     Custom(&'static str),
 }
 
 impl NoCacheReason {
-    /// The reason's name; of `Custom` its text.
+    /// Returns the reason's name; of `Custom` its text.
     pub fn as_str(&self) -> &'static str
         ensures { result.now ≡ reason_name self.now }
     {
@@ -68,14 +68,14 @@ pub enum RespCacheable {
 }
 
 impl RespCacheable {
-    /// Whether it is kept.
+    /// Returns whether the response is kept.
     pub fn is_cacheable(&self) -> bool
         ensures { IsTrue result ↔ IsCacheable self.now }
     {
         matches!(self, RespCacheable::Cacheable(_))
     }
 
-    /// The meta of a response that is kept.
+    /// Returns the meta of a response that is kept.
     pub fn unwrap_meta(self) -> CacheMeta
         requires { IsCacheable self }
         ensures { self ≡ RespCacheable.Cacheable result }

@@ -1,8 +1,10 @@
 //! Cases of directives: the lines of a header in hex, between commas.
 use crate::fields::add;
-use cache_directives::{CacheControl, Cacheable, InterpretCacheControl, ListValueIter};
+use crate::words::{list_or_dash, number, push_word};
+use cache_directives::{
+    CacheControl, Cacheable, DirectiveKey, DirectiveValue, InterpretCacheControl, ListValueIter,
+};
 use cache_headers::Error;
-use cache_words::time::Duration;
 use http_header::HeaderMap;
 use std::alloc::{AllocError, Global};
 
@@ -19,109 +21,108 @@ pub fn outcome(alloc: Global, case: &str) -> Result<String, AllocError> {
 }
 
 fn shown(alloc: Global, control: &CacheControl) -> Result<String, AllocError> {
-    let mut text = String::new(alloc);
-    push_directives(alloc, &mut text, control)?;
-    text.push_str(match control.is_cacheable() {
-        Cacheable::Yes => " Yes",
-        Cacheable::No => " No",
-        Cacheable::Default => " Default",
-    })?;
-    push_flag(&mut text, control.allow_caching_authorized_req())?;
-    push_time(alloc, &mut text, control.fresh_duration())?;
-    push_time(
-        alloc,
+    let mut text = directives(alloc, control)?;
+    push_interpretation(alloc, &mut text, control)?;
+    for seconds in [
+        control.max_age(),
+        control.s_maxage(),
+        control.stale_while_revalidate(),
+        control.stale_if_error(),
+    ] {
+        push_word(&mut text, ' ', seconds_or_error(alloc, seconds)?.as_str())?;
+    }
+    for flag in [control.private(), control.no_cache()] {
+        push_word(&mut text, ' ', digit(flag))?;
+    }
+    push_word(
         &mut text,
-        control.serve_stale_while_revalidate_duration(),
+        ' ',
+        names(alloc, control.private_field_names())?.as_str(),
     )?;
-    push_time(alloc, &mut text, control.serve_stale_if_error_duration())?;
-    push_questions(alloc, &mut text, control)?;
+    push_word(
+        &mut text,
+        ' ',
+        names(alloc, control.no_cache_field_names())?.as_str(),
+    )?;
     Ok(text)
 }
 
-fn push_questions(
+fn push_interpretation(
     alloc: Global,
     text: &mut String,
     control: &CacheControl,
 ) -> Result<(), AllocError> {
-    push_seconds(alloc, text, control.max_age())?;
-    push_seconds(alloc, text, control.s_maxage())?;
-    push_seconds(alloc, text, control.stale_while_revalidate())?;
-    push_seconds(alloc, text, control.stale_if_error())?;
-    push_flag(text, control.private())?;
-    push_flag(text, control.no_cache())?;
-    push_names(alloc, text, control.private_field_names())?;
-    push_names(alloc, text, control.no_cache_field_names())
-}
-
-fn push_directives(
-    alloc: Global,
-    text: &mut String,
-    control: &CacheControl,
-) -> Result<(), AllocError> {
-    let mut first = true;
-    for (key, value) in control.directives.iter() {
-        if !first {
-            text.push(';')?;
-        }
-        first = false;
-        text.push_str(key.as_str())?;
-        text.push(':')?;
-        match value {
-            Some(value) => {
-                text.push('=')?;
-                text.push_str(hex::encode(alloc, value.as_ref())?.as_str())?;
-            }
-            None => text.push('-')?,
-        }
+    let cacheable = match control.is_cacheable() {
+        Cacheable::Yes => "Yes",
+        Cacheable::No => "No",
+        Cacheable::Default => "Default",
+    };
+    for word in [cacheable, digit(control.allow_caching_authorized_req())] {
+        push_word(text, ' ', word)?;
     }
-    if first {
-        text.push('-')?;
+    for time in [
+        control.fresh_duration(),
+        control.serve_stale_while_revalidate_duration(),
+        control.serve_stale_if_error_duration(),
+    ] {
+        let seconds = time.map(|duration| duration.seconds());
+        push_word(text, ' ', number(alloc, seconds)?.as_str())?;
     }
     Ok(())
 }
 
-fn push_flag(text: &mut String, flag: bool) -> Result<(), AllocError> {
-    text.push_str(if flag { " 1" } else { " 0" })
+fn directives(alloc: Global, control: &CacheControl) -> Result<String, AllocError> {
+    let mut list = String::new(alloc);
+    for (key, value) in control.directives.iter() {
+        push_word(&mut list, ';', directive(alloc, key, value)?.as_str())?;
+    }
+    list_or_dash(alloc, list)
 }
 
-fn push_time(alloc: Global, text: &mut String, time: Option<Duration>) -> Result<(), AllocError> {
-    match time {
-        Some(duration) => {
-            let seconds = duration.seconds();
-            text.push_str(format!(in alloc; " {seconds}")?.as_str())
+// A directive's name, and its value in hex.
+fn directive(
+    alloc: Global,
+    key: &DirectiveKey,
+    value: &Option<DirectiveValue>,
+) -> Result<String, AllocError> {
+    let name = key.as_str();
+    match value {
+        Some(value) => {
+            let value = hex::encode(alloc, value.as_ref())?;
+            format!(in alloc; "{name}:={value}")
         }
-        None => text.push_str(" -"),
+        None => format!(in alloc; "{name}:-"),
     }
 }
 
-fn push_seconds(
+fn digit(flag: bool) -> &'static str {
+    if flag { "1" } else { "0" }
+}
+
+fn seconds_or_error(
     alloc: Global,
-    text: &mut String,
     seconds: Result<Option<u32>, Error>,
-) -> Result<(), AllocError> {
+) -> Result<String, AllocError> {
     match seconds {
-        Ok(Some(seconds)) => text.push_str(format!(in alloc; " {seconds}")?.as_str()),
-        Ok(None) => text.push_str(" -"),
-        Err(_) => text.push_str(" !"),
+        Ok(seconds) => number(alloc, seconds.map(|seconds| seconds as u64)),
+        Err(_) => String::from_str(alloc, "!"),
     }
 }
 
-fn push_names(
-    alloc: Global,
-    text: &mut String,
-    names: Option<ListValueIter<'_>>,
-) -> Result<(), AllocError> {
+// The listed names in hex, between brackets. A name may be empty.
+fn names(alloc: Global, names: Option<ListValueIter<'_>>) -> Result<String, AllocError> {
     let Some(names) = names else {
-        return text.push_str(" -");
+        return String::from_str(alloc, "-");
     };
-    text.push_str(" [")?;
-    let mut first = true;
+    let mut list = String::from_str(alloc, "[")?;
+    let mut is_first = true;
     for name in names {
-        if !first {
-            text.push(',')?;
+        if !is_first {
+            list.push(',')?;
         }
-        first = false;
-        text.push_str(hex::encode(alloc, name)?.as_str())?;
+        is_first = false;
+        list.push_str(hex::encode(alloc, name)?.as_str())?;
     }
-    text.push(']')
+    list.push(']')?;
+    Ok(list)
 }

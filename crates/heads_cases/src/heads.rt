@@ -3,12 +3,12 @@
 ghost use Rattle.heads_cases.specs.ByStatus.{by_status};
 
 use crate::fields::add;
+use crate::words::{list_or_dash, push_word};
 use cache_directives::CacheControl;
 use cache_headers::ResponseHeader;
 use cache_heads::RespCacheable;
-use cache_heads::defaults::{CacheMetaDefaults, FreshDurationByStatusFn};
 use cache_heads::filters::resp_cacheable;
-use cache_heads::meta::CacheMeta;
+use cache_heads::meta::{CacheMeta, CacheMetaDefaults, FreshDurationByStatusFn};
 use cache_words::time::{Duration, Moment};
 use http::StatusCode;
 use http_header::HeaderMap;
@@ -45,34 +45,30 @@ pub fn outcome(alloc: Global, case: &str) -> Result<String, AllocError> {
     let (Some(on), Some(times), Some(fields)) = (words.next(), words.next(), words.next()) else {
         return String::from_str(alloc, "?");
     };
-    let (Ok(at), Ok(status)) = (at.parse::<i64>(), status.parse::<u16>()) else {
-        return String::from_str(alloc, "?");
-    };
-    let Ok(status) = StatusCode::from_u16(status) else {
+    let Ok(status) = StatusCode::from_bytes(status.as_bytes()) else {
         return String::from_str(alloc, "?");
     };
     let header = ResponseHeader {
         status,
         headers: headers(alloc, fields)?,
     };
-    let control = CacheControl::from_resp_headers(alloc, &header)?;
-    let found = judged(at, control.as_ref(), header, auth == "1", on == "1");
-    match found {
+    match judged(alloc, moment(at), header, auth == "1", on == "1")? {
         RespCacheable::Cacheable(meta) => shown(alloc, &meta, times),
         RespCacheable::Uncacheable(reason) => String::from_str(alloc, reason.as_str()),
     }
 }
 
 fn judged(
-    at: i64,
-    control: Option<&CacheControl>,
+    alloc: Global,
+    at: Moment,
     header: ResponseHeader,
     auth: bool,
     is_on: bool,
-) -> RespCacheable {
+) -> Result<RespCacheable, AllocError> {
+    let control = CacheControl::from_resp_headers(alloc, &header)?;
     let error: u32 = if is_on { 2_147_483_647 } else { 0 };
     let defaults = CacheMetaDefaults::new(ByStatus { is_on }, 0, error);
-    resp_cacheable(Moment::from_seconds(at), control, header, auth, &defaults)
+    Ok(resp_cacheable(at, control.as_ref(), header, auth, &defaults))
 }
 
 fn headers(alloc: Global, fields: &str) -> Result<HeaderMap, AllocError> {
@@ -85,47 +81,44 @@ fn headers(alloc: Global, fields: &str) -> Result<HeaderMap, AllocError> {
     Ok(all)
 }
 
+// The end of freshness, the windows and the lifetime, what holds at the moments, and the fields.
 fn shown(alloc: Global, meta: &CacheMeta, times: &str) -> Result<String, AllocError> {
     let until = meta.fresh_until().seconds();
     let revalidate = meta.stale_while_revalidate_sec();
     let error = meta.stale_if_error_sec();
     let fresh_sec = meta.fresh_sec();
-    let mut text = format!(in alloc; "until={until} {revalidate} {error} {fresh_sec} ")?;
-    push_answers(&mut text, meta, times)?;
-    text.push(' ')?;
-    let mut first = true;
-    for name in meta.headers().keys() {
-        if !first {
-            text.push(',')?;
-        }
-        first = false;
-        text.push_str(name.as_str())?;
-    }
-    if first {
-        text.push('-')?;
-    }
-    Ok(text)
+    let served = served(alloc, meta, times)?;
+    let fields = fields(alloc, meta)?;
+    format!(in alloc; "until={until} {revalidate} {error} {fresh_sec} {served} {fields}")
 }
 
-fn push_answers(text: &mut String, meta: &CacheMeta, times: &str) -> Result<(), AllocError> {
-    for time in times.split(',') {
-        push_flag(text, meta.is_fresh(moment(time)))?;
+fn fields(alloc: Global, meta: &CacheMeta) -> Result<String, AllocError> {
+    let mut names = String::new(alloc);
+    for name in meta.headers().keys() {
+        push_word(&mut names, ',', name.as_str())?;
     }
-    text.push(' ')?;
+    list_or_dash(alloc, names)
+}
+
+// A digit for each moment: whether the response is fresh, may be served while it is validated, and
+// on errors.
+fn served(alloc: Global, meta: &CacheMeta, times: &str) -> Result<String, AllocError> {
+    let mut fresh = String::new(alloc);
+    let mut revalidate = String::new(alloc);
+    let mut error = String::new(alloc);
     for time in times.split(',') {
-        push_flag(text, meta.serve_stale_while_revalidate(moment(time)))?;
+        let time = moment(time);
+        fresh.push(digit(meta.is_fresh(time)))?;
+        revalidate.push(digit(meta.serve_stale_while_revalidate(time)))?;
+        error.push(digit(meta.serve_stale_if_error(time)))?;
     }
-    text.push(' ')?;
-    for time in times.split(',') {
-        push_flag(text, meta.serve_stale_if_error(moment(time)))?;
-    }
-    Ok(())
+    format!(in alloc; "{fresh} {revalidate} {error}")
 }
 
 fn moment(time: &str) -> Moment {
     Moment::from_seconds(time.parse::<i64>().unwrap_or(0))
 }
 
-fn push_flag(text: &mut String, flag: bool) -> Result<(), AllocError> {
-    text.push(if flag { '1' } else { '0' })
+fn digit(flag: bool) -> char {
+    if flag { '1' } else { '0' }
 }

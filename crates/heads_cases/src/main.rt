@@ -5,6 +5,7 @@
 mod directives;
 mod fields;
 mod heads;
+mod words;
 
 use std::alloc::{AllocError, Global};
 use std::{fs, io};

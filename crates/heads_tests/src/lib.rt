@@ -1,6 +1,7 @@
-//! Tests of the crates that read heads: that calls succeed, what is printed, what hostile lines cost, and that a refused
-//! allocation is told.
+//! Tests of directives, heads and metas against values from outside.
 #![tactic(auto)]
 
 #[cfg(test)]
 mod directives;
+#[cfg(test)]
+mod heads;

@@ -1,4 +1,4 @@
-//! What a shared cache asks of the origin.
+//! What a shared cache sends to the origin.
 ghost use Rattle.std.specs.Prelude.{◌≡◌, IsOk, IsErrOf, IsNone, OnOk, OnErr, IfOk, option_map, option_copied};
 ghost use Rattle.http_header.specs.HeaderMap.{RefusesInsert};
 ghost use Rattle.cache_heads.specs.Requests.{method_sent, unconditional, fields_sent, with_value, with_validators, RefusesValidators, LacksRoom};
@@ -13,13 +13,13 @@ use http_header::{
 use std::alloc::AllocError;
 
 /// Makes a client's request the one that the cache sends on: HEAD becomes GET, and the client's
-/// conditions and range go, since the cache keeps whole responses. With a meta the request asks
-/// whether that response is still valid, by its Last-Modified and ETag (RFC 9111, 4.3.1).
+/// conditions and range are removed, since the cache keeps whole responses. With a meta the request
+/// validates that response, by its Last-Modified and ETag (RFC 9111, 4.3.1).
 ///
 /// # Errors
 ///
-/// `MaxSizeReached` where the request has no room for the conditions, `OutOfMemory` where there is
-/// no memory. The request is then as before. Neither comes without a meta.
+/// `MaxSizeReached` where the request has no room for the conditions, `OutOfMemory` when out of
+/// memory. The request is then unchanged. Neither comes without a meta.
 pub fn request_filter(
     req: &mut RequestHeader,
     meta: Option<&CacheMeta>,
@@ -35,7 +35,7 @@ pub fn request_filter(
     Ok(())
 }
 
-// GET in place of HEAD.
+// Makes HEAD a GET.
 fn send_method(method: &mut Method)
     ensures { method.new ≡ method_sent method.old }
 {
@@ -44,7 +44,8 @@ fn send_method(method: &mut Method)
     }
 }
 
-// The fields that are sent on. What can fail works on a copy, which shares its values.
+// Makes these the fields that are sent on. What can fail works on a copy, which shares its values,
+// so that an error leaves the fields unchanged.
 fn send_fields(headers: &mut HeaderMap, meta: Option<&CacheMeta>) -> Result<(), HeaderMapError>
     ensures fields { OnOk result (headers.new ≡ fields_sent headers.old (option_map (λ m. m.now.header.headers) meta.entry)) }
     ensures err { OnErr result (headers.new ≡ headers.old) }
@@ -63,7 +64,7 @@ fn send_fields(headers: &mut HeaderMap, meta: Option<&CacheMeta>) -> Result<(), 
     }
 }
 
-// A copy of the fields, with conditions by the fields of a kept response.
+// A copy of the fields, with conditions from the fields of a kept response.
 fn validating(headers: &HeaderMap, kept: &HeaderMap) -> Result<HeaderMap, HeaderMapError>
     ensures ok { IfOk result (λ sent. sent ≡ with_validators (unconditional headers.now) kept.now) }
     ensures full { IsErrOf result HeaderMapError.MaxSizeReached → RefusesValidators (unconditional headers.now) kept.now }
@@ -82,7 +83,7 @@ fn unconditional_copy(headers: &HeaderMap) -> Result<HeaderMap, AllocError>
     Ok(copy)
 }
 
-// Without the client's conditions and range.
+// Removes the client's conditions and range.
 #[tactic(auto, unfolding(crate::specs::Requests::unconditional))]
 fn remove_conditions(headers: &mut HeaderMap)
     ensures { headers.new ≡ unconditional headers.old }
@@ -95,7 +96,7 @@ fn remove_conditions(headers: &mut HeaderMap)
     let _ = headers.remove(RANGE);
 }
 
-// With conditions by the fields of a kept response.
+// Adds conditions from the fields of a kept response.
 fn add_validators(headers: &mut HeaderMap, kept: &HeaderMap) -> Result<(), HeaderMapError>
     ensures ok { OnOk result (headers.new ≡ with_validators headers.old kept.now) }
     ensures full { IsErrOf result HeaderMapError.MaxSizeReached → RefusesValidators headers.old kept.now }
@@ -104,7 +105,7 @@ fn add_validators(headers: &mut HeaderMap, kept: &HeaderMap) -> Result<(), Heade
     set_field(headers, IF_NONE_MATCH, kept.get(ETAG))
 }
 
-// With a value under a name, where there is one.
+// Sets the field to the value, where there is one.
 fn set_field(
     headers: &mut HeaderMap,
     name: HeaderName,

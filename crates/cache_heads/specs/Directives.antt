@@ -5,5 +5,5 @@ use Rattle.cache_directives.specs.Written.{Written}
 use Rattle.cache_directives.specs.Control.{directives_of}
 use Rattle.cache_directives.specs.declared.control.CacheControl.{CacheControl}
 
-abbrev pub given : Option (Bor CacheControl) → Option (List Written)
-given control = option_map (λ c. directives_of c.now) control
+abbrev pub directives_in : Option (Bor CacheControl) → Option (List Written)
+directives_in control = option_map (λ c. directives_of c.now) control

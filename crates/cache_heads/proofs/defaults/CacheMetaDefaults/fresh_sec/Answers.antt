@@ -1,0 +1,5 @@
+use Rattle.std.proofs.Common.{rules}
+use Rattle.cache_heads.proofs.defaults.CacheMetaDefaults.fresh_sec.Goals as goal
+
+pub returns-else-eq : goal.returns-else-eq
+returns-else-eq c = search rules

@@ -1,0 +1,5 @@
+use Rattle.std.proofs.Common.{rules}
+use Rattle.cache_heads.proofs.meta.CacheMeta.is_fresh.Goals as goal
+
+pub returns : goal.returns
+returns c = search rules
