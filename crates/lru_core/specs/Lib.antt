@@ -4,3 +4,4 @@ pub mod Cores
 pub mod Units
 pub mod Updates
 pub mod Orders
+pub mod FaultTexts

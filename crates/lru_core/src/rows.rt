@@ -3,11 +3,11 @@
 ghost use Rattle.std.specs.Prelude.{◌≡◌, ◌≢◌, ◌↔◌, ℕ, ◌+◌, ◌-◌, ◌<◌, ◌≤◌, ◌++◌, ◌∷◌, List, [], length, take, map, IsTrue, IsSome, is_some, IfSome, IfNone, IfOk, OnOk, OnErr, MatchOption, nat_eq, option_copied, not};
 ghost use Rattle.std.specs.Option.{option_to_list};
 ghost use Rattle.std.specs.HashMap.{get, spare};
-ghost use Rattle.lru_core.specs.Rows.{only, others, put, reweighed, a_row};
+ghost use Rattle.lru_core.specs.Rows.{only, others, promoted, put, reweighed, a_row};
 ghost use Rattle.lru_core.specs.Updates.{Updates};
 ghost use Rattle.lru_core.specs.declared.rows.Row.{Row};
 
-use lru_list::linked_list::{LinkedList, LinkedListIter, ListFault};
+use lru_list::linked_list::{LinkedList, LinkedListIter, ListFault, MOST_ITEMS};
 use std::alloc::{AllocError, Global};
 use std::collections::HashMap;
 use std::marker::Model;
@@ -70,7 +70,7 @@ impl<T> Rows<T> {
     /// Moves the row of `key` to the front, and answers whether there is one.
     pub fn promote(&mut self, key: u64) -> bool
         ensures found { IsTrue result ↔ (only key self.old ≢ []) }
-        ensures after { self.new ≡ only key self.old ++ others key self.old }
+        ensures after { self.new ≡ promoted key self.old }
     {
         match index_of(&self.table, key) {
             Some(i) => {
@@ -155,7 +155,7 @@ impl<T: Drop> Rows<T> {
         ensures ok { OnOk result (self.new ≡ row ∷ self.old) }
         ensures err { OnErr result (self.new ≡ self.old) }
         ensures memory { (back : Row T) → result ≡ Err (RowFault.Memory back) → back ≡ row }
-        ensures full { (back : Row T) → result ≡ Err (RowFault.Full back) → (back ≡ row) × (length self.old ≡ 4294967293) }
+        ensures full { (back : Row T) → result ≡ Err (RowFault.Full back) → (back ≡ row) × (length self.old ≡ MOST_ITEMS) }
     {
         let key = row.key;
         if room_for(&mut self.table, 1).is_err() {
@@ -177,7 +177,7 @@ impl<T: Drop> Rows<T> {
         ensures ok { OnOk result (self.new ≡ self.old ++ row ∷ []) }
         ensures err { OnErr result (self.new ≡ self.old) }
         ensures memory { (back : Row T) → result ≡ Err (RowFault.Memory back) → back ≡ row }
-        ensures full { (back : Row T) → result ≡ Err (RowFault.Full back) → (back ≡ row) × (length self.old ≡ 4294967293) }
+        ensures full { (back : Row T) → result ≡ Err (RowFault.Full back) → (back ≡ row) × (length self.old ≡ MOST_ITEMS) }
     {
         let key = row.key;
         if room_for(&mut self.table, 1).is_err() {
@@ -205,7 +205,7 @@ impl<T: Drop> Rows<T> {
         ensures ok { OnOk result ((d : T) × F.post make d × (self.new ≡ a_row key d weight ∷ self.old)) }
         ensures err { OnErr result (self.new ≡ self.old) }
         ensures memory { (back : F) → result ≡ Err (RowFault.Memory back) → back ≡ make }
-        ensures full { (back : F) → result ≡ Err (RowFault.Full back) → (back ≡ make) × (length self.old ≡ 4294967293) }
+        ensures full { (back : F) → result ≡ Err (RowFault.Full back) → (back ≡ make) × (length self.old ≡ MOST_ITEMS) }
     {
         if room_for(&mut self.table, 1).is_err() {
             return Err(RowFault::Memory(make));
