@@ -8,7 +8,7 @@ use Rattle.rand_core.specs.Stream.{Stream, next_u64}
 use Rattle.cache_words.specs.declared.key.CompactCacheKey.{CompactCacheKey}
 use Rattle.lru_core.specs.declared.rows.Row.{Row}
 use Rattle.lru_core.specs.Rows.{others, a_row}
-use Rattle.lru_core.specs.Cores.{Core, rows_at, longer, around, IsTail, IsStep, Evicts, is_over as is_core_over}
+use Rattle.lru_core.specs.Cores.{Core, rows_at, longer_of_two, first_nonempty_from, IsTail, IsStep, Evicts, is_over as is_core_over}
 use Rattle.tier_entries.specs.declared.rows.Tracked.{Tracked}
 use Rattle.tier_entries.specs.Rows.{weight_of, without_row, without_rows, is_over, IsLast, IsLawfulEviction, IsBegunEviction}
 use Rattle.tier_entries.specs.Keys.{same_entry}
@@ -24,10 +24,10 @@ either_way true n = refl
 either_way false n = refl
 
 -- every draw names the one shard
-one_place : (shards : List (List (Row CompactCacheKey))) (a b : ℕ) → around 1 shards 1 (longer shards (a % 1) (b % 1)) ≡ 0
+one_place : (shards : List (List (Row CompactCacheKey))) (a b : ℕ) → first_nonempty_from 1 shards 1 (longer_of_two shards (a % 1) (b % 1)) ≡ 0
 one_place shards a b =
-    let first : longer shards (a % 1) (b % 1) ≡ 0 = rw (modulo_one a, modulo_one b) (either_way _ 0) in
-    ap (around 1 shards 1) first ∙ either_way _ 0
+    let first : longer_of_two shards (a % 1) (b % 1) ≡ 0 = rw (modulo_one a, modulo_one b) (either_way _ 0) in
+    ap (first_nonempty_from 1 shards 1) first ∙ either_way _ 0
 
 -- what one step leaves
 record IsGone (name : ℕ → Option CompactCacheKey) (old new : Core CompactCacheKey) (pair : CompactCacheKey × ℕ) : Type 0 where

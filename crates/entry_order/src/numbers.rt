@@ -11,11 +11,11 @@ use tier_entries::keys::{is_entry_of, is_same_entry};
 
 /// Entries by their numbers: that of an entry is its index here.
 #[derive(Drop)]
-pub struct Names {
+pub struct EntryNumbers {
     list: Vec<Option<CompactCacheKey>>,
 }
 
-impl Model for Names {
+impl Model for EntryNumbers {
     ghost use Rattle.std.specs.Prelude.{List, Option};
     ghost use Rattle.cache_words.specs.declared.key.CompactCacheKey.{CompactCacheKey};
     ghost use Rattle.entry_order.specs.Names.{name_at, IsOneToOne};
@@ -27,17 +27,17 @@ impl Model for Names {
     ghost invariant = { λ n. IsOneToOne (name_at n.list.items) };
 }
 
-impl Names {
-    /// No entry has a number. It takes no memory.
-    pub fn new(alloc: Global) -> Names
+impl EntryNumbers {
+    /// Returns numbers that no entry has yet. It takes no memory.
+    pub fn new(alloc: Global) -> EntryNumbers
         ensures { result ≡ [] }
     {
-        Names {
+        EntryNumbers {
             list: Vec::new(alloc),
         }
     }
 
-    /// The number of an entry.
+    /// Returns the number of an entry.
     pub fn number_of(&self, entry: &CompactCacheKey) -> Option<u64>
         ensures some { IfSome result (λ k. name_at self.now k ≡ Some entry.now) }
         ensures none { IfNone result (HasNoNumber (name_at self.now) entry.now) }
@@ -52,7 +52,7 @@ impl Names {
         None
     }
 
-    /// The number of the entry of a key that is asked for.
+    /// Returns the number of the entry of a requested key.
     pub fn number_of_key(&self, key: &CacheKey) -> Option<u64>
         ensures some { IfSome result (λ k. name_at self.now k ≡ Some (entry_of key.now)) }
         ensures none { IfNone result (HasNoNumber (name_at self.now) (entry_of key.now)) }
@@ -67,7 +67,7 @@ impl Names {
         None
     }
 
-    /// The least number that no entry has, and room for a name there.
+    /// Returns the least number that no entry has, and makes room for a name there.
     pub fn free_number(&mut self) -> Result<u64, AllocError>
         ensures least { IfOk result (IsLeastFree (name_at self.old)) }
         ensures room { IfOk result (λ k. k < length self.new) }
@@ -83,8 +83,8 @@ impl Names {
         Ok(place as u64)
     }
 
-    /// Gives a free number to an entry that has none.
-    pub fn give(&mut self, number: u64, entry: CompactCacheKey)
+    /// Assigns a free number to an entry that has none.
+    pub fn assign(&mut self, number: u64, entry: CompactCacheKey)
         requires room { number < length self.old }
         requires free { name_at self.old number ≡ None }
         requires unnamed { HasNoNumber (name_at self.old) entry }
@@ -94,8 +94,8 @@ impl Names {
         self.list[number as usize] = Some(entry);
     }
 
-    /// Takes the number of an entry back, and answers it.
-    pub fn take_back(&mut self, entry: &CompactCacheKey) -> Option<u64>
+    /// Frees the number of an entry, and returns it.
+    pub fn release(&mut self, entry: &CompactCacheKey) -> Option<u64>
         ensures some { IfSome result (λ k. name_at self.old k ≡ Some entry.now) }
         ensures none { IfNone result (HasNoNumber (name_at self.old) entry.now) }
         ensures after { (i : ℕ) → name_at self.new i ≡ unless entry.now (name_at self.old i) }
@@ -105,8 +105,8 @@ impl Names {
         Some(number)
     }
 
-    /// Takes the number of the entry of a key that is asked for back, and answers it.
-    pub fn take_back_key(&mut self, key: &CacheKey) -> Option<u64>
+    /// Frees the number of the entry of a requested key, and returns it.
+    pub fn release_key(&mut self, key: &CacheKey) -> Option<u64>
         ensures some { IfSome result (λ k. name_at self.old k ≡ Some (entry_of key.now)) }
         ensures none { IfNone result (HasNoNumber (name_at self.old) (entry_of key.now)) }
         ensures after { (i : ℕ) → name_at self.new i ≡ unless (entry_of key.now) (name_at self.old i) }
@@ -116,12 +116,12 @@ impl Names {
         Some(number)
     }
 
-    /// Takes the numbers of all these entries back.
-    pub fn take_back_all(&mut self, pairs: &[(CompactCacheKey, usize)])
+    /// Frees the numbers of all these entries.
+    pub fn release_all(&mut self, pairs: &[(CompactCacheKey, usize)])
         ensures { (i : ℕ) → name_at self.new i ≡ unless_any (map (λ p. p.0) pairs.now) (name_at self.old i) }
     {
         'pairs: for (entry, _weight) in pairs {
-            let _number = self.take_back(entry);
+            let _number = self.release(entry);
         }
     }
 }
