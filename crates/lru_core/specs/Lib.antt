@@ -5,3 +5,4 @@ pub mod Units
 pub mod Updates
 pub mod Orders
 pub mod FaultTexts
+pub mod Fronts

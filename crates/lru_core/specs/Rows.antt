@@ -1,5 +1,5 @@
 -- Plain lists of rows, most recent first.
-use Rattle.std.specs.Prelude.{◌≡◌, ℕ, ◌+◌, ◌==◌, ◌≤◌, ◌⊎◌, ◌++◌, ◌∷◌, length, not, min, max, List, filter, map, Option, Some, None, is_some, cond, if◌then◌else◌, slice_get, filter_map}
+use Rattle.std.specs.Prelude.{◌≡◌, ◌≢◌, ℕ, [], ◌+◌, ◌==◌, ◌≤◌, ◌⊎◌, ◌++◌, ◌∷◌, length, not, min, max, List, filter, map, Option, Some, None, is_some, cond, if◌then◌else◌, slice_get, filter_map}
 use Rattle.std.specs.List.{sum_by}
 use Rattle.std.specs.Option.{option_map}
 use Rattle.std.specs.Borrow.{Bor}
@@ -54,6 +54,10 @@ a_row k d w = record { key = k; «data» = d; weight = w }
 -- the rows with data d and a weight of 1 at least under key k, at the front, in place of what the key had
 abbrev pub admitted : {T : Type 0} → ℕ → T → ℕ → List (Row T) → List (Row T)
 admitted k d w rows = a_row k d (max 1 w) ∷ others k rows
+
+-- key k is there and weighs w; what that leaves for the others
+abbrev pub Weighs : {T : Type 0} → ℕ → List (Row T) → ℕ → Type 0
+Weighs k rows w = (only k rows ≢ []) × (total_weight (only k rows) ≡ w) × (total_weight rows ≡ w + total_weight (others k rows)) × (length rows ≡ 1 + length (others k rows))
 
 -- the data and the weight of a row
 abbrev pub pair_of : {T : Type 0} → Row T → T × ℕ

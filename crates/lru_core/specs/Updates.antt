@@ -1,5 +1,5 @@
 -- What a closure makes of a row's data and weight, and that it was called with them.
-use Rattle.std.specs.Prelude.{◌≡◌, ℕ, ◌+◌, ◌<◌, ◌⊎◌, ◌∷◌, [], ⊤, List, Option, Some, max}
+use Rattle.std.specs.Prelude.{◌≡◌, ℕ, ◌+◌, ◌<◌, ◌⊎◌, ◌∷◌, [], ⊤, List, Option, Some, None, max}
 use Rattle.std.specs.Borrow.{Bor, MutBor}
 use Rattle.std.specs.Fn.{Once, Mut, Called}
 use Rattle.lru_core.specs.declared.rows.Row.{Row}
@@ -30,10 +30,15 @@ abbrev pub IsUpdated : {F T : Type 0} → Once F (MutBor T × (ℕ × ⊤)) (ℕ
 IsUpdated {F} {T} g f k old before after new =
     (row : Row T) × (d : T) × (w : ℕ) × UpdatesRow g f k old row d w × (before ≡ row.weight) × (after ≡ max 1 w) × (new ≡ admitted k d w old)
 
+-- The same, by the weight that was returned for a key that was there.
+abbrev pub WasUpdated : {F T : Type 0} → Once F (MutBor T × (ℕ × ⊤)) (ℕ × (MutBor T × ⊤)) → F → ℕ → List (Row T) → Option ℕ → List (Row T) → Type 0
+WasUpdated g f k old before new = (w : ℕ) × (now : ℕ) × (before ≡ Some w) × IsUpdated g f k old w now new
+
 -- The weight that f asked for passes the bound. Key k has the data that f made; its weight and its place are as before.
-abbrev pub IsUpdateRefused : {F T : Type 0} → Once F (MutBor T × (ℕ × ⊤)) (ℕ × (MutBor T × ⊤)) → F → ℕ → List (Row T) → ℕ → List (Row T) → Type 0
-IsUpdateRefused {F} {T} g f k old bound new =
-    (row : Row T) × (d : T) × (w : ℕ) × UpdatesRow g f k old row d w × (bound < total_weight (others k old) + max 1 w) × (new ≡ put (a_row k d row.weight) old)
+abbrev pub IsUpdateRefused : {F T : Type 0} → Once F (MutBor T × (ℕ × ⊤)) (ℕ × (MutBor T × ⊤)) → F → ℕ → List (Row T) → ℕ → LruFault (Option T) → List (Row T) → Type 0
+IsUpdateRefused {F} {T} g f k old bound fault new =
+    (fault ≡ Weight None)
+    × ((row : Row T) × (d : T) × (w : ℕ) × UpdatesRow g f k old row d w × (bound < total_weight (others k old) + max 1 w) × (new ≡ put (a_row k d row.weight) old))
 
 -- why a new key with data d and weight w is refused by a shard of these rows and that bound
 abbrev pub IsRefused : {T : Type 0} → T → ℕ → List (Row T) → ℕ → LruFault (Option T) → Type 0

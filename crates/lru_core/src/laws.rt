@@ -1,11 +1,14 @@
 //! Laws about the definitions of the contracts. Each is the contract of a function that does nothing.
 
-ghost use Rattle.std.specs.Prelude.{◌≡◌, ℕ, ◌≤◌, ◌++◌, List, [], length, map, reverse};
+ghost use Rattle.std.specs.Prelude.{◌≡◌, ℕ, ◌≤◌, ◌++◌, List, [], length, map, reverse, false};
 ghost use Rattle.std.specs.Borrow.{Bor};
 ghost use Rattle.lru_list.specs.BothEnds.{Call, Gives, from_front, from_back};
 ghost use Rattle.lru_core.specs.Rows.{promoted, reweighed, shown_pair};
 ghost use Rattle.lru_core.specs.Orders.{Distinct, with_all_last};
+ghost use Rattle.lru_core.specs.Cores.{Core, rows_at, is_over, Evicts};
+ghost use Rattle.lru_core.specs.Fronts.{IsLongestFront};
 ghost use Rattle.lru_core.specs.declared.rows.Row.{Row};
+ghost use Rattle.rand_core.specs.Stream.{Stream};
 
 /// Moving a key to the front twice is the same as moving it once.
 pub fn promoting_twice_is_once<T>()
@@ -27,4 +30,9 @@ pub fn rows_put_in_order_keep_it<T>()
 pub fn a_shard_gives_each_item_once<T>()
     ensures once { (calls : List (Call (Bor T × ℕ))) (xs rest : List (T × ℕ)) → Gives shown_pair xs calls rest → from_front shown_pair calls ++ (rest ++ reverse (from_back shown_pair calls)) ≡ xs }
     ensures ends { (calls : List (Call (Bor T × ℕ))) (xs rest : List (T × ℕ)) → Gives shown_pair xs calls rest → length xs ≤ length calls → rest ≡ [] }
+{}
+
+/// At one shard, what evictions to the limits leave is the longest front of the order of use that is within both.
+pub fn evictions_leave_the_longest_front<T>()
+    ensures { (old new : Core T) (pairs : List (T × ℕ)) (s rest : Stream) → length old.shards ≡ 1 → Evicts 1 old pairs s new rest → is_over new ≡ false → IsLongestFront old.limit old.watermark (rows_at old.shards 0) (rows_at new.shards 0) }
 {}

@@ -2,7 +2,7 @@
 
 ghost use Rattle.std.specs.Prelude.{◌≡◌, ◌≢◌, ◌↔◌, ℕ, ◌+◌, ◌^◌, ◌<◌, ◌≤◌, ◌++◌, ◌∷◌, List, [], length, take, IsTrue, is_some, IfSome, IfNone, MatchOption, option_copied};
 ghost use Rattle.std.specs.Option.{option_map, SomeIff};
-ghost use Rattle.lru_core.specs.Rows.{only, others, promoted, row_of, total_weight, capped, raised, a_row, pairs_of};
+ghost use Rattle.lru_core.specs.Rows.{only, others, promoted, row_of, total_weight, capped, raised, a_row, pairs_of, Weighs};
 ghost use Rattle.lru_core.specs.declared.rows.Row.{Row};
 
 pub use fault::LruFault;
@@ -131,7 +131,7 @@ fn raised(old: usize, delta: usize, max_weight: Option<usize>) -> Option<usize>
 
 // The weight of the row of `key`.
 fn weight_at<T>(rows: &Rows<T>, key: u64) -> Option<usize>
-    ensures some { IfSome result (λ w. (only key rows.now ≢ []) × (total_weight (only key rows.now) ≡ w) × (total_weight rows.now ≡ w + total_weight (others key rows.now)) × (length rows.now ≡ 1 + length (others key rows.now))) }
+    ensures some { IfSome result (λ w. Weighs key rows.now w) }
     ensures none { IfNone result ((only key rows.now ≡ []) × (others key rows.now ≡ rows.now)) }
 {
     let row = rows.get(key)?;

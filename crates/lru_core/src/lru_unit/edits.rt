@@ -150,7 +150,7 @@ impl<T: Drop> LruUnit<T> {
         ensures admitted { only key self.old.rows ≡ [] → IfOk result (λ p. (d : T) × F.post admit_data d × (self.new ≡ record self.old { rows = a_row key d p.1 ∷ self.old.rows })) }
         ensures err { OnErr result (self.new ≡ self.old) }
         ensures memory { (back : F) → result ≡ Err (LruFault.Memory back) → (back ≡ admit_data) × (only key self.old.rows ≡ []) }
-        ensures heavy { (back : F) → result ≡ Err (LruFault.Weight back) → (back ≡ admit_data) × (self.old.bound < total_weight (others key self.old.rows) + incremented key delta max_weight self.old.rows) }
+        ensures heavy { let rows = self.old.rows in (back : F) → result ≡ Err (LruFault.Weight back) → (back ≡ admit_data) × (self.old.bound < total_weight (others key rows) + incremented key delta max_weight rows) }
         ensures long { (back : F) → result ≡ Err (LruFault.Length back) → (back ≡ admit_data) × (only key self.old.rows ≡ []) × IsLong self.old.bound self.old.rows }
         ensures bound { self.new.bound ≡ self.old.bound }
     {
@@ -203,9 +203,9 @@ impl<T: Drop> LruUnit<T> {
         requires update { U.IsAlwaysCallable update }
         requires admit { A.IsAlwaysCallable admit_data }
         ensures updated { only key self.old.rows ≢ [] → IfOk result (λ p. (old : ℕ) × (p.0 ≡ Some old) × IsUpdated U.FnOnce update key self.old.rows old p.1 self.new.rows) }
-        ensures update_refused { only key self.old.rows ≢ [] → IfErr result (λ fault. (fault ≡ LruFault.Weight None) × IsUpdateRefused U.FnOnce update key self.old.rows self.old.bound self.new.rows) }
-        ensures admitted { only key self.old.rows ≡ [] → IfOk result (λ p. (d : T) × (w : ℕ) × A.post admit_data (d, w) × (p ≡ (None, max 1 w)) × (self.new.rows ≡ a_row key d (max 1 w) ∷ self.old.rows)) }
-        ensures refused { only key self.old.rows ≡ [] → IfErr result (λ fault. (d : T) × (w : ℕ) × A.post admit_data (d, w) × (self.new ≡ self.old) × IsRefused d w self.old.rows self.old.bound fault) }
+        ensures update_refused { only key self.old.rows ≢ [] → IfErr result (λ fault. IsUpdateRefused U.FnOnce update key self.old.rows self.old.bound fault self.new.rows) }
+        ensures admitted { let rows = self.old.rows in only key rows ≡ [] → IfOk result (λ p. (d : T) × (w : ℕ) × A.post admit_data (d, w) × (p ≡ (None, max 1 w)) × (self.new.rows ≡ a_row key d (max 1 w) ∷ rows)) }
+        ensures refused { let rows = self.old.rows in only key rows ≡ [] → IfErr result (λ fault. (d : T) × (w : ℕ) × A.post admit_data (d, w) × (self.new ≡ self.old) × IsRefused d w rows self.old.bound fault) }
         ensures bound { self.new.bound ≡ self.old.bound }
     {
         match weight_at(&self.rows, key) {

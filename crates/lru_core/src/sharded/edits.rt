@@ -4,7 +4,7 @@ ghost use Rattle.std.specs.Prelude.{◌≡◌, ◌≢◌, ◌↔◌, ℕ, ◌+�
 ghost use Rattle.std.specs.Option.{option_map};
 ghost use Rattle.lru_core.specs.Rows.{only, others, promoted, admitted, row_of, reweighed, total_weight, capped, raised, incremented, a_row, IsLong};
 ghost use Rattle.lru_core.specs.Cores.{shard_of, with_shard, shard_bound};
-ghost use Rattle.lru_core.specs.Updates.{IsUpdated, IsUpdateRefused, IsRefused};
+ghost use Rattle.lru_core.specs.Updates.{WasUpdated, IsUpdateRefused, IsRefused};
 
 use super::LruCore;
 use super::totals::Totals;
@@ -47,7 +47,7 @@ impl<T: Drop, const N: usize> LruCore<T, N> {
         ensures after { OnOk result (self.new ≡ with_shard N self.old key (admitted key item weight (shard_of N self.old key))) }
         ensures err { OnErr result (self.new ≡ self.old) }
         ensures memory { (back : T) → result ≡ Err (LruFault.Memory back) → (back ≡ item) × (only key (shard_of N self.old key) ≡ []) }
-        ensures heavy { (back : T) → result ≡ Err (LruFault.Weight back) → (back ≡ item) × (shard_bound N < total_weight (others key (shard_of N self.old key)) + max 1 weight) }
+        ensures heavy { let rows = shard_of N self.old key in (back : T) → result ≡ Err (LruFault.Weight back) → (back ≡ item) × (shard_bound N < total_weight (others key rows) + max 1 weight) }
         ensures long { (back : T) → result ≡ Err (LruFault.Length back) → (back ≡ item) × (only key (shard_of N self.old key) ≡ []) × IsLong (shard_bound N) (shard_of N self.old key) }
     {
         let place = self.place_of(key);
@@ -66,7 +66,7 @@ impl<T: Drop, const N: usize> LruCore<T, N> {
         ensures after { result ≡ Ok true → self.new ≡ with_shard N self.old key (shard_of N self.old key ++ a_row key item weight ∷ []) }
         ensures same { result ≢ Ok true → self.new ≡ self.old }
         ensures memory { (back : T) → result ≡ Err (LruFault.Memory back) → (back ≡ item) × (only key (shard_of N self.old key) ≡ []) }
-        ensures heavy { (back : T) → result ≡ Err (LruFault.Weight back) → (back ≡ item) × (only key (shard_of N self.old key) ≡ []) × (shard_bound N < total_weight (shard_of N self.old key) + weight) }
+        ensures heavy { let rows = shard_of N self.old key in (back : T) → result ≡ Err (LruFault.Weight back) → (back ≡ item) × (only key rows ≡ []) × (shard_bound N < total_weight rows + weight) }
         ensures long { (back : T) → result ≡ Err (LruFault.Length back) → (back ≡ item) × (only key (shard_of N self.old key) ≡ []) × IsLong (shard_bound N) (shard_of N self.old key) }
     {
         let place = self.place_of(key);
@@ -82,7 +82,7 @@ impl<T: Drop, const N: usize> LruCore<T, N> {
         ensures before { IfOk result (λ old. old ≡ option_map (λ r. r.weight) (row_of key (shard_of N self.old key))) }
         ensures after { OnOk result (self.new ≡ with_shard N self.old key (reweighed key weight (shard_of N self.old key))) }
         ensures err { OnErr result (self.new ≡ self.old) }
-        ensures heavy { IfErr result (λ fault. (fault ≡ LruFault.Weight tt) × (shard_bound N < total_weight (others key (shard_of N self.old key)) + weight)) }
+        ensures heavy { let rows = shard_of N self.old key in IfErr result (λ fault. (fault ≡ LruFault.Weight tt) × (shard_bound N < total_weight (others key rows) + weight)) }
     {
         let place = self.place_of(key);
         let unit = &mut self.units[place];
@@ -112,7 +112,7 @@ impl<T: Drop, const N: usize> LruCore<T, N> {
         ensures admitted { let rows = shard_of N self.old key in only key rows ≡ [] → IfOk result (λ w. (d : T) × F.post admit_data d × (self.new ≡ with_shard N self.old key (a_row key d w ∷ rows))) }
         ensures err { OnErr result (self.new ≡ self.old) }
         ensures memory { (back : F) → result ≡ Err (LruFault.Memory back) → (back ≡ admit_data) × (only key (shard_of N self.old key) ≡ []) }
-        ensures heavy { (back : F) → result ≡ Err (LruFault.Weight back) → (back ≡ admit_data) × (shard_bound N < total_weight (others key (shard_of N self.old key)) + incremented key delta max_weight (shard_of N self.old key)) }
+        ensures heavy { let rows = shard_of N self.old key in (back : F) → result ≡ Err (LruFault.Weight back) → (back ≡ admit_data) × (shard_bound N < total_weight (others key rows) + incremented key delta max_weight rows) }
         ensures long { (back : F) → result ≡ Err (LruFault.Length back) → (back ≡ admit_data) × (only key (shard_of N self.old key) ≡ []) × IsLong (shard_bound N) (shard_of N self.old key) }
     {
         let place = self.place_of(key);
@@ -142,10 +142,12 @@ impl<T: Drop, const N: usize> LruCore<T, N> {
         requires update { U.IsAlwaysCallable update }
         requires admit { A.IsAlwaysCallable admit_data }
         ensures elsewhere { self.new ≡ with_shard N self.old key (shard_of N self.new key) }
-        ensures updated { let rows = shard_of N self.old key in only key rows ≢ [] → IfOk result (λ p. (old : ℕ) × (now : ℕ) × (p ≡ Some old) × IsUpdated U.FnOnce update key rows old now (shard_of N self.new key)) }
-        ensures update_refused { let rows = shard_of N self.old key in only key rows ≢ [] → IfErr result (λ fault. (fault ≡ LruFault.Weight None) × IsUpdateRefused U.FnOnce update key rows (shard_bound N) (shard_of N self.new key)) }
-        ensures admitted { let rows = shard_of N self.old key in only key rows ≡ [] → IfOk result (λ p. (d : T) × (w : ℕ) × A.post admit_data (d, w) × (p ≡ None) × (shard_of N self.new key ≡ a_row key d (max 1 w) ∷ rows)) }
-        ensures refused { let rows = shard_of N self.old key in only key rows ≡ [] → IfErr result (λ fault. (d : T) × (w : ℕ) × A.post admit_data (d, w) × (self.new ≡ self.old) × IsRefused d w rows (shard_bound N) fault) }
+        ensures updated { let rows = shard_of N self.old key in only key rows ≢ [] → IfOk result (λ p. WasUpdated U.FnOnce update key rows p (shard_of N self.new key)) }
+        ensures update_refused { let rows = shard_of N self.old key in only key rows ≢ [] → IfErr result (λ fault. IsUpdateRefused U.FnOnce update key rows (shard_bound N) fault (shard_of N self.new key)) }
+        ensures new { only key (shard_of N self.old key) ≡ [] → IfOk result (λ p. p ≡ None) }
+        ensures admitted { let rows = shard_of N self.old key in only key rows ≡ [] → OnOk result ((d : T) × (w : ℕ) × A.post admit_data (d, w) × (shard_of N self.new key ≡ a_row key d (max 1 w) ∷ rows)) }
+        ensures same { only key (shard_of N self.old key) ≡ [] → OnErr result (self.new ≡ self.old) }
+        ensures refused { let rows = shard_of N self.old key in only key rows ≡ [] → IfErr result (λ fault. (d : T) × (w : ℕ) × A.post admit_data (d, w) × IsRefused d w rows (shard_bound N) fault) }
     {
         let place = self.place_of(key);
         let unit = &mut self.units[place];

@@ -1,6 +1,6 @@
 //! The nodes of a list: items with their two links, and the changes of the links.
 
-ghost use Rattle.std.specs.Prelude.{◌≡◌, ℕ, ◌+◌, ◌-◌, ◌^◌, ◌<◌, ◌≤◌, ◌++◌, ◌∷◌, [], length, true, IfOk, OnErr, slice_get, slice_index, slice_set, vec_len, vec_capacity};
+ghost use Rattle.std.specs.Prelude.{◌≡◌, ℕ, ◌+◌, ◌-◌, ◌^◌, ◌<◌, ◌≤◌, ◌++◌, ◌∷◌, [], length, true, IfOk, OnOk, OnErr, slice_get, slice_index, slice_set, vec_len, vec_capacity};
 ghost use Rattle.std.specs.List.{All};
 ghost use Rattle.lru_list.specs.Slots.{has};
 ghost use Rattle.lru_list.specs.Links.{IsChained};
@@ -175,9 +175,9 @@ fn fill_slot<K: Drop>(
     requires within { All (λ i. i < vec_len nodes.old) free.old.items }
     requires room { vec_len nodes.old ≤ vec_capacity free.old + 2 }
     ensures reused { IfOk result (λ i. 0 < length free.old.items → (free.old.items ≡ free.new.items ++ i ∷ []) × (items_of nodes.new.items ≡ slice_set (items_of nodes.old.items) i item)) }
-    ensures kept { IfOk result (λ i. 0 < length free.old.items → (nexts nodes.new.items ≡ nexts nodes.old.items) × (prevs nodes.new.items ≡ prevs nodes.old.items)) }
+    ensures kept { OnOk result (0 < length free.old.items → (nexts nodes.new.items ≡ nexts nodes.old.items) × (prevs nodes.new.items ≡ prevs nodes.old.items)) }
     ensures made { IfOk result (λ i. free.old.items ≡ [] → (i ≡ vec_len nodes.old) × (free.new.items ≡ []) × (items_of nodes.new.items ≡ items_of nodes.old.items ++ item ∷ [])) }
-    ensures unlinked { IfOk result (λ i. free.old.items ≡ [] → (nexts nodes.new.items ≡ nexts nodes.old.items ++ (2 ^ 32 - 1) ∷ []) × (prevs nodes.new.items ≡ prevs nodes.old.items ++ (2 ^ 32 - 1) ∷ [])) }
+    ensures unlinked { OnOk result (free.old.items ≡ [] → (nexts nodes.new.items ≡ nexts nodes.old.items ++ (2 ^ 32 - 1) ∷ []) × (prevs nodes.new.items ≡ prevs nodes.old.items ++ (2 ^ 32 - 1) ∷ [])) }
     ensures small { IfOk result (λ i. i < 2 ^ 32 - 1) }
     ensures err { OnErr result ((nodes.new.items ≡ nodes.old.items) × (free.new.items ≡ free.old.items)) }
     ensures room { vec_len nodes.new ≤ vec_capacity free.new + 2 }
