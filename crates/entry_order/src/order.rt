@@ -2,8 +2,8 @@
 
 ghost use Rattle.std.specs.Prelude.{◌≡◌, ◌≢◌, ℕ, ◌+◌, ◌%◌, ◌^◌, ◌<◌, ◌≤◌, ◌∷◌, [], length, map, max, true, false, Some, None, IfOk, IfErr, OnOk, OnErr, IsOk, slice_set};
 ghost use Rattle.std.specs.List.{All};
-ghost use Rattle.lru_core.specs.Rows.{only, others, total_weight as rows_weight, a_row};
-ghost use Rattle.lru_core.specs.Cores.{rows_at, core_weight};
+ghost use Rattle.lru_core.specs.Rows.{only, others, total_weight as rows_weight, admitted as admitted_row};
+ghost use Rattle.lru_core.specs.Cores.{rows_at, core_weight, shard_of, with_shard};
 ghost use Rattle.tier_entries.specs.Keys.{entry_of};
 ghost use Rattle.tier_entries.specs.Rows.{weight_of, all_weights, without_row, without_rows, admitted, used, IsLawfulEviction, IsBegunEviction};
 ghost use Rattle.entry_order.specs.Orders.{AreDistinct, IsDrawn};
@@ -207,7 +207,7 @@ fn put_row(
     entry: CompactCacheKey,
     weight: usize,
 ) -> Result<(), OrderFault>
-    ensures ok { OnOk result (core.new ≡ record core.old { shards = slice_set core.old.shards (number % 1) (a_row number entry (max 1 weight) ∷ others number (rows_at core.old.shards (number % 1))) }) }
+    ensures ok { OnOk result (core.new ≡ with_shard 1 core.old number (admitted_row number entry weight (shard_of 1 core.old number))) }
     ensures fits { OnOk result (core_weight core.new.shards < 2 ^ 64) }
     ensures err { OnErr result (core.new ≡ core.old) }
     ensures memory { result ≡ Err OrderFault.Memory → only number (rows_at core.old.shards (number % 1)) ≡ [] }

@@ -1,5 +1,5 @@
 -- Plain lists of rows, most recent first.
-use Rattle.std.specs.Prelude.{◌≡◌, ◌≢◌, ℕ, [], ◌+◌, ◌==◌, ◌≤◌, ◌⊎◌, ◌++◌, ◌∷◌, length, not, min, max, List, filter, map, Option, Some, None, is_some, cond, if◌then◌else◌, slice_get, filter_map}
+use Rattle.std.specs.Prelude.{◌≡◌, ◌≢◌, ℕ, [], ◌+◌, ◌==◌, ◌<◌, ◌≤◌, ◌⊎◌, ◌++◌, ◌∷◌, length, not, min, max, List, filter, map, Option, Some, None, is_some, cond, if◌then◌else◌, slice_get, filter_map}
 use Rattle.std.specs.List.{sum_by}
 use Rattle.std.specs.Option.{option_map}
 use Rattle.std.specs.Borrow.{Bor}
@@ -79,6 +79,10 @@ shown_pair p = (p.0.now, p.1)
 pub record Shard (T : Type 0) : Type 0 where
   pub rows : List (Row T)
   pub bound : ℕ
+
+-- a weight of w under key k would pass the bound
+abbrev pub IsHeavy : {T : Type 0} → ℕ → ℕ → ℕ → List (Row T) → Type 0
+IsHeavy bound k w rows = bound < total_weight (others k rows) + w
 
 -- there is no room for one row more: their number is at the bound, or the list of them is full
 abbrev pub IsLong : {T : Type 0} → ℕ → List (Row T) → Type 0

@@ -5,8 +5,8 @@ ghost use Rattle.std.specs.Borrow.{Bor};
 ghost use Rattle.lru_list.specs.BothEnds.{Call, Gives, from_front, from_back};
 ghost use Rattle.lru_core.specs.Rows.{promoted, reweighed, shown_pair};
 ghost use Rattle.lru_core.specs.Orders.{Distinct, with_all_last};
-ghost use Rattle.lru_core.specs.Cores.{Core, rows_at, is_over, Evicts};
-ghost use Rattle.lru_core.specs.Fronts.{IsLongestFront};
+ghost use Rattle.lru_core.specs.Cores.{Core, is_over, Evicts};
+ghost use Rattle.lru_core.specs.Fronts.{LeavesLongestFront};
 ghost use Rattle.lru_core.specs.declared.rows.Row.{Row};
 ghost use Rattle.rand_core.specs.Stream.{Stream};
 
@@ -34,5 +34,5 @@ pub fn a_shard_gives_each_item_once<T>()
 
 /// At one shard, what evictions to the limits leave is the longest front of the order of use that is within both.
 pub fn evictions_leave_the_longest_front<T>()
-    ensures { (old new : Core T) (pairs : List (T × ℕ)) (s rest : Stream) → length old.shards ≡ 1 → Evicts 1 old pairs s new rest → is_over new ≡ false → IsLongestFront old.limit old.watermark (rows_at old.shards 0) (rows_at new.shards 0) }
+    ensures { (old new : Core T) (pairs : List (T × ℕ)) (s rest : Stream) → length old.shards ≡ 1 → Evicts 1 old pairs s new rest → is_over new ≡ false → LeavesLongestFront old new }
 {}

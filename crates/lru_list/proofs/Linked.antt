@@ -149,7 +149,7 @@ link_head N P is free i w =
       );
     }
 
--- the slot that is held goes behind
+-- the slot that is held goes to the back
 pub link_tail : (N P is free : List ℕ) (i : ℕ) → IsChained N P is free (i ∷ []) → IsChained (set (set N i 1) (get_or P 1 0) i) (set (set P i (get_or P 1 0)) 1 i) (is ++ i ∷ []) free []
 link_tail N P is free i w =
     let a : ℕ = get_or P 1 0 in

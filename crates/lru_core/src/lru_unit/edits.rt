@@ -2,7 +2,7 @@
 
 ghost use Rattle.std.specs.Prelude.{◌≡◌, ◌≢◌, ◌↔◌, ℕ, ◌+◌, ◌<◌, ◌++◌, ◌∷◌, [], max, true, false, IsTrue, IfSome, IfNone, IfOk, IfErr, OnOk, OnErr};
 ghost use Rattle.std.specs.Option.{option_map};
-ghost use Rattle.lru_core.specs.Rows.{only, others, promoted, admitted, row_of, reweighed, total_weight, capped, raised, incremented, a_row, IsLong};
+ghost use Rattle.lru_core.specs.Rows.{only, others, promoted, admitted, row_of, reweighed, total_weight, capped, raised, incremented, a_row, IsHeavy, IsLong};
 ghost use Rattle.lru_core.specs.Updates.{IsUpdated, IsUpdateRefused, IsRefused};
 ghost use Rattle.lru_core.specs.Orders.{with_last};
 
@@ -150,7 +150,7 @@ impl<T: Drop> LruUnit<T> {
         ensures admitted { only key self.old.rows ≡ [] → IfOk result (λ p. (d : T) × F.post admit_data d × (self.new ≡ record self.old { rows = a_row key d p.1 ∷ self.old.rows })) }
         ensures err { OnErr result (self.new ≡ self.old) }
         ensures memory { (back : F) → result ≡ Err (LruFault.Memory back) → (back ≡ admit_data) × (only key self.old.rows ≡ []) }
-        ensures heavy { let rows = self.old.rows in (back : F) → result ≡ Err (LruFault.Weight back) → (back ≡ admit_data) × (self.old.bound < total_weight (others key rows) + incremented key delta max_weight rows) }
+        ensures heavy { let rows = self.old.rows in (back : F) → result ≡ Err (LruFault.Weight back) → (back ≡ admit_data) × IsHeavy self.old.bound key (incremented key delta max_weight rows) rows }
         ensures long { (back : F) → result ≡ Err (LruFault.Length back) → (back ≡ admit_data) × (only key self.old.rows ≡ []) × IsLong self.old.bound self.old.rows }
         ensures bound { self.new.bound ≡ self.old.bound }
     {
@@ -204,8 +204,10 @@ impl<T: Drop> LruUnit<T> {
         requires admit { A.IsAlwaysCallable admit_data }
         ensures updated { only key self.old.rows ≢ [] → IfOk result (λ p. (old : ℕ) × (p.0 ≡ Some old) × IsUpdated U.FnOnce update key self.old.rows old p.1 self.new.rows) }
         ensures update_refused { only key self.old.rows ≢ [] → IfErr result (λ fault. IsUpdateRefused U.FnOnce update key self.old.rows self.old.bound fault self.new.rows) }
-        ensures admitted { let rows = self.old.rows in only key rows ≡ [] → IfOk result (λ p. (d : T) × (w : ℕ) × A.post admit_data (d, w) × (p ≡ (None, max 1 w)) × (self.new.rows ≡ a_row key d (max 1 w) ∷ rows)) }
-        ensures refused { let rows = self.old.rows in only key rows ≡ [] → IfErr result (λ fault. (d : T) × (w : ℕ) × A.post admit_data (d, w) × (self.new ≡ self.old) × IsRefused d w rows self.old.bound fault) }
+        ensures new { only key self.old.rows ≡ [] → IfOk result (λ p. p.0 ≡ None) }
+        ensures admitted { only key self.old.rows ≡ [] → IfOk result (λ p. (d : T) × (w : ℕ) × A.post admit_data (d, w) × (p.1 ≡ max 1 w) × (self.new.rows ≡ a_row key d (max 1 w) ∷ self.old.rows)) }
+        ensures same { only key self.old.rows ≡ [] → OnErr result (self.new ≡ self.old) }
+        ensures refused { only key self.old.rows ≡ [] → IfErr result (λ fault. (d : T) × (w : ℕ) × A.post admit_data (d, w) × IsRefused d w self.old.rows self.old.bound fault) }
         ensures bound { self.new.bound ≡ self.old.bound }
     {
         match weight_at(&self.rows, key) {

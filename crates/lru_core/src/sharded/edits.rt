@@ -2,7 +2,7 @@
 
 ghost use Rattle.std.specs.Prelude.{◌≡◌, ◌≢◌, ◌↔◌, ℕ, ◌+◌, ◌%◌, ◌<◌, ◌++◌, ◌∷◌, [], take, max, true, IsTrue, is_some, IfOk, IfErr, OnOk, OnErr};
 ghost use Rattle.std.specs.Option.{option_map};
-ghost use Rattle.lru_core.specs.Rows.{only, others, promoted, admitted, row_of, reweighed, total_weight, capped, raised, incremented, a_row, IsLong};
+ghost use Rattle.lru_core.specs.Rows.{only, others, promoted, admitted, row_of, reweighed, total_weight, capped, raised, incremented, a_row, IsHeavy, IsLong};
 ghost use Rattle.lru_core.specs.Cores.{shard_of, with_shard, shard_bound};
 ghost use Rattle.lru_core.specs.Updates.{WasUpdated, IsUpdateRefused, IsRefused};
 
@@ -112,7 +112,7 @@ impl<T: Drop, const N: usize> LruCore<T, N> {
         ensures admitted { let rows = shard_of N self.old key in only key rows ≡ [] → IfOk result (λ w. (d : T) × F.post admit_data d × (self.new ≡ with_shard N self.old key (a_row key d w ∷ rows))) }
         ensures err { OnErr result (self.new ≡ self.old) }
         ensures memory { (back : F) → result ≡ Err (LruFault.Memory back) → (back ≡ admit_data) × (only key (shard_of N self.old key) ≡ []) }
-        ensures heavy { let rows = shard_of N self.old key in (back : F) → result ≡ Err (LruFault.Weight back) → (back ≡ admit_data) × (shard_bound N < total_weight (others key rows) + incremented key delta max_weight rows) }
+        ensures heavy { let rows = shard_of N self.old key in (f : F) → result ≡ Err (LruFault.Weight f) → (f ≡ admit_data) × IsHeavy (shard_bound N) key (incremented key delta max_weight rows) rows }
         ensures long { (back : F) → result ≡ Err (LruFault.Length back) → (back ≡ admit_data) × (only key (shard_of N self.old key) ≡ []) × IsLong (shard_bound N) (shard_of N self.old key) }
     {
         let place = self.place_of(key);
@@ -143,9 +143,9 @@ impl<T: Drop, const N: usize> LruCore<T, N> {
         requires admit { A.IsAlwaysCallable admit_data }
         ensures elsewhere { self.new ≡ with_shard N self.old key (shard_of N self.new key) }
         ensures updated { let rows = shard_of N self.old key in only key rows ≢ [] → IfOk result (λ p. WasUpdated U.FnOnce update key rows p (shard_of N self.new key)) }
-        ensures update_refused { let rows = shard_of N self.old key in only key rows ≢ [] → IfErr result (λ fault. IsUpdateRefused U.FnOnce update key rows (shard_bound N) fault (shard_of N self.new key)) }
+        ensures update_refused { let rows = shard_of N self.old key in only key rows ≢ [] → IfErr result (λ e. IsUpdateRefused U.FnOnce update key rows (shard_bound N) e (shard_of N self.new key)) }
         ensures new { only key (shard_of N self.old key) ≡ [] → IfOk result (λ p. p ≡ None) }
-        ensures admitted { let rows = shard_of N self.old key in only key rows ≡ [] → OnOk result ((d : T) × (w : ℕ) × A.post admit_data (d, w) × (shard_of N self.new key ≡ a_row key d (max 1 w) ∷ rows)) }
+        ensures added { let old = shard_of N self.old key in only key old ≡ [] → OnOk result ((d : T) × (w : ℕ) × A.post admit_data (d, w) × (shard_of N self.new key ≡ a_row key d (max 1 w) ∷ old)) }
         ensures same { only key (shard_of N self.old key) ≡ [] → OnErr result (self.new ≡ self.old) }
         ensures refused { let rows = shard_of N self.old key in only key rows ≡ [] → IfErr result (λ fault. (d : T) × (w : ℕ) × A.post admit_data (d, w) × IsRefused d w rows (shard_bound N) fault) }
     {

@@ -56,4 +56,4 @@ returns-in-Ok-clause-admitted g c n =
     let a = c.in-Ok.ensures.after in
     let m : c.max.result ≡ max 1 c.admit_data-item.result.1 = omega (arith, c.max.ensures) in
     let o : others c.args.key c.args.self.now.rows ≡ c.args.self.now.rows = rw (← c.self.view_is) c.in-None.ensures.none.1 in
-    (c.admit_data-item.result.0, c.admit_data-item.result.1, c.admit_data-item.ensures, rw m refl, ap (λ u. u.rows) a ∙ rw (o, ← c.self.view_is) refl)
+    (c.admit_data-item.result.0, c.admit_data-item.result.1, c.admit_data-item.ensures, m, ap (λ u. u.rows) a ∙ rw (o, ← c.self.view_is) refl)

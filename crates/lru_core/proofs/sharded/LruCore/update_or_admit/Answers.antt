@@ -29,10 +29,10 @@ returns-clause-updated g c n =
     (p.0, c.in-Ok.now.1, p.1, rw (old_rows g c, new_rows g c) p.2)
 
 pub returns-clause-new : goal.returns-clause-new
-returns-clause-new g c n = let p = c.in-Ok.ensures.admitted (rw (old_rows g c) at n) in rw p.3 refl
+returns-clause-new g c n = c.in-Ok.ensures.new (rw (old_rows g c) at n)
 
-pub returns-clause-admitted : goal.returns-clause-admitted
-returns-clause-admitted g c n =
+pub returns-clause-added : goal.returns-clause-added
+returns-clause-added g c n =
     let p = c.in-Ok.ensures.admitted (rw (old_rows g c) at n) in
     (p.0, p.1, p.2, rw (old_rows g c, new_rows g c) p.4)
 
@@ -46,12 +46,12 @@ returns-in-Err-clause-update_refused g c n =
 
 pub returns-in-Err-clause-same : goal.returns-in-Err-clause-same
 returns-in-Err-clause-same g c n =
-    let p = c.in-Err.ensures.refused (rw (old_rows_err g c) at n) in
+    let p = c.in-Err.ensures.same (rw (old_rows_err g c) at n) in
     let same : lists (set c.self.inside.units.items c.place_of-place.result c.update_or_admit-added.new.self) ≡ lists c.self.inside.units.items =
-    ap lists (ap (set c.self.inside.units.items c.place_of-place.result) (p.3 ∙ c.index_mut-unit.ensures.value) ∙ set-get_or _ _ _) in
+    ap lists (ap (set c.self.inside.units.items c.place_of-place.result) (p ∙ c.index_mut-unit.ensures.value) ∙ set-get_or _ _ _) in
     rw same c.self.view_is
 
 pub returns-in-Err-clause-refused : goal.returns-in-Err-clause-refused
 returns-in-Err-clause-refused g c n =
     let p = c.in-Err.ensures.refused (rw (old_rows_err g c) at n) in
-    (p.0, p.1, p.2, rw (old_rows_err g c, ← was_bound c.self.invariant c.place_of-place.ensures.within c.index_mut-unit.ensures.value) p.4)
+    (p.0, p.1, p.2, rw (old_rows_err g c, ← was_bound c.self.invariant c.place_of-place.ensures.within c.index_mut-unit.ensures.value) p.3)

@@ -3,7 +3,7 @@ use Rattle.std.specs.List.{FoldsTo}
 use Rattle.lru_core.specs.Updates.{Visits}
 use Rattle.lru_core.proofs.sharded.looks.visit.Given as goal
 
--- the calls that are to come make, behind those that were made, all calls
+-- the calls that are to come, after those that were made, are all calls
 abbrev pub invariant-items : goal.invariant-items
 invariant-items g l =
     always_mut g.F.FnMut l.f
