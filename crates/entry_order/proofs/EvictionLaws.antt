@@ -1,14 +1,15 @@
 -- Evictions over one shard.
-use Rattle.std.proofs.Common.{None, ◌≡◌, ℕ, ◌%◌, cond, Bool, true, false, List, [], ◌∷◌, map, slice_get, Option, Some, sym, refl, ap, ◌∙◌, subst}
+use Rattle.std.proofs.Common.{None, ◌≡◌, ℕ, cond, Bool, true, false, List, [], ◌∷◌, map, slice_get, Option, Some, sym, refl, ap, ◌∙◌, subst}
 use Rattle.std.specs.Prelude.{option_map}
 use Rattle.std.specs.List.{All}
 use Rattle.std.proofs.lemmas.List.{map-append}
 use Rattle.std.proofs.lemmas.List.Elements.{All-nil, All-cons, All-weaker}
 use Rattle.rand_core.specs.Stream.{Stream, next_u64}
 use Rattle.cache_words.specs.declared.key.CompactCacheKey.{CompactCacheKey}
+use Rattle.lru_core.proofs.Fronts.{one_place}
 use Rattle.lru_core.specs.declared.rows.Row.{Row}
 use Rattle.lru_core.specs.Rows.{others, a_row}
-use Rattle.lru_core.specs.Cores.{Core, rows_at, longer, around, IsTail, IsStep, Evicts, is_over as is_core_over}
+use Rattle.lru_core.specs.Cores.{Core, rows_at, IsTail, IsStep, Evicts, is_over as is_core_over}
 use Rattle.tier_entries.specs.declared.rows.Tracked.{Tracked}
 use Rattle.tier_entries.specs.Rows.{weight_of, without_row, without_rows, is_over, IsLast, IsLawfulEviction, IsBegunEviction}
 use Rattle.tier_entries.specs.Keys.{same_entry}
@@ -17,17 +18,7 @@ use Rattle.entry_order.specs.Names.{unless, unless_any}
 use Rattle.entry_order.specs.Named.{IsNamed, IsKept}
 use Rattle.entry_order.specs.Orders.{tracked_row, order_in}
 use Rattle.entry_order.proofs.NamedLaws.{IsNamed-same, IsLastNamed-last, IsNamed-without, IsNumber-named}
-use Rattle.entry_order.proofs.TrackedLaws.{tracked, others-without, weight_of-number, modulo_one, single_set, single_over}
-
-either_way : (b : Bool) (n : ℕ) → cond b n n ≡ n
-either_way true n = refl
-either_way false n = refl
-
--- every draw names the one shard
-one_place : (shards : List (List (Row CompactCacheKey))) (a b : ℕ) → around 1 shards 1 (longer shards (a % 1) (b % 1)) ≡ 0
-one_place shards a b =
-    let first : longer shards (a % 1) (b % 1) ≡ 0 = rw (modulo_one a, modulo_one b) (either_way _ 0) in
-    ap (around 1 shards 1) first ∙ either_way _ 0
+use Rattle.entry_order.proofs.TrackedLaws.{tracked, others-without, weight_of-number, single_set, single_over}
 
 -- what one step leaves
 record IsGone (name : ℕ → Option CompactCacheKey) (old new : Core CompactCacheKey) (pair : CompactCacheKey × ℕ) : Type 0 where

@@ -3,7 +3,7 @@ use Rattle.std.specs.Prelude.{Result, Ok, Err, OnErr}
 use Rattle.std.proofs.Common.{◌≡◌, ◌≢◌, ℕ, ◌%◌, replicate, List, [], ◌∷◌, ◌++◌, set, Option, Some, None, sym, refl, ap, ◌∙◌, subst}
 use Rattle.cache_words.specs.declared.key.CompactCacheKey.{CompactCacheKey}
 use Rattle.lru_core.specs.declared.rows.Row.{Row}
-use Rattle.lru_core.specs.Rows.{only, others, a_row, weight_of as rows_weight}
+use Rattle.lru_core.specs.Rows.{only, others, a_row, total_weight as rows_weight}
 use Rattle.lru_core.specs.Cores.{Core, rows_at}
 use Rattle.tier_entries.specs.Rows.{weight_of, all_weights, without_row, admitted, used}
 use Rattle.entry_order.specs.Names.{name_at, IsOneToOne, HasNoNumber, unless}

@@ -6,7 +6,7 @@ use Rattle.std.proofs.lemmas.List.{length-map, nil_from_length}
 use Rattle.std.proofs.lemmas.List.Sums.{sum_by-cons}
 use Rattle.cache_words.specs.declared.key.CompactCacheKey.{CompactCacheKey}
 use Rattle.lru_core.specs.declared.rows.Row.{Row}
-use Rattle.lru_core.specs.Rows.{only, others, a_row, row_of as keyed_row, weight_of as rows_weight}
+use Rattle.lru_core.specs.Rows.{only, others, a_row, row_of as keyed_row, total_weight as rows_weight}
 use Rattle.lru_core.specs.Cores.{Core, rows_at, core_weight, core_len, is_over as is_core_over, passes}
 use Rattle.tier_entries.specs.declared.rows.Tracked.{Tracked}
 use Rattle.tier_entries.specs.Keys.{same_entry}

@@ -3,7 +3,5 @@
 
 pub use order::{EntryOrder, OrderFault};
 
-mod names;
+pub mod numbers;
 mod order;
-#[cfg(test)]
-mod tests;

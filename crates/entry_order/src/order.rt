@@ -2,26 +2,27 @@
 
 ghost use Rattle.std.specs.Prelude.{◌≡◌, ◌≢◌, ℕ, ◌+◌, ◌%◌, ◌^◌, ◌<◌, ◌≤◌, ◌∷◌, [], length, map, max, true, false, Some, None, IfOk, IfErr, OnOk, OnErr, IsOk, slice_set};
 ghost use Rattle.std.specs.List.{All};
-ghost use Rattle.lru_core.specs.Rows.{only, others, weight_of as rows_weight, a_row};
-ghost use Rattle.lru_core.specs.Cores.{rows_at, core_weight};
+ghost use Rattle.lru_core.specs.Rows.{only, others, total_weight as rows_weight, admitted as admitted_row};
+ghost use Rattle.lru_core.specs.Cores.{rows_at, core_weight, shard_of, with_shard};
 ghost use Rattle.tier_entries.specs.Keys.{entry_of};
 ghost use Rattle.tier_entries.specs.Rows.{weight_of, all_weights, without_row, without_rows, admitted, used, IsLawfulEviction, IsBegunEviction};
 ghost use Rattle.entry_order.specs.Orders.{AreDistinct, IsDrawn};
 ghost use Rattle.entry_order.specs.declared.order.OrderFault.TheVariants.{Memory};
 
-use crate::names::Names;
+use crate::numbers::EntryNumbers;
 use cache_words::key::{CacheKey, CompactCacheKey};
 use lru_core::LruCore;
+use lru_core::linked_list::MOST_ITEMS;
 use lru_core::lru_unit::LruFault;
 use rand_core::Rng;
 use std::alloc::{AllocError, Global};
 use std::marker::Model;
 use tier_entries::keys::copy_of;
 
-/// Why an entry was not taken in.
+/// Why an entry was not inserted.
 #[derive(Clone, Copy, Debug, PartialEq, Eq)]
 pub enum OrderFault {
-    /// No memory.
+    /// There is no memory.
     Memory,
     /// The weights could not be summed.
     TooHeavy,
@@ -40,7 +41,7 @@ impl From<AllocError> for OrderFault {
 /// Entries in the order of their use, latest first, with what they weigh.
 #[derive(Drop)]
 pub struct EntryOrder {
-    names: Names,
+    numbers: EntryNumbers,
     core: LruCore<CompactCacheKey, 1>,
 }
 
@@ -53,12 +54,12 @@ impl Model for EntryOrder {
 
     ghost view = { λ o. order_in o.core };
 
-    ghost invariant = { λ o. IsKept (name_at o.names) o.core };
+    ghost invariant = { λ o. IsKept (name_at o.numbers) o.core };
 }
 
 impl EntryOrder {
-    /// No entry is tracked. The entries may weigh `limit` together, and past `watermark` entries an eviction takes
-    /// some too.
+    /// Returns an order without entries. They may weigh `limit` together, and past `watermark` entries an eviction also
+    /// takes some.
     pub fn new(
         alloc: Global,
         limit: usize,
@@ -68,12 +69,12 @@ impl EntryOrder {
     {
         let core = LruCore::with_capacity_and_watermark(alloc, limit, 0, watermark)?;
         Ok(EntryOrder {
-            names: Names::new(alloc),
+            numbers: EntryNumbers::new(alloc),
             core,
         })
     }
 
-    /// The number of tracked entries.
+    /// Returns the number of tracked entries.
     pub fn len(&self) -> usize
         ensures count { result ≡ length self.now.rows }
         ensures distinct { AreDistinct self.now.rows }
@@ -81,41 +82,41 @@ impl EntryOrder {
         self.core.len()
     }
 
-    /// What the tracked entries weigh together.
+    /// Returns the weight of all tracked entries.
     pub fn weight(&self) -> usize
         ensures { result ≡ all_weights self.now.rows }
     {
         self.core.weight()
     }
 
-    /// What an entry weighs, if it is tracked. The order stays.
+    /// Returns the weight of an entry, if it is tracked. The order stays.
     pub fn weight_of(&self, entry: &CompactCacheKey) -> Option<usize>
         ensures { result ≡ weight_of entry.now self.now.rows }
     {
-        match self.names.number_of(entry) {
+        match self.numbers.number_of(entry) {
             Some(number) => self.core.peek_weight(number),
             None => None,
         }
     }
 
-    /// Puts an entry in front of all others with that weight, of 1 at least, wherever it was. It takes memory only
-    /// for an entry that isn't tracked.
+    /// Moves or inserts an entry to the front with that weight, of 1 at least. It takes memory only for an entry that
+    /// isn't tracked.
     pub fn admit(&mut self, entry: CompactCacheKey, weight: usize) -> Result<(), OrderFault>
         ensures ok { OnOk result (self.new ≡ record self.old { rows = admitted entry (max 1 weight) self.old.rows }) }
         ensures fits { OnOk result (all_weights self.new.rows < 2 ^ 64) }
         ensures err { OnErr result (self.new ≡ self.old) }
         ensures memory { result ≡ Err OrderFault.Memory → weight_of entry self.old.rows ≡ None }
         ensures heavy { result ≡ Err OrderFault.TooHeavy → 2 ^ 64 ≤ max 1 weight + all_weights (without_row entry self.old.rows) }
-        ensures long { result ≡ Err OrderFault.TooLong → (weight_of entry self.old.rows ≡ None) × (4294967293 ≤ length self.old.rows) }
+        ensures long { result ≡ Err OrderFault.TooLong → (weight_of entry self.old.rows ≡ None) × (MOST_ITEMS ≤ length self.old.rows) }
     {
-        if let Some(own) = self.names.number_of(&entry) {
-            put_first(&mut self.core, own, entry, weight)?;
+        if let Some(own) = self.numbers.number_of(&entry) {
+            put_row(&mut self.core, own, entry, weight)?;
             return Ok(());
         }
-        self.take_in(entry, weight)
+        self.insert_new(entry, weight)
     }
 
-    /// A use of an entry: it goes to the front with the weight that it has, or is taken in with that weight, of 1 at
+    /// A use of an entry: it moves to the front with the weight that it has, or is inserted with that weight, of 1 at
     /// least. It takes memory, and may fail, only for an entry that isn't tracked.
     pub fn touch(&mut self, entry: &CompactCacheKey, weight: usize) -> Result<(), OrderFault>
         ensures ok { OnOk result (self.new ≡ record self.old { rows = used entry.now (max 1 weight) self.old.rows }) }
@@ -124,38 +125,38 @@ impl EntryOrder {
         ensures tracked { weight_of entry.now self.old.rows ≢ None → IsOk result }
         ensures untracked { OnErr result (weight_of entry.now self.old.rows ≡ None) }
         ensures heavy { result ≡ Err OrderFault.TooHeavy → 2 ^ 64 ≤ max 1 weight + all_weights (without_row entry.now self.old.rows) }
-        ensures long { result ≡ Err OrderFault.TooLong → 4294967293 ≤ length self.old.rows }
+        ensures long { result ≡ Err OrderFault.TooLong → MOST_ITEMS ≤ length self.old.rows }
     {
-        if let Some(number) = self.names.number_of(entry) {
+        if let Some(number) = self.numbers.number_of(entry) {
             let _found = self.core.promote(number);
             // A usize, so that the sum is known to be below 2^64.
             let _weight = self.core.weight();
             return Ok(());
         }
         let copy = copy_of(entry)?;
-        self.take_in(copy, weight)
+        self.insert_new(copy, weight)
     }
 
-    /// Takes an entry out. It takes no memory.
+    /// Removes an entry. It takes no memory.
     pub fn remove(&mut self, entry: &CompactCacheKey)
         ensures { self.new ≡ record self.old { rows = without_row entry.now self.old.rows } }
     {
-        if let Some(number) = self.names.take_back(entry) {
-            take_out(&mut self.core, number);
+        if let Some(number) = self.numbers.release(entry) {
+            remove_row(&mut self.core, number);
         }
     }
 
-    /// Takes the entry of a key that is asked for out. It takes no memory.
+    /// Removes the entry of a requested key. It takes no memory.
     pub fn remove_key(&mut self, key: &CacheKey)
         ensures { self.new ≡ record self.old { rows = without_row (entry_of key.now) self.old.rows } }
     {
-        if let Some(own) = self.names.take_back_key(key) {
-            take_out(&mut self.core, own);
+        if let Some(own) = self.numbers.release_key(key) {
+            remove_row(&mut self.core, own);
         }
     }
 
-    /// Evicts the last entry again and again, each by two draws, until neither limit is passed. Without memory for the
-    /// list of what went it stops in the midst, and its error has what went so far.
+    /// Evicts the last entry, each by two draws, until neither limit is passed. If memory for the list of evicted
+    /// entries runs out, it stops, and its error has those so far.
     pub fn evict<R: Rng>(
         &mut self,
         alloc: Global,
@@ -172,46 +173,46 @@ impl EntryOrder {
     {
         match self.core.evict_to_limit(alloc, rng) {
             Ok(pairs) => {
-                self.names.take_back_all(&pairs);
+                self.numbers.release_all(&pairs);
                 Ok(pairs)
             }
             Err(pairs) => {
-                self.names.take_back_all(&pairs);
+                self.numbers.release_all(&pairs);
                 Err(pairs)
             }
         }
     }
 
-    /// Puts an entry that isn't tracked in front of all others. All memory is taken before anything changes.
-    fn take_in(&mut self, entry: CompactCacheKey, weight: usize) -> Result<(), OrderFault>
+    // Inserts an entry that isn't tracked at the front. All memory is reserved before anything changes.
+    fn insert_new(&mut self, entry: CompactCacheKey, weight: usize) -> Result<(), OrderFault>
         requires { weight_of entry self.old.rows ≡ None }
         ensures ok { OnOk result (self.new ≡ record self.old { rows = admitted entry (max 1 weight) self.old.rows }) }
         ensures fits { OnOk result (all_weights self.new.rows < 2 ^ 64) }
         ensures err { OnErr result (self.new ≡ self.old) }
         ensures heavy { result ≡ Err OrderFault.TooHeavy → 2 ^ 64 ≤ max 1 weight + all_weights (without_row entry self.old.rows) }
-        ensures long { result ≡ Err OrderFault.TooLong → 4294967293 ≤ length self.old.rows }
+        ensures long { result ≡ Err OrderFault.TooLong → MOST_ITEMS ≤ length self.old.rows }
     {
-        let number = self.names.free_number()?;
+        let number = self.numbers.free_number()?;
         let name = copy_of(&entry)?;
-        put_first(&mut self.core, number, entry, weight)?;
-        self.names.give(number, name);
+        put_row(&mut self.core, number, entry, weight)?;
+        self.numbers.assign(number, name);
         Ok(())
     }
 }
 
-/// Puts a row in front of all others, in place of what its number had.
-fn put_first(
+// Puts a row at the front, in place of what its number had.
+fn put_row(
     core: &mut LruCore<CompactCacheKey, 1>,
     number: u64,
     entry: CompactCacheKey,
     weight: usize,
 ) -> Result<(), OrderFault>
-    ensures ok { OnOk result (core.new ≡ record core.old { shards = slice_set core.old.shards (number % 1) (a_row number entry (max 1 weight) ∷ others number (rows_at core.old.shards (number % 1))) }) }
+    ensures ok { OnOk result (core.new ≡ with_shard 1 core.old number (admitted_row number entry weight (shard_of 1 core.old number))) }
     ensures fits { OnOk result (core_weight core.new.shards < 2 ^ 64) }
     ensures err { OnErr result (core.new ≡ core.old) }
     ensures memory { result ≡ Err OrderFault.Memory → only number (rows_at core.old.shards (number % 1)) ≡ [] }
     ensures heavy { result ≡ Err OrderFault.TooHeavy → 2 ^ 64 ≤ max 1 weight + rows_weight (others number (rows_at core.old.shards (number % 1))) }
-    ensures long { result ≡ Err OrderFault.TooLong → (only number (rows_at core.old.shards (number % 1)) ≡ []) × (4294967293 ≤ length (rows_at core.old.shards (number % 1))) }
+    ensures long { result ≡ Err OrderFault.TooLong → (only number (rows_at core.old.shards (number % 1)) ≡ []) × (MOST_ITEMS ≤ length (rows_at core.old.shards (number % 1))) }
 {
     match core.admit(number, entry, weight) {
         Ok(_) => {
@@ -225,8 +226,8 @@ fn put_first(
     }
 }
 
-/// Takes the row of a number out.
-fn take_out(core: &mut LruCore<CompactCacheKey, 1>, number: u64)
+// Removes the row of a number.
+fn remove_row(core: &mut LruCore<CompactCacheKey, 1>, number: u64)
     ensures { core.new ≡ record core.old { shards = slice_set core.old.shards (number % 1) (others number (rows_at core.old.shards (number % 1))) } }
 {
     let _row = core.remove(number);

@@ -6,7 +6,7 @@ use Rattle.std.proofs.lemmas.List.Sums.{sum_by-cons}
 use Rattle.std.proofs.lemmas.List.{nil_from_length}
 use Rattle.rand_core.specs.Stream.{Stream, next_u64}
 use Rattle.lru_core.specs.declared.rows.Row.{Row}
-use Rattle.lru_core.specs.Rows.{weight_of}
+use Rattle.lru_core.specs.Rows.{total_weight}
 use Rattle.lru_core.specs.Cores.{Core, core_weight, core_len, passes, is_over, IsStep, Evicts}
 
 pub none_weaker : {X : Type 0} → (o : Option X) (P Q : Type 0) → IfNone o P → (P → Q) → IfNone o Q
@@ -25,8 +25,8 @@ module _ {T : Type 0} where
       let l = sum_by-cons length rows shards in
       let r : rows ≡ [] = nil_from_length rows (omega arith) in
       let t = weightless shards (omega arith) in
-      let w : weight_of rows ≡ 0 = ap weight_of r in
-      sum_by-cons weight_of rows shards ∙ omega (arith, w, t)
+      let w : total_weight rows ≡ 0 = ap total_weight r in
+      sum_by-cons total_weight rows shards ∙ omega (arith, w, t)
 
   pub not_over : (c : Core T) → core_len c.shards ≡ 0 → is_over c ≡ false
   not_over c h = rw (weightless c.shards h, h, le-ltb c.limit 0 (omega arith)) (not_passed c.watermark)

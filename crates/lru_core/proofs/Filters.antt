@@ -7,7 +7,7 @@ use Rattle.std.proofs.lemmas.List.{length-append, take-append-drop, length-map}
 use Rattle.std.specs.Option.{option_to_list, option_copied}
 use Rattle.std.specs.Borrow.{Bor}
 use Rattle.lru_core.specs.declared.rows.Row.{Row}
-use Rattle.lru_core.specs.Rows.{only, others, put, reweighed, weight_of, capped, incremented}
+use Rattle.lru_core.specs.Rows.{only, others, put, reweighed, total_weight, capped, incremented}
 
 module _ {T : Type 0} where
   pub only-append : (k : ℕ) (xs ys : List (Row T)) → only k (xs ++ ys) ≡ only k xs ++ only k ys
@@ -40,7 +40,7 @@ module _ {T : Type 0} where
   ]
 
   -- the two parts weigh what the whole does, and have its length
-  pub weight_parts : (k : ℕ) (xs : List (Row T)) → weight_of (only k xs) + weight_of (others k xs) ≡ weight_of xs
+  pub weight_parts : (k : ℕ) (xs : List (Row T)) → total_weight (only k xs) + total_weight (others k xs) ≡ total_weight xs
   weight_parts k xs = sum_by-filter_both (λ r. eqb r.key k) (λ r. not (eqb r.key k)) (λ _. refl) (λ r. r.weight) xs
 
   pub length_parts : (k : ℕ) (xs : List (Row T)) → length (only k xs) + length (others k xs) ≡ length xs
@@ -52,15 +52,15 @@ module _ {T : Type 0} where
 
   -- what one row of a key says of the whole
   pub one_row : (k : ℕ) (xs : List (Row T)) (row : Row T) → only k xs ≡ row ∷ []
-      → (only k xs ≢ []) × (weight_of (only k xs) ≡ row.weight) × (weight_of xs ≡ row.weight + weight_of (others k xs)) × (length xs ≡ 1 + length (others k xs))
+      → (only k xs ≢ []) × (total_weight (only k xs) ≡ row.weight) × (total_weight xs ≡ row.weight + total_weight (others k xs)) × (length xs ≡ 1 + length (others k xs))
   one_row k xs row e =
-      let w : weight_of (only k xs) ≡ row.weight = rw e (sum_by-cons (λ r. r.weight) row [] ∙ omega arith) in
+      let w : total_weight (only k xs) ≡ row.weight = rw e (sum_by-cons (λ r. r.weight) row [] ∙ omega arith) in
       let p = weight_parts k xs in
       let l : length (only k xs) ≡ 1 = rw e refl in
       let q = length_parts k xs in
       ((λ n. let u = sym e ∙ n in cc), w, omega arith, omega arith)
 
-  pub moved : (k : ℕ) (xs : List (Row T)) → (weight_of (only k xs ++ others k xs) ≡ weight_of xs) × (length (only k xs ++ others k xs) ≡ length xs)
+  pub moved : (k : ℕ) (xs : List (Row T)) → (total_weight (only k xs ++ others k xs) ≡ total_weight xs) × (length (only k xs ++ others k xs) ≡ length xs)
   moved k xs = (sum_by-append (λ r. r.weight) (only k xs) (others k xs) ∙ weight_parts k xs, length-append (only k xs) (others k xs) ∙ length_parts k xs)
 
   pub only-reweighed : (k w : ℕ) (xs : List (Row T)) → only k (reweighed k w xs) ≡ map {A = Row T} {B = Row T} (λ r. record r { weight = w }) (only k xs)
@@ -104,12 +104,12 @@ module _ {T : Type 0} where
   ]
 
   -- what another weight for a key that is there does to the sums
-  pub weight-reweighed : (k w : ℕ) (row : Row T) (xs : List (Row T)) → only k xs ≡ row ∷ [] → (weight_of (reweighed k w xs) ≡ w + weight_of (others k xs)) × (length (reweighed k w xs) ≡ length xs)
+  pub weight-reweighed : (k w : ℕ) (row : Row T) (xs : List (Row T)) → only k xs ≡ row ∷ [] → (total_weight (reweighed k w xs) ≡ w + total_weight (others k xs)) × (length (reweighed k w xs) ≡ length xs)
   weight-reweighed k w row xs h =
       let o : only k (reweighed k w xs) ≡ record row { weight = w } ∷ [] = only-reweighed k w xs ∙ ap (map {A = Row T} {B = Row T} (λ r. record r { weight = w })) h in
       let p = weight_parts k (reweighed k w xs) in
-      let q : weight_of (only k (reweighed k w xs)) ≡ w = ap weight_of o ∙ (sum_by-cons (λ r. r.weight) (record row { weight = w }) [] ∙ omega arith) in
-      let t : weight_of (others k (reweighed k w xs)) ≡ weight_of (others k xs) = ap weight_of (others-reweighed k w xs) in
+      let q : total_weight (only k (reweighed k w xs)) ≡ w = ap total_weight o ∙ (sum_by-cons (λ r. r.weight) (record row { weight = w }) [] ∙ omega arith) in
+      let t : total_weight (others k (reweighed k w xs)) ≡ total_weight (others k xs) = ap total_weight (others-reweighed k w xs) in
       (omega (arith, p, q, t), length-map xs (λ r. cond (eqb r.key k) (record r { weight = w }) r))
 
   -- one weight is that of one row
@@ -119,8 +119,8 @@ module _ {T : Type 0} where
   single (r ∷ s ∷ xs) n e = absurd (let f : r.weight ∷ s.weight ∷ map (λ r. r.weight) xs ≡ n ∷ [] = e in cc)
 
   -- the weight that an increment asks for, where the key is there and where it is not
-  pub incremented_there : (k delta : ℕ) (most : Option ℕ) (xs : List (Row T)) → only k xs ≢ [] → incremented k delta most xs ≡ max (weight_of (only k xs)) (capped most (weight_of (only k xs) + delta))
-  incremented_there k delta most xs n = elim (only k xs) as (λ l. l ≢ [] → cond (is_some (slice_get l 0)) (max (weight_of l) (capped most (weight_of l + delta))) (max 1 (capped most delta)) ≡ max (weight_of l) (capped most (weight_of l + delta))) [
+  pub incremented_there : (k delta : ℕ) (most : Option ℕ) (xs : List (Row T)) → only k xs ≢ [] → incremented k delta most xs ≡ max (total_weight (only k xs)) (capped most (total_weight (only k xs) + delta))
+  incremented_there k delta most xs n = elim (only k xs) as (λ l. l ≢ [] → cond (is_some (slice_get l 0)) (max (total_weight l) (capped most (total_weight l + delta))) (max 1 (capped most delta)) ≡ max (total_weight l) (capped most (total_weight l + delta))) [
     | [] ↦ λ m. absurd (m refl)
     | x ∷ l ↦ λ m. refl
   ] n

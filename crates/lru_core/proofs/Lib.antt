@@ -7,3 +7,4 @@ pub mod Moving
 pub mod Updating
 pub mod Ordering
 pub mod Pairs
+pub mod Fronts

@@ -1,10 +1,9 @@
 -- What an iterator over the slots of rows shows, and calls at each pair in turn.
-use Rattle.std.proofs.Common.{◌≡◌, ℕ, zero, suc, true, List, [], ◌∷◌, ◌++◌, ◌+◌, ◌<◌, length, map, take, get_or, Option, Some, None, IsSome, sym, refl, ap, ◌∙◌, subst, arith, slice_get}
-use Rattle.std.specs.List.{All, FoldsTo, flat_map}
+use Rattle.std.proofs.Common.{◌≡◌, ℕ, zero, suc, true, List, [], ◌∷◌, ◌++◌, ◌<◌, length, map, get_or, Option, Some, None, IsSome, sym, refl, ap, ◌∙◌, arith, slice_get}
+use Rattle.std.specs.List.{All}
 use Rattle.std.specs.Option.{option_and_then, option_map}
 use Rattle.std.proofs.lemmas.Bool.{false≢true}
-use Rattle.std.proofs.lemmas.List.{get_or-map, take_more, map-append, append-nil}
-use Rattle.std.proofs.lemmas.Grind.{flat_map-append}
+use Rattle.std.proofs.lemmas.List.{get_or-map}
 use Rattle.std.proofs.lemmas.List.Elements.{filter_map-append}
 use Rattle.lru_list.specs.Slots.{has, listed}
 use Rattle.lru_list.proofs.Indexes.{has_here, has_rest}
@@ -54,18 +53,3 @@ module _ {T : Type 0} where
   -- the rows of a shard that was read
   pub rows_there : (units : List (Shard T)) (i : ℕ) (u : Shard T) → i < length units → u ≡ get_or units i u → rows_at (map (λ v. v.rows) units) i ≡ u.rows
   rows_there units i u l e = get_or-map (λ v. v.rows) units i u [] l ∙ ap (λ v. v.rows) (sym e)
-
-  -- the pairs of one shard more
-  pub more_pairs : (units : List (Shard T)) (i : ℕ) (u : Shard T) → i < length units → u ≡ get_or units i u
-      → flat_map pairs_of (map (λ v. v.rows) (take (i + 1) units)) ≡ flat_map pairs_of (map (λ v. v.rows) (take i units)) ++ pairs_of u.rows
-  more_pairs units i u l e =
-      let more : take (i + 1) units ≡ take i units ++ u ∷ [] = take_more units i u l ∙ ap (λ v. take i units ++ v ∷ []) (sym e) in
-      ap (λ us. flat_map pairs_of (map (λ v. v.rows) us)) more
-      ∙ (ap (flat_map pairs_of) (map-append (λ v. v.rows) (take i units) (u ∷ []))
-      ∙ (flat_map-append pairs_of (map (λ v. v.rows) (take i units)) (u.rows ∷ [])
-      ∙ ap (λ l. flat_map pairs_of (map (λ v. v.rows) (take i units)) ++ l) (append-nil (pairs_of u.rows))))
-
--- a run and one behind it are one
-pub FoldsTo-append : {P A : Type 0} (R : P → A → P → Type 0) (p q r : P) (xs ys : List A) → FoldsTo R p xs q → FoldsTo R q ys r → FoldsTo R p (xs ++ ys) r
-FoldsTo-append R p q r [] ys h k = subst (λ s. FoldsTo R s ys r) (sym h) k
-FoldsTo-append R p q r (x ∷ xs) ys h k = (h.0, h.1, FoldsTo-append R h.0 q r xs ys h.2 k)

@@ -282,7 +282,7 @@ tabled_none m items e = record {
   named = λ i h. absurd (false≢true h);
 }
 
--- one more index in front or behind: the same members
+-- one more index at the front or the back: the same members
 has_swap : (is : List ℕ) (i j : ℕ) → has (is ++ i ∷ []) j ≡ has (i ∷ is) j
 has_swap is i j = elim (cases_eq i j) [
   | inl e ↦ rw (eq-eqb i j e) (ap (has (is ++ i ∷ [])) (sym e) ∙ has_push_here is i)
@@ -295,7 +295,7 @@ has_swap is i j = elim (cases_eq i j) [
 pub added_last : {T : Type 0} → (n : ℕ → Option ℕ) (now : List (Option (Row T))) (is : List ℕ) (i : ℕ) → IsTabled n now (i ∷ is) → IsTabled n now (is ++ i ∷ [])
 added_last n now is i w = retabled n now (i ∷ is) w (is ++ i ∷ []) (Apart_push is i w.apart.1 w.apart.0) (has_swap is i)
 
--- the rows with a new one in front or behind
+-- the rows with a new one at the front or the back
 pub first_rows : {T : Type 0} → (items now : List (Option (Row T))) (is : List ℕ) (i : ℕ) (row : Row T) → slice_get now i ≡ Some (Some row)
     → ((j : ℕ) → has is j ≡ true → slice_get now j ≡ slice_get items j) → rows_of now (i ∷ is) ≡ row ∷ rows_of items is
 first_rows items now is i row e kept = rw e (ap (λ l. row ∷ l) (rows_same items now is kept))

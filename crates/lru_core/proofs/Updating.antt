@@ -1,13 +1,11 @@
 -- Rows of which one has other data.
-use Rattle.std.proofs.Common.{◌≡◌, ℕ, ◌+◌, cond, eqb, inl, inr, List, [], ◌∷◌, ◌++◌, length, map, get_or, set, sym, refl, ap, ◌∙◌, arith}
+use Rattle.std.proofs.Common.{◌≡◌, ℕ, ◌+◌, cond, eqb, inl, inr, List, [], ◌∷◌, ◌++◌, length, map, refl, ap, ◌∙◌, arith}
 use Rattle.std.proofs.lemmas.Bool.{cases_eq, eq-eqb, ne_eqb}
 use Rattle.std.proofs.lemmas.List.Sums.{sum_by-cons}
-use Rattle.std.proofs.lemmas.List.{length-map, set-get_or}
+use Rattle.std.proofs.lemmas.List.{length-map}
 use Rattle.lru_core.specs.declared.rows.Row.{Row}
-use Rattle.lru_core.specs.Rows.{Shard, only, others, put, reweighed, weight_of, a_row}
-use Rattle.lru_core.specs.Cores.{rows_at}
+use Rattle.lru_core.specs.Rows.{only, others, put, reweighed, total_weight, a_row}
 use Rattle.lru_core.proofs.Filters.{one_row, weight_parts, only-reweighed, others-reweighed}
-use Rattle.lru_core.proofs.Summed.{Changed, lists}
 
 module _ {T : Type 0} where
   only-put : (k w : ℕ) (d : T) (xs : List (Row T)) → only k (put (a_row k d w) xs) ≡ map {A = Row T} {B = Row T} (λ r. a_row k d w) (only k xs)
@@ -30,11 +28,11 @@ module _ {T : Type 0} where
 
   -- and the sums
   pub weight-put : (k w : ℕ) (d : T) (row : Row T) (xs : List (Row T)) → only k xs ≡ row ∷ []
-      → (weight_of (put (a_row k d w) xs) ≡ w + weight_of (others k xs)) × (length (put (a_row k d w) xs) ≡ length xs)
+      → (total_weight (put (a_row k d w) xs) ≡ w + total_weight (others k xs)) × (length (put (a_row k d w) xs) ≡ length xs)
   weight-put k w d row xs h =
       let p = weight_parts k (put (a_row k d w) xs) in
-      let q : weight_of (only k (put (a_row k d w) xs)) ≡ w = ap weight_of (put_there k w d row xs h) ∙ (sum_by-cons (λ r. r.weight) (a_row k d w) [] ∙ omega arith) in
-      let t : weight_of (others k (put (a_row k d w) xs)) ≡ weight_of (others k xs) = ap weight_of (others-put k w d xs) in
+      let q : total_weight (only k (put (a_row k d w) xs)) ≡ w = ap total_weight (put_there k w d row xs h) ∙ (sum_by-cons (λ r. r.weight) (a_row k d w) [] ∙ omega arith) in
+      let t : total_weight (others k (put (a_row k d w) xs)) ≡ total_weight (others k xs) = ap total_weight (others-put k w d xs) in
       (omega (arith, p, q, t), length-map xs (λ r. cond (eqb r.key k) (a_row k d w) r))
 
   -- such a row with another weight, moved to the front
@@ -48,18 +46,9 @@ module _ {T : Type 0} where
 
   -- the sums of the rows then
   pub weight-updated : (k v w : ℕ) (d : T) (row : Row T) (xs : List (Row T)) → only k xs ≡ row ∷ []
-      → (weight_of (only k (reweighed k w (put (a_row k d v) xs)) ++ others k (reweighed k w (put (a_row k d v) xs))) ≡ w + weight_of (others k xs))
+      → (total_weight (only k (reweighed k w (put (a_row k d v) xs)) ++ others k (reweighed k w (put (a_row k d v) xs))) ≡ w + total_weight (others k xs))
       × (length (only k (reweighed k w (put (a_row k d v) xs)) ++ others k (reweighed k w (put (a_row k d v) xs))) ≡ length xs)
   weight-updated k v w d row xs h =
       let f = updated_first k v w d row xs h in
       let o = one_row k xs row h in
-      (ap weight_of f ∙ sum_by-cons (λ r. r.weight) (a_row k d w) (others k xs), ap length f ∙ omega (arith, o.3))
-
--- the shards after a change of one of them that f makes of its rows
-pub core_after : {T : Type 0} → (n : ℕ) (units : List (Shard T)) (weight len i : ℕ) (was now : Shard T) (f : List (Row T) → List (Row T)) → Changed n units weight len i was now
-    → now.rows ≡ f was.rows → lists (set units i now) ≡ set (lists units) i (f (rows_at (lists units) i))
-core_after n units weight len i was now f k e = k.shards ∙ ap (set (lists units) i) (e ∙ ap f (sym k.rows))
-
--- and after none
-pub core_same : {T : Type 0} → (units : List (Shard T)) (i : ℕ) (was now : Shard T) → was ≡ get_or units i was → now ≡ was → lists (set units i now) ≡ lists units
-core_same units i was now e s = ap lists (ap (set units i) (s ∙ e) ∙ set-get_or units i was)
+      (ap total_weight f ∙ sum_by-cons (λ r. r.weight) (a_row k d w) (others k xs), ap length f ∙ omega (arith, o.3))

@@ -4,3 +4,5 @@ pub mod Cores
 pub mod Units
 pub mod Updates
 pub mod Orders
+pub mod FaultTexts
+pub mod Fronts

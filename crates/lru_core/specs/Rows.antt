@@ -1,8 +1,9 @@
 -- Plain lists of rows, most recent first.
-use Rattle.std.specs.Prelude.{ℕ, ◌+◌, ◌==◌, not, min, max, List, filter, map, Option, Some, None, is_some, cond, if◌then◌else◌, slice_get, filter_map}
+use Rattle.std.specs.Prelude.{◌≡◌, ◌≢◌, ℕ, [], ◌+◌, ◌==◌, ◌<◌, ◌≤◌, ◌⊎◌, ◌++◌, ◌∷◌, length, not, min, max, List, filter, map, Option, Some, None, is_some, cond, if◌then◌else◌, slice_get, filter_map}
 use Rattle.std.specs.List.{sum_by}
 use Rattle.std.specs.Option.{option_map}
 use Rattle.std.specs.Borrow.{Bor}
+use Rattle.lru_list.specs.declared.linked_list.TheConstants.{MOST_ITEMS}
 use Rattle.lru_core.specs.declared.rows.Row.{Row}
 
 -- the row of key k, as a list of one row or none
@@ -17,6 +18,10 @@ row_of k rows = slice_get (only k rows) 0
 abbrev pub others : {T : Type 0} → ℕ → List (Row T) → List (Row T)
 others k rows = filter (λ r. not (r.key == k)) rows
 
+-- the rows with that of key k, if there is one, at the front
+abbrev pub promoted : {T : Type 0} → ℕ → List (Row T) → List (Row T)
+promoted k rows = only k rows ++ others k rows
+
 -- the rows with another weight for key k
 abbrev pub reweighed : {T : Type 0} → ℕ → ℕ → List (Row T) → List (Row T)
 reweighed k w rows = map (λ r. cond (r.key == k) (record r { weight = w }) r) rows
@@ -26,22 +31,33 @@ abbrev pub put : {T : Type 0} → Row T → List (Row T) → List (Row T)
 put row rows = map (λ r. cond (r.key == row.key) row r) rows
 
 -- the sum of the rows' weights
-abbrev pub weight_of : {T : Type 0} → List (Row T) → ℕ
-weight_of rows = sum_by (λ r. r.weight) rows
+abbrev pub total_weight : {T : Type 0} → List (Row T) → ℕ
+total_weight rows = sum_by (λ r. r.weight) rows
 
 -- a weight with a cap on it, if there is one
 abbrev pub capped : Option ℕ → ℕ → ℕ
 capped None w = w
 capped (Some most) w = min w most
 
--- the weight that key k has once `delta` is added: it never falls, and a new key has 1 at least
+-- a weight with `delta` added, up to a cap, if there is one, but never down
+abbrev pub raised : ℕ → ℕ → Option ℕ → ℕ
+raised old delta most = max old (capped most (old + delta))
+
+-- the weight that key k has once `delta` is added: a new key has 1 at least
 abbrev pub incremented : {T : Type 0} → ℕ → ℕ → Option ℕ → List (Row T) → ℕ
 incremented k delta most rows =
-    let old = weight_of (only k rows) in
-    if is_some (row_of k rows) then max old (capped most (old + delta)) else max 1 (capped most delta)
+    if is_some (row_of k rows) then raised (total_weight (only k rows)) delta most else max 1 (capped most delta)
 
 abbrev pub a_row : {T : Type 0} → ℕ → T → ℕ → Row T
 a_row k d w = record { key = k; «data» = d; weight = w }
+
+-- the rows with data d and a weight of 1 at least under key k, at the front, in place of what the key had
+abbrev pub admitted : {T : Type 0} → ℕ → T → ℕ → List (Row T) → List (Row T)
+admitted k d w rows = a_row k d (max 1 w) ∷ others k rows
+
+-- key k is there and weighs w; what that leaves for the others
+abbrev pub Weighs : {T : Type 0} → ℕ → List (Row T) → ℕ → Type 0
+Weighs k rows w = (only k rows ≢ []) × (total_weight (only k rows) ≡ w) × (total_weight rows ≡ w + total_weight (others k rows)) × (length rows ≡ 1 + length (others k rows))
 
 -- the data and the weight of a row
 abbrev pub pair_of : {T : Type 0} → Row T → T × ℕ
@@ -63,3 +79,11 @@ shown_pair p = (p.0.now, p.1)
 pub record Shard (T : Type 0) : Type 0 where
   pub rows : List (Row T)
   pub bound : ℕ
+
+-- a weight of w under key k would pass the bound
+abbrev pub IsHeavy : {T : Type 0} → ℕ → ℕ → ℕ → List (Row T) → Type 0
+IsHeavy bound k w rows = bound < total_weight (others k rows) + w
+
+-- there is no room for one row more: their number is at the bound, or the list of them is full
+abbrev pub IsLong : {T : Type 0} → ℕ → List (Row T) → Type 0
+IsLong bound rows = (bound ≤ length rows) ⊎ (length rows ≡ MOST_ITEMS)

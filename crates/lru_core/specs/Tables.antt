@@ -1,4 +1,4 @@
--- How a table from keys to indexes, the slots and the order of a linked list stand for rows.
+-- How a table from keys to indexes, the slots and the order of a linked list give rows.
 use Rattle.std.specs.Prelude.{◌≡◌, ℕ, true, List, Option, Some, filter_map, slice_get}
 use Rattle.std.specs.Option.{option_and_then}
 use Rattle.lru_list.specs.Slots.{has, Apart}

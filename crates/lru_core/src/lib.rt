@@ -8,5 +8,3 @@ pub mod laws;
 pub mod lru_unit;
 mod rows;
 mod sharded;
-#[cfg(test)]
-mod tests;

@@ -2,15 +2,17 @@
 
 ghost use Rattle.std.specs.Prelude.{◌≡◌, ◌≢◌, ◌↔◌, ℕ, ◌+◌, ◌-◌, ◌<◌, ◌≤◌, ◌++◌, ◌∷◌, List, [], length, take, map, IsTrue, IsSome, is_some, IfSome, IfNone, IfOk, OnOk, OnErr, MatchOption, nat_eq, option_copied, not};
 ghost use Rattle.std.specs.Option.{option_to_list};
-ghost use Rattle.std.specs.HashMap.{get, spare};
-ghost use Rattle.lru_core.specs.Rows.{only, others, put, reweighed, a_row};
+ghost use Rattle.lru_core.specs.Rows.{only, others, promoted, put, reweighed, a_row};
 ghost use Rattle.lru_core.specs.Updates.{Updates};
 ghost use Rattle.lru_core.specs.declared.rows.Row.{Row};
 
-use lru_list::linked_list::{LinkedList, LinkedListIter, ListFault};
+mod table;
+
+use lru_list::linked_list::{LinkedList, LinkedListIter, ListFault, MOST_ITEMS};
 use std::alloc::{AllocError, Global};
 use std::collections::HashMap;
 use std::marker::Model;
+use table::{index_of, put_key, room_for, take_key};
 
 /// A row: what a key has, and what that weighs.
 #[derive(Drop)]
@@ -20,10 +22,10 @@ pub struct Row<T> {
     pub weight: usize,
 }
 
-/// Why a row was not taken in, with what was handed in for it.
+/// Why a row was not inserted, with what the caller handed in.
 #[derive(Drop)]
 pub enum RowFault<D> {
-    /// No memory.
+    /// There is no memory for one more row.
     Memory(D),
     /// The list is full.
     Full(D),
@@ -52,14 +54,14 @@ impl<T> Model for Rows<T> {
 }
 
 impl<T> Rows<T> {
-    /// How many rows there are.
+    /// Returns the number of rows.
     pub fn len(&self) -> usize
         ensures { result ≡ length self.now }
     {
         self.list.len()
     }
 
-    /// The row of `key`.
+    /// Returns the row of `key`.
     pub fn get(&self, key: u64) -> Option<&Row<T>>
         ensures { option_to_list (option_copied result) ≡ only key self.now }
     {
@@ -67,10 +69,10 @@ impl<T> Rows<T> {
         self.list.item(i).as_ref()
     }
 
-    /// Moves the row of `key` to the front, and answers whether there is one.
+    /// Moves the row of `key` to the front, and returns whether there is one.
     pub fn promote(&mut self, key: u64) -> bool
         ensures found { IsTrue result ↔ (only key self.old ≢ []) }
-        ensures after { self.new ≡ only key self.old ++ others key self.old }
+        ensures after { self.new ≡ promoted key self.old }
     {
         match index_of(&self.table, key) {
             Some(i) => {
@@ -81,7 +83,7 @@ impl<T> Rows<T> {
         }
     }
 
-    /// Whether the row of `key` is there and among the first `limit`. It looks at that many at most.
+    /// Returns whether the row of `key` is there and among the first `limit`. It looks at no others.
     pub fn is_near_head(&self, key: u64, limit: usize) -> bool
         ensures { IsTrue result ↔ (only key (take limit self.now) ≢ []) }
     {
@@ -91,7 +93,7 @@ impl<T> Rows<T> {
         }
     }
 
-    /// The last row.
+    /// Returns the last row.
     pub fn last(&self) -> Option<&Row<T>>
         ensures { MatchOption result (self.now ≡ []) (λ r. (front : List (Row T)) × (self.now ≡ front ++ r.now ∷ [])) }
     {
@@ -99,14 +101,14 @@ impl<T> Rows<T> {
         self.list.item(i).as_ref()
     }
 
-    /// The slots of the rows, in order. Each has its row.
+    /// Returns the slots of the rows, in order. Each has its row.
     pub fn iter(&self) -> LinkedListIter<'_, Option<Row<T>>>
         ensures { result ≡ map (λ r. Some r) self.now }
     {
         self.list.iter()
     }
 
-    /// Puts another row into the place of the one of its key, which is answered.
+    /// Replaces the row of a key in its place, and returns the old one.
     pub fn replace(&mut self, row: Row<T>) -> Row<T>
         requires { only row.key self.old ≢ [] }
         ensures value { only row.key self.old ≡ result ∷ [] }
@@ -116,7 +118,7 @@ impl<T> Rows<T> {
         self.list.replace(i, Some(row)).unwrap()
     }
 
-    /// Puts another row of the same key in front of all others, and answers the one that goes.
+    /// Replaces the row of a key by one at the front, and returns the old one.
     pub fn replace_first(&mut self, row: Row<T>) -> Row<T>
         requires { only row.key self.old ≢ [] }
         ensures value { only row.key self.old ≡ result ∷ [] }
@@ -130,7 +132,7 @@ impl<T> Rows<T> {
 }
 
 impl<T: Drop> Rows<T> {
-    /// No rows. `capacity` is a hint: that many rows will find their room taken.
+    /// Returns no rows. `capacity` is a hint: room for that many rows is reserved.
     pub fn with_capacity(alloc: Global, capacity: usize) -> Result<Self, AllocError>
         ensures { IfOk result (λ rows. rows ≡ []) }
     {
@@ -140,7 +142,7 @@ impl<T: Drop> Rows<T> {
         })
     }
 
-    /// Takes the room for `additional` more rows. It is a hint.
+    /// Reserves room for `additional` more rows. It is a hint.
     pub fn reserve(&mut self, additional: usize) -> Result<(), AllocError>
         ensures same { self.new ≡ self.old }
         ensures refused { OnErr result (0 < additional) }
@@ -149,13 +151,13 @@ impl<T: Drop> Rows<T> {
         self.list.reserve(additional)
     }
 
-    /// Puts a row of a new key in front of all others.
+    /// Inserts a row of a new key at the front.
     pub fn push_first(&mut self, row: Row<T>) -> Result<(), RowFault<Row<T>>>
         requires { only row.key self.old ≡ [] }
         ensures ok { OnOk result (self.new ≡ row ∷ self.old) }
         ensures err { OnErr result (self.new ≡ self.old) }
         ensures memory { (back : Row T) → result ≡ Err (RowFault.Memory back) → back ≡ row }
-        ensures full { (back : Row T) → result ≡ Err (RowFault.Full back) → (back ≡ row) × (length self.old ≡ 4294967293) }
+        ensures full { (back : Row T) → result ≡ Err (RowFault.Full back) → (back ≡ row) × (length self.old ≡ MOST_ITEMS) }
     {
         let key = row.key;
         if room_for(&mut self.table, 1).is_err() {
@@ -171,13 +173,13 @@ impl<T: Drop> Rows<T> {
         }
     }
 
-    /// Puts a row of a new key behind all others.
+    /// Inserts a row of a new key at the back.
     pub fn push_last(&mut self, row: Row<T>) -> Result<(), RowFault<Row<T>>>
         requires { only row.key self.old ≡ [] }
         ensures ok { OnOk result (self.new ≡ self.old ++ row ∷ []) }
         ensures err { OnErr result (self.new ≡ self.old) }
         ensures memory { (back : Row T) → result ≡ Err (RowFault.Memory back) → back ≡ row }
-        ensures full { (back : Row T) → result ≡ Err (RowFault.Full back) → (back ≡ row) × (length self.old ≡ 4294967293) }
+        ensures full { (back : Row T) → result ≡ Err (RowFault.Full back) → (back ≡ row) × (length self.old ≡ MOST_ITEMS) }
     {
         let key = row.key;
         if room_for(&mut self.table, 1).is_err() {
@@ -193,7 +195,7 @@ impl<T: Drop> Rows<T> {
         }
     }
 
-    /// Puts a row of a new key in front of all others, whose data is made once its room is taken.
+    /// Inserts a row of a new key at the front, whose data is made once its room is reserved.
     pub fn push_first_with<F: FnOnce() -> T>(
         &mut self,
         key: u64,
@@ -205,7 +207,7 @@ impl<T: Drop> Rows<T> {
         ensures ok { OnOk result ((d : T) × F.post make d × (self.new ≡ a_row key d weight ∷ self.old)) }
         ensures err { OnErr result (self.new ≡ self.old) }
         ensures memory { (back : F) → result ≡ Err (RowFault.Memory back) → back ≡ make }
-        ensures full { (back : F) → result ≡ Err (RowFault.Full back) → (back ≡ make) × (length self.old ≡ 4294967293) }
+        ensures full { (back : F) → result ≡ Err (RowFault.Full back) → (back ≡ make) × (length self.old ≡ MOST_ITEMS) }
     {
         if room_for(&mut self.table, 1).is_err() {
             return Err(RowFault::Memory(make));
@@ -222,7 +224,7 @@ impl<T: Drop> Rows<T> {
         }
     }
 
-    /// Gives the row of `key` another weight, and answers the one that it had. The order stays.
+    /// Sets the weight of `key`, and returns the old one. The order stays.
     pub fn reweigh(&mut self, key: u64, weight: usize) -> usize
         requires { only key self.old ≢ [] }
         ensures value { map (λ r. r.weight) (only key self.old) ≡ result ∷ [] }
@@ -238,7 +240,7 @@ impl<T: Drop> Rows<T> {
         old
     }
 
-    /// Has `update` change the data of `key`, and answers the weight that it asks for. The weight and the order stay.
+    /// Lets `update` change the data of `key`, and returns the weight that it asks for. The weight and the order stay.
     pub fn update<U: FnOnce(&mut T, usize) -> usize>(&mut self, key: u64, update: U) -> usize
         requires callable { U.IsAlwaysCallable update }
         requires present { only key self.old ≢ [] }
@@ -255,7 +257,7 @@ impl<T: Drop> Rows<T> {
         wanted
     }
 
-    /// Takes the row of `key` out.
+    /// Removes the row of `key`, and returns it.
     pub fn remove(&mut self, key: u64) -> Option<Row<T>>
         ensures value { option_to_list result ≡ only key self.old }
         ensures after { self.new ≡ others key self.old }
@@ -264,7 +266,7 @@ impl<T: Drop> Rows<T> {
         self.list.remove(i)
     }
 
-    /// Takes the last row out.
+    /// Removes the last row, and returns it.
     pub fn pop_last(&mut self) -> Option<Row<T>>
         ensures { MatchOption result ((self.old ≡ []) × (self.new ≡ self.old)) (λ r. self.old ≡ self.new ++ r ∷ []) }
     {
@@ -273,35 +275,4 @@ impl<T: Drop> Rows<T> {
         let _index = take_key(&mut self.table, row.key);
         Some(row)
     }
-}
-
-fn index_of(table: &HashMap<u64, usize>, key: u64) -> Option<usize>
-    ensures { result ≡ get nat_eq table.now key }
-{
-    table.get(&key).copied()
-}
-
-fn take_key(table: &mut HashMap<u64, usize>, key: u64) -> Option<usize>
-    ensures value { result ≡ get nat_eq table.old key }
-    ensures gone { get nat_eq table.new key ≡ None }
-    ensures kept { (q : ℕ) → (q ≡ key → ⊥) → get nat_eq table.new q ≡ get nat_eq table.old q }
-{
-    table.remove(&key)
-}
-
-fn put_key(table: &mut HashMap<u64, usize>, key: u64, i: usize)
-    requires { 0 < spare table.old }
-    ensures here { get nat_eq table.new key ≡ Some i }
-    ensures kept { (q : ℕ) → (q ≡ key → ⊥) → get nat_eq table.new q ≡ get nat_eq table.old q }
-{
-    let inserted: Result<_, _> = table.insert(key, i);
-    let _old = inserted.unwrap();
-}
-
-fn room_for(table: &mut HashMap<u64, usize>, additional: usize) -> Result<(), AllocError>
-    ensures same { (q : ℕ) → get nat_eq table.new q ≡ get nat_eq table.old q }
-    ensures ok { OnOk result (additional ≤ spare table.new) }
-    ensures refused { OnErr result (0 < additional) }
-{
-    table.reserve(additional)
 }

@@ -19,7 +19,7 @@ frame N P M Q (i ∷ is) p t c m q ms qs = (
   frame N P M Q is i t c.2 (ms i (has_here i is)) q (λ j h. ms j (has_rest i is j h)) (λ j h. qs j (has_rest i is j h)),
 )
 
--- the same chain behind another index q
+-- the same chain after another index q
 pub rehead : (N P M Q : List ℕ) (is : List ℕ) (p q t : ℕ) → Chain N P p is t → Apart is → has is t ≡ false
     → get_or M q 0 ≡ get_or N p 0 → get_or Q (get_or N p 0) 0 ≡ q
     → ((j : ℕ) → has is j ≡ true → get_or M j 0 ≡ get_or N j 0)
@@ -34,7 +34,7 @@ rehead N P M Q (i ∷ is) p q t c a n m r ms qs =
           (λ j h. qs j (inr (has_rest i is j h)) (away j (λ e. has_apart is j i h a.0 (sym e)))),
     )
 
--- the index behind a chain's start is its end or one of its indexes
+-- the index after a chain's start is its end or one of its indexes
 pub first_in : (N P : List ℕ) (is : List ℕ) (p t : ℕ) → Chain N P p is t → (get_or N p 0 ≡ t) ⊎ (has is (get_or N p 0) ≡ true)
 first_in N P [] p t c = inl c.0
 first_in N P (i ∷ is) p t c = inr (rw c.0 (has_here i is))
@@ -71,7 +71,7 @@ retail N P M Q (i ∷ is) p t u c a q r qs ms =
       retail N P M Q is i t u c.2 a.1 q r (λ j h. qs j (has_rest i is j h)) (λ j h. ms j (has_rest p (i ∷ is) j h)),
     )
 
--- one more index behind a chain
+-- one more index after a chain
 pub chain_push : (N P : List ℕ) (is : List ℕ) (p i t : ℕ) → Chain N P p is i → get_or N i 0 ≡ t → get_or P t 0 ≡ i → Chain N P p (is ++ i ∷ []) t
 chain_push N P [] p i t c n q = (c.0, c.1, (n, q))
 chain_push N P (x ∷ is) p i t c n q = (c.0, c.1, chain_push N P is x i t c.2 n q)
@@ -132,7 +132,7 @@ tail_of N P (i ∷ is) p t c n = (
   λ d. let e : suc (length is) - 1 ≡ length is = omega arith in rw e (last_of N P i is p t c),
 )
 
--- nothing stands between a start and an end whose neighbours they are
+-- nothing is between a start and an end whose neighbours they are
 pub alone : (N P : List ℕ) (is : List ℕ) (p t : ℕ) → Chain N P p is t → Apart (p ∷ is) → get_or P t 0 ≡ p → is ≡ []
 alone N P [] p t c a e = refl
 alone N P (i ∷ is) p t c a e = absurd (has_apart (i ∷ is) (get_or P t 0) p (last_in N P is i t c.2) a.0 e)

@@ -1,7 +1,7 @@
 -- The lengths of the columns of nodes.
 use Rattle.std.proofs.Common.{◌≡◌, List, length, sym, ◌∙◌, Vec, vec_len}
 use Rattle.std.proofs.lemmas.List.{length-map}
-use Rattle.lru_list.specs.declared.linked_list.Node.{Node}
+use Rattle.lru_list.specs.declared.linked_list.nodes.Node.{Node}
 use Rattle.lru_list.specs.Nodes.{items_of, nexts}
 
 pub vec_len-nexts : {K Z : Type 0} → (v : Vec (Node K) Z) → vec_len v ≡ length (nexts v.items)

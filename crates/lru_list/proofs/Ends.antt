@@ -11,7 +11,7 @@ use Rattle.lru_list.proofs.Chains.{prev_at_place}
 pub listed_first : {K : Type 0} → (items : List K) (i : ℕ) (is : List ℕ) (x : K) → slice_get items i ≡ Some x → listed items (i ∷ is) ≡ x ∷ listed items is
 listed_first items i is x e = rw e refl
 
--- the same behind
+-- the same at the back
 pub listed_last : {K : Type 0} → (items : List K) (i : ℕ) (is : List ℕ) (x : K) → slice_get items i ≡ Some x → listed items (is ++ i ∷ []) ≡ listed items is ++ x ∷ []
 listed_last items i is x e = filter_map-append (slice_get items) is (i ∷ []) ∙ ap (λ r. listed items is ++ r) (listed_first items i [] x e)
 
@@ -79,7 +79,7 @@ module _ (is : List ℕ) (front back from left : ℕ) (b : IsBetween is front ba
       let s = b.small in
       record { within = omega (arith, n); small = omega (arith, n); first = b.first; last = h (from + (left - 1)) back_place.0 back_place.1 }
 
--- the index in front of the sentinel behind the last
+-- the index before the sentinel after the last
 pub at_back : (N P is free : List ℕ) → IsChained N P is free [] → get_or P 1 0 ≡ get_or (0 ∷ is) (0 + length is) 0
 at_back N P is free w =
     let e = prev_at_place N P is 0 1 (length is) w.linked (omega arith) in

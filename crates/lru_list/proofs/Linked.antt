@@ -149,7 +149,7 @@ link_head N P is free i w =
       );
     }
 
--- the slot that is held goes behind
+-- the slot that is held goes to the back
 pub link_tail : (N P is free : List ℕ) (i : ℕ) → IsChained N P is free (i ∷ []) → IsChained (set (set N i 1) (get_or P 1 0) i) (set (set P i (get_or P 1 0)) 1 i) (is ++ i ∷ []) free []
 link_tail N P is free i w =
     let a : ℕ = get_or P 1 0 in
@@ -366,14 +366,18 @@ empty_chain =
 
 -- what a call that takes a slot leaves: the slot that was freed last, or a new one, is held
 pub took : (N P is free M Q left : List ℕ) (i n : ℕ) (A B : Type 0) → IsChained N P is free [] → n ≡ length N
-    → (0 < length free → (free ≡ left ++ i ∷ []) × A × (M ≡ N) × (Q ≡ P))
-    → (free ≡ [] → (i ≡ n) × (i < 2 ^ 32 - 1) × (left ≡ []) × B × (M ≡ N ++ (2 ^ 32 - 1) ∷ []) × (Q ≡ P ++ (2 ^ 32 - 1) ∷ []))
-    → IsChained M Q is left (i ∷ [])
-took N P is [] M Q left i n A B w e r m =
+    → (0 < length free → (free ≡ left ++ i ∷ []) × A) → (0 < length free → (M ≡ N) × (Q ≡ P))
+    → (free ≡ [] → (i ≡ n) × (left ≡ []) × B) → (free ≡ [] → (M ≡ N ++ (2 ^ 32 - 1) ∷ []) × (Q ≡ P ++ (2 ^ 32 - 1) ∷ []))
+    → i < 2 ^ 32 - 1 → IsChained M Q is left (i ∷ [])
+took N P is [] M Q left i n A B w e r k m u l =
     let t = m refl in
-    let k : length N < 2 ^ 32 - 1 = rw (← e, ← t.0) t.1 in
-    rw (t.2, t.4, t.5, t.0, e) (take_new N P is w k)
-took N P is (x ∷ xs) M Q left i n A B w e r m = let t = r (omega arith) in rw (t.2, t.3) (take_back N P is left i (rw t.0 at w))
+    let v = u refl in
+    let h : length N < 2 ^ 32 - 1 = rw (← e, ← t.0) l in
+    rw (v.0, v.1, t.1, t.0, e) (take_new N P is w h)
+took N P is (x ∷ xs) M Q left i n A B w e r k m u l =
+    let t = r (omega arith) in
+    let v = k (omega arith) in
+    rw (v.0, v.1) (take_back N P is left i (rw t.0 at w))
 
 -- what is freed is a slot
 pub freed_within : (N P is free : List ℕ) (n : ℕ) → IsChained N P is free [] → n ≡ length N → All (λ i. i < n) free

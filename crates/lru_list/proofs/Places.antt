@@ -1,4 +1,4 @@
--- What stands at a place of a list after a write or a push.
+-- What is at a place of a list after a write or a push.
 use Rattle.std.proofs.Common.{◌≡◌, ◌≢◌, ℕ, zero, suc, Bool, false, ◌+◌, ◌-◌, ◌<◌, take, List, [], ◌∷◌, ◌++◌, length, set, refl, ap, arith, Some, slice_get}
 use Rattle.std.specs.List.{list_any}
 

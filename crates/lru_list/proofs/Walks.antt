@@ -1,4 +1,4 @@
--- A walk along the links from the front: after k steps it stands at the k-th index, or at the sentinel behind the last.
+-- A walk along the links from the front: after k steps it is at the k-th index, or at the sentinel after the last.
 use Rattle.std.proofs.Common.{◌≡◌, ◌≢◌, ℕ, suc, true, false, ◌+◌, ◌<◌, ◌≤◌, inl, inr, List, [], ◌∷◌, ◌++◌, length, take, get_or, sym, ap, ◌∙◌, arith}
 use Rattle.std.proofs.lemmas.Bool.{cases_eq, true≢false}
 use Rattle.std.proofs.lemmas.List.{take_all, take_more, length-take, get_or_append_left, get_or_push, get_or-take}
@@ -12,7 +12,7 @@ module _ (N P is free : List ℕ) (w : IsChained N P is free []) where
   pub at_start : get_or N 0 0 ≡ get_or (is ++ 1 ∷ []) 0 0
   at_start = next_at_place N P is 0 1 0 w.linked (omega arith)
 
-  -- the walk is at the sentinel just behind the last
+  -- the walk is at the sentinel just after the last
   pub at_end : (k : ℕ) → k ≤ length is → get_or (is ++ 1 ∷ []) k 0 ≡ 1 → k ≡ length is
   at_end k h e = elim (cases_eq k (length is)) [
     | inl s ↦ s

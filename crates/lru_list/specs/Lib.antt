@@ -3,3 +3,4 @@ pub mod Links
 pub mod Nodes
 pub mod Lends
 pub mod BothEnds
+pub mod FaultTexts

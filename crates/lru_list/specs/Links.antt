@@ -1,5 +1,5 @@
--- How the links of the nodes stand for an order. `next` and `prev` are the columns of links, by index: 0 is the
--- sentinel in front of the first item, 1 the one behind the last.
+-- How the links of the nodes give an order. `next` and `prev` are the columns of links, by index: 0 is the sentinel
+-- before the first item, 1 the one after the last.
 use Rattle.std.specs.Prelude.{◌≡◌, ℕ, zero, suc, true, false, ◌+◌, ◌-◌, ◌^◌, ◌<◌, ◌≤◌, ◌⊎◌, List, [], ◌∷◌, length, slice_index}
 use Rattle.lru_list.specs.Slots.{has, Apart}
 
@@ -8,13 +8,13 @@ abbrev pub walk : List ℕ → ℕ → ℕ → List ℕ
 walk next zero p = []
 walk next (suc n) p = slice_index next p ∷ walk next n (slice_index next p)
 
--- p, the indexes and t: each is linked to the one behind it, and back
+-- p, the indexes and t: each is linked to the one after it, and back
 abbrev pub Chain : List ℕ → List ℕ → ℕ → List ℕ → ℕ → Type 0
 Chain next prev p [] t = (slice_index next p ≡ t) × (slice_index prev t ≡ p)
 Chain next prev p (i ∷ is) t = (slice_index next p ≡ i) × (slice_index prev i ≡ p) × Chain next prev i is t
 
--- The links stand for `order`. `held` has no index at rest, and one while a call has a slot in its hands that is
--- neither linked nor freed. `2 ^ 32 - 1` marks the links of freed slots and the outer sides of the sentinels.
+-- The links give `order`. `held` has no index at rest, and one while a call holds a slot that is neither linked nor
+-- freed. `2 ^ 32 - 1` marks the links of freed slots and the outer sides of the sentinels.
 pub record IsChained (next prev order free held : List ℕ) : Type 0 where
   pub linked : Chain next prev 0 order 1
   pub apart : Apart order
@@ -28,6 +28,6 @@ pub record IsChained (next prev order free held : List ℕ) : Type 0 where
   pub small : length next ≤ 2 ^ 32 - 1
   pub ends : (slice_index prev 0 ≡ 2 ^ 32 - 1) × (slice_index next 1 ≡ 2 ^ 32 - 1)
 
--- the order that the links stand for, where `free` counts the freed slots
+-- the order that the links give, where `free` counts the freed slots
 abbrev pub order_of : List ℕ → ℕ → List ℕ
 order_of next free = walk next (length next - 2 - free) 0

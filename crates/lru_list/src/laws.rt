@@ -1,4 +1,4 @@
-//! Laws of the words that the contracts use, each the contract of a function that does nothing.
+//! Laws about the definitions of the contracts. Each is the contract of a function that does nothing.
 
 ghost use Rattle.std.specs.Prelude.{◌≡◌, ◌≤◌, ◌++◌, List, [], length, reverse};
 ghost use Rattle.lru_list.specs.BothEnds.{Call, Gives, from_front, from_back};

@@ -1,4 +1,4 @@
-//! A doubly linked list whose nodes stand in one vector and are named by their indexes.
+//! A doubly linked list whose nodes are in one vector and are named by their indexes.
 #![tactic(auto)]
 
 pub mod laws;

@@ -8,4 +8,4 @@ pub returns-clause-count : goal.returns-clause-count
 returns-clause-count c = rw (← c.self.view_is) (c.len.ensures ∙ single_len c.self.inside.core.shards c.self.invariant.single)
 
 pub returns-clause-distinct : goal.returns-clause-distinct
-returns-clause-distinct c = rw (← c.self.view_is) (AreDistinct-tracked (name_at c.self.inside.names) (rows_at c.self.inside.core.shards 0) c.self.invariant.named)
+returns-clause-distinct c = rw (← c.self.view_is) (AreDistinct-tracked (name_at c.self.inside.numbers) (rows_at c.self.inside.core.shards 0) c.self.invariant.named)

@@ -5,18 +5,18 @@ use Rattle.entry_order.proofs.order.EntryOrder.remove_key.Goals as goal
 
 pub invariant_of-self : goal.invariant_of-self
 invariant_of-self c =
-    IsKept-without (name_at c.self.inside.names) (name_at c.take_back_key.new.self) c.self.inside.core c.take_out.new.core c.in-Some.own (entry_of c.args.key.now) c.self.invariant
-    c.in-Some.ensures.some c.take_back_key.ensures.after c.take_out.ensures
+    IsKept-without (name_at c.self.inside.numbers) (name_at c.release_key.new.self) c.self.inside.core c.remove_row.new.core c.in-Some.own (entry_of c.args.key.now) c.self.invariant
+    c.in-Some.ensures.some c.release_key.ensures.after c.remove_row.ensures
 
 pub invariant_of-self-in_default : goal.invariant_of-self-in_default
 invariant_of-self-in_default c =
-    IsKept-none (name_at c.self.inside.names) (name_at c.take_back_key.new.self) c.self.inside.core (entry_of c.args.key.now) c.self.invariant c.in_default.ensures.none c.take_back_key.ensures.after
+    IsKept-none (name_at c.self.inside.numbers) (name_at c.release_key.new.self) c.self.inside.core (entry_of c.args.key.now) c.self.invariant c.in_default.ensures.none c.release_key.ensures.after
 
 pub returns-in-Some : goal.returns-in-Some
 returns-in-Some c =
-    rw (← c.self.view_is) (order-without (name_at c.self.inside.names) (name_at c.take_back_key.new.self) c.self.inside.core c.take_out.new.core c.in-Some.own (entry_of c.args.key.now) c.self.invariant
-    c.in-Some.ensures.some c.take_out.ensures)
+    rw (← c.self.view_is) (order-without (name_at c.self.inside.numbers) (name_at c.release_key.new.self) c.self.inside.core c.remove_row.new.core c.in-Some.own (entry_of c.args.key.now) c.self.invariant
+    c.in-Some.ensures.some c.remove_row.ensures)
 
 pub returns-in_default : goal.returns-in_default
 returns-in_default c =
-    rw (← c.self.view_is) (order-none (name_at c.self.inside.names) (name_at c.take_back_key.new.self) c.self.inside.core (entry_of c.args.key.now) c.self.invariant c.in_default.ensures.none)
+    rw (← c.self.view_is) (order-none (name_at c.self.inside.numbers) (name_at c.release_key.new.self) c.self.inside.core (entry_of c.args.key.now) c.self.invariant c.in_default.ensures.none)

@@ -1,6 +1,6 @@
-use Rattle.std.proofs.Common.{◌≡◌, ◌+◌, sym, refl, arith, max}
+use Rattle.std.proofs.Common.{◌≡◌, ◌+◌, sym, arith, max}
 use Rattle.lru_core.specs.Rows.{reweighed, capped}
-use Rattle.lru_core.proofs.Filters.{single, weight-reweighed, incremented_there, incremented_new, moved, others-reweighed}
+use Rattle.lru_core.proofs.Filters.{single, weight-reweighed, incremented_there, incremented_new, moved}
 use Rattle.lru_core.proofs.lru_unit.LruUnit.increment_weight.Goals as goal
 
 pub returns-in_default-clause-heavy : goal.returns-in_default-clause-heavy
@@ -35,20 +35,3 @@ returns-then-weight-self-2-clause-heavy g c back e =
     let b = c.lowered.ensures in
     let v = c.self.invariant in
     (cc, rw (← c.self.view_is, i, n.1, ← b) (omega (arith, v.0)))
-
-pub returns-else-weight-self-clause-present : goal.returns-else-weight-self-clause-present
-returns-else-weight-self-clause-present g c n =
-    let s = c.in-Some.ensures.some in
-    let o = others-reweighed c.args.key c.in-Some-raised.weight c.self.inside.rows in (
-      rw (← c.self.view_is) (sym s.1),
-      c.in-Some-raised.ensures.1,
-      refl,
-      rw (c.promote-found.ensures.after, c.reweigh-old.ensures.after, o, ← c.self.view_is) refl,
-    )
-
-pub returns-in-Ok-clause-absent : goal.returns-in-Ok-clause-absent
-returns-in-Ok-clause-absent g c n =
-    let a = c.max-weight.ensures in
-    let b = c.lowered.ensures in
-    let p = c.in-Ok.ensures.ok in
-    (refl, rw (← b) (omega arith), refl, (p.0, p.1, rw (p.2, ← c.self.view_is) refl))

@@ -3,7 +3,7 @@ use Rattle.lru_core.specs.Rows.{only, a_row}
 use Rattle.lru_core.proofs.Ordering.{left_as_is}
 use Rattle.lru_core.proofs.lru_unit.LruUnit.insert_tail.Goals as goal
 
-pub returns-then-is_some-clause-behind : goal.returns-then-is_some-clause-behind
-returns-then-is_some-clause-behind g c =
+pub returns-then-is_some-clause-last : goal.returns-then-is_some-clause-last
+returns-then-is_some-clause-last g c =
     let n : only c.args.key c.self.inside.rows ≢ [] = search rules in
     rw (← c.self.view_is) (left_as_is (a_row c.args.key c.args.item c.args.weight) c.self.inside.rows n)

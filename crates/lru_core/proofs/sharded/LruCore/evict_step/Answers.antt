@@ -9,6 +9,6 @@ returns-clause-none g c =
     none_weaker c.evict_at.result _ _ c.evict_at.ensures.none
     (λ p. (
       p.1,
-      inr (all_empty g.row.N c.longer-from.result c.args.self.now.shards c.longer-from.ensures.lists c.longer-from.ensures.within
-          (ap (λ i. length (rows_at c.args.self.now.shards i)) (sym c.around-place.ensures.value) ∙ ap length p.0)),
+      inr (all_empty g.row.N c.longer_of_two-from.result c.args.self.now.shards c.longer_of_two-from.ensures.lists c.longer_of_two-from.ensures.within
+          (ap (λ i. length (rows_at c.args.self.now.shards i)) (sym c.first_nonempty_from-place.ensures.value) ∙ ap length p.0)),
     ))

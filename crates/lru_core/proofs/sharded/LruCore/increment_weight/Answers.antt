@@ -1,69 +1,27 @@
-use Rattle.std.proofs.Common.{◌≡◌, ◌%◌, arith, ap, ◌∙◌, refl, set}
-use Rattle.lru_core.specs.Cores.{rows_at}
-use Rattle.lru_core.proofs.Summed.{changed, lists}
+use Rattle.std.proofs.Common.{◌≡◌, ℕ, ◌%◌, List, ◌∷◌, set, refl, ap, ◌∙◌}
+use Rattle.lru_core.specs.declared.rows.Row.{Row}
+use Rattle.lru_core.specs.Rows.{a_row}
+use Rattle.lru_core.specs.Cores.{Core, rows_at}
+use Rattle.lru_core.proofs.Summed.{undone, shown_rows, was_rows, rows_after}
 use Rattle.lru_core.proofs.sharded.LruCore.increment_weight.Goals as goal
+use Rattle.lru_core.proofs.sharded.LruCore.increment_weight.Goals.{In_ok-now}
 
-pub overflow_sub-self : goal.overflow_sub-self
-overflow_sub-self g c = let k = (let n = c.self.invariant.some in
-    let b = c.sums-before.ensures in
-    let a = c.sums-after.ensures in
-    changed g.row.N c.self.inside.units.items c.self.inside.weight c.self.inside.len (c.args.key % g.row.N) c.index_mut-unit.result.now c.increment_weight-added.new.self c.self.invariant (omega arith) c.index_mut-unit.ensures.value
-    c.increment_weight-added.ensures.bound (omega (arith, a.weight, a.weight_bound)) (omega (arith, a.len, a.len_bound))) in let b = c.sums-before.ensures.len in rw b k.len_in
+pub recount-requires-clause-changed : goal.recount-requires-clause-changed
+recount-requires-clause-changed g c = undone c.increment_weight-added.new.self c.self.invariant c.place_of-place.ensures.within c.index_mut-unit.ensures.value c.increment_weight-added.ensures.bound c.of-before.ensures
 
-pub overflow_add-self : goal.overflow_add-self
-overflow_add-self g c = let k = (let n = c.self.invariant.some in
-    let b = c.sums-before.ensures in
-    let a = c.sums-after.ensures in
-    changed g.row.N c.self.inside.units.items c.self.inside.weight c.self.inside.len (c.args.key % g.row.N) c.index_mut-unit.result.now c.increment_weight-added.new.self c.self.invariant (omega arith) c.index_mut-unit.ensures.value
-    c.increment_weight-added.ensures.bound (omega (arith, a.weight, a.weight_bound)) (omega (arith, a.len, a.len_bound))) in let f = k.len_fits in let b = c.sums-before.ensures.len in let a = c.sums-after.ensures.len in omega arith
+old_rows : (g : _) (c : In_ok-now g) → rows_at c.args.self.now.shards (c.args.key % g.row.N) ≡ c.index_mut-unit.result.now.rows
+old_rows g c = rw (← c.self.view_is, ← c.place_of-place.ensures.value) (was_rows c.self.invariant c.place_of-place.ensures.within c.index_mut-unit.ensures.value)
 
-pub overflow_sub-self-2 : goal.overflow_sub-self-2
-overflow_sub-self-2 g c = let k = (let n = c.self.invariant.some in
-    let b = c.sums-before.ensures in
-    let a = c.sums-after.ensures in
-    changed g.row.N c.self.inside.units.items c.self.inside.weight c.self.inside.len (c.args.key % g.row.N) c.index_mut-unit.result.now c.increment_weight-added.new.self c.self.invariant (omega arith) c.index_mut-unit.ensures.value
-    c.increment_weight-added.ensures.bound (omega (arith, a.weight, a.weight_bound)) (omega (arith, a.len, a.len_bound))) in rw c.sums-before.ensures.weight k.weight_in
+pub returns-clause-moved : goal.returns-clause-moved
+returns-clause-moved g c n =
+    rw (← c.place_of-place.ensures.value, shown_rows c.self.inside.units.items c.place_of-place.result c.increment_weight-added.new.self, c.in_ok-now.ensures.moved (rw (old_rows g c) at n), ← c.self.view_is, was_rows c.self.invariant c.place_of-place.ensures.within c.index_mut-unit.ensures.value) refl
 
-pub overflow_add-self-2 : goal.overflow_add-self-2
-overflow_add-self-2 g c = let k = (let n = c.self.invariant.some in
-    let b = c.sums-before.ensures in
-    let a = c.sums-after.ensures in
-    changed g.row.N c.self.inside.units.items c.self.inside.weight c.self.inside.len (c.args.key % g.row.N) c.index_mut-unit.result.now c.increment_weight-added.new.self c.self.invariant (omega arith) c.index_mut-unit.ensures.value
-    c.increment_weight-added.ensures.bound (omega (arith, a.weight, a.weight_bound)) (omega (arith, a.len, a.len_bound))) in let f = k.weight_fits in let b = c.sums-before.ensures.weight in let a = c.sums-after.ensures.weight in omega arith
-
-pub invariant_of-self : goal.invariant_of-self
-invariant_of-self g c = let k = (let n = c.self.invariant.some in
-    let b = c.sums-before.ensures in
-    let a = c.sums-after.ensures in
-    changed g.row.N c.self.inside.units.items c.self.inside.weight c.self.inside.len (c.args.key % g.row.N) c.index_mut-unit.result.now c.increment_weight-added.new.self c.self.invariant (omega arith) c.index_mut-unit.ensures.value
-    c.increment_weight-added.ensures.bound (omega (arith, a.weight, a.weight_bound)) (omega (arith, a.len, a.len_bound))) in rw (c.sums-before.ensures.len, c.sums-after.ensures.len, c.sums-before.ensures.weight, c.sums-after.ensures.weight) k.summed
-
-pub invariant_of-self-2 : goal.invariant_of-self-2
-invariant_of-self-2 g c = let k = (let n = c.self.invariant.some in
-    let b = c.sums-before.ensures in
-    let a = c.sums-after.ensures in
-    changed g.row.N c.self.inside.units.items c.self.inside.weight c.self.inside.len (c.args.key % g.row.N) c.index_mut-unit.result.now c.increment_weight-added.new.self c.self.invariant (omega arith) c.index_mut-unit.ensures.value
-    c.increment_weight-added.ensures.bound (omega (arith, a.weight, a.weight_bound)) (omega (arith, a.len, a.len_bound))) in rw (c.sums-before.ensures.len, c.sums-after.ensures.len, c.sums-before.ensures.weight, c.sums-after.ensures.weight) k.summed
-
-pub returns-clause-present : goal.returns-clause-present
-returns-clause-present g c n =
-    let k = (let n = c.self.invariant.some in
-    let b = c.sums-before.ensures in
-    let a = c.sums-after.ensures in
-    changed g.row.N c.self.inside.units.items c.self.inside.weight c.self.inside.len (c.args.key % g.row.N) c.index_mut-unit.result.now c.increment_weight-added.new.self c.self.invariant (omega arith) c.index_mut-unit.ensures.value
-    c.increment_weight-added.ensures.bound (omega (arith, a.weight, a.weight_bound)) (omega (arith, a.len, a.len_bound))) in
-    let r : rows_at c.args.self.now.shards (c.args.key % g.row.N) ≡ c.index_mut-unit.result.now.rows = rw (← c.self.view_is) k.rows in
-    let p = c.in_ok-now.ensures.present (rw r at n) in
-    (rw (r, ← p.0) p.1, rw (k.shards, p.3, ← c.self.view_is, k.rows) refl)
-
-pub returns-clause-absent : goal.returns-clause-absent
-returns-clause-absent g c n =
-    let k = (let n = c.self.invariant.some in
-    let b = c.sums-before.ensures in
-    let a = c.sums-after.ensures in
-    changed g.row.N c.self.inside.units.items c.self.inside.weight c.self.inside.len (c.args.key % g.row.N) c.index_mut-unit.result.now c.increment_weight-added.new.self c.self.invariant (omega arith) c.index_mut-unit.ensures.value
-    c.increment_weight-added.ensures.bound (omega (arith, a.weight, a.weight_bound)) (omega (arith, a.len, a.len_bound))) in
-    let r : rows_at c.args.self.now.shards (c.args.key % g.row.N) ≡ c.index_mut-unit.result.now.rows = rw (← c.self.view_is) k.rows in
-    let p = c.in_ok-now.ensures.absent (rw r at n) in
-    let s = k.shards ∙ ap (λ u. set (lists c.self.inside.units.items) (c.args.key % g.row.N) u.rows) p.3.2 in
-    (p.1, (p.3.0, p.3.1, rw (s, ← c.self.view_is, k.rows) refl))
+pub returns-clause-admitted : goal.returns-clause-admitted
+returns-clause-admitted g c n =
+    let i : ℕ = c.args.key % g.row.N in
+    let p = c.in_ok-now.ensures.admitted (rw (old_rows g c) at n) in
+    let f : List (Row g.row.T.Denot) → List (Row g.row.T.Denot) = λ rows. a_row c.args.key p.0 c.in_ok-now.now.1 ∷ rows in
+    let r = was_rows c.self.invariant c.place_of-place.ensures.within c.index_mut-unit.ensures.value in
+    let s = rows_after c.self.inside.units.items c.place_of-place.result i c.index_mut-unit.result.now c.increment_weight-added.new.self f c.place_of-place.ensures.value r (ap (λ u. u.rows) p.2) in
+    let t = ap (λ s. record { shards = s; limit = c.self.inside.weight_limit; watermark = c.self.inside.len_watermark; evicted_weight = c.self.inside.evicted_weight; evicted_len = c.self.inside.evicted_len }) s in
+    (p.0, p.1, t ∙ ap {A = Core g.row.T.Denot} {B = Core g.row.T.Denot} (λ v. record v { shards = set v.shards i (f (rows_at v.shards i)) }) c.self.view_is)

@@ -1,118 +1,57 @@
-use Rattle.std.proofs.Common.{◌≡◌, ◌⊎◌, ◌≤◌, length, Option, Some, ℕ, ◌%◌, ◌∷◌, List, max, arith, ap, subst, ◌+◌, ◌-◌, ◌/◌, ◌^◌, ◌<◌, ◌∙◌, sym, set}
-use Rattle.lru_core.specs.declared.rows.Row.{Row}
-use Rattle.lru_core.specs.declared.lru_unit.LruFault.{LruFault}
-use Rattle.lru_core.specs.declared.lru_unit.LruFault.TheVariants.{Memory, Weight, Length}
-use Rattle.lru_core.specs.Rows.{only, put, others, weight_of, a_row}
-use Rattle.lru_core.specs.Cores.{Core, rows_at}
-use Rattle.lru_core.proofs.Summed.{changed}
-use Rattle.lru_core.proofs.Updating.{core_after, core_same}
+use Rattle.std.proofs.lemmas.List.{set-get_or}
+use Rattle.std.proofs.Common.{◌≡◌, ◌%◌, set, refl, ap, ◌∙◌}
+use Rattle.lru_core.specs.Cores.{rows_at}
+use Rattle.lru_core.proofs.Summed.{undone, shown_rows, was_rows, was_bound, now_rows, lists}
 use Rattle.lru_core.proofs.sharded.LruCore.update_or_admit.Goals as goal
+use Rattle.lru_core.proofs.sharded.LruCore.update_or_admit.Goals.{In-Ok, In-Err}
 
-abbrev Refuses : {T : Type 0} → T → ℕ → LruFault (Option T) → List (Row T) → ℕ → Type 0
-Refuses d w fault rows bound = (fault ≡ Memory (Some d)) ⊎ (((fault ≡ Weight (Some d)) × (bound < weight_of rows + max 1 w)) ⊎ ((fault ≡ Length (Some d)) × ((bound ≤ length rows) ⊎ (length rows ≡ 4294967293))))
+pub recount-requires-clause-changed : goal.recount-requires-clause-changed
+recount-requires-clause-changed g c = undone c.update_or_admit-added.new.self c.self.invariant c.place_of-place.ensures.within c.index_mut-unit.ensures.value c.update_or_admit-added.ensures.bound c.of-before.ensures
 
-pub overflow_sub-self : goal.overflow_sub-self
-overflow_sub-self g c = let k = (let n = c.self.invariant.some in
-    let b = c.sums-before.ensures in
-    let a = c.sums-after.ensures in
-    changed g.row.N c.self.inside.units.items c.self.inside.weight c.self.inside.len (c.args.key % g.row.N) c.index_mut-unit.result.now c.update_or_admit-added.new.self c.self.invariant (omega arith) c.index_mut-unit.ensures.value
-    c.update_or_admit-added.ensures.bound (omega (arith, a.weight, a.weight_bound)) (omega (arith, a.len, a.len_bound))) in let b = c.sums-before.ensures.len in rw b k.len_in
+old_rows : (g : _) (c : In-Ok g) → rows_at c.args.self.now.shards (c.args.key % g.row.N) ≡ c.index_mut-unit.result.now.rows
+old_rows g c = rw (← c.self.view_is, ← c.place_of-place.ensures.value) (was_rows c.self.invariant c.place_of-place.ensures.within c.index_mut-unit.ensures.value)
 
-pub overflow_add-self : goal.overflow_add-self
-overflow_add-self g c = let f = (let n = c.self.invariant.some in
-    let b = c.sums-before.ensures in
-    let a = c.sums-after.ensures in
-    changed g.row.N c.self.inside.units.items c.self.inside.weight c.self.inside.len (c.args.key % g.row.N) c.index_mut-unit.result.now c.update_or_admit-added.new.self c.self.invariant (omega arith) c.index_mut-unit.ensures.value
-    c.update_or_admit-added.ensures.bound (omega (arith, a.weight, a.weight_bound)) (omega (arith, a.len, a.len_bound))).len_fits in let b = c.sums-before.ensures.len in let a = c.sums-after.ensures.len in omega arith
+new_rows : (g : _) (c : In-Ok g) → rows_at (lists (set c.self.inside.units.items c.place_of-place.result c.update_or_admit-added.new.self)) (c.args.key % g.row.N) ≡ c.update_or_admit-added.new.self.rows
+new_rows g c = rw (← c.place_of-place.ensures.value) (now_rows c.update_or_admit-added.new.self c.self.invariant c.place_of-place.ensures.within)
 
-pub overflow_sub-self-2 : goal.overflow_sub-self-2
-overflow_sub-self-2 g c = let k = (let n = c.self.invariant.some in
-    let b = c.sums-before.ensures in
-    let a = c.sums-after.ensures in
-    changed g.row.N c.self.inside.units.items c.self.inside.weight c.self.inside.len (c.args.key % g.row.N) c.index_mut-unit.result.now c.update_or_admit-added.new.self c.self.invariant (omega arith) c.index_mut-unit.ensures.value
-    c.update_or_admit-added.ensures.bound (omega (arith, a.weight, a.weight_bound)) (omega (arith, a.len, a.len_bound))) in rw c.sums-before.ensures.weight k.weight_in
+old_rows_err : (g : _) (c : In-Err g) → rows_at c.args.self.now.shards (c.args.key % g.row.N) ≡ c.index_mut-unit.result.now.rows
+old_rows_err g c = rw (← c.self.view_is, ← c.place_of-place.ensures.value) (was_rows c.self.invariant c.place_of-place.ensures.within c.index_mut-unit.ensures.value)
 
-pub overflow_add-self-2 : goal.overflow_add-self-2
-overflow_add-self-2 g c = let f = (let n = c.self.invariant.some in
-    let b = c.sums-before.ensures in
-    let a = c.sums-after.ensures in
-    changed g.row.N c.self.inside.units.items c.self.inside.weight c.self.inside.len (c.args.key % g.row.N) c.index_mut-unit.result.now c.update_or_admit-added.new.self c.self.invariant (omega arith) c.index_mut-unit.ensures.value
-    c.update_or_admit-added.ensures.bound (omega (arith, a.weight, a.weight_bound)) (omega (arith, a.len, a.len_bound))).weight_fits in let b = c.sums-before.ensures.weight in let a = c.sums-after.ensures.weight in omega arith
+new_rows_err : (g : _) (c : In-Err g) → rows_at (lists (set c.self.inside.units.items c.place_of-place.result c.update_or_admit-added.new.self)) (c.args.key % g.row.N) ≡ c.update_or_admit-added.new.self.rows
+new_rows_err g c = rw (← c.place_of-place.ensures.value) (now_rows c.update_or_admit-added.new.self c.self.invariant c.place_of-place.ensures.within)
 
-pub invariant_of-self : goal.invariant_of-self
-invariant_of-self g c = let k = (let n = c.self.invariant.some in
-    let b = c.sums-before.ensures in
-    let a = c.sums-after.ensures in
-    changed g.row.N c.self.inside.units.items c.self.inside.weight c.self.inside.len (c.args.key % g.row.N) c.index_mut-unit.result.now c.update_or_admit-added.new.self c.self.invariant (omega arith) c.index_mut-unit.ensures.value
-    c.update_or_admit-added.ensures.bound (omega (arith, a.weight, a.weight_bound)) (omega (arith, a.len, a.len_bound))) in rw (c.sums-before.ensures.len, c.sums-after.ensures.len, c.sums-before.ensures.weight, c.sums-after.ensures.weight) k.summed
+pub returns-clause-elsewhere : goal.returns-clause-elsewhere
+returns-clause-elsewhere g c = rw (← c.place_of-place.ensures.value, now_rows c.update_or_admit-added.new.self c.self.invariant c.place_of-place.ensures.within, shown_rows c.self.inside.units.items c.place_of-place.result c.update_or_admit-added.new.self, ← c.self.view_is) refl
 
-pub invariant_of-self-2 : goal.invariant_of-self-2
-invariant_of-self-2 g c = let k = (let n = c.self.invariant.some in
-    let b = c.sums-before.ensures in
-    let a = c.sums-after.ensures in
-    changed g.row.N c.self.inside.units.items c.self.inside.weight c.self.inside.len (c.args.key % g.row.N) c.index_mut-unit.result.now c.update_or_admit-added.new.self c.self.invariant (omega arith) c.index_mut-unit.ensures.value
-    c.update_or_admit-added.ensures.bound (omega (arith, a.weight, a.weight_bound)) (omega (arith, a.len, a.len_bound))) in rw (c.sums-before.ensures.len, c.sums-after.ensures.len, c.sums-before.ensures.weight, c.sums-after.ensures.weight) k.summed
+pub returns-clause-updated : goal.returns-clause-updated
+returns-clause-updated g c n =
+    let p = c.in-Ok.ensures.updated (rw (old_rows g c) at n) in
+    (p.0, c.in-Ok.now.1, p.1, rw (old_rows g c, new_rows g c) p.2)
 
-pub returns-clause-present : goal.returns-clause-present
-returns-clause-present g c n =
-    let k = (let n = c.self.invariant.some in
-    let b = c.sums-before.ensures in
-    let a = c.sums-after.ensures in
-    changed g.row.N c.self.inside.units.items c.self.inside.weight c.self.inside.len (c.args.key % g.row.N) c.index_mut-unit.result.now c.update_or_admit-added.new.self c.self.invariant (omega arith) c.index_mut-unit.ensures.value
-    c.update_or_admit-added.ensures.bound (omega (arith, a.weight, a.weight_bound)) (omega (arith, a.len, a.len_bound))) in
-    let i : ℕ = c.args.key % g.row.N in
-    let r : rows_at c.args.self.now.shards i ≡ c.index_mut-unit.result.now.rows = rw (← c.self.view_is) k.rows in
-    let p = c.in-Ok.ensures.present (rw r at n) in
-    let f : List (Row g.row.T.Denot) → List (Row g.row.T.Denot) = λ rows. a_row c.args.key p.1 (max 1 p.2) ∷ others c.args.key rows in
-    let s = core_after _ _ _ _ i _ c.update_or_admit-added.new.self f k (ap (λ u. u.rows) p.5.1) in
-    let t = ap (λ s. record { shards = s; limit = c.self.inside.weight_limit; watermark = c.self.inside.len_watermark; evicted_weight = c.self.inside.evicted_weight; evicted_len = c.self.inside.evicted_len }) s
-    ∙ ap {A = Core g.row.T.Denot} {B = Core g.row.T.Denot} (λ v. record v { shards = set v.shards i (f (rows_at v.shards i)) }) c.self.view_is in
-    (p.0, p.1, p.2, ap (only c.args.key) r ∙ p.3, p.4, (ap (λ q. q.0) p.5.0, t))
+pub returns-clause-new : goal.returns-clause-new
+returns-clause-new g c n = c.in-Ok.ensures.new (rw (old_rows g c) at n)
 
-pub returns-clause-absent : goal.returns-clause-absent
-returns-clause-absent g c n =
-    let k = (let n = c.self.invariant.some in
-    let b = c.sums-before.ensures in
-    let a = c.sums-after.ensures in
-    changed g.row.N c.self.inside.units.items c.self.inside.weight c.self.inside.len (c.args.key % g.row.N) c.index_mut-unit.result.now c.update_or_admit-added.new.self c.self.invariant (omega arith) c.index_mut-unit.ensures.value
-    c.update_or_admit-added.ensures.bound (omega (arith, a.weight, a.weight_bound)) (omega (arith, a.len, a.len_bound))) in
-    let i : ℕ = c.args.key % g.row.N in
-    let r : rows_at c.args.self.now.shards i ≡ c.index_mut-unit.result.now.rows = rw (← c.self.view_is) k.rows in
-    let p = c.in-Ok.ensures.absent (rw r at n) in
-    let f : List (Row g.row.T.Denot) → List (Row g.row.T.Denot) = λ rows. a_row c.args.key p.0 (max 1 p.1) ∷ rows in
-    let s = core_after _ _ _ _ i _ c.update_or_admit-added.new.self f k (ap (λ u. u.rows) p.3.1) in
-    let t = ap (λ s. record { shards = s; limit = c.self.inside.weight_limit; watermark = c.self.inside.len_watermark; evicted_weight = c.self.inside.evicted_weight; evicted_len = c.self.inside.evicted_len }) s
-    ∙ ap {A = Core g.row.T.Denot} {B = Core g.row.T.Denot} (λ v. record v { shards = set v.shards i (f (rows_at v.shards i)) }) c.self.view_is in
-    (p.0, p.1, p.2, (ap (λ q. q.0) p.3.0, t))
+pub returns-clause-added : goal.returns-clause-added
+returns-clause-added g c n =
+    let p = c.in-Ok.ensures.admitted (rw (old_rows g c) at n) in
+    (p.0, p.1, p.2, rw (old_rows g c, new_rows g c) p.4)
 
-pub returns-in-Err-clause-present : goal.returns-in-Err-clause-present
-returns-in-Err-clause-present g c n =
-    let k = (let n = c.self.invariant.some in
-    let b = c.sums-before.ensures in
-    let a = c.sums-after.ensures in
-    changed g.row.N c.self.inside.units.items c.self.inside.weight c.self.inside.len (c.args.key % g.row.N) c.index_mut-unit.result.now c.update_or_admit-added.new.self c.self.invariant (omega arith) c.index_mut-unit.ensures.value
-    c.update_or_admit-added.ensures.bound (omega (arith, a.weight, a.weight_bound)) (omega (arith, a.len, a.len_bound))) in
-    let i : ℕ = c.args.key % g.row.N in
-    let r : rows_at c.args.self.now.shards i ≡ c.index_mut-unit.result.now.rows = rw (← c.self.view_is) k.rows in
-    let p = c.in-Err.ensures.present (rw r at n) in
-    let f : List (Row g.row.T.Denot) → List (Row g.row.T.Denot) = put (a_row c.args.key p.1 p.0.weight) in
-    let s = core_after _ _ _ _ i _ c.update_or_admit-added.new.self f k (ap (λ u. u.rows) p.5.2) in
-    let t = ap (λ s. record { shards = s; limit = c.self.inside.weight_limit; watermark = c.self.inside.len_watermark; evicted_weight = c.self.inside.evicted_weight; evicted_len = c.self.inside.evicted_len }) s
-    ∙ ap {A = Core g.row.T.Denot} {B = Core g.row.T.Denot} (λ v. record v { shards = set v.shards i (f (rows_at v.shards i)) }) c.self.view_is in
-    let h = subst (λ rows. (2 ^ 64 - 1) / g.row.N < weight_of (others c.args.key rows) + max 1 p.2) (sym r) (subst (λ b. b < weight_of (others c.args.key c.index_mut-unit.result.now.rows) + max 1 p.2) k.old_bound p.5.1) in
-    (p.0, p.1, p.2, ap (only c.args.key) r ∙ p.3, p.4, (p.5.0, h, t))
+pub returns-in-Err-clause-elsewhere : goal.returns-in-Err-clause-elsewhere
+returns-in-Err-clause-elsewhere g c = rw (← c.place_of-place.ensures.value, now_rows c.update_or_admit-added.new.self c.self.invariant c.place_of-place.ensures.within, shown_rows c.self.inside.units.items c.place_of-place.result c.update_or_admit-added.new.self, ← c.self.view_is) refl
 
-pub returns-in-Err-clause-absent : goal.returns-in-Err-clause-absent
-returns-in-Err-clause-absent g c n =
-    let k = (let n = c.self.invariant.some in
-    let b = c.sums-before.ensures in
-    let a = c.sums-after.ensures in
-    changed g.row.N c.self.inside.units.items c.self.inside.weight c.self.inside.len (c.args.key % g.row.N) c.index_mut-unit.result.now c.update_or_admit-added.new.self c.self.invariant (omega arith) c.index_mut-unit.ensures.value
-    c.update_or_admit-added.ensures.bound (omega (arith, a.weight, a.weight_bound)) (omega (arith, a.len, a.len_bound))) in
-    let i : ℕ = c.args.key % g.row.N in
-    let r : rows_at c.args.self.now.shards i ≡ c.index_mut-unit.result.now.rows = rw (← c.self.view_is) k.rows in
-    let p = c.in-Err.ensures.absent (rw r at n) in
-    let same = ap (λ s. record { shards = s; limit = c.self.inside.weight_limit; watermark = c.self.inside.len_watermark; evicted_weight = c.self.inside.evicted_weight; evicted_len = c.self.inside.evicted_len })
-    (core_same _ i _ c.update_or_admit-added.new.self c.index_mut-unit.ensures.value p.3.0) ∙ c.self.view_is in
-    let h = subst (λ b. Refuses p.0 p.1 c.in-Err.fault c.index_mut-unit.result.now.rows b) k.old_bound p.3.1 in
-    (p.0, p.1, p.2, (same, subst (λ rows. Refuses p.0 p.1 c.in-Err.fault rows ((2 ^ 64 - 1) / g.row.N)) (sym r) h))
+pub returns-in-Err-clause-update_refused : goal.returns-in-Err-clause-update_refused
+returns-in-Err-clause-update_refused g c n =
+    let p = c.in-Err.ensures.update_refused (rw (old_rows_err g c) at n) in
+    (p.0, rw (old_rows_err g c, new_rows_err g c, ← was_bound c.self.invariant c.place_of-place.ensures.within c.index_mut-unit.ensures.value) p.1)
+
+pub returns-in-Err-clause-same : goal.returns-in-Err-clause-same
+returns-in-Err-clause-same g c n =
+    let p = c.in-Err.ensures.same (rw (old_rows_err g c) at n) in
+    let same : lists (set c.self.inside.units.items c.place_of-place.result c.update_or_admit-added.new.self) ≡ lists c.self.inside.units.items =
+    ap lists (ap (set c.self.inside.units.items c.place_of-place.result) (p ∙ c.index_mut-unit.ensures.value) ∙ set-get_or _ _ _) in
+    rw same c.self.view_is
+
+pub returns-in-Err-clause-refused : goal.returns-in-Err-clause-refused
+returns-in-Err-clause-refused g c n =
+    let p = c.in-Err.ensures.refused (rw (old_rows_err g c) at n) in
+    (p.0, p.1, p.2, rw (old_rows_err g c, ← was_bound c.self.invariant c.place_of-place.ensures.within c.index_mut-unit.ensures.value) p.3)

@@ -24,4 +24,4 @@ returns-clause-some g c =
     let k : without c.prev_at-last.result c.args.self.now.order ++ c.prev_at-last.result ∷ [] ≡ c.args.self.now.order =
     rw (c.prev_at-last.ensures, ← c.self.view_is) (without_tail _ _ _ 0 1 w.linked (order_high _ _ _ _ _ 0 w (omega arith), w.apart) n).1 in
     let a = c.remove.ensures.after in
-    (c.prev_at-last.result, a.0, a.1, c.remove.ensures.value, sym k ∙ ap (λ v. v.order ++ c.prev_at-last.result ∷ []) (sym a.2), ap (λ v. v.items) a.2, ap (λ v. v.free) a.2)
+    (c.prev_at-last.result, a.0, a.1, (c.remove.ensures.value, sym k ∙ ap (λ v. v.order ++ c.prev_at-last.result ∷ []) (sym a.2), ap (λ v. v.items) a.2, ap (λ v. v.free) a.2))

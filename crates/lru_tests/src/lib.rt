@@ -1,0 +1,13 @@
+//! Tests of the linked list, of shards, cores, and the order of entries, as tables of calls.
+#![tactic(auto)]
+
+#[cfg(test)]
+mod cores;
+#[cfg(test)]
+mod lists;
+#[cfg(test)]
+mod orders;
+#[cfg(test)]
+mod refused;
+#[cfg(test)]
+mod shards;
