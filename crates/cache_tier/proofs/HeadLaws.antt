@@ -1,11 +1,14 @@
 -- The lines of a map, and what heads within the bounds give.
-use Rattle.std.proofs.Common.{◌≡◌, ℕ, ◌+◌, ◌≤◌, ◌<◌, true, false, List, [], ◌∷◌, ◌++◌, length, map, take, drop, refl, ap, ap₂, sym, ◌∙◌, subst, arith, inl, inr, append_assoc, append-nil, All, Option, Some, None, length-append, get_or}
-use Rattle.std.specs.Prelude.{◌≢◌, bytes_eq, codes, ◌||◌}
+use Rattle.std.proofs.Common.{◌≡◌, ℕ, ◌+◌, ◌≤◌, ◌<◌, true, false, List, [], ◌∷◌, ◌++◌, length, map, take, drop, refl, ap, ap₂, sym, ◌∙◌, subst, arith, inl, inr, append_assoc, append-nil, All, Option, Some, None, length-append, length-take, get_or}
+use Rattle.std.specs.Prelude.{◌≢◌, bytes_eq, codes, ◌||◌, ◌&&◌, ◌⊎◌, Bool, nat_le}
+use Rattle.std.specs.List.{list_all}
+use Rattle.std.proofs.lemmas.Bool.Decides.{nat_tests}
+use Rattle.std.proofs.lemmas.List.Folds.{list_all-append, list_all-map}
 use Rattle.std.proofs.lemmas.Bool.{cases_Bool}
 use Rattle.std.proofs.lemmas.Slice.Eq.{bytes_eq-Decides}
 use Rattle.std.proofs.lemmas.List.{map-append, take_more, get_or-map, length-map}
 use Rattle.std.proofs.lemmas.List.Elements.{All-map}
-use Rattle.std.proofs.lemmas.List.Sums.{sum_by-cons}
+use Rattle.std.proofs.lemmas.List.Sums.{sum_by-cons, AllPass-from_list_all}
 use Rattle.cache_words.specs.Time.{MomentValue}
 use Rattle.cache_headers.specs.declared.header.ResponseHeader.{ResponseHeader}
 use Rattle.http.specs.StatusCode.{IsStatusCode}
@@ -14,19 +17,20 @@ use Rattle.http_header.specs.FieldValue.{FieldValue, plain_value}
 use Rattle.http_header.specs.Token.{lowercase}
 use Rattle.http_header.specs.Token as token
 use Rattle.http_header.proofs.HeaderMapLemmas.{get_all-append_same, get_all-append_other}
-use Rattle.httparse.specs.Grammar.{ResponseHead, ReadsResponse, HasNoResponse, Field, IsField, is_value_byte, is_token_byte, status_code}
+use Rattle.httparse.specs.Grammar.{ResponseHead, ReadsResponse, HasNoResponse, NeverHasResponse, Field, IsField, is_value_byte, is_token_byte, status_code}
 use Rattle.httparse.specs.declared.spans.HeaderSpan.{HeaderSpan}
-use Rattle.httparse.specs.Spans.{header_bytes, name_and_value}
+use Rattle.httparse.specs.declared.spans.ResponseSpans.{ResponseSpans}
+use Rattle.httparse.specs.Spans.{header_bytes, name_and_value, AreFieldsAt, IsResponseAt, ResponseOverflows}
 use Rattle.httparse.proofs.TrimLemmas.{AllPass-trim_ows}
 use Rattle.httparse.proofs.GrammarLemmas.{response_unique, response_prefix_free}
 use Rattle.tier_model.specs.Keys.{Entry}
 use Rattle.tier_model.specs.declared.rows.FinishedBody.{FinishedBody}
 use Rattle.tier_model.specs.declared.given.Given.{Given}
 use Rattle.tier_model.specs.declared.given.Given.TheVariants.{Stored, Incomplete, BadHead}
-use Rattle.tier_model.specs.Response.{values_of, is_before_epoch, body_within, given_of, given_by, IsReadable, IsPlain, Gives}
+use Rattle.tier_model.specs.Response.{values_of, is_before_epoch, body_within, given_of, given_by, has_short_name, is_within_bounds, IsPlain, Gives}
 use Rattle.cache_tier.specs.declared.response.Head.{Head}
 use Rattle.cache_headers.specs.Lines.{pair_of, map_of, IsLine}
-use Rattle.cache_tier.specs.Heads.{announced, kept_until, given_behind, IsHeadOf}
+use Rattle.cache_tier.specs.Heads.{announced, kept_until, given_behind, IsHeadAt, IsHeadOf, IsOutOfBounds}
 use Rattle.std.specs.Prelude.{option_map, option_copied}
 use Rattle.std.specs.Borrow.{Bor}
 use Rattle.cache_directives.specs.Written.{Written}
@@ -113,33 +117,78 @@ IsLine-field : (f : Field) → IsField f → length f.name ≤ 65535 → IsLine 
 IsLine-field f valid short =
     (((valid.name.0, λ k d l. rw (← same_tokens) (valid.name.1 k d l)), short), AllPass-trim_ows is_value_byte f.raw valid.raw)
 
--- a map takes the lines of a head within the bounds
-pub IsLine-readable : (bytes : List ℕ) (h : ResponseHead) (rest : List ℕ) → ReadsResponse bytes h rest → IsReadable h → All IsLine (map name_and_value h.fields)
-IsLine-readable bytes h rest reads readable =
-    All-map IsLine name_and_value h.fields (λ k d l. IsLine-field _ (reads.0.fields k d l) (readable.names k d l))
+-- one more short name
+pub short-more : (bytes : List ℕ) (lines : List HeaderSpan) (i : ℕ) (d : HeaderSpan) → i < length lines → list_all has_short_name (map (header_bytes bytes) (take i lines)) ≡ true
+    → has_short_name (header_bytes bytes (get_or lines i d)) ≡ true → list_all has_short_name (map (header_bytes bytes) (take (i + 1) lines)) ≡ true
+short-more bytes lines i d l before this =
+    rw (take_more lines i d l, map-append (header_bytes bytes) (take i lines) (get_or lines i d ∷ []), list_all-append has_short_name (map (header_bytes bytes) (take i lines)) (header_bytes bytes (get_or lines i d) ∷ []), before, this) refl
 
--- behind a head out of the bounds no bytes make a plain response
-pub not_plain : (bytes : List ℕ) (h : ResponseHead) (rest : List ℕ) → ReadsResponse bytes h rest → ¬ (IsReadable h) → ¬ (IsPlain bytes)
-not_plain bytes h rest reads out plain =
-    out (subst IsReadable (sym (response_prefix_free bytes plain.0 h plain.1 rest plain.2 reads plain.3).0) plain.4)
+short-at : (f : Field) → has_short_name (name_and_value f) ≡ true → length f.name ≤ 65535
+short-at f t = grind (arith, nat_tests)
+
+short-fields : (fields : List Field) → All IsField fields → list_all has_short_name (map name_and_value fields) ≡ true → All IsLine (map name_and_value fields)
+short-fields fields valid short =
+    let each = AllPass-from_list_all (λ f. has_short_name (name_and_value f)) fields (sym (list_all-map has_short_name name_and_value fields) ∙ short) in
+    All-map IsLine name_and_value fields (λ k d l. IsLine-field (get_or fields k d) (valid k d l) (short-at (get_or fields k d) (each k d l)))
+
+-- a head whose lines a map refuses is out of its bounds
+pub out-by-lines : (bytes : List ℕ) (h : ResponseHead) (rest : List ℕ) → ReadsResponse bytes h rest → ¬ (All IsLine (map name_and_value h.fields))
+    → is_within_bounds (status_code h) (map name_and_value h.fields) ≡ false
+out-by-lines bytes h rest reads refused = elim (cases_Bool (list_all has_short_name (map name_and_value h.fields))) [
+  | inl t ↦ absurd (refused (short-fields h.fields reads.0.fields t))
+  | inr f ↦ rw f (and_no (nat_le 100 (status_code h)))
+]
+  where
+    and_no : (v : Bool) → (v && false) ≡ false
+    and_no true = refl
+    and_no false = refl
+
+-- and so is one whose status is none
+pub out-by-status : (h : ResponseHead) (code : ℕ) → code ≡ status_code h → code < 1000 → ¬ (IsStatusCode code) → is_within_bounds (status_code h) (map name_and_value h.fields) ≡ false
+out-by-status h code e l refused = rw (← e, low (nat_le 100 code) refl) refl
+  where
+    low : (v : Bool) → nat_le 100 code ≡ v → nat_le 100 code ≡ false
+    low true t = absurd (refused (grind (arith, nat_tests), l))
+    low false f = f
+
+pub in-bounds : (h : ResponseHead) (code : ℕ) → code ≡ status_code h → IsStatusCode code → list_all has_short_name (map name_and_value h.fields) ≡ true
+    → is_within_bounds (status_code h) (map name_and_value h.fields) ≡ true
+in-bounds h code e is short = rw (short, ← e, high is.0) refl
+  where
+    high : 100 ≤ code → nat_le 100 code ≡ true
+    high l = grind (arith, nat_tests)
+
+pub few-fields : (bytes : List ℕ) (headers : List HeaderSpan) (count : ℕ) (fields : List Field) → AreFieldsAt bytes headers count fields → length headers ≡ 256 → length fields ≤ 256
+few-fields bytes headers count fields at room =
+    omega (arith, room, length-take count headers, length-map (take count headers) (header_bytes bytes), length-map fields name_and_value, ap length at)
+
+-- a head whose status and lines are taken
+pub whole-head : (bytes : List ℕ) (headers : List HeaderSpan) (r : ResponseSpans) (h : ResponseHead) → IsResponseAt bytes headers r h → length headers ≡ 256
+    → (status : ℕ) (all : Entries FieldValue) → IsStatusCode r.code → status ≡ r.code → all ≡ map_of (map (header_bytes bytes) (take r.headers headers))
+    → list_all has_short_name (map (header_bytes bytes) (take r.headers headers)) ≡ true → IsHeadOf bytes (record { header = record { status = status; headers = all }; len = r.len })
+whole-head bytes headers r h at room status all is code value short = (
+  h,
+  record {
+    reads = at.reads;
+    few = few-fields bytes headers r.headers h.fields at.fields room;
+    bounds = in-bounds h r.code at.code is (subst (λ (ls : List (List ℕ × List ℕ)). list_all has_short_name ls ≡ true) at.fields short);
+    status = code ∙ at.code;
+    headers = value ∙ ap map_of at.fields;
+  },
+)
 
 -- a head as a map gives what its lines give
 given_behind-is : (arrival : MomentValue) (entry : Entry) (head : ResponseHeader) (rest : List ℕ) (status : ℕ) (lines : List (List ℕ × List ℕ)) → head.status ≡ status → head.headers ≡ map_of lines
-    → given_behind arrival entry head rest ≡ given_by arrival entry status lines rest
+    → is_within_bounds status lines ≡ true → given_behind arrival entry head rest ≡ given_by arrival entry status lines rest
 unfolding given_by
-given_behind-is arrival entry head rest status lines s m =
-    rw (s, m, under-map_of lines (codes "content-length"), under-map_of lines (codes "cache-control"), under-map_of lines (codes "expires")) refl
+given_behind-is arrival entry head rest status lines s m bounds =
+    rw (bounds, s, m, under-map_of lines (codes "content-length"), under-map_of lines (codes "cache-control"), under-map_of lines (codes "expires")) refl
 
--- what a head gives is no bad head, and a body of the key
-given_of-read : (arrival : MomentValue) (entry : Entry) (body : Option (List ℕ)) (until : Option MomentValue) → given_of arrival entry body until ≢ BadHead
-given_of-read arrival entry None until e = cc
-given_of-read arrival entry (Some body) None e = cc
-given_of-read arrival entry (Some body) (Some until) e =
-    elim (cases_Bool (is_before_epoch arrival || is_before_epoch until)) [
-      | inl t ↦ absurd (cc)
-      | inr f ↦ absurd (cc)
-    ]
+given_by-out : (arrival : MomentValue) (entry : Entry) (rest : List ℕ) (status : ℕ) (lines : List (List ℕ × List ℕ)) → is_within_bounds status lines ≡ false → given_by arrival entry status lines rest ≡ BadHead
+unfolding given_by
+given_by-out arrival entry rest status lines bounds = rw bounds refl
 
+-- what is given is a body of the key
 given_of-entry : (arrival : MomentValue) (entry : Entry) (body : Option (List ℕ)) (until : Option MomentValue) (stored : FinishedBody) → given_of arrival entry body until ≡ Stored stored → stored.entry ≡ entry
 given_of-entry arrival entry None until stored e = absurd cc
 given_of-entry arrival entry (Some body) None stored e = absurd cc
@@ -149,42 +198,69 @@ given_of-entry arrival entry (Some body) (Some until) stored e =
       | inr f ↦ cc
     ]
 
+-- one head stands at the front of some bytes, whatever comes after
+same-head : (bytes more : List ℕ) (h k : ResponseHead) (rest other : List ℕ) → ReadsResponse bytes h rest → ReadsResponse (bytes ++ more) k other → length h.fields ≤ 256 → 256 < length k.fields → ⊥
+same-head bytes more h k rest other reads reads_k few many =
+    let same : h ≡ k = (response_prefix_free bytes more h k rest other reads reads_k).0 in
+    omega (arith, few, many, ap (λ (x : ResponseHead). length x.fields) same)
+
 -- what is given where the head was read
 pub Gives-whole : (arrival : MomentValue) (entry : Entry) (bytes : List ℕ) (head : Head) (given : Given) → IsHeadOf bytes head → given ≡ given_behind arrival entry head.header (drop head.len bytes) → Gives arrival entry bytes given
 Gives-whole arrival entry bytes head given is e =
     let h : ResponseHead = is.0 in
+    let at : IsHeadAt bytes head h = is.1 in
     let by_lines : given ≡ given_by arrival entry (status_code h) (map name_and_value h.fields) (drop head.len bytes) =
-    e ∙ given_behind-is arrival entry head.header (drop head.len bytes) (status_code h) (map name_and_value h.fields) is.2 is.3 in
+    e ∙ given_behind-is arrival entry head.header (drop head.len bytes) (status_code h) (map name_and_value h.fields) at.status at.headers at.bounds in
     record {
-      whole = λ k rest reads readable.
-          let same = response_unique bytes h k (drop head.len bytes) rest is.1 reads in
+      whole = λ k rest reads few.
+          let same = response_unique bytes h k (drop head.len bytes) rest at.reads reads in
           subst (λ (x : ResponseHead). given ≡ given_by arrival entry (status_code x) (map name_and_value x.fields) rest) same.0
           (subst (λ (x : List ℕ). given ≡ given_by arrival entry (status_code h) (map name_and_value h.fields) x) same.1 by_lines);
-      begun = λ none plain. absurd (none h (drop head.len bytes) is.1);
-      refused = λ bad. absurd (given_of-read arrival entry _ _ (sym e ∙ bad));
+      begun = λ none plain. absurd (none h (drop head.len bytes) at.reads);
+      long = λ more k rest reads many. absurd (same-head bytes more h k (drop head.len bytes) rest at.reads reads at.few many);
       of_entry = λ body b. given_of-entry arrival entry _ _ body (sym e ∙ b);
     }
+
+-- what is given where the head is out of bounds
+pub Gives-out : (arrival : MomentValue) (entry : Entry) (bytes : List ℕ) → IsOutOfBounds bytes → Gives arrival entry bytes BadHead
+Gives-out arrival entry bytes out = record {
+  whole = λ k rest reads few.
+      let same = response_unique bytes k out.0 rest out.1 reads out.2 in
+      sym (given_by-out arrival entry rest (status_code k) (map name_and_value k.fields) (subst (λ (x : ResponseHead). is_within_bounds (status_code x) (map name_and_value x.fields) ≡ false) (sym same.0) out.4));
+  begun = λ none plain. absurd (none out.0 out.1 out.2);
+  long = λ more k rest reads many. inl refl;
+  of_entry = λ body b. absurd cc;
+}
 
 -- what is given where a head has begun
 pub Gives-begun : (arrival : MomentValue) (entry : Entry) (bytes : List ℕ) → HasNoResponse bytes → Gives arrival entry bytes Incomplete
 Gives-begun arrival entry bytes none = record {
-  whole = λ h rest reads readable. absurd (none h rest reads);
+  whole = λ h rest reads few. absurd (none h rest reads);
   begun = λ no plain. refl;
-  refused = λ bad. absurd cc;
+  long = λ more h rest reads many. inr refl;
   of_entry = λ body b. absurd cc;
 }
 
+-- what is given where there are too many lines
+pub Gives-long : (arrival : MomentValue) (entry : Entry) (bytes : List ℕ) (given : Given) → ResponseOverflows 256 bytes → (given ≡ BadHead) ⊎ (given ≡ Incomplete) → Gives arrival entry bytes given
+Gives-long arrival entry bytes given over is = record {
+  whole = λ h rest reads few. absurd (omega (arith, few, over [] h rest (rw (append-nil bytes) reads)));
+  begun = λ none plain. absurd (omega (arith, plain.4, over plain.0 plain.1 plain.2 plain.3));
+  long = λ more h rest reads many. is;
+  of_entry = λ body b. elim is [ inl e ↦ absurd (let no : Stored body ≡ BadHead = sym b ∙ e in cc) | inr e ↦ absurd (let no : Stored body ≡ Incomplete = sym b ∙ e in cc) ];
+}
+
 -- what is given where the default options refuse
-pub Gives-refused : (arrival : MomentValue) (entry : Entry) (bytes : List ℕ) (given : Given) → ¬ (IsPlain bytes) → ((body : FinishedBody) → given ≡ Stored body → body.entry ≡ entry) → Gives arrival entry bytes given
-Gives-refused arrival entry bytes given refused of_entry = record {
-  whole = λ h rest reads readable. absurd (refused ([], h, rest, rw (append-nil bytes) reads, readable));
-  begun = λ none plain. absurd (refused plain);
-  refused = λ bad. refused;
+pub Gives-refused : (arrival : MomentValue) (entry : Entry) (bytes : List ℕ) (given : Given) → NeverHasResponse bytes → ((body : FinishedBody) → given ≡ Stored body → body.entry ≡ entry) → Gives arrival entry bytes given
+Gives-refused arrival entry bytes given never of_entry = record {
+  whole = λ h rest reads few. absurd (never [] h rest (rw (append-nil bytes) reads));
+  begun = λ none plain. absurd (never plain.0 plain.1 plain.2 plain.3);
+  long = λ more h rest reads many. absurd (never more h rest reads);
   of_entry = of_entry;
 }
 
-pub Gives-lenient : (arrival : MomentValue) (entry : Entry) (bytes : List ℕ) (head : ResponseHeader) (rest : List ℕ) (given : Given) → ¬ (IsPlain bytes) → given ≡ given_behind arrival entry head rest → Gives arrival entry bytes given
-Gives-lenient arrival entry bytes head rest given refused e = Gives-refused arrival entry bytes given refused (λ body b. given_of-entry arrival entry _ _ body (sym e ∙ b))
+pub Gives-lenient : (arrival : MomentValue) (entry : Entry) (bytes : List ℕ) (head : ResponseHeader) (rest : List ℕ) (given : Given) → NeverHasResponse bytes → given ≡ given_behind arrival entry head rest → Gives arrival entry bytes given
+Gives-lenient arrival entry bytes head rest given never e = Gives-refused arrival entry bytes given never (λ body b. given_of-entry arrival entry _ _ body (sym e ∙ b))
 
 -- the directives that are lent out
 given-lent : (r : Option (Bor CacheControl)) → lent r ≡ option_map directives_of (option_copied r)
@@ -216,7 +292,3 @@ until-kept (Some until) now ds header a b meta e = ap kept_of e
 pub given_behind-from : (arrival : MomentValue) (entry : Entry) (head : ResponseHeader) (rest : List ℕ) (body : Option (List ℕ)) (until : Option MomentValue) → body_within (announced head) rest ≡ body → kept_until arrival head ≡ until
     → given_of arrival entry body until ≡ given_behind arrival entry head rest
 given_behind-from arrival entry head rest body until b u = ap₂ (given_of arrival entry) (sym b) (sym u)
-
--- a readable head has a status
-pub bound_status : (h : ResponseHead) (code : ℕ) → IsReadable h → code ≡ status_code h → code < 1000 → ¬ (IsStatusCode code) → ⊥
-bound_status h code r e l refused = refused (rw e r.status, l)

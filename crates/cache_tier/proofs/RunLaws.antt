@@ -11,9 +11,9 @@ use Rattle.tier_model.specs.declared.event.Action.{Action}
 use Rattle.tier_model.specs.declared.event.Action.TheVariants.{Open, LookUp, Read, Drop, Purge, Put}
 use Rattle.tier_model.specs.declared.event.TierFault.{TierFault}
 use Rattle.tier_model.specs.Calls.{Outcome, nothing_done, done_of, evicted_by}
-use Rattle.tier_model.specs.Response.{joined, Gives}
+use Rattle.tier_model.specs.Response.{joined, Gives, IsGiven}
 use Rattle.tier_model.specs.State.{State}
-use Rattle.tier_model.specs.Step.{AllowsBy, IsGiven, IsPutAnswer, IsFault, refusal, taken_back, undone}
+use Rattle.tier_model.specs.Step.{AllowsBy, IsPutAnswer, IsFault, refusal, taken_back, undone}
 use Rattle.tier_model.specs.Past.{Steps, Runs}
 use Rattle.rand_core.specs.Stream.{Stream}
 use Rattle.entry_order.specs.Orders.{Order, IsDrawn}

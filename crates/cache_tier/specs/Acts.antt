@@ -14,7 +14,8 @@ use Rattle.tier_model.specs.declared.event.TierFault.{TierFault}
 use Rattle.tier_model.specs.declared.event.TierFault.TheVariants.{Memory, TooHeavy, TooLong}
 use Rattle.tier_model.specs.Calls.{Outcome, nothing_done, done_of}
 use Rattle.tier_model.specs.State.{State}
-use Rattle.tier_model.specs.Step.{AllowsBy, IsGiven, IsStoreFault, put_behind, taken_back, behind}
+use Rattle.tier_model.specs.Step.{AllowsBy, IsStoreFault, put_behind, taken_back, behind}
+use Rattle.tier_model.specs.Response.{IsGiven}
 
 -- an outcome of an action that is not refused and has no response
 abbrev pub AllowsUnrefused : State → MomentValue → Action → Outcome → Type 0

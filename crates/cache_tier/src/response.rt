@@ -1,13 +1,14 @@
 //! What the bytes of a response give.
-ghost use Rattle.std.specs.Prelude.{◌≡◌, ◌≢◌, ◌+◌, ◌<◌, ◌≤◌, List, length, drop, map, IfOk, IfSome, IfNone, IfErr, OnOk, OnErr, All, true};
+ghost use Rattle.std.specs.Prelude.{◌≡◌, ◌≢◌, ◌+◌, ◌<◌, ◌≤◌, List, length, drop, map, IfOk, IfSome, IfNone, IfErr, OnOk, OnErr, All, true, ◌⊎◌};
 ghost use Rattle.http_header.specs.HeaderMap.{append, value_count};
 ghost use Rattle.http_header.specs.FieldValue.{plain_value};
 ghost use Rattle.http_header.specs.Token.{lowercase};
-ghost use Rattle.httparse.specs.Grammar.{HasNoResponse};
-ghost use Rattle.httparse.specs.Spans.{IsHeaderWithin, header_bytes};
-ghost use Rattle.tier_model.specs.Response.{joined, length_in, body_within, given_of, Gives, IsPlain};
+ghost use Rattle.httparse.specs.Grammar.{HasNoResponse, NeverHasResponse};
+ghost use Rattle.httparse.specs.Spans.{IsHeaderWithin, header_bytes, ResponseOverflows};
+ghost use Rattle.std.specs.List.{list_all};
+ghost use Rattle.tier_model.specs.Response.{joined, length_in, body_within, given_of, has_short_name, Gives};
 ghost use Rattle.cache_headers.specs.Lines.{map_of, IsLine};
-ghost use Rattle.cache_tier.specs.Heads.{announced, given_behind, IsHeadOf};
+ghost use Rattle.cache_tier.specs.Heads.{announced, given_behind, IsHeadOf, IsOutOfBounds};
 
 use bytes::Bytes;
 use cache_directives::CacheControl;
@@ -22,7 +23,7 @@ use http_header::{
     HeaderMap, HeaderMapError, HeaderName, HeaderNameError, HeaderValue, HeaderValueError,
 };
 use httparse::spans::{EMPTY_HEADER_SPAN, HeaderSpan, parse_response};
-use httparse::{ParserConfig, Status};
+use httparse::{Error, ParserConfig, Status};
 use std::alloc::{AllocError, Global};
 use tier_model::event::Pieces;
 use tier_model::given::Given;
@@ -38,6 +39,8 @@ enum HeadFault {
     Memory,
     // The parser reads no head here, nor the beginning of one.
     Refused,
+    // There are too many header lines.
+    TooLong,
     // A name is too long, or the status is below 100.
     Bounds,
 }
@@ -70,8 +73,10 @@ fn add(alloc: Global, all: &mut HeaderMap, name: &[u8], value: &[u8]) -> Result<
     requires names { length all.old < 256 }
     requires values { value_count all.old < 256 }
     ensures ok { OnOk result (all.new ≡ append all.old (lowercase name.now) (plain_value value.now)) }
+    ensures short { OnOk result (has_short_name (name.now, value.now) ≡ true) }
     ensures bounds { result ≡ Err HeadFault.Bounds → ¬ (IsLine (name.now, value.now)) }
     ensures read { result ≢ Err HeadFault.Refused }
+    ensures room { result ≢ Err HeadFault.TooLong }
 {
     let name = match HeaderName::from_bytes(alloc, name) {
         Ok(name) => name,
@@ -95,8 +100,10 @@ fn collect(alloc: Global, bytes: &[u8], lines: &[HeaderSpan]) -> Result<HeaderMa
     requires within { All (IsHeaderWithin (length bytes.now)) lines.now }
     requires few { length lines.now ≤ 256 }
     ensures value { IfOk result (λ all. all ≡ map_of (map (header_bytes bytes.now) lines.now)) }
+    ensures short { OnOk result (list_all has_short_name (map (header_bytes bytes.now) lines.now) ≡ true) }
     ensures bounds { result ≡ Err HeadFault.Bounds → ¬ (All IsLine (map (header_bytes bytes.now) lines.now)) }
     ensures read { result ≢ Err HeadFault.Refused }
+    ensures room { result ≢ Err HeadFault.TooLong }
 {
     let mut all = HeaderMap::new(alloc);
     for line in lines {
@@ -185,8 +192,9 @@ fn read_head(alloc: Global, bytes: &[u8]) -> Result<Option<Head>, HeadFault>
     ensures within { IfOk result (λ o. IfSome o (λ head. head.len ≤ length bytes.now)) }
     ensures whole { IfOk result (λ o. IfSome o (IsHeadOf bytes.now)) }
     ensures begun { IfOk result (λ o. IfNone o (HasNoResponse bytes.now)) }
-    ensures bounds { result ≡ Err HeadFault.Bounds → ¬ (IsPlain bytes.now) }
-    ensures refused { result ≡ Err HeadFault.Refused → ¬ (IsPlain bytes.now) }
+    ensures bounds { result ≡ Err HeadFault.Bounds → IsOutOfBounds bytes.now }
+    ensures long { result ≡ Err HeadFault.TooLong → ResponseOverflows 256 bytes.now }
+    ensures refused { result ≡ Err HeadFault.Refused → NeverHasResponse bytes.now }
 {
     let mut lines = [EMPTY_HEADER_SPAN; MOST_LINES];
     match parse_response(bytes, &mut lines) {
@@ -201,6 +209,7 @@ fn read_head(alloc: Global, bytes: &[u8]) -> Result<Option<Head>, HeadFault>
             }))
         }
         Ok(Status::Partial) => Ok(None),
+        Err(Error::TooManyHeaders) => Err(HeadFault::TooLong),
         Err(_) => Err(HeadFault::Refused),
     }
 }
@@ -275,6 +284,17 @@ fn given_at(
     given_behind(alloc, arrival, entry, head.header, rest)
 }
 
+// What a response gives whose head has too many lines. The lenient options may still wait for a folded value to go on.
+fn given_too_long(alloc: Global, response: &[u8]) -> Result<Given, AllocError>
+    ensures { IfOk result (λ given. (given ≡ Given.BadHead) ⊎ (given ≡ Given.Incomplete)) }
+{
+    match read_leniently(alloc, response) {
+        Ok(None) => Ok(Given::Incomplete),
+        Err(HeadFault::Memory) => Err(AllocError),
+        Ok(Some(_)) | Err(_) => Ok(Given::BadHead),
+    }
+}
+
 // What a response gives that the parser's default options refuse.
 fn given_leniently(
     alloc: Global,
@@ -282,7 +302,7 @@ fn given_leniently(
     entry: CompactCacheKey,
     response: Bytes,
 ) -> Result<Given, AllocError>
-    requires { ¬ (IsPlain response) }
+    requires { NeverHasResponse response }
     ensures { IfOk result (Gives arrival entry response) }
 {
     match read_leniently(alloc, response.as_slice()) {
@@ -307,6 +327,7 @@ fn given(
         Ok(None) => Ok(Given::Incomplete),
         Err(HeadFault::Memory) => Err(AllocError),
         Err(HeadFault::Bounds) => Ok(Given::BadHead),
+        Err(HeadFault::TooLong) => given_too_long(alloc, response.as_slice()),
         Err(HeadFault::Refused) => given_leniently(alloc, arrival, entry, response),
     }
 }

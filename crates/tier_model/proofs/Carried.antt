@@ -23,6 +23,7 @@ use Rattle.cache_words.specs.Time.{MomentValue}
 use Rattle.tier_model.specs.Calls.{Call, History, AreCallsOf, extended, Outcome, done_of}
 use Rattle.std.specs.List.{AllByRecursion, sum_by}
 use Rattle.tier_model.specs.Histories.{HasDistinctKeys, IsBody}
+use Rattle.tier_model.specs.Response.{IsGiven}
 use Rattle.tier_model.specs.Headline.{Headline, HoldsHeadline}
 use Rattle.tier_model.specs.Rows.{body_of}
 use Rattle.tier_model.specs.State.{Settings, State, empty_state}
@@ -136,6 +137,10 @@ Headline-lawful : (settings : Settings) (h : History) → IsLawful settings h �
 Headline-lawful settings [] l = tt
 Headline-lawful settings (c ∷ h) l = (IsRight-allowed (state_of settings h) c h (Stands-lawful settings h l.1).fits l.0, Headline-lawful settings h l.1)
 
+given-lawful : (settings : Settings) (h : History) → IsLawful settings h → AllByRecursion (λ c. IsGiven c.event.moment c.event.action c.given) h
+given-lawful settings [] l = tt
+given-lawful settings (c ∷ h) l = (l.0.0, given-lawful settings h l.1)
+
 EvictsLawfully-lawful : (settings : Settings) (h : History) → IsLawful settings h → EvictsLawfully settings.limit settings.watermark h
 EvictsLawfully-lawful settings [] l = tt
 EvictsLawfully-lawful settings (c ∷ h) l =
@@ -149,6 +154,7 @@ pub HoldsHeadline-lawful : (settings : Settings) (h : History) → IsLawful sett
 HoldsHeadline-lawful settings h l =
     let past : Stands settings (state_of settings h) h = Stands-lawful settings h l in
     record {
+      given = given-lawful settings h l;
       answers = Headline-lawful settings h l;
       within = λ bodies. subst (λ (x : Settings). HasDistinctKeys bodies → AllByRecursion (λ b. IsBody (stored_key b.entry) b h) bodies
           → (sum_by (λ b. length b.bytes) bodies ≤ x.limit) × (is_past x.watermark (length bodies) ≡ false)) past.made (IsWithin-kept (state_of settings h) h past.fits past.keeps bodies);

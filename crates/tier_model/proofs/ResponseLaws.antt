@@ -1,14 +1,18 @@
--- A plain response gives one thing.
-use Rattle.std.proofs.Common.{◌≡◌, ℕ, ◌≤◌, ◌<◌, List, ◌++◌, length, take, drop, ap, sym, ◌∙◌, arith, length-append, inl, inr}
-use Rattle.std.proofs.lemmas.Bool.{cases_lt}
+-- A response whose head the parser's default options read or begin to read gives one thing.
+use Rattle.std.proofs.Common.{◌≡◌, ℕ, ◌≤◌, ◌<◌, true, false, List, ◌++◌, length, map, take, drop, ap, sym, ◌∙◌, subst, cond, arith, length-append, inl, inr}
+use Rattle.std.specs.Prelude.{◌≢◌, ◌||◌, Bool, Option, Some, None, codes}
+use Rattle.std.proofs.lemmas.Bool.{cases_lt, cases_Bool}
 use Rattle.std.proofs.lemmas.List.{take-append-le, take-append-drop}
 use Rattle.std.proofs.Math.Seq.{take-append_seam}
 use Rattle.cache_words.specs.Time.{MomentValue}
-use Rattle.httparse.specs.Grammar.{ResponseHead, ReadsResponse, HasNoResponse, print_response}
+use Rattle.cache_heads.specs.FreshUntil.{fresh_until}
+use Rattle.httparse.specs.Grammar.{ResponseHead, ReadsResponse, HasNoResponse, print_response, status_code}
+use Rattle.httparse.specs.Spans.{name_and_value}
 use Rattle.httparse.proofs.GrammarLemmas.{response_prefix_free}
 use Rattle.tier_model.specs.Keys.{Entry}
 use Rattle.tier_model.specs.declared.given.Given.{Given}
-use Rattle.tier_model.specs.Response.{IsPlain, Gives}
+use Rattle.tier_model.specs.declared.given.Given.TheVariants.{Incomplete, BadHead}
+use Rattle.tier_model.specs.Response.{IsPlain, IsWellFormed, is_within_bounds, is_before_epoch, body_within, body_length, values_of, given_of, given_by, Gives}
 
 -- a head that stands whole in the first part of some bytes is read there
 read_front : (bytes more : List ℕ) (h : ResponseHead) (rest : List ℕ) → ReadsResponse (bytes ++ more) h rest → length (print_response h) ≤ length bytes → ReadsResponse bytes h (drop (length (print_response h)) bytes)
@@ -34,4 +38,32 @@ Gives-plain arrival entry bytes a b plain x y =
       | inl l ↦
           let none : HasNoResponse bytes = read_none bytes plain.0 head plain.2 plain.3 l in
           x.begun none plain ∙ sym (y.begun none plain)
+    ]
+
+-- what is given by a head within bounds is no bad head
+pub given_of-read : (arrival : MomentValue) (entry : Entry) (body : Option (List ℕ)) (until : Option MomentValue) → given_of arrival entry body until ≢ BadHead
+given_of-read arrival entry None until e = cc
+given_of-read arrival entry (Some body) None e = cc
+given_of-read arrival entry (Some body) (Some until) e =
+    elim (cases_Bool (is_before_epoch arrival || is_before_epoch until)) [
+      | inl t ↦ absurd (cc)
+      | inr f ↦ absurd (cc)
+    ]
+
+pub given_by-read : (arrival : MomentValue) (entry : Entry) (status : ℕ) (lines : List (List ℕ × List ℕ)) (rest : List ℕ) → is_within_bounds status lines ≡ true → given_by arrival entry status lines rest ≢ BadHead
+unfolding given_by
+given_by-read arrival entry status lines rest bounds e =
+    given_of-read arrival entry (body_within (body_length status lines) rest) (fresh_until arrival (values_of (codes "cache-control") lines) (values_of (codes "expires") lines) false None)
+    (subst (λ (v : Bool). cond v (given_of arrival entry (body_within (body_length status lines) rest) (fresh_until arrival (values_of (codes "cache-control") lines) (values_of (codes "expires") lines) false None)) BadHead ≡ BadHead) bounds e)
+
+pub Gives-read : (arrival : MomentValue) (entry : Entry) (bytes : List ℕ) (given : Given) → IsWellFormed bytes → Gives arrival entry bytes given → given ≢ BadHead
+Gives-read arrival entry bytes given well x bad =
+    let head : ResponseHead = well.1 in
+    elim (cases_lt (length bytes) (length (print_response head))) [
+      | inr l ↦
+          given_by-read arrival entry (status_code head) (map name_and_value head.fields) (drop (length (print_response head)) bytes) well.5
+          (sym (x.whole head (drop (length (print_response head)) bytes) (read_front bytes well.0 head well.2 well.3 l) well.4) ∙ bad)
+      | inl l ↦
+          let begun : given ≡ Incomplete = x.begun (read_none bytes well.0 head well.2 well.3 l) (well.0, head, well.2, well.3, well.4) in
+          cc
     ]

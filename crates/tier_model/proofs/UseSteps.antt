@@ -26,7 +26,7 @@ use Rattle.tier_model.specs.declared.event.Done.{Done}
 use Rattle.tier_model.specs.declared.event.TierFault.{TierFault}
 use Rattle.tier_model.specs.Histories.{IsBody}
 use Rattle.tier_model.specs.Calls.{Call, History, Outcome, stored_in, opened_for, written_by, nothing_done, done_of, evicted_before}
-use Rattle.tier_model.specs.Use.{is_for, is_under, admits, hits_entry, uses, departs, use_chosen, last_use, is_tracked, WeighsBy, Weighs, IsOrderOfUse, EvictsBy, BodiesAreTracked}
+use Rattle.tier_model.specs.Use.{is_for, is_under, admits, hits_entry, uses, departs, use_chosen, last_use, is_tracked, WeighsBy, Weighs, IsOrderOfUse, IsOrderBehind, EvictsBy, BodiesAreTracked}
 use Rattle.tier_model.specs.Rows.{body_of, weight_for}
 use Rattle.tier_model.specs.State.{State}
 use Rattle.tier_model.specs.Step.{refusal, AllowsBy, Allows, IsAnswer, IsPutAnswer, IsPutFault, after, answered, undone, taken_back, on_request, look_answer, look_behind, read_answer, read_behind, purge_behind, put_behind, use_is_too_heavy, body_for}
@@ -237,7 +237,7 @@ put_used : (s : State) (t : MomentValue) (g : Option Given) (key : CacheKeyValue
     → IsOrderOfUse (put_behind s g a).tracked (call_at t (Put key pieces) g (Ok a) ∷ h) × EvictsBy s.settings.limit s.settings.watermark (record { moment = t; action = Put key pieces }) (Ok a) g h
 put_used s t (Some (Stored b)) key pieces (Finished n es) h p o = (
   evicted_used t (Some (Stored b)) key pieces n es (admitted b.entry (weight_for b) s.tracked) h (admitted_used s t (Some (Stored b)) key pieces b n h refl o),
-  (admitted b.entry (weight_for b) s.tracked, admitted_used s t (Some (Stored b)) key pieces b 0 h refl o, p.2),
+  (admitted b.entry (weight_for b) s.tracked, (b, refl, admitted_used s t (Some (Stored b)) key pieces b 0 h refl o), p.2),
 )
 put_used s t (Some (given.Uncacheable reason)) key pieces (answer.Uncacheable shown) h p o =
     (idle (call_at t (Put key pieces) (Some (given.Uncacheable reason)) (Ok (answer.Uncacheable shown))) h s.tracked (record { departs = λ e. refl; admits = λ e. refl; hits = λ e. refl }) o, refl)
@@ -288,24 +288,24 @@ answer_used s t g (Purge key) a h fits keeps p o =
 answer_used s t g (Put key pieces) a h fits keeps p o = put_used s t g key pieces a h p o
 
 -- a refused call evicts nothing, but for a put that is refused in the midst of it
-none_gone : (done : Done) → done ≡ nothing_done → evicted_before done ≡ []
-none_gone done e = subst (λ (d : Done). evicted_before d ≡ []) (sym e) refl
+none_gone : (done : Done) → done ≡ nothing_done → done.stored ≡ false
+none_gone done e = subst (λ (d : Done). d.stored ≡ false) (sym e) refl
 
 put_gone : (s : State) (t : MomentValue) (g : Option Given) (key : CacheKeyValue) (pieces : List (List ℕ)) (f : TierFault) (h : History) → IsPutFault s g f → IsOrderOfUse s.tracked h
     → EvictsBy s.settings.limit s.settings.watermark (record { moment = t; action = Put key pieces }) (Err f) g h
 put_gone s t (Some (Stored b)) key pieces f h p o = elim p [
-  | inl heavy ↦ inl (subst (λ (x : TierFault). evicted_before (done_of x) ≡ []) (sym heavy.0) refl)
+  | inl heavy ↦ inr (rows, order, inl (subst (λ (x : TierFault). evicted_before (done_of x) ≡ []) (sym heavy.0) refl))
   | inr q ↦ elim q [
-    | inl long ↦ inl (subst (λ (x : TierFault). evicted_before (done_of x) ≡ []) (sym long.0) refl)
-    | inr cut ↦
-        let rows : List Tracked = admitted b.entry (weight_for b) s.tracked in
-        inr (
-          rows,
-          admitted_used s t (Some (Stored b)) key pieces b 0 h refl o,
-          subst (λ (x : TierFault). IsBegunEviction s.settings.limit s.settings.watermark rows (evicted_before (done_of x))) (sym cut.1) cut.2,
-        )
+    | inl long ↦ inr (rows, order, inl (subst (λ (x : TierFault). evicted_before (done_of x) ≡ []) (sym long.0) refl))
+    | inr cut ↦ inr (rows, order, inr (subst (λ (x : TierFault). IsBegunEviction s.settings.limit s.settings.watermark rows (evicted_before (done_of x))) (sym cut.1) cut.2))
   ]
 ]
+  where
+    rows : List Tracked
+    rows = admitted b.entry (weight_for b) s.tracked
+
+    order : IsOrderBehind rows (record { moment = t; action = Put key pieces }) (Some (Stored b)) h
+    order = (b, refl, admitted_used s t (Some (Stored b)) key pieces b 0 h refl o)
 put_gone s t (Some given.Incomplete) key pieces f h p o = inl (none_gone (done_of f) (ap done_of p))
 put_gone s t (Some given.BadHead) key pieces f h p o = inl (none_gone (done_of f) (ap done_of p))
 put_gone s t (Some given.BeforeEpoch) key pieces f h p o = inl (none_gone (done_of f) (ap done_of p))

@@ -25,7 +25,7 @@ use Rattle.tier_model.specs.declared.event.Answer.TheVariants.{Opened, Found, Ab
 use Rattle.tier_model.specs.declared.event.Done.{Done}
 use Rattle.tier_model.specs.declared.event.TierFault.{TierFault}
 use Rattle.tier_model.specs.declared.event.TierFault.TheVariants.{NoRequest, IdInUse, WrongPhase, TooHeavy, TooLong, Memory}
-use Rattle.tier_model.specs.Response.{joined, Gives}
+use Rattle.tier_model.specs.Response.{IsGiven}
 use Rattle.tier_model.specs.Calls.{Call, Outcome, nothing_done, done_of}
 use Rattle.tier_model.specs.Rows.{body_of, with_body, without_body, without_bodies, weight_for}
 use Rattle.tier_model.specs.State.{State}
@@ -124,11 +124,12 @@ IsPutAnswer s (Some (Stored b)) (Finished n evicted) =
 IsPutAnswer s (Some (given.Uncacheable reason)) (answer.Uncacheable shown) = shown ≡ reason
 IsPutAnswer s _ _ = ⊥
 
--- memory ran out in the midst of the evictions
+-- memory ran out in the midst of the evictions, after an admission that fits
 abbrev pub IsCutShort : State → FinishedBody → TierFault → Type 0
 IsCutShort s b f =
     (evicted : List Entry) × (f ≡ Memory (all_done evicted))
     × IsBegunEviction s.settings.limit s.settings.watermark (admitted b.entry (weight_for b) s.tracked) evicted
+    × (admission_is_too_heavy b s.tracked ≡ false)
 
 -- why a body that was stored is taken back
 abbrev pub IsStoreFault : State → FinishedBody → TierFault → Type 0
@@ -144,12 +145,6 @@ IsPutFault s (Some given.BadHead) f = f ≡ fault.BadHead
 IsPutFault s (Some given.BeforeEpoch) f = f ≡ fault.BeforeEpoch
 IsPutFault s _ f = ⊥
 
--- what an event's response gives, where it has one and it was read
-abbrev pub IsGiven : MomentValue → Action → Option Given → Type 0
-IsGiven t (Put key pieces) (Some given) = Gives t (entry_of key) (joined pieces) given
-IsGiven t action None = Unit {0}
-IsGiven t action (Some given) = ⊥
-
 -- the answers to an event that is not refused
 abbrev pub IsAnswer : State → MomentValue → Action → Option Given → Answer → Type 0
 IsAnswer s t (Open id key) g a = a ≡ Opened
@@ -160,14 +155,14 @@ IsAnswer s t (Drop id) g a = a ≡ Dropped
 IsAnswer s t (Purge key) g a = a ≡ Purged (is_some (body_of (key_asked key) s.bodies))
 IsAnswer s t (Put key pieces) g a = IsPutAnswer s g a
 
--- the events for which a growth may be refused
-abbrev pub MayTakeMemory : Action → Type 0
-MayTakeMemory (Open id key) = Unit {0}
-MayTakeMemory (LookUp id) = Unit {0}
-MayTakeMemory (Read id) = ⊥
-MayTakeMemory (Drop id) = ⊥
-MayTakeMemory (Purge key) = ⊥
-MayTakeMemory (Put key pieces) = Unit {0}
+-- the events for which a growth may be refused; a look-up takes memory only where it finds something
+abbrev pub MayTakeMemory : State → Action → Type 0
+MayTakeMemory s (Open id key) = Unit {0}
+MayTakeMemory s (LookUp id) = MatchOption (get s.requests id) ⊥ (λ q. is_some (body_for q s.bodies) ≡ true)
+MayTakeMemory s (Read id) = ⊥
+MayTakeMemory s (Drop id) = ⊥
+MayTakeMemory s (Purge key) = ⊥
+MayTakeMemory s (Put key pieces) = Unit {0}
 
 -- why the entry of what a request found isn't used
 abbrev pub IsUseFault : State → Request → TierFault → Type 0
@@ -183,7 +178,7 @@ IsLateFault s (Put key pieces) g f = IsPutFault s g f
 IsLateFault s _ g f = ⊥
 
 abbrev pub IsFault : State → Action → Option Given → TierFault → Type 0
-IsFault s action g f = ((f ≡ Memory nothing_done) × MayTakeMemory action) ⊎ IsLateFault s action g f
+IsFault s action g f = ((f ≡ Memory nothing_done) × MayTakeMemory s action) ⊎ IsLateFault s action g f
 
 -- the first refusal, exactly where one holds, and else an answer of the event's row or a fault behind the checks
 abbrev pub AllowsBy : Option TierFault → State → MomentValue → Action → Option Given → Outcome → Type 0

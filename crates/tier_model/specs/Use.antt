@@ -10,7 +10,7 @@ use Rattle.tier_model.specs.declared.event.Action.{Action}
 use Rattle.tier_model.specs.declared.event.Action.TheVariants.{LookUp, Purge, Put}
 use Rattle.tier_model.specs.declared.event.Answer.TheVariants.{Found, Purged, Finished}
 use Rattle.tier_model.specs.Keys.{StoredKey, Entry}
-use Rattle.tier_model.specs.Calls.{Call, History, Outcome, opened_for, written_by, evicted_by, was_stored}
+use Rattle.tier_model.specs.Calls.{Call, History, Outcome, opened_for, body_finished, written_by, evicted_by, was_stored}
 use Rattle.tier_model.specs.Histories.{IsBody}
 use Rattle.tier_model.specs.Rows.{weight_for}
 
@@ -94,18 +94,21 @@ pub record IsOrderOfUse (rows : List Tracked) (h : History) : Type 0 where
   pub all : (e : Entry) → is_some (weight_of e rows) ≡ is_tracked e h
   pub weights : (e : Entry) (w : ℕ) → weight_of e rows ≡ Some w → Weighs e w h
 
--- the rows are the order of use behind an event's admission, with nothing gone yet
+-- the event stores a body, and the rows are the order of use after its admission, with nothing gone yet
 abbrev pub IsOrderBehind : List Tracked → Event → Option Given → History → Type 0
-IsOrderBehind rows e given before = IsOrderOfUse rows (record { event = e; outcome = Ok (Finished 0 []); given = given } ∷ before)
+IsOrderBehind rows e given before =
+    (b : FinishedBody) × (body_finished e.action (Ok (Finished 0 [])) given ≡ Some b)
+    × IsOrderOfUse rows (record { event = e; outcome = Ok (Finished 0 []); given = given } ∷ before)
 
--- what went in a call went lawfully: the last in the order of use behind its admission, one by one, while a limit was passed;
--- only the finish of a body evicts, also one that is refused in the midst of it
+-- what went in a call went lawfully: the last in the order of use after its admission, one by one, while a limit was passed;
+-- only an event that stores a body evicts, also one that is refused in the midst of it
 abbrev pub EvictsBy : ℕ → Option ℕ → Event → Outcome → Option Given → History → Type 0
 EvictsBy limit watermark e (Ok (Finished n evicted)) given before =
     (rows : List Tracked) × IsOrderBehind rows e given before × IsLawfulEviction limit watermark rows evicted
 EvictsBy limit watermark e (Ok answer) given before = evicted_by (Ok answer) ≡ []
 EvictsBy limit watermark e (Err fault) given before =
-    (evicted_by (Err fault) ≡ []) ⊎ ((rows : List Tracked) × IsOrderBehind rows e given before × IsBegunEviction limit watermark rows (evicted_by (Err fault)))
+    (was_stored (Err fault) ≡ false)
+    ⊎ ((rows : List Tracked) × IsOrderBehind rows e given before × ((evicted_by (Err fault) ≡ []) ⊎ IsBegunEviction limit watermark rows (evicted_by (Err fault))))
 
 -- each call's evictions were lawful
 abbrev pub EvictsLawfully : ℕ → Option ℕ → History → Type 0
