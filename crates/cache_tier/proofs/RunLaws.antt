@@ -3,7 +3,7 @@ use Rattle.std.proofs.Common.{◌≡◌, ℕ, List, Some, None, Ok, Err, MatchRe
 use Rattle.cache_words.specs.Time.{MomentValue}
 use Rattle.cache_words.specs.Key.{CacheKeyValue}
 use Rattle.tier_entries.specs.Keys.{entry_of}
-use Rattle.tier_model.specs.Keys.{Entry}
+use Rattle.tier_model.specs.Keys.{Entry, entries_of}
 use Rattle.tier_model.specs.declared.rows.FinishedBody.{FinishedBody}
 use Rattle.tier_model.specs.declared.given.Given.TheVariants.{Stored}
 use Rattle.tier_model.specs.declared.event.Event.{Event}
@@ -26,7 +26,7 @@ pub Takes-stored : (old : State) (s : Stream) (t : MomentValue) (key : CacheKeyV
     → (left : Order) × IsDrawn (order_behind old b) (evicted_by o) s left rest → TakesBy old s t (Put key pieces) o new rest
 Takes-stored old s t key pieces b (Ok a) new rest gives allowed is drawn = (Some (Stored b), gives, allowed, is, drawn)
 Takes-stored old s t key pieces b (Err f) new rest gives allowed is drawn =
-    (Some (Stored b), gives, fault, subst (λ (k : Entry). new ≡ taken_back (done_of f).stored old k (done_of f).evicted) (gives.of_entry b refl) is, drawn)
+    (Some (Stored b), gives, fault, subst (λ (k : Entry). new ≡ taken_back (done_of f).stored old k (entries_of (done_of f).evicted)) (gives.of_entry b refl) is, drawn)
   where
     fault : IsFault old (Put key pieces) (Some (Stored b)) f
     fault = elim allowed [ inl memory ↦ inl (memory, tt) | inr late ↦ inr late ]

@@ -12,6 +12,7 @@ use Rattle.tier_model.specs.declared.given.Given.TheVariants.{Stored}
 use Rattle.tier_model.specs.declared.event.Action.{Action}
 use Rattle.tier_model.specs.declared.event.TierFault.{TierFault}
 use Rattle.tier_model.specs.declared.event.TierFault.TheVariants.{Memory, TooHeavy, TooLong}
+use Rattle.tier_model.specs.Keys.{entries_of}
 use Rattle.tier_model.specs.Calls.{Outcome, nothing_done, done_of}
 use Rattle.tier_model.specs.State.{State}
 use Rattle.tier_model.specs.Step.{AllowsBy, IsStoreFault, put_behind, taken_back, behind}
@@ -31,7 +32,7 @@ IsRefusal s b f = (f ≡ Memory nothing_done) ⊎ IsStoreFault s b f
 -- the state behind the storing of a body
 abbrev pub behind_store : State → FinishedBody → Outcome → State
 behind_store s b (Ok a) = put_behind s (Some (Stored b)) a
-behind_store s b (Err f) = taken_back (done_of f).stored s b.entry (done_of f).evicted
+behind_store s b (Err f) = taken_back (done_of f).stored s b.entry (entries_of (done_of f).evicted)
 
 -- a fault of the order of use, behind what was done
 abbrev pub fault_for : OrderFault → Done → TierFault

@@ -5,7 +5,7 @@ ghost use Rattle.tier_entries.specs.Keys.{entry_of};
 ghost use Rattle.tier_entries.specs.Rows.{without_row, IsLawfulEviction, IsBegunEviction};
 ghost use Rattle.entry_order.specs.Orders.{Order, IsDrawn};
 ghost use Rattle.entry_order.specs.declared.order.OrderFault.{OrderFault};
-ghost use Rattle.tier_model.specs.Keys.{Entry, key_asked};
+ghost use Rattle.tier_model.specs.Keys.{Evicted, entries_of, AreWeighed, key_asked};
 ghost use Rattle.tier_model.specs.Rows.{without_body, without_bodies};
 ghost use Rattle.tier_model.specs.State.{empty_state};
 ghost use Rattle.tier_model.specs.Calls.{nothing_done, done_of, evicted_by};
@@ -304,12 +304,12 @@ impl Tier<1> {
         key: &CacheKey,
         length: usize,
     ) -> Result<Answer, TierFault>
-        ensures kept { IfOk result (λ answer. (es : List Entry) × (answer ≡ Answer.Finished length es)
-            × IsLawfulEviction self.old.settings.limit self.old.settings.watermark self.old.tracked es
-            × (self.new ≡ evicted_from self.old es)) }
-        ensures cut { IfErr result (λ fault. (es : List Entry) × (fault ≡ TierFault.Memory (all_done es))
-            × IsBegunEviction self.old.settings.limit self.old.settings.watermark self.old.tracked es
-            × (self.new ≡ taken_back true self.old (entry_of key.now) es)) }
+        ensures kept { IfOk result (λ answer. (es : List Evicted) × (answer ≡ Answer.Finished length es)
+            × IsLawfulEviction self.old.settings.limit self.old.settings.watermark self.old.tracked (entries_of es)
+            × (self.new ≡ evicted_from self.old (entries_of es)) × AreWeighed self.old.tracked es) }
+        ensures cut { IfErr result (λ fault. (es : List Evicted) × (fault ≡ TierFault.Memory (all_done es))
+            × IsBegunEviction self.old.settings.limit self.old.settings.watermark self.old.tracked (entries_of es)
+            × (self.new ≡ taken_back true self.old (entry_of key.now) (entries_of es)) × AreWeighed self.old.tracked es) }
         ensures drawn { (left : Order) × IsDrawn (order_of self.old) (evicted_by result)
             (R.stream rng.old) left (R.stream rng.new) }
     {
@@ -436,7 +436,7 @@ impl Tier<1> {
         ensures draws { IfOk result (λ outcomes.
             RunsBy self.old (R.stream rng.old) events.now outcomes.items self.new (R.stream rng.new)) }
         ensures fault { IfErr result (λ fault. fault ≡ TierFault.Memory nothing_done) }
-        ensures err { OnErr result (self.new ≡ self.old) }
+        ensures err { OnErr result ((self.new ≡ self.old) × (R.stream rng.new ≡ R.stream rng.old)) }
     {
         let Ok(mut outcomes) = Vec::with_capacity(self.alloc, events.len()) else {
             return Err(TierFault::Memory(nothing_done(self.alloc)));

@@ -22,7 +22,7 @@ use Rattle.tier_model.specs.declared.event.Action.TheVariants.{Open, LookUp, Rea
 use Rattle.tier_model.specs.declared.event.Answer.{Answer}
 use Rattle.tier_model.specs.declared.event.Answer.TheVariants.{Finished}
 use Rattle.tier_model.specs.declared.event.TierFault.{TierFault}
-use Rattle.tier_model.specs.Keys.{StoredKey, Entry, key_asked}
+use Rattle.tier_model.specs.Keys.{StoredKey, Entry, Evicted, entries_of, AreWeighed, key_asked}
 use Rattle.tier_model.specs.Calls.{Call, History, Outcome, done_of}
 use Rattle.tier_model.specs.Histories.{IsBody, IsWithin, HasDistinctKeys}
 use Rattle.tier_model.specs.Rows.{body_of, with_body, without_body, without_bodies, weight_for}
@@ -190,10 +190,10 @@ purge_keeps s key true h = record {
 put_keeps : (s : State) (g : Option Given) (a : Answer) → IsPutAnswer s g a → KeepsLimits s → KeepsLimits (put_behind s g a)
 put_keeps s (Some (Stored b)) (Finished n es) p h =
     let rows : List Tracked = admitted b.entry (weight_for b) s.tracked in
-    let tracked : AreTracked (without_bodies es (with_body b s.bodies)) (without_rows es rows) = AreTracked-without_all es (with_body b s.bodies) rows (AreTracked-with b s.bodies s.tracked h.tracked) in
+    let tracked : AreTracked (without_bodies (entries_of es) (with_body b s.bodies)) (without_rows (entries_of es) rows) = AreTracked-without_all (entries_of es) (with_body b s.bodies) rows (AreTracked-with b s.bodies s.tracked h.tracked) in
     record {
-      within = tracked_within s.settings.limit s.settings.watermark (without_bodies es (with_body b s.bodies)) (without_rows es rows) tracked
-          (is_over-evicted s.settings.limit s.settings.watermark es rows p.2);
+      within = tracked_within s.settings.limit s.settings.watermark (without_bodies (entries_of es) (with_body b s.bodies)) (without_rows (entries_of es) rows) tracked
+          (is_over-evicted s.settings.limit s.settings.watermark (entries_of es) rows p.2);
       tracked = tracked;
     }
 put_keeps s (Some (Stored b)) _ p h = h
@@ -226,7 +226,7 @@ undone_keeps s (LookUp i) f h = h
 undone_keeps s (Read i) f h = h
 undone_keeps s (Drop i) f h = h
 undone_keeps s (Purge key) f h = h
-undone_keeps s (Put key pieces) f h = back_keeps (done_of f).stored s (entry_of key) (done_of f).evicted h
+undone_keeps s (Put key pieces) f h = back_keeps (done_of f).stored s (entry_of key) (entries_of (done_of f).evicted) h
 
 -- each lawful call keeps the limits
 pub KeepsLimits-after : (s : State) (c : Call) → Allows s c → KeepsLimits s → KeepsLimits (after s c)

@@ -7,7 +7,7 @@ use Rattle.std.proofs.lemmas.Bool.Decides.{nat_tests}
 use Rattle.cache_words.specs.Key.{CacheKeyValue}
 use Rattle.tier_entries.specs.Keys.{entry_of, stored_key}
 use Rattle.tier_entries.specs.Rows.{is_past}
-use Rattle.tier_model.specs.Keys.{Entry, key_asked}
+use Rattle.tier_model.specs.Keys.{Entry, Evicted, entries_of, AreWeighed, key_asked}
 use Rattle.tier_model.specs.declared.given.Given.{Given}
 use Rattle.tier_model.specs.declared.given.Given.TheVariants.{Stored}
 use Rattle.tier_model.specs.declared.given.Given.TheVariants as given
@@ -30,11 +30,11 @@ use Rattle.tier_model.specs.State.{Settings, State, empty_state}
 use Rattle.tier_model.specs.Step.{Allows, after, answered, undone, taken_back, on_request, look_behind, read_behind, purge_behind, put_behind, body_for}
 use Rattle.tier_model.specs.Use.{IsOrderOfUse, EvictsBy, EvictsLawfully}
 use Rattle.tier_model.specs.Reports.{IsReport, report_of}
-use Rattle.tier_model.specs.Past.{Steps, state_of, IsLawful, HasPast, Runs, CarriesHeadline}
-use Rattle.tier_model.proofs.RequestLaws.{RequestFits, Fits, Fits-after}
+use Rattle.tier_model.specs.Past.{Steps, state_of, IsLawful, MatchesHistory, HasPast, Runs, CarriesHeadline}
+use Rattle.tier_model.proofs.RequestLaws.{RequestFits, Fits, Fits-after, IsRequestOf-fits}
 use Rattle.tier_model.proofs.HeadlineLaws.{IsRight-allowed}
 use Rattle.tier_model.proofs.UseSteps.{IsOrderOfUse-after, BodiesAreTracked-kept}
-use Rattle.tier_model.proofs.ReportLaws.{Tallies, Tallies-after, IsReport-kept}
+use Rattle.tier_model.proofs.ReportLaws.{Tallies, Tallies-after, AreAllBodies-kept, IsReport-kept}
 use Rattle.tier_model.proofs.BoundLaws.{KeepsWithin, KeepsLimits, KeepsLimits-after, IsWithin-kept}
 
 -- no call changes what the tier was made with
@@ -77,7 +77,7 @@ undone_settings s (LookUp i) f = refl
 undone_settings s (Read i) f = refl
 undone_settings s (Drop i) f = refl
 undone_settings s (Purge key) f = refl
-undone_settings s (Put key pieces) f = back_settings (done_of f).stored s (entry_of key) (done_of f).evicted
+undone_settings s (Put key pieces) f = back_settings (done_of f).stored s (entry_of key) (entries_of (done_of f).evicted)
 
 pub settings-after : (s : State) (c : Call) → (after s c).settings ≡ s.settings
 settings-after s c = by_outcome c.outcome
@@ -162,6 +162,17 @@ HoldsHeadline-lawful settings h l =
       evictions = EvictsLawfully-lawful settings h l;
     }
 
+-- the state after a lawful history is what it says
+MatchesHistory-lawful : (settings : Settings) (h : History) → Stands settings (state_of settings h) h → MatchesHistory (state_of settings h) h
+MatchesHistory-lawful settings h past = record {
+  bodies = AreAllBodies-kept (state_of settings h) h past.fits past.tallies.distinct;
+  order = past.order;
+  requests = λ id. IsRequestOf-fits id (get (state_of settings h).requests id) h (past.fits.requests id);
+  found = past.tallies.found;
+  absent = past.tallies.absent;
+  evicted = past.tallies.evicted;
+}
+
 -- a lawful history is a past of the state behind it
 pub HasPast-lawful : (settings : Settings) (s : State) (h : History) → IsLawful settings h → s ≡ state_of settings h → HasPast settings s h
 HasPast-lawful settings s h l e =
@@ -170,7 +181,7 @@ HasPast-lawful settings s h l e =
       lawful = l;
       state = e;
       headline = HoldsHeadline-lawful settings h l;
-      order = subst (λ (x : State). IsOrderOfUse x.tracked h) (sym e) past.order;
+      matches = subst (λ (x : State). MatchesHistory x h) (sym e) (MatchesHistory-lawful settings h past);
       report = subst (λ (x : State). IsReport (report_of x) h) (sym e) (IsReport-kept (state_of settings h) h past.fits past.tallies past.order);
     }
 

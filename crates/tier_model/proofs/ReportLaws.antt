@@ -20,7 +20,7 @@ use Rattle.tier_model.specs.declared.event.Answer.TheVariants.{Opened, Bytes, En
 use Rattle.tier_model.specs.declared.event.Answer.TheVariants as answer
 use Rattle.tier_model.specs.declared.event.Done.{Done}
 use Rattle.tier_model.specs.declared.event.TierFault.{TierFault}
-use Rattle.tier_model.specs.Keys.{StoredKey, Entry, key_asked}
+use Rattle.tier_model.specs.Keys.{StoredKey, Entry, Evicted, entries_of, AreWeighed, key_asked}
 use Rattle.tier_model.specs.Calls.{Call, History, Outcome, evicted_by, nothing_done, done_of}
 use Rattle.tier_model.specs.Histories.{IsBody, HasDistinctKeys}
 use Rattle.tier_model.specs.Reports.{IsReport, report_of, found_answers, absent_answers, evictions, is_found, is_absent, shown, AreAllBodies}
@@ -160,8 +160,8 @@ put_tally : (s : State) (t : MomentValue) (g : Option Given) (key : CacheKeyValu
 put_tally s t (Some (Stored b)) key pieces (Finished n es) h p tally = record {
   found = tally.found;
   absent = tally.absent;
-  evicted = more_shown s.evicted (evictions h) (length es) tally.evicted;
-  distinct = distinct_without_all es (with_body b s.bodies) (distinct_with b s.bodies tally.distinct);
+  evicted = more_shown s.evicted (evictions h) (length (entries_of es)) tally.evicted;
+  distinct = distinct_without_all (entries_of es) (with_body b s.bodies) (distinct_with b s.bodies tally.distinct);
 }
 put_tally s t (Some (given.Uncacheable reason)) key pieces (answer.Uncacheable shown) h p tally =
     uncounted s s (call_at t (Put key pieces) (Some (given.Uncacheable reason)) (Ok (answer.Uncacheable shown))) h refl refl refl tally.distinct refl refl refl tally
@@ -187,18 +187,18 @@ answer_tally s t g (Put key pieces) a h p tally = put_tally s t g key pieces a h
 
 -- a put's fault that had stored, and one that had not
 back_tally : (v : Bool) (s : State) (t : MomentValue) (g : Option Given) (key : CacheKeyValue) (pieces : List (List ℕ)) (f : TierFault) (h : History) → (done_of f).stored ≡ v
-    → Tallies s h → Tallies (taken_back v s (entry_of key) (done_of f).evicted) (call_at t (Put key pieces) g (Err f) ∷ h)
+    → Tallies s h → Tallies (taken_back v s (entry_of key) (entries_of (done_of f).evicted)) (call_at t (Put key pieces) g (Err f) ∷ h)
 back_tally false s t g key pieces f h e tally =
-    uncounted s s (call_at t (Put key pieces) g (Err f)) h refl refl refl tally.distinct refl refl (ap (λ v. cond v (done_of f).evicted []) e) tally
+    uncounted s s (call_at t (Put key pieces) g (Err f)) h refl refl refl tally.distinct refl refl (ap (λ v. cond v (entries_of (done_of f).evicted) []) e) tally
 back_tally true s t g key pieces f h e tally = record {
   found = tally.found;
   absent = tally.absent;
-  evicted = more_shown s.evicted (evictions h) (length (done_of f).evicted) tally.evicted ∙ ap (λ v. shown (evictions h + length (cond v (done_of f).evicted []))) (sym e);
-  distinct = distinct_without (key_asked key) (without_bodies (done_of f).evicted s.bodies) (distinct_without_all (done_of f).evicted s.bodies tally.distinct);
+  evicted = more_shown s.evicted (evictions h) (length (entries_of (done_of f).evicted)) tally.evicted ∙ ap (λ v. shown (evictions h + length (cond v (entries_of (done_of f).evicted) []))) (sym e);
+  distinct = distinct_without (key_asked key) (without_bodies (entries_of (done_of f).evicted) s.bodies) (distinct_without_all (entries_of (done_of f).evicted) s.bodies tally.distinct);
 }
 
-quiet_evicts : (done : Done) → done ≡ nothing_done → cond done.stored done.evicted [] ≡ []
-quiet_evicts done e = subst (λ (d : Done). cond d.stored d.evicted [] ≡ []) (sym e) refl
+quiet_evicts : (done : Done) → done ≡ nothing_done → cond done.stored (entries_of done.evicted) [] ≡ []
+quiet_evicts done e = subst (λ (d : Done). cond d.stored (entries_of d.evicted) [] ≡ []) (sym e) refl
 
 fault_tally : (s : State) (t : MomentValue) (g : Option Given) (action : Action) (f : TierFault) (h : History) → AllowsBy (refusal s action) s t action g (Err f) → Tallies s h
     → Tallies (undone s action (done_of f)) (call_at t action g (Err f) ∷ h)

@@ -20,7 +20,7 @@ use Rattle.tier_model.specs.declared.event.Answer.TheVariants as answer
 use Rattle.tier_model.specs.declared.event.Done.{Done}
 use Rattle.tier_model.specs.declared.event.TierFault.{TierFault}
 use Rattle.tier_model.specs.declared.event.TierFault.TheVariants.{NoRequest, IdInUse, WrongPhase}
-use Rattle.tier_model.specs.Keys.{StoredKey, Entry, key_asked}
+use Rattle.tier_model.specs.Keys.{StoredKey, Entry, Evicted, entries_of, AreWeighed, key_asked}
 use Rattle.tier_model.specs.Calls.{Call, History, Outcome, stored_in, is_of, nothing_done, done_of}
 use Rattle.tier_model.specs.Rows.{body_of, with_body, without_bodies}
 use Rattle.tier_model.specs.State.{State}
@@ -67,14 +67,14 @@ unchosen false o new = refl
 
 -- whatever a refused put had done
 put_undone : (s : State) (key : CacheKeyValue) (pieces : List (List ℕ)) (done : Done) (k : StoredKey) (new : Option FinishedBody)
-    → body_of k (undone s (Put key pieces) done).bodies ≡ body_chosen ((done.stored && same_key (key_asked key) k) || has_key k (cond done.stored done.evicted [])) false new (body_of k s.bodies)
+    → body_of k (undone s (Put key pieces) done).bodies ≡ body_chosen ((done.stored && same_key (key_asked key) k) || has_key k (cond done.stored (entries_of done.evicted) [])) false new (body_of k s.bodies)
 put_undone s key pieces done k new = by_stored done.stored
   where
     by_stored : (v : Bool)
-        → body_of k (taken_back v s (entry_of key) done.evicted).bodies ≡ body_chosen ((v && same_key (key_asked key) k) || has_key k (cond v done.evicted [])) false new (body_of k s.bodies)
+        → body_of k (taken_back v s (entry_of key) (entries_of done.evicted)).bodies ≡ body_chosen ((v && same_key (key_asked key) k) || has_key k (cond v (entries_of done.evicted) [])) false new (body_of k s.bodies)
     by_stored true =
-        body_of-without k (key_asked key) (without_bodies done.evicted s.bodies) ∙ ap (cond (same_key (key_asked key) k) None) (body_of-without_all k done.evicted s.bodies)
-        ∙ both_none (same_key (key_asked key) k) (has_key k done.evicted) (body_of k s.bodies) ∙ unchosen (same_key (key_asked key) k || has_key k done.evicted) (body_of k s.bodies) new
+        body_of-without k (key_asked key) (without_bodies (entries_of done.evicted) s.bodies) ∙ ap (cond (same_key (key_asked key) k) None) (body_of-without_all k (entries_of done.evicted) s.bodies)
+        ∙ both_none (same_key (key_asked key) k) (has_key k (entries_of done.evicted)) (body_of k s.bodies) ∙ unchosen (same_key (key_asked key) k || has_key k (entries_of done.evicted)) (body_of k s.bodies) new
     by_stored false = refl
 
 or_false : (x : Bool) → (x || false) ≡ x
@@ -107,18 +107,18 @@ abbrev pub call_at : MomentValue → Action → Option Given → Outcome → Cal
 call_at t action g outcome = record { event = record { moment = t; action = action }; outcome = outcome; given = g }
 
 -- what a put of this body leaves
-put_finished : (s : State) (k : StoredKey) (b : FinishedBody) (n : ℕ) (es : List Entry)
-    → body_of k (put_behind s (Some (Stored b)) (Finished n es)).bodies ≡ body_chosen (has_key k es) (same_key (stored_key b.entry) k) (Some b) (body_of k s.bodies)
+put_finished : (s : State) (k : StoredKey) (b : FinishedBody) (n : ℕ) (es : List Evicted)
+    → body_of k (put_behind s (Some (Stored b)) (Finished n es)).bodies ≡ body_chosen (has_key k (entries_of es)) (same_key (stored_key b.entry) k) (Some b) (body_of k s.bodies)
 put_finished s k b n es =
-    body_of-without_all k es (with_body b s.bodies) ∙ ap (cond (has_key k es) None) (body_of-with k b s.bodies) ∙ with_chosen (has_key k es) (same_key (stored_key b.entry) k) b (body_of k s.bodies)
+    body_of-without_all k (entries_of es) (with_body b s.bodies) ∙ ap (cond (has_key k (entries_of es)) None) (body_of-with k b s.bodies) ∙ with_chosen (has_key k (entries_of es)) (same_key (stored_key b.entry) k) b (body_of k s.bodies)
 
 -- how a call changes the body of a key
 Follows : State → MomentValue → Option Given → Action → Outcome → StoredKey → History → Type 0
 Follows s t g action outcome k h = body_of k (behind s t action g outcome).bodies ≡ body_by k (call_at t action g outcome) h (body_of k s.bodies)
 
 -- a put that is answered anything but finished leaves what a key has
-put_follows_by : (s : State) (k : StoredKey) (n : ℕ) (es : List Entry) (g : Option Given) → IsPutAnswer s g (Finished n es)
-    → body_of k (put_behind s g (Finished n es)).bodies ≡ body_chosen (has_key k es) (is_of k (stored_in g)) (stored_in g) (body_of k s.bodies)
+put_follows_by : (s : State) (k : StoredKey) (n : ℕ) (es : List Evicted) (g : Option Given) → IsPutAnswer s g (Finished n es)
+    → body_of k (put_behind s g (Finished n es)).bodies ≡ body_chosen (has_key k (entries_of es)) (is_of k (stored_in g)) (stored_in g) (body_of k s.bodies)
 put_follows_by s k n es (Some (Stored b)) p = put_finished s k b n es
 put_follows_by s k n es (Some given.Incomplete) p = absurd p
 put_follows_by s k n es (Some given.BadHead) p = absurd p
@@ -193,8 +193,8 @@ did_nothing s t g (Drop id) f p e = elim (fault_allowed (refusal s (Drop id)) s 
 did_nothing s t g (Purge key) f p e = elim p [ inl m ↦ absurd m.1 | inr x ↦ absurd x ]
 
 -- such a fault leaves what a key has
-quiet : (k : StoredKey) (done : Done) (o : Option FinishedBody) → done ≡ nothing_done → o ≡ body_chosen ((done.stored && false) || has_key k (cond done.stored done.evicted [])) false None o
-quiet k done o e = subst (λ (d : Done). o ≡ body_chosen ((d.stored && false) || has_key k (cond d.stored d.evicted [])) false None o) (sym e) refl
+quiet : (k : StoredKey) (done : Done) (o : Option FinishedBody) → done ≡ nothing_done → o ≡ body_chosen ((done.stored && false) || has_key k (cond done.stored (entries_of done.evicted) [])) false None o
+quiet k done o e = subst (λ (d : Done). o ≡ body_chosen ((d.stored && false) || has_key k (cond d.stored (entries_of d.evicted) [])) false None o) (sym e) refl
 
 fault_follows : (s : State) (t : MomentValue) (g : Option Given) (action : Action) (f : TierFault) (k : StoredKey) (h : History) → AllowsBy (refusal s action) s t action g (Err f) → Follows s t g action (Err f) k h
 unfolding Follows

@@ -8,7 +8,7 @@ use Rattle.tier_entries.specs.declared.rows.Tracked.{Tracked}
 use Rattle.tier_entries.specs.Keys.{entry_of, stored_key, same_entry, has_entry}
 use Rattle.tier_entries.specs.Rows.{row_of, weight_of, without_row, without_rows, admitted, used, IsBegunEviction}
 use Rattle.tier_entries.proofs.KeyLaws.{same_entry-tells}
-use Rattle.tier_model.specs.Keys.{Entry, key_asked}
+use Rattle.tier_model.specs.Keys.{Entry, Evicted, entries_of, AreWeighed, key_asked}
 use Rattle.tier_model.specs.declared.given.Given.{Given}
 use Rattle.tier_model.specs.declared.given.Given.TheVariants.{Stored}
 use Rattle.tier_model.specs.declared.given.Given.TheVariants as given
@@ -77,22 +77,22 @@ idle c h rows i o = only_departs (λ e. false) c h rows i (to_ordered rows h o)
 
 -- a put's fault that had stored, and one that had not
 back_used : (v : Bool) (s : State) (t : MomentValue) (g : Option Given) (key : CacheKeyValue) (pieces : List (List ℕ)) (f : TierFault) (h : History) → (done_of f).stored ≡ v
-    → IsOrderOfUse s.tracked h → IsOrderOfUse (taken_back v s (entry_of key) (done_of f).evicted).tracked (call_at t (Put key pieces) g (Err f) ∷ h)
+    → IsOrderOfUse s.tracked h → IsOrderOfUse (taken_back v s (entry_of key) (entries_of (done_of f).evicted)).tracked (call_at t (Put key pieces) g (Err f) ∷ h)
 back_used false s t g key pieces f h e o =
     idle (call_at t (Put key pieces) g (Err f)) h s.tracked
-    (record { departs = λ x. ap (λ v. (v && same_entry (entry_of key) x) || has_entry x (cond v (done_of f).evicted [])) e; admits = λ x. refl; hits = λ x. refl }) o
+    (record { departs = λ x. ap (λ v. (v && same_entry (entry_of key) x) || has_entry x (cond v (entries_of (done_of f).evicted) [])) e; admits = λ x. refl; hits = λ x. refl }) o
 back_used true s t g key pieces f h e o =
-    only_departs (λ x. same_entry (entry_of key) x || has_entry x (done_of f).evicted) (call_at t (Put key pieces) g (Err f)) h (without_row (entry_of key) (without_rows (done_of f).evicted s.tracked))
-    (record { departs = λ x. ap (λ v. (v && same_entry (entry_of key) x) || has_entry x (cond v (done_of f).evicted [])) e; admits = λ x. refl; hits = λ x. refl })
-    (Ordered-as (λ x. cond (same_entry (entry_of key) x) None (cond (has_entry x (done_of f).evicted) None (last_use x h))) (λ x. cond (same_entry (entry_of key) x || has_entry x (done_of f).evicted) None (last_use x h))
-    (λ x w. Weighs x w h) (λ x w. Weighs x w h) (length h) (length h) (without_row (entry_of key) (without_rows (done_of f).evicted s.tracked))
-    (λ x. sym (both_none (same_entry (entry_of key) x) (has_entry x (done_of f).evicted) (last_use x h))) (λ x w t h. h) (omega arith)
-    (Ordered-without (λ x. cond (has_entry x (done_of f).evicted) None (last_use x h)) (λ x w. Weighs x w h) (entry_of key) (length h) (without_rows (done_of f).evicted s.tracked)
-    (Ordered-without_all (λ x. last_use x h) (λ x w. Weighs x w h) (done_of f).evicted (length h) s.tracked (to_ordered s.tracked h o))))
+    only_departs (λ x. same_entry (entry_of key) x || has_entry x (entries_of (done_of f).evicted)) (call_at t (Put key pieces) g (Err f)) h (without_row (entry_of key) (without_rows (entries_of (done_of f).evicted) s.tracked))
+    (record { departs = λ x. ap (λ v. (v && same_entry (entry_of key) x) || has_entry x (cond v (entries_of (done_of f).evicted) [])) e; admits = λ x. refl; hits = λ x. refl })
+    (Ordered-as (λ x. cond (same_entry (entry_of key) x) None (cond (has_entry x (entries_of (done_of f).evicted)) None (last_use x h))) (λ x. cond (same_entry (entry_of key) x || has_entry x (entries_of (done_of f).evicted)) None (last_use x h))
+    (λ x w. Weighs x w h) (λ x w. Weighs x w h) (length h) (length h) (without_row (entry_of key) (without_rows (entries_of (done_of f).evicted) s.tracked))
+    (λ x. sym (both_none (same_entry (entry_of key) x) (has_entry x (entries_of (done_of f).evicted)) (last_use x h))) (λ x w t h. h) (omega arith)
+    (Ordered-without (λ x. cond (has_entry x (entries_of (done_of f).evicted)) None (last_use x h)) (λ x w. Weighs x w h) (entry_of key) (length h) (without_rows (entries_of (done_of f).evicted) s.tracked)
+    (Ordered-without_all (λ x. last_use x h) (λ x w. Weighs x w h) (entries_of (done_of f).evicted) (length h) s.tracked (to_ordered s.tracked h o))))
 
 -- a fault that did nothing
-quiet_departs : (e : Entry) (done : Done) → done ≡ nothing_done → ((done.stored && false) || has_entry e (cond done.stored done.evicted [])) ≡ false
-quiet_departs e done i = subst (λ (d : Done). ((d.stored && false) || has_entry e (cond d.stored d.evicted [])) ≡ false) (sym i) refl
+quiet_departs : (e : Entry) (done : Done) → done ≡ nothing_done → ((done.stored && false) || has_entry e (cond done.stored (entries_of done.evicted) [])) ≡ false
+quiet_departs e done i = subst (λ (d : Done). ((d.stored && false) || has_entry e (cond d.stored (entries_of d.evicted) [])) ≡ false) (sym i) refl
 
 pub fault_used : (s : State) (t : MomentValue) (g : Option Given) (action : Action) (f : TierFault) (h : History) → AllowsBy (refusal s action) s t action g (Err f)
     → IsOrderOfUse s.tracked h → IsOrderOfUse (undone s action (done_of f)).tracked (call_at t action g (Err f) ∷ h)
@@ -221,23 +221,23 @@ gone_weight true u a tracked n old e w new h Was there was = cc
 gone_weight false u a tracked n old e w new h Was there was = was
 
 -- and behind the evictions, of the put as it was answered
-pub evicted_used : (t : MomentValue) (g : Option Given) (key : CacheKeyValue) (pieces : List (List ℕ)) (n : ℕ) (es : List Entry) (rows : List Tracked) (h : History)
-    → IsOrderOfUse rows (call_at t (Put key pieces) g (Ok (Finished n [])) ∷ h) → IsOrderOfUse (without_rows es rows) (call_at t (Put key pieces) g (Ok (Finished n es)) ∷ h)
+pub evicted_used : (t : MomentValue) (g : Option Given) (key : CacheKeyValue) (pieces : List (List ℕ)) (n : ℕ) (es : List Evicted) (rows : List Tracked) (h : History)
+    → IsOrderOfUse rows (call_at t (Put key pieces) g (Ok (Finished n [])) ∷ h) → IsOrderOfUse (without_rows (entries_of es) rows) (call_at t (Put key pieces) g (Ok (Finished n es)) ∷ h)
 evicted_used t g key pieces n es rows h o =
     let first : Call = call_at t (Put key pieces) g (Ok (Finished n [])) in
     let call : Call = call_at t (Put key pieces) g (Ok (Finished n es)) in
-    from_ordered (without_rows es rows) (call ∷ h)
-    (Ordered-as (λ e. cond (has_entry e es) None (last_use e (first ∷ h))) (λ e. last_use e (call ∷ h)) (λ e w. Weighs e w (first ∷ h)) (λ e w. Weighs e w (call ∷ h))
-    (length (first ∷ h)) (length (call ∷ h)) (without_rows es rows)
-    (λ e. gone_use (has_entry e es) (uses e call h) (length h) (last_use e h))
-    (λ e w there was. gone_weight (has_entry e es) (uses e call h) (admits e call h) (is_tracked e h) (length h) (last_use e h) e w (written_by call h) h (Weighs e w h) there was)
-    (omega arith) (Ordered-without_all (λ e. last_use e (first ∷ h)) (λ e w. Weighs e w (first ∷ h)) es (length (first ∷ h)) rows (to_ordered rows (first ∷ h) o)))
+    from_ordered (without_rows (entries_of es) rows) (call ∷ h)
+    (Ordered-as (λ e. cond (has_entry e (entries_of es)) None (last_use e (first ∷ h))) (λ e. last_use e (call ∷ h)) (λ e w. Weighs e w (first ∷ h)) (λ e w. Weighs e w (call ∷ h))
+    (length (first ∷ h)) (length (call ∷ h)) (without_rows (entries_of es) rows)
+    (λ e. gone_use (has_entry e (entries_of es)) (uses e call h) (length h) (last_use e h))
+    (λ e w there was. gone_weight (has_entry e (entries_of es)) (uses e call h) (admits e call h) (is_tracked e h) (length h) (last_use e h) e w (written_by call h) h (Weighs e w h) there was)
+    (omega arith) (Ordered-without_all (λ e. last_use e (first ∷ h)) (λ e w. Weighs e w (first ∷ h)) (entries_of es) (length (first ∷ h)) rows (to_ordered rows (first ∷ h) o)))
 
 put_used : (s : State) (t : MomentValue) (g : Option Given) (key : CacheKeyValue) (pieces : List (List ℕ)) (a : Answer) (h : History) → IsPutAnswer s g a → IsOrderOfUse s.tracked h
     → IsOrderOfUse (put_behind s g a).tracked (call_at t (Put key pieces) g (Ok a) ∷ h) × EvictsBy s.settings.limit s.settings.watermark (record { moment = t; action = Put key pieces }) (Ok a) g h
 put_used s t (Some (Stored b)) key pieces (Finished n es) h p o = (
   evicted_used t (Some (Stored b)) key pieces n es (admitted b.entry (weight_for b) s.tracked) h (admitted_used s t (Some (Stored b)) key pieces b n h refl o),
-  (admitted b.entry (weight_for b) s.tracked, (b, refl, admitted_used s t (Some (Stored b)) key pieces b 0 h refl o), p.2),
+  (admitted b.entry (weight_for b) s.tracked, (b, refl, admitted_used s t (Some (Stored b)) key pieces b 0 h refl o), p.2, p.3),
 )
 put_used s t (Some (given.Uncacheable reason)) key pieces (answer.Uncacheable shown) h p o =
     (idle (call_at t (Put key pieces) (Some (given.Uncacheable reason)) (Ok (answer.Uncacheable shown))) h s.tracked (record { departs = λ e. refl; admits = λ e. refl; hits = λ e. refl }) o, refl)
@@ -294,15 +294,18 @@ none_gone done e = subst (λ (d : Done). d.stored ≡ false) (sym e) refl
 put_gone : (s : State) (t : MomentValue) (g : Option Given) (key : CacheKeyValue) (pieces : List (List ℕ)) (f : TierFault) (h : History) → IsPutFault s g f → IsOrderOfUse s.tracked h
     → EvictsBy s.settings.limit s.settings.watermark (record { moment = t; action = Put key pieces }) (Err f) g h
 put_gone s t (Some (Stored b)) key pieces f h p o = elim p [
-  | inl heavy ↦ inr (rows, order, inl (subst (λ (x : TierFault). evicted_before (done_of x) ≡ []) (sym heavy.0) refl))
+  | inl heavy ↦ inr (rows, order, no_weights (done_of f).evicted (subst (λ (x : TierFault). (done_of x).evicted ≡ []) (sym heavy.0) refl), inl (subst (λ (x : TierFault). evicted_before (done_of x) ≡ []) (sym heavy.0) refl))
   | inr q ↦ elim q [
-    | inl long ↦ inr (rows, order, inl (subst (λ (x : TierFault). evicted_before (done_of x) ≡ []) (sym long.0) refl))
-    | inr cut ↦ inr (rows, order, inr (subst (λ (x : TierFault). IsBegunEviction s.settings.limit s.settings.watermark rows (evicted_before (done_of x))) (sym cut.1) cut.2))
+    | inl long ↦ inr (rows, order, no_weights (done_of f).evicted (subst (λ (x : TierFault). (done_of x).evicted ≡ []) (sym long.0) refl), inl (subst (λ (x : TierFault). evicted_before (done_of x) ≡ []) (sym long.0) refl))
+    | inr cut ↦ inr (rows, order, subst (λ (x : TierFault). AreWeighed rows (done_of x).evicted) (sym cut.1) cut.4, inr (subst (λ (x : TierFault). IsBegunEviction s.settings.limit s.settings.watermark rows (evicted_before (done_of x))) (sym cut.1) cut.2))
   ]
 ]
   where
     rows : List Tracked
     rows = admitted b.entry (weight_for b) s.tracked
+
+    no_weights : (es : List Evicted) → es ≡ [] → AreWeighed rows es
+    no_weights es e = subst (AreWeighed rows) (sym e) (λ k d l. absurd (omega (arith, l)))
 
     order : IsOrderBehind rows (record { moment = t; action = Put key pieces }) (Some (Stored b)) h
     order = (b, refl, admitted_used s t (Some (Stored b)) key pieces b 0 h refl o)

@@ -12,7 +12,7 @@ use Rattle.tier_model.specs.declared.event.Answer.TheVariants.{Opened, Found, By
 use Rattle.tier_model.specs.declared.event.Done.{Done}
 use Rattle.tier_model.specs.declared.event.TierFault.{TierFault}
 use Rattle.tier_model.specs.declared.event.TierFault.TheVariants.{NumbersSpent, TooHeavy, TooLong, Memory}
-use Rattle.tier_model.specs.Keys.{StoredKey, Entry, key_asked}
+use Rattle.tier_model.specs.Keys.{StoredKey, Entry, entries_of, key_asked}
 
 -- what a call answered, or the fault that refused it
 abbrev pub Outcome : Type 0
@@ -53,11 +53,11 @@ done_of _ = nothing_done
 
 -- the entries that went before a refusal; where nothing was stored none did
 abbrev pub evicted_before : Done → List Entry
-evicted_before done = if done.stored then done.evicted else []
+evicted_before done = if done.stored then entries_of done.evicted else []
 
 -- the entries that went
 abbrev pub evicted_by : Outcome → List Entry
-evicted_by (Ok (Finished length evicted)) = evicted
+evicted_by (Ok (Finished length evicted)) = entries_of evicted
 evicted_by (Ok _) = []
 evicted_by (Err fault) = evicted_before (done_of fault)
 

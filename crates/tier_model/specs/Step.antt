@@ -6,7 +6,7 @@ use Rattle.cache_words.specs.Key.{CacheKeyValue}
 use Rattle.tier_entries.specs.Keys.{entry_of, stored_key}
 use Rattle.tier_entries.specs.declared.rows.Tracked.{Tracked}
 use Rattle.tier_entries.specs.Rows.{weight_of, all_weights, admitted, used, without_row, without_rows, IsLawfulEviction, IsBegunEviction}
-use Rattle.tier_model.specs.Keys.{Entry, key_asked}
+use Rattle.tier_model.specs.Keys.{Entry, Evicted, entries_of, AreWeighed, key_asked}
 use Rattle.tier_model.specs.declared.rows.FinishedBody.{FinishedBody}
 use Rattle.tier_model.specs.declared.rows.Request.{Request}
 use Rattle.tier_model.specs.declared.rows.Phase.{Phase}
@@ -92,7 +92,7 @@ abbrev pub stored_alone : Done
 stored_alone = record { stored = true; admitted = false; evicted = [] }
 
 -- the body is stored and its entry admitted, these are evicted, and then the body is taken back
-abbrev pub all_done : List Entry → Done
+abbrev pub all_done : List Evicted → Done
 all_done evicted = record { stored = true; admitted = true; evicted = evicted }
 
 -- a sum of weights that doesn't fit
@@ -120,16 +120,17 @@ use_is_too_long e (Some b) rows = is_too_long e rows
 abbrev pub IsPutAnswer : State → Option Given → Answer → Type 0
 IsPutAnswer s (Some (Stored b)) (Finished n evicted) =
     (n ≡ length b.bytes) × (admission_is_too_heavy b s.tracked ≡ false)
-    × IsLawfulEviction s.settings.limit s.settings.watermark (admitted b.entry (weight_for b) s.tracked) evicted
+    × IsLawfulEviction s.settings.limit s.settings.watermark (admitted b.entry (weight_for b) s.tracked) (entries_of evicted)
+    × AreWeighed (admitted b.entry (weight_for b) s.tracked) evicted
 IsPutAnswer s (Some (given.Uncacheable reason)) (answer.Uncacheable shown) = shown ≡ reason
 IsPutAnswer s _ _ = ⊥
 
 -- memory ran out in the midst of the evictions, after an admission that fits
 abbrev pub IsCutShort : State → FinishedBody → TierFault → Type 0
 IsCutShort s b f =
-    (evicted : List Entry) × (f ≡ Memory (all_done evicted))
-    × IsBegunEviction s.settings.limit s.settings.watermark (admitted b.entry (weight_for b) s.tracked) evicted
-    × (admission_is_too_heavy b s.tracked ≡ false)
+    (evicted : List Evicted) × (f ≡ Memory (all_done evicted))
+    × IsBegunEviction s.settings.limit s.settings.watermark (admitted b.entry (weight_for b) s.tracked) (entries_of evicted)
+    × (admission_is_too_heavy b s.tracked ≡ false) × AreWeighed (admitted b.entry (weight_for b) s.tracked) evicted
 
 -- why a body that was stored is taken back
 abbrev pub IsStoreFault : State → FinishedBody → TierFault → Type 0
@@ -202,7 +203,11 @@ look_behind s t id q (Some b) =
 -- the state behind a put of a body with these evictions
 abbrev pub put_behind : State → Option Given → Answer → State
 put_behind s (Some (Stored b)) (Finished n evicted) =
-    record s { bodies = without_bodies evicted (with_body b s.bodies); tracked = without_rows evicted (admitted b.entry (weight_for b) s.tracked); evicted = counted s.evicted (length evicted) }
+    record s {
+      bodies = without_bodies (entries_of evicted) (with_body b s.bodies);
+      tracked = without_rows (entries_of evicted) (admitted b.entry (weight_for b) s.tracked);
+      evicted = counted s.evicted (length (entries_of evicted));
+    }
 put_behind s _ _ = s
 
 -- the state behind a purge that found something, or nothing
@@ -226,7 +231,7 @@ taken_back true s entry evicted =
     record s { bodies = without_body (stored_key entry) (without_bodies evicted s.bodies); tracked = without_row entry (without_rows evicted s.tracked); evicted = counted s.evicted (length evicted) }
 
 abbrev pub undone : State → Action → Done → State
-undone s (Put key pieces) done = taken_back done.stored s (entry_of key) done.evicted
+undone s (Put key pieces) done = taken_back done.stored s (entry_of key) (entries_of done.evicted)
 undone s _ done = s
 
 abbrev pub behind : State → MomentValue → Action → Option Given → Outcome → State

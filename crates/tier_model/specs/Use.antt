@@ -9,8 +9,8 @@ use Rattle.tier_model.specs.declared.event.Event.{Event}
 use Rattle.tier_model.specs.declared.event.Action.{Action}
 use Rattle.tier_model.specs.declared.event.Action.TheVariants.{LookUp, Purge, Put}
 use Rattle.tier_model.specs.declared.event.Answer.TheVariants.{Found, Purged, Finished}
-use Rattle.tier_model.specs.Keys.{StoredKey, Entry}
-use Rattle.tier_model.specs.Calls.{Call, History, Outcome, opened_for, body_finished, written_by, evicted_by, was_stored}
+use Rattle.tier_model.specs.Keys.{StoredKey, Entry, entries_of, AreWeighed}
+use Rattle.tier_model.specs.Calls.{Call, History, Outcome, opened_for, body_finished, written_by, evicted_by, done_of, was_stored}
 use Rattle.tier_model.specs.Histories.{IsBody}
 use Rattle.tier_model.specs.Rows.{weight_for}
 
@@ -101,14 +101,15 @@ IsOrderBehind rows e given before =
     × IsOrderOfUse rows (record { event = e; outcome = Ok (Finished 0 []); given = given } ∷ before)
 
 -- what went in a call went lawfully: the last in the order of use after its admission, one by one, while a limit was passed;
--- only an event that stores a body evicts, also one that is refused in the midst of it
+-- only an event that stores a body evicts, also one that is refused in the midst of it. Each is listed with what it weighed
 abbrev pub EvictsBy : ℕ → Option ℕ → Event → Outcome → Option Given → History → Type 0
 EvictsBy limit watermark e (Ok (Finished n evicted)) given before =
-    (rows : List Tracked) × IsOrderBehind rows e given before × IsLawfulEviction limit watermark rows evicted
+    (rows : List Tracked) × IsOrderBehind rows e given before × IsLawfulEviction limit watermark rows (entries_of evicted) × AreWeighed rows evicted
 EvictsBy limit watermark e (Ok answer) given before = evicted_by (Ok answer) ≡ []
 EvictsBy limit watermark e (Err fault) given before =
     (was_stored (Err fault) ≡ false)
-    ⊎ ((rows : List Tracked) × IsOrderBehind rows e given before × ((evicted_by (Err fault) ≡ []) ⊎ IsBegunEviction limit watermark rows (evicted_by (Err fault))))
+    ⊎ ((rows : List Tracked) × IsOrderBehind rows e given before × AreWeighed rows (done_of fault).evicted
+    × ((evicted_by (Err fault) ≡ []) ⊎ IsBegunEviction limit watermark rows (evicted_by (Err fault))))
 
 -- each call's evictions were lawful
 abbrev pub EvictsLawfully : ℕ → Option ℕ → History → Type 0

@@ -1,5 +1,5 @@
 //! Events, answers and faults of a tier.
-ghost use Rattle.std.specs.Prelude.{◌≡◌, [], map};
+ghost use Rattle.std.specs.Prelude.{◌≡◌, []};
 
 use bytes::Bytes;
 use cache_heads::reason::NoCacheReason;
@@ -136,13 +136,11 @@ pub struct Entries {
 
 impl Model for Entries {
     ghost use Rattle.std.specs.Prelude.{List};
-    ghost use Rattle.tier_model.specs.Keys.{Entry};
+    ghost use Rattle.tier_model.specs.Keys.{Evicted};
 
-    ghost Value = { List Entry };
+    ghost Value = { List Evicted };
 
-    ghost use Rattle.std.specs.Prelude.{map};
-
-    ghost view = { λ e. map (λ pair. pair.0) e.items.items };
+    ghost view = { λ e. e.items.items };
 }
 
 impl Entries {
@@ -157,14 +155,14 @@ impl Entries {
 
     /// These entries. It takes no memory.
     pub fn from_vec(items: Vec<(CompactCacheKey, usize)>) -> Entries
-        ensures { result ≡ map (λ pair. pair.0) items.items }
+        ensures { result ≡ items.items }
     {
         Entries { items }
     }
 
     /// The entries, each with what it weighed.
     pub fn as_slice(&self) -> &[(CompactCacheKey, usize)]
-        ensures { map (λ pair. pair.0) result.now ≡ self.now }
+        ensures { result.now ≡ self.now }
     {
         &self.items
     }

@@ -8,8 +8,7 @@ ghost use Rattle.tier_model.specs.Keys.{Entry};
 ghost use Rattle.tier_model.specs.declared.given.Given.{Given};
 ghost use Rattle.tier_model.specs.Response.{IsPlain, IsWellFormed, Gives};
 ghost use Rattle.tier_model.specs.State.{Settings};
-ghost use Rattle.tier_model.specs.Past.{IsLawful, state_of};
-ghost use Rattle.tier_model.specs.Use.{IsOrderOfUse};
+ghost use Rattle.tier_model.specs.Past.{IsLawful, MatchesHistory, state_of};
 ghost use Rattle.tier_model.specs.Reports.{IsReport, report_of};
 
 /// Whatever a tier's state allows, call by call from the empty one, the headline holds of the whole history.
@@ -17,9 +16,9 @@ pub fn lawful_histories_hold_the_headline()
     ensures { (settings : Settings) (h : History) → IsLawful settings h → HoldsHeadline settings.limit settings.watermark h }
 {}
 
-/// The state behind such a history tracks its order of use, and its report tells of it.
+/// The state after such a history is what it says, and the state's report tells of it.
 pub fn lawful_states_tell_their_history()
-    ensures { (settings : Settings) (h : History) → IsLawful settings h → IsOrderOfUse (state_of settings h).tracked h × IsReport (report_of (state_of settings h)) h }
+    ensures { (settings : Settings) (h : History) → IsLawful settings h → MatchesHistory (state_of settings h) h × IsReport (report_of (state_of settings h)) h }
 {}
 
 /// A response whose head the parser's default options read or begin to read gives one thing at a moment.

@@ -1,6 +1,7 @@
 use Rattle.std.proofs.Common.{refl}
+use Rattle.tier_entries.specs.Keys.{entry_of}
 use Rattle.cache_tier.specs.Draws.{order_behind}
-use Rattle.cache_tier.proofs.StoreLaws.{drawn_none, unadmitted_none, room-behind, max_twice}
+use Rattle.cache_tier.proofs.StoreLaws.{drawn_none, unadmitted_none, room-behind, room-allowed, light_by, max_twice}
 use Rattle.cache_tier.proofs.tier.Tier+1.store.Goals as goal
 
 pub returns-in_default-clause-drawn : goal.returns-in_default-clause-drawn
@@ -15,3 +16,10 @@ returns-in-Err-clause-drawn g c = (order_behind c.args.self.now c.args.body, rw 
 pub returns-clause-after : goal.returns-clause-after
 returns-clause-after g c = room-behind c.args.self.now _ c.make_room.new.self c.args.body _ _ c.make_room.result
     (rw (← c.self.view_is, c.in_default-admit.ensures.ok, c.in-Ok.ensures, c.weight_for.ensures, c.put_body.ensures, c.reserve.ensures.items, max_twice) refl) c.requires c.make_room.ensures.kept c.make_room.ensures.cut
+
+pub returns-clause-allowed : goal.returns-clause-allowed
+returns-clause-allowed g c = room-allowed c.args.self.now _ c.make_room.new.self c.args.body (entry_of c.args.key.now) _ c.make_room.result
+    (rw (← c.self.view_is, c.in_default-admit.ensures.ok, c.in-Ok.ensures, c.weight_for.ensures, c.put_body.ensures, c.reserve.ensures.items, max_twice) refl)
+    c.len-length.ensures.value
+    (light_by c.args.body c.args.self.now.tracked _ _ _ _ c.in_default-admit.ensures.ok (rw (← c.self.view_is) refl) c.in-Ok.ensures c.weight_for.ensures c.in_default-admit.ensures.fits)
+    c.make_room.ensures.kept c.make_room.ensures.cut
