@@ -6,7 +6,7 @@ use Rattle.std.proofs.lemmas.Bool.Decides.{nat_tests}
 use Rattle.std.proofs.lemmas.List.Folds.{list_all-append, list_all-map}
 use Rattle.std.proofs.lemmas.Bool.{cases_Bool}
 use Rattle.std.proofs.lemmas.Slice.Eq.{bytes_eq-Decides}
-use Rattle.std.proofs.lemmas.List.{map-append, take_more, get_or-map, length-map}
+use Rattle.std.proofs.lemmas.List.{map-append, take_more, take-append-drop, get_or-map, length-map}
 use Rattle.std.proofs.lemmas.List.Elements.{All-map}
 use Rattle.std.proofs.lemmas.List.Sums.{sum_by-cons, AllPass-from_list_all}
 use Rattle.cache_words.specs.Time.{MomentValue}
@@ -17,7 +17,7 @@ use Rattle.http_header.specs.FieldValue.{FieldValue, plain_value}
 use Rattle.http_header.specs.Token.{lowercase}
 use Rattle.http_header.specs.Token as token
 use Rattle.http_header.proofs.HeaderMapLemmas.{get_all-append_same, get_all-append_other}
-use Rattle.httparse.specs.Grammar.{ResponseHead, ReadsResponse, HasNoResponse, NeverHasResponse, Field, IsField, is_value_byte, is_token_byte, status_code}
+use Rattle.httparse.specs.Grammar.{ResponseHead, ReadsResponse, HasNoResponse, NeverHasResponse, print_response, Field, IsField, is_value_byte, is_token_byte, status_code}
 use Rattle.httparse.specs.declared.spans.HeaderSpan.{HeaderSpan}
 use Rattle.httparse.specs.declared.spans.ResponseSpans.{ResponseSpans}
 use Rattle.httparse.specs.Spans.{header_bytes, name_and_value, AreFieldsAt, IsResponseAt, ResponseOverflows}
@@ -27,10 +27,10 @@ use Rattle.tier_model.specs.Keys.{Entry}
 use Rattle.tier_model.specs.declared.rows.FinishedBody.{FinishedBody}
 use Rattle.tier_model.specs.declared.given.Given.{Given}
 use Rattle.tier_model.specs.declared.given.Given.TheVariants.{Stored, Incomplete, BadHead}
-use Rattle.tier_model.specs.Response.{values_of, is_before_epoch, body_within, given_of, given_by, has_short_name, is_within_bounds, IsPlain, Gives}
+use Rattle.tier_model.specs.Response.{values_of, is_before_epoch, body_within, given_of, given_by, has_short_name, is_within_bounds, IsPlain, Reading, whole_head, begun_head, no_head, IsReading, Gives}
 use Rattle.cache_tier.specs.declared.response.Head.{Head}
 use Rattle.cache_headers.specs.Lines.{pair_of, map_of, IsLine}
-use Rattle.cache_tier.specs.Heads.{announced, kept_until, given_behind, IsHeadAt, IsHeadOf, IsOutOfBounds}
+use Rattle.cache_tier.specs.Heads.{announced, kept_until, given_behind, IsHeadAt, IsHeadOf, IsOutOfBounds, IsSomeHead, AreShortLines}
 use Rattle.std.specs.Prelude.{option_map, option_copied}
 use Rattle.std.specs.Borrow.{Bor}
 use Rattle.cache_directives.specs.Written.{Written}
@@ -188,79 +188,118 @@ given_by-out : (arrival : MomentValue) (entry : Entry) (rest : List ℕ) (status
 unfolding given_by
 given_by-out arrival entry rest status lines bounds = rw bounds refl
 
--- what is given is a body of the key
-given_of-entry : (arrival : MomentValue) (entry : Entry) (body : Option (List ℕ)) (until : Option MomentValue) (stored : FinishedBody) → given_of arrival entry body until ≡ Stored stored → stored.entry ≡ entry
-given_of-entry arrival entry None until stored e = absurd cc
-given_of-entry arrival entry (Some body) None stored e = absurd cc
-given_of-entry arrival entry (Some body) (Some until) stored e =
-    elim (cases_Bool (is_before_epoch arrival || is_before_epoch until)) [
-      | inl t ↦ absurd (cc)
-      | inr f ↦ cc
-    ]
+after-head : (status code : ℕ) (lines others : List (List ℕ × List ℕ)) (rest other : List ℕ) → whole_head status lines rest ≡ whole_head code others other → rest ≡ other
+after-head status code lines others rest other e = cc
 
--- one head stands at the front of some bytes, whatever comes after
+-- one head is at the front of some bytes, whatever comes after
 same-head : (bytes more : List ℕ) (h k : ResponseHead) (rest other : List ℕ) → ReadsResponse bytes h rest → ReadsResponse (bytes ++ more) k other → length h.fields ≤ 256 → 256 < length k.fields → ⊥
 same-head bytes more h k rest other reads reads_k few many =
     let same : h ≡ k = (response_prefix_free bytes more h k rest other reads reads_k).0 in
     omega (arith, few, many, ap (λ (x : ResponseHead). length x.fields) same)
 
 -- what is given where the head was read
-pub Gives-whole : (arrival : MomentValue) (entry : Entry) (bytes : List ℕ) (head : Head) (given : Given) → IsHeadOf bytes head → given ≡ given_behind arrival entry head.header (drop head.len bytes) → Gives arrival entry bytes given
-Gives-whole arrival entry bytes head given is e =
+pub Gives-whole : (arrival : MomentValue) (entry : Entry) (bytes : List ℕ) (front : Head) (given : Given) → front.len ≤ length bytes → IsHeadOf bytes front → given ≡ given_behind arrival entry front.header (drop front.len bytes) → Gives arrival entry bytes given
+Gives-whole arrival entry bytes front given len is e =
     let h : ResponseHead = is.0 in
-    let at : IsHeadAt bytes head h = is.1 in
-    let by_lines : given ≡ given_by arrival entry (status_code h) (map name_and_value h.fields) (drop head.len bytes) =
-    e ∙ given_behind-is arrival entry head.header (drop head.len bytes) (status_code h) (map name_and_value h.fields) at.status at.headers at.bounds in
-    record {
-      whole = λ k rest reads few.
-          let same = response_unique bytes h k (drop head.len bytes) rest at.reads reads in
-          subst (λ (x : ResponseHead). given ≡ given_by arrival entry (status_code x) (map name_and_value x.fields) rest) same.0
-          (subst (λ (x : List ℕ). given ≡ given_by arrival entry (status_code h) (map name_and_value h.fields) x) same.1 by_lines);
-      begun = λ none plain. absurd (none h (drop head.len bytes) at.reads);
-      long = λ more k rest reads many. absurd (same-head bytes more h k (drop head.len bytes) rest at.reads reads at.few many);
-      of_entry = λ body b. given_of-entry arrival entry _ _ body (sym e ∙ b);
-    }
+    let at : IsHeadAt bytes front h = is.1 in
+    let rest : List ℕ = drop front.len bytes in (
+      whole_head (status_code h) (map name_and_value h.fields) rest,
+      record {
+        whole = λ k other reads few.
+            let same = response_unique bytes h k rest other at.reads reads in
+            ap₂ (λ (x : ResponseHead) (y : List ℕ). whole_head (status_code x) (map name_and_value x.fields) y) same.0 same.1;
+        begins = λ empty plain. absurd (empty h rest at.reads);
+        long = λ more k other reads many. absurd (same-head bytes more h k rest other at.reads reads at.few many);
+        within = λ status lines other same. (take front.len bytes, sym (take-append-drop front.len bytes) ∙ ap (λ (x : List ℕ). take front.len bytes ++ x) (after-head _ _ _ _ _ _ same));
+      },
+      e ∙ given_behind-is arrival entry front.header rest (status_code h) (map name_and_value h.fields) at.status at.headers at.bounds,
+    )
 
 -- what is given where the head is out of bounds
 pub Gives-out : (arrival : MomentValue) (entry : Entry) (bytes : List ℕ) → IsOutOfBounds bytes → Gives arrival entry bytes BadHead
-Gives-out arrival entry bytes out = record {
-  whole = λ k rest reads few.
-      let same = response_unique bytes k out.0 rest out.1 reads out.2 in
-      sym (given_by-out arrival entry rest (status_code k) (map name_and_value k.fields) (subst (λ (x : ResponseHead). is_within_bounds (status_code x) (map name_and_value x.fields) ≡ false) (sym same.0) out.4));
-  begun = λ none plain. absurd (none out.0 out.1 out.2);
-  long = λ more k rest reads many. inl refl;
-  of_entry = λ body b. absurd cc;
-}
+Gives-out arrival entry bytes out = (
+  whole_head (status_code out.0) (map name_and_value out.0.fields) out.1,
+  record {
+    whole = λ k other reads few.
+        let same = response_unique bytes out.0 k out.1 other out.2 reads in
+        ap₂ (λ (x : ResponseHead) (y : List ℕ). whole_head (status_code x) (map name_and_value x.fields) y) same.0 same.1;
+    begins = λ empty plain. absurd (empty out.0 out.1 out.2);
+    long = λ more k other reads many. absurd (same-head bytes more out.0 k out.1 other out.2 reads out.3 many);
+    within = λ status lines other same. (print_response out.0, out.2.1 ∙ ap (λ (x : List ℕ). print_response out.0 ++ x) (after-head _ _ _ _ _ _ same));
+  },
+  sym (given_by-out arrival entry out.1 (status_code out.0) (map name_and_value out.0.fields) out.4),
+)
 
 -- what is given where a head has begun
 pub Gives-begun : (arrival : MomentValue) (entry : Entry) (bytes : List ℕ) → HasNoResponse bytes → Gives arrival entry bytes Incomplete
-Gives-begun arrival entry bytes none = record {
-  whole = λ h rest reads few. absurd (none h rest reads);
-  begun = λ no plain. refl;
-  long = λ more h rest reads many. inr refl;
-  of_entry = λ body b. absurd cc;
+Gives-begun arrival entry bytes nothing = (
+  begun_head,
+  record {
+    whole = λ h rest reads few. absurd (nothing h rest reads);
+    begins = λ _ plain. refl;
+    long = λ more h rest reads many. inr refl;
+    within = λ status lines rest same. absurd cc;
+  },
+  refl,
+)
+
+-- no head of at most 256 lines, and no beginning of one
+no-plain : (bytes : List ℕ) (r : Reading) → ResponseOverflows 256 bytes → (r ≡ no_head) ⊎ (r ≡ begun_head) → IsReading bytes r
+no-plain bytes r over is = record {
+  whole = λ h rest reads few. absurd (omega (arith, few, over [] h rest (rw (append-nil bytes) reads)));
+  begins = λ _ plain. absurd (omega (arith, plain.4, over plain.0 plain.1 plain.2 plain.3));
+  long = λ more h rest reads many. is;
+  within = λ status lines rest same. absurd (elim is [ inl e ↦ not_none status lines rest (sym same ∙ e) | inr e ↦ not_begun status lines rest (sym same ∙ e) ]);
 }
+  where
+    not_none : (status : ℕ) (lines : List (List ℕ × List ℕ)) (rest : List ℕ) → whole_head status lines rest ≡ no_head → ⊥
+    not_none status lines rest e = cc
+
+    not_begun : (status : ℕ) (lines : List (List ℕ × List ℕ)) (rest : List ℕ) → whole_head status lines rest ≡ begun_head → ⊥
+    not_begun status lines rest e = cc
 
 -- what is given where there are too many lines
 pub Gives-long : (arrival : MomentValue) (entry : Entry) (bytes : List ℕ) (given : Given) → ResponseOverflows 256 bytes → (given ≡ BadHead) ⊎ (given ≡ Incomplete) → Gives arrival entry bytes given
-Gives-long arrival entry bytes given over is = record {
-  whole = λ h rest reads few. absurd (omega (arith, few, over [] h rest (rw (append-nil bytes) reads)));
-  begun = λ none plain. absurd (omega (arith, plain.4, over plain.0 plain.1 plain.2 plain.3));
-  long = λ more h rest reads many. is;
-  of_entry = λ body b. elim is [ inl e ↦ absurd (let no : Stored body ≡ BadHead = sym b ∙ e in cc) | inr e ↦ absurd (let no : Stored body ≡ Incomplete = sym b ∙ e in cc) ];
-}
+Gives-long arrival entry bytes given over is = elim is [ inl e ↦ (no_head, no-plain bytes no_head over (inl refl), e) | inr e ↦ (begun_head, no-plain bytes begun_head over (inr refl), e) ]
 
 -- what is given where the default options refuse
-pub Gives-refused : (arrival : MomentValue) (entry : Entry) (bytes : List ℕ) (given : Given) → NeverHasResponse bytes → ((body : FinishedBody) → given ≡ Stored body → body.entry ≡ entry) → Gives arrival entry bytes given
-Gives-refused arrival entry bytes given never of_entry = record {
+never-reading : (bytes : List ℕ) (r : Reading) → NeverHasResponse bytes → ((status : ℕ) (lines : List (List ℕ × List ℕ)) (rest : List ℕ) → r ≡ whole_head status lines rest → (front : List ℕ) × (bytes ≡ front ++ rest)) → IsReading bytes r
+never-reading bytes r never within = record {
   whole = λ h rest reads few. absurd (never [] h rest (rw (append-nil bytes) reads));
-  begun = λ none plain. absurd (never plain.0 plain.1 plain.2 plain.3);
+  begins = λ _ plain. absurd (never plain.0 plain.1 plain.2 plain.3);
   long = λ more h rest reads many. absurd (never more h rest reads);
-  of_entry = of_entry;
+  within = within;
 }
 
-pub Gives-lenient : (arrival : MomentValue) (entry : Entry) (bytes : List ℕ) (head : ResponseHeader) (rest : List ℕ) (given : Given) → NeverHasResponse bytes → given ≡ given_behind arrival entry head rest → Gives arrival entry bytes given
-Gives-lenient arrival entry bytes head rest given never e = Gives-refused arrival entry bytes given never (λ body b. given_of-entry arrival entry _ _ body (sym e ∙ b))
+pub Gives-refused : (arrival : MomentValue) (entry : Entry) (bytes : List ℕ) → NeverHasResponse bytes → Gives arrival entry bytes BadHead
+Gives-refused arrival entry bytes never = (no_head, never-reading bytes no_head never (λ status lines rest same. absurd cc), refl)
+
+pub Gives-waiting : (arrival : MomentValue) (entry : Entry) (bytes : List ℕ) → NeverHasResponse bytes → Gives arrival entry bytes Incomplete
+Gives-waiting arrival entry bytes never = (begun_head, never-reading bytes begun_head never (λ status lines rest same. absurd cc), refl)
+
+pub Gives-lenient : (arrival : MomentValue) (entry : Entry) (bytes : List ℕ) (front : Head) (given : Given) → NeverHasResponse bytes → IsSomeHead bytes front
+    → given ≡ given_behind arrival entry front.header (drop front.len bytes) → Gives arrival entry bytes given
+Gives-lenient arrival entry bytes front given never is e = (
+  whole_head front.header.status is.lines.0 (drop front.len bytes),
+  never-reading bytes _ never (λ status lines other same. (take front.len bytes, sym (take-append-drop front.len bytes) ∙ ap (λ (x : List ℕ). take front.len bytes ++ x) (after-head _ _ _ _ _ _ same))),
+  e ∙ given_behind-is arrival entry front.header (drop front.len bytes) front.header.status is.lines.0 refl is.lines.1 is.lines.2,
+)
+
+-- one more line of a map
+pub AreShortLines-more : (all next : Entries FieldValue) (name value : List ℕ) → AreShortLines all → next ≡ append all (lowercase name) (plain_value value) → has_short_name (name, value) ≡ true → AreShortLines next
+AreShortLines-more all next name value before e short = (
+  before.0 ++ (name, value) ∷ [],
+  e ∙ ap (λ (m : Entries FieldValue). append m (lowercase name) (plain_value value)) before.1 ∙ sym (append_all-more [] before.0 (name, value)),
+  rw (list_all-append has_short_name before.0 ((name, value) ∷ []), before.2, short) refl,
+)
+
+-- a map of such lines, with a status, is within bounds
+pub some-head : (bytes : List ℕ) (len status code : ℕ) (all : Entries FieldValue) → len ≤ length bytes → IsStatusCode code → status ≡ code → AreShortLines all
+    → IsSomeHead bytes (record { header = record { status = status; headers = all }; len = len })
+some-head bytes len status code all l is same lines = record { len = l; lines = (lines.0, lines.1, rw (lines.2, same, high is.0) refl) }
+  where
+    high : 100 ≤ code → nat_le 100 code ≡ true
+    high l = grind (arith, nat_tests)
 
 -- the directives that are lent out
 given-lent : (r : Option (Bor CacheControl)) → lent r ≡ option_map directives_of (option_copied r)

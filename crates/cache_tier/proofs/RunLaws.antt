@@ -15,6 +15,7 @@ use Rattle.tier_model.specs.Response.{joined, Gives, IsGiven}
 use Rattle.tier_model.specs.State.{State}
 use Rattle.tier_model.specs.Step.{AllowsBy, IsPutAnswer, IsFault, refusal, taken_back, undone}
 use Rattle.tier_model.specs.Past.{Steps, Runs}
+use Rattle.tier_model.proofs.ResponseLaws.{Gives-entry}
 use Rattle.rand_core.specs.Stream.{Stream}
 use Rattle.entry_order.specs.Orders.{Order, IsDrawn}
 use Rattle.cache_tier.specs.Draws.{order_behind, StepsBy, RunsBy}
@@ -26,7 +27,7 @@ pub Takes-stored : (old : State) (s : Stream) (t : MomentValue) (key : CacheKeyV
     → (left : Order) × IsDrawn (order_behind old b) (evicted_by o) s left rest → TakesBy old s t (Put key pieces) o new rest
 Takes-stored old s t key pieces b (Ok a) new rest gives allowed is drawn = (Some (Stored b), gives, allowed, is, drawn)
 Takes-stored old s t key pieces b (Err f) new rest gives allowed is drawn =
-    (Some (Stored b), gives, fault, subst (λ (k : Entry). new ≡ taken_back (done_of f).stored old k (entries_of (done_of f).evicted)) (gives.of_entry b refl) is, drawn)
+    (Some (Stored b), gives, fault, subst (λ (k : Entry). new ≡ taken_back (done_of f).stored old k (entries_of (done_of f).evicted)) (Gives-entry t (entry_of key) (joined pieces) b gives) is, drawn)
   where
     fault : IsFault old (Put key pieces) (Some (Stored b)) f
     fault = elim allowed [ inl memory ↦ inl (memory, tt) | inr late ↦ inr late ]

@@ -1,5 +1,8 @@
 -- Heads as a map of their lines, and what a response gives by it.
 use Rattle.std.specs.Prelude.{◌≡◌, ℕ, ◌≤◌, ◌==◌, ◌||◌, true, false, List, length, drop, map, codes, if◌then◌else◌, Option, Some, None}
+use Rattle.std.specs.List.{list_all}
+use Rattle.http_header.specs.HeaderMap.{Entries}
+use Rattle.http_header.specs.FieldValue.{FieldValue}
 use Rattle.cache_words.specs.Time.{MomentValue}
 use Rattle.cache_directives.specs.Control.{lines_under}
 use Rattle.cache_headers.specs.Lines.{map_of}
@@ -9,7 +12,7 @@ use Rattle.httparse.specs.Grammar.{ResponseHead, ReadsResponse, status_code}
 use Rattle.httparse.specs.Spans.{name_and_value}
 use Rattle.tier_model.specs.Keys.{Entry}
 use Rattle.tier_model.specs.declared.given.Given.{Given}
-use Rattle.tier_model.specs.Response.{first_length, body_within, given_of, is_within_bounds}
+use Rattle.tier_model.specs.Response.{first_length, body_within, given_of, has_short_name, is_within_bounds}
 use Rattle.cache_tier.specs.declared.response.Head.{Head}
 
 -- how many bytes of body a head announces
@@ -34,6 +37,15 @@ pub record IsHeadAt (bytes : List ℕ) (head : Head) (h : ResponseHead) : Type 0
 
 abbrev pub IsHeadOf : List ℕ → Head → Type 0
 IsHeadOf bytes head = (h : ResponseHead) × IsHeadAt bytes head h
+
+-- a head that was read in some way, within its bounds
+pub record IsSomeHead (bytes : List ℕ) (head : Head) : Type 0 where
+  pub len : head.len ≤ length bytes
+  pub lines : (lines : List (List ℕ × List ℕ)) × (head.header.headers ≡ map_of lines) × (is_within_bounds head.header.status lines ≡ true)
+
+-- the map is that of some lines with short names
+abbrev pub AreShortLines : Entries FieldValue → Type 0
+AreShortLines all = (lines : List (List ℕ × List ℕ)) × (all ≡ map_of lines) × (list_all has_short_name lines ≡ true)
 
 -- the bytes begin with such a head that is out of its bounds
 abbrev pub IsOutOfBounds : List ℕ → Type 0

@@ -8,7 +8,7 @@ ghost use Rattle.httparse.specs.Spans.{IsHeaderWithin, header_bytes, ResponseOve
 ghost use Rattle.std.specs.List.{list_all};
 ghost use Rattle.tier_model.specs.Response.{joined, length_in, body_within, given_of, has_short_name, Gives};
 ghost use Rattle.cache_headers.specs.Lines.{map_of, IsLine};
-ghost use Rattle.cache_tier.specs.Heads.{announced, given_behind, IsHeadOf, IsOutOfBounds};
+ghost use Rattle.cache_tier.specs.Heads.{announced, given_behind, IsHeadOf, IsOutOfBounds, IsSomeHead, AreShortLines};
 
 use bytes::Bytes;
 use cache_directives::CacheControl;
@@ -164,13 +164,25 @@ fn stored(arrival: Moment, entry: CompactCacheKey, bytes: Bytes, fresh_until: Mo
     })
 }
 
-// What a head gives, with the bytes behind it. The body is shared with the response's bytes.
+// The body by itself, so that a body that is kept doesn't keep a long response: it is copied, unless all but an eighth
+// of the response, whose length that is, is the body.
+fn kept(alloc: Global, body: Bytes, response: usize) -> Result<Bytes, AllocError>
+    ensures { IfOk result (λ own. own ≡ body) }
+{
+    if response.saturating_sub(body.len()) <= body.len() / 8 {
+        return Ok(body);
+    }
+    Bytes::copy_from_slice(alloc, body.as_slice())
+}
+
+// What a head gives, with the bytes after it, of a response of that length.
 fn given_behind(
     alloc: Global,
     arrival: Moment,
     entry: CompactCacheKey,
     head: ResponseHeader,
     rest: Bytes,
+    response: usize,
 ) -> Result<Given, AllocError>
     ensures { IfOk result (λ given. given ≡ given_behind arrival entry head rest) }
 {
@@ -182,7 +194,10 @@ fn given_behind(
         return Ok(Given::Incomplete);
     };
     match verdict {
-        RespCacheable::Cacheable(meta) => Ok(stored(arrival, entry, bytes, meta.fresh_until())),
+        RespCacheable::Cacheable(meta) => {
+            let bytes = kept(alloc, bytes, response)?;
+            Ok(stored(arrival, entry, bytes, meta.fresh_until()))
+        }
         RespCacheable::Uncacheable(reason) => Ok(Given::Uncacheable(reason)),
     }
 }
@@ -233,6 +248,7 @@ fn collect_unfolded(
 ) -> Result<HeaderMap, HeadFault>
     requires within { All (IsHeaderWithin (length bytes.now)) lines.now }
     requires few { length lines.now ≤ 256 }
+    ensures { IfOk result AreShortLines }
 {
     let mut all = HeaderMap::new(alloc);
     for line in lines {
@@ -246,7 +262,7 @@ fn collect_unfolded(
 
 // The head at the front, where spaces may stand behind a name and values may be folded.
 fn read_leniently(alloc: Global, bytes: &[u8]) -> Result<Option<Head>, HeadFault>
-    ensures { IfOk result (λ o. IfSome o (λ head. head.len ≤ length bytes.now)) }
+    ensures { IfOk result (λ o. IfSome o (IsSomeHead bytes.now)) }
 {
     let mut config = ParserConfig::default();
     config.allow_spaces_after_header_name_in_responses(true);
@@ -279,9 +295,10 @@ fn given_at(
     requires { head.len ≤ length response }
     ensures { IfOk result (λ given. given ≡ given_behind arrival entry head.header (drop head.len response)) }
 {
+    let len = response.len();
     let mut rest = response;
     rest.advance(head.len);
-    given_behind(alloc, arrival, entry, head.header, rest)
+    given_behind(alloc, arrival, entry, head.header, rest, len)
 }
 
 // What a response gives whose head has too many lines. The lenient options may still wait for a folded value to go on.

@@ -47,11 +47,17 @@ pub fn is_same_entry(a: &CompactCacheKey, b: &CompactCacheKey) -> bool
     a == b
 }
 
-/// Whether it is the entry of a key that is asked for, the tag too.
-pub fn is_entry_of(entry: &CompactCacheKey, key: &CacheKey) -> bool
-    ensures { result ≡ same_entry entry.now (entry_of key.now) }
+/// Whether the entry has these hashes and this tag. A key that is compared with many entries is so hashed once.
+pub fn has_parts(
+    entry: &CompactCacheKey,
+    primary: &HashBinary,
+    variance: &Option<HashBinary>,
+    user_tag: &str,
+) -> bool
+    ensures { result ≡ same_entry entry.now
+        (record { primary = primary.now; variance = variance.now; user_tag = user_tag.now }) }
 {
-    entry.primary == key.primary_bin()
-        && entry.variance == key.variance_bin()
-        && entry.user_tag.as_str() == key.user_tag.as_str()
+    entry.primary == *primary
+        && entry.variance == *variance
+        && entry.user_tag.as_str() == user_tag
 }

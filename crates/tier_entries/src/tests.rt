@@ -1,8 +1,9 @@
 //! Each call once.
 use crate::keys::{
-    copy_of, entry_of, has_stored_key, is_entry_of, is_same_entry, stored_key, stored_key_of,
+    copy_of, entry_of, has_parts, has_stored_key, is_same_entry, stored_key, stored_key_of,
 };
 use cache_words::key::{CacheHashKey, CacheKey};
+use cache_words::key::CompactCacheKey;
 use std::alloc::Global;
 use std::test::Fail;
 
@@ -11,6 +12,10 @@ fn key(alloc: Global, primary: &str, tag: &str) -> Result<CacheKey, Fail> {
         Vec::from_slice(alloc, primary.as_bytes())?,
         String::from_str(alloc, tag)?,
     ))
+}
+
+fn is_entry_of(entry: &CompactCacheKey, key: &CacheKey) -> bool {
+    has_parts(entry, &key.primary_bin(), &key.variance_bin(), key.user_tag.as_str())
 }
 
 #[test]

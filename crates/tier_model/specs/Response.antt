@@ -89,13 +89,30 @@ IsWellFormed bytes =
     (more : List ℕ) × (h : ResponseHead) × (rest : List ℕ) × ReadsResponse (bytes ++ more) h rest × (length h.fields ≤ 256)
     × (is_within_bounds (status_code h) (map name_and_value h.fields) ≡ true)
 
--- what a response's bytes give, coming for an entry at a moment: by its head, where that is whole; the beginning of a head is
--- incomplete; more than 256 lines are never read. What the parser's lenient options make of other bytes is left open
-pub record Gives (arrival : MomentValue) (entry : Entry) (bytes : List ℕ) (given : Given) : Type 0 where
-  pub whole : (h : ResponseHead) (rest : List ℕ) → ReadsResponse bytes h rest → length h.fields ≤ 256 → given ≡ given_by arrival entry (status_code h) (map name_and_value h.fields) rest
-  pub begun : HasNoResponse bytes → IsPlain bytes → given ≡ Incomplete
-  pub long : (more : List ℕ) (h : ResponseHead) (rest : List ℕ) → ReadsResponse (bytes ++ more) h rest → 256 < length h.fields → (given ≡ BadHead) ⊎ (given ≡ Incomplete)
-  pub of_entry : (body : FinishedBody) → given ≡ Stored body → body.entry ≡ entry
+-- what the parser made of a response's bytes: a whole head, by its status and its lines, with the bytes after it; the beginning
+-- of a head; or no head
+pub data Reading : Type 0 where
+  whole_head : ℕ → List (List ℕ × List ℕ) → List ℕ → Reading
+  begun_head : Reading
+  no_head : Reading
+
+-- r is a reading of the bytes. By the parser's default options it is the head at their front, or the beginning of one; a head of
+-- more than 256 lines is never read. What the lenient options make of other bytes is left open, but for what comes after a head
+pub record IsReading (bytes : List ℕ) (r : Reading) : Type 0 where
+  pub whole : (h : ResponseHead) (rest : List ℕ) → ReadsResponse bytes h rest → length h.fields ≤ 256 → r ≡ whole_head (status_code h) (map name_and_value h.fields) rest
+  pub begins : HasNoResponse bytes → IsPlain bytes → r ≡ begun_head
+  pub long : (more : List ℕ) (h : ResponseHead) (rest : List ℕ) → ReadsResponse (bytes ++ more) h rest → 256 < length h.fields → (r ≡ no_head) ⊎ (r ≡ begun_head)
+  pub within : (status : ℕ) (lines : List (List ℕ × List ℕ)) (rest : List ℕ) → r ≡ whole_head status lines rest → (front : List ℕ) × (bytes ≡ front ++ rest)
+
+-- what a reading gives, coming for an entry at a moment
+abbrev pub given_in : MomentValue → Entry → Reading → Given
+given_in arrival entry (whole_head status lines rest) = given_by arrival entry status lines rest
+given_in arrival entry begun_head = Incomplete
+given_in arrival entry no_head = BadHead
+
+-- what a response's bytes give, coming for an entry at a moment
+abbrev pub Gives : MomentValue → Entry → List ℕ → Given → Type 0
+Gives arrival entry bytes given = (r : Reading) × IsReading bytes r × (given ≡ given_in arrival entry r)
 
 -- what an event's response gives, where it has one and it was read
 abbrev pub IsGiven : MomentValue → Action → Option Given → Type 0

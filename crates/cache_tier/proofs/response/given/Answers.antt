@@ -6,8 +6,9 @@ use Rattle.cache_tier.proofs.response.given.Goals as goal
 
 pub returns-in-Ok-Some : goal.returns-in-Ok-Some
 returns-in-Ok-Some c =
+    let within = rw (c.in-Ok-Some.field-0-is, c.as_slice.ensures) at c.in-Ok-Some.ensures.within in
     let whole = rw (c.in-Ok-Some.field-0-is, c.as_slice.ensures) at c.in-Ok-Some.ensures.whole in
-    IfOk-weaker c.given_at.result _ _ (λ g e. Gives-whole c.args.arrival c.args.entry c.args.response c.in-Ok-Some.head g whole e) c.given_at.ensures
+    IfOk-weaker c.given_at.result _ _ (λ g e. Gives-whole c.args.arrival c.args.entry c.args.response c.in-Ok-Some.head g within whole e) c.given_at.ensures
 
 pub returns-in-Err-Bounds : goal.returns-in-Err-Bounds
 returns-in-Err-Bounds c =

@@ -1,7 +1,13 @@
 use Rattle.std.proofs.Common.{Some, refl, inr}
 use Rattle.tier_model.specs.declared.given.Given.TheVariants.{Uncacheable, Incomplete, BadHead, BeforeEpoch}
+use Rattle.tier_entries.specs.Keys.{entry_of}
+use Rattle.tier_model.specs.Response.{joined}
+use Rattle.tier_model.proofs.ResponseLaws.{Gives-entry}
 use Rattle.cache_tier.proofs.RunLaws.{Takes-stored}
 use Rattle.cache_tier.proofs.tier.Tier+1.put.Goals as goal
+
+pub store-requires : goal.store-requires
+store-requires g c = Gives-entry c.args.moment (entry_of c.args.key.now) (joined c.args.pieces.now) c.in-Stored.body (rw (c.in-Stored.is, c.in-Ok.ensures) at c.in-Ok-given_by_put.ensures)
 
 pub returns-in-Stored : goal.returns-in-Stored
 returns-in-Stored g c =
