@@ -24,13 +24,13 @@ use Rattle.httparse.specs.Spans.{header_bytes, name_and_value, AreFieldsAt, IsRe
 use Rattle.httparse.proofs.TrimLemmas.{AllPass-trim_ows}
 use Rattle.httparse.proofs.GrammarLemmas.{response_unique, response_prefix_free}
 use Rattle.tier_model.specs.Keys.{Entry}
-use Rattle.tier_model.specs.declared.rows.FinishedBody.{FinishedBody}
+use Rattle.tier_model.specs.declared.state.FinishedBody.{FinishedBody}
 use Rattle.tier_model.specs.declared.given.Given.{Given}
 use Rattle.tier_model.specs.declared.given.Given.TheVariants.{Stored, Incomplete, BadHead}
 use Rattle.tier_model.specs.Response.{values_of, is_before_epoch, body_within, given_of, given_by, has_short_name, is_within_bounds, IsPlain, Reading, whole_head, begun_head, no_head, IsReading, Gives}
-use Rattle.cache_tier.specs.declared.response.Head.{Head}
+use Rattle.cache_tier.specs.declared.response.head.Head.{Head}
 use Rattle.cache_headers.specs.Lines.{pair_of, map_of, IsLine}
-use Rattle.cache_tier.specs.Heads.{announced, kept_until, given_behind, IsHeadAt, IsHeadOf, IsOutOfBounds, IsSomeHead, AreShortLines}
+use Rattle.cache_tier.specs.Heads.{announced, kept_until, given_by_head, IsHeadAt, IsHeadOf, IsOutOfBounds, IsSomeHead, AreShortLines}
 use Rattle.std.specs.Prelude.{option_map, option_copied}
 use Rattle.std.specs.Borrow.{Bor}
 use Rattle.cache_directives.specs.Written.{Written}
@@ -178,10 +178,10 @@ whole-head bytes headers r h at room status all is code value short = (
 )
 
 -- a head as a map gives what its lines give
-given_behind-is : (arrival : MomentValue) (entry : Entry) (head : ResponseHeader) (rest : List ℕ) (status : ℕ) (lines : List (List ℕ × List ℕ)) → head.status ≡ status → head.headers ≡ map_of lines
-    → is_within_bounds status lines ≡ true → given_behind arrival entry head rest ≡ given_by arrival entry status lines rest
+given_by_head-is : (arrival : MomentValue) (entry : Entry) (head : ResponseHeader) (rest : List ℕ) (status : ℕ) (lines : List (List ℕ × List ℕ)) → head.status ≡ status → head.headers ≡ map_of lines
+    → is_within_bounds status lines ≡ true → given_by_head arrival entry head rest ≡ given_by arrival entry status lines rest
 unfolding given_by
-given_behind-is arrival entry head rest status lines s m bounds =
+given_by_head-is arrival entry head rest status lines s m bounds =
     rw (bounds, s, m, under-map_of lines (codes "content-length"), under-map_of lines (codes "cache-control"), under-map_of lines (codes "expires")) refl
 
 given_by-out : (arrival : MomentValue) (entry : Entry) (rest : List ℕ) (status : ℕ) (lines : List (List ℕ × List ℕ)) → is_within_bounds status lines ≡ false → given_by arrival entry status lines rest ≡ BadHead
@@ -198,7 +198,7 @@ same-head bytes more h k rest other reads reads_k few many =
     omega (arith, few, many, ap (λ (x : ResponseHead). length x.fields) same)
 
 -- what is given where the head was read
-pub Gives-whole : (arrival : MomentValue) (entry : Entry) (bytes : List ℕ) (front : Head) (given : Given) → front.len ≤ length bytes → IsHeadOf bytes front → given ≡ given_behind arrival entry front.header (drop front.len bytes) → Gives arrival entry bytes given
+pub Gives-whole : (arrival : MomentValue) (entry : Entry) (bytes : List ℕ) (front : Head) (given : Given) → front.len ≤ length bytes → IsHeadOf bytes front → given ≡ given_by_head arrival entry front.header (drop front.len bytes) → Gives arrival entry bytes given
 Gives-whole arrival entry bytes front given len is e =
     let h : ResponseHead = is.0 in
     let at : IsHeadAt bytes front h = is.1 in
@@ -212,7 +212,7 @@ Gives-whole arrival entry bytes front given len is e =
         long = λ more k other reads many. absurd (same-head bytes more h k rest other at.reads reads at.few many);
         within = λ status lines other same. (take front.len bytes, sym (take-append-drop front.len bytes) ∙ ap (λ (x : List ℕ). take front.len bytes ++ x) (after-head _ _ _ _ _ _ same));
       },
-      e ∙ given_behind-is arrival entry front.header rest (status_code h) (map name_and_value h.fields) at.status at.headers at.bounds,
+      e ∙ given_by_head-is arrival entry front.header rest (status_code h) (map name_and_value h.fields) at.status at.headers at.bounds,
     )
 
 -- what is given where the head is out of bounds
@@ -278,11 +278,11 @@ pub Gives-waiting : (arrival : MomentValue) (entry : Entry) (bytes : List ℕ) �
 Gives-waiting arrival entry bytes never = (begun_head, never-reading bytes begun_head never (λ status lines rest same. absurd cc), refl)
 
 pub Gives-lenient : (arrival : MomentValue) (entry : Entry) (bytes : List ℕ) (front : Head) (given : Given) → NeverHasResponse bytes → IsSomeHead bytes front
-    → given ≡ given_behind arrival entry front.header (drop front.len bytes) → Gives arrival entry bytes given
+    → given ≡ given_by_head arrival entry front.header (drop front.len bytes) → Gives arrival entry bytes given
 Gives-lenient arrival entry bytes front given never is e = (
   whole_head front.header.status is.lines.0 (drop front.len bytes),
   never-reading bytes _ never (λ status lines other same. (take front.len bytes, sym (take-append-drop front.len bytes) ∙ ap (λ (x : List ℕ). take front.len bytes ++ x) (after-head _ _ _ _ _ _ same))),
-  e ∙ given_behind-is arrival entry front.header (drop front.len bytes) front.header.status is.lines.0 refl is.lines.1 is.lines.2,
+  e ∙ given_by_head-is arrival entry front.header (drop front.len bytes) front.header.status is.lines.0 refl is.lines.1 is.lines.2,
 )
 
 -- one more line of a map
@@ -328,6 +328,6 @@ until-kept None now ds header a b meta e = absurd cc
 until-kept (Some until) now ds header a b meta e = ap kept_of e
 
 -- a body and a moment give what the head does that they come from
-pub given_behind-from : (arrival : MomentValue) (entry : Entry) (head : ResponseHeader) (rest : List ℕ) (body : Option (List ℕ)) (until : Option MomentValue) → body_within (announced head) rest ≡ body → kept_until arrival head ≡ until
-    → given_of arrival entry body until ≡ given_behind arrival entry head rest
-given_behind-from arrival entry head rest body until b u = ap₂ (given_of arrival entry) (sym b) (sym u)
+pub given_by_head-from : (arrival : MomentValue) (entry : Entry) (head : ResponseHeader) (rest : List ℕ) (body : Option (List ℕ)) (until : Option MomentValue) → body_within (announced head) rest ≡ body → kept_until arrival head ≡ until
+    → given_of arrival entry body until ≡ given_by_head arrival entry head rest
+given_by_head-from arrival entry head rest body until b u = ap₂ (given_of arrival entry) (sym b) (sym u)

@@ -1,4 +1,4 @@
--- Bodies and rows behind a storing, its evictions, and its taking back.
+-- Bodies and rows after a storing, its evictions, and its taking back.
 use Rattle.std.proofs.Common.{◌≡◌, ℕ, ◌+◌, ◌≤◌, ◌<◌, ◌^◌, Bool, true, false, List, [], ◌∷◌, ◌++◌, length, map, refl, ap, ap₂, sym, ◌∙◌, arith, append-nil, cond, Some, None, Option, Ok, Err, IfOk, IfErr, MatchResult, inr, subst, max, ◌≢◌}
 use Rattle.std.specs.Prelude.{not, filter, unwrap_or}
 use Rattle.std.proofs.lemmas.List.Elements.{filter-append}
@@ -22,12 +22,12 @@ use Rattle.tier_model.specs.declared.event.Answer.{Answer}
 use Rattle.tier_model.specs.declared.event.Answer.TheVariants.{Finished}
 use Rattle.tier_model.specs.declared.given.Given.TheVariants.{Stored}
 use Rattle.tier_model.specs.Calls.{Outcome, nothing_done, evicted_by}
-use Rattle.cache_tier.specs.Acts.{fault_for, behind_store, IsRefusal}
+use Rattle.cache_tier.specs.Acts.{fault_for, after_store, IsRefusal}
 use Rattle.cache_tier.specs.Draws.{evicted_from}
-use Rattle.tier_model.specs.declared.rows.FinishedBody.{FinishedBody}
+use Rattle.tier_model.specs.declared.state.FinishedBody.{FinishedBody}
 use Rattle.tier_model.specs.Rows.{without_body, without_bodies, with_body, weight_for}
 use Rattle.tier_model.specs.State.{State}
-use Rattle.tier_model.specs.Step.{IsPutAnswer, taken_back, is_too_heavy, is_too_long, admission_is_too_heavy, use_is_too_heavy, stored_alone, all_done, put_behind}
+use Rattle.tier_model.specs.Step.{IsPutAnswer, taken_back, is_too_heavy, is_too_long, admission_is_too_heavy, use_is_too_heavy, stored_alone, all_done, after_put}
 
 -- one more eviction
 pub without_bodies-more : (es : List Entry) (e : Entry) (bodies : List FinishedBody) → without_bodies (es ++ e ∷ []) bodies ≡ without_body (stored_key e) (without_bodies es bodies)
@@ -71,7 +71,7 @@ with_gone b bodies =
     let gone : filter P (b ∷ []) ≡ [] = rw (same_key-tells.itself (stored_key b.entry)) refl in
     filter-append P (filter P bodies) (b ∷ []) ∙ ap (λ (l : List FinishedBody). filter P (filter P bodies) ++ l) gone ∙ append-nil _ ∙ filter-twice P bodies
 
--- a body that was stored and is taken back behind evictions leaves what they leave
+-- a body that was stored and is taken back after evictions leaves what they leave
 pub taken_back-stored : (s mid : State) (b : FinishedBody) (w : ℕ) (es : List Entry) → mid ≡ record s { bodies = with_body b s.bodies; tracked = admitted b.entry w s.tracked }
     → taken_back true mid b.entry es ≡ taken_back true s b.entry es
 taken_back-stored s mid b w es is =
@@ -117,19 +117,19 @@ pub long_use : (e : Entry) (rows : List Tracked) → weight_of e rows ≡ None �
 long_use e rows none long = rw none (grind (arith, nat_tests))
 
 -- a refused admission evicts nothing
-pub unadmitted_none : (fault : OrderFault) (x : TierFault) → (fault ≡ order.Memory → x ≡ Memory nothing_done) → (fault ≢ order.Memory → x ≡ fault_for fault stored_alone) → evicted_by (Err x) ≡ []
-unadmitted_none order.Memory x memory other = ap (λ (f : TierFault). evicted_by (Err f)) (memory refl)
-unadmitted_none order.TooHeavy x memory other = ap (λ (f : TierFault). evicted_by (Err f)) (other (λ e. cc))
-unadmitted_none order.TooLong x memory other = ap (λ (f : TierFault). evicted_by (Err f)) (other (λ e. cc))
+pub refused_none : (fault : OrderFault) (x : TierFault) → (fault ≡ order.Memory → x ≡ Memory nothing_done) → (fault ≢ order.Memory → x ≡ fault_for fault stored_alone) → evicted_by (Err x) ≡ []
+refused_none order.Memory x memory other = ap (λ (f : TierFault). evicted_by (Err f)) (memory refl)
+refused_none order.TooHeavy x memory other = ap (λ (f : TierFault). evicted_by (Err f)) (other (λ e. cc))
+refused_none order.TooLong x memory other = ap (λ (f : TierFault). evicted_by (Err f)) (other (λ e. cc))
 
--- a body that was stored and admitted, behind the making of room for it
-pub room-behind : (s mid new : State) (b : FinishedBody) (e : Entry) (n : ℕ) (o : Outcome) → mid ≡ record s { bodies = with_body b s.bodies; tracked = admitted b.entry (weight_for b) s.tracked } → b.entry ≡ e
+-- a body that was stored and admitted, after the making of room for it
+pub room-after : (s mid new : State) (b : FinishedBody) (e : Entry) (n : ℕ) (o : Outcome) → mid ≡ record s { bodies = with_body b s.bodies; tracked = admitted b.entry (weight_for b) s.tracked } → b.entry ≡ e
     → IfOk o (λ a. (es : List Evicted) × (a ≡ Finished n es) × IsLawfulEviction mid.settings.limit mid.settings.watermark mid.tracked (entries_of es) × (new ≡ evicted_from mid (entries_of es)) × AreWeighed mid.tracked es)
     → IfErr o (λ f. (es : List Evicted) × (f ≡ Memory (all_done es)) × IsBegunEviction mid.settings.limit mid.settings.watermark mid.tracked (entries_of es) × (new ≡ taken_back true mid e (entries_of es)) × AreWeighed mid.tracked es)
-    → new ≡ behind_store s b o
-room-behind s mid new b e n (Ok a) is same kept cut = subst (λ (x : Answer). new ≡ put_behind s (Some (Stored b)) x) (sym kept.1) (kept.3 ∙ ap (λ (m : State). evicted_from m (entries_of kept.0)) is)
-room-behind s mid new b e n (Err f) is same kept cut =
-    subst (λ (x : TierFault). new ≡ behind_store s b (Err x)) (sym cut.1) (cut.3 ∙ ap (λ (y : Entry). taken_back true mid y (entries_of cut.0)) (sym same) ∙ taken_back-stored s mid b (weight_for b) (entries_of cut.0) is)
+    → new ≡ after_store s b o
+room-after s mid new b e n (Ok a) is same kept cut = subst (λ (x : Answer). new ≡ after_put s (Some (Stored b)) x) (sym kept.1) (kept.3 ∙ ap (λ (m : State). evicted_from m (entries_of kept.0)) is)
+room-after s mid new b e n (Err f) is same kept cut =
+    subst (λ (x : TierFault). new ≡ after_store s b (Err x)) (sym cut.1) (cut.3 ∙ ap (λ (y : Entry). taken_back true mid y (entries_of cut.0)) (sym same) ∙ taken_back-stored s mid b (weight_for b) (entries_of cut.0) is)
 
 -- an admission that fits
 light_admission : (b : FinishedBody) (rows : List Tracked) → all_weights (admitted b.entry (weight_for b) rows) < 2 ^ 64 → admission_is_too_heavy b rows ≡ false

@@ -13,7 +13,7 @@ use Rattle.httparse.specs.Spans.{name_and_value}
 use Rattle.tier_model.specs.Keys.{Entry}
 use Rattle.tier_model.specs.declared.given.Given.{Given}
 use Rattle.tier_model.specs.Response.{first_length, body_within, given_of, has_short_name, is_within_bounds}
-use Rattle.cache_tier.specs.declared.response.Head.{Head}
+use Rattle.cache_tier.specs.declared.response.head.Head.{Head}
 
 -- how many bytes of body a head announces
 abbrev pub announced : ResponseHeader → Option ℕ
@@ -23,9 +23,9 @@ announced head = if head.status == 204 || head.status == 304 then Some 0 else fi
 abbrev pub kept_until : MomentValue → ResponseHeader → Option MomentValue
 kept_until arrival head = fresh_until arrival (lines_under (codes "cache-control") head.headers) (lines_under (codes "expires") head.headers) false None
 
--- what a head gives, with the bytes behind it
-abbrev pub given_behind : MomentValue → Entry → ResponseHeader → List ℕ → Given
-given_behind arrival entry head rest = given_of arrival entry (body_within (announced head) rest) (kept_until arrival head)
+-- what a head gives, with the bytes after it
+abbrev pub given_by_head : MomentValue → Entry → ResponseHeader → List ℕ → Given
+given_by_head arrival entry head rest = given_of arrival entry (body_within (announced head) rest) (kept_until arrival head)
 
 -- the bytes begin with a head of the parser's grammar, of at most 256 lines and within its bounds, and that is it
 pub record IsHeadAt (bytes : List ℕ) (head : Head) (h : ResponseHead) : Type 0 where

@@ -12,7 +12,7 @@ use Rattle.httparse.proofs.GrammarLemmas.{response_prefix_free}
 use Rattle.tier_model.specs.Keys.{Entry}
 use Rattle.tier_model.specs.declared.given.Given.{Given}
 use Rattle.tier_model.specs.declared.given.Given.TheVariants.{Stored, Incomplete, BadHead}
-use Rattle.tier_model.specs.declared.rows.FinishedBody.{FinishedBody}
+use Rattle.tier_model.specs.declared.state.FinishedBody.{FinishedBody}
 use Rattle.tier_model.specs.Response.{IsPlain, IsWellFormed, is_within_bounds, is_before_epoch, body_within, body_length, values_of, given_of, given_by, Reading, whole_head, begun_head, no_head, IsReading, given_in, Gives}
 
 -- a head that stands whole in the first part of some bytes is read there
@@ -22,7 +22,7 @@ read_front bytes more h rest r l =
     let front : take n bytes ≡ print_response h = sym (take-append-le n bytes more l) ∙ ap (take n) r.1 ∙ take-append_seam (print_response h) rest in
     (r.0, sym (take-append-drop n bytes) ∙ ap (λ (xs : List ℕ). xs ++ drop n bytes) front)
 
--- no head is read where the head of the whole bytes goes on behind them
+-- no head is read where the head of the whole bytes goes on after them
 read_none : (bytes more : List ℕ) (h : ResponseHead) (rest : List ℕ) → ReadsResponse (bytes ++ more) h rest → length bytes < length (print_response h) → HasNoResponse bytes
 read_none bytes more h rest r l k other s =
     let same : k ≡ h = (response_prefix_free bytes more k h other rest s r).0 in

@@ -1,4 +1,4 @@
--- A state with the history that stands behind it.
+-- A state with the history that led to it.
 use Rattle.std.specs.Prelude.{◌≡◌, List, [], ◌∷◌}
 use Rattle.tier_model.specs.declared.event.Event.{Event}
 use Rattle.tier_model.specs.Calls.{Call, History, Outcome, AreCallsOf, extended}
@@ -9,7 +9,7 @@ use Rattle.tier_model.specs.Reports.{AreAllBodies, IsReport, report_of, shown, f
 use Rattle.tier_model.specs.State.{Settings, State, empty_state}
 use Rattle.tier_model.specs.Step.{Allows, after}
 
--- the state of a tier behind a history
+-- the state of a tier after a history
 abbrev pub state_of : Settings → History → State
 state_of settings [] = empty_state settings
 state_of settings (c ∷ h) = after (state_of settings h) c
@@ -46,7 +46,7 @@ Runs old [] [] new = new ≡ old
 Runs old (e ∷ es) (o ∷ os) new = (mid : State) × Steps old e o mid × Runs mid es os new
 Runs old _ _ new = ⊥
 
--- the headline holds of every past that the tier may have had, with these calls behind it
+-- the headline holds of every past that the tier may have had, with these calls after it
 abbrev pub CarriesHeadline : State → List Event → List Outcome → State → Type 0
 CarriesHeadline old events outcomes new =
     (settings : Settings) (past : History) → HasPast settings old past → (calls : List Call) × AreCallsOf events outcomes calls × HasPast settings new (extended past calls)

@@ -2,12 +2,12 @@
 use Rattle.std.specs.Prelude.{◌≡◌, ℕ, ◌==◌, List, [], ◌∷◌, if◌then◌else◌, Option, Some, None, Ok, MatchOption}
 use Rattle.std.specs.FinMap.{FinMap, get}
 use Rattle.std.specs.Ordering.{nat_cmp}
-use Rattle.tier_model.specs.declared.rows.FinishedBody.{FinishedBody}
-use Rattle.tier_model.specs.declared.rows.Request.{Request}
-use Rattle.tier_model.specs.declared.rows.Phase.{Phase}
-use Rattle.tier_model.specs.declared.rows.Phase.TheVariants.{CacheKey, Hit, Stale, Miss}
-use Rattle.tier_model.specs.declared.rows.Reader.{Reader}
-use Rattle.tier_model.specs.declared.rows.Reader.TheVariants.{Closed, Unread, Spent}
+use Rattle.tier_model.specs.declared.state.FinishedBody.{FinishedBody}
+use Rattle.tier_model.specs.declared.state.Request.{Request}
+use Rattle.tier_model.specs.declared.state.Phase.{Phase}
+use Rattle.tier_model.specs.declared.state.Phase.TheVariants.{CacheKey, Hit, Stale, Miss}
+use Rattle.tier_model.specs.declared.state.Reader.{Reader}
+use Rattle.tier_model.specs.declared.state.Reader.TheVariants.{Closed, Unread, Spent}
 use Rattle.tier_model.specs.declared.event.Action.{Action}
 use Rattle.tier_model.specs.declared.event.Action.TheVariants.{Open, LookUp, Read}
 use Rattle.tier_model.specs.declared.event.Answer.TheVariants.{Opened, Found, Absent}

@@ -13,7 +13,7 @@ use Rattle.tier_entries.specs.Keys.{entry_of}
 use Rattle.tier_model.specs.Keys.{Entry}
 use Rattle.tier_model.specs.declared.event.Action.{Action}
 use Rattle.tier_model.specs.declared.event.Action.TheVariants.{Put}
-use Rattle.tier_model.specs.declared.rows.FinishedBody.{FinishedBody}
+use Rattle.tier_model.specs.declared.state.FinishedBody.{FinishedBody}
 use Rattle.tier_model.specs.declared.given.Given.{Given}
 use Rattle.tier_model.specs.declared.given.Given.TheVariants.{Stored, Uncacheable, Incomplete, BadHead, BeforeEpoch}
 
@@ -45,7 +45,7 @@ first_length (value ∷ values) = length_in value
 abbrev pub body_length : ℕ → List (List ℕ × List ℕ) → Option ℕ
 body_length status lines = if status == 204 || status == 304 then Some 0 else first_length (values_of (codes "content-length") lines)
 
--- the body among the bytes behind the head: so many, or without a length all of them; none where fewer came
+-- the body among the bytes after the head: so many, or without a length all of them; none where fewer came
 abbrev pub body_within : Option ℕ → List ℕ → Option (List ℕ)
 body_within None rest = Some rest
 body_within (Some n) rest = if nat_le n (length rest) then Some (take n rest) else None

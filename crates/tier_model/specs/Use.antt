@@ -1,9 +1,9 @@
--- The order of use over histories: uses, departures, what is tracked, what it weighs, and in which order it stands.
+-- The order of use over histories: uses, departures, what is tracked, what it weighs, and in which order it is.
 use Rattle.std.specs.Prelude.{◌≡◌, ℕ, ◌<◌, ◌≤◌, Bool, true, false, ◌&&◌, ◌||◌, List, [], ◌∷◌, length, Option, Some, None, is_some, Ok, Err, ◌⊎◌}
 use Rattle.tier_entries.specs.Keys.{entry_of, stored_key, same_entry, has_entry}
 use Rattle.tier_entries.specs.declared.rows.Tracked.{Tracked}
 use Rattle.tier_entries.specs.Rows.{weight_of, IsLawfulEviction, IsBegunEviction}
-use Rattle.tier_model.specs.declared.rows.FinishedBody.{FinishedBody}
+use Rattle.tier_model.specs.declared.state.FinishedBody.{FinishedBody}
 use Rattle.tier_model.specs.declared.given.Given.{Given}
 use Rattle.tier_model.specs.declared.event.Event.{Event}
 use Rattle.tier_model.specs.declared.event.Action.{Action}
@@ -47,7 +47,7 @@ abbrev pub stores_entry : Entry → Action → Bool
 stores_entry e (Put key pieces) = same_entry (entry_of key) e
 stores_entry e _ = false
 
--- a departure of e: its eviction, a refusal behind a storing under it, or a purge of its key and tag that found something
+-- a departure of e: its eviction, a refusal after a storing under it, or a purge of its key and tag that found something
 abbrev pub departs : Entry → Call → Bool
 departs e c = is_purge_of e c.event.action c.outcome || ((was_stored c.outcome && stores_entry e c.event.action) || has_entry e (evicted_by c.outcome))
 
@@ -69,7 +69,7 @@ abbrev pub IsWeightOf : ℕ → Option FinishedBody → Type 0
 IsWeightOf w None = ⊥
 IsWeightOf w (Some b) = w ≡ weight_for b
 
--- what e weighs behind a call: nothing where it departed; the body's weight where one was admitted; where a hit found it
+-- what e weighs after a call: nothing where it departed; the body's weight where one was admitted; where a hit found it
 -- untracked, the weight of the body found; else what it weighed
 abbrev pub WeighsBy : Bool → Bool → Bool → Bool → Entry → ℕ → Option FinishedBody → History → Type 0 → Type 0
 WeighsBy true admitted hit tracked e w new before Was = ⊥
@@ -95,8 +95,8 @@ pub record IsOrderOfUse (rows : List Tracked) (h : History) : Type 0 where
   pub weights : (e : Entry) (w : ℕ) → weight_of e rows ≡ Some w → Weighs e w h
 
 -- the event stores a body, and the rows are the order of use after its admission, with nothing gone yet
-abbrev pub IsOrderBehind : List Tracked → Event → Option Given → History → Type 0
-IsOrderBehind rows e given before =
+abbrev pub IsOrderAfter : List Tracked → Event → Option Given → History → Type 0
+IsOrderAfter rows e given before =
     (b : FinishedBody) × (body_finished e.action (Ok (Finished 0 [])) given ≡ Some b)
     × IsOrderOfUse rows (record { event = e; outcome = Ok (Finished 0 []); given = given } ∷ before)
 
@@ -104,11 +104,11 @@ IsOrderBehind rows e given before =
 -- only an event that stores a body evicts, also one that is refused in the midst of it. Each is listed with what it weighed
 abbrev pub EvictsBy : ℕ → Option ℕ → Event → Outcome → Option Given → History → Type 0
 EvictsBy limit watermark e (Ok (Finished n evicted)) given before =
-    (rows : List Tracked) × IsOrderBehind rows e given before × IsLawfulEviction limit watermark rows (entries_of evicted) × AreWeighed rows evicted
+    (rows : List Tracked) × IsOrderAfter rows e given before × IsLawfulEviction limit watermark rows (entries_of evicted) × AreWeighed rows evicted
 EvictsBy limit watermark e (Ok answer) given before = evicted_by (Ok answer) ≡ []
 EvictsBy limit watermark e (Err fault) given before =
     (was_stored (Err fault) ≡ false)
-    ⊎ ((rows : List Tracked) × IsOrderBehind rows e given before × AreWeighed rows (done_of fault).evicted
+    ⊎ ((rows : List Tracked) × IsOrderAfter rows e given before × AreWeighed rows (done_of fault).evicted
     × ((evicted_by (Err fault) ≡ []) ⊎ IsBegunEviction limit watermark rows (evicted_by (Err fault))))
 
 -- each call's evictions were lawful

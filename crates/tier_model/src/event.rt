@@ -113,14 +113,14 @@ impl Model for Pieces {
 }
 
 impl Pieces {
-    /// These pieces. It takes no memory.
+    /// Makes pieces of a list. It takes no memory.
     pub fn from_vec(items: Vec<Bytes>) -> Pieces
         ensures { result ≡ items.items }
     {
         Pieces { items }
     }
 
-    /// The pieces.
+    /// Returns the pieces in order.
     pub fn as_slice(&self) -> &[Bytes]
         ensures { result.now ≡ self.now }
     {
@@ -144,7 +144,7 @@ impl Model for Entries {
 }
 
 impl Entries {
-    /// No entry. It takes no memory.
+    /// Makes an empty list. It takes no memory.
     pub fn new(alloc: Global) -> Entries
         ensures { result ≡ [] }
     {
@@ -153,14 +153,14 @@ impl Entries {
         }
     }
 
-    /// These entries. It takes no memory.
+    /// Makes a list of entries. It takes no memory.
     pub fn from_vec(items: Vec<(CompactCacheKey, usize)>) -> Entries
         ensures { result ≡ items.items }
     {
         Entries { items }
     }
 
-    /// The entries, each with what it weighed.
+    /// Returns the entries in order, each with what it weighed.
     pub fn as_slice(&self) -> &[(CompactCacheKey, usize)]
         ensures { result.now ≡ self.now }
     {
