@@ -88,3 +88,46 @@ pub(crate) fn tier(alloc: Global, limit: usize, watermark: Option<usize>) -> Res
     let age = Duration::from_seconds(1);
     Tier::<1>::new(alloc, limit, watermark, age, None)
 }
+
+// Each event in a wrong place, and responses that aren't stored.
+pub(crate) const REFUSED: &[(i64, Ask)] = &[
+    (1, Ask::Look(9)),
+    (1, Ask::Drop(9)),
+    (1, Ask::Open(1, b'a', "")),
+    (1, Ask::Open(1, b'b', "")),
+    (1, Ask::Read(1)),
+    (7, Ask::Put(b'a', "", HUNDRED, b"")),
+    (1, Ask::Look(1)),
+    (1, Ask::Look(1)),
+    (1, Ask::Read(1)),
+    (1, Ask::Read(1)),
+    (1, Ask::Purge(b'a')),
+    (1, Ask::Purge(b'a')),
+    (
+        0,
+        Ask::Put(
+            b'a',
+            "",
+            b"HTTP/1.1 200 OK\r\nCache-Control: max-age=0\r\n\r\n",
+            b"",
+        ),
+    ),
+    (
+        1,
+        Ask::Put(
+            b'a',
+            "",
+            b"HTTP/1.1 200 OK\r\nCache-Control: no-store\r\n\r\n",
+            b"",
+        ),
+    ),
+    (
+        i64::MAX,
+        Ask::Put(
+            b'a',
+            "",
+            b"HTTP/1.1 200 OK\r\nCache-Control: max-age=1\r\n\r\n",
+            b"",
+        ),
+    ),
+];

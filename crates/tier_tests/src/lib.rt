@@ -6,6 +6,8 @@ mod asks;
 #[cfg(test)]
 mod entries;
 #[cfg(test)]
+mod head_rows;
+#[cfg(test)]
 mod heads;
 #[cfg(test)]
 mod model;
@@ -13,3 +15,5 @@ mod model;
 mod refusals;
 #[cfg(test)]
 mod runs;
+#[cfg(test)]
+mod show;

@@ -1,5 +1,6 @@
 //! Worked traces.
-use crate::asks::{Ask, HUNDRED, event, events, put_of, tier};
+use crate::asks::{Ask, HUNDRED, REFUSED, events, put_of, tier};
+use crate::show::{show, show_report};
 use cache_tier::tier::Tier;
 use rand_pcg::Pcg32;
 use std::alloc::{AllocError, Global};
@@ -7,39 +8,6 @@ use std::fmt::Write;
 use std::process::Abort;
 use tier_model::event::{Answer, Event, TierFault};
 use tier_model::report::Report;
-
-// One word or two for each outcome, as a trace has them.
-fn show(text: &mut String, outcome: &Result<Answer, TierFault>) -> Result<(), AllocError> {
-    match outcome {
-        Ok(Answer::Opened) => text.push_str("opened\n"),
-        Ok(Answer::Found { fresh, complete }) => write!(text, "found {fresh} {complete}\n"),
-        Ok(Answer::Absent) => text.push_str("absent\n"),
-        Ok(Answer::Bytes(bytes)) => write!(text, "bytes {:?}\n", bytes.as_slice()),
-        Ok(Answer::End) => text.push_str("end\n"),
-        Ok(Answer::Dropped) => text.push_str("dropped\n"),
-        Ok(Answer::Purged(was_there)) => write!(text, "purged {was_there}\n"),
-        Ok(Answer::Finished { length, evicted }) => {
-            let count = evicted.as_slice().len();
-            write!(text, "finished {length} evicted={count}\n")
-        }
-        Ok(Answer::Uncacheable(reason)) => write!(text, "uncacheable {reason:?}\n"),
-        Err(fault) => write!(text, "fault {fault:?}\n"),
-    }
-}
-
-fn show_report(text: &mut String, report: Report) -> Result<(), AllocError> {
-    write!(
-        text,
-        "report found={} absent={} bodies={} bytes={} tracked={} weight={} evicted={}",
-        report.found,
-        report.absent,
-        report.bodies,
-        report.bytes,
-        report.tracked,
-        report.weight,
-        report.evicted
-    )
-}
 
 // The outcomes of a run over an empty tier, and its report.
 fn replay(
@@ -112,49 +80,6 @@ fn answers_a_first_trace(rt: HostRuntime) {
         report found=2 absent=0 bodies=1 bytes=3 tracked=1 weight=3 evicted=0",
     );
 }
-
-// Each event in a wrong place, and responses that aren't stored.
-const REFUSED: &[(i64, Ask)] = &[
-    (1, Ask::Look(9)),
-    (1, Ask::Drop(9)),
-    (1, Ask::Open(1, b'a', "")),
-    (1, Ask::Open(1, b'b', "")),
-    (1, Ask::Read(1)),
-    (7, Ask::Put(b'a', "", HUNDRED, b"")),
-    (1, Ask::Look(1)),
-    (1, Ask::Look(1)),
-    (1, Ask::Read(1)),
-    (1, Ask::Read(1)),
-    (1, Ask::Purge(b'a')),
-    (1, Ask::Purge(b'a')),
-    (
-        0,
-        Ask::Put(
-            b'a',
-            "",
-            b"HTTP/1.1 200 OK\r\nCache-Control: max-age=0\r\n\r\n",
-            b"",
-        ),
-    ),
-    (
-        1,
-        Ask::Put(
-            b'a',
-            "",
-            b"HTTP/1.1 200 OK\r\nCache-Control: no-store\r\n\r\n",
-            b"",
-        ),
-    ),
-    (
-        i64::MAX,
-        Ask::Put(
-            b'a',
-            "",
-            b"HTTP/1.1 200 OK\r\nCache-Control: max-age=1\r\n\r\n",
-            b"",
-        ),
-    ),
-];
 
 #[test]
 fn refuses_by_name(rt: HostRuntime) {
