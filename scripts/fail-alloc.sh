@@ -9,7 +9,7 @@
 # spare room back, so the runs end only when twelve in a row met nothing.
 set -u
 cd "$(dirname "$0")/.." || exit 1
-[ $# -gt 0 ] || set -- cache_tier
+[ $# -gt 0 ] || set -- tier_tests
 log=$(mktemp) || exit 1
 trap 'rm -f "$log"' EXIT
 most=${MOST:-400}

@@ -1,11 +1,14 @@
 -- The lines of a map, and what heads within the bounds give.
-use Rattle.std.proofs.Common.{◌≡◌, ℕ, ◌+◌, ◌≤◌, ◌<◌, true, false, List, [], ◌∷◌, ◌++◌, length, map, take, drop, refl, ap, ap₂, sym, ◌∙◌, subst, arith, inl, inr, append_assoc, append-nil, All, Option, Some, None, length-append, get_or}
-use Rattle.std.specs.Prelude.{◌≢◌, bytes_eq, codes, ◌||◌}
+use Rattle.std.proofs.Common.{◌≡◌, ℕ, ◌+◌, ◌≤◌, ◌<◌, true, false, List, [], ◌∷◌, ◌++◌, length, map, take, drop, refl, ap, ap₂, sym, ◌∙◌, subst, arith, inl, inr, append_assoc, append-nil, All, Option, Some, None, length-append, length-take, get_or}
+use Rattle.std.specs.Prelude.{◌≢◌, bytes_eq, codes, ◌||◌, ◌&&◌, ◌⊎◌, Bool, nat_le}
+use Rattle.std.specs.List.{list_all}
+use Rattle.std.proofs.lemmas.Bool.Decides.{nat_tests}
+use Rattle.std.proofs.lemmas.List.Folds.{list_all-append, list_all-map}
 use Rattle.std.proofs.lemmas.Bool.{cases_Bool}
 use Rattle.std.proofs.lemmas.Slice.Eq.{bytes_eq-Decides}
-use Rattle.std.proofs.lemmas.List.{map-append, take_more, get_or-map, length-map}
+use Rattle.std.proofs.lemmas.List.{map-append, take_more, take-append-drop, get_or-map, length-map}
 use Rattle.std.proofs.lemmas.List.Elements.{All-map}
-use Rattle.std.proofs.lemmas.List.Sums.{sum_by-cons}
+use Rattle.std.proofs.lemmas.List.Sums.{sum_by-cons, AllPass-from_list_all}
 use Rattle.cache_words.specs.Time.{MomentValue}
 use Rattle.cache_headers.specs.declared.header.ResponseHeader.{ResponseHeader}
 use Rattle.http.specs.StatusCode.{IsStatusCode}
@@ -14,19 +17,20 @@ use Rattle.http_header.specs.FieldValue.{FieldValue, plain_value}
 use Rattle.http_header.specs.Token.{lowercase}
 use Rattle.http_header.specs.Token as token
 use Rattle.http_header.proofs.HeaderMapLemmas.{get_all-append_same, get_all-append_other}
-use Rattle.httparse.specs.Grammar.{ResponseHead, ReadsResponse, HasNoResponse, Field, IsField, is_value_byte, is_token_byte, status_code}
+use Rattle.httparse.specs.Grammar.{ResponseHead, ReadsResponse, HasNoResponse, NeverHasResponse, print_response, Field, IsField, is_value_byte, is_token_byte, status_code}
 use Rattle.httparse.specs.declared.spans.HeaderSpan.{HeaderSpan}
-use Rattle.httparse.specs.Spans.{header_bytes, name_and_value}
+use Rattle.httparse.specs.declared.spans.ResponseSpans.{ResponseSpans}
+use Rattle.httparse.specs.Spans.{header_bytes, name_and_value, AreFieldsAt, IsResponseAt, ResponseOverflows}
 use Rattle.httparse.proofs.TrimLemmas.{AllPass-trim_ows}
 use Rattle.httparse.proofs.GrammarLemmas.{response_unique, response_prefix_free}
 use Rattle.tier_model.specs.Keys.{Entry}
-use Rattle.tier_model.specs.declared.rows.FinishedBody.{FinishedBody}
+use Rattle.tier_model.specs.declared.state.FinishedBody.{FinishedBody}
 use Rattle.tier_model.specs.declared.given.Given.{Given}
 use Rattle.tier_model.specs.declared.given.Given.TheVariants.{Stored, Incomplete, BadHead}
-use Rattle.tier_model.specs.Response.{values_of, is_before_epoch, body_within, given_of, given_by, IsReadable, IsPlain, Gives}
-use Rattle.cache_tier.specs.declared.response.Head.{Head}
+use Rattle.tier_model.specs.Response.{values_of, is_before_epoch, body_within, given_of, given_by, has_short_name, is_within_bounds, IsPlain, Reading, whole_head, begun_head, no_head, IsReading, Gives}
+use Rattle.cache_tier.specs.declared.response.head.Head.{Head}
 use Rattle.cache_headers.specs.Lines.{pair_of, map_of, IsLine}
-use Rattle.cache_tier.specs.Heads.{announced, kept_until, given_behind, IsHeadOf}
+use Rattle.cache_tier.specs.Heads.{announced, kept_until, given_by_head, IsHeadAt, IsHeadOf, IsOutOfBounds, IsSomeHead, AreShortLines}
 use Rattle.std.specs.Prelude.{option_map, option_copied}
 use Rattle.std.specs.Borrow.{Bor}
 use Rattle.cache_directives.specs.Written.{Written}
@@ -113,78 +117,189 @@ IsLine-field : (f : Field) → IsField f → length f.name ≤ 65535 → IsLine 
 IsLine-field f valid short =
     (((valid.name.0, λ k d l. rw (← same_tokens) (valid.name.1 k d l)), short), AllPass-trim_ows is_value_byte f.raw valid.raw)
 
--- a map takes the lines of a head within the bounds
-pub IsLine-readable : (bytes : List ℕ) (h : ResponseHead) (rest : List ℕ) → ReadsResponse bytes h rest → IsReadable h → All IsLine (map name_and_value h.fields)
-IsLine-readable bytes h rest reads readable =
-    All-map IsLine name_and_value h.fields (λ k d l. IsLine-field _ (reads.0.fields k d l) (readable.names k d l))
+-- one more short name
+pub short-more : (bytes : List ℕ) (lines : List HeaderSpan) (i : ℕ) (d : HeaderSpan) → i < length lines → list_all has_short_name (map (header_bytes bytes) (take i lines)) ≡ true
+    → has_short_name (header_bytes bytes (get_or lines i d)) ≡ true → list_all has_short_name (map (header_bytes bytes) (take (i + 1) lines)) ≡ true
+short-more bytes lines i d l before this =
+    rw (take_more lines i d l, map-append (header_bytes bytes) (take i lines) (get_or lines i d ∷ []), list_all-append has_short_name (map (header_bytes bytes) (take i lines)) (header_bytes bytes (get_or lines i d) ∷ []), before, this) refl
 
--- behind a head out of the bounds no bytes make a plain response
-pub not_plain : (bytes : List ℕ) (h : ResponseHead) (rest : List ℕ) → ReadsResponse bytes h rest → ¬ (IsReadable h) → ¬ (IsPlain bytes)
-not_plain bytes h rest reads out plain =
-    out (subst IsReadable (sym (response_prefix_free bytes plain.0 h plain.1 rest plain.2 reads plain.3).0) plain.4)
+short-at : (f : Field) → has_short_name (name_and_value f) ≡ true → length f.name ≤ 65535
+short-at f t = grind (arith, nat_tests)
+
+short-fields : (fields : List Field) → All IsField fields → list_all has_short_name (map name_and_value fields) ≡ true → All IsLine (map name_and_value fields)
+short-fields fields valid short =
+    let each = AllPass-from_list_all (λ f. has_short_name (name_and_value f)) fields (sym (list_all-map has_short_name name_and_value fields) ∙ short) in
+    All-map IsLine name_and_value fields (λ k d l. IsLine-field (get_or fields k d) (valid k d l) (short-at (get_or fields k d) (each k d l)))
+
+-- a head whose lines a map refuses is out of its bounds
+pub out-by-lines : (bytes : List ℕ) (h : ResponseHead) (rest : List ℕ) → ReadsResponse bytes h rest → ¬ (All IsLine (map name_and_value h.fields))
+    → is_within_bounds (status_code h) (map name_and_value h.fields) ≡ false
+out-by-lines bytes h rest reads refused = elim (cases_Bool (list_all has_short_name (map name_and_value h.fields))) [
+  | inl t ↦ absurd (refused (short-fields h.fields reads.0.fields t))
+  | inr f ↦ rw f (and_no (nat_le 100 (status_code h)))
+]
+  where
+    and_no : (v : Bool) → (v && false) ≡ false
+    and_no true = refl
+    and_no false = refl
+
+-- and so is one whose status is none
+pub out-by-status : (h : ResponseHead) (code : ℕ) → code ≡ status_code h → code < 1000 → ¬ (IsStatusCode code) → is_within_bounds (status_code h) (map name_and_value h.fields) ≡ false
+out-by-status h code e l refused = rw (← e, low (nat_le 100 code) refl) refl
+  where
+    low : (v : Bool) → nat_le 100 code ≡ v → nat_le 100 code ≡ false
+    low true t = absurd (refused (grind (arith, nat_tests), l))
+    low false f = f
+
+pub in-bounds : (h : ResponseHead) (code : ℕ) → code ≡ status_code h → IsStatusCode code → list_all has_short_name (map name_and_value h.fields) ≡ true
+    → is_within_bounds (status_code h) (map name_and_value h.fields) ≡ true
+in-bounds h code e is short = rw (short, ← e, high is.0) refl
+  where
+    high : 100 ≤ code → nat_le 100 code ≡ true
+    high l = grind (arith, nat_tests)
+
+pub few-fields : (bytes : List ℕ) (headers : List HeaderSpan) (count : ℕ) (fields : List Field) → AreFieldsAt bytes headers count fields → length headers ≡ 256 → length fields ≤ 256
+few-fields bytes headers count fields at room =
+    omega (arith, room, length-take count headers, length-map (take count headers) (header_bytes bytes), length-map fields name_and_value, ap length at)
+
+-- a head whose status and lines are taken
+pub whole-head : (bytes : List ℕ) (headers : List HeaderSpan) (r : ResponseSpans) (h : ResponseHead) → IsResponseAt bytes headers r h → length headers ≡ 256
+    → (status : ℕ) (all : Entries FieldValue) → IsStatusCode r.code → status ≡ r.code → all ≡ map_of (map (header_bytes bytes) (take r.headers headers))
+    → list_all has_short_name (map (header_bytes bytes) (take r.headers headers)) ≡ true → IsHeadOf bytes (record { header = record { status = status; headers = all }; len = r.len })
+whole-head bytes headers r h at room status all is code value short = (
+  h,
+  record {
+    reads = at.reads;
+    few = few-fields bytes headers r.headers h.fields at.fields room;
+    bounds = in-bounds h r.code at.code is (subst (λ (ls : List (List ℕ × List ℕ)). list_all has_short_name ls ≡ true) at.fields short);
+    status = code ∙ at.code;
+    headers = value ∙ ap map_of at.fields;
+  },
+)
 
 -- a head as a map gives what its lines give
-given_behind-is : (arrival : MomentValue) (entry : Entry) (head : ResponseHeader) (rest : List ℕ) (status : ℕ) (lines : List (List ℕ × List ℕ)) → head.status ≡ status → head.headers ≡ map_of lines
-    → given_behind arrival entry head rest ≡ given_by arrival entry status lines rest
+given_by_head-is : (arrival : MomentValue) (entry : Entry) (head : ResponseHeader) (rest : List ℕ) (status : ℕ) (lines : List (List ℕ × List ℕ)) → head.status ≡ status → head.headers ≡ map_of lines
+    → is_within_bounds status lines ≡ true → given_by_head arrival entry head rest ≡ given_by arrival entry status lines rest
 unfolding given_by
-given_behind-is arrival entry head rest status lines s m =
-    rw (s, m, under-map_of lines (codes "content-length"), under-map_of lines (codes "cache-control"), under-map_of lines (codes "expires")) refl
+given_by_head-is arrival entry head rest status lines s m bounds =
+    rw (bounds, s, m, under-map_of lines (codes "content-length"), under-map_of lines (codes "cache-control"), under-map_of lines (codes "expires")) refl
 
--- what a head gives is no bad head, and a body of the key
-given_of-read : (arrival : MomentValue) (entry : Entry) (body : Option (List ℕ)) (until : Option MomentValue) → given_of arrival entry body until ≢ BadHead
-given_of-read arrival entry None until e = cc
-given_of-read arrival entry (Some body) None e = cc
-given_of-read arrival entry (Some body) (Some until) e =
-    elim (cases_Bool (is_before_epoch arrival || is_before_epoch until)) [
-      | inl t ↦ absurd (cc)
-      | inr f ↦ absurd (cc)
-    ]
+given_by-out : (arrival : MomentValue) (entry : Entry) (rest : List ℕ) (status : ℕ) (lines : List (List ℕ × List ℕ)) → is_within_bounds status lines ≡ false → given_by arrival entry status lines rest ≡ BadHead
+unfolding given_by
+given_by-out arrival entry rest status lines bounds = rw bounds refl
 
-given_of-entry : (arrival : MomentValue) (entry : Entry) (body : Option (List ℕ)) (until : Option MomentValue) (stored : FinishedBody) → given_of arrival entry body until ≡ Stored stored → stored.entry ≡ entry
-given_of-entry arrival entry None until stored e = absurd cc
-given_of-entry arrival entry (Some body) None stored e = absurd cc
-given_of-entry arrival entry (Some body) (Some until) stored e =
-    elim (cases_Bool (is_before_epoch arrival || is_before_epoch until)) [
-      | inl t ↦ absurd (cc)
-      | inr f ↦ cc
-    ]
+after-head : (status code : ℕ) (lines others : List (List ℕ × List ℕ)) (rest other : List ℕ) → whole_head status lines rest ≡ whole_head code others other → rest ≡ other
+after-head status code lines others rest other e = cc
+
+-- one head is at the front of some bytes, whatever comes after
+same-head : (bytes more : List ℕ) (h k : ResponseHead) (rest other : List ℕ) → ReadsResponse bytes h rest → ReadsResponse (bytes ++ more) k other → length h.fields ≤ 256 → 256 < length k.fields → ⊥
+same-head bytes more h k rest other reads reads_k few many =
+    let same : h ≡ k = (response_prefix_free bytes more h k rest other reads reads_k).0 in
+    omega (arith, few, many, ap (λ (x : ResponseHead). length x.fields) same)
 
 -- what is given where the head was read
-pub Gives-whole : (arrival : MomentValue) (entry : Entry) (bytes : List ℕ) (head : Head) (given : Given) → IsHeadOf bytes head → given ≡ given_behind arrival entry head.header (drop head.len bytes) → Gives arrival entry bytes given
-Gives-whole arrival entry bytes head given is e =
+pub Gives-whole : (arrival : MomentValue) (entry : Entry) (bytes : List ℕ) (front : Head) (given : Given) → front.len ≤ length bytes → IsHeadOf bytes front → given ≡ given_by_head arrival entry front.header (drop front.len bytes) → Gives arrival entry bytes given
+Gives-whole arrival entry bytes front given len is e =
     let h : ResponseHead = is.0 in
-    let by_lines : given ≡ given_by arrival entry (status_code h) (map name_and_value h.fields) (drop head.len bytes) =
-    e ∙ given_behind-is arrival entry head.header (drop head.len bytes) (status_code h) (map name_and_value h.fields) is.2 is.3 in
-    record {
-      whole = λ k rest reads readable.
-          let same = response_unique bytes h k (drop head.len bytes) rest is.1 reads in
-          subst (λ (x : ResponseHead). given ≡ given_by arrival entry (status_code x) (map name_and_value x.fields) rest) same.0
-          (subst (λ (x : List ℕ). given ≡ given_by arrival entry (status_code h) (map name_and_value h.fields) x) same.1 by_lines);
-      begun = λ none plain. absurd (none h (drop head.len bytes) is.1);
-      refused = λ bad. absurd (given_of-read arrival entry _ _ (sym e ∙ bad));
-      of_entry = λ body b. given_of-entry arrival entry _ _ body (sym e ∙ b);
-    }
+    let at : IsHeadAt bytes front h = is.1 in
+    let rest : List ℕ = drop front.len bytes in (
+      whole_head (status_code h) (map name_and_value h.fields) rest,
+      record {
+        whole = λ k other reads few.
+            let same = response_unique bytes h k rest other at.reads reads in
+            ap₂ (λ (x : ResponseHead) (y : List ℕ). whole_head (status_code x) (map name_and_value x.fields) y) same.0 same.1;
+        begins = λ empty plain. absurd (empty h rest at.reads);
+        long = λ more k other reads many. absurd (same-head bytes more h k rest other at.reads reads at.few many);
+        within = λ status lines other same. (take front.len bytes, sym (take-append-drop front.len bytes) ∙ ap (λ (x : List ℕ). take front.len bytes ++ x) (after-head _ _ _ _ _ _ same));
+      },
+      e ∙ given_by_head-is arrival entry front.header rest (status_code h) (map name_and_value h.fields) at.status at.headers at.bounds,
+    )
+
+-- what is given where the head is out of bounds
+pub Gives-out : (arrival : MomentValue) (entry : Entry) (bytes : List ℕ) → IsOutOfBounds bytes → Gives arrival entry bytes BadHead
+Gives-out arrival entry bytes out = (
+  whole_head (status_code out.0) (map name_and_value out.0.fields) out.1,
+  record {
+    whole = λ k other reads few.
+        let same = response_unique bytes out.0 k out.1 other out.2 reads in
+        ap₂ (λ (x : ResponseHead) (y : List ℕ). whole_head (status_code x) (map name_and_value x.fields) y) same.0 same.1;
+    begins = λ empty plain. absurd (empty out.0 out.1 out.2);
+    long = λ more k other reads many. absurd (same-head bytes more out.0 k out.1 other out.2 reads out.3 many);
+    within = λ status lines other same. (print_response out.0, out.2.1 ∙ ap (λ (x : List ℕ). print_response out.0 ++ x) (after-head _ _ _ _ _ _ same));
+  },
+  sym (given_by-out arrival entry out.1 (status_code out.0) (map name_and_value out.0.fields) out.4),
+)
 
 -- what is given where a head has begun
 pub Gives-begun : (arrival : MomentValue) (entry : Entry) (bytes : List ℕ) → HasNoResponse bytes → Gives arrival entry bytes Incomplete
-Gives-begun arrival entry bytes none = record {
-  whole = λ h rest reads readable. absurd (none h rest reads);
-  begun = λ no plain. refl;
-  refused = λ bad. absurd cc;
-  of_entry = λ body b. absurd cc;
+Gives-begun arrival entry bytes nothing = (
+  begun_head,
+  record {
+    whole = λ h rest reads few. absurd (nothing h rest reads);
+    begins = λ _ plain. refl;
+    long = λ more h rest reads many. inr refl;
+    within = λ status lines rest same. absurd cc;
+  },
+  refl,
+)
+
+-- no head of at most 256 lines, and no beginning of one
+no-plain : (bytes : List ℕ) (r : Reading) → ResponseOverflows 256 bytes → (r ≡ no_head) ⊎ (r ≡ begun_head) → IsReading bytes r
+no-plain bytes r over is = record {
+  whole = λ h rest reads few. absurd (omega (arith, few, over [] h rest (rw (append-nil bytes) reads)));
+  begins = λ _ plain. absurd (omega (arith, plain.4, over plain.0 plain.1 plain.2 plain.3));
+  long = λ more h rest reads many. is;
+  within = λ status lines rest same. absurd (elim is [ inl e ↦ not_none status lines rest (sym same ∙ e) | inr e ↦ not_begun status lines rest (sym same ∙ e) ]);
 }
+  where
+    not_none : (status : ℕ) (lines : List (List ℕ × List ℕ)) (rest : List ℕ) → whole_head status lines rest ≡ no_head → ⊥
+    not_none status lines rest e = cc
+
+    not_begun : (status : ℕ) (lines : List (List ℕ × List ℕ)) (rest : List ℕ) → whole_head status lines rest ≡ begun_head → ⊥
+    not_begun status lines rest e = cc
+
+-- what is given where there are too many lines
+pub Gives-long : (arrival : MomentValue) (entry : Entry) (bytes : List ℕ) (given : Given) → ResponseOverflows 256 bytes → (given ≡ BadHead) ⊎ (given ≡ Incomplete) → Gives arrival entry bytes given
+Gives-long arrival entry bytes given over is = elim is [ inl e ↦ (no_head, no-plain bytes no_head over (inl refl), e) | inr e ↦ (begun_head, no-plain bytes begun_head over (inr refl), e) ]
 
 -- what is given where the default options refuse
-pub Gives-refused : (arrival : MomentValue) (entry : Entry) (bytes : List ℕ) (given : Given) → ¬ (IsPlain bytes) → ((body : FinishedBody) → given ≡ Stored body → body.entry ≡ entry) → Gives arrival entry bytes given
-Gives-refused arrival entry bytes given refused of_entry = record {
-  whole = λ h rest reads readable. absurd (refused ([], h, rest, rw (append-nil bytes) reads, readable));
-  begun = λ none plain. absurd (refused plain);
-  refused = λ bad. refused;
-  of_entry = of_entry;
+never-reading : (bytes : List ℕ) (r : Reading) → NeverHasResponse bytes → ((status : ℕ) (lines : List (List ℕ × List ℕ)) (rest : List ℕ) → r ≡ whole_head status lines rest → (front : List ℕ) × (bytes ≡ front ++ rest)) → IsReading bytes r
+never-reading bytes r never within = record {
+  whole = λ h rest reads few. absurd (never [] h rest (rw (append-nil bytes) reads));
+  begins = λ _ plain. absurd (never plain.0 plain.1 plain.2 plain.3);
+  long = λ more h rest reads many. absurd (never more h rest reads);
+  within = within;
 }
 
-pub Gives-lenient : (arrival : MomentValue) (entry : Entry) (bytes : List ℕ) (head : ResponseHeader) (rest : List ℕ) (given : Given) → ¬ (IsPlain bytes) → given ≡ given_behind arrival entry head rest → Gives arrival entry bytes given
-Gives-lenient arrival entry bytes head rest given refused e = Gives-refused arrival entry bytes given refused (λ body b. given_of-entry arrival entry _ _ body (sym e ∙ b))
+pub Gives-refused : (arrival : MomentValue) (entry : Entry) (bytes : List ℕ) → NeverHasResponse bytes → Gives arrival entry bytes BadHead
+Gives-refused arrival entry bytes never = (no_head, never-reading bytes no_head never (λ status lines rest same. absurd cc), refl)
+
+pub Gives-waiting : (arrival : MomentValue) (entry : Entry) (bytes : List ℕ) → NeverHasResponse bytes → Gives arrival entry bytes Incomplete
+Gives-waiting arrival entry bytes never = (begun_head, never-reading bytes begun_head never (λ status lines rest same. absurd cc), refl)
+
+pub Gives-lenient : (arrival : MomentValue) (entry : Entry) (bytes : List ℕ) (front : Head) (given : Given) → NeverHasResponse bytes → IsSomeHead bytes front
+    → given ≡ given_by_head arrival entry front.header (drop front.len bytes) → Gives arrival entry bytes given
+Gives-lenient arrival entry bytes front given never is e = (
+  whole_head front.header.status is.lines.0 (drop front.len bytes),
+  never-reading bytes _ never (λ status lines other same. (take front.len bytes, sym (take-append-drop front.len bytes) ∙ ap (λ (x : List ℕ). take front.len bytes ++ x) (after-head _ _ _ _ _ _ same))),
+  e ∙ given_by_head-is arrival entry front.header (drop front.len bytes) front.header.status is.lines.0 refl is.lines.1 is.lines.2,
+)
+
+-- one more line of a map
+pub AreShortLines-more : (all next : Entries FieldValue) (name value : List ℕ) → AreShortLines all → next ≡ append all (lowercase name) (plain_value value) → has_short_name (name, value) ≡ true → AreShortLines next
+AreShortLines-more all next name value before e short = (
+  before.0 ++ (name, value) ∷ [],
+  e ∙ ap (λ (m : Entries FieldValue). append m (lowercase name) (plain_value value)) before.1 ∙ sym (append_all-more [] before.0 (name, value)),
+  rw (list_all-append has_short_name before.0 ((name, value) ∷ []), before.2, short) refl,
+)
+
+-- a map of such lines, with a status, is within bounds
+pub some-head : (bytes : List ℕ) (len status code : ℕ) (all : Entries FieldValue) → len ≤ length bytes → IsStatusCode code → status ≡ code → AreShortLines all
+    → IsSomeHead bytes (record { header = record { status = status; headers = all }; len = len })
+some-head bytes len status code all l is same lines = record { len = l; lines = (lines.0, lines.1, rw (lines.2, same, high is.0) refl) }
+  where
+    high : 100 ≤ code → nat_le 100 code ≡ true
+    high l = grind (arith, nat_tests)
 
 -- the directives that are lent out
 given-lent : (r : Option (Bor CacheControl)) → lent r ≡ option_map directives_of (option_copied r)
@@ -213,10 +328,6 @@ until-kept None now ds header a b meta e = absurd cc
 until-kept (Some until) now ds header a b meta e = ap kept_of e
 
 -- a body and a moment give what the head does that they come from
-pub given_behind-from : (arrival : MomentValue) (entry : Entry) (head : ResponseHeader) (rest : List ℕ) (body : Option (List ℕ)) (until : Option MomentValue) → body_within (announced head) rest ≡ body → kept_until arrival head ≡ until
-    → given_of arrival entry body until ≡ given_behind arrival entry head rest
-given_behind-from arrival entry head rest body until b u = ap₂ (given_of arrival entry) (sym b) (sym u)
-
--- a readable head has a status
-pub bound_status : (h : ResponseHead) (code : ℕ) → IsReadable h → code ≡ status_code h → code < 1000 → ¬ (IsStatusCode code) → ⊥
-bound_status h code r e l refused = refused (rw e r.status, l)
+pub given_by_head-from : (arrival : MomentValue) (entry : Entry) (head : ResponseHeader) (rest : List ℕ) (body : Option (List ℕ)) (until : Option MomentValue) → body_within (announced head) rest ≡ body → kept_until arrival head ≡ until
+    → given_of arrival entry body until ≡ given_by_head arrival entry head rest
+given_by_head-from arrival entry head rest body until b u = ap₂ (given_of arrival entry) (sym b) (sym u)

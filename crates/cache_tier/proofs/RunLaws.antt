@@ -3,30 +3,31 @@ use Rattle.std.proofs.Common.{◌≡◌, ℕ, List, Some, None, Ok, Err, MatchRe
 use Rattle.cache_words.specs.Time.{MomentValue}
 use Rattle.cache_words.specs.Key.{CacheKeyValue}
 use Rattle.tier_entries.specs.Keys.{entry_of}
-use Rattle.tier_model.specs.Keys.{Entry}
-use Rattle.tier_model.specs.declared.rows.FinishedBody.{FinishedBody}
+use Rattle.tier_model.specs.Keys.{Entry, entries_of}
+use Rattle.tier_model.specs.declared.state.FinishedBody.{FinishedBody}
 use Rattle.tier_model.specs.declared.given.Given.TheVariants.{Stored}
 use Rattle.tier_model.specs.declared.event.Event.{Event}
 use Rattle.tier_model.specs.declared.event.Action.{Action}
 use Rattle.tier_model.specs.declared.event.Action.TheVariants.{Open, LookUp, Read, Drop, Purge, Put}
 use Rattle.tier_model.specs.declared.event.TierFault.{TierFault}
 use Rattle.tier_model.specs.Calls.{Outcome, nothing_done, done_of, evicted_by}
-use Rattle.tier_model.specs.Response.{joined, Gives}
+use Rattle.tier_model.specs.Response.{joined, Gives, IsGiven}
 use Rattle.tier_model.specs.State.{State}
-use Rattle.tier_model.specs.Step.{AllowsBy, IsGiven, IsPutAnswer, IsFault, refusal, taken_back, undone}
+use Rattle.tier_model.specs.Step.{AllowsBy, IsPutAnswer, IsFault, refusal, taken_back, undone}
 use Rattle.tier_model.specs.Past.{Steps, Runs}
+use Rattle.tier_model.proofs.ResponseLaws.{Gives-entry}
 use Rattle.rand_core.specs.Stream.{Stream}
 use Rattle.entry_order.specs.Orders.{Order, IsDrawn}
-use Rattle.cache_tier.specs.Draws.{order_behind, StepsBy, RunsBy}
-use Rattle.cache_tier.specs.Acts.{AllowsUnrefused, after_action, TakesBy, IsRefusal, behind_store}
+use Rattle.cache_tier.specs.Draws.{order_admitted, StepsBy, RunsBy}
+use Rattle.cache_tier.specs.Acts.{AllowsUnrefused, after_action, TakesBy, IsRefusal, after_store}
 
 -- a body is stored that the response of a put gave
 pub Takes-stored : (old : State) (s : Stream) (t : MomentValue) (key : CacheKeyValue) (pieces : List (List ℕ)) (b : FinishedBody) (o : Outcome) (new : State) (rest : Stream)
-    → Gives t (entry_of key) (joined pieces) (Stored b) → MatchResult o (IsPutAnswer old (Some (Stored b))) (IsRefusal old b) → new ≡ behind_store old b o
-    → (left : Order) × IsDrawn (order_behind old b) (evicted_by o) s left rest → TakesBy old s t (Put key pieces) o new rest
+    → Gives t (entry_of key) (joined pieces) (Stored b) → MatchResult o (IsPutAnswer old (Some (Stored b))) (IsRefusal old b) → new ≡ after_store old b o
+    → (left : Order) × IsDrawn (order_admitted old b) (evicted_by o) s left rest → TakesBy old s t (Put key pieces) o new rest
 Takes-stored old s t key pieces b (Ok a) new rest gives allowed is drawn = (Some (Stored b), gives, allowed, is, drawn)
 Takes-stored old s t key pieces b (Err f) new rest gives allowed is drawn =
-    (Some (Stored b), gives, fault, subst (λ (k : Entry). new ≡ taken_back (done_of f).stored old k (done_of f).evicted) (gives.of_entry b refl) is, drawn)
+    (Some (Stored b), gives, fault, subst (λ (k : Entry). new ≡ taken_back (done_of f).stored old k (entries_of (done_of f).evicted)) (Gives-entry t (entry_of key) (joined pieces) b gives) is, drawn)
   where
     fault : IsFault old (Put key pieces) (Some (Stored b)) f
     fault = elim allowed [ inl memory ↦ inl (memory, tt) | inr late ↦ inr late ]

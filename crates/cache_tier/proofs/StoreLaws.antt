@@ -1,5 +1,5 @@
--- Bodies and rows behind a storing, its evictions, and its taking back.
-use Rattle.std.proofs.Common.{◌≡◌, ℕ, ◌+◌, ◌≤◌, ◌<◌, ◌^◌, Bool, true, false, List, [], ◌∷◌, ◌++◌, length, map, refl, ap, ap₂, sym, ◌∙◌, arith, append-nil, cond, Some, None, Option, Ok, Err, IfOk, IfErr, subst, max, ◌≢◌}
+-- Bodies and rows after a storing, its evictions, and its taking back.
+use Rattle.std.proofs.Common.{◌≡◌, ℕ, ◌+◌, ◌≤◌, ◌<◌, ◌^◌, Bool, true, false, List, [], ◌∷◌, ◌++◌, length, map, refl, ap, ap₂, sym, ◌∙◌, arith, append-nil, cond, Some, None, Option, Ok, Err, IfOk, IfErr, MatchResult, inr, subst, max, ◌≢◌}
 use Rattle.std.specs.Prelude.{not, filter, unwrap_or}
 use Rattle.std.proofs.lemmas.List.Elements.{filter-append}
 use Rattle.std.proofs.lemmas.List.Sums.{sum_by-cons}
@@ -15,19 +15,19 @@ use Rattle.tier_entries.proofs.KeyLaws.{same_key-tells, same_entry-tells}
 use Rattle.entry_order.specs.declared.order.OrderFault.{OrderFault}
 use Rattle.entry_order.specs.declared.order.OrderFault.TheVariants as order
 use Rattle.entry_order.specs.Orders.{Order, IsDrawn, order_in, tracked_row}
-use Rattle.tier_model.specs.Keys.{Entry, StoredKey}
+use Rattle.tier_model.specs.Keys.{Entry, Evicted, entries_of, AreWeighed, StoredKey}
 use Rattle.tier_model.specs.declared.event.TierFault.{TierFault}
 use Rattle.tier_model.specs.declared.event.TierFault.TheVariants.{Memory}
 use Rattle.tier_model.specs.declared.event.Answer.{Answer}
 use Rattle.tier_model.specs.declared.event.Answer.TheVariants.{Finished}
 use Rattle.tier_model.specs.declared.given.Given.TheVariants.{Stored}
 use Rattle.tier_model.specs.Calls.{Outcome, nothing_done, evicted_by}
-use Rattle.cache_tier.specs.Acts.{fault_for, behind_store}
+use Rattle.cache_tier.specs.Acts.{fault_for, after_store, IsRefusal}
 use Rattle.cache_tier.specs.Draws.{evicted_from}
-use Rattle.tier_model.specs.declared.rows.FinishedBody.{FinishedBody}
+use Rattle.tier_model.specs.declared.state.FinishedBody.{FinishedBody}
 use Rattle.tier_model.specs.Rows.{without_body, without_bodies, with_body, weight_for}
 use Rattle.tier_model.specs.State.{State}
-use Rattle.tier_model.specs.Step.{taken_back, is_too_heavy, is_too_long, use_is_too_heavy, stored_alone, all_done, put_behind}
+use Rattle.tier_model.specs.Step.{IsPutAnswer, taken_back, is_too_heavy, is_too_long, admission_is_too_heavy, use_is_too_heavy, stored_alone, all_done, after_put}
 
 -- one more eviction
 pub without_bodies-more : (es : List Entry) (e : Entry) (bodies : List FinishedBody) → without_bodies (es ++ e ∷ []) bodies ≡ without_body (stored_key e) (without_bodies es bodies)
@@ -71,7 +71,7 @@ with_gone b bodies =
     let gone : filter P (b ∷ []) ≡ [] = rw (same_key-tells.itself (stored_key b.entry)) refl in
     filter-append P (filter P bodies) (b ∷ []) ∙ ap (λ (l : List FinishedBody). filter P (filter P bodies) ++ l) gone ∙ append-nil _ ∙ filter-twice P bodies
 
--- a body that was stored and is taken back behind evictions leaves what they leave
+-- a body that was stored and is taken back after evictions leaves what they leave
 pub taken_back-stored : (s mid : State) (b : FinishedBody) (w : ℕ) (es : List Entry) → mid ≡ record s { bodies = with_body b s.bodies; tracked = admitted b.entry w s.tracked }
     → taken_back true mid b.entry es ≡ taken_back true s b.entry es
 taken_back-stored s mid b w es is =
@@ -117,16 +117,41 @@ pub long_use : (e : Entry) (rows : List Tracked) → weight_of e rows ≡ None �
 long_use e rows none long = rw none (grind (arith, nat_tests))
 
 -- a refused admission evicts nothing
-pub unadmitted_none : (fault : OrderFault) (x : TierFault) → (fault ≡ order.Memory → x ≡ Memory nothing_done) → (fault ≢ order.Memory → x ≡ fault_for fault stored_alone) → evicted_by (Err x) ≡ []
-unadmitted_none order.Memory x memory other = ap (λ (f : TierFault). evicted_by (Err f)) (memory refl)
-unadmitted_none order.TooHeavy x memory other = ap (λ (f : TierFault). evicted_by (Err f)) (other (λ e. cc))
-unadmitted_none order.TooLong x memory other = ap (λ (f : TierFault). evicted_by (Err f)) (other (λ e. cc))
+pub refused_none : (fault : OrderFault) (x : TierFault) → (fault ≡ order.Memory → x ≡ Memory nothing_done) → (fault ≢ order.Memory → x ≡ fault_for fault stored_alone) → evicted_by (Err x) ≡ []
+refused_none order.Memory x memory other = ap (λ (f : TierFault). evicted_by (Err f)) (memory refl)
+refused_none order.TooHeavy x memory other = ap (λ (f : TierFault). evicted_by (Err f)) (other (λ e. cc))
+refused_none order.TooLong x memory other = ap (λ (f : TierFault). evicted_by (Err f)) (other (λ e. cc))
 
--- a body that was stored and admitted, behind the making of room for it
-pub room-behind : (s mid new : State) (b : FinishedBody) (e : Entry) (n : ℕ) (o : Outcome) → mid ≡ record s { bodies = with_body b s.bodies; tracked = admitted b.entry (weight_for b) s.tracked } → b.entry ≡ e
-    → IfOk o (λ a. (es : List Entry) × (a ≡ Finished n es) × IsLawfulEviction mid.settings.limit mid.settings.watermark mid.tracked es × (new ≡ evicted_from mid es))
-    → IfErr o (λ f. (es : List Entry) × (f ≡ Memory (all_done es)) × IsBegunEviction mid.settings.limit mid.settings.watermark mid.tracked es × (new ≡ taken_back true mid e es))
-    → new ≡ behind_store s b o
-room-behind s mid new b e n (Ok a) is same kept cut = subst (λ (x : Answer). new ≡ put_behind s (Some (Stored b)) x) (sym kept.1) (kept.3 ∙ ap (λ (m : State). evicted_from m kept.0) is)
-room-behind s mid new b e n (Err f) is same kept cut =
-    subst (λ (x : TierFault). new ≡ behind_store s b (Err x)) (sym cut.1) (cut.3 ∙ ap (λ (y : Entry). taken_back true mid y cut.0) (sym same) ∙ taken_back-stored s mid b (weight_for b) cut.0 is)
+-- a body that was stored and admitted, after the making of room for it
+pub room-after : (s mid new : State) (b : FinishedBody) (e : Entry) (n : ℕ) (o : Outcome) → mid ≡ record s { bodies = with_body b s.bodies; tracked = admitted b.entry (weight_for b) s.tracked } → b.entry ≡ e
+    → IfOk o (λ a. (es : List Evicted) × (a ≡ Finished n es) × IsLawfulEviction mid.settings.limit mid.settings.watermark mid.tracked (entries_of es) × (new ≡ evicted_from mid (entries_of es)) × AreWeighed mid.tracked es)
+    → IfErr o (λ f. (es : List Evicted) × (f ≡ Memory (all_done es)) × IsBegunEviction mid.settings.limit mid.settings.watermark mid.tracked (entries_of es) × (new ≡ taken_back true mid e (entries_of es)) × AreWeighed mid.tracked es)
+    → new ≡ after_store s b o
+room-after s mid new b e n (Ok a) is same kept cut = subst (λ (x : Answer). new ≡ after_put s (Some (Stored b)) x) (sym kept.1) (kept.3 ∙ ap (λ (m : State). evicted_from m (entries_of kept.0)) is)
+room-after s mid new b e n (Err f) is same kept cut =
+    subst (λ (x : TierFault). new ≡ after_store s b (Err x)) (sym cut.1) (cut.3 ∙ ap (λ (y : Entry). taken_back true mid y (entries_of cut.0)) (sym same) ∙ taken_back-stored s mid b (weight_for b) (entries_of cut.0) is)
+
+-- an admission that fits
+light_admission : (b : FinishedBody) (rows : List Tracked) → all_weights (admitted b.entry (weight_for b) rows) < 2 ^ 64 → admission_is_too_heavy b rows ≡ false
+light_admission b rows light = le_false _ (omega (arith, light, sum_by-cons (λ (r : Tracked). r.weight) (record { entry = b.entry; weight = weight_for b }) (without_row b.entry rows)))
+  where
+    le_false : (n : ℕ) → n < 2 ^ 64 → is_too_heavy n ≡ false
+    le_false n h = grind (arith, nat_tests)
+
+pub light_by : (b : FinishedBody) (rows : List Tracked) (after before : Order) (e : Entry) (w : ℕ) → after ≡ record before { rows = admitted e (max 1 w) before.rows } → before.rows ≡ rows → e ≡ b.entry
+    → w ≡ weight_for b → all_weights after.rows < 2 ^ 64 → admission_is_too_heavy b rows ≡ false
+light_by b rows after before e w is from same weighs light =
+    let new : after.rows ≡ admitted b.entry (weight_for b) rows = ap (λ (o : Order). o.rows) is ∙ rw (from, same, weighs, max_twice) refl in
+    light_admission b rows (subst (λ (rs : List Tracked). all_weights rs < 2 ^ 64) new light)
+
+-- what the making of room answers is allowed for a put that fits
+pub room-allowed : (s mid new : State) (b : FinishedBody) (e : Entry) (n : ℕ) (o : Outcome) → mid ≡ record s { bodies = with_body b s.bodies; tracked = admitted b.entry (weight_for b) s.tracked } → n ≡ length b.bytes
+    → admission_is_too_heavy b s.tracked ≡ false
+    → IfOk o (λ a. (es : List Evicted) × (a ≡ Finished n es) × IsLawfulEviction mid.settings.limit mid.settings.watermark mid.tracked (entries_of es) × (new ≡ evicted_from mid (entries_of es)) × AreWeighed mid.tracked es)
+    → IfErr o (λ f. (es : List Evicted) × (f ≡ Memory (all_done es)) × IsBegunEviction mid.settings.limit mid.settings.watermark mid.tracked (entries_of es) × (new ≡ taken_back true mid e (entries_of es)) × AreWeighed mid.tracked es)
+    → MatchResult o (IsPutAnswer s (Some (Stored b))) (IsRefusal s b)
+room-allowed s mid new b e n (Ok a) is size fits kept cut =
+    subst (IsPutAnswer s (Some (Stored b))) (sym kept.1)
+    (size, fits, subst (λ (m : State). IsLawfulEviction m.settings.limit m.settings.watermark m.tracked (entries_of kept.0)) is kept.2, subst (λ (m : State). AreWeighed m.tracked kept.0) is kept.4)
+room-allowed s mid new b e n (Err f) is size fits kept cut =
+    inr (inr (inr (cut.0, cut.1, subst (λ (m : State). IsBegunEviction m.settings.limit m.settings.watermark m.tracked (entries_of cut.0)) is cut.2, fits, subst (λ (m : State). AreWeighed m.tracked cut.0) is cut.4)))

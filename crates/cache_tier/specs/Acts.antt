@@ -1,7 +1,7 @@
--- One action at a moment: the outcomes that a state allows behind the checks, and the state behind an outcome.
+-- One action at a moment: the outcomes that a state allows after the checks, and the state after an outcome.
 use Rattle.std.specs.Prelude.{◌≡◌, Option, Some, None, Ok, Err, ◌⊎◌}
 use Rattle.cache_words.specs.Time.{MomentValue}
-use Rattle.tier_model.specs.declared.rows.FinishedBody.{FinishedBody}
+use Rattle.tier_model.specs.declared.state.FinishedBody.{FinishedBody}
 use Rattle.tier_model.specs.declared.event.Done.{Done}
 use Rattle.rand_core.specs.Stream.{Stream}
 use Rattle.entry_order.specs.declared.order.OrderFault.{OrderFault}
@@ -12,27 +12,29 @@ use Rattle.tier_model.specs.declared.given.Given.TheVariants.{Stored}
 use Rattle.tier_model.specs.declared.event.Action.{Action}
 use Rattle.tier_model.specs.declared.event.TierFault.{TierFault}
 use Rattle.tier_model.specs.declared.event.TierFault.TheVariants.{Memory, TooHeavy, TooLong}
+use Rattle.tier_model.specs.Keys.{entries_of}
 use Rattle.tier_model.specs.Calls.{Outcome, nothing_done, done_of}
 use Rattle.tier_model.specs.State.{State}
-use Rattle.tier_model.specs.Step.{AllowsBy, IsGiven, IsStoreFault, put_behind, taken_back, behind}
+use Rattle.tier_model.specs.Step.{AllowsBy, IsStoreFault, after_put, taken_back, after_outcome}
+use Rattle.tier_model.specs.Response.{IsGiven}
 
 -- an outcome of an action that is not refused and has no response
 abbrev pub AllowsUnrefused : State → MomentValue → Action → Outcome → Type 0
 AllowsUnrefused s t action outcome = AllowsBy None s t action None outcome
 
 abbrev pub after_action : State → MomentValue → Action → Outcome → State
-after_action s t action outcome = behind s t action None outcome
+after_action s t action outcome = after_outcome s t action None outcome
 
 -- why a body is not stored, or not kept
 abbrev pub IsRefusal : State → FinishedBody → TierFault → Type 0
 IsRefusal s b f = (f ≡ Memory nothing_done) ⊎ IsStoreFault s b f
 
--- the state behind the storing of a body
-abbrev pub behind_store : State → FinishedBody → Outcome → State
-behind_store s b (Ok a) = put_behind s (Some (Stored b)) a
-behind_store s b (Err f) = taken_back (done_of f).stored s b.entry (done_of f).evicted
+-- the state after the storing of a body
+abbrev pub after_store : State → FinishedBody → Outcome → State
+after_store s b (Ok a) = after_put s (Some (Stored b)) a
+after_store s b (Err f) = taken_back (done_of f).stored s b.entry (entries_of (done_of f).evicted)
 
--- a fault of the order of use, behind what was done
+-- a fault of the order of use, after what was done
 abbrev pub fault_for : OrderFault → Done → TierFault
 fault_for order.Memory done = Memory done
 fault_for order.TooHeavy done = TooHeavy done
@@ -41,4 +43,4 @@ fault_for order.TooLong done = TooLong done
 -- an action that is not refused was taken, by what its response gave, and with it the words from s to rest
 abbrev pub TakesBy : State → Stream → MomentValue → Action → Outcome → State → Stream → Type 0
 TakesBy old s t action outcome new rest =
-    (given : Option Given) × IsGiven t action given × AllowsBy None old t action given outcome × (new ≡ behind old t action given outcome) × AreDrawn old given outcome s rest
+    (given : Option Given) × IsGiven t action given × AllowsBy None old t action given outcome × (new ≡ after_outcome old t action given outcome) × AreDrawn old given outcome s rest

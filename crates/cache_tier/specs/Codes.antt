@@ -4,12 +4,12 @@ use Rattle.std.specs.Coded.{Coded, code_by, coded×, coded_ℕ, coded_list, code
 use Rattle.std.specs.FinMap as finite
 use Rattle.std.specs.Ordering.{nat_cmp}
 use Rattle.cache_words.specs.Time.{DurationValue}
-use Rattle.tier_model.specs.declared.rows.FinishedBody.{FinishedBody}
+use Rattle.tier_model.specs.declared.state.FinishedBody.{FinishedBody}
 use Rattle.tier_entries.specs.declared.rows.Tracked.{Tracked}
-use Rattle.tier_model.specs.declared.rows.Request.{Request}
-use Rattle.tier_model.specs.contracts.rows.FinishedBody.{the_row as body_row}
+use Rattle.tier_model.specs.declared.state.Request.{Request}
+use Rattle.tier_model.specs.contracts.state.FinishedBody.{the_row as body_row}
 use Rattle.tier_entries.specs.contracts.rows.Tracked.{the_row as tracked_row}
-use Rattle.tier_model.specs.contracts.rows.Request.{the_row as request_row}
+use Rattle.tier_model.specs.contracts.state.Request.{the_row as request_row}
 use Rattle.tier_model.specs.State.{Settings, State}
 
 abbrev pub span_code : Coded DurationValue

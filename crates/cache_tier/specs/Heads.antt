@@ -1,5 +1,8 @@
 -- Heads as a map of their lines, and what a response gives by it.
-use Rattle.std.specs.Prelude.{◌≡◌, ℕ, ◌==◌, ◌||◌, false, List, drop, map, codes, if◌then◌else◌, Option, Some, None}
+use Rattle.std.specs.Prelude.{◌≡◌, ℕ, ◌≤◌, ◌==◌, ◌||◌, true, false, List, length, drop, map, codes, if◌then◌else◌, Option, Some, None}
+use Rattle.std.specs.List.{list_all}
+use Rattle.http_header.specs.HeaderMap.{Entries}
+use Rattle.http_header.specs.FieldValue.{FieldValue}
 use Rattle.cache_words.specs.Time.{MomentValue}
 use Rattle.cache_directives.specs.Control.{lines_under}
 use Rattle.cache_headers.specs.Lines.{map_of}
@@ -9,8 +12,8 @@ use Rattle.httparse.specs.Grammar.{ResponseHead, ReadsResponse, status_code}
 use Rattle.httparse.specs.Spans.{name_and_value}
 use Rattle.tier_model.specs.Keys.{Entry}
 use Rattle.tier_model.specs.declared.given.Given.{Given}
-use Rattle.tier_model.specs.Response.{first_length, body_within, given_of}
-use Rattle.cache_tier.specs.declared.response.Head.{Head}
+use Rattle.tier_model.specs.Response.{first_length, body_within, given_of, has_short_name, is_within_bounds}
+use Rattle.cache_tier.specs.declared.response.head.Head.{Head}
 
 -- how many bytes of body a head announces
 abbrev pub announced : ResponseHeader → Option ℕ
@@ -20,12 +23,32 @@ announced head = if head.status == 204 || head.status == 304 then Some 0 else fi
 abbrev pub kept_until : MomentValue → ResponseHeader → Option MomentValue
 kept_until arrival head = fresh_until arrival (lines_under (codes "cache-control") head.headers) (lines_under (codes "expires") head.headers) false None
 
--- what a head gives, with the bytes behind it
-abbrev pub given_behind : MomentValue → Entry → ResponseHeader → List ℕ → Given
-given_behind arrival entry head rest = given_of arrival entry (body_within (announced head) rest) (kept_until arrival head)
+-- what a head gives, with the bytes after it
+abbrev pub given_by_head : MomentValue → Entry → ResponseHeader → List ℕ → Given
+given_by_head arrival entry head rest = given_of arrival entry (body_within (announced head) rest) (kept_until arrival head)
 
--- the bytes begin with a head of the parser's grammar, and that is it
+-- the bytes begin with a head of the parser's grammar, of at most 256 lines and within its bounds, and that is it
+pub record IsHeadAt (bytes : List ℕ) (head : Head) (h : ResponseHead) : Type 0 where
+  pub reads : ReadsResponse bytes h (drop head.len bytes)
+  pub few : length h.fields ≤ 256
+  pub bounds : is_within_bounds (status_code h) (map name_and_value h.fields) ≡ true
+  pub status : head.header.status ≡ status_code h
+  pub headers : head.header.headers ≡ map_of (map name_and_value h.fields)
+
 abbrev pub IsHeadOf : List ℕ → Head → Type 0
-IsHeadOf bytes head =
-    (h : ResponseHead) × ReadsResponse bytes h (drop head.len bytes)
-    × (head.header.status ≡ status_code h) × (head.header.headers ≡ map_of (map name_and_value h.fields))
+IsHeadOf bytes head = (h : ResponseHead) × IsHeadAt bytes head h
+
+-- a head that was read in some way, within its bounds
+pub record IsSomeHead (bytes : List ℕ) (head : Head) : Type 0 where
+  pub len : head.len ≤ length bytes
+  pub lines : (lines : List (List ℕ × List ℕ)) × (head.header.headers ≡ map_of lines) × (is_within_bounds head.header.status lines ≡ true)
+
+-- the map is that of some lines with short names
+abbrev pub AreShortLines : Entries FieldValue → Type 0
+AreShortLines all = (lines : List (List ℕ × List ℕ)) × (all ≡ map_of lines) × (list_all has_short_name lines ≡ true)
+
+-- the bytes begin with such a head that is out of its bounds
+abbrev pub IsOutOfBounds : List ℕ → Type 0
+IsOutOfBounds bytes =
+    (h : ResponseHead) × (rest : List ℕ) × ReadsResponse bytes h rest × (length h.fields ≤ 256)
+    × (is_within_bounds (status_code h) (map name_and_value h.fields) ≡ false)

@@ -2,5 +2,6 @@
 #![tactic(auto)]
 
 mod bodies;
+pub mod laws;
 mod response;
 pub mod tier;

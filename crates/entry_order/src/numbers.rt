@@ -4,10 +4,10 @@ ghost use Rattle.std.specs.Prelude.{◌≡◌, ◌≢◌, ℕ, ◌<◌, [], leng
 ghost use Rattle.tier_entries.specs.Keys.{entry_of};
 ghost use Rattle.entry_order.specs.Names.{name_at, HasNoNumber, IsLeastFree, unless, unless_any};
 
-use cache_words::key::{CacheKey, CompactCacheKey};
+use cache_words::key::{CacheHashKey, CacheKey, CompactCacheKey};
 use std::alloc::{AllocError, Global};
 use std::marker::Model;
-use tier_entries::keys::{is_entry_of, is_same_entry};
+use tier_entries::keys::{has_parts, is_same_entry};
 
 /// Entries by their numbers: that of an entry is its index here.
 #[derive(Drop)]
@@ -57,9 +57,12 @@ impl EntryNumbers {
         ensures some { IfSome result (λ k. name_at self.now k ≡ Some (entry_of key.now)) }
         ensures none { IfNone result (HasNoNumber (name_at self.now) (entry_of key.now)) }
     {
+        let primary = key.primary_bin();
+        let variance = key.variance_bin();
+        let user_tag = key.user_tag.as_str();
         'names: for (number, name) in self.list.iter().enumerate() {
             if let Some(named) = name
-                && is_entry_of(named, key)
+                && has_parts(named, &primary, &variance, user_tag)
             {
                 return Some(number as u64);
             }

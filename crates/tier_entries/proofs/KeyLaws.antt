@@ -1,4 +1,4 @@
--- Same keys and same entries are equal, and what a look-up by key finds behind edits of a list of rows.
+-- Same keys and same entries are equal, and what a look-up by key finds after edits of a list of rows.
 use Rattle.std.proofs.Common.{◌≡◌, refl, ap, sym, ◌∙◌, true, false, subst, cond, [], ◌∷◌, ◌++◌, ◌||◌, ◌&&◌}
 use Rattle.std.specs.Prelude.{Bool, ℕ, List, Option, Some, None, not, find, filter}
 use Rattle.std.proofs.lemmas.Slice.Eq.{bytes_eq-Decides}

@@ -1,4 +1,4 @@
--- Weights and numbers of rows behind edits.
+-- Weights and numbers of rows after edits.
 use Rattle.std.proofs.Common.{◌≡◌, ℕ, ◌+◌, ◌≤◌, ◌<◌, refl, ap, ◌∙◌, true, false, cond, [], ◌∷◌, ◌||◌, length, arith}
 use Rattle.std.specs.Prelude.{Bool, List, Option, Some, None, option_map, not, nat_lt}
 use Rattle.std.proofs.lemmas.List.Sums.{sum_by-cons}

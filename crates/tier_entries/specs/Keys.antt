@@ -26,7 +26,7 @@ same_variance _ _ = false
 abbrev pub same_entry : CompactCacheKey → CompactCacheKey → Bool
 same_entry a b = same_key a.primary b.primary && (same_variance a.variance b.variance && same_key a.user_tag b.user_tag)
 
--- e stands among the entries
+-- e is one of the entries
 abbrev pub has_entry : CompactCacheKey → List CompactCacheKey → Bool
 has_entry e [] = false
 has_entry e (x ∷ xs) = same_entry x e || has_entry e xs

@@ -1,7 +1,5 @@
-//! Entries: kept keys with their tags, and the rows that stand in the order of their use.
+//! Entries: kept keys with their tags, and rows in the order of their use.
 #![tactic(auto)]
 
 pub mod keys;
 pub mod rows;
-#[cfg(test)]
-mod tests;

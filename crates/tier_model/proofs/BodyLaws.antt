@@ -1,16 +1,16 @@
--- What a key has behind a history, found call by call, is its body; and what the rows of bodies say behind edits.
+-- What a key has after a history, found call by call, is its body; and what the rows of bodies say after edits.
 use Rattle.std.proofs.Common.{◌≡◌, refl, ap, ◌∙◌, true, false, subst, cond, [], ◌∷◌, ◌++◌}
 use Rattle.std.specs.Prelude.{Bool, List, Option, Some, None, is_some}
 use Rattle.std.specs.List.{AllByRecursion}
 use Rattle.tier_entries.specs.Keys.{stored_key, same_key, has_key}
-use Rattle.tier_model.specs.declared.rows.FinishedBody.{FinishedBody}
+use Rattle.tier_model.specs.declared.state.FinishedBody.{FinishedBody}
 use Rattle.tier_model.specs.Keys.{StoredKey, Entry}
 use Rattle.tier_model.specs.Calls.{Call, History, removes, writes, written_by, is_of}
 use Rattle.tier_model.specs.Histories.{IsAlive, IsBody, NoneWrites}
 use Rattle.tier_model.specs.Rows.{body_of, with_body, without_body, without_bodies}
 use Rattle.tier_entries.proofs.KeyLaws.{same_key-tells, find-without, find-at_end, either_none}
 
--- what a key has behind a call: nothing if it was removed, what was written, or what it had
+-- what a key has after a call: nothing if it was removed, what was written, or what it had
 abbrev pub body_chosen : Bool → Bool → Option FinishedBody → Option FinishedBody → Option FinishedBody
 body_chosen true wrote new old = None
 body_chosen false true new old = new
@@ -19,7 +19,7 @@ body_chosen false false new old = old
 abbrev pub body_by : StoredKey → Call → History → Option FinishedBody → Option FinishedBody
 body_by k c before old = body_chosen (removes k c) (writes k c before) (written_by c before) old
 
--- what a key has behind a history
+-- what a key has after a history
 abbrev pub body_now : StoredKey → History → Option FinishedBody
 body_now k [] = None
 body_now k (c ∷ h) = body_by k c h (body_now k h)
@@ -99,7 +99,7 @@ found_since k w (c ∷ since) call before e t r kept = by_test (found_since k w 
 pub body_now-found : (k : StoredKey) (w : FinishedBody) (h : History) → IsAlive k w h → is_some (body_now k h) ≡ true
 body_now-found k w h a = ap (λ (past : History). is_some (body_now k past)) a.split ∙ found_since k w a.since a.call a.before a.writes_it a.of_key a.stays a.kept
 
--- rows behind edits
+-- rows after edits
 pub body_of-without : (k j : StoredKey) (bodies : List FinishedBody) → body_of k (without_body j bodies) ≡ cond (same_key j k) None (body_of k bodies)
 body_of-without k j bodies = find-without same_key same_key-tells (λ b. stored_key b.entry) k j bodies
 

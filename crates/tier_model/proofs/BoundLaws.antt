@@ -15,19 +15,19 @@ use Rattle.tier_entries.proofs.RowLaws.{row_of-without, row_of-admitted, all_wei
 use Rattle.tier_model.specs.declared.given.Given.{Given}
 use Rattle.tier_model.specs.declared.given.Given.TheVariants.{Stored}
 use Rattle.tier_model.specs.declared.given.Given.TheVariants as given
-use Rattle.tier_model.specs.declared.rows.FinishedBody.{FinishedBody}
-use Rattle.tier_model.specs.declared.rows.Request.{Request}
+use Rattle.tier_model.specs.declared.state.FinishedBody.{FinishedBody}
+use Rattle.tier_model.specs.declared.state.Request.{Request}
 use Rattle.tier_model.specs.declared.event.Action.{Action}
 use Rattle.tier_model.specs.declared.event.Action.TheVariants.{Open, LookUp, Read, Drop, Purge, Put}
 use Rattle.tier_model.specs.declared.event.Answer.{Answer}
 use Rattle.tier_model.specs.declared.event.Answer.TheVariants.{Finished}
 use Rattle.tier_model.specs.declared.event.TierFault.{TierFault}
-use Rattle.tier_model.specs.Keys.{StoredKey, Entry, key_asked}
+use Rattle.tier_model.specs.Keys.{StoredKey, Entry, Evicted, entries_of, AreWeighed, key_asked}
 use Rattle.tier_model.specs.Calls.{Call, History, Outcome, done_of}
 use Rattle.tier_model.specs.Histories.{IsBody, IsWithin, HasDistinctKeys}
 use Rattle.tier_model.specs.Rows.{body_of, with_body, without_body, without_bodies, weight_for}
 use Rattle.tier_model.specs.State.{State}
-use Rattle.tier_model.specs.Step.{refusal, AllowsBy, Allows, IsAnswer, IsPutAnswer, after, answered, undone, taken_back, on_request, body_for, look_behind, read_behind, purge_behind, put_behind}
+use Rattle.tier_model.specs.Step.{refusal, AllowsBy, Allows, IsAnswer, IsPutAnswer, after, answered, undone, taken_back, on_request, body_for, after_look_up, after_read, after_purge, after_put}
 use Rattle.tier_model.proofs.BodyLaws.{body_now-of, body_of-without, body_of-with}
 use Rattle.tier_model.proofs.StepLaws.{answer_allowed}
 use Rattle.tier_model.proofs.RequestLaws.{Fits}
@@ -172,7 +172,7 @@ tracked_within limit mark held rows t e bodies d h =
     let sums : (sum_by (λ b. length b.bytes) bodies ≤ all_weights rows) × (length bodies ≤ length rows) = within_weights bodies rows d (held_tracked held bodies rows t h) in
     (omega (arith, sums.0, kept_weight limit mark rows e), is_past-less mark (length bodies) (length rows) sums.1 (kept_count limit mark rows e))
 
-look_keeps : (s : State) (t : MomentValue) (i : ℕ) (q : Request) (b : Option FinishedBody) → KeepsLimits s → KeepsLimits (look_behind s t i q b)
+look_keeps : (s : State) (t : MomentValue) (i : ℕ) (q : Request) (b : Option FinishedBody) → KeepsLimits s → KeepsLimits (after_look_up s t i q b)
 look_keeps s t i q None h = record { within = h.within; tracked = h.tracked }
 look_keeps s t i q (Some x) h = record { within = h.within; tracked = AreTracked-used q.entry (weight_for x) s.bodies s.tracked h.tracked }
 
@@ -180,20 +180,20 @@ request_keeps : (s : State) (o : Option Request) (f : Request → State) → Kee
 request_keeps s None f h k = h
 request_keeps s (Some q) f h k = k q
 
-purge_keeps : (s : State) (key : CacheKeyValue) (v : Bool) → KeepsLimits s → KeepsLimits (purge_behind s key v)
+purge_keeps : (s : State) (key : CacheKeyValue) (v : Bool) → KeepsLimits s → KeepsLimits (after_purge s key v)
 purge_keeps s key false h = h
 purge_keeps s key true h = record {
   within = fewer_within s.settings.limit s.settings.watermark s.bodies (without_body (key_asked key) s.bodies) (fewer_without (key_asked key) s.bodies) h.within;
   tracked = AreTracked-without (entry_of key) s.bodies s.tracked h.tracked;
 }
 
-put_keeps : (s : State) (g : Option Given) (a : Answer) → IsPutAnswer s g a → KeepsLimits s → KeepsLimits (put_behind s g a)
+put_keeps : (s : State) (g : Option Given) (a : Answer) → IsPutAnswer s g a → KeepsLimits s → KeepsLimits (after_put s g a)
 put_keeps s (Some (Stored b)) (Finished n es) p h =
     let rows : List Tracked = admitted b.entry (weight_for b) s.tracked in
-    let tracked : AreTracked (without_bodies es (with_body b s.bodies)) (without_rows es rows) = AreTracked-without_all es (with_body b s.bodies) rows (AreTracked-with b s.bodies s.tracked h.tracked) in
+    let tracked : AreTracked (without_bodies (entries_of es) (with_body b s.bodies)) (without_rows (entries_of es) rows) = AreTracked-without_all (entries_of es) (with_body b s.bodies) rows (AreTracked-with b s.bodies s.tracked h.tracked) in
     record {
-      within = tracked_within s.settings.limit s.settings.watermark (without_bodies es (with_body b s.bodies)) (without_rows es rows) tracked
-          (is_over-evicted s.settings.limit s.settings.watermark es rows p.2);
+      within = tracked_within s.settings.limit s.settings.watermark (without_bodies (entries_of es) (with_body b s.bodies)) (without_rows (entries_of es) rows) tracked
+          (is_over-evicted s.settings.limit s.settings.watermark (entries_of es) rows p.2);
       tracked = tracked;
     }
 put_keeps s (Some (Stored b)) _ p h = h
@@ -213,9 +213,9 @@ back_keeps true s x es h = record {
 
 answer_keeps : (s : State) (t : MomentValue) (g : Option Given) (action : Action) (a : Answer) → IsAnswer s t action g a → KeepsLimits s → KeepsLimits (answered s t action g a)
 answer_keeps s t g (Open i key) a p h = record { within = h.within; tracked = h.tracked }
-answer_keeps s t g (LookUp i) a p h = request_keeps s (get s.requests i) (λ q. look_behind s t i q (body_for q s.bodies)) h (λ q. look_keeps s t i q (body_for q s.bodies) h)
+answer_keeps s t g (LookUp i) a p h = request_keeps s (get s.requests i) (λ q. after_look_up s t i q (body_for q s.bodies)) h (λ q. look_keeps s t i q (body_for q s.bodies) h)
 answer_keeps s t g (Read i) a p h =
-    request_keeps s (get s.requests i) (λ q. record s { requests = insert s.requests i (read_behind q) }) h (λ q. record { within = h.within; tracked = h.tracked })
+    request_keeps s (get s.requests i) (λ q. record s { requests = insert s.requests i (after_read q) }) h (λ q. record { within = h.within; tracked = h.tracked })
 answer_keeps s t g (Drop i) a p h = record { within = h.within; tracked = h.tracked }
 answer_keeps s t g (Purge key) a p h = purge_keeps s key (is_some (body_of (key_asked key) s.bodies)) h
 answer_keeps s t g (Put key pieces) a p h = put_keeps s g a p h
@@ -226,7 +226,7 @@ undone_keeps s (LookUp i) f h = h
 undone_keeps s (Read i) f h = h
 undone_keeps s (Drop i) f h = h
 undone_keeps s (Purge key) f h = h
-undone_keeps s (Put key pieces) f h = back_keeps (done_of f).stored s (entry_of key) (done_of f).evicted h
+undone_keeps s (Put key pieces) f h = back_keeps (done_of f).stored s (entry_of key) (entries_of (done_of f).evicted) h
 
 -- each lawful call keeps the limits
 pub KeepsLimits-after : (s : State) (c : Call) → Allows s c → KeepsLimits s → KeepsLimits (after s c)

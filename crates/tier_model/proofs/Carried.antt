@@ -7,12 +7,12 @@ use Rattle.std.proofs.lemmas.Bool.Decides.{nat_tests}
 use Rattle.cache_words.specs.Key.{CacheKeyValue}
 use Rattle.tier_entries.specs.Keys.{entry_of, stored_key}
 use Rattle.tier_entries.specs.Rows.{is_past}
-use Rattle.tier_model.specs.Keys.{Entry, key_asked}
+use Rattle.tier_model.specs.Keys.{Entry, Evicted, entries_of, AreWeighed, key_asked}
 use Rattle.tier_model.specs.declared.given.Given.{Given}
 use Rattle.tier_model.specs.declared.given.Given.TheVariants.{Stored}
 use Rattle.tier_model.specs.declared.given.Given.TheVariants as given
-use Rattle.tier_model.specs.declared.rows.FinishedBody.{FinishedBody}
-use Rattle.tier_model.specs.declared.rows.Request.{Request}
+use Rattle.tier_model.specs.declared.state.FinishedBody.{FinishedBody}
+use Rattle.tier_model.specs.declared.state.Request.{Request}
 use Rattle.tier_model.specs.declared.event.Event.{Event}
 use Rattle.tier_model.specs.declared.event.Action.{Action}
 use Rattle.tier_model.specs.declared.event.Action.TheVariants.{Open, LookUp, Read, Drop, Purge, Put}
@@ -23,17 +23,18 @@ use Rattle.cache_words.specs.Time.{MomentValue}
 use Rattle.tier_model.specs.Calls.{Call, History, AreCallsOf, extended, Outcome, done_of}
 use Rattle.std.specs.List.{AllByRecursion, sum_by}
 use Rattle.tier_model.specs.Histories.{HasDistinctKeys, IsBody}
+use Rattle.tier_model.specs.Response.{IsGiven}
 use Rattle.tier_model.specs.Headline.{Headline, HoldsHeadline}
 use Rattle.tier_model.specs.Rows.{body_of}
 use Rattle.tier_model.specs.State.{Settings, State, empty_state}
-use Rattle.tier_model.specs.Step.{Allows, after, answered, undone, taken_back, on_request, look_behind, read_behind, purge_behind, put_behind, body_for}
+use Rattle.tier_model.specs.Step.{Allows, after, answered, undone, taken_back, on_request, after_look_up, after_read, after_purge, after_put, body_for}
 use Rattle.tier_model.specs.Use.{IsOrderOfUse, EvictsBy, EvictsLawfully}
 use Rattle.tier_model.specs.Reports.{IsReport, report_of}
-use Rattle.tier_model.specs.Past.{Steps, state_of, IsLawful, HasPast, Runs, CarriesHeadline}
-use Rattle.tier_model.proofs.RequestLaws.{RequestFits, Fits, Fits-after}
+use Rattle.tier_model.specs.Past.{Steps, state_of, IsLawful, MatchesHistory, HasPast, Runs, CarriesHeadline}
+use Rattle.tier_model.proofs.RequestLaws.{RequestFits, Fits, Fits-after, IsRequestOf-fits}
 use Rattle.tier_model.proofs.HeadlineLaws.{IsRight-allowed}
 use Rattle.tier_model.proofs.UseSteps.{IsOrderOfUse-after, BodiesAreTracked-kept}
-use Rattle.tier_model.proofs.ReportLaws.{Tallies, Tallies-after, IsReport-kept}
+use Rattle.tier_model.proofs.ReportLaws.{Tallies, Tallies-after, AreAllBodies-kept, IsReport-kept}
 use Rattle.tier_model.proofs.BoundLaws.{KeepsWithin, KeepsLimits, KeepsLimits-after, IsWithin-kept}
 
 -- no call changes what the tier was made with
@@ -41,15 +42,15 @@ request_settings : (s : State) (o : Option Request) (f : Request → State) → 
 request_settings s None f h = refl
 request_settings s (Some q) f h = h q
 
-look_settings : (s : State) (t : MomentValue) (i : ℕ) (q : Request) (b : Option FinishedBody) → (look_behind s t i q b).settings ≡ s.settings
+look_settings : (s : State) (t : MomentValue) (i : ℕ) (q : Request) (b : Option FinishedBody) → (after_look_up s t i q b).settings ≡ s.settings
 look_settings s t i q None = refl
 look_settings s t i q (Some b) = refl
 
-purge_settings : (s : State) (key : CacheKeyValue) (v : Bool) → (purge_behind s key v).settings ≡ s.settings
+purge_settings : (s : State) (key : CacheKeyValue) (v : Bool) → (after_purge s key v).settings ≡ s.settings
 purge_settings s key false = refl
 purge_settings s key true = refl
 
-put_settings : (s : State) (g : Option Given) (a : Answer) → (put_behind s g a).settings ≡ s.settings
+put_settings : (s : State) (g : Option Given) (a : Answer) → (after_put s g a).settings ≡ s.settings
 put_settings s (Some (Stored b)) (Finished n es) = refl
 put_settings s (Some (Stored b)) _ = refl
 put_settings s (Some given.Incomplete) a = refl
@@ -64,8 +65,8 @@ back_settings true s key es = refl
 
 answer_settings : (s : State) (t : MomentValue) (g : Option Given) (action : Action) (a : Answer) → (answered s t action g a).settings ≡ s.settings
 answer_settings s t g (Open i key) a = refl
-answer_settings s t g (LookUp i) a = request_settings s (get s.requests i) (λ q. look_behind s t i q (body_for q s.bodies)) (λ q. look_settings s t i q (body_for q s.bodies))
-answer_settings s t g (Read i) a = request_settings s (get s.requests i) (λ q. record s { requests = insert s.requests i (read_behind q) }) (λ q. refl)
+answer_settings s t g (LookUp i) a = request_settings s (get s.requests i) (λ q. after_look_up s t i q (body_for q s.bodies)) (λ q. look_settings s t i q (body_for q s.bodies))
+answer_settings s t g (Read i) a = request_settings s (get s.requests i) (λ q. record s { requests = insert s.requests i (after_read q) }) (λ q. refl)
 answer_settings s t g (Drop i) a = refl
 answer_settings s t g (Purge key) a = purge_settings s key (is_some (body_of (key_asked key) s.bodies))
 answer_settings s t g (Put key pieces) a = put_settings s g a
@@ -76,7 +77,7 @@ undone_settings s (LookUp i) f = refl
 undone_settings s (Read i) f = refl
 undone_settings s (Drop i) f = refl
 undone_settings s (Purge key) f = refl
-undone_settings s (Put key pieces) f = back_settings (done_of f).stored s (entry_of key) (done_of f).evicted
+undone_settings s (Put key pieces) f = back_settings (done_of f).stored s (entry_of key) (entries_of (done_of f).evicted)
 
 pub settings-after : (s : State) (c : Call) → (after s c).settings ≡ s.settings
 settings-after s c = by_outcome c.outcome
@@ -105,7 +106,7 @@ within_none limit mark (b ∷ bs) d held = absurd_none held.0
     absurd_none : body_of (stored_key b.entry) [] ≡ Some b → (sum_by (λ b. length b.bytes) (b ∷ bs) ≤ limit) × (is_past mark (length (b ∷ bs)) ≡ false)
     absurd_none e = cc
 
--- what a state is to the history behind it
+-- what a state is to the history after it
 pub record Stands (settings : Settings) (s : State) (h : History) : Type 0 where
   pub made : s.settings ≡ settings
   pub fits : Fits s h
@@ -113,7 +114,7 @@ pub record Stands (settings : Settings) (s : State) (h : History) : Type 0 where
   pub order : IsOrderOfUse s.tracked h
   pub tallies : Tallies s h
 
--- the state behind a lawful history stands for it
+-- the state after a lawful history stands for it
 pub Stands-lawful : (settings : Settings) (h : History) → IsLawful settings h → Stands settings (state_of settings h) h
 Stands-lawful settings [] l = record {
   made = refl;
@@ -136,6 +137,10 @@ Headline-lawful : (settings : Settings) (h : History) → IsLawful settings h �
 Headline-lawful settings [] l = tt
 Headline-lawful settings (c ∷ h) l = (IsRight-allowed (state_of settings h) c h (Stands-lawful settings h l.1).fits l.0, Headline-lawful settings h l.1)
 
+given-lawful : (settings : Settings) (h : History) → IsLawful settings h → AllByRecursion (λ c. IsGiven c.event.moment c.event.action c.given) h
+given-lawful settings [] l = tt
+given-lawful settings (c ∷ h) l = (l.0.0, given-lawful settings h l.1)
+
 EvictsLawfully-lawful : (settings : Settings) (h : History) → IsLawful settings h → EvictsLawfully settings.limit settings.watermark h
 EvictsLawfully-lawful settings [] l = tt
 EvictsLawfully-lawful settings (c ∷ h) l =
@@ -149,6 +154,7 @@ pub HoldsHeadline-lawful : (settings : Settings) (h : History) → IsLawful sett
 HoldsHeadline-lawful settings h l =
     let past : Stands settings (state_of settings h) h = Stands-lawful settings h l in
     record {
+      given = given-lawful settings h l;
       answers = Headline-lawful settings h l;
       within = λ bodies. subst (λ (x : Settings). HasDistinctKeys bodies → AllByRecursion (λ b. IsBody (stored_key b.entry) b h) bodies
           → (sum_by (λ b. length b.bytes) bodies ≤ x.limit) × (is_past x.watermark (length bodies) ≡ false)) past.made (IsWithin-kept (state_of settings h) h past.fits past.keeps bodies);
@@ -156,7 +162,18 @@ HoldsHeadline-lawful settings h l =
       evictions = EvictsLawfully-lawful settings h l;
     }
 
--- a lawful history is a past of the state behind it
+-- the state after a lawful history is what it says
+MatchesHistory-lawful : (settings : Settings) (h : History) → Stands settings (state_of settings h) h → MatchesHistory (state_of settings h) h
+MatchesHistory-lawful settings h past = record {
+  bodies = AreAllBodies-kept (state_of settings h) h past.fits past.tallies.distinct;
+  order = past.order;
+  requests = λ id. IsRequestOf-fits id (get (state_of settings h).requests id) h (past.fits.requests id);
+  found = past.tallies.found;
+  absent = past.tallies.absent;
+  evicted = past.tallies.evicted;
+}
+
+-- a lawful history is a past of the state after it
 pub HasPast-lawful : (settings : Settings) (s : State) (h : History) → IsLawful settings h → s ≡ state_of settings h → HasPast settings s h
 HasPast-lawful settings s h l e =
     let past : Stands settings (state_of settings h) h = Stands-lawful settings h l in
@@ -164,7 +181,7 @@ HasPast-lawful settings s h l e =
       lawful = l;
       state = e;
       headline = HoldsHeadline-lawful settings h l;
-      order = subst (λ (x : State). IsOrderOfUse x.tracked h) (sym e) past.order;
+      matches = subst (λ (x : State). MatchesHistory x h) (sym e) (MatchesHistory-lawful settings h past);
       report = subst (λ (x : State). IsReport (report_of x) h) (sym e) (IsReport-kept (state_of settings h) h past.fits past.tallies past.order);
     }
 

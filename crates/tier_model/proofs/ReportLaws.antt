@@ -1,4 +1,4 @@
--- What a report tells of a state is what it tells of the history behind it.
+-- What a report tells of a state is what it tells of the history after it.
 use Rattle.std.proofs.Common.{◌≡◌, ℕ, ◌+◌, refl, ap, sym, ◌∙◌, true, false, subst, cond, [], ◌∷◌, ◌++◌, length, arith}
 use Rattle.std.specs.Prelude.{Bool, List, Option, Some, None, is_some, not, Ok, Err, MatchOption}
 use Rattle.std.specs.List.{AllByRecursion}
@@ -9,10 +9,10 @@ use Rattle.tier_entries.specs.Keys.{entry_of, stored_key, same_key}
 use Rattle.tier_model.specs.declared.given.Given.{Given}
 use Rattle.tier_model.specs.declared.given.Given.TheVariants.{Stored}
 use Rattle.tier_model.specs.declared.given.Given.TheVariants as given
-use Rattle.tier_model.specs.declared.rows.FinishedBody.{FinishedBody}
-use Rattle.tier_model.specs.declared.rows.Request.{Request}
-use Rattle.tier_model.specs.declared.rows.Reader.{Reader}
-use Rattle.tier_model.specs.declared.rows.Reader.TheVariants.{Closed, Unread, Spent}
+use Rattle.tier_model.specs.declared.state.FinishedBody.{FinishedBody}
+use Rattle.tier_model.specs.declared.state.Request.{Request}
+use Rattle.tier_model.specs.declared.state.Reader.{Reader}
+use Rattle.tier_model.specs.declared.state.Reader.TheVariants.{Closed, Unread, Spent}
 use Rattle.tier_model.specs.declared.event.Action.{Action}
 use Rattle.tier_model.specs.declared.event.Action.TheVariants.{Open, LookUp, Read, Drop, Purge, Put}
 use Rattle.tier_model.specs.declared.event.Answer.{Answer}
@@ -20,14 +20,14 @@ use Rattle.tier_model.specs.declared.event.Answer.TheVariants.{Opened, Bytes, En
 use Rattle.tier_model.specs.declared.event.Answer.TheVariants as answer
 use Rattle.tier_model.specs.declared.event.Done.{Done}
 use Rattle.tier_model.specs.declared.event.TierFault.{TierFault}
-use Rattle.tier_model.specs.Keys.{StoredKey, Entry, key_asked}
+use Rattle.tier_model.specs.Keys.{StoredKey, Entry, Evicted, entries_of, AreWeighed, key_asked}
 use Rattle.tier_model.specs.Calls.{Call, History, Outcome, evicted_by, nothing_done, done_of}
 use Rattle.tier_model.specs.Histories.{IsBody, HasDistinctKeys}
 use Rattle.tier_model.specs.Reports.{IsReport, report_of, found_answers, absent_answers, evictions, is_found, is_absent, shown, AreAllBodies}
 use Rattle.tier_model.specs.Use.{IsOrderOfUse}
 use Rattle.tier_model.specs.Rows.{body_of, with_body, without_body, without_bodies}
 use Rattle.tier_model.specs.State.{State}
-use Rattle.tier_model.specs.Step.{refusal, AllowsBy, Allows, IsAnswer, IsPutAnswer, after, answered, undone, taken_back, on_request, look_answer, look_behind, read_answer, read_behind, purge_behind, put_behind, use_is_too_heavy, body_for, counted}
+use Rattle.tier_model.specs.Step.{refusal, AllowsBy, Allows, IsAnswer, IsPutAnswer, after, answered, undone, taken_back, on_request, look_answer, after_look_up, read_answer, after_read, after_purge, after_put, use_is_too_heavy, body_for, counted}
 use Rattle.tier_entries.proofs.KeyLaws.{same_key-tells, same-sym}
 use Rattle.tier_model.proofs.BodyLaws.{body_now, body_now-is, body_now-of}
 use Rattle.tier_model.proofs.StepLaws.{call_at, answer_allowed, did_nothing}
@@ -116,14 +116,14 @@ uncounted s new c h f a e d nf na ne t = record {
 }
 
 look_tally : (s : State) (t : MomentValue) (g : Option Given) (i : ℕ) (q : Request) (b : Option FinishedBody) (a : Answer) (h : History) → a ≡ look_answer t b → Tallies s h
-    → Tallies (look_behind s t i q b) (call_at t (LookUp i) g (Ok a) ∷ h)
-look_tally s t g i q None a h e tally = subst (λ (y : Answer). Tallies (look_behind s t i q None) (call_at t (LookUp i) g (Ok y) ∷ h)) (sym e) (record {
+    → Tallies (after_look_up s t i q b) (call_at t (LookUp i) g (Ok a) ∷ h)
+look_tally s t g i q None a h e tally = subst (λ (y : Answer). Tallies (after_look_up s t i q None) (call_at t (LookUp i) g (Ok y) ∷ h)) (sym e) (record {
   found = tally.found;
   absent = more_shown s.absent (absent_answers h) 1 tally.absent;
   evicted = tally.evicted ∙ ap shown (omega arith);
   distinct = tally.distinct;
 })
-look_tally s t g i q (Some b) a h e tally = subst (λ (y : Answer). Tallies (look_behind s t i q (Some b)) (call_at t (LookUp i) g (Ok y) ∷ h)) (sym e) (record {
+look_tally s t g i q (Some b) a h e tally = subst (λ (y : Answer). Tallies (after_look_up s t i q (Some b)) (call_at t (LookUp i) g (Ok y) ∷ h)) (sym e) (record {
   found = more_shown s.found (found_answers h) 1 tally.found;
   absent = tally.absent;
   evicted = tally.evicted ∙ ap shown (omega arith);
@@ -132,17 +132,17 @@ look_tally s t g i q (Some b) a h e tally = subst (λ (y : Answer). Tallies (loo
 
 request_tally : (s : State) (t : MomentValue) (g : Option Given) (i : ℕ) (a : Answer) (h : History) (o : Option Request)
     → MatchOption o ⊥ (λ q. (a ≡ look_answer t (body_for q s.bodies)) × (use_is_too_heavy q.entry (body_for q s.bodies) s.tracked ≡ false))
-    → Tallies s h → Tallies (on_request s o (λ q. look_behind s t i q (body_for q s.bodies))) (call_at t (LookUp i) g (Ok a) ∷ h)
+    → Tallies s h → Tallies (on_request s o (λ q. after_look_up s t i q (body_for q s.bodies))) (call_at t (LookUp i) g (Ok a) ∷ h)
 request_tally s t g i a h None p tally = absurd p
 request_tally s t g i a h (Some q) p tally = look_tally s t g i q (body_for q s.bodies) a h p.0 tally
 
 read_tally : (s : State) (t : MomentValue) (g : Option Given) (i : ℕ) (a : Answer) (h : History) (o : Option Request) → MatchOption o ⊥ (λ q. a ≡ read_answer q.reader)
-    → Tallies s h → Tallies (on_request s o (λ q. record s { requests = insert s.requests i (read_behind q) })) (call_at t (Read i) g (Ok a) ∷ h)
+    → Tallies s h → Tallies (on_request s o (λ q. record s { requests = insert s.requests i (after_read q) })) (call_at t (Read i) g (Ok a) ∷ h)
 read_tally s t g i a h None p tally = absurd p
 read_tally s t g i a h (Some q) p tally = by_reader q.reader p
   where
     new : State
-    new = record s { requests = insert s.requests i (read_behind q) }
+    new = record s { requests = insert s.requests i (after_read q) }
 
     by_reader : (r : Reader) → a ≡ read_answer r → Tallies new (call_at t (Read i) g (Ok a) ∷ h)
     by_reader Closed e = subst (λ (y : Answer). Tallies new (call_at t (Read i) g (Ok y) ∷ h)) (sym e) (uncounted s new (call_at t (Read i) g (Ok End)) h refl refl refl tally.distinct refl refl refl tally)
@@ -150,18 +150,18 @@ read_tally s t g i a h (Some q) p tally = by_reader q.reader p
         subst (λ (y : Answer). Tallies new (call_at t (Read i) g (Ok y) ∷ h)) (sym e) (uncounted s new (call_at t (Read i) g (Ok (Bytes bytes))) h refl refl refl tally.distinct refl refl refl tally)
     by_reader Spent e = subst (λ (y : Answer). Tallies new (call_at t (Read i) g (Ok y) ∷ h)) (sym e) (uncounted s new (call_at t (Read i) g (Ok End)) h refl refl refl tally.distinct refl refl refl tally)
 
-purge_tally : (s : State) (t : MomentValue) (g : Option Given) (key : CacheKeyValue) (h : History) (v : Bool) → Tallies s h → Tallies (purge_behind s key v) (call_at t (Purge key) g (Ok (Purged v)) ∷ h)
+purge_tally : (s : State) (t : MomentValue) (g : Option Given) (key : CacheKeyValue) (h : History) (v : Bool) → Tallies s h → Tallies (after_purge s key v) (call_at t (Purge key) g (Ok (Purged v)) ∷ h)
 purge_tally s t g key h false tally = uncounted s s (call_at t (Purge key) g (Ok (Purged false))) h refl refl refl tally.distinct refl refl refl tally
 purge_tally s t g key h true tally =
-    uncounted s (purge_behind s key true) (call_at t (Purge key) g (Ok (Purged true))) h refl refl refl (distinct_without (key_asked key) s.bodies tally.distinct) refl refl refl tally
+    uncounted s (after_purge s key true) (call_at t (Purge key) g (Ok (Purged true))) h refl refl refl (distinct_without (key_asked key) s.bodies tally.distinct) refl refl refl tally
 
 put_tally : (s : State) (t : MomentValue) (g : Option Given) (key : CacheKeyValue) (pieces : List (List ℕ)) (a : Answer) (h : History) → IsPutAnswer s g a
-    → Tallies s h → Tallies (put_behind s g a) (call_at t (Put key pieces) g (Ok a) ∷ h)
+    → Tallies s h → Tallies (after_put s g a) (call_at t (Put key pieces) g (Ok a) ∷ h)
 put_tally s t (Some (Stored b)) key pieces (Finished n es) h p tally = record {
   found = tally.found;
   absent = tally.absent;
-  evicted = more_shown s.evicted (evictions h) (length es) tally.evicted;
-  distinct = distinct_without_all es (with_body b s.bodies) (distinct_with b s.bodies tally.distinct);
+  evicted = more_shown s.evicted (evictions h) (length (entries_of es)) tally.evicted;
+  distinct = distinct_without_all (entries_of es) (with_body b s.bodies) (distinct_with b s.bodies tally.distinct);
 }
 put_tally s t (Some (given.Uncacheable reason)) key pieces (answer.Uncacheable shown) h p tally =
     uncounted s s (call_at t (Put key pieces) (Some (given.Uncacheable reason)) (Ok (answer.Uncacheable shown))) h refl refl refl tally.distinct refl refl refl tally
@@ -187,18 +187,18 @@ answer_tally s t g (Put key pieces) a h p tally = put_tally s t g key pieces a h
 
 -- a put's fault that had stored, and one that had not
 back_tally : (v : Bool) (s : State) (t : MomentValue) (g : Option Given) (key : CacheKeyValue) (pieces : List (List ℕ)) (f : TierFault) (h : History) → (done_of f).stored ≡ v
-    → Tallies s h → Tallies (taken_back v s (entry_of key) (done_of f).evicted) (call_at t (Put key pieces) g (Err f) ∷ h)
+    → Tallies s h → Tallies (taken_back v s (entry_of key) (entries_of (done_of f).evicted)) (call_at t (Put key pieces) g (Err f) ∷ h)
 back_tally false s t g key pieces f h e tally =
-    uncounted s s (call_at t (Put key pieces) g (Err f)) h refl refl refl tally.distinct refl refl (ap (λ v. cond v (done_of f).evicted []) e) tally
+    uncounted s s (call_at t (Put key pieces) g (Err f)) h refl refl refl tally.distinct refl refl (ap (λ v. cond v (entries_of (done_of f).evicted) []) e) tally
 back_tally true s t g key pieces f h e tally = record {
   found = tally.found;
   absent = tally.absent;
-  evicted = more_shown s.evicted (evictions h) (length (done_of f).evicted) tally.evicted ∙ ap (λ v. shown (evictions h + length (cond v (done_of f).evicted []))) (sym e);
-  distinct = distinct_without (key_asked key) (without_bodies (done_of f).evicted s.bodies) (distinct_without_all (done_of f).evicted s.bodies tally.distinct);
+  evicted = more_shown s.evicted (evictions h) (length (entries_of (done_of f).evicted)) tally.evicted ∙ ap (λ v. shown (evictions h + length (cond v (entries_of (done_of f).evicted) []))) (sym e);
+  distinct = distinct_without (key_asked key) (without_bodies (entries_of (done_of f).evicted) s.bodies) (distinct_without_all (entries_of (done_of f).evicted) s.bodies tally.distinct);
 }
 
-quiet_evicts : (done : Done) → done ≡ nothing_done → cond done.stored done.evicted [] ≡ []
-quiet_evicts done e = subst (λ (d : Done). cond d.stored d.evicted [] ≡ []) (sym e) refl
+quiet_evicts : (done : Done) → done ≡ nothing_done → cond done.stored (entries_of done.evicted) [] ≡ []
+quiet_evicts done e = subst (λ (d : Done). cond d.stored (entries_of d.evicted) [] ≡ []) (sym e) refl
 
 fault_tally : (s : State) (t : MomentValue) (g : Option Given) (action : Action) (f : TierFault) (h : History) → AllowsBy (refusal s action) s t action g (Err f) → Tallies s h
     → Tallies (undone s action (done_of f)) (call_at t action g (Err f) ∷ h)

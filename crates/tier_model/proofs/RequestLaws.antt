@@ -9,25 +9,28 @@ use Rattle.std.proofs.lemmas.Bool.{eqb-true, eq-eqb}
 use Rattle.cache_words.specs.Time.{MomentValue, at_most}
 use Rattle.cache_words.specs.Key.{CacheKeyValue}
 use Rattle.tier_entries.specs.Keys.{entry_of, stored_key}
-use Rattle.tier_model.specs.Keys.{StoredKey, Entry, key_asked}
+use Rattle.tier_model.specs.Keys.{StoredKey, Entry, Evicted, entries_of, AreWeighed, key_asked}
 use Rattle.tier_model.specs.declared.given.Given.{Given}
 use Rattle.tier_model.specs.declared.given.Given.TheVariants.{Stored}
 use Rattle.tier_model.specs.declared.given.Given.TheVariants as given
-use Rattle.tier_model.specs.declared.rows.FinishedBody.{FinishedBody}
-use Rattle.tier_model.specs.declared.rows.Request.{Request}
-use Rattle.tier_model.specs.declared.rows.Reader.{Reader}
-use Rattle.tier_model.specs.declared.rows.Reader.TheVariants.{Closed, Unread, Spent}
+use Rattle.tier_model.specs.declared.state.FinishedBody.{FinishedBody}
+use Rattle.tier_model.specs.declared.state.Request.{Request}
+use Rattle.tier_model.specs.declared.state.Reader.{Reader}
+use Rattle.tier_model.specs.declared.state.Reader.TheVariants.{Closed, Unread, Spent}
+use Rattle.tier_model.specs.declared.state.Phase.{Phase}
+use Rattle.tier_model.specs.declared.state.Phase.TheVariants.{CacheKey, Hit, Stale, Miss}
 use Rattle.tier_model.specs.declared.event.Action.{Action}
 use Rattle.tier_model.specs.declared.event.Action.TheVariants.{Open, LookUp, Read, Drop, Purge, Put}
 use Rattle.tier_model.specs.declared.event.Answer.{Answer}
-use Rattle.tier_model.specs.declared.event.Answer.TheVariants.{Opened, Found, Bytes, End, Dropped, Finished}
+use Rattle.tier_model.specs.declared.event.Answer.TheVariants.{Opened, Found, Absent, Bytes, End, Dropped, Finished}
 use Rattle.tier_model.specs.declared.event.TierFault.{TierFault}
 use Rattle.tier_model.specs.declared.event.TierFault.TheVariants.{WrongPhase}
-use Rattle.tier_model.specs.Calls.{Call, History, Outcome, opened_for, entry_behind, ends_reader, bytes_given, bytes_read, bytes_answered, done_of}
+use Rattle.tier_model.specs.Calls.{Call, History, Outcome, opened_for, entry_after, ends_reader, bytes_given, bytes_read, bytes_answered, done_of}
 use Rattle.tier_model.specs.Histories.{IsBody, HasHit}
+use Rattle.tier_model.specs.Requests.{phase_after, phase_of, reader_after, reader_of, HasFound, IsRequestOf}
 use Rattle.tier_model.specs.Rows.{body_of}
 use Rattle.tier_model.specs.State.{State}
-use Rattle.tier_model.specs.Step.{refusal, unless_open, has_reader, AllowsBy, Allows, IsAnswer, after, answered, undone, taken_back, opened_request, look_answer, looked, look_behind, on_request, read_answer, read_behind, purge_behind, put_behind, use_is_too_heavy, body_for}
+use Rattle.tier_model.specs.Step.{refusal, unless_open, has_reader, AllowsBy, Allows, IsAnswer, after, answered, undone, taken_back, opened_request, look_answer, looked, after_look_up, on_request, read_answer, after_read, after_purge, after_put, use_is_too_heavy, body_for}
 use Rattle.tier_model.proofs.BodyLaws.{body_by, body_now, body_now-is}
 use Rattle.tier_model.proofs.StepLaws.{call_at, answer_allowed, body_of-after}
 
@@ -39,19 +42,31 @@ ReaderFits id Spent h = (w : FinishedBody) × (since : History) × HasHit id w s
 
 abbrev pub RequestFits : ℕ → Option Request → History → Type 0
 RequestFits id None h = opened_for id h ≡ None
-RequestFits id (Some q) h = (opened_for id h ≡ Some q.entry) × ReaderFits id q.reader h
+RequestFits id (Some q) h = (opened_for id h ≡ Some q.entry) × ReaderFits id q.reader h × (q.phase ≡ phase_of id h) × ((bytes : List ℕ) × (q.reader ≡ reader_of id bytes h))
+
+-- a reader that is unread has the bytes that the last look-up found
+found-unread : (id : ℕ) (r : Reader) (h : History) (bytes : List ℕ) → ReaderFits id r h → r ≡ Unread bytes → HasFound id bytes h
+found-unread id Closed h bytes fits e = cc
+found-unread id (Unread bs) h bytes fits e = let same : bs ≡ bytes = cc in (fits.0, fits.1, fits.2, sym same ∙ fits.4)
+found-unread id Spent h bytes fits e = cc
+
+pub IsRequestOf-fits : (id : ℕ) (o : Option Request) (h : History) → RequestFits id o h → MatchOption o (opened_for id h ≡ None) (λ q. IsRequestOf id q h)
+IsRequestOf-fits id None h fits = fits
+IsRequestOf-fits id (Some q) h fits = record { entry = fits.0; phase = fits.2; reader = (fits.3.0, fits.3.1, found-unread id q.reader h fits.3.0 fits.1) }
 
 -- a call that doesn't concern a request
 pub record IsOther (id : ℕ) (c : Call) (h : History) : Type 0 where
-  pub key : entry_behind id c.event.action c.outcome (opened_for id h) ≡ opened_for id h
+  pub key : entry_after id c.event.action c.outcome (opened_for id h) ≡ opened_for id h
   pub reader : ends_reader id c ≡ false
   pub bytes : bytes_given id c.event.action c.outcome ≡ []
+  pub phase : (p : Phase) → phase_after id c.event.action c.outcome p ≡ p
+  pub left : (bytes : List ℕ) (r : Reader) → reader_after id bytes c.event.action c.outcome r ≡ r
 
 pub append_nothing : (xs : List ℕ) → xs ++ [] ≡ xs
 append_nothing [] = refl
 append_nothing (x ∷ xs) = ap (λ (ys : List ℕ). x ∷ ys) (append_nothing xs)
 
--- a hit with one more call behind it
+-- a hit with one more call after it
 longer_hit : (id : ℕ) (w : FinishedBody) (since : History) (c : Call) (h : History) → ends_reader id c ≡ false → HasHit id w since h → HasHit id w (c ∷ since) (c ∷ h)
 longer_hit id w since c h e hit = record {
   call = hit.call;
@@ -76,9 +91,10 @@ other_reader id Spent c h o fits =
 
 pub other_request : (id : ℕ) (o : Option Request) (c : Call) (h : History) → IsOther id c h → RequestFits id o h → RequestFits id o (c ∷ h)
 other_request id None c h o fits = o.key ∙ fits
-other_request id (Some q) c h o fits = (o.key ∙ fits.0, other_reader id q.reader c h o fits.1)
+other_request id (Some q) c h o fits =
+    (o.key ∙ fits.0, other_reader id q.reader c h o fits.1, fits.2 ∙ sym (o.phase (phase_of id h)), (fits.3.0, fits.3.1 ∙ sym (o.left fits.3.0 (reader_of id fits.3.0 h))))
 
--- the open requests behind an edit
+-- the open requests after an edit
 at-insert : (m : FinMap nat_cmp Request) (i : ℕ) (q : Request) (id : ℕ) → get (insert m i q) id ≡ cond (i == id) (Some q) (get m id)
 at-insert m i q id = get-insert nat_cmp_total m i q id ∙ ap (λ t. cond t (Some q) (get m id)) ((eq_by_cmp_equiv nat_cmp_total).symm id i ∙ unsigned_tied i id)
 
@@ -122,25 +138,31 @@ found_reader t g i q w fresh h key body =
 
 look_fits : (s : State) (t : MomentValue) (g : Option Given) (i : ℕ) (a : Answer) (h : History) (o : Option Request) → Fits s h → get s.requests i ≡ o
     → MatchOption o ⊥ (λ q. (a ≡ look_answer t (body_for q s.bodies)) × (use_is_too_heavy q.entry (body_for q s.bodies) s.tracked ≡ false))
-    → (id : ℕ) → RequestFits id (get (on_request s o (λ q. look_behind s t i q (body_for q s.bodies))).requests id) (call_at t (LookUp i) g (Ok a) ∷ h)
+    → (id : ℕ) → RequestFits id (get (on_request s o (λ q. after_look_up s t i q (body_for q s.bodies))).requests id) (call_at t (LookUp i) g (Ok a) ∷ h)
 look_fits s t g i a h None fits e p id = absurd p
 look_fits s t g i a h (Some q) fits e p id = by_body (body_for q s.bodies) refl p.0
   where
     open_key : opened_for i h ≡ Some q.entry
     open_key = (of_request s h fits i q e).0
 
-    by_body : (b : Option FinishedBody) → body_for q s.bodies ≡ b → a ≡ look_answer t b → RequestFits id (get (look_behind s t i q b).requests id) (call_at t (LookUp i) g (Ok a) ∷ h)
+    by_body : (b : Option FinishedBody) → body_for q s.bodies ≡ b → a ≡ look_answer t b → RequestFits id (get (after_look_up s t i q b).requests id) (call_at t (LookUp i) g (Ok a) ∷ h)
     by_body None be ae =
-        placed s.requests i (looked t q None) id (call_at t (LookUp i) g (Ok a)) h (open_key, tt) (λ n. record { key = refl; reader = n; bytes = refl }) (fits.requests id)
+        subst (λ (x : Answer). RequestFits id (get (after_look_up s t i q None).requests id) (call_at t (LookUp i) g (Ok x) ∷ h)) (sym ae)
+        (placed s.requests i (looked t q None) id (call_at t (LookUp i) g (Ok Absent)) h
+        (open_key, tt, sym (ap (λ v. cond v Miss (phase_of i h)) (itself i)), ([], sym (ap (λ v. cond v Closed (reader_of i [] h)) (itself i))))
+        (λ n. record { key = refl; reader = n; bytes = refl; phase = λ p. ap (λ v. cond v Miss p) n; left = λ bytes r. ap (λ v. cond v Closed r) n }) (fits.requests id))
     by_body (Some w) be ae =
-        placed s.requests i (looked t q (Some w)) id (call_at t (LookUp i) g (Ok a)) h (
+        let fresh : Bool = at_most t w.fresh_until in
+        subst (λ (x : Answer). RequestFits id (get (after_look_up s t i q (Some w)).requests id) (call_at t (LookUp i) g (Ok x) ∷ h)) (sym ae)
+        (placed s.requests i (looked t q (Some w)) id (call_at t (LookUp i) g (Ok (Found fresh true))) h (
           open_key,
-          subst (λ (x : Answer). ReaderFits i (Unread w.bytes) (call_at t (LookUp i) g (Ok x) ∷ h)) (sym ae)
-              (found_reader t g i q w (at_most t w.fresh_until) h open_key (body_now-is (stored_key q.entry) w h (sym (fits.bodies (stored_key q.entry)) ∙ be))),
+          found_reader t g i q w fresh h open_key (body_now-is (stored_key q.entry) w h (sym (fits.bodies (stored_key q.entry)) ∙ be)),
+          sym (ap (λ v. cond v (cond fresh Hit Stale) (phase_of i h)) (itself i)),
+          (w.bytes, sym (ap (λ v. cond v (Unread w.bytes) (reader_of i w.bytes h)) (itself i))),
         )
-        (λ n. record { key = refl; reader = n; bytes = refl }) (fits.requests id)
+        (λ n. record { key = refl; reader = n; bytes = refl; phase = λ p. ap (λ v. cond v (cond fresh Hit Stale) p) n; left = λ bytes r. ap (λ v. cond v (Unread bytes) r) n }) (fits.requests id))
 
--- a read of what is unread gives all of it, and one behind it nothing
+-- a read of what is unread gives all of it, and one after it nothing
 read_reader : (t : MomentValue) (g : Option Given) (i : ℕ) (r : Reader) (h : History) → has_reader r ≡ true → ReaderFits i r h → ReaderFits i Spent (call_at t (Read i) g (Ok (read_answer r)) ∷ h)
 read_reader t g i Closed h e fits = cc
 read_reader t g i (Unread bytes) h e fits = (
@@ -166,22 +188,27 @@ reader_there q e = by_test (has_reader q.reader) refl e
 
 read_fits : (s : State) (t : MomentValue) (g : Option Given) (i : ℕ) (a : Answer) (h : History) (o : Option Request) → Fits s h → get s.requests i ≡ o
     → unless_open o (λ q. cond (has_reader q.reader) None (Some WrongPhase)) ≡ None → MatchOption o ⊥ (λ q. a ≡ read_answer q.reader)
-    → (id : ℕ) → RequestFits id (get (on_request s o (λ q. record s { requests = insert s.requests i (read_behind q) })).requests id) (call_at t (Read i) g (Ok a) ∷ h)
+    → (id : ℕ) → RequestFits id (get (on_request s o (λ q. record s { requests = insert s.requests i (after_read q) })).requests id) (call_at t (Read i) g (Ok a) ∷ h)
 read_fits s t g i a h None fits e n p id = absurd p
 read_fits s t g i a h (Some q) fits e n p id =
-    placed s.requests i (read_behind q) id (call_at t (Read i) g (Ok a)) h
-    ((of_request s h fits i q e).0, subst (λ (x : Answer). ReaderFits i Spent (call_at t (Read i) g (Ok x) ∷ h)) (sym p) (read_reader t g i q.reader h (reader_there q n) (of_request s h fits i q e).1))
-    (λ m. record { key = refl; reader = refl; bytes = ap (λ v. cond v (bytes_answered a) []) m }) (fits.requests id)
+    placed s.requests i (after_read q) id (call_at t (Read i) g (Ok a)) h
+    (
+      (of_request s h fits i q e).0,
+      subst (λ (x : Answer). ReaderFits i Spent (call_at t (Read i) g (Ok x) ∷ h)) (sym p) (read_reader t g i q.reader h (reader_there q n) (of_request s h fits i q e).1),
+      (of_request s h fits i q e).2,
+      ([], sym (ap (λ v. cond v Spent (reader_of i [] h)) (itself i))),
+    )
+    (λ m. record { key = refl; reader = refl; bytes = ap (λ v. cond v (bytes_answered a) []) m; phase = λ p. refl; left = λ bytes r. ap (λ v. cond v Spent r) m }) (fits.requests id)
 
 -- a call that leaves the requests alone
 pub unmoved : (s new : State) (c : Call) (h : History) → Fits s h → new.requests ≡ s.requests → ((id : ℕ) → IsOther id c h) → (id : ℕ) → RequestFits id (get new.requests id) (c ∷ h)
 unmoved s new c h fits e other id = subst (λ (m : FinMap nat_cmp Request). RequestFits id (get m id) (c ∷ h)) (sym e) (other_request id (get s.requests id) c h (other id) (fits.requests id))
 
-purge_requests : (s : State) (key : CacheKeyValue) (v : Bool) → (purge_behind s key v).requests ≡ s.requests
+purge_requests : (s : State) (key : CacheKeyValue) (v : Bool) → (after_purge s key v).requests ≡ s.requests
 purge_requests s key true = refl
 purge_requests s key false = refl
 
-put_requests : (s : State) (g : Option Given) (a : Answer) → (put_behind s g a).requests ≡ s.requests
+put_requests : (s : State) (g : Option Given) (a : Answer) → (after_put s g a).requests ≡ s.requests
 put_requests s (Some (Stored b)) (Finished n es) = refl
 put_requests s (Some (Stored b)) _ = refl
 put_requests s (Some given.Incomplete) a = refl
@@ -198,26 +225,37 @@ answer_fits : (s : State) (t : MomentValue) (g : Option Given) (action : Action)
     → (id : ℕ) → RequestFits id (get (answered s t action g a).requests id) (call_at t action g (Ok a) ∷ h)
 answer_fits s t g (Open i key) a h fits n p id =
     subst (λ (x : Answer). RequestFits id (get (insert s.requests i (opened_request (entry_of key))) id) (call_at t (Open i key) g (Ok x) ∷ h)) (sym p)
-    (placed s.requests i (opened_request (entry_of key)) id (call_at t (Open i key) g (Ok Opened)) h (ap (λ v. cond v (Some (entry_of key)) (opened_for i h)) (itself i), tt)
-    (λ m. record { key = ap (λ v. cond v (Some (entry_of key)) (opened_for id h)) m; reader = refl; bytes = refl }) (fits.requests id))
+    (placed s.requests i (opened_request (entry_of key)) id (call_at t (Open i key) g (Ok Opened)) h (
+      ap (λ v. cond v (Some (entry_of key)) (opened_for i h)) (itself i),
+      tt,
+      sym (ap (λ v. cond v CacheKey (phase_of i h)) (itself i)),
+      ([], sym (ap (λ v. cond v Closed (reader_of i [] h)) (itself i))),
+    )
+    (λ m. record {
+      key = ap (λ v. cond v (Some (entry_of key)) (opened_for id h)) m;
+      reader = refl;
+      bytes = refl;
+      phase = λ p. ap (λ v. cond v CacheKey p) m;
+      left = λ bytes r. ap (λ v. cond v Closed r) m;
+    }) (fits.requests id))
 answer_fits s t g (LookUp i) a h fits n p id = look_fits s t g i a h (get s.requests i) fits refl p id
 answer_fits s t g (Read i) a h fits n p id = read_fits s t g i a h (get s.requests i) fits refl n p id
 answer_fits s t g (Drop i) a h fits n p id =
     subst (λ (x : Answer). RequestFits id (get (remove s.requests i) id) (call_at t (Drop i) g (Ok x) ∷ h)) (sym p)
     (ended s.requests i id (call_at t (Drop i) g (Ok Dropped)) h (ap (λ v. cond v None (opened_for i h)) (itself i))
-    (λ m. record { key = ap (λ v. cond v None (opened_for id h)) m; reader = m; bytes = refl }) (fits.requests id))
+    (λ m. record { key = ap (λ v. cond v None (opened_for id h)) m; reader = m; bytes = refl; phase = λ p. refl; left = λ bytes r. refl }) (fits.requests id))
 answer_fits s t g (Purge key) a h fits n p id =
-    unmoved s (purge_behind s key (is_some (body_of (key_asked key) s.bodies))) (call_at t (Purge key) g (Ok a)) h fits (purge_requests s key (is_some (body_of (key_asked key) s.bodies))) (λ i. record { key = refl; reader = refl; bytes = refl }) id
+    unmoved s (after_purge s key (is_some (body_of (key_asked key) s.bodies))) (call_at t (Purge key) g (Ok a)) h fits (purge_requests s key (is_some (body_of (key_asked key) s.bodies))) (λ i. record { key = refl; reader = refl; bytes = refl; phase = λ p. refl; left = λ bytes r. refl }) id
 answer_fits s t g (Put key pieces) a h fits n p id =
-    unmoved s (put_behind s g a) (call_at t (Put key pieces) g (Ok a)) h fits (put_requests s g a) (λ i. record { key = refl; reader = refl; bytes = refl }) id
+    unmoved s (after_put s g a) (call_at t (Put key pieces) g (Ok a)) h fits (put_requests s g a) (λ i. record { key = refl; reader = refl; bytes = refl; phase = λ p. refl; left = λ bytes r. refl }) id
 
 fault_other : (t : MomentValue) (g : Option Given) (action : Action) (f : TierFault) (h : History) (id : ℕ) → IsOther id (call_at t action g (Err f)) h
-fault_other t g (Open i key) f h id = record { key = refl; reader = refl; bytes = refl }
-fault_other t g (LookUp i) f h id = record { key = refl; reader = refl; bytes = refl }
-fault_other t g (Read i) f h id = record { key = refl; reader = refl; bytes = refl }
-fault_other t g (Drop i) f h id = record { key = refl; reader = refl; bytes = refl }
-fault_other t g (Purge key) f h id = record { key = refl; reader = refl; bytes = refl }
-fault_other t g (Put key pieces) f h id = record { key = refl; reader = refl; bytes = refl }
+fault_other t g (Open i key) f h id = record { key = refl; reader = refl; bytes = refl; phase = λ p. refl; left = λ bytes r. refl }
+fault_other t g (LookUp i) f h id = record { key = refl; reader = refl; bytes = refl; phase = λ p. refl; left = λ bytes r. refl }
+fault_other t g (Read i) f h id = record { key = refl; reader = refl; bytes = refl; phase = λ p. refl; left = λ bytes r. refl }
+fault_other t g (Drop i) f h id = record { key = refl; reader = refl; bytes = refl; phase = λ p. refl; left = λ bytes r. refl }
+fault_other t g (Purge key) f h id = record { key = refl; reader = refl; bytes = refl; phase = λ p. refl; left = λ bytes r. refl }
+fault_other t g (Put key pieces) f h id = record { key = refl; reader = refl; bytes = refl; phase = λ p. refl; left = λ bytes r. refl }
 
 undone_requests : (s : State) (action : Action) (f : TierFault) → (undone s action (done_of f)).requests ≡ s.requests
 undone_requests s (Open i key) f = refl
@@ -225,14 +263,14 @@ undone_requests s (LookUp i) f = refl
 undone_requests s (Read i) f = refl
 undone_requests s (Drop i) f = refl
 undone_requests s (Purge key) f = refl
-undone_requests s (Put key pieces) f = back_requests (done_of f).stored s (entry_of key) (done_of f).evicted
+undone_requests s (Put key pieces) f = back_requests (done_of f).stored s (entry_of key) (entries_of (done_of f).evicted)
 
 -- no check failed where there is an answer
 pub unrefused : (r : Option TierFault) (s : State) (t : MomentValue) (g : Option Given) (action : Action) (a : Answer) → refusal s action ≡ r → AllowsBy r s t action g (Ok a) → refusal s action ≡ None
 unrefused (Some f) s t g action a e p = cc
 unrefused None s t g action a e p = e
 
--- the state behind a lawful call fits the history with it
+-- the state after a lawful call fits the history with it
 pub Fits-after : (s : State) (c : Call) (h : History) → Fits s h → Allows s c → Fits (after s c) (c ∷ h)
 Fits-after s c h fits p = record { requests = by_outcome c.outcome p.1; bodies = λ k. body_of-after s c k h p ∙ ap (body_by k c h) (fits.bodies k) }
   where

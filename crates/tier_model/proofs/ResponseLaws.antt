@@ -1,14 +1,19 @@
--- A plain response gives one thing.
-use Rattle.std.proofs.Common.{◌≡◌, ℕ, ◌≤◌, ◌<◌, List, ◌++◌, length, take, drop, ap, sym, ◌∙◌, arith, length-append, inl, inr}
-use Rattle.std.proofs.lemmas.Bool.{cases_lt}
+-- A response whose head the parser's default options read or begin to read gives one thing.
+use Rattle.std.proofs.Common.{◌≡◌, ℕ, ◌≤◌, ◌<◌, true, false, List, ◌++◌, length, map, take, drop, ap, sym, ◌∙◌, subst, cond, arith, length-append, inl, inr}
+use Rattle.std.specs.Prelude.{◌≢◌, ◌||◌, Bool, Option, Some, None, codes}
+use Rattle.std.proofs.lemmas.Bool.{cases_lt, cases_Bool}
 use Rattle.std.proofs.lemmas.List.{take-append-le, take-append-drop}
 use Rattle.std.proofs.Math.Seq.{take-append_seam}
 use Rattle.cache_words.specs.Time.{MomentValue}
-use Rattle.httparse.specs.Grammar.{ResponseHead, ReadsResponse, HasNoResponse, print_response}
+use Rattle.cache_heads.specs.FreshUntil.{fresh_until}
+use Rattle.httparse.specs.Grammar.{ResponseHead, ReadsResponse, HasNoResponse, print_response, status_code}
+use Rattle.httparse.specs.Spans.{name_and_value}
 use Rattle.httparse.proofs.GrammarLemmas.{response_prefix_free}
 use Rattle.tier_model.specs.Keys.{Entry}
 use Rattle.tier_model.specs.declared.given.Given.{Given}
-use Rattle.tier_model.specs.Response.{IsPlain, Gives}
+use Rattle.tier_model.specs.declared.given.Given.TheVariants.{Stored, Incomplete, BadHead}
+use Rattle.tier_model.specs.declared.state.FinishedBody.{FinishedBody}
+use Rattle.tier_model.specs.Response.{IsPlain, IsWellFormed, is_within_bounds, is_before_epoch, body_within, body_length, values_of, given_of, given_by, Reading, whole_head, begun_head, no_head, IsReading, given_in, Gives}
 
 -- a head that stands whole in the first part of some bytes is read there
 read_front : (bytes more : List ℕ) (h : ResponseHead) (rest : List ℕ) → ReadsResponse (bytes ++ more) h rest → length (print_response h) ≤ length bytes → ReadsResponse bytes h (drop (length (print_response h)) bytes)
@@ -17,21 +22,82 @@ read_front bytes more h rest r l =
     let front : take n bytes ≡ print_response h = sym (take-append-le n bytes more l) ∙ ap (take n) r.1 ∙ take-append_seam (print_response h) rest in
     (r.0, sym (take-append-drop n bytes) ∙ ap (λ (xs : List ℕ). xs ++ drop n bytes) front)
 
--- no head is read where the head of the whole bytes goes on behind them
+-- no head is read where the head of the whole bytes goes on after them
 read_none : (bytes more : List ℕ) (h : ResponseHead) (rest : List ℕ) → ReadsResponse (bytes ++ more) h rest → length bytes < length (print_response h) → HasNoResponse bytes
 read_none bytes more h rest r l k other s =
     let same : k ≡ h = (response_prefix_free bytes more k h other rest s r).0 in
     omega (arith, ap length s.1, length-append (print_response k) other, ap (λ (x : ResponseHead). length (print_response x)) same)
 
--- a head that is read, or the beginning of one, settles what is given
-pub Gives-plain : (arrival : MomentValue) (entry : Entry) (bytes : List ℕ) (a b : Given) → IsPlain bytes → Gives arrival entry bytes a → Gives arrival entry bytes b → a ≡ b
-Gives-plain arrival entry bytes a b plain x y =
-    let head : ResponseHead = plain.1 in
-    elim (cases_lt (length bytes) (length (print_response head))) [
+-- a head that is read, or the beginning of one, settles the reading
+IsReading-one : (bytes : List ℕ) (p q : Reading) → IsPlain bytes → IsReading bytes p → IsReading bytes q → p ≡ q
+IsReading-one bytes p q plain x y =
+    let h : ResponseHead = plain.1 in
+    elim (cases_lt (length bytes) (length (print_response h))) [
       | inr l ↦
-          let reads : ReadsResponse bytes head (drop (length (print_response head)) bytes) = read_front bytes plain.0 head plain.2 plain.3 l in
-          x.whole head (drop (length (print_response head)) bytes) reads plain.4 ∙ sym (y.whole head (drop (length (print_response head)) bytes) reads plain.4)
+          let reads : ReadsResponse bytes h (drop (length (print_response h)) bytes) = read_front bytes plain.0 h plain.2 plain.3 l in
+          x.whole h (drop (length (print_response h)) bytes) reads plain.4 ∙ sym (y.whole h (drop (length (print_response h)) bytes) reads plain.4)
       | inl l ↦
-          let none : HasNoResponse bytes = read_none bytes plain.0 head plain.2 plain.3 l in
-          x.begun none plain ∙ sym (y.begun none plain)
+          let no : HasNoResponse bytes = read_none bytes plain.0 h plain.2 plain.3 l in
+          x.begins no plain ∙ sym (y.begins no plain)
     ]
+
+-- and so what is given
+pub Gives-plain : (arrival : MomentValue) (entry : Entry) (bytes : List ℕ) (a b : Given) → IsPlain bytes → Gives arrival entry bytes a → Gives arrival entry bytes b → a ≡ b
+Gives-plain arrival entry bytes a b plain x y = x.2 ∙ ap (given_in arrival entry) (IsReading-one bytes x.0 y.0 plain x.1 y.1) ∙ sym y.2
+
+-- what is given by a head within bounds is no bad head
+pub given_of-read : (arrival : MomentValue) (entry : Entry) (body : Option (List ℕ)) (until : Option MomentValue) → given_of arrival entry body until ≢ BadHead
+given_of-read arrival entry None until e = cc
+given_of-read arrival entry (Some body) None e = cc
+given_of-read arrival entry (Some body) (Some until) e =
+    elim (cases_Bool (is_before_epoch arrival || is_before_epoch until)) [
+      | inl t ↦ absurd (cc)
+      | inr f ↦ absurd (cc)
+    ]
+
+pub given_by-read : (arrival : MomentValue) (entry : Entry) (status : ℕ) (lines : List (List ℕ × List ℕ)) (rest : List ℕ) → is_within_bounds status lines ≡ true → given_by arrival entry status lines rest ≢ BadHead
+unfolding given_by
+given_by-read arrival entry status lines rest bounds e =
+    given_of-read arrival entry (body_within (body_length status lines) rest) (fresh_until arrival (values_of (codes "cache-control") lines) (values_of (codes "expires") lines) false None)
+    (subst (λ (v : Bool). cond v (given_of arrival entry (body_within (body_length status lines) rest) (fresh_until arrival (values_of (codes "cache-control") lines) (values_of (codes "expires") lines) false None)) BadHead ≡ BadHead) bounds e)
+
+pub Gives-read : (arrival : MomentValue) (entry : Entry) (bytes : List ℕ) (given : Given) → IsWellFormed bytes → Gives arrival entry bytes given → given ≢ BadHead
+Gives-read arrival entry bytes given well x bad =
+    let h : ResponseHead = well.1 in
+    elim (cases_lt (length bytes) (length (print_response h))) [
+      | inr l ↦
+          given_by-read arrival entry (status_code h) (map name_and_value h.fields) (drop (length (print_response h)) bytes) well.5
+          (ap (given_in arrival entry) (sym (x.1.whole h (drop (length (print_response h)) bytes) (read_front bytes well.0 h well.2 well.3 l) well.4)) ∙ sym x.2 ∙ bad)
+      | inl l ↦
+          let early : given ≡ Incomplete = x.2 ∙ ap (given_in arrival entry) (x.1.begins (read_none bytes well.0 h well.2 well.3 l) (well.0, h, well.2, well.3, well.4)) in
+          cc
+    ]
+
+-- a body that is given is one of the entry
+given_of-entry : (arrival : MomentValue) (entry : Entry) (body : Option (List ℕ)) (until : Option MomentValue) (stored : FinishedBody) → given_of arrival entry body until ≡ Stored stored → stored.entry ≡ entry
+given_of-entry arrival entry None until stored e = absurd cc
+given_of-entry arrival entry (Some body) None stored e = absurd cc
+given_of-entry arrival entry (Some body) (Some until) stored e =
+    elim (cases_Bool (is_before_epoch arrival || is_before_epoch until)) [
+      | inl t ↦ absurd (cc)
+      | inr f ↦ cc
+    ]
+
+given_by-entry : (arrival : MomentValue) (entry : Entry) (status : ℕ) (lines : List (List ℕ × List ℕ)) (rest : List ℕ) (stored : FinishedBody) → given_by arrival entry status lines rest ≡ Stored stored → stored.entry ≡ entry
+unfolding given_by
+given_by-entry arrival entry status lines rest stored e = by_bounds (is_within_bounds status lines) e
+  where
+    given : Given
+    given = given_of arrival entry (body_within (body_length status lines) rest) (fresh_until arrival (values_of (codes "cache-control") lines) (values_of (codes "expires") lines) false None)
+
+    by_bounds : (v : Bool) → cond v given BadHead ≡ Stored stored → stored.entry ≡ entry
+    by_bounds true e = given_of-entry arrival entry (body_within (body_length status lines) rest) (fresh_until arrival (values_of (codes "cache-control") lines) (values_of (codes "expires") lines) false None) stored e
+    by_bounds false e = cc
+
+pub Gives-entry : (arrival : MomentValue) (entry : Entry) (bytes : List ℕ) (stored : FinishedBody) → Gives arrival entry bytes (Stored stored) → stored.entry ≡ entry
+Gives-entry arrival entry bytes stored gives = by_reading gives.0 gives.2
+  where
+    by_reading : (r : Reading) → Stored stored ≡ given_in arrival entry r → stored.entry ≡ entry
+    by_reading (whole_head status lines rest) e = given_by-entry arrival entry status lines rest stored (sym e)
+    by_reading begun_head e = cc
+    by_reading no_head e = cc

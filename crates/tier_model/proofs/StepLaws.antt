@@ -8,10 +8,10 @@ use Rattle.tier_entries.specs.Keys.{entry_of, stored_key, same_key, has_key}
 use Rattle.tier_model.specs.declared.given.Given.{Given}
 use Rattle.tier_model.specs.declared.given.Given.TheVariants.{Stored}
 use Rattle.tier_model.specs.declared.given.Given.TheVariants as given
-use Rattle.tier_model.specs.declared.rows.FinishedBody.{FinishedBody}
-use Rattle.tier_model.specs.declared.rows.Request.{Request}
-use Rattle.tier_model.specs.declared.rows.Reader.{Reader}
-use Rattle.tier_model.specs.declared.rows.Reader.TheVariants.{Closed, Unread, Spent}
+use Rattle.tier_model.specs.declared.state.FinishedBody.{FinishedBody}
+use Rattle.tier_model.specs.declared.state.Request.{Request}
+use Rattle.tier_model.specs.declared.state.Reader.{Reader}
+use Rattle.tier_model.specs.declared.state.Reader.TheVariants.{Closed, Unread, Spent}
 use Rattle.tier_model.specs.declared.event.Action.{Action}
 use Rattle.tier_model.specs.declared.event.Action.TheVariants.{Open, LookUp, Read, Drop, Purge, Put}
 use Rattle.tier_model.specs.declared.event.Answer.{Answer}
@@ -20,11 +20,11 @@ use Rattle.tier_model.specs.declared.event.Answer.TheVariants as answer
 use Rattle.tier_model.specs.declared.event.Done.{Done}
 use Rattle.tier_model.specs.declared.event.TierFault.{TierFault}
 use Rattle.tier_model.specs.declared.event.TierFault.TheVariants.{NoRequest, IdInUse, WrongPhase}
-use Rattle.tier_model.specs.Keys.{StoredKey, Entry, key_asked}
+use Rattle.tier_model.specs.Keys.{StoredKey, Entry, Evicted, entries_of, AreWeighed, key_asked}
 use Rattle.tier_model.specs.Calls.{Call, History, Outcome, stored_in, is_of, nothing_done, done_of}
 use Rattle.tier_model.specs.Rows.{body_of, with_body, without_bodies}
 use Rattle.tier_model.specs.State.{State}
-use Rattle.tier_model.specs.Step.{refusal, unless_open, can_look_up, has_reader, AllowsBy, Allows, after, behind, undone, taken_back, look_answer, read_answer, read_behind, use_is_too_heavy, body_for, IsUseFault, on_request, IsPutAnswer, IsAnswer, IsFault, put_behind, purge_behind, look_behind}
+use Rattle.tier_model.specs.Step.{refusal, unless_open, can_look_up, has_reader, AllowsBy, Allows, after, after_outcome, undone, taken_back, look_answer, read_answer, after_read, use_is_too_heavy, body_for, IsUseFault, on_request, IsPutAnswer, IsAnswer, IsFault, after_put, after_purge, after_look_up}
 use Rattle.tier_entries.proofs.KeyLaws.{same_key-tells}
 use Rattle.tier_model.proofs.BodyLaws.{body_by, body_chosen, body_of-without, body_of-with, body_of-without_all}
 
@@ -67,14 +67,14 @@ unchosen false o new = refl
 
 -- whatever a refused put had done
 put_undone : (s : State) (key : CacheKeyValue) (pieces : List (List ℕ)) (done : Done) (k : StoredKey) (new : Option FinishedBody)
-    → body_of k (undone s (Put key pieces) done).bodies ≡ body_chosen ((done.stored && same_key (key_asked key) k) || has_key k (cond done.stored done.evicted [])) false new (body_of k s.bodies)
+    → body_of k (undone s (Put key pieces) done).bodies ≡ body_chosen ((done.stored && same_key (key_asked key) k) || has_key k (cond done.stored (entries_of done.evicted) [])) false new (body_of k s.bodies)
 put_undone s key pieces done k new = by_stored done.stored
   where
     by_stored : (v : Bool)
-        → body_of k (taken_back v s (entry_of key) done.evicted).bodies ≡ body_chosen ((v && same_key (key_asked key) k) || has_key k (cond v done.evicted [])) false new (body_of k s.bodies)
+        → body_of k (taken_back v s (entry_of key) (entries_of done.evicted)).bodies ≡ body_chosen ((v && same_key (key_asked key) k) || has_key k (cond v (entries_of done.evicted) [])) false new (body_of k s.bodies)
     by_stored true =
-        body_of-without k (key_asked key) (without_bodies done.evicted s.bodies) ∙ ap (cond (same_key (key_asked key) k) None) (body_of-without_all k done.evicted s.bodies)
-        ∙ both_none (same_key (key_asked key) k) (has_key k done.evicted) (body_of k s.bodies) ∙ unchosen (same_key (key_asked key) k || has_key k done.evicted) (body_of k s.bodies) new
+        body_of-without k (key_asked key) (without_bodies (entries_of done.evicted) s.bodies) ∙ ap (cond (same_key (key_asked key) k) None) (body_of-without_all k (entries_of done.evicted) s.bodies)
+        ∙ both_none (same_key (key_asked key) k) (has_key k (entries_of done.evicted)) (body_of k s.bodies) ∙ unchosen (same_key (key_asked key) k || has_key k (entries_of done.evicted)) (body_of k s.bodies) new
     by_stored false = refl
 
 or_false : (x : Bool) → (x || false) ≡ x
@@ -91,7 +91,7 @@ not_some (Some b) e = cc
 
 -- what a purge leaves, by whether something was there
 purged : (s : State) (key : CacheKeyValue) (k : StoredKey) (new : Option FinishedBody) (v : Bool) → is_some (body_of (key_asked key) s.bodies) ≡ v
-    → body_of k (purge_behind s key v).bodies ≡ body_chosen (same_key (key_asked key) k || false) false new (body_of k s.bodies)
+    → body_of k (after_purge s key v).bodies ≡ body_chosen (same_key (key_asked key) k || false) false new (body_of k s.bodies)
 purged s key k new true e =
     body_of-without k (key_asked key) s.bodies ∙ unchosen (same_key (key_asked key) k) (body_of k s.bodies) new ∙ ap (λ x. body_chosen x false new (body_of k s.bodies)) (sym (or_false (same_key (key_asked key) k)))
 purged s key k new false e =
@@ -107,18 +107,18 @@ abbrev pub call_at : MomentValue → Action → Option Given → Outcome → Cal
 call_at t action g outcome = record { event = record { moment = t; action = action }; outcome = outcome; given = g }
 
 -- what a put of this body leaves
-put_finished : (s : State) (k : StoredKey) (b : FinishedBody) (n : ℕ) (es : List Entry)
-    → body_of k (put_behind s (Some (Stored b)) (Finished n es)).bodies ≡ body_chosen (has_key k es) (same_key (stored_key b.entry) k) (Some b) (body_of k s.bodies)
+put_finished : (s : State) (k : StoredKey) (b : FinishedBody) (n : ℕ) (es : List Evicted)
+    → body_of k (after_put s (Some (Stored b)) (Finished n es)).bodies ≡ body_chosen (has_key k (entries_of es)) (same_key (stored_key b.entry) k) (Some b) (body_of k s.bodies)
 put_finished s k b n es =
-    body_of-without_all k es (with_body b s.bodies) ∙ ap (cond (has_key k es) None) (body_of-with k b s.bodies) ∙ with_chosen (has_key k es) (same_key (stored_key b.entry) k) b (body_of k s.bodies)
+    body_of-without_all k (entries_of es) (with_body b s.bodies) ∙ ap (cond (has_key k (entries_of es)) None) (body_of-with k b s.bodies) ∙ with_chosen (has_key k (entries_of es)) (same_key (stored_key b.entry) k) b (body_of k s.bodies)
 
 -- how a call changes the body of a key
 Follows : State → MomentValue → Option Given → Action → Outcome → StoredKey → History → Type 0
-Follows s t g action outcome k h = body_of k (behind s t action g outcome).bodies ≡ body_by k (call_at t action g outcome) h (body_of k s.bodies)
+Follows s t g action outcome k h = body_of k (after_outcome s t action g outcome).bodies ≡ body_by k (call_at t action g outcome) h (body_of k s.bodies)
 
 -- a put that is answered anything but finished leaves what a key has
-put_follows_by : (s : State) (k : StoredKey) (n : ℕ) (es : List Entry) (g : Option Given) → IsPutAnswer s g (Finished n es)
-    → body_of k (put_behind s g (Finished n es)).bodies ≡ body_chosen (has_key k es) (is_of k (stored_in g)) (stored_in g) (body_of k s.bodies)
+put_follows_by : (s : State) (k : StoredKey) (n : ℕ) (es : List Evicted) (g : Option Given) → IsPutAnswer s g (Finished n es)
+    → body_of k (after_put s g (Finished n es)).bodies ≡ body_chosen (has_key k (entries_of es)) (is_of k (stored_in g)) (stored_in g) (body_of k s.bodies)
 put_follows_by s k n es (Some (Stored b)) p = put_finished s k b n es
 put_follows_by s k n es (Some given.Incomplete) p = absurd p
 put_follows_by s k n es (Some given.BadHead) p = absurd p
@@ -145,17 +145,17 @@ answer_allowed None s t g action a p = p
 
 look_follows : (s : State) (t : MomentValue) (g : Option Given) (id : ℕ) (a : Answer) (k : StoredKey) (h : History) (o : Option Request)
     → MatchOption o ⊥ (λ q. (a ≡ look_answer t (body_for q s.bodies)) × (use_is_too_heavy q.entry (body_for q s.bodies) s.tracked ≡ false))
-    → body_of k (on_request s o (λ q. look_behind s t id q (body_for q s.bodies))).bodies ≡ body_by k (call_at t (LookUp id) g (Ok a)) h (body_of k s.bodies)
+    → body_of k (on_request s o (λ q. after_look_up s t id q (body_for q s.bodies))).bodies ≡ body_by k (call_at t (LookUp id) g (Ok a)) h (body_of k s.bodies)
 look_follows s t g id a k h None p = absurd p
 look_follows s t g id a k h (Some q) p = by_body (body_for q s.bodies) p.0
   where
-    by_body : (b : Option FinishedBody) → a ≡ look_answer t b → body_of k (look_behind s t id q b).bodies ≡ body_by k (call_at t (LookUp id) g (Ok a)) h (body_of k s.bodies)
+    by_body : (b : Option FinishedBody) → a ≡ look_answer t b → body_of k (after_look_up s t id q b).bodies ≡ body_by k (call_at t (LookUp id) g (Ok a)) h (body_of k s.bodies)
     by_body None e = subst (λ (x : Answer). body_of k s.bodies ≡ body_by k (call_at t (LookUp id) g (Ok x)) h (body_of k s.bodies)) (sym e) refl
     by_body (Some b) e = subst (λ (x : Answer). body_of k s.bodies ≡ body_by k (call_at t (LookUp id) g (Ok x)) h (body_of k s.bodies)) (sym e) refl
 
 read_follows : (s : State) (t : MomentValue) (g : Option Given) (id : ℕ) (a : Answer) (k : StoredKey) (h : History) (o : Option Request)
     → MatchOption o ⊥ (λ q. a ≡ read_answer q.reader)
-    → body_of k (on_request s o (λ q. record s { requests = insert s.requests id (read_behind q) })).bodies ≡ body_by k (call_at t (Read id) g (Ok a)) h (body_of k s.bodies)
+    → body_of k (on_request s o (λ q. record s { requests = insert s.requests id (after_read q) })).bodies ≡ body_by k (call_at t (Read id) g (Ok a)) h (body_of k s.bodies)
 read_follows s t g id a k h None p = absurd p
 read_follows s t g id a k h (Some q) p = by_reader q.reader p
   where
@@ -193,8 +193,8 @@ did_nothing s t g (Drop id) f p e = elim (fault_allowed (refusal s (Drop id)) s 
 did_nothing s t g (Purge key) f p e = elim p [ inl m ↦ absurd m.1 | inr x ↦ absurd x ]
 
 -- such a fault leaves what a key has
-quiet : (k : StoredKey) (done : Done) (o : Option FinishedBody) → done ≡ nothing_done → o ≡ body_chosen ((done.stored && false) || has_key k (cond done.stored done.evicted [])) false None o
-quiet k done o e = subst (λ (d : Done). o ≡ body_chosen ((d.stored && false) || has_key k (cond d.stored d.evicted [])) false None o) (sym e) refl
+quiet : (k : StoredKey) (done : Done) (o : Option FinishedBody) → done ≡ nothing_done → o ≡ body_chosen ((done.stored && false) || has_key k (cond done.stored (entries_of done.evicted) [])) false None o
+quiet k done o e = subst (λ (d : Done). o ≡ body_chosen ((d.stored && false) || has_key k (cond d.stored (entries_of d.evicted) [])) false None o) (sym e) refl
 
 fault_follows : (s : State) (t : MomentValue) (g : Option Given) (action : Action) (f : TierFault) (k : StoredKey) (h : History) → AllowsBy (refusal s action) s t action g (Err f) → Follows s t g action (Err f) k h
 unfolding Follows
@@ -205,7 +205,7 @@ fault_follows s t g (Drop id) f k h p = quiet k (done_of f) (body_of k s.bodies)
 fault_follows s t g (Purge key) f k h p = elim p [ inl m ↦ absurd m.1 | inr x ↦ absurd x ]
 fault_follows s t g (Put key pieces) f k h p = put_undone s key pieces (done_of f) k None
 
--- what a key has behind a lawful call
+-- what a key has after a lawful call
 pub body_of-after : (s : State) (c : Call) (k : StoredKey) (h : History) → Allows s c → body_of k (after s c).bodies ≡ body_by k c h (body_of k s.bodies)
 unfolding Follows
 body_of-after s c k h p = by_outcome c.outcome p.1

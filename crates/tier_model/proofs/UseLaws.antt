@@ -76,7 +76,7 @@ used_in_order f k b n (r ∷ rows) o = by_key (same_entry r.entry k) refl (used_
     by_key true e rest = in_order (λ e. cond (same_entry k e) (Some b) (f e)) (λ e. cond (same_entry k e) (Some b) (f e)) o.0 n (without_row k rows) (λ x. refl) (omega (arith, o.2)) rest
     by_key false e rest = (o.0, ap (λ v. cond v (Some b) (f r.entry)) (same-sym same_entry same_entry-tells k r.entry ∙ e) ∙ o.1, o.2, rest)
 
--- what an entry weighs behind a use of k
+-- what an entry weighs after a use of k
 abbrev pub WeighsUsed : (Entry → ℕ → Type 0) → Entry → ℕ → Entry → ℕ → Type 0
 WeighsUsed W k x e w = ((same_entry k e ≡ true) × (w ≡ x)) ⊎ ((same_entry k e ≡ false) × W e w)
 

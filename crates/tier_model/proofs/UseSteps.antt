@@ -8,14 +8,14 @@ use Rattle.tier_entries.specs.declared.rows.Tracked.{Tracked}
 use Rattle.tier_entries.specs.Keys.{entry_of, stored_key, same_entry, has_entry}
 use Rattle.tier_entries.specs.Rows.{row_of, weight_of, without_row, without_rows, admitted, used, IsBegunEviction}
 use Rattle.tier_entries.proofs.KeyLaws.{same_entry-tells}
-use Rattle.tier_model.specs.Keys.{Entry, key_asked}
+use Rattle.tier_model.specs.Keys.{Entry, Evicted, entries_of, AreWeighed, key_asked}
 use Rattle.tier_model.specs.declared.given.Given.{Given}
 use Rattle.tier_model.specs.declared.given.Given.TheVariants.{Stored}
 use Rattle.tier_model.specs.declared.given.Given.TheVariants as given
-use Rattle.tier_model.specs.declared.rows.FinishedBody.{FinishedBody}
-use Rattle.tier_model.specs.declared.rows.Request.{Request}
-use Rattle.tier_model.specs.declared.rows.Reader.{Reader}
-use Rattle.tier_model.specs.declared.rows.Reader.TheVariants.{Closed, Unread, Spent}
+use Rattle.tier_model.specs.declared.state.FinishedBody.{FinishedBody}
+use Rattle.tier_model.specs.declared.state.Request.{Request}
+use Rattle.tier_model.specs.declared.state.Reader.{Reader}
+use Rattle.tier_model.specs.declared.state.Reader.TheVariants.{Closed, Unread, Spent}
 use Rattle.tier_model.specs.declared.event.Event.{Event}
 use Rattle.tier_model.specs.declared.event.Action.{Action}
 use Rattle.tier_model.specs.declared.event.Action.TheVariants.{Open, LookUp, Read, Drop, Purge, Put}
@@ -26,10 +26,10 @@ use Rattle.tier_model.specs.declared.event.Done.{Done}
 use Rattle.tier_model.specs.declared.event.TierFault.{TierFault}
 use Rattle.tier_model.specs.Histories.{IsBody}
 use Rattle.tier_model.specs.Calls.{Call, History, Outcome, stored_in, opened_for, written_by, nothing_done, done_of, evicted_before}
-use Rattle.tier_model.specs.Use.{is_for, is_under, admits, hits_entry, uses, departs, use_chosen, last_use, is_tracked, WeighsBy, Weighs, IsOrderOfUse, EvictsBy, BodiesAreTracked}
+use Rattle.tier_model.specs.Use.{is_for, is_under, admits, hits_entry, uses, departs, use_chosen, last_use, is_tracked, WeighsBy, Weighs, IsOrderOfUse, IsOrderAfter, EvictsBy, BodiesAreTracked}
 use Rattle.tier_model.specs.Rows.{body_of, weight_for}
 use Rattle.tier_model.specs.State.{State}
-use Rattle.tier_model.specs.Step.{refusal, AllowsBy, Allows, IsAnswer, IsPutAnswer, IsPutFault, after, answered, undone, taken_back, on_request, look_answer, look_behind, read_answer, read_behind, purge_behind, put_behind, use_is_too_heavy, body_for}
+use Rattle.tier_model.specs.Step.{refusal, AllowsBy, Allows, IsAnswer, IsPutAnswer, IsPutFault, after, answered, undone, taken_back, on_request, look_answer, after_look_up, read_answer, after_read, after_purge, after_put, use_is_too_heavy, body_for}
 use Rattle.tier_model.proofs.BodyLaws.{body_now-is, body_now-of}
 use Rattle.tier_model.proofs.StepLaws.{call_at, answer_allowed, did_nothing, both_none}
 use Rattle.tier_model.proofs.RequestLaws.{Fits, of_request}
@@ -77,22 +77,22 @@ idle c h rows i o = only_departs (λ e. false) c h rows i (to_ordered rows h o)
 
 -- a put's fault that had stored, and one that had not
 back_used : (v : Bool) (s : State) (t : MomentValue) (g : Option Given) (key : CacheKeyValue) (pieces : List (List ℕ)) (f : TierFault) (h : History) → (done_of f).stored ≡ v
-    → IsOrderOfUse s.tracked h → IsOrderOfUse (taken_back v s (entry_of key) (done_of f).evicted).tracked (call_at t (Put key pieces) g (Err f) ∷ h)
+    → IsOrderOfUse s.tracked h → IsOrderOfUse (taken_back v s (entry_of key) (entries_of (done_of f).evicted)).tracked (call_at t (Put key pieces) g (Err f) ∷ h)
 back_used false s t g key pieces f h e o =
     idle (call_at t (Put key pieces) g (Err f)) h s.tracked
-    (record { departs = λ x. ap (λ v. (v && same_entry (entry_of key) x) || has_entry x (cond v (done_of f).evicted [])) e; admits = λ x. refl; hits = λ x. refl }) o
+    (record { departs = λ x. ap (λ v. (v && same_entry (entry_of key) x) || has_entry x (cond v (entries_of (done_of f).evicted) [])) e; admits = λ x. refl; hits = λ x. refl }) o
 back_used true s t g key pieces f h e o =
-    only_departs (λ x. same_entry (entry_of key) x || has_entry x (done_of f).evicted) (call_at t (Put key pieces) g (Err f)) h (without_row (entry_of key) (without_rows (done_of f).evicted s.tracked))
-    (record { departs = λ x. ap (λ v. (v && same_entry (entry_of key) x) || has_entry x (cond v (done_of f).evicted [])) e; admits = λ x. refl; hits = λ x. refl })
-    (Ordered-as (λ x. cond (same_entry (entry_of key) x) None (cond (has_entry x (done_of f).evicted) None (last_use x h))) (λ x. cond (same_entry (entry_of key) x || has_entry x (done_of f).evicted) None (last_use x h))
-    (λ x w. Weighs x w h) (λ x w. Weighs x w h) (length h) (length h) (without_row (entry_of key) (without_rows (done_of f).evicted s.tracked))
-    (λ x. sym (both_none (same_entry (entry_of key) x) (has_entry x (done_of f).evicted) (last_use x h))) (λ x w t h. h) (omega arith)
-    (Ordered-without (λ x. cond (has_entry x (done_of f).evicted) None (last_use x h)) (λ x w. Weighs x w h) (entry_of key) (length h) (without_rows (done_of f).evicted s.tracked)
-    (Ordered-without_all (λ x. last_use x h) (λ x w. Weighs x w h) (done_of f).evicted (length h) s.tracked (to_ordered s.tracked h o))))
+    only_departs (λ x. same_entry (entry_of key) x || has_entry x (entries_of (done_of f).evicted)) (call_at t (Put key pieces) g (Err f)) h (without_row (entry_of key) (without_rows (entries_of (done_of f).evicted) s.tracked))
+    (record { departs = λ x. ap (λ v. (v && same_entry (entry_of key) x) || has_entry x (cond v (entries_of (done_of f).evicted) [])) e; admits = λ x. refl; hits = λ x. refl })
+    (Ordered-as (λ x. cond (same_entry (entry_of key) x) None (cond (has_entry x (entries_of (done_of f).evicted)) None (last_use x h))) (λ x. cond (same_entry (entry_of key) x || has_entry x (entries_of (done_of f).evicted)) None (last_use x h))
+    (λ x w. Weighs x w h) (λ x w. Weighs x w h) (length h) (length h) (without_row (entry_of key) (without_rows (entries_of (done_of f).evicted) s.tracked))
+    (λ x. sym (both_none (same_entry (entry_of key) x) (has_entry x (entries_of (done_of f).evicted)) (last_use x h))) (λ x w t h. h) (omega arith)
+    (Ordered-without (λ x. cond (has_entry x (entries_of (done_of f).evicted)) None (last_use x h)) (λ x w. Weighs x w h) (entry_of key) (length h) (without_rows (entries_of (done_of f).evicted) s.tracked)
+    (Ordered-without_all (λ x. last_use x h) (λ x w. Weighs x w h) (entries_of (done_of f).evicted) (length h) s.tracked (to_ordered s.tracked h o))))
 
 -- a fault that did nothing
-quiet_departs : (e : Entry) (done : Done) → done ≡ nothing_done → ((done.stored && false) || has_entry e (cond done.stored done.evicted [])) ≡ false
-quiet_departs e done i = subst (λ (d : Done). ((d.stored && false) || has_entry e (cond d.stored d.evicted [])) ≡ false) (sym i) refl
+quiet_departs : (e : Entry) (done : Done) → done ≡ nothing_done → ((done.stored && false) || has_entry e (cond done.stored (entries_of done.evicted) [])) ≡ false
+quiet_departs e done i = subst (λ (d : Done). ((d.stored && false) || has_entry e (cond d.stored (entries_of d.evicted) [])) ≡ false) (sym i) refl
 
 pub fault_used : (s : State) (t : MomentValue) (g : Option Given) (action : Action) (f : TierFault) (h : History) → AllowsBy (refusal s action) s t action g (Err f)
     → IsOrderOfUse s.tracked h → IsOrderOfUse (undone s action (done_of f)).tracked (call_at t action g (Err f) ∷ h)
@@ -138,7 +138,7 @@ hit_use v false n old e = rw e refl
 
 look_used : (s : State) (t : MomentValue) (g : Option Given) (i : ℕ) (q : Request) (b : Option FinishedBody) (a : Answer) (h : History) → opened_for i h ≡ Some q.entry
     → ((x : FinishedBody) → b ≡ Some x → IsBody (stored_key q.entry) x h) → a ≡ look_answer t b
-    → IsOrderOfUse s.tracked h → IsOrderOfUse (look_behind s t i q b).tracked (call_at t (LookUp i) g (Ok a) ∷ h)
+    → IsOrderOfUse s.tracked h → IsOrderOfUse (after_look_up s t i q b).tracked (call_at t (LookUp i) g (Ok a) ∷ h)
 look_used s t g i q None a h open_for is ae o =
     subst (λ (y : Answer). IsOrderOfUse s.tracked (call_at t (LookUp i) g (Ok y) ∷ h)) (sym ae)
     (idle (call_at t (LookUp i) g (Ok Absent)) h s.tracked (record { departs = λ e. refl; admits = λ e. refl; hits = λ e. refl }) o)
@@ -156,13 +156,13 @@ look_used s t g i q (Some x) a h open_for is ae o =
 
 request_used : (s : State) (t : MomentValue) (g : Option Given) (i : ℕ) (a : Answer) (h : History) (o : Option Request) → Fits s h → get s.requests i ≡ o
     → MatchOption o ⊥ (λ q. (a ≡ look_answer t (body_for q s.bodies)) × (use_is_too_heavy q.entry (body_for q s.bodies) s.tracked ≡ false))
-    → IsOrderOfUse s.tracked h → IsOrderOfUse (on_request s o (λ q. look_behind s t i q (body_for q s.bodies))).tracked (call_at t (LookUp i) g (Ok a) ∷ h)
+    → IsOrderOfUse s.tracked h → IsOrderOfUse (on_request s o (λ q. after_look_up s t i q (body_for q s.bodies))).tracked (call_at t (LookUp i) g (Ok a) ∷ h)
 request_used s t g i a h None fits e p o = absurd p
 request_used s t g i a h (Some q) fits e p o =
     look_used s t g i q (body_for q s.bodies) a h (of_request s h fits i q e).0 (λ x there. body_now-is (stored_key q.entry) x h (sym (fits.bodies (stored_key q.entry)) ∙ there)) p.0 o
 
 read_used : (s : State) (t : MomentValue) (g : Option Given) (i : ℕ) (a : Answer) (h : History) (o : Option Request) → MatchOption o ⊥ (λ q. a ≡ read_answer q.reader)
-    → IsOrderOfUse s.tracked h → IsOrderOfUse (on_request s o (λ q. record s { requests = insert s.requests i (read_behind q) })).tracked (call_at t (Read i) g (Ok a) ∷ h)
+    → IsOrderOfUse s.tracked h → IsOrderOfUse (on_request s o (λ q. record s { requests = insert s.requests i (after_read q) })).tracked (call_at t (Read i) g (Ok a) ∷ h)
 read_used s t g i a h None p o = absurd p
 read_used s t g i a h (Some q) p o = by_reader q.reader p
   where
@@ -179,7 +179,7 @@ or_nothing true = refl
 or_nothing false = refl
 
 purge_used : (s : State) (t : MomentValue) (g : Option Given) (key : CacheKeyValue) (h : History) (v : Bool) → IsOrderOfUse s.tracked h
-    → IsOrderOfUse (purge_behind s key v).tracked (call_at t (Purge key) g (Ok (Purged v)) ∷ h)
+    → IsOrderOfUse (after_purge s key v).tracked (call_at t (Purge key) g (Ok (Purged v)) ∷ h)
 purge_used s t g key h false o = idle (call_at t (Purge key) g (Ok (Purged false))) h s.tracked (record { departs = λ e. refl; admits = λ e. refl; hits = λ e. refl }) o
 purge_used s t g key h true o =
     only_departs (λ e. same_entry (entry_of key) e) (call_at t (Purge key) g (Ok (Purged true))) h (without_row (entry_of key) s.tracked)
@@ -199,7 +199,7 @@ put_weight W b r tracked h e w is used =
       | inr u ↦ subst (λ (v : Bool). WeighsBy false v false tracked e w (Some b) h (W e w)) (sym u.0) u.1
     ])
 
--- the rows behind an admission are the order of use of the put with nothing gone yet
+-- the rows after an admission are the order of use of the put with nothing gone yet
 pub admitted_used : (s : State) (t : MomentValue) (g : Option Given) (key : CacheKeyValue) (pieces : List (List ℕ)) (b : FinishedBody) (n : ℕ) (h : History) → stored_in g ≡ Some b
     → IsOrderOfUse s.tracked h → IsOrderOfUse (admitted b.entry (weight_for b) s.tracked) (call_at t (Put key pieces) g (Ok (Finished n [])) ∷ h)
 admitted_used s t g key pieces b n h is o =
@@ -220,24 +220,24 @@ gone_weight : (d u a tracked : Bool) (n : ℕ) (old : Option ℕ) (e : Entry) (w
 gone_weight true u a tracked n old e w new h Was there was = cc
 gone_weight false u a tracked n old e w new h Was there was = was
 
--- and behind the evictions, of the put as it was answered
-pub evicted_used : (t : MomentValue) (g : Option Given) (key : CacheKeyValue) (pieces : List (List ℕ)) (n : ℕ) (es : List Entry) (rows : List Tracked) (h : History)
-    → IsOrderOfUse rows (call_at t (Put key pieces) g (Ok (Finished n [])) ∷ h) → IsOrderOfUse (without_rows es rows) (call_at t (Put key pieces) g (Ok (Finished n es)) ∷ h)
+-- and after the evictions, of the put as it was answered
+pub evicted_used : (t : MomentValue) (g : Option Given) (key : CacheKeyValue) (pieces : List (List ℕ)) (n : ℕ) (es : List Evicted) (rows : List Tracked) (h : History)
+    → IsOrderOfUse rows (call_at t (Put key pieces) g (Ok (Finished n [])) ∷ h) → IsOrderOfUse (without_rows (entries_of es) rows) (call_at t (Put key pieces) g (Ok (Finished n es)) ∷ h)
 evicted_used t g key pieces n es rows h o =
     let first : Call = call_at t (Put key pieces) g (Ok (Finished n [])) in
     let call : Call = call_at t (Put key pieces) g (Ok (Finished n es)) in
-    from_ordered (without_rows es rows) (call ∷ h)
-    (Ordered-as (λ e. cond (has_entry e es) None (last_use e (first ∷ h))) (λ e. last_use e (call ∷ h)) (λ e w. Weighs e w (first ∷ h)) (λ e w. Weighs e w (call ∷ h))
-    (length (first ∷ h)) (length (call ∷ h)) (without_rows es rows)
-    (λ e. gone_use (has_entry e es) (uses e call h) (length h) (last_use e h))
-    (λ e w there was. gone_weight (has_entry e es) (uses e call h) (admits e call h) (is_tracked e h) (length h) (last_use e h) e w (written_by call h) h (Weighs e w h) there was)
-    (omega arith) (Ordered-without_all (λ e. last_use e (first ∷ h)) (λ e w. Weighs e w (first ∷ h)) es (length (first ∷ h)) rows (to_ordered rows (first ∷ h) o)))
+    from_ordered (without_rows (entries_of es) rows) (call ∷ h)
+    (Ordered-as (λ e. cond (has_entry e (entries_of es)) None (last_use e (first ∷ h))) (λ e. last_use e (call ∷ h)) (λ e w. Weighs e w (first ∷ h)) (λ e w. Weighs e w (call ∷ h))
+    (length (first ∷ h)) (length (call ∷ h)) (without_rows (entries_of es) rows)
+    (λ e. gone_use (has_entry e (entries_of es)) (uses e call h) (length h) (last_use e h))
+    (λ e w there was. gone_weight (has_entry e (entries_of es)) (uses e call h) (admits e call h) (is_tracked e h) (length h) (last_use e h) e w (written_by call h) h (Weighs e w h) there was)
+    (omega arith) (Ordered-without_all (λ e. last_use e (first ∷ h)) (λ e w. Weighs e w (first ∷ h)) (entries_of es) (length (first ∷ h)) rows (to_ordered rows (first ∷ h) o)))
 
 put_used : (s : State) (t : MomentValue) (g : Option Given) (key : CacheKeyValue) (pieces : List (List ℕ)) (a : Answer) (h : History) → IsPutAnswer s g a → IsOrderOfUse s.tracked h
-    → IsOrderOfUse (put_behind s g a).tracked (call_at t (Put key pieces) g (Ok a) ∷ h) × EvictsBy s.settings.limit s.settings.watermark (record { moment = t; action = Put key pieces }) (Ok a) g h
+    → IsOrderOfUse (after_put s g a).tracked (call_at t (Put key pieces) g (Ok a) ∷ h) × EvictsBy s.settings.limit s.settings.watermark (record { moment = t; action = Put key pieces }) (Ok a) g h
 put_used s t (Some (Stored b)) key pieces (Finished n es) h p o = (
   evicted_used t (Some (Stored b)) key pieces n es (admitted b.entry (weight_for b) s.tracked) h (admitted_used s t (Some (Stored b)) key pieces b n h refl o),
-  (admitted b.entry (weight_for b) s.tracked, admitted_used s t (Some (Stored b)) key pieces b 0 h refl o, p.2),
+  (admitted b.entry (weight_for b) s.tracked, (b, refl, admitted_used s t (Some (Stored b)) key pieces b 0 h refl o), p.2, p.3),
 )
 put_used s t (Some (given.Uncacheable reason)) key pieces (answer.Uncacheable shown) h p o =
     (idle (call_at t (Put key pieces) (Some (given.Uncacheable reason)) (Ok (answer.Uncacheable shown))) h s.tracked (record { departs = λ e. refl; admits = λ e. refl; hits = λ e. refl }) o, refl)
@@ -248,9 +248,9 @@ put_used s t (Some given.BeforeEpoch) key pieces _ h p o = absurd p
 put_used s t (Some (given.Uncacheable reason)) key pieces _ h p o = absurd p
 put_used s t None key pieces _ h p o = absurd p
 
--- the order of use behind an answer, and its evictions
-abbrev pub OrderBehind : State → MomentValue → Option Given → Action → Answer → History → Type 0
-OrderBehind s t g action a h = IsOrderOfUse (answered s t action g a).tracked (call_at t action g (Ok a) ∷ h) × EvictsBy s.settings.limit s.settings.watermark (record { moment = t; action = action }) (Ok a) g h
+-- the order of use after an answer, and its evictions
+abbrev pub OrderAfter : State → MomentValue → Option Given → Action → Answer → History → Type 0
+OrderAfter s t g action a h = IsOrderOfUse (answered s t action g a).tracked (call_at t action g (Ok a) ∷ h) × EvictsBy s.settings.limit s.settings.watermark (record { moment = t; action = action }) (Ok a) g h
 
 look_evicts : (limit : ℕ) (mark : Option ℕ) (e : Event) (t : MomentValue) (g : Option Given) (a : Answer) (h : History) (s : State) (o : Option Request)
     → MatchOption o ⊥ (λ q. (a ≡ look_answer t (body_for q s.bodies)) × (use_is_too_heavy q.entry (body_for q s.bodies) s.tracked ≡ false)) → EvictsBy limit mark e (Ok a) g h
@@ -270,9 +270,9 @@ read_evicts limit mark e g a h (Some q) p = by_reader q.reader p
     by_reader (Unread bytes) i = subst (λ (y : Answer). EvictsBy limit mark e (Ok y) g h) (sym i) refl
     by_reader Spent i = subst (λ (y : Answer). EvictsBy limit mark e (Ok y) g h) (sym i) refl
 
-answer_used : (s : State) (t : MomentValue) (g : Option Given) (action : Action) (a : Answer) (h : History) → Fits s h → KeepsLimits s → IsAnswer s t action g a → IsOrderOfUse s.tracked h → OrderBehind s t g action a h
+answer_used : (s : State) (t : MomentValue) (g : Option Given) (action : Action) (a : Answer) (h : History) → Fits s h → KeepsLimits s → IsAnswer s t action g a → IsOrderOfUse s.tracked h → OrderAfter s t g action a h
 answer_used s t g (Open i key) a h fits keeps p o =
-    subst (λ (y : Answer). OrderBehind s t g (Open i key) y h) (sym p)
+    subst (λ (y : Answer). OrderAfter s t g (Open i key) y h) (sym p)
     (idle (call_at t (Open i key) g (Ok Opened)) h s.tracked (record { departs = λ e. refl; admits = λ e. refl; hits = λ e. refl }) o, refl)
 answer_used s t g (LookUp i) a h fits keeps p o = (
   request_used s t g i a h (get s.requests i) fits refl p o,
@@ -281,31 +281,34 @@ answer_used s t g (LookUp i) a h fits keeps p o = (
 answer_used s t g (Read i) a h fits keeps p o =
     (read_used s t g i a h (get s.requests i) p o, read_evicts s.settings.limit s.settings.watermark (record { moment = t; action = Read i }) g a h (get s.requests i) p)
 answer_used s t g (Drop i) a h fits keeps p o =
-    subst (λ (y : Answer). OrderBehind s t g (Drop i) y h) (sym p)
+    subst (λ (y : Answer). OrderAfter s t g (Drop i) y h) (sym p)
     (idle (call_at t (Drop i) g (Ok Dropped)) h s.tracked (record { departs = λ e. refl; admits = λ e. refl; hits = λ e. refl }) o, refl)
 answer_used s t g (Purge key) a h fits keeps p o =
-    subst (λ (y : Answer). OrderBehind s t g (Purge key) y h) (sym p) (purge_used s t g key h (is_some (body_of (key_asked key) s.bodies)) o, refl)
+    subst (λ (y : Answer). OrderAfter s t g (Purge key) y h) (sym p) (purge_used s t g key h (is_some (body_of (key_asked key) s.bodies)) o, refl)
 answer_used s t g (Put key pieces) a h fits keeps p o = put_used s t g key pieces a h p o
 
 -- a refused call evicts nothing, but for a put that is refused in the midst of it
-none_gone : (done : Done) → done ≡ nothing_done → evicted_before done ≡ []
-none_gone done e = subst (λ (d : Done). evicted_before d ≡ []) (sym e) refl
+none_gone : (done : Done) → done ≡ nothing_done → done.stored ≡ false
+none_gone done e = subst (λ (d : Done). d.stored ≡ false) (sym e) refl
 
 put_gone : (s : State) (t : MomentValue) (g : Option Given) (key : CacheKeyValue) (pieces : List (List ℕ)) (f : TierFault) (h : History) → IsPutFault s g f → IsOrderOfUse s.tracked h
     → EvictsBy s.settings.limit s.settings.watermark (record { moment = t; action = Put key pieces }) (Err f) g h
 put_gone s t (Some (Stored b)) key pieces f h p o = elim p [
-  | inl heavy ↦ inl (subst (λ (x : TierFault). evicted_before (done_of x) ≡ []) (sym heavy.0) refl)
+  | inl heavy ↦ inr (rows, order, no_weights (done_of f).evicted (subst (λ (x : TierFault). (done_of x).evicted ≡ []) (sym heavy.0) refl), inl (subst (λ (x : TierFault). evicted_before (done_of x) ≡ []) (sym heavy.0) refl))
   | inr q ↦ elim q [
-    | inl long ↦ inl (subst (λ (x : TierFault). evicted_before (done_of x) ≡ []) (sym long.0) refl)
-    | inr cut ↦
-        let rows : List Tracked = admitted b.entry (weight_for b) s.tracked in
-        inr (
-          rows,
-          admitted_used s t (Some (Stored b)) key pieces b 0 h refl o,
-          subst (λ (x : TierFault). IsBegunEviction s.settings.limit s.settings.watermark rows (evicted_before (done_of x))) (sym cut.1) cut.2,
-        )
+    | inl long ↦ inr (rows, order, no_weights (done_of f).evicted (subst (λ (x : TierFault). (done_of x).evicted ≡ []) (sym long.0) refl), inl (subst (λ (x : TierFault). evicted_before (done_of x) ≡ []) (sym long.0) refl))
+    | inr cut ↦ inr (rows, order, subst (λ (x : TierFault). AreWeighed rows (done_of x).evicted) (sym cut.1) cut.4, inr (subst (λ (x : TierFault). IsBegunEviction s.settings.limit s.settings.watermark rows (evicted_before (done_of x))) (sym cut.1) cut.2))
   ]
 ]
+  where
+    rows : List Tracked
+    rows = admitted b.entry (weight_for b) s.tracked
+
+    no_weights : (es : List Evicted) → es ≡ [] → AreWeighed rows es
+    no_weights es e = subst (AreWeighed rows) (sym e) (λ k d l. absurd (omega (arith, l)))
+
+    order : IsOrderAfter rows (record { moment = t; action = Put key pieces }) (Some (Stored b)) h
+    order = (b, refl, admitted_used s t (Some (Stored b)) key pieces b 0 h refl o)
 put_gone s t (Some given.Incomplete) key pieces f h p o = inl (none_gone (done_of f) (ap done_of p))
 put_gone s t (Some given.BadHead) key pieces f h p o = inl (none_gone (done_of f) (ap done_of p))
 put_gone s t (Some given.BeforeEpoch) key pieces f h p o = inl (none_gone (done_of f) (ap done_of p))

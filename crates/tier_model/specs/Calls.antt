@@ -1,7 +1,7 @@
 -- Calls of a tier, and what one call tells: what it wrote, removed and read.
 use Rattle.std.specs.Prelude.{◌≡◌, ℕ, ◌==◌, Bool, false, ◌&&◌, ◌||◌, List, [], ◌∷◌, ◌++◌, if◌then◌else◌, Option, Some, None, Result, Ok, Err}
 use Rattle.tier_entries.specs.Keys.{entry_of, stored_key, same_key, has_key}
-use Rattle.tier_model.specs.declared.rows.FinishedBody.{FinishedBody}
+use Rattle.tier_model.specs.declared.state.FinishedBody.{FinishedBody}
 use Rattle.tier_model.specs.declared.given.Given.{Given}
 use Rattle.tier_model.specs.declared.given.Given.TheVariants.{Stored}
 use Rattle.tier_model.specs.declared.event.Event.{Event}
@@ -12,7 +12,7 @@ use Rattle.tier_model.specs.declared.event.Answer.TheVariants.{Opened, Found, By
 use Rattle.tier_model.specs.declared.event.Done.{Done}
 use Rattle.tier_model.specs.declared.event.TierFault.{TierFault}
 use Rattle.tier_model.specs.declared.event.TierFault.TheVariants.{NumbersSpent, TooHeavy, TooLong, Memory}
-use Rattle.tier_model.specs.Keys.{StoredKey, Entry, key_asked}
+use Rattle.tier_model.specs.Keys.{StoredKey, Entry, entries_of, key_asked}
 
 -- what a call answered, or the fault that refused it
 abbrev pub Outcome : Type 0
@@ -34,7 +34,7 @@ AreCallsOf [] [] [] = Unit {0}
 AreCallsOf (e ∷ es) (o ∷ os) (c ∷ cs) = (c.event ≡ e) × (c.outcome ≡ o) × AreCallsOf es os cs
 AreCallsOf _ _ _ = ⊥
 
--- the history behind further calls
+-- the history after further calls
 abbrev pub extended : History → List Call → History
 extended past [] = past
 extended past (c ∷ cs) = extended (c ∷ past) cs
@@ -53,11 +53,11 @@ done_of _ = nothing_done
 
 -- the entries that went before a refusal; where nothing was stored none did
 abbrev pub evicted_before : Done → List Entry
-evicted_before done = if done.stored then done.evicted else []
+evicted_before done = if done.stored then entries_of done.evicted else []
 
 -- the entries that went
 abbrev pub evicted_by : Outcome → List Entry
-evicted_by (Ok (Finished length evicted)) = evicted
+evicted_by (Ok (Finished length evicted)) = entries_of evicted
 evicted_by (Ok _) = []
 evicted_by (Err fault) = evicted_before (done_of fault)
 
@@ -74,7 +74,7 @@ abbrev pub was_stored : Outcome → Bool
 was_stored (Ok answer) = false
 was_stored (Err fault) = (done_of fault).stored
 
--- the call is a removal of k: a purge, the eviction of an entry with that stored key, or a refusal behind the storing
+-- the call is a removal of k: a purge, the eviction of an entry with that stored key, or a refusal after the storing
 abbrev pub removes : StoredKey → Call → Bool
 removes k c = purges k c.event.action || ((was_stored c.outcome && stores_under k c.event.action) || has_key k (evicted_by c.outcome))
 
@@ -99,15 +99,15 @@ is_of k (Some w) = same_key (stored_key w.entry) k
 abbrev pub writes : StoredKey → Call → History → Bool
 writes k c before = is_of k (written_by c before)
 
-abbrev pub entry_behind : ℕ → Action → Outcome → Option Entry → Option Entry
-entry_behind id (Open request key) (Ok Opened) old = if request == id then Some (entry_of key) else old
-entry_behind id (Drop request) (Ok Dropped) old = if request == id then None else old
-entry_behind id _ _ old = old
+abbrev pub entry_after : ℕ → Action → Outcome → Option Entry → Option Entry
+entry_after id (Open request key) (Ok Opened) old = if request == id then Some (entry_of key) else old
+entry_after id (Drop request) (Ok Dropped) old = if request == id then None else old
+entry_after id _ _ old = old
 
 -- the entry that a request was last opened for, if it is open
 abbrev pub opened_for : ℕ → History → Option Entry
 opened_for id [] = None
-opened_for id (c ∷ h) = entry_behind id c.event.action c.outcome (opened_for id h)
+opened_for id (c ∷ h) = entry_after id c.event.action c.outcome (opened_for id h)
 
 abbrev pub is_hit : ℕ → Action → Outcome → Bool
 is_hit id (LookUp request) (Ok (Found fresh complete)) = (request == id) && complete

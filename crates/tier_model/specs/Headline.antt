@@ -1,13 +1,15 @@
 -- The headline: what a history says of the answers in it. It names no state.
 use Rattle.std.specs.Prelude.{◌≡◌, ℕ, true, [], ◌∷◌, ◌++◌, Option, Some, Ok}
+use Rattle.std.specs.List.{AllByRecursion}
 use Rattle.cache_words.specs.Time.{MomentValue, at_most}
 use Rattle.tier_entries.specs.Keys.{stored_key}
-use Rattle.tier_model.specs.declared.rows.FinishedBody.{FinishedBody}
+use Rattle.tier_model.specs.declared.state.FinishedBody.{FinishedBody}
 use Rattle.tier_model.specs.declared.event.Action.{Action}
 use Rattle.tier_model.specs.declared.event.Action.TheVariants.{LookUp, Read, Purge}
 use Rattle.tier_model.specs.declared.event.Answer.{Answer}
 use Rattle.tier_model.specs.declared.event.Answer.TheVariants.{Found, Absent, Purged}
 use Rattle.tier_model.specs.Keys.{StoredKey, Entry, key_asked}
+use Rattle.tier_model.specs.Response.{IsGiven}
 use Rattle.tier_model.specs.Calls.{History, Outcome, opened_for, bytes_read, bytes_answered}
 use Rattle.tier_model.specs.Histories.{IsFound, IsBody, HasHit, IsWithin}
 use Rattle.tier_model.specs.Use.{BodiesAreTracked, EvictsLawfully}
@@ -43,9 +45,11 @@ abbrev pub Headline : History → Type 0
 Headline [] = Unit {0}
 Headline (c ∷ h) = IsRight c.event.moment c.event.action c.outcome h × Headline h
 
--- the headline of a tier that began empty under these limits: its answers are right, finished bodies keep both limits, each
--- body's entry is tracked with at least its length, and what went to make room went lawfully
+-- the headline of a tier that began empty under these limits: each put's response gives what its own bytes give, the answers
+-- are right, finished bodies keep both limits, each body's entry is tracked with at least its length, and what went to make
+-- room went lawfully
 pub record HoldsHeadline (limit : ℕ) (watermark : Option ℕ) (h : History) : Type 0 where
+  pub given : AllByRecursion (λ c. IsGiven c.event.moment c.event.action c.given) h
   pub answers : Headline h
   pub within : IsWithin limit watermark h
   pub tracked : BodiesAreTracked h

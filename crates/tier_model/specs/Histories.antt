@@ -1,9 +1,9 @@
--- What stands behind a history of calls: writes that are alive, and what a key has.
+-- What a history of calls leaves: writes that are alive, and what a key has.
 use Rattle.std.specs.Prelude.{◌≡◌, ℕ, ◌≤◌, true, false, List, [], ◌∷◌, ◌++◌, length, Option, Some}
 use Rattle.std.specs.List.{AllByRecursion, sum_by}
 use Rattle.tier_entries.specs.Keys.{stored_key, same_key}
 use Rattle.tier_entries.specs.Rows.{is_past}
-use Rattle.tier_model.specs.declared.rows.FinishedBody.{FinishedBody}
+use Rattle.tier_model.specs.declared.state.FinishedBody.{FinishedBody}
 use Rattle.tier_model.specs.Keys.{StoredKey, Entry}
 use Rattle.tier_model.specs.Calls.{Call, History, removes, written_by, writes, opened_for, hits, ends_reader}
 
@@ -32,7 +32,7 @@ pub record IsBody (k : StoredKey) (w : FinishedBody) (h : History) : Type 0 wher
   pub alive : IsAlive k w h
   pub last : NoneWrites k alive.since (alive.call ∷ alive.before)
 
--- the request's last look-up found all of w; since are the calls behind it
+-- the request's last look-up found all of w; since are the calls after it
 pub record HasHit (id : ℕ) (w : FinishedBody) (since h : History) : Type 0 where
   pub call : Call
   pub before : History

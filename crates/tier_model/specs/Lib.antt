@@ -2,6 +2,7 @@ pub mod Keys
 pub mod Response
 pub mod Calls
 pub mod Histories
+pub mod Requests
 pub mod Use
 pub mod Headline
 pub mod Rows

@@ -1,10 +1,10 @@
--- The report of a tier: of a state, and of the history behind it.
+-- The report of a tier: of a state, and of the history after it.
 use Rattle.std.specs.Prelude.{◌≡◌, ℕ, ◌+◌, ◌-◌, ◌^◌, min, Bool, true, false, List, [], ◌∷◌, length, if◌then◌else◌, Some, Ok}
 use Rattle.std.specs.List.{sum_by, AllByRecursion}
 use Rattle.tier_entries.specs.Keys.{stored_key}
 use Rattle.tier_entries.specs.declared.rows.Tracked.{Tracked}
 use Rattle.tier_entries.specs.Rows.{all_weights}
-use Rattle.tier_model.specs.declared.rows.FinishedBody.{FinishedBody}
+use Rattle.tier_model.specs.declared.state.FinishedBody.{FinishedBody}
 use Rattle.tier_model.specs.declared.event.Answer.TheVariants.{Found, Absent}
 use Rattle.tier_model.specs.declared.report.Report.{Report}
 use Rattle.tier_model.specs.Keys.{StoredKey}

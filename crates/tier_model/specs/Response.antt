@@ -1,5 +1,5 @@
 -- What the bytes of a response give at the moment at which they come.
-use Rattle.std.specs.Prelude.{◌≡◌, ℕ, ◌^◌, ◌≤◌, ◌==◌, nat_le, nat_lt, ◌&&◌, ◌||◌, Bool, false, List, [], ◌∷◌, ◌++◌, length, take, codes, map, filter, if◌then◌else◌, Option, Some, None, pos, int_lt, All, bytes_eq}
+use Rattle.std.specs.Prelude.{◌≡◌, ℕ, ◌^◌, ◌<◌, ◌≤◌, ◌==◌, nat_le, nat_lt, ◌&&◌, ◌||◌, Bool, true, false, List, [], ◌∷◌, ◌++◌, length, take, codes, map, filter, if◌then◌else◌, Option, Some, None, pos, int_lt, bytes_eq, ◌⊎◌}
 use Rattle.std.specs.Char.{is_ascii_digit}
 use Rattle.std.specs.List.{flat_map, list_all}
 use Rattle.std.specs.Str.Parse.{digits_value}
@@ -9,8 +9,11 @@ use Rattle.cache_heads.specs.declared.reason.NoCacheReason.TheVariants.{OriginNo
 use Rattle.http_header.specs.Token.{lowercase}
 use Rattle.httparse.specs.Grammar.{ResponseHead, ReadsResponse, HasNoResponse, status_code}
 use Rattle.httparse.specs.Spans.{name_and_value}
+use Rattle.tier_entries.specs.Keys.{entry_of}
 use Rattle.tier_model.specs.Keys.{Entry}
-use Rattle.tier_model.specs.declared.rows.FinishedBody.{FinishedBody}
+use Rattle.tier_model.specs.declared.event.Action.{Action}
+use Rattle.tier_model.specs.declared.event.Action.TheVariants.{Put}
+use Rattle.tier_model.specs.declared.state.FinishedBody.{FinishedBody}
 use Rattle.tier_model.specs.declared.given.Given.{Given}
 use Rattle.tier_model.specs.declared.given.Given.TheVariants.{Stored, Uncacheable, Incomplete, BadHead, BeforeEpoch}
 
@@ -42,7 +45,7 @@ first_length (value ∷ values) = length_in value
 abbrev pub body_length : ℕ → List (List ℕ × List ℕ) → Option ℕ
 body_length status lines = if status == 204 || status == 304 then Some 0 else first_length (values_of (codes "content-length") lines)
 
--- the body among the bytes behind the head: so many, or without a length all of them; none where fewer came
+-- the body among the bytes after the head: so many, or without a length all of them; none where fewer came
 abbrev pub body_within : Option ℕ → List ℕ → Option (List ℕ)
 body_within None rest = Some rest
 body_within (Some n) rest = if nat_le n (length rest) then Some (take n rest) else None
@@ -60,27 +63,59 @@ given_of arrival entry (Some body) (Some until) =
     then BeforeEpoch
     else Stored (record { entry = entry; bytes = body; fresh_until = until })
 
--- what a head of this status and these header lines gives, with the bytes behind it. The tier knows no default lifetimes, and
+abbrev pub has_short_name : List ℕ × List ℕ → Bool
+has_short_name line = nat_le (length line.0) 65535
+
+-- a status from 100, and names of at most 65535 bytes
+abbrev pub is_within_bounds : ℕ → List (List ℕ × List ℕ) → Bool
+is_within_bounds status lines = nat_le 100 status && list_all has_short_name lines
+
+-- what a head of this status and these header lines gives, with the bytes after it. The tier knows no default lifetimes, and
 -- its requests have no Authorization
 unfoldable pub given_by : MomentValue → Entry → ℕ → List (List ℕ × List ℕ) → List ℕ → Given
 given_by arrival entry status lines rest =
-    given_of arrival entry (body_within (body_length status lines) rest)
+    if is_within_bounds status lines
+    then given_of arrival entry (body_within (body_length status lines) rest)
     (fresh_until arrival (values_of (codes "cache-control") lines) (values_of (codes "expires") lines) false None)
+    else BadHead
 
--- a head within bounds: at most 256 header lines, names of at most 65535 bytes, a status from 100
-pub record IsReadable (h : ResponseHead) : Type 0 where
-  pub lines : length h.fields ≤ 256
-  pub names : All (λ f. length f.name ≤ 65535) h.fields
-  pub status : 100 ≤ status_code h
-
--- the bytes have such a head at their front, or are the beginning of one (RFC 9112, as the parser's default options read it)
+-- the bytes, or these with more after them, begin with a head that the parser's default options read (RFC 9112), of at most 256 lines
 abbrev pub IsPlain : List ℕ → Type 0
-IsPlain bytes = (more : List ℕ) × (h : ResponseHead) × (rest : List ℕ) × ReadsResponse (bytes ++ more) h rest × IsReadable h
+IsPlain bytes = (more : List ℕ) × (h : ResponseHead) × (rest : List ℕ) × ReadsResponse (bytes ++ more) h rest × (length h.fields ≤ 256)
 
--- what a response's bytes give, coming for an entry at a moment: by its head, where that is whole; a plain beginning of a head is
--- incomplete, and never a bad head. What the parser's lenient options make of other bytes is left open
-pub record Gives (arrival : MomentValue) (entry : Entry) (bytes : List ℕ) (given : Given) : Type 0 where
-  pub whole : (h : ResponseHead) (rest : List ℕ) → ReadsResponse bytes h rest → IsReadable h → given ≡ given_by arrival entry (status_code h) (map name_and_value h.fields) rest
-  pub begun : HasNoResponse bytes → IsPlain bytes → given ≡ Incomplete
-  pub refused : given ≡ BadHead → ¬ IsPlain bytes
-  pub of_entry : (body : FinishedBody) → given ≡ Stored body → body.entry ≡ entry
+-- that head is within its bounds, too
+abbrev pub IsWellFormed : List ℕ → Type 0
+IsWellFormed bytes =
+    (more : List ℕ) × (h : ResponseHead) × (rest : List ℕ) × ReadsResponse (bytes ++ more) h rest × (length h.fields ≤ 256)
+    × (is_within_bounds (status_code h) (map name_and_value h.fields) ≡ true)
+
+-- what the parser made of a response's bytes: a whole head, by its status and its lines, with the bytes after it; the beginning
+-- of a head; or no head
+pub data Reading : Type 0 where
+  whole_head : ℕ → List (List ℕ × List ℕ) → List ℕ → Reading
+  begun_head : Reading
+  no_head : Reading
+
+-- r is a reading of the bytes. By the parser's default options it is the head at their front, or the beginning of one; a head of
+-- more than 256 lines is never read. What the lenient options make of other bytes is left open, but for what comes after a head
+pub record IsReading (bytes : List ℕ) (r : Reading) : Type 0 where
+  pub whole : (h : ResponseHead) (rest : List ℕ) → ReadsResponse bytes h rest → length h.fields ≤ 256 → r ≡ whole_head (status_code h) (map name_and_value h.fields) rest
+  pub begins : HasNoResponse bytes → IsPlain bytes → r ≡ begun_head
+  pub long : (more : List ℕ) (h : ResponseHead) (rest : List ℕ) → ReadsResponse (bytes ++ more) h rest → 256 < length h.fields → (r ≡ no_head) ⊎ (r ≡ begun_head)
+  pub within : (status : ℕ) (lines : List (List ℕ × List ℕ)) (rest : List ℕ) → r ≡ whole_head status lines rest → (front : List ℕ) × (bytes ≡ front ++ rest)
+
+-- what a reading gives, coming for an entry at a moment
+abbrev pub given_in : MomentValue → Entry → Reading → Given
+given_in arrival entry (whole_head status lines rest) = given_by arrival entry status lines rest
+given_in arrival entry begun_head = Incomplete
+given_in arrival entry no_head = BadHead
+
+-- what a response's bytes give, coming for an entry at a moment
+abbrev pub Gives : MomentValue → Entry → List ℕ → Given → Type 0
+Gives arrival entry bytes given = (r : Reading) × IsReading bytes r × (given ≡ given_in arrival entry r)
+
+-- what an event's response gives, where it has one and it was read
+abbrev pub IsGiven : MomentValue → Action → Option Given → Type 0
+IsGiven t (Put key pieces) (Some given) = Gives t (entry_of key) (joined pieces) given
+IsGiven t action None = Unit {0}
+IsGiven t action (Some given) = ⊥

@@ -4,8 +4,8 @@ use Rattle.std.specs.FinMap.{FinMap, empty}
 use Rattle.std.specs.Ordering.{nat_cmp}
 use Rattle.cache_words.specs.Time.{DurationValue}
 use Rattle.tier_entries.specs.declared.rows.Tracked.{Tracked}
-use Rattle.tier_model.specs.declared.rows.FinishedBody.{FinishedBody}
-use Rattle.tier_model.specs.declared.rows.Request.{Request}
+use Rattle.tier_model.specs.declared.state.FinishedBody.{FinishedBody}
+use Rattle.tier_model.specs.declared.state.Request.{Request}
 
 -- what a tier was made with: the weight limit, the watermark on the number of entries, the age of a permit, the longest wait
 pub record Settings : Type 0 where

@@ -1,4 +1,4 @@
--- One event: the first refusal, the answers and faults that a state allows, and the state behind them.
+-- One event: the first refusal, the answers and faults that a state allows, and the state after them.
 use Rattle.std.specs.Prelude.{◌≡◌, ℕ, ◌+◌, ◌-◌, ◌^◌, min, nat_le, Bool, true, false, ◌&&◌, not, List, [], length, if◌then◌else◌, Option, Some, None, is_some, Ok, Err, MatchResult, MatchOption, ◌⊎◌}
 use Rattle.std.specs.FinMap.{get, insert, remove}
 use Rattle.cache_words.specs.Time.{MomentValue, at_most}
@@ -6,13 +6,13 @@ use Rattle.cache_words.specs.Key.{CacheKeyValue}
 use Rattle.tier_entries.specs.Keys.{entry_of, stored_key}
 use Rattle.tier_entries.specs.declared.rows.Tracked.{Tracked}
 use Rattle.tier_entries.specs.Rows.{weight_of, all_weights, admitted, used, without_row, without_rows, IsLawfulEviction, IsBegunEviction}
-use Rattle.tier_model.specs.Keys.{Entry, key_asked}
-use Rattle.tier_model.specs.declared.rows.FinishedBody.{FinishedBody}
-use Rattle.tier_model.specs.declared.rows.Request.{Request}
-use Rattle.tier_model.specs.declared.rows.Phase.{Phase}
-use Rattle.tier_model.specs.declared.rows.Phase.TheVariants.{CacheKey, Hit, Stale, Miss}
-use Rattle.tier_model.specs.declared.rows.Reader.{Reader}
-use Rattle.tier_model.specs.declared.rows.Reader.TheVariants.{Closed, Unread, Spent}
+use Rattle.tier_model.specs.Keys.{Entry, Evicted, entries_of, AreWeighed, key_asked}
+use Rattle.tier_model.specs.declared.state.FinishedBody.{FinishedBody}
+use Rattle.tier_model.specs.declared.state.Request.{Request}
+use Rattle.tier_model.specs.declared.state.Phase.{Phase}
+use Rattle.tier_model.specs.declared.state.Phase.TheVariants.{CacheKey, Hit, Stale, Miss}
+use Rattle.tier_model.specs.declared.state.Reader.{Reader}
+use Rattle.tier_model.specs.declared.state.Reader.TheVariants.{Closed, Unread, Spent}
 use Rattle.tier_model.specs.declared.given.Given.{Given}
 use Rattle.tier_model.specs.declared.given.Given.TheVariants.{Stored}
 use Rattle.tier_model.specs.declared.given.Given.TheVariants as given
@@ -25,7 +25,7 @@ use Rattle.tier_model.specs.declared.event.Answer.TheVariants.{Opened, Found, Ab
 use Rattle.tier_model.specs.declared.event.Done.{Done}
 use Rattle.tier_model.specs.declared.event.TierFault.{TierFault}
 use Rattle.tier_model.specs.declared.event.TierFault.TheVariants.{NoRequest, IdInUse, WrongPhase, TooHeavy, TooLong, Memory}
-use Rattle.tier_model.specs.Response.{joined, Gives}
+use Rattle.tier_model.specs.Response.{IsGiven}
 use Rattle.tier_model.specs.Calls.{Call, Outcome, nothing_done, done_of}
 use Rattle.tier_model.specs.Rows.{body_of, with_body, without_body, without_bodies, weight_for}
 use Rattle.tier_model.specs.State.{State}
@@ -55,7 +55,7 @@ refusal s (Drop id) = unless_open (get s.requests id) (λ q. None)
 refusal s (Purge key) = None
 refusal s (Put key pieces) = None
 
--- the state behind an event of an open request
+-- the state after an event of an open request
 abbrev pub on_request : State → Option Request → (Request → State) → State
 on_request s None f = s
 on_request s (Some q) f = f q
@@ -72,7 +72,7 @@ abbrev pub look_answer : MomentValue → Option FinishedBody → Answer
 look_answer t None = Absent
 look_answer t (Some b) = Found (at_most t b.fresh_until) true
 
--- a request behind its look-up
+-- a request after its look-up
 abbrev pub looked : MomentValue → Request → Option FinishedBody → Request
 looked t q None = record q { phase = Miss; reader = Closed }
 looked t q (Some b) = record q { phase = if at_most t b.fresh_until then Hit else Stale; reader = Unread b.bytes }
@@ -83,27 +83,27 @@ read_answer Closed = End
 read_answer (Unread bytes) = Bytes bytes
 read_answer Spent = End
 
--- a request behind a read: all was read
-abbrev pub read_behind : Request → Request
-read_behind q = record q { reader = Spent }
+-- a request after a read: all was read
+abbrev pub after_read : Request → Request
+after_read q = record q { reader = Spent }
 
 -- the body that was stored is gone again
 abbrev pub stored_alone : Done
 stored_alone = record { stored = true; admitted = false; evicted = [] }
 
 -- the body is stored and its entry admitted, these are evicted, and then the body is taken back
-abbrev pub all_done : List Entry → Done
+abbrev pub all_done : List Evicted → Done
 all_done evicted = record { stored = true; admitted = true; evicted = evicted }
 
 -- a sum of weights that doesn't fit
 abbrev pub is_too_heavy : ℕ → Bool
 is_too_heavy weights = nat_le (2 ^ 64) weights
 
--- the weights behind an admission don't fit
+-- the weights after an admission don't fit
 abbrev pub admission_is_too_heavy : FinishedBody → List Tracked → Bool
 admission_is_too_heavy b rows = is_too_heavy (weight_for b + all_weights (without_row b.entry rows))
 
--- the weights behind the use of an entry don't fit; never of a tracked one
+-- the weights after the use of an entry don't fit; never of a tracked one
 abbrev pub use_is_too_heavy : Entry → Option FinishedBody → List Tracked → Bool
 use_is_too_heavy e None rows = false
 use_is_too_heavy e (Some b) rows = is_too_heavy (all_weights (used e (weight_for b) rows))
@@ -120,15 +120,17 @@ use_is_too_long e (Some b) rows = is_too_long e rows
 abbrev pub IsPutAnswer : State → Option Given → Answer → Type 0
 IsPutAnswer s (Some (Stored b)) (Finished n evicted) =
     (n ≡ length b.bytes) × (admission_is_too_heavy b s.tracked ≡ false)
-    × IsLawfulEviction s.settings.limit s.settings.watermark (admitted b.entry (weight_for b) s.tracked) evicted
+    × IsLawfulEviction s.settings.limit s.settings.watermark (admitted b.entry (weight_for b) s.tracked) (entries_of evicted)
+    × AreWeighed (admitted b.entry (weight_for b) s.tracked) evicted
 IsPutAnswer s (Some (given.Uncacheable reason)) (answer.Uncacheable shown) = shown ≡ reason
 IsPutAnswer s _ _ = ⊥
 
--- memory ran out in the midst of the evictions
+-- memory ran out in the midst of the evictions, after an admission that fits
 abbrev pub IsCutShort : State → FinishedBody → TierFault → Type 0
 IsCutShort s b f =
-    (evicted : List Entry) × (f ≡ Memory (all_done evicted))
-    × IsBegunEviction s.settings.limit s.settings.watermark (admitted b.entry (weight_for b) s.tracked) evicted
+    (evicted : List Evicted) × (f ≡ Memory (all_done evicted))
+    × IsBegunEviction s.settings.limit s.settings.watermark (admitted b.entry (weight_for b) s.tracked) (entries_of evicted)
+    × (admission_is_too_heavy b s.tracked ≡ false) × AreWeighed (admitted b.entry (weight_for b) s.tracked) evicted
 
 -- why a body that was stored is taken back
 abbrev pub IsStoreFault : State → FinishedBody → TierFault → Type 0
@@ -144,12 +146,6 @@ IsPutFault s (Some given.BadHead) f = f ≡ fault.BadHead
 IsPutFault s (Some given.BeforeEpoch) f = f ≡ fault.BeforeEpoch
 IsPutFault s _ f = ⊥
 
--- what an event's response gives, where it has one and it was read
-abbrev pub IsGiven : MomentValue → Action → Option Given → Type 0
-IsGiven t (Put key pieces) (Some given) = Gives t (entry_of key) (joined pieces) given
-IsGiven t action None = Unit {0}
-IsGiven t action (Some given) = ⊥
-
 -- the answers to an event that is not refused
 abbrev pub IsAnswer : State → MomentValue → Action → Option Given → Answer → Type 0
 IsAnswer s t (Open id key) g a = a ≡ Opened
@@ -160,14 +156,14 @@ IsAnswer s t (Drop id) g a = a ≡ Dropped
 IsAnswer s t (Purge key) g a = a ≡ Purged (is_some (body_of (key_asked key) s.bodies))
 IsAnswer s t (Put key pieces) g a = IsPutAnswer s g a
 
--- the events for which a growth may be refused
-abbrev pub MayTakeMemory : Action → Type 0
-MayTakeMemory (Open id key) = Unit {0}
-MayTakeMemory (LookUp id) = Unit {0}
-MayTakeMemory (Read id) = ⊥
-MayTakeMemory (Drop id) = ⊥
-MayTakeMemory (Purge key) = ⊥
-MayTakeMemory (Put key pieces) = Unit {0}
+-- the events for which a growth may be refused; a look-up takes memory only where it finds something
+abbrev pub MayTakeMemory : State → Action → Type 0
+MayTakeMemory s (Open id key) = Unit {0}
+MayTakeMemory s (LookUp id) = MatchOption (get s.requests id) ⊥ (λ q. is_some (body_for q s.bodies) ≡ true)
+MayTakeMemory s (Read id) = ⊥
+MayTakeMemory s (Drop id) = ⊥
+MayTakeMemory s (Purge key) = ⊥
+MayTakeMemory s (Put key pieces) = Unit {0}
 
 -- why the entry of what a request found isn't used
 abbrev pub IsUseFault : State → Request → TierFault → Type 0
@@ -175,7 +171,7 @@ IsUseFault s q f =
     ((f ≡ TooHeavy nothing_done) × (use_is_too_heavy q.entry (body_for q s.bodies) s.tracked ≡ true))
     ⊎ ((f ≡ TooLong nothing_done) × (use_is_too_long q.entry (body_for q s.bodies) s.tracked ≡ true))
 
--- the faults that come behind the checks, but for memory
+-- the faults that come after the checks, but for memory
 abbrev pub IsLateFault : State → Action → Option Given → TierFault → Type 0
 IsLateFault s (LookUp id) g f =
     MatchOption (get s.requests id) ⊥ (λ q. IsUseFault s q f)
@@ -183,9 +179,9 @@ IsLateFault s (Put key pieces) g f = IsPutFault s g f
 IsLateFault s _ g f = ⊥
 
 abbrev pub IsFault : State → Action → Option Given → TierFault → Type 0
-IsFault s action g f = ((f ≡ Memory nothing_done) × MayTakeMemory action) ⊎ IsLateFault s action g f
+IsFault s action g f = ((f ≡ Memory nothing_done) × MayTakeMemory s action) ⊎ IsLateFault s action g f
 
--- the first refusal, exactly where one holds, and else an answer of the event's row or a fault behind the checks
+-- the first refusal, exactly where one holds, and else an answer of the event's row or a fault after the checks
 abbrev pub AllowsBy : Option TierFault → State → MomentValue → Action → Option Given → Outcome → Type 0
 AllowsBy (Some f) s t action g outcome = outcome ≡ Err f
 AllowsBy None s t action g outcome = MatchResult outcome (IsAnswer s t action g) (IsFault s action g)
@@ -198,46 +194,50 @@ Allows s c = IsGiven c.event.moment c.event.action c.given × AllowsBy (refusal 
 abbrev pub counted : ℕ → ℕ → ℕ
 counted n more = min (n + more) (2 ^ 64 - 1)
 
--- the state behind a look-up of request q, named id, that found this
-abbrev pub look_behind : State → MomentValue → ℕ → Request → Option FinishedBody → State
-look_behind s t id q None = record s { requests = insert s.requests id (looked t q None); absent = counted s.absent 1 }
-look_behind s t id q (Some b) =
+-- the state after a look-up of request q, named id, that found this
+abbrev pub after_look_up : State → MomentValue → ℕ → Request → Option FinishedBody → State
+after_look_up s t id q None = record s { requests = insert s.requests id (looked t q None); absent = counted s.absent 1 }
+after_look_up s t id q (Some b) =
     record s { requests = insert s.requests id (looked t q (Some b)); tracked = used q.entry (weight_for b) s.tracked; found = counted s.found 1 }
 
--- the state behind a put of a body with these evictions
-abbrev pub put_behind : State → Option Given → Answer → State
-put_behind s (Some (Stored b)) (Finished n evicted) =
-    record s { bodies = without_bodies evicted (with_body b s.bodies); tracked = without_rows evicted (admitted b.entry (weight_for b) s.tracked); evicted = counted s.evicted (length evicted) }
-put_behind s _ _ = s
+-- the state after a put of a body with these evictions
+abbrev pub after_put : State → Option Given → Answer → State
+after_put s (Some (Stored b)) (Finished n evicted) =
+    record s {
+      bodies = without_bodies (entries_of evicted) (with_body b s.bodies);
+      tracked = without_rows (entries_of evicted) (admitted b.entry (weight_for b) s.tracked);
+      evicted = counted s.evicted (length (entries_of evicted));
+    }
+after_put s _ _ = s
 
--- the state behind a purge that found something, or nothing
-abbrev pub purge_behind : State → CacheKeyValue → Bool → State
-purge_behind s key false = s
-purge_behind s key true = record s { bodies = without_body (key_asked key) s.bodies; tracked = without_row (entry_of key) s.tracked }
+-- the state after a purge that found something, or nothing
+abbrev pub after_purge : State → CacheKeyValue → Bool → State
+after_purge s key false = s
+after_purge s key true = record s { bodies = without_body (key_asked key) s.bodies; tracked = without_row (entry_of key) s.tracked }
 
--- the state behind an answer
+-- the state after an answer
 abbrev pub answered : State → MomentValue → Action → Option Given → Answer → State
 answered s t (Open id key) g a = record s { requests = insert s.requests id (opened_request (entry_of key)) }
-answered s t (LookUp id) g a = on_request s (get s.requests id) (λ q. look_behind s t id q (body_for q s.bodies))
-answered s t (Read id) g a = on_request s (get s.requests id) (λ q. record s { requests = insert s.requests id (read_behind q) })
+answered s t (LookUp id) g a = on_request s (get s.requests id) (λ q. after_look_up s t id q (body_for q s.bodies))
+answered s t (Read id) g a = on_request s (get s.requests id) (λ q. record s { requests = insert s.requests id (after_read q) })
 answered s t (Drop id) g a = record s { requests = remove s.requests id }
-answered s t (Purge key) g a = purge_behind s key (is_some (body_of (key_asked key) s.bodies))
-answered s t (Put key pieces) g a = put_behind s g a
+answered s t (Purge key) g a = after_purge s key (is_some (body_of (key_asked key) s.bodies))
+answered s t (Put key pieces) g a = after_put s g a
 
--- behind a refusal that had stored a body under an entry: that body is gone with its entry, and the evictions are done
+-- after a refusal that had stored a body under an entry: that body is gone with its entry, and the evictions are done
 abbrev pub taken_back : Bool → State → Entry → List Entry → State
 taken_back false s entry evicted = s
 taken_back true s entry evicted =
     record s { bodies = without_body (stored_key entry) (without_bodies evicted s.bodies); tracked = without_row entry (without_rows evicted s.tracked); evicted = counted s.evicted (length evicted) }
 
 abbrev pub undone : State → Action → Done → State
-undone s (Put key pieces) done = taken_back done.stored s (entry_of key) done.evicted
+undone s (Put key pieces) done = taken_back done.stored s (entry_of key) (entries_of done.evicted)
 undone s _ done = s
 
-abbrev pub behind : State → MomentValue → Action → Option Given → Outcome → State
-behind s t action g (Ok a) = answered s t action g a
-behind s t action g (Err f) = undone s action (done_of f)
+abbrev pub after_outcome : State → MomentValue → Action → Option Given → Outcome → State
+after_outcome s t action g (Ok a) = answered s t action g a
+after_outcome s t action g (Err f) = undone s action (done_of f)
 
--- the state behind a call
+-- the state after a call
 abbrev pub after : State → Call → State
-after s c = behind s c.event.moment c.event.action c.given c.outcome
+after s c = after_outcome s c.event.moment c.event.action c.given c.outcome

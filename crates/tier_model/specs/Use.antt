@@ -1,16 +1,16 @@
--- The order of use over histories: uses, departures, what is tracked, what it weighs, and in which order it stands.
+-- The order of use over histories: uses, departures, what is tracked, what it weighs, and in which order it is.
 use Rattle.std.specs.Prelude.{◌≡◌, ℕ, ◌<◌, ◌≤◌, Bool, true, false, ◌&&◌, ◌||◌, List, [], ◌∷◌, length, Option, Some, None, is_some, Ok, Err, ◌⊎◌}
 use Rattle.tier_entries.specs.Keys.{entry_of, stored_key, same_entry, has_entry}
 use Rattle.tier_entries.specs.declared.rows.Tracked.{Tracked}
 use Rattle.tier_entries.specs.Rows.{weight_of, IsLawfulEviction, IsBegunEviction}
-use Rattle.tier_model.specs.declared.rows.FinishedBody.{FinishedBody}
+use Rattle.tier_model.specs.declared.state.FinishedBody.{FinishedBody}
 use Rattle.tier_model.specs.declared.given.Given.{Given}
 use Rattle.tier_model.specs.declared.event.Event.{Event}
 use Rattle.tier_model.specs.declared.event.Action.{Action}
 use Rattle.tier_model.specs.declared.event.Action.TheVariants.{LookUp, Purge, Put}
 use Rattle.tier_model.specs.declared.event.Answer.TheVariants.{Found, Purged, Finished}
-use Rattle.tier_model.specs.Keys.{StoredKey, Entry}
-use Rattle.tier_model.specs.Calls.{Call, History, Outcome, opened_for, written_by, evicted_by, was_stored}
+use Rattle.tier_model.specs.Keys.{StoredKey, Entry, entries_of, AreWeighed}
+use Rattle.tier_model.specs.Calls.{Call, History, Outcome, opened_for, body_finished, written_by, evicted_by, done_of, was_stored}
 use Rattle.tier_model.specs.Histories.{IsBody}
 use Rattle.tier_model.specs.Rows.{weight_for}
 
@@ -47,7 +47,7 @@ abbrev pub stores_entry : Entry → Action → Bool
 stores_entry e (Put key pieces) = same_entry (entry_of key) e
 stores_entry e _ = false
 
--- a departure of e: its eviction, a refusal behind a storing under it, or a purge of its key and tag that found something
+-- a departure of e: its eviction, a refusal after a storing under it, or a purge of its key and tag that found something
 abbrev pub departs : Entry → Call → Bool
 departs e c = is_purge_of e c.event.action c.outcome || ((was_stored c.outcome && stores_entry e c.event.action) || has_entry e (evicted_by c.outcome))
 
@@ -69,7 +69,7 @@ abbrev pub IsWeightOf : ℕ → Option FinishedBody → Type 0
 IsWeightOf w None = ⊥
 IsWeightOf w (Some b) = w ≡ weight_for b
 
--- what e weighs behind a call: nothing where it departed; the body's weight where one was admitted; where a hit found it
+-- what e weighs after a call: nothing where it departed; the body's weight where one was admitted; where a hit found it
 -- untracked, the weight of the body found; else what it weighed
 abbrev pub WeighsBy : Bool → Bool → Bool → Bool → Entry → ℕ → Option FinishedBody → History → Type 0 → Type 0
 WeighsBy true admitted hit tracked e w new before Was = ⊥
@@ -94,18 +94,22 @@ pub record IsOrderOfUse (rows : List Tracked) (h : History) : Type 0 where
   pub all : (e : Entry) → is_some (weight_of e rows) ≡ is_tracked e h
   pub weights : (e : Entry) (w : ℕ) → weight_of e rows ≡ Some w → Weighs e w h
 
--- the rows are the order of use behind an event's admission, with nothing gone yet
-abbrev pub IsOrderBehind : List Tracked → Event → Option Given → History → Type 0
-IsOrderBehind rows e given before = IsOrderOfUse rows (record { event = e; outcome = Ok (Finished 0 []); given = given } ∷ before)
+-- the event stores a body, and the rows are the order of use after its admission, with nothing gone yet
+abbrev pub IsOrderAfter : List Tracked → Event → Option Given → History → Type 0
+IsOrderAfter rows e given before =
+    (b : FinishedBody) × (body_finished e.action (Ok (Finished 0 [])) given ≡ Some b)
+    × IsOrderOfUse rows (record { event = e; outcome = Ok (Finished 0 []); given = given } ∷ before)
 
--- what went in a call went lawfully: the last in the order of use behind its admission, one by one, while a limit was passed;
--- only the finish of a body evicts, also one that is refused in the midst of it
+-- what went in a call went lawfully: the last in the order of use after its admission, one by one, while a limit was passed;
+-- only an event that stores a body evicts, also one that is refused in the midst of it. Each is listed with what it weighed
 abbrev pub EvictsBy : ℕ → Option ℕ → Event → Outcome → Option Given → History → Type 0
 EvictsBy limit watermark e (Ok (Finished n evicted)) given before =
-    (rows : List Tracked) × IsOrderBehind rows e given before × IsLawfulEviction limit watermark rows evicted
+    (rows : List Tracked) × IsOrderAfter rows e given before × IsLawfulEviction limit watermark rows (entries_of evicted) × AreWeighed rows evicted
 EvictsBy limit watermark e (Ok answer) given before = evicted_by (Ok answer) ≡ []
 EvictsBy limit watermark e (Err fault) given before =
-    (evicted_by (Err fault) ≡ []) ⊎ ((rows : List Tracked) × IsOrderBehind rows e given before × IsBegunEviction limit watermark rows (evicted_by (Err fault)))
+    (was_stored (Err fault) ≡ false)
+    ⊎ ((rows : List Tracked) × IsOrderAfter rows e given before × AreWeighed rows (done_of fault).evicted
+    × ((evicted_by (Err fault) ≡ []) ⊎ IsBegunEviction limit watermark rows (evicted_by (Err fault))))
 
 -- each call's evictions were lawful
 abbrev pub EvictsLawfully : ℕ → Option ℕ → History → Type 0

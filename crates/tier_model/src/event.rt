@@ -1,5 +1,5 @@
 //! Events, answers and faults of a tier.
-ghost use Rattle.std.specs.Prelude.{◌≡◌, [], map};
+ghost use Rattle.std.specs.Prelude.{◌≡◌, []};
 
 use bytes::Bytes;
 use cache_heads::reason::NoCacheReason;
@@ -113,14 +113,14 @@ impl Model for Pieces {
 }
 
 impl Pieces {
-    /// These pieces. It takes no memory.
+    /// Makes pieces of a list. It takes no memory.
     pub fn from_vec(items: Vec<Bytes>) -> Pieces
         ensures { result ≡ items.items }
     {
         Pieces { items }
     }
 
-    /// The pieces.
+    /// Returns the pieces in order.
     pub fn as_slice(&self) -> &[Bytes]
         ensures { result.now ≡ self.now }
     {
@@ -136,17 +136,15 @@ pub struct Entries {
 
 impl Model for Entries {
     ghost use Rattle.std.specs.Prelude.{List};
-    ghost use Rattle.tier_model.specs.Keys.{Entry};
+    ghost use Rattle.tier_model.specs.Keys.{Evicted};
 
-    ghost Value = { List Entry };
+    ghost Value = { List Evicted };
 
-    ghost use Rattle.std.specs.Prelude.{map};
-
-    ghost view = { λ e. map (λ pair. pair.0) e.items.items };
+    ghost view = { λ e. e.items.items };
 }
 
 impl Entries {
-    /// No entry. It takes no memory.
+    /// Makes an empty list. It takes no memory.
     pub fn new(alloc: Global) -> Entries
         ensures { result ≡ [] }
     {
@@ -155,16 +153,16 @@ impl Entries {
         }
     }
 
-    /// These entries. It takes no memory.
+    /// Makes a list of entries. It takes no memory.
     pub fn from_vec(items: Vec<(CompactCacheKey, usize)>) -> Entries
-        ensures { result ≡ map (λ pair. pair.0) items.items }
+        ensures { result ≡ items.items }
     {
         Entries { items }
     }
 
-    /// The entries, each with what it weighed.
+    /// Returns the entries in order, each with what it weighed.
     pub fn as_slice(&self) -> &[(CompactCacheKey, usize)]
-        ensures { map (λ pair. pair.0) result.now ≡ self.now }
+        ensures { result.now ≡ self.now }
     {
         &self.items
     }

@@ -1,5 +1,5 @@
 //! What a response gives.
-use crate::rows::FinishedBody;
+use crate::state::FinishedBody;
 use cache_heads::reason::NoCacheReason;
 
 /// What the bytes of a whole response give at the moment at which they come.

@@ -1,14 +1,14 @@
 //! Laws over definitions alone. The functions do nothing: their contracts are the laws.
 ghost use Rattle.tier_model.specs.Calls.{History};
 ghost use Rattle.tier_model.specs.Headline.{HoldsHeadline};
-ghost use Rattle.std.specs.Prelude.{◌≡◌, ℕ, List};
+ghost use Rattle.std.specs.Prelude.{◌≡◌, ◌≢◌, ℕ, List};
+ghost use Rattle.tier_model.specs.declared.given.Given.TheVariants.{BadHead};
 ghost use Rattle.cache_words.specs.Time.{MomentValue};
 ghost use Rattle.tier_model.specs.Keys.{Entry};
 ghost use Rattle.tier_model.specs.declared.given.Given.{Given};
-ghost use Rattle.tier_model.specs.Response.{IsPlain, Gives};
+ghost use Rattle.tier_model.specs.Response.{IsPlain, IsWellFormed, Gives};
 ghost use Rattle.tier_model.specs.State.{Settings};
-ghost use Rattle.tier_model.specs.Past.{IsLawful, state_of};
-ghost use Rattle.tier_model.specs.Use.{IsOrderOfUse};
+ghost use Rattle.tier_model.specs.Past.{IsLawful, MatchesHistory, state_of};
 ghost use Rattle.tier_model.specs.Reports.{IsReport, report_of};
 
 /// Whatever a tier's state allows, call by call from the empty one, the headline holds of the whole history.
@@ -16,12 +16,17 @@ pub fn lawful_histories_hold_the_headline()
     ensures { (settings : Settings) (h : History) → IsLawful settings h → HoldsHeadline settings.limit settings.watermark h }
 {}
 
-/// The state behind such a history tracks its order of use, and its report tells of it.
+/// The state after such a history is what it says, and the state's report tells of it.
 pub fn lawful_states_tell_their_history()
-    ensures { (settings : Settings) (h : History) → IsLawful settings h → IsOrderOfUse (state_of settings h).tracked h × IsReport (report_of (state_of settings h)) h }
+    ensures { (settings : Settings) (h : History) → IsLawful settings h → MatchesHistory (state_of settings h) h × IsReport (report_of (state_of settings h)) h }
 {}
 
-/// A plain response, whose head the parser's default options read or begin to read, gives one thing at a moment.
+/// A response whose head the parser's default options read or begin to read gives one thing at a moment.
 pub fn plain_responses_give_one_thing()
     ensures { (arrival : MomentValue) (entry : Entry) (bytes : List ℕ) (a b : Given) → IsPlain bytes → Gives arrival entry bytes a → Gives arrival entry bytes b → a ≡ b }
+{}
+
+/// Where that head is within bounds the response is never a bad head.
+pub fn well_formed_responses_are_read()
+    ensures { (arrival : MomentValue) (entry : Entry) (bytes : List ℕ) (given : Given) → IsWellFormed bytes → Gives arrival entry bytes given → given ≢ BadHead }
 {}

@@ -1,4 +1,4 @@
-//! What the tier is asked and what it answers, what its histories mean, and the plain state that stands for them.
+//! Events and answers of the tier, what its histories mean, and the plain state that comes of them.
 #![tactic(auto)]
 
 pub mod event;
@@ -6,6 +6,4 @@ pub mod given;
 pub mod laws;
 pub mod report;
 pub mod requests;
-pub mod rows;
-#[cfg(test)]
-mod tests;
+pub mod state;

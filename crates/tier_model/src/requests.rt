@@ -1,10 +1,10 @@
 //! The open requests.
 ghost use Rattle.std.specs.Prelude.{◌≡◌, OnOk, OnErr, Some, None, option_copied};
-ghost use Rattle.tier_model.specs.declared.rows.Request.{Request};
+ghost use Rattle.tier_model.specs.declared.state.Request.{Request};
 ghost use Rattle.std.specs.FinMap as finite;
 ghost use Rattle.std.specs.Ordering.{nat_cmp};
 
-use crate::rows::{Phase, Reader, Request};
+use crate::state::{Phase, Reader, Request};
 use std::alloc::{AllocError, Global};
 use std::collections::HashMap;
 use std::marker::Model;
@@ -19,8 +19,8 @@ pub struct Requests {
 impl Model for Requests {
     ghost use Rattle.std.specs.FinMap as finite;
     ghost use Rattle.std.specs.Ordering.{nat_cmp};
-    ghost use Rattle.tier_model.specs.declared.rows.Request.{Request};
-    ghost use Rattle.tier_model.specs.contracts.rows.Request.{the_row};
+    ghost use Rattle.tier_model.specs.declared.state.Request.{Request};
+    ghost use Rattle.tier_model.specs.contracts.state.Request.{the_row};
     ghost use Rattle.std.specs.Coded.{coded_ℕ};
 
     ghost Value = { finite.FinMap nat_cmp Request };
@@ -31,7 +31,7 @@ impl Model for Requests {
 }
 
 impl Requests {
-    /// No request. It takes no memory.
+    /// Makes an empty map. It takes no memory.
     pub fn new(alloc: Global) -> Requests
         ensures { result ≡ finite.empty }
     {
@@ -40,7 +40,7 @@ impl Requests {
         }
     }
 
-    /// The request of that number, if it is open.
+    /// Returns the request of that number, if it is open.
     pub fn get(&self, id: u64) -> Option<&Request>
         ensures { option_copied result ≡ finite.get self.now id }
     {
@@ -56,8 +56,8 @@ impl Requests {
         Ok(())
     }
 
-    /// Puts a phase and a reader in the place of those that the open request of that number has, and hands the
-    /// reader back. It takes no memory.
+    /// Puts a phase and a reader in the place of those that the open request of that number has, and returns
+    /// the old reader. It takes no memory.
     pub fn update(&mut self, id: u64, phase: Phase, reader: Reader) -> Option<Reader>
         ensures some { (q : Request) → finite.get self.old id ≡ Some q → (result ≡ Some q.reader) × (self.new ≡ finite.insert self.old id (record q { phase = phase; reader = reader })) }
         ensures none { finite.get self.old id ≡ None → (result ≡ None) × (self.new ≡ self.old) }

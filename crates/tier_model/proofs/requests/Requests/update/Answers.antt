@@ -3,8 +3,8 @@ use Rattle.std.specs.FinMap as finite
 use Rattle.std.specs.Map.{lookup}
 use Rattle.std.specs.Ordering.{nat_cmp}
 use Rattle.cache_words.specs.declared.key.CompactCacheKey.{CompactCacheKey}
-use Rattle.tier_model.specs.declared.rows.Request.{Request}
-use Rattle.tier_model.specs.declared.rows.Reader.{Reader}
+use Rattle.tier_model.specs.declared.state.Request.{Request}
+use Rattle.tier_model.specs.declared.state.Reader.{Reader}
 use Rattle.tier_model.proofs.Tables.{get-table, set-table}
 use Rattle.tier_model.proofs.requests.Requests.update.Goals as goal
 

@@ -1,0 +1,44 @@
+//! What a tier holds: finished bodies and open requests.
+use bytes::Bytes;
+use cache_words::key::CompactCacheKey;
+use cache_words::time::Moment;
+
+/// A body that was finished under an entry, and the last moment at which it is fresh.
+#[derive(Debug, Drop)]
+pub struct FinishedBody {
+    pub entry: CompactCacheKey,
+    pub bytes: Bytes,
+    pub fresh_until: Moment,
+}
+
+/// What a request may do next.
+#[derive(Clone, Copy, PartialEq, Eq, Debug)]
+pub enum Phase {
+    /// Opened, nothing looked up.
+    CacheKey,
+    /// Its last look-up found something fresh.
+    Hit,
+    /// Its last look-up found something past its moment.
+    Stale,
+    /// Its last look-up found nothing.
+    Miss,
+}
+
+/// What a request has left to read of the body that it found.
+#[derive(Debug, Drop)]
+pub enum Reader {
+    /// It found nothing, or never looked.
+    Closed,
+    /// All of it.
+    Unread(Bytes),
+    /// Nothing.
+    Spent,
+}
+
+/// An open request, and the entry that it was opened for.
+#[derive(Debug, Drop)]
+pub struct Request {
+    pub entry: CompactCacheKey,
+    pub phase: Phase,
+    pub reader: Reader,
+}
