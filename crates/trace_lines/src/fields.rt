@@ -3,11 +3,11 @@ ghost use Rattle.std.specs.Prelude.{◌≡◌, ◌++◌, map, option_map, IfOk, 
 ghost use Rattle.serde_json.specs.View.{view, items_view};
 ghost use Rattle.trace_lines.specs.Lines.{moment_of, id_of, primary_of, tag_of, lock_of, key_of, bytes_of, all_bytes_of, pieces_of, operation_named, operation_of, IsRead, IsReadAs};
 
+use crate::hex_text::decode;
 use crate::line::{FieldName, Operation, Refusal, Stop};
 use bytes::Bytes;
 use cache_words::key::CacheKey;
 use cache_words::time::Moment;
-use hex::FromHexError;
 use serde_json::Value;
 use std::alloc::{AllocError, Global};
 use tier_model::event::Pieces;
@@ -76,10 +76,9 @@ fn primary(alloc: Global, value: &Value) -> Result<Vec<u8>, Stop>
     let Some(text) = value.get("key").and_then(Value::as_str) else {
         return Err(Stop::Refused(Refusal::Field(FieldName::Key)));
     };
-    match hex::decode(alloc, text) {
-        Ok(bytes) => Ok(bytes),
-        Err(FromHexError::OutOfMemory) => Err(Stop::Memory),
-        Err(_) => Err(Stop::Refused(Refusal::Field(FieldName::Key))),
+    match decode(alloc, text)? {
+        Some(bytes) => Ok(bytes),
+        None => Err(Stop::Refused(Refusal::Field(FieldName::Key))),
     }
 }
 
@@ -140,9 +139,8 @@ fn bytes(alloc: Global, value: &Value) -> Result<Option<Bytes>, AllocError>
     let Some(text) = value.as_str() else {
         return Ok(None);
     };
-    match hex::decode(alloc, text) {
-        Ok(bytes) => Ok(Some(Bytes::from_vec(bytes)?)),
-        Err(FromHexError::OutOfMemory) => Err(AllocError),
-        Err(_) => Ok(None),
+    match decode(alloc, text)? {
+        Some(bytes) => Ok(Some(Bytes::from_vec(bytes)?)),
+        None => Ok(None),
     }
 }

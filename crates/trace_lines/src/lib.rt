@@ -2,8 +2,7 @@
 #![tactic(auto)]
 
 mod fields;
+mod hex_text;
 pub mod line;
 pub mod read;
-#[cfg(test)]
-mod tests;
 pub mod text;

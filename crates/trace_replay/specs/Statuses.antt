@@ -3,7 +3,7 @@ use Rattle.std.specs.Prelude.{ℕ, Result, Ok, Err, ⊤}
 use Rattle.clap.specs.Values.{kind_of}
 use Rattle.clap.specs.declared.error.kind.ErrorKind.{ErrorKind}
 use Rattle.clap.specs.declared.error.kind.ErrorKind.TheVariants as kind
-use Rattle.trace_replay.specs.declared.options.OptionsError.TheVariants.{CommandLine, NoLimit, NotANumber, Memory}
+use Rattle.trace_replay.specs.declared.options.OptionsError.TheVariants.{CommandLine, NoLimit, WrongValue, NotUtf8, Memory}
 use Rattle.trace_replay.specs.declared.status.Fault.{Fault}
 use Rattle.trace_replay.specs.declared.status.Fault.TheVariants.{Options, Replay}
 
@@ -16,7 +16,8 @@ command_line_status _ = 2
 abbrev pub fault_status : Fault → ℕ
 fault_status (Options (CommandLine error)) = command_line_status (kind_of error)
 fault_status (Options NoLimit) = 2
-fault_status (Options (NotANumber name)) = 2
+fault_status (Options (WrongValue error)) = 2
+fault_status (Options (NotUtf8 error)) = 2
 fault_status (Options Memory) = 1
 fault_status (Replay error) = 1
 
