@@ -30,11 +30,13 @@ fn replay_input<R: Env + Input + Print + AllocGlobal>(rt: &R) -> Result<(), Faul
 fn show<R: Log + Print + Eprint>(rt: &R, outcome: &Result<(), Fault>) {
     match outcome {
         Ok(()) => {}
-        Err(Fault::Options(
-            OptionsError::CommandLine(error)
-            | OptionsError::WrongValue(error)
-            | OptionsError::NotUtf8(error),
-        )) => {
+        Err(
+            Fault::Options(
+                OptionsError::CommandLine(error)
+                | OptionsError::WrongValue(error)
+                | OptionsError::NotUtf8(error),
+            ),
+        ) => {
             let _ = error.print(rt);
         }
         Err(fault) => warn!(rt; "{fault}"),

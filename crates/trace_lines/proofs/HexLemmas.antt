@@ -1,10 +1,10 @@
 -- One pair of digits more.
-use Rattle.std.proofs.Common.{◌≡◌, ◌∙◌, ℕ, ◌+◌, ◌*◌, ◌<◌, List, length, take, drop, slice_index, slice_set, refl, ap, sym, arith}
-use Rattle.std.specs.Prelude.{Option, Some, None, Result, Ok, Err}
-use Rattle.hex.specs.Hex.{decode_pairs, pair_value, hex_digit_value, digit_or_error}
+use Rattle.std.proofs.Common.{◌≡◌, ℕ, ◌+◌, ◌*◌, ◌<◌, List, length, take, drop, slice_index, refl, ap, sym, arith}
+use Rattle.std.specs.Prelude.{Option, Some, None, Ok, Err}
+use Rattle.hex.specs.Hex.{decode_pairs, pair_value, hex_digit_value}
 use Rattle.hex.specs.declared.error.FromHexError.{FromHexError}
 use Rattle.hex.specs.declared.error.FromHexError.TheVariants.{InvalidHexCharacter}
-use Rattle.hex.proofs.Pairs.{prepend, decode_step, decode_err}
+use Rattle.hex.proofs.Pairs.{prepend, decode_err}
 use Rattle.trace_lines.specs.Digits.{IsValue, result_bytes}
 
 is_value : (o : Option ℕ) (n : ℕ) → IsValue o n → (n ≡ 255 → ⊥) → o ≡ Some n

@@ -15,7 +15,7 @@ use tier_model::event::Pieces;
 // A moment's seconds fit in 63 bits.
 const MOMENT_END: u64 = 1 << 63;
 
-/// What the line asks for.
+// The operation that the line names.
 pub(crate) fn operation(value: &Value) -> Result<Operation, Refusal>
     ensures { result ≡ operation_of (view value.now) }
 {
@@ -40,7 +40,7 @@ fn operation_named(name: &str) -> Option<Operation>
     }
 }
 
-/// The moment of the event.
+// The moment of the event.
 pub(crate) fn moment(value: &Value) -> Result<Moment, Refusal>
     ensures { result ≡ moment_of (view value.now) }
 {
@@ -51,7 +51,7 @@ pub(crate) fn moment(value: &Value) -> Result<Moment, Refusal>
     }
 }
 
-/// The number of the request.
+// The number of the request.
 pub(crate) fn id(value: &Value) -> Result<u64, Refusal>
     ensures { result ≡ id_of (view value.now) }
 {
@@ -61,7 +61,7 @@ pub(crate) fn id(value: &Value) -> Result<u64, Refusal>
         .ok_or(Refusal::Field(FieldName::Id))
 }
 
-/// The key: the bytes that it names, and its tag.
+// The key: the bytes that it names, and its tag.
 pub(crate) fn key(alloc: Global, value: &Value) -> Result<CacheKey, Stop>
     ensures { IsRead result (key_of (view value.now)) }
 {
@@ -94,7 +94,7 @@ fn tag(alloc: Global, value: &Value) -> Result<String, Stop>
     }
 }
 
-/// That no lock is asked for.
+// Checks that no lock is requested.
 pub(crate) fn check_lock(value: &Value) -> Result<(), Refusal>
     ensures { result ≡ lock_of (view value.now) }
 {
@@ -107,7 +107,7 @@ pub(crate) fn check_lock(value: &Value) -> Result<(), Refusal>
     }
 }
 
-/// The pieces of a response.
+// The pieces of a response.
 pub(crate) fn pieces(alloc: Global, value: &Value) -> Result<Pieces, Stop>
     ensures { IsRead result (pieces_of (view value.now)) }
 {

@@ -1,4 +1,4 @@
-//! The lines of a trace: what each asks of a tier, and the line that answers it.
+//! The lines of a trace: what each requests of a tier, and the line that answers it.
 #![tactic(auto)]
 
 mod fields;

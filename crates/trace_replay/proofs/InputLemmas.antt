@@ -1,5 +1,5 @@
 -- Where the first of the held lines ends.
-use Rattle.std.proofs.Common.{◌≡◌, ◌≢◌, ◌∙◌, ℕ, zero, suc, ◌+◌, ◌-◌, ◌≤◌, ◌<◌, List, [], ◌∷◌, ◌++◌, All, length, take, drop, slice_index, get_or, get_or-drop, take_all, take-append-drop, length-drop, length-append, true, refl, ap, sym, subst, append_assoc, append-nil, eq-eqb, eqb-true, arith}
+use Rattle.std.proofs.Common.{◌≡◌, ◌≢◌, ◌∙◌, ℕ, zero, suc, ◌+◌, ◌-◌, ◌≤◌, ◌<◌, List, [], ◌∷◌, ◌++◌, All, length, take, drop, slice_index, get_or, get_or-drop, take_all, take-append-drop, length-drop, length-append, refl, ap, sym, subst, append_assoc, append-nil, eq-eqb, eqb-true, arith}
 use Rattle.std.specs.Prelude.{Option, Some, None, IfSome}
 use Rattle.std.specs.Io.KnownBytes.{Consumes, Keeps, IsAtEnd, prepend_known}
 use Rattle.std.specs.Io.BufRead.{take_through, drop_through}

@@ -51,7 +51,7 @@ IsFault words (WrongValue error) = HasWrongValue words
 IsFault words (NotUtf8 error) = ⊥
 IsFault words Memory = ⊤
 
--- the error of a wrong value, or want of memory
+-- the error of a wrong value, or out of memory
 abbrev pub IsWrongValue : OptionsError → Type 0
 IsWrongValue (WrongValue error) = Unit {0}
 IsWrongValue Memory = Unit {0}
@@ -64,6 +64,6 @@ IsReadNumber value (Err Memory) = Unit {0}
 IsReadNumber value (Err (WrongValue error)) = (text : Text) × (value ≡ Some text) × ((n : ℕ) → ¬ IsNumber text n)
 IsReadNumber value (Err _) = ⊥
 
--- the tier that the options ask for: a permit's age is ten seconds, and a wait has no end
+-- the tier that the options describe: a permit's age is ten seconds, and a wait has no end
 abbrev pub settings_of : ReplayOptions → Settings
 settings_of o = record { limit = o.limit; watermark = o.watermark; age = span_of 10; wait = None }

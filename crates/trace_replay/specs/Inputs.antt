@@ -1,5 +1,5 @@
 -- Lines among the bytes that were read ahead.
-use Rattle.std.specs.Prelude.{◌≡◌, ℕ, List, ◌++◌, ◌≤◌, ◌<◌, take, drop, length}
+use Rattle.std.specs.Prelude.{◌≡◌, ℕ, List, ◌++◌, ◌≤◌, take, drop, length}
 use Rattle.std.specs.Io.BufRead.{take_through, drop_through}
 
 -- the first n of the held bytes are the first line of the stream, whose bytes after these are `rest`

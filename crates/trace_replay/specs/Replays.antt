@@ -19,7 +19,7 @@ abbrev pub lines_in : List ℕ → List (List ℕ)
 lines_in [] = []
 lines_in (x ∷ xs) = if x == 10 then [] ∷ lines_in xs else onto_first x (lines_in xs)
 
--- what the lines of a trace ask
+-- what the lines of a trace request
 abbrev pub asked_by : List ℕ → List Line
 asked_by trace = map line_of (lines_in trace)
 
@@ -28,7 +28,7 @@ abbrev pub ended : List ℕ → List ℕ
 ended text = text ++ 10 ∷ []
 
 -- after the calls of the past these lines, in their order, lead to the calls of h, the latest first in both, and the text
--- has a line for each: the refusal of a line that asks nothing, and what the tier answered to the event of any other
+-- has a line for each: the refusal of a refused line, and what the tier answered to the event of any other
 abbrev pub Replays : List Line → History → History → List ℕ → Type 0
 Replays [] past h text = (h ≡ past) × (text ≡ [])
 Replays (Refused refusal ∷ lines) past h text =

@@ -111,7 +111,8 @@ impl Input {
     {
         self.move_to_front()?;
         let count = read_some(reader, self.chunk.as_mut_slice())?;
-        self.held.extend_from_slice(&self.chunk.as_slice()[..count])?;
+        self.held
+            .extend_from_slice(&self.chunk.as_slice()[..count])?;
         Ok(count)
     }
 
@@ -123,7 +124,8 @@ impl Input {
             return Ok(());
         }
         self.spare.clear();
-        self.spare.extend_from_slice(&self.held.as_slice()[self.start..])?;
+        self.spare
+            .extend_from_slice(&self.held.as_slice()[self.start..])?;
         std::mem::swap(&mut self.held, &mut self.spare);
         self.start = 0;
         Ok(())

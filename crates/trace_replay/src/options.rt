@@ -11,9 +11,8 @@ use clap::error::ErrorKind;
 use clap::{Arg, ArgMatches, Command};
 use std::alloc::{AllocError, Global};
 use std::convert::AsStr;
-use std::env;
-use std::io;
 use std::rt::Env;
+use std::{env, io};
 use thiserror::Error;
 
 const ABOUT: &str =
@@ -145,10 +144,12 @@ fn matches<'a, S: AsStr>(alloc: Global, words: &'a [S]) -> Result<ArgMatches<'a>
 fn command<'a>(alloc: Global) -> Result<Command<'a>, AllocError>
     ensures { IfOk result (λ c. app_of c ≡ app) }
 {
-    let limit = option(alloc, "limit", "BYTES", true)
-        .help("The most bytes that the bodies in the tier weigh together; an empty body weighs 1");
-    let watermark = option(alloc, "watermark", "ENTRIES", false)
-        .help("The most entries that the tier tracks [default: no bound]");
+    let limit = option(alloc, "limit", "BYTES", true).help(
+        "The most bytes that the bodies in the tier weigh together; an empty body weighs 1",
+    );
+    let watermark = option(alloc, "watermark", "ENTRIES", false).help(
+        "The most entries that the tier tracks [default: no bound]",
+    );
     described(alloc).arg(limit)?.arg(watermark)
 }
 

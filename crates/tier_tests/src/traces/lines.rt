@@ -166,7 +166,7 @@ fn assert_written(
 }
 
 fn body(alloc: Global) -> Result<Bytes, AllocError> {
-    Bytes::from_vec(b"ab\xff".to_vec(alloc)?)
+    Ok(Bytes::from_vec(b"ab\xff".to_vec(alloc)?)?)
 }
 
 fn evicted(alloc: Global) -> Result<Entries, AllocError> {

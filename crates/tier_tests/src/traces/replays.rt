@@ -104,6 +104,7 @@ fn bytes_that_are_no_text_are_no_json(rt: HostRuntime) -> Result<(), Fail> {
 }
 
 // An event at second 1000 on the key that ends in these hex digits; a put has a body in hex, fresh for a hundred seconds.
+#[derive(Drop)]
 enum Step {
     Put(&'static str, &'static str),
     Look(u64, &'static str),
@@ -122,9 +123,7 @@ fn line_of(alloc: Global, step: &Step) -> Result<String, AllocError> {
                 "{{\"op\":\"open\",\"at\":1000,\"id\":{id},\"key\":\"000000000000000000000000000000{key}\"}}\n{{\"op\":\"look\",\"at\":1000,\"id\":{id}}}\n"
             )
         }
-        Step::Read(id) => {
-            format!(in alloc; "{{\"op\":\"read\",\"at\":1000,\"id\":{id}}}\n")
-        }
+        Step::Read(id) => { format!(in alloc; "{{\"op\":\"read\",\"at\":1000,\"id\":{id}}}\n") }
     }
 }
 
@@ -293,9 +292,7 @@ fn options_are_read(rt: HostRuntime) -> Result<(), Fail> {
 
 // The exit status of a command line, and the text that is shown for it.
 fn shown(alloc: Global, words: &[&str]) -> Result<(u8, String), AllocError> {
-    let outcome = options(alloc, words)
-        .map(|_| ())
-        .map_err(Fault::Options);
+    let outcome = options(alloc, words).map(|_| ()).map_err(Fault::Options);
     let status = status(&outcome);
     match outcome {
         Ok(()) => Ok((status, String::new(alloc))),

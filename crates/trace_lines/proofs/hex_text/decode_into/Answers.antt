@@ -1,8 +1,7 @@
-use Rattle.std.proofs.Common.{◌≡◌, ◌+◌, ◌*◌, ◌<◌, length, slice_index, ap, arith}
-use Rattle.hex.specs.Hex.{hex_digit_value}
+use Rattle.std.proofs.Common.{◌+◌, ◌*◌, ◌<◌, length, slice_index, ap, arith}
 use Rattle.hex.specs.declared.error.FromHexError.TheVariants.{InvalidHexCharacter}
 use Rattle.hex.proofs.Pairs.{decode_step, decode_done}
-use Rattle.trace_lines.specs.Digits.{IsValue, result_bytes}
+use Rattle.trace_lines.specs.Digits.{result_bytes}
 use Rattle.trace_lines.proofs.HexLemmas.{pair_is, high_is_none, low_is_none, refused_by}
 use Rattle.trace_lines.proofs.hex_text.decode_into.Goals.{then-high-via-then-high, then-high-via-else-high+then-low}
 use Rattle.trace_lines.proofs.hex_text.decode_into.Goals as goal

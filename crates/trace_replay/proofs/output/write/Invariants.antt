@@ -1,5 +1,4 @@
 -- The text so far is written.
-use Rattle.std.specs.Io.KnownBytes.{Appends}
 use Rattle.trace_replay.specs.Outputs.{Passes}
 use Rattle.trace_replay.proofs.output.write.Given as goal
 

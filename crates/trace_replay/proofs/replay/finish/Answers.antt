@@ -1,4 +1,4 @@
-use Rattle.std.proofs.Common.{◌++◌, List, ℕ, subst}
+use Rattle.std.proofs.Common.{subst}
 use Rattle.tier_model.specs.Reports.{report_of}
 use Rattle.trace_lines.specs.Texts.{report_text}
 use Rattle.trace_replay.specs.Outputs.{HasBegun}
