@@ -2,6 +2,7 @@
 use Rattle.std.specs.Prelude.{◌≡◌, ℕ, Bool, true, false, ◌<◌, ◌^◌, List, codes, Option, Some, None, Result, Ok, Err, ⊤}
 use Rattle.std.specs.Str.Parse.{IsNumeral, digits_value, without_leading_plus}
 use Rattle.clap.specs.Values.{kind_of}
+use Rattle.clap.specs.declared.error.kind.ErrorKind.TheVariants.{InvalidValue}
 use Rattle.clap.specs.Walk.{Text, Rule, first_of}
 use Rattle.clap.specs.Simple.{App, new_rule, new_app, on_top, with_rule, matches_of}
 use Rattle.clap.specs.Faults.{fault_of}
@@ -56,6 +57,12 @@ abbrev pub IsWrongValue : OptionsError → Type 0
 IsWrongValue (WrongValue error) = Unit {0}
 IsWrongValue Memory = Unit {0}
 IsWrongValue _ = ⊥
+
+-- the error of a word that is not UTF-8, or out of memory
+abbrev pub IsUnreadable : OptionsError → Type 0
+IsUnreadable (NotUtf8 error) = kind_of error ≡ InvalidValue
+IsUnreadable Memory = Unit {0}
+IsUnreadable _ = ⊥
 
 -- what the value of an option was read as
 abbrev pub IsReadNumber : Option Text → Result (Option ℕ) OptionsError → Type 0

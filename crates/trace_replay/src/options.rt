@@ -5,7 +5,7 @@ ghost use Rattle.clap.specs.Faults.{fault_of};
 ghost use Rattle.clap.specs.Matches.{found_of, first_value};
 ghost use Rattle.clap.specs.Simple.{HasMatchesOf, app_of};
 ghost use Rattle.clap.specs.Walk.{rule_of};
-ghost use Rattle.trace_replay.specs.CommandLine.{app, named_app, option_rule, value_of, IsGiven, IsFault, IsWrongValue, IsReadNumber};
+ghost use Rattle.trace_replay.specs.CommandLine.{app, named_app, option_rule, value_of, IsGiven, IsFault, IsWrongValue, IsReadNumber, IsUnreadable};
 
 use clap::error::ErrorKind;
 use clap::{Arg, ArgMatches, Command};
@@ -66,7 +66,9 @@ pub fn options<'a, S: AsStr>(alloc: Global, words: &'a [S]) -> Result<ReplayOpti
 }
 
 /// The words of the program's own command line.
-pub fn words<R: Env + AllocGlobal>(rt: &R) -> Result<Vec<String>, OptionsError> {
+pub fn words<R: Env + AllocGlobal>(rt: &R) -> Result<Vec<String>, OptionsError>
+    ensures { IfErr result IsUnreadable }
+{
     let alloc = rt.alloc();
     match env::args(rt) {
         Ok(words) => words.collect(alloc).map_err(|_| OptionsError::Memory),
@@ -77,7 +79,9 @@ pub fn words<R: Env + AllocGlobal>(rt: &R) -> Result<Vec<String>, OptionsError> 
     }
 }
 
-fn not_utf8(alloc: Global) -> OptionsError {
+fn not_utf8(alloc: Global) -> OptionsError
+    ensures { IsUnreadable result }
+{
     match fault(alloc, ErrorKind::InvalidValue, "an argument is not UTF-8") {
         Ok(error) => OptionsError::NotUtf8(error),
         Err(AllocError) => OptionsError::Memory,
