@@ -1,13 +1,12 @@
-//! Answers a trace of a cache tier's events: lines of JSON on standard input, a line for each on standard output, and
-//! behind the last answer a report.
+//! Answers a trace of a cache tier's events: lines of JSON on standard input, a line for each on standard output, and a
+//! report after the last answer.
 #![tactic(auto)]
 
 use log::{Log, warn};
-use std::env;
-use std::io::{self, BufReader};
+use std::io;
 use std::process::ExitCode;
 use std::rt::Env;
-use trace_replay::options::{OptionsError, options};
+use trace_replay::options::{OptionsError, options, words};
 use trace_replay::replay::run;
 use trace_replay::status::{Fault, status};
 
@@ -20,22 +19,25 @@ fn main(rt: HostRuntime) -> ExitCode {
 // Replays standard input by the options of the command line.
 fn replay_input<R: Env + Input + Print + AllocGlobal>(rt: &R) -> Result<(), Fault> {
     let alloc = rt.alloc();
-    let words: Vec<String> = env::args(rt)?.collect(alloc)?;
+    let words = words(rt).map_err(Fault::Options)?;
     let options = options(alloc, words.as_slice()).map_err(Fault::Options)?;
-    let mut reader = BufReader::new(alloc, rt.reader())?;
+    let mut reader = rt.reader();
     let mut writer = io::writer(rt);
     run(alloc, &mut reader, &mut writer, &options).map_err(Fault::Replay)
 }
 
-// Tells of a fault on standard error. A help text goes to standard output.
+// Shows a fault on standard error, and a text that was requested on standard output.
 fn show<R: Log + Print + Eprint>(rt: &R, outcome: &Result<(), Fault>) {
     match outcome {
         Ok(()) => {}
-        Err(Fault::Options(OptionsError::CommandLine(error))) => {
+        Err(
+            Fault::Options(
+                OptionsError::CommandLine(error)
+                | OptionsError::WrongValue(error)
+                | OptionsError::NotUtf8(error),
+            ),
+        ) => {
             let _ = error.print(rt);
-        }
-        Err(fault) if status(outcome) == 2 => {
-            let _ = eprintln!(rt; "error: {fault}");
         }
         Err(fault) => warn!(rt; "{fault}"),
     }

@@ -1,4 +1,4 @@
-//! Tests of the tier, of the lines of a trace and of the program, over their public calls.
+//! Tests of the tier, its definitions and the program by tables of what is asked and what is returned.
 #![tactic(auto)]
 
 #[cfg(test)]
@@ -17,3 +17,5 @@ mod refusals;
 mod runs;
 #[cfg(test)]
 mod show;
+#[cfg(test)]
+mod traces;

@@ -1,5 +1,5 @@
-//! Replays the traces that `index.txt` lists, and compares what is written with what another program wrote for them. A line of the index is a
-//! trace's name and the words of its options; NAME.jsonl is the trace, and NAME.out what must be written. Traces that differ are shown.
+//! Replays the traces that `index.txt` lists, and compares the output with what another program wrote for them. A line of the index is a
+//! trace's name and the words of its options; NAME.jsonl is the trace, and NAME.out the expected output. Traces that differ are shown.
 #![tactic(auto)]
 
 use std::fs::{self, Files};
@@ -7,7 +7,7 @@ use std::io;
 use trace_replay::options::options;
 use trace_replay::replay::run;
 
-// Whether the trace of a line of the index is answered as it must be.
+// Whether the trace of a line of the index is answered as expected.
 fn agrees<R: Files + AllocGlobal>(rt: &R, line: &str) -> io::Result<bool> {
     let alloc = rt.alloc();
     let words: Vec<&str> = line.split(' ').collect(alloc)?;
@@ -16,7 +16,7 @@ fn agrees<R: Files + AllocGlobal>(rt: &R, line: &str) -> io::Result<bool> {
     };
     let trace = fs::read(rt, format!(in alloc; "{name}.jsonl")?.as_str())?;
     let expected = fs::read(rt, format!(in alloc; "{name}.out")?.as_str())?;
-    // The name stands where a command line has the program's.
+    // The name takes the place of the program's name in a command line.
     let Ok(options) = options(alloc, words.as_slice()) else {
         return Ok(false);
     };

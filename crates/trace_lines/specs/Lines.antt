@@ -1,4 +1,4 @@
--- What a line asks: the fields of its operation, or the first refusal that holds.
+-- What a line requests: the fields of its operation, or the first refusal that holds.
 use Rattle.std.specs.Prelude.{◌≡◌, ℕ, ◌^◌, pos, nat_lt, Bool, true, false, List, [], ◌∷◌, codes, if◌then◌else◌, Option, Some, None, option_map, option_and_then, unwrap_or, Result, Ok, Err, ⊤}
 use Rattle.std.specs.Result.{result_ok}
 use Rattle.std.specs.Str.{bytes_eq, is_utf8}
@@ -114,7 +114,7 @@ operation_named name =
 abbrev pub operation_of : Data → Result Operation Refusal
 operation_of d = or_refused Op (option_and_then operation_named (text_of (get (codes "op") d)))
 
--- what an operation asks, by its own fields alone
+-- what an operation requests, by its own fields alone
 abbrev pub action_of : Operation → Data → Result Action Refusal
 action_of op.Open d = do
   id ← id_of d
@@ -162,7 +162,7 @@ abbrev pub as_line : Result Event Refusal → Line
 as_line (Ok event) = lines.Asked event
 as_line (Err refusal) = lines.Refused refusal
 
--- what the bytes of a line ask, without the line feed that ends it
+-- what a line without its line feed requests
 abbrev pub line_of : List ℕ → Line
 line_of bytes = as_line (event_in bytes)
 

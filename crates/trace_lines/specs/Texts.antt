@@ -14,39 +14,23 @@ use Rattle.trace_lines.specs.declared.line.Refusal.TheVariants.{NotJson, NotObje
 use Rattle.trace_lines.specs.declared.line.FieldName.{FieldName}
 use Rattle.trace_lines.specs.declared.line.FieldName.TheVariants.{At, Id, Key, Tag, Lock, Pieces}
 
-abbrev pub fault_number : TierFault → ℕ
-fault_number NoRequest = 1
-fault_number IdInUse = 2
-fault_number WrongPhase = 3
-fault_number Waiting = 4
-fault_number AfterEnd = 5
-fault_number BadHead = 6
-fault_number WriteRemoved = 7
-fault_number BeforeEpoch = 8
-fault_number Incomplete = 9
-fault_number (NumbersSpent done) = 10
-fault_number (TooHeavy done) = 11
-fault_number (TooLong done) = 12
-fault_number (Memory done) = 13
-fault_number Folder = 14
-fault_number NoRecord = 15
-
-abbrev pub fault_name : TierFault → List ℕ
-fault_name NoRequest = codes "NoRequest"
-fault_name IdInUse = codes "IdInUse"
-fault_name WrongPhase = codes "WrongPhase"
-fault_name Waiting = codes "Waiting"
-fault_name AfterEnd = codes "AfterEnd"
-fault_name BadHead = codes "BadHead"
-fault_name WriteRemoved = codes "WriteRemoved"
-fault_name BeforeEpoch = codes "BeforeEpoch"
-fault_name Incomplete = codes "Incomplete"
-fault_name (NumbersSpent done) = codes "NumbersSpent"
-fault_name (TooHeavy done) = codes "TooHeavy"
-fault_name (TooLong done) = codes "TooLong"
-fault_name (Memory done) = codes "Memory"
-fault_name Folder = codes "Folder"
-fault_name NoRecord = codes "NoRecord"
+-- a fault's number and name
+abbrev pub fault_label : TierFault → ℕ × List ℕ
+fault_label NoRequest = (1, codes "NoRequest")
+fault_label IdInUse = (2, codes "IdInUse")
+fault_label WrongPhase = (3, codes "WrongPhase")
+fault_label Waiting = (4, codes "Waiting")
+fault_label AfterEnd = (5, codes "AfterEnd")
+fault_label BadHead = (6, codes "BadHead")
+fault_label WriteRemoved = (7, codes "WriteRemoved")
+fault_label BeforeEpoch = (8, codes "BeforeEpoch")
+fault_label Incomplete = (9, codes "Incomplete")
+fault_label (NumbersSpent done) = (10, codes "NumbersSpent")
+fault_label (TooHeavy done) = (11, codes "TooHeavy")
+fault_label (TooLong done) = (12, codes "TooLong")
+fault_label (Memory done) = (13, codes "Memory")
+fault_label Folder = (14, codes "Folder")
+fault_label NoRecord = (15, codes "NoRecord")
 
 abbrev pub freshness_text : Bool → List ℕ
 freshness_text true = codes "fresh"
@@ -78,7 +62,7 @@ answer_text (Finished size evicted) = codes "finished " ++ (decimal size ++ (cod
 
 abbrev pub outcome_text : Outcome → List ℕ
 outcome_text (Ok answer) = answer_text answer
-outcome_text (Err fault) = codes "fault " ++ (decimal (fault_number fault) ++ (codes " " ++ fault_name fault))
+outcome_text (Err fault) = codes "fault " ++ (decimal (fault_label fault).0 ++ (codes " " ++ (fault_label fault).1))
 
 abbrev pub field_text : FieldName → List ℕ
 field_text At = codes "at"

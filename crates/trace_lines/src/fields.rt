@@ -3,11 +3,11 @@ ghost use Rattle.std.specs.Prelude.{◌≡◌, ◌++◌, map, option_map, IfOk, 
 ghost use Rattle.serde_json.specs.View.{view, items_view};
 ghost use Rattle.trace_lines.specs.Lines.{moment_of, id_of, primary_of, tag_of, lock_of, key_of, bytes_of, all_bytes_of, pieces_of, operation_named, operation_of, IsRead, IsReadAs};
 
+use crate::hex_text::decode;
 use crate::line::{FieldName, Operation, Refusal, Stop};
 use bytes::Bytes;
 use cache_words::key::CacheKey;
 use cache_words::time::Moment;
-use hex::FromHexError;
 use serde_json::Value;
 use std::alloc::{AllocError, Global};
 use tier_model::event::Pieces;
@@ -15,7 +15,7 @@ use tier_model::event::Pieces;
 // A moment's seconds fit in 63 bits.
 const MOMENT_END: u64 = 1 << 63;
 
-/// What the line asks for.
+// The operation that the line names.
 pub(crate) fn operation(value: &Value) -> Result<Operation, Refusal>
     ensures { result ≡ operation_of (view value.now) }
 {
@@ -40,7 +40,7 @@ fn operation_named(name: &str) -> Option<Operation>
     }
 }
 
-/// The moment of the event.
+// The moment of the event.
 pub(crate) fn moment(value: &Value) -> Result<Moment, Refusal>
     ensures { result ≡ moment_of (view value.now) }
 {
@@ -51,7 +51,7 @@ pub(crate) fn moment(value: &Value) -> Result<Moment, Refusal>
     }
 }
 
-/// The number of the request.
+// The number of the request.
 pub(crate) fn id(value: &Value) -> Result<u64, Refusal>
     ensures { result ≡ id_of (view value.now) }
 {
@@ -61,7 +61,7 @@ pub(crate) fn id(value: &Value) -> Result<u64, Refusal>
         .ok_or(Refusal::Field(FieldName::Id))
 }
 
-/// The key: the bytes that it names, and its tag.
+// The key: the bytes that it names, and its tag.
 pub(crate) fn key(alloc: Global, value: &Value) -> Result<CacheKey, Stop>
     ensures { IsRead result (key_of (view value.now)) }
 {
@@ -76,10 +76,9 @@ fn primary(alloc: Global, value: &Value) -> Result<Vec<u8>, Stop>
     let Some(text) = value.get("key").and_then(Value::as_str) else {
         return Err(Stop::Refused(Refusal::Field(FieldName::Key)));
     };
-    match hex::decode(alloc, text) {
-        Ok(bytes) => Ok(bytes),
-        Err(FromHexError::OutOfMemory) => Err(Stop::Memory),
-        Err(_) => Err(Stop::Refused(Refusal::Field(FieldName::Key))),
+    match decode(alloc, text)? {
+        Some(bytes) => Ok(bytes),
+        None => Err(Stop::Refused(Refusal::Field(FieldName::Key))),
     }
 }
 
@@ -95,7 +94,7 @@ fn tag(alloc: Global, value: &Value) -> Result<String, Stop>
     }
 }
 
-/// That no lock is asked for.
+// Checks that no lock is requested.
 pub(crate) fn check_lock(value: &Value) -> Result<(), Refusal>
     ensures { result ≡ lock_of (view value.now) }
 {
@@ -108,7 +107,7 @@ pub(crate) fn check_lock(value: &Value) -> Result<(), Refusal>
     }
 }
 
-/// The pieces of a response.
+// The pieces of a response.
 pub(crate) fn pieces(alloc: Global, value: &Value) -> Result<Pieces, Stop>
     ensures { IsRead result (pieces_of (view value.now)) }
 {
@@ -140,9 +139,8 @@ fn bytes(alloc: Global, value: &Value) -> Result<Option<Bytes>, AllocError>
     let Some(text) = value.as_str() else {
         return Ok(None);
     };
-    match hex::decode(alloc, text) {
-        Ok(bytes) => Ok(Some(Bytes::from_vec(bytes)?)),
-        Err(FromHexError::OutOfMemory) => Err(AllocError),
-        Err(_) => Ok(None),
+    match decode(alloc, text)? {
+        Some(bytes) => Ok(Some(Bytes::from_vec(bytes)?)),
+        None => Ok(None),
     }
 }

@@ -1,9 +1,8 @@
-//! The lines of a trace: what each asks of a tier, and the line that answers it.
+//! The lines of a trace: what each requests of a tier, and the line that answers it.
 #![tactic(auto)]
 
 mod fields;
+mod hex_text;
 pub mod line;
 pub mod read;
-#[cfg(test)]
-mod tests;
 pub mod text;

@@ -1,17 +1,17 @@
-//! What a line asks, or why it asks nothing.
+//! What a line requests, or why it is refused.
 use std::alloc::AllocError;
 use tier_model::event::Event;
 
-/// What a line asks of a tier.
+/// What a line requests of a tier.
 #[derive(Debug, Drop)]
 pub enum Line {
-    /// The line asks nothing: the first reason that holds.
+    /// The line is refused, for the first reason that holds.
     Refused(Refusal),
-    /// The line asks for this event.
+    /// The line requests this event.
     Asked(Event),
 }
 
-/// Why a line asks nothing, in the order in which the reasons are looked for.
+/// Why a line is refused, in the order in which the reasons are looked for.
 #[derive(Clone, Copy, PartialEq, Eq, Debug)]
 pub enum Refusal {
     /// It is no JSON text in UTF-8 (RFC 8259) whose arrays and objects nest at most 127 deep.
@@ -46,12 +46,12 @@ pub enum Operation {
     Put,
 }
 
-/// Why no event was read.
+// Why no event was read.
 #[derive(Debug, Drop)]
 pub(crate) enum Stop {
-    /// The line is refused.
+    // The line is refused.
     Refused(Refusal),
-    /// No memory was left.
+    // No memory was left.
     Memory,
 }
 

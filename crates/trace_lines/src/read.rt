@@ -9,7 +9,7 @@ use serde_json::{Category, Value};
 use std::alloc::{AllocError, Global};
 use tier_model::event::{Action, Event};
 
-/// What the bytes of a line ask, without the line feed that ends it. The one error is want of memory.
+/// Reads a line, given without its line feed. The only error is out of memory.
 pub fn read_line(alloc: Global, bytes: &[u8]) -> Result<Line, AllocError>
     ensures { IfOk result (λ line. line ≡ line_of bytes.now) }
 {

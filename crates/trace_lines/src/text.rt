@@ -1,6 +1,6 @@
-//! Writing a line. Each text comes without the line feed that ends it; the one error is want of memory.
+//! Writing a line. Each text lacks the line feed that ends it; the only error is out of memory.
 ghost use Rattle.std.specs.Prelude.{◌≡◌, IfOk, string_bytes};
-ghost use Rattle.trace_lines.specs.Texts.{fault_number, fault_name, freshness_text, extent_text, bytes_text, purged_text, answer_text, outcome_text, field_text, reason_text, refusal_text, look_ups_text, bodies_text, entries_text, report_text};
+ghost use Rattle.trace_lines.specs.Texts.{fault_label, freshness_text, extent_text, bytes_text, purged_text, answer_text, outcome_text, field_text, reason_text, refusal_text, look_ups_text, bodies_text, entries_text, report_text};
 
 use crate::line::{FieldName, Refusal};
 use bytes::Bytes;
@@ -8,7 +8,7 @@ use std::alloc::{AllocError, Global};
 use tier_model::event::{Answer, TierFault};
 use tier_model::report::Report;
 
-/// The line for what an event was answered.
+/// Returns the line for the outcome of an event.
 pub fn outcome_line(
     alloc: Global,
     outcome: &Result<Answer, TierFault>,
@@ -18,8 +18,7 @@ pub fn outcome_line(
     match outcome {
         Ok(answer) => answer_line(alloc, answer),
         Err(fault) => {
-            let number = fault_number(fault);
-            let name = fault_name(fault);
+            let (number, name) = fault_label(fault);
             format!(in alloc; "fault {number} {name}")
         }
     }
@@ -63,51 +62,30 @@ fn bytes_line(alloc: Global, bytes: &Bytes) -> Result<String, AllocError>
     format!(in alloc; "bytes {text}")
 }
 
-fn fault_number(fault: &TierFault) -> u8
-    ensures { result ≡ fault_number fault.now }
+// A fault's number and name.
+fn fault_label(fault: &TierFault) -> (u8, &'static str)
+    ensures { (result.0, result.1.now) ≡ fault_label fault.now }
 {
     match fault {
-        TierFault::NoRequest => 1,
-        TierFault::IdInUse => 2,
-        TierFault::WrongPhase => 3,
-        TierFault::Waiting => 4,
-        TierFault::AfterEnd => 5,
-        TierFault::BadHead => 6,
-        TierFault::WriteRemoved => 7,
-        TierFault::BeforeEpoch => 8,
-        TierFault::Incomplete => 9,
-        TierFault::NumbersSpent(_) => 10,
-        TierFault::TooHeavy(_) => 11,
-        TierFault::TooLong(_) => 12,
-        TierFault::Memory(_) => 13,
-        TierFault::Folder => 14,
-        TierFault::NoRecord => 15,
+        TierFault::NoRequest => (1, "NoRequest"),
+        TierFault::IdInUse => (2, "IdInUse"),
+        TierFault::WrongPhase => (3, "WrongPhase"),
+        TierFault::Waiting => (4, "Waiting"),
+        TierFault::AfterEnd => (5, "AfterEnd"),
+        TierFault::BadHead => (6, "BadHead"),
+        TierFault::WriteRemoved => (7, "WriteRemoved"),
+        TierFault::BeforeEpoch => (8, "BeforeEpoch"),
+        TierFault::Incomplete => (9, "Incomplete"),
+        TierFault::NumbersSpent(_) => (10, "NumbersSpent"),
+        TierFault::TooHeavy(_) => (11, "TooHeavy"),
+        TierFault::TooLong(_) => (12, "TooLong"),
+        TierFault::Memory(_) => (13, "Memory"),
+        TierFault::Folder => (14, "Folder"),
+        TierFault::NoRecord => (15, "NoRecord"),
     }
 }
 
-fn fault_name(fault: &TierFault) -> &'static str
-    ensures { result.now ≡ fault_name fault.now }
-{
-    match fault {
-        TierFault::NoRequest => "NoRequest",
-        TierFault::IdInUse => "IdInUse",
-        TierFault::WrongPhase => "WrongPhase",
-        TierFault::Waiting => "Waiting",
-        TierFault::AfterEnd => "AfterEnd",
-        TierFault::BadHead => "BadHead",
-        TierFault::WriteRemoved => "WriteRemoved",
-        TierFault::BeforeEpoch => "BeforeEpoch",
-        TierFault::Incomplete => "Incomplete",
-        TierFault::NumbersSpent(_) => "NumbersSpent",
-        TierFault::TooHeavy(_) => "TooHeavy",
-        TierFault::TooLong(_) => "TooLong",
-        TierFault::Memory(_) => "Memory",
-        TierFault::Folder => "Folder",
-        TierFault::NoRecord => "NoRecord",
-    }
-}
-
-/// The line for a line that asks nothing.
+/// Returns the line for a refused line.
 pub fn refusal_line(alloc: Global, refusal: &Refusal) -> Result<String, AllocError>
     ensures { IfOk result (λ text. string_bytes text ≡ refusal_text refusal.now) }
 {
@@ -135,7 +113,7 @@ fn field_name(field: FieldName) -> &'static str
     }
 }
 
-/// The last line: what the tier did and holds.
+/// Returns the last line: what the tier did and holds.
 pub fn report_line(alloc: Global, report: &Report) -> Result<String, AllocError>
     ensures { IfOk result (λ text. string_bytes text ≡ report_text report.now) }
 {

@@ -1,3 +1,5 @@
 pub mod LineLemmas
+pub mod InputLemmas
+pub mod OutputLemmas
 pub mod Progress
 pub mod OptionLemmas

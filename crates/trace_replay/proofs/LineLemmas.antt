@@ -1,4 +1,4 @@
--- The first line of a trace, and the lines behind it.
+-- The first line of a trace, and the lines after it.
 use Rattle.std.proofs.Common.{◌≡◌, ◌∙◌, ℕ, suc, ◌-◌, ◌==◌, nat_lt, Bool, true, false, ◌&&◌, List, [], ◌∷◌, length, take, slice_index, refl, ap, sym, subst, arith, rules, if◌then◌else◌}
 use Rattle.std.specs.Io.BufRead.{take_through, drop_through, strip_last}
 use Rattle.trace_replay.specs.Replays.{lines_in, onto_first}
@@ -7,7 +7,7 @@ chosen-cons : (t u e : Bool) (x : ℕ) (p q : List ℕ) → t ≡ true → u ≡
 chosen-cons t u true x p q one two = rw (one, two) refl
 chosen-cons t u false x p q one two = rw (one, two) refl
 
--- the end of a list stays behind one more element
+-- the end of a list stays after one more element in front
 strip_last-cons : (b x y : ℕ) (ys : List ℕ) → strip_last b (x ∷ y ∷ ys) ≡ x ∷ strip_last b (y ∷ ys)
 strip_last-cons b x y ys =
     let both : suc (suc (length ys)) - 1 ≡ suc (length ys) = omega arith in
@@ -44,7 +44,7 @@ before_more x y ys false is first =
     subst (λ (t : List ℕ). strip_last 10 (x ∷ t) ≡ x ∷ strip_last 10 t) (sym begins.1) (strip_last-cons 10 x y begins.0) in
     rw is (ap (onto_first x) first ∙ ap (λ l. l ∷ lines_in (drop_through 10 (y ∷ ys))) (sym kept))
 
--- the first line is what stands before the first line feed
+-- the first line is what is before the first line feed
 pub lines_in-first : (x : ℕ) (xs : List ℕ) → lines_in (x ∷ xs) ≡ strip_last 10 (take_through 10 (x ∷ xs)) ∷ lines_in (drop_through 10 (x ∷ xs))
 lines_in-first x [] = alone x (x == 10) refl
 lines_in-first x (y ∷ ys) = before_more x y ys (x == 10) refl (lines_in-first y ys)

@@ -3,13 +3,14 @@ use Rattle.std.proofs.Common.{◌≡◌, ◌∙◌, ℕ, List, true, refl, ap, s
 use Rattle.std.specs.Prelude.{Option, Some, None, Err}
 use Rattle.clap.specs.Matches.{found_of, first_value}
 use Rattle.clap.specs.Simple.{HasMatchesOf, is_simple}
+use Rattle.clap.specs.Faults.{is_simple_and_free}
 use Rattle.clap.specs.Walk.{Text, first_of}
 use Rattle.clap.specs.declared.parser.matches.ArgMatches.{ArgMatches}
 use Rattle.clap.proofs.OnLiterals.{clap_on_literals}
 use Rattle.clap.proofs.WalkLemmas.{first_value-rows}
 use Rattle.trace_replay.specs.CommandLine.{app, value_of, IsGiven, IsFault, IsReadNumber}
 use Rattle.trace_replay.specs.declared.options.OptionsError.{OptionsError}
-use Rattle.trace_replay.specs.declared.options.OptionsError.TheVariants.{CommandLine, NoLimit, NotANumber, Memory}
+use Rattle.trace_replay.specs.declared.options.OptionsError.TheVariants.{CommandLine, NoLimit, WrongValue, NotUtf8, Memory}
 
 app_is_simple : is_simple app ≡ true
 unfolding clap_on_literals
@@ -23,12 +24,16 @@ pub given_by_words : (id : Text) (m : ArgMatches) (words : List Text) (number : 
 given_by_words id m words number h given = subst (λ v. IsGiven v number) (first_value-words id m words h) given
 
 pub fault_by_words : (id : Text) (m : ArgMatches) (words : List Text) (error : OptionsError) → HasMatchesOf app words m
-    → IsReadNumber id (first_value (found_of m) id) (Err error) → IsFault words error
+    → IsReadNumber (first_value (found_of m) id) (Err error) → IsFault words error
 fault_by_words id m words (CommandLine error) h none = absurd none
 fault_by_words id m words NoLimit h none = absurd none
-fault_by_words id m words (NotANumber shown) h found =
-    (found.1.0, ap (λ name. value_of name words) found.0 ∙ (sym (first_value-words id m words h) ∙ found.1.1), found.1.2)
-fault_by_words id m words Memory h none = absurd none
+fault_by_words id m words (NotUtf8 error) h none = absurd none
+fault_by_words id m words (WrongValue error) h found = (id, found.0, sym (first_value-words id m words h) ∙ found.1, found.2)
+fault_by_words id m words Memory h none = tt
+
+pub app_is_free : is_simple_and_free app ≡ true
+unfolding clap_on_literals
+app_is_free = refl
 
 pub none_by_words : (id : Text) (m : ArgMatches) (words : List Text) (number : Option ℕ) → HasMatchesOf app words m
     → IsGiven (first_value (found_of m) id) number → ((n : ℕ) → number ≡ Some n → ⊥) → value_of id words ≡ None

@@ -1,67 +1,78 @@
 -- How far a replay has come, and what a line more makes of it.
-use Rattle.std.proofs.Common.{◌≡◌, ◌∙◌, ℕ, ◌+◌, ◌-◌, ◌^◌, ◌≤◌, ◌<◌, List, [], ◌∷◌, ◌++◌, length, map, refl, ap, sym, subst, append_assoc, append-nil, arith}
+use Rattle.std.proofs.Common.{◌≡◌, ◌∙◌, ℕ, ◌+◌, ◌-◌, ◌^◌, ◌≤◌, ◌<◌, List, [], ◌∷◌, ◌++◌, length, map, take, drop, length-take-le, refl, inl, inr, ap, sym, subst, append_assoc, append-nil, arith}
 use Rattle.std.specs.Prelude.{Option, Some, None, IfSome}
-use Rattle.std.specs.Io.KnownBytes.{Appends, IsAtEnd}
-use Rattle.std.specs.Io.BufRead.{take_through, drop_through, strip_last, DropsThrough}
+use Rattle.std.specs.Io.KnownBytes.{Appends, Keeps, prepend_known}
+use Rattle.std.specs.Io.BufRead.{take_through, drop_through, strip_last}
 use Rattle.tier_model.specs.Calls.{Call, History, Outcome, AreCallsOf, extended}
 use Rattle.tier_model.specs.Past.{HasPast}
 use Rattle.tier_model.specs.Reports.{report_of}
 use Rattle.tier_model.specs.State.{Settings, State}
 use Rattle.trace_lines.specs.Lines.{line_of}
-use Rattle.trace_lines.specs.Texts.{outcome_text, report_text}
+use Rattle.trace_lines.specs.Texts.{outcome_text, refusal_text, report_text}
 use Rattle.tier_model.specs.declared.event.Event.{Event}
 use Rattle.trace_lines.specs.declared.line.Line.{Line}
 use Rattle.trace_lines.specs.declared.line.Line.TheVariants.{Refused, Asked}
-use Rattle.trace_replay.specs.Replays.{asked_by, lines_in, ended, Replays, IsReplay}
+use Rattle.trace_replay.specs.Inputs.{IsLineBefore}
+use Rattle.trace_replay.specs.Outputs.{Passes, HasBegun}
+use Rattle.trace_replay.specs.Replays.{asked_by, lines_in, ended, last_text, Replays, IsReplay, IsBeginning}
 use Rattle.trace_replay.specs.Steps.{Answers}
+use Rattle.std.proofs.BufReadLemmas.{take_through-nil}
+use Rattle.std.proofs.KnownBytes.{Appends-nil, Appends-trans}
+use Rattle.trace_replay.proofs.OutputLemmas.{begun_longer}
 use Rattle.trace_replay.proofs.LineLemmas.{lines_in-first}
 
--- the lines so far are answered, and whatever answers the lines that are left, behind these calls, goes on from there
-pub record GoesOn (lines left : List Line) (history : History) (answers : List ℕ) : Type 0 where
-  pub on : (h : History) (text : List ℕ) → Replays left history h text → Replays lines [] h (answers ++ text)
+-- one line more after those that are answered
+replays_more : (lines : List Line) (line : Line) (past h new : History) (answers text : List ℕ)
+    → Replays lines past h answers → Replays (line ∷ []) h new text → Replays (lines ++ line ∷ []) past new (answers ++ text)
+replays_more [] line past h new answers text before one =
+    subst (λ p. Replays (line ∷ []) p new (answers ++ text)) before.0
+    (subst (λ a. Replays (line ∷ []) h new (a ++ text)) (sym before.1) one)
+replays_more (Refused refusal ∷ lines) line past h new answers text before one =
+    (before.0 ++ text, ap (λ a. a ++ text) before.1 ∙ append_assoc (ended (refusal_text refusal)) before.0 text, replays_more lines line past h new before.0 text before.2 one)
+replays_more (Asked event ∷ lines) line past h new answers text before one =
+    (before.0, before.1 ++ text, before.2, ap (λ a. a ++ text) before.3 ∙ append_assoc (ended (outcome_text before.0.outcome)) before.1 text, replays_more lines line (before.0 ∷ past) h new before.1 text before.4 one)
 
-pub record Progress (settings : Settings) (trace : List ℕ) (reads : ℕ) (rest held written : Option (List ℕ)) (state : State) : Type 0 where
-  pub left : List ℕ
+-- some lines are answered by a history, and `left` are to come
+pub record Answered (settings : Settings) (lines left : List Line) (answers : List ℕ) (state : State) : Type 0 where
+  pub answered : List Line
   pub history : History
-  pub answers : List ℕ
+  pub split : lines ≡ answered ++ left
+  pub replays : Replays answered [] history answers
+  pub past : HasPast settings state history
+
+-- of the answers, `sent` are written and the others are waiting
+pub record Progress (settings : Settings) (trace : List ℕ) (reads : ℕ) (rest held written : Option (List ℕ)) (waiting : List ℕ) (state : State) : Type 0 where
+  pub left : List ℕ
+  pub sent : List ℕ
   pub unread : rest ≡ Some left
   pub counted : length (lines_in trace) ≡ reads + length (lines_in left)
-  pub appended : Appends held written answers
-  pub past : HasPast settings state history
-  pub goes_on : GoesOn (asked_by trace) (asked_by left) history answers
+  pub appended : Appends held written sent
+  pub so_far : Answered settings (asked_by trace) (asked_by left) (sent ++ waiting) state
 
 -- the same where the bytes of the trace are known
-abbrev pub Halfway : Settings → ℕ → Option (List ℕ) → Option (List ℕ) → Option (List ℕ) → Option (List ℕ) → State → Type 0
-Halfway settings reads input rest held written state = IfSome input (λ trace. Progress settings trace reads rest held written state)
+abbrev pub Halfway : Settings → ℕ → Option (List ℕ) → Option (List ℕ) → Option (List ℕ) → Option (List ℕ) → List ℕ → State → Type 0
+Halfway settings reads input rest held written waiting state = IfSome input (λ trace. Progress settings trace reads rest held written waiting state)
 
-appends_nothing : (held : Option (List ℕ)) → Appends held held []
-appends_nothing None = tt
-appends_nothing (Some xs) = sym (append-nil xs)
-
-appends_both : (held written new : Option (List ℕ)) (a b : List ℕ) → Appends held written a → Appends written new b → Appends held new (a ++ b)
-appends_both None written new a b one two = tt
-appends_both (Some xs) None new a b one two = absurd one
-appends_both (Some xs) (Some ys) None a b one two = absurd two
-appends_both (Some xs) (Some ys) (Some zs) a b one two = two ∙ ap (λ l. l ++ b) one ∙ append_assoc xs a b
-
-pub halfway_start : (settings : Settings) (input held : Option (List ℕ)) (state : State) → HasPast settings state [] → Halfway settings 0 input input held held state
-halfway_start settings None held state past = tt
-halfway_start settings (Some trace) held state past = record {
-  left = trace;
+answered_none : (settings : Settings) (lines : List Line) (state : State) → HasPast settings state [] → Answered settings lines lines [] state
+answered_none settings lines state past = record {
+  answered = [];
   history = [];
-  answers = [];
-  unread = refl;
-  counted = omega arith;
-  appended = appends_nothing held;
+  split = refl;
+  replays = (refl, refl);
   past = past;
-  goes_on = record { on = λ h text replays. replays };
 }
 
--- the calls and the text behind one line more
-record OneMore (settings : Settings) (lines left : List Line) (new : State) (answers : List ℕ) : Type 0 where
-  history : History
-  past : HasPast settings new history
-  goes_on : GoesOn lines left history answers
+pub halfway_start : (settings : Settings) (input held : Option (List ℕ)) (state : State) (front waiting : List ℕ) → HasPast settings state [] → front ≡ [] → waiting ≡ []
+    → Halfway settings 0 input (prepend_known front input) held held waiting state
+halfway_start settings None held state front waiting past none empty = tt
+halfway_start settings (Some trace) held state front waiting past none empty = record {
+  left = trace;
+  sent = [];
+  unread = ap (λ f. prepend_known f (Some trace)) none;
+  counted = omega arith;
+  appended = Appends-nil held;
+  so_far = subst (λ w. Answered settings (asked_by trace) (asked_by trace) w state) (sym empty) (answered_none settings (asked_by trace) state past);
+}
 
 -- the one call of an event
 one_call : (settings : Settings) (event : Event) (outcome : Outcome) (new : State) (history : History)
@@ -75,88 +86,194 @@ one_call settings event outcome new history (calls, are, past) = by_calls calls 
     by_calls (c ∷ []) are past = (c, are.0, are.1, past)
     by_calls (c ∷ d ∷ cs) are past = absurd are.2
 
-one_more : (settings : Settings) (old new : State) (lines : List Line) (line : Line) (left : List Line) (history : History) (answers text : List ℕ)
-    → HasPast settings old history → GoesOn lines (line ∷ left) history answers → Answers old new line text → OneMore settings lines left new (answers ++ text)
-one_more settings old new lines (Refused refusal) left history answers text past on answer = record {
-  history = history;
-  past = subst (λ s. HasPast settings s history) (sym answer.0) past;
-  goes_on = record { on = λ h rest replays. subst (Replays lines [] h) (sym (append_assoc answers text rest)) (on.on h (text ++ rest) (rest, ap (λ t. t ++ rest) answer.1, replays)) };
+answered_more : (settings : Settings) (old new : State) (lines : List Line) (line : Line) (left : List Line) (answers text : List ℕ)
+    → Answered settings lines (line ∷ left) answers old → Answers old new line text → Answered settings lines left (answers ++ text) new
+answered_more settings old new lines (Refused refusal) left answers text so_far answer = record {
+  answered = so_far.answered ++ Refused refusal ∷ [];
+  history = so_far.history;
+  split = so_far.split ∙ sym (append_assoc so_far.answered (Refused refusal ∷ []) left);
+  replays = replays_more so_far.answered (Refused refusal) [] so_far.history so_far.history answers text so_far.replays ([], answer.1 ∙ sym (append-nil (ended (refusal_text refusal))), (refl, refl));
+  past = subst (λ s. HasPast settings s so_far.history) (sym answer.0) so_far.past;
 }
-one_more settings old new lines (Asked event) left history answers text past on answer =
-    let call = one_call settings event answer.0 new history (answer.1 settings history past) in
+answered_more settings old new lines (Asked event) left answers text so_far answer =
+    let call = one_call settings event answer.0 new so_far.history (answer.1 settings so_far.history so_far.past) in
     record {
-      history = call.0 ∷ history;
+      answered = so_far.answered ++ Asked event ∷ [];
+      history = call.0 ∷ so_far.history;
+      split = so_far.split ∙ sym (append_assoc so_far.answered (Asked event ∷ []) left);
+      replays = replays_more so_far.answered (Asked event) [] so_far.history (call.0 ∷ so_far.history) answers text so_far.replays
+          (call.0, [], call.1, answer.2 ∙ (ap (λ o. ended (outcome_text o)) (sym call.2) ∙ sym (append-nil (ended (outcome_text call.0.outcome)))), (refl, refl));
       past = call.3;
-      goes_on = record {
-        on = λ h rest replays. subst (Replays lines [] h) (sym (append_assoc answers text rest))
-            (on.on h (text ++ rest) (call.0, rest, call.1, ap (λ t. t ++ rest) (answer.2 ∙ ap (λ o. ended (outcome_text o)) (sym call.2)), replays));
-      };
     }
 
-progress_more : (settings : Settings) (trace left : List ℕ) (reads : ℕ) (next held written new : Option (List ℕ)) (old after : State) (history : History) (answers line text : List ℕ)
-    → length (lines_in trace) ≡ reads + length (lines_in left) → next ≡ Some (drop_through 10 left) → line ≡ take_through 10 left → 0 < length line
-    → Appends held written answers → HasPast settings old history → GoesOn (asked_by trace) (asked_by left) history answers
-    → Answers old after (line_of (strip_last 10 line)) text → Appends written new text → Progress settings trace (reads + 1) next held new after
-progress_more settings trace [] reads next held written new old after history answers line text counted next_is line_is some appended past on answer writes =
+-- the bytes that are left, after reading ahead
+left_known : (left front : List ℕ) (before next : Option (List ℕ)) → before ≡ Some left → Keeps before (prepend_known front next)
+    → (rest : List ℕ) × (next ≡ Some rest) × (front ++ rest ≡ left)
+left_known left front before None is keeps = absurd (subst (λ b. Keeps b None) is keeps)
+left_known left front before (Some rest) is keeps = (rest, refl, subst (λ b. Keeps b (Some (front ++ rest))) is keeps)
+
+-- part of what waited is written
+passed : (held written new : Option (List ℕ)) (sent before after : List ℕ) → Appends held written sent → Passes written new before after
+    → (now : List ℕ) × Appends held new now × (now ++ after ≡ sent ++ before)
+passed held written new sent before after appended passes =
+    (sent ++ passes.0, Appends-trans held written new sent passes.0 appended passes.2, append_assoc sent passes.0 after ∙ ap (λ l. sent ++ l) (sym passes.1))
+
+progress_more : (settings : Settings) (trace left : List ℕ) (reads : ℕ) (rest held written : Option (List ℕ)) (old after : State) (sent waiting line text more : List ℕ)
+    → length (lines_in trace) ≡ reads + length (lines_in left) → rest ≡ Some (drop_through 10 left) → line ≡ take_through 10 left → 0 < length line
+    → Appends held written sent → Answered settings (asked_by trace) (asked_by left) (sent ++ waiting) old
+    → Answers old after (line_of (strip_last 10 line)) text → more ≡ waiting ++ text → Progress settings trace (reads + 1) rest held written more after
+progress_more settings trace [] reads rest held written old after sent waiting line text more counted rest_is line_is some appended so_far answer more_is =
     let none : length line ≡ 0 = ap length line_is in absurd (omega arith)
-progress_more settings trace (x ∷ xs) reads next held written new old after history answers line text counted next_is line_is some appended past on answer writes =
-    let behind : List Line = asked_by (drop_through 10 (x ∷ xs)) in
-    let first : asked_by (x ∷ xs) ≡ line_of (strip_last 10 line) ∷ behind =
-    ap (map line_of) (lines_in-first x xs) ∙ ap (λ l. line_of (strip_last 10 l) ∷ behind) (sym line_is) in
-    let more = one_more settings old after (asked_by trace) (line_of (strip_last 10 line)) behind history answers text past
-    (subst (λ l. GoesOn (asked_by trace) l history answers) first on) answer in
+progress_more settings trace (x ∷ xs) reads rest held written old after sent waiting line text more counted rest_is line_is some appended so_far answer more_is =
+    let later : List Line = asked_by (drop_through 10 (x ∷ xs)) in
+    let first : asked_by (x ∷ xs) ≡ line_of (strip_last 10 line) ∷ later =
+    ap (map line_of) (lines_in-first x xs) ∙ ap (λ l. line_of (strip_last 10 l) ∷ later) (sym line_is) in
+    let one = answered_more settings old after (asked_by trace) (line_of (strip_last 10 line)) later (sent ++ waiting) text
+    (subst (λ l. Answered settings (asked_by trace) l (sent ++ waiting) old) first so_far) answer in
     record {
       left = drop_through 10 (x ∷ xs);
-      history = more.history;
-      answers = answers ++ text;
-      unread = next_is;
+      sent = sent;
+      unread = rest_is;
       counted = omega (arith, counted, ap length (lines_in-first x xs));
-      appended = appends_both held written new answers text appended writes;
-      past = more.past;
-      goes_on = more.goes_on;
+      appended = appended;
+      so_far = subst (λ l. Answered settings (asked_by trace) later l after) (append_assoc sent waiting text ∙ ap (λ l. sent ++ l) (sym more_is)) one;
     }
 
--- one line more: the bytes that were read, without their line feed, asked for the text that was written
-pub halfway_more : (settings : Settings) (reads : ℕ) (input rest next held written new : Option (List ℕ)) (old after : State) (before line slice bare text shown : List ℕ)
-    → Halfway settings reads input rest held written old → before ≡ [] → IfSome rest (λ xs. line ≡ before ++ take_through 10 xs) → DropsThrough rest next 10
-    → 0 < length line → slice ≡ line → bare ≡ strip_last 10 slice → Answers old after (line_of bare) text → shown ≡ text → Appends written new shown
-    → Halfway settings (reads + 1) input next held new after
-halfway_more settings reads None rest next held written new old after before line slice bare text shown half empty bytes drops some whole stripped answer same writes = tt
-halfway_more settings reads (Some trace) rest next held written new old after before line slice bare text shown half empty bytes drops some whole stripped answer same writes =
-    let read : line ≡ before ++ take_through 10 half.left = subst (λ r. IfSome r (λ xs. line ≡ before ++ take_through 10 xs)) half.unread bytes in
-    let next_is : next ≡ Some (drop_through 10 half.left) = subst (λ r. DropsThrough r next 10) half.unread drops in
-    progress_more settings trace half.left reads next held written new old after half.history half.answers line text half.counted next_is
-    (read ∙ ap (λ l. l ++ take_through 10 half.left) empty) some half.appended half.past half.goes_on
-    (subst (λ l. Answers old after (line_of l) text) (stripped ∙ ap (strip_last 10) whole) answer)
-    (subst (Appends written new) same writes)
+-- the facts at a turn after its read: the bytes and what waits
+pub halfway_read : (settings : Settings) (reads : ℕ) (input rest held written new next : Option (List ℕ)) (waiting after front : List ℕ) (state : State)
+    → Halfway settings reads input rest held written waiting state → Keeps rest (prepend_known front next) → Passes written new waiting after
+    → Halfway settings reads input (prepend_known front next) held new after state
+halfway_read settings reads None rest held written new next waiting after front state half keeps passes = tt
+halfway_read settings reads (Some trace) rest held written new next waiting after front state half keeps passes =
+    let known = left_known half.left front rest next half.unread keeps in
+    let now = passed held written new half.sent waiting after half.appended passes in
+    record {
+      left = half.left;
+      sent = now.0;
+      unread = ap (prepend_known front) known.1 ∙ ap Some known.2;
+      counted = half.counted;
+      appended = now.1;
+      so_far = subst (λ l. Answered settings (asked_by trace) (asked_by half.left) l state) (sym now.2) half.so_far;
+    }
 
--- what is written behind the last line
+known_left : (left front : List ℕ) (next : Option (List ℕ)) → prepend_known front next ≡ Some left → (rest : List ℕ) × (next ≡ Some rest) × (front ++ rest ≡ left)
+known_left left front None is = cc
+known_left left front (Some rest) is =
+    let same : front ++ rest ≡ left = cc in
+    (rest, refl, same)
+
+-- one line more: the bytes that were read, without their line feed, asked for the text that waits now
+pub halfway_more : (settings : Settings) (reads n : ℕ) (input next held new : Option (List ℕ)) (old after : State) (front skipped waiting line bare text more : List ℕ)
+    → Halfway settings reads input (prepend_known front next) held new waiting old → IfSome next (λ rest. IsLineBefore n front rest) → 0 < n → n ≤ length front
+    → line ≡ take n front → bare ≡ strip_last 10 line → Answers old after (line_of bare) text → more ≡ waiting ++ text → skipped ≡ drop n front
+    → Halfway settings (reads + 1) input (prepend_known skipped next) held new more after
+halfway_more settings reads n None next held new old after front skipped waiting line bare text more half first some within line_is stripped answer more_is skipped_is = tt
+halfway_more settings reads n (Some trace) next held new old after front skipped waiting line bare text more half first some within line_is stripped answer more_is skipped_is =
+    let known = known_left half.left front next half.unread in
+    let at = subst (λ o. IfSome o (λ rest. IsLineBefore n front rest)) known.1 first in
+    let taken : take n front ≡ take_through 10 half.left = sym at.0 ∙ ap (take_through 10) known.2 in
+    let behind : drop n front ++ known.0 ≡ drop_through 10 half.left = sym at.1 ∙ ap (drop_through 10) known.2 in
+    let rest_is : prepend_known skipped next ≡ Some (drop_through 10 half.left) =
+    ap (λ s. prepend_known s next) skipped_is ∙ (ap (prepend_known (drop n front)) known.1 ∙ ap Some behind) in
+    let long : 0 < length line = rw line_is (omega (arith, length-take-le n front within)) in
+    progress_more settings trace half.left reads (prepend_known skipped next) held new old after half.sent waiting line text more half.counted rest_is
+    (line_is ∙ taken) long half.appended half.so_far
+    (subst (λ l. Answers old after (line_of l) text) stripped answer) more_is
+
+-- what is written after the last line
 abbrev pub IsDone : Settings → Option (List ℕ) → Option (List ℕ) → Option (List ℕ) → Type 0
 IsDone settings input held new =
     IfSome input (λ trace. (text : List ℕ) × Appends held new text × IsReplay settings (asked_by trace) text)
 
-pub halfway_done : (settings : Settings) (reads : ℕ) (input rest held written new : Option (List ℕ)) (state : State)
-    → Halfway settings reads input rest held written state → IsAtEnd rest → Appends written new (ended (report_text (report_of state))) → IsDone settings input held new
-halfway_done settings reads None rest held written new state half end writes = tt
-halfway_done settings reads (Some trace) rest held written new state half end writes =
+-- what is written at an early end
+abbrev pub IsCutShort : Settings → Option (List ℕ) → Option (List ℕ) → Option (List ℕ) → Type 0
+IsCutShort settings input held new =
+    IfSome input (λ trace. (text : List ℕ) × Appends held new text × IsBeginning settings (asked_by trace) text)
+
+no_line : (front rest left : List ℕ) (n : ℕ) → n ≡ 0 → IsLineBefore n front rest → front ++ rest ≡ left → left ≡ []
+no_line front rest [] n zero line is = refl
+no_line front rest (x ∷ xs) n zero line is =
+    let none : take_through 10 (x ∷ xs) ≡ [] = ap (take_through 10) (sym is) ∙ (line.0 ∙ ap (λ k. take k front) zero) in
+    take_through-nil 10 (x ∷ xs) (ap length none)
+
+nothing_left : (settings : Settings) (reads n : ℕ) (trace : List ℕ) (next held new : Option (List ℕ)) (front waiting : List ℕ) (state : State)
+    → (half : Progress settings trace reads (prepend_known front next) held new waiting state) → IfSome next (λ rest. IsLineBefore n front rest) → n ≡ 0 → half.left ≡ []
+nothing_left settings reads n trace next held new front waiting state half first zero =
+    let known = known_left half.left front next half.unread in
+    no_line front known.0 half.left n zero (subst (λ o. IfSome o (λ rest. IsLineBefore n front rest)) known.1 first) known.2
+
+all_answered : (settings : Settings) (lines : List Line) (answers : List ℕ) (state : State) → Answered settings lines [] answers state
+    → (history : History) × Replays lines [] history answers × HasPast settings state history
+all_answered settings lines answers state so_far =
+    (so_far.history, subst (λ l. Replays l [] so_far.history answers) (sym (so_far.split ∙ append-nil so_far.answered)) so_far.replays, so_far.past)
+
+pub halfway_done : (settings : Settings) (reads n : ℕ) (input next held written new : Option (List ℕ)) (front waiting : List ℕ) (state : State)
+    → Halfway settings reads input (prepend_known front next) held written waiting state → IfSome next (λ rest. IsLineBefore n front rest) → n ≡ 0
+    → Appends written new (waiting ++ ended (report_text (report_of state))) → IsDone settings input held new
+halfway_done settings reads n None next held written new front waiting state half first zero writes = tt
+halfway_done settings reads n (Some trace) next held written new front waiting state half first zero writes =
     let report : List ℕ = ended (report_text (report_of state)) in
-    let none : half.left ≡ [] = subst IsAtEnd half.unread end in
-    let all : Replays (asked_by trace) [] half.history (half.answers ++ []) =
-    half.goes_on.on half.history [] (subst (λ l. Replays (asked_by l) half.history half.history []) (sym none) (refl, refl)) in (
-      half.answers ++ report,
-      appends_both held written new half.answers report half.appended writes,
+    let none : half.left ≡ [] = nothing_left settings reads n trace next held written front waiting state half first zero in
+    let all = all_answered settings (asked_by trace) (half.sent ++ waiting) state
+    (subst (λ l. Answered settings (asked_by trace) (asked_by l) (half.sent ++ waiting) state) none half.so_far) in (
+      half.sent ++ (waiting ++ report),
+      Appends-trans held written new half.sent (waiting ++ report) half.appended writes,
       record {
-        history = half.history;
-        answers = half.answers;
+        history = all.0;
+        answers = half.sent ++ waiting;
         state = state;
-        replays = subst (Replays (asked_by trace) [] half.history) (append-nil half.answers) all;
-        past = half.past;
-        reported = refl;
+        replays = all.1;
+        past = all.2;
+        reported = sym (append_assoc half.sent waiting report);
       },
     )
 
--- a trace with so many lines that each of 2^64 - 1 reads found one
-pub halfway_spent : (settings : Settings) (reads : ℕ) (input rest held written : Option (List ℕ)) (state : State)
-    → Halfway settings reads input rest held written state → 2 ^ 64 - 1 ≤ reads → IfSome input (λ trace. 2 ^ 64 - 1 ≤ length (lines_in trace))
-halfway_spent settings reads None rest held written state half many = tt
-halfway_spent settings reads (Some trace) rest held written state half many = omega (arith, half.counted)
+-- an early end after a beginning of what waits and this text
+cut_short : (settings : Settings) (trace : List ℕ) (reads : ℕ) (rest held written new : Option (List ℕ)) (waiting later : List ℕ) (state : State)
+    → (half : Progress settings trace reads rest held written waiting state) → (last_text (asked_by half.left) state ≡ later) → HasBegun written new (waiting ++ later)
+    → IsCutShort settings (Some trace) held new
+cut_short settings trace reads rest held written new waiting later state half last begun = (
+  half.sent ++ begun.1.0,
+  Appends-trans held written new half.sent begun.1.0 half.appended begun.1.2,
+  inr (record {
+    answered = half.so_far.answered;
+    left = asked_by half.left;
+    history = half.so_far.history;
+    answers = half.sent ++ waiting;
+    state = state;
+    rest = begun.0;
+    split = half.so_far.split;
+    replays = half.so_far.replays;
+    past = half.so_far.past;
+    begins = ap (λ l. (half.sent ++ waiting) ++ l) last ∙ (append_assoc half.sent waiting later ∙ (ap (λ l. half.sent ++ l) begun.1.1 ∙ sym (append_assoc half.sent begun.1.0 begun.0)));
+  }),
+)
+
+-- an early end in the midst of the lines
+pub halfway_cut : (settings : Settings) (reads : ℕ) (input rest held written new : Option (List ℕ)) (waiting : List ℕ) (state : State)
+    → Halfway settings reads input rest held written waiting state → HasBegun written new waiting → IsCutShort settings input held new
+halfway_cut settings reads None rest held written new waiting state half begun = tt
+halfway_cut settings reads (Some trace) rest held written new waiting state half begun =
+    cut_short settings trace reads rest held written new waiting (last_text (asked_by half.left) state) state half refl
+    (begun_longer written new waiting (last_text (asked_by half.left) state) begun)
+
+-- an early end in the report
+pub halfway_cut_last : (settings : Settings) (reads n : ℕ) (input next held written new : Option (List ℕ)) (front waiting : List ℕ) (state : State)
+    → Halfway settings reads input (prepend_known front next) held written waiting state → IfSome next (λ rest. IsLineBefore n front rest) → n ≡ 0
+    → HasBegun written new (waiting ++ ended (report_text (report_of state))) → IsCutShort settings input held new
+halfway_cut_last settings reads n None next held written new front waiting state half first zero begun = tt
+halfway_cut_last settings reads n (Some trace) next held written new front waiting state half first zero begun =
+    let none : half.left ≡ [] = nothing_left settings reads n trace next held written front waiting state half first zero in
+    cut_short settings trace reads (prepend_known front next) held written new waiting (ended (report_text (report_of state))) state half
+    (ap (λ l. last_text (asked_by l) state) none) begun
+
+-- an early end before the first line
+pub cut_at_start : (settings : Settings) (input held : Option (List ℕ)) → IsCutShort settings input held held
+cut_at_start settings None held = tt
+cut_at_start settings (Some trace) held = ([], Appends-nil held, inl refl)
+
+-- a trace with so many lines that each of 2^64 - 1 turns found one
+pub halfway_spent : (settings : Settings) (reads : ℕ) (input rest held written : Option (List ℕ)) (waiting : List ℕ) (state : State)
+    → Halfway settings reads input rest held written waiting state → 2 ^ 64 - 1 ≤ reads → IfSome input (λ trace. 2 ^ 64 - 1 ≤ length (lines_in trace))
+halfway_spent settings reads None rest held written waiting state half many = tt
+halfway_spent settings reads (Some trace) rest held written waiting state half many = omega (arith, half.counted)

@@ -1,24 +1,29 @@
 -- What the words of a command line give.
-use Rattle.std.specs.Prelude.{◌≡◌, ℕ, ◌<◌, ◌^◌, List, codes, Option, Some, None, Result, Ok, Err, ⊤}
+use Rattle.std.specs.Prelude.{◌≡◌, ℕ, Bool, true, false, ◌<◌, ◌^◌, List, codes, Option, Some, None, Result, Ok, Err, ⊤}
 use Rattle.std.specs.Str.Parse.{IsNumeral, digits_value, without_leading_plus}
 use Rattle.clap.specs.Values.{kind_of}
+use Rattle.clap.specs.declared.error.kind.ErrorKind.TheVariants.{InvalidValue}
 use Rattle.clap.specs.Walk.{Text, Rule, first_of}
-use Rattle.clap.specs.Simple.{App, new_rule, new_app, with_rule, matches_of}
+use Rattle.clap.specs.Simple.{App, new_rule, new_app, on_top, with_rule, matches_of}
 use Rattle.clap.specs.Faults.{fault_of}
 use Rattle.clap.specs.Kinds.{IsAmong}
 use Rattle.cache_words.specs.Time.{span_of}
 use Rattle.tier_model.specs.State.{Settings}
 use Rattle.trace_replay.specs.declared.options.ReplayOptions.{ReplayOptions}
 use Rattle.trace_replay.specs.declared.options.OptionsError.{OptionsError}
-use Rattle.trace_replay.specs.declared.options.OptionsError.TheVariants.{CommandLine, NoLimit, NotANumber, Memory}
+use Rattle.trace_replay.specs.declared.options.OptionsError.TheVariants.{CommandLine, NoLimit, WrongValue, NotUtf8, Memory}
 
--- an option `--name VALUE`
-abbrev pub option_rule : Text → Rule
-option_rule name = record (new_rule name) { long = Some name }
+-- an option `--name VALUE`, which has to be given or may be left out
+abbrev pub option_rule : Text → Bool → Rule
+option_rule name required = record (new_rule name) { long = Some name; value_names = 1; required = required }
 
--- the command `tier-replay [--limit VALUE] [--watermark VALUE]`
+-- the command before it has options: it has a version
+abbrev pub named_app : App
+named_app = on_top (λ shape. record shape { has_version = true }) (new_app (codes "tier-replay"))
+
+-- the command `tier-replay --limit BYTES [--watermark ENTRIES]`
 abbrev pub app : App
-app = with_rule (with_rule (new_app (codes "tier-replay")) (option_rule (codes "limit"))) (option_rule (codes "watermark"))
+app = with_rule (with_rule named_app (option_rule (codes "limit") true)) (option_rule (codes "watermark") false)
 
 -- the text that the words give an option
 abbrev pub value_of : Text → List Text → Option Text
@@ -35,19 +40,37 @@ abbrev pub IsGiven : Option Text → Option ℕ → Type 0
 IsGiven value None = value ≡ None
 IsGiven value (Some n) = (text : Text) × (value ≡ Some text) × IsNumber text n
 
--- why the words give no options, by the first that holds; memory may have run out at any of them
+-- some option has a text that is no number
+abbrev pub HasWrongValue : List Text → Type 0
+HasWrongValue words = (name : Text) × (text : Text) × (value_of name words ≡ Some text) × ((n : ℕ) → ¬ IsNumber text n)
+
+-- why the words give no options; memory may have run out instead
 abbrev pub IsFault : List Text → OptionsError → Type 0
 IsFault words (CommandLine error) = IsAmong (kind_of error) (fault_of app words)
 IsFault words NoLimit = value_of (codes "limit") words ≡ None
-IsFault words (NotANumber name) = (text : Text) × (value_of name.now words ≡ Some text) × ((n : ℕ) → ¬ IsNumber text n)
+IsFault words (WrongValue error) = HasWrongValue words
+IsFault words (NotUtf8 error) = ⊥
 IsFault words Memory = ⊤
 
--- what an option was read as
-abbrev pub IsReadNumber : Text → Option Text → Result (Option ℕ) OptionsError → Type 0
-IsReadNumber name value (Ok number) = IsGiven value number
-IsReadNumber name value (Err (NotANumber shown)) = (shown.now ≡ name) × ((text : Text) × (value ≡ Some text) × ((n : ℕ) → ¬ IsNumber text n))
-IsReadNumber name value (Err _) = ⊥
+-- the error of a wrong value, or out of memory
+abbrev pub IsWrongValue : OptionsError → Type 0
+IsWrongValue (WrongValue error) = Unit {0}
+IsWrongValue Memory = Unit {0}
+IsWrongValue _ = ⊥
 
--- the tier that the options ask for: a permit's age is ten seconds, and a wait has no end
+-- the error of a word that is not UTF-8, or out of memory
+abbrev pub IsUnreadable : OptionsError → Type 0
+IsUnreadable (NotUtf8 error) = kind_of error ≡ InvalidValue
+IsUnreadable Memory = Unit {0}
+IsUnreadable _ = ⊥
+
+-- what the value of an option was read as
+abbrev pub IsReadNumber : Option Text → Result (Option ℕ) OptionsError → Type 0
+IsReadNumber value (Ok number) = IsGiven value number
+IsReadNumber value (Err Memory) = Unit {0}
+IsReadNumber value (Err (WrongValue error)) = (text : Text) × (value ≡ Some text) × ((n : ℕ) → ¬ IsNumber text n)
+IsReadNumber value (Err _) = ⊥
+
+-- the tier that the options describe: a permit's age is ten seconds, and a wait has no end
 abbrev pub settings_of : ReplayOptions → Settings
 settings_of o = record { limit = o.limit; watermark = o.watermark; age = span_of 10; wait = None }

@@ -2,7 +2,7 @@
 use Rattle.trace_replay.specs.declared.replay.ReplayError.{ReplayError}
 use Rattle.trace_replay.specs.declared.replay.ReplayError.TheVariants.{Stream, TooManyReads, Memory}
 
--- a fault of a stream, or want of memory
+-- a fault of a stream, or out of memory
 abbrev pub IsOther : ReplayError → Type 0
 IsOther (Stream error) = Unit {0}
 IsOther TooManyReads = ⊥

@@ -3,3 +3,5 @@ pub mod Steps
 pub mod CommandLine
 pub mod Statuses
 pub mod Errors
+pub mod Inputs
+pub mod Outputs

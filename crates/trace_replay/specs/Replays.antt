@@ -1,5 +1,5 @@
 -- What a trace is answered with.
-use Rattle.std.specs.Prelude.{◌≡◌, ℕ, ◌==◌, List, [], ◌∷◌, ◌++◌, map, if◌then◌else◌}
+use Rattle.std.specs.Prelude.{◌≡◌, ℕ, ◌==◌, ◌⊎◌, List, [], ◌∷◌, ◌++◌, map, if◌then◌else◌}
 use Rattle.tier_model.specs.Calls.{Call, History}
 use Rattle.tier_model.specs.Past.{HasPast}
 use Rattle.tier_model.specs.Reports.{report_of}
@@ -19,7 +19,7 @@ abbrev pub lines_in : List ℕ → List (List ℕ)
 lines_in [] = []
 lines_in (x ∷ xs) = if x == 10 then [] ∷ lines_in xs else onto_first x (lines_in xs)
 
--- what the lines of a trace ask
+-- what the lines of a trace request
 abbrev pub asked_by : List ℕ → List Line
 asked_by trace = map line_of (lines_in trace)
 
@@ -27,8 +27,8 @@ asked_by trace = map line_of (lines_in trace)
 abbrev pub ended : List ℕ → List ℕ
 ended text = text ++ 10 ∷ []
 
--- behind the calls of the past these lines, in their order, lead to the calls of h, the latest first in both, and the text
--- has a line for each: the refusal of a line that asks nothing, and what the tier answered to the event of any other
+-- after the calls of the past these lines, in their order, lead to the calls of h, the latest first in both, and the text
+-- has a line for each: the refusal of a refused line, and what the tier answered to the event of any other
 abbrev pub Replays : List Line → History → History → List ℕ → Type 0
 Replays [] past h text = (h ≡ past) × (text ≡ [])
 Replays (Refused refusal ∷ lines) past h text =
@@ -45,3 +45,26 @@ pub record IsReplay (settings : Settings) (lines : List Line) (text : List ℕ) 
   pub replays : Replays lines [] history answers
   pub past : HasPast settings state history
   pub reported : text ≡ answers ++ ended (report_text (report_of state))
+
+-- the report of the state, where no line is left
+abbrev pub last_text : List Line → State → List ℕ
+last_text [] state = ended (report_text (report_of state))
+last_text (line ∷ lines) state = []
+
+-- the text is a beginning of what answers the first of the lines, or all of them and the report, by one tier that began
+-- empty, whose history keeps the headline
+pub record IsBegun (settings : Settings) (lines : List Line) (text : List ℕ) : Type 0 where
+  pub answered : List Line
+  pub left : List Line
+  pub history : History
+  pub answers : List ℕ
+  pub state : State
+  pub rest : List ℕ
+  pub split : lines ≡ answered ++ left
+  pub replays : Replays answered [] history answers
+  pub past : HasPast settings state history
+  pub begins : answers ++ last_text left state ≡ text ++ rest
+
+-- nothing, or such a text
+abbrev pub IsBeginning : Settings → List Line → List ℕ → Type 0
+IsBeginning settings lines text = (text ≡ []) ⊎ IsBegun settings lines text

@@ -1,8 +1,8 @@
 //! Replaying a trace of a cache tier's events: the options, the run and the exit status of the program.
 #![tactic(auto)]
 
+mod input;
 pub mod options;
+mod output;
 pub mod replay;
 pub mod status;
-#[cfg(test)]
-mod tests;

@@ -1,18 +1,25 @@
 //! The options of a command line.
-ghost use Rattle.std.specs.Prelude.{◌≡◌, map, codes, Some, IfOk, IfErr, false, MatchResult};
+ghost use Rattle.std.specs.Prelude.{◌≡◌, [], map, codes, Some, IfOk, IfErr, false};
 ghost use Rattle.clap.specs.Values.{kind_of};
-ghost use Rattle.clap.specs.Kinds.{IsAmong};
 ghost use Rattle.clap.specs.Faults.{fault_of};
 ghost use Rattle.clap.specs.Matches.{found_of, first_value};
 ghost use Rattle.clap.specs.Simple.{HasMatchesOf, app_of};
 ghost use Rattle.clap.specs.Walk.{rule_of};
-ghost use Rattle.trace_replay.specs.CommandLine.{app, option_rule, value_of, IsGiven, IsFault, IsReadNumber};
+ghost use Rattle.trace_replay.specs.CommandLine.{app, named_app, option_rule, value_of, IsGiven, IsFault, IsWrongValue, IsReadNumber, IsUnreadable};
 
 use clap::error::ErrorKind;
 use clap::{Arg, ArgMatches, Command};
 use std::alloc::{AllocError, Global};
 use std::convert::AsStr;
+use std::rt::Env;
+use std::{env, io};
 use thiserror::Error;
+
+const ABOUT: &str =
+    "Replays a trace of a cache tier's events. Each line of standard input is an event as a JSON object; the line that answers it goes to standard output. After the last line comes a report on the tier.";
+
+const STATUSES: &str =
+    "Exit status: 0; 1 on an I/O error or out of memory; 2 on a bad command line.";
 
 /// How a trace is replayed.
 #[derive(Clone, Copy, PartialEq, Eq, Debug)]
@@ -26,15 +33,18 @@ pub struct ReplayOptions {
 /// Why the words of a command line give no options.
 #[derive(Debug, Drop, Error)]
 pub enum OptionsError {
-    /// The words are no command line of the program, or ask for help.
+    /// The words are no command line of the program, or ask for help or the version.
     #[error("{0}")]
     CommandLine(clap::Error),
     /// No `--limit` is given.
     #[error("--limit is missing")]
     NoLimit,
     /// An option's value is no number.
-    #[error("--{0} wants a number from 0 to 18446744073709551615")]
-    NotANumber(&'static str),
+    #[error("{0}")]
+    WrongValue(clap::Error),
+    /// A word is not UTF-8.
+    #[error("{0}")]
+    NotUtf8(clap::Error),
     /// No memory was left.
     #[error("out of memory")]
     Memory,
@@ -44,30 +54,83 @@ pub enum OptionsError {
 pub fn options<'a, S: AsStr>(alloc: Global, words: &'a [S]) -> Result<ReplayOptions, OptionsError>
     ensures limit { IfOk result (λ o. IsGiven (value_of (codes "limit") (map S.text words.entry.now)) (Some o.limit)) }
     ensures watermark { IfOk result (λ o. IsGiven (value_of (codes "watermark") (map S.text words.entry.now)) o.watermark) }
+    ensures faultless { IfOk result (λ _. fault_of app (map S.text words.entry.now) ≡ []) }
     ensures refused { IfErr result (IsFault (map S.text words.entry.now)) }
 {
     let matches = matches(alloc, words)?;
-    let Some(limit) = number(&matches, "limit")? else {
+    let Some(limit) = number(alloc, &matches, "limit")? else {
         return Err(OptionsError::NoLimit);
     };
-    let watermark = number(&matches, "watermark")?;
+    let watermark = number(alloc, &matches, "watermark")?;
     Ok(ReplayOptions { limit, watermark })
 }
 
-fn number(matches: &ArgMatches<'_>, name: &'static str) -> Result<Option<u64>, OptionsError>
-    ensures { IsReadNumber name.now (first_value (found_of matches.now) name.now) result }
+/// The words of the program's own command line.
+pub fn words<R: Env + AllocGlobal>(rt: &R) -> Result<Vec<String>, OptionsError>
+    ensures { IfErr result IsUnreadable }
+{
+    let alloc = rt.alloc();
+    match env::args(rt) {
+        Ok(words) => words.collect(alloc).map_err(|_| OptionsError::Memory),
+        Err(error) => match error.kind() {
+            io::ErrorKind::InvalidData => Err(not_utf8(alloc)),
+            _ => Err(OptionsError::Memory),
+        },
+    }
+}
+
+fn not_utf8(alloc: Global) -> OptionsError
+    ensures { IsUnreadable result }
+{
+    match fault(alloc, ErrorKind::InvalidValue, "an argument is not UTF-8") {
+        Ok(error) => OptionsError::NotUtf8(error),
+        Err(AllocError) => OptionsError::Memory,
+    }
+}
+
+fn number(
+    alloc: Global,
+    matches: &ArgMatches<'_>,
+    name: &'static str,
+) -> Result<Option<u64>, OptionsError>
+    ensures { IsReadNumber (first_value (found_of matches.now) name.now) result }
 {
     let Some(text) = matches.get_str(name) else {
         return Ok(None);
     };
     match text.parse::<u64>() {
         Ok(number) => Ok(Some(number)),
-        Err(_) => Err(OptionsError::NotANumber(name)),
+        Err(_) => Err(wrong_value(alloc, name, text)),
     }
+}
+
+fn wrong_value(alloc: Global, name: &str, text: &str) -> OptionsError
+    ensures { IsWrongValue result }
+{
+    match value_fault(alloc, name, text) {
+        Ok(error) => OptionsError::WrongValue(error),
+        Err(AllocError) => OptionsError::Memory,
+    }
+}
+
+fn value_fault(alloc: Global, name: &str, text: &str) -> Result<clap::Error, AllocError> {
+    let message = format!(in alloc;
+        "invalid value '{text}' for '--{name}': a number from 0 to 18446744073709551615 is wanted"
+    )?;
+    fault(alloc, ErrorKind::ValueValidation, message.as_str())
+}
+
+// An error of the command line, with the usage.
+fn fault(alloc: Global, kind: ErrorKind, message: &str) -> Result<clap::Error, AllocError>
+    ensures { IfOk result (λ error. kind_of error ≡ kind) }
+{
+    let mut command = command(alloc)?;
+    command.error(kind, message)
 }
 
 fn matches<'a, S: AsStr>(alloc: Global, words: &'a [S]) -> Result<ArgMatches<'a>, OptionsError>
     ensures ok { IfOk result (HasMatchesOf app (map S.text words.entry.now)) }
+    ensures faultless { IfOk result (λ _. fault_of app (map S.text words.entry.now) ≡ []) }
     ensures err { IfErr result (IsFault (map S.text words.entry.now)) }
 {
     let Ok(command) = command(alloc) else {
@@ -85,14 +148,30 @@ fn matches<'a, S: AsStr>(alloc: Global, words: &'a [S]) -> Result<ArgMatches<'a>
 fn command<'a>(alloc: Global) -> Result<Command<'a>, AllocError>
     ensures { IfOk result (λ c. app_of c ≡ app) }
 {
-    Command::new(alloc, "tier-replay")
-        .arg(option(alloc, "limit"))?
-        .arg(option(alloc, "watermark"))
+    let limit = option(alloc, "limit", "BYTES", true).help(
+        "The most bytes that the bodies in the tier weigh together; an empty body weighs 1",
+    );
+    let watermark = option(alloc, "watermark", "ENTRIES", false).help(
+        "The most entries that the tier tracks [default: no bound]",
+    );
+    described(alloc).arg(limit)?.arg(watermark)
 }
 
-fn option<'a>(alloc: Global, name: &'a str) -> Arg<'a>
-    ensures rule { rule_of result ≡ option_rule name.entry.now }
+fn described<'a>(alloc: Global) -> Command<'a>
+    ensures { app_of result ≡ named_app }
+{
+    Command::new(alloc, "tier-replay")
+        .version("0.1.0")
+        .about(ABOUT)
+        .after_help(STATUSES)
+}
+
+fn option<'a>(alloc: Global, name: &'a str, value: &'a str, required: bool) -> Arg<'a>
+    ensures rule { rule_of result ≡ option_rule name.entry.now required }
     ensures local { result.global ≡ false }
 {
-    Arg::new(alloc, name).long(name)
+    Arg::new(alloc, name)
+        .long(name)
+        .value_name(value)
+        .required(required)
 }

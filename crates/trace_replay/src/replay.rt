@@ -1,25 +1,29 @@
 //! Answering a trace.
-ghost use Rattle.std.specs.Prelude.{◌≡◌, ℕ, List, [], ◌++◌, IfOk, IfErr, OnOk, IfSome, string_bytes, ◌≤◌, ◌-◌, ◌^◌, length};
-ghost use Rattle.std.specs.Io.KnownBytes.{Appends};
+ghost use Rattle.std.specs.Prelude.{◌≡◌, ℕ, List, [], ◌++◌, IfOk, IfErr, OnOk, OnErr, IfSome, string_bytes, ◌≤◌, ◌-◌, ◌^◌, length};
+ghost use Rattle.std.specs.Io.KnownBytes.{Appends, Keeps, prepend_known};
 ghost use Rattle.std.specs.Io.BufRead.{strip_last};
 ghost use Rattle.tier_model.specs.Past.{HasPast};
 ghost use Rattle.tier_model.specs.Reports.{report_of};
 ghost use Rattle.trace_lines.specs.Lines.{line_of};
 ghost use Rattle.trace_lines.specs.Texts.{report_text};
 ghost use Rattle.trace_replay.specs.CommandLine.{settings_of};
-ghost use Rattle.trace_replay.specs.Replays.{asked_by, lines_in, ended, IsReplay};
+ghost use Rattle.trace_replay.specs.Replays.{asked_by, lines_in, ended, IsReplay, IsBeginning};
 ghost use Rattle.trace_replay.specs.Errors.{IsOther};
+ghost use Rattle.trace_replay.specs.Inputs.{IsLineBefore};
+ghost use Rattle.trace_replay.specs.Outputs.{Passes, HasBegun};
 ghost use Rattle.trace_replay.specs.declared.replay.ReplayError.TheVariants.{Memory};
 ghost use Rattle.trace_replay.specs.Steps.{Answers};
 
+use crate::input::Input;
 use crate::options::ReplayOptions;
+use crate::output::hand_on;
 use cache_tier::tier::Tier;
 use cache_words::time::Duration;
 use rand_core::{Rng, SeedableRng};
 use rand_pcg::Pcg64;
 use std::alloc::{AllocError, AllocFailed, Global};
 use std::io;
-use std::io::{BufRead, Write};
+use std::io::{Read, Write};
 use thiserror::Error;
 use trace_lines::line::Line;
 use trace_lines::read::read_line;
@@ -27,6 +31,9 @@ use trace_lines::text::{outcome_line, refusal_line, report_line};
 
 // The age of a permit, in seconds.
 const PERMIT_AGE: u64 = 10;
+
+// From so many bytes on, answers go out even while whole lines are held.
+const MOST_WAITING: usize = 65536;
 
 /// Why a replay ended early. Each but the last is a fault of a stream.
 #[derive(Debug, Drop, Error)]
@@ -69,9 +76,10 @@ impl<T: Drop> From<AllocFailed<T>> for ReplayError {
     }
 }
 
-/// Answers each line of a trace, in order, by a tier that begins empty, and reports on the tier behind the last. Each
-/// answer is handed on before the next line is read, and there are at most 2^64 - 1 reads.
-pub fn run<R: BufRead, W: Write>(
+/// Answers each line of a trace, in order, by a tier that begins empty, and reports on the tier after the last. What was
+/// answered is handed on before each read. At most 2^64 - 1 lines are read. An error leaves a beginning of what was to
+/// be written.
+pub fn run<R: Read, W: Write>(
     alloc: Global,
     reader: &mut R,
     writer: &mut W,
@@ -80,19 +88,28 @@ pub fn run<R: BufRead, W: Write>(
     ensures answered { OnOk result (IfSome (R.remaining reader.old) (λ input. (text : List ℕ)
         × Appends (W.contents writer.old) (W.contents writer.new) text
         × IsReplay (settings_of options.now) (asked_by input) text)) }
+    ensures begun { OnErr result (IfSome (R.remaining reader.old) (λ input. (text : List ℕ)
+        × Appends (W.contents writer.old) (W.contents writer.new) text
+        × IsBeginning (settings_of options.now) (asked_by input) text)) }
     ensures too_many { result ≡ Err ReplayError.TooManyReads → IfSome (R.remaining reader.old) (λ input. 2 ^ 64 - 1 ≤ length (lines_in input)) }
 {
     let mut tier = tier_for(alloc, options)?;
+    let mut input = Input::new(alloc)?;
     let mut rng = Pcg64::seed_from_u64(0);
-    let mut line = Vec::new(alloc);
+    let mut waiting = Vec::new(alloc);
     for _ in 0..u64::MAX {
-        line.clear();
-        if reader.read_until(b'\n', &mut line)? == 0 {
-            return finish(alloc, &tier, writer);
+        let len = next_line(&mut input, reader, &mut waiting, writer)?;
+        if len == 0 {
+            return finish(alloc, &tier, &mut waiting, writer);
         }
-        let text = answer(alloc, &mut tier, &mut rng, bare(line.as_slice()))?;
-        write(writer, text.as_str())?;
+        let line = bare(input.front(len));
+        if let Err(error) = add_answer(alloc, &mut tier, &mut rng, line, &mut waiting) {
+            hand_on(&mut waiting, writer)?;
+            return Err(error);
+        }
+        input.skip(len);
     }
+    hand_on(&mut waiting, writer)?;
     Err(ReplayError::TooManyReads)
 }
 
@@ -104,23 +121,65 @@ fn tier_for(alloc: Global, options: &ReplayOptions) -> Result<Tier<1>, AllocErro
     Tier::new(alloc, options.limit as usize, watermark, age, None)
 }
 
-fn finish<W: Write>(alloc: Global, tier: &Tier<1>, writer: &mut W) -> Result<(), ReplayError>
-    ensures written { OnOk result (Appends (W.contents writer.old) (W.contents writer.new) (ended (report_text (report_of tier.now)))) }
+// The length of the next line. What is waiting goes out before the stream is read.
+fn next_line<R: Read, W: Write>(
+    input: &mut Input,
+    reader: &mut R,
+    waiting: &mut Vec<u8>,
+    writer: &mut W,
+) -> Result<usize, ReplayError>
+    ensures kept { OnOk result (Keeps (prepend_known input.old (R.remaining reader.old)) (prepend_known input.new (R.remaining reader.new))) }
+    ensures within { IfOk result (λ n. n ≤ length input.new) }
+    ensures line { IfOk result (λ n. IfSome (R.remaining reader.new) (λ rest. IsLineBefore n input.new rest)) }
+    ensures passed { OnOk result (Passes (W.contents writer.old) (W.contents writer.new) waiting.old.items waiting.new.items) }
+    ensures begun { OnErr result (HasBegun (W.contents writer.old) (W.contents writer.new) waiting.old.items) }
     ensures other { IfErr result IsOther }
+{
+    make_way(input, waiting, writer)?;
+    Ok(input.next_line(reader)?)
+}
+
+// Hands on what is waiting, if the stream has to be read for the next line or much is waiting.
+fn make_way<W: Write>(
+    input: &Input,
+    waiting: &mut Vec<u8>,
+    writer: &mut W,
+) -> Result<(), ReplayError>
+    ensures passed { OnOk result (Passes (W.contents writer.old) (W.contents writer.new) waiting.old.items waiting.new.items) }
+    ensures begun { OnErr result (HasBegun (W.contents writer.old) (W.contents writer.new) waiting.old.items) }
+    ensures other { IfErr result IsOther }
+{
+    if waiting.len() < MOST_WAITING && input.has_line() {
+        return Ok(());
+    }
+    hand_on(waiting, writer)
+}
+
+fn finish<W: Write>(
+    alloc: Global,
+    tier: &Tier<1>,
+    waiting: &mut Vec<u8>,
+    writer: &mut W,
+) -> Result<(), ReplayError>
+    ensures written { OnOk result (Appends (W.contents writer.old) (W.contents writer.new) (waiting.old.items ++ ended (report_text (report_of tier.now)))) }
+    ensures begun { OnErr result (HasBegun (W.contents writer.old) (W.contents writer.new) (waiting.old.items ++ ended (report_text (report_of tier.now)))) }
+    ensures other { IfErr result IsOther }
+{
+    if let Err(error) = report(alloc, tier, waiting) {
+        hand_on(waiting, writer)?;
+        return Err(ReplayError::from(error));
+    }
+    hand_on(waiting, writer)
+}
+
+// Adds the report to what is waiting.
+fn report(alloc: Global, tier: &Tier<1>, waiting: &mut Vec<u8>) -> Result<(), AllocError>
+    ensures ok { OnOk result (waiting.new.items ≡ waiting.old.items ++ ended (report_text (report_of tier.now))) }
+    ensures err { OnErr result (waiting.new.items ≡ waiting.old.items) }
 {
     let mut text = report_line(alloc, &tier.report())?;
     text.push('\n')?;
-    write(writer, text.as_str())
-}
-
-/// Writes a text, and hands it on at once.
-fn write<W: Write>(writer: &mut W, text: &str) -> Result<(), ReplayError>
-    ensures written { OnOk result (Appends (W.contents writer.old) (W.contents writer.new) text.now) }
-    ensures other { IfErr result IsOther }
-{
-    writer.write_all(text.as_bytes())?;
-    writer.flush()?;
-    Ok(())
+    waiting.extend_from_slice(text.as_bytes())
 }
 
 // A line without the line feed that ends it.
@@ -133,7 +192,24 @@ fn bare(line: &[u8]) -> &[u8]
     }
 }
 
-/// The line that answers a line, with its line feed.
+// Adds the line that answers a line to what is waiting.
+fn add_answer<G: Rng>(
+    alloc: Global,
+    tier: &mut Tier<1>,
+    rng: &mut G,
+    line: &[u8],
+    waiting: &mut Vec<u8>,
+) -> Result<(), ReplayError>
+    ensures answered { OnOk result ((text : List ℕ) × (waiting.new.items ≡ waiting.old.items ++ text) × Answers tier.old tier.new (line_of line.now) text) }
+    ensures err { OnErr result (waiting.new.items ≡ waiting.old.items) }
+    ensures other { IfErr result IsOther }
+{
+    let text = answer(alloc, tier, rng, line)?;
+    waiting.extend_from_slice(text.as_bytes())?;
+    Ok(())
+}
+
+// The line that answers a line, with its line feed.
 fn answer<G: Rng>(
     alloc: Global,
     tier: &mut Tier<1>,

@@ -32,8 +32,8 @@ impl From<AllocError> for Fault {
     }
 }
 
-/// The exit status: 0 where all went well or help was asked for, 1 after a fault of a stream or want of memory, 2
-/// after a mistake in the command line.
+/// The exit status: 0 on success or if help or the version was requested, 1 on an I/O error or out of memory, 2 on a bad
+/// command line.
 pub fn status(outcome: &Result<(), Fault>) -> u8
     ensures { result ≡ status_of outcome.now }
 {
@@ -41,7 +41,8 @@ pub fn status(outcome: &Result<(), Fault>) -> u8
         Ok(()) => 0,
         Err(Fault::Replay(_)) => 1,
         Err(Fault::Options(OptionsError::Memory)) => 1,
-        Err(Fault::Options(OptionsError::NoLimit | OptionsError::NotANumber(_))) => 2,
+        Err(Fault::Options(OptionsError::NoLimit)) => 2,
+        Err(Fault::Options(OptionsError::WrongValue(_) | OptionsError::NotUtf8(_))) => 2,
         Err(Fault::Options(OptionsError::CommandLine(error))) => match error.kind() {
             ErrorKind::DisplayHelp | ErrorKind::DisplayVersion => 0,
             _ => 2,

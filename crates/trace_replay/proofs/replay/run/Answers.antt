@@ -1,23 +1,85 @@
-use Rattle.std.proofs.Common.{◌<◌, length, arith}
+use Rattle.std.proofs.Common.{◌<◌, subst, arith}
 use Rattle.std.proofs.lemmas.Result.{on_ok_weaker}
+use Rattle.std.specs.Io.KnownBytes.{prepend_known}
 use Rattle.trace_replay.specs.CommandLine.{settings_of}
-use Rattle.trace_replay.proofs.Progress.{halfway_more, halfway_done}
+use Rattle.trace_replay.specs.Outputs.{HasBegun}
+use Rattle.trace_replay.proofs.OutputLemmas.{begun_whole, on_err, on_err_weaker, not_err}
+use Rattle.trace_replay.proofs.Progress.{Halfway, cut_at_start, halfway_read, halfway_more, halfway_done, halfway_cut, halfway_cut_last}
 use Rattle.trace_replay.proofs.replay.run.Goals as goal
+
+pub returns-in_err-tier-clause-begun : goal.returns-in_err-tier-clause-begun
+returns-in_err-tier-clause-begun g c =
+    on_err c.from_residual.result (cut_at_start (settings_of c.args.options.now) (g.R.Read.remaining c.args.reader.now) (g.W.Write.contents c.args.writer.now))
+
+pub returns-in_err-input-clause-begun : goal.returns-in_err-input-clause-begun
+returns-in_err-input-clause-begun g c =
+    on_err c.from_residual-in_err-input.result (cut_at_start (settings_of c.args.options.now) (g.R.Read.remaining c.args.reader.now) (g.W.Write.contents c.args.writer.now))
+
+pub returns-in_err-len-clause-begun : goal.returns-in_err-len-clause-begun
+returns-in_err-len-clause-begun g c =
+    on_err c.from_residual-in_err-len.result
+    (halfway_cut (settings_of c.args.options.now) c.loop.counter (g.R.Read.remaining c.args.reader.now) (prepend_known c.loop.input (g.R.Read.remaining c.loop.reader)) (g.W.Write.contents c.args.writer.now) (g.W.Write.contents c.loop.writer) (g.W.Write.contents c.next_line.new.writer)
+    c.loop.waiting.items c.loop.tier c.loop.invariant c.in_err-len.ensures.begun)
+
+pub returns-then-len-eq0-clause-answered : goal.returns-then-len-eq0-clause-answered
+returns-then-len-eq0-clause-answered g c =
+    let half : Halfway (settings_of c.args.options.now) c.loop.counter (g.R.Read.remaining c.args.reader.now) (prepend_known c.next_line.new.input (g.R.Read.remaining c.next_line.new.reader)) (g.W.Write.contents c.args.writer.now) (g.W.Write.contents c.next_line.new.writer) c.next_line.new.waiting.items c.loop.tier =
+    halfway_read (settings_of c.args.options.now) c.loop.counter (g.R.Read.remaining c.args.reader.now) (prepend_known c.loop.input (g.R.Read.remaining c.loop.reader)) (g.W.Write.contents c.args.writer.now) (g.W.Write.contents c.loop.writer) (g.W.Write.contents c.next_line.new.writer)
+    (g.R.Read.remaining c.next_line.new.reader) c.loop.waiting.items c.next_line.new.waiting.items c.next_line.new.input c.loop.tier c.loop.invariant c.in_ok-len.ensures.kept c.in_ok-len.ensures.passed in
+    on_ok_weaker c.finish.result
+    (halfway_done (settings_of c.args.options.now) c.loop.counter c.in_ok-len.len (g.R.Read.remaining c.args.reader.now) (g.R.Read.remaining c.next_line.new.reader) (g.W.Write.contents c.args.writer.now) (g.W.Write.contents c.next_line.new.writer) (g.W.Write.contents c.finish.new.writer)
+    c.next_line.new.input c.next_line.new.waiting.items c.loop.tier half c.in_ok-len.ensures.line c.if-len-eq0.true)
+    c.finish.ensures.written
+
+pub returns-then-len-eq0-clause-begun : goal.returns-then-len-eq0-clause-begun
+returns-then-len-eq0-clause-begun g c =
+    let half : Halfway (settings_of c.args.options.now) c.loop.counter (g.R.Read.remaining c.args.reader.now) (prepend_known c.next_line.new.input (g.R.Read.remaining c.next_line.new.reader)) (g.W.Write.contents c.args.writer.now) (g.W.Write.contents c.next_line.new.writer) c.next_line.new.waiting.items c.loop.tier =
+    halfway_read (settings_of c.args.options.now) c.loop.counter (g.R.Read.remaining c.args.reader.now) (prepend_known c.loop.input (g.R.Read.remaining c.loop.reader)) (g.W.Write.contents c.args.writer.now) (g.W.Write.contents c.loop.writer) (g.W.Write.contents c.next_line.new.writer)
+    (g.R.Read.remaining c.next_line.new.reader) c.loop.waiting.items c.next_line.new.waiting.items c.next_line.new.input c.loop.tier c.loop.invariant c.in_ok-len.ensures.kept c.in_ok-len.ensures.passed in
+    on_err_weaker c.finish.result
+    (halfway_cut_last (settings_of c.args.options.now) c.loop.counter c.in_ok-len.len (g.R.Read.remaining c.args.reader.now) (g.R.Read.remaining c.next_line.new.reader) (g.W.Write.contents c.args.writer.now) (g.W.Write.contents c.next_line.new.writer) (g.W.Write.contents c.finish.new.writer)
+    c.next_line.new.input c.next_line.new.waiting.items c.loop.tier half c.in_ok-len.ensures.line c.if-len-eq0.true)
+    c.finish.ensures.begun
+
+pub returns-in_err-hand_on-clause-begun : goal.returns-in_err-hand_on-clause-begun
+returns-in_err-hand_on-clause-begun g c =
+    let half : Halfway (settings_of c.args.options.now) c.loop.counter (g.R.Read.remaining c.args.reader.now) (prepend_known c.next_line.new.input (g.R.Read.remaining c.next_line.new.reader)) (g.W.Write.contents c.args.writer.now) (g.W.Write.contents c.next_line.new.writer) c.next_line.new.waiting.items c.loop.tier =
+    halfway_read (settings_of c.args.options.now) c.loop.counter (g.R.Read.remaining c.args.reader.now) (prepend_known c.loop.input (g.R.Read.remaining c.loop.reader)) (g.W.Write.contents c.args.writer.now) (g.W.Write.contents c.loop.writer) (g.W.Write.contents c.next_line.new.writer)
+    (g.R.Read.remaining c.next_line.new.reader) c.loop.waiting.items c.next_line.new.waiting.items c.next_line.new.input c.loop.tier c.loop.invariant c.in_ok-len.ensures.kept c.in_ok-len.ensures.passed in
+    on_err c.from_residual-in_err-hand_on.result
+    (halfway_cut (settings_of c.args.options.now) c.loop.counter (g.R.Read.remaining c.args.reader.now) (prepend_known c.next_line.new.input (g.R.Read.remaining c.next_line.new.reader)) (g.W.Write.contents c.args.writer.now) (g.W.Write.contents c.next_line.new.writer) (g.W.Write.contents c.hand_on.new.writer)
+    c.next_line.new.waiting.items c.loop.tier half
+    (subst (HasBegun (g.W.Write.contents c.next_line.new.writer) (g.W.Write.contents c.hand_on.new.writer)) c.in-Err.ensures.err c.in_err-hand_on.ensures.begun))
+
+pub returns-in-Err-clause-begun : goal.returns-in-Err-clause-begun
+returns-in-Err-clause-begun g c =
+    let half : Halfway (settings_of c.args.options.now) c.loop.counter (g.R.Read.remaining c.args.reader.now) (prepend_known c.next_line.new.input (g.R.Read.remaining c.next_line.new.reader)) (g.W.Write.contents c.args.writer.now) (g.W.Write.contents c.next_line.new.writer) c.next_line.new.waiting.items c.loop.tier =
+    halfway_read (settings_of c.args.options.now) c.loop.counter (g.R.Read.remaining c.args.reader.now) (prepend_known c.loop.input (g.R.Read.remaining c.loop.reader)) (g.W.Write.contents c.args.writer.now) (g.W.Write.contents c.loop.writer) (g.W.Write.contents c.next_line.new.writer)
+    (g.R.Read.remaining c.next_line.new.reader) c.loop.waiting.items c.next_line.new.waiting.items c.next_line.new.input c.loop.tier c.loop.invariant c.in_ok-len.ensures.kept c.in_ok-len.ensures.passed in
+    halfway_cut (settings_of c.args.options.now) c.loop.counter (g.R.Read.remaining c.args.reader.now) (prepend_known c.next_line.new.input (g.R.Read.remaining c.next_line.new.reader)) (g.W.Write.contents c.args.writer.now) (g.W.Write.contents c.next_line.new.writer) (g.W.Write.contents c.hand_on.new.writer)
+    c.next_line.new.waiting.items c.loop.tier half
+    (subst (HasBegun (g.W.Write.contents c.next_line.new.writer) (g.W.Write.contents c.hand_on.new.writer)) c.in-Err.ensures.err
+    (begun_whole (g.W.Write.contents c.next_line.new.writer) (g.W.Write.contents c.hand_on.new.writer) c.add_answer.new.waiting.items c.in_ok-hand_on.ensures.written.0))
 
 pub loop-preserved : goal.loop-preserved
 loop-preserved g c =
-    let some : 0 < length c.read_until.new.buf.items = omega (arith, c.in_ok-read_until.ensures.ok, c.clear.ensures.len, c.if-branch-eq0.false, c.read_until.new.buf.ok) in
-    halfway_more (settings_of c.args.options.now) c.loop.counter (g.R.Read.remaining c.args.reader.now) (g.R.Read.remaining c.loop.reader) (g.R.Read.remaining c.read_until.new.self)
-    (g.W.Write.contents c.args.writer.now) (g.W.Write.contents c.loop.writer) (g.W.Write.contents c.write.new.writer)
-    c.loop.tier c.answer.new.tier c.clear.new.self.items c.read_until.new.buf.items c.as_slice.result.now c.bare.result.now
-    _ c.as_str.result.now
-    c.loop.invariant c.clear.ensures.items c.in_ok-read_until.ensures.bytes c.in_ok-read_until.ensures.rest
-    some c.as_slice.ensures.value c.bare.ensures c.in_ok-text.ensures.answered c.as_str.ensures.value c.in_ok-write.ensures.written
+    let half : Halfway (settings_of c.args.options.now) c.loop.counter (g.R.Read.remaining c.args.reader.now) (prepend_known c.next_line.new.input (g.R.Read.remaining c.next_line.new.reader)) (g.W.Write.contents c.args.writer.now) (g.W.Write.contents c.next_line.new.writer) c.next_line.new.waiting.items c.loop.tier =
+    halfway_read (settings_of c.args.options.now) c.loop.counter (g.R.Read.remaining c.args.reader.now) (prepend_known c.loop.input (g.R.Read.remaining c.loop.reader)) (g.W.Write.contents c.args.writer.now) (g.W.Write.contents c.loop.writer) (g.W.Write.contents c.next_line.new.writer)
+    (g.R.Read.remaining c.next_line.new.reader) c.loop.waiting.items c.next_line.new.waiting.items c.next_line.new.input c.loop.tier c.loop.invariant c.in_ok-len.ensures.kept c.in_ok-len.ensures.passed in
+    let some : 0 < c.in_ok-len.len = omega (arith, c.if-len-eq0.false) in
+    let (text, grows, answers) = not_err c.add_answer.result c.in_default.not-Err c.add_answer.ensures.answered in
+    halfway_more (settings_of c.args.options.now) c.loop.counter c.in_ok-len.len (g.R.Read.remaining c.args.reader.now) (g.R.Read.remaining c.next_line.new.reader) (g.W.Write.contents c.args.writer.now) (g.W.Write.contents c.next_line.new.writer)
+    c.loop.tier c.add_answer.new.tier c.next_line.new.input c.skip.new.self c.next_line.new.waiting.items c.front.result.now c.bare-line.result.now text c.add_answer.new.waiting.items
+    half c.in_ok-len.ensures.line some c.in_ok-len.ensures.within c.front.ensures c.bare-line.ensures answers grows c.skip.ensures
 
-pub returns-then-branch-eq0-clause-answered : goal.returns-then-branch-eq0-clause-answered
-returns-then-branch-eq0-clause-answered g c =
-    on_ok_weaker c.finish.result
-    (halfway_done (settings_of c.args.options.now) c.loop.counter (g.R.Read.remaining c.args.reader.now) (g.R.Read.remaining c.loop.reader) (g.W.Write.contents c.args.writer.now)
-    (g.W.Write.contents c.loop.writer) (g.W.Write.contents c.finish.new.writer) c.loop.tier
-    c.loop.invariant (c.in_ok-read_until.ensures.end c.if-branch-eq0.true))
-    c.finish.ensures.written
+pub returns-in_err-hand_on-2-clause-begun : goal.returns-in_err-hand_on-2-clause-begun
+returns-in_err-hand_on-2-clause-begun g c =
+    on_err c.from_residual-in_err-hand_on-2.result
+    (halfway_cut (settings_of c.args.options.now) c.loop.counter (g.R.Read.remaining c.args.reader.now) (prepend_known c.loop.input (g.R.Read.remaining c.loop.reader)) (g.W.Write.contents c.args.writer.now) (g.W.Write.contents c.loop.writer) (g.W.Write.contents c.hand_on-2.new.writer)
+    c.loop.waiting.items c.loop.tier c.loop.invariant c.in_err-hand_on-2.ensures.begun)
+
+pub returns-clause-begun : goal.returns-clause-begun
+returns-clause-begun g c =
+    halfway_cut (settings_of c.args.options.now) c.loop.counter (g.R.Read.remaining c.args.reader.now) (prepend_known c.loop.input (g.R.Read.remaining c.loop.reader)) (g.W.Write.contents c.args.writer.now) (g.W.Write.contents c.loop.writer) (g.W.Write.contents c.hand_on-2.new.writer)
+    c.loop.waiting.items c.loop.tier c.loop.invariant
+    (begun_whole (g.W.Write.contents c.loop.writer) (g.W.Write.contents c.hand_on-2.new.writer) c.loop.waiting.items c.in_ok-hand_on-2.ensures.written.0)

@@ -1,6 +1,3 @@
-use crate::line::{Line, Refusal};
-use crate::read::read_line;
-use crate::text::{outcome_line, refusal_line, report_line};
 use bytes::Bytes;
 use cache_words::key::{CacheHashKey, CacheKey, CompactCacheKey};
 use cache_words::text::Text;
@@ -9,6 +6,9 @@ use std::process::Abort;
 use std::test::Fail;
 use tier_model::event::{Action, Answer, Done, Entries, TierFault};
 use tier_model::report::Report;
+use trace_lines::line::{Line, Refusal};
+use trace_lines::read::read_line;
+use trace_lines::text::{outcome_line, refusal_line, report_line};
 
 // Whether the key is that of the lines below, with this tag.
 fn is_wanted(key: &CacheKey, tag: &str) -> bool {
@@ -157,40 +157,52 @@ fn every_other_event_is_asked(rt: HostRuntime) -> Result<(), Fail> {
 fn assert_written(
     rt: &impl Abort,
     alloc: Global,
-    outcome: Result<Answer, TierFault>,
+    outcome: &Result<Answer, TierFault>,
     want: &str,
 ) -> Result<(), Fail> {
-    let text = outcome_line(alloc, &outcome)?;
+    let text = outcome_line(alloc, outcome)?;
     assert_eq!(rt; text.as_str(), want);
     Ok(())
+}
+
+fn body(alloc: Global) -> Result<Bytes, AllocError> {
+    Ok(Bytes::from_vec(b"ab\xff".to_vec(alloc)?)?)
+}
+
+fn evicted(alloc: Global) -> Result<Entries, AllocError> {
+    Ok(Entries::from_vec(vec![in alloc; (entry(alloc), 1), (entry(alloc), 2)]?))
 }
 
 #[test]
 fn answers_are_written(rt: HostRuntime) -> Result<(), Fail> {
     let alloc = rt.alloc();
-    let found = Answer::Found {
-        fresh: true,
-        complete: true,
-    };
-    assert_written(&rt, alloc, Ok(found), "found fresh complete lock=none")?;
-    let body = Bytes::from_vec(b"ab\xff".to_vec(alloc)?)?;
-    assert_written(&rt, alloc, Ok(Answer::Bytes(body)), "bytes 6162ff")?;
-    let finished = Answer::Finished {
-        length: 3,
-        evicted: Entries::from_vec(vec![in alloc; (entry(alloc), 1), (entry(alloc), 2)]?),
-    };
-    assert_written(&rt, alloc, Ok(finished), "finished 3 evicted=2")?;
     let done = Done {
         stored: true,
         admitted: false,
         evicted: Entries::new(alloc),
     };
-    assert_written(
-        &rt,
-        alloc,
-        Err(TierFault::TooHeavy(done)),
-        "fault 11 TooHeavy",
-    )
+    let table: [(Result<Answer, TierFault>, &str); 4] = [
+        (
+            Ok(Answer::Found {
+                fresh: true,
+                complete: true,
+            }),
+            "found fresh complete lock=none",
+        ),
+        (Ok(Answer::Bytes(body(alloc)?)), "bytes 6162ff"),
+        (
+            Ok(Answer::Finished {
+                length: 3,
+                evicted: evicted(alloc)?,
+            }),
+            "finished 3 evicted=2",
+        ),
+        (Err(TierFault::TooHeavy(done)), "fault 11 TooHeavy"),
+    ];
+    for (outcome, want) in &table {
+        assert_written(&rt, alloc, outcome, want)?;
+    }
+    Ok(())
 }
 
 #[test]
@@ -212,9 +224,9 @@ fn a_report_is_written(rt: HostRuntime) -> Result<(), Fail> {
     Ok(())
 }
 
-// With memory refused at one point the whole line is given up, or it is read as ever.
+// If one allocation fails, the whole line is given up, or it is read as ever.
 #[test]
-fn want_of_memory_gives_no_other_line(rt: HostRuntime) {
+fn out_of_memory_gives_no_other_line(rt: HostRuntime) {
     let line = b"{\"op\":\"put\",\"at\":1,\"key\":\"006a\",\"pieces\":[\"61\",\"62\"]}";
     match &read_line(rt.alloc(), line) {
         Ok(Line::Asked(event)) => match &event.action {
