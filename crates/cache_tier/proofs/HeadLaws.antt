@@ -36,7 +36,7 @@ use Rattle.std.specs.Borrow.{Bor}
 use Rattle.cache_directives.specs.Written.{Written}
 use Rattle.cache_directives.specs.Control.{directives_of, lines_under, named}
 use Rattle.cache_directives.specs.declared.control.CacheControl.{CacheControl}
-use Rattle.cache_heads.specs.Given.{given as lent}
+use Rattle.cache_heads.specs.Directives.{directives_in as lent}
 use Rattle.cache_heads.specs.FreshUntil.{fresh_until_by}
 use Rattle.cache_heads.specs.Verdict as verdict
 use Rattle.cache_heads.specs.declared.meta.CacheMeta.{CacheMeta}

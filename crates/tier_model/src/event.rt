@@ -2,7 +2,7 @@
 ghost use Rattle.std.specs.Prelude.{◌≡◌, []};
 
 use bytes::Bytes;
-use cache_heads::reason::NoCacheReason;
+use cache_heads::NoCacheReason;
 use cache_words::key::{CacheKey, CompactCacheKey};
 use cache_words::time::Moment;
 use std::alloc::Global;

@@ -1,6 +1,6 @@
 //! What a response gives.
 use crate::state::FinishedBody;
-use cache_heads::reason::NoCacheReason;
+use cache_heads::NoCacheReason;
 
 /// What the bytes of a whole response give at the moment at which they come.
 #[derive(Debug, Drop)]

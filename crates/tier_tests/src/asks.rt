@@ -84,7 +84,11 @@ pub(crate) fn put_of(name: u8, tag: &'static str, n: usize) -> Ask {
     Ask::Put(name, tag, HUNDRED, body)
 }
 
-pub(crate) fn tier(alloc: Global, limit: usize, watermark: Option<usize>) -> Result<Tier<1>, AllocError> {
+pub(crate) fn tier(
+    alloc: Global,
+    limit: usize,
+    watermark: Option<usize>,
+) -> Result<Tier<1>, AllocError> {
     let age = Duration::from_seconds(1);
     Tier::<1>::new(alloc, limit, watermark, age, None)
 }

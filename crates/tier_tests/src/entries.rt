@@ -1,10 +1,10 @@
 //! Each call once.
-use tier_entries::keys::{
-    copy_of, entry_of, has_stored_key, is_entry_of, is_same_entry, stored_key, stored_key_of,
-};
 use cache_words::key::{CacheHashKey, CacheKey};
 use std::alloc::Global;
 use std::test::Fail;
+use tier_entries::keys::{
+    copy_of, entry_of, has_stored_key, is_entry_of, is_same_entry, stored_key, stored_key_of,
+};
 
 fn key(alloc: Global, primary: &str, tag: &str) -> Result<CacheKey, Fail> {
     Ok(CacheKey::new(

@@ -1,14 +1,13 @@
 //! Heads as servers send them: when they are fresh, and where they are refused.
+use crate::head_rows::{CUT, ROWS};
+use bytes::Bytes;
 use cache_tier::tier::Tier;
 use cache_words::key::CacheKey;
 use cache_words::time::{Duration, Moment};
-use std::alloc::Global;
-use tier_model::event::{Action, Answer, Event, Pieces, TierFault};
-use crate::head_rows::{CUT, ROWS};
-use bytes::Bytes;
 use rand_pcg::Pcg32;
-use std::alloc::AllocError;
+use std::alloc::{AllocError, Global};
 use std::fmt::Write;
+use tier_model::event::{Action, Answer, Event, Pieces, TierFault};
 
 fn key(alloc: Global) -> Result<CacheKey, AllocError> {
     Ok(CacheKey::new(Vec::from_slice(alloc, b"/")?, String::new(alloc)))

@@ -1,12 +1,12 @@
 //! Each small type once.
-use tier_model::event::{Entries, Pieces};
-use tier_model::requests::Requests;
-use tier_model::state::{Phase, Reader, Request};
 use bytes::Bytes;
 use cache_words::key::CompactCacheKey;
 use cache_words::text::Text;
 use std::alloc::Global;
 use std::test::Fail;
+use tier_model::event::{Entries, Pieces};
+use tier_model::requests::Requests;
+use tier_model::state::{Phase, Reader, Request};
 
 fn entry(alloc: Global, last: u8) -> CompactCacheKey {
     CompactCacheKey {

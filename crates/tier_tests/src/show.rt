@@ -5,7 +5,10 @@ use tier_model::event::{Answer, TierFault};
 use tier_model::report::Report;
 
 // One word or two for each outcome, as a trace has them.
-pub(crate) fn show(text: &mut String, outcome: &Result<Answer, TierFault>) -> Result<(), AllocError> {
+pub(crate) fn show(
+    text: &mut String,
+    outcome: &Result<Answer, TierFault>,
+) -> Result<(), AllocError> {
     match outcome {
         Ok(Answer::Opened) => text.push_str("opened\n"),
         Ok(Answer::Found { fresh, complete }) => write!(text, "found {fresh} {complete}\n"),
