@@ -69,7 +69,5 @@ pub fn has_parts(
     ensures { result ≡ same_entry entry.now
         (record { primary = primary.now; variance = variance.now; user_tag = user_tag.now }) }
 {
-    entry.primary == *primary
-        && entry.variance == *variance
-        && entry.user_tag.as_str() == user_tag
+    entry.primary == *primary && entry.variance == *variance && entry.user_tag.as_str() == user_tag
 }

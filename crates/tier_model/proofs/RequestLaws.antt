@@ -191,8 +191,7 @@ read_fits : (s : State) (t : MomentValue) (g : Option Given) (i : ℕ) (a : Answ
     → (id : ℕ) → RequestFits id (get (on_request s o (λ q. record s { requests = insert s.requests i (after_read q) })).requests id) (call_at t (Read i) g (Ok a) ∷ h)
 read_fits s t g i a h None fits e n p id = absurd p
 read_fits s t g i a h (Some q) fits e n p id =
-    placed s.requests i (after_read q) id (call_at t (Read i) g (Ok a)) h
-    (
+    placed s.requests i (after_read q) id (call_at t (Read i) g (Ok a)) h (
       (of_request s h fits i q e).0,
       subst (λ (x : Answer). ReaderFits i Spent (call_at t (Read i) g (Ok x) ∷ h)) (sym p) (read_reader t g i q.reader h (reader_there q n) (of_request s h fits i q e).1),
       (of_request s h fits i q e).2,

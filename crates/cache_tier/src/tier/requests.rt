@@ -72,7 +72,12 @@ impl Tier<1> {
         }
     }
 
-    pub(super) fn open(&mut self, moment: Moment, id: u64, key: &CacheKey) -> Result<Answer, TierFault>
+    pub(super) fn open(
+        &mut self,
+        moment: Moment,
+        id: u64,
+        key: &CacheKey,
+    ) -> Result<Answer, TierFault>
         ensures allowed { AllowsUnrefused self.old moment (Action.Open id key.now) result }
         ensures after { self.new ≡ after_action self.old moment (Action.Open id key.now) result }
     {
