@@ -1,0 +1,11 @@
+pub mod Apart
+pub mod InMemory
+pub mod Listing
+pub mod Loading
+pub mod Loads
+pub mod Numbered
+pub mod Replacing
+pub mod Runs
+pub mod Saves
+pub mod Shards
+pub mod TempNames

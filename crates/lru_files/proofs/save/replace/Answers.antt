@@ -1,0 +1,59 @@
+use Rattle.lru_files.proofs.Replacing.{old_from_aside, aside_begin, aside-same, aside-put, aside-writes, put-writes, put-same, replaced-moved, old_or_new-replaced, created_run, written_run, flushed_run, renamed_run}
+use Rattle.lru_files.proofs.save.replace.Goals as goal
+
+pub returns-in_default-clause-stops : goal.returns-in_default-clause-stops
+returns-in_default-clause-stops g c = λ kept.
+    created_run c.requires c.create.ensures.did (aside-same _ (aside_begin _ c.args.temp.now) (c.in_default.ensures.err kept))
+
+pub returns-in_default-write-clause-left : goal.returns-in_default-write-clause-left
+returns-in_default-write-clause-left g c = λ kept.
+    let part = c.in_default-write.ensures.err kept in
+    (part.0, put-writes _ (c.in-Ok.ensures.opened kept) (c.in-Ok.ensures.ok kept) part.1)
+
+pub returns-in_default-write-clause-stops : goal.returns-in_default-write-clause-stops
+returns-in_default-write-clause-stops g c = λ kept.
+    let created = aside-put _ (aside_begin _ c.args.temp.now) (c.in-Ok.ensures.ok kept) in
+    let part = c.in_default-write.ensures.err kept in
+    written_run c.requires (created_run c.requires c.create.ensures.did created) created (c.in-Ok.ensures.opened kept) c.write.ensures.did
+    (aside-writes _ _ (c.in-Ok.ensures.opened kept) created part.1)
+
+pub returns-in_default-flush-clause-left : goal.returns-in_default-flush-clause-left
+returns-in_default-flush-clause-left g c = λ kept.
+    put-same _ (put-writes _ (c.in-Ok.ensures.opened kept) (c.in-Ok.ensures.ok kept) (c.in-Ok-write.ensures.ok kept)) (c.flush.ensures.files kept)
+
+pub returns-in_default-flush-clause-stops : goal.returns-in_default-flush-clause-stops
+returns-in_default-flush-clause-stops g c = λ kept.
+    let created = aside-put _ (aside_begin _ c.args.temp.now) (c.in-Ok.ensures.ok kept) in
+    let written = aside-writes _ _ (c.in-Ok.ensures.opened kept) created (c.in-Ok-write.ensures.ok kept) in
+    let run = written_run c.requires (created_run c.requires c.create.ensures.did created) created (c.in-Ok.ensures.opened kept) c.write.ensures.did written in
+    flushed_run c.requires run written c.flush.ensures.did (aside-same _ written (c.flush.ensures.files kept))
+
+pub returns-in_default-rename-clause-left : goal.returns-in_default-rename-clause-left
+returns-in_default-rename-clause-left g c = λ kept.
+    let put = put-writes _ (c.in-Ok.ensures.opened kept) (c.in-Ok.ensures.ok kept) (c.in-Ok-write.ensures.ok kept) in
+    put-same _ (put-same _ put (c.flush.ensures.files kept)) (c.in_default-rename.ensures.err kept)
+
+pub returns-in_default-rename-clause-stops : goal.returns-in_default-rename-clause-stops
+returns-in_default-rename-clause-stops g c = λ kept.
+    let created = aside-put _ (aside_begin _ c.args.temp.now) (c.in-Ok.ensures.ok kept) in
+    let written = aside-writes _ _ (c.in-Ok.ensures.opened kept) created (c.in-Ok-write.ensures.ok kept) in
+    let flushed = aside-same _ written (c.flush.ensures.files kept) in
+    let put = put-same _ (put-writes _ (c.in-Ok.ensures.opened kept) (c.in-Ok.ensures.ok kept) (c.in-Ok-write.ensures.ok kept)) (c.flush.ensures.files kept) in
+    let run = written_run c.requires (created_run c.requires c.create.ensures.did created) created (c.in-Ok.ensures.opened kept) c.write.ensures.did written in
+    let run2 = flushed_run c.requires run written c.flush.ensures.did flushed in
+    renamed_run c.requires run2 put c.rename.ensures.did (old_from_aside _ _ c.requires (aside-same _ flushed (c.in_default-rename.ensures.err kept)))
+
+pub returns-clause-left : goal.returns-clause-left
+returns-clause-left g c = λ kept.
+    let put = put-writes _ (c.in-Ok.ensures.opened kept) (c.in-Ok.ensures.ok kept) (c.in-Ok-write.ensures.ok kept) in
+    replaced-moved c.requires (put-same _ put (c.flush.ensures.files kept)) (c.in-Ok-rename.ensures.ok kept)
+
+pub returns-clause-stops : goal.returns-clause-stops
+returns-clause-stops g c = λ kept.
+    let created = aside-put _ (aside_begin _ c.args.temp.now) (c.in-Ok.ensures.ok kept) in
+    let written = aside-writes _ _ (c.in-Ok.ensures.opened kept) created (c.in-Ok-write.ensures.ok kept) in
+    let flushed = aside-same _ written (c.flush.ensures.files kept) in
+    let put = put-same _ (put-writes _ (c.in-Ok.ensures.opened kept) (c.in-Ok.ensures.ok kept) (c.in-Ok-write.ensures.ok kept)) (c.flush.ensures.files kept) in
+    let run = written_run c.requires (created_run c.requires c.create.ensures.did created) created (c.in-Ok.ensures.opened kept) c.write.ensures.did written in
+    let run2 = flushed_run c.requires run written c.flush.ensures.did flushed in
+    renamed_run c.requires run2 put c.rename.ensures.did (old_or_new-replaced (replaced-moved c.requires put (c.in-Ok-rename.ensures.ok kept)))

@@ -1,0 +1,116 @@
+-- Files under paths, what each call of a folder does to them, and what a stop may leave.
+use Rattle.std.specs.Prelude.{◌≡◌, ◌≢◌, ◌⊎◌, ◌<◌, ◌^◌, ◌-◌, ◌↔◌, ℕ, List, [], ◌∷◌, ◌++◌, take, Option, Some, None, Bool, true, false, IsSome, Contains}
+
+-- the bytes under each path
+abbrev pub Files : Type 0
+Files = List ℕ → Option (List ℕ)
+
+-- a call of a folder; paths, names and written data are bytes
+pub data Call : Type 0 where
+  Make : List ℕ → Call
+  Create : List ℕ → Call
+  Write : List ℕ → Call
+  Flush : Call
+  Rename : List ℕ → List ℕ → Call
+  Open : List ℕ → Call
+  Read : Call
+  Names : List ℕ → Call
+  Remove : List ℕ → Call
+
+-- nothing changed
+abbrev pub IsSame : Files → Files → Type 0
+IsSame old new = (path : List ℕ) → new path ≡ old path
+
+-- this path has these bytes, and no other path changed
+pub record IsPut (old new : Files) (at bytes : List ℕ) : Type 0 where
+  pub there : new at ≡ Some bytes
+  pub others : (path : List ℕ) → path ≢ at → new path ≡ old path
+
+-- this path had a file and has none, and no other path changed
+pub record IsGone (old new : Files) (at : List ℕ) : Type 0 where
+  pub was : IsSome (old at)
+  pub gone : new at ≡ None
+  pub others : (path : List ℕ) → path ≢ at → new path ≡ old path
+
+-- the file of the one path is under the other, in the place of what was there, and no third path changed
+pub record IsMoved (old new : Files) (from to : List ℕ) : Type 0 where
+  pub there : new to ≡ old from
+  pub gone : from ≢ to → new from ≡ None
+  pub others : (path : List ℕ) → path ≢ from → path ≢ to → new path ≡ old path
+
+-- this path has these bytes after those that it had, and no other path changed
+pub record IsGrown (old new : Files) (at bytes : List ℕ) : Type 0 where
+  pub grown : (before : List ℕ) → old at ≡ Some before → new at ≡ Some (before ++ bytes)
+  pub others : (path : List ℕ) → path ≢ at → new path ≡ old path
+
+-- what a write does, where this path is open
+abbrev pub Writes : List ℕ → Option (List ℕ) → Files → Files → Type 0
+Writes bytes None old new = IsSame old new
+Writes bytes (Some at) old new = IsGrown old new at bytes
+
+-- what a call does, where this path is open
+abbrev pub Does : Call → Option (List ℕ) → Files → Files → Type 0
+Does (Create at) opened old new = IsPut old new at []
+Does (Write bytes) opened old new = Writes bytes opened old new
+Does (Rename from to) opened old new = IsMoved old new from to
+Does (Remove at) opened old new = IsGone old new at
+Does (Make dir) opened old new = IsSame old new
+Does Flush opened old new = IsSame old new
+Does (Open at) opened old new = IsSame old new
+Does Read opened old new = IsSame old new
+Does (Names dir) opened old new = IsSame old new
+
+-- what a failed call leaves: of a write any beginning of its bytes, of the others nothing
+abbrev pub Refuses : Call → Option (List ℕ) → Files → Files → Type 0
+Refuses (Write bytes) opened old new = (n : ℕ) × Writes (take n bytes) opened old new
+Refuses (Create at) opened old new = IsSame old new
+Refuses (Rename from to) opened old new = IsSame old new
+Refuses (Remove at) opened old new = IsSame old new
+Refuses (Make dir) opened old new = IsSame old new
+Refuses Flush opened old new = IsSame old new
+Refuses (Open at) opened old new = IsSame old new
+Refuses Read opened old new = IsSame old new
+Refuses (Names dir) opened old new = IsSame old new
+
+-- what a stop during a call may leave: all that the call does, or what it leaves where it fails
+abbrev pub StoppedIn : Call → Option (List ℕ) → Files → Files → Type 0
+StoppedIn call opened old new = Refuses call opened old new ⊎ Does call opened old new
+
+-- a count of failures that went up, or that can't
+abbrev pub Rose : ℕ → ℕ → Type 0
+Rose before now = (before < now) ⊎ (now ≡ 2 ^ 64 - 1)
+
+-- the file is there and open, or there is none
+abbrev pub OpensFile : List ℕ → Files → Bool → Option (List ℕ) → Type 0
+OpensFile at files true opened = IsSome (files at) × (opened ≡ Some at)
+OpensFile at files false opened = files at ≡ None
+
+-- the path of a name in a directory
+abbrev pub path_in : List ℕ → List ℕ → List ℕ
+path_in dir name = dir ++ 47 ∷ name
+
+-- a name, and not a path: without '/'
+abbrev pub IsName : List ℕ → Type 0
+IsName name = Contains name 47 → ⊥
+
+-- the names of a directory's files
+abbrev pub IsListing : Files → List ℕ → List (List ℕ) → Type 0
+IsListing files dir names = (name : List ℕ) → Contains names name ↔ (IsName name × IsSome (files (path_in dir name)))
+
+module _ {D : Type 0} where
+  -- these calls, each with the state after it, led from the one state to the other
+  abbrev pub IsRun : (D → Call → D → Type 0) → D → List (Call × D) → D → Type 0
+  IsRun did start [] end = start ≡ end
+  IsRun did start (step ∷ steps) end = did start step.0 step.1 × IsRun did step.1 steps end
+
+  -- a stop before, during or after any of these calls leaves files with P
+  abbrev pub EachStop : (D → Option (List ℕ)) → (D → Files) → (Files → Type 0) → D → List (Call × D) → Type 0
+  EachStop opened files P start [] = P (files start)
+  EachStop opened files P start (step ∷ steps) =
+      ((left : Files) → StoppedIn step.0 (opened start) (files start) left → P left) × EachStop opened files P step.1 steps
+
+  -- the calls that led from the one state to the other, stopped anywhere, leave files with P
+  pub record StopsLeave (did : D → Call → D → Type 0) (opened : D → Option (List ℕ)) (files : D → Files) (P : Files → Type 0) (old new : D) : Type 0 where
+    pub steps : List (Call × D)
+    pub run : IsRun did old steps new
+    pub stops : EachStop opened files P old steps

@@ -1,0 +1,5 @@
+pub mod Folder
+pub mod Load
+pub mod MemFolder
+pub mod Names
+pub mod Save

@@ -1,0 +1,82 @@
+-- What a load reads, and what it leaves in the folder.
+use Rattle.std.specs.Prelude.{◌≡◌, ◌⊎◌, ◌<◌, ◌+◌, ◌^◌, ℕ, Bool, true, false, List, [], ◌∷◌, ◌++◌, length, filter, map, Option, Some, None, Result, Ok, Err}
+use Rattle.lru_files.specs.Folder.{Files, IsSame, IsGone, IsListing, Rose, path_in}
+use Rattle.lru_files.specs.Names.{is_temp_name, shard_path}
+use Rattle.lru_files.specs.declared.fault.ShardFileError.{ShardFileError}
+use Rattle.lru_files.specs.declared.fault.ShardFileError.TheVariants.{Open, Read, ReadDir, ReadDirEntry, Remove}
+use Rattle.lru_files.specs.declared.fault.ShardLoadFailure.{ShardLoadFailure}
+use Rattle.lru_files.specs.declared.fault.ShardLoadFailure.TheVariants.{Io, Deserialize, Memory}
+use Rattle.lru_files.specs.declared.fault.ShardLoadReport.{ShardLoadReport}
+use Rattle.lru_files.specs.declared.fault.TempFileCleanupReport.{TempFileCleanupReport}
+
+-- so many of the files at these paths were removed, each of which was there; the other removals changed nothing
+pub data Removes : List (List ℕ) → ℕ → Files → Files → Type 0 where
+  NoPath : (old new : Files) → IsSame old new → Removes [] 0 old new
+  Gone : (paths : List (List ℕ)) (at : List ℕ) (removed : ℕ) (old now new : Files)
+      → Removes paths removed old now → IsGone now new at → Removes (paths ++ at ∷ []) (removed + 1) old new
+  Left : (paths : List (List ℕ)) (at : List ℕ) (removed : ℕ) (old now new : Files)
+      → Removes paths removed old now → IsSame now new → Removes (paths ++ at ∷ []) removed old new
+
+-- a failure before the loader was asked
+abbrev pub IsUnread : {E : Type 0} → ShardLoadFailure E → Type 0
+IsUnread (Io call) = (call ≡ Open) ⊎ (call ≡ Read)
+IsUnread (Deserialize error) = ⊥
+IsUnread Memory = Unit {0}
+
+-- The shards below a number were loaded in turn: so many had a file that the loader took, so many had none, and these failed.
+-- Where the folder keeps its files (`keeps`), what was read is what is at the shard's path.
+pub data Loads {D E : Type 0} (keeps : Type 0) (file_of : ℕ → Option (List ℕ)) (step : D → ℕ → List ℕ → Result (Unit {0}) E → D → Type 0) :
+    ℕ → ℕ → ℕ → List (ℕ × ShardLoadFailure E) → D → D → Type 0 where
+  NoShard : (start : D) → Loads keeps file_of step 0 0 0 [] start start
+  Taken : (n loaded missing : ℕ) (errored : List (ℕ × ShardLoadFailure E)) (start now next : D) (bytes : List ℕ)
+      → Loads keeps file_of step n loaded missing errored start now → (keeps → file_of n ≡ Some bytes) → step now n bytes (Ok tt) next
+      → Loads keeps file_of step (n + 1) (loaded + 1) missing errored start next
+  Missing : (n loaded missing : ℕ) (errored : List (ℕ × ShardLoadFailure E)) (start now : D)
+      → Loads keeps file_of step n loaded missing errored start now → (keeps → file_of n ≡ None)
+      → Loads keeps file_of step (n + 1) loaded (missing + 1) errored start now
+  Refused : (n loaded missing : ℕ) (errored : List (ℕ × ShardLoadFailure E)) (start now next : D) (bytes : List ℕ) (error : E)
+      → Loads keeps file_of step n loaded missing errored start now → (keeps → file_of n ≡ Some bytes) → step now n bytes (Err error) next
+      → Loads keeps file_of step (n + 1) loaded missing (errored ++ (n, Deserialize error) ∷ []) start next
+  Unread : (n loaded missing : ℕ) (errored : List (ℕ × ShardLoadFailure E)) (start now : D) (failure : ShardLoadFailure E)
+      → Loads keeps file_of step n loaded missing errored start now → IsUnread failure
+      → Loads keeps file_of step (n + 1) loaded missing (errored ++ (n, failure) ∷ []) start now
+
+-- what one shard's load did, where its path has this file: true if the loader took it, false if there is none
+abbrev pub LoadsOne : {D E : Type 0} → Type 0 → Option (List ℕ) → (List ℕ → Result (Unit {0}) E → D → Type 0) → D → D → Result Bool (ShardLoadFailure E) → Type 0
+LoadsOne keeps file step now next (Ok true) = (bytes : List ℕ) × (keeps → file ≡ Some bytes) × step bytes (Ok tt) next
+LoadsOne keeps file step now next (Ok false) = (keeps → file ≡ None) × (now ≡ next)
+LoadsOne keeps file step now next (Err (Deserialize error)) = (bytes : List ℕ) × (keeps → file ≡ Some bytes) × step bytes (Err error) next
+LoadsOne keeps file step now next (Err (Io call)) = ((call ≡ Open) ⊎ (call ≡ Read)) × (now ≡ next)
+LoadsOne keeps file step now next (Err Memory) = now ≡ next
+
+-- a shard that failed by the folder: a call of it failed, and was counted
+abbrev pub HasLoadCause : {E : Type 0} → ℕ → ℕ → Result Bool (ShardLoadFailure E) → Type 0
+HasLoadCause before now (Ok found) = Unit {0}
+HasLoadCause before now (Err (Deserialize error)) = Unit {0}
+HasLoadCause before now (Err Memory) = Unit {0}
+HasLoadCause before now (Err (Io call)) = Rose before now
+
+-- each of them a failed removal
+abbrev pub AreRemovals : List ShardFileError → Type 0
+AreRemovals [] = Unit {0}
+AreRemovals (call ∷ calls) = (call ≡ Remove) × AreRemovals calls
+
+-- Before a load: either the listing failed and nothing changed, or of all names in the directory those of temporary files were removed, but for failures.
+abbrev pub CleansUp : (dir file_name : List ℕ) → Files → Files → TempFileCleanupReport → Type 0
+CleansUp dir file_name old new report = ((report.removed ≡ 0) × ((report.failed.items ≡ ReadDir ∷ []) ⊎ (report.failed.items ≡ ReadDirEntry ∷ [])) × IsSame old new)
+    ⊎ ((names : List (List ℕ)) × IsListing old dir names × AreRemovals report.failed.items
+    × (report.removed + length report.failed.items ≡ length (filter (is_temp_name file_name) names))
+    × Removes (map (path_in dir) (filter (is_temp_name file_name) names)) report.removed old new)
+
+-- the files after a load: those of the shards stay
+abbrev pub ShardsStay : (dir file_name : List ℕ) → Files → Files → Type 0
+ShardsStay dir file_name old new = (i : ℕ) → i < 2 ^ 64 → new (shard_path dir file_name i) ≡ old (shard_path dir file_name i)
+
+-- each shard that failed by the folder: a call of it failed, and was counted
+abbrev pub AreCaused : {E : Type 0} → ℕ → ℕ → List (ℕ × ShardLoadFailure E) → Type 0
+AreCaused before now [] = Unit {0}
+AreCaused before now (failed ∷ rest) = HasLoadCause before now (Err failed.1) × AreCaused before now rest
+
+-- a failure in a load by the folder comes only where a call of it failed, and was counted
+abbrev pub LoadCauses : {E : Type 0} → ℕ → ℕ → ShardLoadReport E → Type 0
+LoadCauses before now report = AreCaused before now report.errored.items × (0 < length report.cleanup.failed.items → Rose before now)

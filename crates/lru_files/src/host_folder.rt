@@ -1,0 +1,145 @@
+// A folder of the system.
+ghost use Rattle.std.specs.Prelude.{◌≡◌, ◌≤◌, ◌↔◌, None, OnErr, IsOk, IsTrue};
+ghost use Rattle.lru_files.specs.Folder.{Rose};
+
+use crate::folder::{Folder, FolderFault, ListFault};
+use std::io::{Read, Write};
+use std::rt::Files;
+use std::{fs, io};
+
+/// A folder of the system's files. No clause says what they hold: that is left to tests.
+#[derive(Drop)]
+pub struct HostFolder<R: Files + AllocGlobal + Clone + Drop> {
+    rt: R,
+    file: Option<R::File>,
+    failures: u64,
+}
+
+impl<R: Files + AllocGlobal + Clone + Drop> HostFolder<R> {
+    /// The files that this runtime reaches.
+    pub fn new(rt: R) -> HostFolder<R> {
+        HostFolder {
+            rt,
+            file: None,
+            failures: 0,
+        }
+    }
+
+    // Counts a call that failed.
+    fn counted(&mut self, done: bool) -> Result<(), FolderFault>
+        ensures cause { OnErr result (Rose self.old.failures self.new.failures) }
+        ensures count { self.old.failures ≤ self.new.failures }
+        ensures done { IsTrue done ↔ IsOk result }
+    {
+        if done {
+            return Ok(());
+        }
+        self.failures = self.failures.saturating_add(1);
+        Err(FolderFault)
+    }
+
+    // The names of the directory's entries.
+    fn names(&self, dir: &str) -> Result<Vec<String>, ListFault> {
+        let Ok(entries) = fs::read_dir(&self.rt, dir) else {
+            return Err(ListFault::Dir);
+        };
+        let mut names = Vec::new(self.rt.alloc());
+        for entry in entries {
+            let Ok(entry) = entry else {
+                return Err(ListFault::Entry);
+            };
+            let Ok(name) = String::from_str(self.rt.alloc(), entry.file_name()) else {
+                return Err(ListFault::Entry);
+            };
+            let Ok(()) = names.push(name) else {
+                return Err(ListFault::Entry);
+            };
+        }
+        Ok(names)
+    }
+}
+
+impl<R: Files + AllocGlobal + Clone + Drop> Folder for HostFolder<R> {
+    ghost keeps = { ⊥ };
+
+    ghost files = { λ folder path. None };
+
+    ghost opened = { λ folder. None };
+
+    ghost failures_of = { λ folder. folder.failures };
+
+    ghost did = { λ before call after. Unit {0} };
+
+    fn make(&mut self, dir: &str) -> Result<(), FolderFault> {
+        let done = fs::create_dir_all(&self.rt, dir).is_ok();
+        self.counted(done)
+    }
+
+    fn create(&mut self, path: &str) -> Result<(), FolderFault> {
+        self.file = fs::create(&self.rt, path).ok();
+        let done = self.file.is_some();
+        self.counted(done)
+    }
+
+    fn write(&mut self, bytes: &[u8]) -> Result<(), FolderFault> {
+        let done = match &mut self.file {
+            Some(file) => file.write_all(bytes).is_ok(),
+            None => false,
+        };
+        self.counted(done)
+    }
+
+    fn flush(&mut self) -> Result<(), FolderFault> {
+        let done = match &mut self.file {
+            Some(file) => file.flush().is_ok(),
+            None => false,
+        };
+        self.counted(done)
+    }
+
+    fn rename(&mut self, from: &str, to: &str) -> Result<(), FolderFault> {
+        let done = fs::rename(&self.rt, from, to).is_ok();
+        self.counted(done)
+    }
+
+    fn open(&mut self, path: &str) -> Result<bool, FolderFault> {
+        match fs::open(&self.rt, path) {
+            Ok(file) => {
+                self.file = Some(file);
+                Ok(true)
+            }
+            Err(e) => {
+                let absent = e.kind() == io::ErrorKind::NotFound;
+                self.counted(absent)?;
+                Ok(false)
+            }
+        }
+    }
+
+    fn read(&mut self) -> Result<Vec<u8>, FolderFault> {
+        let mut bytes = Vec::new(self.rt.alloc());
+        let done = match &mut self.file {
+            Some(file) => file.read_to_end(&mut bytes).is_ok(),
+            None => false,
+        };
+        self.counted(done)?;
+        Ok(bytes)
+    }
+
+    fn list(&mut self, dir: &str) -> Result<Vec<String>, ListFault> {
+        let names = self.names(dir);
+        let Ok(()) = self.counted(names.is_ok()) else {
+            return names;
+        };
+        names
+    }
+
+    fn remove(&mut self, path: &str) -> Result<(), FolderFault> {
+        let done = fs::remove_file(&self.rt, path).is_ok();
+        self.counted(done)
+    }
+
+    fn failures(&self) -> u64 {
+        self.failures
+    }
+}
