@@ -19,6 +19,7 @@ import calendar
 import json
 import re
 import shlex
+import signal
 import subprocess
 import sys
 
@@ -99,7 +100,10 @@ def write_trace(asked, options):
 
 def drive(asked, options):
     """Runs the program over the requests, and prints how many were fresh hits."""
-    program = subprocess.Popen(shlex.split(options.drive), stdin=subprocess.PIPE, stdout=subprocess.PIPE, text=True, bufsize=1)
+    try:
+        program = subprocess.Popen(shlex.split(options.drive), stdin=subprocess.PIPE, stdout=subprocess.PIPE, text=True, bufsize=1)
+    except OSError as why:
+        sys.exit(f"{options.drive}: {why.strerror}")
 
     def answer(event):
         program.stdin.write(text_of(event))
@@ -142,6 +146,9 @@ def main():
     options.methods = set(options.methods.split(","))
     options.statuses = set(options.statuses.split(","))
     sys.stdin.reconfigure(encoding="utf-8", errors="surrogateescape")
+    if not options.drive:
+        # ends quietly where the reader of a pipe has enough
+        signal.signal(signal.SIGPIPE, signal.SIG_DFL)
     passed = {}
     asked = requests(sys.stdin, options, passed)
     drive(asked, options) if options.drive else write_trace(asked, options)
