@@ -1,9 +1,9 @@
 -- What the matches of a command line hold is what its words give.
-use Rattle.std.proofs.Common.{◌≡◌, ◌∙◌, ℕ, List, true, refl, ap, sym, subst}
+use Rattle.std.proofs.Common.{◌≡◌, ◌∙◌, ◌⊎◌, ℕ, List, [], codes, true, refl, ap, sym, subst}
 use Rattle.std.specs.Prelude.{Option, Some, None, Err}
 use Rattle.clap.specs.Matches.{found_of, first_value}
 use Rattle.clap.specs.Simple.{HasMatchesOf, is_simple}
-use Rattle.clap.specs.Faults.{is_simple_and_free}
+use Rattle.clap.specs.Faults.{is_simple_and_free, fault_of}
 use Rattle.clap.specs.Walk.{Text, first_of}
 use Rattle.clap.specs.declared.parser.matches.ArgMatches.{ArgMatches}
 use Rattle.clap.proofs.OnLiterals.{clap_on_literals}
@@ -23,13 +23,15 @@ pub given_by_words : (id : Text) (m : ArgMatches) (words : List Text) (number : 
     → IsGiven (first_value (found_of m) id) number → IsGiven (value_of id words) number
 given_by_words id m words number h given = subst (λ v. IsGiven v number) (first_value-words id m words h) given
 
-pub fault_by_words : (id : Text) (m : ArgMatches) (words : List Text) (error : OptionsError) → HasMatchesOf app words m
+pub fault_by_words : (id : Text) (m : ArgMatches) (words : List Text) (error : OptionsError) → (id ≡ codes "limit") ⊎ (id ≡ codes "watermark")
+    → fault_of app words ≡ [] → HasMatchesOf app words m
     → IsReadNumber (first_value (found_of m) id) (Err error) → IsFault words error
-fault_by_words id m words (CommandLine error) h none = absurd none
-fault_by_words id m words NoLimit h none = absurd none
-fault_by_words id m words (NotUtf8 error) h none = absurd none
-fault_by_words id m words (WrongValue error) h found = (id, found.0, sym (first_value-words id m words h) ∙ found.1, found.2)
-fault_by_words id m words Memory h none = tt
+fault_by_words id m words (CommandLine error) known free h none = absurd none
+fault_by_words id m words NoLimit known free h none = absurd none
+fault_by_words id m words (NotUtf8 error) known free h none = absurd none
+fault_by_words id m words (WrongValue error) known free h found =
+    (free, (id, found.0, known, sym (first_value-words id m words h) ∙ found.1, found.2))
+fault_by_words id m words Memory known free h none = tt
 
 pub app_is_free : is_simple_and_free app ≡ true
 unfolding clap_on_literals

@@ -1,5 +1,5 @@
 -- What the words of a command line give.
-use Rattle.std.specs.Prelude.{◌≡◌, ℕ, Bool, true, false, ◌<◌, ◌^◌, List, codes, Option, Some, None, Result, Ok, Err, ⊤}
+use Rattle.std.specs.Prelude.{◌≡◌, ℕ, Bool, true, false, ◌<◌, ◌^◌, List, codes, Option, Some, None, Result, Ok, Err, ⊤, ◌⊎◌, []}
 use Rattle.std.specs.Str.Parse.{IsNumeral, digits_value, without_leading_plus}
 use Rattle.clap.specs.Values.{kind_of}
 use Rattle.clap.specs.declared.error.kind.ErrorKind.TheVariants.{InvalidValue}
@@ -40,15 +40,17 @@ abbrev pub IsGiven : Option Text → Option ℕ → Type 0
 IsGiven value None = value ≡ None
 IsGiven value (Some n) = (text : Text) × (value ≡ Some text) × IsNumber text n
 
--- some option has a text that is no number
+-- the limit or the watermark has a text that is no number
 abbrev pub HasWrongValue : List Text → Type 0
-HasWrongValue words = (name : Text) × (text : Text) × (value_of name words ≡ Some text) × ((n : ℕ) → ¬ IsNumber text n)
+HasWrongValue words =
+    (name : Text) × (text : Text) × ((name ≡ codes "limit") ⊎ (name ≡ codes "watermark")) × (value_of name words ≡ Some text)
+    × ((n : ℕ) → ¬ IsNumber text n)
 
 -- why the words give no options; memory may have run out instead
 abbrev pub IsFault : List Text → OptionsError → Type 0
 IsFault words (CommandLine error) = IsAmong (kind_of error) (fault_of app words)
-IsFault words NoLimit = value_of (codes "limit") words ≡ None
-IsFault words (WrongValue error) = HasWrongValue words
+IsFault words NoLimit = (fault_of app words ≡ []) × (value_of (codes "limit") words ≡ None)
+IsFault words (WrongValue error) = (fault_of app words ≡ []) × HasWrongValue words
 IsFault words (NotUtf8 error) = ⊥
 IsFault words Memory = ⊤
 
