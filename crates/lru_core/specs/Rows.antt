@@ -5,6 +5,8 @@ use Rattle.std.specs.Option.{option_map}
 use Rattle.std.specs.Borrow.{Bor}
 use Rattle.lru_list.specs.declared.linked_list.TheConstants.{MOST_ITEMS}
 use Rattle.lru_core.specs.declared.rows.Row.{Row}
+use Rattle.lru_core.specs.declared.rows.End.{End}
+use Rattle.lru_core.specs.declared.rows.End.TheVariants.{Front, Back}
 
 -- the row of key k, as a list of one row or none
 abbrev pub only : {T : Type 0} → ℕ → List (Row T) → List (Row T)
@@ -29,6 +31,11 @@ reweighed k w rows = map (λ r. cond (r.key == k) (record r { weight = w }) r) r
 -- `row` in the place of the row of its key
 abbrev pub put : {T : Type 0} → Row T → List (Row T) → List (Row T)
 put row rows = map (λ r. cond (r.key == row.key) row r) rows
+
+-- a list with one more at that end
+abbrev pub with_one : {X : Type 0} → End → X → List X → List X
+with_one Front x xs = x ∷ xs
+with_one Back x xs = xs ++ x ∷ []
 
 -- the sum of the rows' weights
 abbrev pub total_weight : {T : Type 0} → List (Row T) → ℕ
