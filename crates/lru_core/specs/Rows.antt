@@ -3,8 +3,8 @@ use Rattle.std.specs.Prelude.{◌≡◌, ◌≢◌, ℕ, [], ◌+◌, ◌==◌, 
 use Rattle.std.specs.List.{sum_by}
 use Rattle.std.specs.Option.{option_map}
 use Rattle.std.specs.Borrow.{Bor}
-use Rattle.lru_list.specs.declared.linked_list.TheConstants.{MOST_ITEMS}
 use Rattle.lru_core.specs.declared.rows.Row.{Row}
+use Rattle.lru_core.specs.declared.rows.TheConstants.{MOST_ROWS}
 use Rattle.lru_core.specs.declared.rows.End.{End}
 use Rattle.lru_core.specs.declared.rows.End.TheVariants.{Front, Back}
 
@@ -91,6 +91,10 @@ pub record Shard (T : Type 0) : Type 0 where
 abbrev pub IsHeavy : {T : Type 0} → ℕ → ℕ → ℕ → List (Row T) → Type 0
 IsHeavy bound k w rows = bound < total_weight (others k rows) + w
 
--- there is no room for one row more: their number is at the bound, or the list of them is full
+-- there is no room for one row more: their number is at the bound, or at the most that a shard can have
 abbrev pub IsLong : {T : Type 0} → ℕ → List (Row T) → Type 0
-IsLong bound rows = (bound ≤ length rows) ⊎ (length rows ≡ MOST_ITEMS)
+IsLong bound rows = (bound ≤ length rows) ⊎ (MOST_ROWS ≤ length rows)
+
+-- there is room for one row more
+abbrev pub HasPlace : {T : Type 0} → ℕ → List (Row T) → Type 0
+HasPlace bound rows = (length rows < bound) × (length rows < MOST_ROWS)

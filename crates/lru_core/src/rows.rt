@@ -9,12 +9,15 @@ ghost use Rattle.lru_core.specs.declared.rows.Row.{Row};
 mod slots;
 mod table;
 
-use lru_list::linked_list::{LinkedList, LinkedListIter, ListFault, MOST_ITEMS};
+use lru_list::linked_list::{LinkedList, LinkedListIter, ListFault};
 use slots::new_slot;
 use std::alloc::{AllocError, Global};
 use std::collections::HashMap;
 use std::marker::Model;
 use table::{index_of, put_key, room_for, take_key};
+
+/// The most rows that a shard can have: the greatest capacity of a `HashMap`, which is below that of a list.
+pub const MOST_ROWS: usize = 2415919104;
 
 /// A row: what a key has, and what that weighs.
 #[derive(Drop)]
@@ -156,8 +159,8 @@ impl<T: Drop> Rows<T> {
         requires { only row.key self.old ≡ [] }
         ensures ok { OnOk result (self.new ≡ with_one end row self.old) }
         ensures err { OnErr result (self.new ≡ self.old) }
-        ensures memory { (back : T) → result ≡ Err (ListFault.Memory back) → back ≡ row.data }
-        ensures full { (back : T) → result ≡ Err (ListFault.Full back) → (back ≡ row.data) × (length self.old ≡ MOST_ITEMS) }
+        ensures memory { (back : T) → result ≡ Err (ListFault.Memory back) → (back ≡ row.data) × (length self.old < MOST_ROWS) }
+        ensures full { (back : T) → result ≡ Err (ListFault.Full back) → (back ≡ row.data) × (MOST_ROWS ≤ length self.old) }
     {
         let key = row.key;
         match new_slot(&mut self.table, &mut self.list, Some(row), end) {
@@ -181,8 +184,8 @@ impl<T: Drop> Rows<T> {
         requires absent { only key self.old ≡ [] }
         ensures ok { OnOk result ((d : T) × F.post make d × (self.new ≡ a_row key d weight ∷ self.old)) }
         ensures err { OnErr result (self.new ≡ self.old) }
-        ensures memory { (back : F) → result ≡ Err (ListFault.Memory back) → back ≡ make }
-        ensures full { (back : F) → result ≡ Err (ListFault.Full back) → (back ≡ make) × (length self.old ≡ MOST_ITEMS) }
+        ensures memory { (back : F) → result ≡ Err (ListFault.Memory back) → (back ≡ make) × (length self.old < MOST_ROWS) }
+        ensures full { (back : F) → result ≡ Err (ListFault.Full back) → (back ≡ make) × (MOST_ROWS ≤ length self.old) }
     {
         match new_slot(&mut self.table, &mut self.list, None, End::Front) {
             Ok(i) => {

@@ -15,7 +15,7 @@ pub enum LruFault<D> {
     Memory(D),
     /// The weight of the shard would pass its bound.
     Weight(D),
-    /// The number of rows of the shard would pass its bound, or its list is full.
+    /// The number of rows of the shard would pass its bound, or `MOST_ROWS`.
     Length(D),
 }
 

@@ -1,16 +1,16 @@
 //! New slots of the list, with room in the table for their keys.
 
-ghost use Rattle.std.specs.Prelude.{◌≡◌, ℕ, ◌<◌, true, false, length, Option, IfOk, OnOk, OnErr, nat_eq, slice_get};
+ghost use Rattle.std.specs.Prelude.{◌≡◌, ℕ, ◌<◌, ◌≤◌, true, false, length, Option, IfOk, OnOk, OnErr, nat_eq, slice_get};
 ghost use Rattle.std.specs.HashMap.{get, spare};
 ghost use Rattle.lru_list.specs.Slots.{has};
 ghost use Rattle.lru_core.specs.Rows.{with_one};
 
 use super::table::room_for;
-use super::{End, Row};
-use lru_list::linked_list::{LinkedList, ListFault, MOST_ITEMS};
+use super::{End, MOST_ROWS, Row};
+use lru_list::linked_list::{LinkedList, ListFault};
 use std::collections::HashMap;
 
-// Inserts a slot with `item` at that end, and makes room for its key in the table.
+// Inserts a slot with `item` at that end, and makes room for its key in the table. `Full` if there are `MOST_ROWS`.
 pub(super) fn new_slot<T: Drop>(
     table: &mut HashMap<u64, usize>,
     list: &mut LinkedList<Option<Row<T>>>,
@@ -24,9 +24,13 @@ pub(super) fn new_slot<T: Drop>(
     ensures held { IfOk result (λ i. slice_get list.new.items i ≡ Some item) }
     ensures kept { OnOk result ((j : ℕ) → has list.old.order j ≡ true → slice_get list.new.items j ≡ slice_get list.old.items j) }
     ensures err { OnErr result (list.new ≡ list.old) }
-    ensures memory { (back : Option (Row T)) → result ≡ Err (ListFault.Memory back) → back ≡ item }
-    ensures full { (back : Option (Row T)) → result ≡ Err (ListFault.Full back) → (back ≡ item) × (length list.old.order ≡ MOST_ITEMS) }
+    ensures memory { (back : Option (Row T)) → result ≡ Err (ListFault.Memory back) → (back ≡ item) × (length list.old.order < MOST_ROWS) }
+    ensures full { (back : Option (Row T)) → result ≡ Err (ListFault.Full back) → (back ≡ item) × (MOST_ROWS ≤ length list.old.order) }
 {
+    // The table refuses more as it does for want of memory.
+    if list.len() >= MOST_ROWS {
+        return Err(ListFault::Full(item));
+    }
     if room_for(table, 1).is_err() {
         return Err(ListFault::Memory(item));
     }

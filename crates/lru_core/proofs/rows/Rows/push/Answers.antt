@@ -23,4 +23,11 @@ returns-in-Err-Full-clause-full g c back e =
     let u : c.unwrap-in-Err-Full.result.«data» ≡ back = cc in
     let f = c.in-Err-Full.ensures.full c.in-Err-Full.back (ap Err c.in-Err-Full.field-0-is) in
     let v : c.unwrap-in-Err-Full.result ≡ c.args.row = let a = c.unwrap-in-Err-Full.ensures in let b = f.0 in cc in
-    (sym u ∙ ap (λ r. r.«data») v, rw (← c.self.view_is) (tabled_length _ _ _ c.self.invariant ∙ f.1))
+    (sym u ∙ ap (λ r. r.«data») v, rw (← c.self.view_is, tabled_length _ _ _ c.self.invariant) f.1)
+
+pub returns-in-Err-Memory-clause-memory : goal.returns-in-Err-Memory-clause-memory
+returns-in-Err-Memory-clause-memory g c back e =
+    let u : c.unwrap.result.«data» ≡ back = cc in
+    let f = c.in-Err-Memory.ensures.memory c.in-Err-Memory.back (ap Err c.in-Err-Memory.field-0-is) in
+    let v : c.unwrap.result ≡ c.args.row = let a = c.unwrap.ensures in let b = f.0 in cc in
+    (sym u ∙ ap (λ r. r.«data») v, rw (← c.self.view_is, tabled_length _ _ _ c.self.invariant) f.1)

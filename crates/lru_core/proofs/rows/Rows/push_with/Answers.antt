@@ -39,4 +39,10 @@ pub returns-clause-full : goal.returns-clause-full
 returns-clause-full g c back e =
     let u : c.args.make ≡ back = cc in
     let f = c.in-Err-Full.ensures.full c.in-Err-Full.field-0-0 (ap Err c.in-Err-Full.field-0-is) in
-    (sym u, rw (← c.self.view_is) (tabled_length _ _ _ c.self.invariant ∙ f.1))
+    (sym u, rw (← c.self.view_is, tabled_length _ _ _ c.self.invariant) f.1)
+
+pub returns-in-Err-Memory-clause-memory : goal.returns-in-Err-Memory-clause-memory
+returns-in-Err-Memory-clause-memory g c back e =
+    let u : c.args.make ≡ back = cc in
+    let f = c.in-Err-Memory.ensures.memory c.in-Err-Memory.field-0-0 (ap Err c.in-Err-Memory.field-0-is) in
+    (sym u, rw (← c.self.view_is, tabled_length _ _ _ c.self.invariant) f.1)
