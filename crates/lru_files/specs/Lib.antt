@@ -3,3 +3,4 @@ pub mod Load
 pub mod MemFolder
 pub mod Names
 pub mod Save
+pub mod Told

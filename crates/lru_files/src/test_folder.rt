@@ -90,7 +90,7 @@ impl TestFolder {
 
 impl Folder for TestFolder {
     ghost use Rattle.lru_files.specs.MemFolder.{files_of, opened_of};
-    ghost use Rattle.lru_files.specs.Folder.{StoppedIn};
+    ghost use Rattle.lru_files.specs.Folder.{Ends};
 
     ghost keeps = { Unit {0} };
 
@@ -100,7 +100,7 @@ impl Folder for TestFolder {
 
     ghost failures_of = { λ folder. folder.folder.failures };
 
-    ghost did = { λ before call after. StoppedIn call (opened_of before.folder) (files_of before.folder) (files_of after.folder) };
+    ghost did = { λ before call outcome after. Ends call outcome (opened_of before.folder) (files_of before.folder) (files_of after.folder) };
 
     fn make(&mut self, dir: &str) -> Result<(), FolderFault> {
         if self.refuses(false) {
