@@ -109,6 +109,9 @@ impl<R: Files + AllocGlobal + Clone + Drop> Folder for HostFolder<R> {
     fn open(&mut self, path: &str) -> Result<bool, FolderFault> {
         match fs::open(&self.rt, path) {
             Ok(file) => {
+                // The system opens a directory too, and only its reading fails.
+                let is_file = fs::metadata(&self.rt, path).is_ok_and(|found| !found.is_dir());
+                self.counted(is_file)?;
                 self.file = Some(file);
                 Ok(true)
             }
