@@ -9,3 +9,4 @@ pub mod Runs
 pub mod Saves
 pub mod Shards
 pub mod TempNames
+pub mod Told

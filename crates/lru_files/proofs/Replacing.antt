@@ -1,6 +1,6 @@
 -- A file that is replaced by way of a temporary one: what each call leaves, and a stop in it.
 use Rattle.std.proofs.Common.{◌≡◌, ◌≢◌, inl, inr, ℕ, List, [], take, Option, Some, sym, ◌∙◌, refl, subst}
-use Rattle.lru_files.specs.Folder.{Files, Call, IsSame, IsPut, IsMoved, IsGrown, Writes, StoppedIn, StopsLeave}
+use Rattle.lru_files.specs.Folder.{Files, Call, Outcome, IsSame, IsPut, IsMoved, IsGrown, Refuses, Writes, StoppedIn, StopsLeave}
 use Rattle.lru_files.specs.Folder.Call.{Create, Write, Flush, Rename}
 use Rattle.lru_files.specs.Save.{IsOldOrNew, IsReplaced}
 use Rattle.lru_files.proofs.Runs.{stops_begin, stops_more}
@@ -32,6 +32,11 @@ pub aside-writes : {old before : Files} {temp : List ℕ} {opened : Option (List
 aside-writes {before = before} {temp = temp} bytes left is_open aside writes =
     aside-grown left aside (subst (λ o. Writes bytes o before left) is_open writes)
 
+pub aside-refused : {old before : Files} {temp : List ℕ} {opened : Option (List ℕ)} (bytes : List ℕ) (left : Files)
+    → opened ≡ Some temp → IsAside old temp before → Refuses (Write bytes) opened before left → IsAside old temp left
+aside-refused bytes left is_open aside (inl same) = aside-same left aside same
+aside-refused bytes left is_open aside (inr part) = aside-writes (take part.0 bytes) left is_open aside part.1
+
 -- the temporary file is written whole
 pub put-writes : {old created written : Files} {temp : List ℕ} {opened : Option (List ℕ)} (bytes : List ℕ)
     → opened ≡ Some temp → IsPut old created temp [] → Writes bytes opened created written → IsPut old written temp bytes
@@ -47,6 +52,12 @@ put-same {temp} left put same = record {
   there = same temp ∙ put.there;
   others = λ path away. same path ∙ put.others path away;
 }
+
+-- the temporary file has a beginning
+pub put-refused : {old created written : Files} {temp : List ℕ} {opened : Option (List ℕ)} (bytes : List ℕ)
+    → opened ≡ Some temp → IsPut old created temp [] → Refuses (Write bytes) opened created written → (n : ℕ) × IsPut old written temp (take n bytes)
+put-refused {written = written} bytes is_open put (inl same) = (0, put-same written put same)
+put-refused bytes is_open put (inr part) = (part.0, put-writes (take part.0 bytes) is_open put part.1)
 
 pub replaced-moved : {old written new : Files} {temp at bytes : List ℕ} → temp ≢ at → IsPut old written temp bytes → IsMoved written new temp at
     → IsReplaced old new temp at bytes
@@ -68,7 +79,7 @@ module _ {old : Files} {temp at bytes : List ℕ} (apart : temp ≢ at) where
 
   write_stop : (before left : Files) (is_open : Option (List ℕ)) → is_open ≡ Some temp → IsAside old temp before → StoppedIn (Write bytes) is_open before left
       → IsOldOrNew old temp at bytes left
-  write_stop before left is_open same_open aside (inl part) = old_from_aside at bytes apart (aside-writes (take part.0 bytes) left same_open aside part.1)
+  write_stop before left is_open same_open aside (inl part) = old_from_aside at bytes apart (aside-refused bytes left same_open aside part)
   write_stop before left is_open same_open aside (inr whole) = old_from_aside at bytes apart (aside-writes bytes left same_open aside whole)
 
   flush_stop : (before left : Files) (was_open : Option (List ℕ)) → IsAside old temp before → StoppedIn Flush was_open before left
@@ -85,26 +96,26 @@ module _ {old : Files} {temp at bytes : List ℕ} (apart : temp ≢ at) where
   rename_stop before left was_open put (inr moved) = old_or_new-replaced (replaced-moved apart put moved)
 
 -- the calls of one replacement, one after the other
-module _ {D : Type 0} {did : D → Call → D → Type 0} {opened : D → Option (List ℕ)} {files : D → Files} {old : D} {temp at bytes : List ℕ} (apart : temp ≢ at) where
-  pub created_run : {created : D} → did old (Create temp) created → IsAside (files old) temp (files created)
+module _ {D : Type 0} {did : D → Call → Outcome → D → Type 0} {opened : D → Option (List ℕ)} {files : D → Files} {old : D} {temp at bytes : List ℕ} (apart : temp ≢ at) where
+  pub created_run : {created : D} (outcome : Outcome) → did old (Create temp) outcome created → IsAside (files old) temp (files created)
       → StopsLeave did opened files (IsOldOrNew (files old) temp at bytes) old created
-  created_run {created} step aside = stops_more (Create temp) (stops_begin old (old_from_aside at bytes apart (aside_begin (files old) temp))) step
+  created_run {created} outcome step aside = stops_more (Create temp) outcome (stops_begin old (old_from_aside at bytes apart (aside_begin (files old) temp))) step
       (λ left stop. create_stop apart (files old) left (opened old) (aside_begin (files old) temp) stop) (old_from_aside at bytes apart aside)
 
-  pub written_run : {created written : D} → StopsLeave did opened files (IsOldOrNew (files old) temp at bytes) old created
-      → IsAside (files old) temp (files created) → opened created ≡ Some temp → did created (Write bytes) written → IsAside (files old) temp (files written)
+  pub written_run : {created written : D} (outcome : Outcome) → StopsLeave did opened files (IsOldOrNew (files old) temp at bytes) old created
+      → IsAside (files old) temp (files created) → opened created ≡ Some temp → did created (Write bytes) outcome written → IsAside (files old) temp (files written)
       → StopsLeave did opened files (IsOldOrNew (files old) temp at bytes) old written
-  written_run {created} run before same_open step aside = stops_more (Write bytes) run step
+  written_run {created} outcome run before same_open step aside = stops_more (Write bytes) outcome run step
       (λ left stop. write_stop apart (files created) left (opened created) same_open before stop) (old_from_aside at bytes apart aside)
 
-  pub flushed_run : {written flushed : D} → StopsLeave did opened files (IsOldOrNew (files old) temp at bytes) old written
-      → IsAside (files old) temp (files written) → did written Flush flushed → IsAside (files old) temp (files flushed)
+  pub flushed_run : {written flushed : D} (outcome : Outcome) → StopsLeave did opened files (IsOldOrNew (files old) temp at bytes) old written
+      → IsAside (files old) temp (files written) → did written Flush outcome flushed → IsAside (files old) temp (files flushed)
       → StopsLeave did opened files (IsOldOrNew (files old) temp at bytes) old flushed
-  flushed_run {written} run before step aside = stops_more Flush run step
+  flushed_run {written} outcome run before step aside = stops_more Flush outcome run step
       (λ left stop. flush_stop apart (files written) left (opened written) before stop) (old_from_aside at bytes apart aside)
 
-  pub renamed_run : {flushed renamed : D} → StopsLeave did opened files (IsOldOrNew (files old) temp at bytes) old flushed
-      → IsPut (files old) (files flushed) temp bytes → did flushed (Rename temp at) renamed → IsOldOrNew (files old) temp at bytes (files renamed)
+  pub renamed_run : {flushed renamed : D} (outcome : Outcome) → StopsLeave did opened files (IsOldOrNew (files old) temp at bytes) old flushed
+      → IsPut (files old) (files flushed) temp bytes → did flushed (Rename temp at) outcome renamed → IsOldOrNew (files old) temp at bytes (files renamed)
       → StopsLeave did opened files (IsOldOrNew (files old) temp at bytes) old renamed
-  renamed_run {flushed} run put step after = stops_more (Rename temp at) run step
+  renamed_run {flushed} outcome run put step after = stops_more (Rename temp at) outcome run step
       (λ left stop. rename_stop apart (files flushed) left (opened flushed) put stop) after

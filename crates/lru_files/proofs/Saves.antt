@@ -3,7 +3,7 @@ use Rattle.std.proofs.Common.{◌≡◌, ◌≢◌, ◌⊎◌, inl, inr, ℕ, �
 use Rattle.std.specs.Prelude.{slice_index}
 use Rattle.std.proofs.lemmas.Bool.{cases_eq}
 use Rattle.std.specs.declared.alloc.Global.{Global}
-use Rattle.lru_files.specs.Folder.{Files, Call, IsSame, StoppedIn, StopsLeave}
+use Rattle.lru_files.specs.Folder.{Files, Call, Outcome, IsSame, StoppedIn, StopsLeave}
 use Rattle.lru_files.specs.Folder.Call.{Make}
 use Rattle.lru_files.specs.Names.{shard_path, temp_path}
 use Rattle.lru_files.specs.Save.{OneLeft, IsOneOldOrNew, AreOldOrNew, ShardLeft, ShardsLeft, OthersStay, Gives, outcome_of, AreNumbered}
@@ -14,7 +14,7 @@ use Rattle.lru_files.proofs.Runs.{weakened, joined, holds_at_end, stops_begin, s
 
 module _ {D E : Type 0} where
   -- the shards below `done` are saved or failed, the others are as before
-  pub record IsSavedTo (did : D → Call → D → Type 0) (opened : D → Option (List ℕ)) (files : D → Files) (dir file_name words : List ℕ)
+  pub record IsSavedTo (did : D → Call → Outcome → D → Type 0) (opened : D → Option (List ℕ)) (files : D → Files) (dir file_name words : List ℕ)
       (serialized : ℕ → Result (Vec ℕ Global) E → Type 0) (shards : ℕ) (old now : D) (failed : List (ℕ × ShardSaveFailure E)) (done : ℕ) : Type 0 where
     pub run : StopsLeave did opened files (AreOldOrNew dir file_name words serialized shards (files old)) old now
     pub left : ShardsLeft dir file_name words serialized done (files old) (files now) failed
@@ -110,7 +110,7 @@ module _ {E : Type 0} (dir file_name words : List ℕ) (serialized : ℕ → Res
     others = λ path no_shard no_temp. same path;
   }
 
-module _ {D E : Type 0} {did : D → Call → D → Type 0} {opened : D → Option (List ℕ)} {files : D → Files} {dir file_name words : List ℕ}
+module _ {D E : Type 0} {did : D → Call → Outcome → D → Type 0} {opened : D → Option (List ℕ)} {files : D → Files} {dir file_name words : List ℕ}
     {serialized : ℕ → Result (Vec ℕ Global) E → Type 0} {shards : ℕ} (fits : shards < 2 ^ 64) where
   -- one more shard
   pub saved-step : {old now : D} (next : D) (failed failed' : List (ℕ × ShardSaveFailure E)) (n : ℕ) (result : Result (Unit {0}) (ShardSaveFailure E)) → n < shards
@@ -153,15 +153,15 @@ module _ {D E : Type 0} {did : D → Call → D → Type 0} {opened : D → Opti
   saved-err next failed n failure below before numbered one run = saved-step next failed (failed ++ (n, failure) ∷ []) n (Err failure) below before one run
       (λ i apart. outcome-append failed n failure i apart) (outcome-here 0 n failed n failure numbered (omega arith))
 
-  pub made_run : {old made : D} → did old (Make dir) made → IsSame (files old) (files made)
+  pub made_run : {old made : D} (outcome : Outcome) → did old (Make dir) outcome made → IsSame (files old) (files made)
       → StopsLeave did opened files (AreOldOrNew dir file_name words serialized shards (files old)) old made
-  made_run {old} {made} step same = stops_more (Make dir) (stops_begin old (made_stop dir file_name words serialized shards (files old) (files old) (λ path. refl))) step
+  made_run {old} {made} outcome step same = stops_more (Make dir) outcome (stops_begin old (made_stop dir file_name words serialized shards (files old) (files old) (λ path. refl))) step
       (λ left stop. made_stop dir file_name words serialized shards (files old) left (same_from_stop dir (opened old) (files old) left stop)) (made_stop dir file_name words serialized shards (files old) (files made) same)
 
-  pub saved-begin : {old made : D} → did old (Make dir) made → IsSame (files old) (files made)
+  pub saved-begin : {old made : D} (outcome : Outcome) → did old (Make dir) outcome made → IsSame (files old) (files made)
       → IsSavedTo did opened files dir file_name words serialized shards old made [] 0
-  saved-begin {old} {made} step same = record {
-    run = made_run step same;
+  saved-begin {old} {made} outcome step same = record {
+    run = made_run outcome step same;
     left = λ i to. absurd (omega (arith, to));
     ahead = λ i from to. (same (shard_path dir file_name i), same (temp_path dir file_name i (slice_index words i)));
     others = λ path no_shard no_temp. same path;

@@ -1,5 +1,5 @@
 -- Files under paths, what each call of a folder does to them, and what a stop may leave.
-use Rattle.std.specs.Prelude.{◌≡◌, ◌≢◌, ◌⊎◌, ◌<◌, ◌^◌, ◌-◌, ◌↔◌, ℕ, List, [], ◌∷◌, ◌++◌, take, Option, Some, None, Bool, true, false, IsSome, Contains}
+use Rattle.std.specs.Prelude.{◌≡◌, ◌≢◌, ◌⊎◌, ◌↔◌, ℕ, List, [], ◌∷◌, ◌++◌, take, Option, Some, None, Bool, true, false, IsSome, Contains}
 
 -- the bytes under each path
 abbrev pub Files : Type 0
@@ -16,6 +16,12 @@ pub data Call : Type 0 where
   Read : Call
   Names : List ℕ → Call
   Remove : List ℕ → Call
+
+-- how a call ended; a listing may also fail at one of its entries
+pub data Outcome : Type 0 where
+  Done : Outcome
+  Failed : Outcome
+  FailedAtEntry : Outcome
 
 -- nothing changed
 abbrev pub IsSame : Files → Files → Type 0
@@ -38,8 +44,9 @@ pub record IsMoved (old new : Files) (from to : List ℕ) : Type 0 where
   pub gone : from ≢ to → new from ≡ None
   pub others : (path : List ℕ) → path ≢ from → path ≢ to → new path ≡ old path
 
--- this path has these bytes after those that it had, and no other path changed
+-- this path had a file, which has these bytes after those that it had, and no other path changed
 pub record IsGrown (old new : Files) (at bytes : List ℕ) : Type 0 where
+  pub was : IsSome (old at)
   pub grown : (before : List ℕ) → old at ≡ Some before → new at ≡ Some (before ++ bytes)
   pub others : (path : List ℕ) → path ≢ at → new path ≡ old path
 
@@ -60,9 +67,9 @@ Does (Open at) opened old new = IsSame old new
 Does Read opened old new = IsSame old new
 Does (Names dir) opened old new = IsSame old new
 
--- what a failed call leaves: of a write any beginning of its bytes, of the others nothing
+-- what a failed call leaves: nothing, or of a write any beginning of its bytes
 abbrev pub Refuses : Call → Option (List ℕ) → Files → Files → Type 0
-Refuses (Write bytes) opened old new = (n : ℕ) × Writes (take n bytes) opened old new
+Refuses (Write bytes) opened old new = IsSame old new ⊎ ((n : ℕ) × Writes (take n bytes) opened old new)
 Refuses (Create at) opened old new = IsSame old new
 Refuses (Rename from to) opened old new = IsSame old new
 Refuses (Remove at) opened old new = IsSame old new
@@ -72,13 +79,15 @@ Refuses (Open at) opened old new = IsSame old new
 Refuses Read opened old new = IsSame old new
 Refuses (Names dir) opened old new = IsSame old new
 
+-- what a call that ended so did
+abbrev pub Ends : Call → Outcome → Option (List ℕ) → Files → Files → Type 0
+Ends call Done opened old new = Does call opened old new
+Ends call Failed opened old new = Refuses call opened old new
+Ends call FailedAtEntry opened old new = Refuses call opened old new
+
 -- what a stop during a call may leave: all that the call does, or what it leaves where it fails
 abbrev pub StoppedIn : Call → Option (List ℕ) → Files → Files → Type 0
 StoppedIn call opened old new = Refuses call opened old new ⊎ Does call opened old new
-
--- a count of failures that went up, or that can't
-abbrev pub Rose : ℕ → ℕ → Type 0
-Rose before now = (before < now) ⊎ (now ≡ 2 ^ 64 - 1)
 
 -- the file is there and open, or there is none
 abbrev pub OpensFile : List ℕ → Files → Bool → Option (List ℕ) → Type 0
@@ -93,24 +102,36 @@ path_in dir name = dir ++ 47 ∷ name
 abbrev pub IsName : List ℕ → Type 0
 IsName name = Contains name 47 → ⊥
 
--- the names of a directory's files
-abbrev pub IsListing : Files → List ℕ → List (List ℕ) → Type 0
-IsListing files dir names = (name : List ℕ) → Contains names name ↔ (IsName name × IsSome (files (path_in dir name)))
+-- each name once
+abbrev pub EachOnce : List (List ℕ) → Type 0
+EachOnce [] = Unit {0}
+EachOnce (name ∷ names) = (Contains names name → ⊥) × EachOnce names
+
+-- the names of a directory's files, each once
+pub record IsListing (files : Files) (dir : List ℕ) (names : List (List ℕ)) : Type 0 where
+  pub each : (name : List ℕ) → Contains names name ↔ (IsName name × IsSome (files (path_in dir name)))
+  pub once : EachOnce names
+
+-- a call, how it ended, and the state after it
+pub record Step (D : Type 0) : Type 0 where
+  pub call : Call
+  pub outcome : Outcome
+  pub after : D
 
 module _ {D : Type 0} where
-  -- these calls, each with the state after it, led from the one state to the other
-  abbrev pub IsRun : (D → Call → D → Type 0) → D → List (Call × D) → D → Type 0
+  -- these calls led from the one state to the other
+  abbrev pub IsRun : (D → Call → Outcome → D → Type 0) → D → List (Step D) → D → Type 0
   IsRun did start [] end = start ≡ end
-  IsRun did start (step ∷ steps) end = did start step.0 step.1 × IsRun did step.1 steps end
+  IsRun did start (step ∷ steps) end = did start step.call step.outcome step.after × IsRun did step.after steps end
 
   -- a stop before, during or after any of these calls leaves files with P
-  abbrev pub EachStop : (D → Option (List ℕ)) → (D → Files) → (Files → Type 0) → D → List (Call × D) → Type 0
+  abbrev pub EachStop : (D → Option (List ℕ)) → (D → Files) → (Files → Type 0) → D → List (Step D) → Type 0
   EachStop opened files P start [] = P (files start)
   EachStop opened files P start (step ∷ steps) =
-      ((left : Files) → StoppedIn step.0 (opened start) (files start) left → P left) × EachStop opened files P step.1 steps
+      ((left : Files) → StoppedIn step.call (opened start) (files start) left → P left) × EachStop opened files P step.after steps
 
   -- the calls that led from the one state to the other, stopped anywhere, leave files with P
-  pub record StopsLeave (did : D → Call → D → Type 0) (opened : D → Option (List ℕ)) (files : D → Files) (P : Files → Type 0) (old new : D) : Type 0 where
-    pub steps : List (Call × D)
+  pub record StopsLeave (did : D → Call → Outcome → D → Type 0) (opened : D → Option (List ℕ)) (files : D → Files) (P : Files → Type 0) (old new : D) : Type 0 where
+    pub steps : List (Step D)
     pub run : IsRun did old steps new
     pub stops : EachStop opened files P old steps

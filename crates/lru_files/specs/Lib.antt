@@ -3,3 +3,5 @@ pub mod Load
 pub mod MemFolder
 pub mod Names
 pub mod Save
+pub mod TestFolder
+pub mod Told

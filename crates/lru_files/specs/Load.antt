@@ -1,7 +1,8 @@
 -- What a load reads, and what it leaves in the folder.
-use Rattle.std.specs.Prelude.{◌≡◌, ◌⊎◌, ◌<◌, ◌+◌, ◌^◌, ℕ, Bool, true, false, List, [], ◌∷◌, ◌++◌, length, filter, map, Option, Some, None, Result, Ok, Err}
-use Rattle.lru_files.specs.Folder.{Files, IsSame, IsGone, IsListing, Rose, path_in}
+use Rattle.std.specs.Prelude.{◌≡◌, ◌⊎◌, ◌<◌, ◌+◌, ◌^◌, ℕ, Bool, true, false, List, [], ◌∷◌, ◌++◌, length, filter, map, flat_map, Option, Some, None, Result, Ok, Err}
+use Rattle.lru_files.specs.Folder.{Files, Call, Outcome, IsSame, IsGone, IsListing, path_in}
 use Rattle.lru_files.specs.Names.{is_temp_name, shard_path}
+use Rattle.lru_files.specs.Told.{Tells}
 use Rattle.lru_files.specs.declared.fault.ShardFileError.{ShardFileError}
 use Rattle.lru_files.specs.declared.fault.ShardFileError.TheVariants.{Open, Read, ReadDir, ReadDirEntry, Remove}
 use Rattle.lru_files.specs.declared.fault.ShardLoadFailure.{ShardLoadFailure}
@@ -49,13 +50,6 @@ LoadsOne keeps file step now next (Err (Deserialize error)) = (bytes : List ℕ)
 LoadsOne keeps file step now next (Err (Io call)) = ((call ≡ Open) ⊎ (call ≡ Read)) × (now ≡ next)
 LoadsOne keeps file step now next (Err Memory) = now ≡ next
 
--- a shard that failed by the folder: a call of it failed, and was counted
-abbrev pub HasLoadCause : {E : Type 0} → ℕ → ℕ → Result Bool (ShardLoadFailure E) → Type 0
-HasLoadCause before now (Ok found) = Unit {0}
-HasLoadCause before now (Err (Deserialize error)) = Unit {0}
-HasLoadCause before now (Err Memory) = Unit {0}
-HasLoadCause before now (Err (Io call)) = Rose before now
-
 -- each of them a failed removal
 abbrev pub AreRemovals : List ShardFileError → Type 0
 AreRemovals [] = Unit {0}
@@ -72,11 +66,17 @@ CleansUp dir file_name old new report = ((report.removed ≡ 0) × ((report.fail
 abbrev pub ShardsStay : (dir file_name : List ℕ) → Files → Files → Type 0
 ShardsStay dir file_name old new = (i : ℕ) → i < 2 ^ 64 → new (shard_path dir file_name i) ≡ old (shard_path dir file_name i)
 
--- each shard that failed by the folder: a call of it failed, and was counted
-abbrev pub AreCaused : {E : Type 0} → ℕ → ℕ → List (ℕ × ShardLoadFailure E) → Type 0
-AreCaused before now [] = Unit {0}
-AreCaused before now (failed ∷ rest) = HasLoadCause before now (Err failed.1) × AreCaused before now rest
+-- the failed call on a file that a shard's failure tells
+abbrev pub load_error : {E : Type 0} → Result Bool (ShardLoadFailure E) → List ShardFileError
+load_error (Ok found) = []
+load_error (Err (Deserialize error)) = []
+load_error (Err Memory) = []
+load_error (Err (Io call)) = call ∷ []
 
--- a failure in a load by the folder comes only where a call of it failed, and was counted
-abbrev pub LoadCauses : {E : Type 0} → ℕ → ℕ → ShardLoadReport E → Type 0
-LoadCauses before now report = AreCaused before now report.errored.items × (0 < length report.cleanup.failed.items → Rose before now)
+abbrev pub load_errors : {E : Type 0} → List (ℕ × ShardLoadFailure E) → List ShardFileError
+load_errors = flat_map (λ failed. load_error (Err failed.1))
+
+-- what a load tells of its calls: the failures on files are those in the report, in order; where memory was refused, no call failed
+abbrev pub LoadTells : {D E X : Type 0} → (D → Call → Outcome → D → Type 0) → (D → ℕ) → D → D → Result (ShardLoadReport E) X → Type 0
+LoadTells did failures old new (Ok report) = Tells did failures (report.cleanup.failed.items ++ load_errors report.errored.items) old new
+LoadTells did failures old new (Err error) = Tells did failures [] old new

@@ -1,8 +1,11 @@
 -- What a save leaves.
-use Rattle.std.specs.Prelude.{◌≡◌, ◌≢◌, ◌⊎◌, ◌<◌, ◌≤◌, ◌+◌, ◌==◌, if◌then◌else◌, ℕ, List, [], ◌∷◌, length, take, slice_index, Option, Some, None, Result, Ok, Err, Vec}
+use Rattle.std.specs.Prelude.{◌≡◌, ◌≢◌, ◌⊎◌, ◌<◌, ◌≤◌, ◌+◌, ◌==◌, if◌then◌else◌, ℕ, List, [], ◌∷◌, flat_map, length, take, slice_index, Option, Some, None, Result, Ok, Err, Vec}
 use Rattle.std.specs.declared.alloc.Global.{Global}
-use Rattle.lru_files.specs.Folder.{Files, IsSame, IsPut, Rose}
+use Rattle.lru_files.specs.Folder.{Files, Call, Outcome, IsSame, IsPut}
+use Rattle.lru_files.specs.Folder.Call.{Make}
+use Rattle.lru_files.specs.Folder.Outcome.{Failed}
 use Rattle.lru_files.specs.Names.{shard_path, temp_path}
+use Rattle.lru_files.specs.Told.{Tells, raised}
 use Rattle.lru_files.specs.declared.fault.ShardSaveFailure.{ShardSaveFailure}
 use Rattle.lru_files.specs.declared.fault.ShardSaveFailure.TheVariants.{Serialize, Io, Memory}
 use Rattle.lru_files.specs.declared.fault.ShardSaveError.{ShardSaveError}
@@ -35,6 +38,11 @@ LeftByWriting old new temp at bytes (Err Read) = ⊥
 LeftByWriting old new temp at bytes (Err ReadDir) = ⊥
 LeftByWriting old new temp at bytes (Err ReadDirEntry) = ⊥
 LeftByWriting old new temp at bytes (Err Remove) = ⊥
+
+-- the failed call that the writing of a file tells
+abbrev pub error_in : Result (Unit {0}) ShardFileError → List ShardFileError
+error_in (Ok done) = []
+error_in (Err call) = call ∷ []
 
 -- what a failed call leaves at the temporary path: a beginning of the bytes, or all of them
 abbrev pub TempLeft : List ℕ → (temp new_temp : Option (List ℕ)) → ShardFileError → Type 0
@@ -112,15 +120,19 @@ module _ {E : Type 0} where
   SaveCounts shards (Err (AllShardsFailed failed)) = (length failed.items ≡ shards) × AreNumbered 0 shards failed.items × (0 < shards)
   SaveCounts shards (Err (Setup error)) = Unit {0}
 
-  -- a shard that failed by the folder: a call of it failed, and was counted
-  abbrev pub HasCause : ℕ → ℕ → Result (Unit {0}) (ShardSaveFailure E) → Type 0
-  HasCause before now (Ok done) = Unit {0}
-  HasCause before now (Err (Serialize e)) = Unit {0}
-  HasCause before now (Err Memory) = Unit {0}
-  HasCause before now (Err (Io call)) = Rose before now
+  -- the failed call on a file that a shard's failure tells
+  abbrev pub file_error : Result (Unit {0}) (ShardSaveFailure E) → List ShardFileError
+  file_error (Ok done) = []
+  file_error (Err (Serialize e)) = []
+  file_error (Err Memory) = []
+  file_error (Err (Io call)) = call ∷ []
 
-  abbrev pub SaveCauses : ℕ → ℕ → Result (ShardSaveReport E) (ShardSaveError E) → Type 0
-  SaveCauses before now (Ok report) = (i : ℕ) → HasCause before now (outcome_of report.failed.items i)
-  SaveCauses before now (Err (AllShardsFailed failed)) = (i : ℕ) → HasCause before now (outcome_of failed.items i)
-  SaveCauses before now (Err (Setup NoFolder)) = Rose before now
-  SaveCauses before now (Err (Setup NoMemory)) = Unit {0}
+  abbrev pub file_errors : List (ℕ × ShardSaveFailure E) → List ShardFileError
+  file_errors = flat_map (λ failed. file_error (Err failed.1))
+
+  -- what a save tells of its calls: the failures on files are those in the report, in order; the directory was not made exactly if that is told; without memory there was no call
+  abbrev pub SaveTells : {D : Type 0} → (D → Call → Outcome → D → Type 0) → (D → ℕ) → (dir : List ℕ) → D → D → Result (ShardSaveReport E) (ShardSaveError E) → Type 0
+  SaveTells did failures dir old new (Ok report) = Tells did failures (file_errors report.failed.items) old new
+  SaveTells did failures dir old new (Err (AllShardsFailed failed)) = Tells did failures (file_errors failed.items) old new
+  SaveTells did failures dir old new (Err (Setup NoFolder)) = did old (Make dir) Failed new × (failures new ≡ raised (failures old) 1)
+  SaveTells did failures dir old new (Err (Setup NoMemory)) = new ≡ old

@@ -1,6 +1,6 @@
 // A folder of the system.
-ghost use Rattle.std.specs.Prelude.{◌≡◌, ◌≤◌, ◌↔◌, None, OnErr, IsOk, IsTrue};
-ghost use Rattle.lru_files.specs.Folder.{Rose};
+ghost use Rattle.std.specs.Prelude.{◌≡◌, ◌↔◌, None, IsOk, IsTrue};
+ghost use Rattle.lru_files.specs.Told.{Counts};
 
 use crate::folder::{Folder, FolderFault, ListFault};
 use std::io::{Read, Write};
@@ -17,7 +17,9 @@ pub struct HostFolder<R: Files + AllocGlobal + Clone + Drop> {
 
 impl<R: Files + AllocGlobal + Clone + Drop> HostFolder<R> {
     /// The files that this runtime reaches.
-    pub fn new(rt: R) -> HostFolder<R> {
+    pub fn new(rt: R) -> HostFolder<R>
+        ensures { result.failures ≡ 0 }
+    {
         HostFolder {
             rt,
             file: None,
@@ -27,8 +29,7 @@ impl<R: Files + AllocGlobal + Clone + Drop> HostFolder<R> {
 
     // Counts a call that failed.
     fn counted(&mut self, done: bool) -> Result<(), FolderFault>
-        ensures cause { OnErr result (Rose self.old.failures self.new.failures) }
-        ensures count { self.old.failures ≤ self.new.failures }
+        ensures counted { Counts result self.old.failures self.new.failures }
         ensures done { IsTrue done ↔ IsOk result }
     {
         if done {
@@ -38,15 +39,17 @@ impl<R: Files + AllocGlobal + Clone + Drop> HostFolder<R> {
         Err(FolderFault)
     }
 
-    // The names of the directory's entries.
+    // The names of the directory's entries. One that isn't UTF-8 is no name of ours.
     fn names(&self, dir: &str) -> Result<Vec<String>, ListFault> {
         let Ok(entries) = fs::read_dir(&self.rt, dir) else {
             return Err(ListFault::Dir);
         };
         let mut names = Vec::new(self.rt.alloc());
         for entry in entries {
-            let Ok(entry) = entry else {
-                return Err(ListFault::Entry);
+            let entry = match entry {
+                Ok(entry) => entry,
+                Err(e) if e.kind() == io::ErrorKind::InvalidFilename => continue,
+                Err(_) => return Err(ListFault::Entry),
             };
             let Ok(name) = String::from_str(self.rt.alloc(), entry.file_name()) else {
                 return Err(ListFault::Entry);
@@ -68,7 +71,7 @@ impl<R: Files + AllocGlobal + Clone + Drop> Folder for HostFolder<R> {
 
     ghost failures_of = { λ folder. folder.failures };
 
-    ghost did = { λ before call after. Unit {0} };
+    ghost did = { λ before call outcome after. Unit {0} };
 
     fn make(&mut self, dir: &str) -> Result<(), FolderFault> {
         let done = fs::create_dir_all(&self.rt, dir).is_ok();
@@ -98,6 +101,7 @@ impl<R: Files + AllocGlobal + Clone + Drop> Folder for HostFolder<R> {
     }
 
     fn rename(&mut self, from: &str, to: &str) -> Result<(), FolderFault> {
+        self.file = None;
         let done = fs::rename(&self.rt, from, to).is_ok();
         self.counted(done)
     }
@@ -105,6 +109,9 @@ impl<R: Files + AllocGlobal + Clone + Drop> Folder for HostFolder<R> {
     fn open(&mut self, path: &str) -> Result<bool, FolderFault> {
         match fs::open(&self.rt, path) {
             Ok(file) => {
+                // The system opens a directory too, and only its reading fails.
+                let is_file = fs::metadata(&self.rt, path).is_ok_and(|found| !found.is_dir());
+                self.counted(is_file)?;
                 self.file = Some(file);
                 Ok(true)
             }
@@ -135,6 +142,7 @@ impl<R: Files + AllocGlobal + Clone + Drop> Folder for HostFolder<R> {
     }
 
     fn remove(&mut self, path: &str) -> Result<(), FolderFault> {
+        self.file = None;
         let done = fs::remove_file(&self.rt, path).is_ok();
         self.counted(done)
     }

@@ -1,8 +1,9 @@
 // Loading shards from their files.
-ghost use Rattle.std.specs.Prelude.{◌≡◌, ◌≤◌, ◌<◌, ◌+◌, ℕ, List, IfOk, OnErr, map, filter, string_bytes, length, MatchResult, vec_len, vec_capacity};
-ghost use Rattle.lru_files.specs.Folder.{IsSame, Rose, path_in};
-ghost use Rattle.lru_files.specs.Load.{AreRemovals, CleansUp, HasLoadCause, LoadCauses, Loads, LoadsOne, Removes, ShardsStay};
+ghost use Rattle.std.specs.Prelude.{◌≡◌, ◌≤◌, ◌<◌, ◌+◌, ℕ, [], IfOk, OnErr, map, filter, string_bytes, length, MatchResult, vec_capacity};
+ghost use Rattle.lru_files.specs.Folder.{IsSame, path_in};
+ghost use Rattle.lru_files.specs.Load.{AreRemovals, CleansUp, Loads, LoadsOne, LoadTells, Removes, ShardsStay, load_error};
 ghost use Rattle.lru_files.specs.Names.{is_temp_name, shard_path};
+ghost use Rattle.lru_files.specs.Told.{Tells};
 
 use crate::fault::{ShardFileError, ShardLoadFailure, ShardLoadReport, TempFileCleanupReport};
 use crate::folder::{Folder, ListFault};
@@ -21,7 +22,7 @@ pub fn load_shards<F: Folder, E: Drop, D: FnMut(usize, Vec<u8>) -> Result<(), E>
     shards: usize,
     deserialize: &mut D,
 ) -> Result<ShardLoadReport<E>, AllocError>
-    requires { D.IsAlwaysCallable deserialize.old }
+    requires callable { (state : D) (shard : ℕ) (bytes : _) → shard < shards → D.pre state shard bytes }
 
     // Each shard's outcome, in order, and the states of `deserialize` between them.
     ensures loads { IfOk result (λ report. Loads F.keeps (λ shard. F.files folder.old (shard_path dir.now file_name.now shard))
@@ -34,9 +35,7 @@ pub fn load_shards<F: Folder, E: Drop, D: FnMut(usize, Vec<u8>) -> Result<(), E>
     ensures stay { F.keeps → ShardsStay dir.now file_name.now (F.files folder.old) (F.files folder.new) }
 
     ensures refused { OnErr result ((deserialize.new ≡ deserialize.old) × (F.keeps → IsSame (F.files folder.old) (F.files folder.new))) }
-    ensures callable { D.IsAlwaysCallable deserialize.new }
-    ensures causes { IfOk result (λ report. LoadCauses (F.failures_of folder.old) (F.failures_of folder.new) report) }
-    ensures count { F.failures_of folder.old ≤ F.failures_of folder.new }
+    ensures told { LoadTells F.did F.failures_of folder.old folder.new result }
 {
     let mut errored = Vec::with_capacity(alloc, shards)?;
     let cleanup = clean_up(alloc, folder, dir, file_name)?;
@@ -73,13 +72,11 @@ fn load_shard<F: Folder, E, D: FnMut(usize, Vec<u8>) -> Result<(), E>>(
     shard: usize,
     deserialize: &mut D,
 ) -> Result<bool, ShardLoadFailure<E>>
-    requires { D.IsAlwaysCallable deserialize.old }
-    ensures callable { D.IsAlwaysCallable deserialize.new }
+    requires { (bytes : _) → D.pre deserialize.old shard bytes }
     ensures loaded { LoadsOne F.keeps (F.files folder.old (shard_path dir.now file_name.now shard))
         (λ bytes r after. (given : _) × (given.items ≡ bytes) × D.step deserialize.old shard given r after) deserialize.old deserialize.new result }
     ensures files { F.keeps → IsSame (F.files folder.old) (F.files folder.new) }
-    ensures cause { HasLoadCause (F.failures_of folder.old) (F.failures_of folder.new) result }
-    ensures count { F.failures_of folder.old ≤ F.failures_of folder.new }
+    ensures told { Tells F.did F.failures_of (load_error result) folder.old folder.new }
 {
     let Ok(path) = names::shard_path(alloc, dir, file_name, shard) else {
         return Err(ShardLoadFailure::Memory);
@@ -119,18 +116,18 @@ fn temp_paths(
     Ok(paths)
 }
 
-// Removes the files at these paths: how many were removed, and a failure for each of the others.
+// Removes the files at these paths, and takes a failure of each that isn't removed into the report, which has room.
 fn remove_all<F: Folder>(
     folder: &mut F,
     paths: &[String],
-    failed: &mut Vec<ShardFileError>,
-) -> usize
-    requires { vec_len failed.old + length paths.now ≤ vec_capacity failed.old }
-    ensures removed { F.keeps → Removes (map string_bytes paths.now) result (F.files folder.old) (F.files folder.new) }
-    ensures all { result + length failed.new.items ≡ length paths.now + length failed.old.items }
-    ensures failed { AreRemovals failed.old.items → AreRemovals failed.new.items }
-    ensures cause { length failed.old.items < length failed.new.items → Rose (F.failures_of folder.old) (F.failures_of folder.new) }
-    ensures count { F.failures_of folder.old ≤ F.failures_of folder.new }
+    mut failed: Vec<ShardFileError>,
+) -> TempFileCleanupReport
+    requires none { failed.items ≡ [] }
+    requires room { length paths.now ≤ vec_capacity failed }
+    ensures removed { F.keeps → Removes (map string_bytes paths.now) result.removed (F.files folder.old) (F.files folder.new) }
+    ensures all { result.removed + length result.failed.items ≡ length paths.now }
+    ensures failed { AreRemovals result.failed.items }
+    ensures told { Tells F.did F.failures_of result.failed.items folder.old folder.new }
 {
     let mut removed = 0;
     for path in paths {
@@ -140,7 +137,7 @@ fn remove_all<F: Folder>(
         };
         removed += 1;
     }
-    removed
+    TempFileCleanupReport { removed, failed }
 }
 
 // Removes the temporary files of earlier saves. Where memory is refused, nothing was removed.
@@ -152,8 +149,8 @@ fn clean_up<F: Folder>(
 ) -> Result<TempFileCleanupReport, AllocError>
     ensures cleaned { F.keeps → MatchResult result (λ report. CleansUp dir.now file_name.now (F.files folder.old) (F.files folder.new) report)
         (λ _. IsSame (F.files folder.old) (F.files folder.new)) }
-    ensures cause { IfOk result (λ report. 0 < length report.failed.items → Rose (F.failures_of folder.old) (F.failures_of folder.new)) }
-    ensures count { F.failures_of folder.old ≤ F.failures_of folder.new }
+    ensures told { MatchResult result (λ report. Tells F.did F.failures_of report.failed.items folder.old folder.new)
+        (λ _. Tells F.did F.failures_of [] folder.old folder.new) }
 {
     let mut failed = Vec::with_capacity(alloc, 1)?;
     let names = match folder.list(dir) {
@@ -169,6 +166,5 @@ fn clean_up<F: Folder>(
     };
     let paths = temp_paths(alloc, dir, file_name, names.as_slice())?;
     failed.reserve(paths.len())?;
-    let removed = remove_all(folder, paths.as_slice(), &mut failed);
-    Ok(TempFileCleanupReport { removed, failed })
+    Ok(remove_all(folder, paths.as_slice(), failed))
 }

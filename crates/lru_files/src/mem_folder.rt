@@ -1,5 +1,5 @@
 // A folder in memory, which keeps exactly what its calls did.
-ghost use Rattle.std.specs.Prelude.{◌≡◌, ◌≤◌, ◌↔◌, ◌∷◌, ◌++◌, OnOk, OnErr, IfOk, IfNone, IfSome, IsSome, IsTrue, false, List, ℕ, map, string_bytes, Contains};
+ghost use Rattle.std.specs.Prelude.{◌≡◌, ◌↔◌, ◌∷◌, ◌++◌, OnOk, OnErr, IfOk, IfNone, IfSome, IsSome, IsTrue, false, List, ℕ, map, string_bytes, Contains};
 ghost use Rattle.std.specs.Option.{option_map};
 ghost use Rattle.lru_files.specs.Folder.{IsName, path_in};
 
@@ -37,7 +37,8 @@ pub struct MemFolder {
 
 impl MemFolder {
     ghost use Rattle.lru_files.specs.MemFolder.{files_of, opened_of};
-    ghost use Rattle.lru_files.specs.Folder.{IsSame, IsPut, Rose};
+    ghost use Rattle.lru_files.specs.Folder.{IsSame, IsPut};
+    ghost use Rattle.lru_files.specs.Told.{raised};
 
     /// A folder without files.
     pub fn new(alloc: Global) -> MemFolder
@@ -87,8 +88,7 @@ impl MemFolder {
 
     // Counts a failed call.
     pub(crate) fn fail(&mut self)
-        ensures rose { Rose self.old.failures self.new.failures }
-        ensures count { self.old.failures ≤ self.new.failures }
+        ensures counted { self.new.failures ≡ raised self.old.failures 1 }
         ensures files { IsSame (files_of self.old) (files_of self.new) }
         ensures opened { opened_of self.new ≡ opened_of self.old }
     {
@@ -180,7 +180,7 @@ impl MemFolder {
 
 impl Folder for MemFolder {
     ghost use Rattle.lru_files.specs.MemFolder.{files_of, opened_of};
-    ghost use Rattle.lru_files.specs.Folder.{StoppedIn};
+    ghost use Rattle.lru_files.specs.Folder.{Ends};
 
     ghost keeps = { Unit {0} };
 
@@ -190,7 +190,7 @@ impl Folder for MemFolder {
 
     ghost failures_of = { λ folder. folder.failures };
 
-    ghost did = { λ before call after. StoppedIn call (opened_of before) (files_of before) (files_of after) };
+    ghost did = { λ before call outcome after. Ends call outcome (opened_of before) (files_of before) (files_of after) };
 
     fn make(&mut self, dir: &str) -> Result<(), FolderFault> {
         // Directories need not be made.

@@ -1,11 +1,11 @@
-// The paths of a shard's files.
+// The names of files.
 ghost use Rattle.std.specs.Prelude.{◌≡◌, IfOk, string_bytes};
 ghost use Rattle.lru_files.specs.Names.{hex_word, shard_path, temp_path};
 
 use std::alloc::{AllocError, Global};
 
-// Eight hex digits in lower case.
-fn hex_word(alloc: Global, word: u32) -> Result<String, AllocError>
+/// Returns the word as eight hex digits in lower case.
+pub fn hex_word(alloc: Global, word: u32) -> Result<String, AllocError>
     ensures { IfOk result (λ text. string_bytes text ≡ hex_word word) }
 {
     let a = word / 0x1000_0000 % 16;

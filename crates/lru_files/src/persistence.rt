@@ -7,5 +7,6 @@ pub use crate::folder::{Folder, FolderFault, ListFault};
 pub use crate::host_folder::HostFolder;
 pub use crate::load::load_shards;
 pub use crate::mem_folder::MemFolder;
-pub use crate::save::{save_shards, save_shards_async};
+pub use crate::names::hex_word;
+pub use crate::save::{replace, save_shards, save_shards_async};
 pub use crate::test_folder::TestFolder;

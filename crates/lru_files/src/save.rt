@@ -1,8 +1,9 @@
 // Saving shards, each to a file of its own, by way of a temporary file.
-ghost use Rattle.std.specs.Prelude.{◌≡◌, ◌≢◌, ◌≤◌, ◌<◌, ℕ, OnErr, length, slice_index};
-ghost use Rattle.lru_files.specs.Folder.{StopsLeave, Rose};
+ghost use Rattle.std.specs.Prelude.{◌≡◌, ◌≢◌, ◌<◌, ℕ, length, slice_index};
+ghost use Rattle.lru_files.specs.Folder.{StopsLeave};
 ghost use Rattle.lru_files.specs.Names.{shard_path, temp_path};
-ghost use Rattle.lru_files.specs.Save.{AreOldOrNew, HasCause, IsOldOrNew, IsOneOldOrNew, LeftByWriting, OneLeft, SaveCauses, SaveCounts, SaveLeft};
+ghost use Rattle.lru_files.specs.Save.{AreOldOrNew, IsOldOrNew, IsOneOldOrNew, LeftByWriting, OneLeft, SaveCounts, SaveLeft, SaveTells, error_in, file_error};
+ghost use Rattle.lru_files.specs.Told.{Tells};
 
 use crate::fault::{
     ShardFileError, ShardSaveError, ShardSaveFailure, ShardSaveReport, ShardSaveSetupError,
@@ -11,8 +12,8 @@ use crate::folder::Folder;
 use crate::names;
 use std::alloc::Global;
 
-// Puts these bytes at the path: they are written under another one, which is then renamed.
-fn replace<F: Folder>(
+/// Puts these bytes at the path: they are written under another one and flushed, and then the file is renamed.
+pub fn replace<F: Folder>(
     folder: &mut F,
     temp: &str,
     path: &str,
@@ -21,8 +22,7 @@ fn replace<F: Folder>(
     requires { temp.now ≢ path.now }
     ensures left { F.keeps → LeftByWriting (F.files folder.old) (F.files folder.new) temp.now path.now bytes.now result }
     ensures stops { F.keeps → StopsLeave F.did F.opened F.files (IsOldOrNew (F.files folder.old) temp.now path.now bytes.now) folder.old folder.new }
-    ensures cause { OnErr result (Rose (F.failures_of folder.old) (F.failures_of folder.new)) }
-    ensures count { F.failures_of folder.old ≤ F.failures_of folder.new }
+    ensures told { Tells F.did F.failures_of (error_in result) folder.old folder.new }
 {
     let Ok(()) = folder.create(temp) else {
         return Err(ShardFileError::Create);
@@ -63,8 +63,7 @@ pub fn save_shards<F: Folder, E: Drop, S: Fn(usize) -> Result<Vec<u8>, E>>(
         (AreOldOrNew dir.now file_name.now words.now (λ shard r. S.post serialize shard r) shards (F.files folder.old)) folder.old folder.new }
 
     ensures counts { SaveCounts shards result }
-    ensures causes { SaveCauses (F.failures_of folder.old) (F.failures_of folder.new) result }
-    ensures count { F.failures_of folder.old ≤ F.failures_of folder.new }
+    ensures told { SaveTells F.did F.failures_of dir.now folder.old folder.new result }
 {
     let Ok(mut failed) = Vec::with_capacity(alloc, shards) else {
         return Err(ShardSaveError::Setup(ShardSaveSetupError::Memory));
@@ -105,8 +104,7 @@ pub fn save_shards_async<F: Folder, E: Drop, S: Fn(usize) -> Result<Vec<u8>, E>>
     ensures stops { F.keeps → StopsLeave F.did F.opened F.files
         (AreOldOrNew dir.now file_name.now words.now (λ shard r. S.post serialize shard r) shards (F.files folder.old)) folder.old folder.new }
     ensures counts { SaveCounts shards result }
-    ensures causes { SaveCauses (F.failures_of folder.old) (F.failures_of folder.new) result }
-    ensures count { F.failures_of folder.old ≤ F.failures_of folder.new }
+    ensures told { SaveTells F.did F.failures_of dir.now folder.old folder.new result }
 {
     save_shards(alloc, folder, dir, file_name, shards, words, serialize)
 }
@@ -126,8 +124,7 @@ fn save_shard<F: Folder, E, S: Fn(usize) -> Result<Vec<u8>, E>>(
         (temp_path dir.now file_name.now shard word) (shard_path dir.now file_name.now shard) (F.files folder.old) (F.files folder.new) result }
     ensures stops { F.keeps → StopsLeave F.did F.opened F.files
         (IsOneOldOrNew (λ r. S.post serialize.now shard r) (temp_path dir.now file_name.now shard word) (shard_path dir.now file_name.now shard) (F.files folder.old)) folder.old folder.new }
-    ensures cause { HasCause (F.failures_of folder.old) (F.failures_of folder.new) result }
-    ensures count { F.failures_of folder.old ≤ F.failures_of folder.new }
+    ensures told { Tells F.did F.failures_of (file_error result) folder.old folder.new }
 {
     let Ok(temp) = names::temp_path(alloc, dir, file_name, shard, word) else {
         return Err(ShardSaveFailure::Memory);

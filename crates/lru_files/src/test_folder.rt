@@ -1,5 +1,5 @@
 // A folder in memory whose calls fail by a plan, for tests.
-ghost use Rattle.std.specs.Prelude.{◌≡◌, ◌≤◌};
+ghost use Rattle.std.specs.Prelude.{◌≡◌, ◌≤◌, ◌+◌, ◌-◌, ◌^◌, min};
 
 use crate::folder::{Folder, FolderFault, ListFault};
 use crate::mem_folder::MemFolder;
@@ -24,9 +24,13 @@ pub struct TestFolder {
 }
 
 impl TestFolder {
+    ghost use Rattle.lru_files.specs.TestFolder.{is_refused};
+    ghost use Rattle.lru_files.specs.declared.test_folder.Plan.TheVariants as plans;
+
     /// A folder that refuses each rename.
     pub fn renames_fail(folder: MemFolder) -> TestFolder
-        ensures { result.folder ≡ folder }
+        ensures folder { result.folder ≡ folder }
+        ensures plan { (result.plan ≡ plans.Renames) × (result.calls ≡ 0) }
     {
         TestFolder {
             folder,
@@ -37,7 +41,8 @@ impl TestFolder {
 
     /// A folder that stops after so many calls: it refuses all others. If the first refused one is a write, so many of its bytes are written.
     pub fn stops_after(folder: MemFolder, calls: usize, bytes: usize) -> TestFolder
-        ensures { result.folder ≡ folder }
+        ensures folder { result.folder ≡ folder }
+        ensures plan { (result.plan ≡ plans.After calls bytes) × (result.calls ≡ 0) }
     {
         TestFolder {
             folder,
@@ -48,7 +53,8 @@ impl TestFolder {
 
     /// A folder that refuses this one call, counted from 1.
     pub fn fails_once(folder: MemFolder, call: usize) -> TestFolder
-        ensures { result.folder ≡ folder }
+        ensures folder { result.folder ≡ folder }
+        ensures plan { (result.plan ≡ plans.Once call) × (result.calls ≡ 0) }
     {
         TestFolder {
             folder,
@@ -67,7 +73,10 @@ impl TestFolder {
 
     // Counts the call, and tells whether it is refused.
     fn refuses(&mut self, is_rename: bool) -> bool
-        ensures { self.new.folder ≡ self.old.folder }
+        ensures refused { result ≡ is_refused self.old.plan self.new.calls is_rename }
+        ensures calls { self.new.calls ≡ min (self.old.calls + 1) (2 ^ 64 - 1) }
+        ensures plan { self.new.plan ≡ self.old.plan }
+        ensures folder { self.new.folder ≡ self.old.folder }
     {
         self.calls = self.calls.saturating_add(1);
         match self.plan {
@@ -90,7 +99,7 @@ impl TestFolder {
 
 impl Folder for TestFolder {
     ghost use Rattle.lru_files.specs.MemFolder.{files_of, opened_of};
-    ghost use Rattle.lru_files.specs.Folder.{StoppedIn};
+    ghost use Rattle.lru_files.specs.TestFolder.{EndsByPlan};
 
     ghost keeps = { Unit {0} };
 
@@ -100,7 +109,7 @@ impl Folder for TestFolder {
 
     ghost failures_of = { λ folder. folder.folder.failures };
 
-    ghost did = { λ before call after. StoppedIn call (opened_of before.folder) (files_of before.folder) (files_of after.folder) };
+    ghost did = { EndsByPlan };
 
     fn make(&mut self, dir: &str) -> Result<(), FolderFault> {
         if self.refuses(false) {

@@ -7,7 +7,7 @@ use Rattle.std.proofs.lemmas.List.{map-append}
 use Rattle.std.proofs.lemmas.Map.Iter.{iter_end}
 use Rattle.std.proofs.lemmas.Map.Made.{is_some-lookup}
 use Rattle.lru_files.specs.MemFolder.{files_of}
-use Rattle.lru_files.proofs.Listing.{AreNames, is_some-option_map, listed-all, listed-found, listed-other}
+use Rattle.lru_files.proofs.Listing.{AreNames, is_some-option_map, listed-all, listed-found, listed-other, once-keys}
 use Rattle.lru_files.proofs.mem_folder.MemFolder.names.Goals as goal
 
 pub loop-path-preserved-in_ok-push : goal.loop-path-preserved-in_ok-push
@@ -35,4 +35,5 @@ returns c =
     let all : map deref c.loop-path.yielded ≡ keys c.args.self.now.files = search (rules, iter_end) in
     listed-all c.args.dir.now (map string_bytes c.loop-path.names.items) (files_of c.args.self.now) (keys c.args.self.now.files)
     (λ path. is_some-option_map (λ bytes. bytes.items) (get_by_text c.args.self.now.files path) ∙ is_some-lookup (λ k. bytes_eq path (string_bytes k)) c.args.self.now.files.entries)
+    (once-keys (keys c.args.self.now.files) c.keys-path-items.ensures.unique)
     (subst (λ ks. AreNames c.args.dir.now (map string_bytes c.loop-path.names.items) (map string_bytes ks)) all c.loop-path.invariant)
