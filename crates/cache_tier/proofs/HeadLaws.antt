@@ -1,6 +1,6 @@
 -- The lines of a map, and what heads within the bounds give.
 use Rattle.std.proofs.Common.{◌≡◌, ℕ, ◌+◌, ◌≤◌, ◌<◌, true, false, List, [], ◌∷◌, ◌++◌, length, map, take, drop, refl, ap, ap₂, sym, ◌∙◌, subst, arith, inl, inr, append_assoc, append-nil, All, Option, Some, None, length-append, length-take, get_or}
-use Rattle.std.specs.Prelude.{◌≢◌, bytes_eq, codes, ◌||◌, ◌&&◌, ◌⊎◌, Bool, nat_le}
+use Rattle.std.specs.Prelude.{◌≢◌, bytes_eq, codes, ◌&&◌, ◌⊎◌, Bool, nat_le}
 use Rattle.std.specs.List.{list_all}
 use Rattle.std.proofs.lemmas.Bool.Decides.{nat_tests}
 use Rattle.std.proofs.lemmas.List.Folds.{list_all-append, list_all-map}
@@ -24,10 +24,9 @@ use Rattle.httparse.specs.Spans.{header_bytes, name_and_value, AreFieldsAt, IsRe
 use Rattle.httparse.proofs.TrimLemmas.{AllPass-trim_ows}
 use Rattle.httparse.proofs.GrammarLemmas.{response_unique, response_prefix_free}
 use Rattle.tier_model.specs.Keys.{Entry}
-use Rattle.tier_model.specs.declared.state.FinishedBody.{FinishedBody}
 use Rattle.tier_model.specs.declared.given.Given.{Given}
-use Rattle.tier_model.specs.declared.given.Given.TheVariants.{Stored, Incomplete, BadHead}
-use Rattle.tier_model.specs.Response.{values_of, is_before_epoch, body_within, given_of, given_by, has_short_name, is_within_bounds, IsPlain, Reading, whole_head, begun_head, no_head, IsReading, Gives}
+use Rattle.tier_model.specs.declared.given.Given.TheVariants.{Incomplete, BadHead}
+use Rattle.tier_model.specs.Response.{values_of, body_within, given_of, given_by, has_short_name, is_within_bounds, Reading, whole_head, begun_head, no_head, IsReading, Gives}
 use Rattle.cache_tier.specs.declared.response.head.Head.{Head}
 use Rattle.cache_headers.specs.Lines.{pair_of, map_of, IsLine}
 use Rattle.cache_tier.specs.Heads.{announced, kept_until, given_by_head, IsHeadAt, IsHeadOf, IsOutOfBounds, IsSomeHead, AreShortLines}
@@ -209,7 +208,8 @@ Gives-whole arrival entry bytes front given len is e =
             let same = response_unique bytes h k rest other at.reads reads in
             ap₂ (λ (x : ResponseHead) (y : List ℕ). whole_head (status_code x) (map name_and_value x.fields) y) same.0 same.1;
         begins = λ empty plain. absurd (empty h rest at.reads);
-        long = λ more k other reads many. absurd (same-head bytes more h k rest other at.reads reads at.few many);
+        long = λ k other reads many. absurd (same-head bytes [] h k rest other at.reads (rw (append-nil bytes) reads) at.few many);
+        longer = λ more k other reads many. absurd (same-head bytes more h k rest other at.reads reads at.few many);
         within = λ status lines other same. (take front.len bytes, sym (take-append-drop front.len bytes) ∙ ap (λ (x : List ℕ). take front.len bytes ++ x) (after-head _ _ _ _ _ _ same));
       },
       e ∙ given_by_head-is arrival entry front.header rest (status_code h) (map name_and_value h.fields) at.status at.headers at.bounds,
@@ -224,7 +224,8 @@ Gives-out arrival entry bytes out = (
         let same = response_unique bytes out.0 k out.1 other out.2 reads in
         ap₂ (λ (x : ResponseHead) (y : List ℕ). whole_head (status_code x) (map name_and_value x.fields) y) same.0 same.1;
     begins = λ empty plain. absurd (empty out.0 out.1 out.2);
-    long = λ more k other reads many. absurd (same-head bytes more out.0 k out.1 other out.2 reads out.3 many);
+    long = λ k other reads many. absurd (same-head bytes [] out.0 k out.1 other out.2 (rw (append-nil bytes) reads) out.3 many);
+    longer = λ more k other reads many. absurd (same-head bytes more out.0 k out.1 other out.2 reads out.3 many);
     within = λ status lines other same. (print_response out.0, out.2.1 ∙ ap (λ (x : List ℕ). print_response out.0 ++ x) (after-head _ _ _ _ _ _ same));
   },
   sym (given_by-out arrival entry out.1 (status_code out.0) (map name_and_value out.0.fields) out.4),
@@ -237,19 +238,21 @@ Gives-begun arrival entry bytes nothing = (
   record {
     whole = λ h rest reads few. absurd (nothing h rest reads);
     begins = λ _ plain. refl;
-    long = λ more h rest reads many. inr refl;
+    long = λ h rest reads many. absurd (nothing h rest reads);
+    longer = λ more h rest reads many. inr refl;
     within = λ status lines rest same. absurd cc;
   },
   refl,
 )
 
 -- no head of at most 256 lines, and no beginning of one
-no-plain : (bytes : List ℕ) (r : Reading) → ResponseOverflows 256 bytes → (r ≡ no_head) ⊎ (r ≡ begun_head) → IsReading bytes r
+no-plain : (bytes : List ℕ) (r : Reading) → ResponseOverflows 256 bytes → (r ≡ no_head) ⊎ ((r ≡ begun_head) × HasNoResponse bytes) → IsReading bytes r
 no-plain bytes r over is = record {
   whole = λ h rest reads few. absurd (omega (arith, few, over [] h rest (rw (append-nil bytes) reads)));
   begins = λ _ plain. absurd (omega (arith, plain.4, over plain.0 plain.1 plain.2 plain.3));
-  long = λ more h rest reads many. is;
-  within = λ status lines rest same. absurd (elim is [ inl e ↦ not_none status lines rest (sym same ∙ e) | inr e ↦ not_begun status lines rest (sym same ∙ e) ]);
+  long = λ h rest reads many. elim is [ inl e ↦ e | inr e ↦ absurd (e.1 h rest reads) ];
+  longer = λ more h rest reads many. elim is [ inl e ↦ inl e | inr e ↦ inr e.0 ];
+  within = λ status lines rest same. absurd (elim is [ inl e ↦ not_none status lines rest (sym same ∙ e) | inr e ↦ not_begun status lines rest (sym same ∙ e.0) ]);
 }
   where
     not_none : (status : ℕ) (lines : List (List ℕ × List ℕ)) (rest : List ℕ) → whole_head status lines rest ≡ no_head → ⊥
@@ -259,15 +262,16 @@ no-plain bytes r over is = record {
     not_begun status lines rest e = cc
 
 -- what is given where there are too many lines
-pub Gives-long : (arrival : MomentValue) (entry : Entry) (bytes : List ℕ) (given : Given) → ResponseOverflows 256 bytes → (given ≡ BadHead) ⊎ (given ≡ Incomplete) → Gives arrival entry bytes given
-Gives-long arrival entry bytes given over is = elim is [ inl e ↦ (no_head, no-plain bytes no_head over (inl refl), e) | inr e ↦ (begun_head, no-plain bytes begun_head over (inr refl), e) ]
+pub Gives-long : (arrival : MomentValue) (entry : Entry) (bytes : List ℕ) (given : Given) → ResponseOverflows 256 bytes → (given ≡ BadHead) ⊎ ((given ≡ Incomplete) × HasNoResponse bytes) → Gives arrival entry bytes given
+Gives-long arrival entry bytes given over is = elim is [ inl e ↦ (no_head, no-plain bytes no_head over (inl refl), e) | inr e ↦ (begun_head, no-plain bytes begun_head over (inr (refl, e.1)), e.0) ]
 
 -- what is given where the default options refuse
 never-reading : (bytes : List ℕ) (r : Reading) → NeverHasResponse bytes → ((status : ℕ) (lines : List (List ℕ × List ℕ)) (rest : List ℕ) → r ≡ whole_head status lines rest → (front : List ℕ) × (bytes ≡ front ++ rest)) → IsReading bytes r
 never-reading bytes r never within = record {
   whole = λ h rest reads few. absurd (never [] h rest (rw (append-nil bytes) reads));
   begins = λ _ plain. absurd (never plain.0 plain.1 plain.2 plain.3);
-  long = λ more h rest reads many. absurd (never more h rest reads);
+  long = λ h rest reads many. absurd (never [] h rest (rw (append-nil bytes) reads));
+  longer = λ more h rest reads many. absurd (never more h rest reads);
   within = within;
 }
 

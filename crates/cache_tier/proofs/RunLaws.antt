@@ -1,4 +1,4 @@
--- Puts, single steps, and a run that goes on by one event.
+-- Puts, single steps, and calls that go on by one event.
 use Rattle.std.proofs.Common.{◌≡◌, ℕ, List, Some, None, Ok, Err, MatchResult, [], ◌∷◌, ◌++◌, subst, sym, inl, inr, refl, ap, ◌∙◌}
 use Rattle.cache_words.specs.Time.{MomentValue}
 use Rattle.cache_words.specs.Key.{CacheKeyValue}
@@ -10,16 +10,17 @@ use Rattle.tier_model.specs.declared.event.Event.{Event}
 use Rattle.tier_model.specs.declared.event.Action.{Action}
 use Rattle.tier_model.specs.declared.event.Action.TheVariants.{Open, LookUp, Read, Drop, Purge, Put}
 use Rattle.tier_model.specs.declared.event.TierFault.{TierFault}
-use Rattle.tier_model.specs.Calls.{Outcome, nothing_done, done_of, evicted_by}
+use Rattle.tier_model.specs.Calls.{Call, Outcome, AreCallsOf, nothing_done, done_of, evicted_by}
 use Rattle.tier_model.specs.Response.{joined, Gives, IsGiven}
 use Rattle.tier_model.specs.State.{State}
-use Rattle.tier_model.specs.Step.{AllowsBy, IsPutAnswer, IsFault, refusal, taken_back, undone}
-use Rattle.tier_model.specs.Past.{Steps, Runs}
+use Rattle.tier_model.specs.Step.{AllowsBy, Allows, IsPutAnswer, IsFault, refusal, taken_back, undone, after}
+use Rattle.tier_model.specs.Past.{AreTaken, CarriesHeadline}
 use Rattle.tier_model.proofs.ResponseLaws.{Gives-entry}
+use Rattle.tier_model.proofs.Carried.{CarriesHeadline-taken}
 use Rattle.rand_core.specs.Stream.{Stream}
 use Rattle.entry_order.specs.Orders.{Order, IsDrawn}
-use Rattle.cache_tier.specs.Draws.{order_admitted, StepsBy, RunsBy}
-use Rattle.cache_tier.specs.Acts.{AllowsUnrefused, after_action, TakesBy, IsRefusal, after_store}
+use Rattle.cache_tier.specs.Draws.{order_admitted, AreDrawn, AreAllDrawn, Takes}
+use Rattle.cache_tier.specs.Acts.{AllowsUnrefused, after_action, TakesBy, IsRefusal, after_store, StepsBy}
 
 -- a body is stored that the response of a put gave
 pub Takes-stored : (old : State) (s : Stream) (t : MomentValue) (key : CacheKeyValue) (pieces : List (List ℕ)) (b : FinishedBody) (o : Outcome) (new : State) (rest : Stream)
@@ -71,20 +72,71 @@ pub Steps-plain : (old : State) (s : Stream) (e : Event) (action : Action) (o : 
     → new ≡ after_action old e.moment action o → StepsBy old s e o new s
 Steps-plain old s e action o new is passed allowed after = Steps-taken old s e action o new s is passed (None, IsGiven-none e.moment action, allowed, after, refl)
 
--- what is said with the words says it without them
-pub Steps-of : (old : State) (s : Stream) (e : Event) (o : Outcome) (new : State) (rest : Stream) → StepsBy old s e o new rest → Steps old e o new
-Steps-of old s e o new rest step = (step.0, step.1, step.2, step.3, step.4)
+-- one event is one call
+pub Takes-step : (old : State) (s : Stream) (e : Event) (o : Outcome) (new : State) (rest : Stream) → StepsBy old s e o new rest → Takes old s (e ∷ []) (o ∷ []) new rest
+Takes-step old s e o new rest step = record {
+  calls = step.0 ∷ [];
+  are_of = (step.1, step.2, tt);
+  taken = (step.3, step.4);
+  drawn = (rest, step.5, refl);
+  headline = CarriesHeadline-taken old (step.0 ∷ []) new (step.3, step.4);
+}
 
-pub Runs-of : (old : State) (s : Stream) (es : List Event) (os : List Outcome) (new : State) (rest : Stream) → RunsBy old s es os new rest → Runs old es os new
-Runs-of old s [] [] new rest ran = ran.0
-Runs-of old s [] (o ∷ os) new rest ran = absurd ran
-Runs-of old s (e ∷ es) [] new rest ran = absurd ran
-Runs-of old s (e ∷ es) (o ∷ os) new rest ran = (ran.0, Steps-of old s e o ran.0 ran.1 ran.2, Runs-of ran.0 ran.1 es os new rest ran.3)
+-- the one call of an event that was taken carries the headline
+pub Takes-one : (old : State) (s : Stream) (e : Event) (o : Outcome) (new : State) (rest : Stream) → Takes old s (e ∷ []) (o ∷ []) new rest
+    → (c : Call) × (c.event ≡ e) × (c.outcome ≡ o) × CarriesHeadline old (c ∷ []) new
+Takes-one old s e o new rest takes = by_calls takes.calls takes.are_of takes.headline
+  where
+    by_calls : (calls : List Call) → AreCallsOf (e ∷ []) (o ∷ []) calls → CarriesHeadline old calls new → (c : Call) × (c.event ≡ e) × (c.outcome ≡ o) × CarriesHeadline old (c ∷ []) new
+    by_calls [] are headline = absurd are
+    by_calls (c ∷ []) are headline = (c, are.0, are.1, headline)
+    by_calls (c ∷ d ∷ calls) are headline = absurd are.2
 
-pub Runs-more : (old : State) (s : Stream) (es : List Event) (os : List Outcome) (new : State) (rest : Stream) (e : Event) (o : Outcome) (next : State) (left : Stream)
-    → RunsBy old s es os new rest → StepsBy new rest e o next left → RunsBy old s (es ++ e ∷ []) (os ++ o ∷ []) next left
-Runs-more old s [] [] new rest e o next left ran step =
-    (next, left, subst (λ (x : State). StepsBy x s e o next left) ran.0 (subst (λ (x : Stream). StepsBy new x e o next left) ran.1 step), (refl, refl))
-Runs-more old s [] (p ∷ os) new rest e o next left ran step = absurd ran
-Runs-more old s (d ∷ es) [] new rest e o next left ran step = absurd ran
-Runs-more old s (d ∷ es) (p ∷ os) new rest e o next left ran step = (ran.0, ran.1, ran.2, Runs-more ran.0 ran.1 es os new rest e o next left ran.3 step)
+-- nothing was taken yet
+pub Takes-none : (old : State) (s : Stream) → Takes old s [] [] old s
+Takes-none old s = record { calls = []; are_of = tt; taken = refl; drawn = refl; headline = CarriesHeadline-taken old [] old refl }
+
+calls-more : (es : List Event) (os : List Outcome) (calls : List Call) (e : Event) (o : Outcome) (c : Call) → AreCallsOf es os calls → c.event ≡ e → c.outcome ≡ o
+    → AreCallsOf (es ++ e ∷ []) (os ++ o ∷ []) (calls ++ c ∷ [])
+calls-more [] [] [] e o c are is gave = (is, gave, tt)
+calls-more (d ∷ es) (p ∷ os) (b ∷ calls) e o c are is gave = (are.0, are.1, calls-more es os calls e o c are.2 is gave)
+calls-more [] [] (b ∷ calls) e o c are is gave = absurd are
+calls-more [] (p ∷ os) calls e o c are is gave = absurd are
+calls-more (d ∷ es) [] calls e o c are is gave = absurd are
+calls-more (d ∷ es) (p ∷ os) [] e o c are is gave = absurd are
+
+taken-more : (old : State) (calls : List Call) (mid : State) (c : Call) (new : State) → AreTaken old calls mid → Allows mid c → new ≡ after mid c → AreTaken old (calls ++ c ∷ []) new
+taken-more old [] mid c new taken allowed is = subst (λ (x : State). AreTaken x (c ∷ []) new) taken (allowed, is)
+taken-more old (b ∷ calls) mid c new taken allowed is = (taken.0, taken-more (after old b) calls mid c new taken.1 allowed is)
+
+drawn-more : (old : State) (calls : List Call) (mid : State) (c : Call) (s left rest : Stream) → AreTaken old calls mid → AreAllDrawn old calls s left → AreDrawn mid c.given c.outcome left rest
+    → AreAllDrawn old (calls ++ c ∷ []) s rest
+drawn-more old [] mid c s left rest taken drawn more =
+    (rest, subst (λ (x : State). AreDrawn x c.given c.outcome s rest) taken (subst (λ (x : Stream). AreDrawn mid c.given c.outcome x rest) drawn more), refl)
+drawn-more old (b ∷ calls) mid c s left rest taken drawn more = (drawn.0, drawn.1, drawn-more (after old b) calls mid c drawn.0 left rest taken.1 drawn.2 more)
+
+-- the calls so far, and one event more
+Takes-call : (old : State) (s : Stream) (es : List Event) (os : List Outcome) (mid : State) (left : Stream) (e : Event) (o : Outcome) (new : State) (rest : Stream)
+    → Takes old s es os mid left → StepsBy mid left e o new rest → Takes old s (es ++ e ∷ []) (os ++ o ∷ []) new rest
+Takes-call old s es os mid left e o new rest before step =
+    let taken : AreTaken old (before.calls ++ step.0 ∷ []) new = taken-more old before.calls mid step.0 new before.taken step.3 step.4 in
+    record {
+      calls = before.calls ++ step.0 ∷ [];
+      are_of = calls-more es os before.calls e o step.0 before.are_of step.1 step.2;
+      taken = taken;
+      drawn = drawn-more old before.calls mid step.0 s left rest before.taken before.drawn step.5;
+      headline = CarriesHeadline-taken old (before.calls ++ step.0 ∷ []) new taken;
+    }
+
+-- what is taken of one event is a step
+StepsBy-takes : (old : State) (s : Stream) (e : Event) (o : Outcome) (new : State) (rest : Stream) → Takes old s (e ∷ []) (o ∷ []) new rest → StepsBy old s e o new rest
+StepsBy-takes old s e o new rest takes = by_calls takes.calls takes.are_of takes.taken takes.drawn
+  where
+    by_calls : (calls : List Call) → AreCallsOf (e ∷ []) (o ∷ []) calls → AreTaken old calls new → AreAllDrawn old calls s rest → StepsBy old s e o new rest
+    by_calls [] are taken drawn = absurd are
+    by_calls (c ∷ []) are taken drawn = (c, are.0, are.1, taken.0, taken.1, subst (λ (x : Stream). AreDrawn old c.given c.outcome s x) (sym drawn.2) drawn.1)
+    by_calls (c ∷ d ∷ calls) are taken drawn = absurd are.2
+
+pub Takes-more : (old : State) (s : Stream) (es : List Event) (os : List Outcome) (mid : State) (left : Stream) (e : Event) (o : Outcome) (new : State) (rest : Stream)
+    → Takes old s es os mid left → Takes mid left (e ∷ []) (o ∷ []) new rest → Takes old s (es ++ e ∷ []) (os ++ o ∷ []) new rest
+Takes-more old s es os mid left e o new rest before step = Takes-call old s es os mid left e o new rest before (StepsBy-takes mid left e o new rest step)

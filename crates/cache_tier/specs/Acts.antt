@@ -13,9 +13,10 @@ use Rattle.tier_model.specs.declared.event.Action.{Action}
 use Rattle.tier_model.specs.declared.event.TierFault.{TierFault}
 use Rattle.tier_model.specs.declared.event.TierFault.TheVariants.{Memory, TooHeavy, TooLong}
 use Rattle.tier_model.specs.Keys.{entries_of}
-use Rattle.tier_model.specs.Calls.{Outcome, nothing_done, done_of}
+use Rattle.tier_model.specs.declared.event.Event.{Event}
+use Rattle.tier_model.specs.Calls.{Call, Outcome, nothing_done, done_of}
 use Rattle.tier_model.specs.State.{State}
-use Rattle.tier_model.specs.Step.{AllowsBy, IsStoreFault, after_put, taken_back, after_outcome}
+use Rattle.tier_model.specs.Step.{AllowsBy, Allows, IsStoreFault, after_put, taken_back, after_outcome, after}
 use Rattle.tier_model.specs.Response.{IsGiven}
 
 -- an outcome of an action that is not refused and has no response
@@ -44,3 +45,7 @@ fault_for order.TooLong done = TooLong done
 abbrev pub TakesBy : State → Stream → MomentValue → Action → Outcome → State → Stream → Type 0
 TakesBy old s t action outcome new rest =
     (given : Option Given) × IsGiven t action given × AllowsBy None old t action given outcome × (new ≡ after_outcome old t action given outcome) × AreDrawn old given outcome s rest
+
+-- one event was taken, with its outcome, and with it the words from s to rest: its call
+abbrev pub StepsBy : State → Stream → Event → Outcome → State → Stream → Type 0
+StepsBy old s e o new rest = (c : Call) × (c.event ≡ e) × (c.outcome ≡ o) × Allows old c × (new ≡ after old c) × AreDrawn old c.given c.outcome s rest

@@ -7,10 +7,11 @@ use Rattle.tier_model.specs.Keys.{Entry}
 use Rattle.tier_model.specs.declared.state.FinishedBody.{FinishedBody}
 use Rattle.tier_model.specs.declared.given.Given.{Given}
 use Rattle.tier_model.specs.declared.event.Event.{Event}
-use Rattle.tier_model.specs.Calls.{Call, Outcome, stored_in, evicted_by}
+use Rattle.tier_model.specs.Calls.{Call, Outcome, AreCallsOf, stored_in, evicted_by}
 use Rattle.tier_model.specs.Rows.{weight_for, without_bodies}
 use Rattle.tier_model.specs.State.{State}
-use Rattle.tier_model.specs.Step.{Allows, after, counted}
+use Rattle.tier_model.specs.Step.{after, counted}
+use Rattle.tier_model.specs.Past.{AreTaken, CarriesHeadline}
 
 abbrev pub order_of : State → Order
 order_of s = record { rows = s.tracked; limit = s.settings.limit; watermark = s.settings.watermark }
@@ -28,12 +29,16 @@ order_admitted s b = record { rows = admitted b.entry (weight_for b) s.tracked; 
 abbrev pub AreDrawn : State → Option Given → Outcome → Stream → Stream → Type 0
 AreDrawn old given outcome s rest = MatchOption (stored_in given) (rest ≡ s) (λ b. (left : Order) × IsDrawn (order_admitted old b) (evicted_by outcome) s left rest)
 
--- one event was taken, with its outcome, and with it the words from s to rest
-abbrev pub StepsBy : State → Stream → Event → Outcome → State → Stream → Type 0
-StepsBy old s e o new rest = (c : Call) × (c.event ≡ e) × (c.outcome ≡ o) × Allows old c × (new ≡ after old c) × AreDrawn old c.given o s rest
+-- the same of calls in order, call after call
+abbrev pub AreAllDrawn : State → List Call → Stream → Stream → Type 0
+AreAllDrawn old [] s rest = rest ≡ s
+AreAllDrawn old (c ∷ calls) s rest = (left : Stream) × AreDrawn old c.given c.outcome s left × AreAllDrawn (after old c) calls left rest
 
--- the events were taken in order, and with them the words in order
-abbrev pub RunsBy : State → Stream → List Event → List Outcome → State → Stream → Type 0
-RunsBy old s [] [] new rest = (new ≡ old) × (rest ≡ s)
-RunsBy old s (e ∷ es) (o ∷ os) new rest = (mid : State) × (left : Stream) × StepsBy old s e o mid left × RunsBy mid left es os new rest
-RunsBy old s _ _ new rest = ⊥
+-- the events were taken in order, each with its outcome, and these are the calls: each is one that the state before it allows,
+-- what they evicted was drawn by the words from s to rest, and the headline holds of every past with these calls after it
+pub record Takes (old : State) (s : Stream) (events : List Event) (outcomes : List Outcome) (new : State) (rest : Stream) : Type 0 where
+  pub calls : List Call
+  pub are_of : AreCallsOf events outcomes calls
+  pub taken : AreTaken old calls new
+  pub drawn : AreAllDrawn old calls s rest
+  pub headline : CarriesHeadline old calls new

@@ -1,6 +1,6 @@
 //! What the bytes of a response give.
 ghost use Rattle.std.specs.Prelude.{◌≡◌, ◌≤◌, length, drop, IfOk, ◌⊎◌};
-ghost use Rattle.httparse.specs.Grammar.{NeverHasResponse};
+ghost use Rattle.httparse.specs.Grammar.{HasNoResponse, NeverHasResponse};
 ghost use Rattle.tier_model.specs.Response.{joined, Gives};
 ghost use Rattle.cache_tier.specs.Heads.{given_by_head};
 
@@ -11,7 +11,7 @@ use body::given_by_head;
 use bytes::Bytes;
 use cache_words::key::CompactCacheKey;
 use cache_words::time::Moment;
-use head::{Head, HeadFault, read_head, read_leniently};
+use head::{Head, HeadFault, read_head, read_leniently, waits_with_a_line_more};
 use std::alloc::{AllocError, Global};
 use tier_model::event::Pieces;
 use tier_model::given::Given;
@@ -49,10 +49,15 @@ fn given_at(
     given_by_head(alloc, arrival, entry, head.header, rest, len)
 }
 
-// What a response gives whose head has too many lines. The lenient options may still wait for a folded value to go on.
+// What a response gives whose head has too many lines. The lenient options are asked only where no head is whole even with
+// a line more: they may still wait for a folded value to go on.
 fn given_too_long(alloc: Global, response: &[u8]) -> Result<Given, AllocError>
-    ensures { IfOk result (λ given. (given ≡ Given.BadHead) ⊎ (given ≡ Given.Incomplete)) }
+    ensures { IfOk result (λ given. (given ≡ Given.BadHead)
+        ⊎ ((given ≡ Given.Incomplete) × HasNoResponse response.now)) }
 {
+    if !waits_with_a_line_more(response) {
+        return Ok(Given::BadHead);
+    }
     match read_leniently(alloc, response) {
         Ok(None) => Ok(Given::Incomplete),
         Err(HeadFault::Memory) => Err(AllocError),

@@ -2,9 +2,10 @@
 ghost use Rattle.std.specs.Prelude.{◌≡◌, ◌∷◌, [], IfOk, IfErr, OnErr};
 ghost use Rattle.tier_model.specs.State.{empty_state};
 ghost use Rattle.tier_model.specs.Calls.{nothing_done};
-ghost use Rattle.tier_model.specs.Past.{Steps, Runs, HasPast, CarriesHeadline};
+ghost use Rattle.tier_model.specs.Past.{HasPast};
 ghost use Rattle.tier_model.specs.Reports.{report_of};
-ghost use Rattle.cache_tier.specs.Draws.{StepsBy, RunsBy};
+ghost use Rattle.cache_tier.specs.Draws.{Takes};
+ghost use Rattle.cache_tier.specs.Acts.{StepsBy};
 
 mod faults;
 mod requests;
@@ -108,9 +109,7 @@ impl Tier<1> {
     /// Takes one event and answers it. A refusal says why, and leaves the tier as before, but for a body
     /// that was stored and removed again. The generator's words pick the shard of each eviction, two by two.
     pub fn step<R: Rng>(&mut self, rng: &mut R, event: &Event) -> Result<Answer, TierFault>
-        ensures taken { Steps self.old event.now result self.new }
-        ensures headline { CarriesHeadline self.old (event.now ∷ []) (result ∷ []) self.new }
-        ensures draws { StepsBy self.old (R.stream rng.old) event.now result self.new (R.stream rng.new) }
+        ensures { Takes self.old (R.stream rng.old) (event.now ∷ []) (result ∷ []) self.new (R.stream rng.new) }
     {
         self.dispatch(rng, event)
     }
@@ -122,11 +121,8 @@ impl Tier<1> {
         rng: &mut R,
         events: &[Event],
     ) -> Result<Vec<Result<Answer, TierFault>>, TierFault>
-        ensures ran { IfOk result (λ outcomes. Runs self.old events.now outcomes.items self.new) }
-        ensures headline { IfOk result (λ outcomes.
-            CarriesHeadline self.old events.now outcomes.items self.new) }
-        ensures draws { IfOk result (λ outcomes.
-            RunsBy self.old (R.stream rng.old) events.now outcomes.items self.new (R.stream rng.new)) }
+        ensures takes { IfOk result (λ outcomes.
+            Takes self.old (R.stream rng.old) events.now outcomes.items self.new (R.stream rng.new)) }
         ensures fault { IfErr result (λ fault. fault ≡ TierFault.Memory nothing_done) }
         ensures err { OnErr result ((self.new ≡ self.old) × (R.stream rng.new ≡ R.stream rng.old)) }
     {

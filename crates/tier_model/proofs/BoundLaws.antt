@@ -22,7 +22,7 @@ use Rattle.tier_model.specs.declared.event.Action.TheVariants.{Open, LookUp, Rea
 use Rattle.tier_model.specs.declared.event.Answer.{Answer}
 use Rattle.tier_model.specs.declared.event.Answer.TheVariants.{Finished}
 use Rattle.tier_model.specs.declared.event.TierFault.{TierFault}
-use Rattle.tier_model.specs.Keys.{StoredKey, Entry, Evicted, entries_of, AreWeighed, key_asked}
+use Rattle.tier_model.specs.Keys.{StoredKey, Entry, entries_of, key_asked}
 use Rattle.tier_model.specs.Calls.{Call, History, Outcome, done_of}
 use Rattle.tier_model.specs.Histories.{IsBody, IsWithin, HasDistinctKeys}
 use Rattle.tier_model.specs.Rows.{body_of, with_body, without_body, without_bodies, weight_for}

@@ -7,20 +7,19 @@ use Rattle.std.proofs.lemmas.Bool.Decides.{nat_tests}
 use Rattle.cache_words.specs.Key.{CacheKeyValue}
 use Rattle.tier_entries.specs.Keys.{entry_of, stored_key}
 use Rattle.tier_entries.specs.Rows.{is_past}
-use Rattle.tier_model.specs.Keys.{Entry, Evicted, entries_of, AreWeighed, key_asked}
+use Rattle.tier_model.specs.Keys.{Entry, entries_of, key_asked}
 use Rattle.tier_model.specs.declared.given.Given.{Given}
 use Rattle.tier_model.specs.declared.given.Given.TheVariants.{Stored}
 use Rattle.tier_model.specs.declared.given.Given.TheVariants as given
 use Rattle.tier_model.specs.declared.state.FinishedBody.{FinishedBody}
 use Rattle.tier_model.specs.declared.state.Request.{Request}
-use Rattle.tier_model.specs.declared.event.Event.{Event}
 use Rattle.tier_model.specs.declared.event.Action.{Action}
 use Rattle.tier_model.specs.declared.event.Action.TheVariants.{Open, LookUp, Read, Drop, Purge, Put}
 use Rattle.tier_model.specs.declared.event.Answer.{Answer}
 use Rattle.tier_model.specs.declared.event.Answer.TheVariants.{Finished}
 use Rattle.tier_model.specs.declared.event.TierFault.{TierFault}
 use Rattle.cache_words.specs.Time.{MomentValue}
-use Rattle.tier_model.specs.Calls.{Call, History, AreCallsOf, extended, Outcome, done_of}
+use Rattle.tier_model.specs.Calls.{Call, History, Outcome, done_of}
 use Rattle.std.specs.List.{AllByRecursion, sum_by}
 use Rattle.tier_model.specs.Histories.{HasDistinctKeys, IsBody}
 use Rattle.tier_model.specs.Response.{IsGiven}
@@ -29,12 +28,11 @@ use Rattle.tier_model.specs.Rows.{body_of}
 use Rattle.tier_model.specs.State.{Settings, State, empty_state}
 use Rattle.tier_model.specs.Step.{Allows, after, answered, undone, taken_back, on_request, after_look_up, after_read, after_purge, after_put, body_for}
 use Rattle.tier_model.specs.Use.{IsOrderOfUse, EvictsBy, EvictsLawfully}
-use Rattle.tier_model.specs.Reports.{IsReport, report_of}
-use Rattle.tier_model.specs.Past.{Steps, state_of, IsLawful, MatchesHistory, HasPast, Runs, CarriesHeadline}
+use Rattle.tier_model.specs.Past.{state_of, IsLawful, MatchesHistory, HasPast, AreTaken, CarriesHeadline}
 use Rattle.tier_model.proofs.RequestLaws.{RequestFits, Fits, Fits-after, IsRequestOf-fits}
 use Rattle.tier_model.proofs.HeadlineLaws.{IsRight-allowed}
 use Rattle.tier_model.proofs.UseSteps.{IsOrderOfUse-after, BodiesAreTracked-kept}
-use Rattle.tier_model.proofs.ReportLaws.{Tallies, Tallies-after, AreAllBodies-kept, IsReport-kept}
+use Rattle.tier_model.proofs.ReportLaws.{Tallies, Tallies-after, AreAllBodies-kept}
 use Rattle.tier_model.proofs.BoundLaws.{KeepsWithin, KeepsLimits, KeepsLimits-after, IsWithin-kept}
 
 -- no call changes what the tier was made with
@@ -182,7 +180,6 @@ HasPast-lawful settings s h l e =
       state = e;
       headline = HoldsHeadline-lawful settings h l;
       matches = subst (λ (x : State). MatchesHistory x h) (sym e) (MatchesHistory-lawful settings h past);
-      report = subst (λ (x : State). IsReport (report_of x) h) (sym e) (IsReport-kept (state_of settings h) h past.fits past.tallies past.order);
     }
 
 pub empty-past : (settings : Settings) → HasPast settings (empty_state settings) []
@@ -192,15 +189,7 @@ pub more_past : (settings : Settings) (old : State) (past : History) (c : Call) 
 more_past settings old past c new allowed is h =
     HasPast-lawful settings new (c ∷ past) (subst (λ (s : State). Allows s c) h.state allowed, h.lawful) (is ∙ ap (λ (s : State). after s c) h.state)
 
-pub step-carries : (old : State) (e : Event) (o : Outcome) (new : State) → Steps old e o new → CarriesHeadline old (e ∷ []) (o ∷ []) new
-step-carries old e o new step settings past h = (step.0 ∷ [], (step.1, step.2, tt), more_past settings old past step.0 new step.3 step.4 h)
-
-pub runs-carry : (old : State) (es : List Event) (os : List Outcome) (new : State) → Runs old es os new → CarriesHeadline old es os new
-runs-carry old [] [] new r settings past h = ([], tt, subst (λ (s : State). HasPast settings s past) (sym r) h)
-runs-carry old [] (o ∷ os) new r settings past h = absurd r
-runs-carry old (e ∷ es) [] new r settings past h = absurd r
-runs-carry old (e ∷ es) (o ∷ os) new r settings past h =
-    let step : Steps old e o r.0 = r.1 in
-    let rest : (calls : List Call) × AreCallsOf es os calls × HasPast settings new (extended (step.0 ∷ past) calls) =
-    runs-carry r.0 es os new r.2 settings (step.0 ∷ past) (more_past settings old past step.0 r.0 step.3 step.4 h) in
-    (step.0 ∷ rest.0, (step.1, step.2, rest.1), rest.2)
+-- calls that were taken carry the headline on
+pub CarriesHeadline-taken : (old : State) (calls : List Call) (new : State) → AreTaken old calls new → CarriesHeadline old calls new
+CarriesHeadline-taken old [] new taken settings past h = subst (λ (s : State). HasPast settings s past) (sym taken) h
+CarriesHeadline-taken old (c ∷ calls) new taken settings past h = CarriesHeadline-taken (after old c) calls new taken.1 settings (c ∷ past) (more_past settings old past c (after old c) taken.0 refl h)

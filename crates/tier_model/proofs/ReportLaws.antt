@@ -20,13 +20,13 @@ use Rattle.tier_model.specs.declared.event.Answer.TheVariants.{Opened, Bytes, En
 use Rattle.tier_model.specs.declared.event.Answer.TheVariants as answer
 use Rattle.tier_model.specs.declared.event.Done.{Done}
 use Rattle.tier_model.specs.declared.event.TierFault.{TierFault}
-use Rattle.tier_model.specs.Keys.{StoredKey, Entry, Evicted, entries_of, AreWeighed, key_asked}
+use Rattle.tier_model.specs.Keys.{StoredKey, Entry, entries_of, key_asked}
 use Rattle.tier_model.specs.Calls.{Call, History, Outcome, evicted_by, nothing_done, done_of}
 use Rattle.tier_model.specs.Histories.{IsBody, HasDistinctKeys}
 use Rattle.tier_model.specs.Reports.{IsReport, report_of, found_answers, absent_answers, evictions, is_found, is_absent, shown, AreAllBodies}
-use Rattle.tier_model.specs.Use.{IsOrderOfUse}
 use Rattle.tier_model.specs.Rows.{body_of, with_body, without_body, without_bodies}
 use Rattle.tier_model.specs.State.{State}
+use Rattle.tier_model.specs.Past.{MatchesHistory}
 use Rattle.tier_model.specs.Step.{refusal, AllowsBy, Allows, IsAnswer, IsPutAnswer, after, answered, undone, taken_back, on_request, look_answer, after_look_up, read_answer, after_read, after_purge, after_put, use_is_too_heavy, body_for, counted}
 use Rattle.tier_entries.proofs.KeyLaws.{same_key-tells, same-sym}
 use Rattle.tier_model.proofs.BodyLaws.{body_now, body_now-is, body_now-of}
@@ -217,12 +217,12 @@ Tallies-after s c h p tally = by_outcome c.outcome p.1
     by_outcome (Ok a) p = answer_tally s c.event.moment c.given c.event.action a h (answer_allowed (refusal s c.event.action) s c.event.moment c.given c.event.action a p) tally
     by_outcome (Err f) p = fault_tally s c.event.moment c.given c.event.action f h p tally
 
--- the report of the state is the history's
-pub IsReport-kept : (s : State) (h : History) → Fits s h → Tallies s h → IsOrderOfUse s.tracked h → IsReport (report_of s) h
-IsReport-kept s h fits tally o = record {
-  found = tally.found;
-  absent = tally.absent;
-  evicted = tally.evicted;
-  bodies = (s.bodies, AreAllBodies-kept s h fits tally.distinct, refl, omega arith);
-  tracked = (s.tracked, o, refl, refl);
+-- the report of a state that a history says is the history's
+pub IsReport-matches : (s : State) (h : History) → MatchesHistory s h → IsReport (report_of s) h
+IsReport-matches s h m = record {
+  found = m.found;
+  absent = m.absent;
+  evicted = m.evicted;
+  bodies = (s.bodies, m.bodies, refl, omega arith);
+  tracked = (s.tracked, m.order, refl, refl);
 }

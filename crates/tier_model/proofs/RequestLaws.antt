@@ -9,7 +9,7 @@ use Rattle.std.proofs.lemmas.Bool.{eqb-true, eq-eqb}
 use Rattle.cache_words.specs.Time.{MomentValue, at_most}
 use Rattle.cache_words.specs.Key.{CacheKeyValue}
 use Rattle.tier_entries.specs.Keys.{entry_of, stored_key}
-use Rattle.tier_model.specs.Keys.{StoredKey, Entry, Evicted, entries_of, AreWeighed, key_asked}
+use Rattle.tier_model.specs.Keys.{StoredKey, Entry, entries_of, key_asked}
 use Rattle.tier_model.specs.declared.given.Given.{Given}
 use Rattle.tier_model.specs.declared.given.Given.TheVariants.{Stored}
 use Rattle.tier_model.specs.declared.given.Given.TheVariants as given

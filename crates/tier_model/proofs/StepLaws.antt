@@ -20,7 +20,7 @@ use Rattle.tier_model.specs.declared.event.Answer.TheVariants as answer
 use Rattle.tier_model.specs.declared.event.Done.{Done}
 use Rattle.tier_model.specs.declared.event.TierFault.{TierFault}
 use Rattle.tier_model.specs.declared.event.TierFault.TheVariants.{NoRequest, IdInUse, WrongPhase}
-use Rattle.tier_model.specs.Keys.{StoredKey, Entry, Evicted, entries_of, AreWeighed, key_asked}
+use Rattle.tier_model.specs.Keys.{StoredKey, Evicted, entries_of, key_asked}
 use Rattle.tier_model.specs.Calls.{Call, History, Outcome, stored_in, is_of, nothing_done, done_of}
 use Rattle.tier_model.specs.Rows.{body_of, with_body, without_bodies}
 use Rattle.tier_model.specs.State.{State}

@@ -240,7 +240,7 @@ put_used s t (Some (Stored b)) key pieces (Finished n es) h p o = (
   (admitted b.entry (weight_for b) s.tracked, (b, refl, admitted_used s t (Some (Stored b)) key pieces b 0 h refl o), p.2, p.3),
 )
 put_used s t (Some (given.Uncacheable reason)) key pieces (answer.Uncacheable shown) h p o =
-    (idle (call_at t (Put key pieces) (Some (given.Uncacheable reason)) (Ok (answer.Uncacheable shown))) h s.tracked (record { departs = λ e. refl; admits = λ e. refl; hits = λ e. refl }) o, refl)
+    (idle (call_at t (Put key pieces) (Some (given.Uncacheable reason)) (Ok (answer.Uncacheable shown))) h s.tracked (record { departs = λ e. refl; admits = λ e. refl; hits = λ e. refl }) o, tt)
 put_used s t (Some (Stored b)) key pieces _ h p o = absurd p
 put_used s t (Some given.Incomplete) key pieces _ h p o = absurd p
 put_used s t (Some given.BadHead) key pieces _ h p o = absurd p
@@ -258,22 +258,22 @@ look_evicts limit mark e t g a h s None p = absurd p
 look_evicts limit mark e t g a h s (Some q) p = by_body (body_for q s.bodies) p.0
   where
     by_body : (b : Option FinishedBody) → a ≡ look_answer t b → EvictsBy limit mark e (Ok a) g h
-    by_body None i = subst (λ (y : Answer). EvictsBy limit mark e (Ok y) g h) (sym i) refl
-    by_body (Some b) i = subst (λ (y : Answer). EvictsBy limit mark e (Ok y) g h) (sym i) refl
+    by_body None i = subst (λ (y : Answer). EvictsBy limit mark e (Ok y) g h) (sym i) tt
+    by_body (Some b) i = subst (λ (y : Answer). EvictsBy limit mark e (Ok y) g h) (sym i) tt
 
 read_evicts : (limit : ℕ) (mark : Option ℕ) (e : Event) (g : Option Given) (a : Answer) (h : History) (o : Option Request) → MatchOption o ⊥ (λ q. a ≡ read_answer q.reader) → EvictsBy limit mark e (Ok a) g h
 read_evicts limit mark e g a h None p = absurd p
 read_evicts limit mark e g a h (Some q) p = by_reader q.reader p
   where
     by_reader : (r : Reader) → a ≡ read_answer r → EvictsBy limit mark e (Ok a) g h
-    by_reader Closed i = subst (λ (y : Answer). EvictsBy limit mark e (Ok y) g h) (sym i) refl
-    by_reader (Unread bytes) i = subst (λ (y : Answer). EvictsBy limit mark e (Ok y) g h) (sym i) refl
-    by_reader Spent i = subst (λ (y : Answer). EvictsBy limit mark e (Ok y) g h) (sym i) refl
+    by_reader Closed i = subst (λ (y : Answer). EvictsBy limit mark e (Ok y) g h) (sym i) tt
+    by_reader (Unread bytes) i = subst (λ (y : Answer). EvictsBy limit mark e (Ok y) g h) (sym i) tt
+    by_reader Spent i = subst (λ (y : Answer). EvictsBy limit mark e (Ok y) g h) (sym i) tt
 
 answer_used : (s : State) (t : MomentValue) (g : Option Given) (action : Action) (a : Answer) (h : History) → Fits s h → KeepsLimits s → IsAnswer s t action g a → IsOrderOfUse s.tracked h → OrderAfter s t g action a h
 answer_used s t g (Open i key) a h fits keeps p o =
     subst (λ (y : Answer). OrderAfter s t g (Open i key) y h) (sym p)
-    (idle (call_at t (Open i key) g (Ok Opened)) h s.tracked (record { departs = λ e. refl; admits = λ e. refl; hits = λ e. refl }) o, refl)
+    (idle (call_at t (Open i key) g (Ok Opened)) h s.tracked (record { departs = λ e. refl; admits = λ e. refl; hits = λ e. refl }) o, tt)
 answer_used s t g (LookUp i) a h fits keeps p o = (
   request_used s t g i a h (get s.requests i) fits refl p o,
   look_evicts s.settings.limit s.settings.watermark (record { moment = t; action = LookUp i }) t g a h s (get s.requests i) p,
@@ -282,9 +282,9 @@ answer_used s t g (Read i) a h fits keeps p o =
     (read_used s t g i a h (get s.requests i) p o, read_evicts s.settings.limit s.settings.watermark (record { moment = t; action = Read i }) g a h (get s.requests i) p)
 answer_used s t g (Drop i) a h fits keeps p o =
     subst (λ (y : Answer). OrderAfter s t g (Drop i) y h) (sym p)
-    (idle (call_at t (Drop i) g (Ok Dropped)) h s.tracked (record { departs = λ e. refl; admits = λ e. refl; hits = λ e. refl }) o, refl)
+    (idle (call_at t (Drop i) g (Ok Dropped)) h s.tracked (record { departs = λ e. refl; admits = λ e. refl; hits = λ e. refl }) o, tt)
 answer_used s t g (Purge key) a h fits keeps p o =
-    subst (λ (y : Answer). OrderAfter s t g (Purge key) y h) (sym p) (purge_used s t g key h (is_some (body_of (key_asked key) s.bodies)) o, refl)
+    subst (λ (y : Answer). OrderAfter s t g (Purge key) y h) (sym p) (purge_used s t g key h (is_some (body_of (key_asked key) s.bodies)) o, tt)
 answer_used s t g (Put key pieces) a h fits keeps p o = put_used s t g key pieces a h p o
 
 -- a refused call evicts nothing, but for a put that is refused in the midst of it

@@ -1,11 +1,10 @@
 -- A state with the history that led to it.
 use Rattle.std.specs.Prelude.{◌≡◌, List, [], ◌∷◌}
-use Rattle.tier_model.specs.declared.event.Event.{Event}
-use Rattle.tier_model.specs.Calls.{Call, History, Outcome, AreCallsOf, extended}
+use Rattle.tier_model.specs.Calls.{Call, History, extended}
 use Rattle.tier_model.specs.Headline.{HoldsHeadline}
 use Rattle.tier_model.specs.Use.{IsOrderOfUse}
 use Rattle.tier_model.specs.Requests.{AreRequests}
-use Rattle.tier_model.specs.Reports.{AreAllBodies, IsReport, report_of, shown, found_answers, absent_answers, evictions}
+use Rattle.tier_model.specs.Reports.{AreAllBodies, shown, found_answers, absent_answers, evictions}
 use Rattle.tier_model.specs.State.{Settings, State, empty_state}
 use Rattle.tier_model.specs.Step.{Allows, after}
 
@@ -28,25 +27,18 @@ pub record MatchesHistory (s : State) (h : History) : Type 0 where
   pub absent : s.absent ≡ shown (absent_answers h)
   pub evicted : s.evicted ≡ shown (evictions h)
 
--- the state may come after that history; the headline holds of it, the state is what it says, and the report tells of it
+-- the state may come after that history; the headline holds of it, and the state is what it says
 pub record HasPast (settings : Settings) (s : State) (h : History) : Type 0 where
   pub lawful : IsLawful settings h
   pub state : s ≡ state_of settings h
   pub headline : HoldsHeadline settings.limit settings.watermark h
   pub matches : MatchesHistory s h
-  pub report : IsReport (report_of s) h
 
--- one event was taken, with its outcome, from the old state to the new one
-abbrev pub Steps : State → Event → Outcome → State → Type 0
-Steps old e o new = (c : Call) × (c.event ≡ e) × (c.outcome ≡ o) × Allows old c × (new ≡ after old c)
-
--- the events were taken in order, each with its outcome, from the old state to the new one
-abbrev pub Runs : State → List Event → List Outcome → State → Type 0
-Runs old [] [] new = new ≡ old
-Runs old (e ∷ es) (o ∷ os) new = (mid : State) × Steps old e o mid × Runs mid es os new
-Runs old _ _ new = ⊥
+-- the calls were taken in order, each one that the state before it allows, and led from the old state to the new one
+abbrev pub AreTaken : State → List Call → State → Type 0
+AreTaken old [] new = new ≡ old
+AreTaken old (c ∷ calls) new = Allows old c × AreTaken (after old c) calls new
 
 -- the headline holds of every past that the tier may have had, with these calls after it
-abbrev pub CarriesHeadline : State → List Event → List Outcome → State → Type 0
-CarriesHeadline old events outcomes new =
-    (settings : Settings) (past : History) → HasPast settings old past → (calls : List Call) × AreCallsOf events outcomes calls × HasPast settings new (extended past calls)
+abbrev pub CarriesHeadline : State → List Call → State → Type 0
+CarriesHeadline old calls new = (settings : Settings) (past : History) → HasPast settings old past → HasPast settings new (extended past calls)

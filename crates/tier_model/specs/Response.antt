@@ -13,7 +13,6 @@ use Rattle.tier_entries.specs.Keys.{entry_of}
 use Rattle.tier_model.specs.Keys.{Entry}
 use Rattle.tier_model.specs.declared.event.Action.{Action}
 use Rattle.tier_model.specs.declared.event.Action.TheVariants.{Put}
-use Rattle.tier_model.specs.declared.state.FinishedBody.{FinishedBody}
 use Rattle.tier_model.specs.declared.given.Given.{Given}
 use Rattle.tier_model.specs.declared.given.Given.TheVariants.{Stored, Uncacheable, Incomplete, BadHead, BeforeEpoch}
 
@@ -97,11 +96,13 @@ pub data Reading : Type 0 where
   no_head : Reading
 
 -- r is a reading of the bytes. By the parser's default options it is the head at their front, or the beginning of one; a head of
--- more than 256 lines is never read. What the lenient options make of other bytes is left open, but for what comes after a head
+-- more than 256 lines is none, and the beginning of one is none or a beginning. What the lenient options make of other bytes is
+-- left open, but for what comes after a head
 pub record IsReading (bytes : List ℕ) (r : Reading) : Type 0 where
   pub whole : (h : ResponseHead) (rest : List ℕ) → ReadsResponse bytes h rest → length h.fields ≤ 256 → r ≡ whole_head (status_code h) (map name_and_value h.fields) rest
   pub begins : HasNoResponse bytes → IsPlain bytes → r ≡ begun_head
-  pub long : (more : List ℕ) (h : ResponseHead) (rest : List ℕ) → ReadsResponse (bytes ++ more) h rest → 256 < length h.fields → (r ≡ no_head) ⊎ (r ≡ begun_head)
+  pub long : (h : ResponseHead) (rest : List ℕ) → ReadsResponse bytes h rest → 256 < length h.fields → r ≡ no_head
+  pub longer : (more : List ℕ) (h : ResponseHead) (rest : List ℕ) → ReadsResponse (bytes ++ more) h rest → 256 < length h.fields → (r ≡ no_head) ⊎ (r ≡ begun_head)
   pub within : (status : ℕ) (lines : List (List ℕ × List ℕ)) (rest : List ℕ) → r ≡ whole_head status lines rest → (front : List ℕ) × (bytes ≡ front ++ rest)
 
 -- what a reading gives, coming for an entry at a moment

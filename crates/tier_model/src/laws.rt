@@ -7,7 +7,7 @@ ghost use Rattle.cache_words.specs.Time.{MomentValue};
 ghost use Rattle.tier_model.specs.Keys.{Entry};
 ghost use Rattle.tier_model.specs.declared.given.Given.{Given};
 ghost use Rattle.tier_model.specs.Response.{IsPlain, IsWellFormed, Gives};
-ghost use Rattle.tier_model.specs.State.{Settings};
+ghost use Rattle.tier_model.specs.State.{Settings, State};
 ghost use Rattle.tier_model.specs.Past.{IsLawful, MatchesHistory, state_of};
 ghost use Rattle.tier_model.specs.Reports.{IsReport, report_of};
 
@@ -16,9 +16,14 @@ pub fn lawful_histories_hold_the_headline()
     ensures { (settings : Settings) (h : History) → IsLawful settings h → HoldsHeadline settings.limit settings.watermark h }
 {}
 
-/// The state after such a history is what it says, and the state's report tells of it.
+/// The state after such a history is what it says.
 pub fn lawful_states_tell_their_history()
-    ensures { (settings : Settings) (h : History) → IsLawful settings h → MatchesHistory (state_of settings h) h × IsReport (report_of (state_of settings h)) h }
+    ensures { (settings : Settings) (h : History) → IsLawful settings h → MatchesHistory (state_of settings h) h }
+{}
+
+/// The report of a state that is what a history says tells of that history.
+pub fn reports_tell_the_history()
+    ensures { (s : State) (h : History) → MatchesHistory s h → IsReport (report_of s) h }
 {}
 
 /// A response whose head the parser's default options read or begin to read gives one thing at a moment.

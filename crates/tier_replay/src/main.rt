@@ -33,7 +33,7 @@ fn show<R: Log + Print + Eprint>(rt: &R, outcome: &Result<(), Fault>) {
         Err(
             Fault::Options(
                 OptionsError::CommandLine(error)
-                | OptionsError::WrongValue(error)
+                | OptionsError::WrongValue(_, error)
                 | OptionsError::NotUtf8(error),
             ),
         ) => {

@@ -1,5 +1,5 @@
 -- What the matches of a command line hold is what its words give.
-use Rattle.std.proofs.Common.{◌≡◌, ◌∙◌, ◌⊎◌, ℕ, List, [], codes, true, refl, ap, sym, subst}
+use Rattle.std.proofs.Common.{◌≡◌, ◌∙◌, ℕ, List, [], true, refl, ap, sym, subst}
 use Rattle.std.specs.Prelude.{Option, Some, None, Err}
 use Rattle.clap.specs.Matches.{found_of, first_value}
 use Rattle.clap.specs.Simple.{HasMatchesOf, is_simple}
@@ -8,7 +8,8 @@ use Rattle.clap.specs.Walk.{Text, first_of}
 use Rattle.clap.specs.declared.parser.matches.ArgMatches.{ArgMatches}
 use Rattle.clap.proofs.OnLiterals.{clap_on_literals}
 use Rattle.clap.proofs.WalkLemmas.{first_value-rows}
-use Rattle.trace_replay.specs.CommandLine.{app, value_of, IsGiven, IsFault, IsReadNumber}
+use Rattle.trace_replay.specs.CommandLine.{app, name_of, value_of, IsGiven, IsWrong, IsFirstWrong, IsFault, IsReadNumber}
+use Rattle.trace_replay.specs.declared.options.OptionName.{OptionName}
 use Rattle.trace_replay.specs.declared.options.OptionsError.{OptionsError}
 use Rattle.trace_replay.specs.declared.options.OptionsError.TheVariants.{CommandLine, NoLimit, WrongValue, NotUtf8, Memory}
 
@@ -23,15 +24,15 @@ pub given_by_words : (id : Text) (m : ArgMatches) (words : List Text) (number : 
     → IsGiven (first_value (found_of m) id) number → IsGiven (value_of id words) number
 given_by_words id m words number h given = subst (λ v. IsGiven v number) (first_value-words id m words h) given
 
-pub fault_by_words : (id : Text) (m : ArgMatches) (words : List Text) (error : OptionsError) → (id ≡ codes "limit") ⊎ (id ≡ codes "watermark")
-    → fault_of app words ≡ [] → HasMatchesOf app words m
-    → IsReadNumber (first_value (found_of m) id) (Err error) → IsFault words error
-fault_by_words id m words (CommandLine error) known free h none = absurd none
-fault_by_words id m words NoLimit known free h none = absurd none
-fault_by_words id m words (NotUtf8 error) known free h none = absurd none
-fault_by_words id m words (WrongValue error) known free h found =
-    (free, (id, found.0, known, sym (first_value-words id m words h) ∙ found.1, found.2))
-fault_by_words id m words Memory known free h none = tt
+-- the error of an option whose value is wrong, where it is the first
+pub fault_by_words : (name : OptionName) (m : ArgMatches) (words : List Text) (error : OptionsError) → fault_of app words ≡ [] → HasMatchesOf app words m
+    → (IsWrong (value_of (name_of name) words) → IsFirstWrong words name) → IsReadNumber name (first_value (found_of m) (name_of name)) (Err error) → IsFault words error
+fault_by_words name m words (CommandLine error) free h first none = absurd none
+fault_by_words name m words NoLimit free h first none = absurd none
+fault_by_words name m words (NotUtf8 error) free h first none = absurd none
+fault_by_words name m words (WrongValue shown error) free h first found =
+    (free, subst (IsFirstWrong words) (sym found.0) (first (subst IsWrong (first_value-words (name_of name) m words h) found.2)), found.1)
+fault_by_words name m words Memory free h first none = tt
 
 pub app_is_free : is_simple_and_free app ≡ true
 unfolding clap_on_literals

@@ -1,20 +1,20 @@
 -- How far a replay has come, and what a line more makes of it.
-use Rattle.std.proofs.Common.{◌≡◌, ◌∙◌, ℕ, ◌+◌, ◌-◌, ◌^◌, ◌≤◌, ◌<◌, List, [], ◌∷◌, ◌++◌, length, map, take, drop, length-take-le, refl, inl, inr, ap, sym, subst, append_assoc, append-nil, arith}
+use Rattle.std.proofs.Common.{◌≡◌, ◌∙◌, ℕ, ◌+◌, ◌-◌, ◌^◌, ◌≤◌, ◌<◌, List, [], ◌∷◌, ◌++◌, length, map, take, drop, length-take-le, refl, ap, sym, subst, append_assoc, append-nil, arith}
 use Rattle.std.specs.Prelude.{Option, Some, None, IfSome}
 use Rattle.std.specs.Io.KnownBytes.{Appends, Keeps, prepend_known}
 use Rattle.std.specs.Io.BufRead.{take_through, drop_through, strip_last}
-use Rattle.tier_model.specs.Calls.{Call, History, Outcome, AreCallsOf, extended}
+use Rattle.tier_model.specs.Calls.{Call, History}
 use Rattle.tier_model.specs.Past.{HasPast}
 use Rattle.tier_model.specs.Reports.{report_of}
-use Rattle.tier_model.specs.State.{Settings, State}
+use Rattle.tier_model.specs.State.{Settings, State, empty_state}
+use Rattle.tier_model.proofs.Carried.{empty-past}
 use Rattle.trace_lines.specs.Lines.{line_of}
 use Rattle.trace_lines.specs.Texts.{outcome_text, refusal_text, report_text}
-use Rattle.tier_model.specs.declared.event.Event.{Event}
 use Rattle.trace_lines.specs.declared.line.Line.{Line}
 use Rattle.trace_lines.specs.declared.line.Line.TheVariants.{Refused, Asked}
 use Rattle.trace_replay.specs.Inputs.{IsLineBefore}
 use Rattle.trace_replay.specs.Outputs.{Passes, HasBegun}
-use Rattle.trace_replay.specs.Replays.{asked_by, lines_in, ended, last_text, Replays, IsReplay, IsBeginning}
+use Rattle.trace_replay.specs.Replays.{asked_by, lines_in, ended, last_text, Replays, IsReplay, IsBegun}
 use Rattle.trace_replay.specs.Steps.{Answers}
 use Rattle.std.proofs.BufReadLemmas.{take_through-nil}
 use Rattle.std.proofs.KnownBytes.{Appends-nil, Appends-trans}
@@ -74,36 +74,24 @@ halfway_start settings (Some trace) held state front waiting past none empty = r
   so_far = subst (λ w. Answered settings (asked_by trace) (asked_by trace) w state) (sym empty) (answered_none settings (asked_by trace) state past);
 }
 
--- the one call of an event
-one_call : (settings : Settings) (event : Event) (outcome : Outcome) (new : State) (history : History)
-    → (calls : List Call) × AreCallsOf (event ∷ []) (outcome ∷ []) calls × HasPast settings new (extended history calls)
-    → (call : Call) × (call.event ≡ event) × (call.outcome ≡ outcome) × HasPast settings new (call ∷ history)
-one_call settings event outcome new history (calls, are, past) = by_calls calls are past
-  where
-    by_calls : (calls : List Call) → AreCallsOf (event ∷ []) (outcome ∷ []) calls → HasPast settings new (extended history calls)
-        → (call : Call) × (call.event ≡ event) × (call.outcome ≡ outcome) × HasPast settings new (call ∷ history)
-    by_calls [] are past = absurd are
-    by_calls (c ∷ []) are past = (c, are.0, are.1, past)
-    by_calls (c ∷ d ∷ cs) are past = absurd are.2
-
 answered_more : (settings : Settings) (old new : State) (lines : List Line) (line : Line) (left : List Line) (answers text : List ℕ)
     → Answered settings lines (line ∷ left) answers old → Answers old new line text → Answered settings lines left (answers ++ text) new
 answered_more settings old new lines (Refused refusal) left answers text so_far answer = record {
   answered = so_far.answered ++ Refused refusal ∷ [];
   history = so_far.history;
   split = so_far.split ∙ sym (append_assoc so_far.answered (Refused refusal ∷ []) left);
-  replays = replays_more so_far.answered (Refused refusal) [] so_far.history so_far.history answers text so_far.replays ([], answer.1 ∙ sym (append-nil (ended (refusal_text refusal))), (refl, refl));
-  past = subst (λ s. HasPast settings s so_far.history) (sym answer.0) so_far.past;
+  replays = replays_more so_far.answered (Refused refusal) [] so_far.history so_far.history answers text so_far.replays ([], answer.2 ∙ (ap ended answer.1.1 ∙ sym (append-nil (ended (refusal_text refusal)))), (refl, refl));
+  past = subst (λ s. HasPast settings s so_far.history) (sym answer.1.0) so_far.past;
 }
 answered_more settings old new lines (Asked event) left answers text so_far answer =
-    let call = one_call settings event answer.0 new so_far.history (answer.1 settings so_far.history so_far.past) in
+    let call : Call = answer.1.0 in
     record {
       answered = so_far.answered ++ Asked event ∷ [];
-      history = call.0 ∷ so_far.history;
+      history = call ∷ so_far.history;
       split = so_far.split ∙ sym (append_assoc so_far.answered (Asked event ∷ []) left);
-      replays = replays_more so_far.answered (Asked event) [] so_far.history (call.0 ∷ so_far.history) answers text so_far.replays
-          (call.0, [], call.1, answer.2 ∙ (ap (λ o. ended (outcome_text o)) (sym call.2) ∙ sym (append-nil (ended (outcome_text call.0.outcome)))), (refl, refl));
-      past = call.3;
+      replays = replays_more so_far.answered (Asked event) [] so_far.history (call ∷ so_far.history) answers text so_far.replays
+          (call, [], answer.1.1, answer.2 ∙ (ap ended answer.1.3 ∙ sym (append-nil (ended (outcome_text call.outcome)))), (refl, refl));
+      past = answer.1.2 settings so_far.history so_far.past;
     }
 
 -- the bytes that are left, after reading ahead
@@ -188,7 +176,7 @@ IsDone settings input held new =
 -- what is written at an early end
 abbrev pub IsCutShort : Settings → Option (List ℕ) → Option (List ℕ) → Option (List ℕ) → Type 0
 IsCutShort settings input held new =
-    IfSome input (λ trace. (text : List ℕ) × Appends held new text × IsBeginning settings (asked_by trace) text)
+    IfSome input (λ trace. (text : List ℕ) × Appends held new text × IsBegun settings (asked_by trace) text)
 
 no_line : (front rest left : List ℕ) (n : ℕ) → n ≡ 0 → IsLineBefore n front rest → front ++ rest ≡ left → left ≡ []
 no_line front rest [] n zero line is = refl
@@ -235,7 +223,7 @@ cut_short : (settings : Settings) (trace : List ℕ) (reads : ℕ) (rest held wr
 cut_short settings trace reads rest held written new waiting later state half last begun = (
   half.sent ++ begun.1.0,
   Appends-trans held written new half.sent begun.1.0 half.appended begun.1.2,
-  inr (record {
+  record {
     answered = half.so_far.answered;
     left = asked_by half.left;
     history = half.so_far.history;
@@ -246,7 +234,7 @@ cut_short settings trace reads rest held written new waiting later state half la
     replays = half.so_far.replays;
     past = half.so_far.past;
     begins = ap (λ l. (half.sent ++ waiting) ++ l) last ∙ (append_assoc half.sent waiting later ∙ (ap (λ l. half.sent ++ l) begun.1.1 ∙ sym (append_assoc half.sent begun.1.0 begun.0)));
-  }),
+  },
 )
 
 -- an early end in the midst of the lines
@@ -270,7 +258,22 @@ halfway_cut_last settings reads n (Some trace) next held written new front waiti
 -- an early end before the first line
 pub cut_at_start : (settings : Settings) (input held : Option (List ℕ)) → IsCutShort settings input held held
 cut_at_start settings None held = tt
-cut_at_start settings (Some trace) held = ([], Appends-nil held, inl refl)
+cut_at_start settings (Some trace) held = (
+  [],
+  Appends-nil held,
+  record {
+    answered = [];
+    left = asked_by trace;
+    history = [];
+    answers = [];
+    state = empty_state settings;
+    rest = last_text (asked_by trace) (empty_state settings);
+    split = refl;
+    replays = (refl, refl);
+    past = empty-past settings;
+    begins = refl;
+  },
+)
 
 -- a trace with so many lines that each of 2^64 - 1 turns found one
 pub halfway_spent : (settings : Settings) (reads : ℕ) (input rest held written : Option (List ℕ)) (waiting : List ℕ) (state : State)

@@ -1,14 +1,16 @@
 -- What the words of a command line give.
-use Rattle.std.specs.Prelude.{◌≡◌, ℕ, Bool, true, false, ◌<◌, ◌^◌, List, codes, Option, Some, None, Result, Ok, Err, ⊤, ◌⊎◌, []}
+use Rattle.std.specs.Prelude.{◌≡◌, ℕ, Bool, true, false, ◌<◌, ◌^◌, List, codes, Option, Some, None, Result, Ok, Err, ⊤, []}
 use Rattle.std.specs.Str.Parse.{IsNumeral, digits_value, without_leading_plus}
 use Rattle.clap.specs.Values.{kind_of}
-use Rattle.clap.specs.declared.error.kind.ErrorKind.TheVariants.{InvalidValue}
+use Rattle.clap.specs.declared.error.kind.ErrorKind.TheVariants.{InvalidValue, ValueValidation}
 use Rattle.clap.specs.Walk.{Text, Rule, first_of}
 use Rattle.clap.specs.Simple.{App, new_rule, new_app, on_top, with_rule, matches_of}
 use Rattle.clap.specs.Faults.{fault_of}
 use Rattle.clap.specs.Kinds.{IsAmong}
 use Rattle.cache_words.specs.Time.{span_of}
 use Rattle.tier_model.specs.State.{Settings}
+use Rattle.trace_replay.specs.declared.options.OptionName.{OptionName}
+use Rattle.trace_replay.specs.declared.options.OptionName.TheVariants.{Limit, Watermark}
 use Rattle.trace_replay.specs.declared.options.ReplayOptions.{ReplayOptions}
 use Rattle.trace_replay.specs.declared.options.OptionsError.{OptionsError}
 use Rattle.trace_replay.specs.declared.options.OptionsError.TheVariants.{CommandLine, NoLimit, WrongValue, NotUtf8, Memory}
@@ -40,25 +42,33 @@ abbrev pub IsGiven : Option Text → Option ℕ → Type 0
 IsGiven value None = value ≡ None
 IsGiven value (Some n) = (text : Text) × (value ≡ Some text) × IsNumber text n
 
--- the limit or the watermark has a text that is no number
-abbrev pub HasWrongValue : List Text → Type 0
-HasWrongValue words =
-    (name : Text) × (text : Text) × ((name ≡ codes "limit") ⊎ (name ≡ codes "watermark")) × (value_of name words ≡ Some text)
-    × ((n : ℕ) → ¬ IsNumber text n)
+-- an option's name
+abbrev pub name_of : OptionName → Text
+name_of Limit = codes "limit"
+name_of Watermark = codes "watermark"
+
+-- a text is given, and is no number
+abbrev pub IsWrong : Option Text → Type 0
+IsWrong value = (text : Text) × (value ≡ Some text) × ((n : ℕ) → ¬ IsNumber text n)
+
+-- the option is the first whose value is wrong: the limit comes before the watermark
+abbrev pub IsFirstWrong : List Text → OptionName → Type 0
+IsFirstWrong words Limit = IsWrong (value_of (codes "limit") words)
+IsFirstWrong words Watermark = IsWrong (value_of (codes "watermark") words) × ((n : ℕ) × IsGiven (value_of (codes "limit") words) (Some n))
 
 -- why the words give no options; memory may have run out instead
 abbrev pub IsFault : List Text → OptionsError → Type 0
 IsFault words (CommandLine error) = IsAmong (kind_of error) (fault_of app words)
 IsFault words NoLimit = (fault_of app words ≡ []) × (value_of (codes "limit") words ≡ None)
-IsFault words (WrongValue error) = (fault_of app words ≡ []) × HasWrongValue words
+IsFault words (WrongValue name error) = (fault_of app words ≡ []) × IsFirstWrong words name × (kind_of error ≡ ValueValidation)
 IsFault words (NotUtf8 error) = ⊥
 IsFault words Memory = ⊤
 
--- the error of a wrong value, or out of memory
-abbrev pub IsWrongValue : OptionsError → Type 0
-IsWrongValue (WrongValue error) = Unit {0}
-IsWrongValue Memory = Unit {0}
-IsWrongValue _ = ⊥
+-- the error of a wrong value of that option, or out of memory
+abbrev pub IsWrongValue : OptionName → OptionsError → Type 0
+IsWrongValue name (WrongValue shown error) = (shown ≡ name) × (kind_of error ≡ ValueValidation)
+IsWrongValue name Memory = Unit {0}
+IsWrongValue name _ = ⊥
 
 -- the error of a word that is not UTF-8, or out of memory
 abbrev pub IsUnreadable : OptionsError → Type 0
@@ -67,11 +77,11 @@ IsUnreadable Memory = Unit {0}
 IsUnreadable _ = ⊥
 
 -- what the value of an option was read as
-abbrev pub IsReadNumber : Option Text → Result (Option ℕ) OptionsError → Type 0
-IsReadNumber value (Ok number) = IsGiven value number
-IsReadNumber value (Err Memory) = Unit {0}
-IsReadNumber value (Err (WrongValue error)) = (text : Text) × (value ≡ Some text) × ((n : ℕ) → ¬ IsNumber text n)
-IsReadNumber value (Err _) = ⊥
+abbrev pub IsReadNumber : OptionName → Option Text → Result (Option ℕ) OptionsError → Type 0
+IsReadNumber name value (Ok number) = IsGiven value number
+IsReadNumber name value (Err Memory) = Unit {0}
+IsReadNumber name value (Err (WrongValue shown error)) = (shown ≡ name) × (kind_of error ≡ ValueValidation) × IsWrong value
+IsReadNumber name value (Err _) = ⊥
 
 -- the tier that the options describe: a permit's age is ten seconds, and a wait has no end
 abbrev pub settings_of : ReplayOptions → Settings

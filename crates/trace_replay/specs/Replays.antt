@@ -1,5 +1,5 @@
 -- What a trace is answered with.
-use Rattle.std.specs.Prelude.{◌≡◌, ℕ, ◌==◌, ◌⊎◌, List, [], ◌∷◌, ◌++◌, map, if◌then◌else◌}
+use Rattle.std.specs.Prelude.{◌≡◌, ℕ, ◌==◌, List, [], ◌∷◌, ◌++◌, map, if◌then◌else◌}
 use Rattle.tier_model.specs.Calls.{Call, History}
 use Rattle.tier_model.specs.Past.{HasPast}
 use Rattle.tier_model.specs.Reports.{report_of}
@@ -64,7 +64,3 @@ pub record IsBegun (settings : Settings) (lines : List Line) (text : List ℕ) :
   pub replays : Replays answered [] history answers
   pub past : HasPast settings state history
   pub begins : answers ++ last_text left state ≡ text ++ rest
-
--- nothing, or such a text
-abbrev pub IsBeginning : Settings → List Line → List ℕ → Type 0
-IsBeginning settings lines text = (text ≡ []) ⊎ IsBegun settings lines text

@@ -16,7 +16,7 @@ command_line_status _ = 2
 abbrev pub fault_status : Fault → ℕ
 fault_status (Options (CommandLine error)) = command_line_status (kind_of error)
 fault_status (Options NoLimit) = 2
-fault_status (Options (WrongValue error)) = 2
+fault_status (Options (WrongValue name error)) = 2
 fault_status (Options (NotUtf8 error)) = 2
 fault_status (Options Memory) = 1
 fault_status (Replay error) = 1

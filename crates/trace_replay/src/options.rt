@@ -5,7 +5,7 @@ ghost use Rattle.clap.specs.Faults.{fault_of};
 ghost use Rattle.clap.specs.Matches.{found_of, first_value};
 ghost use Rattle.clap.specs.Simple.{HasMatchesOf, app_of};
 ghost use Rattle.clap.specs.Walk.{rule_of};
-ghost use Rattle.trace_replay.specs.CommandLine.{app, named_app, option_rule, value_of, IsGiven, IsFault, IsWrongValue, IsReadNumber, IsUnreadable};
+ghost use Rattle.trace_replay.specs.CommandLine.{app, name_of, named_app, option_rule, value_of, IsGiven, IsFault, IsWrongValue, IsReadNumber, IsUnreadable};
 
 use clap::error::ErrorKind;
 use clap::{Arg, ArgMatches, Command};
@@ -30,6 +30,27 @@ pub struct ReplayOptions {
     pub watermark: Option<u64>,
 }
 
+/// An option that has a value.
+#[derive(Clone, Copy, PartialEq, Eq, Debug)]
+pub enum OptionName {
+    /// `--limit`
+    Limit,
+    /// `--watermark`
+    Watermark,
+}
+
+impl OptionName {
+    /// Returns the name without the dashes.
+    pub fn as_str(self) -> &'static str
+        ensures { result.now ≡ name_of self }
+    {
+        match self {
+            OptionName::Limit => "limit",
+            OptionName::Watermark => "watermark",
+        }
+    }
+}
+
 /// Why the words of a command line give no options.
 #[derive(Debug, Drop, Error)]
 pub enum OptionsError {
@@ -39,9 +60,9 @@ pub enum OptionsError {
     /// No `--limit` is given.
     #[error("--limit is missing")]
     NoLimit,
-    /// An option's value is no number.
-    #[error("{0}")]
-    WrongValue(clap::Error),
+    /// The value of this option is no number; the first such option is named.
+    #[error("{1}")]
+    WrongValue(OptionName, clap::Error),
     /// A word is not UTF-8.
     #[error("{0}")]
     NotUtf8(clap::Error),
@@ -58,10 +79,10 @@ pub fn options<'a, S: AsStr>(alloc: Global, words: &'a [S]) -> Result<ReplayOpti
     ensures refused { IfErr result (IsFault (map S.text words.entry.now)) }
 {
     let matches = matches(alloc, words)?;
-    let Some(limit) = number(alloc, &matches, "limit")? else {
+    let Some(limit) = number(alloc, &matches, OptionName::Limit)? else {
         return Err(OptionsError::NoLimit);
     };
-    let watermark = number(alloc, &matches, "watermark")?;
+    let watermark = number(alloc, &matches, OptionName::Watermark)?;
     Ok(ReplayOptions { limit, watermark })
 }
 
@@ -91,11 +112,11 @@ fn not_utf8(alloc: Global) -> OptionsError
 fn number(
     alloc: Global,
     matches: &ArgMatches<'_>,
-    name: &'static str,
+    name: OptionName,
 ) -> Result<Option<u64>, OptionsError>
-    ensures { IsReadNumber (first_value (found_of matches.now) name.now) result }
+    ensures { IsReadNumber name (first_value (found_of matches.now) (name_of name)) result }
 {
-    let Some(text) = matches.get_str(name) else {
+    let Some(text) = matches.get_str(name.as_str()) else {
         return Ok(None);
     };
     match text.parse::<u64>() {
@@ -104,16 +125,18 @@ fn number(
     }
 }
 
-fn wrong_value(alloc: Global, name: &str, text: &str) -> OptionsError
-    ensures { IsWrongValue result }
+fn wrong_value(alloc: Global, name: OptionName, text: &str) -> OptionsError
+    ensures { IsWrongValue name result }
 {
-    match value_fault(alloc, name, text) {
-        Ok(error) => OptionsError::WrongValue(error),
+    match value_fault(alloc, name.as_str(), text) {
+        Ok(error) => OptionsError::WrongValue(name, error),
         Err(AllocError) => OptionsError::Memory,
     }
 }
 
-fn value_fault(alloc: Global, name: &str, text: &str) -> Result<clap::Error, AllocError> {
+fn value_fault(alloc: Global, name: &str, text: &str) -> Result<clap::Error, AllocError>
+    ensures { IfOk result (λ error. kind_of error ≡ ErrorKind.ValueValidation) }
+{
     let message = format!(in alloc;
         "invalid value '{text}' for '--{name}': a number from 0 to 18446744073709551615 is wanted"
     )?;

@@ -7,12 +7,12 @@ ghost use Rattle.tier_model.specs.Reports.{report_of};
 ghost use Rattle.trace_lines.specs.Lines.{line_of};
 ghost use Rattle.trace_lines.specs.Texts.{report_text};
 ghost use Rattle.trace_replay.specs.CommandLine.{settings_of};
-ghost use Rattle.trace_replay.specs.Replays.{asked_by, lines_in, ended, IsReplay, IsBeginning};
+ghost use Rattle.trace_replay.specs.Replays.{asked_by, lines_in, ended, IsReplay, IsBegun};
 ghost use Rattle.trace_replay.specs.Errors.{IsOther};
 ghost use Rattle.trace_replay.specs.Inputs.{IsLineBefore};
 ghost use Rattle.trace_replay.specs.Outputs.{Passes, HasBegun};
 ghost use Rattle.trace_replay.specs.declared.replay.ReplayError.TheVariants.{Memory};
-ghost use Rattle.trace_replay.specs.Steps.{Answers};
+ghost use Rattle.trace_replay.specs.Steps.{Answers, Replies, RepliesTo};
 
 use crate::input::Input;
 use crate::options::ReplayOptions;
@@ -25,6 +25,7 @@ use std::alloc::{AllocError, AllocFailed, Global};
 use std::io;
 use std::io::{Read, Write};
 use thiserror::Error;
+use tier_model::event::Event;
 use trace_lines::line::Line;
 use trace_lines::read::read_line;
 use trace_lines::text::{outcome_line, refusal_line, report_line};
@@ -90,7 +91,7 @@ pub fn run<R: Read, W: Write>(
         × IsReplay (settings_of options.now) (asked_by input) text)) }
     ensures begun { OnErr result (IfSome (R.remaining reader.old) (λ input. (text : List ℕ)
         × Appends (W.contents writer.old) (W.contents writer.new) text
-        × IsBeginning (settings_of options.now) (asked_by input) text)) }
+        × IsBegun (settings_of options.now) (asked_by input) text)) }
     ensures too_many { result ≡ Err ReplayError.TooManyReads → IfSome (R.remaining reader.old) (λ input. 2 ^ 64 - 1 ≤ length (lines_in input)) }
 {
     let mut tier = tier_for(alloc, options)?;
@@ -219,13 +220,38 @@ fn answer<G: Rng>(
     ensures answered { IfOk result (λ text. Answers tier.old tier.new (line_of line.now) (string_bytes text)) }
     ensures other { IfErr result IsOther }
 {
-    let mut text = match read_line(alloc, line)? {
-        Line::Refused(refusal) => refusal_line(alloc, &refusal)?,
-        Line::Asked(event) => {
-            let outcome = tier.step(rng, &event);
-            outcome_line(alloc, &outcome)?
-        }
-    };
+    let mut text = reply(alloc, tier, rng, line)?;
     text.push('\n')?;
+    Ok(text)
+}
+
+// What answers a line.
+fn reply<G: Rng>(
+    alloc: Global,
+    tier: &mut Tier<1>,
+    rng: &mut G,
+    line: &[u8],
+) -> Result<String, ReplayError>
+    ensures answered { IfOk result (λ text. Replies tier.old tier.new (line_of line.now) (string_bytes text)) }
+    ensures other { IfErr result IsOther }
+{
+    match read_line(alloc, line)? {
+        Line::Refused(refusal) => Ok(refusal_line(alloc, &refusal)?),
+        Line::Asked(event) => reply_to(alloc, tier, rng, &event),
+    }
+}
+
+// What the tier answers to an event.
+fn reply_to<G: Rng>(
+    alloc: Global,
+    tier: &mut Tier<1>,
+    rng: &mut G,
+    event: &Event,
+) -> Result<String, ReplayError>
+    ensures answered { IfOk result (λ text. RepliesTo tier.old tier.new event.now (string_bytes text)) }
+    ensures other { IfErr result IsOther }
+{
+    let outcome = tier.step(rng, event);
+    let text = outcome_line(alloc, &outcome)?;
     Ok(text)
 }

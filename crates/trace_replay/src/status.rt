@@ -42,7 +42,7 @@ pub fn status(outcome: &Result<(), Fault>) -> u8
         Err(Fault::Replay(_)) => 1,
         Err(Fault::Options(OptionsError::Memory)) => 1,
         Err(Fault::Options(OptionsError::NoLimit)) => 2,
-        Err(Fault::Options(OptionsError::WrongValue(_) | OptionsError::NotUtf8(_))) => 2,
+        Err(Fault::Options(OptionsError::WrongValue(_, _) | OptionsError::NotUtf8(_))) => 2,
         Err(Fault::Options(OptionsError::CommandLine(error))) => match error.kind() {
             ErrorKind::DisplayHelp | ErrorKind::DisplayVersion => 0,
             _ => 2,

@@ -113,6 +113,17 @@ pub(super) fn read_head(alloc: Global, bytes: &[u8]) -> Result<Option<Head>, Hea
     }
 }
 
+// Whether the parser's default options, with room for one line more than a head may have, read the beginning of a head.
+pub(super) fn waits_with_a_line_more(bytes: &[u8]) -> bool
+    ensures { result ≡ true → HasNoResponse bytes.now }
+{
+    let mut lines = [EMPTY_HEADER_SPAN; MOST_LINES + 1];
+    match parse_response(bytes, &mut lines) {
+        Ok(Status::Partial) => true,
+        Ok(Status::Complete(_)) | Err(_) => false,
+    }
+}
+
 // A folded value on one line: each CR and LF is a space (RFC 9112, 5.2).
 fn unfolded(alloc: Global, value: &[u8]) -> Result<Vec<u8>, AllocError> {
     let mut line = Vec::from_slice(alloc, value)?;

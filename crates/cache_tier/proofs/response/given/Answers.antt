@@ -1,6 +1,5 @@
 use Rattle.std.proofs.Common.{Err, ap, ◌∙◌}
 use Rattle.std.proofs.lemmas.Result.{IfOk-weaker}
-use Rattle.tier_model.specs.declared.given.Given.TheVariants.{BadHead}
 use Rattle.cache_tier.proofs.HeadLaws.{Gives-whole, Gives-out, Gives-long}
 use Rattle.cache_tier.proofs.response.given.Goals as goal
 
@@ -18,4 +17,4 @@ returns-in-Err-Bounds c =
 pub returns-in-Err-TooLong : goal.returns-in-Err-TooLong
 returns-in-Err-TooLong c =
     let over = rw c.as_slice.ensures at (c.read_head.ensures.long (c.in-Err-TooLong.is ∙ ap (λ f. Err f) c.in-Err-TooLong.field-0-is)) in
-    IfOk-weaker c.given_too_long.result _ _ (λ g e. Gives-long c.args.arrival c.args.entry c.args.response g over e) c.given_too_long.ensures
+    IfOk-weaker c.given_too_long.result _ _ (λ g e. Gives-long c.args.arrival c.args.entry c.args.response g over e) (rw c.as_slice-in-Err-TooLong.ensures at c.given_too_long.ensures)

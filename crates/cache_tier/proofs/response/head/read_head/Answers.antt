@@ -1,4 +1,4 @@
-use Rattle.std.proofs.Common.{◌≡◌, ◌≤◌, Err, rules, arith, length, sym, subst, All, ◌∙◌}
+use Rattle.std.proofs.Common.{◌≡◌, Err, rules, sym, subst, All}
 use Rattle.cache_headers.specs.Lines.{IsLine}
 use Rattle.cache_tier.specs.declared.response.head.HeadFault.TheVariants.{Bounds}
 use Rattle.cache_tier.proofs.HeadLaws.{few-fields, out-by-lines, out-by-status, whole-head}

@@ -1,0 +1,5 @@
+use Rattle.tier_model.proofs.ReportLaws.{IsReport-matches}
+use Rattle.tier_model.proofs.laws.reports_tell_the_history.Goals as goal
+
+pub returns : goal.returns
+returns c = IsReport-matches
