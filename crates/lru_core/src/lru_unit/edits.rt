@@ -209,11 +209,11 @@ impl<T: Drop> LruUnit<T> {
     {
         let Row {
             key: _,
-            data,
+            data: item,
             weight,
         } = self.rows.remove(key)?;
         self.used -= weight;
-        Some((data, weight))
+        Some((item, weight))
     }
 
     // Inserts a row of a new key at that end.

@@ -1,4 +1,4 @@
-use Rattle.std.proofs.Common.{◌≡◌, ◌+◌, sym, arith, max}
+use Rattle.std.proofs.Common.{◌≡◌, ◌+◌, sym, arith, max, rules}
 use Rattle.lru_core.specs.Rows.{reweighed, capped}
 use Rattle.lru_core.proofs.Filters.{single, weight-reweighed, incremented_there, moved}
 use Rattle.lru_core.proofs.lru_unit.LruUnit.increment_weight.Goals as goal
@@ -26,3 +26,6 @@ invariant_of-self g c =
     let v = c.self.invariant in
     let s = c.in-Some.ensures.some in
     rw (c.promote-found.ensures.after, c.reweigh-old.ensures.after, m.0, m.1, q.0, q.1) (omega (arith, v.0, s.2), omega (arith, v.0, s.2), v.2)
+
+pub returns-else-weight-self-clause-raised : goal.returns-else-weight-self-clause-raised
+returns-else-weight-self-clause-raised g c = search rules
