@@ -1,4 +1,4 @@
-//! Tests of the tier, its definitions and the program by tables of what is asked and what is returned.
+//! Tests of the tier and its definitions by tables of what is asked and what is returned.
 #![tactic(auto)]
 
 #[cfg(test)]
@@ -17,5 +17,3 @@ mod refusals;
 mod runs;
 #[cfg(test)]
 mod show;
-#[cfg(test)]
-mod traces;

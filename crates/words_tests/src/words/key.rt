@@ -1,7 +1,5 @@
 //! Keys, their hashes and their texts.
-use cache_words::key::{
-    CacheHashKey, CacheKey, CompactCacheKey, HashBinary, hash_key, hash_u8, str2hex,
-};
+use cache_words::key::{CacheHashKey, CacheKey, CompactCacheKey, hash_key, str2hex};
 use std::alloc::{AllocError, Global};
 use std::collections::HashMap;
 use std::fmt;
@@ -242,33 +240,6 @@ fn bytes_that_are_text(rt: HostRuntime) -> Result<(), Fail> {
         assert_eq!(rt; key_of(rt.alloc(), primary)?.primary_key_str(), text);
     }
     Ok(())
-}
-
-#[test]
-fn hash_of_a_text(rt: HostRuntime) {
-    assert_eq!(rt;
-        Some(hash_key("tenant_a/path")),
-        str2hex("6c79e74e88bacb8eb370adb7617068c8")
-    );
-    assert_eq!(rt; hash_u8("tenant_a/path"), 0x6c);
-}
-
-const HEX: [(&str, Option<HashBinary>); 5] = [
-    ("6c79e74e88bacb8eb370adb7617068c", None),
-    ("6c79e74e88bacb8eb370adb7617068cg", None),
-    ("6c79e74e88bacb8eb370adb7617068c800", None),
-    ("", None),
-    (
-        "000102030405060708090a0B0c0D0e0f",
-        Some([0, 1, 2, 3, 4, 5, 6, 7, 8, 9, 10, 11, 12, 13, 14, 15]),
-    ),
-];
-
-#[test]
-fn hex_of_a_hash(rt: HostRuntime) {
-    for (text, hash) in HEX {
-        assert_eq!(rt; str2hex(text), hash);
-    }
 }
 
 #[test]

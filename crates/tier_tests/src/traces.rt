@@ -1,3 +1,0 @@
-mod lines;
-mod lockstep;
-mod replays;

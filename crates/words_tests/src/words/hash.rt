@@ -1,0 +1,30 @@
+//! Hashes of texts, and hashes in hex.
+use cache_words::key::{HashBinary, hash_key, hash_u8, str2hex};
+use std::test::*;
+
+#[test]
+fn hash_of_a_text(rt: HostRuntime) {
+    assert_eq!(rt;
+        Some(hash_key("tenant_a/path")),
+        str2hex("6c79e74e88bacb8eb370adb7617068c8")
+    );
+    assert_eq!(rt; hash_u8("tenant_a/path"), 0x6c);
+}
+
+const HEX: [(&str, Option<HashBinary>); 5] = [
+    ("6c79e74e88bacb8eb370adb7617068c", None),
+    ("6c79e74e88bacb8eb370adb7617068cg", None),
+    ("6c79e74e88bacb8eb370adb7617068c800", None),
+    ("", None),
+    (
+        "000102030405060708090a0B0c0D0e0f",
+        Some([0, 1, 2, 3, 4, 5, 6, 7, 8, 9, 10, 11, 12, 13, 14, 15]),
+    ),
+];
+
+#[test]
+fn hex_of_a_hash(rt: HostRuntime) {
+    for (text, hash) in HEX {
+        assert_eq!(rt; str2hex(text), hash);
+    }
+}
