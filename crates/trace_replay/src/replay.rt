@@ -26,7 +26,7 @@ use std::io;
 use std::io::{Read, Write};
 use thiserror::Error;
 use trace_lines::line::Line;
-use trace_lines::read::read_line;
+use trace_lines::read::LineReader;
 use trace_lines::text::{outcome_line, refusal_line, report_line};
 
 // The age of a permit, in seconds.
@@ -95,6 +95,7 @@ pub fn run<R: Read, W: Write>(
 {
     let mut tier = tier_for(alloc, options)?;
     let mut input = Input::new(alloc)?;
+    let mut lines = LineReader::new(alloc);
     let mut rng = Pcg64::seed_from_u64(0);
     let mut waiting = Vec::new(alloc);
     for _ in 0..u64::MAX {
@@ -103,7 +104,7 @@ pub fn run<R: Read, W: Write>(
             return finish(alloc, &tier, &mut waiting, writer);
         }
         let line = bare(input.front(len));
-        if let Err(error) = add_answer(alloc, &mut tier, &mut rng, line, &mut waiting) {
+        if let Err(error) = add_answer(alloc, &mut tier, &mut lines, &mut rng, line, &mut waiting) {
             hand_on(&mut waiting, writer)?;
             return Err(error);
         }
@@ -196,6 +197,7 @@ fn bare(line: &[u8]) -> &[u8]
 fn add_answer<G: Rng>(
     alloc: Global,
     tier: &mut Tier<1>,
+    lines: &mut LineReader,
     rng: &mut G,
     line: &[u8],
     waiting: &mut Vec<u8>,
@@ -204,7 +206,7 @@ fn add_answer<G: Rng>(
     ensures err { OnErr result (waiting.new.items ≡ waiting.old.items) }
     ensures other { IfErr result IsOther }
 {
-    let text = answer(alloc, tier, rng, line)?;
+    let text = answer(alloc, tier, lines, rng, line)?;
     waiting.extend_from_slice(text.as_bytes())?;
     Ok(())
 }
@@ -213,13 +215,14 @@ fn add_answer<G: Rng>(
 fn answer<G: Rng>(
     alloc: Global,
     tier: &mut Tier<1>,
+    lines: &mut LineReader,
     rng: &mut G,
     line: &[u8],
 ) -> Result<String, ReplayError>
     ensures answered { IfOk result (λ text. Answers tier.old tier.new (line_of line.now) (string_bytes text)) }
     ensures other { IfErr result IsOther }
 {
-    let mut text = match read_line(alloc, line)? {
+    let mut text = match lines.read(alloc, line)? {
         Line::Refused(refusal) => refusal_line(alloc, &refusal)?,
         Line::Asked(event) => {
             let outcome = tier.step(rng, &event);
