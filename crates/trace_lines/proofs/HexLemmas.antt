@@ -1,10 +1,11 @@
 -- One pair of digits more.
-use Rattle.std.proofs.Common.{◌≡◌, ℕ, ◌+◌, ◌*◌, ◌<◌, List, length, take, drop, slice_index, refl, ap, sym, arith}
-use Rattle.std.specs.Prelude.{Option, Some, None, Ok, Err}
+use Rattle.std.proofs.Common.{◌≡◌, ℕ, ◌+◌, ◌*◌, ◌<◌, ◌≤◌, List, length, take, drop, slice_index, Bool, true, false, true≢false, ltb-true, lt-ltb, ⊎_elim, refl, ap, sym, ◌∙◌, arith, if◌then◌else◌}
+use Rattle.std.specs.Prelude.{Option, Some, None, Ok, Err, nat_lt, slice_set, ◌↔◌}
+use Rattle.std.proofs.lemmas.Bool.{cases_lt}
 use Rattle.hex.specs.Hex.{decode_pairs, pair_value, hex_digit_value}
 use Rattle.hex.specs.declared.error.FromHexError.{FromHexError}
 use Rattle.hex.specs.declared.error.FromHexError.TheVariants.{InvalidHexCharacter}
-use Rattle.hex.proofs.Pairs.{prepend, decode_err}
+use Rattle.hex.proofs.Pairs.{prepend, decode_err, decode_step, decode_done}
 use Rattle.trace_lines.specs.Digits.{IsValue, result_bytes}
 
 is_value : (o : Option ℕ) (n : ℕ) → IsValue o n → (n ≡ 255 → ⊥) → o ≡ Some n
@@ -14,10 +15,6 @@ is_value None n is some = absurd (some is)
 no_value : (o : Option ℕ) (n : ℕ) → IsValue o n → n ≡ 255 → o ≡ None
 no_value (Some v) n is none = absurd (omega (arith, is.1, none))
 no_value None n is none = refl
-
-pub is_digit : (o : Option ℕ) (n : ℕ) → IsValue o n → (n ≡ 255 → ⊥) → n < 16
-is_digit (Some v) n is some = is.1
-is_digit None n is some = absurd (some is)
 
 pub pair_is : (a b high low i : ℕ) → IsValue (hex_digit_value a) high → IsValue (hex_digit_value b) low → (high ≡ 255 → ⊥) → (low ≡ 255 → ⊥)
     → pair_value a b i ≡ Ok (high * 16 + low)
@@ -42,3 +39,56 @@ low_is_none a b low i is none = low_after (hex_digit_value a) a b i refl (no_val
 pub refused_by : (s out : List ℕ) (i : ℕ) → 2 * i + 1 < length s → (e : FromHexError) × (pair_value (slice_index s (2 * i)) (slice_index s (2 * i + 1)) (2 * i) ≡ Err e)
     → decode_pairs 0 s ≡ prepend (take i out) (decode_pairs (2 * i) (drop (2 * i) s)) → result_bytes (decode_pairs 0 s) ≡ None
 refused_by s out i fits (e, bad) so_far = ap result_bytes (decode_err s out i e fits bad so_far)
+
+-- if all were digits, the bytes so far, in front of those of what is left, are all the bytes; else there are none
+abbrev pub SoFar : ℕ → List ℕ → List ℕ → ℕ → Type 0
+SoFar highest s out i =
+    (highest < 16 → decode_pairs 0 s ≡ prepend (take i out) (decode_pairs (2 * i) (drop (2 * i) s)))
+    × ((highest < 16 → ⊥) → result_bytes (decode_pairs 0 s) ≡ None)
+
+abbrev first : List ℕ → ℕ → ℕ
+first s i = slice_index s (2 * i)
+
+abbrev second : List ℕ → ℕ → ℕ
+second s i = slice_index s (2 * i + 1)
+
+beyond : (o : Option ℕ) (n : ℕ) → IsValue o n → 16 ≤ n → n ≡ 255
+beyond (Some v) n is none = absurd (omega (arith, is.1))
+beyond None n is none = is
+
+refused_pair : (s out : List ℕ) (i high low : ℕ) → 2 * i + 1 < length s → IsValue (hex_digit_value (first s i)) high → IsValue (hex_digit_value (second s i)) low
+    → ((high < 16) × (low < 16) → ⊥) → decode_pairs 0 s ≡ prepend (take i out) (decode_pairs (2 * i) (drop (2 * i) s)) → result_bytes (decode_pairs 0 s) ≡ None
+refused_pair s out i high low fits is_high is_low bad so_far =
+    ⊎_elim
+    (λ (h : high < 16). ⊎_elim
+    (λ (l : low < 16). absurd (bad (h, l)))
+    (λ (l : 16 ≤ low). refused_by s out i fits (low_is_none (first s i) (second s i) low (2 * i) is_low (beyond (hex_digit_value (second s i)) low is_low l)) so_far)
+    (cases_lt low 16))
+    (λ (h : 16 ≤ high). refused_by s out i fits (InvalidHexCharacter (first s i) (2 * i), high_is_none (first s i) (second s i) high (2 * i) is_high (beyond (hex_digit_value (first s i)) high is_high h)) so_far)
+    (cases_lt high 16)
+
+-- a pair more
+pub so_far_more : (s out : List ℕ) (i highest high low after v : ℕ) → 2 * i + 1 < length s → i < length out
+    → IsValue (hex_digit_value (first s i)) high → IsValue (hex_digit_value (second s i)) low
+    → ((after < 16) ↔ ((highest < 16) × ((high < 16) × (low < 16)))) → ((high < 16) → (low < 16) → v ≡ high * 16 + low)
+    → SoFar highest s out i → SoFar after s (slice_set out i v) (i + 1)
+so_far_more s out i highest high low after v fits room is_high is_low joined spells so_far = (
+  (λ (all : after < 16).
+      let (before, (h, l)) = joined.0 all in
+      decode_step s out i v fits room
+      (pair_is (first s i) (second s i) high low (2 * i) is_high is_low (λ e. absurd (omega (arith, e, h))) (λ e. absurd (omega (arith, e, l))) ∙ ap Ok (sym (spells h l)))
+      (so_far.0 before)),
+  (λ (bad : after < 16 → ⊥). ⊎_elim
+      (λ (before : highest < 16). refused_pair s out i high low fits is_high is_low (λ pair. bad (joined.1 (before, pair))) (so_far.0 before))
+      (λ (before : 16 ≤ highest). so_far.1 (λ small. absurd (omega (arith, small, before))))
+      (cases_lt highest 16)),
+)
+
+-- no pair is left
+pub so_far_done : (s out : List ℕ) (i highest : ℕ) → length out ≤ i → length s ≤ 2 * i → SoFar highest s out i
+    → result_bytes (decode_pairs 0 s) ≡ (if nat_lt highest 16 then Some out else None)
+so_far_done s out i highest all fits so_far = by (nat_lt highest 16) refl
+  where
+    by : (test : Bool) → nat_lt highest 16 ≡ test → result_bytes (decode_pairs 0 s) ≡ (if test then Some out else None)
+    by true e = ap result_bytes (decode_done s out i all fits (so_far.0 (ltb-true highest 16 e)))
+    by false e = so_far.1 (λ small. true≢false (sym (lt-ltb highest 16 small) ∙ e))

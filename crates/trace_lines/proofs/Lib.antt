@@ -1,1 +1,3 @@
 pub mod HexLemmas
+mod TreeLemmas
+mod NumberLemmas

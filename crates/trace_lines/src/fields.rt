@@ -1,14 +1,15 @@
 //! The fields of a line.
 ghost use Rattle.std.specs.Prelude.{◌≡◌, ◌++◌, map, option_map, IfOk, string_bytes};
-ghost use Rattle.serde_json.specs.View.{view, items_view};
 ghost use Rattle.trace_lines.specs.Lines.{moment_of, id_of, primary_of, tag_of, lock_of, key_of, bytes_of, all_bytes_of, pieces_of, operation_named, operation_of, IsRead, IsReadAs};
+ghost use Rattle.trace_lines.specs.Trees.{seen, items_seen};
 
 use crate::hex_text::decode;
 use crate::line::{FieldName, Operation, Refusal, Stop};
+use crate::tree;
 use bytes::Bytes;
 use cache_words::key::CacheKey;
 use cache_words::time::Moment;
-use serde_json::Value;
+use json::Value;
 use std::alloc::{AllocError, Global};
 use tier_model::event::Pieces;
 
@@ -16,12 +17,11 @@ use tier_model::event::Pieces;
 const MOMENT_END: u64 = 1 << 63;
 
 // The operation that the line names.
-pub(crate) fn operation(value: &Value) -> Result<Operation, Refusal>
-    ensures { result ≡ operation_of (view value.now) }
+pub(crate) fn operation(value: &Value<'_>) -> Result<Operation, Refusal>
+    ensures { result ≡ operation_of (seen value.now) }
 {
-    value
-        .get("op")
-        .and_then(Value::as_str)
+    tree::member(value, "op")
+        .and_then(tree::text)
         .and_then(operation_named)
         .ok_or(Refusal::Op)
 }
@@ -41,10 +41,10 @@ fn operation_named(name: &str) -> Option<Operation>
 }
 
 // The moment of the event.
-pub(crate) fn moment(value: &Value) -> Result<Moment, Refusal>
-    ensures { result ≡ moment_of (view value.now) }
+pub(crate) fn moment(value: &Value<'_>) -> Result<Moment, Refusal>
+    ensures { result ≡ moment_of (seen value.now) }
 {
-    let seconds = value.get("at").and_then(Value::as_u64);
+    let seconds = tree::member(value, "at").and_then(tree::whole_number);
     match seconds {
         Some(seconds) if seconds < MOMENT_END => Ok(Moment::from_seconds(seconds as i64)),
         _ => Err(Refusal::Field(FieldName::At)),
@@ -52,28 +52,27 @@ pub(crate) fn moment(value: &Value) -> Result<Moment, Refusal>
 }
 
 // The number of the request.
-pub(crate) fn id(value: &Value) -> Result<u64, Refusal>
-    ensures { result ≡ id_of (view value.now) }
+pub(crate) fn id(value: &Value<'_>) -> Result<u64, Refusal>
+    ensures { result ≡ id_of (seen value.now) }
 {
-    value
-        .get("id")
-        .and_then(Value::as_u64)
+    tree::member(value, "id")
+        .and_then(tree::whole_number)
         .ok_or(Refusal::Field(FieldName::Id))
 }
 
 // The key: the bytes that it names, and its tag.
-pub(crate) fn key(alloc: Global, value: &Value) -> Result<CacheKey, Stop>
-    ensures { IsRead result (key_of (view value.now)) }
+pub(crate) fn key(alloc: Global, value: &Value<'_>) -> Result<CacheKey, Stop>
+    ensures { IsRead result (key_of (seen value.now)) }
 {
     let primary = primary(alloc, value)?;
     let tag = tag(alloc, value)?;
     Ok(CacheKey::new(primary, tag))
 }
 
-fn primary(alloc: Global, value: &Value) -> Result<Vec<u8>, Stop>
-    ensures { IsReadAs (λ bytes. bytes.items) result (primary_of (view value.now)) }
+fn primary(alloc: Global, value: &Value<'_>) -> Result<Vec<u8>, Stop>
+    ensures { IsReadAs (λ bytes. bytes.items) result (primary_of (seen value.now)) }
 {
-    let Some(text) = value.get("key").and_then(Value::as_str) else {
+    let Some(text) = tree::member(value, "key").and_then(tree::text) else {
         return Err(Stop::Refused(Refusal::Field(FieldName::Key)));
     };
     match decode(alloc, text)? {
@@ -82,36 +81,36 @@ fn primary(alloc: Global, value: &Value) -> Result<Vec<u8>, Stop>
     }
 }
 
-fn tag(alloc: Global, value: &Value) -> Result<String, Stop>
-    ensures { IsReadAs string_bytes result (tag_of (view value.now)) }
+fn tag(alloc: Global, value: &Value<'_>) -> Result<String, Stop>
+    ensures { IsReadAs string_bytes result (tag_of (seen value.now)) }
 {
-    let Some(tag) = value.get("tag") else {
+    let Some(tag) = tree::member(value, "tag") else {
         return Ok(String::new(alloc));
     };
-    match tag.as_str() {
+    match tree::text(tag) {
         Some(text) => Ok(String::from_str(alloc, text)?),
         None => Err(Stop::Refused(Refusal::Field(FieldName::Tag))),
     }
 }
 
 // Checks that no lock is requested.
-pub(crate) fn check_lock(value: &Value) -> Result<(), Refusal>
-    ensures { result ≡ lock_of (view value.now) }
+pub(crate) fn check_lock(value: &Value<'_>) -> Result<(), Refusal>
+    ensures { result ≡ lock_of (seen value.now) }
 {
-    let Some(lock) = value.get("lock") else {
+    let Some(lock) = tree::member(value, "lock") else {
         return Ok(());
     };
-    match lock.as_bool() {
+    match tree::flag(lock) {
         Some(false) => Ok(()),
         _ => Err(Refusal::Field(FieldName::Lock)),
     }
 }
 
 // The pieces of a response.
-pub(crate) fn pieces(alloc: Global, value: &Value) -> Result<Pieces, Stop>
-    ensures { IsRead result (pieces_of (view value.now)) }
+pub(crate) fn pieces(alloc: Global, value: &Value<'_>) -> Result<Pieces, Stop>
+    ensures { IsRead result (pieces_of (seen value.now)) }
 {
-    let Some(values) = value.get("pieces").and_then(Value::as_array) else {
+    let Some(values) = tree::member(value, "pieces").and_then(tree::items) else {
         return Err(Stop::Refused(Refusal::Field(FieldName::Pieces)));
     };
     match all_bytes(alloc, values)? {
@@ -120,8 +119,8 @@ pub(crate) fn pieces(alloc: Global, value: &Value) -> Result<Pieces, Stop>
     }
 }
 
-fn all_bytes(alloc: Global, values: &Vec<Value>) -> Result<Option<Vec<Bytes>>, AllocError>
-    ensures { IfOk result (λ found. option_map (λ v. v.items) found ≡ all_bytes_of (items_view values.now.items)) }
+fn all_bytes(alloc: Global, values: &Vec<Value<'_>>) -> Result<Option<Vec<Bytes>>, AllocError>
+    ensures { IfOk result (λ found. option_map (λ v. v.items) found ≡ all_bytes_of (items_seen values.now.items)) }
 {
     let mut all = Vec::new(alloc);
     for value in values {
@@ -133,10 +132,10 @@ fn all_bytes(alloc: Global, values: &Vec<Value>) -> Result<Option<Vec<Bytes>>, A
     Ok(Some(all))
 }
 
-fn bytes(alloc: Global, value: &Value) -> Result<Option<Bytes>, AllocError>
-    ensures { IfOk result (λ found. found ≡ bytes_of (view value.now)) }
+fn bytes(alloc: Global, value: &Value<'_>) -> Result<Option<Bytes>, AllocError>
+    ensures { IfOk result (λ found. found ≡ bytes_of (seen value.now)) }
 {
-    let Some(text) = value.as_str() else {
+    let Some(text) = tree::text(value) else {
         return Ok(None);
     };
     match decode(alloc, text)? {

@@ -4,5 +4,7 @@
 mod fields;
 mod hex_text;
 pub mod line;
+mod number;
 pub mod read;
 pub mod text;
+mod tree;

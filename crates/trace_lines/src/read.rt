@@ -1,58 +1,68 @@
 //! Reading a line.
 ghost use Rattle.std.specs.Prelude.{◌≡◌, IfOk};
-ghost use Rattle.serde_json.specs.View.{view};
-ghost use Rattle.trace_lines.specs.Lines.{action_of, event_of, json_of, event_in, line_of, IsRead, IsReadAs};
+ghost use Rattle.trace_lines.specs.Lines.{action_of, event_of, event_in, line_of, IsRead};
+ghost use Rattle.trace_lines.specs.Trees.{seen};
 
-use crate::fields;
 use crate::line::{Line, Operation, Refusal, Stop};
-use serde_json::{Category, Value};
+use crate::{fields, tree};
+use json::{Scratch, Value};
 use std::alloc::{AllocError, Global};
 use tier_model::event::{Action, Event};
 
-/// Reads a line, given without its line feed. The only error is out of memory.
-pub fn read_line(alloc: Global, bytes: &[u8]) -> Result<Line, AllocError>
-    ensures { IfOk result (λ line. line ≡ line_of bytes.now) }
-{
-    match event_in(alloc, bytes) {
-        Ok(event) => Ok(Line::Asked(event)),
-        Err(Stop::Refused(refusal)) => Ok(Line::Refused(refusal)),
-        Err(Stop::Memory) => Err(AllocError),
+// After a longer line no room for such lines is kept.
+const MOST_KEPT: usize = 1 << 20;
+
+/// Reads lines. It keeps what a read needs from line to line: 16 KiB, and room for the longest line, which is given back
+/// after a line of more than 1 MiB.
+#[derive(Drop)]
+pub struct LineReader {
+    scratch: Scratch,
+}
+
+impl LineReader {
+    pub fn new(alloc: Global) -> LineReader {
+        LineReader {
+            scratch: Scratch::new(alloc),
+        }
+    }
+
+    /// Reads a line, given without its line feed. The only error is out of memory.
+    pub fn read(&mut self, alloc: Global, bytes: &[u8]) -> Result<Line, AllocError>
+        ensures { IfOk result (λ line. line ≡ line_of bytes.now) }
+    {
+        let outcome = event_in(alloc, bytes, &mut self.scratch);
+        if bytes.len() > MOST_KEPT {
+            self.scratch = Scratch::new(alloc);
+        }
+        match outcome {
+            Ok(event) => Ok(Line::Asked(event)),
+            Err(Stop::Refused(refusal)) => Ok(Line::Refused(refusal)),
+            Err(Stop::Memory) => Err(AllocError),
+        }
     }
 }
 
-fn event_in(alloc: Global, bytes: &[u8]) -> Result<Event, Stop>
+fn event_in(alloc: Global, bytes: &[u8], scratch: &mut Scratch) -> Result<Event, Stop>
     ensures { IsRead result (event_in bytes.now) }
 {
-    let value = json(alloc, bytes)?;
-    if !value.is_object() {
+    let value = tree::parse(alloc, bytes, scratch)?;
+    if !tree::is_object(&value) {
         return Err(Stop::Refused(Refusal::NotObject));
     }
     let operation = fields::operation(&value)?;
     event(alloc, operation, &value)
 }
 
-fn json(alloc: Global, bytes: &[u8]) -> Result<Value, Stop>
-    ensures { IsReadAs view result (json_of bytes.now) }
-{
-    match Value::from_slice(alloc, bytes) {
-        Ok(value) => Ok(value),
-        Err(error) => match error.classify() {
-            Category::Memory => Err(Stop::Memory),
-            _ => Err(Stop::Refused(Refusal::NotJson)),
-        },
-    }
-}
-
-fn event(alloc: Global, operation: Operation, value: &Value) -> Result<Event, Stop>
-    ensures { IsRead result (event_of operation (view value.now)) }
+fn event(alloc: Global, operation: Operation, value: &Value<'_>) -> Result<Event, Stop>
+    ensures { IsRead result (event_of operation (seen value.now)) }
 {
     let moment = fields::moment(value)?;
     let action = action(alloc, operation, value)?;
     Ok(Event { moment, action })
 }
 
-fn action(alloc: Global, operation: Operation, value: &Value) -> Result<Action, Stop>
-    ensures { IsRead result (action_of operation (view value.now)) }
+fn action(alloc: Global, operation: Operation, value: &Value<'_>) -> Result<Action, Stop>
+    ensures { IsRead result (action_of operation (seen value.now)) }
 {
     match operation {
         Operation::Open => open(alloc, value),
@@ -72,8 +82,8 @@ fn action(alloc: Global, operation: Operation, value: &Value) -> Result<Action, 
     }
 }
 
-fn open(alloc: Global, value: &Value) -> Result<Action, Stop>
-    ensures { IsRead result (action_of Operation.Open (view value.now)) }
+fn open(alloc: Global, value: &Value<'_>) -> Result<Action, Stop>
+    ensures { IsRead result (action_of Operation.Open (seen value.now)) }
 {
     let request = fields::id(value)?;
     let key = fields::key(alloc, value)?;
@@ -81,8 +91,8 @@ fn open(alloc: Global, value: &Value) -> Result<Action, Stop>
     Ok(Action::Open { request, key })
 }
 
-fn put(alloc: Global, value: &Value) -> Result<Action, Stop>
-    ensures { IsRead result (action_of Operation.Put (view value.now)) }
+fn put(alloc: Global, value: &Value<'_>) -> Result<Action, Stop>
+    ensures { IsRead result (action_of Operation.Put (seen value.now)) }
 {
     let key = fields::key(alloc, value)?;
     let pieces = fields::pieces(alloc, value)?;

@@ -280,3 +280,9 @@ pub halfway_spent : (settings : Settings) (reads : ℕ) (input rest held written
     → Halfway settings reads input rest held written waiting state → 2 ^ 64 - 1 ≤ reads → IfSome input (λ trace. 2 ^ 64 - 1 ≤ length (lines_in trace))
 halfway_spent settings reads None rest held written waiting state half many = tt
 halfway_spent settings reads (Some trace) rest held written waiting state half many = omega (arith, half.counted)
+
+-- at least as many lines as reads
+pub halfway_counted : (settings : Settings) (most reads : ℕ) (input rest held written : Option (List ℕ)) (waiting : List ℕ) (state : State)
+    → most ≤ reads → Halfway settings reads input rest held written waiting state → IfSome input (λ trace. most ≤ length (lines_in trace))
+halfway_counted settings most reads None rest held written waiting state enough half = tt
+halfway_counted settings most reads (Some trace) rest held written waiting state enough half = omega (arith, enough, half.counted)

@@ -27,7 +27,7 @@ use std::io::{Read, Write};
 use thiserror::Error;
 use tier_model::event::Event;
 use trace_lines::line::Line;
-use trace_lines::read::read_line;
+use trace_lines::read::LineReader;
 use trace_lines::text::{outcome_line, refusal_line, report_line};
 
 // The age of a permit, in seconds.
@@ -96,6 +96,7 @@ pub fn run<R: Read, W: Write>(
 {
     let mut tier = tier_for(alloc, options)?;
     let mut input = Input::new(alloc)?;
+    let mut lines = LineReader::new(alloc);
     let mut rng = Pcg64::seed_from_u64(0);
     let mut waiting = Vec::new(alloc);
     for _ in 0..u64::MAX {
@@ -104,7 +105,7 @@ pub fn run<R: Read, W: Write>(
             return finish(alloc, &tier, &mut waiting, writer);
         }
         let line = bare(input.front(len));
-        if let Err(error) = add_answer(alloc, &mut tier, &mut rng, line, &mut waiting) {
+        if let Err(error) = add_answer(alloc, &mut tier, &mut lines, &mut rng, line, &mut waiting) {
             hand_on(&mut waiting, writer)?;
             return Err(error);
         }
@@ -197,6 +198,7 @@ fn bare(line: &[u8]) -> &[u8]
 fn add_answer<G: Rng>(
     alloc: Global,
     tier: &mut Tier<1>,
+    lines: &mut LineReader,
     rng: &mut G,
     line: &[u8],
     waiting: &mut Vec<u8>,
@@ -205,7 +207,7 @@ fn add_answer<G: Rng>(
     ensures err { OnErr result (waiting.new.items ≡ waiting.old.items) }
     ensures other { IfErr result IsOther }
 {
-    let text = answer(alloc, tier, rng, line)?;
+    let text = answer(alloc, tier, lines, rng, line)?;
     waiting.extend_from_slice(text.as_bytes())?;
     Ok(())
 }
@@ -214,13 +216,14 @@ fn add_answer<G: Rng>(
 fn answer<G: Rng>(
     alloc: Global,
     tier: &mut Tier<1>,
+    lines: &mut LineReader,
     rng: &mut G,
     line: &[u8],
 ) -> Result<String, ReplayError>
     ensures answered { IfOk result (λ text. Answers tier.old tier.new (line_of line.now) (string_bytes text)) }
     ensures other { IfErr result IsOther }
 {
-    let mut text = reply(alloc, tier, rng, line)?;
+    let mut text = reply(alloc, tier, lines, rng, line)?;
     text.push('\n')?;
     Ok(text)
 }
@@ -229,13 +232,14 @@ fn answer<G: Rng>(
 fn reply<G: Rng>(
     alloc: Global,
     tier: &mut Tier<1>,
+    lines: &mut LineReader,
     rng: &mut G,
     line: &[u8],
 ) -> Result<String, ReplayError>
     ensures answered { IfOk result (λ text. Replies tier.old tier.new (line_of line.now) (string_bytes text)) }
     ensures other { IfErr result IsOther }
 {
-    match read_line(alloc, line)? {
+    match lines.read(alloc, line)? {
         Line::Refused(refusal) => Ok(refusal_line(alloc, &refusal)?),
         Line::Asked(event) => reply_to(alloc, tier, rng, &event),
     }

@@ -7,7 +7,7 @@ use std::test::Fail;
 use tier_model::event::{Action, Answer, Done, Entries, TierFault};
 use tier_model::report::Report;
 use trace_lines::line::{Line, Refusal};
-use trace_lines::read::read_line;
+use trace_lines::read::LineReader;
 use trace_lines::text::{outcome_line, refusal_line, report_line};
 
 // Whether the key is that of the lines below, with this tag.
@@ -24,15 +24,25 @@ fn entry(alloc: Global) -> CompactCacheKey {
 }
 
 // The line that a refused line is answered with.
-fn refused(alloc: Global, line: &[u8]) -> Result<Option<String>, AllocError> {
-    match read_line(alloc, line)? {
+fn refused(
+    lines: &mut LineReader,
+    alloc: Global,
+    line: &[u8],
+) -> Result<Option<String>, AllocError> {
+    match lines.read(alloc, line)? {
         Line::Refused(refusal) => Ok(Some(refusal_line(alloc, &refusal)?)),
         Line::Asked(_) => Ok(None),
     }
 }
 
-fn assert_refused(rt: &impl Abort, alloc: Global, line: &[u8], want: &str) -> Result<(), Fail> {
-    let text = refused(alloc, line)?;
+fn assert_refused(
+    rt: &impl Abort,
+    lines: &mut LineReader,
+    alloc: Global,
+    line: &[u8],
+    want: &str,
+) -> Result<(), Fail> {
+    let text = refused(lines, alloc, line)?;
     let text = text.ok_or("it asks something")?;
     assert_eq!(rt; text.as_str(), want, "at {line:?}");
     Ok(())
@@ -58,8 +68,9 @@ fn bad_lines_are_refused(rt: HostRuntime) -> Result<(), Fail> {
         ),
         (b"{\"op\":\"look\",\"at\":1,\"id\":1.5}", "refused Field id"),
     ];
+    let mut lines = LineReader::new(rt.alloc());
     for (line, want) in table {
-        assert_refused(&rt, rt.alloc(), line, want)?;
+        assert_refused(&rt, &mut lines, rt.alloc(), line, want)?;
     }
     Ok(())
 }
@@ -100,8 +111,39 @@ fn bad_fields_are_refused(rt: HostRuntime) -> Result<(), Fail> {
             "refused Field pieces",
         ),
     ];
+    let mut lines = LineReader::new(rt.alloc());
     for (line, want) in table {
-        assert_refused(&rt, rt.alloc(), line, want)?;
+        assert_refused(&rt, &mut lines, rt.alloc(), line, want)?;
+    }
+    Ok(())
+}
+
+// So many arrays in one another.
+fn nested(alloc: Global, depth: usize) -> Result<Vec<u8>, AllocError> {
+    let mut line = vec![in alloc; b'['; depth]?;
+    line.resize(2 * depth, b']')?;
+    Ok(line)
+}
+
+#[test]
+fn arrays_nest_127_deep(rt: HostRuntime) -> Result<(), Fail> {
+    let mut lines = LineReader::new(rt.alloc());
+    for (depth, want) in [(127, "refused NotObject"), (128, "refused NotJson")] {
+        let line = nested(rt.alloc(), depth)?;
+        assert_refused(&rt, &mut lines, rt.alloc(), line.as_slice(), want)?;
+    }
+    Ok(())
+}
+
+#[test]
+fn a_long_line_leaves_the_reader_as_good(rt: HostRuntime) -> Result<(), Fail> {
+    let mut lines = LineReader::new(rt.alloc());
+    let long = vec![in rt.alloc(); b' '; (1 << 20) + 1]?;
+    for (line, want) in [
+        (long.as_slice(), "refused NotJson"),
+        (b"{\"op\":\"\\u006cook\"}".as_slice(), "refused Field at"),
+    ] {
+        assert_refused(&rt, &mut lines, rt.alloc(), line, want)?;
     }
     Ok(())
 }
@@ -110,7 +152,7 @@ fn bad_fields_are_refused(rt: HostRuntime) -> Result<(), Fail> {
 fn a_put_is_asked(rt: HostRuntime) -> Result<(), Fail> {
     let line =
         b" {\"op\":\"look\",\"at\":9223372036854775807,\"id\":true,\"tag\":\"t\",\"op\":\"put\",\"key\":\"006A\",\"pieces\":[\"\",\"0aFf\"]}\r";
-    let Line::Asked(event) = read_line(rt.alloc(), line)? else {
+    let Line::Asked(event) = LineReader::new(rt.alloc()).read(rt.alloc(), line)? else {
         return Err(Fail::from("it is refused"));
     };
     assert_eq!(rt; event.moment.seconds(), i64::MAX);
@@ -137,8 +179,9 @@ fn every_other_event_is_asked(rt: HostRuntime) -> Result<(), Fail> {
         (b"{\"op\":\"drop\",\"at\":0,\"id\":7}", 3),
         (b"{\"op\":\"purge\",\"at\":0,\"key\":\"006a\"}", 4),
     ];
+    let mut lines = LineReader::new(rt.alloc());
     for (line, want) in table {
-        let asked = match &read_line(rt.alloc(), line)? {
+        let asked = match &lines.read(rt.alloc(), line)? {
             Line::Refused(_) => None,
             Line::Asked(event) => match &event.action {
                 Action::Open { request: 7, key } if is_wanted(key, "") => Some(0),
@@ -228,7 +271,7 @@ fn a_report_is_written(rt: HostRuntime) -> Result<(), Fail> {
 #[test]
 fn out_of_memory_gives_no_other_line(rt: HostRuntime) {
     let line = b"{\"op\":\"put\",\"at\":1,\"key\":\"006a\",\"pieces\":[\"61\",\"62\"]}";
-    match &read_line(rt.alloc(), line) {
+    match &LineReader::new(rt.alloc()).read(rt.alloc(), line) {
         Ok(Line::Asked(event)) => match &event.action {
             Action::Put { pieces, .. } => assert_eq!(rt; pieces.as_slice().len(), 2),
             _ => assert!(rt; false, "it is no put"),

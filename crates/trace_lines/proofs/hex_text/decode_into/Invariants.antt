@@ -1,8 +1,6 @@
--- The bytes so far, in front of those of what is left, are all the bytes.
-use Rattle.std.proofs.Common.{◌≡◌, ◌*◌, take, drop}
-use Rattle.hex.specs.Hex.{decode_pairs}
-use Rattle.hex.proofs.Pairs.{prepend}
+-- The bytes so far, in front of those of what is left, are all the bytes, unless something was no digit.
+use Rattle.trace_lines.proofs.HexLemmas.{SoFar}
 use Rattle.trace_lines.proofs.hex_text.decode_into.Given as goal
 
 abbrev pub invariant-bytes : goal.invariant-bytes
-invariant-bytes l = decode_pairs 0 l.digits ≡ prepend (take l.i l.bytes) (decode_pairs (2 * l.i) (drop (2 * l.i) l.digits))
+invariant-bytes l = SoFar l.highest l.digits l.bytes l.i

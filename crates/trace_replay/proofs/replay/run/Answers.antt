@@ -1,10 +1,10 @@
-use Rattle.std.proofs.Common.{◌<◌, subst, arith}
+use Rattle.std.proofs.Common.{◌-◌, ◌^◌, ◌<◌, subst, arith}
 use Rattle.std.proofs.lemmas.Result.{on_ok_weaker}
 use Rattle.std.specs.Io.KnownBytes.{prepend_known}
 use Rattle.trace_replay.specs.CommandLine.{settings_of}
 use Rattle.trace_replay.specs.Outputs.{HasBegun}
 use Rattle.trace_replay.proofs.OutputLemmas.{begun_whole, on_err, on_err_weaker, not_err}
-use Rattle.trace_replay.proofs.Progress.{Halfway, cut_at_start, halfway_read, halfway_more, halfway_done, halfway_cut, halfway_cut_last}
+use Rattle.trace_replay.proofs.Progress.{Halfway, cut_at_start, halfway_read, halfway_more, halfway_done, halfway_cut, halfway_cut_last, halfway_counted}
 use Rattle.trace_replay.proofs.replay.run.Goals as goal
 
 pub returns-in_err-tier-clause-begun : goal.returns-in_err-tier-clause-begun
@@ -83,3 +83,8 @@ returns-clause-begun g c =
     halfway_cut (settings_of c.args.options.now) c.loop.counter (g.R.Read.remaining c.args.reader.now) (prepend_known c.loop.input (g.R.Read.remaining c.loop.reader)) (g.W.Write.contents c.args.writer.now) (g.W.Write.contents c.loop.writer) (g.W.Write.contents c.hand_on-2.new.writer)
     c.loop.waiting.items c.loop.tier c.loop.invariant
     (begun_whole (g.W.Write.contents c.loop.writer) (g.W.Write.contents c.hand_on-2.new.writer) c.loop.waiting.items c.in_ok-hand_on-2.ensures.written.0)
+
+pub returns-clause-too_many : goal.returns-clause-too_many
+returns-clause-too_many g c never =
+    halfway_counted (settings_of c.args.options.now) (2 ^ 64 - 1) c.loop.counter (g.R.Read.remaining c.args.reader.now) (prepend_known c.loop.input (g.R.Read.remaining c.loop.reader)) (g.W.Write.contents c.args.writer.now) (g.W.Write.contents c.loop.writer)
+    c.loop.waiting.items c.loop.tier (omega (arith, c.loop-test.false)) c.loop.invariant
