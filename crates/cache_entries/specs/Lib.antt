@@ -1,0 +1,4 @@
+pub mod Entry
+pub mod EntryShown
+pub mod Keys
+pub mod SameEntry
