@@ -1,4 +1,6 @@
 pub mod Entry
 pub mod EntryShown
+pub mod EntryText
 pub mod Keys
+pub mod Rows
 pub mod SameEntry
