@@ -1,3 +1,4 @@
+pub mod BorrowedEntry
 pub mod Entry
 pub mod EntryShown
 pub mod EntryText
