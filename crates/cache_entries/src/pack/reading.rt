@@ -2,9 +2,11 @@
 ghost use Rattle.std.specs.Prelude.{◌≡◌, ◌<◌, ℕ, slice_index};
 ghost use Rattle.cache_words.specs.Cursor.{IsTaken, StepsAs};
 ghost use Rattle.cache_entries.specs.BorrowedEntry.{borrowed_entry};
+ghost use Rattle.cache_entries.specs.BorrowedRow.{borrowed_row};
+ghost use Rattle.cache_entries.specs.RowText.{SpellsRow, row_at};
 ghost use Rattle.cache_entries.specs.EntryText.{SpellsEntry, entry_at, pair_at, alone_at};
 
-use super::BorrowedEntry;
+use super::{BorrowedEntry, BorrowedRow};
 use crate::entry::CacheEntryId;
 use cache_words::pack::{Cursor, PackFault};
 
@@ -57,6 +59,40 @@ pub fn take_entry<'a>(bytes: &mut Cursor<'a>) -> Result<BorrowedEntry<'a>, PackF
         Ok(entry) => {
             *bytes = after;
             Ok(entry)
+        }
+        Err(fault) => Err(fault),
+    }
+}
+
+// A row; after a fault the cursor may be anywhere.
+#[tactic(auto, unfolding(crate::specs::RowText::row_at))]
+fn row<'a>(bytes: &mut Cursor<'a>) -> Result<BorrowedRow<'a>, PackFault>
+    ensures { StepsAs borrowed_row row_at bytes.old.rest.now bytes.new.rest.now result }
+{
+    bytes.array_of(2)?;
+    let entry = entry(bytes)?;
+    let weight = bytes.number()?;
+    Ok(BorrowedRow {
+        entry,
+        weight: weight as usize,
+    })
+}
+
+/// Takes a row of an order of use: an array of an entry and its weight.
+///
+/// # Errors
+///
+/// The first fault from the left; nothing is taken then.
+pub fn take_row<'a>(bytes: &mut Cursor<'a>) -> Result<BorrowedRow<'a>, PackFault>
+    ensures { IsTaken borrowed_row row_at SpellsRow bytes.old.rest.now bytes.new.rest.now result }
+{
+    let mut after = Cursor {
+        rest: checked(bytes.rest),
+    };
+    match row(&mut after) {
+        Ok(row) => {
+            *bytes = after;
+            Ok(row)
         }
         Err(fault) => Err(fault),
     }

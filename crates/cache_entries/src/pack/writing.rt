@@ -2,6 +2,7 @@
 ghost use Rattle.std.specs.Prelude.{◌≡◌, ◌+◌, ◌<◌, ◌≤◌, ◌^◌, ◌↔◌, ℕ, length, OnOk, OnErr, IsOk, IsErrOf, Some};
 ghost use Rattle.cache_words.specs.Hasher.{Holds};
 ghost use Rattle.cache_entries.specs.Entry.{owned_of, key_of};
+ghost use Rattle.cache_entries.specs.RowText.{row_text};
 ghost use Rattle.cache_entries.specs.EntryText.{entry_text, entry_hash, HasText};
 
 use crate::entry::CacheEntryKeyRef;
@@ -9,7 +10,10 @@ use cache_words::blake::Blake2b128;
 use cache_words::pack::{PackWriteFault, Sink, writing};
 
 /// The most bytes of an entry beside those of its tag.
-pub const ENTRY_ROOM: usize = 90;
+pub const ENTRY_ROOM: usize = 86;
+
+/// The most bytes of a row beside those of its tag.
+pub const ROW_ROOM: usize = 96;
 
 // An entry, for which there is room.
 fn add_entry<S: Sink>(out: &mut S, entry: CacheEntryKeyRef<'_>)
@@ -42,6 +46,28 @@ pub fn put_entry<S: Sink>(out: &mut S, entry: CacheEntryKeyRef<'_>) -> Result<()
     }
     out.reserve(ENTRY_ROOM + tag_len)?;
     add_entry(out, entry);
+    Ok(())
+}
+
+/// Adds a row of an order of use: an array of its entry and its weight. One whose tag has 2^32 bytes or more is `TooLong`.
+pub fn put_row<S: Sink>(
+    out: &mut S,
+    entry: CacheEntryKeyRef<'_>,
+    weight: usize,
+) -> Result<(), PackWriteFault>
+    ensures ok { OnOk result (S.adds out.old (row_text (record { entry = owned_of entry.entry; weight = weight })) out.new) }
+    ensures err { OnErr result (S.same out.old out.new) }
+    ensures long { IsErrOf result PackWriteFault.TooLong ↔ (2 ^ 32 ≤ length (key_of (owned_of entry.entry)).user_tag) }
+    ensures succeeds { HasText (owned_of entry.entry) → S.has_room out.old (ROW_ROOM + length (key_of (owned_of entry.entry)).user_tag) → IsOk result }
+{
+    let tag_len = entry.key().user_tag.as_str().len();
+    if tag_len > u32::MAX as usize {
+        return Err(PackWriteFault::TooLong);
+    }
+    out.reserve(ROW_ROOM + tag_len)?;
+    writing::add_array(out, 2);
+    add_entry(out, entry);
+    writing::add_number(out, weight as u64);
     Ok(())
 }
 
