@@ -25,9 +25,10 @@ pub const MOMENT_ROOM: usize = 15;
 /// The most bytes of a kept key beside those of its tag.
 pub const KEY_ROOM: usize = 76;
 
-// The private writers find room for what they add.
+// A writer `add_..` finds room for what it adds; a writer `put_..` makes it.
 
-fn add_number<S: Sink>(out: &mut S, number: u64)
+/// Adds a number, for which there is room.
+pub fn add_number<S: Sink>(out: &mut S, number: u64)
     requires { S.has_room out.old (length (shortest numbers number)) }
     ensures adds { S.adds out.old (shortest numbers number) out.new }
     ensures room { (n : ℕ) → S.has_room out.old (length (shortest numbers number) + n) → S.has_room out.new n }
@@ -48,7 +49,8 @@ fn add_number<S: Sink>(out: &mut S, number: u64)
     }
 }
 
-fn add_array<S: Sink>(out: &mut S, count: u32)
+/// Adds how many items an array has, for which there is room. The items are to follow.
+pub fn add_array<S: Sink>(out: &mut S, count: u32)
     requires { S.has_room out.old (length (shortest arrays count)) }
     ensures adds { S.adds out.old (shortest arrays count) out.new }
     ensures room { (n : ℕ) → S.has_room out.old (length (shortest arrays count) + n) → S.has_room out.new n }
@@ -128,6 +130,19 @@ fn add_optional_hash<S: Sink>(out: &mut S, hash: Option<HashBinary>)
         Some(hash) => add_hash(out, &hash),
         None => out.put(&[0xc0]),
     }
+}
+
+/// Adds a kept key, for which there is room.
+pub fn add_key<S: Sink>(out: &mut S, key: &CompactCacheKey)
+    requires short { length key.now.user_tag < 2 ^ 32 }
+    requires room { S.has_room out.old (KEY_ROOM + length key.now.user_tag) }
+    ensures adds { S.adds out.old (key_text_of (compact_view key.now)) out.new }
+    ensures room { (n : ℕ) → S.has_room out.old (KEY_ROOM + length key.now.user_tag + n) → S.has_room out.new n }
+{
+    add_array(out, 3);
+    add_hash(out, &key.primary);
+    add_optional_hash(out, key.variance);
+    add_text(out, key.user_tag.as_str());
 }
 
 /// Adds a number.
@@ -250,9 +265,6 @@ pub fn put_key<S: Sink>(out: &mut S, key: &CompactCacheKey) -> Result<(), PackWr
         return Err(PackWriteFault::TooLong);
     }
     out.reserve(KEY_ROOM + user_tag.len())?;
-    add_array(out, 3);
-    add_hash(out, &key.primary);
-    add_optional_hash(out, key.variance);
-    add_text(out, user_tag);
+    add_key(out, key);
     Ok(())
 }
