@@ -46,3 +46,6 @@ loop-shard-preserved-in-Err g c = record {
       (saved-err c.ranges.shards.fits c.save_shard.new.folder c.loop-shard.failed.items c.loop-shard.shard c.in-Err.failure c.loop-shard-test.true
       (c.loop-shard.invariant.so_far kept) c.loop-shard.invariant.numbered (c.in-Err.ensures.left kept) (c.save_shard.ensures.stops kept));
 }
+
+pub returns-clause-counts : goal.returns-clause-counts
+returns-clause-counts g c = search rules
