@@ -205,3 +205,28 @@ fn bounds_a_head(rt: HostRuntime) {
         );
     }
 }
+
+// A head of one line too many, and these bytes after it.
+fn too_long(alloc: Global, after: &str) -> Result<String, AllocError> {
+    let mut head = String::from_str(alloc, "HTTP/1.1 200 OK\r\n")?;
+    for _ in 0..257 {
+        head.push_str("A: b\r\n")?;
+    }
+    head.push_str(after)?;
+    Ok(head)
+}
+
+#[test]
+fn waits_only_at_the_end_of_a_line_too_many(rt: HostRuntime) {
+    let alloc = rt.alloc();
+    for (after, want) in [("", "Incomplete"), ("A", "BadHead"), ("\r\n", "BadHead")] {
+        let Ok(bytes) = too_long(alloc, after) else {
+            return;
+        };
+        let got = outcomes(alloc, bytes.as_bytes(), 9000, 0, &[]);
+        assert!(rt;
+            got.is_err() || got.as_ref().is_ok_and(|text| text.as_str() == want),
+            "{after:?}: {got:?}"
+        );
+    }
+}
