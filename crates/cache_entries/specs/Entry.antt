@@ -16,7 +16,7 @@ owned_of (borrowed.Identified key id) = owned.Identified key.now id
 -- the entry of a key, with an id or without one
 abbrev pub entry_with : CompactCacheKey → Option ℕ → CacheEntryKey
 entry_with key None = owned.KeyOnly key
-entry_with key (Some id) = owned.Identified key id
+entry_with key (Some id) = owned.Identified key (record { 0 = id })
 
 abbrev pub key_of : CacheEntryKey → CompactCacheKey
 key_of (owned.KeyOnly key) = key
@@ -25,7 +25,7 @@ key_of (owned.Identified key id) = key
 -- the id, if there is one
 abbrev pub id_of : CacheEntryKey → Option ℕ
 id_of (owned.KeyOnly key) = None
-id_of (owned.Identified key id) = Some id
+id_of (owned.Identified key id) = Some id.0
 
 abbrev pub same_id : Option ℕ → Option ℕ → Bool
 same_id None None = true

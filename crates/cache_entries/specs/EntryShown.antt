@@ -9,4 +9,4 @@ use Rattle.cache_entries.specs.declared.entry.CacheEntryKey.TheVariants.{KeyOnly
 -- an entry for people to read: its key, and then the id in lower-case hex
 abbrev pub shown_entry : CacheEntryKey → List ℕ
 shown_entry (KeyOnly key) = shown (compact_view key)
-shown_entry (Identified key id) = shown (compact_view key) ++ (codes ", entry ID: " ++ digits 16 false id)
+shown_entry (Identified key id) = shown (compact_view key) ++ (codes ", entry ID: " ++ digits 16 false id.0)

@@ -20,7 +20,7 @@ kept_key k = record { primary = k.primary; variance = k.variance; user_tag = k.u
 -- what is written: a key alone, or an array of a key and an id
 abbrev pub entry_text : CacheEntryKey → List ℕ
 entry_text (KeyOnly key) = key_text_of (compact_view key)
-entry_text (Identified key id) = shortest arrays 2 ++ (key_text_of (compact_view key) ++ shortest numbers id)
+entry_text (Identified key id) = shortest arrays 2 ++ (key_text_of (compact_view key) ++ shortest numbers id.0)
 
 -- a key alone, which has no id
 abbrev pub SpellsAlone : Spelling CacheEntryKey

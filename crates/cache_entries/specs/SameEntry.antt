@@ -65,7 +65,7 @@ two_equal : (a b : CacheEntryKey) → key_of a ≡ key_of b → id_of a ≡ id_o
 two_equal (KeyOnly a) (KeyOnly b) k i = ap (λ (x : CompactCacheKey). KeyOnly x) k
 two_equal (KeyOnly a) (Identified b j) k i = absurd cc
 two_equal (Identified a j) (KeyOnly b) k i = absurd cc
-two_equal (Identified a j) (Identified b h) k i = let same : j ≡ h = cc in λ t. Identified (k t) (same t)
+two_equal (Identified a j) (Identified b h) k i = let same : j.0 ≡ h.0 = cc in λ t. Identified (k t) (record { 0 = same t })
 
 same_entry-equal : (a b : CacheEntryKey) → same_entry a b ≡ true → a ≡ b
 same_entry-equal a b e =

@@ -1,5 +1,5 @@
 //! Entries, owned and borrowed.
-ghost use Rattle.std.specs.Prelude.{◌≡◌, Some, None, IfOk, [], replicate};
+ghost use Rattle.std.specs.Prelude.{◌≡◌, Some, None, IfOk, [], replicate, option_map};
 ghost use Rattle.std.specs.Cmp.{partial_equiv_from_equiv, on_per, on_equiv};
 ghost use Rattle.cache_words.specs.CompactKey.{compact_view};
 ghost use Rattle.cache_entries.specs.Entry.{owned_of, entry_with, same_entry, id_of, key_of, entry_writes};
@@ -11,33 +11,22 @@ use indexmap::Equivalent;
 use std::alloc::{AllocError, Global};
 use std::fmt;
 use std::hash::{Hash, Hasher};
-use std::marker::Model;
 
 /// The id of one stored body.
 #[derive(Clone, Copy, PartialEq, Eq, PartialOrd, Ord, Hash, Debug)]
 pub struct CacheEntryId(u64);
 
-impl Model for CacheEntryId {
-    ghost use Rattle.std.specs.Prelude.{ℕ};
-
-    ghost Value = { ℕ };
-
-    ghost view = { λ id. id.0 };
-
-    ghost inverse = { λ n. record { 0 = n } };
-}
-
 impl CacheEntryId {
     /// The id of this number.
     pub fn new(value: u64) -> CacheEntryId
-        ensures { result ≡ value }
+        ensures { result.0 ≡ value }
     {
         CacheEntryId(value)
     }
 
     /// The number.
     pub fn get(self) -> u64
-        ensures { result ≡ self }
+        ensures { result ≡ self.0 }
     {
         self.0
     }
@@ -75,7 +64,7 @@ pub enum CacheEntryKeyRef<'a> {
 impl CacheEntryKey {
     /// The entry of a key, with an id or without one.
     pub fn from_entry_id(key: CompactCacheKey, id: Option<CacheEntryId>) -> CacheEntryKey
-        ensures { result ≡ entry_with key id }
+        ensures { result ≡ entry_with key (option_map (λ i. i.0) id) }
     {
         match id {
             Some(id) => CacheEntryKey::Identified { key, id },
@@ -127,7 +116,7 @@ impl CacheEntryKey {
 
     /// The id, if there is one.
     pub fn entry_id(&self) -> Option<CacheEntryId>
-        ensures { result ≡ id_of self.now }
+        ensures { option_map (λ i. i.0) result ≡ id_of self.now }
     {
         match self {
             CacheEntryKey::KeyOnly(_) => None,
@@ -139,7 +128,7 @@ impl CacheEntryKey {
 impl<'a> CacheEntryKeyRef<'a> {
     /// The entry of a key, with an id or without one.
     pub fn from_entry_id(key: &'a CompactCacheKey, id: Option<CacheEntryId>) -> CacheEntryKeyRef<'a>
-        ensures { owned_of result ≡ entry_with key.now id }
+        ensures { owned_of result ≡ entry_with key.now (option_map (λ i. i.0) id) }
     {
         match id {
             Some(id) => CacheEntryKeyRef::Identified { key, id },
@@ -159,7 +148,7 @@ impl<'a> CacheEntryKeyRef<'a> {
 
     /// The id, if there is one.
     pub fn entry_id(self) -> Option<CacheEntryId>
-        ensures { result ≡ id_of (owned_of self.entry) }
+        ensures { option_map (λ i. i.0) result ≡ id_of (owned_of self.entry) }
     {
         match self {
             CacheEntryKeyRef::KeyOnly(_) => None,
@@ -183,7 +172,7 @@ impl<'a> CacheEntryKeyRef<'a> {
     // The key, and the id if there is one.
     fn parts(&self) -> (&'a CompactCacheKey, Option<CacheEntryId>)
         ensures key { result.0.now ≡ key_of (owned_of self.now) }
-        ensures id { result.1 ≡ id_of (owned_of self.now) }
+        ensures id { option_map (λ i. i.0) result.1 ≡ id_of (owned_of self.now) }
     {
         match self {
             CacheEntryKeyRef::KeyOnly(key) => (*key, None),

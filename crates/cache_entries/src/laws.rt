@@ -3,7 +3,7 @@ ghost use Rattle.std.specs.Prelude.{◌≡◌, ◌↔◌, ℕ, true, false};
 ghost use Rattle.std.specs.Ordering.{is_eq};
 ghost use Rattle.cache_entries.specs.Entry.{owned_of, same_entry};
 
-use crate::entry::{CacheEntryKey, CacheEntryKeyRef};
+use crate::entry::{CacheEntryId, CacheEntryKey, CacheEntryKeyRef};
 use cache_words::key::CompactCacheKey;
 use std::hash::Hash;
 
@@ -23,6 +23,6 @@ pub fn borrowed_is_owned()
 
 /// A key without an id is another entry than that key with an id.
 pub fn ids_tell_entries_apart()
-    ensures without { (key : CompactCacheKey) (id : ℕ) → same_entry (CacheEntryKey.KeyOnly key) (CacheEntryKey.Identified key id) ≡ false }
-    ensures with { (key : CompactCacheKey) (i j : ℕ) → same_entry (CacheEntryKey.Identified key i) (CacheEntryKey.Identified key j) ≡ true → i ≡ j }
+    ensures without { (key : CompactCacheKey) (id : CacheEntryId) → same_entry (CacheEntryKey.KeyOnly key) (CacheEntryKey.Identified key id) ≡ false }
+    ensures with { (key : CompactCacheKey) (i j : CacheEntryId) → same_entry (CacheEntryKey.Identified key i) (CacheEntryKey.Identified key j) ≡ true → i.0 ≡ j.0 }
 {}
