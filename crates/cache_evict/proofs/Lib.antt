@@ -1,0 +1,4 @@
+pub mod RestLaws
+pub mod PlaceLaws
+pub mod SwapLaws
+pub mod FreeLaws

@@ -1,0 +1,4 @@
+//! Which entries of a cache are tracked, in which order they were used, and which are evicted.
+#![tactic(auto)]
+
+pub mod numbers;
