@@ -2,11 +2,16 @@
 use Rattle.std.specs.Prelude.{ℕ, ◌==◌, ◌&&◌, ◌++◌, Bool, true, false, Option, Some, None}
 use Rattle.std.specs.Hash as fed
 use Rattle.cache_words.specs.declared.key.CompactCacheKey.{CompactCacheKey}
+use Rattle.cache_entries.specs.declared.entry.CacheEntryId.{CacheEntryId}
 use Rattle.cache_entries.specs.declared.entry.CacheEntryKey.{CacheEntryKey}
 use Rattle.cache_entries.specs.declared.entry.CacheEntryKey.TheVariants as owned
 use Rattle.cache_entries.specs.declared.entry.CacheEntryKeyRef.{CacheEntryKeyRef}
 use Rattle.cache_entries.specs.declared.entry.CacheEntryKeyRef.TheVariants as borrowed
 use Rattle.cache_entries.specs.Keys.{same_key, key_writes}
+
+-- the number that an id is
+abbrev pub number_of : CacheEntryId → ℕ
+number_of id = id.0
 
 -- the entry that a borrowed one stands for
 abbrev pub owned_of : CacheEntryKeyRef → CacheEntryKey
@@ -16,7 +21,7 @@ owned_of (borrowed.Identified key id) = owned.Identified key.now id
 -- the entry of a key, with an id or without one
 abbrev pub entry_with : CompactCacheKey → Option ℕ → CacheEntryKey
 entry_with key None = owned.KeyOnly key
-entry_with key (Some id) = owned.Identified key (record { 0 = id })
+entry_with key (Some n) = owned.Identified key (record { 0 = n })
 
 abbrev pub key_of : CacheEntryKey → CompactCacheKey
 key_of (owned.KeyOnly key) = key
@@ -25,7 +30,7 @@ key_of (owned.Identified key id) = key
 -- the id, if there is one
 abbrev pub id_of : CacheEntryKey → Option ℕ
 id_of (owned.KeyOnly key) = None
-id_of (owned.Identified key id) = Some id.0
+id_of (owned.Identified key id) = Some (number_of id)
 
 abbrev pub same_id : Option ℕ → Option ℕ → Bool
 same_id None None = true

@@ -11,7 +11,7 @@ use Rattle.cache_words.specs.Items.{Spelling, SpellBoth, SpellItems, Reader, opt
 use Rattle.cache_words.specs.Reading.{◌>>=◌, number_at, key_at}
 use Rattle.cache_entries.specs.declared.entry.CacheEntryKey.{CacheEntryKey}
 use Rattle.cache_entries.specs.declared.entry.CacheEntryKey.TheVariants.{KeyOnly, Identified}
-use Rattle.cache_entries.specs.Entry.{entry_with, key_of, id_of}
+use Rattle.cache_entries.specs.Entry.{number_of, entry_with, key_of, id_of}
 
 -- the kept key with these parts
 abbrev pub kept_key : Key → CompactCacheKey
@@ -20,7 +20,7 @@ kept_key k = record { primary = k.primary; variance = k.variance; user_tag = k.u
 -- what is written: a key alone, or an array of a key and an id
 abbrev pub entry_text : CacheEntryKey → List ℕ
 entry_text (KeyOnly key) = key_text_of (compact_view key)
-entry_text (Identified key id) = shortest arrays 2 ++ (key_text_of (compact_view key) ++ shortest numbers id.0)
+entry_text (Identified key id) = shortest arrays 2 ++ (key_text_of (compact_view key) ++ shortest numbers (number_of id))
 
 -- a key alone, which has no id
 abbrev pub SpellsAlone : Spelling CacheEntryKey

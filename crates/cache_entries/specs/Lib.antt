@@ -1,6 +1,10 @@
+pub mod BorrowedEntry
+pub mod BorrowedRow
 pub mod Entry
 pub mod EntryShown
 pub mod EntryText
 pub mod Keys
+pub mod RowText
 pub mod Rows
 pub mod SameEntry
+pub mod Writable

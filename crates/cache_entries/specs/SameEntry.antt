@@ -11,7 +11,7 @@ use Rattle.cache_words.specs.declared.key.CompactCacheKey.{CompactCacheKey}
 use Rattle.cache_entries.specs.declared.entry.CacheEntryKey.{CacheEntryKey}
 use Rattle.cache_entries.specs.declared.entry.CacheEntryKey.TheVariants.{KeyOnly, Identified}
 use Rattle.cache_entries.specs.Keys.{same_bytes, same_variance, same_key}
-use Rattle.cache_entries.specs.Entry.{same_id, same_entry, key_of, id_of}
+use Rattle.cache_entries.specs.Entry.{number_of, same_id, same_entry, key_of, id_of}
 
 -- a test that tells whether two things are equal
 pub record Tells {K : Type 0} (same : K → K → Bool) : Type 0 where
@@ -65,7 +65,7 @@ two_equal : (a b : CacheEntryKey) → key_of a ≡ key_of b → id_of a ≡ id_o
 two_equal (KeyOnly a) (KeyOnly b) k i = ap (λ (x : CompactCacheKey). KeyOnly x) k
 two_equal (KeyOnly a) (Identified b j) k i = absurd cc
 two_equal (Identified a j) (KeyOnly b) k i = absurd cc
-two_equal (Identified a j) (Identified b h) k i = let same : j.0 ≡ h.0 = cc in λ t. Identified (k t) (record { 0 = same t })
+two_equal (Identified a j) (Identified b h) k i = let same : number_of j ≡ number_of h = cc in λ t. Identified (k t) (record { 0 = same t })
 
 same_entry-equal : (a b : CacheEntryKey) → same_entry a b ≡ true → a ≡ b
 same_entry-equal a b e =

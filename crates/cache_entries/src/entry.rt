@@ -1,8 +1,8 @@
 //! Entries, owned and borrowed.
-ghost use Rattle.std.specs.Prelude.{◌≡◌, Some, None, IfOk, [], replicate, option_map};
+ghost use Rattle.std.specs.Prelude.{◌≡◌, option_map, Some, None, IfOk, [], replicate};
 ghost use Rattle.std.specs.Cmp.{partial_equiv_from_equiv, on_per, on_equiv};
 ghost use Rattle.cache_words.specs.CompactKey.{compact_view};
-ghost use Rattle.cache_entries.specs.Entry.{owned_of, entry_with, same_entry, id_of, key_of, entry_writes};
+ghost use Rattle.cache_entries.specs.Entry.{number_of, owned_of, entry_with, same_entry, id_of, key_of, entry_writes};
 ghost use Rattle.cache_entries.specs.EntryShown.{shown_entry};
 ghost use Rattle.cache_entries.specs.SameEntry.{entries_equivalence, same-hashed, same_entry-tells};
 
@@ -19,14 +19,14 @@ pub struct CacheEntryId(u64);
 impl CacheEntryId {
     /// The id of this number.
     pub fn new(value: u64) -> CacheEntryId
-        ensures { result.0 ≡ value }
+        ensures { number_of result ≡ value }
     {
         CacheEntryId(value)
     }
 
     /// The number.
     pub fn get(self) -> u64
-        ensures { result ≡ self.0 }
+        ensures { result ≡ number_of self }
     {
         self.0
     }
@@ -64,7 +64,7 @@ pub enum CacheEntryKeyRef<'a> {
 impl CacheEntryKey {
     /// The entry of a key, with an id or without one.
     pub fn from_entry_id(key: CompactCacheKey, id: Option<CacheEntryId>) -> CacheEntryKey
-        ensures { result ≡ entry_with key (option_map (λ i. i.0) id) }
+        ensures { result ≡ entry_with key (option_map number_of id) }
     {
         match id {
             Some(id) => CacheEntryKey::Identified { key, id },
@@ -116,7 +116,7 @@ impl CacheEntryKey {
 
     /// The id, if there is one.
     pub fn entry_id(&self) -> Option<CacheEntryId>
-        ensures { option_map (λ i. i.0) result ≡ id_of self.now }
+        ensures { option_map number_of result ≡ id_of self.now }
     {
         match self {
             CacheEntryKey::KeyOnly(_) => None,
@@ -128,7 +128,7 @@ impl CacheEntryKey {
 impl<'a> CacheEntryKeyRef<'a> {
     /// The entry of a key, with an id or without one.
     pub fn from_entry_id(key: &'a CompactCacheKey, id: Option<CacheEntryId>) -> CacheEntryKeyRef<'a>
-        ensures { owned_of result ≡ entry_with key.now (option_map (λ i. i.0) id) }
+        ensures { owned_of result ≡ entry_with key.now (option_map number_of id) }
     {
         match id {
             Some(id) => CacheEntryKeyRef::Identified { key, id },
@@ -148,7 +148,7 @@ impl<'a> CacheEntryKeyRef<'a> {
 
     /// The id, if there is one.
     pub fn entry_id(self) -> Option<CacheEntryId>
-        ensures { option_map (λ i. i.0) result ≡ id_of (owned_of self.entry) }
+        ensures { option_map number_of result ≡ id_of (owned_of self.entry) }
     {
         match self {
             CacheEntryKeyRef::KeyOnly(_) => None,
@@ -172,7 +172,7 @@ impl<'a> CacheEntryKeyRef<'a> {
     // The key, and the id if there is one.
     fn parts(&self) -> (&'a CompactCacheKey, Option<CacheEntryId>)
         ensures key { result.0.now ≡ key_of (owned_of self.now) }
-        ensures id { option_map (λ i. i.0) result.1 ≡ id_of (owned_of self.now) }
+        ensures id { option_map number_of result.1 ≡ id_of (owned_of self.now) }
     {
         match self {
             CacheEntryKeyRef::KeyOnly(key) => (*key, None),

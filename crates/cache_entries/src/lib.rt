@@ -3,4 +3,5 @@
 
 pub mod entry;
 pub mod laws;
+pub mod pack;
 pub mod rows;

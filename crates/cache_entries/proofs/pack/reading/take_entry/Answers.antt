@@ -1,0 +1,12 @@
+use Rattle.cache_words.proofs.CursorLaws.{taken_ok, taken_err}
+use Rattle.cache_entries.specs.BorrowedEntry.{borrowed_entry}
+use Rattle.cache_entries.specs.EntryText.{SpellsEntry, entry_at}
+use Rattle.cache_entries.proofs.EntryLaws.{entry_agrees}
+use Rattle.cache_entries.proofs.pack.reading.take_entry.Goals as goal
+
+pub returns-in-Ok : goal.returns-in-Ok
+returns-in-Ok c =
+    rw (← c.checked.ensures.same) (taken_ok borrowed_entry entry_at SpellsEntry entry_agrees c.checked.result.now _ _ c.checked.ensures.fits c.in-Ok.ensures)
+
+pub returns-in-Err : goal.returns-in-Err
+returns-in-Err c = rw (← c.checked.ensures.same) (taken_err borrowed_entry entry_at SpellsEntry entry_agrees c.checked.result.now _ c.in-Err.ensures)
