@@ -113,7 +113,7 @@ heavy_use e b rows none heavy =
 pub light_use : (e : Entry) (b : FinishedBody) (rows : List Tracked) → all_weights (used e (weight_for b) rows) < 2 ^ 64 → use_is_too_heavy e (Some b) rows ≡ false
 light_use e b rows light = grind (arith, nat_tests)
 
-pub long_use : (e : Entry) (rows : List Tracked) → weight_of e rows ≡ None → 4294967293 ≤ length rows → is_too_long e rows ≡ true
+pub long_use : (e : Entry) (rows : List Tracked) → weight_of e rows ≡ None → 2415919104 ≤ length rows → is_too_long e rows ≡ true
 long_use e rows none long = rw none (grind (arith, nat_tests))
 
 -- a refused admission evicts nothing

@@ -11,9 +11,8 @@ ghost use Rattle.entry_order.specs.declared.order.OrderFault.TheVariants.{Memory
 
 use crate::numbers::EntryNumbers;
 use cache_words::key::{CacheKey, CompactCacheKey};
-use lru_core::LruCore;
-use lru_core::linked_list::MOST_ITEMS;
 use lru_core::lru_unit::LruFault;
+use lru_core::{LruCore, MOST_ROWS};
 use rand_core::Rng;
 use std::alloc::{AllocError, Global};
 use std::marker::Model;
@@ -26,7 +25,7 @@ pub enum OrderFault {
     Memory,
     /// The weights could not be summed.
     TooHeavy,
-    /// There are as many entries as can be linked.
+    /// There are `MOST_ROWS` entries.
     TooLong,
 }
 
@@ -107,7 +106,7 @@ impl EntryOrder {
         ensures err { OnErr result (self.new ≡ self.old) }
         ensures memory { result ≡ Err OrderFault.Memory → weight_of entry self.old.rows ≡ None }
         ensures heavy { result ≡ Err OrderFault.TooHeavy → 2 ^ 64 ≤ max 1 weight + all_weights (without_row entry self.old.rows) }
-        ensures long { result ≡ Err OrderFault.TooLong → (weight_of entry self.old.rows ≡ None) × (MOST_ITEMS ≤ length self.old.rows) }
+        ensures long { result ≡ Err OrderFault.TooLong → (weight_of entry self.old.rows ≡ None) × (MOST_ROWS ≤ length self.old.rows) }
     {
         if let Some(own) = self.numbers.number_of(&entry) {
             put_row(&mut self.core, own, entry, weight)?;
@@ -125,7 +124,7 @@ impl EntryOrder {
         ensures tracked { weight_of entry.now self.old.rows ≢ None → IsOk result }
         ensures untracked { OnErr result (weight_of entry.now self.old.rows ≡ None) }
         ensures heavy { result ≡ Err OrderFault.TooHeavy → 2 ^ 64 ≤ max 1 weight + all_weights (without_row entry.now self.old.rows) }
-        ensures long { result ≡ Err OrderFault.TooLong → MOST_ITEMS ≤ length self.old.rows }
+        ensures long { result ≡ Err OrderFault.TooLong → MOST_ROWS ≤ length self.old.rows }
     {
         if let Some(number) = self.numbers.number_of(entry) {
             let _found = self.core.promote(number);
@@ -190,7 +189,7 @@ impl EntryOrder {
         ensures fits { OnOk result (all_weights self.new.rows < 2 ^ 64) }
         ensures err { OnErr result (self.new ≡ self.old) }
         ensures heavy { result ≡ Err OrderFault.TooHeavy → 2 ^ 64 ≤ max 1 weight + all_weights (without_row entry self.old.rows) }
-        ensures long { result ≡ Err OrderFault.TooLong → MOST_ITEMS ≤ length self.old.rows }
+        ensures long { result ≡ Err OrderFault.TooLong → MOST_ROWS ≤ length self.old.rows }
     {
         let number = self.numbers.free_number()?;
         let name = copy_of(&entry)?;
@@ -212,7 +211,7 @@ fn put_row(
     ensures err { OnErr result (core.new ≡ core.old) }
     ensures memory { result ≡ Err OrderFault.Memory → only number (rows_at core.old.shards (number % 1)) ≡ [] }
     ensures heavy { result ≡ Err OrderFault.TooHeavy → 2 ^ 64 ≤ max 1 weight + rows_weight (others number (rows_at core.old.shards (number % 1))) }
-    ensures long { result ≡ Err OrderFault.TooLong → (only number (rows_at core.old.shards (number % 1)) ≡ []) × (MOST_ITEMS ≤ length (rows_at core.old.shards (number % 1))) }
+    ensures long { result ≡ Err OrderFault.TooLong → (only number (rows_at core.old.shards (number % 1)) ≡ []) × (MOST_ROWS ≤ length (rows_at core.old.shards (number % 1))) }
 {
     match core.admit(number, entry, weight) {
         Ok(_) => {

@@ -1,5 +1,6 @@
 pub mod Filters
 pub mod Tabled
+pub mod Ends
 pub mod Summed
 pub mod Circles
 pub mod Evictions

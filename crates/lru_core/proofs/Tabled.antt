@@ -1,12 +1,10 @@
 -- What each change of the table, the slots and the order does to the rows.
-use Rattle.std.proofs.Common.{◌≡◌, ◌≢◌, ℕ, zero, suc, ◌-◌, take, IsSome, true, false, ◌+◌, ◌<◌, eqb, inl, inr, List, [], ◌∷◌, ◌++◌, length, sym, refl, ap, ◌∙◌, arith, Option, Some, None, slice_get, set}
-use Rattle.std.specs.Option.{option_and_then, option_copied, MatchOption}
-use Rattle.std.specs.Borrow.{Bor}
+use Rattle.std.proofs.Common.{◌≡◌, ◌≢◌, ℕ, zero, suc, take, IsSome, true, false, ◌<◌, eqb, inl, inr, List, [], ◌∷◌, ◌++◌, length, sym, refl, ap, ◌∙◌, Option, Some, None, slice_get, set}
+use Rattle.std.specs.Option.{option_and_then}
 use Rattle.std.proofs.lemmas.Bool.{cases_eq, eq-eqb, ne_eqb, true≢false, false≢true}
-use Rattle.std.proofs.lemmas.Option.{slice_get_within, slice_get-get_or, get_or_from_slice_get}
-use Rattle.std.proofs.lemmas.List.{take_more, take_all}
+use Rattle.std.proofs.lemmas.Option.{slice_get_within}
 use Rattle.lru_list.specs.Slots.{has, without, Apart}
-use Rattle.lru_list.proofs.Indexes.{has_here, has_rest, has_cases, has_not, has_apart, has_push_here, has_more, has_left, has-without_other, has-without_same, Apart-without, Apart_push, cases_has, has_push_none, Apart_front, without_last}
+use Rattle.lru_list.proofs.Indexes.{has_here, has_rest, has_cases, has_not, has_apart, has_left, has-without_other, has-without_same, Apart-without, cases_has}
 use Rattle.lru_list.proofs.Places.{slice_get-set_same, slice_get-set_other}
 use Rattle.lru_core.specs.declared.rows.Row.{Row}
 use Rattle.lru_core.specs.Rows.{only, others, put}
@@ -113,19 +111,6 @@ Apart-take : (n : ℕ) (is : List ℕ) → Apart is → Apart (take n is)
 Apart-take zero is a = tt
 Apart-take (suc n) [] a = tt
 Apart-take (suc n) (x ∷ is) a = (has_taken_none n is x a.0, Apart-take n is a.1)
-
--- the last index, if there is one
-pub last_none : (is : List ℕ) → slice_get is (length is - 1) ≡ None → is ≡ []
-last_none [] e = refl
-last_none (x ∷ is) e = absurd (let l : length is < length (x ∷ is) = omega arith in let f : suc (length is) - 1 ≡ length is = omega arith in let g = rw f at e in let h = slice_get-get_or (x ∷ is) (length is) 0 l in let k = sym g ∙ h in cc)
-
-pub last_some : (is : List ℕ) (i : ℕ) → slice_get is (length is - 1) ≡ Some i → (front : List ℕ) × (is ≡ front ++ i ∷ [])
-last_some is i e =
-    let l : length is - 1 < length is = slice_get_within is (length is - 1) i e in
-    let k : length is - 1 + 1 ≡ length is = omega arith in
-    let t = take_more is (length is - 1) 0 l in
-    let v = get_or_from_slice_get is (length is - 1) i 0 e in
-    (take (length is - 1) is, sym (take_all (length is) is (omega arith)) ∙ (rw (k, v) at t))
 
 module _ {T : Type 0} (m : ℕ → Option ℕ) (items : List (Option (Row T))) (is : List ℕ) (w : IsTabled m items is) where
   -- where the table has an index for k
@@ -282,41 +267,6 @@ tabled_none m items e = record {
   named = λ i h. absurd (false≢true h);
 }
 
--- one more index at the front or the back: the same members
-has_swap : (is : List ℕ) (i j : ℕ) → has (is ++ i ∷ []) j ≡ has (i ∷ is) j
-has_swap is i j = elim (cases_eq i j) [
-  | inl e ↦ rw (eq-eqb i j e) (ap (has (is ++ i ∷ [])) (sym e) ∙ has_push_here is i)
-  | inr n ↦ elim (cases_has is j) [
-    | inl t ↦ rw (ne_eqb i j n) (has_more is i j t ∙ sym t)
-    | inr f ↦ rw (ne_eqb i j n) (has_push_none is i j f n ∙ sym f)
-  ]
-]
-
-pub added_last : {T : Type 0} → (n : ℕ → Option ℕ) (now : List (Option (Row T))) (is : List ℕ) (i : ℕ) → IsTabled n now (i ∷ is) → IsTabled n now (is ++ i ∷ [])
-added_last n now is i w = retabled n now (i ∷ is) w (is ++ i ∷ []) (Apart_push is i w.apart.1 w.apart.0) (has_swap is i)
-
--- the rows with a new one at the front or the back
-pub first_rows : {T : Type 0} → (items now : List (Option (Row T))) (is : List ℕ) (i : ℕ) (row : Row T) → slice_get now i ≡ Some (Some row)
-    → ((j : ℕ) → has is j ≡ true → slice_get now j ≡ slice_get items j) → rows_of now (i ∷ is) ≡ row ∷ rows_of items is
-first_rows items now is i row e kept = rw e (ap (λ l. row ∷ l) (rows_same items now is kept))
-
-pub last_rows : {T : Type 0} → (items now : List (Option (Row T))) (is : List ℕ) (i : ℕ) (row : Row T) → slice_get now i ≡ Some (Some row)
-    → ((j : ℕ) → has is j ≡ true → slice_get now j ≡ slice_get items j) → rows_of now (is ++ i ∷ []) ≡ rows_of items is ++ row ∷ []
-last_rows items now is i row e kept =
-    let one : rows_of now (i ∷ []) ≡ row ∷ [] = rw e refl in
-    rows-append now is (i ∷ []) ∙ rw (rows_same items now is kept, one)
-
--- the rows end with the row of the last index
-pub rows_end : {T : Type 0} → (items : List (Option (Row T))) (front : List ℕ) (i : ℕ) (row : Row T) → row_at items i ≡ Some row → rows_of items (front ++ i ∷ []) ≡ rows_of items front ++ row ∷ []
-rows_end items front i row e = let one : rows_of items (i ∷ []) ≡ row ∷ [] = rw e refl in rows-append items front (i ∷ []) ∙ rw one
-
--- without the last index the rows are the front
-pub rows_left : {T : Type 0} → (items : List (Option (Row T))) (front : List ℕ) (i : ℕ) (d : Option (Row T)) → Apart (front ++ i ∷ [])
-    → rows_of (set items i d) (without i (front ++ i ∷ [])) ≡ rows_of items front
-rows_left items front i d a =
-    let p = Apart_front front i a in
-    rw (without_last front i p.1) (rows_same items (set items i d) front (λ j h. slice_get-set_other items i j d (has_apart front j i h p.1)))
-
 -- another row of the same key, in front
 pub replaced_first : {T : Type 0} → (m : ℕ → Option ℕ) (items : List (Option (Row T))) (is : List ℕ) → IsTabled m items is → (i : ℕ) (row : Row T) → m row.key ≡ Some i
     → rows_of (set items i (Some row)) (i ∷ without i is) ≡ row ∷ others row.key (rows_of items is)
@@ -324,12 +274,6 @@ replaced_first m items is w i row e =
     let f = w.known row.key i e in
     let l = at_within items i f.1.0 f.1.1 in
     rw (slice_get-set_same items i (Some row) l) (ap (λ r. row ∷ r) (removed_rows m items is w row.key i (Some row) e))
-
--- what a reference to the last row says
-pub last_found : {X : Type 0} → (o : Option (Bor X)) (xs front : List X) (r : X) → option_copied o ≡ Some r → xs ≡ front ++ r ∷ []
-    → MatchOption o (xs ≡ []) (λ y. (front : List X) × (xs ≡ front ++ y.now ∷ []))
-last_found None xs front r e h = absurd (let u : option_copied None ≡ Some r = e in cc)
-last_found (Some y) xs front r e h = let s : y.now ≡ r = cc in (front, rw s h)
 
 -- a slot that is filled once it was taken
 pub filled : {X : Type 0} → (items : List X) (i : ℕ) (o a : X) → slice_get items i ≡ Some o → slice_get (set items i a) i ≡ Some a

@@ -5,4 +5,5 @@ pub mod Units
 pub mod Updates
 pub mod Orders
 pub mod FaultTexts
+pub mod Faults
 pub mod Fronts

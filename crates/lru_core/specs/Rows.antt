@@ -3,8 +3,10 @@ use Rattle.std.specs.Prelude.{◌≡◌, ◌≢◌, ℕ, [], ◌+◌, ◌==◌, 
 use Rattle.std.specs.List.{sum_by}
 use Rattle.std.specs.Option.{option_map}
 use Rattle.std.specs.Borrow.{Bor}
-use Rattle.lru_list.specs.declared.linked_list.TheConstants.{MOST_ITEMS}
 use Rattle.lru_core.specs.declared.rows.Row.{Row}
+use Rattle.lru_core.specs.declared.rows.TheConstants.{MOST_ROWS}
+use Rattle.lru_core.specs.declared.rows.End.{End}
+use Rattle.lru_core.specs.declared.rows.End.TheVariants.{Front, Back}
 
 -- the row of key k, as a list of one row or none
 abbrev pub only : {T : Type 0} → ℕ → List (Row T) → List (Row T)
@@ -29,6 +31,11 @@ reweighed k w rows = map (λ r. cond (r.key == k) (record r { weight = w }) r) r
 -- `row` in the place of the row of its key
 abbrev pub put : {T : Type 0} → Row T → List (Row T) → List (Row T)
 put row rows = map (λ r. cond (r.key == row.key) row r) rows
+
+-- a list with one more at that end
+abbrev pub with_one : {X : Type 0} → End → X → List X → List X
+with_one Front x xs = x ∷ xs
+with_one Back x xs = xs ++ x ∷ []
 
 -- the sum of the rows' weights
 abbrev pub total_weight : {T : Type 0} → List (Row T) → ℕ
@@ -84,6 +91,10 @@ pub record Shard (T : Type 0) : Type 0 where
 abbrev pub IsHeavy : {T : Type 0} → ℕ → ℕ → ℕ → List (Row T) → Type 0
 IsHeavy bound k w rows = bound < total_weight (others k rows) + w
 
--- there is no room for one row more: their number is at the bound, or the list of them is full
+-- there is no room for one row more: their number is at the bound, or at the most that a shard can have
 abbrev pub IsLong : {T : Type 0} → ℕ → List (Row T) → Type 0
-IsLong bound rows = (bound ≤ length rows) ⊎ (length rows ≡ MOST_ITEMS)
+IsLong bound rows = (bound ≤ length rows) ⊎ (MOST_ROWS ≤ length rows)
+
+-- there is room for one row more
+abbrev pub HasPlace : {T : Type 0} → ℕ → List (Row T) → Type 0
+HasPlace bound rows = (length rows < bound) × (length rows < MOST_ROWS)

@@ -2,6 +2,7 @@
 #![tactic(auto)]
 
 pub use lru_list::linked_list;
+pub use rows::MOST_ROWS;
 pub use sharded::LruCore;
 
 pub mod laws;

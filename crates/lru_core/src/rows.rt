@@ -2,17 +2,22 @@
 
 ghost use Rattle.std.specs.Prelude.{◌≡◌, ◌≢◌, ◌↔◌, ℕ, ◌+◌, ◌-◌, ◌<◌, ◌≤◌, ◌++◌, ◌∷◌, List, [], length, take, map, IsTrue, IsSome, is_some, IfSome, IfNone, IfOk, OnOk, OnErr, MatchOption, nat_eq, option_copied, not};
 ghost use Rattle.std.specs.Option.{option_to_list};
-ghost use Rattle.lru_core.specs.Rows.{only, others, promoted, put, reweighed, a_row};
+ghost use Rattle.lru_core.specs.Rows.{only, others, promoted, put, reweighed, a_row, with_one};
 ghost use Rattle.lru_core.specs.Updates.{Updates};
 ghost use Rattle.lru_core.specs.declared.rows.Row.{Row};
 
+mod slots;
 mod table;
 
-use lru_list::linked_list::{LinkedList, LinkedListIter, ListFault, MOST_ITEMS};
+use lru_list::linked_list::{LinkedList, LinkedListIter, ListFault};
+use slots::new_slot;
 use std::alloc::{AllocError, Global};
 use std::collections::HashMap;
 use std::marker::Model;
 use table::{index_of, put_key, room_for, take_key};
+
+/// The most rows that a shard can have: the greatest capacity of a `HashMap`, which is below that of a list.
+pub const MOST_ROWS: usize = 2415919104;
 
 /// A row: what a key has, and what that weighs.
 #[derive(Drop)]
@@ -22,13 +27,11 @@ pub struct Row<T> {
     pub weight: usize,
 }
 
-/// Why a row was not inserted, with what the caller handed in.
-#[derive(Drop)]
-pub enum RowFault<D> {
-    /// There is no memory for one more row.
-    Memory(D),
-    /// The list is full.
-    Full(D),
+/// An end of the rows.
+#[derive(Clone, Copy)]
+pub enum End {
+    Front,
+    Back,
 }
 
 /// Rows of distinct keys, most recent first.
@@ -151,76 +154,48 @@ impl<T: Drop> Rows<T> {
         self.list.reserve(additional)
     }
 
-    /// Inserts a row of a new key at the front.
-    pub fn push_first(&mut self, row: Row<T>) -> Result<(), RowFault<Row<T>>>
+    /// Inserts a row of a new key at that end.
+    pub fn push(&mut self, row: Row<T>, end: End) -> Result<(), ListFault<T>>
         requires { only row.key self.old ≡ [] }
-        ensures ok { OnOk result (self.new ≡ row ∷ self.old) }
+        ensures ok { OnOk result (self.new ≡ with_one end row self.old) }
         ensures err { OnErr result (self.new ≡ self.old) }
-        ensures memory { (back : Row T) → result ≡ Err (RowFault.Memory back) → back ≡ row }
-        ensures full { (back : Row T) → result ≡ Err (RowFault.Full back) → (back ≡ row) × (length self.old ≡ MOST_ITEMS) }
+        ensures memory { (back : T) → result ≡ Err (ListFault.Memory back) → (back ≡ row.data) × (length self.old < MOST_ROWS) }
+        ensures full { (back : T) → result ≡ Err (ListFault.Full back) → (back ≡ row.data) × (MOST_ROWS ≤ length self.old) }
     {
         let key = row.key;
-        if room_for(&mut self.table, 1).is_err() {
-            return Err(RowFault::Memory(row));
-        }
-        match self.list.push_head(Some(row)) {
+        match new_slot(&mut self.table, &mut self.list, Some(row), end) {
             Ok(i) => {
                 put_key(&mut self.table, key, i);
                 Ok(())
             }
-            Err(ListFault::Memory(back)) => Err(RowFault::Memory(back.unwrap())),
-            Err(ListFault::Full(back)) => Err(RowFault::Full(back.unwrap())),
-        }
-    }
-
-    /// Inserts a row of a new key at the back.
-    pub fn push_last(&mut self, row: Row<T>) -> Result<(), RowFault<Row<T>>>
-        requires { only row.key self.old ≡ [] }
-        ensures ok { OnOk result (self.new ≡ self.old ++ row ∷ []) }
-        ensures err { OnErr result (self.new ≡ self.old) }
-        ensures memory { (back : Row T) → result ≡ Err (RowFault.Memory back) → back ≡ row }
-        ensures full { (back : Row T) → result ≡ Err (RowFault.Full back) → (back ≡ row) × (length self.old ≡ MOST_ITEMS) }
-    {
-        let key = row.key;
-        if room_for(&mut self.table, 1).is_err() {
-            return Err(RowFault::Memory(row));
-        }
-        match self.list.push_tail(Some(row)) {
-            Ok(i) => {
-                put_key(&mut self.table, key, i);
-                Ok(())
-            }
-            Err(ListFault::Memory(back)) => Err(RowFault::Memory(back.unwrap())),
-            Err(ListFault::Full(back)) => Err(RowFault::Full(back.unwrap())),
+            Err(ListFault::Memory(back)) => Err(ListFault::Memory(back.unwrap().data)),
+            Err(ListFault::Full(back)) => Err(ListFault::Full(back.unwrap().data)),
         }
     }
 
     /// Inserts a row of a new key at the front, whose data is made once its room is reserved.
-    pub fn push_first_with<F: FnOnce() -> T>(
+    pub fn push_with<F: FnOnce() -> T>(
         &mut self,
         key: u64,
         weight: usize,
         make: F,
-    ) -> Result<(), RowFault<F>>
+    ) -> Result<(), ListFault<F>>
         requires callable { F.IsAlwaysCallable make }
         requires absent { only key self.old ≡ [] }
         ensures ok { OnOk result ((d : T) × F.post make d × (self.new ≡ a_row key d weight ∷ self.old)) }
         ensures err { OnErr result (self.new ≡ self.old) }
-        ensures memory { (back : F) → result ≡ Err (RowFault.Memory back) → back ≡ make }
-        ensures full { (back : F) → result ≡ Err (RowFault.Full back) → (back ≡ make) × (length self.old ≡ MOST_ITEMS) }
+        ensures memory { (back : F) → result ≡ Err (ListFault.Memory back) → (back ≡ make) × (length self.old < MOST_ROWS) }
+        ensures full { (back : F) → result ≡ Err (ListFault.Full back) → (back ≡ make) × (MOST_ROWS ≤ length self.old) }
     {
-        if room_for(&mut self.table, 1).is_err() {
-            return Err(RowFault::Memory(make));
-        }
-        match self.list.push_head(None) {
+        match new_slot(&mut self.table, &mut self.list, None, End::Front) {
             Ok(i) => {
                 let data = make();
                 let _hole = self.list.replace(i, Some(Row { key, data, weight }));
                 put_key(&mut self.table, key, i);
                 Ok(())
             }
-            Err(ListFault::Memory(_)) => Err(RowFault::Memory(make)),
-            Err(ListFault::Full(_)) => Err(RowFault::Full(make)),
+            Err(ListFault::Memory(_)) => Err(ListFault::Memory(make)),
+            Err(ListFault::Full(_)) => Err(ListFault::Full(make)),
         }
     }
 

@@ -108,9 +108,9 @@ abbrev pub use_is_too_heavy : Entry → Option FinishedBody → List Tracked →
 use_is_too_heavy e None rows = false
 use_is_too_heavy e (Some b) rows = is_too_heavy (all_weights (used e (weight_for b) rows))
 
--- the list is full, and the entry not in it
+-- the list is full, with 2415919104 entries, and the entry not in it
 abbrev pub is_too_long : Entry → List Tracked → Bool
-is_too_long e rows = nat_le 4294967293 (length rows) && not (is_some (weight_of e rows))
+is_too_long e rows = nat_le 2415919104 (length rows) && not (is_some (weight_of e rows))
 
 abbrev pub use_is_too_long : Entry → Option FinishedBody → List Tracked → Bool
 use_is_too_long e None rows = false

@@ -1,13 +1,13 @@
 //! Insertion, weights, eviction and removal in one shard.
 
-ghost use Rattle.std.specs.Prelude.{◌≡◌, ◌≢◌, ◌↔◌, ℕ, ◌+◌, ◌<◌, ◌++◌, ◌∷◌, [], max, true, false, IsTrue, IfSome, IfNone, IfOk, IfErr, OnOk, OnErr};
+ghost use Rattle.std.specs.Prelude.{◌≡◌, ◌≢◌, ◌↔◌, ℕ, ◌+◌, ◌<◌, ◌≤◌, ◌++◌, ◌∷◌, [], length, max, true, false, IsTrue, IfSome, IfNone, IfOk, IfErr, OnOk, OnErr};
 ghost use Rattle.std.specs.Option.{option_map};
-ghost use Rattle.lru_core.specs.Rows.{only, others, promoted, admitted, row_of, reweighed, total_weight, capped, raised, incremented, a_row, IsHeavy, IsLong};
+ghost use Rattle.lru_core.specs.Rows.{only, others, promoted, admitted, row_of, reweighed, total_weight, capped, raised, incremented, a_row, with_one, IsHeavy, IsLong, HasPlace};
 ghost use Rattle.lru_core.specs.Updates.{IsUpdated, IsUpdateRefused, IsRefused};
 ghost use Rattle.lru_core.specs.Orders.{with_last};
 
 use super::{LruFault, LruUnit, lowered, raised, weight_at};
-use crate::rows::{Row, RowFault, Rows};
+use crate::rows::{End, Row, Rows};
 use std::alloc::{AllocError, Global};
 
 impl<T: Drop> LruUnit<T> {
@@ -37,45 +37,25 @@ impl<T: Drop> LruUnit<T> {
         ensures before { IfOk result (λ old. old ≡ total_weight (only key self.old.rows)) }
         ensures after { OnOk result (self.new ≡ record self.old { rows = admitted key item weight self.old.rows }) }
         ensures err { OnErr result (self.new ≡ self.old) }
-        ensures memory { (back : T) → result ≡ Err (LruFault.Memory back) → (back ≡ item) × (only key self.old.rows ≡ []) }
+        ensures memory { (back : T) → result ≡ Err (LruFault.Memory back) → (back ≡ item) × (only key self.old.rows ≡ []) × HasPlace self.old.bound self.old.rows }
         ensures heavy { (back : T) → result ≡ Err (LruFault.Weight back) → (back ≡ item) × (self.old.bound < total_weight (others key self.old.rows) + max 1 weight) }
         ensures long { (back : T) → result ≡ Err (LruFault.Length back) → (back ≡ item) × (only key self.old.rows ≡ []) × IsLong self.old.bound self.old.rows }
     {
         let weight = weight.max(1);
-        match weight_at(&self.rows, key) {
-            Some(old) => {
-                if weight > self.bound - (self.used - old) {
-                    return Err(LruFault::Weight(item));
-                }
-                let _gone = self.rows.replace_first(Row {
-                    key,
-                    data: item,
-                    weight,
-                });
-                self.used = self.used - old + weight;
-                Ok(old)
-            }
-            None => {
-                if self.rows.len() >= self.bound {
-                    return Err(LruFault::Length(item));
-                }
-                if weight > self.bound - self.used {
-                    return Err(LruFault::Weight(item));
-                }
-                match self.rows.push_first(Row {
-                    key,
-                    data: item,
-                    weight,
-                }) {
-                    Ok(()) => {
-                        self.used += weight;
-                        Ok(0)
-                    }
-                    Err(RowFault::Memory(row)) => Err(LruFault::Memory(row.data)),
-                    Err(RowFault::Full(row)) => Err(LruFault::Length(row.data)),
-                }
-            }
+        let Some(old) = weight_at(&self.rows, key) else {
+            self.insert(key, item, weight, End::Front)?;
+            return Ok(0);
+        };
+        if weight > self.bound - (self.used - old) {
+            return Err(LruFault::Weight(item));
         }
+        let _gone = self.rows.replace_first(Row {
+            key,
+            data: item,
+            weight,
+        });
+        self.used = self.used - old + weight;
+        Ok(old)
     }
 
     /// Inserts `item` under a new key at the back, with its weight as it is, and returns `true`. Nothing changes if the
@@ -85,7 +65,7 @@ impl<T: Drop> LruUnit<T> {
         ensures after { result ≡ Ok true → self.new ≡ record self.old { rows = self.old.rows ++ a_row key item weight ∷ [] } }
         ensures same { result ≢ Ok true → self.new ≡ self.old }
         ensures last { OnOk result (self.new.rows ≡ with_last self.old.rows (a_row key item weight)) }
-        ensures memory { (back : T) → result ≡ Err (LruFault.Memory back) → (back ≡ item) × (only key self.old.rows ≡ []) }
+        ensures memory { (back : T) → result ≡ Err (LruFault.Memory back) → (back ≡ item) × (only key self.old.rows ≡ []) × HasPlace self.old.bound self.old.rows }
         ensures heavy { (back : T) → result ≡ Err (LruFault.Weight back) → (back ≡ item) × (only key self.old.rows ≡ []) × (self.old.bound < total_weight self.old.rows + weight) }
         ensures long { (back : T) → result ≡ Err (LruFault.Length back) → (back ≡ item) × (only key self.old.rows ≡ []) × IsLong self.old.bound self.old.rows }
         ensures bound { self.new.bound ≡ self.old.bound }
@@ -93,24 +73,8 @@ impl<T: Drop> LruUnit<T> {
         if weight_at(&self.rows, key).is_some() {
             return Ok(false);
         }
-        if self.rows.len() >= self.bound {
-            return Err(LruFault::Length(item));
-        }
-        if weight > self.bound - self.used {
-            return Err(LruFault::Weight(item));
-        }
-        match self.rows.push_last(Row {
-            key,
-            data: item,
-            weight,
-        }) {
-            Ok(()) => {
-                self.used += weight;
-                Ok(true)
-            }
-            Err(RowFault::Memory(row)) => Err(LruFault::Memory(row.data)),
-            Err(RowFault::Full(row)) => Err(LruFault::Length(row.data)),
-        }
+        self.insert(key, item, weight, End::Back)?;
+        Ok(true)
     }
 
     /// Sets the weight of `key`, as it is, and returns the old one, if the key is there. The order stays.
@@ -149,7 +113,7 @@ impl<T: Drop> LruUnit<T> {
         ensures new { only key self.old.rows ≡ [] → IfOk result (λ p. p ≡ (0, max 1 (capped max_weight delta), true)) }
         ensures admitted { only key self.old.rows ≡ [] → IfOk result (λ p. (d : T) × F.post admit_data d × (self.new ≡ record self.old { rows = a_row key d p.1 ∷ self.old.rows })) }
         ensures err { OnErr result (self.new ≡ self.old) }
-        ensures memory { (back : F) → result ≡ Err (LruFault.Memory back) → (back ≡ admit_data) × (only key self.old.rows ≡ []) }
+        ensures memory { (back : F) → result ≡ Err (LruFault.Memory back) → (back ≡ admit_data) × (only key self.old.rows ≡ []) × HasPlace self.old.bound self.old.rows }
         ensures heavy { let rows = self.old.rows in (back : F) → result ≡ Err (LruFault.Weight back) → (back ≡ admit_data) × IsHeavy self.old.bound key (incremented key delta max_weight rows) rows }
         ensures long { (back : F) → result ≡ Err (LruFault.Length back) → (back ≡ admit_data) × (only key self.old.rows ≡ []) × IsLong self.old.bound self.old.rows }
         ensures bound { self.new.bound ≡ self.old.bound }
@@ -169,20 +133,10 @@ impl<T: Drop> LruUnit<T> {
             }
             None => {
                 let weight = lowered(delta, max_weight).max(1);
-                if self.rows.len() >= self.bound {
-                    return Err(LruFault::Length(admit_data));
-                }
-                if weight > self.bound - self.used {
-                    return Err(LruFault::Weight(admit_data));
-                }
-                match self.rows.push_first_with(key, weight, admit_data) {
-                    Ok(()) => {
-                        self.used += weight;
-                        Ok((0, weight, true))
-                    }
-                    Err(RowFault::Memory(back)) => Err(LruFault::Memory(back)),
-                    Err(RowFault::Full(back)) => Err(LruFault::Length(back)),
-                }
+                let admit_data = self.with_room(weight, admit_data)?;
+                self.rows.push_with(key, weight, admit_data)?;
+                self.used += weight;
+                Ok((0, weight, true))
             }
         }
     }
@@ -255,10 +209,41 @@ impl<T: Drop> LruUnit<T> {
     {
         let Row {
             key: _,
-            data,
+            data: item,
             weight,
         } = self.rows.remove(key)?;
         self.used -= weight;
-        Some((data, weight))
+        Some((item, weight))
+    }
+
+    // Inserts a row of a new key at that end.
+    fn insert(&mut self, key: u64, item: T, weight: usize, end: End) -> Result<(), LruFault<T>>
+        requires { only key self.old.rows ≡ [] }
+        ensures ok { OnOk result (self.new ≡ record self.old { rows = with_one end (a_row key item weight) self.old.rows }) }
+        ensures err { OnErr result (self.new ≡ self.old) }
+        ensures memory { (back : T) → result ≡ Err (LruFault.Memory back) → (back ≡ item) × HasPlace self.old.bound self.old.rows }
+        ensures heavy { (back : T) → result ≡ Err (LruFault.Weight back) → (back ≡ item) × (self.old.bound < total_weight self.old.rows + weight) }
+        ensures long { (back : T) → result ≡ Err (LruFault.Length back) → (back ≡ item) × IsLong self.old.bound self.old.rows }
+    {
+        let data = self.with_room(weight, item)?;
+        self.rows.push(Row { key, data, weight }, end)?;
+        self.used += weight;
+        Ok(())
+    }
+
+    // Returns `item` if one row more, of that weight, is within the bound.
+    fn with_room<D>(&self, weight: usize, item: D) -> Result<D, LruFault<D>>
+        ensures room { IfOk result (λ same. (same ≡ item) × (length self.now.rows < self.now.bound) × (total_weight self.now.rows + weight ≤ self.now.bound)) }
+        ensures memory { (back : D) → result ≢ Err (LruFault.Memory back) }
+        ensures heavy { (back : D) → result ≡ Err (LruFault.Weight back) → (back ≡ item) × (self.now.bound < total_weight self.now.rows + weight) }
+        ensures long { (back : D) → result ≡ Err (LruFault.Length back) → (back ≡ item) × IsLong self.now.bound self.now.rows }
+    {
+        if self.rows.len() >= self.bound {
+            return Err(LruFault::Length(item));
+        }
+        if weight > self.bound - self.used {
+            return Err(LruFault::Weight(item));
+        }
+        Ok(item)
     }
 }

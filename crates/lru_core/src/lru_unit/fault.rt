@@ -1,8 +1,10 @@
 //! Why a shard does not take a row.
 
-ghost use Rattle.std.specs.Prelude.{Some};
+ghost use Rattle.std.specs.Prelude.{◌≡◌, Some};
 ghost use Rattle.lru_core.specs.FaultTexts.{fault_text};
+ghost use Rattle.lru_core.specs.Faults.{shard_fault};
 
+use lru_list::linked_list::ListFault;
 use std::error::Error;
 use std::fmt;
 
@@ -13,8 +15,19 @@ pub enum LruFault<D> {
     Memory(D),
     /// The weight of the shard would pass its bound.
     Weight(D),
-    /// The number of rows of the shard would pass its bound, or its list is full.
+    /// The number of rows of the shard would pass its bound, or `MOST_ROWS`.
     Length(D),
+}
+
+impl<D> From<ListFault<D>> for LruFault<D> {
+    ghost from_gives = { λ fault of_shard. of_shard ≡ shard_fault fault };
+
+    fn from(fault: ListFault<D>) -> LruFault<D> {
+        match fault {
+            ListFault::Memory(back) => LruFault::Memory(back),
+            ListFault::Full(back) => LruFault::Length(back),
+        }
+    }
 }
 
 impl<D> fmt::Display for LruFault<D> {

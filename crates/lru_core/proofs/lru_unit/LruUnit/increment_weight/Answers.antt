@@ -1,6 +1,6 @@
-use Rattle.std.proofs.Common.{◌≡◌, ◌+◌, sym, arith, max}
+use Rattle.std.proofs.Common.{◌≡◌, ◌+◌, sym, arith, max, rules}
 use Rattle.lru_core.specs.Rows.{reweighed, capped}
-use Rattle.lru_core.proofs.Filters.{single, weight-reweighed, incremented_there, incremented_new, moved}
+use Rattle.lru_core.proofs.Filters.{single, weight-reweighed, incremented_there, moved}
 use Rattle.lru_core.proofs.lru_unit.LruUnit.increment_weight.Goals as goal
 
 pub returns-in_default-clause-heavy : goal.returns-in_default-clause-heavy
@@ -27,11 +27,5 @@ invariant_of-self g c =
     let s = c.in-Some.ensures.some in
     rw (c.promote-found.ensures.after, c.reweigh-old.ensures.after, m.0, m.1, q.0, q.1) (omega (arith, v.0, s.2), omega (arith, v.0, s.2), v.2)
 
-pub returns-then-weight-self-2-clause-heavy : goal.returns-then-weight-self-2-clause-heavy
-returns-then-weight-self-2-clause-heavy g c back e =
-    let n = c.in-None.ensures.none in
-    let i = incremented_new c.args.key c.args.delta c.args.max_weight c.self.inside.rows n.0 in
-    let a = c.max-weight.ensures in
-    let b = c.lowered.ensures in
-    let v = c.self.invariant in
-    (cc, rw (← c.self.view_is, i, n.1, ← b) (omega (arith, v.0)))
+pub returns-else-weight-self-clause-raised : goal.returns-else-weight-self-clause-raised
+returns-else-weight-self-clause-raised g c = search rules

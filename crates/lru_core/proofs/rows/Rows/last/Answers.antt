@@ -1,7 +1,8 @@
 use Rattle.std.proofs.Common.{ap, ◌∙◌, sym, refl}
 use Rattle.lru_list.proofs.Indexes.{has_push_here}
 use Rattle.lru_core.specs.Tables.{rows_of}
-use Rattle.lru_core.proofs.Tabled.{rows_end, last_none, last_some, slot_row, last_found}
+use Rattle.lru_core.proofs.Tabled.{slot_row}
+use Rattle.lru_core.proofs.Ends.{rows_end, last_none, last_some, last_found}
 use Rattle.lru_core.proofs.rows.Rows.last.Goals as goal
 
 pub returns-in_err-i : goal.returns-in_err-i

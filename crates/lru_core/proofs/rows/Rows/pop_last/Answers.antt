@@ -1,6 +1,7 @@
 use Rattle.std.proofs.Common.{◌≡◌, sym, refl}
 use Rattle.lru_list.proofs.Indexes.{has_push_here}
-use Rattle.lru_core.proofs.Tabled.{rows_end, rows_left, last_none, last_some, removed, slot_row}
+use Rattle.lru_core.proofs.Tabled.{removed, slot_row}
+use Rattle.lru_core.proofs.Ends.{rows_end, rows_left, last_none, last_some}
 use Rattle.lru_core.proofs.rows.Rows.pop_last.Goals as goal
 
 pub returns-in_err-i : goal.returns-in_err-i
