@@ -77,8 +77,8 @@ impl<T: Drop, const N: usize> LruCore<T, N> {
 }
 
 impl<T, const N: usize> LruCore<T, N> {
-    // Whether the weight is past the limit, or the number of rows past the watermark.
-    fn is_over(&self) -> bool
+    /// Returns whether the weight is past the limit, or the number of rows past the watermark.
+    pub fn is_over(&self) -> bool
         ensures { result ≡ is_over self.now }
     {
         if self.totals.weight > self.weight_limit {

@@ -1,0 +1,9 @@
+pub mod RestLaws
+pub mod PlaceLaws
+pub mod SwapLaws
+pub mod FreeLaws
+pub mod NumberedLaws
+pub mod WrittenLaws
+pub mod RefusalLaws
+pub mod GoneLaws
+pub mod FaultLaws

@@ -1,0 +1,37 @@
+-- Why an entry isn't put into its shard.
+use Rattle.std.specs.Prelude.{◌≡◌, ℕ, ◌+◌, ◌%◌, ◌<◌, [], Option, None}
+use Rattle.cache_entries.specs.declared.entry.CacheEntryKey.{CacheEntryKey}
+use Rattle.cache_entries.specs.Rows.{weight_of}
+use Rattle.lru_core.specs.Rows.{only, others, total_weight, IsLong as IsShardLong}
+use Rattle.lru_core.specs.Cores.{Core, shard_of, shard_bound}
+use Rattle.cache_evict.specs.declared.tracker.refusal.Refusal.{Refusal}
+use Rattle.cache_evict.specs.declared.tracker.refusal.Refusal.TheVariants.{Memory, Weight, Length, Spent}
+use Rattle.cache_evict.specs.declared.numbers.fault.NumbersFault.{NumbersFault}
+use Rattle.cache_evict.specs.declared.numbers.fault.NumbersFault.TheVariants as numbers
+use Rattle.cache_evict.specs.Names.{IsSpent}
+use Rattle.cache_evict.specs.Managed.{Managed, rows_of, IsHeavy, IsLong, IsFull}
+
+-- of an entry with weight w, as a manager sees it
+abbrev pub IsRefusal : ℕ → CacheEntryKey → ℕ → Managed → Refusal → Type 0
+IsRefusal n e w m Memory = weight_of e (rows_of n e m) ≡ None
+IsRefusal n e w m Weight = IsHeavy n e w m
+IsRefusal n e w m Length = IsLong n e m
+IsRefusal n e w m Spent = IsFull n e m
+
+-- of a row of number k, as the core sees it
+abbrev pub IsRowRefusal : ℕ → ℕ → ℕ → Core ℕ → Refusal → Type 0
+IsRowRefusal n k w core Memory = only k (shard_of n core k) ≡ []
+IsRowRefusal n k w core Weight = shard_bound n < total_weight (others k (shard_of n core k)) + w
+IsRowRefusal n k w core Length = (only k (shard_of n core k) ≡ []) × IsShardLong (shard_bound n) (shard_of n core k)
+IsRowRefusal n k w core Spent = ⊥
+
+-- of a row of an entry that has no number yet, by the number that it would get
+abbrev pub IsNewRefusal : ℕ → (ℕ → Option CacheEntryKey) → ℕ → ℕ → Core ℕ → Refusal → Type 0
+IsNewRefusal n names hash w core Memory = Unit {0}
+IsNewRefusal n names hash w core Weight = (k : ℕ) × (names k ≡ None) × (k % n ≡ hash % n) × IsRowRefusal n k w core Weight
+IsNewRefusal n names hash w core Length = (k : ℕ) × (names k ≡ None) × (k % n ≡ hash % n) × IsRowRefusal n k w core Length
+IsNewRefusal n names hash w core Spent = IsSpent n names hash
+
+abbrev pub refusal_of : NumbersFault → Refusal
+refusal_of (numbers.Memory back) = Memory
+refusal_of (numbers.NumbersSpent back) = Spent

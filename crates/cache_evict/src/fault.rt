@@ -1,0 +1,82 @@
+//! Why entries aren't tracked or evicted.
+
+ghost use Rattle.std.specs.Prelude.{◌≡◌, [], Some};
+ghost use Rattle.cache_evict.specs.Faults.{evicted_of, refusal_in, evict_fault_text};
+
+use crate::tracker::Refusal;
+use cache_entries::entry::CacheEntryKey;
+use std::alloc::Global;
+use std::error::Error;
+use std::fmt;
+
+/// Why a call of a manager stopped, with the entries that it had evicted until then, in order.
+#[derive(Debug, Drop)]
+pub enum EvictFault {
+    /// There is no memory.
+    Memory(Vec<CacheEntryKey>),
+    /// The weight of a shard could not be counted.
+    Weight(Vec<CacheEntryKey>),
+    /// A shard has no room for one more entry.
+    Length(Vec<CacheEntryKey>),
+    /// Each number of an entry's shard has an entry.
+    NumbersSpent(Vec<CacheEntryKey>),
+    /// A file could not be written.
+    File(Vec<CacheEntryKey>),
+}
+
+impl EvictFault {
+    /// Returns the evicted entries, in order.
+    pub fn evicted(&self) -> &[CacheEntryKey]
+        ensures { result.now ≡ evicted_of self.now }
+    {
+        match self {
+            EvictFault::Memory(entries) => entries.as_slice(),
+            EvictFault::Weight(entries) => entries.as_slice(),
+            EvictFault::Length(entries) => entries.as_slice(),
+            EvictFault::NumbersSpent(entries) => entries.as_slice(),
+            EvictFault::File(entries) => entries.as_slice(),
+        }
+    }
+
+    /// Returns the evicted entries, in order, which are given away.
+    pub fn into_evicted(self) -> Vec<CacheEntryKey>
+        ensures { result.items ≡ evicted_of self }
+    {
+        match self {
+            EvictFault::Memory(entries) => entries,
+            EvictFault::Weight(entries) => entries,
+            EvictFault::Length(entries) => entries,
+            EvictFault::NumbersSpent(entries) => entries,
+            EvictFault::File(entries) => entries,
+        }
+    }
+
+    // The fault of a refusal before any eviction.
+    pub(crate) fn of(alloc: Global, refusal: Refusal) -> EvictFault
+        ensures why { refusal_in result ≡ Some refusal }
+        ensures none { evicted_of result ≡ [] }
+    {
+        match refusal {
+            Refusal::Memory => EvictFault::Memory(Vec::new(alloc)),
+            Refusal::Weight => EvictFault::Weight(Vec::new(alloc)),
+            Refusal::Length => EvictFault::Length(Vec::new(alloc)),
+            Refusal::Spent => EvictFault::NumbersSpent(Vec::new(alloc)),
+        }
+    }
+}
+
+impl fmt::Display for EvictFault {
+    ghost output = { λ fault. Some (evict_fault_text fault) };
+
+    fn fmt<W: fmt::Write>(&self, f: &mut fmt::Formatter<W>) -> fmt::Result {
+        f.write_str(match self {
+            EvictFault::Memory(_) => "out of memory",
+            EvictFault::Weight(_) => "the weight of the shard could not be counted",
+            EvictFault::Length(_) => "the shard has no room for one more entry",
+            EvictFault::NumbersSpent(_) => "no number is left for the entry's hash",
+            EvictFault::File(_) => "a file could not be written",
+        })
+    }
+}
+
+impl Error for EvictFault {}

@@ -1,0 +1,220 @@
+//! Entries in N shards, whose evictions go by two draws.
+
+ghost use Rattle.std.specs.Prelude.{◌≡◌, ◌≢◌, ◌<◌, [], length, max, None, false, is_some, IsOk, IfOk, IfErr, OnOk, OnErr};
+ghost use Rattle.cache_entries.specs.Entry.{owned_of};
+ghost use Rattle.cache_entries.specs.Rows.{weight_of, all_weights};
+ghost use Rattle.cache_evict.specs.Managed.{Evicts, fresh, rows_at, rows_of, shard_of, put_first, use_first, taken_out, is_over, pick_by_draws, total_size, total_items};
+ghost use Rattle.cache_evict.specs.Faults.{evicted_of, IsPutRefused, StopsAt};
+
+use crate::fault::EvictFault;
+use crate::tracker::Tracker;
+use cache_entries::entry::{CacheEntryKey, CacheEntryKeyRef};
+use cache_words::time::Moment;
+use rand_core::Rng;
+use std::alloc::{AllocError, Global};
+use std::hash::{BuildHasher, BuildHasherDefault, FoldHasher};
+use std::marker::Model;
+
+/// Entries in N shards, each most recent first, under a limit on their weight and perhaps on their number. An entry is in the
+/// shard of its hash modulo N.
+///
+/// With the default hasher it is for entries that the caller chooses itself; with one whose start the caller takes at random,
+/// strangers can't choose entries that slow look-ups down.
+#[derive(Drop)]
+pub struct Manager<const N: usize, S: BuildHasher = BuildHasherDefault<FoldHasher>> {
+    tracker: Tracker<N, S>,
+}
+
+impl<const N: usize, S: BuildHasher> Model for Manager<N, S> {
+    ghost use Rattle.cache_evict.specs.Managed.{Managed};
+
+    ghost Value = { Managed };
+
+    ghost view = { λ m. m.tracker };
+}
+
+impl<const N: usize> Manager<N, BuildHasherDefault<FoldHasher>> {
+    /// Returns N shards without entries, which may weigh `limit` together. `capacity` is a hint: room for that many entries is
+    /// reserved.
+    pub fn with_capacity(alloc: Global, limit: usize, capacity: usize) -> Result<Self, AllocError>
+        requires { 0 < N }
+        ensures { IfOk result (λ m. m ≡ fresh N limit None) }
+    {
+        Manager::with_capacity_and_watermark(alloc, limit, capacity, None)
+    }
+
+    /// The same, with a number of entries past which an eviction also takes some.
+    pub fn with_capacity_and_watermark(
+        alloc: Global,
+        limit: usize,
+        capacity: usize,
+        watermark: Option<usize>,
+    ) -> Result<Self, AllocError>
+        requires { 0 < N }
+        ensures { IfOk result (λ m. m ≡ fresh N limit watermark) }
+    {
+        Manager::with_hasher(alloc, BuildHasherDefault::new(), limit, capacity, watermark)
+    }
+}
+
+impl<const N: usize, S: BuildHasher + Copy> Manager<N, S> {
+    /// The same, with hashes of that start.
+    pub fn with_hasher(
+        alloc: Global,
+        hasher: S,
+        limit: usize,
+        capacity: usize,
+        watermark: Option<usize>,
+    ) -> Result<Self, AllocError>
+        requires { 0 < N }
+        ensures { IfOk result (λ m. m ≡ fresh N limit watermark) }
+    {
+        let tracker = Tracker::new(alloc, hasher, limit, capacity, watermark)?;
+        Ok(Manager { tracker })
+    }
+}
+
+impl<const N: usize, S: BuildHasher> Manager<N, S> {
+    /// Returns the weight that the entries may have together.
+    pub fn weight_limit(&self) -> usize
+        ensures { result ≡ self.now.limit }
+    {
+        self.tracker.weight_limit()
+    }
+
+    /// Sets the weight that the entries may have together. It evicts nothing.
+    pub fn set_weight_limit(&mut self, limit: usize)
+        ensures { self.new ≡ record self.old { limit = limit } }
+    {
+        self.tracker.set_weight_limit(limit);
+    }
+
+    /// Returns the number of shards.
+    pub fn shards(&self) -> usize
+        ensures count { result ≡ N }
+        ensures some { 0 < N }
+        ensures lists { length self.now.shards ≡ N }
+    {
+        self.tracker.shards()
+    }
+
+    /// Returns the weight of the entries of a shard.
+    pub fn shard_weight(&self, shard: usize) -> usize
+        requires { shard < N }
+        ensures { result ≡ all_weights (rows_at self.now.shards shard) }
+    {
+        self.tracker.shard_weight(shard)
+    }
+
+    /// Returns the number of entries of a shard.
+    pub fn shard_len(&self, shard: usize) -> usize
+        requires { shard < N }
+        ensures { result ≡ length (rows_at self.now.shards shard) }
+    {
+        self.tracker.shard_len(shard)
+    }
+
+    /// Returns the shard of an entry.
+    pub fn get_shard_for_key(&self, key: &CacheEntryKey) -> usize
+        ensures { result ≡ shard_of N key.now }
+    {
+        self.tracker.shard_of(CacheEntryKeyRef::from(key))
+    }
+
+    /// Returns the weight of all entries.
+    pub fn total_size(&self) -> usize
+        ensures { result ≡ total_size self.now }
+    {
+        self.tracker.total_size()
+    }
+
+    /// Returns the number of all entries.
+    pub fn total_items(&self) -> usize
+        ensures { result ≡ total_items self.now }
+    {
+        self.tracker.total_items()
+    }
+
+    /// Returns the weight of all evicted entries, up to 2^64 - 1.
+    pub fn evicted_size(&self) -> usize
+        ensures { result ≡ self.now.evicted_size }
+    {
+        self.tracker.evicted_size()
+    }
+
+    /// Returns the number of all evicted entries, up to 2^64 - 1.
+    pub fn evicted_items(&self) -> usize
+        ensures { result ≡ self.now.evicted_items }
+    {
+        self.tracker.evicted_items()
+    }
+
+    /// Returns whether an entry is tracked. The order stays.
+    pub fn peek(&self, item: &CacheEntryKey) -> bool
+        ensures { result ≡ is_some (weight_of item.now (rows_of N item.now self.now)) }
+    {
+        self.tracker
+            .weight_of(CacheEntryKeyRef::from(item))
+            .is_some()
+    }
+
+    /// Returns the weight of an entry, if it is tracked. The order stays.
+    pub fn peek_weight(&self, item: &CacheEntryKey) -> Option<usize>
+        ensures { result ≡ weight_of item.now (rows_of N item.now self.now) }
+    {
+        self.tracker.weight_of(CacheEntryKeyRef::from(item))
+    }
+
+    /// Puts an entry at the front of its shard with that weight, of 1 at least, and evicts until neither limit is passed, each
+    /// by the next two words of the generator. Returns the evicted entries, in order.
+    pub fn admit<R: Rng>(
+        &mut self,
+        alloc: Global,
+        item: CacheEntryKey,
+        size: usize,
+        _fresh_until: Moment,
+        rng: &mut R,
+    ) -> Result<Vec<CacheEntryKey>, EvictFault>
+        ensures ok { IfOk result (λ v. Evicts (pick_by_draws N) (put_first N item (max size 1) self.old) v.items (R.stream rng.old) self.new (R.stream rng.new)) }
+        ensures within { OnOk result (is_over self.new ≡ false) }
+        ensures refused { IfErr result (λ fault. StopsAt (pick_by_draws N) N item (max size 1) self.old (R.stream rng.old) fault self.new (R.stream rng.new)) }
+    {
+        match self.tracker.admit(item, size.max(1)) {
+            Ok(()) => match self.tracker.evict_by_draws(alloc, rng) {
+                Ok(gone) => Ok(gone),
+                Err(gone) => Err(EvictFault::Memory(gone)),
+            },
+            Err(refusal) => Err(EvictFault::of(alloc, refusal)),
+        }
+    }
+
+    /// A use of an entry: a tracked one moves to the front of its shard, and the answer is `true`; another one is put there
+    /// with that weight, of 1 at least, and the answer is `false`. It evicts nothing.
+    pub fn access(
+        &mut self,
+        alloc: Global,
+        item: &CacheEntryKey,
+        size: usize,
+        _fresh_until: Moment,
+    ) -> Result<bool, EvictFault>
+        ensures ok { OnOk result (self.new ≡ use_first N item.now (max size 1) self.old) }
+        ensures found { IfOk result (λ b. b ≡ is_some (weight_of item.now (rows_of N item.now self.old))) }
+        ensures tracked { weight_of item.now (rows_of N item.now self.old) ≢ None → IsOk result }
+        ensures err { OnErr result (self.new ≡ self.old) }
+        ensures refused { IfErr result (λ fault. IsPutRefused N item.now (max size 1) self.old fault) }
+        ensures none { IfErr result (λ fault. evicted_of fault ≡ []) }
+    {
+        let refusal = match self.tracker.access(item, size.max(1)) {
+            Ok(was_tracked) => return Ok(was_tracked),
+            Err(refusal) => refusal,
+        };
+        Err(EvictFault::of(alloc, refusal))
+    }
+
+    /// Takes an entry out.
+    pub fn remove(&mut self, item: CacheEntryKeyRef<'_>)
+        ensures { self.new ≡ taken_out N (owned_of item.entry) self.old }
+    {
+        self.tracker.remove(item);
+    }
+}

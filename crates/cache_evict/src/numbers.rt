@@ -1,0 +1,131 @@
+//! Numbers of entries. An entry keeps its number for as long as it has one, and no two have the same.
+
+ghost use Rattle.std.specs.Prelude.{◌≡◌, ℕ, ◌<◌, [], length, Some, IfSome, IfNone, IfOk, OnErr, option_copied};
+ghost use Rattle.cache_entries.specs.Entry.{owned_of};
+ghost use Rattle.cache_evict.specs.Names.{name_at, IsOneToOne, HasNoNumber, with_name, without_name, IsFirstFree, IsSpent};
+
+mod fault;
+mod search;
+mod table;
+
+use cache_entries::entry::{CacheEntryKey, CacheEntryKeyRef};
+pub use fault::NumbersFault;
+use indexmap::IndexMap;
+use search::first_free;
+use std::alloc::Global;
+use std::collections::HashMap;
+use std::hash::{BuildHasher, BuildHasherDefault, FoldHasher};
+use std::marker::Model;
+use table::{move_place, put_entry, put_place, room_for_one, take_place};
+
+/// Entries and their numbers, N numbers apart for entries whose hashes are the same. A contract sees the pairs of entry and
+/// number.
+///
+/// Both are found by their hashes. `new` hashes with a fixed start, for entries that the caller chooses itself;
+/// `with_hasher` takes a start of the caller's, for entries that strangers choose, who then can't slow look-ups down.
+#[derive(Drop)]
+pub struct Numbers<const N: usize, S: BuildHasher = BuildHasherDefault<FoldHasher>> {
+    entries: IndexMap<CacheEntryKey, u64, S>,
+    // The index of each number's entry.
+    places: HashMap<u64, usize, S>,
+}
+
+impl<const N: usize, S: BuildHasher> Model for Numbers<N, S> {
+    ghost use Rattle.std.specs.Prelude.{ℕ, List, nat_eq};
+    ghost use Rattle.std.specs.HashMap.{get};
+    ghost use Rattle.cache_entries.specs.declared.entry.CacheEntryKey.{CacheEntryKey};
+
+    ghost Value = { List (CacheEntryKey × ℕ) };
+
+    ghost use Rattle.std.specs.Prelude.{◌<◌};
+    ghost use Rattle.cache_evict.specs.Places.{IsPlaced};
+
+    ghost view = { λ n. n.entries.entries };
+
+    ghost invariant = { λ n. (0 < N) × IsPlaced (get nat_eq n.places) n.entries.entries };
+}
+
+impl<const N: usize> Numbers<N, BuildHasherDefault<FoldHasher>> {
+    /// Returns numbers that no entry has yet, under hashes with a fixed start. It takes no memory.
+    pub fn new(alloc: Global) -> Self
+        requires { 0 < N }
+        ensures { result ≡ [] }
+    {
+        Numbers::with_hasher(alloc, BuildHasherDefault::new())
+    }
+}
+
+impl<const N: usize, S: BuildHasher + Copy> Numbers<N, S> {
+    /// Returns numbers that no entry has yet, under hashes of that start. It takes no memory.
+    pub fn with_hasher(alloc: Global, hasher: S) -> Self
+        requires { 0 < N }
+        ensures { result ≡ [] }
+    {
+        Numbers {
+            entries: IndexMap::with_hasher(alloc, hasher),
+            places: HashMap::with_hasher(alloc, hasher),
+        }
+    }
+}
+
+impl<const N: usize, S: BuildHasher> Numbers<N, S> {
+    /// Returns how many entries have a number.
+    pub fn len(&self) -> usize
+        ensures count { result ≡ length self.now }
+        ensures one { IsOneToOne (name_at self.now) }
+    {
+        self.entries.len()
+    }
+
+    /// Returns the number of an entry.
+    pub fn number_of(&self, entry: CacheEntryKeyRef<'_>) -> Option<u64>
+        ensures some { IfSome result (λ k. name_at self.now k ≡ Some (owned_of entry.entry)) }
+        ensures none { IfNone result (HasNoNumber (name_at self.now) (owned_of entry.entry)) }
+    {
+        self.entries.get(entry).copied()
+    }
+
+    /// Returns the entry of a number.
+    pub fn entry_of(&self, number: u64) -> Option<&CacheEntryKey>
+        ensures { option_copied result ≡ name_at self.now number }
+    {
+        let i = *self.places.get(&number)?;
+        let (entry, _number) = self.entries.get_index(i)?;
+        Some(entry)
+    }
+
+    /// Gives an entry that has none a number: the first free one of the hash, the hash + N and so on below 2^64, then of the
+    /// hash modulo N, that + N and so on below the hash. Without one, or out of memory, it returns the entry.
+    pub fn give(&mut self, entry: CacheEntryKey, hash: u64) -> Result<u64, NumbersFault>
+        requires { HasNoNumber (name_at self.old) entry }
+        ensures first { IfOk result (λ k. IsFirstFree N (name_at self.old) hash k) }
+        ensures named { IfOk result (λ k. (i : ℕ) → name_at self.new i ≡ with_name (name_at self.old) k entry i) }
+        ensures err { OnErr result (self.new ≡ self.old) }
+        ensures memory { (back : CacheEntryKey) → result ≡ Err (NumbersFault.Memory back) → back ≡ entry }
+        ensures spent { (back : CacheEntryKey) → result ≡ Err (NumbersFault.NumbersSpent back) → (back ≡ entry) × IsSpent N (name_at self.old) hash }
+    {
+        let Some(number) = first_free(&self.places, N as u64, hash) else {
+            return Err(NumbersFault::NumbersSpent(entry));
+        };
+        if room_for_one(&mut self.entries, &mut self.places).is_err() {
+            return Err(NumbersFault::Memory(entry));
+        }
+        let place = self.entries.len();
+        put_entry(&mut self.entries, entry, number);
+        put_place(&mut self.places, number, place);
+        Ok(number)
+    }
+
+    /// Takes a number back, and returns the entry that had it.
+    pub fn give_back(&mut self, number: u64) -> Option<CacheEntryKey>
+        ensures value { result ≡ name_at self.old number }
+        ensures after { (i : ℕ) → name_at self.new i ≡ without_name (name_at self.old) number i }
+    {
+        let place = take_place(&mut self.places, number)?;
+        let (entry, _number) = self.entries.swap_remove_index(place).unwrap();
+        if let Some((_entry, moved)) = self.entries.get_index(place) {
+            move_place(&mut self.places, *moved, place);
+        }
+        Some(entry)
+    }
+}

@@ -1,0 +1,124 @@
+//! Entries in shards, each most recent first.
+
+ghost use Rattle.std.specs.Prelude.{◌≡◌, ◌≢◌, ℕ, ◌<◌, None, true, false, is_some, IsOk, IfOk, IfErr, OnOk, OnErr};
+ghost use Rattle.cache_entries.specs.Entry.{owned_of};
+ghost use Rattle.cache_entries.specs.Rows.{weight_of};
+ghost use Rattle.cache_evict.specs.Managed.{rows_of, put_first, use_first, taken_out};
+ghost use Rattle.cache_evict.specs.Refusals.{IsRefusal};
+
+mod eviction;
+mod refusal;
+mod rows;
+mod totals;
+
+use crate::numbers::Numbers;
+use cache_entries::entry::{CacheEntryKey, CacheEntryKeyRef};
+use lru_core::LruCore;
+pub use refusal::Refusal;
+use rows::{copy_of, discard, put_first, put_new_first, take_back};
+use std::hash::BuildHasher;
+use std::marker::Model;
+
+/// N shards of entries with their weights, under limits, and counts of the evicted ones.
+#[derive(Drop)]
+pub struct Tracker<const N: usize, S: BuildHasher> {
+    numbers: Numbers<N, S>,
+    core: LruCore<u64, N>,
+    evicted_size: usize,
+    evicted_items: usize,
+}
+
+impl<const N: usize, S: BuildHasher> Model for Tracker<N, S> {
+    ghost use Rattle.cache_evict.specs.Managed.{Managed};
+
+    ghost Value = { Managed };
+
+    ghost use Rattle.cache_evict.specs.Names.{name_at};
+    ghost use Rattle.cache_evict.specs.Numbered.{managed_in, IsNumbered};
+
+    ghost view = { λ t. managed_in (name_at t.numbers) t.core t.evicted_size t.evicted_items };
+
+    ghost invariant = { λ t. IsNumbered N (name_at t.numbers) t.core.shards };
+}
+
+impl<const N: usize, S: BuildHasher> Tracker<N, S> {
+    /// Returns the weight of an entry, if it is tracked.
+    pub fn weight_of(&self, entry: CacheEntryKeyRef<'_>) -> Option<usize>
+        ensures { result ≡ weight_of (owned_of entry.entry) (rows_of N (owned_of entry.entry) self.now) }
+    {
+        match self.numbers.number_of(entry) {
+            Some(number) => self.core.peek_weight(number),
+            None => None,
+        }
+    }
+
+    /// Moves an entry to the front of its shard, and returns whether it is tracked.
+    pub fn touch(&mut self, entry: CacheEntryKeyRef<'_>) -> bool
+        ensures found { result ≡ is_some (weight_of (owned_of entry.entry) (rows_of N (owned_of entry.entry) self.old)) }
+        ensures moved { (w : ℕ) → result ≡ true → self.new ≡ use_first N (owned_of entry.entry) w self.old }
+        ensures same { result ≡ false → self.new ≡ self.old }
+    {
+        match self.numbers.number_of(entry) {
+            Some(number) => {
+                let _found = self.core.promote(number);
+                true
+            }
+            None => false,
+        }
+    }
+
+    /// Puts an entry at the front of its shard, with that weight. A refusal changes nothing.
+    pub fn admit(&mut self, entry: CacheEntryKey, weight: usize) -> Result<(), Refusal>
+        requires { 0 < weight }
+        ensures ok { OnOk result (self.new ≡ put_first N entry weight self.old) }
+        ensures err { OnErr result (self.new ≡ self.old) }
+        ensures why { IfErr result (IsRefusal N entry weight self.old) }
+    {
+        match self.numbers.number_of(CacheEntryKeyRef::from(&entry)) {
+            Some(number) => {
+                discard(entry);
+                put_first(&mut self.core, number, weight)
+            }
+            None => put_new_first(&mut self.numbers, &mut self.core, entry, weight),
+        }
+    }
+
+    /// Moves a tracked entry to the front of its shard, and returns `true`, or puts another one there with that weight, and
+    /// returns `false`. A refusal changes nothing, and comes only for an entry that isn't tracked.
+    pub fn access(&mut self, entry: &CacheEntryKey, weight: usize) -> Result<bool, Refusal>
+        requires { 0 < weight }
+        ensures ok { OnOk result (self.new ≡ use_first N entry.now weight self.old) }
+        ensures found { IfOk result (λ b. b ≡ is_some (weight_of entry.now (rows_of N entry.now self.old))) }
+        ensures tracked { weight_of entry.now (rows_of N entry.now self.old) ≢ None → IsOk result }
+        ensures err { OnErr result (self.new ≡ self.old) }
+        ensures why { IfErr result (IsRefusal N entry.now weight self.old) }
+    {
+        if self.touch(CacheEntryKeyRef::from(entry)) {
+            return Ok(true);
+        }
+        self.admit_copy(entry, weight)?;
+        Ok(false)
+    }
+
+    // Puts a copy of an entry that isn't tracked at the front of its shard.
+    fn admit_copy(&mut self, entry: &CacheEntryKey, weight: usize) -> Result<(), Refusal>
+        requires weight { 0 < weight }
+        requires new { weight_of entry.now (rows_of N entry.now self.old) ≡ None }
+        ensures ok { OnOk result (self.new ≡ put_first N entry.now weight self.old) }
+        ensures err { OnErr result (self.new ≡ self.old) }
+        ensures why { IfErr result (IsRefusal N entry.now weight self.old) }
+    {
+        let copy = copy_of(entry)?;
+        self.admit(copy, weight)
+    }
+
+    /// Takes an entry out.
+    pub fn remove(&mut self, entry: CacheEntryKeyRef<'_>)
+        ensures { self.new ≡ taken_out N (owned_of entry.entry) self.old }
+    {
+        if let Some(number) = self.numbers.number_of(entry) {
+            let _row = self.core.remove(number);
+            take_back(&mut self.numbers, number);
+        }
+    }
+}
