@@ -1,0 +1,4 @@
+pub mod Changes
+pub mod Store
+pub mod Uses
+pub mod Writes
