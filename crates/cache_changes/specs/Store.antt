@@ -1,9 +1,9 @@
 -- The plain state that changes leave of writes: finished bodies, one a key, and the writes in flight.
-use Rattle.std.specs.Prelude.{ℕ, ◌==◌, Bool, true, false, ◌||◌, ◌&&◌, not, List, [], ◌∷◌, ◌++◌, Option, Some, None, option_map, is_some, find, filter, map, if◌then◌else◌}
+use Rattle.std.specs.Prelude.{◌≡◌, ◌↔◌, ℕ, ◌==◌, Bool, true, false, ◌||◌, ◌&&◌, not, List, [], ◌∷◌, ◌++◌, Option, Some, None, option_map, is_some, find, filter, map, if◌then◌else◌}
 use Rattle.std.specs.Option.{option_or}
 use Rattle.cache_entries.specs.Keys.{same_bytes}
 use Rattle.cache_changes.specs.Changes.{StoredKey, Write, Change, Changes, begins, appends, ends, finishes, leaves, renews, removes, admits, uses, departs, evicts, key_evicted, is_key}
-use Rattle.cache_changes.specs.Writes.{bytes_of, meta_of}
+use Rattle.cache_changes.specs.Writes.{bytes_of, has_ended, meta_of, IsInFlight, IsAlive}
 
 -- a write with what is stored of it: its meta now, and its bytes so far
 pub record Stored (M : Type 0) : Type 0 where
@@ -28,6 +28,13 @@ empty_store = record { bodies = []; flying = [] }
 -- what changes say is stored of a write
 abbrev pub stored_of : {M : Type 0} → Write M → Changes M → Stored M
 stored_of w changes = record { write = w; meta = meta_of w changes; bytes = bytes_of w.number changes }
+
+-- what changes say of a write in flight
+pub record IsFlight {M : Type 0} (f : Flying M) (changes : Changes M) : Type 0 where
+  pub flies : IsInFlight f.stored.write changes
+  pub stored : f.stored ≡ stored_of f.stored.write changes
+  pub ended : f.ended ≡ has_ended f.stored.write.number changes
+  pub alive : (f.removed ≡ false) ↔ IsAlive f.stored.write changes
 
 -- words on rows: a body of k, the write in flight of number n
 
