@@ -5,7 +5,7 @@ use Rattle.std.specs.List.{AllByRecursion}
 use Rattle.std.proofs.lemmas.Bool.{eqb-true}
 use Rattle.cache_entries.specs.Keys.{same_bytes}
 use Rattle.cache_entries.specs.SameEntry.{same_bytes-tells, same-sym}
-use Rattle.cache_changes.specs.Changes.{StoredKey, Write, Change, Changes, appends, finishes, leaves, renews, removes, evicts, key_evicted, is_key}
+use Rattle.cache_changes.specs.Changes.{StoredKey, Write, Change, Changes, appends, finishes, leaves, renews, removes, evicts, key_alone, is_key}
 use Rattle.cache_changes.specs.Writes.{removes_key, leaves_write, finishes_key, IsInFlight, IsAlive, IsBody, Flies, MayCome, IsOrderly}
 use Rattle.cache_changes.specs.Store.{Stored, Flying, stored_of, is_of, body_at, flying_at, renewed, with_body, after, store_of}
 use Rattle.cache_changes.proofs.RowLaws.{not_true, not_false, find-map, find-kept, find-gone}
@@ -230,7 +230,7 @@ append_step : {M : Type 0} (m : ℕ) (bytes : List ℕ) (before : Changes M) (o 
 append_step m bytes before None h = refl
 append_step m bytes before (Some w) h = rw (h w refl) refl
 
-not_appended : {M : Type 0} (k : StoredKey) (m : ℕ) (before : Changes M) → IsOrderly before → Flies m before → (w : Write M) → body_now k before ≡ Some w → (m == w.number) ≡ false
+pub not_appended : {M : Type 0} (k : StoredKey) (m : ℕ) (before : Changes M) → IsOrderly before → Flies m before → (w : Write M) → body_now k before ≡ Some w → (m == w.number) ≡ false
 not_appended {M = M} k m before o flies w e =
     no_leaving w true (leaves m) before flies o (body_now-has k before w o e).lives
 
@@ -259,7 +259,7 @@ body-after k (renews m meta) before may o h =
 body-after k (removes j) before may o h =
     body-removed k (Some j) (store_of before).bodies ∙ ap (cond (is_key k (Some j)) None) h ∙ remove_step k before (is_key k (Some j)) (body_now k before)
 body-after k (evicts e) before may o h =
-    body-removed k (key_evicted e) (store_of before).bodies ∙ ap (cond (is_key k (key_evicted e)) None) h ∙ remove_step k before (is_key k (key_evicted e)) (body_now k before)
+    body-removed k (key_alone e) (store_of before).bodies ∙ ap (cond (is_key k (key_alone e)) None) h ∙ remove_step k before (is_key k (key_alone e)) (body_now k before)
 body-after k _ before may o h = h
 
 -- the bodies of the state

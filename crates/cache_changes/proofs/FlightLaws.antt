@@ -5,7 +5,7 @@ use Rattle.std.specs.Option.{option_or}
 use Rattle.std.proofs.lemmas.Bool.{eqb-true}
 use Rattle.std.proofs.lemmas.List.Folds.{find-append}
 use Rattle.cache_entries.specs.declared.entry.CacheEntryKey.{CacheEntryKey}
-use Rattle.cache_changes.specs.Changes.{Write, Change, Changes, StoredKey, begins, appends, ends, finishes, leaves, renews, removes, admits, uses, departs, evicts, key_evicted, is_key}
+use Rattle.cache_changes.specs.Changes.{Write, Change, Changes, StoredKey, begins, appends, ends, finishes, leaves, renews, removes, admits, uses, departs, evicts, key_alone, is_key}
 use Rattle.cache_changes.specs.Writes.{has_ended, MayCome, IsOrderly}
 use Rattle.cache_changes.specs.Store.{Stored, Flying, Store, stored_of, has_number, flying_at, begun, with_bytes, renewed, renewed_flying, ended, marked, landed, after, store_of}
 use Rattle.cache_changes.proofs.RowLaws.{not_true, not_false, find-map, find-kept, find-gone}
@@ -106,8 +106,8 @@ remove_step k w true true before e = rw e refl
 remove_step k w true false before e = rw e refl
 remove_step k w false v before e = refl
 
-evict_step : {M : Type 0} (e : CacheEntryKey) (w : Write M) (a v : Bool) (before : Changes M) → is_key w.key (key_evicted e) ≡ v
-    → Some (marked (key_evicted e) (flight w a before)) ≡ flying_of (evicts e ∷ before) (Some (lived (evicts e) (live w a)))
+evict_step : {M : Type 0} (e : CacheEntryKey) (w : Write M) (a v : Bool) (before : Changes M) → is_key w.key (key_alone e) ≡ v
+    → Some (marked (key_alone e) (flight w a before)) ≡ flying_of (evicts e ∷ before) (Some (lived (evicts e) (live w a)))
 evict_step e w true true before h = rw h refl
 evict_step e w true false before h = rw h refl
 evict_step e w false v before h = refl
@@ -154,9 +154,9 @@ flying-after n (removes k) before s may o h =
     ∙ ap (option_map (marked (Some k))) h
     ∙ moved n (removes k) before (option_map (marked (Some k))) refl (λ w a t. remove_step k w a (is_key w.key (Some k)) before refl) (life n before) (life_number n before)
 flying-after n (evicts e) before s may o h =
-    find-map (has_number n) (marked (key_evicted e)) s.flying (λ f. refl)
-    ∙ ap (option_map (marked (key_evicted e))) h
-    ∙ moved n (evicts e) before (option_map (marked (key_evicted e))) refl (λ w a t. evict_step e w a (is_key w.key (key_evicted e)) before refl) (life n before) (life_number n before)
+    find-map (has_number n) (marked (key_alone e)) s.flying (λ f. refl)
+    ∙ ap (option_map (marked (key_alone e))) h
+    ∙ moved n (evicts e) before (option_map (marked (key_alone e))) refl (λ w a t. evict_step e w a (is_key w.key (key_alone e)) before refl) (life n before) (life_number n before)
 flying-after {M = M} n (admits e x) before s may o h = h ∙ moved n (admits e x) before (λ x. x) refl (λ w a t. by_flag w a) (life n before) (life_number n before)
   where
     by_flag : (w : Write M) (a : Bool) → Some (flight w a before) ≡ flying_of (admits e x ∷ before) (Some (lived (admits e x) (live w a)))

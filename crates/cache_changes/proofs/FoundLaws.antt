@@ -7,12 +7,13 @@ use Rattle.cache_entries.specs.Keys.{same_bytes}
 use Rattle.cache_entries.specs.SameEntry.{same_bytes-tells}
 use Rattle.cache_changes.specs.Changes.{StoredKey, Write, Change, Changes, finishes, leaves}
 use Rattle.cache_changes.specs.Writes.{removes_key, lands, leaves_write, IsFound, IsFlying, IsShown, MayCome, IsOrderly}
-use Rattle.cache_changes.specs.Store.{Stored, Flying, stored_of, has_number, body_at, flying_at, flies_for, shown_at, is_found_at, store_of}
+use Rattle.cache_changes.specs.Store.{Stored, Flying, IsStateOf, stored_of, has_number, body_at, flying_at, flies_for, shown_at, is_found_at, store_of}
 use Rattle.cache_changes.proofs.RowLaws.{find-passes, find-some}
 use Rattle.cache_changes.proofs.WriteLaws.{Life, life, life_by, begun_by, life-flies, life-alive, and_true, both_true, neither, was_false}
 use Rattle.cache_changes.proofs.FlightLaws.{live, flight, flying_of, flying_at-is}
 use Rattle.cache_changes.proofs.BodyLaws.{finished_by, body_chosen, body_now, body_at-is, life-both, one_life, back}
-use Rattle.cache_changes.proofs.ShownLaws.{number_of, flying-tells, bodies-are, flights-rise, found_number, found_least, was_true}
+use Rattle.cache_changes.proofs.StateLaws.{flying-tells, flights-are, bodies-are, was_true}
+use Rattle.cache_changes.proofs.OrderLaws.{number_of, flights-rise, found_number, found_least}
 
 -- ---- a finished write that is alive leaves its key a body
 
@@ -175,3 +176,7 @@ found-tells {M = M} k changes o t = by_shown (shown_at k (store_of changes)) ref
 
 pub found-is : {M : Type 0} (changes : Changes M) → IsOrderly changes → (k : StoredKey) → (is_found_at k (store_of changes) ≡ true) ↔ IsFound k changes
 found-is changes o k = (λ t. found-tells k changes o t, λ f. found-told k changes o f)
+
+-- the state is what the changes say
+pub store_of-is : {M : Type 0} (changes : Changes M) → IsOrderly changes → IsStateOf (store_of changes) changes
+store_of-is changes o = record { bodies = bodies-are changes o; flights = flights-are changes o; found = found-is changes o; shown = shown-is changes o }

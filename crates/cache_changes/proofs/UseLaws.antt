@@ -1,13 +1,13 @@
 -- The rows that changes leave are the order of use, and nothing else is.
 use Rattle.std.proofs.Common.{◌≡◌, ℕ, ◌+◌, ◌≤◌, ◌<◌, refl, ap, sym, ◌∙◌, true, false, subst, cond, [], ◌∷◌, length, arith}
-use Rattle.std.specs.Prelude.{Bool, List, Option, Some, None, option_map, unwrap_or, is_some, not}
+use Rattle.std.specs.Prelude.{Bool, List, Option, Some, None, option_map, unwrap_or, is_some, not, ◌↔◌}
 use Rattle.cache_entries.specs.declared.entry.CacheEntryKey.{CacheEntryKey}
 use Rattle.cache_entries.specs.declared.rows.Tracked.{Tracked}
 use Rattle.cache_entries.specs.Entry.{same_entry}
-use Rattle.cache_entries.specs.Rows.{row_of, weight_of, without_row, admitted, used, AreDistinct}
+use Rattle.cache_entries.specs.Rows.{row_of, weight_of, without_row, admitted, used, AreDistinct, is_over}
 use Rattle.cache_entries.specs.SameEntry.{same_entry-tells, same-sym}
 use Rattle.cache_changes.specs.Changes.{Change, Changes, admits, uses, departs, evicts}
-use Rattle.cache_changes.specs.Uses.{last_use, last_weight, AreInOrder, IsOrderOfUse, rows_after, rows_of, admissions}
+use Rattle.cache_changes.specs.Uses.{last_use, last_weight, AreInOrder, IsOrderOfUse, IsLast, IsLawfulEviction, shard_of, in_shard, rows_after, rows_of, admissions}
 use Rattle.cache_changes.proofs.RowLaws.{weight_of-without, weight_of-admitted, without_none}
 
 -- rows in an order, over any account of last uses and weights
@@ -162,3 +162,11 @@ pub rows_of-admissions : (M : Type 0) (rows : List Tracked) → AreDistinct rows
 rows_of-admissions M [] d = refl
 rows_of-admissions M (r ∷ rows) d =
     ap (λ (l : List Tracked). r ∷ without_row r.entry l) (rows_of-admissions M rows d.1) ∙ ap (λ (l : List Tracked). r ∷ l) (without_none r.entry rows d.0)
+
+-- lawful evictions are of the rows that changes leave
+pub lawful-is : {M : Type 0} (n limit : ℕ) (watermark : Option ℕ) (e : CacheEntryKey) (before : Changes M)
+    → IsLawfulEviction n limit watermark e before ↔ ((is_over limit watermark (rows_of before) ≡ true) × IsLast e (in_shard n (shard_of n e) (rows_of before)))
+lawful-is n limit watermark e before = (
+  λ h. subst (λ (rows : List Tracked). (is_over limit watermark rows ≡ true) × IsLast e (in_shard n (shard_of n e) rows)) (IsOrderOfUse-one h.rows before h.order) (h.over, h.last),
+  λ h. record { rows = rows_of before; order = IsOrderOfUse-rows_of before; over = h.0; last = h.1 },
+)

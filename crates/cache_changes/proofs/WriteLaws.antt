@@ -1,5 +1,5 @@
 -- What is known of a write, found change by change, is what the changes say of it.
-use Rattle.std.proofs.Common.{◌≡◌, ℕ, ◌<◌, refl, ap, sym, ◌∙◌, true, false, subst, cond, [], ◌∷◌, ◌++◌, ◌||◌, ◌&&◌, arith, inl, inr}
+use Rattle.std.proofs.Common.{◌≡◌, ℕ, ◌<◌, ◌≤◌, refl, ap, sym, ◌∙◌, true, false, subst, cond, [], ◌∷◌, ◌++◌, ◌||◌, ◌&&◌, arith, inl, inr}
 use Rattle.std.specs.Prelude.{Bool, ◌==◌, Option, Some, None, option_map, not}
 use Rattle.std.specs.List.{AllByRecursion}
 use Rattle.std.proofs.lemmas.Bool.{eqb-true}
@@ -227,3 +227,12 @@ pub fresh_meta : {M : Type 0} (w : Write M) (changes : Changes M) → AllByRecur
 fresh_meta w [] h o = refl
 fresh_meta w (renews m meta ∷ before) h o = rw (below_apart m w.number (named_below m w.number meta before h.1 o.0)) (fresh_meta w before h.1 o.1)
 fresh_meta w (_ ∷ before) h o = fresh_meta w before h.1 o.1
+
+-- numbers below a bound are below a greater one
+begins_less : {M : Type 0} (m n : ℕ) (c : Change M) → m ≤ n → BeginsBelow m c → BeginsBelow n c
+begins_less m n (begins w) h b = omega (arith, h, b)
+begins_less m n _ h b = tt
+
+pub all_begin_less : {M : Type 0} (m n : ℕ) (changes : Changes M) → m ≤ n → AllByRecursion (BeginsBelow m) changes → AllByRecursion (BeginsBelow n) changes
+all_begin_less m n [] h b = tt
+all_begin_less m n (c ∷ before) h b = (begins_less m n c h b.0, all_begin_less m n before h b.1)

@@ -48,15 +48,15 @@ pub data Change (M : Type 0) : Type 0 where
 abbrev pub Changes : Type 0 → Type 0
 Changes M = List (Change M)
 
--- the key whose bodies and writes go with an evicted entry; none goes with an entry that has an id
-abbrev pub key_evicted : CacheEntryKey → Option StoredKey
-key_evicted (KeyOnly key) = Some (stored_key key)
-key_evicted (Identified key id) = None
+-- the stored key of an entry without an id: what is stored under it goes when the entry is evicted
+abbrev pub key_alone : CacheEntryKey → Option StoredKey
+key_alone (KeyOnly key) = Some (stored_key key)
+key_alone (Identified key id) = None
 
 -- the key whose bodies and writes a change removes
 abbrev pub key_removed : {M : Type 0} → Change M → Option StoredKey
 key_removed (removes k) = Some k
-key_removed (evicts e) = key_evicted e
+key_removed (evicts e) = key_alone e
 key_removed _ = None
 
 -- it is the key k

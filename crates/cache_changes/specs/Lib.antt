@@ -1,3 +1,4 @@
+pub mod Bound
 pub mod Changes
 pub mod Store
 pub mod Uses

@@ -2,8 +2,8 @@
 use Rattle.std.specs.Prelude.{◌≡◌, ◌↔◌, ℕ, ◌==◌, Bool, true, false, ◌||◌, ◌&&◌, not, List, [], ◌∷◌, ◌++◌, Option, Some, None, option_map, is_some, find, filter, map, if◌then◌else◌}
 use Rattle.std.specs.Option.{option_or}
 use Rattle.cache_entries.specs.Keys.{same_bytes}
-use Rattle.cache_changes.specs.Changes.{StoredKey, Write, Change, Changes, begins, appends, ends, finishes, leaves, renews, removes, admits, uses, departs, evicts, key_evicted, is_key}
-use Rattle.cache_changes.specs.Writes.{bytes_of, has_ended, meta_of, IsInFlight, IsAlive}
+use Rattle.cache_changes.specs.Changes.{StoredKey, Write, Change, Changes, begins, appends, ends, finishes, leaves, renews, removes, admits, uses, departs, evicts, key_alone, is_key}
+use Rattle.cache_changes.specs.Writes.{bytes_of, has_ended, meta_of, IsInFlight, IsAlive, IsFound, IsBody, IsShown}
 
 -- a write with what is stored of it: its meta now, and its bytes so far
 pub record Stored (M : Type 0) : Type 0 where
@@ -63,6 +63,14 @@ shown_at k s = option_or (option_map (λ f. f.stored) (find (flies_for k) s.flyi
 abbrev pub is_found_at : {M : Type 0} → StoredKey → Store M → Bool
 is_found_at k s = is_some (shown_at k s)
 
+-- the state is what changes say: it has just their bodies and writes in flight, finds just the keys that have an alive write,
+-- and shows what a look-up is to show
+pub record IsStateOf {M : Type 0} (s : Store M) (changes : Changes M) : Type 0 where
+  pub bodies : (k : StoredKey) (x : Stored M) → (body_at k s ≡ Some x) ↔ (IsBody k x.write changes × (x ≡ stored_of x.write changes))
+  pub flights : (n : ℕ) (f : Flying M) → (flying_at n s ≡ Some f) ↔ ((f.stored.write.number ≡ n) × IsFlight f changes)
+  pub found : (k : StoredKey) → (is_found_at k s ≡ true) ↔ IsFound k changes
+  pub shown : (k : StoredKey) (x : Stored M) → (shown_at k s ≡ Some x) ↔ (IsShown k x.write changes × (x ≡ stored_of x.write changes))
+
 -- what each change does to the state
 
 abbrev pub begun : {M : Type 0} → Write M → Flying M
@@ -111,7 +119,7 @@ after (finishes w) s = record { bodies = with_body (option_map (λ f. f.stored) 
 after (leaves n) s = record s { flying = landed n s.flying }
 after (renews n meta) s = record { bodies = map (renewed n meta) s.bodies; flying = map (renewed_flying n meta) s.flying }
 after (removes k) s = removed_from (Some k) s
-after (evicts e) s = removed_from (key_evicted e) s
+after (evicts e) s = removed_from (key_alone e) s
 after (admits e w) s = s
 after (uses e w) s = s
 after (departs e) s = s

@@ -1,19 +1,17 @@
 //! Laws over definitions alone. The functions do nothing: their contracts are the laws.
-ghost use Rattle.std.specs.Prelude.{◌≡◌, ◌↔◌, ℕ, List, Some, true, false};
+ghost use Rattle.std.specs.Prelude.{◌≡◌, ◌↔◌, ℕ, List, Option, true, false};
+ghost use Rattle.cache_entries.specs.declared.entry.CacheEntryKey.{CacheEntryKey};
 ghost use Rattle.cache_entries.specs.declared.rows.Tracked.{Tracked};
-ghost use Rattle.cache_entries.specs.Rows.{AreDistinct};
-ghost use Rattle.cache_changes.specs.Changes.{StoredKey, Change, Changes};
-ghost use Rattle.cache_changes.specs.Writes.{IsFound, IsBody, IsShown, IsOrderly};
-ghost use Rattle.cache_changes.specs.Store.{Stored, Flying, IsFlight, stored_of, body_at, flying_at, shown_at, is_found_at, store_of};
-ghost use Rattle.cache_changes.specs.Uses.{IsOrderOfUse, rows_after, rows_of, in_shard, changes_shard, admissions};
+ghost use Rattle.cache_entries.specs.Rows.{AreDistinct, is_over};
+ghost use Rattle.cache_changes.specs.Changes.{Write, Change, Changes};
+ghost use Rattle.cache_changes.specs.Writes.{IsBody, IsOrderly};
+ghost use Rattle.cache_changes.specs.Store.{IsStateOf, store_of};
+ghost use Rattle.cache_changes.specs.Bound.{TracksBodies, is_settled, IsTrackedBody, AreWithin};
+ghost use Rattle.cache_changes.specs.Uses.{IsOrderOfUse, IsLast, IsLawfulEviction, rows_after, rows_of, shard_of, in_shard, changes_shard, admissions};
 
-/// The state that orderly changes leave has just the bodies and the writes in flight that the changes say, finds just the keys
-/// that have an alive write, and shows just what a look-up is to show.
+/// The state that orderly changes leave of writes is what the changes say.
 pub fn the_state_is_what_changes_say<M>()
-    ensures bodies { (changes : Changes M) → IsOrderly changes → (k : StoredKey) (x : Stored M) → (body_at k (store_of changes) ≡ Some x) ↔ (IsBody k x.write changes × (x ≡ stored_of x.write changes)) }
-    ensures flights { (changes : Changes M) → IsOrderly changes → (n : ℕ) (f : Flying M) → (flying_at n (store_of changes) ≡ Some f) ↔ ((f.stored.write.number ≡ n) × IsFlight f changes) }
-    ensures found { (changes : Changes M) → IsOrderly changes → (k : StoredKey) → (is_found_at k (store_of changes) ≡ true) ↔ IsFound k changes }
-    ensures shown { (changes : Changes M) → IsOrderly changes → (k : StoredKey) (x : Stored M) → (shown_at k (store_of changes) ≡ Some x) ↔ (IsShown k x.write changes × (x ≡ stored_of x.write changes)) }
+    ensures { (changes : Changes M) → IsOrderly changes → IsStateOf (store_of changes) changes }
 {}
 
 /// What changes leave of entries is their order of use, and no other rows are.
@@ -32,4 +30,19 @@ pub fn shards_change_alone<M>()
 /// Rows that were loaded are kept: their admissions, the last row first, leave just them.
 pub fn loaded_rows_are_kept<M>()
     ensures { (rows : List Tracked) → AreDistinct rows → rows_of {M = M} (admissions rows) ≡ rows }
+{}
+
+/// An eviction is lawful exactly where the rows that the changes leave are over a limit, and the entry is the last of its shard's.
+pub fn lawful_evictions_take_the_last<M>()
+    ensures { (n limit : ℕ) (watermark : Option ℕ) (e : CacheEntryKey) (before : Changes M) → IsLawfulEviction n limit watermark e before
+        ↔ ((is_over limit watermark (rows_of before) ≡ true) × IsLast e (in_shard n (shard_of n e) (rows_of before))) }
+{}
+
+/// Where each write that finishes is admitted at once under an entry of its key, with at least its length, and such an entry
+/// departs only when its key has no body, each body has a tracked entry with at least its length. So, while the rows keep the
+/// limit and the watermark, the bodies do.
+pub fn tracked_bodies_keep_the_limits<M>()
+    ensures tracked { (changes : Changes M) → IsOrderly changes → TracksBodies changes → is_settled changes ≡ true → (w : Write M) → IsBody w.key w changes → IsTrackedBody w changes }
+    ensures within { (changes : Changes M) → IsOrderly changes → TracksBodies changes → is_settled changes ≡ true → (limit : ℕ) (watermark : Option ℕ) (rows : List Tracked)
+        → IsOrderOfUse rows changes → is_over limit watermark rows ≡ false → AreWithin limit watermark changes }
 {}
