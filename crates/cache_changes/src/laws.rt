@@ -1,17 +1,31 @@
 //! Laws over definitions alone. The functions do nothing: their contracts are the laws.
-ghost use Rattle.std.specs.Prelude.{◌≡◌, ◌↔◌, ℕ, List, Option, true, false};
+ghost use Rattle.std.specs.Prelude.{◌≡◌, ◌↔◌, ◌⊎◌, ◌<◌, ℕ, List, [], ◌∷◌, ◌++◌, length, slice_index_or, slice_set, Option, Some, is_some, true, false};
+ghost use Rattle.std.specs.List.{sum_by};
 ghost use Rattle.cache_entries.specs.declared.entry.CacheEntryKey.{CacheEntryKey};
 ghost use Rattle.cache_entries.specs.declared.rows.Tracked.{Tracked};
-ghost use Rattle.cache_entries.specs.Rows.{AreDistinct, is_over};
-ghost use Rattle.cache_changes.specs.Changes.{Write, Change, Changes};
-ghost use Rattle.cache_changes.specs.Writes.{IsBody, IsOrderly};
-ghost use Rattle.cache_changes.specs.Store.{IsStateOf, store_of};
+ghost use Rattle.cache_entries.specs.Rows.{AreDistinct, all_weights, is_over};
+ghost use Rattle.cache_changes.specs.Changes.{StoredKey, Write, Change, Changes, appends, finishes, renews, evicts};
+ghost use Rattle.cache_changes.specs.Writes.{IsBody, Flies, MayCome, IsOrderly};
+ghost use Rattle.cache_changes.specs.Store.{Stored, Flying, IsStateOf, body_at, flying_at, store_of};
 ghost use Rattle.cache_changes.specs.Bound.{TracksBodies, is_settled, IsTrackedBody, AreWithin};
-ghost use Rattle.cache_changes.specs.Uses.{IsOrderOfUse, IsLast, IsLawfulEviction, rows_after, rows_of, shard_of, in_shard, changes_shard, admissions};
+ghost use Rattle.cache_changes.specs.Uses.{IsOrderOfUse, IsLast, IsLawfulEviction, rows_after, rows_of, shard_of, in_shard, changes_shard, entry_changed, AreShardsOf, shards_after, admissions};
 
 /// The state that orderly changes leave of writes is what the changes say.
 pub fn the_state_is_what_changes_say<M>()
     ensures { (changes : Changes M) → IsOrderly changes → IsStateOf (store_of changes) changes }
+{}
+
+/// That state tells which changes may come next: bytes, to a write that has not ended; a finish, of one that was not removed; what
+/// else is done to a write, in flight; and another meta, to a write in flight or a body.
+pub fn the_state_tells_what_may_come<M>()
+    ensures flies { (changes : Changes M) → IsOrderly changes → (n : ℕ) → (is_some (flying_at n (store_of changes)) ≡ true) ↔ Flies n changes }
+    ensures appends { (changes : Changes M) → IsOrderly changes → (n : ℕ) (bytes : List ℕ)
+        → ((f : Flying M) × (flying_at n (store_of changes) ≡ Some f) × (f.ended ≡ false)) ↔ MayCome (appends n bytes) changes }
+    ensures finishes { (changes : Changes M) → IsOrderly changes → (w : Write M)
+        → ((f : Flying M) × (flying_at w.number (store_of changes) ≡ Some f) × (f.stored.write ≡ w) × (f.removed ≡ false)) ↔ MayCome (finishes w) changes }
+    ensures renews { (changes : Changes M) → IsOrderly changes → (n : ℕ) (meta : M)
+        → ((is_some (flying_at n (store_of changes)) ≡ true) ⊎ ((k : StoredKey) × (x : Stored M) × (body_at k (store_of changes) ≡ Some x) × (x.write.number ≡ n)))
+        ↔ MayCome (renews n meta) changes }
 {}
 
 /// What changes leave of entries is their order of use, and no other rows are.
@@ -25,6 +39,18 @@ pub fn rows_are_the_order_of_use<M>()
 pub fn shards_change_alone<M>()
     ensures same { (n s : ℕ) (c : Change M) (rows : List Tracked) → changes_shard n s c ≡ true → in_shard n s (rows_after c rows) ≡ rows_after c (in_shard n s rows) }
     ensures other { (n s : ℕ) (c : Change M) (rows : List Tracked) → changes_shard n s c ≡ false → in_shard n s (rows_after c rows) ≡ in_shard n s rows }
+{}
+
+/// Shards' lists that hold the rows hold them after each change of an entry, done to its shard's list alone, and weigh and count
+/// together what the rows do. The last row of a list goes as its entry is evicted, which is the last of its shard.
+pub fn shards_hold_the_rows<M>()
+    ensures change { (n : ℕ) (c : Change M) (e : CacheEntryKey) (shards : List (List Tracked)) (rows : List Tracked) → 0 < n → entry_changed c ≡ Some e
+        → AreShardsOf n shards rows → AreShardsOf n (shards_after n e c shards) (rows_after c rows) }
+    ensures weight { (n : ℕ) (shards : List (List Tracked)) (rows : List Tracked) → 0 < n → AreShardsOf n shards rows → sum_by all_weights shards ≡ all_weights rows }
+    ensures count { (n : ℕ) (shards : List (List Tracked)) (rows : List Tracked) → 0 < n → AreShardsOf n shards rows → sum_by length shards ≡ length rows }
+    ensures last { (n s w : ℕ) (e : CacheEntryKey) (front : List Tracked) (shards : List (List Tracked)) (before : Changes M) → 0 < n → s < n → AreShardsOf n shards (rows_of before)
+        → slice_index_or shards s [] ≡ front ++ record { entry = e; weight = w } ∷ []
+        → AreShardsOf n (slice_set shards s front) (rows_of (evicts e ∷ before)) × IsLast e (in_shard n (shard_of n e) (rows_of before)) }
 {}
 
 /// Rows that were loaded are kept: their admissions, the last row first, leave just them.
