@@ -64,9 +64,9 @@ pub fn lawful_evictions_take_the_last<M>()
         ↔ ((is_over limit watermark (rows_of before) ≡ true) × IsLast e (in_shard n (shard_of n e) (rows_of before))) }
 {}
 
-/// Where each write that finishes is admitted at once under an entry of its key, with at least its length, and such an entry
-/// departs only when its key has no body, each body has a tracked entry with at least its length. So, while the rows keep the
-/// limit and the watermark, the bodies do.
+/// Where each write that finishes is admitted at once under an entry of its key, or its key removed; where an admission weighs at
+/// least the body that its key has; and where an entry departs only when its key has no body: there the entry under which a
+/// body was admitted is tracked, with at least the body's length. So, while the rows keep the limit and the watermark, the bodies do.
 pub fn tracked_bodies_keep_the_limits<M>()
     ensures tracked { (changes : Changes M) → IsOrderly changes → TracksBodies changes → is_settled changes ≡ true → (w : Write M) → IsBody w.key w changes → IsTrackedBody w changes }
     ensures within { (changes : Changes M) → IsOrderly changes → TracksBodies changes → is_settled changes ≡ true → (limit : ℕ) (watermark : Option ℕ) (rows : List Tracked)
