@@ -42,6 +42,11 @@ abbrev pub finishes_key : {M : Type 0} → StoredKey → Change M → Bool
 finishes_key k (finishes w) = same_bytes w.key k
 finishes_key k _ = false
 
+pub record HasBegun {M : Type 0} (w : Write M) (changes : Changes M) : Type 0 where
+  pub since : Changes M
+  pub before : Changes M
+  pub split : changes ≡ since ++ begins w ∷ before
+
 -- w began, and neither finished nor was left since
 pub record IsInFlight {M : Type 0} (w : Write M) (changes : Changes M) : Type 0 where
   pub since : Changes M
