@@ -1,0 +1,14 @@
+pub mod BodyLaws
+pub mod BoundLaws
+pub mod FlightLaws
+pub mod FoundLaws
+pub mod LaterLaws
+pub mod ManyShards
+pub mod MayLaws
+pub mod OrderLaws
+pub mod RowLaws
+pub mod ShardLaws
+pub mod StateLaws
+pub mod UseLaws
+pub mod WeightLaws
+pub mod WriteLaws
