@@ -24,12 +24,12 @@ use Rattle.httparse.specs.Spans.{header_bytes, name_and_value, AreFieldsAt, IsRe
 use Rattle.httparse.proofs.TrimLemmas.{AllPass-trim_ows}
 use Rattle.httparse.proofs.GrammarLemmas.{response_unique, response_prefix_free}
 use Rattle.tier_model.specs.Keys.{Entry}
-use Rattle.tier_model.specs.declared.given.Given.{Given}
-use Rattle.tier_model.specs.declared.given.Given.TheVariants.{Incomplete, BadHead}
-use Rattle.tier_model.specs.Response.{values_of, body_within, given_of, given_by, has_short_name, is_within_bounds, Reading, whole_head, begun_head, no_head, IsReading, Gives}
+use Rattle.tier_model.specs.declared.whole.Whole.{Whole}
+use Rattle.tier_model.specs.declared.whole.Whole.TheVariants.{Incomplete, BadHead}
+use Rattle.tier_model.specs.Response.{values_of, body_within, whole_by_body, whole_by_lines, has_short_name, is_within_bounds, Reading, whole_head, begun_head, no_head, IsReading}
 use Rattle.cache_tier.specs.declared.response.head.Head.{Head}
 use Rattle.cache_headers.specs.Lines.{pair_of, map_of, IsLine}
-use Rattle.cache_tier.specs.Heads.{announced, kept_until, given_by_head, IsHeadAt, IsHeadOf, IsOutOfBounds, IsSomeHead, AreShortLines}
+use Rattle.cache_tier.specs.Heads.{announced, kept_until, whole_by_head, Gives, IsHeadAt, IsHeadOf, IsOutOfBounds, IsSomeHead, AreShortLines}
 use Rattle.std.specs.Prelude.{option_map, option_copied}
 use Rattle.std.specs.Borrow.{Bor}
 use Rattle.cache_directives.specs.Written.{Written}
@@ -177,15 +177,15 @@ whole-head bytes headers r h at room status all is code value short = (
 )
 
 -- a head as a map gives what its lines give
-given_by_head-is : (arrival : MomentValue) (entry : Entry) (head : ResponseHeader) (rest : List ℕ) (status : ℕ) (lines : List (List ℕ × List ℕ)) → head.status ≡ status → head.headers ≡ map_of lines
-    → is_within_bounds status lines ≡ true → given_by_head arrival entry head rest ≡ given_by arrival entry status lines rest
-unfolding given_by
-given_by_head-is arrival entry head rest status lines s m bounds =
+whole_by_head-is : (arrival : MomentValue) (entry : Entry) (head : ResponseHeader) (rest : List ℕ) (status : ℕ) (lines : List (List ℕ × List ℕ)) → head.status ≡ status → head.headers ≡ map_of lines
+    → is_within_bounds status lines ≡ true → whole_by_head arrival entry head rest ≡ whole_by_lines arrival entry status lines rest
+unfolding whole_by_lines
+whole_by_head-is arrival entry head rest status lines s m bounds =
     rw (bounds, s, m, under-map_of lines (codes "content-length"), under-map_of lines (codes "cache-control"), under-map_of lines (codes "expires")) refl
 
-given_by-out : (arrival : MomentValue) (entry : Entry) (rest : List ℕ) (status : ℕ) (lines : List (List ℕ × List ℕ)) → is_within_bounds status lines ≡ false → given_by arrival entry status lines rest ≡ BadHead
-unfolding given_by
-given_by-out arrival entry rest status lines bounds = rw bounds refl
+whole_by_lines-out : (arrival : MomentValue) (entry : Entry) (rest : List ℕ) (status : ℕ) (lines : List (List ℕ × List ℕ)) → is_within_bounds status lines ≡ false → whole_by_lines arrival entry status lines rest ≡ BadHead
+unfolding whole_by_lines
+whole_by_lines-out arrival entry rest status lines bounds = rw bounds refl
 
 after-head : (status code : ℕ) (lines others : List (List ℕ × List ℕ)) (rest other : List ℕ) → whole_head status lines rest ≡ whole_head code others other → rest ≡ other
 after-head status code lines others rest other e = cc
@@ -196,9 +196,9 @@ same-head bytes more h k rest other reads reads_k few many =
     let same : h ≡ k = (response_prefix_free bytes more h k rest other reads reads_k).0 in
     omega (arith, few, many, ap (λ (x : ResponseHead). length x.fields) same)
 
--- what is given where the head was read
-pub Gives-whole : (arrival : MomentValue) (entry : Entry) (bytes : List ℕ) (front : Head) (given : Given) → front.len ≤ length bytes → IsHeadOf bytes front → given ≡ given_by_head arrival entry front.header (drop front.len bytes) → Gives arrival entry bytes given
-Gives-whole arrival entry bytes front given len is e =
+-- where the head was read
+pub Gives-whole : (arrival : MomentValue) (entry : Entry) (bytes : List ℕ) (front : Head) (whole : Whole) → front.len ≤ length bytes → IsHeadOf bytes front → whole ≡ whole_by_head arrival entry front.header (drop front.len bytes) → Gives arrival entry bytes whole
+Gives-whole arrival entry bytes front whole len is e =
     let h : ResponseHead = is.0 in
     let at : IsHeadAt bytes front h = is.1 in
     let rest : List ℕ = drop front.len bytes in (
@@ -212,10 +212,10 @@ Gives-whole arrival entry bytes front given len is e =
         longer = λ more k other reads many. absurd (same-head bytes more h k rest other at.reads reads at.few many);
         within = λ status lines other same. (take front.len bytes, sym (take-append-drop front.len bytes) ∙ ap (λ (x : List ℕ). take front.len bytes ++ x) (after-head _ _ _ _ _ _ same));
       },
-      e ∙ given_by_head-is arrival entry front.header rest (status_code h) (map name_and_value h.fields) at.status at.headers at.bounds,
+      e ∙ whole_by_head-is arrival entry front.header rest (status_code h) (map name_and_value h.fields) at.status at.headers at.bounds,
     )
 
--- what is given where the head is out of bounds
+-- where the head is out of bounds
 pub Gives-out : (arrival : MomentValue) (entry : Entry) (bytes : List ℕ) → IsOutOfBounds bytes → Gives arrival entry bytes BadHead
 Gives-out arrival entry bytes out = (
   whole_head (status_code out.0) (map name_and_value out.0.fields) out.1,
@@ -228,10 +228,10 @@ Gives-out arrival entry bytes out = (
     longer = λ more k other reads many. absurd (same-head bytes more out.0 k out.1 other out.2 reads out.3 many);
     within = λ status lines other same. (print_response out.0, out.2.1 ∙ ap (λ (x : List ℕ). print_response out.0 ++ x) (after-head _ _ _ _ _ _ same));
   },
-  sym (given_by-out arrival entry out.1 (status_code out.0) (map name_and_value out.0.fields) out.4),
+  sym (whole_by_lines-out arrival entry out.1 (status_code out.0) (map name_and_value out.0.fields) out.4),
 )
 
--- what is given where a head has begun
+-- where a head has begun
 pub Gives-begun : (arrival : MomentValue) (entry : Entry) (bytes : List ℕ) → HasNoResponse bytes → Gives arrival entry bytes Incomplete
 Gives-begun arrival entry bytes nothing = (
   begun_head,
@@ -261,11 +261,11 @@ no-plain bytes r over is = record {
     not_begun : (status : ℕ) (lines : List (List ℕ × List ℕ)) (rest : List ℕ) → whole_head status lines rest ≡ begun_head → ⊥
     not_begun status lines rest e = cc
 
--- what is given where there are too many lines
-pub Gives-long : (arrival : MomentValue) (entry : Entry) (bytes : List ℕ) (given : Given) → ResponseOverflows 256 bytes → (given ≡ BadHead) ⊎ ((given ≡ Incomplete) × HasNoResponse bytes) → Gives arrival entry bytes given
-Gives-long arrival entry bytes given over is = elim is [ inl e ↦ (no_head, no-plain bytes no_head over (inl refl), e) | inr e ↦ (begun_head, no-plain bytes begun_head over (inr (refl, e.1)), e.0) ]
+-- where there are too many lines
+pub Gives-long : (arrival : MomentValue) (entry : Entry) (bytes : List ℕ) (whole : Whole) → ResponseOverflows 256 bytes → (whole ≡ BadHead) ⊎ ((whole ≡ Incomplete) × HasNoResponse bytes) → Gives arrival entry bytes whole
+Gives-long arrival entry bytes whole over is = elim is [ inl e ↦ (no_head, no-plain bytes no_head over (inl refl), e) | inr e ↦ (begun_head, no-plain bytes begun_head over (inr (refl, e.1)), e.0) ]
 
--- what is given where the default options refuse
+-- where the default options refuse
 never-reading : (bytes : List ℕ) (r : Reading) → NeverHasResponse bytes → ((status : ℕ) (lines : List (List ℕ × List ℕ)) (rest : List ℕ) → r ≡ whole_head status lines rest → (front : List ℕ) × (bytes ≡ front ++ rest)) → IsReading bytes r
 never-reading bytes r never within = record {
   whole = λ h rest reads few. absurd (never [] h rest (rw (append-nil bytes) reads));
@@ -281,12 +281,12 @@ Gives-refused arrival entry bytes never = (no_head, never-reading bytes no_head 
 pub Gives-waiting : (arrival : MomentValue) (entry : Entry) (bytes : List ℕ) → NeverHasResponse bytes → Gives arrival entry bytes Incomplete
 Gives-waiting arrival entry bytes never = (begun_head, never-reading bytes begun_head never (λ status lines rest same. absurd cc), refl)
 
-pub Gives-lenient : (arrival : MomentValue) (entry : Entry) (bytes : List ℕ) (front : Head) (given : Given) → NeverHasResponse bytes → IsSomeHead bytes front
-    → given ≡ given_by_head arrival entry front.header (drop front.len bytes) → Gives arrival entry bytes given
-Gives-lenient arrival entry bytes front given never is e = (
+pub Gives-lenient : (arrival : MomentValue) (entry : Entry) (bytes : List ℕ) (front : Head) (whole : Whole) → NeverHasResponse bytes → IsSomeHead bytes front
+    → whole ≡ whole_by_head arrival entry front.header (drop front.len bytes) → Gives arrival entry bytes whole
+Gives-lenient arrival entry bytes front whole never is e = (
   whole_head front.header.status is.lines.0 (drop front.len bytes),
   never-reading bytes _ never (λ status lines other same. (take front.len bytes, sym (take-append-drop front.len bytes) ∙ ap (λ (x : List ℕ). take front.len bytes ++ x) (after-head _ _ _ _ _ _ same))),
-  e ∙ given_by_head-is arrival entry front.header (drop front.len bytes) front.header.status is.lines.0 refl is.lines.1 is.lines.2,
+  e ∙ whole_by_head-is arrival entry front.header (drop front.len bytes) front.header.status is.lines.0 refl is.lines.1 is.lines.2,
 )
 
 -- one more line of a map
@@ -306,14 +306,14 @@ some-head bytes len status code all l is same lines = record { len = l; lines = 
     high l = grind (arith, nat_tests)
 
 -- the directives that are lent out
-given-lent : (r : Option (Bor CacheControl)) → lent r ≡ option_map directives_of (option_copied r)
-given-lent None = refl
-given-lent (Some c) = refl
+lent-copied : (r : Option (Bor CacheControl)) → lent r ≡ option_map directives_of (option_copied r)
+lent-copied None = refl
+lent-copied (Some c) = refl
 
 pub judged-is : (arrival : MomentValue) (head : ResponseHeader) (r : Option (Bor CacheControl)) (control : Option CacheControl) → option_copied r ≡ control → option_map directives_of control ≡ named (lines_under (codes "cache-control") head.headers)
     → fresh_until_by arrival (lent r) (lines_under (codes "expires") head.headers) false None ≡ kept_until arrival head
 judged-is arrival head r control e is =
-    ap (λ (ds : Option (List Written)). fresh_until_by arrival ds (lines_under (codes "expires") head.headers) false None) (given-lent r ∙ ap (option_map directives_of) e ∙ is)
+    ap (λ (ds : Option (List Written)). fresh_until_by arrival ds (lines_under (codes "expires") head.headers) false None) (lent-copied r ∙ ap (option_map directives_of) e ∙ is)
 
 -- what a verdict says of the moment that it judged by
 pub until-refused : (o : Option MomentValue) (now : MomentValue) (ds : Option (List Written)) (header : ResponseHeader) (a b : ℕ) (reason : NoCacheReason) → verdict.kept_until o now ds header a b ≡ verdicts.Uncacheable reason
@@ -332,6 +332,6 @@ until-kept None now ds header a b meta e = absurd cc
 until-kept (Some until) now ds header a b meta e = ap kept_of e
 
 -- a body and a moment give what the head does that they come from
-pub given_by_head-from : (arrival : MomentValue) (entry : Entry) (head : ResponseHeader) (rest : List ℕ) (body : Option (List ℕ)) (until : Option MomentValue) → body_within (announced head) rest ≡ body → kept_until arrival head ≡ until
-    → given_of arrival entry body until ≡ given_by_head arrival entry head rest
-given_by_head-from arrival entry head rest body until b u = ap₂ (given_of arrival entry) (sym b) (sym u)
+pub whole_by_head-from : (arrival : MomentValue) (entry : Entry) (head : ResponseHeader) (rest : List ℕ) (body : Option (List ℕ)) (until : Option MomentValue) → body_within (announced head) rest ≡ body → kept_until arrival head ≡ until
+    → whole_by_body arrival entry body until ≡ whole_by_head arrival entry head rest
+whole_by_head-from arrival entry head rest body until b u = ap₂ (whole_by_body arrival entry) (sym b) (sym u)

@@ -1,46 +1,70 @@
 -- Puts, single steps, and calls that go on by one event.
-use Rattle.std.proofs.Common.{◌≡◌, ℕ, List, Some, None, Ok, Err, MatchResult, [], ◌∷◌, ◌++◌, subst, sym, inl, inr, refl, ap, ◌∙◌}
+use Rattle.std.proofs.Common.{◌≡◌, ℕ, List, Option, Some, None, Ok, Err, MatchResult, [], ◌∷◌, ◌++◌, subst, sym, inl, inr, refl, ap, ◌∙◌}
 use Rattle.cache_words.specs.Time.{MomentValue}
 use Rattle.cache_words.specs.Key.{CacheKeyValue}
 use Rattle.tier_entries.specs.Keys.{entry_of}
 use Rattle.tier_model.specs.Keys.{Entry, entries_of}
 use Rattle.tier_model.specs.declared.state.FinishedBody.{FinishedBody}
-use Rattle.tier_model.specs.declared.given.Given.TheVariants.{Stored}
+use Rattle.tier_model.specs.declared.whole.Whole.{Whole}
+use Rattle.tier_model.specs.declared.whole.Whole.TheVariants.{Stored}
 use Rattle.tier_model.specs.declared.event.Event.{Event}
 use Rattle.tier_model.specs.declared.event.Action.{Action}
 use Rattle.tier_model.specs.declared.event.Action.TheVariants.{Open, LookUp, Read, Drop, Purge, Put}
 use Rattle.tier_model.specs.declared.event.TierFault.{TierFault}
-use Rattle.tier_model.specs.Calls.{Call, Outcome, AreCallsOf, nothing_done, done_of, evicted_by}
-use Rattle.tier_model.specs.Response.{joined, Gives, IsGiven}
+use Rattle.tier_model.specs.Calls.{Call, Outcome, AreCallsOf, read_by, nothing_done, done_of, evicted_by}
+use Rattle.tier_model.specs.Response.{IsRead, whole_of, whole_in, joined}
 use Rattle.tier_model.specs.State.{State}
-use Rattle.tier_model.specs.Step.{AllowsBy, Allows, IsPutAnswer, IsFault, refusal, taken_back, undone, after}
+use Rattle.tier_model.specs.Step.{AllowsBy, Allows, IsPutAnswer, IsFault, refusal, taken_back, undone, after_outcome, after}
 use Rattle.tier_model.specs.Past.{AreTaken, CarriesHeadline}
-use Rattle.tier_model.proofs.ResponseLaws.{Gives-entry}
+use Rattle.tier_model.proofs.ResponseLaws.{whole_of-entry}
 use Rattle.tier_model.proofs.Carried.{CarriesHeadline-taken}
 use Rattle.rand_core.specs.Stream.{Stream}
 use Rattle.entry_order.specs.Orders.{Order, IsDrawn}
+use Rattle.cache_tier.specs.Heads.{Gives}
 use Rattle.cache_tier.specs.Draws.{order_admitted, AreDrawn, AreAllDrawn, Takes}
 use Rattle.cache_tier.specs.Acts.{AllowsUnrefused, after_action, TakesBy, IsRefusal, after_store, StepsBy}
+
+-- a put was taken, by what its response gave
+pub Takes-put : (old : State) (s : Stream) (t : MomentValue) (key : CacheKeyValue) (pieces : List (List ℕ)) (g : Whole) (o : Outcome) (new : State) (rest : Stream)
+    → Gives t (entry_of key) (joined pieces) g → AllowsBy None old t (Put key pieces) (Some g) o → new ≡ after_outcome old t (Put key pieces) (Some g) o → AreDrawn old (Some g) o s rest
+    → TakesBy old s t (Put key pieces) o new rest
+Takes-put old s t key pieces g o new rest gives allowed is drawn =
+    let same : Some g ≡ Some (whole_of t (entry_of key) gives.0) = ap (λ (x : Whole). Some x) gives.2 in (
+      Some gives.0,
+      gives.1,
+      subst (λ (x : Option Whole). AllowsBy None old t (Put key pieces) x o) same allowed,
+      is ∙ ap (λ (x : Option Whole). after_outcome old t (Put key pieces) x o) same,
+      subst (λ (x : Option Whole). AreDrawn old x o s rest) same drawn,
+    )
 
 -- a body is stored that the response of a put gave
 pub Takes-stored : (old : State) (s : Stream) (t : MomentValue) (key : CacheKeyValue) (pieces : List (List ℕ)) (b : FinishedBody) (o : Outcome) (new : State) (rest : Stream)
     → Gives t (entry_of key) (joined pieces) (Stored b) → MatchResult o (IsPutAnswer old (Some (Stored b))) (IsRefusal old b) → new ≡ after_store old b o
     → (left : Order) × IsDrawn (order_admitted old b) (evicted_by o) s left rest → TakesBy old s t (Put key pieces) o new rest
-Takes-stored old s t key pieces b (Ok a) new rest gives allowed is drawn = (Some (Stored b), gives, allowed, is, drawn)
+Takes-stored old s t key pieces b (Ok a) new rest gives allowed is drawn = Takes-put old s t key pieces (Stored b) (Ok a) new rest gives allowed is drawn
 Takes-stored old s t key pieces b (Err f) new rest gives allowed is drawn =
-    (Some (Stored b), gives, fault, subst (λ (k : Entry). new ≡ taken_back (done_of f).stored old k (entries_of (done_of f).evicted)) (Gives-entry t (entry_of key) (joined pieces) b gives) is, drawn)
+    Takes-put old s t key pieces (Stored b) (Err f) new rest gives fault
+    (subst (λ (k : Entry). new ≡ taken_back (done_of f).stored old k (entries_of (done_of f).evicted)) (whole_of-entry t (entry_of key) gives.0 b gives.2) is) drawn
   where
     fault : IsFault old (Put key pieces) (Some (Stored b)) f
     fault = elim allowed [ inl memory ↦ inl (memory, tt) | inr late ↦ inr late ]
 
 -- an action without a response
-IsGiven-none : (t : MomentValue) (action : Action) → IsGiven t action None
-IsGiven-none t (Open id key) = tt
-IsGiven-none t (LookUp id) = tt
-IsGiven-none t (Read id) = tt
-IsGiven-none t (Drop id) = tt
-IsGiven-none t (Purge key) = tt
-IsGiven-none t (Put key pieces) = tt
+IsRead-none : (action : Action) → IsRead action None
+IsRead-none (Open id key) = tt
+IsRead-none (LookUp id) = tt
+IsRead-none (Read id) = tt
+IsRead-none (Drop id) = tt
+IsRead-none (Purge key) = tt
+IsRead-none (Put key pieces) = tt
+
+whole_in-none : (t : MomentValue) (action : Action) → whole_in t action None ≡ None
+whole_in-none t (Open id key) = refl
+whole_in-none t (LookUp id) = refl
+whole_in-none t (Read id) = refl
+whole_in-none t (Drop id) = refl
+whole_in-none t (Purge key) = refl
+whole_in-none t (Put key pieces) = refl
 
 -- a refusal that did nothing leaves all as before
 undone-nothing : (old : State) (action : Action) → undone old action nothing_done ≡ old
@@ -53,12 +77,12 @@ undone-nothing old (Put key pieces) = refl
 
 pub Steps-refused : (old : State) (s : Stream) (e : Event) (f : TierFault) → refusal old e.action ≡ Some f → done_of f ≡ nothing_done → StepsBy old s e (Err f) old s
 Steps-refused old s e f refused nothing = (
-  record { event = e; outcome = Err f; given = None },
+  record { event = e; outcome = Err f; reading = None },
   refl,
   refl,
-  (IsGiven-none e.moment e.action, subst (λ r. AllowsBy r old e.moment e.action None (Err f)) (sym refused) refl),
+  (IsRead-none e.action, subst (λ r. AllowsBy r old e.moment e.action (whole_in e.moment e.action None) (Err f)) (sym refused) refl),
   sym (ap (undone old e.action) nothing ∙ undone-nothing old e.action),
-  refl,
+  subst (λ (x : Option Whole). AreDrawn old x (Err f) s s) (sym (whole_in-none e.moment e.action)) refl,
 )
 
 -- the checks let an event pass, and its action is taken
@@ -66,11 +90,19 @@ pub Steps-taken : (old : State) (s : Stream) (e : Event) (action : Action) (o : 
     → StepsBy old s e o new rest
 Steps-taken old s e action o new rest is passed takes =
     let taken : TakesBy old s e.moment e.action o new rest = subst (λ (a : Action). TakesBy old s e.moment a o new rest) (sym is) takes in
-    (record { event = e; outcome = o; given = taken.0 }, refl, refl, (taken.1, subst (λ r. AllowsBy r old e.moment e.action taken.0 o) (sym passed) taken.2), taken.3, taken.4)
+    (record { event = e; outcome = o; reading = taken.0 }, refl, refl, (taken.1, subst (λ r. AllowsBy r old e.moment e.action (whole_in e.moment e.action taken.0) o) (sym passed) taken.2), taken.3, taken.4)
 
 pub Steps-plain : (old : State) (s : Stream) (e : Event) (action : Action) (o : Outcome) (new : State) → e.action ≡ action → refusal old e.action ≡ None → AllowsUnrefused old e.moment action o
     → new ≡ after_action old e.moment action o → StepsBy old s e o new s
-Steps-plain old s e action o new is passed allowed after = Steps-taken old s e action o new s is passed (None, IsGiven-none e.moment action, allowed, after, refl)
+Steps-plain old s e action o new is passed allowed after =
+    let none : None ≡ whole_in e.moment action None = sym (whole_in-none e.moment action) in
+    Steps-taken old s e action o new s is passed (
+      None,
+      IsRead-none action,
+      subst (λ (x : Option Whole). AllowsBy None old e.moment action x o) none allowed,
+      after ∙ ap (λ (x : Option Whole). after_outcome old e.moment action x o) none,
+      subst (λ (x : Option Whole). AreDrawn old x o s s) none refl,
+    )
 
 -- one event is one call
 pub Takes-step : (old : State) (s : Stream) (e : Event) (o : Outcome) (new : State) (rest : Stream) → StepsBy old s e o new rest → Takes old s (e ∷ []) (o ∷ []) new rest
@@ -109,10 +141,10 @@ taken-more : (old : State) (calls : List Call) (mid : State) (c : Call) (new : S
 taken-more old [] mid c new taken allowed is = subst (λ (x : State). AreTaken x (c ∷ []) new) taken (allowed, is)
 taken-more old (b ∷ calls) mid c new taken allowed is = (taken.0, taken-more (after old b) calls mid c new taken.1 allowed is)
 
-drawn-more : (old : State) (calls : List Call) (mid : State) (c : Call) (s left rest : Stream) → AreTaken old calls mid → AreAllDrawn old calls s left → AreDrawn mid c.given c.outcome left rest
+drawn-more : (old : State) (calls : List Call) (mid : State) (c : Call) (s left rest : Stream) → AreTaken old calls mid → AreAllDrawn old calls s left → AreDrawn mid (read_by c) c.outcome left rest
     → AreAllDrawn old (calls ++ c ∷ []) s rest
 drawn-more old [] mid c s left rest taken drawn more =
-    (rest, subst (λ (x : State). AreDrawn x c.given c.outcome s rest) taken (subst (λ (x : Stream). AreDrawn mid c.given c.outcome x rest) drawn more), refl)
+    (rest, subst (λ (x : State). AreDrawn x (read_by c) c.outcome s rest) taken (subst (λ (x : Stream). AreDrawn mid (read_by c) c.outcome x rest) drawn more), refl)
 drawn-more old (b ∷ calls) mid c s left rest taken drawn more = (drawn.0, drawn.1, drawn-more (after old b) calls mid c drawn.0 left rest taken.1 drawn.2 more)
 
 -- the calls so far, and one event more
@@ -134,7 +166,7 @@ StepsBy-takes old s e o new rest takes = by_calls takes.calls takes.are_of takes
   where
     by_calls : (calls : List Call) → AreCallsOf (e ∷ []) (o ∷ []) calls → AreTaken old calls new → AreAllDrawn old calls s rest → StepsBy old s e o new rest
     by_calls [] are taken drawn = absurd are
-    by_calls (c ∷ []) are taken drawn = (c, are.0, are.1, taken.0, taken.1, subst (λ (x : Stream). AreDrawn old c.given c.outcome s x) (sym drawn.2) drawn.1)
+    by_calls (c ∷ []) are taken drawn = (c, are.0, are.1, taken.0, taken.1, subst (λ (x : Stream). AreDrawn old (read_by c) c.outcome s x) (sym drawn.2) drawn.1)
     by_calls (c ∷ d ∷ calls) are taken drawn = absurd are.2
 
 pub Takes-more : (old : State) (s : Stream) (es : List Event) (os : List Outcome) (mid : State) (left : Stream) (e : Event) (o : Outcome) (new : State) (rest : Stream)

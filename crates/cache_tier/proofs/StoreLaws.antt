@@ -20,7 +20,7 @@ use Rattle.tier_model.specs.declared.event.TierFault.{TierFault}
 use Rattle.tier_model.specs.declared.event.TierFault.TheVariants.{Memory}
 use Rattle.tier_model.specs.declared.event.Answer.{Answer}
 use Rattle.tier_model.specs.declared.event.Answer.TheVariants.{Finished}
-use Rattle.tier_model.specs.declared.given.Given.TheVariants.{Stored}
+use Rattle.tier_model.specs.declared.whole.Whole.TheVariants.{Stored}
 use Rattle.tier_model.specs.Calls.{Outcome, nothing_done, evicted_by}
 use Rattle.cache_tier.specs.Acts.{fault_for, after_store, IsRefusal}
 use Rattle.cache_tier.specs.Draws.{evicted_from}

@@ -7,17 +7,16 @@ use Rattle.rand_core.specs.Stream.{Stream}
 use Rattle.entry_order.specs.declared.order.OrderFault.{OrderFault}
 use Rattle.entry_order.specs.declared.order.OrderFault.TheVariants as order
 use Rattle.cache_tier.specs.Draws.{AreDrawn}
-use Rattle.tier_model.specs.declared.given.Given.{Given}
-use Rattle.tier_model.specs.declared.given.Given.TheVariants.{Stored}
+use Rattle.tier_model.specs.declared.whole.Whole.TheVariants.{Stored}
 use Rattle.tier_model.specs.declared.event.Action.{Action}
 use Rattle.tier_model.specs.declared.event.TierFault.{TierFault}
 use Rattle.tier_model.specs.declared.event.TierFault.TheVariants.{Memory, TooHeavy, TooLong}
 use Rattle.tier_model.specs.Keys.{entries_of}
 use Rattle.tier_model.specs.declared.event.Event.{Event}
-use Rattle.tier_model.specs.Calls.{Call, Outcome, nothing_done, done_of}
+use Rattle.tier_model.specs.Calls.{Call, Outcome, nothing_done, done_of, read_by}
 use Rattle.tier_model.specs.State.{State}
 use Rattle.tier_model.specs.Step.{AllowsBy, Allows, IsStoreFault, after_put, taken_back, after_outcome, after}
-use Rattle.tier_model.specs.Response.{IsGiven}
+use Rattle.tier_model.specs.Response.{Reading, IsRead, whole_in}
 
 -- an outcome of an action that is not refused and has no response
 abbrev pub AllowsUnrefused : State → MomentValue → Action → Outcome → Type 0
@@ -41,11 +40,12 @@ fault_for order.Memory done = Memory done
 fault_for order.TooHeavy done = TooHeavy done
 fault_for order.TooLong done = TooLong done
 
--- an action that is not refused was taken, by what its response gave, and with it the words from s to rest
+-- an action that is not refused was taken, by a reading of its response, and with it the words from s to rest
 abbrev pub TakesBy : State → Stream → MomentValue → Action → Outcome → State → Stream → Type 0
 TakesBy old s t action outcome new rest =
-    (given : Option Given) × IsGiven t action given × AllowsBy None old t action given outcome × (new ≡ after_outcome old t action given outcome) × AreDrawn old given outcome s rest
+    (reading : Option Reading) × IsRead action reading × AllowsBy None old t action (whole_in t action reading) outcome
+    × (new ≡ after_outcome old t action (whole_in t action reading) outcome) × AreDrawn old (whole_in t action reading) outcome s rest
 
 -- one event was taken, with its outcome, and with it the words from s to rest: its call
 abbrev pub StepsBy : State → Stream → Event → Outcome → State → Stream → Type 0
-StepsBy old s e o new rest = (c : Call) × (c.event ≡ e) × (c.outcome ≡ o) × Allows old c × (new ≡ after old c) × AreDrawn old c.given c.outcome s rest
+StepsBy old s e o new rest = (c : Call) × (c.event ≡ e) × (c.outcome ≡ o) × Allows old c × (new ≡ after old c) × AreDrawn old (read_by c) c.outcome s rest

@@ -11,8 +11,8 @@ use Rattle.cache_heads.specs.FreshUntil.{fresh_until}
 use Rattle.httparse.specs.Grammar.{ResponseHead, ReadsResponse, status_code}
 use Rattle.httparse.specs.Spans.{name_and_value}
 use Rattle.tier_model.specs.Keys.{Entry}
-use Rattle.tier_model.specs.declared.given.Given.{Given}
-use Rattle.tier_model.specs.Response.{first_length, body_within, given_of, has_short_name, is_within_bounds}
+use Rattle.tier_model.specs.declared.whole.Whole.{Whole}
+use Rattle.tier_model.specs.Response.{first_length, body_within, whole_by_body, has_short_name, is_within_bounds, Reading, IsReading, whole_of}
 use Rattle.cache_tier.specs.declared.response.head.Head.{Head}
 
 -- how many bytes of body a head announces
@@ -24,8 +24,8 @@ abbrev pub kept_until : MomentValue → ResponseHeader → Option MomentValue
 kept_until arrival head = fresh_until arrival (lines_under (codes "cache-control") head.headers) (lines_under (codes "expires") head.headers) false None
 
 -- what a head gives, with the bytes after it
-abbrev pub given_by_head : MomentValue → Entry → ResponseHeader → List ℕ → Given
-given_by_head arrival entry head rest = given_of arrival entry (body_within (announced head) rest) (kept_until arrival head)
+abbrev pub whole_by_head : MomentValue → Entry → ResponseHeader → List ℕ → Whole
+whole_by_head arrival entry head rest = whole_by_body arrival entry (body_within (announced head) rest) (kept_until arrival head)
 
 -- the bytes begin with a head of the parser's grammar, of at most 256 lines and within its bounds, and that is it
 pub record IsHeadAt (bytes : List ℕ) (head : Head) (h : ResponseHead) : Type 0 where
@@ -52,3 +52,7 @@ abbrev pub IsOutOfBounds : List ℕ → Type 0
 IsOutOfBounds bytes =
     (h : ResponseHead) × (rest : List ℕ) × ReadsResponse bytes h rest × (length h.fields ≤ 256)
     × (is_within_bounds (status_code h) (map name_and_value h.fields) ≡ false)
+
+-- that is what the bytes give by one of their readings, coming for an entry at a moment
+abbrev pub Gives : MomentValue → Entry → List ℕ → Whole → Type 0
+Gives arrival entry bytes whole = (r : Reading) × IsReading bytes r × (whole ≡ whole_of arrival entry r)

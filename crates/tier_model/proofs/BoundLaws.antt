@@ -12,9 +12,9 @@ use Rattle.tier_entries.specs.Keys.{entry_of, stored_key, same_key, same_entry}
 use Rattle.tier_entries.specs.Rows.{row_of, weight_of, all_weights, without_row, without_rows, admitted, used, is_past, is_over}
 use Rattle.tier_entries.proofs.KeyLaws.{same_key-tells, same_entry-tells, same-sym, one_stored_key, find-key}
 use Rattle.tier_entries.proofs.RowLaws.{row_of-without, row_of-admitted, all_weights-tracked, length-tracked, is_past-less, is_over-evicted, kept_weight, kept_count}
-use Rattle.tier_model.specs.declared.given.Given.{Given}
-use Rattle.tier_model.specs.declared.given.Given.TheVariants.{Stored}
-use Rattle.tier_model.specs.declared.given.Given.TheVariants as given
+use Rattle.tier_model.specs.declared.whole.Whole.{Whole}
+use Rattle.tier_model.specs.declared.whole.Whole.TheVariants.{Stored}
+use Rattle.tier_model.specs.declared.whole.Whole.TheVariants as whole
 use Rattle.tier_model.specs.declared.state.FinishedBody.{FinishedBody}
 use Rattle.tier_model.specs.declared.state.Request.{Request}
 use Rattle.tier_model.specs.declared.event.Action.{Action}
@@ -22,8 +22,8 @@ use Rattle.tier_model.specs.declared.event.Action.TheVariants.{Open, LookUp, Rea
 use Rattle.tier_model.specs.declared.event.Answer.{Answer}
 use Rattle.tier_model.specs.declared.event.Answer.TheVariants.{Finished}
 use Rattle.tier_model.specs.declared.event.TierFault.{TierFault}
-use Rattle.tier_model.specs.Keys.{StoredKey, Entry, entries_of, key_asked}
-use Rattle.tier_model.specs.Calls.{Call, History, Outcome, done_of}
+use Rattle.tier_model.specs.Keys.{StoredKey, Entry, entries_of, stored_key_of}
+use Rattle.tier_model.specs.Calls.{Call, History, Outcome, done_of, read_by}
 use Rattle.tier_model.specs.Histories.{IsBody, IsWithin, HasDistinctKeys}
 use Rattle.tier_model.specs.Rows.{body_of, with_body, without_body, without_bodies, weight_for}
 use Rattle.tier_model.specs.State.{State}
@@ -183,11 +183,11 @@ request_keeps s (Some q) f h k = k q
 purge_keeps : (s : State) (key : CacheKeyValue) (v : Bool) → KeepsLimits s → KeepsLimits (after_purge s key v)
 purge_keeps s key false h = h
 purge_keeps s key true h = record {
-  within = fewer_within s.settings.limit s.settings.watermark s.bodies (without_body (key_asked key) s.bodies) (fewer_without (key_asked key) s.bodies) h.within;
+  within = fewer_within s.settings.limit s.settings.watermark s.bodies (without_body (stored_key_of key) s.bodies) (fewer_without (stored_key_of key) s.bodies) h.within;
   tracked = AreTracked-without (entry_of key) s.bodies s.tracked h.tracked;
 }
 
-put_keeps : (s : State) (g : Option Given) (a : Answer) → IsPutAnswer s g a → KeepsLimits s → KeepsLimits (after_put s g a)
+put_keeps : (s : State) (g : Option Whole) (a : Answer) → IsPutAnswer s g a → KeepsLimits s → KeepsLimits (after_put s g a)
 put_keeps s (Some (Stored b)) (Finished n es) p h =
     let rows : List Tracked = admitted b.entry (weight_for b) s.tracked in
     let tracked : AreTracked (without_bodies (entries_of es) (with_body b s.bodies)) (without_rows (entries_of es) rows) = AreTracked-without_all (entries_of es) (with_body b s.bodies) rows (AreTracked-with b s.bodies s.tracked h.tracked) in
@@ -197,10 +197,10 @@ put_keeps s (Some (Stored b)) (Finished n es) p h =
       tracked = tracked;
     }
 put_keeps s (Some (Stored b)) _ p h = h
-put_keeps s (Some given.Incomplete) a p h = h
-put_keeps s (Some given.BadHead) a p h = h
-put_keeps s (Some given.BeforeEpoch) a p h = h
-put_keeps s (Some (given.Uncacheable reason)) a p h = h
+put_keeps s (Some whole.Incomplete) a p h = h
+put_keeps s (Some whole.BadHead) a p h = h
+put_keeps s (Some whole.BeforeEpoch) a p h = h
+put_keeps s (Some (whole.Uncacheable reason)) a p h = h
 put_keeps s None a p h = h
 
 back_keeps : (v : Bool) (s : State) (x : Entry) (es : List Entry) → KeepsLimits s → KeepsLimits (taken_back v s x es)
@@ -211,13 +211,13 @@ back_keeps true s x es h = record {
   tracked = AreTracked-without x (without_bodies es s.bodies) (without_rows es s.tracked) (AreTracked-without_all es s.bodies s.tracked h.tracked);
 }
 
-answer_keeps : (s : State) (t : MomentValue) (g : Option Given) (action : Action) (a : Answer) → IsAnswer s t action g a → KeepsLimits s → KeepsLimits (answered s t action g a)
+answer_keeps : (s : State) (t : MomentValue) (g : Option Whole) (action : Action) (a : Answer) → IsAnswer s t action g a → KeepsLimits s → KeepsLimits (answered s t action g a)
 answer_keeps s t g (Open i key) a p h = record { within = h.within; tracked = h.tracked }
 answer_keeps s t g (LookUp i) a p h = request_keeps s (get s.requests i) (λ q. after_look_up s t i q (body_for q s.bodies)) h (λ q. look_keeps s t i q (body_for q s.bodies) h)
 answer_keeps s t g (Read i) a p h =
     request_keeps s (get s.requests i) (λ q. record s { requests = insert s.requests i (after_read q) }) h (λ q. record { within = h.within; tracked = h.tracked })
 answer_keeps s t g (Drop i) a p h = record { within = h.within; tracked = h.tracked }
-answer_keeps s t g (Purge key) a p h = purge_keeps s key (is_some (body_of (key_asked key) s.bodies)) h
+answer_keeps s t g (Purge key) a p h = purge_keeps s key (is_some (body_of (stored_key_of key) s.bodies)) h
 answer_keeps s t g (Put key pieces) a p h = put_keeps s g a p h
 
 undone_keeps : (s : State) (action : Action) (f : TierFault) → KeepsLimits s → KeepsLimits (undone s action (done_of f))
@@ -232,8 +232,8 @@ undone_keeps s (Put key pieces) f h = back_keeps (done_of f).stored s (entry_of 
 pub KeepsLimits-after : (s : State) (c : Call) → Allows s c → KeepsLimits s → KeepsLimits (after s c)
 KeepsLimits-after s c p h = by_outcome c.outcome p.1
   where
-    by_outcome : (o : Outcome) → AllowsBy (refusal s c.event.action) s c.event.moment c.event.action c.given o → KeepsLimits (after s (record c { outcome = o }))
-    by_outcome (Ok a) p = answer_keeps s c.event.moment c.given c.event.action a (answer_allowed (refusal s c.event.action) s c.event.moment c.given c.event.action a p) h
+    by_outcome : (o : Outcome) → AllowsBy (refusal s c.event.action) s c.event.moment c.event.action (read_by c) o → KeepsLimits (after s (record c { outcome = o }))
+    by_outcome (Ok a) p = answer_keeps s c.event.moment (read_by c) c.event.action a (answer_allowed (refusal s c.event.action) s c.event.moment (read_by c) c.event.action a p) h
     by_outcome (Err f) p = undone_keeps s c.event.action f h
 
 held_by : (s : State) (h : History) → Fits s h → (bodies : List FinishedBody) → AllByRecursion (λ b. IsBody (stored_key b.entry) b h) bodies → AreHeld s.bodies bodies

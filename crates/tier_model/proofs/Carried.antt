@@ -1,34 +1,30 @@
 -- Lawful histories hold the headline, and runs carry it on.
-use Rattle.std.proofs.Common.{◌≡◌, ℕ, ◌≤◌, length, refl, ap, sym, ◌∙◌, true, false, subst, [], ◌∷◌, arith}
-use Rattle.std.specs.Prelude.{Bool, List, Option, Some, None, is_some, Ok, Err}
+use Rattle.std.proofs.Common.{◌≡◌, ℕ, ◌≤◌, length, refl, ap, sym, ◌∙◌, false, subst, [], ◌∷◌, arith}
+use Rattle.std.specs.Prelude.{List, Option, Some, None, is_some, Ok, Err}
 use Rattle.std.specs.FinMap.{get, insert, get-empty}
 use Rattle.std.specs.Ordering.{nat_cmp}
 use Rattle.std.proofs.lemmas.Bool.Decides.{nat_tests}
-use Rattle.cache_words.specs.Key.{CacheKeyValue}
-use Rattle.tier_entries.specs.Keys.{entry_of, stored_key}
+use Rattle.tier_entries.specs.Keys.{stored_key}
 use Rattle.tier_entries.specs.Rows.{is_past}
-use Rattle.tier_model.specs.Keys.{Entry, entries_of, key_asked}
-use Rattle.tier_model.specs.declared.given.Given.{Given}
-use Rattle.tier_model.specs.declared.given.Given.TheVariants.{Stored}
-use Rattle.tier_model.specs.declared.given.Given.TheVariants as given
+use Rattle.tier_model.specs.Keys.{stored_key_of}
+use Rattle.tier_model.specs.declared.whole.Whole.{Whole}
 use Rattle.tier_model.specs.declared.state.FinishedBody.{FinishedBody}
 use Rattle.tier_model.specs.declared.state.Request.{Request}
 use Rattle.tier_model.specs.declared.event.Action.{Action}
 use Rattle.tier_model.specs.declared.event.Action.TheVariants.{Open, LookUp, Read, Drop, Purge, Put}
 use Rattle.tier_model.specs.declared.event.Answer.{Answer}
-use Rattle.tier_model.specs.declared.event.Answer.TheVariants.{Finished}
-use Rattle.tier_model.specs.declared.event.TierFault.{TierFault}
 use Rattle.cache_words.specs.Time.{MomentValue}
-use Rattle.tier_model.specs.Calls.{Call, History, Outcome, done_of}
+use Rattle.tier_model.specs.Calls.{Call, History, Outcome, read_by}
 use Rattle.std.specs.List.{AllByRecursion, sum_by}
 use Rattle.tier_model.specs.Histories.{HasDistinctKeys, IsBody}
-use Rattle.tier_model.specs.Response.{IsGiven}
+use Rattle.tier_model.specs.Response.{IsRead}
 use Rattle.tier_model.specs.Headline.{Headline, HoldsHeadline}
 use Rattle.tier_model.specs.Rows.{body_of}
 use Rattle.tier_model.specs.State.{Settings, State, empty_state}
-use Rattle.tier_model.specs.Step.{Allows, after, answered, undone, taken_back, on_request, after_look_up, after_read, after_purge, after_put, body_for}
+use Rattle.tier_model.specs.Step.{Allows, after, answered, on_request, after_look_up, after_read, body_for}
 use Rattle.tier_model.specs.Use.{IsOrderOfUse, EvictsBy, EvictsLawfully}
 use Rattle.tier_model.specs.Past.{state_of, IsLawful, MatchesHistory, HasPast, AreTaken, CarriesHeadline}
+use Rattle.tier_model.proofs.StepLaws.{KeepsRequests-purge, KeepsRequests-put, KeepsRequests-undone}
 use Rattle.tier_model.proofs.RequestLaws.{RequestFits, Fits, Fits-after, IsRequestOf-fits}
 use Rattle.tier_model.proofs.HeadlineLaws.{IsRight-allowed}
 use Rattle.tier_model.proofs.UseSteps.{IsOrderOfUse-after, BodiesAreTracked-kept}
@@ -44,45 +40,20 @@ look_settings : (s : State) (t : MomentValue) (i : ℕ) (q : Request) (b : Optio
 look_settings s t i q None = refl
 look_settings s t i q (Some b) = refl
 
-purge_settings : (s : State) (key : CacheKeyValue) (v : Bool) → (after_purge s key v).settings ≡ s.settings
-purge_settings s key false = refl
-purge_settings s key true = refl
-
-put_settings : (s : State) (g : Option Given) (a : Answer) → (after_put s g a).settings ≡ s.settings
-put_settings s (Some (Stored b)) (Finished n es) = refl
-put_settings s (Some (Stored b)) _ = refl
-put_settings s (Some given.Incomplete) a = refl
-put_settings s (Some given.BadHead) a = refl
-put_settings s (Some given.BeforeEpoch) a = refl
-put_settings s (Some (given.Uncacheable reason)) a = refl
-put_settings s None a = refl
-
-back_settings : (v : Bool) (s : State) (key : Entry) (es : List Entry) → (taken_back v s key es).settings ≡ s.settings
-back_settings false s key es = refl
-back_settings true s key es = refl
-
-answer_settings : (s : State) (t : MomentValue) (g : Option Given) (action : Action) (a : Answer) → (answered s t action g a).settings ≡ s.settings
+answer_settings : (s : State) (t : MomentValue) (g : Option Whole) (action : Action) (a : Answer) → (answered s t action g a).settings ≡ s.settings
 answer_settings s t g (Open i key) a = refl
 answer_settings s t g (LookUp i) a = request_settings s (get s.requests i) (λ q. after_look_up s t i q (body_for q s.bodies)) (λ q. look_settings s t i q (body_for q s.bodies))
 answer_settings s t g (Read i) a = request_settings s (get s.requests i) (λ q. record s { requests = insert s.requests i (after_read q) }) (λ q. refl)
 answer_settings s t g (Drop i) a = refl
-answer_settings s t g (Purge key) a = purge_settings s key (is_some (body_of (key_asked key) s.bodies))
-answer_settings s t g (Put key pieces) a = put_settings s g a
-
-undone_settings : (s : State) (action : Action) (f : TierFault) → (undone s action (done_of f)).settings ≡ s.settings
-undone_settings s (Open i key) f = refl
-undone_settings s (LookUp i) f = refl
-undone_settings s (Read i) f = refl
-undone_settings s (Drop i) f = refl
-undone_settings s (Purge key) f = refl
-undone_settings s (Put key pieces) f = back_settings (done_of f).stored s (entry_of key) (entries_of (done_of f).evicted)
+answer_settings s t g (Purge key) a = (KeepsRequests-purge s key (is_some (body_of (stored_key_of key) s.bodies))).settings
+answer_settings s t g (Put key pieces) a = (KeepsRequests-put s g a).settings
 
 pub settings-after : (s : State) (c : Call) → (after s c).settings ≡ s.settings
 settings-after s c = by_outcome c.outcome
   where
     by_outcome : (o : Outcome) → (after s (record c { outcome = o })).settings ≡ s.settings
-    by_outcome (Ok a) = answer_settings s c.event.moment c.given c.event.action a
-    by_outcome (Err f) = undone_settings s c.event.action f
+    by_outcome (Ok a) = answer_settings s c.event.moment (read_by c) c.event.action a
+    by_outcome (Err f) = (KeepsRequests-undone s c.event.action f).settings
 
 pub settings-state_of : (settings : Settings) (h : History) → (state_of settings h).settings ≡ settings
 settings-state_of settings [] = refl
@@ -135,15 +106,15 @@ Headline-lawful : (settings : Settings) (h : History) → IsLawful settings h �
 Headline-lawful settings [] l = tt
 Headline-lawful settings (c ∷ h) l = (IsRight-allowed (state_of settings h) c h (Stands-lawful settings h l.1).fits l.0, Headline-lawful settings h l.1)
 
-given-lawful : (settings : Settings) (h : History) → IsLawful settings h → AllByRecursion (λ c. IsGiven c.event.moment c.event.action c.given) h
-given-lawful settings [] l = tt
-given-lawful settings (c ∷ h) l = (l.0.0, given-lawful settings h l.1)
+readings-lawful : (settings : Settings) (h : History) → IsLawful settings h → AllByRecursion (λ c. IsRead c.event.action c.reading) h
+readings-lawful settings [] l = tt
+readings-lawful settings (c ∷ h) l = (l.0.0, readings-lawful settings h l.1)
 
 EvictsLawfully-lawful : (settings : Settings) (h : History) → IsLawful settings h → EvictsLawfully settings.limit settings.watermark h
 EvictsLawfully-lawful settings [] l = tt
 EvictsLawfully-lawful settings (c ∷ h) l =
     let past : Stands settings (state_of settings h) h = Stands-lawful settings h l.1 in (
-      subst (λ (x : Settings). EvictsBy x.limit x.watermark c.event c.outcome c.given h) past.made (IsOrderOfUse-after (state_of settings h) c h past.fits past.keeps l.0 past.order).1,
+      subst (λ (x : Settings). EvictsBy x.limit x.watermark c.event c.outcome c.reading h) past.made (IsOrderOfUse-after (state_of settings h) c h past.fits past.keeps l.0 past.order).1,
       EvictsLawfully-lawful settings h l.1,
     )
 
@@ -152,7 +123,7 @@ pub HoldsHeadline-lawful : (settings : Settings) (h : History) → IsLawful sett
 HoldsHeadline-lawful settings h l =
     let past : Stands settings (state_of settings h) h = Stands-lawful settings h l in
     record {
-      given = given-lawful settings h l;
+      readings = readings-lawful settings h l;
       answers = Headline-lawful settings h l;
       within = λ bodies. subst (λ (x : Settings). HasDistinctKeys bodies → AllByRecursion (λ b. IsBody (stored_key b.entry) b h) bodies
           → (sum_by (λ b. length b.bytes) bodies ≤ x.limit) × (is_past x.watermark (length bodies) ≡ false)) past.made (IsWithin-kept (state_of settings h) h past.fits past.keeps bodies);

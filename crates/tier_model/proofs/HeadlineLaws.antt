@@ -4,9 +4,9 @@ use Rattle.std.specs.Prelude.{ℕ, List, Option, Some, None, is_some, Ok, Err, M
 use Rattle.std.specs.FinMap.{get}
 use Rattle.cache_words.specs.Time.{MomentValue}
 use Rattle.tier_entries.specs.Keys.{stored_key}
-use Rattle.tier_model.specs.Keys.{StoredKey, key_asked}
-use Rattle.tier_model.specs.declared.given.Given.{Given}
-use Rattle.tier_model.specs.declared.given.Given.TheVariants as given
+use Rattle.tier_model.specs.Keys.{StoredKey, stored_key_of}
+use Rattle.tier_model.specs.declared.whole.Whole.{Whole}
+use Rattle.tier_model.specs.declared.whole.Whole.TheVariants as whole
 use Rattle.tier_model.specs.declared.state.FinishedBody.{FinishedBody}
 use Rattle.tier_model.specs.declared.state.Request.{Request}
 use Rattle.tier_model.specs.declared.state.Reader.{Reader}
@@ -18,7 +18,7 @@ use Rattle.tier_model.specs.declared.event.Answer.TheVariants.{Purged, Finished}
 use Rattle.tier_model.specs.declared.event.Answer.TheVariants as answer
 use Rattle.tier_model.specs.declared.event.TierFault.{TierFault}
 use Rattle.tier_model.specs.declared.event.TierFault.TheVariants.{WrongPhase}
-use Rattle.tier_model.specs.Calls.{Call, History, Outcome}
+use Rattle.tier_model.specs.Calls.{Call, History, Outcome, read_by}
 use Rattle.tier_model.specs.Histories.{IsFound}
 use Rattle.tier_model.specs.Headline.{LooksRight, ReadsWhole, PurgesRight, PutsRight, IsRight}
 use Rattle.tier_model.specs.Rows.{body_of}
@@ -35,7 +35,7 @@ not_found k s h fits e found =
     let clash : is_some {T = FinishedBody} None ≡ true = ap is_some (sym gone) ∙ there in
     cc
 
-look_right : (s : State) (t : MomentValue) (g : Option Given) (i : ℕ) (a : Answer) (h : History) (o : Option Request) → Fits s h → get s.requests i ≡ o
+look_right : (s : State) (t : MomentValue) (g : Option Whole) (i : ℕ) (a : Answer) (h : History) (o : Option Request) → Fits s h → get s.requests i ≡ o
     → MatchOption o ⊥ (λ q. (a ≡ look_answer t (body_for q s.bodies)) × (use_is_too_heavy q.entry (body_for q s.bodies) s.tracked ≡ false)) → LooksRight i t a h
 look_right s t g i a h None fits e p = absurd p
 look_right s t g i a h (Some q) fits e p = by_body (body_for q s.bodies) refl p.0
@@ -51,7 +51,7 @@ reader_right i Closed h e fits = cc
 reader_right i (Unread bytes) h e fits = record { body = fits.0; since = fits.1; hit = fits.2; whole = ap (λ (xs : List ℕ). xs ++ bytes) fits.3 ∙ fits.4 }
 reader_right i Spent h e fits = record { body = fits.0; since = fits.1; hit = fits.2; whole = append_nothing _ ∙ fits.3 }
 
-read_right : (s : State) (t : MomentValue) (g : Option Given) (i : ℕ) (a : Answer) (h : History) (o : Option Request) → Fits s h → get s.requests i ≡ o
+read_right : (s : State) (t : MomentValue) (g : Option Whole) (i : ℕ) (a : Answer) (h : History) (o : Option Request) → Fits s h → get s.requests i ≡ o
     → unless_open o (λ q. cond (has_reader q.reader) None (Some WrongPhase)) ≡ None → MatchOption o ⊥ (λ q. a ≡ read_answer q.reader) → ReadsWhole i a h
 read_right s t g i a h None fits e n p = absurd p
 read_right s t g i a h (Some q) fits e n p =
@@ -68,40 +68,40 @@ purge_right s k h fits = (to_found, λ found. ap is_some (fits.bodies k) ∙ bod
     to_found t = by_body (body_now k h) refl (ap is_some (sym (fits.bodies k)) ∙ t)
 
 -- a put that is answered has what its response gave
-put_right : (s : State) (g : Option Given) (a : Answer) → IsPutAnswer s g a → PutsRight g (Ok a)
-put_right s (Some (given.Stored b)) (Finished n es) p = (b, refl, p.0)
-put_right s (Some (given.Uncacheable reason)) (answer.Uncacheable shown) p = ap (λ r. Some (given.Uncacheable r)) (sym p)
-put_right s (Some (given.Stored b)) _ p = absurd p
-put_right s (Some (given.Uncacheable reason)) _ p = absurd p
-put_right s (Some given.Incomplete) a p = absurd p
-put_right s (Some given.BadHead) a p = absurd p
-put_right s (Some given.BeforeEpoch) a p = absurd p
+put_right : (s : State) (g : Option Whole) (a : Answer) → IsPutAnswer s g a → PutsRight g (Ok a)
+put_right s (Some (whole.Stored b)) (Finished n es) p = (b, refl, p.0)
+put_right s (Some (whole.Uncacheable reason)) (answer.Uncacheable shown) p = ap (λ r. Some (whole.Uncacheable r)) (sym p)
+put_right s (Some (whole.Stored b)) _ p = absurd p
+put_right s (Some (whole.Uncacheable reason)) _ p = absurd p
+put_right s (Some whole.Incomplete) a p = absurd p
+put_right s (Some whole.BadHead) a p = absurd p
+put_right s (Some whole.BeforeEpoch) a p = absurd p
 put_right s None a p = absurd p
 
 -- and so has one that is refused for it
-put_fault_right : (s : State) (g : Option Given) (f : TierFault) → IsPutFault s g f → PutsRight g (Err f)
-put_fault_right s (Some (given.Stored b)) f p = elim p [
-  | inl heavy ↦ subst (λ (x : TierFault). PutsRight (Some (given.Stored b)) (Err x)) (sym heavy.0) tt
+put_fault_right : (s : State) (g : Option Whole) (f : TierFault) → IsPutFault s g f → PutsRight g (Err f)
+put_fault_right s (Some (whole.Stored b)) f p = elim p [
+  | inl heavy ↦ subst (λ (x : TierFault). PutsRight (Some (whole.Stored b)) (Err x)) (sym heavy.0) tt
   | inr q ↦ elim q [
-    | inl long ↦ subst (λ (x : TierFault). PutsRight (Some (given.Stored b)) (Err x)) (sym long.0) tt
-    | inr cut ↦ subst (λ (x : TierFault). PutsRight (Some (given.Stored b)) (Err x)) (sym cut.1) tt
+    | inl long ↦ subst (λ (x : TierFault). PutsRight (Some (whole.Stored b)) (Err x)) (sym long.0) tt
+    | inr cut ↦ subst (λ (x : TierFault). PutsRight (Some (whole.Stored b)) (Err x)) (sym cut.1) tt
   ]
 ]
-put_fault_right s (Some given.Incomplete) f p = subst (λ (x : TierFault). PutsRight (Some given.Incomplete) (Err x)) (sym p) refl
-put_fault_right s (Some given.BadHead) f p = subst (λ (x : TierFault). PutsRight (Some given.BadHead) (Err x)) (sym p) refl
-put_fault_right s (Some given.BeforeEpoch) f p = subst (λ (x : TierFault). PutsRight (Some given.BeforeEpoch) (Err x)) (sym p) refl
-put_fault_right s (Some (given.Uncacheable reason)) f p = absurd p
+put_fault_right s (Some whole.Incomplete) f p = subst (λ (x : TierFault). PutsRight (Some whole.Incomplete) (Err x)) (sym p) refl
+put_fault_right s (Some whole.BadHead) f p = subst (λ (x : TierFault). PutsRight (Some whole.BadHead) (Err x)) (sym p) refl
+put_fault_right s (Some whole.BeforeEpoch) f p = subst (λ (x : TierFault). PutsRight (Some whole.BeforeEpoch) (Err x)) (sym p) refl
+put_fault_right s (Some (whole.Uncacheable reason)) f p = absurd p
 put_fault_right s None f p = absurd p
 
-answer_right : (s : State) (t : MomentValue) (g : Option Given) (action : Action) (a : Answer) (h : History) → Fits s h → refusal s action ≡ None → IsAnswer s t action g a → IsRight t action g (Ok a) h
+answer_right : (s : State) (t : MomentValue) (g : Option Whole) (action : Action) (a : Answer) (h : History) → Fits s h → refusal s action ≡ None → IsAnswer s t action g a → IsRight t action g (Ok a) h
 answer_right s t g (Open i key) a h fits n p = tt
 answer_right s t g (LookUp i) a h fits n p = look_right s t g i a h (get s.requests i) fits refl p
 answer_right s t g (Read i) a h fits n p = read_right s t g i a h (get s.requests i) fits refl n p
 answer_right s t g (Drop i) a h fits n p = tt
-answer_right s t g (Purge key) a h fits n p = subst (λ (x : Answer). PurgesRight (key_asked key) x h) (sym p) (purge_right s (key_asked key) h fits)
+answer_right s t g (Purge key) a h fits n p = subst (λ (x : Answer). PurgesRight (stored_key_of key) x h) (sym p) (purge_right s (stored_key_of key) h fits)
 answer_right s t g (Put key pieces) a h fits n p = put_right s g a p
 
-fault_right : (s : State) (t : MomentValue) (g : Option Given) (action : Action) (f : TierFault) (h : History) → AllowsBy (refusal s action) s t action g (Err f) → IsRight t action g (Err f) h
+fault_right : (s : State) (t : MomentValue) (g : Option Whole) (action : Action) (f : TierFault) (h : History) → AllowsBy (refusal s action) s t action g (Err f) → IsRight t action g (Err f) h
 fault_right s t g (Open i key) f h p = tt
 fault_right s t g (LookUp i) f h p = tt
 fault_right s t g (Read i) f h p = tt
@@ -109,10 +109,10 @@ fault_right s t g (Drop i) f h p = tt
 fault_right s t g (Purge key) f h p = tt
 fault_right s t g (Put key pieces) f h p = elim p [ inl memory ↦ subst (λ (x : TierFault). PutsRight g (Err x)) (sym memory.0) tt | inr late ↦ put_fault_right s g f late ]
 
-pub IsRight-allowed : (s : State) (c : Call) (h : History) → Fits s h → Allows s c → IsRight c.event.moment c.event.action c.given c.outcome h
+pub IsRight-allowed : (s : State) (c : Call) (h : History) → Fits s h → Allows s c → IsRight c.event.moment c.event.action (read_by c) c.outcome h
 IsRight-allowed s c h fits p = by_outcome c.outcome p.1
   where
-    by_outcome : (o : Outcome) → AllowsBy (refusal s c.event.action) s c.event.moment c.event.action c.given o → IsRight c.event.moment c.event.action c.given o h
-    by_outcome (Ok a) p = answer_right s c.event.moment c.given c.event.action a h fits
-        (unrefused (refusal s c.event.action) s c.event.moment c.given c.event.action a refl p) (answer_allowed (refusal s c.event.action) s c.event.moment c.given c.event.action a p)
-    by_outcome (Err f) p = fault_right s c.event.moment c.given c.event.action f h p
+    by_outcome : (o : Outcome) → AllowsBy (refusal s c.event.action) s c.event.moment c.event.action (read_by c) o → IsRight c.event.moment c.event.action (read_by c) o h
+    by_outcome (Ok a) p = answer_right s c.event.moment (read_by c) c.event.action a h fits
+        (unrefused (refusal s c.event.action) s c.event.moment (read_by c) c.event.action a refl p) (answer_allowed (refusal s c.event.action) s c.event.moment (read_by c) c.event.action a p)
+    by_outcome (Err f) p = fault_right s c.event.moment (read_by c) c.event.action f h p

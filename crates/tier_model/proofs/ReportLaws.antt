@@ -6,9 +6,9 @@ use Rattle.std.specs.FinMap.{get, insert}
 use Rattle.cache_words.specs.Time.{MomentValue}
 use Rattle.cache_words.specs.Key.{CacheKeyValue}
 use Rattle.tier_entries.specs.Keys.{entry_of, stored_key, same_key}
-use Rattle.tier_model.specs.declared.given.Given.{Given}
-use Rattle.tier_model.specs.declared.given.Given.TheVariants.{Stored}
-use Rattle.tier_model.specs.declared.given.Given.TheVariants as given
+use Rattle.tier_model.specs.declared.whole.Whole.{Whole}
+use Rattle.tier_model.specs.declared.whole.Whole.TheVariants.{Stored}
+use Rattle.tier_model.specs.declared.whole.Whole.TheVariants as whole
 use Rattle.tier_model.specs.declared.state.FinishedBody.{FinishedBody}
 use Rattle.tier_model.specs.declared.state.Request.{Request}
 use Rattle.tier_model.specs.declared.state.Reader.{Reader}
@@ -20,8 +20,9 @@ use Rattle.tier_model.specs.declared.event.Answer.TheVariants.{Opened, Bytes, En
 use Rattle.tier_model.specs.declared.event.Answer.TheVariants as answer
 use Rattle.tier_model.specs.declared.event.Done.{Done}
 use Rattle.tier_model.specs.declared.event.TierFault.{TierFault}
-use Rattle.tier_model.specs.Keys.{StoredKey, Entry, entries_of, key_asked}
-use Rattle.tier_model.specs.Calls.{Call, History, Outcome, evicted_by, nothing_done, done_of}
+use Rattle.tier_model.specs.Keys.{StoredKey, Entry, entries_of, stored_key_of}
+use Rattle.tier_model.specs.Response.{Reading}
+use Rattle.tier_model.specs.Calls.{Call, History, Outcome, read_by, evicted_by, nothing_done, done_of}
 use Rattle.tier_model.specs.Histories.{IsBody, HasDistinctKeys}
 use Rattle.tier_model.specs.Reports.{IsReport, report_of, found_answers, absent_answers, evictions, is_found, is_absent, shown, AreAllBodies}
 use Rattle.tier_model.specs.Rows.{body_of, with_body, without_body, without_bodies}
@@ -115,107 +116,107 @@ uncounted s new c h f a e d nf na ne t = record {
   distinct = d;
 }
 
-look_tally : (s : State) (t : MomentValue) (g : Option Given) (i : ℕ) (q : Request) (b : Option FinishedBody) (a : Answer) (h : History) → a ≡ look_answer t b → Tallies s h
-    → Tallies (after_look_up s t i q b) (call_at t (LookUp i) g (Ok a) ∷ h)
-look_tally s t g i q None a h e tally = subst (λ (y : Answer). Tallies (after_look_up s t i q None) (call_at t (LookUp i) g (Ok y) ∷ h)) (sym e) (record {
+look_tally : (s : State) (t : MomentValue) (read : Option Reading) (i : ℕ) (q : Request) (b : Option FinishedBody) (a : Answer) (h : History) → a ≡ look_answer t b → Tallies s h
+    → Tallies (after_look_up s t i q b) (call_at t (LookUp i) read (Ok a) ∷ h)
+look_tally s t read i q None a h e tally = subst (λ (y : Answer). Tallies (after_look_up s t i q None) (call_at t (LookUp i) read (Ok y) ∷ h)) (sym e) (record {
   found = tally.found;
   absent = more_shown s.absent (absent_answers h) 1 tally.absent;
   evicted = tally.evicted ∙ ap shown (omega arith);
   distinct = tally.distinct;
 })
-look_tally s t g i q (Some b) a h e tally = subst (λ (y : Answer). Tallies (after_look_up s t i q (Some b)) (call_at t (LookUp i) g (Ok y) ∷ h)) (sym e) (record {
+look_tally s t read i q (Some b) a h e tally = subst (λ (y : Answer). Tallies (after_look_up s t i q (Some b)) (call_at t (LookUp i) read (Ok y) ∷ h)) (sym e) (record {
   found = more_shown s.found (found_answers h) 1 tally.found;
   absent = tally.absent;
   evicted = tally.evicted ∙ ap shown (omega arith);
   distinct = tally.distinct;
 })
 
-request_tally : (s : State) (t : MomentValue) (g : Option Given) (i : ℕ) (a : Answer) (h : History) (o : Option Request)
+request_tally : (s : State) (t : MomentValue) (read : Option Reading) (i : ℕ) (a : Answer) (h : History) (o : Option Request)
     → MatchOption o ⊥ (λ q. (a ≡ look_answer t (body_for q s.bodies)) × (use_is_too_heavy q.entry (body_for q s.bodies) s.tracked ≡ false))
-    → Tallies s h → Tallies (on_request s o (λ q. after_look_up s t i q (body_for q s.bodies))) (call_at t (LookUp i) g (Ok a) ∷ h)
-request_tally s t g i a h None p tally = absurd p
-request_tally s t g i a h (Some q) p tally = look_tally s t g i q (body_for q s.bodies) a h p.0 tally
+    → Tallies s h → Tallies (on_request s o (λ q. after_look_up s t i q (body_for q s.bodies))) (call_at t (LookUp i) read (Ok a) ∷ h)
+request_tally s t read i a h None p tally = absurd p
+request_tally s t read i a h (Some q) p tally = look_tally s t read i q (body_for q s.bodies) a h p.0 tally
 
-read_tally : (s : State) (t : MomentValue) (g : Option Given) (i : ℕ) (a : Answer) (h : History) (o : Option Request) → MatchOption o ⊥ (λ q. a ≡ read_answer q.reader)
-    → Tallies s h → Tallies (on_request s o (λ q. record s { requests = insert s.requests i (after_read q) })) (call_at t (Read i) g (Ok a) ∷ h)
-read_tally s t g i a h None p tally = absurd p
-read_tally s t g i a h (Some q) p tally = by_reader q.reader p
+read_tally : (s : State) (t : MomentValue) (read : Option Reading) (i : ℕ) (a : Answer) (h : History) (o : Option Request) → MatchOption o ⊥ (λ q. a ≡ read_answer q.reader)
+    → Tallies s h → Tallies (on_request s o (λ q. record s { requests = insert s.requests i (after_read q) })) (call_at t (Read i) read (Ok a) ∷ h)
+read_tally s t read i a h None p tally = absurd p
+read_tally s t read i a h (Some q) p tally = by_reader q.reader p
   where
     new : State
     new = record s { requests = insert s.requests i (after_read q) }
 
-    by_reader : (r : Reader) → a ≡ read_answer r → Tallies new (call_at t (Read i) g (Ok a) ∷ h)
-    by_reader Closed e = subst (λ (y : Answer). Tallies new (call_at t (Read i) g (Ok y) ∷ h)) (sym e) (uncounted s new (call_at t (Read i) g (Ok End)) h refl refl refl tally.distinct refl refl refl tally)
+    by_reader : (r : Reader) → a ≡ read_answer r → Tallies new (call_at t (Read i) read (Ok a) ∷ h)
+    by_reader Closed e = subst (λ (y : Answer). Tallies new (call_at t (Read i) read (Ok y) ∷ h)) (sym e) (uncounted s new (call_at t (Read i) read (Ok End)) h refl refl refl tally.distinct refl refl refl tally)
     by_reader (Unread bytes) e =
-        subst (λ (y : Answer). Tallies new (call_at t (Read i) g (Ok y) ∷ h)) (sym e) (uncounted s new (call_at t (Read i) g (Ok (Bytes bytes))) h refl refl refl tally.distinct refl refl refl tally)
-    by_reader Spent e = subst (λ (y : Answer). Tallies new (call_at t (Read i) g (Ok y) ∷ h)) (sym e) (uncounted s new (call_at t (Read i) g (Ok End)) h refl refl refl tally.distinct refl refl refl tally)
+        subst (λ (y : Answer). Tallies new (call_at t (Read i) read (Ok y) ∷ h)) (sym e) (uncounted s new (call_at t (Read i) read (Ok (Bytes bytes))) h refl refl refl tally.distinct refl refl refl tally)
+    by_reader Spent e = subst (λ (y : Answer). Tallies new (call_at t (Read i) read (Ok y) ∷ h)) (sym e) (uncounted s new (call_at t (Read i) read (Ok End)) h refl refl refl tally.distinct refl refl refl tally)
 
-purge_tally : (s : State) (t : MomentValue) (g : Option Given) (key : CacheKeyValue) (h : History) (v : Bool) → Tallies s h → Tallies (after_purge s key v) (call_at t (Purge key) g (Ok (Purged v)) ∷ h)
-purge_tally s t g key h false tally = uncounted s s (call_at t (Purge key) g (Ok (Purged false))) h refl refl refl tally.distinct refl refl refl tally
-purge_tally s t g key h true tally =
-    uncounted s (after_purge s key true) (call_at t (Purge key) g (Ok (Purged true))) h refl refl refl (distinct_without (key_asked key) s.bodies tally.distinct) refl refl refl tally
+purge_tally : (s : State) (t : MomentValue) (read : Option Reading) (key : CacheKeyValue) (h : History) (v : Bool) → Tallies s h → Tallies (after_purge s key v) (call_at t (Purge key) read (Ok (Purged v)) ∷ h)
+purge_tally s t read key h false tally = uncounted s s (call_at t (Purge key) read (Ok (Purged false))) h refl refl refl tally.distinct refl refl refl tally
+purge_tally s t read key h true tally =
+    uncounted s (after_purge s key true) (call_at t (Purge key) read (Ok (Purged true))) h refl refl refl (distinct_without (stored_key_of key) s.bodies tally.distinct) refl refl refl tally
 
-put_tally : (s : State) (t : MomentValue) (g : Option Given) (key : CacheKeyValue) (pieces : List (List ℕ)) (a : Answer) (h : History) → IsPutAnswer s g a
-    → Tallies s h → Tallies (after_put s g a) (call_at t (Put key pieces) g (Ok a) ∷ h)
-put_tally s t (Some (Stored b)) key pieces (Finished n es) h p tally = record {
+put_tally : (s : State) (t : MomentValue) (read : Option Reading) (g : Option Whole) (key : CacheKeyValue) (pieces : List (List ℕ)) (a : Answer) (h : History) → IsPutAnswer s g a
+    → Tallies s h → Tallies (after_put s g a) (call_at t (Put key pieces) read (Ok a) ∷ h)
+put_tally s t read (Some (Stored b)) key pieces (Finished n es) h p tally = record {
   found = tally.found;
   absent = tally.absent;
   evicted = more_shown s.evicted (evictions h) (length (entries_of es)) tally.evicted;
   distinct = distinct_without_all (entries_of es) (with_body b s.bodies) (distinct_with b s.bodies tally.distinct);
 }
-put_tally s t (Some (given.Uncacheable reason)) key pieces (answer.Uncacheable shown) h p tally =
-    uncounted s s (call_at t (Put key pieces) (Some (given.Uncacheable reason)) (Ok (answer.Uncacheable shown))) h refl refl refl tally.distinct refl refl refl tally
-put_tally s t (Some (Stored b)) key pieces _ h p tally = absurd p
-put_tally s t (Some given.Incomplete) key pieces _ h p tally = absurd p
-put_tally s t (Some given.BadHead) key pieces _ h p tally = absurd p
-put_tally s t (Some given.BeforeEpoch) key pieces _ h p tally = absurd p
-put_tally s t (Some (given.Uncacheable reason)) key pieces _ h p tally = absurd p
-put_tally s t None key pieces _ h p tally = absurd p
+put_tally s t read (Some (whole.Uncacheable reason)) key pieces (answer.Uncacheable shown) h p tally =
+    uncounted s s (call_at t (Put key pieces) read (Ok (answer.Uncacheable shown))) h refl refl refl tally.distinct refl refl refl tally
+put_tally s t read (Some (Stored b)) key pieces _ h p tally = absurd p
+put_tally s t read (Some whole.Incomplete) key pieces _ h p tally = absurd p
+put_tally s t read (Some whole.BadHead) key pieces _ h p tally = absurd p
+put_tally s t read (Some whole.BeforeEpoch) key pieces _ h p tally = absurd p
+put_tally s t read (Some (whole.Uncacheable reason)) key pieces _ h p tally = absurd p
+put_tally s t read None key pieces _ h p tally = absurd p
 
-answer_tally : (s : State) (t : MomentValue) (g : Option Given) (action : Action) (a : Answer) (h : History) → IsAnswer s t action g a → Tallies s h → Tallies (answered s t action g a) (call_at t action g (Ok a) ∷ h)
-answer_tally s t g (Open i key) a h p tally =
-    subst (λ (y : Answer). Tallies (answered s t (Open i key) g y) (call_at t (Open i key) g (Ok y) ∷ h)) (sym p)
-    (uncounted s (answered s t (Open i key) g Opened) (call_at t (Open i key) g (Ok Opened)) h refl refl refl tally.distinct refl refl refl tally)
-answer_tally s t g (LookUp i) a h p tally = request_tally s t g i a h (get s.requests i) p tally
-answer_tally s t g (Read i) a h p tally = read_tally s t g i a h (get s.requests i) p tally
-answer_tally s t g (Drop i) a h p tally =
-    subst (λ (y : Answer). Tallies (answered s t (Drop i) g y) (call_at t (Drop i) g (Ok y) ∷ h)) (sym p)
-    (uncounted s (answered s t (Drop i) g Dropped) (call_at t (Drop i) g (Ok Dropped)) h refl refl refl tally.distinct refl refl refl tally)
-answer_tally s t g (Purge key) a h p tally =
-    subst (λ (y : Answer). Tallies (answered s t (Purge key) g y) (call_at t (Purge key) g (Ok y) ∷ h)) (sym p) (purge_tally s t g key h (is_some (body_of (key_asked key) s.bodies)) tally)
-answer_tally s t g (Put key pieces) a h p tally = put_tally s t g key pieces a h p tally
+answer_tally : (s : State) (t : MomentValue) (read : Option Reading) (g : Option Whole) (action : Action) (a : Answer) (h : History) → IsAnswer s t action g a → Tallies s h → Tallies (answered s t action g a) (call_at t action read (Ok a) ∷ h)
+answer_tally s t read g (Open i key) a h p tally =
+    subst (λ (y : Answer). Tallies (answered s t (Open i key) g y) (call_at t (Open i key) read (Ok y) ∷ h)) (sym p)
+    (uncounted s (answered s t (Open i key) g Opened) (call_at t (Open i key) read (Ok Opened)) h refl refl refl tally.distinct refl refl refl tally)
+answer_tally s t read g (LookUp i) a h p tally = request_tally s t read i a h (get s.requests i) p tally
+answer_tally s t read g (Read i) a h p tally = read_tally s t read i a h (get s.requests i) p tally
+answer_tally s t read g (Drop i) a h p tally =
+    subst (λ (y : Answer). Tallies (answered s t (Drop i) g y) (call_at t (Drop i) read (Ok y) ∷ h)) (sym p)
+    (uncounted s (answered s t (Drop i) g Dropped) (call_at t (Drop i) read (Ok Dropped)) h refl refl refl tally.distinct refl refl refl tally)
+answer_tally s t read g (Purge key) a h p tally =
+    subst (λ (y : Answer). Tallies (answered s t (Purge key) g y) (call_at t (Purge key) read (Ok y) ∷ h)) (sym p) (purge_tally s t read key h (is_some (body_of (stored_key_of key) s.bodies)) tally)
+answer_tally s t read g (Put key pieces) a h p tally = put_tally s t read g key pieces a h p tally
 
 -- a put's fault that had stored, and one that had not
-back_tally : (v : Bool) (s : State) (t : MomentValue) (g : Option Given) (key : CacheKeyValue) (pieces : List (List ℕ)) (f : TierFault) (h : History) → (done_of f).stored ≡ v
-    → Tallies s h → Tallies (taken_back v s (entry_of key) (entries_of (done_of f).evicted)) (call_at t (Put key pieces) g (Err f) ∷ h)
-back_tally false s t g key pieces f h e tally =
-    uncounted s s (call_at t (Put key pieces) g (Err f)) h refl refl refl tally.distinct refl refl (ap (λ v. cond v (entries_of (done_of f).evicted) []) e) tally
-back_tally true s t g key pieces f h e tally = record {
+back_tally : (v : Bool) (s : State) (t : MomentValue) (read : Option Reading) (key : CacheKeyValue) (pieces : List (List ℕ)) (f : TierFault) (h : History) → (done_of f).stored ≡ v
+    → Tallies s h → Tallies (taken_back v s (entry_of key) (entries_of (done_of f).evicted)) (call_at t (Put key pieces) read (Err f) ∷ h)
+back_tally false s t read key pieces f h e tally =
+    uncounted s s (call_at t (Put key pieces) read (Err f)) h refl refl refl tally.distinct refl refl (ap (λ v. cond v (entries_of (done_of f).evicted) []) e) tally
+back_tally true s t read key pieces f h e tally = record {
   found = tally.found;
   absent = tally.absent;
   evicted = more_shown s.evicted (evictions h) (length (entries_of (done_of f).evicted)) tally.evicted ∙ ap (λ v. shown (evictions h + length (cond v (entries_of (done_of f).evicted) []))) (sym e);
-  distinct = distinct_without (key_asked key) (without_bodies (entries_of (done_of f).evicted) s.bodies) (distinct_without_all (entries_of (done_of f).evicted) s.bodies tally.distinct);
+  distinct = distinct_without (stored_key_of key) (without_bodies (entries_of (done_of f).evicted) s.bodies) (distinct_without_all (entries_of (done_of f).evicted) s.bodies tally.distinct);
 }
 
 quiet_evicts : (done : Done) → done ≡ nothing_done → cond done.stored (entries_of done.evicted) [] ≡ []
 quiet_evicts done e = subst (λ (d : Done). cond d.stored (entries_of d.evicted) [] ≡ []) (sym e) refl
 
-fault_tally : (s : State) (t : MomentValue) (g : Option Given) (action : Action) (f : TierFault) (h : History) → AllowsBy (refusal s action) s t action g (Err f) → Tallies s h
-    → Tallies (undone s action (done_of f)) (call_at t action g (Err f) ∷ h)
-fault_tally s t g (Open i key) f h p tally = uncounted s s (call_at t (Open i key) g (Err f)) h refl refl refl tally.distinct refl refl (quiet_evicts (done_of f) (did_nothing s t g (Open i key) f p refl)) tally
-fault_tally s t g (LookUp i) f h p tally = uncounted s s (call_at t (LookUp i) g (Err f)) h refl refl refl tally.distinct refl refl (quiet_evicts (done_of f) (did_nothing s t g (LookUp i) f p refl)) tally
-fault_tally s t g (Read i) f h p tally = uncounted s s (call_at t (Read i) g (Err f)) h refl refl refl tally.distinct refl refl (quiet_evicts (done_of f) (did_nothing s t g (Read i) f p refl)) tally
-fault_tally s t g (Drop i) f h p tally = uncounted s s (call_at t (Drop i) g (Err f)) h refl refl refl tally.distinct refl refl (quiet_evicts (done_of f) (did_nothing s t g (Drop i) f p refl)) tally
-fault_tally s t g (Purge key) f h p tally = uncounted s s (call_at t (Purge key) g (Err f)) h refl refl refl tally.distinct refl refl (quiet_evicts (done_of f) (did_nothing s t g (Purge key) f p refl)) tally
-fault_tally s t g (Put key pieces) f h p tally = back_tally (done_of f).stored s t g key pieces f h refl tally
+fault_tally : (s : State) (t : MomentValue) (read : Option Reading) (g : Option Whole) (action : Action) (f : TierFault) (h : History) → AllowsBy (refusal s action) s t action g (Err f) → Tallies s h
+    → Tallies (undone s action (done_of f)) (call_at t action read (Err f) ∷ h)
+fault_tally s t read g (Open i key) f h p tally = uncounted s s (call_at t (Open i key) read (Err f)) h refl refl refl tally.distinct refl refl (quiet_evicts (done_of f) (did_nothing s t g (Open i key) f p refl)) tally
+fault_tally s t read g (LookUp i) f h p tally = uncounted s s (call_at t (LookUp i) read (Err f)) h refl refl refl tally.distinct refl refl (quiet_evicts (done_of f) (did_nothing s t g (LookUp i) f p refl)) tally
+fault_tally s t read g (Read i) f h p tally = uncounted s s (call_at t (Read i) read (Err f)) h refl refl refl tally.distinct refl refl (quiet_evicts (done_of f) (did_nothing s t g (Read i) f p refl)) tally
+fault_tally s t read g (Drop i) f h p tally = uncounted s s (call_at t (Drop i) read (Err f)) h refl refl refl tally.distinct refl refl (quiet_evicts (done_of f) (did_nothing s t g (Drop i) f p refl)) tally
+fault_tally s t read g (Purge key) f h p tally = uncounted s s (call_at t (Purge key) read (Err f)) h refl refl refl tally.distinct refl refl (quiet_evicts (done_of f) (did_nothing s t g (Purge key) f p refl)) tally
+fault_tally s t read g (Put key pieces) f h p tally = back_tally (done_of f).stored s t read key pieces f h refl tally
 
 -- each lawful call keeps the counts
 pub Tallies-after : (s : State) (c : Call) (h : History) → Allows s c → Tallies s h → Tallies (after s c) (c ∷ h)
 Tallies-after s c h p tally = by_outcome c.outcome p.1
   where
-    by_outcome : (o : Outcome) → AllowsBy (refusal s c.event.action) s c.event.moment c.event.action c.given o → Tallies (after s (record c { outcome = o })) (record c { outcome = o } ∷ h)
-    by_outcome (Ok a) p = answer_tally s c.event.moment c.given c.event.action a h (answer_allowed (refusal s c.event.action) s c.event.moment c.given c.event.action a p) tally
-    by_outcome (Err f) p = fault_tally s c.event.moment c.given c.event.action f h p tally
+    by_outcome : (o : Outcome) → AllowsBy (refusal s c.event.action) s c.event.moment c.event.action (read_by c) o → Tallies (after s (record c { outcome = o })) (record c { outcome = o } ∷ h)
+    by_outcome (Ok a) p = answer_tally s c.event.moment c.reading (read_by c) c.event.action a h (answer_allowed (refusal s c.event.action) s c.event.moment (read_by c) c.event.action a p) tally
+    by_outcome (Err f) p = fault_tally s c.event.moment c.reading (read_by c) c.event.action f h p tally
 
 -- the report of a state that a history says is the history's
 pub IsReport-matches : (s : State) (h : History) → MatchesHistory s h → IsReport (report_of s) h

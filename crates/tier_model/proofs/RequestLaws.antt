@@ -7,12 +7,9 @@ use Rattle.std.specs.Cmp.{unsigned_tied}
 use Rattle.std.proofs.lemmas.Cmp.{nat_cmp_total, eq_by_cmp_equiv}
 use Rattle.std.proofs.lemmas.Bool.{eqb-true, eq-eqb}
 use Rattle.cache_words.specs.Time.{MomentValue, at_most}
-use Rattle.cache_words.specs.Key.{CacheKeyValue}
 use Rattle.tier_entries.specs.Keys.{entry_of, stored_key}
-use Rattle.tier_model.specs.Keys.{StoredKey, Entry, entries_of, key_asked}
-use Rattle.tier_model.specs.declared.given.Given.{Given}
-use Rattle.tier_model.specs.declared.given.Given.TheVariants.{Stored}
-use Rattle.tier_model.specs.declared.given.Given.TheVariants as given
+use Rattle.tier_model.specs.Keys.{StoredKey, stored_key_of}
+use Rattle.tier_model.specs.declared.whole.Whole.{Whole}
 use Rattle.tier_model.specs.declared.state.FinishedBody.{FinishedBody}
 use Rattle.tier_model.specs.declared.state.Request.{Request}
 use Rattle.tier_model.specs.declared.state.Reader.{Reader}
@@ -22,17 +19,18 @@ use Rattle.tier_model.specs.declared.state.Phase.TheVariants.{CacheKey, Hit, Sta
 use Rattle.tier_model.specs.declared.event.Action.{Action}
 use Rattle.tier_model.specs.declared.event.Action.TheVariants.{Open, LookUp, Read, Drop, Purge, Put}
 use Rattle.tier_model.specs.declared.event.Answer.{Answer}
-use Rattle.tier_model.specs.declared.event.Answer.TheVariants.{Opened, Found, Absent, Bytes, End, Dropped, Finished}
+use Rattle.tier_model.specs.declared.event.Answer.TheVariants.{Opened, Found, Absent, Bytes, End, Dropped}
 use Rattle.tier_model.specs.declared.event.TierFault.{TierFault}
 use Rattle.tier_model.specs.declared.event.TierFault.TheVariants.{WrongPhase}
-use Rattle.tier_model.specs.Calls.{Call, History, Outcome, opened_for, entry_after, ends_reader, bytes_given, bytes_read, bytes_answered, done_of}
+use Rattle.tier_model.specs.Response.{Reading}
+use Rattle.tier_model.specs.Calls.{Call, History, Outcome, read_by, opened_for, entry_after, ends_reader, bytes_given, bytes_read, bytes_answered, done_of}
 use Rattle.tier_model.specs.Histories.{IsBody, HasHit}
 use Rattle.tier_model.specs.Requests.{phase_after, phase_of, reader_after, reader_of, HasFound, IsRequestOf}
 use Rattle.tier_model.specs.Rows.{body_of}
 use Rattle.tier_model.specs.State.{State}
-use Rattle.tier_model.specs.Step.{refusal, unless_open, has_reader, AllowsBy, Allows, IsAnswer, after, answered, undone, taken_back, opened_request, look_answer, looked, after_look_up, on_request, read_answer, after_read, after_purge, after_put, use_is_too_heavy, body_for}
+use Rattle.tier_model.specs.Step.{refusal, unless_open, has_reader, AllowsBy, Allows, IsAnswer, after, answered, undone, opened_request, look_answer, looked, after_look_up, on_request, read_answer, after_read, after_purge, after_put, use_is_too_heavy, body_for}
 use Rattle.tier_model.proofs.BodyLaws.{body_by, body_now, body_now-is}
-use Rattle.tier_model.proofs.StepLaws.{call_at, answer_allowed, body_of-after}
+use Rattle.tier_model.proofs.StepLaws.{call_at, answer_allowed, body_of-after, KeepsRequests-purge, KeepsRequests-put, KeepsRequests-undone}
 
 -- a request's reader has what the body that it found has left
 abbrev pub ReaderFits : ℕ → Reader → History → Type 0
@@ -131,51 +129,51 @@ pub of_request : (s : State) (h : History) → Fits s h → (i : ℕ) (q : Reque
 of_request s h fits i q e = subst (λ (o : Option Request). RequestFits i o h) e (fits.requests i)
 
 -- what a complete hit showed is what the reader has
-found_reader : (t : MomentValue) (g : Option Given) (i : ℕ) (q : Request) (w : FinishedBody) (fresh : Bool) (h : History) → opened_for i h ≡ Some q.entry → IsBody (stored_key q.entry) w h
-    → ReaderFits i (Unread w.bytes) (call_at t (LookUp i) g (Ok (Found fresh true)) ∷ h)
-found_reader t g i q w fresh h key body =
-    (w, [], record { call = call_at t (LookUp i) g (Ok (Found fresh true)); before = h; entry = q.entry; split = refl; hit = ap (λ v. v && true) (itself i); of_entry = key; shows = body; last = tt }, refl, refl)
+found_reader : (t : MomentValue) (read : Option Reading) (i : ℕ) (q : Request) (w : FinishedBody) (fresh : Bool) (h : History) → opened_for i h ≡ Some q.entry → IsBody (stored_key q.entry) w h
+    → ReaderFits i (Unread w.bytes) (call_at t (LookUp i) read (Ok (Found fresh true)) ∷ h)
+found_reader t read i q w fresh h key body =
+    (w, [], record { call = call_at t (LookUp i) read (Ok (Found fresh true)); before = h; entry = q.entry; split = refl; hit = ap (λ v. v && true) (itself i); of_entry = key; shows = body; last = tt }, refl, refl)
 
-look_fits : (s : State) (t : MomentValue) (g : Option Given) (i : ℕ) (a : Answer) (h : History) (o : Option Request) → Fits s h → get s.requests i ≡ o
+look_fits : (s : State) (t : MomentValue) (read : Option Reading) (i : ℕ) (a : Answer) (h : History) (o : Option Request) → Fits s h → get s.requests i ≡ o
     → MatchOption o ⊥ (λ q. (a ≡ look_answer t (body_for q s.bodies)) × (use_is_too_heavy q.entry (body_for q s.bodies) s.tracked ≡ false))
-    → (id : ℕ) → RequestFits id (get (on_request s o (λ q. after_look_up s t i q (body_for q s.bodies))).requests id) (call_at t (LookUp i) g (Ok a) ∷ h)
-look_fits s t g i a h None fits e p id = absurd p
-look_fits s t g i a h (Some q) fits e p id = by_body (body_for q s.bodies) refl p.0
+    → (id : ℕ) → RequestFits id (get (on_request s o (λ q. after_look_up s t i q (body_for q s.bodies))).requests id) (call_at t (LookUp i) read (Ok a) ∷ h)
+look_fits s t read i a h None fits e p id = absurd p
+look_fits s t read i a h (Some q) fits e p id = by_body (body_for q s.bodies) refl p.0
   where
     open_key : opened_for i h ≡ Some q.entry
     open_key = (of_request s h fits i q e).0
 
-    by_body : (b : Option FinishedBody) → body_for q s.bodies ≡ b → a ≡ look_answer t b → RequestFits id (get (after_look_up s t i q b).requests id) (call_at t (LookUp i) g (Ok a) ∷ h)
+    by_body : (b : Option FinishedBody) → body_for q s.bodies ≡ b → a ≡ look_answer t b → RequestFits id (get (after_look_up s t i q b).requests id) (call_at t (LookUp i) read (Ok a) ∷ h)
     by_body None be ae =
-        subst (λ (x : Answer). RequestFits id (get (after_look_up s t i q None).requests id) (call_at t (LookUp i) g (Ok x) ∷ h)) (sym ae)
-        (placed s.requests i (looked t q None) id (call_at t (LookUp i) g (Ok Absent)) h
+        subst (λ (x : Answer). RequestFits id (get (after_look_up s t i q None).requests id) (call_at t (LookUp i) read (Ok x) ∷ h)) (sym ae)
+        (placed s.requests i (looked t q None) id (call_at t (LookUp i) read (Ok Absent)) h
         (open_key, tt, sym (ap (λ v. cond v Miss (phase_of i h)) (itself i)), ([], sym (ap (λ v. cond v Closed (reader_of i [] h)) (itself i))))
         (λ n. record { key = refl; reader = n; bytes = refl; phase = λ p. ap (λ v. cond v Miss p) n; left = λ bytes r. ap (λ v. cond v Closed r) n }) (fits.requests id))
     by_body (Some w) be ae =
         let fresh : Bool = at_most t w.fresh_until in
-        subst (λ (x : Answer). RequestFits id (get (after_look_up s t i q (Some w)).requests id) (call_at t (LookUp i) g (Ok x) ∷ h)) (sym ae)
-        (placed s.requests i (looked t q (Some w)) id (call_at t (LookUp i) g (Ok (Found fresh true))) h (
+        subst (λ (x : Answer). RequestFits id (get (after_look_up s t i q (Some w)).requests id) (call_at t (LookUp i) read (Ok x) ∷ h)) (sym ae)
+        (placed s.requests i (looked t q (Some w)) id (call_at t (LookUp i) read (Ok (Found fresh true))) h (
           open_key,
-          found_reader t g i q w fresh h open_key (body_now-is (stored_key q.entry) w h (sym (fits.bodies (stored_key q.entry)) ∙ be)),
+          found_reader t read i q w fresh h open_key (body_now-is (stored_key q.entry) w h (sym (fits.bodies (stored_key q.entry)) ∙ be)),
           sym (ap (λ v. cond v (cond fresh Hit Stale) (phase_of i h)) (itself i)),
           (w.bytes, sym (ap (λ v. cond v (Unread w.bytes) (reader_of i w.bytes h)) (itself i))),
         )
         (λ n. record { key = refl; reader = n; bytes = refl; phase = λ p. ap (λ v. cond v (cond fresh Hit Stale) p) n; left = λ bytes r. ap (λ v. cond v (Unread bytes) r) n }) (fits.requests id))
 
 -- a read of what is unread gives all of it, and one after it nothing
-read_reader : (t : MomentValue) (g : Option Given) (i : ℕ) (r : Reader) (h : History) → has_reader r ≡ true → ReaderFits i r h → ReaderFits i Spent (call_at t (Read i) g (Ok (read_answer r)) ∷ h)
-read_reader t g i Closed h e fits = cc
-read_reader t g i (Unread bytes) h e fits = (
+read_reader : (t : MomentValue) (read : Option Reading) (i : ℕ) (r : Reader) (h : History) → has_reader r ≡ true → ReaderFits i r h → ReaderFits i Spent (call_at t (Read i) read (Ok (read_answer r)) ∷ h)
+read_reader t read i Closed h e fits = cc
+read_reader t read i (Unread bytes) h e fits = (
   fits.0,
-  call_at t (Read i) g (Ok (Bytes bytes)) ∷ fits.1,
-  longer_hit i fits.0 fits.1 (call_at t (Read i) g (Ok (Bytes bytes))) h refl fits.2,
-  more_read i fits.1 (call_at t (Read i) g (Ok (Bytes bytes))) [] bytes fits.3 (ap (λ v. cond v bytes []) (itself i)) ∙ fits.4,
+  call_at t (Read i) read (Ok (Bytes bytes)) ∷ fits.1,
+  longer_hit i fits.0 fits.1 (call_at t (Read i) read (Ok (Bytes bytes))) h refl fits.2,
+  more_read i fits.1 (call_at t (Read i) read (Ok (Bytes bytes))) [] bytes fits.3 (ap (λ v. cond v bytes []) (itself i)) ∙ fits.4,
 )
-read_reader t g i Spent h e fits = (
+read_reader t read i Spent h e fits = (
   fits.0,
-  call_at t (Read i) g (Ok End) ∷ fits.1,
-  longer_hit i fits.0 fits.1 (call_at t (Read i) g (Ok End)) h refl fits.2,
-  more_read i fits.1 (call_at t (Read i) g (Ok End)) fits.0.bytes [] fits.3 (ap (λ v. cond v [] []) (itself i)) ∙ append_nothing fits.0.bytes,
+  call_at t (Read i) read (Ok End) ∷ fits.1,
+  longer_hit i fits.0 fits.1 (call_at t (Read i) read (Ok End)) h refl fits.2,
+  more_read i fits.1 (call_at t (Read i) read (Ok End)) fits.0.bytes [] fits.3 (ap (λ v. cond v [] []) (itself i)) ∙ append_nothing fits.0.bytes,
 )
 
 -- the check of a read passed
@@ -186,14 +184,14 @@ reader_there q e = by_test (has_reader q.reader) refl e
     by_test true n e = n
     by_test false n e = cc
 
-read_fits : (s : State) (t : MomentValue) (g : Option Given) (i : ℕ) (a : Answer) (h : History) (o : Option Request) → Fits s h → get s.requests i ≡ o
+read_fits : (s : State) (t : MomentValue) (read : Option Reading) (i : ℕ) (a : Answer) (h : History) (o : Option Request) → Fits s h → get s.requests i ≡ o
     → unless_open o (λ q. cond (has_reader q.reader) None (Some WrongPhase)) ≡ None → MatchOption o ⊥ (λ q. a ≡ read_answer q.reader)
-    → (id : ℕ) → RequestFits id (get (on_request s o (λ q. record s { requests = insert s.requests i (after_read q) })).requests id) (call_at t (Read i) g (Ok a) ∷ h)
-read_fits s t g i a h None fits e n p id = absurd p
-read_fits s t g i a h (Some q) fits e n p id =
-    placed s.requests i (after_read q) id (call_at t (Read i) g (Ok a)) h (
+    → (id : ℕ) → RequestFits id (get (on_request s o (λ q. record s { requests = insert s.requests i (after_read q) })).requests id) (call_at t (Read i) read (Ok a) ∷ h)
+read_fits s t read i a h None fits e n p id = absurd p
+read_fits s t read i a h (Some q) fits e n p id =
+    placed s.requests i (after_read q) id (call_at t (Read i) read (Ok a)) h (
       (of_request s h fits i q e).0,
-      subst (λ (x : Answer). ReaderFits i Spent (call_at t (Read i) g (Ok x) ∷ h)) (sym p) (read_reader t g i q.reader h (reader_there q n) (of_request s h fits i q e).1),
+      subst (λ (x : Answer). ReaderFits i Spent (call_at t (Read i) read (Ok x) ∷ h)) (sym p) (read_reader t read i q.reader h (reader_there q n) (of_request s h fits i q e).1),
       (of_request s h fits i q e).2,
       ([], sym (ap (λ v. cond v Spent (reader_of i [] h)) (itself i))),
     )
@@ -203,28 +201,11 @@ read_fits s t g i a h (Some q) fits e n p id =
 pub unmoved : (s new : State) (c : Call) (h : History) → Fits s h → new.requests ≡ s.requests → ((id : ℕ) → IsOther id c h) → (id : ℕ) → RequestFits id (get new.requests id) (c ∷ h)
 unmoved s new c h fits e other id = subst (λ (m : FinMap nat_cmp Request). RequestFits id (get m id) (c ∷ h)) (sym e) (other_request id (get s.requests id) c h (other id) (fits.requests id))
 
-purge_requests : (s : State) (key : CacheKeyValue) (v : Bool) → (after_purge s key v).requests ≡ s.requests
-purge_requests s key true = refl
-purge_requests s key false = refl
-
-put_requests : (s : State) (g : Option Given) (a : Answer) → (after_put s g a).requests ≡ s.requests
-put_requests s (Some (Stored b)) (Finished n es) = refl
-put_requests s (Some (Stored b)) _ = refl
-put_requests s (Some given.Incomplete) a = refl
-put_requests s (Some given.BadHead) a = refl
-put_requests s (Some given.BeforeEpoch) a = refl
-put_requests s (Some (given.Uncacheable reason)) a = refl
-put_requests s None a = refl
-
-back_requests : (v : Bool) (s : State) (key : Entry) (es : List Entry) → (taken_back v s key es).requests ≡ s.requests
-back_requests true s key es = refl
-back_requests false s key es = refl
-
-answer_fits : (s : State) (t : MomentValue) (g : Option Given) (action : Action) (a : Answer) (h : History) → Fits s h → refusal s action ≡ None → IsAnswer s t action g a
-    → (id : ℕ) → RequestFits id (get (answered s t action g a).requests id) (call_at t action g (Ok a) ∷ h)
-answer_fits s t g (Open i key) a h fits n p id =
-    subst (λ (x : Answer). RequestFits id (get (insert s.requests i (opened_request (entry_of key))) id) (call_at t (Open i key) g (Ok x) ∷ h)) (sym p)
-    (placed s.requests i (opened_request (entry_of key)) id (call_at t (Open i key) g (Ok Opened)) h (
+answer_fits : (s : State) (t : MomentValue) (read : Option Reading) (g : Option Whole) (action : Action) (a : Answer) (h : History) → Fits s h → refusal s action ≡ None → IsAnswer s t action g a
+    → (id : ℕ) → RequestFits id (get (answered s t action g a).requests id) (call_at t action read (Ok a) ∷ h)
+answer_fits s t read g (Open i key) a h fits n p id =
+    subst (λ (x : Answer). RequestFits id (get (insert s.requests i (opened_request (entry_of key))) id) (call_at t (Open i key) read (Ok x) ∷ h)) (sym p)
+    (placed s.requests i (opened_request (entry_of key)) id (call_at t (Open i key) read (Ok Opened)) h (
       ap (λ v. cond v (Some (entry_of key)) (opened_for i h)) (itself i),
       tt,
       sym (ap (λ v. cond v CacheKey (phase_of i h)) (itself i)),
@@ -237,35 +218,27 @@ answer_fits s t g (Open i key) a h fits n p id =
       phase = λ p. ap (λ v. cond v CacheKey p) m;
       left = λ bytes r. ap (λ v. cond v Closed r) m;
     }) (fits.requests id))
-answer_fits s t g (LookUp i) a h fits n p id = look_fits s t g i a h (get s.requests i) fits refl p id
-answer_fits s t g (Read i) a h fits n p id = read_fits s t g i a h (get s.requests i) fits refl n p id
-answer_fits s t g (Drop i) a h fits n p id =
-    subst (λ (x : Answer). RequestFits id (get (remove s.requests i) id) (call_at t (Drop i) g (Ok x) ∷ h)) (sym p)
-    (ended s.requests i id (call_at t (Drop i) g (Ok Dropped)) h (ap (λ v. cond v None (opened_for i h)) (itself i))
+answer_fits s t read g (LookUp i) a h fits n p id = look_fits s t read i a h (get s.requests i) fits refl p id
+answer_fits s t read g (Read i) a h fits n p id = read_fits s t read i a h (get s.requests i) fits refl n p id
+answer_fits s t read g (Drop i) a h fits n p id =
+    subst (λ (x : Answer). RequestFits id (get (remove s.requests i) id) (call_at t (Drop i) read (Ok x) ∷ h)) (sym p)
+    (ended s.requests i id (call_at t (Drop i) read (Ok Dropped)) h (ap (λ v. cond v None (opened_for i h)) (itself i))
     (λ m. record { key = ap (λ v. cond v None (opened_for id h)) m; reader = m; bytes = refl; phase = λ p. refl; left = λ bytes r. refl }) (fits.requests id))
-answer_fits s t g (Purge key) a h fits n p id =
-    unmoved s (after_purge s key (is_some (body_of (key_asked key) s.bodies))) (call_at t (Purge key) g (Ok a)) h fits (purge_requests s key (is_some (body_of (key_asked key) s.bodies))) (λ i. record { key = refl; reader = refl; bytes = refl; phase = λ p. refl; left = λ bytes r. refl }) id
-answer_fits s t g (Put key pieces) a h fits n p id =
-    unmoved s (after_put s g a) (call_at t (Put key pieces) g (Ok a)) h fits (put_requests s g a) (λ i. record { key = refl; reader = refl; bytes = refl; phase = λ p. refl; left = λ bytes r. refl }) id
+answer_fits s t read g (Purge key) a h fits n p id =
+    unmoved s (after_purge s key (is_some (body_of (stored_key_of key) s.bodies))) (call_at t (Purge key) read (Ok a)) h fits (KeepsRequests-purge s key (is_some (body_of (stored_key_of key) s.bodies))).requests (λ i. record { key = refl; reader = refl; bytes = refl; phase = λ p. refl; left = λ bytes r. refl }) id
+answer_fits s t read g (Put key pieces) a h fits n p id =
+    unmoved s (after_put s g a) (call_at t (Put key pieces) read (Ok a)) h fits (KeepsRequests-put s g a).requests (λ i. record { key = refl; reader = refl; bytes = refl; phase = λ p. refl; left = λ bytes r. refl }) id
 
-fault_other : (t : MomentValue) (g : Option Given) (action : Action) (f : TierFault) (h : History) (id : ℕ) → IsOther id (call_at t action g (Err f)) h
-fault_other t g (Open i key) f h id = record { key = refl; reader = refl; bytes = refl; phase = λ p. refl; left = λ bytes r. refl }
-fault_other t g (LookUp i) f h id = record { key = refl; reader = refl; bytes = refl; phase = λ p. refl; left = λ bytes r. refl }
-fault_other t g (Read i) f h id = record { key = refl; reader = refl; bytes = refl; phase = λ p. refl; left = λ bytes r. refl }
-fault_other t g (Drop i) f h id = record { key = refl; reader = refl; bytes = refl; phase = λ p. refl; left = λ bytes r. refl }
-fault_other t g (Purge key) f h id = record { key = refl; reader = refl; bytes = refl; phase = λ p. refl; left = λ bytes r. refl }
-fault_other t g (Put key pieces) f h id = record { key = refl; reader = refl; bytes = refl; phase = λ p. refl; left = λ bytes r. refl }
-
-undone_requests : (s : State) (action : Action) (f : TierFault) → (undone s action (done_of f)).requests ≡ s.requests
-undone_requests s (Open i key) f = refl
-undone_requests s (LookUp i) f = refl
-undone_requests s (Read i) f = refl
-undone_requests s (Drop i) f = refl
-undone_requests s (Purge key) f = refl
-undone_requests s (Put key pieces) f = back_requests (done_of f).stored s (entry_of key) (entries_of (done_of f).evicted)
+fault_other : (t : MomentValue) (read : Option Reading) (action : Action) (f : TierFault) (h : History) (id : ℕ) → IsOther id (call_at t action read (Err f)) h
+fault_other t read (Open i key) f h id = record { key = refl; reader = refl; bytes = refl; phase = λ p. refl; left = λ bytes r. refl }
+fault_other t read (LookUp i) f h id = record { key = refl; reader = refl; bytes = refl; phase = λ p. refl; left = λ bytes r. refl }
+fault_other t read (Read i) f h id = record { key = refl; reader = refl; bytes = refl; phase = λ p. refl; left = λ bytes r. refl }
+fault_other t read (Drop i) f h id = record { key = refl; reader = refl; bytes = refl; phase = λ p. refl; left = λ bytes r. refl }
+fault_other t read (Purge key) f h id = record { key = refl; reader = refl; bytes = refl; phase = λ p. refl; left = λ bytes r. refl }
+fault_other t read (Put key pieces) f h id = record { key = refl; reader = refl; bytes = refl; phase = λ p. refl; left = λ bytes r. refl }
 
 -- no check failed where there is an answer
-pub unrefused : (r : Option TierFault) (s : State) (t : MomentValue) (g : Option Given) (action : Action) (a : Answer) → refusal s action ≡ r → AllowsBy r s t action g (Ok a) → refusal s action ≡ None
+pub unrefused : (r : Option TierFault) (s : State) (t : MomentValue) (g : Option Whole) (action : Action) (a : Answer) → refusal s action ≡ r → AllowsBy r s t action g (Ok a) → refusal s action ≡ None
 unrefused (Some f) s t g action a e p = cc
 unrefused None s t g action a e p = e
 
@@ -273,7 +246,7 @@ unrefused None s t g action a e p = e
 pub Fits-after : (s : State) (c : Call) (h : History) → Fits s h → Allows s c → Fits (after s c) (c ∷ h)
 Fits-after s c h fits p = record { requests = by_outcome c.outcome p.1; bodies = λ k. body_of-after s c k h p ∙ ap (body_by k c h) (fits.bodies k) }
   where
-    by_outcome : (o : Outcome) → AllowsBy (refusal s c.event.action) s c.event.moment c.event.action c.given o → (id : ℕ) → RequestFits id (get (after s (record c { outcome = o })).requests id) (record c { outcome = o } ∷ h)
-    by_outcome (Ok a) p = answer_fits s c.event.moment c.given c.event.action a h fits
-        (unrefused (refusal s c.event.action) s c.event.moment c.given c.event.action a refl p) (answer_allowed (refusal s c.event.action) s c.event.moment c.given c.event.action a p)
-    by_outcome (Err f) p = unmoved s (undone s c.event.action (done_of f)) (call_at c.event.moment c.event.action c.given (Err f)) h fits (undone_requests s c.event.action f) (fault_other c.event.moment c.given c.event.action f h)
+    by_outcome : (o : Outcome) → AllowsBy (refusal s c.event.action) s c.event.moment c.event.action (read_by c) o → (id : ℕ) → RequestFits id (get (after s (record c { outcome = o })).requests id) (record c { outcome = o } ∷ h)
+    by_outcome (Ok a) p = answer_fits s c.event.moment c.reading (read_by c) c.event.action a h fits
+        (unrefused (refusal s c.event.action) s c.event.moment (read_by c) c.event.action a refl p) (answer_allowed (refusal s c.event.action) s c.event.moment (read_by c) c.event.action a p)
+    by_outcome (Err f) p = unmoved s (undone s c.event.action (done_of f)) (call_at c.event.moment c.event.action c.reading (Err f)) h fits (KeepsRequests-undone s c.event.action f).requests (fault_other c.event.moment c.reading c.event.action f h)

@@ -1,4 +1,4 @@
--- A response whose head the parser's default options read or begin to read gives one thing.
+-- A response whose head the parser's default options read or begin to read has one reading; and what a reading gives.
 use Rattle.std.proofs.Common.{◌≡◌, ℕ, ◌≤◌, ◌<◌, true, false, List, ◌++◌, length, map, take, drop, ap, sym, ◌∙◌, subst, cond, arith, length-append, inl, inr}
 use Rattle.std.specs.Prelude.{◌≢◌, ◌||◌, Bool, Option, Some, None, codes}
 use Rattle.std.proofs.lemmas.Bool.{cases_lt, cases_Bool}
@@ -10,10 +10,10 @@ use Rattle.httparse.specs.Grammar.{ResponseHead, ReadsResponse, HasNoResponse, p
 use Rattle.httparse.specs.Spans.{name_and_value}
 use Rattle.httparse.proofs.GrammarLemmas.{response_prefix_free}
 use Rattle.tier_model.specs.Keys.{Entry}
-use Rattle.tier_model.specs.declared.given.Given.{Given}
-use Rattle.tier_model.specs.declared.given.Given.TheVariants.{Stored, Incomplete, BadHead}
+use Rattle.tier_model.specs.declared.whole.Whole.{Whole}
+use Rattle.tier_model.specs.declared.whole.Whole.TheVariants.{Stored, Incomplete, BadHead}
 use Rattle.tier_model.specs.declared.state.FinishedBody.{FinishedBody}
-use Rattle.tier_model.specs.Response.{IsPlain, IsWellFormed, is_within_bounds, is_before_epoch, body_within, body_length, values_of, given_of, given_by, Reading, whole_head, begun_head, no_head, IsReading, given_in, Gives}
+use Rattle.tier_model.specs.Response.{IsPlain, IsWellFormed, is_within_bounds, is_before_epoch, body_within, body_length, values_of, whole_by_body, whole_by_lines, Reading, whole_head, begun_head, no_head, IsReading, whole_of}
 
 -- a head that stands whole in the first part of some bytes is read there
 read_front : (bytes more : List ℕ) (h : ResponseHead) (rest : List ℕ) → ReadsResponse (bytes ++ more) h rest → length (print_response h) ≤ length bytes → ReadsResponse bytes h (drop (length (print_response h)) bytes)
@@ -29,7 +29,7 @@ read_none bytes more h rest r l k other s =
     omega (arith, ap length s.1, length-append (print_response k) other, ap (λ (x : ResponseHead). length (print_response x)) same)
 
 -- a head that is read, or the beginning of one, settles the reading
-IsReading-one : (bytes : List ℕ) (p q : Reading) → IsPlain bytes → IsReading bytes p → IsReading bytes q → p ≡ q
+pub IsReading-one : (bytes : List ℕ) (p q : Reading) → IsPlain bytes → IsReading bytes p → IsReading bytes q → p ≡ q
 IsReading-one bytes p q plain x y =
     let h : ResponseHead = plain.1 in
     elim (cases_lt (length bytes) (length (print_response h))) [
@@ -41,63 +41,56 @@ IsReading-one bytes p q plain x y =
           x.begins no plain ∙ sym (y.begins no plain)
     ]
 
--- and so what is given
-pub Gives-plain : (arrival : MomentValue) (entry : Entry) (bytes : List ℕ) (a b : Given) → IsPlain bytes → Gives arrival entry bytes a → Gives arrival entry bytes b → a ≡ b
-Gives-plain arrival entry bytes a b plain x y = x.2 ∙ ap (given_in arrival entry) (IsReading-one bytes x.0 y.0 plain x.1 y.1) ∙ sym y.2
-
--- what is given by a head within bounds is no bad head
-pub given_of-read : (arrival : MomentValue) (entry : Entry) (body : Option (List ℕ)) (until : Option MomentValue) → given_of arrival entry body until ≢ BadHead
-given_of-read arrival entry None until e = cc
-given_of-read arrival entry (Some body) None e = cc
-given_of-read arrival entry (Some body) (Some until) e =
+-- what a head within bounds gives is no bad head
+pub whole_by_body-read : (arrival : MomentValue) (entry : Entry) (body : Option (List ℕ)) (until : Option MomentValue) → whole_by_body arrival entry body until ≢ BadHead
+whole_by_body-read arrival entry None until e = cc
+whole_by_body-read arrival entry (Some body) None e = cc
+whole_by_body-read arrival entry (Some body) (Some until) e =
     elim (cases_Bool (is_before_epoch arrival || is_before_epoch until)) [
       | inl t ↦ absurd (cc)
       | inr f ↦ absurd (cc)
     ]
 
-pub given_by-read : (arrival : MomentValue) (entry : Entry) (status : ℕ) (lines : List (List ℕ × List ℕ)) (rest : List ℕ) → is_within_bounds status lines ≡ true → given_by arrival entry status lines rest ≢ BadHead
-unfolding given_by
-given_by-read arrival entry status lines rest bounds e =
-    given_of-read arrival entry (body_within (body_length status lines) rest) (fresh_until arrival (values_of (codes "cache-control") lines) (values_of (codes "expires") lines) false None)
-    (subst (λ (v : Bool). cond v (given_of arrival entry (body_within (body_length status lines) rest) (fresh_until arrival (values_of (codes "cache-control") lines) (values_of (codes "expires") lines) false None)) BadHead ≡ BadHead) bounds e)
+pub whole_by_lines-read : (arrival : MomentValue) (entry : Entry) (status : ℕ) (lines : List (List ℕ × List ℕ)) (rest : List ℕ) → is_within_bounds status lines ≡ true → whole_by_lines arrival entry status lines rest ≢ BadHead
+unfolding whole_by_lines
+whole_by_lines-read arrival entry status lines rest bounds e =
+    whole_by_body-read arrival entry (body_within (body_length status lines) rest) (fresh_until arrival (values_of (codes "cache-control") lines) (values_of (codes "expires") lines) false None)
+    (subst (λ (v : Bool). cond v (whole_by_body arrival entry (body_within (body_length status lines) rest) (fresh_until arrival (values_of (codes "cache-control") lines) (values_of (codes "expires") lines) false None)) BadHead ≡ BadHead) bounds e)
 
-pub Gives-read : (arrival : MomentValue) (entry : Entry) (bytes : List ℕ) (given : Given) → IsWellFormed bytes → Gives arrival entry bytes given → given ≢ BadHead
-Gives-read arrival entry bytes given well x bad =
+pub whole_of-read : (arrival : MomentValue) (entry : Entry) (bytes : List ℕ) (r : Reading) → IsWellFormed bytes → IsReading bytes r → whole_of arrival entry r ≢ BadHead
+whole_of-read arrival entry bytes r well is bad =
     let h : ResponseHead = well.1 in
     elim (cases_lt (length bytes) (length (print_response h))) [
       | inr l ↦
-          given_by-read arrival entry (status_code h) (map name_and_value h.fields) (drop (length (print_response h)) bytes) well.5
-          (ap (given_in arrival entry) (sym (x.1.whole h (drop (length (print_response h)) bytes) (read_front bytes well.0 h well.2 well.3 l) well.4)) ∙ sym x.2 ∙ bad)
+          whole_by_lines-read arrival entry (status_code h) (map name_and_value h.fields) (drop (length (print_response h)) bytes) well.5
+          (ap (whole_of arrival entry) (sym (is.whole h (drop (length (print_response h)) bytes) (read_front bytes well.0 h well.2 well.3 l) well.4)) ∙ bad)
       | inl l ↦
-          let early : given ≡ Incomplete = x.2 ∙ ap (given_in arrival entry) (x.1.begins (read_none bytes well.0 h well.2 well.3 l) (well.0, h, well.2, well.3, well.4)) in
+          let early : whole_of arrival entry r ≡ Incomplete = ap (whole_of arrival entry) (is.begins (read_none bytes well.0 h well.2 well.3 l) (well.0, h, well.2, well.3, well.4)) in
           cc
     ]
 
--- a body that is given is one of the entry
-given_of-entry : (arrival : MomentValue) (entry : Entry) (body : Option (List ℕ)) (until : Option MomentValue) (stored : FinishedBody) → given_of arrival entry body until ≡ Stored stored → stored.entry ≡ entry
-given_of-entry arrival entry None until stored e = absurd cc
-given_of-entry arrival entry (Some body) None stored e = absurd cc
-given_of-entry arrival entry (Some body) (Some until) stored e =
+-- a body to store is one of the entry
+whole_by_body-entry : (arrival : MomentValue) (entry : Entry) (body : Option (List ℕ)) (until : Option MomentValue) (stored : FinishedBody) → whole_by_body arrival entry body until ≡ Stored stored → stored.entry ≡ entry
+whole_by_body-entry arrival entry None until stored e = absurd cc
+whole_by_body-entry arrival entry (Some body) None stored e = absurd cc
+whole_by_body-entry arrival entry (Some body) (Some until) stored e =
     elim (cases_Bool (is_before_epoch arrival || is_before_epoch until)) [
       | inl t ↦ absurd (cc)
       | inr f ↦ cc
     ]
 
-given_by-entry : (arrival : MomentValue) (entry : Entry) (status : ℕ) (lines : List (List ℕ × List ℕ)) (rest : List ℕ) (stored : FinishedBody) → given_by arrival entry status lines rest ≡ Stored stored → stored.entry ≡ entry
-unfolding given_by
-given_by-entry arrival entry status lines rest stored e = by_bounds (is_within_bounds status lines) e
+whole_by_lines-entry : (arrival : MomentValue) (entry : Entry) (status : ℕ) (lines : List (List ℕ × List ℕ)) (rest : List ℕ) (stored : FinishedBody) → whole_by_lines arrival entry status lines rest ≡ Stored stored → stored.entry ≡ entry
+unfolding whole_by_lines
+whole_by_lines-entry arrival entry status lines rest stored e = by_bounds (is_within_bounds status lines) e
   where
-    given : Given
-    given = given_of arrival entry (body_within (body_length status lines) rest) (fresh_until arrival (values_of (codes "cache-control") lines) (values_of (codes "expires") lines) false None)
+    within : Whole
+    within = whole_by_body arrival entry (body_within (body_length status lines) rest) (fresh_until arrival (values_of (codes "cache-control") lines) (values_of (codes "expires") lines) false None)
 
-    by_bounds : (v : Bool) → cond v given BadHead ≡ Stored stored → stored.entry ≡ entry
-    by_bounds true e = given_of-entry arrival entry (body_within (body_length status lines) rest) (fresh_until arrival (values_of (codes "cache-control") lines) (values_of (codes "expires") lines) false None) stored e
+    by_bounds : (v : Bool) → cond v within BadHead ≡ Stored stored → stored.entry ≡ entry
+    by_bounds true e = whole_by_body-entry arrival entry (body_within (body_length status lines) rest) (fresh_until arrival (values_of (codes "cache-control") lines) (values_of (codes "expires") lines) false None) stored e
     by_bounds false e = cc
 
-pub Gives-entry : (arrival : MomentValue) (entry : Entry) (bytes : List ℕ) (stored : FinishedBody) → Gives arrival entry bytes (Stored stored) → stored.entry ≡ entry
-Gives-entry arrival entry bytes stored gives = by_reading gives.0 gives.2
-  where
-    by_reading : (r : Reading) → Stored stored ≡ given_in arrival entry r → stored.entry ≡ entry
-    by_reading (whole_head status lines rest) e = given_by-entry arrival entry status lines rest stored (sym e)
-    by_reading begun_head e = cc
-    by_reading no_head e = cc
+pub whole_of-entry : (arrival : MomentValue) (entry : Entry) (r : Reading) (stored : FinishedBody) → Stored stored ≡ whole_of arrival entry r → stored.entry ≡ entry
+whole_of-entry arrival entry (whole_head status lines rest) stored e = whole_by_lines-entry arrival entry status lines rest stored (sym e)
+whole_of-entry arrival entry begun_head stored e = cc
+whole_of-entry arrival entry no_head stored e = cc

@@ -2,8 +2,8 @@
 use Rattle.std.specs.Prelude.{◌≡◌, ℕ, ◌==◌, Bool, false, ◌&&◌, ◌||◌, List, [], ◌∷◌, ◌++◌, if◌then◌else◌, Option, Some, None, Result, Ok, Err}
 use Rattle.tier_entries.specs.Keys.{entry_of, stored_key, same_key, has_key}
 use Rattle.tier_model.specs.declared.state.FinishedBody.{FinishedBody}
-use Rattle.tier_model.specs.declared.given.Given.{Given}
-use Rattle.tier_model.specs.declared.given.Given.TheVariants.{Stored}
+use Rattle.tier_model.specs.declared.whole.Whole.{Whole}
+use Rattle.tier_model.specs.declared.whole.Whole.TheVariants.{Stored}
 use Rattle.tier_model.specs.declared.event.Event.{Event}
 use Rattle.tier_model.specs.declared.event.Action.{Action}
 use Rattle.tier_model.specs.declared.event.Action.TheVariants.{Open, LookUp, Read, Drop, Purge, Put}
@@ -12,17 +12,18 @@ use Rattle.tier_model.specs.declared.event.Answer.TheVariants.{Opened, Found, By
 use Rattle.tier_model.specs.declared.event.Done.{Done}
 use Rattle.tier_model.specs.declared.event.TierFault.{TierFault}
 use Rattle.tier_model.specs.declared.event.TierFault.TheVariants.{NumbersSpent, TooHeavy, TooLong, Memory}
-use Rattle.tier_model.specs.Keys.{StoredKey, Entry, entries_of, key_asked}
+use Rattle.tier_model.specs.Keys.{StoredKey, Entry, entries_of, stored_key_of}
+use Rattle.tier_model.specs.Response.{Reading, whole_in}
 
 -- what a call answered, or the fault that refused it
 abbrev pub Outcome : Type 0
 Outcome = Result Answer TierFault
 
--- an event with its outcome, and what its response gave, where one was read
+-- an event with its outcome, and the reading of its response, where one was read
 pub record Call : Type 0 where
   pub event : Event
   pub outcome : Outcome
-  pub given : Option Given
+  pub reading : Option Reading
 
 -- the calls of one tier, the latest first
 abbrev pub History : Type 0
@@ -62,12 +63,12 @@ evicted_by (Ok _) = []
 evicted_by (Err fault) = evicted_before (done_of fault)
 
 abbrev pub purges : StoredKey → Action → Bool
-purges k (Purge key) = same_key (key_asked key) k
+purges k (Purge key) = same_key (stored_key_of key) k
 purges k _ = false
 
 -- the event would store under k
 abbrev pub stores_under : StoredKey → Action → Bool
-stores_under k (Put key pieces) = same_key (key_asked key) k
+stores_under k (Put key pieces) = same_key (stored_key_of key) k
 stores_under k _ = false
 
 abbrev pub was_stored : Outcome → Bool
@@ -78,18 +79,22 @@ was_stored (Err fault) = (done_of fault).stored
 abbrev pub removes : StoredKey → Call → Bool
 removes k c = purges k c.event.action || ((was_stored c.outcome && stores_under k c.event.action) || has_key k (evicted_by c.outcome))
 
+-- what a call's response gave
+abbrev pub read_by : Call → Option Whole
+read_by c = whole_in c.event.moment c.event.action c.reading
+
 -- the body that a response gave to store
-abbrev pub stored_in : Option Given → Option FinishedBody
+abbrev pub stored_in : Option Whole → Option FinishedBody
 stored_in (Some (Stored body)) = Some body
 stored_in _ = None
 
-abbrev pub body_finished : Action → Outcome → Option Given → Option FinishedBody
-body_finished (Put key pieces) (Ok (Finished length evicted)) given = stored_in given
-body_finished _ _ given = None
+abbrev pub body_finished : Action → Outcome → Option Whole → Option FinishedBody
+body_finished (Put key pieces) (Ok (Finished length evicted)) whole = stored_in whole
+body_finished _ _ whole = None
 
 -- the body that a call finished, given the calls before it
 abbrev pub written_by : Call → History → Option FinishedBody
-written_by c before = body_finished c.event.action c.outcome c.given
+written_by c before = body_finished c.event.action c.outcome (read_by c)
 
 abbrev pub is_of : StoredKey → Option FinishedBody → Bool
 is_of k None = false

@@ -5,16 +5,16 @@ use Rattle.cache_words.specs.Time.{MomentValue, at_most}
 use Rattle.tier_entries.specs.Keys.{stored_key}
 use Rattle.tier_model.specs.declared.state.FinishedBody.{FinishedBody}
 use Rattle.tier_model.specs.declared.event.Action.{Action}
-use Rattle.tier_model.specs.declared.given.Given.{Given}
-use Rattle.tier_model.specs.declared.given.Given.TheVariants as given
+use Rattle.tier_model.specs.declared.whole.Whole.{Whole}
+use Rattle.tier_model.specs.declared.whole.Whole.TheVariants as whole
 use Rattle.tier_model.specs.declared.event.Action.TheVariants.{LookUp, Read, Purge, Put}
 use Rattle.tier_model.specs.declared.event.Answer.{Answer}
 use Rattle.tier_model.specs.declared.event.Answer.TheVariants.{Found, Absent, Purged, Finished}
 use Rattle.tier_model.specs.declared.event.Answer.TheVariants as answer
 use Rattle.tier_model.specs.declared.event.TierFault.TheVariants as fault
-use Rattle.tier_model.specs.Keys.{StoredKey, Entry, key_asked}
-use Rattle.tier_model.specs.Response.{IsGiven}
-use Rattle.tier_model.specs.Calls.{History, Outcome, opened_for, bytes_read, bytes_answered}
+use Rattle.tier_model.specs.Keys.{StoredKey, Entry, stored_key_of}
+use Rattle.tier_model.specs.Response.{IsRead}
+use Rattle.tier_model.specs.Calls.{History, Outcome, read_by, opened_for, bytes_read, bytes_answered}
 use Rattle.tier_model.specs.Histories.{IsFound, IsBody, HasHit, IsWithin}
 use Rattle.tier_model.specs.Use.{BodiesAreTracked, EvictsLawfully}
 
@@ -37,34 +37,34 @@ abbrev pub PurgesRight : StoredKey → Answer → History → Type 0
 PurgesRight k (Purged was_there) h = (was_there ≡ true → IsFound k h) × (IsFound k h → was_there ≡ true)
 PurgesRight k _ h = ⊥
 
--- a put is answered with what its response gave: a body that finished has the length of the body given
-abbrev pub PutsRight : Option Given → Outcome → Type 0
-PutsRight g (Ok (Finished n evicted)) = (b : FinishedBody) × (g ≡ Some (given.Stored b)) × (n ≡ length b.bytes)
-PutsRight g (Ok (answer.Uncacheable reason)) = g ≡ Some (given.Uncacheable reason)
-PutsRight g (Ok _) = ⊥
-PutsRight g (Err fault.Incomplete) = g ≡ Some given.Incomplete
-PutsRight g (Err fault.BadHead) = g ≡ Some given.BadHead
-PutsRight g (Err fault.BeforeEpoch) = g ≡ Some given.BeforeEpoch
-PutsRight g (Err _) = Unit {0}
+-- a put is answered with what its response gave: a body that finished has the length of the body that it gave
+abbrev pub PutsRight : Option Whole → Outcome → Type 0
+PutsRight w (Ok (Finished n evicted)) = (b : FinishedBody) × (w ≡ Some (whole.Stored b)) × (n ≡ length b.bytes)
+PutsRight w (Ok (answer.Uncacheable reason)) = w ≡ Some (whole.Uncacheable reason)
+PutsRight w (Ok _) = ⊥
+PutsRight w (Err fault.Incomplete) = w ≡ Some whole.Incomplete
+PutsRight w (Err fault.BadHead) = w ≡ Some whole.BadHead
+PutsRight w (Err fault.BeforeEpoch) = w ≡ Some whole.BeforeEpoch
+PutsRight w (Err _) = Unit {0}
 
 -- what the calls before say of one call, and of a put what its response gave
-abbrev pub IsRight : MomentValue → Action → Option Given → Outcome → History → Type 0
-IsRight t (LookUp id) g (Ok answer) h = LooksRight id t answer h
-IsRight t (Read id) g (Ok answer) h = ReadsWhole id answer h
-IsRight t (Purge key) g (Ok answer) h = PurgesRight (key_asked key) answer h
-IsRight t (Put key pieces) g outcome h = PutsRight g outcome
-IsRight t _ g _ h = Unit {0}
+abbrev pub IsRight : MomentValue → Action → Option Whole → Outcome → History → Type 0
+IsRight t (LookUp id) w (Ok answer) h = LooksRight id t answer h
+IsRight t (Read id) w (Ok answer) h = ReadsWhole id answer h
+IsRight t (Purge key) w (Ok answer) h = PurgesRight (stored_key_of key) answer h
+IsRight t (Put key pieces) w outcome h = PutsRight w outcome
+IsRight t _ w _ h = Unit {0}
 
 -- each call is right in the light of the calls before it
 abbrev pub Headline : History → Type 0
 Headline [] = Unit {0}
-Headline (c ∷ h) = IsRight c.event.moment c.event.action c.given c.outcome h × Headline h
+Headline (c ∷ h) = IsRight c.event.moment c.event.action (read_by c) c.outcome h × Headline h
 
--- the headline of a tier that began empty under these limits: each put's response gives what its own bytes give, the answers
--- are right, finished bodies keep both limits, each body's entry is tracked with at least its length, and what went to make
+-- the headline of a tier that began empty under these limits: what was read of each put is a reading of its own bytes, the
+-- answers are right, finished bodies keep both limits, each body's entry is tracked with at least its length, and what went to make
 -- room went lawfully
 pub record HoldsHeadline (limit : ℕ) (watermark : Option ℕ) (h : History) : Type 0 where
-  pub given : AllByRecursion (λ c. IsGiven c.event.moment c.event.action c.given) h
+  pub readings : AllByRecursion (λ c. IsRead c.event.action c.reading) h
   pub answers : Headline h
   pub within : IsWithin limit watermark h
   pub tracked : BodiesAreTracked h

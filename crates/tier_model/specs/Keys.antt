@@ -14,9 +14,9 @@ StoredKey = List ℕ
 abbrev pub Entry : Type 0
 Entry = CompactCacheKey
 
--- the stored key of a key that is asked for
-abbrev pub key_asked : CacheKeyValue → StoredKey
-key_asked k = stored_key (entry_of k)
+-- the stored key of a requested key
+abbrev pub stored_key_of : CacheKeyValue → StoredKey
+stored_key_of k = stored_key (entry_of k)
 
 -- an entry that was evicted, with what it weighed
 abbrev pub Evicted : Type 0

@@ -13,8 +13,8 @@ use Rattle.tier_entries.specs.Keys.{entry_of}
 use Rattle.tier_model.specs.Keys.{Entry}
 use Rattle.tier_model.specs.declared.event.Action.{Action}
 use Rattle.tier_model.specs.declared.event.Action.TheVariants.{Put}
-use Rattle.tier_model.specs.declared.given.Given.{Given}
-use Rattle.tier_model.specs.declared.given.Given.TheVariants.{Stored, Uncacheable, Incomplete, BadHead, BeforeEpoch}
+use Rattle.tier_model.specs.declared.whole.Whole.{Whole}
+use Rattle.tier_model.specs.declared.whole.Whole.TheVariants.{Stored, Uncacheable, Incomplete, BadHead, BeforeEpoch}
 
 -- the pieces, one after another
 abbrev pub joined : List (List ℕ) → List ℕ
@@ -54,10 +54,10 @@ abbrev pub is_before_epoch : MomentValue → Bool
 is_before_epoch t = int_lt t.seconds (pos 0)
 
 -- a body, if it is whole, and the last moment at which it is fresh, if it may be kept
-abbrev pub given_of : MomentValue → Entry → Option (List ℕ) → Option MomentValue → Given
-given_of arrival entry None until = Incomplete
-given_of arrival entry (Some body) None = Uncacheable OriginNotCache
-given_of arrival entry (Some body) (Some until) =
+abbrev pub whole_by_body : MomentValue → Entry → Option (List ℕ) → Option MomentValue → Whole
+whole_by_body arrival entry None until = Incomplete
+whole_by_body arrival entry (Some body) None = Uncacheable OriginNotCache
+whole_by_body arrival entry (Some body) (Some until) =
     if is_before_epoch arrival || is_before_epoch until
     then BeforeEpoch
     else Stored (record { entry = entry; bytes = body; fresh_until = until })
@@ -71,10 +71,10 @@ is_within_bounds status lines = nat_le 100 status && list_all has_short_name lin
 
 -- what a head of this status and these header lines gives, with the bytes after it. The tier knows no default lifetimes, and
 -- its requests have no Authorization
-unfoldable pub given_by : MomentValue → Entry → ℕ → List (List ℕ × List ℕ) → List ℕ → Given
-given_by arrival entry status lines rest =
+unfoldable pub whole_by_lines : MomentValue → Entry → ℕ → List (List ℕ × List ℕ) → List ℕ → Whole
+whole_by_lines arrival entry status lines rest =
     if is_within_bounds status lines
-    then given_of arrival entry (body_within (body_length status lines) rest)
+    then whole_by_body arrival entry (body_within (body_length status lines) rest)
     (fresh_until arrival (values_of (codes "cache-control") lines) (values_of (codes "expires") lines) false None)
     else BadHead
 
@@ -106,17 +106,18 @@ pub record IsReading (bytes : List ℕ) (r : Reading) : Type 0 where
   pub within : (status : ℕ) (lines : List (List ℕ × List ℕ)) (rest : List ℕ) → r ≡ whole_head status lines rest → (front : List ℕ) × (bytes ≡ front ++ rest)
 
 -- what a reading gives, coming for an entry at a moment
-abbrev pub given_in : MomentValue → Entry → Reading → Given
-given_in arrival entry (whole_head status lines rest) = given_by arrival entry status lines rest
-given_in arrival entry begun_head = Incomplete
-given_in arrival entry no_head = BadHead
+abbrev pub whole_of : MomentValue → Entry → Reading → Whole
+whole_of arrival entry (whole_head status lines rest) = whole_by_lines arrival entry status lines rest
+whole_of arrival entry begun_head = Incomplete
+whole_of arrival entry no_head = BadHead
 
--- what a response's bytes give, coming for an entry at a moment
-abbrev pub Gives : MomentValue → Entry → List ℕ → Given → Type 0
-Gives arrival entry bytes given = (r : Reading) × IsReading bytes r × (given ≡ given_in arrival entry r)
+-- the response of a put was read, as a reading of its pieces, or was not, where memory ran out first; nothing else is read
+abbrev pub IsRead : Action → Option Reading → Type 0
+IsRead (Put key pieces) (Some r) = IsReading (joined pieces) r
+IsRead action None = Unit {0}
+IsRead action (Some r) = ⊥
 
--- what an event's response gives, where it has one and it was read
-abbrev pub IsGiven : MomentValue → Action → Option Given → Type 0
-IsGiven t (Put key pieces) (Some given) = Gives t (entry_of key) (joined pieces) given
-IsGiven t action None = Unit {0}
-IsGiven t action (Some given) = ⊥
+-- what a put's response gives, where it was read
+abbrev pub whole_in : MomentValue → Action → Option Reading → Option Whole
+whole_in t (Put key pieces) (Some r) = Some (whole_of t (entry_of key) r)
+whole_in t _ _ = None

@@ -6,16 +6,16 @@ use Rattle.cache_words.specs.Key.{CacheKeyValue}
 use Rattle.tier_entries.specs.Keys.{entry_of, stored_key}
 use Rattle.tier_entries.specs.declared.rows.Tracked.{Tracked}
 use Rattle.tier_entries.specs.Rows.{weight_of, all_weights, admitted, used, without_row, without_rows, IsLawfulEviction, IsBegunEviction}
-use Rattle.tier_model.specs.Keys.{Entry, Evicted, entries_of, AreWeighed, key_asked}
+use Rattle.tier_model.specs.Keys.{Entry, Evicted, entries_of, AreWeighed, stored_key_of}
 use Rattle.tier_model.specs.declared.state.FinishedBody.{FinishedBody}
 use Rattle.tier_model.specs.declared.state.Request.{Request}
 use Rattle.tier_model.specs.declared.state.Phase.{Phase}
 use Rattle.tier_model.specs.declared.state.Phase.TheVariants.{CacheKey, Hit, Stale, Miss}
 use Rattle.tier_model.specs.declared.state.Reader.{Reader}
 use Rattle.tier_model.specs.declared.state.Reader.TheVariants.{Closed, Unread, Spent}
-use Rattle.tier_model.specs.declared.given.Given.{Given}
-use Rattle.tier_model.specs.declared.given.Given.TheVariants.{Stored}
-use Rattle.tier_model.specs.declared.given.Given.TheVariants as given
+use Rattle.tier_model.specs.declared.whole.Whole.{Whole}
+use Rattle.tier_model.specs.declared.whole.Whole.TheVariants.{Stored}
+use Rattle.tier_model.specs.declared.whole.Whole.TheVariants as whole
 use Rattle.tier_model.specs.declared.event.Answer.TheVariants as answer
 use Rattle.tier_model.specs.declared.event.TierFault.TheVariants as fault
 use Rattle.tier_model.specs.declared.event.Action.{Action}
@@ -25,8 +25,8 @@ use Rattle.tier_model.specs.declared.event.Answer.TheVariants.{Opened, Found, Ab
 use Rattle.tier_model.specs.declared.event.Done.{Done}
 use Rattle.tier_model.specs.declared.event.TierFault.{TierFault}
 use Rattle.tier_model.specs.declared.event.TierFault.TheVariants.{NoRequest, IdInUse, WrongPhase, TooHeavy, TooLong, Memory}
-use Rattle.tier_model.specs.Response.{IsGiven}
-use Rattle.tier_model.specs.Calls.{Call, Outcome, nothing_done, done_of}
+use Rattle.tier_model.specs.Response.{IsRead}
+use Rattle.tier_model.specs.Calls.{Call, Outcome, nothing_done, done_of, read_by}
 use Rattle.tier_model.specs.Rows.{body_of, with_body, without_body, without_bodies, weight_for}
 use Rattle.tier_model.specs.State.{State}
 
@@ -117,12 +117,12 @@ use_is_too_long e None rows = false
 use_is_too_long e (Some b) rows = is_too_long e rows
 
 -- what a put may answer, by what its response gives
-abbrev pub IsPutAnswer : State → Option Given → Answer → Type 0
+abbrev pub IsPutAnswer : State → Option Whole → Answer → Type 0
 IsPutAnswer s (Some (Stored b)) (Finished n evicted) =
     (n ≡ length b.bytes) × (admission_is_too_heavy b s.tracked ≡ false)
     × IsLawfulEviction s.settings.limit s.settings.watermark (admitted b.entry (weight_for b) s.tracked) (entries_of evicted)
     × AreWeighed (admitted b.entry (weight_for b) s.tracked) evicted
-IsPutAnswer s (Some (given.Uncacheable reason)) (answer.Uncacheable shown) = shown ≡ reason
+IsPutAnswer s (Some (whole.Uncacheable reason)) (answer.Uncacheable shown) = shown ≡ reason
 IsPutAnswer s _ _ = ⊥
 
 -- memory ran out in the midst of the evictions, after an admission that fits
@@ -139,22 +139,22 @@ IsStoreFault s b f =
     ⊎ (((f ≡ TooLong stored_alone) × (is_too_long b.entry s.tracked ≡ true)) ⊎ IsCutShort s b f)
 
 -- the faults of a put but for memory that is refused before anything is stored
-abbrev pub IsPutFault : State → Option Given → TierFault → Type 0
+abbrev pub IsPutFault : State → Option Whole → TierFault → Type 0
 IsPutFault s (Some (Stored b)) f = IsStoreFault s b f
-IsPutFault s (Some given.Incomplete) f = f ≡ fault.Incomplete
-IsPutFault s (Some given.BadHead) f = f ≡ fault.BadHead
-IsPutFault s (Some given.BeforeEpoch) f = f ≡ fault.BeforeEpoch
+IsPutFault s (Some whole.Incomplete) f = f ≡ fault.Incomplete
+IsPutFault s (Some whole.BadHead) f = f ≡ fault.BadHead
+IsPutFault s (Some whole.BeforeEpoch) f = f ≡ fault.BeforeEpoch
 IsPutFault s _ f = ⊥
 
 -- the answers to an event that is not refused
-abbrev pub IsAnswer : State → MomentValue → Action → Option Given → Answer → Type 0
-IsAnswer s t (Open id key) g a = a ≡ Opened
-IsAnswer s t (LookUp id) g a =
+abbrev pub IsAnswer : State → MomentValue → Action → Option Whole → Answer → Type 0
+IsAnswer s t (Open id key) w a = a ≡ Opened
+IsAnswer s t (LookUp id) w a =
     MatchOption (get s.requests id) ⊥ (λ q. (a ≡ look_answer t (body_for q s.bodies)) × (use_is_too_heavy q.entry (body_for q s.bodies) s.tracked ≡ false))
-IsAnswer s t (Read id) g a = MatchOption (get s.requests id) ⊥ (λ q. a ≡ read_answer q.reader)
-IsAnswer s t (Drop id) g a = a ≡ Dropped
-IsAnswer s t (Purge key) g a = a ≡ Purged (is_some (body_of (key_asked key) s.bodies))
-IsAnswer s t (Put key pieces) g a = IsPutAnswer s g a
+IsAnswer s t (Read id) w a = MatchOption (get s.requests id) ⊥ (λ q. a ≡ read_answer q.reader)
+IsAnswer s t (Drop id) w a = a ≡ Dropped
+IsAnswer s t (Purge key) w a = a ≡ Purged (is_some (body_of (stored_key_of key) s.bodies))
+IsAnswer s t (Put key pieces) w a = IsPutAnswer s w a
 
 -- the events for which a growth may be refused; a look-up takes memory only where it finds something
 abbrev pub MayTakeMemory : State → Action → Type 0
@@ -172,23 +172,23 @@ IsUseFault s q f =
     ⊎ ((f ≡ TooLong nothing_done) × (use_is_too_long q.entry (body_for q s.bodies) s.tracked ≡ true))
 
 -- the faults that come after the checks, but for memory
-abbrev pub IsLateFault : State → Action → Option Given → TierFault → Type 0
-IsLateFault s (LookUp id) g f =
+abbrev pub IsLateFault : State → Action → Option Whole → TierFault → Type 0
+IsLateFault s (LookUp id) w f =
     MatchOption (get s.requests id) ⊥ (λ q. IsUseFault s q f)
-IsLateFault s (Put key pieces) g f = IsPutFault s g f
-IsLateFault s _ g f = ⊥
+IsLateFault s (Put key pieces) w f = IsPutFault s w f
+IsLateFault s _ w f = ⊥
 
-abbrev pub IsFault : State → Action → Option Given → TierFault → Type 0
-IsFault s action g f = ((f ≡ Memory nothing_done) × MayTakeMemory s action) ⊎ IsLateFault s action g f
+abbrev pub IsFault : State → Action → Option Whole → TierFault → Type 0
+IsFault s action w f = ((f ≡ Memory nothing_done) × MayTakeMemory s action) ⊎ IsLateFault s action w f
 
 -- the first refusal, exactly where one holds, and else an answer of the event's row or a fault after the checks
-abbrev pub AllowsBy : Option TierFault → State → MomentValue → Action → Option Given → Outcome → Type 0
-AllowsBy (Some f) s t action g outcome = outcome ≡ Err f
-AllowsBy None s t action g outcome = MatchResult outcome (IsAnswer s t action g) (IsFault s action g)
+abbrev pub AllowsBy : Option TierFault → State → MomentValue → Action → Option Whole → Outcome → Type 0
+AllowsBy (Some f) s t action w outcome = outcome ≡ Err f
+AllowsBy None s t action w outcome = MatchResult outcome (IsAnswer s t action w) (IsFault s action w)
 
 -- what a state allows for a call
 abbrev pub Allows : State → Call → Type 0
-Allows s c = IsGiven c.event.moment c.event.action c.given × AllowsBy (refusal s c.event.action) s c.event.moment c.event.action c.given c.outcome
+Allows s c = IsRead c.event.action c.reading × AllowsBy (refusal s c.event.action) s c.event.moment c.event.action (read_by c) c.outcome
 
 -- a count that stops at 2^64 - 1
 abbrev pub counted : ℕ → ℕ → ℕ
@@ -201,7 +201,7 @@ after_look_up s t id q (Some b) =
     record s { requests = insert s.requests id (looked t q (Some b)); tracked = used q.entry (weight_for b) s.tracked; found = counted s.found 1 }
 
 -- the state after a put of a body with these evictions
-abbrev pub after_put : State → Option Given → Answer → State
+abbrev pub after_put : State → Option Whole → Answer → State
 after_put s (Some (Stored b)) (Finished n evicted) =
     record s {
       bodies = without_bodies (entries_of evicted) (with_body b s.bodies);
@@ -213,16 +213,16 @@ after_put s _ _ = s
 -- the state after a purge that found something, or nothing
 abbrev pub after_purge : State → CacheKeyValue → Bool → State
 after_purge s key false = s
-after_purge s key true = record s { bodies = without_body (key_asked key) s.bodies; tracked = without_row (entry_of key) s.tracked }
+after_purge s key true = record s { bodies = without_body (stored_key_of key) s.bodies; tracked = without_row (entry_of key) s.tracked }
 
 -- the state after an answer
-abbrev pub answered : State → MomentValue → Action → Option Given → Answer → State
-answered s t (Open id key) g a = record s { requests = insert s.requests id (opened_request (entry_of key)) }
-answered s t (LookUp id) g a = on_request s (get s.requests id) (λ q. after_look_up s t id q (body_for q s.bodies))
-answered s t (Read id) g a = on_request s (get s.requests id) (λ q. record s { requests = insert s.requests id (after_read q) })
-answered s t (Drop id) g a = record s { requests = remove s.requests id }
-answered s t (Purge key) g a = after_purge s key (is_some (body_of (key_asked key) s.bodies))
-answered s t (Put key pieces) g a = after_put s g a
+abbrev pub answered : State → MomentValue → Action → Option Whole → Answer → State
+answered s t (Open id key) w a = record s { requests = insert s.requests id (opened_request (entry_of key)) }
+answered s t (LookUp id) w a = on_request s (get s.requests id) (λ q. after_look_up s t id q (body_for q s.bodies))
+answered s t (Read id) w a = on_request s (get s.requests id) (λ q. record s { requests = insert s.requests id (after_read q) })
+answered s t (Drop id) w a = record s { requests = remove s.requests id }
+answered s t (Purge key) w a = after_purge s key (is_some (body_of (stored_key_of key) s.bodies))
+answered s t (Put key pieces) w a = after_put s w a
 
 -- after a refusal that had stored a body under an entry: that body is gone with its entry, and the evictions are done
 abbrev pub taken_back : Bool → State → Entry → List Entry → State
@@ -234,10 +234,10 @@ abbrev pub undone : State → Action → Done → State
 undone s (Put key pieces) done = taken_back done.stored s (entry_of key) (entries_of done.evicted)
 undone s _ done = s
 
-abbrev pub after_outcome : State → MomentValue → Action → Option Given → Outcome → State
-after_outcome s t action g (Ok a) = answered s t action g a
-after_outcome s t action g (Err f) = undone s action (done_of f)
+abbrev pub after_outcome : State → MomentValue → Action → Option Whole → Outcome → State
+after_outcome s t action w (Ok a) = answered s t action w a
+after_outcome s t action w (Err f) = undone s action (done_of f)
 
 -- the state after a call
 abbrev pub after : State → Call → State
-after s c = after_outcome s c.event.moment c.event.action c.given c.outcome
+after s c = after_outcome s c.event.moment c.event.action (read_by c) c.outcome

@@ -4,13 +4,13 @@ use Rattle.tier_entries.specs.Keys.{entry_of, stored_key, same_entry, has_entry}
 use Rattle.tier_entries.specs.declared.rows.Tracked.{Tracked}
 use Rattle.tier_entries.specs.Rows.{weight_of, IsLawfulEviction, IsBegunEviction}
 use Rattle.tier_model.specs.declared.state.FinishedBody.{FinishedBody}
-use Rattle.tier_model.specs.declared.given.Given.{Given}
 use Rattle.tier_model.specs.declared.event.Event.{Event}
 use Rattle.tier_model.specs.declared.event.Action.{Action}
 use Rattle.tier_model.specs.declared.event.Action.TheVariants.{LookUp, Purge, Put}
 use Rattle.tier_model.specs.declared.event.Answer.TheVariants.{Found, Purged, Finished}
 use Rattle.tier_model.specs.Keys.{StoredKey, Entry, entries_of, AreWeighed}
-use Rattle.tier_model.specs.Calls.{Call, History, Outcome, opened_for, body_finished, written_by, evicted_by, done_of, was_stored}
+use Rattle.tier_model.specs.Response.{Reading}
+use Rattle.tier_model.specs.Calls.{Call, History, Outcome, opened_for, written_by, evicted_by, done_of, was_stored}
 use Rattle.tier_model.specs.Histories.{IsBody}
 use Rattle.tier_model.specs.Rows.{weight_for}
 
@@ -95,26 +95,26 @@ pub record IsOrderOfUse (rows : List Tracked) (h : History) : Type 0 where
   pub weights : (e : Entry) (w : ℕ) → weight_of e rows ≡ Some w → Weighs e w h
 
 -- the event stores a body, and the rows are the order of use after its admission, with nothing gone yet
-abbrev pub IsOrderAfter : List Tracked → Event → Option Given → History → Type 0
-IsOrderAfter rows e given before =
-    (b : FinishedBody) × (body_finished e.action (Ok (Finished 0 [])) given ≡ Some b)
-    × IsOrderOfUse rows (record { event = e; outcome = Ok (Finished 0 []); given = given } ∷ before)
+abbrev pub IsOrderAfter : List Tracked → Event → Option Reading → History → Type 0
+IsOrderAfter rows e reading before =
+    let call : Call = record { event = e; outcome = Ok (Finished 0 []); reading = reading } in
+    (b : FinishedBody) × (written_by call before ≡ Some b) × IsOrderOfUse rows (call ∷ before)
 
 -- what went in a call went lawfully: the last in the order of use after its admission, one by one, while a limit was passed;
 -- only an event that stores a body evicts, also one that is refused in the midst of it. Each is listed with what it weighed
-abbrev pub EvictsBy : ℕ → Option ℕ → Event → Outcome → Option Given → History → Type 0
-EvictsBy limit watermark e (Ok (Finished n evicted)) given before =
-    (rows : List Tracked) × IsOrderAfter rows e given before × IsLawfulEviction limit watermark rows (entries_of evicted) × AreWeighed rows evicted
-EvictsBy limit watermark e (Ok answer) given before = Unit {0}
-EvictsBy limit watermark e (Err fault) given before =
+abbrev pub EvictsBy : ℕ → Option ℕ → Event → Outcome → Option Reading → History → Type 0
+EvictsBy limit watermark e (Ok (Finished n evicted)) reading before =
+    (rows : List Tracked) × IsOrderAfter rows e reading before × IsLawfulEviction limit watermark rows (entries_of evicted) × AreWeighed rows evicted
+EvictsBy limit watermark e (Ok answer) reading before = Unit {0}
+EvictsBy limit watermark e (Err fault) reading before =
     (was_stored (Err fault) ≡ false)
-    ⊎ ((rows : List Tracked) × IsOrderAfter rows e given before × AreWeighed rows (done_of fault).evicted
+    ⊎ ((rows : List Tracked) × IsOrderAfter rows e reading before × AreWeighed rows (done_of fault).evicted
     × ((evicted_by (Err fault) ≡ []) ⊎ IsBegunEviction limit watermark rows (evicted_by (Err fault))))
 
 -- each call's evictions were lawful
 abbrev pub EvictsLawfully : ℕ → Option ℕ → History → Type 0
 EvictsLawfully limit watermark [] = Unit {0}
-EvictsLawfully limit watermark (c ∷ h) = EvictsBy limit watermark c.event c.outcome c.given h × EvictsLawfully limit watermark h
+EvictsLawfully limit watermark (c ∷ h) = EvictsBy limit watermark c.event c.outcome c.reading h × EvictsLawfully limit watermark h
 
 -- the entry under which a body was finished is tracked, with at least the body's length
 abbrev pub BodiesAreTracked : History → Type 0

@@ -2,11 +2,10 @@
 ghost use Rattle.tier_model.specs.Calls.{History};
 ghost use Rattle.tier_model.specs.Headline.{HoldsHeadline};
 ghost use Rattle.std.specs.Prelude.{◌≡◌, ◌≢◌, ℕ, List};
-ghost use Rattle.tier_model.specs.declared.given.Given.TheVariants.{BadHead};
+ghost use Rattle.tier_model.specs.declared.whole.Whole.TheVariants.{BadHead};
 ghost use Rattle.cache_words.specs.Time.{MomentValue};
 ghost use Rattle.tier_model.specs.Keys.{Entry};
-ghost use Rattle.tier_model.specs.declared.given.Given.{Given};
-ghost use Rattle.tier_model.specs.Response.{IsPlain, IsWellFormed, Gives};
+ghost use Rattle.tier_model.specs.Response.{IsPlain, IsWellFormed, Reading, IsReading, whole_of};
 ghost use Rattle.tier_model.specs.State.{Settings, State};
 ghost use Rattle.tier_model.specs.Past.{IsLawful, MatchesHistory, state_of};
 ghost use Rattle.tier_model.specs.Reports.{IsReport, report_of};
@@ -26,12 +25,12 @@ pub fn reports_tell_the_history()
     ensures { (s : State) (h : History) → MatchesHistory s h → IsReport (report_of s) h }
 {}
 
-/// A response whose head the parser's default options read or begin to read gives one thing at a moment.
-pub fn plain_responses_give_one_thing()
-    ensures { (arrival : MomentValue) (entry : Entry) (bytes : List ℕ) (a b : Given) → IsPlain bytes → Gives arrival entry bytes a → Gives arrival entry bytes b → a ≡ b }
+/// A response whose head the parser's default options read or begin to read has one reading, and so gives one thing at a moment.
+pub fn plain_responses_have_one_reading()
+    ensures { (bytes : List ℕ) (a b : Reading) → IsPlain bytes → IsReading bytes a → IsReading bytes b → a ≡ b }
 {}
 
 /// Where that head is within bounds the response is never a bad head.
 pub fn well_formed_responses_are_read()
-    ensures { (arrival : MomentValue) (entry : Entry) (bytes : List ℕ) (given : Given) → IsWellFormed bytes → Gives arrival entry bytes given → given ≢ BadHead }
+    ensures { (arrival : MomentValue) (entry : Entry) (bytes : List ℕ) (r : Reading) → IsWellFormed bytes → IsReading bytes r → whole_of arrival entry r ≢ BadHead }
 {}

@@ -2,8 +2,8 @@
 #![tactic(auto)]
 
 pub mod event;
-pub mod given;
 pub mod laws;
 pub mod report;
 pub mod requests;
 pub mod state;
+pub mod whole;

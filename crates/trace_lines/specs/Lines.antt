@@ -159,7 +159,7 @@ event_in bytes = do
   event_of operation d
 
 abbrev pub as_line : Result Event Refusal → Line
-as_line (Ok event) = lines.Asked event
+as_line (Ok event) = lines.Accepted event
 as_line (Err refusal) = lines.Refused refusal
 
 -- what a line without its line feed requests

@@ -8,7 +8,7 @@ pub enum Line {
     /// The line is refused, for the first reason that holds.
     Refused(Refusal),
     /// The line requests this event.
-    Asked(Event),
+    Accepted(Event),
 }
 
 /// Why a line is refused, in the order in which the reasons are looked for.

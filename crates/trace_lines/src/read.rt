@@ -35,7 +35,7 @@ impl LineReader {
             self.scratch = Scratch::new(alloc);
         }
         match outcome {
-            Ok(event) => Ok(Line::Asked(event)),
+            Ok(event) => Ok(Line::Accepted(event)),
             Err(Stop::Refused(refusal)) => Ok(Line::Refused(refusal)),
             Err(Stop::Memory) => Err(AllocError),
         }

@@ -11,10 +11,10 @@ use Rattle.tier_model.proofs.Carried.{empty-past}
 use Rattle.trace_lines.specs.Lines.{line_of}
 use Rattle.trace_lines.specs.Texts.{outcome_text, refusal_text, report_text}
 use Rattle.trace_lines.specs.declared.line.Line.{Line}
-use Rattle.trace_lines.specs.declared.line.Line.TheVariants.{Refused, Asked}
+use Rattle.trace_lines.specs.declared.line.Line.TheVariants.{Refused, Accepted}
 use Rattle.trace_replay.specs.Inputs.{IsLineBefore}
 use Rattle.trace_replay.specs.Outputs.{Passes, HasBegun}
-use Rattle.trace_replay.specs.Replays.{asked_by, lines_in, ended, last_text, Replays, IsReplay, IsBegun}
+use Rattle.trace_replay.specs.Replays.{requests_in, lines_in, ended, last_text, Replays, IsReplay, IsBegun}
 use Rattle.trace_replay.specs.Steps.{Answers}
 use Rattle.std.proofs.BufReadLemmas.{take_through-nil}
 use Rattle.std.proofs.KnownBytes.{Appends-nil, Appends-trans}
@@ -29,7 +29,7 @@ replays_more [] line past h new answers text before one =
     (subst (λ a. Replays (line ∷ []) h new (a ++ text)) (sym before.1) one)
 replays_more (Refused refusal ∷ lines) line past h new answers text before one =
     (before.0 ++ text, ap (λ a. a ++ text) before.1 ∙ append_assoc (ended (refusal_text refusal)) before.0 text, replays_more lines line past h new before.0 text before.2 one)
-replays_more (Asked event ∷ lines) line past h new answers text before one =
+replays_more (Accepted event ∷ lines) line past h new answers text before one =
     (before.0, before.1 ++ text, before.2, ap (λ a. a ++ text) before.3 ∙ append_assoc (ended (outcome_text before.0.outcome)) before.1 text, replays_more lines line (before.0 ∷ past) h new before.1 text before.4 one)
 
 -- some lines are answered by a history, and `left` are to come
@@ -47,7 +47,7 @@ pub record Progress (settings : Settings) (trace : List ℕ) (reads : ℕ) (rest
   pub unread : rest ≡ Some left
   pub counted : length (lines_in trace) ≡ reads + length (lines_in left)
   pub appended : Appends held written sent
-  pub so_far : Answered settings (asked_by trace) (asked_by left) (sent ++ waiting) state
+  pub so_far : Answered settings (requests_in trace) (requests_in left) (sent ++ waiting) state
 
 -- the same where the bytes of the trace are known
 abbrev pub Halfway : Settings → ℕ → Option (List ℕ) → Option (List ℕ) → Option (List ℕ) → Option (List ℕ) → List ℕ → State → Type 0
@@ -71,7 +71,7 @@ halfway_start settings (Some trace) held state front waiting past none empty = r
   unread = ap (λ f. prepend_known f (Some trace)) none;
   counted = omega arith;
   appended = Appends-nil held;
-  so_far = subst (λ w. Answered settings (asked_by trace) (asked_by trace) w state) (sym empty) (answered_none settings (asked_by trace) state past);
+  so_far = subst (λ w. Answered settings (requests_in trace) (requests_in trace) w state) (sym empty) (answered_none settings (requests_in trace) state past);
 }
 
 answered_more : (settings : Settings) (old new : State) (lines : List Line) (line : Line) (left : List Line) (answers text : List ℕ)
@@ -83,13 +83,13 @@ answered_more settings old new lines (Refused refusal) left answers text so_far 
   replays = replays_more so_far.answered (Refused refusal) [] so_far.history so_far.history answers text so_far.replays ([], answer.2 ∙ (ap ended answer.1.1 ∙ sym (append-nil (ended (refusal_text refusal)))), (refl, refl));
   past = subst (λ s. HasPast settings s so_far.history) (sym answer.1.0) so_far.past;
 }
-answered_more settings old new lines (Asked event) left answers text so_far answer =
+answered_more settings old new lines (Accepted event) left answers text so_far answer =
     let call : Call = answer.1.0 in
     record {
-      answered = so_far.answered ++ Asked event ∷ [];
+      answered = so_far.answered ++ Accepted event ∷ [];
       history = call ∷ so_far.history;
-      split = so_far.split ∙ sym (append_assoc so_far.answered (Asked event ∷ []) left);
-      replays = replays_more so_far.answered (Asked event) [] so_far.history (call ∷ so_far.history) answers text so_far.replays
+      split = so_far.split ∙ sym (append_assoc so_far.answered (Accepted event ∷ []) left);
+      replays = replays_more so_far.answered (Accepted event) [] so_far.history (call ∷ so_far.history) answers text so_far.replays
           (call, [], answer.1.1, answer.2 ∙ (ap ended answer.1.3 ∙ sym (append-nil (ended (outcome_text call.outcome)))), (refl, refl));
       past = answer.1.2 settings so_far.history so_far.past;
     }
@@ -108,23 +108,23 @@ passed held written new sent before after appended passes =
 
 progress_more : (settings : Settings) (trace left : List ℕ) (reads : ℕ) (rest held written : Option (List ℕ)) (old after : State) (sent waiting line text more : List ℕ)
     → length (lines_in trace) ≡ reads + length (lines_in left) → rest ≡ Some (drop_through 10 left) → line ≡ take_through 10 left → 0 < length line
-    → Appends held written sent → Answered settings (asked_by trace) (asked_by left) (sent ++ waiting) old
+    → Appends held written sent → Answered settings (requests_in trace) (requests_in left) (sent ++ waiting) old
     → Answers old after (line_of (strip_last 10 line)) text → more ≡ waiting ++ text → Progress settings trace (reads + 1) rest held written more after
 progress_more settings trace [] reads rest held written old after sent waiting line text more counted rest_is line_is some appended so_far answer more_is =
     let none : length line ≡ 0 = ap length line_is in absurd (omega arith)
 progress_more settings trace (x ∷ xs) reads rest held written old after sent waiting line text more counted rest_is line_is some appended so_far answer more_is =
-    let later : List Line = asked_by (drop_through 10 (x ∷ xs)) in
-    let first : asked_by (x ∷ xs) ≡ line_of (strip_last 10 line) ∷ later =
+    let later : List Line = requests_in (drop_through 10 (x ∷ xs)) in
+    let first : requests_in (x ∷ xs) ≡ line_of (strip_last 10 line) ∷ later =
     ap (map line_of) (lines_in-first x xs) ∙ ap (λ l. line_of (strip_last 10 l) ∷ later) (sym line_is) in
-    let one = answered_more settings old after (asked_by trace) (line_of (strip_last 10 line)) later (sent ++ waiting) text
-    (subst (λ l. Answered settings (asked_by trace) l (sent ++ waiting) old) first so_far) answer in
+    let one = answered_more settings old after (requests_in trace) (line_of (strip_last 10 line)) later (sent ++ waiting) text
+    (subst (λ l. Answered settings (requests_in trace) l (sent ++ waiting) old) first so_far) answer in
     record {
       left = drop_through 10 (x ∷ xs);
       sent = sent;
       unread = rest_is;
       counted = omega (arith, counted, ap length (lines_in-first x xs));
       appended = appended;
-      so_far = subst (λ l. Answered settings (asked_by trace) later l after) (append_assoc sent waiting text ∙ ap (λ l. sent ++ l) (sym more_is)) one;
+      so_far = subst (λ l. Answered settings (requests_in trace) later l after) (append_assoc sent waiting text ∙ ap (λ l. sent ++ l) (sym more_is)) one;
     }
 
 -- the facts at a turn after its read: the bytes and what waits
@@ -141,7 +141,7 @@ halfway_read settings reads (Some trace) rest held written new next waiting afte
       unread = ap (prepend_known front) known.1 ∙ ap Some known.2;
       counted = half.counted;
       appended = now.1;
-      so_far = subst (λ l. Answered settings (asked_by trace) (asked_by half.left) l state) (sym now.2) half.so_far;
+      so_far = subst (λ l. Answered settings (requests_in trace) (requests_in half.left) l state) (sym now.2) half.so_far;
     }
 
 known_left : (left front : List ℕ) (next : Option (List ℕ)) → prepend_known front next ≡ Some left → (rest : List ℕ) × (next ≡ Some rest) × (front ++ rest ≡ left)
@@ -151,12 +151,12 @@ known_left left front (Some rest) is =
     (rest, refl, same)
 
 -- one line more: the bytes that were read, without their line feed, asked for the text that waits now
-pub halfway_more : (settings : Settings) (reads n : ℕ) (input next held new : Option (List ℕ)) (old after : State) (front skipped waiting line bare text more : List ℕ)
+pub halfway_more : (settings : Settings) (reads n : ℕ) (input next held new : Option (List ℕ)) (old after : State) (front skipped waiting line content text more : List ℕ)
     → Halfway settings reads input (prepend_known front next) held new waiting old → IfSome next (λ rest. IsLineBefore n front rest) → 0 < n → n ≤ length front
-    → line ≡ take n front → bare ≡ strip_last 10 line → Answers old after (line_of bare) text → more ≡ waiting ++ text → skipped ≡ drop n front
+    → line ≡ take n front → content ≡ strip_last 10 line → Answers old after (line_of content) text → more ≡ waiting ++ text → skipped ≡ drop n front
     → Halfway settings (reads + 1) input (prepend_known skipped next) held new more after
-halfway_more settings reads n None next held new old after front skipped waiting line bare text more half first some within line_is stripped answer more_is skipped_is = tt
-halfway_more settings reads n (Some trace) next held new old after front skipped waiting line bare text more half first some within line_is stripped answer more_is skipped_is =
+halfway_more settings reads n None next held new old after front skipped waiting line content text more half first some within line_is stripped answer more_is skipped_is = tt
+halfway_more settings reads n (Some trace) next held new old after front skipped waiting line content text more half first some within line_is stripped answer more_is skipped_is =
     let known = known_left half.left front next half.unread in
     let at = subst (λ o. IfSome o (λ rest. IsLineBefore n front rest)) known.1 first in
     let taken : take n front ≡ take_through 10 half.left = sym at.0 ∙ ap (take_through 10) known.2 in
@@ -171,12 +171,12 @@ halfway_more settings reads n (Some trace) next held new old after front skipped
 -- what is written after the last line
 abbrev pub IsDone : Settings → Option (List ℕ) → Option (List ℕ) → Option (List ℕ) → Type 0
 IsDone settings input held new =
-    IfSome input (λ trace. (text : List ℕ) × Appends held new text × IsReplay settings (asked_by trace) text)
+    IfSome input (λ trace. (text : List ℕ) × Appends held new text × IsReplay settings (requests_in trace) text)
 
 -- what is written at an early end
 abbrev pub IsCutShort : Settings → Option (List ℕ) → Option (List ℕ) → Option (List ℕ) → Type 0
 IsCutShort settings input held new =
-    IfSome input (λ trace. (text : List ℕ) × Appends held new text × IsBegun settings (asked_by trace) text)
+    IfSome input (λ trace. (text : List ℕ) × Appends held new text × IsBegun settings (requests_in trace) text)
 
 no_line : (front rest left : List ℕ) (n : ℕ) → n ≡ 0 → IsLineBefore n front rest → front ++ rest ≡ left → left ≡ []
 no_line front rest [] n zero line is = refl
@@ -202,8 +202,8 @@ halfway_done settings reads n None next held written new front waiting state hal
 halfway_done settings reads n (Some trace) next held written new front waiting state half first zero writes =
     let report : List ℕ = ended (report_text (report_of state)) in
     let none : half.left ≡ [] = nothing_left settings reads n trace next held written front waiting state half first zero in
-    let all = all_answered settings (asked_by trace) (half.sent ++ waiting) state
-    (subst (λ l. Answered settings (asked_by trace) (asked_by l) (half.sent ++ waiting) state) none half.so_far) in (
+    let all = all_answered settings (requests_in trace) (half.sent ++ waiting) state
+    (subst (λ l. Answered settings (requests_in trace) (requests_in l) (half.sent ++ waiting) state) none half.so_far) in (
       half.sent ++ (waiting ++ report),
       Appends-trans held written new half.sent (waiting ++ report) half.appended writes,
       record {
@@ -218,14 +218,14 @@ halfway_done settings reads n (Some trace) next held written new front waiting s
 
 -- an early end after a beginning of what waits and this text
 cut_short : (settings : Settings) (trace : List ℕ) (reads : ℕ) (rest held written new : Option (List ℕ)) (waiting later : List ℕ) (state : State)
-    → (half : Progress settings trace reads rest held written waiting state) → (last_text (asked_by half.left) state ≡ later) → HasBegun written new (waiting ++ later)
+    → (half : Progress settings trace reads rest held written waiting state) → (last_text (requests_in half.left) state ≡ later) → HasBegun written new (waiting ++ later)
     → IsCutShort settings (Some trace) held new
 cut_short settings trace reads rest held written new waiting later state half last begun = (
   half.sent ++ begun.1.0,
   Appends-trans held written new half.sent begun.1.0 half.appended begun.1.2,
   record {
     answered = half.so_far.answered;
-    left = asked_by half.left;
+    left = requests_in half.left;
     history = half.so_far.history;
     answers = half.sent ++ waiting;
     state = state;
@@ -242,8 +242,8 @@ pub halfway_cut : (settings : Settings) (reads : ℕ) (input rest held written n
     → Halfway settings reads input rest held written waiting state → HasBegun written new waiting → IsCutShort settings input held new
 halfway_cut settings reads None rest held written new waiting state half begun = tt
 halfway_cut settings reads (Some trace) rest held written new waiting state half begun =
-    cut_short settings trace reads rest held written new waiting (last_text (asked_by half.left) state) state half refl
-    (begun_longer written new waiting (last_text (asked_by half.left) state) begun)
+    cut_short settings trace reads rest held written new waiting (last_text (requests_in half.left) state) state half refl
+    (begun_longer written new waiting (last_text (requests_in half.left) state) begun)
 
 -- an early end in the report
 pub halfway_cut_last : (settings : Settings) (reads n : ℕ) (input next held written new : Option (List ℕ)) (front waiting : List ℕ) (state : State)
@@ -253,7 +253,7 @@ halfway_cut_last settings reads n None next held written new front waiting state
 halfway_cut_last settings reads n (Some trace) next held written new front waiting state half first zero begun =
     let none : half.left ≡ [] = nothing_left settings reads n trace next held written front waiting state half first zero in
     cut_short settings trace reads (prepend_known front next) held written new waiting (ended (report_text (report_of state))) state half
-    (ap (λ l. last_text (asked_by l) state) none) begun
+    (ap (λ l. last_text (requests_in l) state) none) begun
 
 -- an early end before the first line
 pub cut_at_start : (settings : Settings) (input held : Option (List ℕ)) → IsCutShort settings input held held
@@ -263,11 +263,11 @@ cut_at_start settings (Some trace) held = (
   Appends-nil held,
   record {
     answered = [];
-    left = asked_by trace;
+    left = requests_in trace;
     history = [];
     answers = [];
     state = empty_state settings;
-    rest = last_text (asked_by trace) (empty_state settings);
+    rest = last_text (requests_in trace) (empty_state settings);
     split = refl;
     replays = (refl, refl);
     past = empty-past settings;

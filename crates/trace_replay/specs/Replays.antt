@@ -7,7 +7,7 @@ use Rattle.tier_model.specs.State.{Settings, State}
 use Rattle.trace_lines.specs.Lines.{line_of}
 use Rattle.trace_lines.specs.Texts.{outcome_text, refusal_text, report_text}
 use Rattle.trace_lines.specs.declared.line.Line.{Line}
-use Rattle.trace_lines.specs.declared.line.Line.TheVariants.{Refused, Asked}
+use Rattle.trace_lines.specs.declared.line.Line.TheVariants.{Refused, Accepted}
 
 -- a byte more at the front of the first line
 abbrev pub onto_first : ℕ → List (List ℕ) → List (List ℕ)
@@ -20,8 +20,8 @@ lines_in [] = []
 lines_in (x ∷ xs) = if x == 10 then [] ∷ lines_in xs else onto_first x (lines_in xs)
 
 -- what the lines of a trace request
-abbrev pub asked_by : List ℕ → List Line
-asked_by trace = map line_of (lines_in trace)
+abbrev pub requests_in : List ℕ → List Line
+requests_in trace = map line_of (lines_in trace)
 
 -- a line that is written, with its line feed
 abbrev pub ended : List ℕ → List ℕ
@@ -33,7 +33,7 @@ abbrev pub Replays : List Line → History → History → List ℕ → Type 0
 Replays [] past h text = (h ≡ past) × (text ≡ [])
 Replays (Refused refusal ∷ lines) past h text =
     (rest : List ℕ) × (text ≡ ended (refusal_text refusal) ++ rest) × Replays lines past h rest
-Replays (Asked event ∷ lines) past h text =
+Replays (Accepted event ∷ lines) past h text =
     (call : Call) × (rest : List ℕ) × (call.event ≡ event) × (text ≡ ended (outcome_text call.outcome) ++ rest) × Replays lines (call ∷ past) h rest
 
 -- the text answers each line of a trace by one tier that began empty, whose history keeps the headline, and ends with the

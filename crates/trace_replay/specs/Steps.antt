@@ -6,7 +6,7 @@ use Rattle.tier_model.specs.Past.{CarriesHeadline}
 use Rattle.tier_model.specs.State.{State}
 use Rattle.trace_lines.specs.Texts.{outcome_text, refusal_text}
 use Rattle.trace_lines.specs.declared.line.Line.{Line}
-use Rattle.trace_lines.specs.declared.line.Line.TheVariants.{Refused, Asked}
+use Rattle.trace_lines.specs.declared.line.Line.TheVariants.{Refused, Accepted}
 use Rattle.trace_replay.specs.Replays.{ended}
 
 -- the event is the tier's next call, and the text is its outcome
@@ -16,7 +16,7 @@ RepliesTo old new event text = (call : Call) × (call.event ≡ event) × Carrie
 -- the text answers the line: a refusal leaves the tier as it was
 abbrev pub Replies : State → State → Line → List ℕ → Type 0
 Replies old new (Refused refusal) text = (new ≡ old) × (text ≡ refusal_text refusal)
-Replies old new (Asked event) text = RepliesTo old new event text
+Replies old new (Accepted event) text = RepliesTo old new event text
 
 -- such a text with its line feed
 abbrev pub Answers : State → State → Line → List ℕ → Type 0

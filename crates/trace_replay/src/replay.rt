@@ -7,7 +7,7 @@ ghost use Rattle.tier_model.specs.Reports.{report_of};
 ghost use Rattle.trace_lines.specs.Lines.{line_of};
 ghost use Rattle.trace_lines.specs.Texts.{report_text};
 ghost use Rattle.trace_replay.specs.CommandLine.{settings_of};
-ghost use Rattle.trace_replay.specs.Replays.{asked_by, lines_in, ended, IsReplay, IsBegun};
+ghost use Rattle.trace_replay.specs.Replays.{requests_in, lines_in, ended, IsReplay, IsBegun};
 ghost use Rattle.trace_replay.specs.Errors.{IsOther};
 ghost use Rattle.trace_replay.specs.Inputs.{IsLineBefore};
 ghost use Rattle.trace_replay.specs.Outputs.{Passes, HasBegun};
@@ -88,10 +88,10 @@ pub fn run<R: Read, W: Write>(
 ) -> Result<(), ReplayError>
     ensures answered { OnOk result (IfSome (R.remaining reader.old) (λ input. (text : List ℕ)
         × Appends (W.contents writer.old) (W.contents writer.new) text
-        × IsReplay (settings_of options.now) (asked_by input) text)) }
+        × IsReplay (settings_of options.now) (requests_in input) text)) }
     ensures begun { OnErr result (IfSome (R.remaining reader.old) (λ input. (text : List ℕ)
         × Appends (W.contents writer.old) (W.contents writer.new) text
-        × IsBegun (settings_of options.now) (asked_by input) text)) }
+        × IsBegun (settings_of options.now) (requests_in input) text)) }
     ensures too_many { result ≡ Err ReplayError.TooManyReads → IfSome (R.remaining reader.old) (λ input. 2 ^ 64 - 1 ≤ length (lines_in input)) }
 {
     let mut tier = tier_for(alloc, options)?;
@@ -104,7 +104,7 @@ pub fn run<R: Read, W: Write>(
         if len == 0 {
             return finish(alloc, &tier, &mut waiting, writer);
         }
-        let line = bare(input.front(len));
+        let line = without_line_feed(input.front(len));
         if let Err(error) = add_answer(alloc, &mut tier, &mut lines, &mut rng, line, &mut waiting) {
             hand_on(&mut waiting, writer)?;
             return Err(error);
@@ -185,7 +185,7 @@ fn report(alloc: Global, tier: &Tier<1>, waiting: &mut Vec<u8>) -> Result<(), Al
 }
 
 // A line without the line feed that ends it.
-fn bare(line: &[u8]) -> &[u8]
+fn without_line_feed(line: &[u8]) -> &[u8]
     ensures { result.now ≡ strip_last 10 line.now }
 {
     match line.split_last() {
@@ -241,7 +241,7 @@ fn reply<G: Rng>(
 {
     match lines.read(alloc, line)? {
         Line::Refused(refusal) => Ok(refusal_line(alloc, &refusal)?),
-        Line::Asked(event) => reply_to(alloc, tier, rng, &event),
+        Line::Accepted(event) => reply_to(alloc, tier, rng, &event),
     }
 }
 

@@ -31,7 +31,7 @@ fn refused(
 ) -> Result<Option<String>, AllocError> {
     match lines.read(alloc, line)? {
         Line::Refused(refusal) => Ok(Some(refusal_line(alloc, &refusal)?)),
-        Line::Asked(_) => Ok(None),
+        Line::Accepted(_) => Ok(None),
     }
 }
 
@@ -152,7 +152,7 @@ fn a_long_line_leaves_the_reader_as_good(rt: HostRuntime) -> Result<(), Fail> {
 fn a_put_is_asked(rt: HostRuntime) -> Result<(), Fail> {
     let line =
         b" {\"op\":\"look\",\"at\":9223372036854775807,\"id\":true,\"tag\":\"t\",\"op\":\"put\",\"key\":\"006A\",\"pieces\":[\"\",\"0aFf\"]}\r";
-    let Line::Asked(event) = LineReader::new(rt.alloc()).read(rt.alloc(), line)? else {
+    let Line::Accepted(event) = LineReader::new(rt.alloc()).read(rt.alloc(), line)? else {
         return Err(Fail::from("it is refused"));
     };
     assert_eq!(rt; event.moment.seconds(), i64::MAX);
@@ -183,7 +183,7 @@ fn every_other_event_is_asked(rt: HostRuntime) -> Result<(), Fail> {
     for (line, want) in table {
         let asked = match &lines.read(rt.alloc(), line)? {
             Line::Refused(_) => None,
-            Line::Asked(event) => match &event.action {
+            Line::Accepted(event) => match &event.action {
                 Action::Open { request: 7, key } if is_wanted(key, "") => Some(0),
                 Action::LookUp { request: 7 } => Some(1),
                 Action::Read { request: 7 } => Some(2),
@@ -272,7 +272,7 @@ fn a_report_is_written(rt: HostRuntime) -> Result<(), Fail> {
 fn out_of_memory_gives_no_other_line(rt: HostRuntime) {
     let line = b"{\"op\":\"put\",\"at\":1,\"key\":\"006a\",\"pieces\":[\"61\",\"62\"]}";
     match &LineReader::new(rt.alloc()).read(rt.alloc(), line) {
-        Ok(Line::Asked(event)) => match &event.action {
+        Ok(Line::Accepted(event)) => match &event.action {
             Action::Put { pieces, .. } => assert_eq!(rt; pieces.as_slice().len(), 2),
             _ => assert!(rt; false, "it is no put"),
         },

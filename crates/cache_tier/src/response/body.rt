@@ -1,7 +1,7 @@
 //! What a head gives, with the bytes after it.
 ghost use Rattle.std.specs.Prelude.{◌≡◌, Some, IfOk};
-ghost use Rattle.tier_model.specs.Response.{length_in, body_within, given_of};
-ghost use Rattle.cache_tier.specs.Heads.{announced, given_by_head};
+ghost use Rattle.tier_model.specs.Response.{length_in, body_within, whole_by_body};
+ghost use Rattle.cache_tier.specs.Heads.{announced, whole_by_head};
 
 use bytes::Bytes;
 use cache_directives::CacheControl;
@@ -14,8 +14,8 @@ use cache_words::time::Moment;
 use http::StatusCode;
 use http_header::HeaderValue;
 use std::alloc::{AllocError, Global};
-use tier_model::given::Given;
 use tier_model::state::FinishedBody;
+use tier_model::whole::Whole;
 
 // The length that a Content-Length says, if it can be read.
 fn length_in(value: &HeaderValue) -> Option<usize>
@@ -56,13 +56,13 @@ fn body_within(length: Option<usize>, rest: Bytes) -> Option<Bytes>
 }
 
 // What a whole body gives that may be kept.
-fn stored(arrival: Moment, entry: CompactCacheKey, bytes: Bytes, fresh_until: Moment) -> Given
-    ensures { result ≡ given_of arrival entry (Some bytes) (Some fresh_until) }
+fn stored(arrival: Moment, entry: CompactCacheKey, bytes: Bytes, fresh_until: Moment) -> Whole
+    ensures { result ≡ whole_by_body arrival entry (Some bytes) (Some fresh_until) }
 {
     if arrival.is_before_epoch() || fresh_until.is_before_epoch() {
-        return Given::BeforeEpoch;
+        return Whole::BeforeEpoch;
     }
-    Given::Stored(FinishedBody {
+    Whole::Stored(FinishedBody {
         entry,
         bytes,
         fresh_until,
@@ -81,28 +81,28 @@ fn kept(alloc: Global, body: Bytes, response: usize) -> Result<Bytes, AllocError
 }
 
 // What a head gives, with the bytes after it, of a response of that length.
-pub(super) fn given_by_head(
+pub(super) fn whole_by_head(
     alloc: Global,
     arrival: Moment,
     entry: CompactCacheKey,
     head: ResponseHeader,
     rest: Bytes,
     response: usize,
-) -> Result<Given, AllocError>
-    ensures { IfOk result (λ given. given ≡ given_by_head arrival entry head rest) }
+) -> Result<Whole, AllocError>
+    ensures { IfOk result (λ whole. whole ≡ whole_by_head arrival entry head rest) }
 {
     let body = body_within(announced(&head), rest);
     let control = CacheControl::from_resp_headers(alloc, &head)?;
     let defaults = CacheMetaDefaults::new(NeverByStatus, 0, 0);
     let verdict = resp_cacheable(arrival, control.as_ref(), head, false, &defaults);
     let Some(bytes) = body else {
-        return Ok(Given::Incomplete);
+        return Ok(Whole::Incomplete);
     };
     match verdict {
         RespCacheable::Cacheable(meta) => {
             let bytes = kept(alloc, bytes, response)?;
             Ok(stored(arrival, entry, bytes, meta.fresh_until()))
         }
-        RespCacheable::Uncacheable(reason) => Ok(Given::Uncacheable(reason)),
+        RespCacheable::Uncacheable(reason) => Ok(Whole::Uncacheable(reason)),
     }
 }

@@ -1,9 +1,10 @@
 //! Heads: read by the parser, with their lines as a map.
-ghost use Rattle.std.specs.Prelude.{◌≡◌, ◌≢◌, ◌<◌, ◌≤◌, length, map, IfOk, IfSome, IfNone, OnOk, All, true};
+ghost use Rattle.std.specs.Prelude.{◌≡◌, ◌≢◌, ◌<◌, ◌≤◌, length, map, IfOk, IfErr, IfSome, IfNone, OnOk, All, true};
 ghost use Rattle.std.specs.List.{list_all};
 ghost use Rattle.http_header.specs.HeaderMap.{append, value_count};
 ghost use Rattle.http_header.specs.FieldValue.{plain_value};
 ghost use Rattle.http_header.specs.Token.{lowercase};
+ghost use Rattle.http.specs.StatusCode.{IsStatusCode};
 ghost use Rattle.httparse.specs.Grammar.{HasNoResponse, NeverHasResponse};
 ghost use Rattle.httparse.specs.Spans.{IsHeaderWithin, header_bytes, ResponseOverflows};
 ghost use Rattle.tier_model.specs.Response.{has_short_name};
@@ -15,7 +16,7 @@ use http::StatusCode;
 use http_header::{
     HeaderMap, HeaderMapError, HeaderName, HeaderNameError, HeaderValue, HeaderValueError,
 };
-use httparse::spans::{EMPTY_HEADER_SPAN, HeaderSpan, parse_response};
+use httparse::spans::{EMPTY_HEADER_SPAN, HeaderSpan, ResponseSpans, parse_response};
 use httparse::{Error, ParserConfig, Status};
 use std::alloc::{AllocError, Global};
 
@@ -86,6 +87,21 @@ fn collect(alloc: Global, bytes: &[u8], lines: &[HeaderSpan]) -> Result<HeaderMa
     Ok(all)
 }
 
+// The head with these lines, whose status and length a parser read.
+fn head_of(headers: HeaderMap, read: &ResponseSpans) -> Result<Head, HeadFault>
+    ensures head { IfOk result (λ head. head ≡ record { header = record { status = read.now.code; headers = headers }; len = read.now.len }) }
+    ensures status { OnOk result (IsStatusCode read.now.code) }
+    ensures err { IfErr result (λ fault. (fault ≡ HeadFault.Bounds) × ¬ (IsStatusCode read.now.code)) }
+{
+    match StatusCode::from_u16(read.code) {
+        Ok(status) => Ok(Head {
+            header: ResponseHeader { status, headers },
+            len: read.len,
+        }),
+        Err(_) => Err(HeadFault::Bounds),
+    }
+}
+
 // The head at the front, as the parser's default options read it; none where it hasn't come whole.
 pub(super) fn read_head(alloc: Global, bytes: &[u8]) -> Result<Option<Head>, HeadFault>
     ensures within { IfOk result (λ o. IfSome o (λ head. head.len ≤ length bytes.now)) }
@@ -99,13 +115,7 @@ pub(super) fn read_head(alloc: Global, bytes: &[u8]) -> Result<Option<Head>, Hea
     match parse_response(bytes, &mut lines) {
         Ok(Status::Complete(head)) => {
             let headers = collect(alloc, bytes, &lines[..head.headers])?;
-            let Ok(status) = StatusCode::from_u16(head.code) else {
-                return Err(HeadFault::Bounds);
-            };
-            Ok(Some(Head {
-                header: ResponseHeader { status, headers },
-                len: head.len,
-            }))
+            Ok(Some(head_of(headers, &head)?))
         }
         Ok(Status::Partial) => Ok(None),
         Err(Error::TooManyHeaders) => Err(HeadFault::TooLong),
@@ -166,13 +176,7 @@ pub(super) fn read_leniently(alloc: Global, bytes: &[u8]) -> Result<Option<Head>
     match config.parse_response_spans(bytes, &mut lines) {
         Ok(Status::Complete(head)) => {
             let headers = collect_unfolded(alloc, bytes, &lines[..head.headers])?;
-            let Ok(status) = StatusCode::from_u16(head.code) else {
-                return Err(HeadFault::Bounds);
-            };
-            Ok(Some(Head {
-                header: ResponseHeader { status, headers },
-                len: head.len,
-            }))
+            Ok(Some(head_of(headers, &head)?))
         }
         Ok(Status::Partial) => Ok(None),
         Err(_) => Err(HeadFault::Refused),

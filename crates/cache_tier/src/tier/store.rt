@@ -4,10 +4,10 @@ ghost use Rattle.tier_entries.specs.Keys.{entry_of};
 ghost use Rattle.tier_entries.specs.Rows.{without_row, IsLawfulEviction, IsBegunEviction};
 ghost use Rattle.entry_order.specs.Orders.{Order, IsDrawn};
 ghost use Rattle.entry_order.specs.declared.order.OrderFault.{OrderFault};
-ghost use Rattle.tier_model.specs.Keys.{Evicted, entries_of, AreWeighed, key_asked};
+ghost use Rattle.tier_model.specs.Keys.{Evicted, entries_of, AreWeighed, stored_key_of};
 ghost use Rattle.tier_model.specs.Rows.{without_body, without_bodies};
 ghost use Rattle.tier_model.specs.Calls.{nothing_done, evicted_by};
-ghost use Rattle.tier_model.specs.declared.given.Given.TheVariants.{Stored};
+ghost use Rattle.tier_model.specs.declared.whole.Whole.TheVariants.{Stored};
 ghost use Rattle.tier_model.specs.Step.{counted, taken_back, stored_alone, all_done, IsPutAnswer};
 ghost use Rattle.cache_tier.specs.Acts.{AllowsUnrefused, after_action, IsRefusal, after_store, fault_for, TakesBy};
 ghost use Rattle.cache_tier.specs.Draws.{order_of, order_admitted, evicted_from};
@@ -15,15 +15,15 @@ ghost use Rattle.cache_tier.specs.Draws.{order_of, order_admitted, evicted_from}
 use super::Tier;
 use super::faults::{fault_for, nothing_done, stored_alone};
 use crate::bodies::{body_of, put_body, remove_bodies, remove_body, weight_for};
-use crate::response::given_by_put;
+use crate::response::whole_of_put;
 use cache_words::key::{CacheKey, CompactCacheKey};
 use cache_words::time::Moment;
 use entry_order::OrderFault;
 use rand_core::Rng;
 use tier_entries::keys::{copy_of, entry_of, stored_key_of};
 use tier_model::event::{Action, Answer, Done, Entries, Pieces, TierFault};
-use tier_model::given::Given;
 use tier_model::state::FinishedBody;
+use tier_model::whole::Whole;
 
 impl Tier<1> {
     pub(super) fn purge(&mut self, moment: Moment, key: &CacheKey) -> Result<Answer, TierFault>
@@ -53,7 +53,7 @@ impl Tier<1> {
     // Takes the body of a key back, with its entry, after these evictions.
     fn take_back(&mut self, key: &CacheKey, evicted: &[(CompactCacheKey, usize)])
         ensures { self.new ≡ record self.old {
-          bodies = without_body (key_asked key.now) (without_bodies (map (λ p. p.0) evicted.now) self.old.bodies);
+          bodies = without_body (stored_key_of key.now) (without_bodies (map (λ p. p.0) evicted.now) self.old.bodies);
           tracked = without_row (entry_of key.now) self.old.tracked;
           evicted = counted self.old.evicted (length (map (λ p. p.0) evicted.now));
         } }
@@ -152,15 +152,15 @@ impl Tier<1> {
         let Ok(entry) = entry_of(key) else {
             return Err(TierFault::Memory(nothing_done(self.alloc)));
         };
-        let Ok(given) = given_by_put(self.alloc, moment, entry, pieces) else {
+        let Ok(whole) = whole_of_put(self.alloc, moment, entry, pieces) else {
             return Err(TierFault::Memory(nothing_done(self.alloc)));
         };
-        match given {
-            Given::Stored(body) => self.store(rng, key, body),
-            Given::Uncacheable(reason) => Ok(Answer::Uncacheable(reason)),
-            Given::Incomplete => Err(TierFault::Incomplete),
-            Given::BadHead => Err(TierFault::BadHead),
-            Given::BeforeEpoch => Err(TierFault::BeforeEpoch),
+        match whole {
+            Whole::Stored(body) => self.store(rng, key, body),
+            Whole::Uncacheable(reason) => Ok(Answer::Uncacheable(reason)),
+            Whole::Incomplete => Err(TierFault::Incomplete),
+            Whole::BadHead => Err(TierFault::BadHead),
+            Whole::BeforeEpoch => Err(TierFault::BeforeEpoch),
         }
     }
 }

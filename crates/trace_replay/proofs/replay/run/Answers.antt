@@ -69,8 +69,8 @@ loop-preserved g c =
     let some : 0 < c.in_ok-len.len = omega (arith, c.if-len-eq0.false) in
     let (text, grows, answers) = not_err c.add_answer.result c.in_default.not-Err c.add_answer.ensures.answered in
     halfway_more (settings_of c.args.options.now) c.loop.counter c.in_ok-len.len (g.R.Read.remaining c.args.reader.now) (g.R.Read.remaining c.next_line.new.reader) (g.W.Write.contents c.args.writer.now) (g.W.Write.contents c.next_line.new.writer)
-    c.loop.tier c.add_answer.new.tier c.next_line.new.input c.skip.new.self c.next_line.new.waiting.items c.front.result.now c.bare-line.result.now text c.add_answer.new.waiting.items
-    half c.in_ok-len.ensures.line some c.in_ok-len.ensures.within c.front.ensures c.bare-line.ensures answers grows c.skip.ensures
+    c.loop.tier c.add_answer.new.tier c.next_line.new.input c.skip.new.self c.next_line.new.waiting.items c.front.result.now c.without_line_feed-line.result.now text c.add_answer.new.waiting.items
+    half c.in_ok-len.ensures.line some c.in_ok-len.ensures.within c.front.ensures c.without_line_feed-line.ensures answers grows c.skip.ensures
 
 pub returns-in_err-hand_on-2-clause-begun : goal.returns-in_err-hand_on-2-clause-begun
 returns-in_err-hand_on-2-clause-begun g c =

@@ -1,5 +1,6 @@
-use Rattle.std.proofs.Common.{◌≡◌, Err, rules, sym, subst, All}
+use Rattle.std.proofs.Common.{◌≡◌, Err, rules, refl, sym, subst, All}
 use Rattle.cache_headers.specs.Lines.{IsLine}
+use Rattle.cache_tier.specs.Heads.{IsHeadOf}
 use Rattle.cache_tier.specs.declared.response.head.HeadFault.TheVariants.{Bounds}
 use Rattle.cache_tier.proofs.HeadLaws.{few-fields, out-by-lines, out-by-status, whole-head}
 use Rattle.cache_tier.proofs.response.head.read_head.Goals as goal
@@ -10,13 +11,14 @@ returns-in_err-headers-in-Ok-Complete-clause-bounds c e =
     let at = rw c.in-Ok-Complete.field-0-is at c.in-Ok-Complete.ensures.complete in
     (at.0, _, at.1.reads, few-fields c.args.bytes.now c.parse_response.new.headers c.in-Ok-Complete.head.headers at.0.fields at.1.fields (search rules), out-by-lines c.args.bytes.now at.0 _ at.1.reads (λ all. c.collect.ensures.bounds was (subst (All IsLine) (sym at.1.fields) all)))
 
-pub returns-in_default-clause-bounds : goal.returns-in_default-clause-bounds
-returns-in_default-clause-bounds c e =
+pub returns-in_err-head_of-in-Ok-Complete-clause-bounds : goal.returns-in_err-head_of-in-Ok-Complete-clause-bounds
+returns-in_err-head_of-in-Ok-Complete-clause-bounds c e =
     let at = rw c.in-Ok-Complete.field-0-is at c.in-Ok-Complete.ensures.complete in
     let within = rw c.in-Ok-Complete.field-0-is at c.in-Ok-Complete.ensures.within in
-    (at.0, _, at.1.reads, few-fields c.args.bytes.now c.parse_response.new.headers c.in-Ok-Complete.head.headers at.0.fields at.1.fields (search rules), out-by-status at.0 c.in-Ok-Complete.head.code at.1.code within.code c.in_default.ensures)
+    (at.0, _, at.1.reads, few-fields c.args.bytes.now c.parse_response.new.headers c.in-Ok-Complete.head.headers at.0.fields at.1.fields (search rules), out-by-status at.0 c.in-Ok-Complete.head.code at.1.code within.code c.in_err-head_of-in-Ok-Complete.ensures.err.1)
 
-pub returns-in-Ok-clause-whole : goal.returns-in-Ok-clause-whole
-returns-in-Ok-clause-whole c =
+pub returns-in_ok-head_of-in-Ok-Complete-clause-whole : goal.returns-in_ok-head_of-in-Ok-Complete-clause-whole
+returns-in_ok-head_of-in-Ok-Complete-clause-whole c =
     let at = rw c.in-Ok-Complete.field-0-is at c.in-Ok-Complete.ensures.complete in
-    whole-head c.args.bytes.now c.parse_response.new.headers c.in-Ok-Complete.head at.0 at.1 (search rules) c.in-Ok.status c.in_ok-headers-in-Ok-Complete.headers c.in-Ok.ensures.0 c.in-Ok.ensures.1 c.in_ok-headers-in-Ok-Complete.ensures.value c.in_ok-headers-in-Ok-Complete.ensures.short
+    subst (IsHeadOf c.args.bytes.now) (sym c.in_ok-head_of-in-Ok-Complete.ensures.head)
+    (whole-head c.args.bytes.now c.parse_response.new.headers c.in-Ok-Complete.head at.0 at.1 (search rules) c.in-Ok-Complete.head.code c.in_ok-headers-in-Ok-Complete.headers c.in_ok-head_of-in-Ok-Complete.ensures.status refl c.in_ok-headers-in-Ok-Complete.ensures.value c.in_ok-headers-in-Ok-Complete.ensures.short)

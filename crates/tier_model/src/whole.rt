@@ -1,10 +1,10 @@
-//! What a response gives.
+//! What a whole response gives.
 use crate::state::FinishedBody;
 use cache_heads::NoCacheReason;
 
 /// What the bytes of a whole response give at the moment at which they come.
 #[derive(Debug, Drop)]
-pub enum Given {
+pub enum Whole {
     /// A body to store.
     Stored(FinishedBody),
     /// A whole response that may not be kept, and why.
