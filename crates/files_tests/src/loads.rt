@@ -1,9 +1,10 @@
 // What a load removes, reads and reports.
+use crate::stops::holds;
 use lru_files::persistence::{
     Folder, MemFolder, ShardFileError, ShardLoadFailure, ShardLoadReport, TestFolder, hex_word,
     load_shards, replace,
 };
-use std::alloc::{AllocError, Global};
+use std::alloc::Global;
 
 // (the path, the bytes, whether a load removes it)
 const FILES: [(&str, &[u8], bool); 7] = [
@@ -16,34 +17,12 @@ const FILES: [(&str, &[u8], bool); 7] = [
     ("other/lru.data.1.tmp", b"o", false),
 ];
 
-fn folder(alloc: Global) -> Result<MemFolder, AllocError> {
+fn folder(alloc: Global) -> Option<MemFolder> {
     let mut folder = MemFolder::new(alloc);
-    for (path, bytes, _) in FILES {
-        folder.put(path, bytes)?;
+    for (path, bytes, _) in &FILES {
+        folder.put(path, bytes).ok()?;
     }
-    Ok(folder)
-}
-
-// The bytes of the files that were loaded, one after the other; an empty file is refused.
-fn load(
-    alloc: Global,
-    folder: &mut TestFolder,
-) -> Result<(ShardLoadReport<()>, Vec<u8>), AllocError> {
-    let mut loaded = Vec::with_capacity(alloc, 4)?;
-    let report = load_shards(
-        alloc,
-        folder,
-        "dir",
-        "lru.data",
-        3,
-        &mut |_: usize, bytes: Vec<u8>| -> Result<(), ()> {
-            if bytes.is_empty() || loaded.extend_from_slice(bytes.as_slice()).is_err() {
-                return Err(());
-            }
-            Ok(())
-        },
-    )?;
-    Ok((report, loaded))
+    Some(folder)
 }
 
 // A shard that failed: the call on its file, or none where the loader refused it.
@@ -56,6 +35,48 @@ fn failures_of(report: &ShardLoadReport<()>) -> [Failed; 2] {
         (_, ShardLoadFailure::Memory) => None,
     };
     [failure(0), failure(1)]
+}
+
+// What a load reports: how many temporary files were removed, what failed in that, how many shards were missing, and which failed.
+type Told = (usize, Option<ShardFileError>, usize, [Failed; 2]);
+
+// The bytes of the files that were loaded go to the end of `loaded`, one after the other; an empty file is refused.
+fn load(alloc: Global, folder: &mut TestFolder, loaded: &mut Vec<u8>) -> Option<Told> {
+    let report = load_shards(
+        alloc,
+        folder,
+        "dir",
+        "lru.data",
+        3,
+        &mut |_: usize, bytes: Vec<u8>| -> Result<(), ()> {
+            if bytes.is_empty() || loaded.extend_from_slice(bytes.as_slice()).is_err() {
+                return Err(());
+            }
+            Ok(())
+        },
+    );
+    let report = report.ok()?;
+    let removed = report.cleanup.removed;
+    let unremoved = report.cleanup.failed.first().copied();
+    Some((removed, unremoved, report.missing, failures_of(&report)))
+}
+
+// How many files are left, of those that a load removes or of the others.
+fn left(folder: &MemFolder, temporary: bool) -> usize {
+    FILES
+        .iter()
+        .filter(|file| file.2 == temporary && folder.bytes(file.0).is_some())
+        .count()
+}
+
+// A load of which one call fails: what it reports, whether it loaded these texts, and how many files of both kinds are left.
+fn failing(alloc: Global, call: usize, texts: &[u8]) -> Option<(Told, bool, [usize; 2])> {
+    let mut failing = TestFolder::fails_once(folder(alloc)?, call);
+    let mut loaded = Vec::new(alloc);
+    let told = load(alloc, &mut failing, &mut loaded)?;
+    let folder = failing.into_inner();
+    let are_texts = loaded.as_slice() == texts;
+    Some((told, are_texts, [left(&folder, true), left(&folder, false)]))
 }
 
 // The third shard's file is empty.
@@ -89,28 +110,16 @@ const ROWS: [(
 ];
 
 #[test]
-fn a_load_removes_temporary_files_and_reads_each_shard(rt: HostRuntime) -> Result<(), AllocError> {
-    let alloc = rt.alloc();
+fn a_load_removes_temporary_files_and_reads_each_shard(rt: HostRuntime) {
     for (call, removed, unremoved, texts, missing, errored) in ROWS {
-        let mut failing = TestFolder::fails_once(folder(alloc)?, call);
-        let (report, loaded) = load(alloc, &mut failing)?;
-        let folder = failing.into_inner();
-        let not_removed = report.cleanup.failed.first().copied();
-        assert_eq!(rt; report.cleanup.removed, removed, "failing call {call}");
-        assert_eq!(rt; not_removed, unremoved, "failing call {call}");
-        assert_eq!(rt; report.missing, missing, "failing call {call}");
-        assert_eq!(rt; failures_of(&report), errored, "failing call {call}");
-        assert_eq!(rt; loaded.as_slice(), texts, "failing call {call}");
-        let left = FILES
-            .iter()
-            .filter(|file| file.2 && folder.bytes(file.0).is_some())
-            .count();
-        assert_eq!(rt; left, 2usize.saturating_sub(removed), "failing call {call}");
-        for (path, _, _) in FILES.iter().filter(|file| !file.2) {
-            assert!(rt; folder.bytes(path).is_some(), "failing call {call}: {path}");
-        }
+        let told = (removed, unremoved, missing, errored);
+        let left = [2usize.saturating_sub(removed), 5];
+        assert_eq!(rt;
+            failing(rt.alloc(), call, texts),
+            Some((told, true, left)),
+            "failing call {call}"
+        );
     }
-    Ok(())
 }
 
 #[test]
@@ -123,23 +132,36 @@ fn a_write_brings_no_removed_file_back(rt: HostRuntime) {
     assert_eq!(rt; folder.failures(), 1);
 }
 
+fn is_spelled(alloc: Global, word: u32, text: &str) -> bool {
+    match hex_word(alloc, word) {
+        Ok(digits) => digits.as_str() == text,
+        Err(_) => false,
+    }
+}
+
 #[test]
-fn one_file_is_replaced(rt: HostRuntime) -> Result<(), AllocError> {
-    let word = hex_word(rt.alloc(), 0x0c)?;
-    assert_eq!(rt; word.as_str(), "0000000c");
-    let word = hex_word(rt.alloc(), 0xfedc_ba98)?;
-    assert_eq!(rt; word.as_str(), "fedcba98");
-    let mut folder = MemFolder::new(rt.alloc());
-    folder.put("dir/simple_lru.data", b"old")?;
-    let done = replace(
-        &mut folder,
-        "dir/simple_lru.data.0000000c.tmp",
-        "dir/simple_lru.data",
-        b"new",
-    );
-    assert_eq!(rt; done, Ok(()));
-    let bytes = folder.bytes("dir/simple_lru.data");
-    assert!(rt; bytes.is_some_and(|bytes| bytes == b"new".as_slice()));
-    assert!(rt; folder.bytes("dir/simple_lru.data.0000000c.tmp").is_none());
-    Ok(())
+fn a_word_is_eight_digits(rt: HostRuntime) {
+    assert!(rt; is_spelled(rt.alloc(), 0x0c, "0000000c"));
+    assert!(rt; is_spelled(rt.alloc(), 0xfedc_ba98, "fedcba98"));
+}
+
+const PATH: &str = "dir/simple_lru.data";
+
+const TEMP: &str = "dir/simple_lru.data.0000000c.tmp";
+
+fn replaced(alloc: Global) -> Option<MemFolder> {
+    let mut folder = MemFolder::new(alloc);
+    folder.put(PATH, b"old").ok()?;
+    replace(&mut folder, TEMP, PATH, b"new").ok()?;
+    Some(folder)
+}
+
+#[test]
+fn one_file_is_replaced(rt: HostRuntime) {
+    let folder = replaced(rt.alloc());
+    let done = match &folder {
+        Some(folder) => holds(folder, PATH, b"new") && folder.bytes(TEMP).is_none(),
+        None => false,
+    };
+    assert!(rt; done);
 }

@@ -27,7 +27,7 @@ fn save<F: Folder>(alloc: Global, folder: &mut F, shards: usize, text: &[u8]) ->
 }
 
 // How many temporary files the next load removes.
-fn removed(alloc: Global, folder: &mut MemFolder) -> Result<usize, AllocError> {
+fn removed(alloc: Global, folder: &mut MemFolder) -> Option<usize> {
     let report = load_shards(
         alloc,
         folder,
@@ -35,11 +35,11 @@ fn removed(alloc: Global, folder: &mut MemFolder) -> Result<usize, AllocError> {
         "lru.data",
         1,
         &mut |_, _| -> Result<(), AllocError> { Ok(()) },
-    )?;
-    Ok(report.cleanup.removed)
+    );
+    Some(report.ok()?.cleanup.removed)
 }
 
-fn holds(folder: &MemFolder, path: &str, text: &[u8]) -> bool {
+pub(crate) fn holds(folder: &MemFolder, path: &str, text: &[u8]) -> bool {
     match folder.bytes(path) {
         Some(bytes) => bytes == text,
         None => false,
@@ -47,19 +47,19 @@ fn holds(folder: &MemFolder, path: &str, text: &[u8]) -> bool {
 }
 
 // A save over an old file that stops after so many calls: the file's text, and what the next load removes.
-fn stopped(alloc: Global, calls: usize, bytes: usize) -> Result<(bool, bool, usize), AllocError> {
+fn stopped(alloc: Global, calls: usize, bytes: usize) -> Option<(bool, bool, usize)> {
     let mut folder = MemFolder::new(alloc);
-    folder.put("dir/lru.data.0", b"old")?;
+    folder.put("dir/lru.data.0", b"old").ok()?;
     let mut stopping = TestFolder::stops_after(folder, calls, bytes);
     let _ = save(alloc, &mut stopping, 1, b"newer");
     let mut folder = stopping.into_inner();
     let old = holds(&folder, "dir/lru.data.0", b"old");
     let new = holds(&folder, "dir/lru.data.0", b"newer");
-    Ok((old, new, removed(alloc, &mut folder)?))
+    Some((old, new, removed(alloc, &mut folder)?))
 }
 
 #[test]
-fn a_stopped_save_leaves_the_old_file_or_the_new_one(rt: HostRuntime) -> Result<(), AllocError> {
+fn a_stopped_save_leaves_the_old_file_or_the_new_one(rt: HostRuntime) {
     let rows = [
         (0, false, 0),
         (1, false, 0),
@@ -71,15 +71,13 @@ fn a_stopped_save_leaves_the_old_file_or_the_new_one(rt: HostRuntime) -> Result<
     ];
     for (calls, new, removed) in rows {
         for bytes in [0, 1, 5, 9] {
-            let left = stopped(rt.alloc(), calls, bytes)?;
             assert_eq!(rt;
-                left,
-                (!new, new, removed),
+                stopped(rt.alloc(), calls, bytes),
+                Some((!new, new, removed)),
                 "after {calls} calls and {bytes} bytes"
             );
         }
     }
-    Ok(())
 }
 
 #[test]
@@ -118,25 +116,27 @@ fn new_shards(folder: &MemFolder) -> Option<usize> {
 }
 
 // Of four shards, how many have the new text after a save that stops, and what the next load removes.
-fn stopped_of_four(alloc: Global, calls: usize) -> Result<(Option<usize>, usize), AllocError> {
+fn stopped_of_four(alloc: Global, calls: usize) -> Option<(usize, usize)> {
     let mut folder = MemFolder::new(alloc);
     let _ = save(alloc, &mut folder, 4, b"old");
     let mut stopping = TestFolder::stops_after(folder, calls, 1);
     let _ = save(alloc, &mut stopping, 4, b"new");
     let mut folder = stopping.into_inner();
-    let new = new_shards(&folder);
-    Ok((new, removed(alloc, &mut folder)?))
+    let new = new_shards(&folder)?;
+    Some((new, removed(alloc, &mut folder)?))
 }
 
 #[test]
-fn a_stopped_save_of_four_shards_leaves_each_old_or_new(rt: HostRuntime) -> Result<(), AllocError> {
+fn a_stopped_save_of_four_shards_leaves_each_old_or_new(rt: HostRuntime) {
     for calls in 0..18usize {
         let of_shards = calls.saturating_sub(1);
-        let left = stopped_of_four(rt.alloc(), calls)?;
         let temp = if of_shards % 4 == 0 { 0 } else { 1 };
-        assert_eq!(rt; left, (Some(of_shards / 4), temp), "after {calls} calls");
+        assert_eq!(rt;
+            stopped_of_four(rt.alloc(), calls),
+            Some((of_shards / 4, temp)),
+            "after {calls} calls"
+        );
     }
-    Ok(())
 }
 
 // What a save answers: how many were saved, and the first that failed, with the call on its file; or what failed before.
@@ -240,7 +240,7 @@ fn a_list_that_fails_fails_its_shard_alone(rt: HostRuntime) {
 }
 
 #[test]
-fn failing_renames_leave_the_temporary_file(rt: HostRuntime) -> Result<(), AllocError> {
+fn failing_renames_leave_the_temporary_file(rt: HostRuntime) {
     let mut failing = TestFolder::renames_fail(MemFolder::new(rt.alloc()));
     let answer = answer_of(&save(rt.alloc(), &mut failing, 1, b"new"));
     let folder = failing.into_inner();
@@ -249,5 +249,4 @@ fn failing_renames_leave_the_temporary_file(rt: HostRuntime) -> Result<(), Alloc
     assert!(rt; folder.bytes("dir/lru.data.0").is_none());
     assert!(rt; holds(&folder, "dir/lru.data.0.12ab34cd.tmp", b"new"));
     assert_eq!(rt; folder.failures(), 1);
-    Ok(())
 }

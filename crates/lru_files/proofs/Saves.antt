@@ -104,7 +104,7 @@ same_from_stop dir opened old left (inr same) = same
 
 module _ {E : Type 0} (dir file_name words : List ℕ) (serialized : ℕ → Result (Vec ℕ Global) E → Type 0) (shards : ℕ) where
   -- the folder is made, and no shard was tried
-  made_stop : (old left : Files) → IsSame old left → AreOldOrNew {E = E} dir file_name words serialized shards old left
+  pub made_stop : (old left : Files) → IsSame old left → AreOldOrNew {E = E} dir file_name words serialized shards old left
   made_stop old left same = record {
     each = λ i to. inl (same (shard_path dir file_name i));
     others = λ path no_shard no_temp. same path;
@@ -166,3 +166,8 @@ module _ {D E : Type 0} {did : D → Call → Outcome → D → Type 0} {opened 
     ahead = λ i from to. (same (shard_path dir file_name i), same (temp_path dir file_name i (slice_index words i)));
     others = λ path no_shard no_temp. same path;
   }
+
+  -- no shard is left
+  pub saved-all : {old now : D} {failed : List (ℕ × ShardSaveFailure E)} {done : ℕ} → done ≡ shards → IsSavedTo did opened files dir file_name words serialized shards old now failed done
+      → ShardsLeft dir file_name words serialized shards (files old) (files now) failed × OthersStay dir file_name words shards (files old) (files now)
+  saved-all all so_far = ((λ i to. so_far.left i (omega (arith, to, all))), so_far.others)

@@ -2,6 +2,7 @@
 use Rattle.std.proofs.Common.{◌≡◌, ℕ, ◌+◌, ◌*◌, ◌<◌, ◌≤◌, List, length, take, drop, slice_index, Bool, true, false, true≢false, ltb-true, lt-ltb, ⊎_elim, refl, ap, sym, ◌∙◌, arith, if◌then◌else◌}
 use Rattle.std.specs.Prelude.{Option, Some, None, Ok, Err, nat_lt, slice_set, ◌↔◌}
 use Rattle.std.proofs.lemmas.Bool.{cases_lt}
+use Rattle.std.proofs.lemmas.List.{drop-drop, get_or-drop, get_or-take}
 use Rattle.hex.specs.Hex.{decode_pairs, pair_value, hex_digit_value}
 use Rattle.hex.specs.declared.error.FromHexError.{FromHexError}
 use Rattle.hex.specs.declared.error.FromHexError.TheVariants.{InvalidHexCharacter}
@@ -92,3 +93,18 @@ so_far_done s out i highest all fits so_far = by (nat_lt highest 16) refl
     by : (test : Bool) → nat_lt highest 16 ≡ test → result_bytes (decode_pairs 0 s) ≡ (if test then Some out else None)
     by true e = ap result_bytes (decode_done s out i all fits (so_far.0 (ltb-true highest 16 e)))
     by false e = so_far.1 (λ small. true≢false (sym (lt-ltb highest 16 small) ∙ e))
+
+pair_at : (s rest pair : List ℕ) (i j : ℕ) → rest ≡ drop (2 * i) s → pair ≡ take 2 rest → j < 2 → slice_index pair j ≡ slice_index s (2 * i + j)
+pair_at s rest pair i j is_rest is_pair below =
+    ap (λ xs. slice_index xs j) is_pair ∙ get_or-take 2 rest j 0 below ∙ ap (λ xs. slice_index xs j) is_rest ∙ get_or-drop (2 * i) s j 0
+
+-- the digits of the pair that comes next
+pub first_of_pair : (s rest pair : List ℕ) (i : ℕ) → rest ≡ drop (2 * i) s → pair ≡ take 2 rest → slice_index pair 0 ≡ first s i
+first_of_pair s rest pair i is_rest is_pair = pair_at s rest pair i 0 is_rest is_pair (omega arith) ∙ ap (slice_index s) (omega arith)
+
+pub second_of_pair : (s rest pair : List ℕ) (i : ℕ) → rest ≡ drop (2 * i) s → pair ≡ take 2 rest → slice_index pair 1 ≡ second s i
+second_of_pair s rest pair i is_rest is_pair = pair_at s rest pair i 1 is_rest is_pair (omega arith)
+
+-- what is left after it
+pub after_pair : (s rest after : List ℕ) (i : ℕ) → rest ≡ drop (2 * i) s → after ≡ drop 2 rest → after ≡ drop (2 * (i + 1)) s
+after_pair s rest after i is_rest is_after = is_after ∙ ap (λ xs. drop 2 xs) is_rest ∙ drop-drop 2 (2 * i) s ∙ ap (λ k. drop k s) (omega arith)

@@ -30,11 +30,14 @@ fn decode_into(digits: &[u8], bytes: &mut [u8]) -> bool
     ensures { result_bytes (decode_pairs 0 digits.now) ≡ (if result then Some bytes.new else None) }
 {
     let mut highest = 0;
-    'bytes: for i in 0..bytes.len() {
-        let high = digit(digits[2 * i]);
-        let low = digit(digits[2 * i + 1]);
+    let mut rest = digits;
+    'bytes: for byte in bytes.iter_mut() {
+        let (pair, after) = rest.split_at(2);
+        let high = digit(pair[0]);
+        let low = digit(pair[1]);
         highest = higher(highest, higher(high, low));
-        bytes[i] = high.wrapping_mul(16).wrapping_add(low);
+        *byte = high.wrapping_mul(16).wrapping_add(low);
+        rest = after;
     }
     highest < 16
 }

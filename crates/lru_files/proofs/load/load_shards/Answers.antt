@@ -20,7 +20,7 @@ loop-shard-init g c = record {
 
 pub loop-shard-preserved : goal.loop-shard-preserved
 loop-shard-preserved g c = record {
-  counted = search rules;
+  counted = omega arith;
   room = search rules;
   loads = loads-found _ _ _ c.loop-shard.shard c.loop-shard.loaded c.loop-shard.missing c.loop-shard.errored.items _ _ _ _
       (λ kept. c.loop-shard.invariant.files kept (shard_path c.args.dir.now c.args.file_name.now c.loop-shard.shard)
@@ -32,7 +32,7 @@ loop-shard-preserved g c = record {
 
 pub loop-shard-preserved-then-not-found : goal.loop-shard-preserved-then-not-found
 loop-shard-preserved-then-not-found g c = record {
-  counted = search rules;
+  counted = omega arith;
   room = search rules;
   loads = loads-missing _ _ _ c.loop-shard.shard c.loop-shard.loaded c.loop-shard.missing c.loop-shard.errored.items _ _ _ _
       (λ kept. c.loop-shard.invariant.files kept (shard_path c.args.dir.now c.args.file_name.now c.loop-shard.shard)

@@ -1,9 +1,10 @@
-use Rattle.std.proofs.Common.{◌∙◌, Ok, Err}
+use Rattle.std.proofs.Common.{◌∙◌, Ok, Err, refl, inl}
 use Rattle.lru_files.specs.Folder.{StopsLeave}
 use Rattle.lru_files.specs.Save.{IsOldOrNew, LeftByWriting}
-use Rattle.lru_files.proofs.Runs.{weakened}
+use Rattle.lru_files.proofs.Runs.{weakened, stops_begin}
 use Rattle.lru_files.proofs.Apart.{temp_not_shard}
 use Rattle.lru_files.proofs.Shards.{one_left-replaced, one_left-failed, one_old_or_new, along_texts}
+use Rattle.lru_files.proofs.Told.{tells_nothing}
 use Rattle.lru_files.proofs.save.save_shard.Goals as goal
 
 pub returns-in-Ok-replace-clause-left : goal.returns-in-Ok-replace-clause-left
@@ -34,3 +35,36 @@ returns-clause-stops g c = λ kept.
     (along_texts (λ t p b. StopsLeave g.F.Folder.did g.F.Folder.opened g.F.Folder.files (IsOldOrNew (g.F.Folder.files c.args.folder.now) t p b) c.args.folder.now c.replace.new.folder)
     (c.as_str.ensures.value ∙ c.in-Ok.ensures) (c.as_str-2.ensures.value ∙ c.in-Ok-shard_path.ensures) c.as_slice.ensures.value
     (c.replace.ensures.stops kept))
+
+pub returns-in_default-clause-left : goal.returns-in_default-clause-left
+returns-in_default-clause-left g c = λ kept. record { shard = (refl, refl); others = λ path away_from_at away. refl }
+
+pub returns-in_default-clause-stops : goal.returns-in_default-clause-stops
+returns-in_default-clause-stops g c = λ kept. stops_begin c.args.folder.now (record { file = inl refl; others = λ path away_from_at away. refl })
+
+pub returns-in_default-clause-told : goal.returns-in_default-clause-told
+returns-in_default-clause-told g c = tells_nothing c.args.folder.now
+
+pub returns-in_default-shard_path-clause-left : goal.returns-in_default-shard_path-clause-left
+returns-in_default-shard_path-clause-left g c = λ kept. record { shard = (refl, refl); others = λ path away_from_at away. refl }
+
+pub returns-in_default-shard_path-clause-stops : goal.returns-in_default-shard_path-clause-stops
+returns-in_default-shard_path-clause-stops g c = λ kept. stops_begin c.args.folder.now (record { file = inl refl; others = λ path away_from_at away. refl })
+
+pub returns-in_default-shard_path-clause-told : goal.returns-in_default-shard_path-clause-told
+returns-in_default-shard_path-clause-told g c = tells_nothing c.args.folder.now
+
+pub returns-in-Err-clause-left : goal.returns-in-Err-clause-left
+returns-in-Err-clause-left g c = λ kept. record { shard = (c.in-Err.ensures, refl, refl); others = λ path away_from_at away. refl }
+
+pub returns-in-Err-clause-stops : goal.returns-in-Err-clause-stops
+returns-in-Err-clause-stops g c = λ kept. stops_begin c.args.folder.now (record { file = inl refl; others = λ path away_from_at away. refl })
+
+pub returns-in-Err-clause-told : goal.returns-in-Err-clause-told
+returns-in-Err-clause-told g c = tells_nothing c.args.folder.now
+
+pub returns-in-Ok-replace-clause-told : goal.returns-in-Ok-replace-clause-told
+returns-in-Ok-replace-clause-told g c = c.in-Ok-replace.ensures.told
+
+pub returns-clause-told : goal.returns-clause-told
+returns-clause-told g c = c.in-Err-replace.ensures.told
