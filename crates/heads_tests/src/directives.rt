@@ -36,3 +36,11 @@ pub fn control(alloc: Global, line: &[u8]) -> Option<CacheControl> {
     let headers = fields(alloc, &[("cache-control", line)])?;
     CacheControl::from_headers_named(alloc, "Cache-Control", &headers).ok()?
 }
+
+// Whether this is the text.
+pub fn is_text(text: Option<String>, want: &str) -> bool {
+    match text {
+        Some(text) => text.as_str() == want,
+        None => false,
+    }
+}

@@ -47,7 +47,7 @@ fn finds(alloc: Global, field: &str, head: Head) -> Option<bool> {
     Some(found.is_some_and(|c| c.no_cache()))
 }
 
-const HEADS: [(&str, Head, bool); 8] = [
+const HEADS: &[(&str, Head, bool)] = &[
     ("cache-control", Head::Request, true),
     ("cache-control", Head::RequestNamed("Cache-Control"), true),
     ("cache-control", Head::RequestNamed("Pragma"), false),
@@ -64,7 +64,7 @@ const HEADS: [(&str, Head, bool); 8] = [
 
 #[test]
 fn heads(rt: HostRuntime) {
-    for (field, head, expected) in HEADS {
+    for &(field, head, expected) in HEADS {
         assert_eq!(rt; finds(rt.alloc(), field, head), Some(expected));
     }
 }
@@ -96,7 +96,7 @@ fn stripped(alloc: Global, line: &str) -> Option<(usize, usize, usize)> {
     Some((in_private, in_no_cache, response.headers.len()))
 }
 
-const STRIPPED: [(&str, (usize, usize, usize)); 5] = [
+const STRIPPED: &[(&str, (usize, usize, usize))] = &[
     ("private=\"x-c\"", (1, 0, 3)),
     ("private=\"x-a\"", (1, 0, 2)),
     ("private, no-cache=\"X-B ,x-c\"", (0, 2, 2)),
@@ -106,7 +106,7 @@ const STRIPPED: [(&str, (usize, usize, usize)); 5] = [
 
 #[test]
 fn stripped_heads(rt: HostRuntime) {
-    for (line, expected) in STRIPPED {
+    for &(line, expected) in STRIPPED {
         assert_eq!(rt; stripped(rt.alloc(), line), Some(expected));
     }
 }

@@ -1,5 +1,5 @@
 //! What lines hold.
-use crate::directives::control;
+use crate::directives::{control, is_text};
 use cache_directives::CacheControl;
 use std::alloc::{AllocError, Global};
 
@@ -22,7 +22,7 @@ fn shown(alloc: Global, control: &CacheControl) -> Result<String, AllocError> {
 }
 
 // Lines with bytes from 80 hex on: a name that is not UTF-8 is passed over, and a value takes any byte.
-const BYTES: [(&[u8], &str); 8] = [
+const BYTES: &[(&[u8], &str)] = &[
     (b"\xc3\xa4=\xff\x80, public", "\u{e4}=ff80;public"),
     (b"\xff=1, max-age=2", "max-age=32"),
     (b"public, \x80", "public"),
@@ -39,8 +39,7 @@ pub fn shown_line(alloc: Global, line: &[u8]) -> Option<String> {
 
 #[test]
 fn bytes_past_ascii(rt: HostRuntime) {
-    for (line, expected) in BYTES {
-        let text = shown_line(rt.alloc(), line);
-        assert!(rt; text.is_some_and(|t| t.as_str() == expected));
+    for &(line, expected) in BYTES {
+        assert!(rt; is_text(shown_line(rt.alloc(), line), expected));
     }
 }

@@ -36,11 +36,16 @@ fn answer(control: &CacheControl, question: Question) -> bool {
     }
 }
 
+fn answered(alloc: Global, line: &str, question: Question) -> Option<bool> {
+    let control = control(alloc, line.as_bytes())?;
+    Some(answer(&control, question))
+}
+
 const FULL: &str = "public, Only-If-Cached, x-y=1, no-store, max-age=+7";
 
 const STRICT: &str = "must-revalidate, proxy-revalidate, no-cache, stale-if-error=x";
 
-const QUESTIONS: [(&str, Question, bool); 16] = [
+const QUESTIONS: &[(&str, Question, bool)] = &[
     (FULL, Question::Public, true),
     (FULL, Question::OnlyIfCached, true),
     (FULL, Question::NoStore, true),
@@ -61,24 +66,27 @@ const QUESTIONS: [(&str, Question, bool); 16] = [
 
 #[test]
 fn questions(rt: HostRuntime) {
-    for (line, question, expected) in QUESTIONS {
-        let found = control(rt.alloc(), line.as_bytes()).map(|c| answer(&c, question));
-        assert_eq!(rt; found, Some(expected));
+    for &(line, question, expected) in QUESTIONS {
+        assert_eq!(rt; answered(rt.alloc(), line, question), Some(expected));
     }
 }
 
-const STORING: [(&str, Cacheable); 4] = [
+const STORING: &[(&str, Cacheable)] = &[
     (FULL, Cacheable::No),
     ("max-age=x", Cacheable::Yes),
     (STRICT, Cacheable::Default),
     ("private=x", Cacheable::Default),
 ];
 
+fn is_cacheable(alloc: Global, line: &str) -> Option<Cacheable> {
+    let control = control(alloc, line.as_bytes())?;
+    Some(control.is_cacheable())
+}
+
 #[test]
 fn storing(rt: HostRuntime) {
-    for (line, expected) in STORING {
-        let found = control(rt.alloc(), line.as_bytes()).map(|c| c.is_cacheable());
-        assert_eq!(rt; found, Some(expected));
+    for &(line, expected) in STORING {
+        assert_eq!(rt; is_cacheable(rt.alloc(), line), Some(expected));
     }
 }
 
@@ -111,7 +119,12 @@ fn read_seconds(control: &CacheControl, asked: Seconds) -> Result<Option<u32>, E
     }
 }
 
-const SECONDS: [(&str, Seconds, Result<Option<u32>, Error>); 9] = [
+fn seconds_of(alloc: Global, line: &str, asked: Seconds) -> Option<Result<Option<u32>, Error>> {
+    let control = control(alloc, line.as_bytes())?;
+    Some(read_seconds(&control, asked))
+}
+
+const SECONDS: &[(&str, Seconds, Result<Option<u32>, Error>)] = &[
     (FULL, Seconds::MaxAge, Ok(Some(7))),
     (FULL, Seconds::SMaxAge, Ok(None)),
     (FULL, Seconds::Fresh, Ok(Some(7))),
@@ -129,22 +142,22 @@ const SECONDS: [(&str, Seconds, Result<Option<u32>, Error>); 9] = [
 
 #[test]
 fn seconds_of_directives(rt: HostRuntime) {
-    for (line, asked, expected) in SECONDS {
-        let found = control(rt.alloc(), line.as_bytes()).map(|c| read_seconds(&c, asked));
-        assert_eq!(rt; found, Some(expected));
+    for &(line, asked, expected) in SECONDS {
+        assert_eq!(rt; seconds_of(rt.alloc(), line, asked), Some(expected));
     }
     let most = u64::from(DELTA_SECONDS_OVERFLOW_VALUE);
     assert_eq!(rt; DELTA_SECONDS_OVERFLOW_DURATION.seconds(), most);
 }
 
-fn made_by_hand(alloc: Global) -> Option<CacheControl> {
+// Whether directives that are made by hand have public, and private.
+fn made_by_hand(alloc: Global) -> Option<(bool, bool)> {
     let mut directives = DirectiveMap::with_hasher(alloc, BuildDirectiveHasher::default());
     directives.insert(DirectiveKey::Public, None).ok()?;
-    Some(CacheControl { directives })
+    let control = CacheControl { directives };
+    Some((control.public(), control.private()))
 }
 
 #[test]
 fn control_made_by_hand(rt: HostRuntime) {
-    let control = made_by_hand(rt.alloc());
-    assert!(rt; control.is_some_and(|c| c.public() && !c.private()));
+    assert_eq!(rt; made_by_hand(rt.alloc()), Some((true, false)));
 }

@@ -7,7 +7,6 @@ use cache_heads::meta::{CacheMeta, CacheMetaDefaults, MetaFault, MetaReadFault, 
 use cache_words::pack::fault::PackFault;
 use cache_words::time::Moment;
 use std::alloc::Global;
-use std::test::Fail;
 
 pub(super) const INTERNAL: &[u8] =
     b"\x99\x02\x92\xcd\x03\xf2\0\x92\xcd\x03\xe8\0\x92\xcd\x03\xe8\0\x05\x3c\xc0\xc0\x92\xcd\x03\xe8\0";
@@ -21,18 +20,35 @@ const PUT_INTERNAL: &[u8] =
 const PUT_HEADER: &[u8] =
     b"\x92\xcc\xc8\x91\x92\xadcache-control\xc4\x3bmax-age=46, stale-while-revalidate=70000, stale-if-error=60";
 
+fn is_written(alloc: Global, meta: &CacheMeta, internal: &[u8], header: &[u8]) -> bool {
+    match meta.serialize(alloc) {
+        Ok(found) => found.0.as_slice() == internal && found.1.as_slice() == header,
+        Err(_) => false,
+    }
+}
+
+fn is_read(alloc: Global, meta: &CacheMeta, internal: &[u8], header: &[u8]) -> bool {
+    match CacheMeta::deserialize(alloc, internal, header) {
+        Ok(read) => read.internal == meta.internal && *read.headers() == *meta.headers(),
+        Err(_) => false,
+    }
+}
+
+// Whether a meta is written and read again, and refused with a moment before 1970.
+fn both_ways(alloc: Global) -> Option<[bool; 3]> {
+    let mut meta = meta(alloc)?;
+    let is_written = is_written(alloc, &meta, INTERNAL, HEADER);
+    let is_read = is_read(alloc, &meta, INTERNAL, HEADER);
+    meta.set_epoch_override(Moment::from_seconds(-1));
+    let is_refused = matches!(meta.serialize(alloc), Err(MetaFault::MetaMoment));
+    Some([is_written, is_read, is_refused])
+}
+
 #[test]
-fn metas_are_read_again(rt: HostRuntime) -> Result<(), Fail> {
+fn metas_are_read_again(rt: HostRuntime) {
     laws::meta_is_read_again();
     laws::one_meta();
-    let mut meta = meta(rt.alloc()).ok_or("memory")?;
-    let (internal, header) = meta.serialize(rt.alloc())?;
-    assert!(rt; internal.as_slice() == INTERNAL && header.as_slice() == HEADER);
-    let read = CacheMeta::deserialize(rt.alloc(), INTERNAL, HEADER)?;
-    assert!(rt; read.internal == meta.internal && *read.headers() == *meta.headers());
-    meta.set_epoch_override(Moment::from_seconds(-1));
-    assert!(rt; matches!(meta.serialize(rt.alloc()), Err(MetaFault::MetaMoment)));
-    Ok(())
+    assert_eq!(rt; both_ways(rt.alloc()), Some([true, true, true]));
 }
 
 // What is kept of a response with this Cache-Control that came at 127; `None` when out of memory, and
@@ -51,12 +67,13 @@ fn put(alloc: Global, line: &str) -> Option<CacheMeta> {
 }
 
 #[test]
-fn the_meta_of_a_put_is_written(rt: HostRuntime) -> Result<(), Fail> {
+fn the_meta_of_a_put_is_written(rt: HostRuntime) {
     let line = "max-age=46, stale-while-revalidate=70000, stale-if-error=60";
-    let meta = put(rt.alloc(), line).ok_or("a meta")?;
-    let (internal, header) = meta.serialize(rt.alloc())?;
-    assert!(rt; internal.as_slice() == PUT_INTERNAL && header.as_slice() == PUT_HEADER);
-    Ok(())
+    let is_right = match put(rt.alloc(), line) {
+        Some(meta) => is_written(rt.alloc(), &meta, PUT_INTERNAL, PUT_HEADER),
+        None => false,
+    };
+    assert!(rt; is_right);
 }
 
 // The moments and numbers are read before the head.

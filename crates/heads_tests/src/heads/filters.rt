@@ -13,7 +13,7 @@ use cache_heads::{NoCacheReason, RespCacheable};
 use cache_words::time::Moment;
 use http::{Method, StatusCode};
 use http_header::HeaderMap;
-use std::test::Fail;
+use std::alloc::Global;
 
 // 5 seconds after second 1000.
 const DATE: &str = "Thu, 01 Jan 1970 00:16:45 GMT";
@@ -23,70 +23,76 @@ fn defaults() -> CacheMetaDefaults<NeverByStatus> {
     CacheMetaDefaults::new(NeverByStatus, 7, 8)
 }
 
-// The seconds that Expires gives, and those until which the response is fresh that came at 1000.
+// A field of a head, whether its request was authorized, the seconds that Expires gives, and those until which the response
+// is fresh that came at 1000. It is kept where there are such.
+type Row = (&'static str, &'static str, bool, Option<i64>, Option<i64>);
+
+const ROWS: &[Row] = &[
+    ("expires", DATE, false, Some(1005), Some(1005)),
+    ("expires", DATE, true, Some(1005), None),
+    (
+        "expires",
+        " Thu, 01 Jan 1970 00:16:45 GMT",
+        false,
+        Some(1005),
+        Some(1005),
+    ),
+    (
+        "expires",
+        "\tThu, 01 Jan 1970 00:16:45 GMT \t ",
+        false,
+        Some(1005),
+        Some(1005),
+    ),
+    (
+        "expires",
+        "Thu, 01 Jan 1970  00:16:45 GMT",
+        false,
+        Some(0),
+        Some(0),
+    ),
+    ("expires", " 0 ", false, Some(0), Some(0)),
+    ("expires", "", false, Some(0), Some(0)),
+    ("x-a", "1", false, None, None),
+];
+
+fn seconds_of(moment: Option<Moment>) -> Option<i64> {
+    match moment {
+        Some(moment) => Some(moment.seconds()),
+        None => None,
+    }
+}
+
 fn seconds(header: &ResponseHeader, authorized: bool) -> (Option<i64>, Option<i64>) {
     let now = Moment::from_seconds(1000);
     let until = calculate_fresh_until(now, None, header, authorized, &defaults());
     let expires = calculate_expires_header_time(header);
-    (expires.map(|at| at.seconds()), until.map(|at| at.seconds()))
+    (seconds_of(expires), seconds_of(until))
+}
+
+fn is_seconds(alloc: Global, row: &Row) -> Option<bool> {
+    let (name, value, authorized, expires, until) = *row;
+    let header = head(alloc, name, value)?;
+    Some(seconds(&header, authorized) == (expires, until))
+}
+
+// Whether the response is kept that came at 1000.
+fn is_kept(alloc: Global, row: &Row) -> Option<bool> {
+    let header = head(alloc, row.0, row.1)?;
+    let now = Moment::from_seconds(1000);
+    match resp_cacheable(now, None, header, row.2, &defaults()) {
+        RespCacheable::Cacheable(_) => Some(true),
+        RespCacheable::Uncacheable(NoCacheReason::OriginNotCache) => Some(false),
+        RespCacheable::Uncacheable(_) => None,
+    }
 }
 
 #[test]
-fn expires_gives_a_moment(rt: HostRuntime) -> Result<(), Fail> {
-    for (name, value, authorized, expires, until) in [
-        ("expires", DATE, false, Some(1005), Some(1005)),
-        ("expires", DATE, true, Some(1005), None),
-        (
-            "expires",
-            " Thu, 01 Jan 1970 00:16:45 GMT",
-            false,
-            Some(1005),
-            Some(1005),
-        ),
-        (
-            "expires",
-            "\tThu, 01 Jan 1970 00:16:45 GMT \t ",
-            false,
-            Some(1005),
-            Some(1005),
-        ),
-        (
-            "expires",
-            "Thu, 01 Jan 1970  00:16:45 GMT",
-            false,
-            Some(0),
-            Some(0),
-        ),
-        ("expires", " 0 ", false, Some(0), Some(0)),
-        ("expires", "", false, Some(0), Some(0)),
-        ("x-a", "1", false, None, None),
-    ] {
-        let header = head(rt.alloc(), name, value).ok_or("memory")?;
-        assert_eq!(rt;
-            seconds(&header, authorized),
-            (expires, until),
-            "{name}: {value}"
-        );
+fn expires_gives_a_moment(rt: HostRuntime) {
+    for row in ROWS {
+        assert_eq!(rt; is_seconds(rt.alloc(), row), Some(true));
+        assert_eq!(rt; is_kept(rt.alloc(), row), Some(row.4.is_some()));
     }
-    Ok(())
-}
-
-#[test]
-fn responses_are_kept_by_what_they_say(rt: HostRuntime) -> Result<(), Fail> {
-    for (name, value, authorized, is_kept) in [
-        ("expires", DATE, false, true),
-        ("expires", DATE, true, false),
-        ("x-a", "1", false, false),
-    ] {
-        let header = head(rt.alloc(), name, value).ok_or("memory")?;
-        let now = Moment::from_seconds(1000);
-        let found = resp_cacheable(now, None, header, authorized, &defaults());
-        assert_eq!(rt; found.is_cacheable(), is_kept, "{name}: {value}");
-        if let RespCacheable::Uncacheable(reason) = found {
-            assert_eq!(rt; reason, NoCacheReason::OriginNotCache);
-        }
-    }
-    Ok(())
 }
 
 #[test]
@@ -102,45 +108,46 @@ fn defaults_are_shown(rt: HostRuntime) {
 
 #[test]
 fn reasons_have_names(rt: HostRuntime) {
-    for (reason, name) in [
-        (NoCacheReason::OriginNotCache, "OriginNotCache"),
-        (NoCacheReason::Custom("mine"), "mine"),
-    ] {
-        assert_eq!(rt; reason.as_str(), name);
-    }
+    assert_eq!(rt; NoCacheReason::OriginNotCache.as_str(), "OriginNotCache");
+    assert_eq!(rt; NoCacheReason::Custom("mine").as_str(), "mine");
+}
+
+fn is_cacheable(alloc: Global, method: Method) -> bool {
+    let headers = HeaderMap::new(alloc);
+    request_cacheable(&RequestHeader { method, headers })
 }
 
 #[test]
 fn methods_are_cacheable(rt: HostRuntime) {
-    for (method, is_cacheable) in [
-        (Method::GET, true),
-        (Method::HEAD, true),
-        (Method::POST, false),
-    ] {
-        let headers = HeaderMap::new(rt.alloc());
-        let request = RequestHeader { method, headers };
-        assert_eq!(rt; request_cacheable(&request), is_cacheable);
-    }
+    assert!(rt; is_cacheable(rt.alloc(), Method::GET));
+    assert!(rt; is_cacheable(rt.alloc(), Method::HEAD));
+    assert!(rt; !is_cacheable(rt.alloc(), Method::POST));
 }
 
-// Sends a HEAD request with a range on. Without memory it stays as it was.
-#[test]
-fn refused_request_is_unchanged(rt: HostRuntime) {
-    let Some(kept) = meta(rt.alloc()) else {
-        return;
-    };
-    let mut headers = HeaderMap::new(rt.alloc());
-    for (name, value) in [("range", "bytes=0-1"), ("if-none-match", "\"b\"")] {
-        if append(rt.alloc(), &mut headers, name, value).is_none() {
-            return;
-        }
-    }
-    let mut request = RequestHeader {
+// A HEAD request with a range; `None` when out of memory.
+fn ranged(alloc: Global) -> Option<RequestHeader> {
+    let mut headers = HeaderMap::new(alloc);
+    append(alloc, &mut headers, "range", "bytes=0-1")?;
+    append(alloc, &mut headers, "if-none-match", "\"b\"")?;
+    Some(RequestHeader {
         method: Method::HEAD,
         headers,
-    };
+    })
+}
+
+// Sends it on. Without memory it stays as it was.
+fn is_sent_or_kept(alloc: Global) -> Option<bool> {
+    let kept = meta(alloc)?;
+    let mut request = ranged(alloc)?;
     let is_sent = request_filter(&mut request, Some(&kept)).is_ok();
-    assert_eq!(rt; request.method == Method::GET, is_sent);
-    assert_eq!(rt; !request.headers.contains_key("range"), is_sent);
-    assert!(rt; request.headers.contains_key("if-none-match"));
+    Some(
+        (request.method == Method::GET) == is_sent
+            && request.headers.contains_key("range") != is_sent
+            && request.headers.contains_key("if-none-match"),
+    )
+}
+
+#[test]
+fn refused_request_is_unchanged(rt: HostRuntime) {
+    assert_ne!(rt; is_sent_or_kept(rt.alloc()), Some(false));
 }

@@ -4,10 +4,10 @@ use cache_heads::meta::CacheMeta;
 use cache_words::key::HashBinary;
 use cache_words::time::Moment;
 use http::StatusCode;
-use std::test::Fail;
+use std::alloc::Global;
 
 // A call that changes a meta.
-#[derive(Clone, Copy, Debug)]
+#[derive(Clone, Copy)]
 enum Step {
     SetEpoch(i64),
     RemoveEpoch,
@@ -69,97 +69,114 @@ fn served(meta: &CacheMeta, time: Moment) -> [bool; 3] {
     ]
 }
 
+const MADE: [i64; 5] = [1000, 1000, 1000, 1000, 1010];
+
+const LASTING: [u64; 3] = [10, 5, 60];
+
+const MOVED: [i64; 5] = [1000, 1010, 1000, 1010, 1016];
+
+const ENDED: [i64; 5] = [1000, 1010, 1000, 1010, 1000];
+
+// Calls, and what the meta then shows.
+const CHANGES: &[(Step, [i64; 5], [u64; 3])] = &[
+    (Step::RemoveVariance, MADE, LASTING),
+    (
+        Step::SetEpoch(1016),
+        [1000, 1000, 1000, 1016, 1010],
+        [0, 5, 60],
+    ),
+    (Step::RemoveEpoch, MADE, LASTING),
+    (
+        Step::SetProvenance(1016),
+        [1000, 1000, 1016, 1000, 1010],
+        LASTING,
+    ),
+    (Step::ResetProvenance, MADE, LASTING),
+    (Step::Update(1016, 1010), MOVED, [6, 1, 2]),
+    (Step::ExpireAt(1017), MOVED, [6, 1, 2]),
+    (Step::ExpireAt(1000), ENDED, [0, 1, 2]),
+    (Step::DisableStale, ENDED, [0, 0, 0]),
+];
+
 #[test]
-fn each_call_changes_what_it_names(rt: HostRuntime) -> Result<(), Fail> {
-    let mut meta = meta(rt.alloc()).ok_or("memory")?;
-    let (made, lasting) = ([1000, 1000, 1000, 1000, 1010], [10, 5, 60]);
-    assert_eq!(rt; (moments(&meta), spans(&meta)), (made, lasting));
-    let moved = [1000, 1010, 1000, 1010, 1016];
-    let ended = [1000, 1010, 1000, 1010, 1000];
-    for (step, is_moments, is_spans) in [
-        (
-            Step::SetEpoch(1016),
-            [1000, 1000, 1000, 1016, 1010],
-            [0, 5, 60],
-        ),
-        (Step::RemoveEpoch, made, lasting),
-        (
-            Step::SetProvenance(1016),
-            [1000, 1000, 1016, 1000, 1010],
-            lasting,
-        ),
-        (Step::ResetProvenance, made, lasting),
-        (Step::Update(1016, 1010), moved, [6, 1, 2]),
-        (Step::ExpireAt(1017), moved, [6, 1, 2]),
-        (Step::ExpireAt(1000), ended, [0, 1, 2]),
-        (Step::DisableStale, ended, [0, 0, 0]),
-    ] {
-        apply(&mut meta, step);
-        assert_eq!(rt;
-            (moments(&meta), spans(&meta)),
-            (is_moments, is_spans),
-            "after {step:?}"
-        );
+fn each_call_changes_what_it_names(rt: HostRuntime) {
+    let meta = meta(rt.alloc());
+    assert!(rt; meta.is_some());
+    if let Some(mut meta) = meta {
+        for (step, is_moments, is_spans) in CHANGES {
+            apply(&mut meta, *step);
+            assert_eq!(rt; moments(&meta), *is_moments);
+            assert_eq!(rt; spans(&meta), *is_spans);
+        }
     }
-    Ok(())
+}
+
+// Calls, and the override of the epoch and the variance then.
+const SET: &[(Step, Option<i64>, Option<HashBinary>)] = &[
+    (Step::DisableStale, None, None),
+    (Step::SetEpoch(1016), Some(1016), None),
+    (Step::SetVariance([1; 16]), Some(1016), Some([1; 16])),
+    (Step::SetVarianceKey([2; 16]), Some(1016), Some([2; 16])),
+    (Step::RemoveEpoch, None, Some([2; 16])),
+    (Step::RemoveVariance, None, None),
+];
+
+fn override_of(meta: &CacheMeta) -> Option<i64> {
+    Some(meta.epoch_override()?.seconds())
 }
 
 #[test]
-fn an_override_and_a_variance_are_shown(rt: HostRuntime) -> Result<(), Fail> {
-    let mut meta = meta(rt.alloc()).ok_or("memory")?;
-    assert!(rt; meta.epoch_override().is_none() && meta.variance().is_none());
-    for (step, epoch, variance) in [
-        (Step::SetEpoch(1016), Some(1016), None),
-        (Step::SetVariance([1; 16]), Some(1016), Some([1; 16])),
-        (Step::SetVarianceKey([2; 16]), Some(1016), Some([2; 16])),
-        (Step::RemoveEpoch, None, Some([2; 16])),
-        (Step::RemoveVariance, None, None),
-    ] {
-        apply(&mut meta, step);
-        let found = meta.epoch_override().map(|at| at.seconds());
-        assert_eq!(rt;
-            (found, meta.variance()),
-            (epoch, variance),
-            "after {step:?}"
-        );
+fn an_override_and_a_variance_are_shown(rt: HostRuntime) {
+    let meta = meta(rt.alloc());
+    assert!(rt; meta.is_some());
+    if let Some(mut meta) = meta {
+        for (step, epoch, variance) in SET {
+            apply(&mut meta, *step);
+            assert_eq!(rt; override_of(&meta), *epoch);
+            assert_eq!(rt; meta.variance(), *variance);
+        }
     }
-    Ok(())
 }
 
-#[test]
-fn freshness_and_windows_end(rt: HostRuntime) -> Result<(), Fail> {
-    let meta = meta(rt.alloc()).ok_or("memory")?;
-    for (at, expected) in [
-        (1010, [true, true, true]),
-        (1011, [false, true, true]),
-        (1015, [false, true, true]),
-        (1016, [false, false, true]),
-        (1070, [false, false, true]),
-        (1071, [false, false, false]),
-    ] {
-        assert_eq!(rt;
-            served(&meta, Moment::from_seconds(at)),
-            expected,
-            "at {at}"
-        );
-    }
-    for (at, age) in [(999, 0), (1000, 0), (1010, 10)] {
-        assert_eq!(rt;
-            meta.age(Moment::from_seconds(at)).seconds(),
-            age,
-            "age at {at}"
-        );
-    }
-    Ok(())
-}
+const SERVED: &[(i64, [bool; 3])] = &[
+    (1010, [true, true, true]),
+    (1011, [false, true, true]),
+    (1015, [false, true, true]),
+    (1016, [false, false, true]),
+    (1070, [false, false, true]),
+    (1071, [false, false, false]),
+];
+
+const AGES: &[(i64, u64)] = &[(999, 0), (1000, 0), (1010, 10)];
 
 #[test]
-fn heads_are_lent_and_copied(rt: HostRuntime) -> Result<(), Fail> {
-    let mut meta = meta(rt.alloc()).ok_or("memory")?;
+fn freshness_and_windows_end(rt: HostRuntime) {
+    let meta = meta(rt.alloc());
+    assert!(rt; meta.is_some());
+    if let Some(meta) = meta {
+        for (at, expected) in SERVED {
+            assert_eq!(rt; served(&meta, Moment::from_seconds(*at)), *expected);
+        }
+        for (at, age) in AGES {
+            assert_eq!(rt; meta.age(Moment::from_seconds(*at)).seconds(), *age);
+        }
+    }
+}
+
+// Whether a meta's head is lent to be changed, copied, and shown.
+fn lent_and_copied(alloc: Global) -> Option<bool> {
+    let mut meta = meta(alloc)?;
     meta.response_header_mut().status = StatusCode::NOT_FOUND;
-    let copy = meta.response_header_copy()?;
-    assert!(rt; copy.status == StatusCode::NOT_FOUND && copy.headers.len() == 1);
-    assert!(rt; meta.response_header().headers.contains_key("etag"));
-    assert_eq!(rt; meta.headers().len(), 1);
-    Ok(())
+    let copy = meta.response_header_copy().ok()?;
+    Some(
+        copy.status == StatusCode::NOT_FOUND
+            && copy.headers.len() == 1
+            && meta.response_header().headers.contains_key("etag")
+            && meta.headers().len() == 1,
+    )
+}
+
+#[test]
+fn heads_are_lent_and_copied(rt: HostRuntime) {
+    assert_eq!(rt; lent_and_copied(rt.alloc()), Some(true));
 }

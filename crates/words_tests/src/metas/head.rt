@@ -6,7 +6,6 @@ use cache_words::pack::PackFault;
 use http::StatusCode;
 use http_header::{HeaderMap, HeaderName, HeaderValue};
 use std::alloc::Global;
-use std::test::*;
 
 type Field = (&'static str, &'static [u8]);
 
@@ -30,7 +29,7 @@ pub fn made(alloc: Global, fields: &[Field]) -> Option<ResponseHeader> {
 }
 
 // Fields, and the bytes of their head: the values of a name are together, in the map's order.
-const WRITTEN: [(&[Field], &[u8]); 3] = [
+const WRITTEN: &[(&[Field], &[u8])] = &[
     (&[], b"\x92\xcc\xc8\x90"),
     (
         &[("cache-control", b"max-age=10")],
@@ -42,10 +41,6 @@ const WRITTEN: [(&[Field], &[u8]); 3] = [
     ),
 ];
 
-fn is_written_as(alloc: Global, header: &ResponseHeader, text: &[u8]) -> bool {
-    head::write(alloc, header).is_ok_and(|written| written.as_slice() == text)
-}
-
 fn is_read_as(alloc: Global, text: &[u8], header: &ResponseHeader) -> bool {
     match head::read(alloc, text) {
         Ok(read) => read.status == header.status && read.headers == header.headers,
@@ -53,29 +48,32 @@ fn is_read_as(alloc: Global, text: &[u8], header: &ResponseHeader) -> bool {
     }
 }
 
-#[test]
-fn heads_are_written_and_read(rt: HostRuntime) -> Result<(), Fail> {
-    laws::head_is_read_again();
-    laws::one_head();
-    laws::map_of_its_lines();
-    for (fields, text) in WRITTEN {
-        let header = made(rt.alloc(), fields).ok_or("memory")?;
-        assert!(rt; is_written_as(rt.alloc(), &header, text), "{text:?}");
-        assert!(rt; is_read_as(rt.alloc(), text, &header), "{text:?}");
-    }
-    Ok(())
+fn is_both(alloc: Global, fields: &[Field], text: &[u8]) -> Option<bool> {
+    let header = made(alloc, fields)?;
+    let written = head::write(alloc, &header).ok()?;
+    Some(written.as_slice() == text && is_read_as(alloc, text, &header))
 }
 
 // Names in any case, forms that are not the shortest, and bytes after the head.
+const ANY_FORM: &[u8] =
+    b"\xdc\0\x02\xcd\0\xc8\xdd\0\0\0\x01\xdc\0\x02\xd9\x01A\xc5\0\x011and what follows";
+
 #[test]
-fn every_form_of_a_head_is_read(rt: HostRuntime) -> Result<(), Fail> {
-    let text = b"\xdc\0\x02\xcd\0\xc8\xdd\0\0\0\x01\xdc\0\x02\xd9\x01A\xc5\0\x011and what follows";
-    let header = made(rt.alloc(), &[("a", b"1")]).ok_or("memory")?;
-    assert!(rt; is_read_as(rt.alloc(), text, &header));
-    Ok(())
+fn heads_are_written_and_read(rt: HostRuntime) {
+    laws::head_is_read_again();
+    laws::one_head();
+    laws::map_of_its_lines();
+    for &(fields, text) in WRITTEN {
+        assert_eq!(rt; is_both(rt.alloc(), fields, text), Some(true));
+    }
+    let is_read = match made(rt.alloc(), &[("a", b"1")]) {
+        Some(header) => is_read_as(rt.alloc(), ANY_FORM, &header),
+        None => false,
+    };
+    assert!(rt; is_read);
 }
 
-const FAULTS: [(&[u8], PackFault); 16] = [
+const FAULTS: &[(&[u8], PackFault)] = &[
     (b"", PackFault::Short),
     (b"\xc0", PackFault::Kind),
     (b"\x93\xcc\xc8\x90", PackFault::Length),
@@ -96,9 +94,9 @@ const FAULTS: [(&[u8], PackFault); 16] = [
 
 #[test]
 fn the_first_fault_of_a_head_is_returned(rt: HostRuntime) {
-    for (bytes, fault) in FAULTS {
+    for &(bytes, fault) in FAULTS {
         let found = head::read(rt.alloc(), bytes).err();
-        assert_eq!(rt; found, Some(MetaReadFault::Pack(fault)), "{bytes:?}");
+        assert_eq!(rt; found, Some(MetaReadFault::Pack(fault)));
     }
 }
 
@@ -125,16 +123,18 @@ fn names(alloc: Global, count: u32) -> Option<Vec<u8>> {
 }
 
 // How many names are read of a head of this many.
-fn names_read(alloc: Global, count: u32) -> Result<usize, MetaReadFault> {
-    let text = names(alloc, count).ok_or(MetaReadFault::Memory)?;
-    let header = head::read(alloc, text.as_slice())?;
-    Ok(header.headers.keys_len())
+fn names_read(alloc: Global, count: u32) -> Option<Result<usize, MetaReadFault>> {
+    let text = names(alloc, count)?;
+    match head::read(alloc, text.as_slice()) {
+        Ok(header) => Some(Ok(header.headers.keys_len())),
+        Err(fault) => Some(Err(fault)),
+    }
 }
 
 #[test]
 fn a_map_holds_24576_names(rt: HostRuntime) {
     let full = MetaReadFault::Pack(PackFault::Length);
     for (count, want) in [(24576, Ok(24576)), (24577, Err(full))] {
-        assert_eq!(rt; names_read(rt.alloc(), count), want, "of {count}");
+        assert_eq!(rt; names_read(rt.alloc(), count), Some(want));
     }
 }

@@ -7,7 +7,6 @@ use cache_words::key::str2hex;
 use cache_words::pack::PackFault;
 use cache_words::time::Moment;
 use std::alloc::Global;
-use std::test::*;
 
 // An early meta of a response that was stored at second 1000.
 pub fn early<const VERSION: u8>() -> EarlyInternalMeta<VERSION> {
@@ -43,7 +42,7 @@ fn early_metas_are_seen_as_the_latest(rt: HostRuntime) {
 }
 
 // Each form, with all that may be absent, and with nil in its place, and with bytes after it.
-const FORMS: [&[u8]; 7] = [
+const FORMS: &[&[u8]] = &[
     b"\x94\x92\xcd\x03\xf2\x00\x92\xcd\x03\xe8\x00\x00\x00",
     b"\x95\x01\x92\xcd\x03\xf2\x00\x92\xcd\x03\xe8\x00\x00\x00",
     b"\x96\x02\x92\xcd\x03\xf2\x00\x92\xcd\x03\xe8\x00\x92\xcd\x03\xe8\x00\x00\x00",
@@ -55,12 +54,12 @@ const FORMS: [&[u8]; 7] = [
 
 #[test]
 fn every_form_of_a_meta_is_read(rt: HostRuntime) {
-    for text in FORMS {
-        assert_eq!(rt; internal::read(text), Ok(latest()), "{text:?}");
+    for &text in FORMS {
+        assert_eq!(rt; internal::read(text), Ok(latest()));
     }
 }
 
-const FAULTS: [(&[u8], PackFault); 14] = [
+const FAULTS: &[(&[u8], PackFault)] = &[
     (b"", PackFault::Short),
     (b"\x94\x92\x00\x00\x92\x00\x00\x00\x00", PackFault::Short),
     (b"\x93\x03\0\0\0\0\0\0\0\0", PackFault::Range),
@@ -88,12 +87,12 @@ const FAULTS: [(&[u8], PackFault); 14] = [
 
 #[test]
 fn the_first_fault_of_a_meta_is_returned(rt: HostRuntime) {
-    for (bytes, fault) in FAULTS {
-        assert_eq!(rt; internal::read(bytes), Err(fault), "{bytes:?}");
+    for &(bytes, fault) in FAULTS {
+        assert_eq!(rt; internal::read(bytes), Err(fault));
     }
 }
 
-#[derive(Clone, Copy, Debug)]
+#[derive(Clone, Copy)]
 enum Field {
     FreshUntil,
     Created,
@@ -126,7 +125,7 @@ fn a_moment_before_1970_is_not_written(rt: HostRuntime) {
         Field::Provenance,
     ] {
         let fault = internal::write(rt.alloc(), &too_early(field)).err();
-        assert_eq!(rt; fault, Some(MetaFault::MetaMoment), "{field:?}");
+        assert_eq!(rt; fault, Some(MetaFault::MetaMoment));
     }
 }
 
@@ -182,6 +181,6 @@ fn the_originals_metas_are_written_and_read(rt: HostRuntime) {
     assert!(rt; agrees(rt.alloc(), NEW));
     assert_eq!(rt; METAS.lines().count(), 60);
     for line in METAS.lines() {
-        assert!(rt; agrees(rt.alloc(), line), "{line}");
+        assert!(rt; agrees(rt.alloc(), line));
     }
 }

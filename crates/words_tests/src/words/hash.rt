@@ -1,6 +1,5 @@
 //! Hashes of texts, and hashes in hex.
 use cache_words::key::{HashBinary, hash_key, hash_u8, str2hex};
-use std::test::*;
 
 #[test]
 fn hash_of_a_text(rt: HostRuntime) {
@@ -11,7 +10,7 @@ fn hash_of_a_text(rt: HostRuntime) {
     assert_eq!(rt; hash_u8("tenant_a/path"), 0x6c);
 }
 
-const HEX: [(&str, Option<HashBinary>); 5] = [
+const HEX: &[(&str, Option<HashBinary>)] = &[
     ("6c79e74e88bacb8eb370adb7617068c", None),
     ("6c79e74e88bacb8eb370adb7617068cg", None),
     ("6c79e74e88bacb8eb370adb7617068c800", None),
@@ -24,7 +23,7 @@ const HEX: [(&str, Option<HashBinary>); 5] = [
 
 #[test]
 fn hex_of_a_hash(rt: HostRuntime) {
-    for (text, hash) in HEX {
+    for &(text, hash) in HEX {
         assert_eq!(rt; str2hex(text), hash);
     }
 }

@@ -1,9 +1,8 @@
 //! Keys, their hashes and their texts.
-use cache_words::key::{CacheHashKey, CacheKey, CompactCacheKey, hash_key, str2hex};
+use crate::words::{distinct, is_shown, is_text};
+use cache_words::key::{CacheHashKey, CacheKey, CompactCacheKey, HashBinary, hash_key, str2hex};
 use std::alloc::{AllocError, Global};
-use std::collections::HashMap;
 use std::fmt;
-use std::test::*;
 
 // Keys with their hashes and texts, made by the original cache's own code. Bytes are in hex.
 struct Case {
@@ -17,7 +16,7 @@ struct Case {
     display: &'static str,
 }
 
-const CASES: [Case; 7] = [
+const CASES: &[Case] = &[
     Case {
         primary: "5c",
         tag: "",
@@ -90,50 +89,52 @@ const CASES: [Case; 7] = [
     },
 ];
 
-fn made(alloc: Global, case: &Case) -> Result<CacheKey, Fail> {
-    let primary = hex::decode(alloc, case.primary)?;
-    let mut key = CacheKey::new(primary, String::from_str(alloc, case.tag)?);
-    if let Some(variance) = case.variance.and_then(str2hex) {
+fn key_of(alloc: Global, primary: Vec<u8>, tag: &str) -> Option<CacheKey> {
+    let tag = String::from_str(alloc, tag).ok()?;
+    Some(CacheKey::new(primary, tag))
+}
+
+fn made(alloc: Global, case: &Case) -> Option<CacheKey> {
+    let primary = hex::decode(alloc, case.primary).ok()?;
+    let mut key = key_of(alloc, primary, case.tag)?;
+    if let Some(variance) = hash_of(case.variance) {
         key.set_variance_key(variance);
     }
-    if let Some(over) = case.over.and_then(str2hex) {
+    if let Some(over) = hash_of(case.over) {
         key.set_primary_bin_override(over);
     }
-    Ok(key)
+    Some(key)
 }
 
-fn has_hashes<K: CacheHashKey>(key: &K, case: &Case) -> bool {
+fn hash_of(text: Option<&str>) -> Option<HashBinary> {
+    str2hex(text?)
+}
+
+fn shows<K: CacheHashKey + fmt::Display>(alloc: Global, key: &K, case: &Case) -> bool {
     Some(key.primary_bin()) == str2hex(case.over.unwrap_or(case.hash))
-        && key.variance_bin() == case.variance.and_then(str2hex)
+        && key.variance_bin() == hash_of(case.variance)
         && Some(key.combined_bin()) == str2hex(case.combined)
         && key.user_tag() == case.tag
+        && is_shown(alloc, key, case.display)
+}
+
+fn is_case(alloc: Global, case: &Case) -> Option<bool> {
+    let key = made(alloc, case)?;
+    let kept = key.to_compact().ok()?;
+    Some(
+        shows(alloc, &key, case)
+            && shows(alloc, &kept, case)
+            && Some(hash_key(key.primary_key())) == str2hex(case.hash)
+            && key.primary_key_str().is_some() == case.text
+            && is_text(key.combined(alloc), case.combined),
+    )
 }
 
 #[test]
-fn hashes_of_keys(rt: HostRuntime) -> Result<(), Fail> {
-    for case in &CASES {
-        let key = made(rt.alloc(), case)?;
-        assert!(rt; has_hashes(&key, case));
-        assert!(rt; has_hashes(&key.to_compact()?, case));
-        assert_eq!(rt; Some(hash_key(key.primary_key())), str2hex(case.hash));
-        assert_eq!(rt; key.primary_key_str().is_some(), case.text);
+fn keys_as_the_original(rt: HostRuntime) {
+    for case in CASES {
+        assert_eq!(rt; is_case(rt.alloc(), case), Some(true));
     }
-    Ok(())
-}
-
-fn is_shown<K: fmt::Display>(alloc: Global, key: &K, text: &str) -> Result<bool, AllocError> {
-    Ok(format!(in alloc; "{key}")?.as_str() == text)
-}
-
-#[test]
-fn keys_are_shown(rt: HostRuntime) -> Result<(), Fail> {
-    for case in &CASES {
-        let key = made(rt.alloc(), case)?;
-        assert!(rt; is_shown(rt.alloc(), &key, case.display)?);
-        assert!(rt; is_shown(rt.alloc(), &key.to_compact()?, case.display)?);
-        assert_eq!(rt; key.combined(rt.alloc())?.as_str(), case.combined);
-    }
-    Ok(())
 }
 
 // What is done to the key of `aa`.
@@ -153,7 +154,15 @@ const OTHER: &str = "27c35e6e9373877f29e562464e46497e";
 const ZEROS: &str = "00000000000000000000000000000000";
 
 // Primary bytes, steps, and then the key's primary hash, variance and combined hash.
-const STEPS: [(&[u8], &[Step], &str, Option<&str>, &str); 6] = [
+type Row = (
+    &'static [u8],
+    &'static [Step],
+    &'static str,
+    Option<&'static str>,
+    &'static str,
+);
+
+const STEPS: &[Row] = &[
     (b"aa", &[], PRIMARY, None, PRIMARY),
     (b"aa", &[Step::SetVariance], PRIMARY, Some(ZEROS), COMBINED),
     (
@@ -180,11 +189,6 @@ const STEPS: [(&[u8], &[Step], &str, Option<&str>, &str); 6] = [
     ),
 ];
 
-fn key_of(alloc: Global, primary: &[u8]) -> Result<CacheKey, AllocError> {
-    let primary = Vec::from_slice(alloc, primary)?;
-    Ok(CacheKey::new(primary, String::from_str(alloc, "1")?))
-}
-
 fn take(key: &mut CacheKey, step: Step) {
     match step {
         Step::SetVariance => key.set_variance_key([0; 16]),
@@ -197,76 +201,83 @@ fn take(key: &mut CacheKey, step: Step) {
     }
 }
 
-fn after(alloc: Global, primary: &[u8], steps: &[Step]) -> Result<CacheKey, AllocError> {
-    let mut key = key_of(alloc, primary)?;
+fn after(alloc: Global, primary: &[u8], steps: &[Step]) -> Option<CacheKey> {
+    let primary = Vec::from_slice(alloc, primary).ok()?;
+    let mut key = key_of(alloc, primary, "1")?;
     for step in steps {
         take(&mut key, *step);
     }
-    key.clone()
+    key.clone().ok()
 }
 
-// Its primary hash, its variance and its combined hash, in hex.
-fn texts_of<K: CacheHashKey>(
-    alloc: Global,
-    key: &K,
-) -> Result<(String, Option<String>, String), AllocError> {
-    Ok((
-        key.primary(alloc)?,
-        key.variance(alloc)?,
-        key.combined(alloc)?,
-    ))
+fn is_variance(text: Result<Option<String>, AllocError>, want: Option<&str>) -> bool {
+    match text {
+        Ok(text) => text.as_ref().map(String::as_str) == want,
+        Err(AllocError) => false,
+    }
+}
+
+fn is_after(alloc: Global, row: Row) -> Option<bool> {
+    let (primary, steps, hash, variance, combined) = row;
+    let key = after(alloc, primary, steps)?;
+    let kept = key.to_compact().ok()?;
+    Some(
+        is_text(key.primary(alloc), hash)
+            && is_variance(key.variance(alloc), variance)
+            && is_text(key.combined(alloc), combined)
+            && key.get_variance_key().copied() == hash_of(variance)
+            && Some(kept.combined_bin()) == str2hex(combined),
+    )
 }
 
 #[test]
-fn steps_on_a_key(rt: HostRuntime) -> Result<(), Fail> {
-    for (primary, steps, hash, variance, combined) in STEPS {
-        let key = after(rt.alloc(), primary, steps)?;
-        let texts = texts_of(rt.alloc(), &key)?;
-        assert_eq!(rt; texts.0.as_str(), hash);
-        assert_eq!(rt; texts.1.as_ref().map(String::as_str), variance);
-        assert_eq!(rt; texts.2.as_str(), combined);
-        assert_eq!(rt; key.get_variance_key().copied(), variance.and_then(str2hex));
-        assert_eq!(rt; Some(key.to_compact()?.combined_bin()), str2hex(combined));
+fn steps_on_a_key(rt: HostRuntime) {
+    for &row in STEPS {
+        assert_eq!(rt; is_after(rt.alloc(), row), Some(true));
     }
-    Ok(())
 }
 
 // Primary bytes, and whether they are text.
-const TEXTS: [(&[u8], Option<&str>); 2] = [(b"aa", Some("aa")), (&[0x66, 0x6f, 0x6f, 0xff], None)];
+const TEXTS: &[(&[u8], Option<&str>)] = &[(b"aa", Some("aa")), (&[0x66, 0x6f, 0x6f, 0xff], None)];
 
 #[test]
-fn bytes_that_are_text(rt: HostRuntime) -> Result<(), Fail> {
-    for (primary, text) in TEXTS {
-        assert_eq!(rt; key_of(rt.alloc(), primary)?.primary_key_str(), text);
+fn bytes_that_are_text(rt: HostRuntime) {
+    for &(primary, text) in TEXTS {
+        let is_right = match after(rt.alloc(), primary, &[]) {
+            Some(key) => key.primary_key_str() == text,
+            None => false,
+        };
+        assert!(rt; is_right);
     }
-    Ok(())
 }
 
-#[test]
-fn kept_keys_compare(rt: HostRuntime) -> Result<(), Fail> {
-    let plain = after(rt.alloc(), b"aa", &[])?.to_compact()?;
-    let varied = after(rt.alloc(), b"aa", &[Step::SetVariance])?.to_compact()?;
-    assert!(rt; plain == plain.clone()?);
-    assert!(rt; plain != varied);
-    assert!(rt; plain < varied);
-    Ok(())
+fn kept(alloc: Global, primary: &[u8], steps: &[Step]) -> Option<CompactCacheKey> {
+    after(alloc, primary, steps)?.to_compact().ok()
 }
 
-#[test]
-fn equal_keys_hash_alike(rt: HostRuntime) -> Result<(), Fail> {
-    let mut counts = HashMap::new(rt.alloc());
+// Whether a key is its copy, is one with a variance, and is before that.
+fn compared(alloc: Global) -> Option<[bool; 3]> {
+    let plain = kept(alloc, b"aa", &[])?;
+    let copy = plain.clone().ok()?;
+    let varied = kept(alloc, b"aa", &[Step::SetVariance])?;
+    Some([plain == copy, plain == varied, plain < varied])
+}
+
+fn hashed_alike(alloc: Global) -> Option<usize> {
+    let mut keys = Vec::new(alloc);
     for primary in [b"aa", b"bb", b"aa"] {
-        counts.insert(key_of(rt.alloc(), primary)?.to_compact()?, ())?;
+        keys.push(kept(alloc, primary, &[])?).ok()?;
     }
-    counts.insert(CompactCacheKey::empty(rt.alloc()), ())?;
-    assert_eq!(rt; counts.len(), 3);
-    Ok(())
+    keys.push(CompactCacheKey::empty(alloc)).ok()?;
+    distinct(alloc, keys)
 }
 
 #[test]
-fn the_empty_key(rt: HostRuntime) {
+fn kept_keys_compare_and_hash(rt: HostRuntime) {
+    assert_eq!(rt; compared(rt.alloc()), Some([true, false, true]));
+    assert_eq!(rt; hashed_alike(rt.alloc()), Some(3));
     let key = CompactCacheKey::empty(rt.alloc());
-    assert_eq!(rt; key.primary_bin(), [0; 16]);
-    assert_eq!(rt; key.variance_bin(), None);
-    assert_eq!(rt; key.user_tag(), "");
+    assert!(rt;
+        key.primary_bin() == [0; 16] && key.variance_bin().is_none() && key.user_tag() == ""
+    );
 }

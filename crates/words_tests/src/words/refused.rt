@@ -1,58 +1,11 @@
 //! Each call that takes memory, with a look at what a refusal leaves. Nothing here makes an allocation fail: a run that
 //! makes the n-th one fail shows the other arm.
-use cache_words::key::{CacheHashKey, CacheKey, CompactCacheKey};
-use cache_words::pack::{BorrowedKey, PackWriteFault, writing};
+use super::writing::{Put, WRITTEN, write_value};
+use cache_words::key::{CacheHashKey, CacheKey};
+use cache_words::pack::{BorrowedKey, PackWriteFault};
 use cache_words::text::Text;
-use cache_words::time::Moment;
 use cache_words::variance::VarianceBuilder;
 use std::alloc::{AllocError, Global};
-use std::test::*;
-
-#[derive(Clone, Copy)]
-enum Put {
-    Number,
-    Array,
-    Nil,
-    Text,
-    Bytes,
-    Hash,
-    OptionalHash,
-    Moment,
-    Key,
-}
-
-const HASH_TEXT: &[u8] =
-    b"\xdc\x00\x10\x07\x07\x07\x07\x07\x07\x07\x07\x07\x07\x07\x07\x07\x07\x07\x07";
-
-const PUTS: [(Put, &[u8]); 9] = [
-    (Put::Number, b"\xcf\0\0\x01\0\0\0\0\0"),
-    (Put::Array, b"\xdd\0\x10\0\0"),
-    (Put::Nil, b"\xc0"),
-    (Put::Text, b"\xb4a text that outgrows"),
-    (Put::Bytes, b"\xc4\x14bytes that outgrow.."),
-    (Put::Hash, HASH_TEXT),
-    (Put::OptionalHash, HASH_TEXT),
-    (Put::Moment, b"\x92\xcf\0\0\x01\0\0\0\0\0\0"),
-    (
-        Put::Key,
-        b"\x93\xdc\x00\x10\0\0\0\0\0\0\0\0\0\0\0\0\0\0\0\0\xc0\xa0",
-    ),
-];
-
-fn write_value(alloc: Global, out: &mut Vec<u8>, value: Put) -> Result<(), PackWriteFault> {
-    match value {
-        Put::Number => writing::put_number(out, 1 << 40)?,
-        Put::Array => writing::put_array(out, 1 << 20)?,
-        Put::Nil => writing::put_nil(out)?,
-        Put::Text => writing::put_text(out, "a text that outgrows")?,
-        Put::Bytes => writing::put_byte_string(out, b"bytes that outgrow..")?,
-        Put::Hash => writing::put_hash(out, &[7; 16])?,
-        Put::OptionalHash => writing::put_optional_hash(out, Some([7; 16]))?,
-        Put::Moment => writing::put_moment(out, Moment::from_seconds(1 << 40))?,
-        Put::Key => writing::put_key(out, &CompactCacheKey::empty(alloc))?,
-    }
-    Ok(())
-}
 
 // Whether a writer added the text to the byte that was there, or was refused and left that byte alone.
 fn adds_or_keeps(alloc: Global, value: Put, text: &[u8]) -> bool {
@@ -67,8 +20,8 @@ fn adds_or_keeps(alloc: Global, value: Put, text: &[u8]) -> bool {
 
 #[test]
 fn refused_writes_add_nothing(rt: HostRuntime) {
-    for (value, text) in PUTS {
-        assert!(rt; adds_or_keeps(rt.alloc(), value, text), "{text:?}");
+    for &(value, text) in WRITTEN {
+        assert!(rt; adds_or_keeps(rt.alloc(), value, text));
     }
 }
 

@@ -1,56 +1,68 @@
 //! Owned texts.
+use crate::words::distinct;
 use cache_words::text::Text;
+use std::alloc::Global;
 use std::cmp::Ordering;
-use std::collections::HashMap;
-use std::test::*;
 
-fn text(rt: &HostRuntime, bytes: &str) -> Result<Text, Fail> {
-    Ok(Text::from_string(String::from_str(rt.alloc(), bytes)?))
+fn text(alloc: Global, bytes: &str) -> Option<Text> {
+    let string = String::from_str(alloc, bytes).ok()?;
+    Some(Text::from_string(string))
 }
 
 // Two texts and how they compare.
-const ROWS: [(&str, &str, Ordering); 4] = [
+const ROWS: &[(&str, &str, Ordering)] = &[
     ("ab", "ab", Ordering::Equal),
     ("ab", "abc", Ordering::Less),
     ("b", "ab", Ordering::Greater),
     ("", "", Ordering::Equal),
 ];
 
+fn compared(
+    alloc: Global,
+    first: &str,
+    second: &str,
+) -> Option<(Ordering, Option<Ordering>, bool)> {
+    let first = text(alloc, first)?;
+    let second = text(alloc, second)?;
+    Some((
+        first.cmp(&second),
+        first.partial_cmp(&second),
+        first == second,
+    ))
+}
+
 #[test]
-fn texts_compare(rt: HostRuntime) -> Result<(), Fail> {
-    for (first, second, order) in ROWS {
-        let texts = (text(&rt, first)?, text(&rt, second)?);
-        assert_eq!(rt; texts.0.cmp(&texts.1), order, "{first} {second}");
+fn texts_compare(rt: HostRuntime) {
+    for &(first, second, order) in ROWS {
+        let is_equal = order == Ordering::Equal;
         assert_eq!(rt;
-            texts.0.partial_cmp(&texts.1),
-            Some(order),
-            "{first} {second}"
-        );
-        assert_eq!(rt;
-            texts.0 == texts.1,
-            order == Ordering::Equal,
-            "{first} {second}"
+            compared(rt.alloc(), first, second),
+            Some((order, Some(order), is_equal))
         );
     }
-    Ok(())
 }
 
-#[test]
-fn texts_are_shown(rt: HostRuntime) -> Result<(), Fail> {
-    let short = text(&rt, "ab")?.clone()?;
-    let shown = format!(in rt.alloc(); "{short} {short:?}")?;
-    assert_eq!(rt; shown.as_str(), "ab \"ab\"");
-    assert_eq!(rt; short.as_str(), "ab");
-    assert_eq!(rt; short.into_string().as_str(), "ab");
-    Ok(())
+// Whether a copy of a text shows it, lends it and gives it back.
+fn is_shown(alloc: Global) -> Option<bool> {
+    let short = text(alloc, "ab")?.clone().ok()?;
+    let shown = format!(in alloc; "{short} {short:?}").ok()?;
+    Some(
+        shown.as_str() == "ab \"ab\""
+            && short.as_str() == "ab"
+            && short.into_string().as_str() == "ab",
+    )
 }
 
-#[test]
-fn equal_texts_hash_alike(rt: HostRuntime) -> Result<(), Fail> {
-    let mut lengths = HashMap::new(rt.alloc());
+fn hashed_alike(alloc: Global) -> Option<usize> {
+    let mut texts = Vec::new(alloc);
     for bytes in ["ab", "ab", "a"] {
-        lengths.insert(text(&rt, bytes)?, bytes.len())?;
+        texts.push(text(alloc, bytes)?).ok()?;
     }
-    assert_eq!(rt; lengths.len(), 2);
-    Ok(())
+    distinct(alloc, texts)
+}
+
+#[test]
+fn texts_are_shown_and_hashed(rt: HostRuntime) {
+    assert_eq!(rt; is_shown(rt.alloc()), Some(true));
+    assert_eq!(rt; hashed_alike(rt.alloc()), Some(2));
 }

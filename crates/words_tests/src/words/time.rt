@@ -1,16 +1,16 @@
 //! Moments and durations.
+use crate::words::distinct;
 use cache_words::laws;
 use cache_words::time::{Duration, Moment};
+use std::alloc::Global;
 use std::cmp::Ordering;
-use std::collections::HashMap;
-use std::test::*;
 
 type Parts = (i64, u32);
 
 type Length = (u64, u32);
 
 // A moment, a time, the moment that much later, and that much earlier.
-const SUMS: [(Parts, Length, Option<Parts>, Option<Parts>); 5] = [
+const SUMS: &[(Parts, Length, Option<Parts>, Option<Parts>)] = &[
     (
         (10, 600_000_000),
         (2, 500_000_000),
@@ -51,13 +51,13 @@ fn later_and_earlier(start: Parts, span: Length) -> Option<(Option<Parts>, Optio
 
 #[test]
 fn later_and_earlier_moments(rt: HostRuntime) {
-    for (start, span, later, earlier) in SUMS {
+    for &(start, span, later, earlier) in SUMS {
         assert_eq!(rt; later_and_earlier(start, span), Some((later, earlier)));
     }
 }
 
 // Two moments, and the time from the first to the second.
-const ELAPSED: [(Parts, Parts, Length); 4] = [
+const ELAPSED: &[(Parts, Parts, Length)] = &[
     ((10, 600_000_000), (13, 100_000_000), (2, 500_000_000)),
     ((13, 100_000_000), (10, 600_000_000), (0, 0)),
     ((-1, 999_999_999), (0, 0), (0, 1)),
@@ -71,13 +71,13 @@ fn elapsed(from: Parts, to: Parts) -> Option<Length> {
 
 #[test]
 fn elapsed_times(rt: HostRuntime) {
-    for (from, to, want) in ELAPSED {
+    for &(from, to, want) in ELAPSED {
         assert_eq!(rt; elapsed(from, to), Some(want));
     }
 }
 
 // Two moments, the first no later than the second.
-const IN_ORDER: [(Parts, Parts); 3] = [((1, 2), (1, 2)), ((1, 2), (1, 3)), ((-1, 9), (0, 0))];
+const IN_ORDER: &[(Parts, Parts)] = &[((1, 2), (1, 2)), ((1, 2), (1, 3)), ((-1, 9), (0, 0))];
 
 fn compared(first: Parts, second: Parts) -> Option<(bool, bool, Ordering)> {
     let first = moment(first)?;
@@ -92,7 +92,7 @@ fn compared(first: Parts, second: Parts) -> Option<(bool, bool, Ordering)> {
 #[test]
 fn order_of_moments(rt: HostRuntime) {
     laws::order_is_by_time();
-    for (first, second) in IN_ORDER {
+    for &(first, second) in IN_ORDER {
         let is_same = first == second;
         let order = if is_same {
             Ordering::Equal
@@ -112,7 +112,7 @@ fn bounds_of_moments(rt: HostRuntime) {
 }
 
 // Two times, both together, and what is left of the first after the second.
-const LENGTHS: [(Length, Length, Option<Length>, Length); 5] = [
+const LENGTHS: &[(Length, Length, Option<Length>, Length)] = &[
     (
         (1, 700_000_000),
         (1, 300_000_000),
@@ -140,13 +140,13 @@ fn sum_and_rest(first: Length, second: Length) -> Option<(Option<Length>, Length
 
 #[test]
 fn sums_and_differences_of_durations(rt: HostRuntime) {
-    for (first, second, sum, rest) in LENGTHS {
+    for &(first, second, sum, rest) in LENGTHS {
         assert_eq!(rt; sum_and_rest(first, second), Some((sum, rest)));
     }
 }
 
 // Two times, the first longer than the second.
-const LONGER: [(Length, Length); 3] = [
+const LONGER: &[(Length, Length)] = &[
     ((1, 700_000_000), (0, 0)),
     ((2, 0), (1, 9)),
     ((1, 9), (1, 8)),
@@ -164,7 +164,7 @@ fn lengths_compared(first: Length, second: Length) -> Option<(bool, bool, bool)>
 
 #[test]
 fn order_of_durations(rt: HostRuntime) {
-    for (longer, shorter) in LONGER {
+    for &(longer, shorter) in LONGER {
         assert_eq!(rt;
             lengths_compared(longer, shorter),
             Some((true, false, true))
@@ -174,12 +174,17 @@ fn order_of_durations(rt: HostRuntime) {
     assert_eq!(rt; Duration::zero(), Duration::from_seconds(0));
 }
 
-#[test]
-fn equal_times_hash_alike(rt: HostRuntime) -> Result<(), Fail> {
-    let mut counts = HashMap::new(rt.alloc());
+fn hashed_alike(alloc: Global) -> Option<usize> {
+    let mut times = Vec::new(alloc);
     for seconds in [1, 2, 1] {
-        counts.insert((Moment::from_seconds(seconds), Duration::zero()), ())?;
+        times
+            .push((Moment::from_seconds(seconds), Duration::zero()))
+            .ok()?;
     }
-    assert_eq!(rt; counts.len(), 2);
-    Ok(())
+    distinct(alloc, times)
+}
+
+#[test]
+fn equal_times_hash_alike(rt: HostRuntime) {
+    assert_eq!(rt; hashed_alike(rt.alloc()), Some(2));
 }

@@ -1,4 +1,5 @@
 //! Values as MessagePack, written in the shortest form, and keys in both directions.
+use crate::words::is_shown;
 use cache_words::blake::Blake2b128;
 use cache_words::key::{CompactCacheKey, HashBinary, hash_key, str2hex};
 use cache_words::laws;
@@ -6,11 +7,10 @@ use cache_words::pack::{Cursor, PackFault, PackWriteFault, Sink, writing};
 use cache_words::text::Text;
 use cache_words::time::Moment;
 use std::alloc::Global;
-use std::test::*;
 
 // What is written, and its text.
 #[derive(Clone, Copy)]
-enum Put {
+pub(super) enum Put {
     Number(u64),
     Array(u32),
     Text(&'static str),
@@ -19,9 +19,13 @@ enum Put {
     Hash(HashBinary),
     OptionalHash(Option<HashBinary>),
     Moment(i64),
+    EmptyKey,
 }
 
-const WRITTEN: [(Put, &[u8]); 14] = [
+const SEVENS: &[u8] =
+    b"\xdc\x00\x10\x07\x07\x07\x07\x07\x07\x07\x07\x07\x07\x07\x07\x07\x07\x07\x07";
+
+pub(super) const WRITTEN: &[(Put, &[u8])] = &[
     (Put::Number(127), b"\x7f"),
     (Put::Number(128), b"\xcc\x80"),
     (Put::Number(256), b"\xcd\x01\x00"),
@@ -36,9 +40,31 @@ const WRITTEN: [(Put, &[u8]); 14] = [
     (Put::Hash(super::reading::HASH), super::reading::HASH_TEXT),
     (Put::OptionalHash(None), b"\xc0"),
     (Put::Moment(1000), b"\x92\xcd\x03\xe8\x00"),
+    (Put::Number(1 << 40), b"\xcf\0\0\x01\0\0\0\0\0"),
+    (Put::Array(1 << 20), b"\xdd\0\x10\0\0"),
+    (Put::Nil, b"\xc0"),
+    (
+        Put::Text("a text that outgrows"),
+        b"\xb4a text that outgrows",
+    ),
+    (
+        Put::Bytes(b"bytes that outgrow.."),
+        b"\xc4\x14bytes that outgrow..",
+    ),
+    (Put::Hash([7; 16]), SEVENS),
+    (Put::OptionalHash(Some([7; 16])), SEVENS),
+    (Put::Moment(1 << 40), b"\x92\xcf\0\0\x01\0\0\0\0\0\0"),
+    (
+        Put::EmptyKey,
+        b"\x93\xdc\x00\x10\0\0\0\0\0\0\0\0\0\0\0\0\0\0\0\0\xc0\xa0",
+    ),
 ];
 
-fn write_value<S: Sink>(out: &mut S, value: Put) -> Result<(), PackWriteFault> {
+pub(super) fn write_value<S: Sink>(
+    alloc: Global,
+    out: &mut S,
+    value: Put,
+) -> Result<(), PackWriteFault> {
     match value {
         Put::Number(number) => writing::put_number(out, number)?,
         Put::Array(count) => writing::put_array(out, count)?,
@@ -53,17 +79,21 @@ fn write_value<S: Sink>(out: &mut S, value: Put) -> Result<(), PackWriteFault> {
                 writing::put_moment(out, moment)?;
             }
         }
+        Put::EmptyKey => writing::put_key(out, &CompactCacheKey::empty(alloc))?,
     }
     Ok(())
 }
 
-// The text, and its digest without a copy of the text.
-fn text_and_digest(alloc: Global, value: Put) -> Result<(Vec<u8>, HashBinary), PackWriteFault> {
+// Whether this is its text, and its digest without a copy of the text that of the text.
+fn is_written(alloc: Global, value: Put, text: &[u8]) -> bool {
     let mut out = Vec::new(alloc);
-    write_value(&mut out, value)?;
+    let written = write_value(alloc, &mut out, value);
     let mut hasher = Blake2b128::new();
-    write_value(&mut hasher, value)?;
-    Ok((out, hasher.finalize()))
+    let hashed = write_value(alloc, &mut hasher, value);
+    written == Ok(())
+        && hashed == Ok(())
+        && out.as_slice() == text
+        && hasher.finalize() == hash_key(text)
 }
 
 #[test]
@@ -71,15 +101,20 @@ fn values_are_written_and_hashed(rt: HostRuntime) {
     laws::written_is_spelled();
     laws::one_spelling();
     laws::shortest_is_shortest();
-    for (value, text) in WRITTEN {
-        let found = text_and_digest(rt.alloc(), value);
-        let is_right = found.is_ok_and(|x| x.0.as_slice() == text && x.1 == hash_key(text));
-        assert!(rt; is_right, "{text:?}");
+    for &(value, text) in WRITTEN {
+        assert!(rt; is_written(rt.alloc(), value, text));
     }
 }
 
 // Kept keys and their texts, made by the original cache's own code: primary hash, variance, tag, text in hex.
-const KEYS: [(&str, Option<&str>, &str, &str); 2] = [
+type Row = (
+    &'static str,
+    Option<&'static str>,
+    &'static str,
+    &'static str,
+);
+
+const KEYS: &[Row] = &[
     (
         "3bf0bdcb7f2d9a170292a964cab8214e",
         None,
@@ -94,37 +129,49 @@ const KEYS: [(&str, Option<&str>, &str, &str); 2] = [
     ),
 ];
 
-fn kept_key(
-    alloc: Global,
-    primary: &str,
-    variance: Option<&str>,
-    tag: &str,
-) -> Result<CompactCacheKey, Fail> {
-    Ok(CompactCacheKey {
-        primary: str2hex(primary).ok_or("32 hex digits")?,
+fn kept_key(alloc: Global, row: Row) -> Option<CompactCacheKey> {
+    let (primary, variance, tag, _) = row;
+    let primary = str2hex(primary)?;
+    let tag = String::from_str(alloc, tag).ok()?;
+    Some(CompactCacheKey {
+        primary,
         variance: variance.and_then(str2hex),
-        user_tag: Text::from_string(String::from_str(alloc, tag)?),
+        user_tag: Text::from_string(tag),
     })
 }
 
-#[test]
-fn keys_are_written_and_read(rt: HostRuntime) -> Result<(), Fail> {
-    for (primary, variance, tag, text) in KEYS {
-        let key = kept_key(rt.alloc(), primary, variance, tag)?;
-        let bytes = hex::decode(rt.alloc(), text)?;
-        let mut out = Vec::new(rt.alloc());
-        writing::put_key(&mut out, &key).ok().ok_or("memory")?;
-        assert_eq!(rt; out.as_slice(), bytes.as_slice());
-        let mut hasher = Blake2b128::new();
-        assert!(rt; writing::put_key(&mut hasher, &key).is_ok());
-        assert_eq!(rt; hasher.finalize(), hash_key(bytes.as_slice()));
-        let read = Cursor { rest: &bytes }.key().ok().ok_or("a key")?;
-        assert!(rt; read.to_compact(rt.alloc())? == key);
-    }
-    Ok(())
+fn is_key_written(alloc: Global, key: &CompactCacheKey, text: &[u8]) -> bool {
+    let mut out = Vec::new(alloc);
+    let written = writing::put_key(&mut out, key);
+    let mut hasher = Blake2b128::new();
+    let hashed = writing::put_key(&mut hasher, key);
+    written == Ok(())
+        && hashed == Ok(())
+        && out.as_slice() == text
+        && hasher.finalize() == hash_key(text)
 }
 
-const FAULTS: [(PackFault, &str); 5] = [
+fn is_key_read(alloc: Global, key: &CompactCacheKey, text: &[u8]) -> Option<bool> {
+    let read = Cursor { rest: text }.key().ok()?;
+    let kept = read.to_compact(alloc).ok()?;
+    Some(kept == *key)
+}
+
+fn is_both(alloc: Global, row: Row) -> Option<bool> {
+    let key = kept_key(alloc, row)?;
+    let text = hex::decode(alloc, row.3).ok()?;
+    let is_written = is_key_written(alloc, &key, text.as_slice());
+    Some(is_written && is_key_read(alloc, &key, text.as_slice())?)
+}
+
+#[test]
+fn keys_are_written_and_read(rt: HostRuntime) {
+    for &row in KEYS {
+        assert_eq!(rt; is_both(rt.alloc(), row), Some(true));
+    }
+}
+
+const FAULTS: &[(PackFault, &str)] = &[
     (PackFault::Short, "the input ends within a value"),
     (PackFault::Kind, "a value of another kind"),
     (PackFault::Range, "a number out of range"),
@@ -133,15 +180,10 @@ const FAULTS: [(PackFault, &str); 5] = [
 ];
 
 #[test]
-fn faults_are_shown(rt: HostRuntime) -> Result<(), Fail> {
-    for (fault, text) in FAULTS {
-        assert_eq!(rt; format!(in rt.alloc(); "{fault}")?.as_str(), text);
+fn faults_are_shown(rt: HostRuntime) {
+    for &(fault, text) in FAULTS {
+        assert!(rt; is_shown(rt.alloc(), &fault, text));
     }
-    let fault = PackWriteFault::TooLong;
-    let shown = format!(in rt.alloc(); "{fault}")?;
-    assert_eq!(rt;
-        shown.as_str(),
-        "a text or byte string of 2^32 bytes or more"
-    );
-    Ok(())
+    let text = "a text or byte string of 2^32 bytes or more";
+    assert!(rt; is_shown(rt.alloc(), &PackWriteFault::TooLong, text));
 }
