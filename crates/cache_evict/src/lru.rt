@@ -3,7 +3,7 @@
 ghost use Rattle.std.specs.Prelude.{◌≡◌, ◌≢◌, ◌<◌, [], length, max, None, false, is_some, IsOk, IfOk, IfErr, OnOk, OnErr};
 ghost use Rattle.cache_entries.specs.Entry.{owned_of};
 ghost use Rattle.cache_entries.specs.Rows.{weight_of, all_weights};
-ghost use Rattle.cache_evict.specs.Managed.{Evicts, fresh, rows_at, rows_of, shard_of, put_first, use_first, taken_out, is_over, pick_by_draws, total_size, total_items};
+ghost use Rattle.cache_evict.specs.Managed.{Evicts, fresh, rows_at, rows_of, shard_of, put_first, use_first, taken_out, weight_after, is_over, pick_by_draws, total_size, total_items};
 ghost use Rattle.cache_evict.specs.Faults.{evicted_of, IsPutRefused, StopsAt};
 
 use crate::fault::EvictFault;
@@ -180,6 +180,30 @@ impl<const N: usize, S: BuildHasher> Manager<N, S> {
         ensures refused { IfErr result (λ fault. StopsAt (pick_by_draws N) N item (max size 1) self.old (R.stream rng.old) fault self.new (R.stream rng.new)) }
     {
         match self.tracker.admit(item, size.max(1)) {
+            Ok(()) => match self.tracker.evict_by_draws(alloc, rng) {
+                Ok(gone) => Ok(gone),
+                Err(gone) => Err(EvictFault::Memory(gone)),
+            },
+            Err(refusal) => Err(EvictFault::of(alloc, refusal)),
+        }
+    }
+
+    /// Adds `delta` to the weight of an entry, up to `max_weight` but never down, and moves the entry to the front of its
+    /// shard; one that isn't tracked is put there with that weight, of 1 at least. It then evicts as `admit` does, and returns
+    /// the evicted entries, in order.
+    pub fn increment_weight<R: Rng>(
+        &mut self,
+        alloc: Global,
+        item: &CacheEntryKey,
+        delta: usize,
+        max_weight: Option<usize>,
+        rng: &mut R,
+    ) -> Result<Vec<CacheEntryKey>, EvictFault>
+        ensures ok { let w = weight_after N item.now delta max_weight self.old in IfOk result (λ v. Evicts (pick_by_draws N) (put_first N item.now w self.old) v.items (R.stream rng.old) self.new (R.stream rng.new)) }
+        ensures within { OnOk result (is_over self.new ≡ false) }
+        ensures refused { let w = weight_after N item.now delta max_weight self.old in IfErr result (λ fault. StopsAt (pick_by_draws N) N item.now w self.old (R.stream rng.old) fault self.new (R.stream rng.new)) }
+    {
+        match self.tracker.increment(item, delta, max_weight) {
             Ok(()) => match self.tracker.evict_by_draws(alloc, rng) {
                 Ok(gone) => Ok(gone),
                 Err(gone) => Err(EvictFault::Memory(gone)),
