@@ -9,3 +9,5 @@ pub mod BackLaws
 pub mod RefusalLaws
 pub mod GoneLaws
 pub mod FaultLaws
+pub mod LoadLaws
+pub mod TextLaws

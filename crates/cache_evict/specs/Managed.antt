@@ -82,6 +82,10 @@ put_at end.Last = put_last
 abbrev pub saturated : ℕ → ℕ
 saturated n = min n (2 ^ 64 - 1)
 
+-- e is the last entry of the rows
+abbrev pub IsLast : List Tracked → CacheEntryKey → Type 0
+IsLast rows e = (front : List Tracked) × (w : ℕ) × (rows ≡ front ++ record { entry = e; weight = w } ∷ [])
+
 -- e is the last entry of shard s, and goes
 abbrev pub GoesLast : Managed → ℕ → CacheEntryKey → Managed → Type 0
 GoesLast old s e new =

@@ -22,6 +22,15 @@ tracked_row names r = record { entry = unwrap_or (names r.key) nobody; weight = 
 abbrev pub tracked : (ℕ → Option CacheEntryKey) → List (Row ℕ) → List Tracked
 tracked names rows = map (tracked_row names) rows
 
+-- the row of a number and a weight
+abbrev pub row_of_pair : (ℕ → Option CacheEntryKey) → ℕ × ℕ → Tracked
+row_of_pair names p = record { entry = unwrap_or (names p.0) nobody; weight = p.1 }
+
+-- each of the numbers has an entry
+abbrev pub AreNamed : (ℕ → Option CacheEntryKey) → List (ℕ × ℕ) → Type 0
+AreNamed names [] = Unit {0}
+AreNamed names (p ∷ pairs) = (names p.0 ≢ None) × AreNamed names pairs
+
 -- what a core of numbers says of entries
 abbrev pub managed_in : (ℕ → Option CacheEntryKey) → Core ℕ → ℕ → ℕ → Managed
 managed_in names core size items =

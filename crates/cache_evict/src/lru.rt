@@ -1,14 +1,19 @@
 //! Entries in N shards, whose evictions go by two draws.
 
-ghost use Rattle.std.specs.Prelude.{◌≡◌, ◌≢◌, ◌<◌, [], length, max, None, false, is_some, IsOk, IfOk, IfErr, OnOk, OnErr};
+ghost use Rattle.std.specs.Prelude.{◌≡◌, ◌≢◌, ◌<◌, ◌++◌, ℕ, List, [], length, max, None, false, is_some, IsOk, IfOk, IfErr, OnOk, OnErr, IsErrOf, MatchOption};
 ghost use Rattle.cache_entries.specs.Entry.{owned_of};
 ghost use Rattle.cache_entries.specs.Rows.{weight_of, all_weights};
-ghost use Rattle.cache_evict.specs.Managed.{Evicts, fresh, rows_at, rows_of, shard_of, put_first, use_first, taken_out, weight_after, is_over, pick_by_draws, total_size, total_items};
+ghost use Rattle.cache_entries.specs.RowText.{SpellsRecency, recency_at, recency_text};
+ghost use Rattle.cache_entries.specs.declared.rows.Tracked.{Tracked};
+ghost use Rattle.cache_evict.specs.Loads.{Loads, CantBeWritten, all_put, appended};
+ghost use Rattle.cache_evict.specs.Managed.{Evicts, IsLast, fresh, rows_at, rows_of, shard_of, put_first, use_first, taken_out, weight_after, is_over, pick_by_draws, total_size, total_items};
 ghost use Rattle.cache_evict.specs.Faults.{evicted_of, IsPutRefused, StopsAt};
 
 use crate::fault::EvictFault;
-use crate::tracker::Tracker;
+use crate::load_fault::LoadFault;
+use crate::tracker::{Again, Tracker};
 use cache_entries::entry::{CacheEntryKey, CacheEntryKeyRef};
+use cache_words::pack::PackWriteFault;
 use cache_words::time::Moment;
 use rand_core::Rng;
 use std::alloc::{AllocError, Global};
@@ -163,6 +168,40 @@ impl<const N: usize, S: BuildHasher> Manager<N, S> {
         ensures { result ≡ weight_of item.now (rows_of N item.now self.now) }
     {
         self.tracker.weight_of(CacheEntryKeyRef::from(item))
+    }
+
+    /// Returns the entry of a shard that was used longest ago. The order stays.
+    pub fn peek_lru(&self, shard: usize) -> Option<&CacheEntryKey>
+        requires { shard < N }
+        ensures { MatchOption result (rows_at self.now.shards shard ≡ []) (λ e. IsLast (rows_at self.now.shards shard) e.now) }
+    {
+        self.tracker.peek_lru(shard)
+    }
+
+    /// Returns the text of the entries of a shard with their weights, most recent first.
+    ///
+    /// # Errors
+    ///
+    /// No memory for the text; or no form counts the entries or the bytes of a tag, which is `TooLong`.
+    pub fn serialize_shard(&self, alloc: Global, shard: usize) -> Result<Vec<u8>, PackWriteFault>
+        requires { shard < N }
+        ensures ok { IfOk result (λ v. v.items ≡ recency_text (rows_at self.now.shards shard)) }
+        ensures long { IsErrOf result PackWriteFault.TooLong → CantBeWritten (rows_at self.now.shards shard) }
+    {
+        self.tracker.text_of(alloc, shard)
+    }
+
+    /// Reads the text of a shard. Each row's entry goes last in the shard of its own hash, with its weight as it stands, also
+    /// 0; an entry that is tracked stays as it is. It evicts nothing, and passes over what follows the text.
+    ///
+    /// # Errors
+    ///
+    /// The first fault from the left, of the text or of a row that can't be put. The rows before it stay.
+    pub fn deserialize_shard(&mut self, alloc: Global, bytes: &[u8]) -> Result<(), LoadFault>
+        ensures rows { Loads N (appended N) (recency_at bytes.now) self.old self.new result }
+        ensures spelled { (rows : List Tracked) (text rest : List ℕ) → SpellsRecency rows text → bytes.now ≡ text ++ rest → OnOk result (self.new ≡ all_put (appended N) rows self.old) }
+    {
+        self.tracker.load(alloc, bytes, Again::PassedOver)
     }
 
     /// Puts an entry at the front of its shard with that weight, of 1 at least, and evicts until neither limit is passed, each

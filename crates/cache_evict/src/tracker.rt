@@ -3,17 +3,20 @@
 ghost use Rattle.std.specs.Prelude.{◌≡◌, ◌≢◌, ℕ, None, true, false, is_some, IsOk, IfOk, IfErr, OnOk, OnErr};
 ghost use Rattle.cache_entries.specs.Entry.{owned_of};
 ghost use Rattle.cache_entries.specs.Rows.{weight_of};
-ghost use Rattle.cache_evict.specs.Managed.{rows_of, put_at, put_first, put_last, use_first, taken_out, weight_after};
+ghost use Rattle.cache_evict.specs.Managed.{rows_of, put_at, put_first, use_first, taken_out, weight_after};
 ghost use Rattle.cache_evict.specs.Refusals.{IsRefusal};
 
 mod eviction;
+mod loading;
 mod refusal;
 mod rows;
 mod totals;
+mod writing;
 
 use crate::numbers::Numbers;
 use cache_entries::entry::{CacheEntryKey, CacheEntryKeyRef};
 use lru_core::LruCore;
+pub use loading::Again;
 pub use refusal::Refusal;
 use rows::{copy_of, discard, put_first, put_new, raise_first, take_back, weight_of_new};
 pub use rows::End;
@@ -121,23 +124,8 @@ impl<const N: usize, S: BuildHasher> Tracker<N, S> {
         }
     }
 
-    /// Puts an entry at the back of its shard, with that weight, unless it is tracked. A refusal changes nothing.
-    pub fn append(&mut self, entry: CacheEntryKey, weight: usize) -> Result<(), Refusal>
-        ensures ok { OnOk result (self.new ≡ put_last N entry weight self.old) }
-        ensures err { OnErr result (self.new ≡ self.old) }
-        ensures why { IfErr result (IsRefusal N entry weight self.old) }
-    {
-        match self.numbers.number_of(CacheEntryKeyRef::from(&entry)) {
-            Some(_) => {
-                discard(entry);
-                Ok(())
-            }
-            None => self.put_new(entry, weight, End::Last),
-        }
-    }
-
-    // Puts an entry that isn't tracked at that end of its shard.
-    fn put_new(&mut self, entry: CacheEntryKey, weight: usize, end: End) -> Result<(), Refusal>
+    /// Puts an entry that isn't tracked at that end of its shard, with that weight. A refusal changes nothing.
+    pub fn put_new(&mut self, entry: CacheEntryKey, weight: usize, end: End) -> Result<(), Refusal>
         requires { weight_of entry (rows_of N entry self.old) ≡ None }
         ensures ok { OnOk result (self.new ≡ put_at end N entry weight self.old) }
         ensures err { OnErr result (self.new ≡ self.old) }
