@@ -1,5 +1,5 @@
 -- An entry's row at either end of its shard.
-use Rattle.std.proofs.Common.{◌≡◌, ◌≢◌, ℕ, ◌%◌, inl, inr, map, eqb, slice_get, ◌<◌, length, arith, List, [], ◌∷◌, ◌++◌, get_or, set, Option, Some, None, sym, refl, ap, ◌∙◌, subst}
+use Rattle.std.proofs.Common.{◌≡◌, ◌≢◌, ℕ, ◌%◌, inl, inr, map, slice_get, ◌<◌, length, arith, List, [], ◌∷◌, ◌++◌, get_or, set, Option, Some, None, sym, refl, ap, ◌∙◌, subst}
 use Rattle.std.specs.Prelude.{unwrap_or, option_map}
 use Rattle.std.proofs.lemmas.Bool.{cases_eq, eq-eqb, ne_eqb}
 use Rattle.std.proofs.lemmas.List.{append-nil, map-append, set-get_or}

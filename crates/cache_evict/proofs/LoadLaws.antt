@@ -1,5 +1,5 @@
 -- Rows that are read and put.
-use Rattle.std.proofs.Common.{◌≡◌, ℕ, zero, suc, ◌+◌, ◌-◌, ◌%◌, ◌<◌, inl, inr, map, List, [], ◌∷◌, ◌++◌, length, get_or, set, slice_get, Option, Some, None, sym, refl, ap, ◌∙◌, subst, arith, append_assoc}
+use Rattle.std.proofs.Common.{◌≡◌, ℕ, zero, suc, ◌<◌, List, [], ◌∷◌, ◌++◌, length, slice_get, Option, Some, None, sym, refl, ap, ◌∙◌, subst, arith, append_assoc}
 use Rattle.std.specs.Prelude.{unwrap_or, option_map, Result, Ok, Err, IsErrAnd, OnOk}
 use Rattle.std.proofs.lemmas.Nat.{mod_below}
 use Rattle.std.proofs.lemmas.List.{append-nil}
@@ -11,7 +11,7 @@ use Rattle.cache_entries.specs.declared.rows.Tracked.{Tracked}
 use Rattle.cache_entries.specs.EntryText.{entry_hash}
 use Rattle.cache_entries.proofs.RowLaws.{recency_again}
 use Rattle.cache_entries.specs.RowText.{SpellsRecency, RowsRead, row_at, rows_until, recency_at, counted_rows}
-use Rattle.cache_entries.specs.Rows.{row_of, with_last, admitted}
+use Rattle.cache_entries.specs.Rows.{row_of, admitted}
 use Rattle.lru_core.specs.declared.rows.Row.{Row}
 use Rattle.lru_core.specs.Rows.{only, a_row}
 use Rattle.lru_core.specs.Cores.{Core, rows_at}
@@ -24,9 +24,9 @@ use Rattle.cache_evict.specs.declared.tracker.refusal.Refusal.TheVariants as ref
 use Rattle.cache_evict.specs.Names.{HasNoNumber}
 use Rattle.cache_evict.specs.Managed.{Managed, rows_of, with_rows, shard_of, put_first, put_last}
 use Rattle.cache_evict.specs.Refusals.{IsRefusal}
-use Rattle.cache_evict.specs.Loads.{appended, first_or_last, restored, loaded, all_put, IsLoadRefusal, StopsBefore, Loads}
+use Rattle.cache_evict.specs.Loads.{restored, loaded, all_put, IsLoadRefusal, StopsBefore, Loads}
 use Rattle.cache_evict.specs.LoadTexts.{fault_of}
-use Rattle.cache_evict.specs.Numbered.{tracked_row, tracked, managed_in, IsNumbered}
+use Rattle.cache_evict.specs.Numbered.{tracked_row, managed_in, IsNumbered}
 use Rattle.cache_evict.proofs.NumberedLaws.{IsNumber-named, row_of-number, absent}
 use Rattle.cache_evict.proofs.WrittenLaws.{seen}
 
@@ -46,7 +46,7 @@ module _ (n : ℕ) (names : ℕ → Option CacheEntryKey) (core : Core ℕ) (e :
       let at : only k (rows_at core.shards s) ≡ a_row k k known.0 ∷ [] = ap (λ (j : ℕ). only k (rows_at core.shards j)) (sym (h.home k e p)) ∙ known.1 in (
         tracked_row names (a_row k k known.0),
         ap (row_of e) (seen n names core.shards s shard_there) ∙ row_of-number n names k e (IsNumber-named names k e h.one p) s (rows_at core.shards s) (h.numbered s)
-        ∙ ap (λ (l : List (Row ℕ)). option_map (tracked_row names) (slice_get l 0)) at,
+            ∙ ap (λ (l : List (Row ℕ)). option_map (tracked_row names) (slice_get l 0)) at,
       )
 
   abbrev held : Managed

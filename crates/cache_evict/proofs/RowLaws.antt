@@ -1,7 +1,7 @@
 -- A number's row that is put at an end of its shard.
-use Rattle.std.proofs.Common.{◌≡◌, ◌≢◌, ℕ, ◌+◌, ◌%◌, ◌<◌, max, inl, inr, cond, eqb, is_some, map, List, [], ◌∷◌, ◌++◌, length, set, slice_get, Option, refl, sym, ap, ◌∙◌, subst}
-use Rattle.std.specs.Prelude.{Ok, Err, Result, Bool, true}
-use Rattle.std.proofs.lemmas.Bool.{cases_eq, eq-eqb, ne_eqb}
+use Rattle.std.proofs.Common.{◌≡◌, ◌≢◌, ℕ, ◌+◌, ◌%◌, ◌<◌, max, inl, inr, cond, is_some, map, List, [], ◌∷◌, ◌++◌, length, set, slice_get, Option, refl, sym, ap, ◌∙◌, subst}
+use Rattle.std.specs.Prelude.{Err, Result, Bool}
+use Rattle.std.proofs.lemmas.Bool.{eq-eqb}
 use Rattle.std.proofs.lemmas.List.{append-nil, set-set, get_or-set_same}
 use Rattle.lru_core.specs.declared.rows.Row.{Row}
 use Rattle.lru_core.specs.Rows.{only, others, promoted, reweighed, a_row, total_weight, capped, raised, incremented, HasPlace, IsLong}

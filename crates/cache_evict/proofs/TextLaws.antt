@@ -1,5 +1,5 @@
 -- Rows of numbers as text, and the last of them.
-use Rattle.std.proofs.Common.{◌≡◌, ◌≢◌, ℕ, ◌+◌, ◌%◌, ◌<◌, map, List, [], ◌∷◌, ◌++◌, length, get_or, Option, Some, None, sym, refl, ap, ◌∙◌, subst, arith, append_assoc}
+use Rattle.std.proofs.Common.{◌≡◌, ◌≢◌, ℕ, ◌<◌, map, List, [], ◌∷◌, ◌++◌, length, Option, Some, None, sym, refl, ap, ◌∙◌, subst, arith, append_assoc}
 use Rattle.std.specs.Prelude.{unwrap_or, flat_map, MatchOption, option_copied}
 use Rattle.std.specs.Borrow.{Bor}
 use Rattle.std.proofs.lemmas.List.{map-append, length-map}
@@ -12,7 +12,6 @@ use Rattle.lru_core.specs.Rows.{a_row, pairs_of}
 use Rattle.lru_core.specs.Cores.{Core, rows_at}
 use Rattle.cache_evict.specs.Managed.{IsLast, rows_at as rows_in}
 use Rattle.cache_evict.specs.Numbered.{nobody, tracked_row, tracked, managed_in, AreNumbered, IsNumbered, row_of_pair, AreNamed}
-use Rattle.cache_evict.proofs.PlaceLaws.{none_some}
 use Rattle.cache_evict.proofs.GoneLaws.{last_numbered}
 use Rattle.cache_evict.proofs.WrittenLaws.{seen}
 
@@ -66,7 +65,7 @@ module _ (n : ℕ) (names : ℕ → Option CacheEntryKey) where
           tracked names front,
           w,
           seen n names core.shards s within ∙ ap (tracked names) is ∙ map-append (tracked_row names) front (a_row k d w ∷ [])
-          ∙ ap (λ (x : Option CacheEntryKey). tracked names front ++ record { entry = unwrap_or x nobody; weight = w } ∷ []) (ap names (sym own) ∙ sym f),
+              ∙ ap (λ (x : Option CacheEntryKey). tracked names front ++ record { entry = unwrap_or x nobody; weight = w } ∷ []) (ap names (sym own) ∙ sym f),
         )
 
 -- one row more

@@ -1,6 +1,5 @@
 -- Rows that are read, and what they make of a manager.
-use Rattle.std.specs.Prelude.{◌≡◌, ℕ, ◌^◌, ◌≤◌, ◌⊎◌, List, [], ◌∷◌, ◌++◌, length, Option, Some, None, option_map, unwrap_or, Result, Ok, Err}
-use Rattle.cache_words.specs.declared.pack.fault.PackFault.{PackFault}
+use Rattle.std.specs.Prelude.{◌≡◌, ℕ, ◌^◌, ◌≤◌, ◌⊎◌, List, [], ◌∷◌, ◌++◌, length, Some, None, option_map, unwrap_or, Result, Ok, Err}
 use Rattle.cache_entries.specs.declared.entry.CacheEntryKey.{CacheEntryKey}
 use Rattle.cache_entries.specs.declared.rows.Tracked.{Tracked}
 use Rattle.cache_entries.specs.Entry.{key_of}

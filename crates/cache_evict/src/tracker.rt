@@ -15,11 +15,11 @@ mod writing;
 
 use crate::numbers::Numbers;
 use cache_entries::entry::{CacheEntryKey, CacheEntryKeyRef};
-use lru_core::LruCore;
 pub use loading::Again;
+use lru_core::LruCore;
 pub use refusal::Refusal;
-use rows::{copy_of, discard, put_first, put_new, raise_first, take_back, weight_of_new};
 pub use rows::End;
+use rows::{copy_of, discard, put_first, put_new, raise_first, take_back, weight_of_new};
 use std::hash::BuildHasher;
 use std::marker::Model;
 

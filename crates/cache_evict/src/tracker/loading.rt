@@ -56,12 +56,7 @@ impl<const N: usize, S: BuildHasher> Tracker<N, S> {
     }
 
     // Puts an entry last in its shard, with that weight, unless it is tracked.
-    fn restore(
-        &mut self,
-        entry: CacheEntryKey,
-        weight: usize,
-        again: Again,
-    ) -> Result<(), Refusal>
+    fn restore(&mut self, entry: CacheEntryKey, weight: usize, again: Again) -> Result<(), Refusal>
         ensures ok { OnOk result (self.new ≡ loaded again N (record { entry = entry; weight = weight }) self.old) }
         ensures err { OnErr result (self.new ≡ self.old) }
         ensures why { IfErr result (IsLoadRefusal N (record { entry = entry; weight = weight }) self.old) }

@@ -49,10 +49,7 @@ pub(super) fn put_first<const N: usize>(
 }
 
 // The same with the weight 0, which a core never gives a row that it admits.
-fn put_weightless<const N: usize>(
-    core: &mut LruCore<u64, N>,
-    number: u64,
-) -> Result<(), Refusal>
+fn put_weightless<const N: usize>(core: &mut LruCore<u64, N>, number: u64) -> Result<(), Refusal>
     requires within { number % N < length core.old.shards }
     requires own { HasOwnRow number (shard_of N core.old number) }
     ensures ok { OnOk result (core.new ≡ with_shard N core.old number (a_row number number 0 ∷ others number (shard_of N core.old number))) }
@@ -65,10 +62,7 @@ fn put_weightless<const N: usize>(
 }
 
 // Gives the row of a number the weight 0, where it is or else at the back of its shard.
-fn weigh_nothing<const N: usize>(
-    core: &mut LruCore<u64, N>,
-    number: u64,
-) -> Result<(), Refusal>
+fn weigh_nothing<const N: usize>(core: &mut LruCore<u64, N>, number: u64) -> Result<(), Refusal>
     requires { HasOwnRow number (shard_of N core.old number) }
     ensures ok { OnOk result ((rows : List (Row ℕ)) × (core.new ≡ with_shard N core.old number rows) × (promoted number rows ≡ a_row number number 0 ∷ others number (shard_of N core.old number))) }
     ensures err { OnErr result (core.new ≡ core.old) }

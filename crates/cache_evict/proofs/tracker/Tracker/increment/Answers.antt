@@ -1,4 +1,4 @@
-use Rattle.std.proofs.Common.{◌∙◌, ap, sym, subst, refl, rules, ℕ}
+use Rattle.std.proofs.Common.{◌∙◌, ap, subst, refl, rules, ℕ}
 use Rattle.std.specs.Prelude.{◌≡◌, None}
 use Rattle.cache_entries.specs.declared.entry.CacheEntryKey.{CacheEntryKey}
 use Rattle.cache_entries.specs.Rows.{weight_of}

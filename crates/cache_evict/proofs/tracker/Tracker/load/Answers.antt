@@ -1,4 +1,4 @@
-use Rattle.std.proofs.Common.{◌≡◌, ℕ, ◌+◌, ◌-◌, suc, zero, arith, refl, subst}
+use Rattle.std.proofs.Common.{◌≡◌, ℕ, ◌+◌, ◌-◌, suc, zero, arith, subst}
 use Rattle.cache_entries.specs.BorrowedRow.{borrowed_row}
 use Rattle.cache_entries.specs.RowText.{recency_at}
 use Rattle.cache_evict.specs.Loads.{loaded}

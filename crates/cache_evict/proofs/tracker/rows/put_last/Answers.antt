@@ -1,5 +1,5 @@
 use Rattle.std.proofs.Common.{ap}
-use Rattle.std.specs.Prelude.{Ok, Result, Bool}
+use Rattle.std.specs.Prelude.{Ok, Bool}
 use Rattle.cache_evict.proofs.RowLaws.{put-last, refused_last}
 use Rattle.cache_evict.proofs.tracker.rows.put_last.Goals as goal
 

@@ -1,5 +1,5 @@
 use Rattle.std.proofs.Common.{[], ◌∷◌, ◌++◌, sym, ap, ◌∙◌}
-use Rattle.std.specs.Prelude.{Ok, Result, Bool}
+use Rattle.std.specs.Prelude.{Ok, Bool}
 use Rattle.std.proofs.lemmas.Bool.{false≢true}
 use Rattle.lru_core.specs.Rows.{a_row}
 use Rattle.lru_core.specs.Cores.{shard_of}
