@@ -87,7 +87,7 @@ IsNumbered-fresh n names shards some none e = subst (λ (l : List (List (Row ℕ
 
 -- ---- the last row
 
-last_numbered : (n : ℕ) (names : ℕ → Option CacheEntryKey) (s : ℕ) (front : List (Row ℕ)) (r : Row ℕ) → AreNumbered n names s (front ++ r ∷ []) → (r.data ≡ r.key) × (r.key % n ≡ s) × (names r.key ≢ None)
+pub last_numbered : (n : ℕ) (names : ℕ → Option CacheEntryKey) (s : ℕ) (front : List (Row ℕ)) (r : Row ℕ) → AreNumbered n names s (front ++ r ∷ []) → (r.data ≡ r.key) × (r.key % n ≡ s) × (names r.key ≢ None)
 last_numbered n names s [] r a = (a.0, a.1, a.2)
 last_numbered n names s (x ∷ front) r a = last_numbered n names s front r a.3
 

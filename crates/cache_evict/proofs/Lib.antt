@@ -4,6 +4,10 @@ pub mod SwapLaws
 pub mod FreeLaws
 pub mod NumberedLaws
 pub mod WrittenLaws
+pub mod RowLaws
+pub mod BackLaws
 pub mod RefusalLaws
 pub mod GoneLaws
 pub mod FaultLaws
+pub mod LoadLaws
+pub mod TextLaws

@@ -12,16 +12,18 @@ use Rattle.cache_entries.specs.declared.entry.CacheEntryKey.{CacheEntryKey}
 use Rattle.cache_entries.specs.declared.rows.Tracked.{Tracked}
 use Rattle.cache_entries.specs.Rows.{weight_of, without_row, all_weights}
 use Rattle.lru_core.specs.declared.rows.Row.{Row}
-use Rattle.lru_core.specs.Rows.{only, others, a_row, total_weight}
+use Rattle.lru_core.specs.Rows.{only, others, a_row, raised, total_weight}
 use Rattle.lru_core.specs.Cores.{Core, rows_at}
 use Rattle.cache_evict.specs.declared.tracker.refusal.Refusal.{Refusal}
 use Rattle.cache_evict.specs.declared.tracker.refusal.Refusal.TheVariants.{Memory, Weight, Length, Spent}
 use Rattle.cache_evict.specs.Names.{IsOneToOne, HasNoNumber, with_name, without_name, IsFirstFree, IsSpent}
-use Rattle.cache_evict.specs.Managed.{shard_of, put_first, IsFull}
-use Rattle.cache_evict.specs.Numbered.{tracked_row, tracked, managed_in, IsNumbered}
+use Rattle.cache_evict.specs.declared.tracker.rows.End.{End}
+use Rattle.cache_evict.specs.Managed.{Managed, shard_of, rows_of, put_at, put_first, added, weight_after, IsFull}
+use Rattle.cache_evict.specs.Numbered.{tracked_row, tracked, managed_in, IsNumbered, placed, HasOwnRow}
 use Rattle.cache_evict.specs.Refusals.{IsRefusal, IsRowRefusal, IsNewRefusal}
 use Rattle.cache_evict.proofs.PlaceLaws.{none_some, some_of}
 use Rattle.cache_evict.proofs.NumberedLaws.{IsNumber, IsNumber-named, IsNumber-free, others-without}
+use Rattle.cache_evict.proofs.BackLaws.{IsNumbered-placed, managed-placed, unnamed_row}
 use Rattle.cache_evict.proofs.WrittenLaws.{seen, only-others_another, one-with, IsNumbered-front, managed-front, weight_of-number, weight_of-none, with-here, with-other, without-here, without-other}
 
 pub all_weights-tracked : (names : ℕ → Option CacheEntryKey) (rows : List (Row ℕ)) → all_weights (tracked names rows) ≡ total_weight rows
@@ -128,20 +130,17 @@ full_shard n names core e size items h none spent =
 
 -- ---- an entry that gets a number
 module _ (n : ℕ) (names now : ℕ → Option CacheEntryKey) (core left : Core ℕ) (e : CacheEntryKey) (w size items : ℕ) (h : IsNumbered n names core.shards) (none : HasNoNumber names e) where
-  abbrev pub IsGiven : Type 0
-  IsGiven = (k : ℕ) × IsFirstFree n names (entry_hash e) k × ((i : ℕ) → now i ≡ with_name names k e i) × (left ≡ record core { shards = set core.shards (k % n) (a_row k k w ∷ others k (rows_at core.shards (k % n))) })
-
-  module _ (g : (k : ℕ) × IsFirstFree n names (entry_hash e) k × ((i : ℕ) → now i ≡ with_name names k e i) × (left ≡ record core { shards = set core.shards (k % n) (a_row k k w ∷ others k (rows_at core.shards (k % n))) })) where
+  module _ (end : End) (g : (k : ℕ) × IsFirstFree n names (entry_hash e) k × ((i : ℕ) → now i ≡ with_name names k e i) × (left ≡ record core { shards = set core.shards (k % n) (placed end (a_row k k w) (others k (rows_at core.shards (k % n)))) })) where
     one : IsOneToOne now
     one = subst IsOneToOne (sym (same_names (with_name names g.0 e) now g.2)) (one-with names g.0 e h.one none)
 
     pub IsNumbered-given : IsNumbered n now left.shards
     IsNumbered-given =
-        IsNumbered-front n names now core left g.0 e size items h (λ i m. g.2 i ∙ with-other names g.0 e i m) g.1.rest w one (g.2 g.0 ∙ with-here names g.0 e) (IsNumber-free names g.0 e g.1.free none) g.3
+        IsNumbered-placed n names now core left g.0 e size items h (λ i m. g.2 i ∙ with-other names g.0 e i m) g.1.rest w one (g.2 g.0 ∙ with-here names g.0 e) (IsNumber-free names g.0 e g.1.free none) none end g.3
 
-    pub managed-given : managed_in now left size items ≡ put_first n e w (managed_in names core size items)
+    pub managed-given : managed_in now left size items ≡ put_at end n e w (managed_in names core size items)
     managed-given =
-        managed-front n names now core left g.0 e size items h (λ i m. g.2 i ∙ with-other names g.0 e i m) g.1.rest w one (g.2 g.0 ∙ with-here names g.0 e) (IsNumber-free names g.0 e g.1.free none) g.3
+        managed-placed n names now core left g.0 e size items h (λ i m. g.2 i ∙ with-other names g.0 e i m) g.1.rest w one (g.2 g.0 ∙ with-here names g.0 e) (IsNumber-free names g.0 e g.1.free none) none end g.3
 
   pub refused-new : (r : Refusal) → IsNewRefusal n names (entry_hash e) w core r → IsRefusal n e w (managed_in names core size items) r
   refused-new Memory p = weight_of-none n names core 0 e h none
@@ -172,3 +171,23 @@ module _ (n : ℕ) (names : ℕ → Option CacheEntryKey) (core left : Core ℕ)
 
     pub managed-put : managed_in names left size items ≡ put_first n e w (managed_in names core size items)
     managed-put = managed-front n names names core left k e size items h (λ i m. refl) (h.home k e p) w h.one p (IsNumber-named names k e h.one p) s
+
+-- where a number's row is put
+module _ (n : ℕ) (names : ℕ → Option CacheEntryKey) (core : Core ℕ) (h : IsNumbered n names core.shards) where
+  pub has_shard : (k : ℕ) → k % n < length core.shards
+  has_shard k = let m = mod_below k n h.some in omega (arith, m, h.count)
+
+  pub has_free : (k : ℕ) → names k ≡ None → (k % n < length core.shards) × (only k (rows_at core.shards (k % n)) ≡ [])
+  has_free k free = (has_shard k, unnamed_row n names (k % n) k (rows_at core.shards (k % n)) (h.numbered (k % n)) free)
+
+  pub has_own_row : (k : ℕ) (e : CacheEntryKey) → names k ≡ Some e → HasOwnRow k (rows_at core.shards (k % n))
+  has_own_row k e p = inr (h.known k e p)
+
+-- what an entry's weight becomes
+pub weighed_after : (n : ℕ) (names : ℕ → Option CacheEntryKey) (core : Core ℕ) (k : ℕ) (e : CacheEntryKey) (v delta : ℕ) (cap : Option ℕ) (size items : ℕ) → IsNumbered n names core.shards → names k ≡ Some e
+    → only k (rows_at core.shards (k % n)) ≡ a_row k k v ∷ [] → raised v delta cap ≡ weight_after n e delta cap (managed_in names core size items)
+weighed_after n names core k e v delta cap size items h p own =
+    ap (λ (o : Option ℕ). added o delta cap) (sym (weight_of-number n names core k e h p ∙ ap (λ (l : List (Row ℕ)). option_map (λ r. r.weight) (slice_get l 0)) own))
+
+pub weighs_new : (n : ℕ) (e : CacheEntryKey) (w delta : ℕ) (cap : Option ℕ) (m : Managed) → weight_of e (rows_of n e m) ≡ None → w ≡ added None delta cap → w ≡ weight_after n e delta cap m
+weighs_new n e w delta cap m none is = is ∙ ap (λ (o : Option ℕ). added o delta cap) (sym none)

@@ -5,3 +5,5 @@ pub mod Managed
 pub mod Numbered
 pub mod Refusals
 pub mod Faults
+pub mod Loads
+pub mod LoadTexts

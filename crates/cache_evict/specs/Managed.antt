@@ -5,7 +5,9 @@ use Rattle.rand_core.specs.Stream.{Stream, next_u64}
 use Rattle.cache_entries.specs.declared.entry.CacheEntryKey.{CacheEntryKey}
 use Rattle.cache_entries.specs.declared.rows.Tracked.{Tracked}
 use Rattle.cache_entries.specs.EntryText.{entry_hash}
-use Rattle.cache_entries.specs.Rows.{weight_of, all_weights, without_row, admitted, used, is_past}
+use Rattle.cache_entries.specs.Rows.{weight_of, all_weights, without_row, admitted, used, with_last, is_past}
+use Rattle.cache_evict.specs.declared.tracker.rows.End.{End}
+use Rattle.cache_evict.specs.declared.tracker.rows.End.TheVariants as end
 use Rattle.lru_core.specs.Rows.{capped, raised}
 use Rattle.lru_core.specs.Cores.{shard_bound}
 use Rattle.lru_core.specs.declared.rows.TheConstants.{MOST_ROWS}
@@ -64,9 +66,25 @@ abbrev pub added : Option ℕ → ℕ → Option ℕ → ℕ
 added None delta cap = max 1 (capped cap delta)
 added (Some old) delta cap = raised old delta cap
 
+-- the same of e where it is
+abbrev pub weight_after : ℕ → CacheEntryKey → ℕ → Option ℕ → Managed → ℕ
+weight_after n e delta cap m = added (weight_of e (rows_of n e m)) delta cap
+
+-- e last in its shard with weight w, unless it has a row
+abbrev pub put_last : ℕ → CacheEntryKey → ℕ → Managed → Managed
+put_last n e w m = with_rows n e (with_last e w (rows_of n e m)) m
+
+abbrev pub put_at : End → ℕ → CacheEntryKey → ℕ → Managed → Managed
+put_at end.First = put_first
+put_at end.Last = put_last
+
 -- the sum of evicted weights or numbers, which stays at the greatest number once it gets there
 abbrev pub saturated : ℕ → ℕ
 saturated n = min n (2 ^ 64 - 1)
+
+-- e is the last entry of the rows
+abbrev pub IsLast : List Tracked → CacheEntryKey → Type 0
+IsLast rows e = (front : List Tracked) × (w : ℕ) × (rows ≡ front ++ record { entry = e; weight = w } ∷ [])
 
 -- e is the last entry of shard s, and goes
 abbrev pub GoesLast : Managed → ℕ → CacheEntryKey → Managed → Type 0

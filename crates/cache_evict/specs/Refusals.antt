@@ -4,6 +4,8 @@ use Rattle.cache_entries.specs.declared.entry.CacheEntryKey.{CacheEntryKey}
 use Rattle.cache_entries.specs.Rows.{weight_of}
 use Rattle.lru_core.specs.Rows.{only, others, total_weight, IsLong as IsShardLong}
 use Rattle.lru_core.specs.Cores.{Core, shard_of, shard_bound}
+use Rattle.lru_core.specs.declared.lru_unit.fault.LruFault.{LruFault}
+use Rattle.lru_core.specs.declared.lru_unit.fault.LruFault.TheVariants as row
 use Rattle.cache_evict.specs.declared.tracker.refusal.Refusal.{Refusal}
 use Rattle.cache_evict.specs.declared.tracker.refusal.Refusal.TheVariants.{Memory, Weight, Length, Spent}
 use Rattle.cache_evict.specs.declared.numbers.fault.NumbersFault.{NumbersFault}
@@ -35,3 +37,8 @@ IsNewRefusal n names hash w core Spent = IsSpent n names hash
 abbrev pub refusal_of : NumbersFault → Refusal
 refusal_of (numbers.Memory back) = Memory
 refusal_of (numbers.NumbersSpent back) = Spent
+
+abbrev pub fault_refusal : {D : Type 0} → LruFault D → Refusal
+fault_refusal (row.Memory back) = Memory
+fault_refusal (row.Weight back) = Weight
+fault_refusal (row.Length back) = Length

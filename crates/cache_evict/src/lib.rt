@@ -2,8 +2,10 @@
 #![tactic(auto)]
 
 pub use fault::EvictFault;
+pub use load_fault::LoadFault;
 
 mod fault;
+mod load_fault;
 pub mod lru;
 pub mod numbers;
 mod tracker;

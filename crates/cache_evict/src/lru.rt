@@ -1,14 +1,19 @@
 //! Entries in N shards, whose evictions go by two draws.
 
-ghost use Rattle.std.specs.Prelude.{◌≡◌, ◌≢◌, ◌<◌, [], length, max, None, false, is_some, IsOk, IfOk, IfErr, OnOk, OnErr};
+ghost use Rattle.std.specs.Prelude.{◌≡◌, ◌≢◌, ◌<◌, ◌++◌, ℕ, List, [], length, max, None, false, is_some, IsOk, IfOk, IfErr, OnOk, OnErr, IsErrOf, MatchOption};
 ghost use Rattle.cache_entries.specs.Entry.{owned_of};
 ghost use Rattle.cache_entries.specs.Rows.{weight_of, all_weights};
-ghost use Rattle.cache_evict.specs.Managed.{Evicts, fresh, rows_at, rows_of, shard_of, put_first, use_first, taken_out, is_over, pick_by_draws, total_size, total_items};
+ghost use Rattle.cache_entries.specs.RowText.{SpellsRecency, recency_at, recency_text};
+ghost use Rattle.cache_entries.specs.declared.rows.Tracked.{Tracked};
+ghost use Rattle.cache_evict.specs.Loads.{Loads, CantBeWritten, all_put, appended};
+ghost use Rattle.cache_evict.specs.Managed.{Evicts, IsLast, fresh, rows_at, rows_of, shard_of, put_first, use_first, taken_out, weight_after, is_over, pick_by_draws, total_size, total_items};
 ghost use Rattle.cache_evict.specs.Faults.{evicted_of, IsPutRefused, StopsAt};
 
 use crate::fault::EvictFault;
-use crate::tracker::Tracker;
+use crate::load_fault::LoadFault;
+use crate::tracker::{Again, Tracker};
 use cache_entries::entry::{CacheEntryKey, CacheEntryKeyRef};
+use cache_words::pack::PackWriteFault;
 use cache_words::time::Moment;
 use rand_core::Rng;
 use std::alloc::{AllocError, Global};
@@ -165,6 +170,40 @@ impl<const N: usize, S: BuildHasher> Manager<N, S> {
         self.tracker.weight_of(CacheEntryKeyRef::from(item))
     }
 
+    /// Returns the entry of a shard that was used longest ago. The order stays.
+    pub fn peek_lru(&self, shard: usize) -> Option<&CacheEntryKey>
+        requires { shard < N }
+        ensures { MatchOption result (rows_at self.now.shards shard ≡ []) (λ e. IsLast (rows_at self.now.shards shard) e.now) }
+    {
+        self.tracker.peek_lru(shard)
+    }
+
+    /// Returns the text of the entries of a shard with their weights, most recent first.
+    ///
+    /// # Errors
+    ///
+    /// No memory for the text; or no form counts the entries or the bytes of a tag, which is `TooLong`.
+    pub fn serialize_shard(&self, alloc: Global, shard: usize) -> Result<Vec<u8>, PackWriteFault>
+        requires { shard < N }
+        ensures ok { IfOk result (λ v. v.items ≡ recency_text (rows_at self.now.shards shard)) }
+        ensures long { IsErrOf result PackWriteFault.TooLong → CantBeWritten (rows_at self.now.shards shard) }
+    {
+        self.tracker.text_of(alloc, shard)
+    }
+
+    /// Reads the text of a shard. Each row's entry goes last in the shard of its own hash, with its weight as it stands, also
+    /// 0; an entry that is tracked stays as it is. It evicts nothing, and passes over what follows the text.
+    ///
+    /// # Errors
+    ///
+    /// The first fault from the left, of the text or of a row that can't be put. The rows before it stay.
+    pub fn deserialize_shard(&mut self, alloc: Global, bytes: &[u8]) -> Result<(), LoadFault>
+        ensures rows { Loads N (appended N) (recency_at bytes.now) self.old self.new result }
+        ensures spelled { (rows : List Tracked) (text rest : List ℕ) → SpellsRecency rows text → bytes.now ≡ text ++ rest → OnOk result (self.new ≡ all_put (appended N) rows self.old) }
+    {
+        self.tracker.load(alloc, bytes, Again::PassedOver)
+    }
+
     /// Puts an entry at the front of its shard with that weight, of 1 at least, and evicts until neither limit is passed, each
     /// by the next two words of the generator. Returns the evicted entries, in order.
     pub fn admit<R: Rng>(
@@ -180,6 +219,30 @@ impl<const N: usize, S: BuildHasher> Manager<N, S> {
         ensures refused { IfErr result (λ fault. StopsAt (pick_by_draws N) N item (max size 1) self.old (R.stream rng.old) fault self.new (R.stream rng.new)) }
     {
         match self.tracker.admit(item, size.max(1)) {
+            Ok(()) => match self.tracker.evict_by_draws(alloc, rng) {
+                Ok(gone) => Ok(gone),
+                Err(gone) => Err(EvictFault::Memory(gone)),
+            },
+            Err(refusal) => Err(EvictFault::of(alloc, refusal)),
+        }
+    }
+
+    /// Adds `delta` to the weight of an entry, up to `max_weight` but never down, and moves the entry to the front of its
+    /// shard; one that isn't tracked is put there with that weight, of 1 at least. It then evicts as `admit` does, and returns
+    /// the evicted entries, in order.
+    pub fn increment_weight<R: Rng>(
+        &mut self,
+        alloc: Global,
+        item: &CacheEntryKey,
+        delta: usize,
+        max_weight: Option<usize>,
+        rng: &mut R,
+    ) -> Result<Vec<CacheEntryKey>, EvictFault>
+        ensures ok { let w = weight_after N item.now delta max_weight self.old in IfOk result (λ v. Evicts (pick_by_draws N) (put_first N item.now w self.old) v.items (R.stream rng.old) self.new (R.stream rng.new)) }
+        ensures within { OnOk result (is_over self.new ≡ false) }
+        ensures refused { let w = weight_after N item.now delta max_weight self.old in IfErr result (λ fault. StopsAt (pick_by_draws N) N item.now w self.old (R.stream rng.old) fault self.new (R.stream rng.new)) }
+    {
+        match self.tracker.increment(item, delta, max_weight) {
             Ok(()) => match self.tracker.evict_by_draws(alloc, rng) {
                 Ok(gone) => Ok(gone),
                 Err(gone) => Err(EvictFault::Memory(gone)),

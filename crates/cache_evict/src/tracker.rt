@@ -1,21 +1,25 @@
 //! Entries in shards, each most recent first.
 
-ghost use Rattle.std.specs.Prelude.{◌≡◌, ◌≢◌, ℕ, ◌<◌, None, true, false, is_some, IsOk, IfOk, IfErr, OnOk, OnErr};
+ghost use Rattle.std.specs.Prelude.{◌≡◌, ◌≢◌, ℕ, None, true, false, is_some, IsOk, IfOk, IfErr, OnOk, OnErr};
 ghost use Rattle.cache_entries.specs.Entry.{owned_of};
 ghost use Rattle.cache_entries.specs.Rows.{weight_of};
-ghost use Rattle.cache_evict.specs.Managed.{rows_of, put_first, use_first, taken_out};
+ghost use Rattle.cache_evict.specs.Managed.{rows_of, put_at, put_first, use_first, taken_out, weight_after};
 ghost use Rattle.cache_evict.specs.Refusals.{IsRefusal};
 
 mod eviction;
+mod loading;
 mod refusal;
 mod rows;
 mod totals;
+mod writing;
 
 use crate::numbers::Numbers;
 use cache_entries::entry::{CacheEntryKey, CacheEntryKeyRef};
+pub use loading::Again;
 use lru_core::LruCore;
 pub use refusal::Refusal;
-use rows::{copy_of, discard, put_first, put_new_first, take_back};
+pub use rows::End;
+use rows::{copy_of, discard, put_first, put_new, raise_first, take_back, weight_of_new};
 use std::hash::BuildHasher;
 use std::marker::Model;
 
@@ -69,7 +73,6 @@ impl<const N: usize, S: BuildHasher> Tracker<N, S> {
 
     /// Puts an entry at the front of its shard, with that weight. A refusal changes nothing.
     pub fn admit(&mut self, entry: CacheEntryKey, weight: usize) -> Result<(), Refusal>
-        requires { 0 < weight }
         ensures ok { OnOk result (self.new ≡ put_first N entry weight self.old) }
         ensures err { OnErr result (self.new ≡ self.old) }
         ensures why { IfErr result (IsRefusal N entry weight self.old) }
@@ -79,14 +82,13 @@ impl<const N: usize, S: BuildHasher> Tracker<N, S> {
                 discard(entry);
                 put_first(&mut self.core, number, weight)
             }
-            None => put_new_first(&mut self.numbers, &mut self.core, entry, weight),
+            None => self.put_new(entry, weight, End::First),
         }
     }
 
     /// Moves a tracked entry to the front of its shard, and returns `true`, or puts another one there with that weight, and
     /// returns `false`. A refusal changes nothing, and comes only for an entry that isn't tracked.
     pub fn access(&mut self, entry: &CacheEntryKey, weight: usize) -> Result<bool, Refusal>
-        requires { 0 < weight }
         ensures ok { OnOk result (self.new ≡ use_first N entry.now weight self.old) }
         ensures found { IfOk result (λ b. b ≡ is_some (weight_of entry.now (rows_of N entry.now self.old))) }
         ensures tracked { weight_of entry.now (rows_of N entry.now self.old) ≢ None → IsOk result }
@@ -96,20 +98,40 @@ impl<const N: usize, S: BuildHasher> Tracker<N, S> {
         if self.touch(CacheEntryKeyRef::from(entry)) {
             return Ok(true);
         }
-        self.admit_copy(entry, weight)?;
+        let copy = copy_of(entry)?;
+        self.put_new(copy, weight, End::First)?;
         Ok(false)
     }
 
-    // Puts a copy of an entry that isn't tracked at the front of its shard.
-    fn admit_copy(&mut self, entry: &CacheEntryKey, weight: usize) -> Result<(), Refusal>
-        requires weight { 0 < weight }
-        requires new { weight_of entry.now (rows_of N entry.now self.old) ≡ None }
-        ensures ok { OnOk result (self.new ≡ put_first N entry.now weight self.old) }
+    /// Adds `delta` to the weight of an entry, up to a cap but never down, and moves the entry to the front of its shard; one
+    /// that isn't tracked is put there with that weight, of 1 at least. A refusal changes nothing.
+    pub fn increment(
+        &mut self,
+        entry: &CacheEntryKey,
+        delta: usize,
+        cap: Option<usize>,
+    ) -> Result<(), Refusal>
+        ensures ok { OnOk result (self.new ≡ put_first N entry.now (weight_after N entry.now delta cap self.old) self.old) }
         ensures err { OnErr result (self.new ≡ self.old) }
-        ensures why { IfErr result (IsRefusal N entry.now weight self.old) }
+        ensures why { IfErr result (IsRefusal N entry.now (weight_after N entry.now delta cap self.old) self.old) }
     {
-        let copy = copy_of(entry)?;
-        self.admit(copy, weight)
+        match self.numbers.number_of(CacheEntryKeyRef::from(entry)) {
+            Some(number) => raise_first(&mut self.core, number, delta, cap),
+            None => {
+                let copy = copy_of(entry)?;
+                self.put_new(copy, weight_of_new(delta, cap), End::First)
+            }
+        }
+    }
+
+    /// Puts an entry that isn't tracked at that end of its shard, with that weight. A refusal changes nothing.
+    pub fn put_new(&mut self, entry: CacheEntryKey, weight: usize, end: End) -> Result<(), Refusal>
+        requires { weight_of entry (rows_of N entry self.old) ≡ None }
+        ensures ok { OnOk result (self.new ≡ put_at end N entry weight self.old) }
+        ensures err { OnErr result (self.new ≡ self.old) }
+        ensures why { IfErr result (IsRefusal N entry weight self.old) }
+    {
+        put_new(&mut self.numbers, &mut self.core, entry, weight, end)
     }
 
     /// Takes an entry out.

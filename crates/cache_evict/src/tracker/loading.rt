@@ -1,0 +1,75 @@
+//! Rows as text.
+
+ghost use Rattle.std.specs.Prelude.{◌≡◌, IfErr, OnOk, OnErr};
+ghost use Rattle.cache_entries.specs.BorrowedRow.{borrowed_row};
+ghost use Rattle.cache_entries.specs.RowText.{recency_at};
+ghost use Rattle.cache_evict.specs.Loads.{loaded, IsLoadRefusal, Loads};
+
+use super::rows::{End, discard, put_first};
+use super::{Refusal, Tracker};
+use crate::load_fault::LoadFault;
+use cache_entries::entry::{CacheEntryKey, CacheEntryKeyRef};
+use cache_entries::pack::{BorrowedRow, take_row};
+use cache_words::pack::Cursor;
+use std::alloc::Global;
+use std::hash::BuildHasher;
+
+/// What becomes of a row that is read whose entry is tracked.
+#[derive(Clone, Copy)]
+pub enum Again {
+    /// Nothing: the entry stays where it is, with the weight that it has.
+    PassedOver,
+    /// The entry moves to the front, with the weight that was read.
+    MovedFirst,
+}
+
+impl<const N: usize, S: BuildHasher> Tracker<N, S> {
+    /// Puts the rows of a text last, each in its entry's shard, until one can't be read or put. What follows the text is
+    /// passed over.
+    pub fn load(&mut self, alloc: Global, bytes: &[u8], again: Again) -> Result<(), LoadFault>
+        ensures { Loads N (loaded again N) (recency_at bytes.now) self.old self.new result }
+    {
+        let mut cursor = Cursor { rest: bytes };
+        let count = cursor.array()?;
+        'rows: for _ in 0..count {
+            let row = take_row(&mut cursor)?;
+            self.load_row(alloc, &row, again)?;
+        }
+        Ok(())
+    }
+
+    // Puts a row last in its entry's shard, unless the entry is tracked.
+    fn load_row(
+        &mut self,
+        alloc: Global,
+        row: &BorrowedRow<'_>,
+        again: Again,
+    ) -> Result<(), Refusal>
+        ensures ok { OnOk result (self.new ≡ loaded again N (borrowed_row row.now) self.old) }
+        ensures err { OnErr result (self.new ≡ self.old) }
+        ensures why { IfErr result (IsLoadRefusal N (borrowed_row row.now) self.old) }
+    {
+        let Ok(entry) = row.entry.to_entry(alloc) else {
+            return Err(Refusal::Memory);
+        };
+        self.restore(entry, row.weight, again)
+    }
+
+    // Puts an entry last in its shard, with that weight, unless it is tracked.
+    fn restore(&mut self, entry: CacheEntryKey, weight: usize, again: Again) -> Result<(), Refusal>
+        ensures ok { OnOk result (self.new ≡ loaded again N (record { entry = entry; weight = weight }) self.old) }
+        ensures err { OnErr result (self.new ≡ self.old) }
+        ensures why { IfErr result (IsLoadRefusal N (record { entry = entry; weight = weight }) self.old) }
+    {
+        match self.numbers.number_of(CacheEntryKeyRef::from(&entry)) {
+            Some(number) => {
+                discard(entry);
+                match again {
+                    Again::PassedOver => Ok(()),
+                    Again::MovedFirst => put_first(&mut self.core, number, weight),
+                }
+            }
+            None => self.put_new(entry, weight, End::Last),
+        }
+    }
+}

@@ -1,0 +1,88 @@
+//! Rows that are written.
+
+ghost use Rattle.std.specs.Prelude.{◌≡◌, ◌++◌, ◌<◌, ◌≤◌, ◌^◌, ◌≢◌, None, [], length, map, flat_map, IfOk, OnOk, OnErr, IsErrOf, MatchOption};
+ghost use Rattle.cache_entries.specs.Entry.{key_of};
+ghost use Rattle.cache_entries.specs.RowText.{row_text, recency_text};
+ghost use Rattle.cache_words.specs.Forms.{shortest, arrays};
+ghost use Rattle.cache_evict.specs.Loads.{CantBeWritten, HasLongTag};
+ghost use Rattle.cache_evict.specs.Managed.{rows_at, IsLast};
+ghost use Rattle.cache_evict.specs.Names.{name_at};
+ghost use Rattle.cache_evict.specs.Numbered.{AreNamed, row_of_pair};
+
+use super::Tracker;
+use crate::numbers::Numbers;
+use cache_entries::entry::{CacheEntryKey, CacheEntryKeyRef};
+use cache_entries::pack::put_row;
+use cache_words::pack::{PackWriteFault, writing};
+use lru_core::lru_unit::LruUnitIter;
+use std::alloc::Global;
+use std::hash::BuildHasher;
+
+impl<const N: usize, S: BuildHasher> Tracker<N, S> {
+    /// Returns the entry of a shard that was used longest ago.
+    pub fn peek_lru(&self, shard: usize) -> Option<&CacheEntryKey>
+        requires { shard < N }
+        ensures { MatchOption result (rows_at self.now.shards shard ≡ []) (λ e. IsLast (rows_at self.now.shards shard) e.now) }
+    {
+        let (number, _weight) = self.core.peek_lru(shard)?;
+        self.numbers.entry_of(*number)
+    }
+
+    /// Returns the text of the entries of a shard with their weights, most recent first.
+    pub fn text_of(&self, alloc: Global, shard: usize) -> Result<Vec<u8>, PackWriteFault>
+        requires { shard < N }
+        ensures ok { IfOk result (λ v. v.items ≡ recency_text (rows_at self.now.shards shard)) }
+        ensures long { IsErrOf result PackWriteFault.TooLong → CantBeWritten (rows_at self.now.shards shard) }
+    {
+        let mut out = head_of(alloc, self.core.shard_len(shard))?;
+        match put_rows(&mut out, &self.numbers, self.core.iter(shard)) {
+            Ok(()) => Ok(out),
+            Err(fault) => Err(fault),
+        }
+    }
+}
+
+// The head of a text of so many rows.
+fn head_of(alloc: Global, count: usize) -> Result<Vec<u8>, PackWriteFault>
+    ensures ok { IfOk result (λ out. out.items ≡ shortest arrays count) }
+    ensures long { IsErrOf result PackWriteFault.TooLong → 2 ^ 32 ≤ count }
+{
+    if count > u32::MAX as usize {
+        return Err(PackWriteFault::TooLong);
+    }
+    let mut out = Vec::new(alloc);
+    writing::put_array(&mut out, count as u32)?;
+    Ok(out)
+}
+
+// Adds the rows of the entries of numbers.
+fn put_rows<const N: usize, S: BuildHasher>(
+    out: &mut Vec<u8>,
+    numbers: &Numbers<N, S>,
+    rows: LruUnitIter<'_, u64>,
+) -> Result<(), PackWriteFault>
+    requires { AreNamed (name_at numbers.now) rows }
+    ensures ok { OnOk result (out.new.items ≡ out.old.items ++ flat_map row_text (map (row_of_pair (name_at numbers.now)) rows.entry)) }
+    ensures long { IsErrOf result PackWriteFault.TooLong → HasLongTag (map (row_of_pair (name_at numbers.now)) rows.entry) }
+{
+    let mut left = rows;
+    'rows: while let Some((number, weight)) = left.next() {
+        put_numbered(out, numbers, *number, weight)?;
+    }
+    Ok(())
+}
+
+// Adds the row of the entry of a number.
+fn put_numbered<const N: usize, S: BuildHasher>(
+    out: &mut Vec<u8>,
+    numbers: &Numbers<N, S>,
+    number: u64,
+    weight: usize,
+) -> Result<(), PackWriteFault>
+    requires { name_at numbers.now number ≢ None }
+    ensures ok { OnOk result (out.new.items ≡ out.old.items ++ row_text (row_of_pair (name_at numbers.now) (number, weight))) }
+    ensures long { IsErrOf result PackWriteFault.TooLong → 2 ^ 32 ≤ length (key_of (row_of_pair (name_at numbers.now) (number, weight)).entry).user_tag }
+{
+    let entry = numbers.entry_of(number).unwrap();
+    put_row(out, CacheEntryKeyRef::from(entry), weight)
+}
