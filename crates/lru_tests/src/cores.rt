@@ -92,11 +92,8 @@ fn is_done<const N: usize>(core: &mut LruCore<u32, N>, edit: Edit) -> bool {
             core.set_weight_limit(limit);
             core.weight_limit() == limit
         }
-        Edit::Sums(..)
-        | Edit::Peek(..)
-        | Edit::PeekWeight(..)
-        | Edit::Last(..)
-        | Edit::Limit(_) => is_seen(core, edit),
+        Edit::Sums(..) | Edit::Peek(..) | Edit::PeekWeight(..) | Edit::Last(..) | Edit::Limit(_) =>
+            is_seen(core, edit),
     }
 }
 

@@ -140,8 +140,14 @@ const FIRST_ITEMS: &[Row] = &[
 #[test]
 fn edits_show(rt: HostRuntime) {
     assert_eq!(rt; rows_done(rt.alloc(), 4, SLOTS), Some(SLOTS.len()));
-    assert_eq!(rt; rows_done(rt.alloc(), 0, PROMOTIONS), Some(PROMOTIONS.len()));
-    assert_eq!(rt; rows_done(rt.alloc(), 2, FIRST_ITEMS), Some(FIRST_ITEMS.len()));
+    assert_eq!(rt;
+        rows_done(rt.alloc(), 0, PROMOTIONS),
+        Some(PROMOTIONS.len())
+    );
+    assert_eq!(rt;
+        rows_done(rt.alloc(), 2, FIRST_ITEMS),
+        Some(FIRST_ITEMS.len())
+    );
 }
 
 /// The neighbours of both sentinels.
@@ -158,7 +164,10 @@ fn outer_neighbours(alloc: Global) -> Option<[usize; 4]> {
 #[test]
 fn sentinels_have_no_neighbours_outside(rt: HostRuntime) {
     let outside = u32::MAX as usize;
-    assert_eq!(rt; outer_neighbours(rt.alloc()), Some([outside, 1, 0, outside]));
+    assert_eq!(rt;
+        outer_neighbours(rt.alloc()),
+        Some([outside, 1, 0, outside])
+    );
     assert_eq!(rt; MOST_ITEMS, 4294967293);
 }
 

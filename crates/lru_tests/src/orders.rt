@@ -30,10 +30,10 @@ enum Edit {
     Evicts(&'static [(&'static str, usize)]),
 }
 
-/// Whether a row of an eviction is this key, under the tag `t`, with this weight.
-fn is_evicted(alloc: Global, row: &(CompactCacheKey, usize), wanted: &(&str, usize)) -> Option<bool> {
-    let key = key(alloc, wanted.0, "t")?;
-    Some(is_entry_of(&row.0, &key) && row.1 == wanted.1)
+/// Whether this is the entry of a key under the tag `t`.
+fn is_of(alloc: Global, entry: &CompactCacheKey, primary: &str) -> Option<bool> {
+    let key = key(alloc, primary, "t")?;
+    Some(is_entry_of(entry, &key))
 }
 
 /// Whether an eviction takes these keys.
@@ -41,20 +41,15 @@ fn evicts(order: &mut EntryOrder, alloc: Global, wanted: &[(&str, usize)]) -> Op
     let mut rng = Pcg64::seed_from_u64(1);
     let evicted: Result<_, _> = order.evict(alloc, &mut rng);
     let pairs = evicted.ok()?;
-    for (row, wanted) in pairs.iter().zip(wanted) {
-        if !is_evicted(alloc, row, wanted)? {
+    for ((entry, weight), (primary, weighs)) in pairs.iter().zip(wanted) {
+        if weight != weighs || !is_of(alloc, entry, primary)? {
             return Some(false);
         }
     }
     Some(pairs.len() == wanted.len())
 }
 
-fn is_done(
-    order: &mut EntryOrder,
-    alloc: Global,
-    name: (&str, &str),
-    edit: Edit,
-) -> Option<bool> {
+fn is_done(order: &mut EntryOrder, alloc: Global, name: (&str, &str), edit: Edit) -> Option<bool> {
     let key = key(alloc, name.0, name.1)?;
     let entry = entry_of(&key).ok()?;
     match edit {
@@ -77,12 +72,7 @@ fn is_done(
 type Row = ((&'static str, &'static str), Edit, (usize, usize));
 
 /// How many rows come true before one that doesn't; `None` when out of memory.
-fn rows_done(
-    alloc: Global,
-    limit: usize,
-    watermark: Option<usize>,
-    rows: &[Row],
-) -> Option<usize> {
+fn rows_done(alloc: Global, limit: usize, watermark: Option<usize>, rows: &[Row]) -> Option<usize> {
     let mut order = EntryOrder::new(alloc, limit, watermark).ok()?;
     for (number, row) in rows.iter().enumerate() {
         let is_done = is_done(&mut order, alloc, row.0, row.1)?;
@@ -94,7 +84,8 @@ fn rows_done(
 }
 
 // Tags of one key are two entries.
-const TAGS: &[Row] = &[    (("a", "t"), Edit::Admit(3, Ok(())), (1, 3)),
+const TAGS: &[Row] = &[
+    (("a", "t"), Edit::Admit(3, Ok(())), (1, 3)),
     (("a", "other"), Edit::Admit(4, Ok(())), (2, 7)),
     (("a", "other"), Edit::RemoveKey, (1, 3)),
     (("a", "t"), Edit::Weighs(Some(3)), (1, 3)),
@@ -102,7 +93,8 @@ const TAGS: &[Row] = &[    (("a", "t"), Edit::Admit(3, Ok(())), (1, 3)),
 ];
 
 // The last used goes last.
-const USES: &[Row] = &[    (("a", "t"), Edit::Admit(5, Ok(())), (1, 5)),
+const USES: &[Row] = &[
+    (("a", "t"), Edit::Admit(5, Ok(())), (1, 5)),
     (("b", "t"), Edit::Admit(5, Ok(())), (2, 10)),
     (("c", "t"), Edit::Admit(0, Ok(())), (3, 11)),
     (("c", "t"), Edit::Evicts(&[]), (3, 11)),
@@ -115,7 +107,8 @@ const USES: &[Row] = &[    (("a", "t"), Edit::Admit(5, Ok(())), (1, 5)),
 ];
 
 // The watermark counts entries.
-const MARKED: &[Row] = &[    (("a", "t"), Edit::Admit(1, Ok(())), (1, 1)),
+const MARKED: &[Row] = &[
+    (("a", "t"), Edit::Admit(1, Ok(())), (1, 1)),
     (("b", "t"), Edit::Admit(1, Ok(())), (2, 2)),
     (("a", "t"), Edit::Evicts(&[("a", 1)]), (1, 1)),
 ];
@@ -123,7 +116,8 @@ const MARKED: &[Row] = &[    (("a", "t"), Edit::Admit(1, Ok(())), (1, 1)),
 const ALL: usize = usize::MAX;
 
 // Weights that cannot be summed are too heavy.
-const HEAVY: &[Row] = &[    (("a", "t"), Edit::Admit(ALL, Ok(())), (1, ALL)),
+const HEAVY: &[Row] = &[
+    (("a", "t"), Edit::Admit(ALL, Ok(())), (1, ALL)),
     (
         ("b", "t"),
         Edit::Admit(0, Err(OrderFault::TooHeavy)),
@@ -143,7 +137,10 @@ const HEAVY: &[Row] = &[    (("a", "t"), Edit::Admit(ALL, Ok(())), (1, ALL)),
 fn calls_of_an_order(rt: HostRuntime) {
     assert_eq!(rt; rows_done(rt.alloc(), 100, None, TAGS), Some(TAGS.len()));
     assert_eq!(rt; rows_done(rt.alloc(), 12, None, USES), Some(USES.len()));
-    assert_eq!(rt; rows_done(rt.alloc(), 100, Some(1), MARKED), Some(MARKED.len()));
+    assert_eq!(rt;
+        rows_done(rt.alloc(), 100, Some(1), MARKED),
+        Some(MARKED.len())
+    );
     assert_eq!(rt; rows_done(rt.alloc(), 0, None, HEAVY), Some(HEAVY.len()));
 }
 

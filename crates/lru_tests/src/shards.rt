@@ -189,7 +189,10 @@ const BOUNDS: &[Row] = &[
 #[test]
 fn a_shard_keeps_order_caps_and_bound(rt: HostRuntime) {
     assert_eq!(rt; rows_done(rt.alloc(), 2, 100, USES), Some(USES.len()));
-    assert_eq!(rt; rows_done(rt.alloc(), 0, 100, INCREMENTS), Some(INCREMENTS.len()));
+    assert_eq!(rt;
+        rows_done(rt.alloc(), 0, 100, INCREMENTS),
+        Some(INCREMENTS.len())
+    );
     assert_eq!(rt; rows_done(rt.alloc(), 0, 10, BOUNDS), Some(BOUNDS.len()));
 }
 

@@ -64,7 +64,12 @@ fn names_have_keys(rt: HostRuntime) {
 }
 
 // Values, without their quotes, as text where they are, and as seconds.
-type ValueRow = (&'static [u8], &'static [u8], Option<&'static str>, Option<u32>);
+type ValueRow = (
+    &'static [u8],
+    &'static [u8],
+    Option<&'static str>,
+    Option<u32>,
+);
 
 const VALUES: &[ValueRow] = &[
     (b"\"12\"", b"12", Some("12"), Some(12)),
