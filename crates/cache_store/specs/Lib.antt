@@ -1,3 +1,3 @@
 pub mod Admission
 pub mod Storage
-pub mod WriteId
+pub mod WriteTag
