@@ -1,0 +1,9 @@
+//! Tests of what a cache's store and its users share.
+#![tactic(auto)]
+
+#[cfg(test)]
+mod decisions;
+#[cfg(test)]
+mod targets;
+#[cfg(test)]
+mod tracing;
