@@ -145,3 +145,27 @@ pub(crate) const CUT: &[(&[u8], &[u8], &str)] = &[
         "3",
     ),
 ];
+
+// How many lines a head has and what is after them, and the answer. At the end of a line too many the tier waits for what
+// follows.
+pub(crate) const LINES: &[(usize, &str, &str)] = &[
+    (255, "Cache-Control: max-age=1\r\n\r\n", "0"),
+    (256, "Cache-Control: max-age=1\r\n\r\n", "BadHead"),
+    (257, "", "Incomplete"),
+    (257, "A", "BadHead"),
+    (257, "\r\n", "BadHead"),
+];
+
+// Heads with other status lines.
+pub(crate) const STARTS: &[(&[u8], &str)] = &[
+    (b"HTTP/1.1 2x0", "BadHead"),
+    (b"HTTP/1.1 099 Low\r\n\r\n", "BadHead"),
+    (
+        b"HTTP/1.1 204 None\r\nExpires: 0\r\nContent-Length: 5\r\n\r\nab",
+        "0",
+    ),
+    (
+        b"HTTP/1.1 304 Same\r\nExpires: 0\r\nContent-Length: 5\r\n\r\nab",
+        "0",
+    ),
+];

@@ -1,5 +1,5 @@
 //! Heads as servers send them: when they are fresh, and where they are refused.
-use crate::head_rows::{CUT, ROWS};
+use crate::head_rows::{CUT, LINES, ROWS, STARTS};
 use bytes::Bytes;
 use cache_tier::tier::Tier;
 use cache_words::key::CacheKey;
@@ -39,8 +39,29 @@ fn show_put(text: &mut String, outcome: &Result<Answer, TierFault>) -> Result<()
     }
 }
 
+// When a put comes, the moments of look-ups after it, and the answers.
+#[derive(Drop)]
+struct Want {
+    at: i64,
+    looks: &'static [i64],
+    answers: &'static str,
+}
+
+// What a put of these pieces answers.
+fn put(
+    alloc: Global,
+    text: &mut String,
+    tier: &mut Tier<1>,
+    second: i64,
+    pieces: Pieces,
+) -> Result<(), AllocError> {
+    let key = key(alloc)?;
+    let outcome = answer(tier, second, Action::Put { key, pieces });
+    show_put(text, &outcome)
+}
+
 // How a request of its own finds the body, and the body if it is asked for.
-fn show_look(
+fn look(
     alloc: Global,
     text: &mut String,
     tier: &mut Tier<1>,
@@ -55,33 +76,66 @@ fn show_look(
     }
 }
 
-fn show_body(text: &mut String, tier: &mut Tier<1>) -> Result<(), AllocError> {
+fn read(text: &mut String, tier: &mut Tier<1>) -> Result<(), AllocError> {
     match answer(tier, 0, Action::Read { request: 0 }) {
         Ok(Answer::Bytes(body)) => write!(text, " {:?}", body.as_slice()),
         _ => Ok(()),
     }
 }
 
-// What a put of these bytes answers, then how look-ups at these moments find them.
-fn outcomes(
+fn put_and_look(
     alloc: Global,
-    bytes: &[u8],
-    size: usize,
-    at: i64,
-    looks: &[i64],
-) -> Result<String, AllocError> {
-    let mut text = String::new(alloc);
-    let second = Duration::from_seconds(1);
-    let mut tier = Tier::<1>::new(alloc, 1000, None, second, None)?;
-    let pieces = pieces(alloc, bytes, size)?;
-    let key = key(alloc)?;
-    let outcome = answer(&mut tier, at, Action::Put { key, pieces });
-    show_put(&mut text, &outcome)?;
-    for (request, moment) in looks.iter().enumerate() {
-        show_look(alloc, &mut text, &mut tier, request as u64, *moment)?;
+    text: &mut String,
+    tier: &mut Tier<1>,
+    pieces: Pieces,
+    want: &Want,
+) -> Result<(), AllocError> {
+    put(alloc, text, tier, want.at, pieces)?;
+    for (request, moment) in want.looks.iter().enumerate() {
+        look(alloc, text, tier, request as u64, *moment)?;
     }
-    show_body(&mut text, &mut tier)?;
+    read(text, tier)
+}
+
+// What a put of these pieces answers, then how look-ups find them.
+fn outcomes(alloc: Global, pieces: Pieces, want: &Want) -> Result<String, AllocError> {
+    let mut text = String::new(alloc);
+    let mut tier = Tier::<1>::new(alloc, 1000, None, Duration::from_seconds(1), None)?;
+    put_and_look(alloc, &mut text, &mut tier, pieces, want)?;
     Ok(text)
+}
+
+// Whether a put of these pieces, if memory allows it, answers what is wanted.
+fn is_answered(alloc: Global, made: Result<Pieces, AllocError>, want: &Want) -> bool {
+    let Ok(pieces) = made else {
+        return true;
+    };
+    match outcomes(alloc, pieces, want) {
+        Ok(text) => text.as_str() == want.answers,
+        Err(AllocError) => true,
+    }
+}
+
+// The same of a text in pieces of this size.
+fn is_answered_in(
+    alloc: Global,
+    made: &Result<String, AllocError>,
+    size: usize,
+    want: &Want,
+) -> bool {
+    match made {
+        Ok(text) => is_answered(alloc, pieces(alloc, text.as_bytes(), size), want),
+        Err(AllocError) => true,
+    }
+}
+
+// A put at second 0, with no look-up.
+fn put_only(answers: &'static str) -> Want {
+    Want {
+        at: 0,
+        looks: &[],
+        answers,
+    }
 }
 
 // The head with these lines, and what is after it.
@@ -91,125 +145,59 @@ fn response(alloc: Global, lines: &str, body: &str) -> Result<String, AllocError
 
 #[test]
 fn judges_by_the_head(rt: HostRuntime) {
-    let alloc = rt.alloc();
-    for (lines, body, at, looks, want) in ROWS {
-        let Ok(bytes) = response(alloc, lines, body) else {
-            return;
-        };
+    for (lines, body, at, looks, answers) in ROWS {
+        let bytes = response(rt.alloc(), lines, body);
+        let at = *at;
+        let want = Want { at, looks, answers };
         for size in [1, 7, 1000] {
-            let got = outcomes(alloc, bytes.as_bytes(), size, *at, looks);
-            assert!(rt;
-                got.is_err() || got.as_ref().is_ok_and(|text| text.as_str() == *want),
-                "{lines}: {got:?}"
-            );
+            assert!(rt; is_answered_in(rt.alloc(), &bytes, size, &want), "{lines}");
         }
     }
 }
 
 // A response whose head and whose body come as pieces of their own.
 fn in_two(alloc: Global, head: &[u8], body: &[u8]) -> Result<Pieces, AllocError> {
-    Ok(Pieces::from_vec(vec![in alloc;
-        Bytes::copy_from_slice(alloc, head)?,
-        Bytes::copy_from_slice(alloc, body)?,
-    ]?))
-}
-
-// What a put of these two pieces answers.
-fn cut_outcome(alloc: Global, head: &[u8], body: &[u8]) -> Result<String, AllocError> {
-    let mut text = String::new(alloc);
-    let second = Duration::from_seconds(1);
-    let mut tier = Tier::<1>::new(alloc, 1000, None, second, None)?;
-    let pieces = in_two(alloc, head, body)?;
-    let key = key(alloc)?;
-    let outcome = answer(&mut tier, 0, Action::Put { key, pieces });
-    show_put(&mut text, &outcome)?;
-    Ok(text)
+    let head = Bytes::copy_from_slice(alloc, head)?;
+    let body = Bytes::copy_from_slice(alloc, body)?;
+    Ok(Pieces::from_vec(vec![in alloc; head, body]?))
 }
 
 #[test]
 fn reads_over_a_cut_between_head_and_body(rt: HostRuntime) {
-    let alloc = rt.alloc();
     for (head, body, want) in CUT {
-        let got = cut_outcome(alloc, *head, *body);
-        assert!(rt;
-            got.is_err() || got.as_ref().is_ok_and(|text| text.as_str() == *want),
-            "{want}: {got:?}"
-        );
+        let made = in_two(rt.alloc(), head, body);
+        assert!(rt; is_answered(rt.alloc(), made, &put_only(want)), "{want}");
     }
 }
+
+const WHOLE: &[u8] =
+    b"HTTP/1.1 200 OK\r\nCache-Control: max-age=100\r\nContent-Length: 3\r\n\r\nabc";
 
 #[test]
 fn waits_for_the_whole(rt: HostRuntime) {
-    let alloc = rt.alloc();
-    let whole = b"HTTP/1.1 200 OK\r\nCache-Control: max-age=100\r\nContent-Length: 3\r\n\r\nabc";
-    assert_eq!(rt; whole.len(), 69);
+    assert_eq!(rt; WHOLE.len(), 69);
     for end in 0..69 {
         for size in [1, 100] {
-            let got = outcomes(alloc, &whole[..end], size, 0, &[]);
-            assert!(rt;
-                got.is_err() || got.as_ref().is_ok_and(|text| text.as_str() == "Incomplete"),
-                "{end}: {got:?}"
-            );
+            let made = pieces(rt.alloc(), WHOLE.get(..end).unwrap_or(WHOLE), size);
+            let is_right = is_answered(rt.alloc(), made, &put_only("Incomplete"));
+            assert!(rt; is_right, "{end}");
         }
     }
+    let want = Want {
+        at: 0,
+        looks: &[0],
+        answers: "3 true [97, 98, 99]",
+    };
     for size in [1, 66, 100] {
-        let got = outcomes(alloc, whole, size, 0, &[0]);
-        assert!(rt;
-            got.is_err()
-                || got
-                    .as_ref()
-                    .is_ok_and(|text| text.as_str() == "3 true [97, 98, 99]"),
-            "{got:?}"
-        );
+        let made = pieces(rt.alloc(), WHOLE, size);
+        assert!(rt; is_answered(rt.alloc(), made, &want), "{size}");
     }
 }
 
-#[test]
-fn bounds_a_head(rt: HostRuntime) {
-    let alloc = rt.alloc();
-    for (lines, want) in [(255, "0"), (256, "BadHead")] {
-        let mut head = String::new(alloc);
-        for _ in 0..lines {
-            if head.push_str("A: b\r\n").is_err() {
-                return;
-            }
-        }
-        let Ok(head) = format!(in alloc; "{head}Cache-Control: max-age=1\r\n") else {
-            return;
-        };
-        let Ok(bytes) = response(alloc, head.as_str(), "") else {
-            return;
-        };
-        let got = outcomes(alloc, bytes.as_bytes(), 9000, 0, &[]);
-        assert!(rt;
-            got.is_err() || got.as_ref().is_ok_and(|text| text.as_str() == want),
-            "{lines}: {got:?}"
-        );
-    }
-    for (bytes, want) in [
-        ("HTTP/1.1 2x0", "BadHead"),
-        ("HTTP/1.1 099 Low\r\n\r\n", "BadHead"),
-        (
-            "HTTP/1.1 204 None\r\nExpires: 0\r\nContent-Length: 5\r\n\r\nab",
-            "0",
-        ),
-        (
-            "HTTP/1.1 304 Same\r\nExpires: 0\r\nContent-Length: 5\r\n\r\nab",
-            "0",
-        ),
-    ] {
-        let got = outcomes(alloc, bytes.as_bytes(), 100, 0, &[]);
-        assert!(rt;
-            got.is_err() || got.as_ref().is_ok_and(|text| text.as_str() == want),
-            "{bytes}: {got:?}"
-        );
-    }
-}
-
-// A head of one line too many, and these bytes after it.
-fn too_long(alloc: Global, after: &str) -> Result<String, AllocError> {
+// A head of so many lines, and these bytes after it.
+fn lines(alloc: Global, count: usize, after: &str) -> Result<String, AllocError> {
     let mut head = String::from_str(alloc, "HTTP/1.1 200 OK\r\n")?;
-    for _ in 0..257 {
+    for _ in 0..count {
         head.push_str("A: b\r\n")?;
     }
     head.push_str(after)?;
@@ -217,16 +205,14 @@ fn too_long(alloc: Global, after: &str) -> Result<String, AllocError> {
 }
 
 #[test]
-fn waits_only_at_the_end_of_a_line_too_many(rt: HostRuntime) {
-    let alloc = rt.alloc();
-    for (after, want) in [("", "Incomplete"), ("A", "BadHead"), ("\r\n", "BadHead")] {
-        let Ok(bytes) = too_long(alloc, after) else {
-            return;
-        };
-        let got = outcomes(alloc, bytes.as_bytes(), 9000, 0, &[]);
-        assert!(rt;
-            got.is_err() || got.as_ref().is_ok_and(|text| text.as_str() == want),
-            "{after:?}: {got:?}"
-        );
+fn bounds_a_head(rt: HostRuntime) {
+    for (count, after, want) in LINES {
+        let made = lines(rt.alloc(), *count, after);
+        let is_right = is_answered_in(rt.alloc(), &made, 9000, &put_only(want));
+        assert!(rt; is_right, "{count} {after}");
+    }
+    for (bytes, want) in STARTS {
+        let made = pieces(rt.alloc(), bytes, 100);
+        assert!(rt; is_answered(rt.alloc(), made, &put_only(want)), "{want}");
     }
 }

@@ -15,18 +15,25 @@ fn look() -> Event {
     }
 }
 
+// Takes an event; `None` where it is refused.
+fn take(alloc: Global, tier: &mut Tier<1>, ask: Ask) -> Option<()> {
+    let mut rng = Pcg32::new(1, 1);
+    let event = event(alloc, 7, ask).ok()?;
+    match tier.step(&mut rng, &event) {
+        Ok(_) => Some(()),
+        Err(_) => None,
+    }
+}
+
 // A tier with a body of two bytes under each name, and request 1 open for a where that is asked, if no allocation failed on
 // the way.
 fn fixture(alloc: Global, limit: usize, names: &[u8], is_open: bool) -> Option<Tier<1>> {
-    let mut rng = Pcg32::new(1, 1);
     let mut tier = tier(alloc, limit, None).ok()?;
     for name in names {
-        let put = event(alloc, 7, put_of(*name, "", 2)).ok()?;
-        let _ = tier.step(&mut rng, &put).ok()?;
+        take(alloc, &mut tier, put_of(*name, "", 2))?;
     }
     if is_open {
-        let open = event(alloc, 7, OPEN).ok()?;
-        let _ = tier.step(&mut rng, &open).ok()?;
+        take(alloc, &mut tier, OPEN)?;
     }
     Some(tier)
 }
@@ -57,105 +64,103 @@ fn is_found(outcome: &Result<Answer, TierFault>) -> bool {
     }
 }
 
-#[test]
-fn a_put_without_memory_leaves_all(rt: HostRuntime) {
-    let alloc = rt.alloc();
+fn is_finished(outcome: &Result<Answer, TierFault>, of: usize, evictions: usize) -> bool {
+    match outcome {
+        Ok(Answer::Finished { length, evicted }) => {
+            *length == of && evicted.as_slice().len() == evictions
+        }
+        _ => false,
+    }
+}
+
+// Each of these functions is `None` where memory is refused before the call that it is about.
+
+fn put_leaves_all(alloc: Global) -> Option<bool> {
     let mut rng = Pcg32::new(1, 1);
-    let Some(mut tier) = fixture(alloc, 4, b"a", true) else {
-        return;
-    };
-    let Ok(put) = event(alloc, 7, put_of(b'b', "", 5)) else {
-        return;
-    };
+    let put = event(alloc, 7, put_of(b'b', "", 5)).ok()?;
+    let mut tier = fixture(alloc, 4, b"a", true)?;
     let before = tier.report();
     let outcome = tier.step(&mut rng, &put);
     if is_memory(&outcome) || is_taken_back(&outcome) {
-        assert_eq!(rt; tier.report(), before);
-        assert!(rt; is_found(&tier.step(&mut rng, &look())));
-        return;
+        return Some(tier.report() == before && is_found(&tier.step(&mut rng, &look())));
     }
-    match &outcome {
-        Ok(Answer::Finished { length, evicted }) => {
-            assert_eq!(rt; *length, 5);
-            assert_eq!(rt; evicted.as_slice().len(), 2);
-        }
-        _ => panic!(&rt; "{outcome:?}"),
+    Some(is_finished(&outcome, 5, 2))
+}
+
+#[test]
+fn a_put_without_memory_leaves_all(rt: HostRuntime) {
+    assert_ne!(rt; put_leaves_all(rt.alloc()), Some(false));
+}
+
+fn open_leaves_all(alloc: Global) -> Option<bool> {
+    let mut rng = Pcg32::new(1, 1);
+    let open = event(alloc, 7, OPEN).ok()?;
+    let mut tier = fixture(alloc, 4, b"a", false)?;
+    let before = tier.report();
+    let outcome = tier.step(&mut rng, &open);
+    if is_memory(&outcome) {
+        let looked = tier.step(&mut rng, &look());
+        return Some(tier.report() == before && matches!(&looked, Err(TierFault::NoRequest)));
     }
+    Some(outcome.is_ok() && is_found(&tier.step(&mut rng, &look())))
 }
 
 #[test]
 fn an_open_without_memory_leaves_all(rt: HostRuntime) {
-    let alloc = rt.alloc();
+    assert_ne!(rt; open_leaves_all(rt.alloc()), Some(false));
+}
+
+fn look_leaves_all(alloc: Global) -> Option<bool> {
     let mut rng = Pcg32::new(1, 1);
-    let Some(mut tier) = fixture(alloc, 4, b"a", false) else {
-        return;
-    };
-    let Ok(open) = event(alloc, 7, OPEN) else {
-        return;
-    };
+    let mut tier = fixture(alloc, 8, b"abcd", true)?;
     let before = tier.report();
-    let outcome = tier.step(&mut rng, &open);
+    let outcome = tier.step(&mut rng, &look());
     if is_memory(&outcome) {
-        assert_eq!(rt; tier.report(), before);
-        match tier.step(&mut rng, &look()) {
-            Err(TierFault::NoRequest) => {}
-            other => panic!(&rt; "{other:?}"),
-        }
-        return;
+        return Some(tier.report() == before && is_found(&tier.step(&mut rng, &look())));
     }
-    assert!(rt; outcome.is_ok());
-    assert!(rt; is_found(&tier.step(&mut rng, &look())));
+    Some(is_found(&outcome))
 }
 
 #[test]
 fn a_look_without_memory_leaves_all(rt: HostRuntime) {
-    let alloc = rt.alloc();
-    let mut rng = Pcg32::new(1, 1);
-    let Some(mut tier) = fixture(alloc, 8, b"abcd", true) else {
-        return;
-    };
-    let before = tier.report();
-    let mut outcome = tier.step(&mut rng, &look());
-    if is_memory(&outcome) {
-        assert_eq!(rt; tier.report(), before);
-        outcome = tier.step(&mut rng, &look());
-    }
-    assert!(rt; is_found(&outcome));
+    assert_ne!(rt; look_leaves_all(rt.alloc()), Some(false));
 }
 
 // A read takes no memory, whatever fails.
-#[test]
-fn a_read_takes_no_memory(rt: HostRuntime) {
-    let alloc = rt.alloc();
+fn is_read(alloc: Global) -> Option<bool> {
     let mut rng = Pcg32::new(1, 1);
-    let Some(mut tier) = fixture(alloc, 4, b"a", true) else {
-        return;
-    };
+    let mut tier = fixture(alloc, 4, b"a", true)?;
     if !is_found(&tier.step(&mut rng, &look())) {
-        return;
+        return None;
     }
     let read = Event {
         moment: Moment::from_seconds(7),
         action: Action::Read { request: 1 },
     };
     match tier.step(&mut rng, &read) {
-        Ok(Answer::Bytes(bytes)) => assert_eq!(rt; bytes.as_slice(), b"xx".as_slice()),
-        other => panic!(&rt; "{other:?}"),
+        Ok(Answer::Bytes(bytes)) => Some(bytes.as_slice() == b"xx".as_slice()),
+        _ => Some(false),
+    }
+}
+
+#[test]
+fn a_read_takes_no_memory(rt: HostRuntime) {
+    assert_ne!(rt; is_read(rt.alloc()), Some(false));
+}
+
+fn run_leaves_all(alloc: Global) -> Option<bool> {
+    let mut rng = Pcg32::new(1, 1);
+    let mut tier = fixture(alloc, 4, b"a", true)?;
+    let before = tier.report();
+    match tier.run(&mut rng, &[look()]) {
+        Ok(outcomes) => Some(outcomes.len() == 1),
+        Err(_) => Some(tier.report() == before),
     }
 }
 
 #[test]
 fn a_run_without_memory_does_nothing(rt: HostRuntime) {
-    let alloc = rt.alloc();
-    let mut rng = Pcg32::new(1, 1);
-    let Some(mut tier) = fixture(alloc, 4, b"a", true) else {
-        return;
-    };
-    let before = tier.report();
-    match tier.run(&mut rng, &[look()]) {
-        Ok(outcomes) => assert_eq!(rt; outcomes.len(), 1),
-        Err(_) => assert_eq!(rt; tier.report(), before),
-    }
+    assert_ne!(rt; run_leaves_all(rt.alloc()), Some(false));
 }
 
 // A put, an open, a look and a read, after more puts than any test above makes.
