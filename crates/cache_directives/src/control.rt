@@ -23,9 +23,23 @@ pub struct CacheControl {
     pub directives: DirectiveMap,
 }
 
+// As many directives are compared one by one, which takes less time than to hash a name.
+const FEW: usize = 8;
+
 impl CacheControl {
     // The value under a key.
     fn lookup(&self, key: &DirectiveKey) -> Option<Option<&DirectiveValue>>
+        ensures { option_map (λ o. option_map (λ v. v.now.0.items) o) result ≡ value_named (name_of key.now) (directives_of self.now) }
+    {
+        if self.directives.len() <= FEW {
+            self.first_of(key)
+        } else {
+            self.hashed(key)
+        }
+    }
+
+    // The value under a key, found by its hash.
+    fn hashed(&self, key: &DirectiveKey) -> Option<Option<&DirectiveValue>>
         ensures { option_map (λ o. option_map (λ v. v.now.0.items) o) result ≡ value_named (name_of key.now) (directives_of self.now) }
     {
         match self.directives.get(key) {
@@ -33,6 +47,18 @@ impl CacheControl {
             Some(None) => Some(None),
             None => None,
         }
+    }
+
+    // The value under a key, found by going over all.
+    fn first_of(&self, key: &DirectiveKey) -> Option<Option<&DirectiveValue>>
+        ensures { option_map (λ o. option_map (λ v. v.now.0.items) o) result ≡ value_named (name_of key.now) (directives_of self.now) }
+    {
+        for (name, value) in self.directives.iter() {
+            if key == name {
+                return Some(value.as_ref());
+            }
+        }
+        None
     }
 
     // The value under a key, where it has one.

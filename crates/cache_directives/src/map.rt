@@ -6,13 +6,26 @@ use http_header::HeaderMap;
 use indexmap::IndexMap;
 use std::hash::{BuildHasher, DefaultHasher, Hasher};
 
+// Lines of so many bytes together hold few names: it does no harm if they collide.
+const SHORT: usize = 256;
+
+// Whether the lines under a name are short together.
+fn are_short(name: &str, headers: &HeaderMap) -> bool {
+    let mut bytes = 0usize;
+    for line in headers.get_all(name).iter() {
+        bytes = bytes.saturating_add(line.as_bytes().len());
+    }
+    bytes <= SHORT
+}
+
 /// The directives by name, in the order in which the names first came.
 pub type DirectiveMap = IndexMap<DirectiveKey, Option<DirectiveValue>, BuildDirectiveHasher>;
 
 /// Makes the hashers of a map of directives.
 ///
 /// The hashers of a map that was read start from a digest of all its lines, so whoever writes the
-/// lines cannot choose names that collide. This needs neither randomness nor memory.
+/// lines cannot choose names that collide; lines of at most 256 bytes together hold too few names
+/// for that to matter, and start alike. This needs neither randomness nor memory.
 #[derive(Clone, Copy)]
 pub struct BuildDirectiveHasher {
     start: DefaultHasher,
@@ -40,6 +53,9 @@ impl BuildHasher for BuildDirectiveHasher {
 impl BuildDirectiveHasher {
     // For the lines under a name.
     pub(crate) fn of_lines(name: &str, headers: &HeaderMap) -> Self {
+        if are_short(name, headers) {
+            return BuildDirectiveHasher::default();
+        }
         let mut lines = Blake2b128::new();
         for line in headers.get_all(name).iter() {
             lines.update(line.as_bytes());

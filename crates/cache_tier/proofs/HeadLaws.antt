@@ -1,5 +1,5 @@
 -- The lines of a map, and what heads within the bounds give.
-use Rattle.std.proofs.Common.{◌≡◌, ℕ, ◌+◌, ◌≤◌, ◌<◌, true, false, List, [], ◌∷◌, ◌++◌, length, map, take, drop, refl, ap, ap₂, sym, ◌∙◌, subst, arith, inl, inr, append_assoc, append-nil, All, Option, Some, None, length-append, length-take, get_or}
+use Rattle.std.proofs.Common.{◌≡◌, ℕ, ◌+◌, ◌≤◌, ◌<◌, true, false, List, [], ◌∷◌, ◌++◌, length, map, take, drop, refl, ap, ap₂, sym, ◌∙◌, subst, arith, inl, inr, append_assoc, append-nil, All, length-append, length-take, get_or}
 use Rattle.std.specs.Prelude.{◌≢◌, bytes_eq, codes, ◌&&◌, ◌⊎◌, Bool, nat_le}
 use Rattle.std.specs.List.{list_all}
 use Rattle.std.proofs.lemmas.Bool.Decides.{nat_tests}
@@ -26,23 +26,10 @@ use Rattle.httparse.proofs.GrammarLemmas.{response_unique, response_prefix_free}
 use Rattle.tier_model.specs.Keys.{Entry}
 use Rattle.tier_model.specs.declared.whole.Whole.{Whole}
 use Rattle.tier_model.specs.declared.whole.Whole.TheVariants.{Incomplete, BadHead}
-use Rattle.tier_model.specs.Response.{values_of, body_within, whole_by_body, whole_by_lines, has_short_name, is_within_bounds, Reading, whole_head, begun_head, no_head, IsReading}
+use Rattle.tier_model.specs.Response.{values_of, whole_by_lines, has_short_name, is_within_bounds, Reading, whole_head, begun_head, no_head, IsReading}
 use Rattle.cache_tier.specs.declared.response.head.Head.{Head}
 use Rattle.cache_headers.specs.Lines.{pair_of, map_of, IsLine}
-use Rattle.cache_tier.specs.Heads.{announced, kept_until, whole_by_head, Gives, IsHeadAt, IsHeadOf, IsOutOfBounds, IsSomeHead, AreShortLines}
-use Rattle.std.specs.Prelude.{option_map, option_copied}
-use Rattle.std.specs.Borrow.{Bor}
-use Rattle.cache_directives.specs.Written.{Written}
-use Rattle.cache_directives.specs.Control.{directives_of, lines_under, named}
-use Rattle.cache_directives.specs.declared.control.CacheControl.{CacheControl}
-use Rattle.cache_heads.specs.Directives.{directives_in as lent}
-use Rattle.cache_heads.specs.FreshUntil.{fresh_until_by}
-use Rattle.cache_heads.specs.Verdict as verdict
-use Rattle.cache_heads.specs.declared.meta.CacheMeta.{CacheMeta}
-use Rattle.cache_heads.specs.declared.reason.NoCacheReason.{NoCacheReason}
-use Rattle.cache_heads.specs.declared.reason.NoCacheReason.TheVariants.{OriginNotCache}
-use Rattle.cache_heads.specs.declared.reason.RespCacheable.{RespCacheable}
-use Rattle.cache_heads.specs.declared.reason.RespCacheable.TheVariants as verdicts
+use Rattle.cache_tier.specs.Heads.{whole_by_head, Gives, IsHeadAt, IsHeadOf, IsOutOfBounds, IsSomeHead, AreShortLines}
 
 -- a further line adds one value, and one name at most
 value_count-append : (m : Entries FieldValue) (name : List ℕ) (value : FieldValue) → value_count (append m name value) ≡ value_count m + 1
@@ -304,34 +291,3 @@ some-head bytes len status code all l is same lines = record { len = l; lines = 
   where
     high : 100 ≤ code → nat_le 100 code ≡ true
     high l = grind (arith, nat_tests)
-
--- the directives that are lent out
-lent-copied : (r : Option (Bor CacheControl)) → lent r ≡ option_map directives_of (option_copied r)
-lent-copied None = refl
-lent-copied (Some c) = refl
-
-pub judged-is : (arrival : MomentValue) (head : ResponseHeader) (r : Option (Bor CacheControl)) (control : Option CacheControl) → option_copied r ≡ control → option_map directives_of control ≡ named (lines_under (codes "cache-control") head.headers)
-    → fresh_until_by arrival (lent r) (lines_under (codes "expires") head.headers) false None ≡ kept_until arrival head
-judged-is arrival head r control e is =
-    ap (λ (ds : Option (List Written)). fresh_until_by arrival ds (lines_under (codes "expires") head.headers) false None) (lent-copied r ∙ ap (option_map directives_of) e ∙ is)
-
--- what a verdict says of the moment that it judged by
-pub until-refused : (o : Option MomentValue) (now : MomentValue) (ds : Option (List Written)) (header : ResponseHeader) (a b : ℕ) (reason : NoCacheReason) → verdict.kept_until o now ds header a b ≡ verdicts.Uncacheable reason
-    → (o ≡ None) × (reason ≡ OriginNotCache)
-until-refused None now ds header a b reason e = (refl, cc)
-until-refused (Some until) now ds header a b reason e = absurd cc
-
-kept_of : RespCacheable → Option MomentValue
-kept_of (verdicts.Cacheable meta) = Some meta.internal.fresh_until
-kept_of (verdicts.Uncacheable reason) = None
-
-pub until-kept : (o : Option MomentValue) (now : MomentValue) (ds : Option (List Written)) (header : ResponseHeader) (a b : ℕ) (meta : CacheMeta) → verdict.kept_until o now ds header a b ≡ verdicts.Cacheable meta
-    → o ≡ Some meta.internal.fresh_until
-unfolding kept_of
-until-kept None now ds header a b meta e = absurd cc
-until-kept (Some until) now ds header a b meta e = ap kept_of e
-
--- a body and a moment give what the head does that they come from
-pub whole_by_head-from : (arrival : MomentValue) (entry : Entry) (head : ResponseHeader) (rest : List ℕ) (body : Option (List ℕ)) (until : Option MomentValue) → body_within (announced head) rest ≡ body → kept_until arrival head ≡ until
-    → whole_by_body arrival entry body until ≡ whole_by_head arrival entry head rest
-whole_by_head-from arrival entry head rest body until b u = ap₂ (whole_by_body arrival entry) (sym b) (sym u)

@@ -6,8 +6,8 @@ ghost use Rattle.cache_tier.specs.Heads.{announced, whole_by_head};
 use bytes::Bytes;
 use cache_directives::CacheControl;
 use cache_headers::ResponseHeader;
-use cache_heads::RespCacheable;
-use cache_heads::filters::resp_cacheable;
+use cache_heads::NoCacheReason;
+use cache_heads::filters::calculate_fresh_until;
 use cache_heads::meta::{CacheMetaDefaults, NeverByStatus};
 use cache_words::key::CompactCacheKey;
 use cache_words::time::Moment;
@@ -91,18 +91,16 @@ pub(super) fn whole_by_head(
 ) -> Result<Whole, AllocError>
     ensures { IfOk result (λ whole. whole ≡ whole_by_head arrival entry head rest) }
 {
-    let body = body_within(announced(&head), rest);
-    let control = CacheControl::from_resp_headers(alloc, &head)?;
-    let defaults = CacheMetaDefaults::new(NeverByStatus, 0, 0);
-    let verdict = resp_cacheable(arrival, control.as_ref(), head, false, &defaults);
-    let Some(bytes) = body else {
+    let Some(bytes) = body_within(announced(&head), rest) else {
         return Ok(Whole::Incomplete);
     };
-    match verdict {
-        RespCacheable::Cacheable(meta) => {
+    let control = CacheControl::from_resp_headers(alloc, &head)?;
+    let defaults = CacheMetaDefaults::new(NeverByStatus, 0, 0);
+    match calculate_fresh_until(arrival, control.as_ref(), &head, false, &defaults) {
+        Some(fresh_until) => {
             let bytes = kept(alloc, bytes, response)?;
-            Ok(stored(arrival, entry, bytes, meta.fresh_until()))
+            Ok(stored(arrival, entry, bytes, fresh_until))
         }
-        RespCacheable::Uncacheable(reason) => Ok(Whole::Uncacheable(reason)),
+        None => Ok(Whole::Uncacheable(NoCacheReason::OriginNotCache)),
     }
 }

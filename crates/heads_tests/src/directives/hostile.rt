@@ -28,9 +28,9 @@ fn unclosed_quote(rt: HostRuntime) {
     assert!(rt; is_text(shown_unclosed(rt.alloc()), "a;b"));
 }
 
-// Lines of heads. After each of these the hash of a name starts differently, so names that collide cannot be searched for
-// before the lines are there. From a start that is the same for each map they can, and to read n of them then takes n * n
-// comparisons.
+// Ends of heads, after a line of 256 bytes. After each of these the hash of a name starts differently, so names that collide
+// cannot be searched for before the lines are there. From a start that is the same for each map they can, and to read n of
+// them then takes n * n comparisons.
 const STARTS: &[&[&str]] = &[
     &["public"],
     &["public,"],
@@ -42,6 +42,7 @@ const STARTS: &[&[&str]] = &[
 
 fn hash_after(alloc: Global, lines: &[&str]) -> Option<u64> {
     let mut headers = HeaderMap::new(alloc);
+    add(alloc, &mut headers, "cache-control", &[b'a'; 256])?;
     for line in lines {
         add(alloc, &mut headers, "cache-control", line.as_bytes())?;
     }

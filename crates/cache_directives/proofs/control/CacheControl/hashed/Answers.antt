@@ -2,7 +2,7 @@ use Rattle.std.proofs.Common.{sym, ap, ◌∙◌}
 use Rattle.std.specs.Prelude.{Some, option_map}
 use Rattle.cache_directives.specs.Entries.{value_bytes}
 use Rattle.cache_directives.proofs.Texts.{seen_lookup}
-use Rattle.cache_directives.proofs.control.CacheControl.lookup.Goals as goal
+use Rattle.cache_directives.proofs.control.CacheControl.hashed.Goals as goal
 
 pub returns-in-Some-Some : goal.returns-in-Some-Some
 returns-in-Some-Some c =
