@@ -1,0 +1,197 @@
+-- Bodies are tracked with at least their lengths, and so keep the limits that the rows keep.
+use Rattle.std.proofs.Common.{◌≡◌, ℕ, ◌≤◌, refl, ap, sym, ◌∙◌, true, false, subst, cond, [], ◌∷◌, length, arith, inl, inr}
+use Rattle.std.specs.Prelude.{Bool, ◌⊎◌, List, Option, Some, None, unwrap_or}
+use Rattle.std.specs.List.{AllByRecursion, sum_by}
+use Rattle.std.proofs.lemmas.List.Sums.{sum_by-cons}
+use Rattle.cache_entries.specs.declared.entry.CacheEntryKey.{CacheEntryKey}
+use Rattle.cache_entries.specs.declared.rows.Tracked.{Tracked}
+use Rattle.cache_entries.specs.Entry.{same_entry}
+use Rattle.cache_entries.specs.Keys.{same_bytes}
+use Rattle.cache_entries.specs.Rows.{weight_of, all_weights, without_row, is_over}
+use Rattle.cache_entries.specs.SameEntry.{same_entry-tells, same_bytes-tells, same-sym}
+use Rattle.cache_changes.specs.Changes.{StoredKey, Write, Change, Changes, appends, finishes, admits, uses, departs, evicts, key_alone, is_key}
+use Rattle.cache_changes.specs.Writes.{bytes_of, removes_key, IsBody, IsOrderly}
+use Rattle.cache_changes.specs.Uses.{last_weight, IsOrderOfUse}
+use Rattle.cache_changes.specs.Bound.{is_entry_of, AdmitsKey, AdmitsAtOnce, MindsBodies, TracksBodies, is_settled, IsTrackedBody, HasDistinctKeys, AreWithin}
+use Rattle.cache_changes.proofs.RowLaws.{weight_of-without}
+use Rattle.cache_changes.proofs.WeightLaws.{without_tracked, kept_limits}
+use Rattle.cache_changes.proofs.BodyLaws.{finished_by, body_chosen, body_now, body_now-has, body_now-is, body_now-of, not_appended}
+
+-- the last change finished w
+abbrev JustFinished : {M : Type 0} → Write M → Changes M → Type 0
+JustFinished w (finishes v ∷ _) = v ≡ w
+JustFinished w _ = ⊥
+
+-- w is tracked, or about to be
+abbrev Tracked-or : {M : Type 0} → Write M → Changes M → Type 0
+Tracked-or w changes = JustFinished w changes ⊎ IsTrackedBody w changes
+
+-- the body before a change that removes nothing of its key and finishes none
+body_own : {M : Type 0} (k : StoredKey) (w : Write M) (changes : Changes M) → IsOrderly changes → body_now k changes ≡ Some w → IsBody w.key w changes
+body_own {M = M} k w changes o e =
+    let body = body_now-is k changes w o e in
+    subst (λ (j : StoredKey). IsBody j w changes) (sym (same_bytes-tells.equal w.key k body.of_key)) body
+
+-- an admission of the body's key
+admitted_now : {M : Type 0} (w : Write M) (c : Change M) (before : Changes M) → AdmitsKey w.key c → MindsBodies c before → IsBody w.key w before → IsTrackedBody w (c ∷ before)
+admitted_now w (admits e v) before key minds body = record {
+  entry = e;
+  weight = v;
+  of_key = key;
+  weighs = ap (λ (t : Bool). cond t (Some v) (last_weight e before)) (same_entry-tells.itself e);
+  enough = minds w key body;
+}
+admitted_now w _ before key minds body = absurd key
+
+-- an entry that is tracked is so after the change
+stays_tracked : {M : Type 0} (k : StoredKey) (w : Write M) (c : Change M) (before : Changes M) → IsOrderly (c ∷ before) → body_now k before ≡ Some w → removes_key k c ≡ false → MindsBodies c before
+    → IsTrackedBody w before → IsTrackedBody w (c ∷ before)
+stays_tracked {M = M} k w (appends m bytes) before o e r minds t = record {
+  entry = t.entry;
+  weight = t.weight;
+  of_key = t.of_key;
+  weighs = t.weighs;
+  enough = rw (not_appended k m before o.1 o.0.0 w e) t.enough;
+}
+stays_tracked {M = M} k w (admits x v) before o e r minds t = by_entry (same_entry x t.entry) refl
+  where
+    by_entry : (b : Bool) → same_entry x t.entry ≡ b → IsTrackedBody w (admits x v ∷ before)
+    by_entry true h = record {
+      entry = t.entry;
+      weight = v;
+      of_key = t.of_key;
+      weighs = ap (λ (b : Bool). cond b (Some v) (last_weight t.entry before)) h;
+      enough = minds w (subst (λ (y : CacheEntryKey). is_entry_of w.key y ≡ true) (sym (same_entry-tells.equal x t.entry h)) t.of_key) (body_own k w before o.1 e);
+    }
+    by_entry false h = record {
+      entry = t.entry;
+      weight = t.weight;
+      of_key = t.of_key;
+      weighs = ap (λ (b : Bool). cond b (Some v) (last_weight t.entry before)) h ∙ t.weighs;
+      enough = t.enough;
+    }
+stays_tracked {M = M} k w (uses x v) before o e r minds t = record {
+  entry = t.entry;
+  weight = t.weight;
+  of_key = t.of_key;
+  weighs = by_entry (same_entry x t.entry);
+  enough = t.enough;
+}
+  where
+    by_entry : (b : Bool) → cond b (Some (unwrap_or (last_weight t.entry before) v)) (last_weight t.entry before) ≡ Some t.weight
+    by_entry true = ap (λ (y : Option ℕ). Some (unwrap_or y v)) t.weighs
+    by_entry false = t.weighs
+stays_tracked {M = M} k w (departs x) before o e r minds t = by_entry (same_entry x t.entry) refl
+  where
+    by_entry : (b : Bool) → same_entry x t.entry ≡ b → IsTrackedBody w (departs x ∷ before)
+    by_entry true h = absurd (minds w (subst (λ (y : CacheEntryKey). is_entry_of w.key y ≡ true) (sym (same_entry-tells.equal x t.entry h)) t.of_key) (body_own k w before o.1 e))
+    by_entry false h = record {
+      entry = t.entry;
+      weight = t.weight;
+      of_key = t.of_key;
+      weighs = ap (λ (b : Bool). cond b None (last_weight t.entry before)) h ∙ t.weighs;
+      enough = t.enough;
+    }
+stays_tracked {M = M} k w (evicts x) before o e r minds t = by_entry (same_entry x t.entry) refl
+  where
+    by_entry : (b : Bool) → same_entry x t.entry ≡ b → IsTrackedBody w (evicts x ∷ before)
+    by_entry true h =
+        let key : w.key ≡ k = same_bytes-tells.equal w.key k (body_now-has k before w o.1 e).of_key in
+        let gone : is_entry_of w.key x ≡ true = subst (λ (y : CacheEntryKey). is_entry_of w.key y ≡ true) (sym (same_entry-tells.equal x t.entry h)) t.of_key in
+        let removed : is_key k (key_alone x) ≡ true = subst (λ (j : StoredKey). is_key j (key_alone x) ≡ true) key gone in
+        let kept : is_key k (key_alone x) ≡ false = r in
+        absurd cc
+    by_entry false h = record {
+      entry = t.entry;
+      weight = t.weight;
+      of_key = t.of_key;
+      weighs = ap (λ (b : Bool). cond b None (last_weight t.entry before)) h ∙ t.weighs;
+      enough = t.enough;
+    }
+stays_tracked k w _ before o e r minds t = record { entry = t.entry; weight = t.weight; of_key = t.of_key; weighs = t.weighs; enough = t.enough }
+
+-- a finish that was admitted at once
+then_tracked : {M : Type 0} (w : Write M) (c : Change M) (before : Changes M) → AdmitsAtOnce c before → MindsBodies c before → JustFinished w before → IsBody w.key w before → IsTrackedBody w (c ∷ before)
+then_tracked {M = M} w c (finishes v ∷ before) at_once minds just body =
+    admitted_now w c (finishes v ∷ before) (subst (λ (x : Write M). AdmitsKey x.key c) just at_once) minds body
+then_tracked w c _ at_once minds just body = absurd just
+
+finished_now : {M : Type 0} (k : StoredKey) (w : Write M) (c : Change M) (before : Changes M) → finished_by k c ≡ Some w → JustFinished w (c ∷ before)
+finished_now {M = M} k w (finishes v) before e = by_key (same_bytes v.key k) e
+  where
+    by_key : (t : Bool) → cond t (Some v) None ≡ Some w → v ≡ w
+    by_key true e = cc
+    by_key false e = absurd cc
+finished_now k w _ before e = absurd cc
+
+tracked-or : {M : Type 0} (k : StoredKey) (w : Write M) (changes : Changes M) → IsOrderly changes → TracksBodies changes → body_now k changes ≡ Some w → Tracked-or w changes
+tracked-or k w [] o t e = absurd cc
+tracked-or {M = M} k w (c ∷ before) o t e = by_change (removes_key k c) refl (finished_by k c) refl (tracked-or k w before o.1 t.2) e
+  where
+    by_change : (r : Bool) → removes_key k c ≡ r → (f : Option (Write M)) → finished_by k c ≡ f → (body_now k before ≡ Some w → Tracked-or w before)
+        → body_chosen r f (body_now k before) ≡ Some w → Tracked-or w (c ∷ before)
+    by_change true r f fe ih e = absurd cc
+    by_change false r (Some v) fe ih e = inl (finished_now k w c before (fe ∙ e))
+    by_change false r None fe ih e = elim (ih e) [
+      | inl just ↦ inr (then_tracked w c before t.0 t.1 just (body_own k w before o.1 e))
+      | inr there ↦ inr (stays_tracked k w c before o e r t.1 there)
+    ]
+
+not_just : {M : Type 0} (w : Write M) (changes : Changes M) → is_settled changes ≡ true → JustFinished w changes → ⊥
+not_just w (finishes v ∷ before) s just = cc
+not_just w _ s just = just
+
+-- each body is tracked
+pub bodies-tracked : {M : Type 0} (changes : Changes M) → IsOrderly changes → TracksBodies changes → is_settled changes ≡ true → (w : Write M) → IsBody w.key w changes → IsTrackedBody w changes
+bodies-tracked changes o t s w body = elim (tracked-or w.key w changes o t (body_now-of w.key changes w o body)) [ inl just ↦ absurd (not_just w changes s just) | inr there ↦ there ]
+
+-- ---- the limits
+
+-- an entry of the key has a row that weighs at least so much
+abbrev HasRow : StoredKey → ℕ → List Tracked → Type 0
+HasRow k n rows = (e : CacheEntryKey) × (w : ℕ) × (is_entry_of k e ≡ true) × (weight_of e rows ≡ Some w) × (n ≤ w)
+
+-- an entry has one key
+one_key : (j k : StoredKey) (o : Option StoredKey) → is_key j o ≡ true → is_key k o ≡ true → same_bytes k j ≡ true
+one_key j k None a b = absurd cc
+one_key j k (Some i) a b =
+    subst (λ (x : StoredKey). same_bytes k x ≡ true) (same_bytes-tells.equal i j a) (same-sym same_bytes same_bytes-tells k i ∙ b)
+
+other_row : (j k : StoredKey) (e : CacheEntryKey) (n : ℕ) (rows : List Tracked) → same_bytes k j ≡ false → is_entry_of j e ≡ true → HasRow k n rows → HasRow k n (without_row e rows)
+other_row j k e n rows apart key h = (h.0, h.1, h.2, weight_of-without h.0 e rows ∙ ap (λ (b : Bool). cond b None (weight_of h.0 rows)) (by_entry (same_entry e h.0) refl) ∙ h.3, h.4)
+  where
+    by_entry : (b : Bool) → same_entry e h.0 ≡ b → b ≡ false
+    by_entry false t = refl
+    by_entry true t =
+        let one : same_bytes k j ≡ true = one_key j k (key_alone h.0) (subst (λ (y : CacheEntryKey). is_entry_of j y ≡ true) (same_entry-tells.equal e h.0 t) key) h.2 in
+        absurd cc
+
+module _ {M : Type 0} (size : Write M → ℕ) where
+  other_rows : (w : Write M) (e : CacheEntryKey) (ws : List (Write M)) (rows : List Tracked) → is_entry_of w.key e ≡ true → AllByRecursion (λ v. same_bytes v.key w.key ≡ false) ws
+      → AllByRecursion (λ v. HasRow v.key (size v) rows) ws → AllByRecursion (λ v. HasRow v.key (size v) (without_row e rows)) ws
+  other_rows w e [] rows key d h = tt
+  other_rows w e (v ∷ ws) rows key d h = (other_row w.key v.key e (size v) rows d.0 key h.0, other_rows w e ws rows key d.1 h.1)
+
+  within_rows : (ws : List (Write M)) (rows : List Tracked) → HasDistinctKeys ws → AllByRecursion (λ v. HasRow v.key (size v) rows) ws
+      → (sum_by size ws ≤ all_weights rows) × (length ws ≤ length rows)
+  within_rows [] rows d h = (omega arith, omega arith)
+  within_rows (w ∷ ws) rows d h =
+      let row : HasRow w.key (size w) rows = h.0 in
+      let less = without_tracked row.0 row.1 rows row.3 in
+      let rest = within_rows ws (without_row row.0 rows) d.1 (other_rows w row.0 ws rows row.2 d.0 h.1) in
+      let enough : size w ≤ row.1 = row.4 in
+      (omega (arith, sum_by-cons size w ws, rest.0, enough, less.0), omega (arith, rest.1, less.1))
+
+rows_there : {M : Type 0} (changes : Changes M) (rows : List Tracked) → IsOrderOfUse rows changes → ((w : Write M) → IsBody w.key w changes → IsTrackedBody w changes)
+    → (ws : List (Write M)) → AllByRecursion (λ w. IsBody w.key w changes) ws → AllByRecursion (λ w. HasRow w.key (length (bytes_of w.number changes)) rows) ws
+rows_there changes rows o t [] h = tt
+rows_there changes rows o t (w ∷ ws) h =
+    let there = t w h.0 in
+    ((there.entry, there.weight, there.of_key, o.weights there.entry ∙ there.weighs, there.enough), rows_there changes rows o t ws h.1)
+
+-- bodies that are tracked keep the limits
+pub bodies-within : {M : Type 0} (changes : Changes M) → IsOrderly changes → TracksBodies changes → is_settled changes ≡ true → (limit : ℕ) (watermark : Option ℕ) (rows : List Tracked)
+    → IsOrderOfUse rows changes → is_over limit watermark rows ≡ false → AreWithin limit watermark changes
+bodies-within changes o t s limit watermark rows order e bodies d h =
+    let sums = within_rows (λ w. length (bytes_of w.number changes)) bodies rows d (rows_there changes rows order (bodies-tracked changes o t s) bodies h) in
+    kept_limits limit watermark rows (sum_by (λ w. length (bytes_of w.number changes)) bodies) (length bodies) e sums.0 sums.1

@@ -1,0 +1,11 @@
+pub mod BodyLaws
+pub mod BoundLaws
+pub mod FlightLaws
+pub mod FoundLaws
+pub mod OrderLaws
+pub mod RowLaws
+pub mod ShardLaws
+pub mod StateLaws
+pub mod UseLaws
+pub mod WeightLaws
+pub mod WriteLaws

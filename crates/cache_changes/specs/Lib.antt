@@ -1,0 +1,5 @@
+pub mod Bound
+pub mod Changes
+pub mod Store
+pub mod Uses
+pub mod Writes
