@@ -9,10 +9,10 @@ use Rattle.cache_entries.specs.Entry.{same_entry}
 use Rattle.cache_entries.specs.Keys.{same_bytes}
 use Rattle.cache_entries.specs.Rows.{weight_of, all_weights, without_row, is_over}
 use Rattle.cache_entries.specs.SameEntry.{same_entry-tells, same_bytes-tells, same-sym}
-use Rattle.cache_changes.specs.Changes.{StoredKey, Write, Change, Changes, appends, finishes, admits, uses, departs, evicts, key_alone, is_key}
+use Rattle.cache_changes.specs.Changes.{StoredKey, Write, Change, Changes, appends, finishes, removes, admits, uses, departs, evicts, key_alone, is_key}
 use Rattle.cache_changes.specs.Writes.{bytes_of, removes_key, IsBody, IsOrderly}
 use Rattle.cache_changes.specs.Uses.{last_weight, IsOrderOfUse}
-use Rattle.cache_changes.specs.Bound.{is_entry_of, AdmitsKey, AdmitsAtOnce, MindsBodies, TracksBodies, is_settled, IsTrackedBody, HasDistinctKeys, AreWithin}
+use Rattle.cache_changes.specs.Bound.{is_entry_of, SettlesKey, SettlesAtOnce, MindsBodies, TracksBodies, is_settled, IsTrackedBody, HasDistinctKeys, AreWithin}
 use Rattle.cache_changes.proofs.RowLaws.{weight_of-without}
 use Rattle.cache_changes.proofs.WeightLaws.{without_tracked, kept_limits}
 use Rattle.cache_changes.proofs.BodyLaws.{finished_by, body_chosen, body_now, body_now-has, body_now-is, body_now-of, not_appended}
@@ -32,51 +32,38 @@ body_own {M = M} k w changes o e =
     let body = body_now-is k changes w o e in
     subst (λ (j : StoredKey). IsBody j w changes) (sym (same_bytes-tells.equal w.key k body.of_key)) body
 
--- an admission of the body's key
-admitted_now : {M : Type 0} (w : Write M) (c : Change M) (before : Changes M) → AdmitsKey w.key c → MindsBodies c before → IsBody w.key w before → IsTrackedBody w (c ∷ before)
-admitted_now w (admits e v) before key minds body = record {
-  entry = e;
+own_kept : {M : Type 0} (k : StoredKey) (w : Write M) (c : Change M) (changes : Changes M) → IsOrderly changes → body_now k changes ≡ Some w → removes_key k c ≡ false → removes_key w.key c ≡ false
+own_kept k w c changes o e r = subst (λ (j : StoredKey). removes_key j c ≡ false) (sym (same_bytes-tells.equal w.key k (body_now-has k changes w o e).of_key)) r
+
+-- it is tracked after one more change
+tracked_more : {M : Type 0} (w : Write M) (c : Change M) (before : Changes M) (t : IsTrackedBody w before) (v : ℕ) → last_weight t.entry (c ∷ before) ≡ Some v
+    → length (bytes_of w.number (c ∷ before)) ≤ v → IsTrackedBody w (c ∷ before)
+tracked_more {M = M} w c before t v weighs enough = record {
+  since = c ∷ t.since;
+  before = t.before;
+  entry = t.entry;
+  first = t.first;
+  split = ap (λ (l : Changes M). c ∷ l) t.split;
+  of_key = t.of_key;
   weight = v;
-  of_key = key;
-  weighs = ap (λ (t : Bool). cond t (Some v) (last_weight e before)) (same_entry-tells.itself e);
-  enough = minds w key body;
+  weighs = weighs;
+  enough = enough;
 }
-admitted_now w _ before key minds body = absurd key
+
+of_entry : {M : Type 0} (w : Write M) (before : Changes M) (t : IsTrackedBody w before) (x : CacheEntryKey) → same_entry x t.entry ≡ true → is_entry_of w.key x ≡ true
+of_entry w before t x h = subst (λ (y : CacheEntryKey). is_entry_of w.key y ≡ true) (sym (same_entry-tells.equal x t.entry h)) t.of_key
 
 -- an entry that is tracked is so after the change
 stays_tracked : {M : Type 0} (k : StoredKey) (w : Write M) (c : Change M) (before : Changes M) → IsOrderly (c ∷ before) → body_now k before ≡ Some w → removes_key k c ≡ false → MindsBodies c before
     → IsTrackedBody w before → IsTrackedBody w (c ∷ before)
-stays_tracked {M = M} k w (appends m bytes) before o e r minds t = record {
-  entry = t.entry;
-  weight = t.weight;
-  of_key = t.of_key;
-  weighs = t.weighs;
-  enough = rw (not_appended k m before o.1 o.0.0 w e) t.enough;
-}
+stays_tracked k w (appends m bytes) before o e r minds t = tracked_more w (appends m bytes) before t t.weight t.weighs (rw (not_appended k m before o.1 o.0.0 w e) t.enough)
 stays_tracked {M = M} k w (admits x v) before o e r minds t = by_entry (same_entry x t.entry) refl
   where
     by_entry : (b : Bool) → same_entry x t.entry ≡ b → IsTrackedBody w (admits x v ∷ before)
-    by_entry true h = record {
-      entry = t.entry;
-      weight = v;
-      of_key = t.of_key;
-      weighs = ap (λ (b : Bool). cond b (Some v) (last_weight t.entry before)) h;
-      enough = minds w (subst (λ (y : CacheEntryKey). is_entry_of w.key y ≡ true) (sym (same_entry-tells.equal x t.entry h)) t.of_key) (body_own k w before o.1 e);
-    }
-    by_entry false h = record {
-      entry = t.entry;
-      weight = t.weight;
-      of_key = t.of_key;
-      weighs = ap (λ (b : Bool). cond b (Some v) (last_weight t.entry before)) h ∙ t.weighs;
-      enough = t.enough;
-    }
-stays_tracked {M = M} k w (uses x v) before o e r minds t = record {
-  entry = t.entry;
-  weight = t.weight;
-  of_key = t.of_key;
-  weighs = by_entry (same_entry x t.entry);
-  enough = t.enough;
-}
+    by_entry true h =
+        tracked_more w (admits x v) before t v (ap (λ (b : Bool). cond b (Some v) (last_weight t.entry before)) h) (minds w (of_entry w before t x h) (body_own k w before o.1 e))
+    by_entry false h = tracked_more w (admits x v) before t t.weight (ap (λ (b : Bool). cond b (Some v) (last_weight t.entry before)) h ∙ t.weighs) t.enough
+stays_tracked {M = M} k w (uses x v) before o e r minds t = tracked_more w (uses x v) before t t.weight (by_entry (same_entry x t.entry)) t.enough
   where
     by_entry : (b : Bool) → cond b (Some (unwrap_or (last_weight t.entry before) v)) (last_weight t.entry before) ≡ Some t.weight
     by_entry true = ap (λ (y : Option ℕ). Some (unwrap_or y v)) t.weighs
@@ -84,37 +71,42 @@ stays_tracked {M = M} k w (uses x v) before o e r minds t = record {
 stays_tracked {M = M} k w (departs x) before o e r minds t = by_entry (same_entry x t.entry) refl
   where
     by_entry : (b : Bool) → same_entry x t.entry ≡ b → IsTrackedBody w (departs x ∷ before)
-    by_entry true h = absurd (minds w (subst (λ (y : CacheEntryKey). is_entry_of w.key y ≡ true) (sym (same_entry-tells.equal x t.entry h)) t.of_key) (body_own k w before o.1 e))
-    by_entry false h = record {
-      entry = t.entry;
-      weight = t.weight;
-      of_key = t.of_key;
-      weighs = ap (λ (b : Bool). cond b None (last_weight t.entry before)) h ∙ t.weighs;
-      enough = t.enough;
-    }
+    by_entry true h = absurd (minds w (of_entry w before t x h) (body_own k w before o.1 e))
+    by_entry false h = tracked_more w (departs x) before t t.weight (ap (λ (b : Bool). cond b None (last_weight t.entry before)) h ∙ t.weighs) t.enough
 stays_tracked {M = M} k w (evicts x) before o e r minds t = by_entry (same_entry x t.entry) refl
   where
     by_entry : (b : Bool) → same_entry x t.entry ≡ b → IsTrackedBody w (evicts x ∷ before)
     by_entry true h =
         let key : w.key ≡ k = same_bytes-tells.equal w.key k (body_now-has k before w o.1 e).of_key in
-        let gone : is_entry_of w.key x ≡ true = subst (λ (y : CacheEntryKey). is_entry_of w.key y ≡ true) (sym (same_entry-tells.equal x t.entry h)) t.of_key in
-        let removed : is_key k (key_alone x) ≡ true = subst (λ (j : StoredKey). is_key j (key_alone x) ≡ true) key gone in
+        let removed : is_key k (key_alone x) ≡ true = subst (λ (j : StoredKey). is_key j (key_alone x) ≡ true) key (of_entry w before t x h) in
         let kept : is_key k (key_alone x) ≡ false = r in
         absurd cc
-    by_entry false h = record {
-      entry = t.entry;
-      weight = t.weight;
-      of_key = t.of_key;
-      weighs = ap (λ (b : Bool). cond b None (last_weight t.entry before)) h ∙ t.weighs;
-      enough = t.enough;
-    }
-stays_tracked k w _ before o e r minds t = record { entry = t.entry; weight = t.weight; of_key = t.of_key; weighs = t.weighs; enough = t.enough }
+    by_entry false h = tracked_more w (evicts x) before t t.weight (ap (λ (b : Bool). cond b None (last_weight t.entry before)) h ∙ t.weighs) t.enough
+stays_tracked k w c before o e r minds t = tracked_more w c before t t.weight t.weighs t.enough
 
--- a finish that was admitted at once
-then_tracked : {M : Type 0} (w : Write M) (c : Change M) (before : Changes M) → AdmitsAtOnce c before → MindsBodies c before → JustFinished w before → IsBody w.key w before → IsTrackedBody w (c ∷ before)
-then_tracked {M = M} w c (finishes v ∷ before) at_once minds just body =
-    admitted_now w c (finishes v ∷ before) (subst (λ (x : Write M). AdmitsKey x.key c) just at_once) minds body
-then_tracked w c _ at_once minds just body = absurd just
+-- a finish that was settled at once, by an admission where its key stays
+settled_now : {M : Type 0} (w : Write M) (c : Change M) (before : Changes M) → SettlesKey w.key c → removes_key w.key c ≡ false → MindsBodies c (finishes w ∷ before)
+    → IsBody w.key w (finishes w ∷ before) → IsTrackedBody w (c ∷ finishes w ∷ before)
+settled_now w (admits e v) before key r minds body = record {
+  since = [];
+  before = before;
+  entry = e;
+  first = v;
+  split = refl;
+  of_key = key;
+  weight = v;
+  weighs = ap (λ (t : Bool). cond t (Some v) (last_weight e before)) (same_entry-tells.itself e);
+  enough = minds w key body;
+}
+settled_now w (removes j) before key r minds body = absurd cc
+settled_now w _ before key r minds body = absurd key
+
+then_tracked : {M : Type 0} (w : Write M) (c : Change M) (before : Changes M) → SettlesAtOnce c before → removes_key w.key c ≡ false → MindsBodies c before → JustFinished w before
+    → IsBody w.key w before → IsTrackedBody w (c ∷ before)
+then_tracked {M = M} w c (finishes v ∷ before) at_once r minds just body =
+    subst (λ (x : Write M). SettlesKey x.key c → removes_key x.key c ≡ false → IsBody x.key x (finishes v ∷ before) → IsTrackedBody x (c ∷ finishes v ∷ before)) just
+    (λ s r b. settled_now v c before s r minds b) (subst (λ (x : Write M). SettlesKey x.key c) just at_once) r body
+then_tracked w c _ at_once r minds just body = absurd just
 
 finished_now : {M : Type 0} (k : StoredKey) (w : Write M) (c : Change M) (before : Changes M) → finished_by k c ≡ Some w → JustFinished w (c ∷ before)
 finished_now {M = M} k w (finishes v) before e = by_key (same_bytes v.key k) e
@@ -133,7 +125,7 @@ tracked-or {M = M} k w (c ∷ before) o t e = by_change (removes_key k c) refl (
     by_change true r f fe ih e = absurd cc
     by_change false r (Some v) fe ih e = inl (finished_now k w c before (fe ∙ e))
     by_change false r None fe ih e = elim (ih e) [
-      | inl just ↦ inr (then_tracked w c before t.0 t.1 just (body_own k w before o.1 e))
+      | inl just ↦ inr (then_tracked w c before t.0 (own_kept k w c before o.1 e r) t.1 just (body_own k w before o.1 e))
       | inr there ↦ inr (stays_tracked k w c before o e r t.1 there)
     ]
 

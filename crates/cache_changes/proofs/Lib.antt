@@ -2,6 +2,8 @@ pub mod BodyLaws
 pub mod BoundLaws
 pub mod FlightLaws
 pub mod FoundLaws
+pub mod ManyShards
+pub mod MayLaws
 pub mod OrderLaws
 pub mod RowLaws
 pub mod ShardLaws

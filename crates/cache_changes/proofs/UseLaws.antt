@@ -15,7 +15,7 @@ record Ordered (last weight : CacheEntryKey → Option ℕ) (bound : ℕ) (rows 
   pub order : AreInOrder last bound rows
   pub weights : (e : CacheEntryKey) → weight_of e rows ≡ weight e
 
-earlier : (f : CacheEntryKey → Option ℕ) (m n : ℕ) (rows : List Tracked) → m ≤ n → AreInOrder f m rows → AreInOrder f n rows
+pub earlier : (f : CacheEntryKey → Option ℕ) (m n : ℕ) (rows : List Tracked) → m ≤ n → AreInOrder f m rows → AreInOrder f n rows
 earlier f m n [] h o = tt
 earlier f m n (r ∷ rows) h o = (o.0, o.1, omega (arith, o.2), o.3)
 

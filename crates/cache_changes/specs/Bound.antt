@@ -1,10 +1,10 @@
 -- Bodies and the order of use together: each body is tracked, and so the bodies keep the limits that the rows keep.
-use Rattle.std.specs.Prelude.{◌≡◌, ℕ, ◌≤◌, Bool, true, false, List, [], ◌∷◌, length, Option, Some}
+use Rattle.std.specs.Prelude.{◌≡◌, ℕ, ◌≤◌, Bool, true, false, List, [], ◌∷◌, ◌++◌, length, Option, Some}
 use Rattle.std.specs.List.{AllByRecursion, sum_by}
 use Rattle.cache_entries.specs.declared.entry.CacheEntryKey.{CacheEntryKey}
 use Rattle.cache_entries.specs.Keys.{same_bytes}
 use Rattle.cache_entries.specs.Rows.{is_past}
-use Rattle.cache_changes.specs.Changes.{StoredKey, Write, Change, Changes, finishes, admits, departs, key_alone, is_key}
+use Rattle.cache_changes.specs.Changes.{StoredKey, Write, Change, Changes, finishes, removes, admits, departs, key_alone, is_key}
 use Rattle.cache_changes.specs.Writes.{bytes_of, IsBody}
 use Rattle.cache_changes.specs.Uses.{last_weight}
 
@@ -12,15 +12,16 @@ use Rattle.cache_changes.specs.Uses.{last_weight}
 abbrev pub is_entry_of : StoredKey → CacheEntryKey → Bool
 is_entry_of k e = is_key k (key_alone e)
 
--- the change admits an entry of k
-abbrev pub AdmitsKey : {M : Type 0} → StoredKey → Change M → Type 0
-AdmitsKey k (admits e v) = is_entry_of k e ≡ true
-AdmitsKey k _ = ⊥
+-- the change admits an entry of k, or removes k
+abbrev pub SettlesKey : {M : Type 0} → StoredKey → Change M → Type 0
+SettlesKey k (admits e v) = is_entry_of k e ≡ true
+SettlesKey k (removes j) = same_bytes j k ≡ true
+SettlesKey k _ = ⊥
 
--- after a finish the change admits an entry of its key
-abbrev pub AdmitsAtOnce : {M : Type 0} → Change M → Changes M → Type 0
-AdmitsAtOnce c (finishes w ∷ _) = AdmitsKey w.key c
-AdmitsAtOnce c _ = Unit {0}
+-- what comes at once after a finish admits an entry of its key, or removes the key
+abbrev pub SettlesAtOnce : {M : Type 0} → Change M → Changes M → Type 0
+SettlesAtOnce c (finishes w ∷ _) = SettlesKey w.key c
+SettlesAtOnce c _ = Unit {0}
 
 -- an admission weighs at least the body that its key has, and an entry departs only when its key has none
 abbrev pub MindsBodies : {M : Type 0} → Change M → Changes M → Type 0
@@ -31,18 +32,22 @@ MindsBodies _ before = Unit {0}
 -- what keeps each body tracked
 abbrev pub TracksBodies : {M : Type 0} → Changes M → Type 0
 TracksBodies [] = Unit {0}
-TracksBodies (c ∷ before) = AdmitsAtOnce c before × MindsBodies c before × TracksBodies before
+TracksBodies (c ∷ before) = SettlesAtOnce c before × MindsBodies c before × TracksBodies before
 
--- no finish waits for its admission
+-- no finish waits for what settles it
 abbrev pub is_settled : {M : Type 0} → Changes M → Bool
 is_settled (finishes w ∷ _) = false
 is_settled _ = true
 
--- an entry of the body's key is tracked, with at least the body's length
+-- the entry that was admitted as w finished is tracked, with at least the bytes' length; it is an entry of w's key
 pub record IsTrackedBody {M : Type 0} (w : Write M) (changes : Changes M) : Type 0 where
+  pub since : Changes M
+  pub before : Changes M
   pub entry : CacheEntryKey
-  pub weight : ℕ
+  pub first : ℕ
+  pub split : changes ≡ since ++ admits entry first ∷ finishes w ∷ before
   pub of_key : is_entry_of w.key entry ≡ true
+  pub weight : ℕ
   pub weighs : last_weight entry changes ≡ Some weight
   pub enough : length (bytes_of w.number changes) ≤ weight
 

@@ -1,5 +1,5 @@
 -- What changes leave of entries: which are tracked, what they weigh, and in which order they were used.
-use Rattle.std.specs.Prelude.{◌≡◌, ℕ, ◌==◌, ◌%◌, ◌<◌, Bool, true, false, List, [], ◌∷◌, ◌++◌, length, Option, Some, None, unwrap_or, filter, map, if◌then◌else◌}
+use Rattle.std.specs.Prelude.{◌≡◌, ℕ, ◌==◌, ◌%◌, ◌<◌, Bool, true, false, List, [], ◌∷◌, ◌++◌, length, Option, Some, None, unwrap_or, filter, map, slice_index_or, slice_set, if◌then◌else◌}
 use Rattle.cache_entries.specs.declared.entry.CacheEntryKey.{CacheEntryKey}
 use Rattle.cache_entries.specs.declared.rows.Tracked.{Tracked}
 use Rattle.cache_entries.specs.Entry.{same_entry}
@@ -76,6 +76,15 @@ is_in_shard n s (Some e) = shard_of n e == s
 -- the change is of an entry of shard s of n
 abbrev pub changes_shard : {M : Type 0} → ℕ → ℕ → Change M → Bool
 changes_shard n s c = is_in_shard n s (entry_changed c)
+
+-- the shards' lists hold the rows, each those of its shard
+pub record AreShardsOf (n : ℕ) (shards : List (List Tracked)) (rows : List Tracked) : Type 0 where
+  pub count : length shards ≡ n
+  pub each : (s : ℕ) → s < n → slice_index_or shards s [] ≡ in_shard n s rows
+
+-- the shard of e with what a change does to its list
+abbrev pub shards_after : {M : Type 0} → ℕ → CacheEntryKey → Change M → List (List Tracked) → List (List Tracked)
+shards_after n e c shards = slice_set shards (shard_of n e) (rows_after c (slice_index_or shards (shard_of n e) []))
 
 -- e is the last of the rows
 abbrev pub IsLast : CacheEntryKey → List Tracked → Type 0

@@ -1,17 +1,31 @@
 //! Laws over definitions alone. The functions do nothing: their contracts are the laws.
-ghost use Rattle.std.specs.Prelude.{◌≡◌, ◌↔◌, ℕ, List, Option, true, false};
+ghost use Rattle.std.specs.Prelude.{◌≡◌, ◌↔◌, ◌⊎◌, ◌<◌, ℕ, List, [], ◌∷◌, ◌++◌, length, slice_index_or, slice_set, Option, Some, is_some, true, false};
+ghost use Rattle.std.specs.List.{sum_by};
 ghost use Rattle.cache_entries.specs.declared.entry.CacheEntryKey.{CacheEntryKey};
 ghost use Rattle.cache_entries.specs.declared.rows.Tracked.{Tracked};
-ghost use Rattle.cache_entries.specs.Rows.{AreDistinct, is_over};
-ghost use Rattle.cache_changes.specs.Changes.{Write, Change, Changes};
-ghost use Rattle.cache_changes.specs.Writes.{IsBody, IsOrderly};
-ghost use Rattle.cache_changes.specs.Store.{IsStateOf, store_of};
+ghost use Rattle.cache_entries.specs.Rows.{AreDistinct, all_weights, is_over};
+ghost use Rattle.cache_changes.specs.Changes.{StoredKey, Write, Change, Changes, appends, finishes, renews, evicts};
+ghost use Rattle.cache_changes.specs.Writes.{IsBody, Flies, MayCome, IsOrderly};
+ghost use Rattle.cache_changes.specs.Store.{Stored, Flying, IsStateOf, body_at, flying_at, store_of};
 ghost use Rattle.cache_changes.specs.Bound.{TracksBodies, is_settled, IsTrackedBody, AreWithin};
-ghost use Rattle.cache_changes.specs.Uses.{IsOrderOfUse, IsLast, IsLawfulEviction, rows_after, rows_of, shard_of, in_shard, changes_shard, admissions};
+ghost use Rattle.cache_changes.specs.Uses.{IsOrderOfUse, IsLast, IsLawfulEviction, rows_after, rows_of, shard_of, in_shard, changes_shard, entry_changed, AreShardsOf, shards_after, admissions};
 
 /// The state that orderly changes leave of writes is what the changes say.
 pub fn the_state_is_what_changes_say<M>()
     ensures { (changes : Changes M) → IsOrderly changes → IsStateOf (store_of changes) changes }
+{}
+
+/// That state tells which changes may come next: bytes, to a write that has not ended; a finish, of one that was not removed; what
+/// else is done to a write, in flight; and another meta, to a write in flight or a body.
+pub fn the_state_tells_what_may_come<M>()
+    ensures flies { (changes : Changes M) → IsOrderly changes → (n : ℕ) → (is_some (flying_at n (store_of changes)) ≡ true) ↔ Flies n changes }
+    ensures appends { (changes : Changes M) → IsOrderly changes → (n : ℕ) (bytes : List ℕ)
+        → ((f : Flying M) × (flying_at n (store_of changes) ≡ Some f) × (f.ended ≡ false)) ↔ MayCome (appends n bytes) changes }
+    ensures finishes { (changes : Changes M) → IsOrderly changes → (w : Write M)
+        → ((f : Flying M) × (flying_at w.number (store_of changes) ≡ Some f) × (f.stored.write ≡ w) × (f.removed ≡ false)) ↔ MayCome (finishes w) changes }
+    ensures renews { (changes : Changes M) → IsOrderly changes → (n : ℕ) (meta : M)
+        → ((is_some (flying_at n (store_of changes)) ≡ true) ⊎ ((k : StoredKey) × (x : Stored M) × (body_at k (store_of changes) ≡ Some x) × (x.write.number ≡ n)))
+        ↔ MayCome (renews n meta) changes }
 {}
 
 /// What changes leave of entries is their order of use, and no other rows are.
@@ -27,6 +41,18 @@ pub fn shards_change_alone<M>()
     ensures other { (n s : ℕ) (c : Change M) (rows : List Tracked) → changes_shard n s c ≡ false → in_shard n s (rows_after c rows) ≡ in_shard n s rows }
 {}
 
+/// Shards' lists that hold the rows hold them after each change of an entry, done to its shard's list alone, and weigh and count
+/// together what the rows do. The last row of a list goes as its entry is evicted, which is the last of its shard.
+pub fn shards_hold_the_rows<M>()
+    ensures change { (n : ℕ) (c : Change M) (e : CacheEntryKey) (shards : List (List Tracked)) (rows : List Tracked) → 0 < n → entry_changed c ≡ Some e
+        → AreShardsOf n shards rows → AreShardsOf n (shards_after n e c shards) (rows_after c rows) }
+    ensures weight { (n : ℕ) (shards : List (List Tracked)) (rows : List Tracked) → 0 < n → AreShardsOf n shards rows → sum_by all_weights shards ≡ all_weights rows }
+    ensures count { (n : ℕ) (shards : List (List Tracked)) (rows : List Tracked) → 0 < n → AreShardsOf n shards rows → sum_by length shards ≡ length rows }
+    ensures last { (n s w : ℕ) (e : CacheEntryKey) (front : List Tracked) (shards : List (List Tracked)) (before : Changes M) → 0 < n → s < n → AreShardsOf n shards (rows_of before)
+        → slice_index_or shards s [] ≡ front ++ record { entry = e; weight = w } ∷ []
+        → AreShardsOf n (slice_set shards s front) (rows_of (evicts e ∷ before)) × IsLast e (in_shard n (shard_of n e) (rows_of before)) }
+{}
+
 /// Rows that were loaded are kept: their admissions, the last row first, leave just them.
 pub fn loaded_rows_are_kept<M>()
     ensures { (rows : List Tracked) → AreDistinct rows → rows_of {M = M} (admissions rows) ≡ rows }
@@ -38,9 +64,9 @@ pub fn lawful_evictions_take_the_last<M>()
         ↔ ((is_over limit watermark (rows_of before) ≡ true) × IsLast e (in_shard n (shard_of n e) (rows_of before))) }
 {}
 
-/// Where each write that finishes is admitted at once under an entry of its key, with at least its length, and such an entry
-/// departs only when its key has no body, each body has a tracked entry with at least its length. So, while the rows keep the
-/// limit and the watermark, the bodies do.
+/// Where each write that finishes is admitted at once under an entry of its key, or its key removed; where an admission weighs at
+/// least the body that its key has; and where an entry departs only when its key has no body: there the entry under which a
+/// body was admitted is tracked, with at least the body's length. So, while the rows keep the limit and the watermark, the bodies do.
 pub fn tracked_bodies_keep_the_limits<M>()
     ensures tracked { (changes : Changes M) → IsOrderly changes → TracksBodies changes → is_settled changes ≡ true → (w : Write M) → IsBody w.key w changes → IsTrackedBody w changes }
     ensures within { (changes : Changes M) → IsOrderly changes → TracksBodies changes → is_settled changes ≡ true → (limit : ℕ) (watermark : Option ℕ) (rows : List Tracked)
