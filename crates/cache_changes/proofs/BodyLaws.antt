@@ -6,10 +6,10 @@ use Rattle.std.proofs.lemmas.Bool.{eqb-true}
 use Rattle.cache_entries.specs.Keys.{same_bytes}
 use Rattle.cache_entries.specs.SameEntry.{same_bytes-tells, same-sym}
 use Rattle.cache_changes.specs.Changes.{StoredKey, Write, Change, Changes, appends, finishes, leaves, renews, removes, evicts, key_alone, is_key}
-use Rattle.cache_changes.specs.Writes.{removes_key, leaves_write, finishes_key, IsInFlight, IsAlive, IsBody, Flies, MayCome, IsOrderly}
+use Rattle.cache_changes.specs.Writes.{removes_key, leaves_write, finishes_key, IsInFlight, IsAlive, IsBody, Flies, MayCome, IsOrderly, HasBegun}
 use Rattle.cache_changes.specs.Store.{Stored, Flying, stored_of, is_of, body_at, flying_at, renewed, with_body, after, store_of}
 use Rattle.cache_changes.proofs.RowLaws.{not_true, not_false, find-map, find-kept, find-gone}
-use Rattle.cache_changes.proofs.WriteLaws.{Life, life, life_by, begun_by, lived, Began, flight_began, began_more, began_later, begun_none, life-began, life-flies, life-alive, life-tells, is_alive, and_true, neither, not_either, same_number}
+use Rattle.cache_changes.proofs.WriteLaws.{Life, life, life_by, begun_by, lived, flight_began, began_more, began_later, begun_none, life-began, life-flies, life-alive, life-tells, is_alive, and_true, neither, not_either, same_number}
 use Rattle.cache_changes.proofs.FlightLaws.{live, flight, flying_of, flying_at-is}
 
 abbrev pub finished_by : {M : Type 0} → StoredKey → Change M → Option (Write M)
@@ -71,7 +71,7 @@ flight_life m changes o f =
     let found = life-flies f.0 changes o f.2 in
     (f.0, found.0, ap (λ (k : ℕ). life k changes) (sym f.1) ∙ found.1)
 
-no_leaving : {M : Type 0} (w : Write M) (a : Bool) (c : Change M) (before : Changes M) → MayCome c before → IsOrderly before
+pub no_leaving : {M : Type 0} (w : Write M) (a : Bool) (c : Change M) (before : Changes M) → MayCome c before → IsOrderly before
     → life w.number before ≡ Some (record { write = w; flies = false; alive = a }) → leaves_write w.number c ≡ false
 no_leaving {M = M} w a (leaves m) before may o h = by_test (m == w.number) refl
   where
@@ -165,7 +165,7 @@ body_now-since k w [] before f o t h last = rw t refl
 body_now-since {M = M} k w (c ∷ since) before f o t h last =
     let rest : Changes M = since ++ finishes w ∷ before in
     let finish = orderly_at (finishes w) since before o.1 in
-    let began : Began w rest = began_later w since (finishes w ∷ before) (began_more w (finishes w) before (flight_began w before finish.0.0)) in
+    let began : HasBegun w rest = began_later w since (finishes w ∷ before) (began_more w (finishes w) before (flight_began w before finish.0.0)) in
     let found = life-began w rest o.1 began in
     let was = back w.number c rest (record { write = w; flies = f; alive = true }) (begun_none w c rest o.0 began) h in
     let y_is = one_life was.0 (record { write = w; flies = found.flies; alive = found.alive }) (sym was.1 ∙ found.is) in

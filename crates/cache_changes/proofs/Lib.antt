@@ -2,6 +2,7 @@ pub mod BodyLaws
 pub mod BoundLaws
 pub mod FlightLaws
 pub mod FoundLaws
+pub mod LaterLaws
 pub mod ManyShards
 pub mod MayLaws
 pub mod OrderLaws

@@ -5,7 +5,7 @@ use Rattle.std.specs.List.{AllByRecursion}
 use Rattle.std.proofs.lemmas.Bool.{eqb-true}
 use Rattle.std.proofs.lemmas.Bool.Decides.{nat_tests}
 use Rattle.cache_changes.specs.Changes.{Write, Change, Changes, begins, appends, ends, renews}
-use Rattle.cache_changes.specs.Writes.{bytes_of, has_ended, meta_of, removes_key, lands, leaves_write, IsInFlight, IsAlive, BeginsBelow, Flies, MayCome, IsOrderly}
+use Rattle.cache_changes.specs.Writes.{bytes_of, has_ended, meta_of, removes_key, lands, leaves_write, IsInFlight, IsAlive, BeginsBelow, Flies, MayCome, IsOrderly, HasBegun}
 use Rattle.cache_changes.proofs.RowLaws.{not_false}
 
 -- the write of a number, whether it is in flight, and whether it is alive
@@ -63,22 +63,16 @@ pub was_false : (x : Bool) → not x ≡ true → x ≡ false
 was_false true e = absurd cc
 was_false false e = refl
 
--- w began
-pub record Began {M : Type 0} (w : Write M) (changes : Changes M) : Type 0 where
-  pub since : Changes M
-  pub before : Changes M
-  pub split : changes ≡ since ++ begins w ∷ before
-
-abbrev pub flight_began : {M : Type 0} (w : Write M) (changes : Changes M) → IsInFlight w changes → Began w changes
+abbrev pub flight_began : {M : Type 0} (w : Write M) (changes : Changes M) → IsInFlight w changes → HasBegun w changes
 flight_began w changes f = record { since = f.since; before = f.before; split = f.split }
 
-abbrev pub alive_began : {M : Type 0} (w : Write M) (changes : Changes M) → IsAlive w changes → Began w changes
+abbrev pub alive_began : {M : Type 0} (w : Write M) (changes : Changes M) → IsAlive w changes → HasBegun w changes
 alive_began w changes a = record { since = a.since; before = a.before; split = a.split }
 
-pub began_more : {M : Type 0} (w : Write M) (c : Change M) (changes : Changes M) → Began w changes → Began w (c ∷ changes)
+pub began_more : {M : Type 0} (w : Write M) (c : Change M) (changes : Changes M) → HasBegun w changes → HasBegun w (c ∷ changes)
 began_more {M = M} w c changes b = record { since = c ∷ b.since; before = b.before; split = ap (λ (l : Changes M). c ∷ l) b.split }
 
-pub began_later : {M : Type 0} (w : Write M) (since changes : Changes M) → Began w changes → Began w (since ++ changes)
+pub began_later : {M : Type 0} (w : Write M) (since changes : Changes M) → HasBegun w changes → HasBegun w (since ++ changes)
 began_later w [] changes b = b
 began_later w (c ∷ since) changes b = began_more w c (since ++ changes) (began_later w since changes b)
 
@@ -86,11 +80,11 @@ below_since : {M : Type 0} (n : ℕ) (w : Write M) (since before : Changes M) �
 below_since n w [] before h = h.0
 below_since n w (c ∷ since) before h = below_since n w since before h.1
 
-pub began_below : {M : Type 0} (n : ℕ) (w : Write M) (changes : Changes M) → AllByRecursion (BeginsBelow n) changes → Began w changes → w.number < n
+pub began_below : {M : Type 0} (n : ℕ) (w : Write M) (changes : Changes M) → AllByRecursion (BeginsBelow n) changes → HasBegun w changes → w.number < n
 began_below {M = M} n w changes h b = below_since n w b.since b.before (subst (λ (l : Changes M). AllByRecursion (BeginsBelow n) l) b.split h)
 
 -- no number begins twice
-pub begun_none : {M : Type 0} (w : Write M) (c : Change M) (changes : Changes M) → MayCome c changes → Began w changes → begun_by w.number c ≡ None
+pub begun_none : {M : Type 0} (w : Write M) (c : Change M) (changes : Changes M) → MayCome c changes → HasBegun w changes → begun_by w.number c ≡ None
 begun_none w (begins v) changes m b = rw (below_apart w.number v.number (began_below v.number w changes m b)) refl
 begun_none w _ changes m b = refl
 
@@ -121,7 +115,7 @@ life-since {M = M} w (c ∷ since) before o =
       kept = λ h k. both_true rest.alive _ (rest.kept h.1 k.1) (not_either (removes_key w.key c) (leaves_write w.number c) h.0 k.0);
     }
 
-pub life-began : {M : Type 0} (w : Write M) (changes : Changes M) → IsOrderly changes → (b : Began w changes) → FoundLife w b.since changes
+pub life-began : {M : Type 0} (w : Write M) (changes : Changes M) → IsOrderly changes → (b : HasBegun w changes) → FoundLife w b.since changes
 life-began {M = M} w changes o b = subst (λ (l : Changes M). FoundLife w b.since l) (sym b.split) (life-since w b.since b.before (subst (λ (l : Changes M). IsOrderly l) b.split o))
 
 -- a write in flight, and one that is alive

@@ -51,6 +51,7 @@ pub record IsTrackedBody {M : Type 0} (w : Write M) (changes : Changes M) : Type
   pub weighs : last_weight entry changes ≡ Some weight
   pub enough : length (bytes_of w.number changes) ≤ weight
 
+-- writes of different keys
 abbrev pub HasDistinctKeys : {M : Type 0} → List (Write M) → Type 0
 HasDistinctKeys [] = Unit {0}
 HasDistinctKeys (w ∷ ws) = AllByRecursion (λ v. same_bytes v.key w.key ≡ false) ws × HasDistinctKeys ws

@@ -36,8 +36,7 @@ pub record IsFlight {M : Type 0} (f : Flying M) (changes : Changes M) : Type 0 w
   pub ended : f.ended ≡ has_ended f.stored.write.number changes
   pub alive : (f.removed ≡ false) ↔ IsAlive f.stored.write changes
 
--- words on rows: a body of k, the write in flight of number n
-
+-- it is of k
 abbrev pub is_of : {M : Type 0} → StoredKey → Stored M → Bool
 is_of k x = same_bytes x.write.key k
 
@@ -71,14 +70,14 @@ pub record IsStateOf {M : Type 0} (s : Store M) (changes : Changes M) : Type 0 w
   pub found : (k : StoredKey) → (is_found_at k s ≡ true) ↔ IsFound k changes
   pub shown : (k : StoredKey) (x : Stored M) → (shown_at k s ≡ Some x) ↔ (IsShown k x.write changes × (x ≡ stored_of x.write changes))
 
--- what each change does to the state
-
+-- a write that just began
 abbrev pub begun : {M : Type 0} → Write M → Flying M
 begun w = record { stored = record { write = w; meta = w.meta; bytes = [] }; ended = false; removed = false }
 
 abbrev pub with_bytes : {M : Type 0} → List ℕ → Flying M → Flying M
 with_bytes bytes f = record f { stored = record f.stored { bytes = f.stored.bytes ++ bytes } }
 
+-- with another meta, if it is of that number
 abbrev pub renewed : {M : Type 0} → ℕ → M → Stored M → Stored M
 renewed n meta x = if n == x.write.number then record x { meta = meta } else x
 
@@ -96,10 +95,11 @@ marked k f = record f { removed = f.removed || is_key f.stored.write.key k }
 abbrev pub on_flying : {M : Type 0} → ℕ → (Flying M → Flying M) → List (Flying M) → List (Flying M)
 on_flying n change fs = map (λ f. if has_number n f then change f else f) fs
 
+-- without the write of that number
 abbrev pub landed : {M : Type 0} → ℕ → List (Flying M) → List (Flying M)
 landed n fs = filter (λ f. not (has_number n f)) fs
 
--- the body in the place of what its key had
+-- a body, if there is one, in the place of what its key had
 abbrev pub with_body : {M : Type 0} → Option (Stored M) → List (Stored M) → List (Stored M)
 with_body None xs = xs
 with_body (Some x) xs = x ∷ filter (λ y. not (is_of x.write.key y)) xs
@@ -111,6 +111,7 @@ removed_from k s = record {
   flying = map (marked k) s.flying;
 }
 
+-- what each change does to the state
 abbrev pub after : {M : Type 0} → Change M → Store M → Store M
 after (begins w) s = record s { flying = s.flying ++ begun w ∷ [] }
 after (appends n bytes) s = record s { flying = on_flying n (with_bytes bytes) s.flying }

@@ -42,6 +42,12 @@ abbrev pub finishes_key : {M : Type 0} → StoredKey → Change M → Bool
 finishes_key k (finishes w) = same_bytes w.key k
 finishes_key k _ = false
 
+-- w began
+pub record HasBegun {M : Type 0} (w : Write M) (changes : Changes M) : Type 0 where
+  pub since : Changes M
+  pub before : Changes M
+  pub split : changes ≡ since ++ begins w ∷ before
+
 -- w began, and neither finished nor was left since
 pub record IsInFlight {M : Type 0} (w : Write M) (changes : Changes M) : Type 0 where
   pub since : Changes M
@@ -85,7 +91,7 @@ pub record IsFirstInFlight {M : Type 0} (k : StoredKey) (w : Write M) (changes :
 abbrev pub IsShown : {M : Type 0} → StoredKey → Write M → Changes M → Type 0
 IsShown {M = M} k w changes = IsFirstInFlight k w changes ⊎ (((v : Write M) → IsFlying k v changes → ⊥) × IsBody k w changes)
 
--- each write that the change begins has a number below n
+-- where the change begins a write, its number is below n
 abbrev pub BeginsBelow : {M : Type 0} → ℕ → Change M → Type 0
 BeginsBelow n (begins w) = w.number < n
 BeginsBelow n _ = Unit {0}
@@ -94,7 +100,7 @@ BeginsBelow n _ = Unit {0}
 abbrev pub Flies : {M : Type 0} → ℕ → Changes M → Type 0
 Flies {M = M} n changes = (w : Write M) × (w.number ≡ n) × IsInFlight w changes
 
--- the number is that of a finished body
+-- the number is that of a body
 abbrev pub IsStored : {M : Type 0} → ℕ → Changes M → Type 0
 IsStored {M = M} n changes = (w : Write M) × (w.number ≡ n) × IsBody w.key w changes
 

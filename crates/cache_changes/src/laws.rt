@@ -5,7 +5,7 @@ ghost use Rattle.cache_entries.specs.declared.entry.CacheEntryKey.{CacheEntryKey
 ghost use Rattle.cache_entries.specs.declared.rows.Tracked.{Tracked};
 ghost use Rattle.cache_entries.specs.Rows.{AreDistinct, all_weights, is_over};
 ghost use Rattle.cache_changes.specs.Changes.{StoredKey, Write, Change, Changes, appends, finishes, renews, evicts};
-ghost use Rattle.cache_changes.specs.Writes.{IsBody, Flies, MayCome, IsOrderly};
+ghost use Rattle.cache_changes.specs.Writes.{bytes_of, HasBegun, IsInFlight, IsBody, IsShown, Flies, MayCome, IsOrderly};
 ghost use Rattle.cache_changes.specs.Store.{Stored, Flying, IsStateOf, body_at, flying_at, store_of};
 ghost use Rattle.cache_changes.specs.Bound.{TracksBodies, is_settled, IsTrackedBody, AreWithin};
 ghost use Rattle.cache_changes.specs.Uses.{IsOrderOfUse, IsLast, IsLawfulEviction, rows_after, rows_of, shard_of, in_shard, changes_shard, entry_changed, AreShardsOf, shards_after, admissions};
@@ -26,6 +26,20 @@ pub fn the_state_tells_what_may_come<M>()
     ensures renews { (changes : Changes M) → IsOrderly changes → (n : ℕ) (meta : M)
         → ((is_some (flying_at n (store_of changes)) ≡ true) ⊎ ((k : StoredKey) × (x : Stored M) × (body_at k (store_of changes) ≡ Some x) × (x.write.number ≡ n)))
         ↔ MayCome (renews n meta) changes }
+{}
+
+/// Bytes that come to a write go to the end of those that it has, and none come once it is no longer in flight: what was read
+/// of a body stays its bytes, whatever comes later.
+pub fn bytes_only_come_in_flight<M>()
+    ensures more { (n : ℕ) (since before : Changes M) → bytes_of n (since ++ before) ≡ bytes_of n before ++ bytes_of n since }
+    ensures same { (w : Write M) (since before : Changes M) → IsOrderly (since ++ before) → HasBegun w before → (IsInFlight w before → ⊥)
+        → bytes_of w.number (since ++ before) ≡ bytes_of w.number before }
+{}
+
+/// A key has one body at most, and shows one write.
+pub fn a_key_has_one_body<M>()
+    ensures body { (k : StoredKey) (v w : Write M) (changes : Changes M) → IsOrderly changes → IsBody k v changes → IsBody k w changes → v ≡ w }
+    ensures shown { (k : StoredKey) (v w : Write M) (changes : Changes M) → IsOrderly changes → IsShown k v changes → IsShown k w changes → v ≡ w }
 {}
 
 /// What changes leave of entries is their order of use, and no other rows are.
