@@ -24,13 +24,16 @@ use Rattle.tier_model.specs.declared.event.Answer.TheVariants.{Finished}
 use Rattle.tier_model.specs.declared.event.TierFault.{TierFault}
 use Rattle.tier_model.specs.Keys.{StoredKey, Entry, entries_of, stored_key_of}
 use Rattle.tier_model.specs.Calls.{Call, History, Outcome, done_of, read_by}
-use Rattle.tier_model.specs.Histories.{IsBody, IsWithin, HasDistinctKeys}
 use Rattle.tier_model.specs.Rows.{body_of, with_body, without_body, without_bodies, weight_for}
 use Rattle.tier_model.specs.State.{State}
 use Rattle.tier_model.specs.Step.{refusal, AllowsBy, Allows, IsAnswer, IsPutAnswer, after, answered, undone, taken_back, on_request, body_for, after_look_up, after_read, after_purge, after_put}
-use Rattle.tier_model.proofs.BodyLaws.{body_now-of, body_of-without, body_of-with}
+use Rattle.tier_model.proofs.BodyLaws.{body_of-without, body_of-with}
 use Rattle.tier_model.proofs.StepLaws.{answer_allowed}
-use Rattle.tier_model.proofs.RequestLaws.{Fits}
+
+-- bodies of different stored keys
+abbrev pub HasDistinctKeys : List FinishedBody → Type 0
+HasDistinctKeys [] = Unit {0}
+HasDistinctKeys (b ∷ bs) = AllByRecursion (λ c. same_key (stored_key c.entry) (stored_key b.entry) ≡ false) bs × HasDistinctKeys bs
 
 -- an entry weighs at least n
 abbrev pub HasWeight : ℕ → Option Tracked → Type 0
@@ -235,11 +238,3 @@ KeepsLimits-after s c p h = by_outcome c.outcome p.1
     by_outcome : (o : Outcome) → AllowsBy (refusal s c.event.action) s c.event.moment c.event.action (read_by c) o → KeepsLimits (after s (record c { outcome = o }))
     by_outcome (Ok a) p = answer_keeps s c.event.moment (read_by c) c.event.action a (answer_allowed (refusal s c.event.action) s c.event.moment (read_by c) c.event.action a p) h
     by_outcome (Err f) p = undone_keeps s c.event.action f h
-
-held_by : (s : State) (h : History) → Fits s h → (bodies : List FinishedBody) → AllByRecursion (λ b. IsBody (stored_key b.entry) b h) bodies → AreHeld s.bodies bodies
-held_by s h fits [] all = tt
-held_by s h fits (b ∷ bs) all = (fits.bodies (stored_key b.entry) ∙ body_now-of (stored_key b.entry) b h all.0, held_by s h fits bs all.1)
-
--- the bound over histories
-pub IsWithin-kept : (s : State) (h : History) → Fits s h → KeepsLimits s → IsWithin s.settings.limit s.settings.watermark h
-IsWithin-kept s h fits keeps bodies d all = keeps.within bodies d (held_by s h fits bodies all)
