@@ -1,41 +1,39 @@
 -- Lawful histories hold the headline, and runs carry it on.
-use Rattle.std.proofs.Common.{◌≡◌, ℕ, ◌≤◌, length, refl, ap, sym, ◌∙◌, false, subst, [], ◌∷◌, arith}
+use Rattle.std.proofs.Common.{◌≡◌, ℕ, length, refl, ap, sym, ◌∙◌, true, false, subst, [], ◌∷◌, arith}
 use Rattle.std.specs.Prelude.{List, Option, Some, None, option_map}
-use Rattle.std.specs.List.{AllByRecursion, sum_by}
+use Rattle.std.specs.List.{AllByRecursion}
 use Rattle.std.specs.FinMap.{get, get-empty}
 use Rattle.std.specs.Ordering.{nat_cmp}
 use Rattle.std.proofs.lemmas.Bool.Decides.{nat_tests}
 use Rattle.cache_entries.specs.declared.rows.Tracked as entries
 use Rattle.cache_entries.specs.Rows.{AreDistinct}
-use Rattle.cache_changes.specs.Changes.{Changes}
-use Rattle.cache_changes.specs.Writes.{BeginsBelow, IsOrderly}
-use Rattle.cache_changes.specs.Store.{store_of, empty_store, body_at}
+use Rattle.cache_changes.specs.Changes.{Write, admits}
+use Rattle.cache_changes.specs.Writes.{BeginsBelow, IsOrderly, IsBody}
+use Rattle.cache_changes.specs.Store.{store_of, empty_store, body_at, stored_of}
 use Rattle.cache_changes.specs.Uses.{EvictsLawfully, admissions}
-use Rattle.cache_changes.specs.Bound.{AreWithin}
+use Rattle.cache_changes.specs.Bound.{TracksBodies, is_settled, AreWithin}
+use Rattle.cache_changes.proofs.BoundLaws.{bodies-tracked}
+use Rattle.cache_changes.proofs.FoundLaws.{store_of-is}
 use Rattle.cache_changes.proofs.UseLaws.{rows_of-admissions}
-use Rattle.tier_entries.specs.Keys.{stored_key}
 use Rattle.tier_entries.specs.Rows.{is_past}
-use Rattle.tier_model.specs.declared.state.FinishedBody.{FinishedBody}
 use Rattle.tier_model.specs.declared.state.Request.{Request}
 use Rattle.tier_model.specs.Calls.{Call, History}
 use Rattle.tier_model.specs.Response.{IsRead}
 use Rattle.tier_model.specs.Histories.{Kept, rows_alone, Opening, empty_opening, changes_of}
 use Rattle.tier_model.specs.Headline.{shards, Headline, HoldsHeadline}
 use Rattle.tier_model.specs.Reports.{IsReport, report_of}
-use Rattle.tier_model.specs.Rows.{body_of}
 use Rattle.tier_model.specs.State.{Settings, State, empty_state}
 use Rattle.tier_model.specs.Step.{Allows, after}
 use Rattle.tier_model.specs.Past.{state_of, IsLawful, MatchesHistory, HasPast, AreTaken, CarriesHeadline}
 use Rattle.tier_model.proofs.RowSteps.{rows-length, rows-weights}
 use Rattle.tier_model.proofs.BodyLaws.{view}
-use Rattle.tier_model.proofs.ChangeLaws.{Leaves, in_order}
+use Rattle.tier_model.proofs.ChangeLaws.{unbound, in_order}
 use Rattle.tier_model.proofs.StepLaws.{settings-after}
 use Rattle.tier_model.proofs.EventLaws.{Holds}
 use Rattle.tier_model.proofs.RequestLaws.{RequestFits, Fits, Fits-after, IsRequestOf-fits}
 use Rattle.tier_model.proofs.HeadlineLaws.{IsRight-allowed}
-use Rattle.tier_model.proofs.BoundLaws.{KeepsWithin, KeepsLimits, KeepsLimits-after}
 use Rattle.tier_model.proofs.ReportLaws.{Tallies, Tallies-after}
-use Rattle.tier_model.proofs.HeldLaws.{all-held, sums, within-held, tracked-held}
+use Rattle.tier_model.proofs.HeldLaws.{all-held, sums}
 
 no_request : (start : Opening) (id : ℕ) (o : Option Request) → o ≡ None → RequestFits start id o []
 no_request start id None e = refl
@@ -44,14 +42,6 @@ no_request start id (Some q) e = cc
 never_past : (mark : Option ℕ) → is_past mark 0 ≡ false
 never_past None = refl
 never_past (Some bound) = grind (arith, nat_tests)
-
--- no bodies keep any limits
-within_none : (limit : ℕ) (mark : Option ℕ) → KeepsWithin limit mark []
-within_none limit mark [] d held = (omega arith, never_past mark)
-within_none limit mark (b ∷ bs) d held = absurd_none held.0
-  where
-    absurd_none : body_of (stored_key b.entry) [] ≡ Some b → (sum_by (λ b. length b.bytes) (b ∷ bs) ≤ limit) × (is_past mark (length (b ∷ bs)) ≡ false)
-    absurd_none e = cc
 
 -- an order of use that was loaded is no write, and evicts nothing
 loaded_orderly : (rows : List entries.Tracked) → IsOrderly {M = Kept} (admissions rows)
@@ -70,21 +60,45 @@ loaded_lawful : (limit : ℕ) (mark : Option ℕ) (rows : List entries.Tracked) 
 loaded_lawful limit mark [] = tt
 loaded_lawful limit mark (r ∷ rows) = loaded_lawful limit mark rows
 
+loaded_settled : (rows : List entries.Tracked) → is_settled {M = Kept} (admissions rows) ≡ true
+loaded_settled [] = refl
+loaded_settled (r ∷ rows) = refl
+
+loaded_none : (rows : List entries.Tracked) (w : Write Kept) → IsBody w.key w (admissions rows) → ⊥
+loaded_none rows w i =
+    let there : body_at w.key (store_of (admissions rows)) ≡ Some (stored_of w (admissions rows)) = ((store_of-is (admissions rows) (loaded_orderly rows)).bodies w.key (stored_of w (admissions rows))).1 (i, refl) in
+    let none : body_at w.key (store_of {M = Kept} (admissions rows)) ≡ None = ap (body_at w.key) (loaded_store rows) in
+    absurd cc
+
+loaded_tracks : (rows : List entries.Tracked) → TracksBodies {M = Kept} (admissions rows)
+loaded_tracks [] = tt
+loaded_tracks (r ∷ rows) = (unbound (admits r.entry r.weight) (admissions rows) (loaded_settled rows), λ w t i. absurd (loaded_none rows w i), loaded_tracks rows)
+
+loaded_within : (limit : ℕ) (mark : Option ℕ) (rows : List entries.Tracked) → AreWithin {M = Kept} limit mark (admissions rows)
+loaded_within limit mark rows [] d all = (omega arith, never_past mark)
+loaded_within limit mark rows (w ∷ ws) d all = absurd (loaded_none rows w all.0)
+
 loaded : (start : Opening) → AreDistinct (rows_alone start.loaded) → Holds start (state_of start []) []
-loaded start d = record {
-  orderly = loaded_orderly (rows_alone start.loaded);
-  below = loaded_below (rows_alone start.loaded);
-  landed = ap (λ s. s.flying) (loaded_store (rows_alone start.loaded));
-  bodies = λ k. ap (λ s. option_map view (body_at k s)) (sym (loaded_store (rows_alone start.loaded)));
-  rows = sym (rows_of-admissions Kept (rows_alone start.loaded) d);
-  lawful = loaded_lawful start.settings.limit start.settings.watermark (rows_alone start.loaded);
-}
+loaded start d =
+    let rows : List entries.Tracked = rows_alone start.loaded in
+    record {
+      leaves = record {
+        orderly = loaded_orderly rows;
+        below = loaded_below rows;
+        landed = ap (λ s. s.flying) (loaded_store rows);
+        bodies = λ k. ap (λ s. option_map view (body_at k s)) (sym (loaded_store rows));
+        rows = sym (rows_of-admissions Kept rows d);
+        lawful = loaded_lawful start.settings.limit start.settings.watermark rows;
+        tracks = loaded_tracks rows;
+        settled = loaded_settled rows;
+      };
+      within = loaded_within start.settings.limit start.settings.watermark rows;
+    }
 
 -- what a state is to the history after it
 pub record Stands (start : Opening) (s : State) (h : History) : Type 0 where
   pub made : s.settings ≡ start.settings
   pub fits : Fits start s h
-  pub keeps : KeepsLimits s
   pub tallies : Tallies s h
 
 -- the state after a lawful history stands for it
@@ -92,7 +106,6 @@ pub Stands-lawful : (start : Opening) (h : History) → IsLawful start h → Sta
 Stands-lawful start [] l = record {
   made = refl;
   fits = record { requests = λ id. no_request start id (get (empty_state start.settings).requests id) (get-empty nat_cmp id); holds = loaded start l };
-  keeps = record { within = within_none start.settings.limit start.settings.watermark; tracked = λ k b e. cc };
   tallies = record { found = omega arith; absent = omega arith; evicted = omega arith; distinct = tt };
 }
 Stands-lawful start (c ∷ h) l =
@@ -100,12 +113,14 @@ Stands-lawful start (c ∷ h) l =
     record {
       made = settings-after (state_of start h) c ∙ past.made;
       fits = Fits-after start (state_of start h) c h past.fits l.0;
-      keeps = KeepsLimits-after (state_of start h) c l.0 past.keeps;
       tallies = Tallies-after (state_of start h) c h l.0 past.tallies;
     }
 
 pub IsOrderly-lawful : (start : Opening) (h : History) → IsLawful start h → IsOrderly (changes_of start h)
-IsOrderly-lawful start h l = (Stands-lawful start h l).fits.holds.orderly
+IsOrderly-lawful start h l = (Stands-lawful start h l).fits.holds.leaves.orderly
+
+pub TracksBodies-lawful : (start : Opening) (h : History) → IsLawful start h → TracksBodies (changes_of start h)
+TracksBodies-lawful start h l = (Stands-lawful start h l).fits.holds.leaves.tracks
 
 Headline-lawful : (start : Opening) (h : History) → IsLawful start h → Headline start h
 Headline-lawful start [] l = tt
@@ -120,22 +135,20 @@ readings-lawful start (c ∷ h) l = (l.0.0, readings-lawful start h l.1)
 -- lawful histories hold the headline
 pub HoldsHeadline-lawful : (start : Opening) (h : History) → IsLawful start h → HoldsHeadline start h
 HoldsHeadline-lawful start h l =
-    let s : State = state_of start h in
-    let past : Stands start s h = Stands-lawful start h l in
+    let past : Stands start (state_of start h) h = Stands-lawful start h l in
     record {
       readings = readings-lawful start h l;
       answers = Headline-lawful start h l;
-      within = subst (λ (x : Settings). AreWithin x.limit x.watermark (changes_of start h)) past.made
-          (within-held s.settings.limit s.settings.watermark (length h) s.bodies s.tracked (changes_of start h) past.fits.holds past.keeps.within);
-      tracked = tracked-held s.settings.limit s.settings.watermark (length h) s.bodies s.tracked (changes_of start h) past.fits.holds past.keeps.tracked;
-      evictions = subst (λ (x : Settings). EvictsLawfully shards x.limit x.watermark (changes_of start h)) past.made past.fits.holds.lawful;
+      within = subst (λ (x : Settings). AreWithin x.limit x.watermark (changes_of start h)) past.made past.fits.holds.within;
+      tracked = bodies-tracked (changes_of start h) past.fits.holds.leaves.orderly past.fits.holds.leaves.tracks past.fits.holds.leaves.settled;
+      evictions = subst (λ (x : Settings). EvictsLawfully shards x.limit x.watermark (changes_of start h)) past.made past.fits.holds.leaves.lawful;
     }
 
 -- the state after a lawful history is what it says
 MatchesHistory-lawful : (start : Opening) (s : State) (h : History) → Stands start s h → MatchesHistory s start h
 MatchesHistory-lawful start s h past = record {
-  bodies = all-held s.settings.limit s.settings.watermark (length h) s.bodies s.tracked (changes_of start h) past.fits.holds past.tallies.distinct;
-  order = in_order s.settings.limit s.settings.watermark (length h) s.bodies s.tracked (changes_of start h) past.fits.holds;
+  bodies = all-held s.settings.limit s.settings.watermark (length h) s.bodies s.tracked (changes_of start h) past.fits.holds.leaves past.tallies.distinct;
+  order = in_order s.settings.limit s.settings.watermark (length h) s.bodies s.tracked (changes_of start h) past.fits.holds.leaves;
   requests = λ id. IsRequestOf-fits start id (get s.requests id) h (past.fits.requests id);
   found = past.tallies.found;
   absent = past.tallies.absent;

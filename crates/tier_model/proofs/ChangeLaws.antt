@@ -1,18 +1,21 @@
 -- What changes leave is what a tier's state holds: change by change.
-use Rattle.std.proofs.Common.{◌≡◌, ℕ, ◌≤◌, ◌<◌, suc, refl, ap, sym, ◌∙◌, true, false, subst, cond, [], ◌∷◌, ◌++◌, arith, inl, inr}
-use Rattle.std.specs.Prelude.{Bool, List, Option, Some, None, option_map, is_some, map, find, ◌==◌, ◌||◌}
+use Rattle.std.proofs.Common.{◌≡◌, ℕ, ◌≤◌, suc, refl, ap, sym, ◌∙◌, true, false, subst, cond, [], ◌∷◌, length, arith}
+use Rattle.std.specs.Prelude.{Bool, List, Option, Some, None, option_map, is_some, map, find}
 use Rattle.std.specs.List.{AllByRecursion}
 use Rattle.cache_entries.specs.Keys.{same_bytes}
 use Rattle.cache_entries.specs.declared.rows.Tracked as entries
 use Rattle.cache_entries.specs.Rows as all
-use Rattle.cache_changes.specs.Changes.{StoredKey, Write, Change, Changes, begins, appends, finishes, removes, admits, uses, departs, evicts, is_key}
-use Rattle.cache_changes.specs.Writes.{bytes_of, meta_of, has_ended, BeginsBelow, IsOrderly, IsInFlight, IsAlive, IsFlying, IsFound, IsShown, IsBody}
-use Rattle.cache_changes.specs.Store.{Stored, Flying, Store, store_of, after, with_body, marked, is_of, flies_for, body_at, shown_at, is_found_at, flying_at, stored_of, has_number, IsFlight}
+use Rattle.cache_changes.specs.Changes.{StoredKey, Write, Change, Changes, begins, appends, finishes, removes, uses, evicts}
+use Rattle.cache_changes.specs.Writes.{bytes_of, has_ended, BeginsBelow, IsOrderly, IsInFlight, IsAlive, IsFlying, IsFound, IsShown, IsBody}
+use Rattle.cache_changes.specs.Store.{Stored, Flying, Store, store_of, after, with_body, marked, body_at, shown_at, is_found_at, flying_at, stored_of, has_number, IsFlight}
+use Rattle.cache_changes.specs.Bound.{SettlesAtOnce, TracksBodies, is_settled}
 use Rattle.cache_changes.specs.Uses.{rows_of, last_weight, IsOrderOfUse, EvictsLawfully}
 use Rattle.cache_changes.proofs.FoundLaws.{store_of-is}
 use Rattle.cache_changes.proofs.UseLaws.{IsOrderOfUse-rows_of}
 use Rattle.cache_changes.proofs.WriteLaws.{same_number, fresh_end, all_begin_less}
+use Rattle.std.proofs.Math.Nat.{le-max_right}
 use Rattle.tier_entries.specs.Keys.{stored_key, same_key, has_key}
+use Rattle.tier_entries.proofs.KeyLaws.{same_key-tells}
 use Rattle.tier_entries.specs.declared.rows.Tracked.{Tracked}
 use Rattle.tier_entries.specs.Rows as alone_rows
 use Rattle.tier_entries.specs.Rows.{weight_of, without_row, without_rows, admitted, used, is_over}
@@ -34,15 +37,30 @@ pub record Leaves (limit : ℕ) (mark : Option ℕ) (n : ℕ) (held : List Finis
   pub bodies : (k : StoredKey) → AreSame (body_of k held) (body_at k (store_of changes))
   pub rows : rows_alone tracked ≡ rows_of changes
   pub lawful : EvictsLawfully shards limit mark changes
+  pub tracks : TracksBodies changes
+  pub settled : is_settled changes ≡ true
 
 -- the store after a whole write
 stored_whole : (w : Write Kept) (bytes : List ℕ) (s : Store Kept) → s.flying ≡ []
     → after (finishes w) (after (appends w.number bytes) (after (begins w) s)) ≡ record { bodies = with_body (Some (record { write = w; meta = w.meta; bytes = bytes })) s.bodies; flying = [] }
 stored_whole w bytes s e = rw (e, same_number w.number, same_number w.number) refl
 
+-- after what is settled anything may come
+pub unbound : (c : Change Kept) (before : Changes Kept) → is_settled before ≡ true → SettlesAtOnce c before
+unbound c [] e = tt
+unbound c (finishes w ∷ before) e = absurd cc
+unbound c (_ ∷ before) e = tt
+
 -- a write that just began
 just_began : (w : Write Kept) (before : Changes Kept) → IsInFlight w (begins w ∷ before)
 just_began w before = record { since = []; before = before; split = refl; flies = tt }
+
+-- what was removed has no body
+no_body : (j : StoredKey) (w : Write Kept) (changes : Changes Kept) → IsOrderly (removes j ∷ changes) → same_bytes j w.key ≡ true → IsBody w.key w (removes j ∷ changes) → ⊥
+no_body j w changes o t i =
+    let there : body_at w.key (store_of (removes j ∷ changes)) ≡ Some (stored_of w (removes j ∷ changes)) = ((store_of-is (removes j ∷ changes) o).bodies w.key (stored_of w (removes j ∷ changes))).1 (i, refl) in
+    let none : body_at w.key (store_of (removes j ∷ changes)) ≡ None = body_at-without w.key j (store_of changes).bodies ∙ ap (λ v. cond v None (body_at w.key (store_of changes))) t in
+    absurd cc
 
 module _ (limit : ℕ) (mark : Option ℕ) where
   pub leaves-later : (m n : ℕ) (bodies : List FinishedBody) (rows : List Tracked) (changes : Changes Kept) → m ≤ n → Leaves limit mark m bodies rows changes → Leaves limit mark n bodies rows changes
@@ -53,6 +71,8 @@ module _ (limit : ℕ) (mark : Option ℕ) where
     bodies = l.bodies;
     rows = l.rows;
     lawful = l.lawful;
+    tracks = l.tracks;
+    settled = l.settled;
   }
 
   -- other bodies and rows that are the same
@@ -65,6 +85,8 @@ module _ (limit : ℕ) (mark : Option ℕ) where
     bodies = λ k. ap (option_map held_of) (f k) ∙ l.bodies k;
     rows = ap rows_alone e ∙ l.rows;
     lawful = l.lawful;
+    tracks = l.tracks;
+    settled = l.settled;
   }
 
   without_same : (j : StoredKey) (bodies : List FinishedBody) (s : Store Kept) → ((k : StoredKey) → AreSame (body_of k bodies) (body_at k s))
@@ -81,17 +103,8 @@ module _ (limit : ℕ) (mark : Option ℕ) where
     bodies = without_same j bodies (store_of changes) l.bodies;
     rows = l.rows;
     lawful = l.lawful;
-  }
-
-  pub leaves-departed : (n : ℕ) (e : Entry) (bodies : List FinishedBody) (rows : List Tracked) (changes : Changes Kept)
-      → Leaves limit mark n bodies rows changes → Leaves limit mark n bodies (without_row e rows) (departs (alone e) ∷ changes)
-  leaves-departed n e bodies rows changes l = record {
-    orderly = (tt, l.orderly);
-    below = (tt, l.below);
-    landed = l.landed;
-    bodies = l.bodies;
-    rows = rows-without e rows ∙ ap (all.without_row (alone e)) l.rows;
-    lawful = l.lawful;
+    tracks = (unbound (removes j) changes l.settled, tt, l.tracks);
+    settled = refl;
   }
 
   pub leaves-used : (n : ℕ) (e : Entry) (w : ℕ) (bodies : List FinishedBody) (rows : List Tracked) (changes : Changes Kept)
@@ -103,6 +116,8 @@ module _ (limit : ℕ) (mark : Option ℕ) where
     bodies = l.bodies;
     rows = rows-used e w rows ∙ ap (all.used (alone e) w) l.rows;
     lawful = l.lawful;
+    tracks = (unbound (uses (alone e) w) changes l.settled, tt, l.tracks);
+    settled = refl;
   }
 
   leaves-evicted : (n : ℕ) (e : Entry) (bodies : List FinishedBody) (rows : List Tracked) (changes : Changes Kept) → is_over limit mark rows ≡ true → alone_rows.IsLast e rows
@@ -113,12 +128,17 @@ module _ (limit : ℕ) (mark : Option ℕ) where
     landed = ap (map (marked (Some (stored_key e)))) l.landed;
     bodies = without_same (stored_key e) bodies (store_of changes) l.bodies;
     rows = rows-without e rows ∙ ap (all.without_row (alone e)) l.rows;
-    lawful = (record {
-      rows = rows_alone rows;
-      order = subst (λ (r : List entries.Tracked). IsOrderOfUse r changes) (sym l.rows) (IsOrderOfUse-rows_of changes);
-      over = rows-over limit mark rows ∙ over;
-      last = rows-last e rows last;
-    }, l.lawful);
+    lawful = (
+      record {
+        rows = rows_alone rows;
+        order = subst (λ (r : List entries.Tracked). IsOrderOfUse r changes) (sym l.rows) (IsOrderOfUse-rows_of changes);
+        over = rows-over limit mark rows ∙ over;
+        last = rows-last e rows last;
+      },
+      l.lawful,
+    );
+    tracks = (unbound (evicts (alone e)) changes l.settled, tt, l.tracks);
+    settled = refl;
   }
 
   pub leaves-gone : (n : ℕ) (es : List Entry) (bodies : List FinishedBody) (rows : List Tracked) (changes : Changes Kept) → AreLasts limit mark rows es
@@ -130,7 +150,17 @@ module _ (limit : ℕ) (mark : Option ℕ) where
   pub leaves-cleared : (n : ℕ) (e : Entry) (bodies : List FinishedBody) (rows : List Tracked) (changes : Changes Kept)
       → Leaves limit mark n bodies rows changes → Leaves limit mark n (without_body (stored_key e) bodies) (without_row e rows) (extended changes (clears e))
   leaves-cleared n e bodies rows changes l =
-      leaves-departed n e (without_body (stored_key e) bodies) rows (removes (stored_key e) ∷ changes) (leaves-removed n (stored_key e) bodies rows changes l)
+      let r = leaves-removed n (stored_key e) bodies rows changes l in
+      record {
+        orderly = (tt, r.orderly);
+        below = (tt, r.below);
+        landed = r.landed;
+        bodies = r.bodies;
+        rows = rows-without e rows ∙ ap (all.without_row (alone e)) l.rows;
+        lawful = l.lawful;
+        tracks = (tt, λ w t i. no_body (stored_key e) w changes r.orderly t i, r.tracks);
+        settled = refl;
+      }
 
   -- a body is written whole and its entry admitted
   pub leaves-stored : (n : ℕ) (b : FinishedBody) (bodies : List FinishedBody) (rows : List Tracked) (changes : Changes Kept)
@@ -142,8 +172,16 @@ module _ (limit : ℕ) (mark : Option ℕ) where
       let written : Changes Kept = appends n b.bytes ∷ begins w ∷ changes in
       let flies : IsInFlight w written = record { since = appends n b.bytes ∷ []; before = changes; split = refl; flies = (refl, tt) } in
       let alive : IsAlive w written = record { since = appends n b.bytes ∷ []; before = changes; split = refl; kept = (refl, tt); held = (refl, tt) } in
+      let finished : Changes Kept = finishes w ∷ written in
+      let orderly : IsOrderly finished = ((flies, alive), (((w, refl, just_began w changes), fresh_end n changes l.below l.orderly), (l.below, l.orderly))) in
+      let enough : (v : Write Kept) → same_bytes (stored_key b.entry) v.key ≡ true → IsBody v.key v finished → length (bytes_of v.number finished) ≤ weight_for b =
+      λ v t i.
+      let there : body_at v.key (store_of finished) ≡ Some (stored_of v finished) = ((store_of-is finished orderly).bodies v.key (stored_of v finished)).1 (i, refl) in
+      let here : body_at v.key (store_of finished) ≡ Some x = ap (body_at v.key) left ∙ body_at-with v.key x (store_of changes).bodies ∙ ap (λ t. cond t (Some x) (body_at v.key (store_of changes))) t in
+      let same : x ≡ stored_of v finished = cc in
+      subst (λ (y : Stored Kept). length y.bytes ≤ weight_for b) same (le-max_right 1 (length b.bytes)) in
       record {
-        orderly = (tt, ((flies, alive), (((w, refl, just_began w changes), fresh_end n changes l.below l.orderly), (l.below, l.orderly))));
+        orderly = (tt, orderly);
         below = (tt, (tt, (tt, (omega arith, all_begin_less n (suc n) changes (omega arith) l.below))));
         landed = ap (λ (s : Store Kept). s.flying) left;
         bodies = λ k. ap (option_map held_of) (body_of-with k b bodies)
@@ -151,6 +189,8 @@ module _ (limit : ℕ) (mark : Option ℕ) where
             ∙ sym (ap (option_map view) (ap (body_at k) left ∙ body_at-with k x (store_of changes).bodies));
         rows = rows-admitted b.entry (weight_for b) rows ∙ ap (all.admitted (alone b.entry) (weight_for b)) l.rows;
         lawful = l.lawful;
+        tracks = (same_key-tells.itself (stored_key b.entry), enough, (tt, tt, (tt, tt, (unbound (begins w) changes l.settled, tt, l.tracks))));
+        settled = refl;
       }
 
   -- a body that is stored and taken back leaves what was there, without what went
@@ -253,13 +293,6 @@ module _ (limit : ℕ) (mark : Option ℕ) (n : ℕ) (bodies : List FinishedBody
   is_held k w i =
       let at = ((store_of-is changes l.orderly).bodies k (stored_of w changes)).1 (i, refl) in
       held_back (body_of k bodies) (body_at k (store_of changes)) (stored_of w changes) at (l.bodies k)
-
-  pub one_body : (k : StoredKey) (v w : Write Kept) → IsBody k v changes → IsBody k w changes → v ≡ w
-  one_body k v w i j =
-      let at = ((store_of-is changes l.orderly).bodies k (stored_of v changes)).1 (i, refl) in
-      let also = ((store_of-is changes l.orderly).bodies k (stored_of w changes)).1 (j, refl) in
-      let same : stored_of v changes ≡ stored_of w changes = cc in
-      ap (λ (x : Stored Kept). x.write) same
 
   pub weighs : (e : Entry) → last_weight (alone e) changes ≡ weight_of e rows
   weighs e = sym ((IsOrderOfUse-rows_of changes).weights (alone e)) ∙ ap (all.weight_of (alone e)) (sym l.rows) ∙ rows-weight e rows

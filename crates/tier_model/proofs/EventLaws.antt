@@ -1,6 +1,6 @@
 -- What each lawful call changes leaves what the state after it holds, and what it listed as evicted went as it says.
 use Rattle.std.proofs.Common.{◌≡◌, ℕ, suc, refl, ap, sym, ◌∙◌, true, false, subst, cond, [], ◌∷◌, ◌++◌, length, arith, inl, inr}
-use Rattle.std.specs.Prelude.{Bool, List, Option, Some, None, is_some, Ok, Err, ◌⊎◌, MatchOption, max}
+use Rattle.std.specs.Prelude.{Bool, List, Option, Some, None, is_some, Ok, Err, MatchOption, max}
 use Rattle.std.specs.FinMap.{get, insert}
 use Rattle.cache_words.specs.Time.{MomentValue}
 use Rattle.cache_words.specs.Key.{CacheKeyValue}
@@ -8,42 +8,39 @@ use Rattle.cache_changes.specs.Changes.{Change, Changes, uses}
 use Rattle.cache_changes.specs.Store.{store_of, shown_at}
 use Rattle.tier_entries.specs.Keys.{entry_of, stored_key}
 use Rattle.tier_entries.specs.declared.rows.Tracked.{Tracked}
-use Rattle.tier_entries.specs.Rows.{without_row, without_rows, admitted, is_over}
+use Rattle.tier_entries.specs.Rows.{without_rows, admitted, is_over}
 use Rattle.tier_model.specs.declared.whole.Whole.{Whole}
 use Rattle.tier_model.specs.declared.whole.Whole.TheVariants.{Stored}
 use Rattle.tier_model.specs.declared.whole.Whole.TheVariants as whole
 use Rattle.tier_model.specs.declared.state.FinishedBody.{FinishedBody}
 use Rattle.tier_model.specs.declared.state.Request.{Request}
-use Rattle.tier_model.specs.declared.state.Reader.{Reader}
-use Rattle.tier_model.specs.declared.state.Reader.TheVariants.{Closed, Unread, Spent}
 use Rattle.tier_model.specs.declared.event.Action.{Action}
 use Rattle.tier_model.specs.declared.event.Action.TheVariants.{Open, LookUp, Read, Drop, Purge, Put}
 use Rattle.tier_model.specs.declared.event.Answer.{Answer}
 use Rattle.tier_model.specs.declared.event.Answer.TheVariants.{Opened, Found, Dropped, Purged, Finished}
 use Rattle.tier_model.specs.declared.event.Answer.TheVariants as answer
 use Rattle.tier_model.specs.declared.event.TierFault.{TierFault}
-use Rattle.tier_model.specs.declared.event.TierFault.TheVariants.{TooHeavy, TooLong, Memory}
-use Rattle.tier_model.specs.Keys.{StoredKey, Entry, Evicted, entries_of, AreWeighed, stored_key_of}
+use Rattle.tier_model.specs.Keys.{Entry, Evicted, entries_of, AreWeighed, stored_key_of}
 use Rattle.tier_model.specs.Response.{Reading, whole_of, whole_in}
 use Rattle.tier_model.specs.Calls.{Call, History, Outcome, extended, nothing_done, done_of, read_by, stored_in, opened_for}
-use Rattle.tier_model.specs.Histories.{Kept, alone, rows_alone, Opening, goes, stores, clears, put_changes, hit_changes, look_changes, changes_of}
+use Rattle.tier_model.specs.Histories.{Kept, alone, rows_alone, Opening, stores, clears, put_changes, hit_changes, look_changes, changes_of}
 use Rattle.tier_model.specs.Headline.{MakesRoom}
-use Rattle.tier_model.specs.Past.{held_of}
-use Rattle.tier_model.specs.Rows.{body_of, with_body, without_body, without_bodies, weight_for}
+use Rattle.tier_model.specs.Rows.{body_of, with_body, without_bodies, weight_for}
 use Rattle.tier_model.specs.State.{State}
-use Rattle.tier_model.specs.Step.{refusal, AllowsBy, Allows, IsAnswer, IsPutAnswer, IsPutFault, after, answered, undone, taken_back, on_request, look_answer, after_look_up, read_answer, after_read, after_purge, after_put, use_is_too_heavy, body_for, stored_alone, all_done}
+use Rattle.tier_model.specs.Step.{refusal, AllowsBy, Allows, IsAnswer, IsPutAnswer, IsPutFault, after, answered, undone, taken_back, on_request, look_answer, after_look_up, after_read, after_purge, after_put, use_is_too_heavy, body_for, stored_alone, all_done}
 use Rattle.tier_model.proofs.ResponseLaws.{whole_of-entry}
 use Rattle.tier_model.proofs.StepLaws.{call_at, answer_allowed}
 use Rattle.tier_model.proofs.RowSteps.{rows-over, AreLasts, lasts-lawful, lasts-begun}
-use Rattle.tier_model.proofs.ChangeLaws.{Leaves, leaves-later, leaves-used, leaves-gone, leaves-cleared, leaves-stored, leaves-back, Shows, shows, shown_body, weighs, in_order}
+use Rattle.tier_model.proofs.ChangeLaws.{leaves-stored, Shows, shows, shown_body, weighs, in_order}
+use Rattle.tier_model.proofs.BoundLaws.{Keeps, keeps-later, keeps-used, keeps-cleared, leaves-room, keeps-stored, keeps-back}
 
 -- what a state holds after a history
 abbrev pub Holds : Opening → State → History → Type 0
-Holds start s h = Leaves s.settings.limit s.settings.watermark (length h) s.bodies s.tracked (changes_of start h)
+Holds start s h = Keeps s.settings.limit s.settings.watermark (length h) s.bodies s.tracked (changes_of start h)
 
 -- what is held after one call more
 abbrev pub HoldsNext : State → ℕ → List FinishedBody → List Tracked → Changes Kept → Type 0
-HoldsNext s n bodies rows changes = Leaves s.settings.limit s.settings.watermark (suc n) bodies rows changes
+HoldsNext s n bodies rows changes = Keeps s.settings.limit s.settings.watermark (suc n) bodies rows changes
 
 extended-append : (past : Changes Kept) (xs ys : List (Change Kept)) → extended past (xs ++ ys) ≡ extended (extended past xs) ys
 extended-append past [] ys = refl
@@ -54,37 +51,32 @@ read_entry : (t : MomentValue) (key : CacheKeyValue) (pieces : List (List ℕ)) 
 read_entry t key pieces None b e = absurd cc
 read_entry t key pieces (Some r) b e = let same : Stored b ≡ whole_of t (entry_of key) r = cc in whole_of-entry t (entry_of key) r b same
 
-module _ (s : State) (n : ℕ) (changes : Changes Kept) (l : Leaves s.settings.limit s.settings.watermark n s.bodies s.tracked changes) where
+module _ (s : State) (n : ℕ) (changes : Changes Kept) (l : Keeps s.settings.limit s.settings.watermark n s.bodies s.tracked changes) where
   idle : HoldsNext s n s.bodies s.tracked changes
-  idle = leaves-later s.settings.limit s.settings.watermark n (suc n) s.bodies s.tracked changes (omega arith) l
-
-  -- a body stored, and those gone that made room for it
-  gone : (b : FinishedBody) (es : List Entry) → AreLasts s.settings.limit s.settings.watermark (admitted b.entry (weight_for b) s.tracked) es
-      → HoldsNext s n (without_bodies es (with_body b s.bodies)) (without_rows es (admitted b.entry (weight_for b) s.tracked)) (extended changes (stores n b es))
-  gone b es lasts =
-      leaves-gone s.settings.limit s.settings.watermark (suc n) es (with_body b s.bodies) (admitted b.entry (weight_for b) s.tracked) (extended changes (stores n b [])) lasts
-      (leaves-stored s.settings.limit s.settings.watermark n b s.bodies s.tracked changes l)
+  idle = keeps-later s.settings.limit s.settings.watermark n s.bodies s.tracked changes l (suc n) (omega arith)
 
   pub makes_room : (over : Bool) (b : FinishedBody) (es : List Evicted) → AreWeighed (admitted b.entry (weight_for b) s.tracked) es
       → AreLasts s.settings.limit s.settings.watermark (admitted b.entry (weight_for b) s.tracked) (entries_of es)
       → is_over s.settings.limit s.settings.watermark (without_rows (entries_of es) (admitted b.entry (weight_for b) s.tracked)) ≡ over → MakesRoom s.settings over n b es changes
   makes_room over b es weighed lasts ends =
       let rows : List Tracked = admitted b.entry (weight_for b) s.tracked in
-      let stored = leaves-stored s.settings.limit s.settings.watermark n b s.bodies s.tracked changes l in
+      let stored = leaves-stored s.settings.limit s.settings.watermark n b s.bodies s.tracked changes l.leaves in
+      let left = leaves-room s.settings.limit s.settings.watermark n s.bodies s.tracked changes l b (entries_of es) lasts in
       record {
         weights = λ k d h. weighs s.settings.limit s.settings.watermark (suc n) (with_body b s.bodies) rows (extended changes (stores n b [])) stored _ ∙ weighed k d h;
         rows = rows_alone (without_rows (entries_of es) rows);
-        order = in_order s.settings.limit s.settings.watermark (suc n) (without_bodies (entries_of es) (with_body b s.bodies)) (without_rows (entries_of es) rows) (extended changes (stores n b (entries_of es))) (gone b (entries_of es) lasts);
+        order = in_order s.settings.limit s.settings.watermark (suc n) (without_bodies (entries_of es) (with_body b s.bodies)) (without_rows (entries_of es) rows) (extended changes (stores n b (entries_of es))) left;
         ends = rows-over s.settings.limit s.settings.watermark (without_rows (entries_of es) rows) ∙ ends;
       }
 
   purge_holds : (key : CacheKeyValue) (v : Bool) → HoldsNext s n (after_purge s key v).bodies (after_purge s key v).tracked (extended changes (cond v (clears (entry_of key)) []))
-  purge_holds key true = leaves-cleared s.settings.limit s.settings.watermark (suc n) (entry_of key) s.bodies s.tracked changes idle
+  purge_holds key true = keeps-cleared s.settings.limit s.settings.watermark (suc n) s.bodies s.tracked changes idle (entry_of key)
   purge_holds key false = idle
 
   put_holds : (g : Option Whole) (a : Answer) → IsPutAnswer s g a → HoldsNext s n (after_put s g a).bodies (after_put s g a).tracked (extended changes (put_changes n (stored_in g) (Ok a)))
   put_holds (Some (Stored b)) (Finished m es) p =
-      gone b (entries_of es) (lasts-lawful s.settings.limit s.settings.watermark (entries_of es) (admitted b.entry (weight_for b) s.tracked) p.2).0
+      let lasts = lasts-lawful s.settings.limit s.settings.watermark (entries_of es) (admitted b.entry (weight_for b) s.tracked) p.2 in
+      keeps-stored s.settings.limit s.settings.watermark n s.bodies s.tracked changes l b (entries_of es) lasts.0 lasts.1
   put_holds (Some (whole.Uncacheable reason)) (answer.Uncacheable shown) p = idle
   put_holds (Some (Stored b)) _ p = absurd p
   put_holds (Some whole.Incomplete) _ p = absurd p
@@ -105,13 +97,13 @@ module _ (s : State) (n : ℕ) (changes : Changes Kept) (l : Leaves s.settings.l
       by_body (Some b) = rw d idle
 
   alone_holds : (e : Entry) (b : FinishedBody) (f : TierFault) → b.entry ≡ e → done_of f ≡ stored_alone → BackHolds e (Some b) f
-  alone_holds e b f same d = rw (d, ← same) (leaves-cleared s.settings.limit s.settings.watermark (suc n) b.entry s.bodies s.tracked changes idle)
+  alone_holds e b f same d = rw (d, ← same) (keeps-cleared s.settings.limit s.settings.watermark (suc n) s.bodies s.tracked changes idle b.entry)
 
   cut_holds : (e : Entry) (b : FinishedBody) (f : TierFault) (es : List Evicted) → b.entry ≡ e → done_of f ≡ all_done es
       → AreLasts s.settings.limit s.settings.watermark (admitted b.entry (weight_for b) s.tracked) (entries_of es) → BackHolds e (Some b) f
   cut_holds e b f es same d lasts =
       rw (d, ← same, extended-append changes (stores n b (entries_of es)) (clears b.entry))
-      (leaves-back s.settings.limit s.settings.watermark n b (entries_of es) s.bodies s.tracked changes (gone b (entries_of es) lasts))
+      (keeps-back s.settings.limit s.settings.watermark n s.bodies s.tracked changes l b (entries_of es) lasts)
 
   put_fault_holds : (e : Entry) (g : Option Whole) (f : TierFault) → ((b : FinishedBody) → g ≡ Some (Stored b) → b.entry ≡ e) → IsPutFault s g f → BackHolds e (stored_in g) f
   put_fault_holds e (Some (Stored b)) f same p = elim p [
@@ -146,11 +138,11 @@ module _ (start : Opening) (s : State) (h : History) (l : Holds start s h) (open
       → a ≡ look_answer t b → Next (after_look_up s t i q b) (call_at t (LookUp i) read (Ok a))
   look_holds t read i q None a for_it be ae = subst (λ (x : Answer). Next s (call_at t (LookUp i) read (Ok x))) (sym ae) still
   look_holds t read i q (Some b) a for_it be ae =
-      let x = shows s.settings.limit s.settings.watermark (length h) s.bodies s.tracked (changes_of start h) l (stored_key q.entry) b be in
-      let used = ap (λ (e : Option Entry). look_changes e (changes_of start h)) for_it ∙ hit_uses q.entry b (changes_of start h) l.landed x in
+      let x = shows s.settings.limit s.settings.watermark (length h) s.bodies s.tracked (changes_of start h) l.leaves (stored_key q.entry) b be in
+      let used = ap (λ (e : Option Entry). look_changes e (changes_of start h)) for_it ∙ hit_uses q.entry b (changes_of start h) l.leaves.landed x in
       subst (λ (x : Answer). Next (after_look_up s t i q (Some b)) (call_at t (LookUp i) read (Ok x))) (sym ae)
       (subst (λ (cs : List (Change Kept)). HoldsNext s (length h) s.bodies (after_look_up s t i q (Some b)).tracked (extended (changes_of start h) cs)) (sym used)
-      (leaves-used s.settings.limit s.settings.watermark (suc (length h)) q.entry (weight_for b) s.bodies s.tracked (changes_of start h) still))
+      (keeps-used s.settings.limit s.settings.watermark (suc (length h)) s.bodies s.tracked (changes_of start h) still q.entry (weight_for b)))
 
   request_holds : (t : MomentValue) (read : Option Reading) (i : ℕ) (a : Answer) (o : Option Request) → get s.requests i ≡ o
       → MatchOption o ⊥ (λ q. (a ≡ look_answer t (body_for q s.bodies)) × (use_is_too_heavy q.entry (body_for q s.bodies) s.tracked ≡ false))

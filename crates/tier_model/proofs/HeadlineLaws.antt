@@ -28,7 +28,8 @@ use Rattle.tier_model.specs.Rows.{body_of, weight_for}
 use Rattle.tier_model.specs.State.{Settings, State}
 use Rattle.tier_model.specs.Step.{refusal, AllowsBy, unless_open, has_reader, Allows, IsAnswer, IsPutAnswer, IsPutFault, look_answer, read_answer, use_is_too_heavy, body_for}
 use Rattle.tier_model.proofs.RowSteps.{lasts-lawful, lasts-begun}
-use Rattle.tier_model.proofs.ChangeLaws.{Leaves, shows, found, not_found, none_in_flight}
+use Rattle.tier_model.proofs.ChangeLaws.{shows, found, not_found, none_in_flight}
+use Rattle.tier_model.proofs.BoundLaws.{Keeps}
 use Rattle.tier_model.proofs.StepLaws.{answer_allowed, did_nothing}
 use Rattle.tier_model.proofs.EventLaws.{makes_room}
 use Rattle.tier_model.proofs.RequestLaws.{Fits, ReaderFits, of_request, reader_there, unrefused, append_nothing}
@@ -42,10 +43,10 @@ module _ (start : Opening) where
       by_body : (b : Option FinishedBody) → body_for q s.bodies ≡ b → a ≡ look_answer t b → LooksRight i t a h (changes_of start h)
       by_body None be ae =
           subst (λ (x : Answer). LooksRight i t x h (changes_of start h)) (sym ae)
-          (q.entry, (of_request start s h fits i q e).0, not_found s.settings.limit s.settings.watermark (length h) s.bodies s.tracked (changes_of start h) fits.holds (stored_key q.entry) be)
+          (q.entry, (of_request start s h fits i q e).0, not_found s.settings.limit s.settings.watermark (length h) s.bodies s.tracked (changes_of start h) fits.holds.leaves (stored_key q.entry) be)
       by_body (Some b) be ae =
-          let x = shows s.settings.limit s.settings.watermark (length h) s.bodies s.tracked (changes_of start h) fits.holds (stored_key q.entry) b be in
-          let none = none_in_flight s.settings.limit s.settings.watermark (length h) s.bodies s.tracked (changes_of start h) fits.holds (stored_key q.entry) in
+          let x = shows s.settings.limit s.settings.watermark (length h) s.bodies s.tracked (changes_of start h) fits.holds.leaves (stored_key q.entry) b be in
+          let none = none_in_flight s.settings.limit s.settings.watermark (length h) s.bodies s.tracked (changes_of start h) fits.holds.leaves (stored_key q.entry) in
           subst (λ (y : Answer). LooksRight i t y h (changes_of start h)) (sym ae)
           (q.entry, x.write, (of_request start s h fits i q e).0, x.shown, ap (λ (p : Kept × List ℕ). at_most t p.0.fresh_until) (sym x.tells), (λ c. none, λ n. refl))
 
@@ -65,11 +66,11 @@ module _ (start : Opening) where
     where
       by_body : (o : Option FinishedBody) → body_of k s.bodies ≡ o → (is_some o ≡ true) ↔ IsFound k (changes_of start h)
       by_body None e =
-          (λ t. absurd cc, λ found. absurd (not_found s.settings.limit s.settings.watermark (length h) s.bodies s.tracked (changes_of start h) fits.holds k e found))
-      by_body (Some b) e = (λ t. found s.settings.limit s.settings.watermark (length h) s.bodies s.tracked (changes_of start h) fits.holds k b e, λ f. refl)
+          (λ t. absurd cc, λ found. absurd (not_found s.settings.limit s.settings.watermark (length h) s.bodies s.tracked (changes_of start h) fits.holds.leaves k e found))
+      by_body (Some b) e = (λ t. found s.settings.limit s.settings.watermark (length h) s.bodies s.tracked (changes_of start h) fits.holds.leaves k b e, λ f. refl)
 
   -- a put that is answered has what its response gave
-  put_right : (s : State) (n : ℕ) (changes : Changes Kept) → Leaves s.settings.limit s.settings.watermark n s.bodies s.tracked changes
+  put_right : (s : State) (n : ℕ) (changes : Changes Kept) → Keeps s.settings.limit s.settings.watermark n s.bodies s.tracked changes
       → (g : Option Whole) (a : Answer) → IsPutAnswer s g a → PutsRight s.settings n g (Ok a) changes
   put_right s n changes l (Some (whole.Stored b)) (Finished m es) p =
       let lasts = lasts-lawful s.settings.limit s.settings.watermark (entries_of es) (admitted b.entry (weight_for b) s.tracked) p.2 in
@@ -83,7 +84,7 @@ module _ (start : Opening) where
   put_right s n changes l None a p = absurd p
 
   -- and so has one that is refused for it
-  put_fault_right : (s : State) (n : ℕ) (changes : Changes Kept) → Leaves s.settings.limit s.settings.watermark n s.bodies s.tracked changes
+  put_fault_right : (s : State) (n : ℕ) (changes : Changes Kept) → Keeps s.settings.limit s.settings.watermark n s.bodies s.tracked changes
       → (g : Option Whole) (f : TierFault) → IsPutFault s g f → PutsRight s.settings n g (Err f) changes
   put_fault_right s n changes l (Some (whole.Stored b)) f p = elim p [
     | inl heavy ↦ subst (λ (x : TierFault). PutsRight s.settings n (Some (whole.Stored b)) (Err x) changes) (sym heavy.0) (b, refl, refl)

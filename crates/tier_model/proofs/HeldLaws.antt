@@ -1,27 +1,23 @@
 -- The bodies that a state holds are the writes that are bodies, each with what is told of it.
-use Rattle.std.proofs.Common.{◌≡◌, ℕ, ◌+◌, ◌≤◌, refl, ap, sym, ◌∙◌, true, false, subst, cond, [], ◌∷◌, length, arith}
-use Rattle.std.specs.Prelude.{Bool, List, Option, Some, None, map, find}
+use Rattle.std.proofs.Common.{◌≡◌, ℕ, ◌+◌, refl, ap, sym, ◌∙◌, true, false, subst, cond, [], ◌∷◌, length, arith}
+use Rattle.std.specs.Prelude.{Bool, List, Option, Some, map, find}
 use Rattle.std.specs.List.{AllByRecursion, sum_by}
 use Rattle.std.proofs.lemmas.List.Sums.{sum_by-cons}
 use Rattle.cache_entries.specs.Keys.{same_bytes}
 use Rattle.cache_changes.specs.Changes.{StoredKey, Write, Changes}
-use Rattle.cache_changes.specs.Writes.{bytes_of, meta_of, IsBody}
-use Rattle.cache_changes.specs.Uses.{last_weight}
+use Rattle.cache_changes.specs.Writes.{bytes_of, IsBody}
 use Rattle.cache_changes.specs.Bound as writes
-use Rattle.cache_changes.specs.Bound.{AreWithin}
 use Rattle.tier_entries.specs.Keys.{stored_key, same_key}
 use Rattle.tier_entries.specs.declared.rows.Tracked.{Tracked}
-use Rattle.tier_entries.specs.Rows.{row_of, weight_of, is_past}
-use Rattle.tier_entries.proofs.KeyLaws.{same_key-tells, find-key}
+use Rattle.tier_entries.proofs.KeyLaws.{same_key-tells}
 use Rattle.tier_model.specs.declared.state.FinishedBody.{FinishedBody}
 use Rattle.tier_model.specs.Histories.{Kept}
-use Rattle.tier_model.specs.Headline.{BodiesAreTracked}
 use Rattle.tier_model.specs.Reports.{AreAllBodies}
 use Rattle.tier_model.specs.Past.{held_of, told_of}
 use Rattle.tier_model.specs.Rows.{body_of}
-use Rattle.tier_model.proofs.ChangeLaws.{Leaves, shows, is_held, one_body, weighs}
-use Rattle.tier_model.proofs.BoundLaws.{HasDistinctKeys, HasWeight, AreTracked, AreHeld, KeepsWithin, weight_there}
-use Rattle.tier_model.proofs.ReportLaws.{found_each}
+use Rattle.tier_model.proofs.ChangeLaws.{Leaves, shows, is_held}
+use Rattle.tier_model.proofs.ReportLaws.{HasDistinctKeys, found_each}
+use Rattle.cache_changes.proofs.LaterLaws.{one_body}
 
 -- sums over them
 pub sums : (changes : Changes Kept) (ys : List FinishedBody) (ws : List (Write Kept)) → map held_of ys ≡ map (told_of changes) ws
@@ -30,9 +26,11 @@ sums changes [] [] e = (refl, refl)
 sums changes (b ∷ bs) (w ∷ ws) e =
     let one : held_of b ≡ told_of changes w = cc in
     let more : map held_of bs ≡ map (told_of changes) ws = cc in
-    let rest = sums changes bs ws more in
-    (sum_by-cons (λ (x : FinishedBody). length x.bytes) b bs ∙ ap (λ m. length b.bytes + m) rest.0 ∙ ap (λ (x : Kept × List ℕ). length x.1 + sum_by (λ w. length (bytes_of w.number changes)) ws) one
-    ∙ sym (sum_by-cons (λ (x : Write Kept). length (bytes_of x.number changes)) w ws), omega (arith, rest.1))
+    let rest = sums changes bs ws more in (
+      sum_by-cons (λ (x : FinishedBody). length x.bytes) b bs ∙ ap (λ m. length b.bytes + m) rest.0 ∙ ap (λ (x : Kept × List ℕ). length x.1 + sum_by (λ w. length (bytes_of w.number changes)) ws) one
+          ∙ sym (sum_by-cons (λ (x : Write Kept). length (bytes_of x.number changes)) w ws),
+      omega (arith, rest.1),
+    )
 sums changes [] (w ∷ ws) e = absurd cc
 sums changes (b ∷ bs) [] e = absurd cc
 
@@ -53,14 +51,6 @@ module _ (limit : ℕ) (mark : Option ℕ) (n : ℕ) (bodies : List FinishedBody
       let rest = with_writes bs h.1 in
       (x.write ∷ rest.0, (x.body, sym x.tells, rest.1))
 
-  with_bodies : (ws : List (Write Kept)) → AllByRecursion (λ w. IsBody w.key w changes) ws → (ys : List FinishedBody) × ArePairs ys ws × AreHeld bodies ys
-  with_bodies [] h = ([], tt, tt)
-  with_bodies (w ∷ ws) h =
-      let x = is_held limit mark n bodies rows changes l w.key w h.0 in
-      let key : stored_key x.0.entry ≡ w.key = same_key-tells.equal (stored_key x.0.entry) w.key (find-key same_key same_key-tells (λ b. stored_key b.entry) w.key x.0 bodies x.1) in
-      let rest = with_bodies ws h.1 in
-      (x.0 ∷ rest.0, (subst (λ (k : StoredKey). IsBody k w changes) (sym key) h.0, x.2, rest.1), (subst (λ (k : StoredKey). body_of k bodies ≡ Some x.0) (sym key) x.1, rest.2))
-
   -- one key each
   apart_writes : (j k : StoredKey) (ys : List FinishedBody) (ws : List (Write Kept)) → j ≡ k → ArePairs ys ws
       → AllByRecursion (λ c. same_key (stored_key c.entry) j ≡ false) ys → AllByRecursion (λ v. same_bytes v.key k ≡ false) ws
@@ -70,25 +60,11 @@ module _ (limit : ℕ) (mark : Option ℕ) (n : ℕ) (bodies : List FinishedBody
   apart_writes j k [] (w ∷ ws) e p h = absurd p
   apart_writes j k (b ∷ bs) [] e p h = absurd p
 
-  apart_bodies : (j k : StoredKey) (ys : List FinishedBody) (ws : List (Write Kept)) → j ≡ k → ArePairs ys ws
-      → AllByRecursion (λ v. same_bytes v.key k ≡ false) ws → AllByRecursion (λ c. same_key (stored_key c.entry) j ≡ false) ys
-  apart_bodies j k [] [] e p h = tt
-  apart_bodies j k (b ∷ bs) (w ∷ ws) e p h =
-      (ap (λ (x : StoredKey). same_bytes x j) (sym (one_key (stored_key b.entry) w p.0)) ∙ ap (same_bytes w.key) e ∙ h.0, apart_bodies j k bs ws e p.2 h.1)
-  apart_bodies j k [] (w ∷ ws) e p h = absurd p
-  apart_bodies j k (b ∷ bs) [] e p h = absurd p
-
   distinct_writes : (ys : List FinishedBody) (ws : List (Write Kept)) → ArePairs ys ws → HasDistinctKeys ys → writes.HasDistinctKeys ws
   distinct_writes [] [] p d = tt
   distinct_writes (b ∷ bs) (w ∷ ws) p d = (apart_writes (stored_key b.entry) w.key bs ws (sym (one_key (stored_key b.entry) w p.0)) p.2 d.0, distinct_writes bs ws p.2 d.1)
   distinct_writes [] (w ∷ ws) p d = absurd p
   distinct_writes (b ∷ bs) [] p d = absurd p
-
-  distinct_bodies : (ys : List FinishedBody) (ws : List (Write Kept)) → ArePairs ys ws → writes.HasDistinctKeys ws → HasDistinctKeys ys
-  distinct_bodies [] [] p d = tt
-  distinct_bodies (b ∷ bs) (w ∷ ws) p d = (apart_bodies (stored_key b.entry) w.key bs ws (sym (one_key (stored_key b.entry) w p.0)) p.2 d.0, distinct_bodies bs ws p.2 d.1)
-  distinct_bodies [] (w ∷ ws) p d = absurd p
-  distinct_bodies (b ∷ bs) [] p d = absurd p
 
   -- what is told of them
   all_told : (ys : List FinishedBody) (ws : List (Write Kept)) → ArePairs ys ws → map held_of ys ≡ map (told_of changes) ws
@@ -114,7 +90,7 @@ module _ (limit : ℕ) (mark : Option ℕ) (n : ℕ) (bodies : List FinishedBody
       by_test : (body_of k ys ≡ Some b → find (λ v. same_bytes v.key k) ws ≡ Some w) → (t : Bool) → same_key (stored_key y.entry) k ≡ t → cond t (Some y) (body_of k ys) ≡ Some b → cond (same_bytes v.key k) (Some v) (find (λ v. same_bytes v.key k) ws) ≡ Some w
       by_test ih true f g =
           ap (λ t. cond t (Some v) (find (λ v. same_bytes v.key k) ws)) (key ∙ f)
-          ∙ ap (λ (x : Write Kept). Some x) (one_body limit mark n bodies rows changes l k v w (subst (λ (j : StoredKey). IsBody j v changes) (same_key-tells.equal (stored_key y.entry) k f) p.0) i)
+          ∙ ap (λ (x : Write Kept). Some x) (one_body k v w changes l.orderly (subst (λ (j : StoredKey). IsBody j v changes) (same_key-tells.equal (stored_key y.entry) k f) p.0) i)
       by_test ih false f g = ap (λ t. cond t (Some v) (find (λ v. same_bytes v.key k) ws)) (key ∙ f) ∙ ih g
   found_in k w b [] (v ∷ ws) p i e = absurd p
   found_in k w b (y ∷ ys) [] p i e = absurd p
@@ -125,17 +101,3 @@ module _ (limit : ℕ) (mark : Option ℕ) (n : ℕ) (bodies : List FinishedBody
       let is_there : (k : StoredKey) (w : Write Kept) → IsBody k w changes → find (λ v. same_bytes v.key k) pairs.0 ≡ Some w =
       λ k w i. let x = is_held limit mark n bodies rows changes l k w i in found_in k w x.0 bodies pairs.0 pairs.1 i x.1 in
       (pairs.0, record { distinct = distinct_writes bodies pairs.0 pairs.1 d; each = all_bodies bodies pairs.0 pairs.1; all = is_there }, all_told bodies pairs.0 pairs.1)
-
-  -- the bounds of bodies, and their entries
-  pub within-held : KeepsWithin limit mark bodies → AreWithin limit mark changes
-  within-held keeps ws d all =
-      let pairs = with_bodies ws all in
-      let kept = keeps pairs.0 (distinct_bodies pairs.0 ws pairs.1 d) pairs.2 in
-      let same = sums changes pairs.0 ws (all_told pairs.0 ws pairs.1) in
-      (subst (λ m. m ≤ limit) same.0 kept.0, ap (is_past mark) (sym same.1) ∙ kept.1)
-
-  pub tracked-held : AreTracked bodies rows → BodiesAreTracked changes
-  tracked-held tracked w i =
-      let x = is_held limit mark n bodies rows changes l w.key w i in
-      let there = weight_there (length x.0.bytes) (row_of x.0.entry rows) (tracked w.key x.0 x.1) in
-      (there.0, ap (λ (p : Kept × List ℕ). last_weight p.0.entry changes) (sym x.2) ∙ weighs limit mark n bodies rows changes l x.0.entry ∙ there.1, subst (λ (p : Kept × List ℕ). length p.1 ≤ there.0) x.2 there.2)

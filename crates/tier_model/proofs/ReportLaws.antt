@@ -29,7 +29,11 @@ use Rattle.tier_model.specs.State.{State}
 use Rattle.tier_model.specs.Step.{refusal, AllowsBy, Allows, IsAnswer, IsPutAnswer, after, answered, undone, taken_back, on_request, look_answer, after_look_up, read_answer, after_read, after_purge, after_put, use_is_too_heavy, body_for, counted}
 use Rattle.tier_entries.proofs.KeyLaws.{same_key-tells, same-sym}
 use Rattle.tier_model.proofs.StepLaws.{call_at, answer_allowed, did_nothing}
-use Rattle.tier_model.proofs.BoundLaws.{HasDistinctKeys}
+
+-- bodies of different stored keys
+abbrev pub HasDistinctKeys : List FinishedBody → Type 0
+HasDistinctKeys [] = Unit {0}
+HasDistinctKeys (b ∷ bs) = AllByRecursion (λ c. same_key (stored_key c.entry) (stored_key b.entry) ≡ false) bs × HasDistinctKeys bs
 
 -- distinct keys stay distinct
 all_without : (P : FinishedBody → Type 0) (k : StoredKey) (bodies : List FinishedBody) → AllByRecursion P bodies → AllByRecursion P (without_body k bodies)

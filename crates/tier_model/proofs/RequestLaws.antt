@@ -10,7 +10,7 @@ use Rattle.cache_words.specs.Time.{MomentValue, at_most}
 use Rattle.cache_changes.specs.Changes.{Write}
 use Rattle.cache_changes.specs.Writes.{bytes_of}
 use Rattle.tier_entries.specs.Keys.{entry_of, stored_key}
-use Rattle.tier_model.specs.Keys.{StoredKey, stored_key_of}
+use Rattle.tier_model.specs.Keys.{stored_key_of}
 use Rattle.tier_model.specs.declared.whole.Whole.{Whole}
 use Rattle.tier_model.specs.declared.state.FinishedBody.{FinishedBody}
 use Rattle.tier_model.specs.declared.state.Request.{Request}
@@ -32,7 +32,8 @@ use Rattle.tier_model.specs.Rows.{body_of}
 use Rattle.tier_model.specs.State.{Settings, State}
 use Rattle.tier_model.specs.Step.{refusal, unless_open, has_reader, AllowsBy, Allows, IsAnswer, after, answered, undone, opened_request, look_answer, looked, after_look_up, on_request, read_answer, after_read, after_purge, after_put, use_is_too_heavy, body_for}
 use Rattle.tier_model.proofs.StepLaws.{call_at, answer_allowed, KeepsRequests-purge, KeepsRequests-put, KeepsRequests-undone, settings-after}
-use Rattle.tier_model.proofs.ChangeLaws.{Leaves, Shows, shows}
+use Rattle.tier_model.proofs.ChangeLaws.{Shows, shows}
+use Rattle.tier_model.proofs.BoundLaws.{Keeps}
 use Rattle.tier_model.proofs.EventLaws.{Holds, Holds-after}
 
 module _ (start : Opening) where
@@ -163,7 +164,7 @@ module _ (start : Opening) where
           subst (λ (x : Answer). RequestFits id (get (after_look_up s t i q (Some w)).requests id) (call_at t (LookUp i) read (Ok x) ∷ h)) (sym ae)
           (placed s.requests i (looked t q (Some w)) id (call_at t (LookUp i) read (Ok (Found fresh true))) h (
             open_key,
-            found_reader t read i q w fresh h open_key (shows s.settings.limit s.settings.watermark (length h) s.bodies s.tracked (changes_of start h) fits.holds (stored_key q.entry) w be),
+            found_reader t read i q w fresh h open_key (shows s.settings.limit s.settings.watermark (length h) s.bodies s.tracked (changes_of start h) fits.holds.leaves (stored_key q.entry) w be),
             sym (ap (λ v. cond v (cond fresh Hit Stale) (phase_of i h)) (itself i)),
             (w.bytes, sym (ap (λ v. cond v (Unread w.bytes) (reader_of i w.bytes h)) (itself i))),
           )
@@ -255,9 +256,9 @@ module _ (start : Opening) where
   pub Fits-after : (s : State) (c : Call) (h : History) → Fits s h → Allows s c → Fits (after s c) (c ∷ h)
   Fits-after s c h fits p = record { requests = by_outcome c.outcome p.1; holds = kept (after s c).settings (settings-after s c) (Holds-after start s h fits.holds (λ i q e. (of_request s h fits i q e).0) c p) }
     where
-      kept : (settings : Settings) → settings ≡ s.settings → Leaves s.settings.limit s.settings.watermark (length (c ∷ h)) (after s c).bodies (after s c).tracked (changes_of start (c ∷ h))
-          → Leaves settings.limit settings.watermark (length (c ∷ h)) (after s c).bodies (after s c).tracked (changes_of start (c ∷ h))
-      kept settings e l = subst (λ (x : Settings). Leaves x.limit x.watermark (length (c ∷ h)) (after s c).bodies (after s c).tracked (changes_of start (c ∷ h))) (sym e) l
+      kept : (settings : Settings) → settings ≡ s.settings → Keeps s.settings.limit s.settings.watermark (length (c ∷ h)) (after s c).bodies (after s c).tracked (changes_of start (c ∷ h))
+          → Keeps settings.limit settings.watermark (length (c ∷ h)) (after s c).bodies (after s c).tracked (changes_of start (c ∷ h))
+      kept settings e l = subst (λ (x : Settings). Keeps x.limit x.watermark (length (c ∷ h)) (after s c).bodies (after s c).tracked (changes_of start (c ∷ h))) (sym e) l
 
       by_outcome : (o : Outcome) → AllowsBy (refusal s c.event.action) s c.event.moment c.event.action (read_by c) o → (id : ℕ) → RequestFits id (get (after s (record c { outcome = o })).requests id) (record c { outcome = o } ∷ h)
       by_outcome (Ok a) p = answer_fits s c.event.moment c.reading (read_by c) c.event.action a h fits

@@ -1,10 +1,8 @@
 -- A tier's rows are the rows of entries without an id, whatever is done to them.
 use Rattle.std.proofs.Common.{◌≡◌, ℕ, ◌+◌, refl, ap, sym, ◌∙◌, true, false, cond, [], ◌∷◌, ◌++◌, length, arith}
-use Rattle.std.specs.Prelude.{◌==◌, ◌%◌, ◌&&◌, Bool, List, Option, Some, None, option_map, unwrap_or, not, map, filter}
-use Rattle.std.specs.List.{sum_by}
+use Rattle.std.specs.Prelude.{◌==◌, ◌%◌, ◌&&◌, Bool, List, Option, Some, None, option_map, unwrap_or, not}
 use Rattle.std.proofs.lemmas.List.{map-append}
 use Rattle.std.proofs.lemmas.List.Sums.{sum_by-cons}
-use Rattle.std.proofs.lemmas.Bool.Decides.{nat_tests}
 use Rattle.cache_entries.specs.declared.entry.CacheEntryKey.{CacheEntryKey}
 use Rattle.cache_entries.specs.declared.rows.Tracked as entries
 use Rattle.cache_entries.specs.Entry as entry

@@ -1,31 +1,27 @@
 -- What a lawful call leaves alone, and which refusals did nothing.
-use Rattle.std.proofs.Common.{◌≡◌, refl, ap, sym, ◌∙◌, true, false, subst, cond, [], ◌||◌, inl, inr}
-use Rattle.std.specs.Prelude.{Bool, ℕ, List, Option, Some, None, is_some, Ok, Err, ◌⊎◌, ◌&&◌, MatchOption}
+use Rattle.std.proofs.Common.{◌≡◌, refl, ap, sym, ◌∙◌, true, false, cond, inl, inr}
+use Rattle.std.specs.Prelude.{Bool, ℕ, List, Option, Some, None, is_some, Ok, Err, ◌⊎◌, MatchOption}
 use Rattle.std.specs.FinMap.{get, insert}
 use Rattle.cache_words.specs.Time.{MomentValue}
 use Rattle.cache_words.specs.Key.{CacheKeyValue}
-use Rattle.tier_entries.specs.Keys.{entry_of, stored_key, same_key, has_key}
+use Rattle.tier_entries.specs.Keys.{entry_of}
 use Rattle.tier_model.specs.declared.whole.Whole.{Whole}
 use Rattle.tier_model.specs.declared.whole.Whole.TheVariants.{Stored}
 use Rattle.tier_model.specs.declared.whole.Whole.TheVariants as whole
 use Rattle.tier_model.specs.declared.state.FinishedBody.{FinishedBody}
 use Rattle.tier_model.specs.declared.state.Request.{Request}
-use Rattle.tier_model.specs.declared.state.Reader.{Reader}
-use Rattle.tier_model.specs.declared.state.Reader.TheVariants.{Closed, Unread, Spent}
 use Rattle.tier_model.specs.declared.event.Action.{Action}
 use Rattle.tier_model.specs.declared.event.Action.TheVariants.{Open, LookUp, Read, Drop, Purge, Put}
 use Rattle.tier_model.specs.declared.event.Answer.{Answer}
-use Rattle.tier_model.specs.declared.event.Answer.TheVariants.{Opened, Found, Absent, Bytes, End, Dropped, Purged, Finished}
-use Rattle.tier_model.specs.declared.event.Answer.TheVariants as answer
-use Rattle.tier_model.specs.declared.event.Done.{Done}
+use Rattle.tier_model.specs.declared.event.Answer.TheVariants.{Finished}
 use Rattle.tier_model.specs.declared.event.TierFault.{TierFault}
 use Rattle.tier_model.specs.declared.event.TierFault.TheVariants.{NoRequest, IdInUse, WrongPhase}
-use Rattle.tier_model.specs.Keys.{StoredKey, Entry, Evicted, entries_of, stored_key_of}
-use Rattle.tier_model.specs.Response.{Reading, whole_in}
-use Rattle.tier_model.specs.Calls.{Call, History, Outcome, read_by, stored_in, nothing_done, done_of}
-use Rattle.tier_model.specs.Rows.{body_of, with_body, without_bodies}
+use Rattle.tier_model.specs.Keys.{Entry, entries_of, stored_key_of}
+use Rattle.tier_model.specs.Response.{Reading}
+use Rattle.tier_model.specs.Calls.{Call, Outcome, read_by, nothing_done, done_of}
+use Rattle.tier_model.specs.Rows.{body_of}
 use Rattle.tier_model.specs.State.{State}
-use Rattle.tier_model.specs.Step.{answered, refusal, unless_open, can_look_up, has_reader, AllowsBy, Allows, after, after_outcome, undone, taken_back, look_answer, read_answer, after_read, use_is_too_heavy, body_for, IsUseFault, on_request, IsPutAnswer, IsAnswer, IsFault, after_put, after_purge, after_look_up}
+use Rattle.tier_model.specs.Step.{answered, refusal, unless_open, can_look_up, has_reader, AllowsBy, after, undone, taken_back, after_read, body_for, IsUseFault, on_request, IsAnswer, IsFault, after_put, after_purge, after_look_up}
 
 -- the settings and the open requests are as before
 pub record KeepsRequests (old new : State) : Type 0 where

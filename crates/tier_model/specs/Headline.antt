@@ -1,5 +1,5 @@
 -- The headline: what a history says of the answers in it. It names no state.
-use Rattle.std.specs.Prelude.{◌≡◌, ◌↔◌, ℕ, ◌≤◌, Bool, true, false, List, [], ◌∷◌, ◌++◌, length, Option, Some, Ok, Err, All}
+use Rattle.std.specs.Prelude.{◌≡◌, ◌↔◌, ℕ, Bool, true, false, List, [], ◌∷◌, ◌++◌, length, Option, Some, Ok, Err, All}
 use Rattle.std.specs.List.{AllByRecursion}
 use Rattle.cache_words.specs.Time.{MomentValue, at_most}
 use Rattle.cache_entries.specs.declared.rows.Tracked.{Tracked}
@@ -7,7 +7,7 @@ use Rattle.cache_entries.specs.Rows.{is_over}
 use Rattle.cache_changes.specs.Changes.{StoredKey, Write, Changes}
 use Rattle.cache_changes.specs.Writes.{bytes_of, meta_of, IsFound, IsBody, IsFlying, IsShown}
 use Rattle.cache_changes.specs.Uses.{last_weight, IsOrderOfUse, EvictsLawfully}
-use Rattle.cache_changes.specs.Bound.{AreWithin}
+use Rattle.cache_changes.specs.Bound.{IsTrackedBody, AreWithin}
 use Rattle.tier_entries.specs.Keys.{stored_key}
 use Rattle.tier_model.specs.declared.state.FinishedBody.{FinishedBody}
 use Rattle.tier_model.specs.declared.event.Action.{Action}
@@ -17,7 +17,6 @@ use Rattle.tier_model.specs.declared.event.Action.TheVariants.{Open, LookUp, Rea
 use Rattle.tier_model.specs.declared.event.Answer.{Answer}
 use Rattle.tier_model.specs.declared.event.Answer.TheVariants.{Opened, Found, Absent, Dropped, Purged, Finished}
 use Rattle.tier_model.specs.declared.event.Answer.TheVariants as answer
-use Rattle.tier_model.specs.declared.event.Done.{Done}
 use Rattle.tier_model.specs.declared.event.TierFault.TheVariants as fault
 use Rattle.tier_model.specs.Keys.{Entry, Evicted, entries_of, stored_key_of}
 use Rattle.tier_model.specs.Response.{IsRead}
@@ -76,7 +75,7 @@ PutsRight settings n w (Err fault.BadHead) before = w ≡ Some whole.BadHead
 PutsRight settings n w (Err fault.BeforeEpoch) before = w ≡ Some whole.BeforeEpoch
 PutsRight settings n w (Err f) before = WasStored settings (done_of f).stored (done_of f).admitted n w (done_of f).evicted before
 
--- what the calls before say of one call, and of a put what its response gave; only a put that is refused had done anything
+-- what the calls before say of one call, and of a put what its response gave; any other call that is refused had done nothing
 abbrev pub IsRight : Opening → MomentValue → Action → Option Whole → Outcome → History → Type 0
 IsRight start t (Put key pieces) w outcome h = PutsRight start.settings (length h) w outcome (changes_of start h)
 IsRight start t action w (Err f) h = done_of f ≡ nothing_done
@@ -91,17 +90,11 @@ abbrev pub Headline : Opening → History → Type 0
 Headline start [] = Unit {0}
 Headline start (c ∷ h) = IsRight start c.event.moment c.event.action (read_by c) c.outcome h × Headline start h
 
--- the entry under which a body came is tracked, with at least the body's length
-abbrev pub BodiesAreTracked : Changes Kept → Type 0
-BodiesAreTracked changes =
-    (w : Write Kept) → IsBody w.key w changes
-    → (weight : ℕ) × (last_weight (meta_of w changes).entry changes ≡ Some weight) × (length (bytes_of w.number changes) ≤ weight)
-
 -- the headline of a tier that began so: what was read of each put is a reading of its own bytes, the answers are right, finished
 -- bodies keep both limits, each body's entry is tracked with at least its length, and what went to make room went lawfully
 pub record HoldsHeadline (start : Opening) (h : History) : Type 0 where
   pub readings : AllByRecursion (λ c. IsRead c.event.action c.reading) h
   pub answers : Headline start h
   pub within : AreWithin start.settings.limit start.settings.watermark (changes_of start h)
-  pub tracked : BodiesAreTracked (changes_of start h)
+  pub tracked : (w : Write Kept) → IsBody w.key w (changes_of start h) → IsTrackedBody w (changes_of start h)
   pub evictions : EvictsLawfully shards start.settings.limit start.settings.watermark (changes_of start h)

@@ -16,7 +16,7 @@ use Rattle.tier_model.specs.declared.event.Action.{Action}
 use Rattle.tier_model.specs.declared.event.Action.TheVariants.{LookUp, Purge, Put}
 use Rattle.tier_model.specs.declared.event.Answer.TheVariants.{Found, Purged, Finished}
 use Rattle.tier_model.specs.declared.event.Done.{Done}
-use Rattle.tier_model.specs.Keys.{Entry, entries_of, stored_key_of}
+use Rattle.tier_model.specs.Keys.{Entry, entries_of}
 use Rattle.tier_model.specs.Calls.{Call, History, Outcome, extended, done_of, read_by, stored_in, opened_for, hits, ends_reader}
 use Rattle.tier_model.specs.Rows.{weight_for}
 use Rattle.tier_model.specs.State.{Settings}
@@ -61,17 +61,17 @@ stores n b gone = begins (write_of n b) ∷ appends n b.bytes ∷ finishes (writ
 abbrev pub clears : Entry → List (Change Kept)
 clears e = removes (stored_key e) ∷ departs (alone e) ∷ []
 
--- a refused call that had stored a body takes it back: what was done stays done until then
+-- a put that is refused after its body was stored: what was done until then, and then body and entry go again
 abbrev pub takes_back : ℕ → FinishedBody → Done → List (Change Kept)
 takes_back n b done = if done.stored then ((if done.admitted then stores n b (entries_of done.evicted) else []) ++ clears b.entry) else []
 
--- by a put of which a body was read
+-- by a put whose response gave a body
 abbrev pub put_changes : ℕ → Option FinishedBody → Outcome → List (Change Kept)
 put_changes n (Some b) (Ok (Finished length evicted)) = stores n b (entries_of evicted)
 put_changes n (Some b) (Err fault) = takes_back n b (done_of fault)
 put_changes n _ _ = []
 
--- a use of an entry, by a hit that shows x
+-- a hit that shows x is a use of the entry
 abbrev pub hit_changes : Entry → Option (Stored Kept) → List (Change Kept)
 hit_changes e None = []
 hit_changes e (Some x) = uses (alone e) (max 1 (length x.bytes)) ∷ []

@@ -2,6 +2,7 @@
 ghost use Rattle.tier_model.specs.Calls.{History};
 ghost use Rattle.tier_model.specs.Headline.{HoldsHeadline};
 ghost use Rattle.tier_model.specs.Histories.{Opening, changes_of};
+ghost use Rattle.cache_changes.specs.Bound.{TracksBodies};
 ghost use Rattle.cache_changes.specs.Writes.{IsOrderly};
 ghost use Rattle.std.specs.Prelude.{◌≡◌, ◌≢◌, ℕ, List};
 ghost use Rattle.tier_model.specs.declared.whole.Whole.TheVariants.{BadHead};
@@ -17,9 +18,11 @@ pub fn lawful_histories_hold_the_headline()
     ensures { (start : Opening) (h : History) → IsLawful start h → HoldsHeadline start h }
 {}
 
-/// What such a history changes keeps the order in which writes begin, get bytes and finish.
+/// The changes of such a history are orderly: writes begin, get bytes and finish in order, with a number each. And they keep
+/// each body tracked: its entry is admitted as it finishes, and departs only when the body's key has none.
 pub fn lawful_histories_are_orderly()
-    ensures { (start : Opening) (h : History) → IsLawful start h → IsOrderly (changes_of start h) }
+    ensures orderly { (start : Opening) (h : History) → IsLawful start h → IsOrderly (changes_of start h) }
+    ensures tracks { (start : Opening) (h : History) → IsLawful start h → TracksBodies (changes_of start h) }
 {}
 
 /// The state after such a history is what it says.
