@@ -1,33 +1,30 @@
 -- Lawful histories hold the headline, and runs carry it on.
-use Rattle.std.proofs.Common.{◌≡◌, ℕ, length, refl, ap, sym, ◌∙◌, true, false, subst, [], ◌∷◌, arith}
-use Rattle.std.specs.Prelude.{List, Option, Some, None, option_map}
+use Rattle.std.proofs.Common.{◌≡◌, ℕ, length, refl, ap, sym, ◌∙◌, false, subst, [], ◌∷◌, arith}
+use Rattle.std.specs.Prelude.{List, Option, Some, None}
 use Rattle.std.specs.List.{AllByRecursion}
 use Rattle.std.specs.FinMap.{get, get-empty}
 use Rattle.std.specs.Ordering.{nat_cmp}
 use Rattle.std.proofs.lemmas.Bool.Decides.{nat_tests}
-use Rattle.cache_entries.specs.declared.rows.Tracked as entries
+use Rattle.tier_entries.specs.declared.rows.Tracked.{Tracked}
 use Rattle.cache_entries.specs.Rows.{AreDistinct}
-use Rattle.cache_changes.specs.Changes.{Write, admits}
-use Rattle.cache_changes.specs.Writes.{BeginsBelow, IsOrderly, IsBody}
-use Rattle.cache_changes.specs.Store.{store_of, empty_store, body_at, stored_of}
+use Rattle.cache_changes.specs.Changes.{Write, Changes, admits}
+use Rattle.cache_changes.specs.Writes.{IsOrderly, IsBody}
 use Rattle.cache_changes.specs.Uses.{EvictsLawfully, admissions}
-use Rattle.cache_changes.specs.Bound.{TracksBodies, is_settled, AreWithin}
+use Rattle.cache_changes.specs.Bound.{TracksBodies, AreWithin}
 use Rattle.cache_changes.proofs.BoundLaws.{bodies-tracked}
-use Rattle.cache_changes.proofs.FoundLaws.{store_of-is}
 use Rattle.cache_changes.proofs.UseLaws.{rows_of-admissions}
 use Rattle.tier_entries.specs.Rows.{is_past}
 use Rattle.tier_model.specs.declared.state.Request.{Request}
 use Rattle.tier_model.specs.Calls.{Call, History}
 use Rattle.tier_model.specs.Response.{IsRead}
-use Rattle.tier_model.specs.Histories.{Kept, rows_alone, Opening, empty_opening, changes_of}
+use Rattle.tier_model.specs.Histories.{Kept, alone, rows_alone, Opening, empty_opening, changes_of}
 use Rattle.tier_model.specs.Headline.{shards, Headline, HoldsHeadline}
 use Rattle.tier_model.specs.Reports.{IsReport, report_of}
 use Rattle.tier_model.specs.State.{Settings, State, empty_state}
 use Rattle.tier_model.specs.Step.{Allows, after}
 use Rattle.tier_model.specs.Past.{state_of, IsLawful, MatchesHistory, HasPast, AreTaken, CarriesHeadline}
 use Rattle.tier_model.proofs.RowSteps.{rows-length, rows-weights}
-use Rattle.tier_model.proofs.BodyLaws.{view}
-use Rattle.tier_model.proofs.ChangeLaws.{unbound, in_order}
+use Rattle.tier_model.proofs.ChangeLaws.{Leaves, unbound, is_held, in_order}
 use Rattle.tier_model.proofs.StepLaws.{settings-after}
 use Rattle.tier_model.proofs.EventLaws.{Holds}
 use Rattle.tier_model.proofs.RequestLaws.{RequestFits, Fits, Fits-after, IsRequestOf-fits}
@@ -43,57 +40,34 @@ never_past : (mark : Option ℕ) → is_past mark 0 ≡ false
 never_past None = refl
 never_past (Some bound) = grind (arith, nat_tests)
 
--- an order of use that was loaded is no write, and evicts nothing
-loaded_orderly : (rows : List entries.Tracked) → IsOrderly {M = Kept} (admissions rows)
-loaded_orderly [] = tt
-loaded_orderly (r ∷ rows) = (tt, loaded_orderly rows)
+-- where no body is held no write is one
+none_held : (limit : ℕ) (mark : Option ℕ) (n : ℕ) (rows : List Tracked) (changes : Changes Kept) → Leaves limit mark n [] rows changes → (w : Write Kept) → IsBody w.key w changes → ⊥
+none_held limit mark n rows changes l w i = let there = (is_held limit mark n [] rows changes l w.key w i).1 in absurd cc
 
-loaded_below : (rows : List entries.Tracked) → AllByRecursion (BeginsBelow {M = Kept} 0) (admissions rows)
-loaded_below [] = tt
-loaded_below (r ∷ rows) = (tt, loaded_below rows)
+none_within : (limit : ℕ) (mark : Option ℕ) (n : ℕ) (rows : List Tracked) (changes : Changes Kept) → Leaves limit mark n [] rows changes → AreWithin limit mark changes
+none_within limit mark n rows changes l [] d all = (omega arith, never_past mark)
+none_within limit mark n rows changes l (w ∷ ws) d all = absurd (none_held limit mark n rows changes l w all.0)
 
-loaded_store : (rows : List entries.Tracked) → store_of {M = Kept} (admissions rows) ≡ empty_store
-loaded_store [] = refl
-loaded_store (r ∷ rows) = loaded_store rows
-
-loaded_lawful : (limit : ℕ) (mark : Option ℕ) (rows : List entries.Tracked) → EvictsLawfully {M = Kept} shards limit mark (admissions rows)
-loaded_lawful limit mark [] = tt
-loaded_lawful limit mark (r ∷ rows) = loaded_lawful limit mark rows
-
-loaded_settled : (rows : List entries.Tracked) → is_settled {M = Kept} (admissions rows) ≡ true
-loaded_settled [] = refl
-loaded_settled (r ∷ rows) = refl
-
-loaded_none : (rows : List entries.Tracked) (w : Write Kept) → IsBody w.key w (admissions rows) → ⊥
-loaded_none rows w i =
-    let there : body_at w.key (store_of (admissions rows)) ≡ Some (stored_of w (admissions rows)) = ((store_of-is (admissions rows) (loaded_orderly rows)).bodies w.key (stored_of w (admissions rows))).1 (i, refl) in
-    let none : body_at w.key (store_of {M = Kept} (admissions rows)) ≡ None = ap (body_at w.key) (loaded_store rows) in
-    absurd cc
-
-loaded_tracks : (rows : List entries.Tracked) → TracksBodies {M = Kept} (admissions rows)
-loaded_tracks [] = tt
-loaded_tracks (r ∷ rows) = (unbound (admits r.entry r.weight) (admissions rows) (loaded_settled rows), λ w t i. absurd (loaded_none rows w i), loaded_tracks rows)
-
-loaded_within : (limit : ℕ) (mark : Option ℕ) (rows : List entries.Tracked) → AreWithin {M = Kept} limit mark (admissions rows)
-loaded_within limit mark rows [] d all = (omega arith, never_past mark)
-loaded_within limit mark rows (w ∷ ws) d all = absurd (loaded_none rows w all.0)
-
-loaded : (start : Opening) → AreDistinct (rows_alone start.loaded) → Holds start (state_of start []) []
-loaded start d =
-    let rows : List entries.Tracked = rows_alone start.loaded in
+-- an order of use that was loaded
+loaded : (limit : ℕ) (mark : Option ℕ) (rows : List Tracked) → AreDistinct (rows_alone rows) → Leaves limit mark 0 [] rows (admissions (rows_alone rows))
+loaded limit mark [] d = record { orderly = tt; below = tt; landed = refl; bodies = λ k. refl; rows = refl; lawful = tt; tracks = tt; settled = refl }
+loaded limit mark (r ∷ rows) d =
+    let l : Leaves limit mark 0 [] rows (admissions (rows_alone rows)) = loaded limit mark rows d.1 in
     record {
-      leaves = record {
-        orderly = loaded_orderly rows;
-        below = loaded_below rows;
-        landed = ap (λ s. s.flying) (loaded_store rows);
-        bodies = λ k. ap (λ s. option_map view (body_at k s)) (sym (loaded_store rows));
-        rows = sym (rows_of-admissions Kept rows d);
-        lawful = loaded_lawful start.settings.limit start.settings.watermark rows;
-        tracks = loaded_tracks rows;
-        settled = loaded_settled rows;
-      };
-      within = loaded_within start.settings.limit start.settings.watermark rows;
+      orderly = (tt, l.orderly);
+      below = (tt, l.below);
+      landed = l.landed;
+      bodies = l.bodies;
+      rows = sym (rows_of-admissions Kept (rows_alone (r ∷ rows)) d);
+      lawful = l.lawful;
+      tracks = (unbound (admits (alone r.entry) r.weight) (admissions (rows_alone rows)) l.settled, λ w t i. absurd (none_held limit mark 0 rows (admissions (rows_alone rows)) l w i), l.tracks);
+      settled = refl;
     }
+
+opened : (start : Opening) → AreDistinct (rows_alone start.loaded) → Holds start (state_of start []) []
+opened start d =
+    let l = loaded start.settings.limit start.settings.watermark start.loaded d in
+    record { leaves = l; within = none_within start.settings.limit start.settings.watermark 0 start.loaded (admissions (rows_alone start.loaded)) l }
 
 -- what a state is to the history after it
 pub record Stands (start : Opening) (s : State) (h : History) : Type 0 where
@@ -105,7 +79,7 @@ pub record Stands (start : Opening) (s : State) (h : History) : Type 0 where
 pub Stands-lawful : (start : Opening) (h : History) → IsLawful start h → Stands start (state_of start h) h
 Stands-lawful start [] l = record {
   made = refl;
-  fits = record { requests = λ id. no_request start id (get (empty_state start.settings).requests id) (get-empty nat_cmp id); holds = loaded start l };
+  fits = record { requests = λ id. no_request start id (get (empty_state start.settings).requests id) (get-empty nat_cmp id); holds = opened start l };
   tallies = record { found = omega arith; absent = omega arith; evicted = omega arith; distinct = tt };
 }
 Stands-lawful start (c ∷ h) l =

@@ -1,5 +1,5 @@
 -- What each lawful call changes leaves what the state after it holds, and what it listed as evicted went as it says.
-use Rattle.std.proofs.Common.{◌≡◌, ℕ, suc, refl, ap, sym, ◌∙◌, true, false, subst, cond, [], ◌∷◌, ◌++◌, length, arith, inl, inr}
+use Rattle.std.proofs.Common.{◌≡◌, ℕ, suc, refl, ap, sym, ◌∙◌, true, false, subst, [], ◌∷◌, ◌++◌, length, arith, inl, inr}
 use Rattle.std.specs.Prelude.{Bool, List, Option, Some, None, is_some, Ok, Err, MatchOption, max}
 use Rattle.std.specs.FinMap.{get, insert}
 use Rattle.cache_words.specs.Time.{MomentValue}
@@ -68,10 +68,6 @@ module _ (s : State) (n : ℕ) (changes : Changes Kept) (l : Keeps s.settings.li
         order = in_order s.settings.limit s.settings.watermark (suc n) (without_bodies (entries_of es) (with_body b s.bodies)) (without_rows (entries_of es) rows) (extended changes (stores n b (entries_of es))) left;
         ends = rows-over s.settings.limit s.settings.watermark (without_rows (entries_of es) rows) ∙ ends;
       }
-
-  purge_holds : (key : CacheKeyValue) (v : Bool) → HoldsNext s n (after_purge s key v).bodies (after_purge s key v).tracked (extended changes (cond v (clears (entry_of key)) []))
-  purge_holds key true = keeps-cleared s.settings.limit s.settings.watermark (suc n) s.bodies s.tracked changes idle (entry_of key)
-  purge_holds key false = idle
 
   put_holds : (g : Option Whole) (a : Answer) → IsPutAnswer s g a → HoldsNext s n (after_put s g a).bodies (after_put s g a).tracked (extended changes (put_changes n (stored_in g) (Ok a)))
   put_holds (Some (Stored b)) (Finished m es) p =
@@ -155,7 +151,7 @@ module _ (start : Opening) (s : State) (h : History) (l : Holds start s h) (open
   read_holds t read i a (Some q) = still
 
   purged : (t : MomentValue) (read : Option Reading) (key : CacheKeyValue) (v : Bool) → Next (after_purge s key v) (call_at t (Purge key) read (Ok (Purged v)))
-  purged t read key true = purge_holds s (length h) (changes_of start h) l key true
+  purged t read key true = keeps-cleared s.settings.limit s.settings.watermark (suc (length h)) s.bodies s.tracked (changes_of start h) still (entry_of key)
   purged t read key false = still
 
   answer_holds : (t : MomentValue) (read : Option Reading) (action : Action) (a : Answer) → IsAnswer s t action (whole_in t action read) a

@@ -1,7 +1,7 @@
 -- A tier's rows are the rows of entries without an id, whatever is done to them.
 use Rattle.std.proofs.Common.{◌≡◌, ℕ, ◌+◌, refl, ap, sym, ◌∙◌, true, false, cond, [], ◌∷◌, ◌++◌, length, arith}
 use Rattle.std.specs.Prelude.{◌==◌, ◌%◌, ◌&&◌, Bool, List, Option, Some, None, option_map, unwrap_or, not}
-use Rattle.std.proofs.lemmas.List.{map-append}
+use Rattle.std.proofs.lemmas.List.{map-append, length-map}
 use Rattle.std.proofs.lemmas.List.Sums.{sum_by-cons}
 use Rattle.cache_entries.specs.declared.entry.CacheEntryKey.{CacheEntryKey}
 use Rattle.cache_entries.specs.declared.rows.Tracked as entries
@@ -30,25 +30,21 @@ same_alone a b = and_true (same_entry a b)
 
 pub rows-without : (e : Entry) (rows : List Tracked) → rows_alone (without_row e rows) ≡ all.without_row (alone e) (rows_alone rows)
 rows-without e [] = refl
-rows-without e (r ∷ rows) = by_test (same_entry r.entry e) (entry.same_entry (alone r.entry) (alone e)) (same_alone r.entry e) (rows-without e rows)
+rows-without e (r ∷ rows) = rw (same_alone r.entry e) (by_test (same_entry r.entry e) (rows-without e rows))
   where
-    by_test : (v w : Bool) → w ≡ v → rows_alone (without_row e rows) ≡ all.without_row (alone e) (rows_alone rows)
-        → rows_alone (cond (not v) (r ∷ without_row e rows) (without_row e rows)) ≡ cond (not w) (row_alone r ∷ all.without_row (alone e) (rows_alone rows)) (all.without_row (alone e) (rows_alone rows))
-    by_test true true f ih = ih
-    by_test false false f ih = ap (λ (l : List entries.Tracked). row_alone r ∷ l) ih
-    by_test true false f ih = absurd cc
-    by_test false true f ih = absurd cc
+    by_test : (v : Bool) → rows_alone (without_row e rows) ≡ all.without_row (alone e) (rows_alone rows)
+        → rows_alone (cond (not v) (r ∷ without_row e rows) (without_row e rows)) ≡ cond (not v) (row_alone r ∷ all.without_row (alone e) (rows_alone rows)) (all.without_row (alone e) (rows_alone rows))
+    by_test true ih = ih
+    by_test false ih = ap (λ (l : List entries.Tracked). row_alone r ∷ l) ih
 
 pub rows-weight : (e : Entry) (rows : List Tracked) → all.weight_of (alone e) (rows_alone rows) ≡ weight_of e rows
 rows-weight e [] = refl
-rows-weight e (r ∷ rows) = by_test (same_entry r.entry e) (entry.same_entry (alone r.entry) (alone e)) (same_alone r.entry e) (rows-weight e rows)
+rows-weight e (r ∷ rows) = rw (same_alone r.entry e) (by_test (same_entry r.entry e) (rows-weight e rows))
   where
-    by_test : (v w : Bool) → w ≡ v → all.weight_of (alone e) (rows_alone rows) ≡ weight_of e rows
-        → option_map (λ (x : entries.Tracked). x.weight) (cond w (Some (row_alone r)) (all.row_of (alone e) (rows_alone rows))) ≡ option_map (λ (x : Tracked). x.weight) (cond v (Some r) (row_of e rows))
-    by_test true true f ih = refl
-    by_test false false f ih = ih
-    by_test true false f ih = absurd cc
-    by_test false true f ih = absurd cc
+    by_test : (v : Bool) → all.weight_of (alone e) (rows_alone rows) ≡ weight_of e rows
+        → option_map (λ (x : entries.Tracked). x.weight) (cond v (Some (row_alone r)) (all.row_of (alone e) (rows_alone rows))) ≡ option_map (λ (x : Tracked). x.weight) (cond v (Some r) (row_of e rows))
+    by_test true ih = refl
+    by_test false ih = ih
 
 pub rows-admitted : (e : Entry) (w : ℕ) (rows : List Tracked) → rows_alone (admitted e w rows) ≡ all.admitted (alone e) w (rows_alone rows)
 rows-admitted e w rows = ap (λ (l : List entries.Tracked). row_alone (record { entry = e; weight = w }) ∷ l) (rows-without e rows)
@@ -58,8 +54,7 @@ rows-used e w rows =
     rows-admitted e (unwrap_or (weight_of e rows) w) rows ∙ ap (λ (o : Option ℕ). all.admitted (alone e) (unwrap_or o w) (rows_alone rows)) (sym (rows-weight e rows))
 
 pub rows-length : (rows : List Tracked) → length (rows_alone rows) ≡ length rows
-rows-length [] = refl
-rows-length (r ∷ rows) = omega (arith, rows-length rows)
+rows-length rows = length-map rows row_alone
 
 pub rows-weights : (rows : List Tracked) → all.all_weights (rows_alone rows) ≡ all_weights rows
 rows-weights [] = refl
