@@ -2,6 +2,7 @@
 ghost use Rattle.std.specs.Prelude.{◌≡◌, ◌∷◌, [], IfOk, IfErr, OnErr};
 ghost use Rattle.tier_model.specs.State.{empty_state};
 ghost use Rattle.tier_model.specs.Calls.{nothing_done};
+ghost use Rattle.tier_model.specs.Histories.{empty_opening};
 ghost use Rattle.tier_model.specs.Past.{HasPast};
 ghost use Rattle.tier_model.specs.Reports.{report_of};
 ghost use Rattle.cache_tier.specs.Draws.{Takes};
@@ -74,7 +75,7 @@ impl Tier<1> {
         ensures state { IfOk result (λ tier. tier ≡ empty_state
             (record { limit = limit; watermark = watermark; age = age; wait = wait })) }
         ensures past { IfOk result (λ tier. HasPast
-            (record { limit = limit; watermark = watermark; age = age; wait = wait }) tier []) }
+            (empty_opening (record { limit = limit; watermark = watermark; age = age; wait = wait })) tier []) }
     {
         Ok(Tier {
             alloc,

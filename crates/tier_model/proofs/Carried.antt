@@ -1,166 +1,165 @@
 -- Lawful histories hold the headline, and runs carry it on.
-use Rattle.std.proofs.Common.{◌≡◌, ℕ, ◌≤◌, length, refl, ap, sym, ◌∙◌, false, subst, [], ◌∷◌, arith}
-use Rattle.std.specs.Prelude.{List, Option, Some, None, is_some, Ok, Err}
-use Rattle.std.specs.FinMap.{get, insert, get-empty}
+use Rattle.std.proofs.Common.{◌≡◌, ℕ, length, refl, ap, sym, ◌∙◌, false, subst, [], ◌∷◌, arith}
+use Rattle.std.specs.Prelude.{List, Option, Some, None}
+use Rattle.std.specs.List.{AllByRecursion}
+use Rattle.std.specs.FinMap.{get, get-empty}
 use Rattle.std.specs.Ordering.{nat_cmp}
 use Rattle.std.proofs.lemmas.Bool.Decides.{nat_tests}
-use Rattle.tier_entries.specs.Keys.{stored_key}
+use Rattle.tier_entries.specs.declared.rows.Tracked.{Tracked}
+use Rattle.cache_entries.specs.Rows.{AreDistinct}
+use Rattle.cache_changes.specs.Changes.{Write, Changes, admits}
+use Rattle.cache_changes.specs.Writes.{IsOrderly, IsBody}
+use Rattle.cache_changes.specs.Uses.{EvictsLawfully, admissions}
+use Rattle.cache_changes.specs.Bound.{TracksBodies, AreWithin}
+use Rattle.cache_changes.proofs.BoundLaws.{bodies-tracked}
+use Rattle.cache_changes.proofs.UseLaws.{rows_of-admissions}
 use Rattle.tier_entries.specs.Rows.{is_past}
-use Rattle.tier_model.specs.Keys.{stored_key_of}
-use Rattle.tier_model.specs.declared.whole.Whole.{Whole}
-use Rattle.tier_model.specs.declared.state.FinishedBody.{FinishedBody}
 use Rattle.tier_model.specs.declared.state.Request.{Request}
-use Rattle.tier_model.specs.declared.event.Action.{Action}
-use Rattle.tier_model.specs.declared.event.Action.TheVariants.{Open, LookUp, Read, Drop, Purge, Put}
-use Rattle.tier_model.specs.declared.event.Answer.{Answer}
-use Rattle.cache_words.specs.Time.{MomentValue}
-use Rattle.tier_model.specs.Calls.{Call, History, Outcome, read_by}
-use Rattle.std.specs.List.{AllByRecursion, sum_by}
-use Rattle.tier_model.specs.Histories.{HasDistinctKeys, IsBody}
+use Rattle.tier_model.specs.Calls.{Call, History}
 use Rattle.tier_model.specs.Response.{IsRead}
-use Rattle.tier_model.specs.Headline.{Headline, HoldsHeadline}
-use Rattle.tier_model.specs.Rows.{body_of}
+use Rattle.tier_model.specs.Histories.{Kept, alone, rows_alone, Opening, empty_opening, changes_of}
+use Rattle.tier_model.specs.Headline.{shards, Headline, HoldsHeadline}
+use Rattle.tier_model.specs.Reports.{IsReport, report_of}
 use Rattle.tier_model.specs.State.{Settings, State, empty_state}
-use Rattle.tier_model.specs.Step.{Allows, after, answered, on_request, after_look_up, after_read, body_for}
-use Rattle.tier_model.specs.Use.{IsOrderOfUse, EvictsBy, EvictsLawfully}
+use Rattle.tier_model.specs.Step.{Allows, after}
 use Rattle.tier_model.specs.Past.{state_of, IsLawful, MatchesHistory, HasPast, AreTaken, CarriesHeadline}
-use Rattle.tier_model.proofs.StepLaws.{KeepsRequests-purge, KeepsRequests-put, KeepsRequests-undone}
+use Rattle.tier_model.proofs.RowSteps.{rows-length, rows-weights}
+use Rattle.tier_model.proofs.ChangeLaws.{Leaves, unbound, is_held, in_order}
+use Rattle.tier_model.proofs.StepLaws.{settings-after}
+use Rattle.tier_model.proofs.EventLaws.{Holds}
 use Rattle.tier_model.proofs.RequestLaws.{RequestFits, Fits, Fits-after, IsRequestOf-fits}
 use Rattle.tier_model.proofs.HeadlineLaws.{IsRight-allowed}
-use Rattle.tier_model.proofs.UseSteps.{IsOrderOfUse-after, BodiesAreTracked-kept}
-use Rattle.tier_model.proofs.ReportLaws.{Tallies, Tallies-after, AreAllBodies-kept}
-use Rattle.tier_model.proofs.BoundLaws.{KeepsWithin, KeepsLimits, KeepsLimits-after, IsWithin-kept}
+use Rattle.tier_model.proofs.ReportLaws.{Tallies, Tallies-after}
+use Rattle.tier_model.proofs.HeldLaws.{all-held, sums}
 
--- no call changes what the tier was made with
-request_settings : (s : State) (o : Option Request) (f : Request → State) → ((q : Request) → (f q).settings ≡ s.settings) → (on_request s o f).settings ≡ s.settings
-request_settings s None f h = refl
-request_settings s (Some q) f h = h q
-
-look_settings : (s : State) (t : MomentValue) (i : ℕ) (q : Request) (b : Option FinishedBody) → (after_look_up s t i q b).settings ≡ s.settings
-look_settings s t i q None = refl
-look_settings s t i q (Some b) = refl
-
-answer_settings : (s : State) (t : MomentValue) (g : Option Whole) (action : Action) (a : Answer) → (answered s t action g a).settings ≡ s.settings
-answer_settings s t g (Open i key) a = refl
-answer_settings s t g (LookUp i) a = request_settings s (get s.requests i) (λ q. after_look_up s t i q (body_for q s.bodies)) (λ q. look_settings s t i q (body_for q s.bodies))
-answer_settings s t g (Read i) a = request_settings s (get s.requests i) (λ q. record s { requests = insert s.requests i (after_read q) }) (λ q. refl)
-answer_settings s t g (Drop i) a = refl
-answer_settings s t g (Purge key) a = (KeepsRequests-purge s key (is_some (body_of (stored_key_of key) s.bodies))).settings
-answer_settings s t g (Put key pieces) a = (KeepsRequests-put s g a).settings
-
-pub settings-after : (s : State) (c : Call) → (after s c).settings ≡ s.settings
-settings-after s c = by_outcome c.outcome
-  where
-    by_outcome : (o : Outcome) → (after s (record c { outcome = o })).settings ≡ s.settings
-    by_outcome (Ok a) = answer_settings s c.event.moment (read_by c) c.event.action a
-    by_outcome (Err f) = (KeepsRequests-undone s c.event.action f).settings
-
-pub settings-state_of : (settings : Settings) (h : History) → (state_of settings h).settings ≡ settings
-settings-state_of settings [] = refl
-settings-state_of settings (c ∷ h) = settings-after (state_of settings h) c ∙ settings-state_of settings h
-
-no_request : (id : ℕ) (o : Option Request) → o ≡ None → RequestFits id o []
-no_request id None e = refl
-no_request id (Some q) e = cc
+no_request : (start : Opening) (id : ℕ) (o : Option Request) → o ≡ None → RequestFits start id o []
+no_request start id None e = refl
+no_request start id (Some q) e = cc
 
 never_past : (mark : Option ℕ) → is_past mark 0 ≡ false
 never_past None = refl
 never_past (Some bound) = grind (arith, nat_tests)
 
--- no bodies keep any limits
-within_none : (limit : ℕ) (mark : Option ℕ) → KeepsWithin limit mark []
-within_none limit mark [] d held = (omega arith, never_past mark)
-within_none limit mark (b ∷ bs) d held = absurd_none held.0
-  where
-    absurd_none : body_of (stored_key b.entry) [] ≡ Some b → (sum_by (λ b. length b.bytes) (b ∷ bs) ≤ limit) × (is_past mark (length (b ∷ bs)) ≡ false)
-    absurd_none e = cc
+-- where no body is held no write is one
+none_held : (limit : ℕ) (mark : Option ℕ) (n : ℕ) (rows : List Tracked) (changes : Changes Kept) → Leaves limit mark n [] rows changes → (w : Write Kept) → IsBody w.key w changes → ⊥
+none_held limit mark n rows changes l w i = let there = (is_held limit mark n [] rows changes l w.key w i).1 in absurd cc
+
+none_within : (limit : ℕ) (mark : Option ℕ) (n : ℕ) (rows : List Tracked) (changes : Changes Kept) → Leaves limit mark n [] rows changes → AreWithin limit mark changes
+none_within limit mark n rows changes l [] d all = (omega arith, never_past mark)
+none_within limit mark n rows changes l (w ∷ ws) d all = absurd (none_held limit mark n rows changes l w all.0)
+
+-- an order of use that was loaded
+loaded : (limit : ℕ) (mark : Option ℕ) (rows : List Tracked) → AreDistinct (rows_alone rows) → Leaves limit mark 0 [] rows (admissions (rows_alone rows))
+loaded limit mark [] d = record { orderly = tt; below = tt; landed = refl; bodies = λ k. refl; rows = refl; lawful = tt; tracks = tt; settled = refl }
+loaded limit mark (r ∷ rows) d =
+    let l : Leaves limit mark 0 [] rows (admissions (rows_alone rows)) = loaded limit mark rows d.1 in
+    record {
+      orderly = (tt, l.orderly);
+      below = (tt, l.below);
+      landed = l.landed;
+      bodies = l.bodies;
+      rows = sym (rows_of-admissions Kept (rows_alone (r ∷ rows)) d);
+      lawful = l.lawful;
+      tracks = (unbound (admits (alone r.entry) r.weight) (admissions (rows_alone rows)) l.settled, λ w t i. absurd (none_held limit mark 0 rows (admissions (rows_alone rows)) l w i), l.tracks);
+      settled = refl;
+    }
+
+opened : (start : Opening) → AreDistinct (rows_alone start.loaded) → Holds start (state_of start []) []
+opened start d =
+    let l = loaded start.settings.limit start.settings.watermark start.loaded d in
+    record { leaves = l; within = none_within start.settings.limit start.settings.watermark 0 start.loaded (admissions (rows_alone start.loaded)) l }
 
 -- what a state is to the history after it
-pub record Stands (settings : Settings) (s : State) (h : History) : Type 0 where
-  pub made : s.settings ≡ settings
-  pub fits : Fits s h
-  pub keeps : KeepsLimits s
-  pub order : IsOrderOfUse s.tracked h
+pub record Stands (start : Opening) (s : State) (h : History) : Type 0 where
+  pub made : s.settings ≡ start.settings
+  pub fits : Fits start s h
   pub tallies : Tallies s h
 
 -- the state after a lawful history stands for it
-pub Stands-lawful : (settings : Settings) (h : History) → IsLawful settings h → Stands settings (state_of settings h) h
-Stands-lawful settings [] l = record {
+pub Stands-lawful : (start : Opening) (h : History) → IsLawful start h → Stands start (state_of start h) h
+Stands-lawful start [] l = record {
   made = refl;
-  fits = record { requests = λ id. no_request id (get (empty_state settings).requests id) (get-empty nat_cmp id); bodies = λ k. refl };
-  keeps = record { within = within_none settings.limit settings.watermark; tracked = λ k b e. cc };
-  order = record { order = tt; all = λ e. refl; weights = λ e w there. cc };
+  fits = record { requests = λ id. no_request start id (get (empty_state start.settings).requests id) (get-empty nat_cmp id); holds = opened start l };
   tallies = record { found = omega arith; absent = omega arith; evicted = omega arith; distinct = tt };
 }
-Stands-lawful settings (c ∷ h) l =
-    let past : Stands settings (state_of settings h) h = Stands-lawful settings h l.1 in
+Stands-lawful start (c ∷ h) l =
+    let past : Stands start (state_of start h) h = Stands-lawful start h l.1 in
     record {
-      made = settings-after (state_of settings h) c ∙ past.made;
-      fits = Fits-after (state_of settings h) c h past.fits l.0;
-      keeps = KeepsLimits-after (state_of settings h) c l.0 past.keeps;
-      order = (IsOrderOfUse-after (state_of settings h) c h past.fits past.keeps l.0 past.order).0;
-      tallies = Tallies-after (state_of settings h) c h l.0 past.tallies;
+      made = settings-after (state_of start h) c ∙ past.made;
+      fits = Fits-after start (state_of start h) c h past.fits l.0;
+      tallies = Tallies-after (state_of start h) c h l.0 past.tallies;
     }
 
-Headline-lawful : (settings : Settings) (h : History) → IsLawful settings h → Headline h
-Headline-lawful settings [] l = tt
-Headline-lawful settings (c ∷ h) l = (IsRight-allowed (state_of settings h) c h (Stands-lawful settings h l.1).fits l.0, Headline-lawful settings h l.1)
+pub IsOrderly-lawful : (start : Opening) (h : History) → IsLawful start h → IsOrderly (changes_of start h)
+IsOrderly-lawful start h l = (Stands-lawful start h l).fits.holds.leaves.orderly
 
-readings-lawful : (settings : Settings) (h : History) → IsLawful settings h → AllByRecursion (λ c. IsRead c.event.action c.reading) h
-readings-lawful settings [] l = tt
-readings-lawful settings (c ∷ h) l = (l.0.0, readings-lawful settings h l.1)
+pub TracksBodies-lawful : (start : Opening) (h : History) → IsLawful start h → TracksBodies (changes_of start h)
+TracksBodies-lawful start h l = (Stands-lawful start h l).fits.holds.leaves.tracks
 
-EvictsLawfully-lawful : (settings : Settings) (h : History) → IsLawful settings h → EvictsLawfully settings.limit settings.watermark h
-EvictsLawfully-lawful settings [] l = tt
-EvictsLawfully-lawful settings (c ∷ h) l =
-    let past : Stands settings (state_of settings h) h = Stands-lawful settings h l.1 in (
-      subst (λ (x : Settings). EvictsBy x.limit x.watermark c.event c.outcome c.reading h) past.made (IsOrderOfUse-after (state_of settings h) c h past.fits past.keeps l.0 past.order).1,
-      EvictsLawfully-lawful settings h l.1,
-    )
+Headline-lawful : (start : Opening) (h : History) → IsLawful start h → Headline start h
+Headline-lawful start [] l = tt
+Headline-lawful start (c ∷ h) l =
+    let past : Stands start (state_of start h) h = Stands-lawful start h l.1 in
+    (IsRight-allowed start (state_of start h) c h past.made past.fits l.0, Headline-lawful start h l.1)
+
+readings-lawful : (start : Opening) (h : History) → IsLawful start h → AllByRecursion (λ c. IsRead c.event.action c.reading) h
+readings-lawful start [] l = tt
+readings-lawful start (c ∷ h) l = (l.0.0, readings-lawful start h l.1)
 
 -- lawful histories hold the headline
-pub HoldsHeadline-lawful : (settings : Settings) (h : History) → IsLawful settings h → HoldsHeadline settings.limit settings.watermark h
-HoldsHeadline-lawful settings h l =
-    let past : Stands settings (state_of settings h) h = Stands-lawful settings h l in
+pub HoldsHeadline-lawful : (start : Opening) (h : History) → IsLawful start h → HoldsHeadline start h
+HoldsHeadline-lawful start h l =
+    let past : Stands start (state_of start h) h = Stands-lawful start h l in
     record {
-      readings = readings-lawful settings h l;
-      answers = Headline-lawful settings h l;
-      within = λ bodies. subst (λ (x : Settings). HasDistinctKeys bodies → AllByRecursion (λ b. IsBody (stored_key b.entry) b h) bodies
-          → (sum_by (λ b. length b.bytes) bodies ≤ x.limit) × (is_past x.watermark (length bodies) ≡ false)) past.made (IsWithin-kept (state_of settings h) h past.fits past.keeps bodies);
-      tracked = BodiesAreTracked-kept (state_of settings h) h past.fits past.keeps past.order;
-      evictions = EvictsLawfully-lawful settings h l;
+      readings = readings-lawful start h l;
+      answers = Headline-lawful start h l;
+      within = subst (λ (x : Settings). AreWithin x.limit x.watermark (changes_of start h)) past.made past.fits.holds.within;
+      tracked = bodies-tracked (changes_of start h) past.fits.holds.leaves.orderly past.fits.holds.leaves.tracks past.fits.holds.leaves.settled;
+      evictions = subst (λ (x : Settings). EvictsLawfully shards x.limit x.watermark (changes_of start h)) past.made past.fits.holds.leaves.lawful;
     }
 
 -- the state after a lawful history is what it says
-MatchesHistory-lawful : (settings : Settings) (h : History) → Stands settings (state_of settings h) h → MatchesHistory (state_of settings h) h
-MatchesHistory-lawful settings h past = record {
-  bodies = AreAllBodies-kept (state_of settings h) h past.fits past.tallies.distinct;
-  order = past.order;
-  requests = λ id. IsRequestOf-fits id (get (state_of settings h).requests id) h (past.fits.requests id);
+MatchesHistory-lawful : (start : Opening) (s : State) (h : History) → Stands start s h → MatchesHistory s start h
+MatchesHistory-lawful start s h past = record {
+  bodies = all-held s.settings.limit s.settings.watermark (length h) s.bodies s.tracked (changes_of start h) past.fits.holds.leaves past.tallies.distinct;
+  order = in_order s.settings.limit s.settings.watermark (length h) s.bodies s.tracked (changes_of start h) past.fits.holds.leaves;
+  requests = λ id. IsRequestOf-fits start id (get s.requests id) h (past.fits.requests id);
   found = past.tallies.found;
   absent = past.tallies.absent;
   evicted = past.tallies.evicted;
 }
 
 -- a lawful history is a past of the state after it
-pub HasPast-lawful : (settings : Settings) (s : State) (h : History) → IsLawful settings h → s ≡ state_of settings h → HasPast settings s h
-HasPast-lawful settings s h l e =
-    let past : Stands settings (state_of settings h) h = Stands-lawful settings h l in
+pub HasPast-lawful : (start : Opening) (s : State) (h : History) → IsLawful start h → s ≡ state_of start h → HasPast start s h
+HasPast-lawful start s h l e =
+    let past : Stands start (state_of start h) h = Stands-lawful start h l in
     record {
       lawful = l;
       state = e;
-      headline = HoldsHeadline-lawful settings h l;
-      matches = subst (λ (x : State). MatchesHistory x h) (sym e) (MatchesHistory-lawful settings h past);
+      headline = HoldsHeadline-lawful start h l;
+      matches = subst (λ (x : State). MatchesHistory x start h) (sym e) (MatchesHistory-lawful start (state_of start h) h past);
     }
 
-pub empty-past : (settings : Settings) → HasPast settings (empty_state settings) []
-empty-past settings = HasPast-lawful settings (empty_state settings) [] tt refl
+pub empty-past : (settings : Settings) → HasPast (empty_opening settings) (empty_state settings) []
+empty-past settings = HasPast-lawful (empty_opening settings) (empty_state settings) [] tt refl
 
-pub more_past : (settings : Settings) (old : State) (past : History) (c : Call) (new : State) → Allows old c → new ≡ after old c → HasPast settings old past → HasPast settings new (c ∷ past)
-more_past settings old past c new allowed is h =
-    HasPast-lawful settings new (c ∷ past) (subst (λ (s : State). Allows s c) h.state allowed, h.lawful) (is ∙ ap (λ (s : State). after s c) h.state)
+pub more_past : (start : Opening) (old : State) (past : History) (c : Call) (new : State) → Allows old c → new ≡ after old c → HasPast start old past → HasPast start new (c ∷ past)
+more_past start old past c new allowed is h =
+    HasPast-lawful start new (c ∷ past) (subst (λ (s : State). Allows s c) h.state allowed, h.lawful) (is ∙ ap (λ (s : State). after s c) h.state)
 
 -- calls that were taken carry the headline on
 pub CarriesHeadline-taken : (old : State) (calls : List Call) (new : State) → AreTaken old calls new → CarriesHeadline old calls new
-CarriesHeadline-taken old [] new taken settings past h = subst (λ (s : State). HasPast settings s past) (sym taken) h
-CarriesHeadline-taken old (c ∷ calls) new taken settings past h = CarriesHeadline-taken (after old c) calls new taken.1 settings (c ∷ past) (more_past settings old past c (after old c) taken.0 refl h)
+CarriesHeadline-taken old [] new taken start past h = subst (λ (s : State). HasPast start s past) (sym taken) h
+CarriesHeadline-taken old (c ∷ calls) new taken start past h = CarriesHeadline-taken (after old c) calls new taken.1 start (c ∷ past) (more_past start old past c (after old c) taken.0 refl h)
+
+-- the report of a state that a history says is the history's
+pub IsReport-matches : (s : State) (start : Opening) (h : History) → MatchesHistory s start h → IsReport (report_of s) start h
+IsReport-matches s start h m =
+    let same = sums (changes_of start h) s.bodies m.bodies.0 m.bodies.2 in
+    record {
+      found = m.found;
+      absent = m.absent;
+      evicted = m.evicted;
+      bodies = (m.bodies.0, m.bodies.1, same.1, omega (arith, same.0));
+      tracked = (rows_alone s.tracked, m.order, sym (rows-length s.tracked), sym (rows-weights s.tracked));
+    }

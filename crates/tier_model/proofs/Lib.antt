@@ -1,11 +1,13 @@
 pub mod Tables
+pub mod ResponseLaws
 pub mod BodyLaws
+pub mod RowSteps
+pub mod ChangeLaws
 pub mod StepLaws
+pub mod EventLaws
 pub mod RequestLaws
 pub mod HeadlineLaws
 pub mod BoundLaws
-pub mod Carried
-pub mod UseLaws
-pub mod UseSteps
 pub mod ReportLaws
-pub mod ResponseLaws
+pub mod HeldLaws
+pub mod Carried

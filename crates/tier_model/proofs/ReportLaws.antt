@@ -1,4 +1,4 @@
--- What a report tells of a state is what it tells of the history after it.
+-- A state's bodies have a key each, and its counts are those of the history.
 use Rattle.std.proofs.Common.{◌≡◌, ℕ, ◌+◌, refl, ap, sym, ◌∙◌, true, false, subst, cond, [], ◌∷◌, ◌++◌, length, arith}
 use Rattle.std.specs.Prelude.{Bool, List, Option, Some, None, is_some, not, Ok, Err, MatchOption}
 use Rattle.std.specs.List.{AllByRecursion}
@@ -23,16 +23,17 @@ use Rattle.tier_model.specs.declared.event.TierFault.{TierFault}
 use Rattle.tier_model.specs.Keys.{StoredKey, Entry, entries_of, stored_key_of}
 use Rattle.tier_model.specs.Response.{Reading}
 use Rattle.tier_model.specs.Calls.{Call, History, Outcome, read_by, evicted_by, nothing_done, done_of}
-use Rattle.tier_model.specs.Histories.{IsBody, HasDistinctKeys}
-use Rattle.tier_model.specs.Reports.{IsReport, report_of, found_answers, absent_answers, evictions, is_found, is_absent, shown, AreAllBodies}
+use Rattle.tier_model.specs.Reports.{found_answers, absent_answers, evictions, is_found, is_absent, shown}
 use Rattle.tier_model.specs.Rows.{body_of, with_body, without_body, without_bodies}
 use Rattle.tier_model.specs.State.{State}
-use Rattle.tier_model.specs.Past.{MatchesHistory}
 use Rattle.tier_model.specs.Step.{refusal, AllowsBy, Allows, IsAnswer, IsPutAnswer, after, answered, undone, taken_back, on_request, look_answer, after_look_up, read_answer, after_read, after_purge, after_put, use_is_too_heavy, body_for, counted}
 use Rattle.tier_entries.proofs.KeyLaws.{same_key-tells, same-sym}
-use Rattle.tier_model.proofs.BodyLaws.{body_now, body_now-is, body_now-of}
 use Rattle.tier_model.proofs.StepLaws.{call_at, answer_allowed, did_nothing}
-use Rattle.tier_model.proofs.RequestLaws.{Fits}
+
+-- bodies of different stored keys
+abbrev pub HasDistinctKeys : List FinishedBody → Type 0
+HasDistinctKeys [] = Unit {0}
+HasDistinctKeys (b ∷ bs) = AllByRecursion (λ c. same_key (stored_key c.entry) (stored_key b.entry) ≡ false) bs × HasDistinctKeys bs
 
 -- distinct keys stay distinct
 all_without : (P : FinishedBody → Type 0) (k : StoredKey) (bodies : List FinishedBody) → AllByRecursion P bodies → AllByRecursion P (without_body k bodies)
@@ -76,7 +77,7 @@ distinct_with : (x : FinishedBody) (bodies : List FinishedBody) → HasDistinctK
 distinct_with x bodies d = distinct_end x (without_body (stored_key x.entry) bodies) (distinct_without (stored_key x.entry) bodies d) (none_left (stored_key x.entry) bodies)
 
 -- each of distinct bodies is found by its key
-found_each : (bodies : List FinishedBody) → HasDistinctKeys bodies → AllByRecursion (λ b. body_of (stored_key b.entry) bodies ≡ Some b) bodies
+pub found_each : (bodies : List FinishedBody) → HasDistinctKeys bodies → AllByRecursion (λ b. body_of (stored_key b.entry) bodies ≡ Some b) bodies
 found_each [] d = tt
 found_each (x ∷ xs) d = (ap (λ v. cond v (Some x) (body_of (stored_key x.entry) xs)) (same_key-tells.itself (stored_key x.entry)), others xs (found_each xs d.1) d.0)
   where
@@ -84,17 +85,6 @@ found_each (x ∷ xs) d = (ap (λ v. cond v (Some x) (body_of (stored_key x.entr
         → AllByRecursion (λ b. body_of (stored_key b.entry) (x ∷ xs) ≡ Some b) ys
     others [] found apart = tt
     others (y ∷ ys) found apart = (ap (λ v. cond v (Some x) (body_of (stored_key y.entry) xs)) (same-sym same_key same_key-tells (stored_key x.entry) (stored_key y.entry) ∙ apart.0) ∙ found.0, others ys found.1 apart.1)
-
-bodies_in : (h : History) (bodies ys : List FinishedBody) → ((k : StoredKey) → body_of k bodies ≡ body_now k h) → AllByRecursion (λ b. body_of (stored_key b.entry) bodies ≡ Some b) ys → AllByRecursion (λ b. IsBody (stored_key b.entry) b h) ys
-bodies_in h bodies [] fits found = tt
-bodies_in h bodies (y ∷ ys) fits found = (body_now-is (stored_key y.entry) y h (sym (fits (stored_key y.entry)) ∙ found.0), bodies_in h bodies ys fits found.1)
-
-pub AreAllBodies-kept : (s : State) (h : History) → Fits s h → HasDistinctKeys s.bodies → AreAllBodies s.bodies h
-AreAllBodies-kept s h fits d = record {
-  distinct = d;
-  each = bodies_in h s.bodies s.bodies fits.bodies (found_each s.bodies d);
-  all = λ k b body. fits.bodies k ∙ body_now-of k b h body;
-}
 
 -- the counts of a state are those of its history
 pub record Tallies (s : State) (h : History) : Type 0 where
@@ -217,13 +207,3 @@ Tallies-after s c h p tally = by_outcome c.outcome p.1
     by_outcome : (o : Outcome) → AllowsBy (refusal s c.event.action) s c.event.moment c.event.action (read_by c) o → Tallies (after s (record c { outcome = o })) (record c { outcome = o } ∷ h)
     by_outcome (Ok a) p = answer_tally s c.event.moment c.reading (read_by c) c.event.action a h (answer_allowed (refusal s c.event.action) s c.event.moment (read_by c) c.event.action a p) tally
     by_outcome (Err f) p = fault_tally s c.event.moment c.reading (read_by c) c.event.action f h p tally
-
--- the report of a state that a history says is the history's
-pub IsReport-matches : (s : State) (h : History) → MatchesHistory s h → IsReport (report_of s) h
-IsReport-matches s h m = record {
-  found = m.found;
-  absent = m.absent;
-  evicted = m.evicted;
-  bodies = (s.bodies, m.bodies, refl, omega arith);
-  tracked = (s.tracked, m.order, refl, refl);
-}

@@ -1,18 +1,18 @@
--- Calls of a tier, and what one call tells: what it wrote, removed and read.
-use Rattle.std.specs.Prelude.{◌≡◌, ℕ, ◌==◌, Bool, false, ◌&&◌, ◌||◌, List, [], ◌∷◌, ◌++◌, if◌then◌else◌, Option, Some, None, Result, Ok, Err}
-use Rattle.tier_entries.specs.Keys.{entry_of, stored_key, same_key, has_key}
+-- Calls of a tier, and what one call tells: what it stored and evicted, and what a request read.
+use Rattle.std.specs.Prelude.{◌≡◌, ℕ, ◌==◌, Bool, false, ◌&&◌, List, [], ◌∷◌, ◌++◌, if◌then◌else◌, Option, Some, None, Result, Ok, Err}
+use Rattle.tier_entries.specs.Keys.{entry_of}
 use Rattle.tier_model.specs.declared.state.FinishedBody.{FinishedBody}
 use Rattle.tier_model.specs.declared.whole.Whole.{Whole}
 use Rattle.tier_model.specs.declared.whole.Whole.TheVariants.{Stored}
 use Rattle.tier_model.specs.declared.event.Event.{Event}
 use Rattle.tier_model.specs.declared.event.Action.{Action}
-use Rattle.tier_model.specs.declared.event.Action.TheVariants.{Open, LookUp, Read, Drop, Purge, Put}
+use Rattle.tier_model.specs.declared.event.Action.TheVariants.{Open, LookUp, Read, Drop}
 use Rattle.tier_model.specs.declared.event.Answer.{Answer}
 use Rattle.tier_model.specs.declared.event.Answer.TheVariants.{Opened, Found, Bytes, Dropped, Finished}
 use Rattle.tier_model.specs.declared.event.Done.{Done}
 use Rattle.tier_model.specs.declared.event.TierFault.{TierFault}
 use Rattle.tier_model.specs.declared.event.TierFault.TheVariants.{NumbersSpent, TooHeavy, TooLong, Memory}
-use Rattle.tier_model.specs.Keys.{StoredKey, Entry, entries_of, stored_key_of}
+use Rattle.tier_model.specs.Keys.{Entry, entries_of}
 use Rattle.tier_model.specs.Response.{Reading, whole_in}
 
 -- what a call answered, or the fault that refused it
@@ -35,10 +35,10 @@ AreCallsOf [] [] [] = Unit {0}
 AreCallsOf (e ∷ es) (o ∷ os) (c ∷ cs) = (c.event ≡ e) × (c.outcome ≡ o) × AreCallsOf es os cs
 AreCallsOf _ _ _ = ⊥
 
--- the history after further calls
-abbrev pub extended : History → List Call → History
+-- what came, the latest first, after more in the order in which it came
+abbrev pub extended : {X : Type 0} → List X → List X → List X
 extended past [] = past
-extended past (c ∷ cs) = extended (c ∷ past) cs
+extended past (x ∷ xs) = extended (x ∷ past) xs
 
 -- nothing was done before the refusal
 abbrev pub nothing_done : Done
@@ -62,23 +62,6 @@ evicted_by (Ok (Finished length evicted)) = entries_of evicted
 evicted_by (Ok _) = []
 evicted_by (Err fault) = evicted_before (done_of fault)
 
-abbrev pub purges : StoredKey → Action → Bool
-purges k (Purge key) = same_key (stored_key_of key) k
-purges k _ = false
-
--- the event would store under k
-abbrev pub stores_under : StoredKey → Action → Bool
-stores_under k (Put key pieces) = same_key (stored_key_of key) k
-stores_under k _ = false
-
-abbrev pub was_stored : Outcome → Bool
-was_stored (Ok answer) = false
-was_stored (Err fault) = (done_of fault).stored
-
--- the call is a removal of k: a purge, the eviction of an entry with that stored key, or a refusal after the storing
-abbrev pub removes : StoredKey → Call → Bool
-removes k c = purges k c.event.action || ((was_stored c.outcome && stores_under k c.event.action) || has_key k (evicted_by c.outcome))
-
 -- what a call's response gave
 abbrev pub read_by : Call → Option Whole
 read_by c = whole_in c.event.moment c.event.action c.reading
@@ -87,22 +70,6 @@ read_by c = whole_in c.event.moment c.event.action c.reading
 abbrev pub stored_in : Option Whole → Option FinishedBody
 stored_in (Some (Stored body)) = Some body
 stored_in _ = None
-
-abbrev pub body_finished : Action → Outcome → Option Whole → Option FinishedBody
-body_finished (Put key pieces) (Ok (Finished length evicted)) whole = stored_in whole
-body_finished _ _ whole = None
-
--- the body that a call finished, given the calls before it
-abbrev pub written_by : Call → History → Option FinishedBody
-written_by c before = body_finished c.event.action c.outcome (read_by c)
-
-abbrev pub is_of : StoredKey → Option FinishedBody → Bool
-is_of k None = false
-is_of k (Some w) = same_key (stored_key w.entry) k
-
--- the call finished a body of k
-abbrev pub writes : StoredKey → Call → History → Bool
-writes k c before = is_of k (written_by c before)
 
 abbrev pub entry_after : ℕ → Action → Outcome → Option Entry → Option Entry
 entry_after id (Open request key) (Ok Opened) old = if request == id then Some (entry_of key) else old

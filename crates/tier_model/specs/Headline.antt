@@ -1,71 +1,100 @@
 -- The headline: what a history says of the answers in it. It names no state.
-use Rattle.std.specs.Prelude.{◌≡◌, ℕ, true, [], ◌∷◌, ◌++◌, length, Option, Some, Ok, Err}
+use Rattle.std.specs.Prelude.{◌≡◌, ◌↔◌, ℕ, Bool, true, false, List, [], ◌∷◌, ◌++◌, length, Option, Some, Ok, Err, All}
 use Rattle.std.specs.List.{AllByRecursion}
 use Rattle.cache_words.specs.Time.{MomentValue, at_most}
+use Rattle.cache_entries.specs.declared.rows.Tracked.{Tracked}
+use Rattle.cache_entries.specs.Rows.{is_over}
+use Rattle.cache_changes.specs.Changes.{StoredKey, Write, Changes}
+use Rattle.cache_changes.specs.Writes.{bytes_of, meta_of, IsFound, IsBody, IsFlying, IsShown}
+use Rattle.cache_changes.specs.Uses.{last_weight, IsOrderOfUse, EvictsLawfully}
+use Rattle.cache_changes.specs.Bound.{IsTrackedBody, AreWithin}
 use Rattle.tier_entries.specs.Keys.{stored_key}
 use Rattle.tier_model.specs.declared.state.FinishedBody.{FinishedBody}
 use Rattle.tier_model.specs.declared.event.Action.{Action}
 use Rattle.tier_model.specs.declared.whole.Whole.{Whole}
 use Rattle.tier_model.specs.declared.whole.Whole.TheVariants as whole
-use Rattle.tier_model.specs.declared.event.Action.TheVariants.{LookUp, Read, Purge, Put}
+use Rattle.tier_model.specs.declared.event.Action.TheVariants.{Open, LookUp, Read, Drop, Purge, Put}
 use Rattle.tier_model.specs.declared.event.Answer.{Answer}
-use Rattle.tier_model.specs.declared.event.Answer.TheVariants.{Found, Absent, Purged, Finished}
+use Rattle.tier_model.specs.declared.event.Answer.TheVariants.{Opened, Found, Absent, Dropped, Purged, Finished}
 use Rattle.tier_model.specs.declared.event.Answer.TheVariants as answer
 use Rattle.tier_model.specs.declared.event.TierFault.TheVariants as fault
-use Rattle.tier_model.specs.Keys.{StoredKey, Entry, stored_key_of}
+use Rattle.tier_model.specs.Keys.{Entry, Evicted, entries_of, stored_key_of}
 use Rattle.tier_model.specs.Response.{IsRead}
-use Rattle.tier_model.specs.Calls.{History, Outcome, read_by, opened_for, bytes_read, bytes_answered}
-use Rattle.tier_model.specs.Histories.{IsFound, IsBody, HasHit, IsWithin}
-use Rattle.tier_model.specs.Use.{BodiesAreTracked, EvictsLawfully}
+use Rattle.tier_model.specs.Calls.{History, Outcome, extended, nothing_done, done_of, read_by, opened_for, bytes_read, bytes_answered}
+use Rattle.tier_model.specs.Histories.{Kept, alone, Opening, stores, changes_of, HasHit}
+use Rattle.tier_model.specs.State.{Settings}
 
--- a look-up at t is answered found exactly where a write of its key is alive, and fresh exactly up to its moment
-abbrev pub LooksRight : ℕ → MomentValue → Answer → History → Type 0
-LooksRight id t (Found fresh complete) h =
-    (e : Entry) × (w : FinishedBody) × (opened_for id h ≡ Some e) × IsBody (stored_key e) w h × (fresh ≡ at_most t w.fresh_until) × (complete ≡ true)
-LooksRight id t Absent h = (e : Entry) × (opened_for id h ≡ Some e) × (¬ IsFound (stored_key e) h)
-LooksRight id t _ h = ⊥
+-- how many shards the order of use has
+abbrev pub shards : ℕ
+shards = 1
+
+-- a look-up at t is answered found exactly where a write of its key is alive; then it shows one, fresh exactly up to its
+-- moment, and complete exactly where none of the key is in flight
+abbrev pub LooksRight : ℕ → MomentValue → Answer → History → Changes Kept → Type 0
+LooksRight id t (Found fresh complete) h before =
+    (e : Entry) × (w : Write Kept) × (opened_for id h ≡ Some e) × IsShown (stored_key e) w before
+    × (fresh ≡ at_most t (meta_of w before).fresh_until)
+    × ((complete ≡ true) ↔ ((v : Write Kept) → IsFlying (stored_key e) v before → ⊥))
+LooksRight id t Absent h before = (e : Entry) × (opened_for id h ≡ Some e) × (¬ IsFound (stored_key e) before)
+LooksRight id t _ h before = ⊥
 
 -- what a request read since its complete hit, joined, is the body that the look-up showed, whatever came later
-pub record ReadsWhole (id : ℕ) (answer : Answer) (h : History) : Type 0 where
-  pub body : FinishedBody
+pub record ReadsWhole (start : Opening) (id : ℕ) (answer : Answer) (h : History) : Type 0 where
+  pub write : Write Kept
   pub since : History
-  pub hit : HasHit id body since h
-  pub whole : bytes_read id since ++ bytes_answered answer ≡ body.bytes
+  pub hit : HasHit start id write since h
+  pub whole : bytes_read id since ++ bytes_answered answer ≡ bytes_of write.number (changes_of start hit.before)
 
 -- a purge is answered true exactly where a write of the key is alive
-abbrev pub PurgesRight : StoredKey → Answer → History → Type 0
-PurgesRight k (Purged was_there) h = (was_there ≡ true → IsFound k h) × (IsFound k h → was_there ≡ true)
-PurgesRight k _ h = ⊥
+abbrev pub PurgesRight : StoredKey → Answer → Changes Kept → Type 0
+PurgesRight k (Purged was_there) before = (was_there ≡ true) ↔ IsFound k before
+PurgesRight k _ before = ⊥
 
--- a put is answered with what its response gave: a body that finished has the length of the body that it gave
-abbrev pub PutsRight : Option Whole → Outcome → Type 0
-PutsRight w (Ok (Finished n evicted)) = (b : FinishedBody) × (w ≡ Some (whole.Stored b)) × (n ≡ length b.bytes)
-PutsRight w (Ok (answer.Uncacheable reason)) = w ≡ Some (whole.Uncacheable reason)
-PutsRight w (Ok _) = ⊥
-PutsRight w (Err fault.Incomplete) = w ≡ Some whole.Incomplete
-PutsRight w (Err fault.BadHead) = w ≡ Some whole.BadHead
-PutsRight w (Err fault.BeforeEpoch) = w ≡ Some whole.BeforeEpoch
-PutsRight w (Err _) = Unit {0}
+-- those that went after the storing of b each weighed what is listed; after them a limit is passed still, or both are kept
+pub record MakesRoom (settings : Settings) (over : Bool) (n : ℕ) (b : FinishedBody) (evicted : List Evicted) (before : Changes Kept) : Type 0 where
+  pub weights : All (λ pair. last_weight (alone pair.0) (extended before (stores n b [])) ≡ Some pair.1) evicted
+  pub rows : List Tracked
+  pub order : IsOrderOfUse rows (extended before (stores n b (entries_of evicted)))
+  pub ends : is_over settings.limit settings.watermark rows ≡ over
 
--- what the calls before say of one call, and of a put what its response gave
-abbrev pub IsRight : MomentValue → Action → Option Whole → Outcome → History → Type 0
-IsRight t (LookUp id) w (Ok answer) h = LooksRight id t answer h
-IsRight t (Read id) w (Ok answer) h = ReadsWhole id answer h
-IsRight t (Purge key) w (Ok answer) h = PurgesRight (stored_key_of key) answer h
-IsRight t (Put key pieces) w outcome h = PutsRight w outcome
-IsRight t _ w _ h = Unit {0}
+-- by what was stored and admitted before a refusal: none went where nothing was admitted, and where it was, not enough
+abbrev pub WasStored : Settings → Bool → Bool → ℕ → Option Whole → List Evicted → Changes Kept → Type 0
+WasStored settings false admitted n w evicted before = Unit {0}
+WasStored settings true false n w evicted before = (b : FinishedBody) × (w ≡ Some (whole.Stored b)) × (evicted ≡ [])
+WasStored settings true true n w evicted before = (b : FinishedBody) × (w ≡ Some (whole.Stored b)) × MakesRoom settings true n b evicted before
+
+-- a put is answered with what its response gave: a body that finished has the length of the body that it gave, and what
+-- went to make room for it was enough
+abbrev pub PutsRight : Settings → ℕ → Option Whole → Outcome → Changes Kept → Type 0
+PutsRight settings n w (Ok (Finished length_told evicted)) before =
+    (b : FinishedBody) × (w ≡ Some (whole.Stored b)) × (length_told ≡ length b.bytes) × MakesRoom settings false n b evicted before
+PutsRight settings n w (Ok (answer.Uncacheable reason)) before = w ≡ Some (whole.Uncacheable reason)
+PutsRight settings n w (Ok _) before = ⊥
+PutsRight settings n w (Err fault.Incomplete) before = w ≡ Some whole.Incomplete
+PutsRight settings n w (Err fault.BadHead) before = w ≡ Some whole.BadHead
+PutsRight settings n w (Err fault.BeforeEpoch) before = w ≡ Some whole.BeforeEpoch
+PutsRight settings n w (Err f) before = WasStored settings (done_of f).stored (done_of f).admitted n w (done_of f).evicted before
+
+-- what the calls before say of one call, and of a put what its response gave; any other call that is refused had done nothing
+abbrev pub IsRight : Opening → MomentValue → Action → Option Whole → Outcome → History → Type 0
+IsRight start t (Put key pieces) w outcome h = PutsRight start.settings (length h) w outcome (changes_of start h)
+IsRight start t action w (Err f) h = done_of f ≡ nothing_done
+IsRight start t (Open id key) w (Ok answer) h = answer ≡ Opened
+IsRight start t (LookUp id) w (Ok answer) h = LooksRight id t answer h (changes_of start h)
+IsRight start t (Read id) w (Ok answer) h = ReadsWhole start id answer h
+IsRight start t (Drop id) w (Ok answer) h = answer ≡ Dropped
+IsRight start t (Purge key) w (Ok answer) h = PurgesRight (stored_key_of key) answer (changes_of start h)
 
 -- each call is right in the light of the calls before it
-abbrev pub Headline : History → Type 0
-Headline [] = Unit {0}
-Headline (c ∷ h) = IsRight c.event.moment c.event.action (read_by c) c.outcome h × Headline h
+abbrev pub Headline : Opening → History → Type 0
+Headline start [] = Unit {0}
+Headline start (c ∷ h) = IsRight start c.event.moment c.event.action (read_by c) c.outcome h × Headline start h
 
--- the headline of a tier that began empty under these limits: what was read of each put is a reading of its own bytes, the
--- answers are right, finished bodies keep both limits, each body's entry is tracked with at least its length, and what went to make
--- room went lawfully
-pub record HoldsHeadline (limit : ℕ) (watermark : Option ℕ) (h : History) : Type 0 where
+-- the headline of a tier that began so: what was read of each put is a reading of its own bytes, the answers are right, finished
+-- bodies keep both limits, each body's entry is tracked with at least its length, and what went to make room went lawfully
+pub record HoldsHeadline (start : Opening) (h : History) : Type 0 where
   pub readings : AllByRecursion (λ c. IsRead c.event.action c.reading) h
-  pub answers : Headline h
-  pub within : IsWithin limit watermark h
-  pub tracked : BodiesAreTracked h
-  pub evictions : EvictsLawfully limit watermark h
+  pub answers : Headline start h
+  pub within : AreWithin start.settings.limit start.settings.watermark (changes_of start h)
+  pub tracked : (w : Write Kept) → IsBody w.key w (changes_of start h) → IsTrackedBody w (changes_of start h)
+  pub evictions : EvictsLawfully shards start.settings.limit start.settings.watermark (changes_of start h)

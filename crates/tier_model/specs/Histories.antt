@@ -1,55 +1,108 @@
--- What a history of calls leaves: writes that are alive, and what a key has.
-use Rattle.std.specs.Prelude.{◌≡◌, ℕ, ◌≤◌, true, false, List, [], ◌∷◌, ◌++◌, length, Option, Some}
-use Rattle.std.specs.List.{AllByRecursion, sum_by}
-use Rattle.tier_entries.specs.Keys.{stored_key, same_key}
-use Rattle.tier_entries.specs.Rows.{is_past}
+-- What a history of calls changes: the writes of bodies, and the entries in the order of use.
+use Rattle.std.specs.Prelude.{◌≡◌, ℕ, max, true, false, List, [], ◌∷◌, ◌++◌, length, map, if◌then◌else◌, Option, Some, None, Ok, Err}
+use Rattle.std.specs.List.{AllByRecursion}
+use Rattle.cache_words.specs.Time.{MomentValue}
+use Rattle.cache_entries.specs.declared.entry.CacheEntryKey.{CacheEntryKey}
+use Rattle.cache_entries.specs.declared.entry.CacheEntryKey.TheVariants.{KeyOnly}
+use Rattle.cache_entries.specs.declared.rows.Tracked as entries
+use Rattle.cache_changes.specs.Changes.{Write, Change, Changes, begins, appends, finishes, removes, admits, uses, departs, evicts}
+use Rattle.cache_changes.specs.Writes.{IsShown}
+use Rattle.cache_changes.specs.Store.{Stored, store_of, shown_at}
+use Rattle.cache_changes.specs.Uses.{admissions}
+use Rattle.tier_entries.specs.Keys.{entry_of, stored_key}
+use Rattle.tier_entries.specs.declared.rows.Tracked.{Tracked}
 use Rattle.tier_model.specs.declared.state.FinishedBody.{FinishedBody}
-use Rattle.tier_model.specs.Keys.{StoredKey, Entry}
-use Rattle.tier_model.specs.Calls.{Call, History, removes, written_by, writes, opened_for, hits, ends_reader}
+use Rattle.tier_model.specs.declared.event.Action.{Action}
+use Rattle.tier_model.specs.declared.event.Action.TheVariants.{LookUp, Purge, Put}
+use Rattle.tier_model.specs.declared.event.Answer.TheVariants.{Found, Purged, Finished}
+use Rattle.tier_model.specs.declared.event.Done.{Done}
+use Rattle.tier_model.specs.Keys.{Entry, entries_of}
+use Rattle.tier_model.specs.Calls.{Call, History, Outcome, extended, done_of, read_by, stored_in, opened_for, hits, ends_reader}
+use Rattle.tier_model.specs.Rows.{weight_for}
+use Rattle.tier_model.specs.State.{Settings}
 
--- w is a write of k that met no removal since it began
-pub record IsAlive (k : StoredKey) (w : FinishedBody) (h : History) : Type 0 where
-  pub since : History
-  pub call : Call
-  pub before : History
-  pub split : h ≡ since ++ call ∷ before
-  pub writes_it : written_by call before ≡ Some w
-  pub of_key : same_key (stored_key w.entry) k ≡ true
-  pub stays : removes k call ≡ false
-  pub kept : AllByRecursion (λ c. removes k c ≡ false) since
+-- what is kept of a write beside its bytes: the entry under which it came, and the last moment at which it is fresh
+pub record Kept : Type 0 where
+  pub entry : CacheEntryKey
+  pub fresh_until : MomentValue
 
--- some write of k is alive
-abbrev pub IsFound : StoredKey → History → Type 0
-IsFound k h = (w : FinishedBody) × IsAlive k w h
+-- the entry that a key has here: it has no id
+abbrev pub alone : Entry → CacheEntryKey
+alone key = KeyOnly key
 
--- no call of the list finished a body of k; before are the calls before the list
-abbrev pub NoneWrites : StoredKey → History → History → Type 0
-NoneWrites k [] before = Unit {0}
-NoneWrites k (c ∷ since) before = (writes k c (since ++ before) ≡ false) × NoneWrites k since before
+abbrev pub rows_alone : List Tracked → List entries.Tracked
+rows_alone rows = map (λ r. record { entry = alone r.entry; weight = r.weight }) rows
 
--- w is the alive write of k that finished last
-pub record IsBody (k : StoredKey) (w : FinishedBody) (h : History) : Type 0 where
-  pub alive : IsAlive k w h
-  pub last : NoneWrites k alive.since (alive.call ∷ alive.before)
+-- how a tier began: what it was made with, and the order of use that it loaded. No body was stored
+pub record Opening : Type 0 where
+  pub settings : Settings
+  pub loaded : List Tracked
+
+-- nothing was loaded
+abbrev pub empty_opening : Settings → Opening
+empty_opening settings = record { settings = settings; loaded = [] }
+
+abbrev pub kept_of : FinishedBody → Kept
+kept_of b = record { entry = alone b.entry; fresh_until = b.fresh_until }
+
+-- the write of a body by the call that came after n others
+abbrev pub write_of : ℕ → FinishedBody → Write Kept
+write_of n b = record { number = n; key = stored_key b.entry; meta = kept_of b }
+
+-- these are evicted, in order
+abbrev pub goes : List Entry → List (Change Kept)
+goes es = map (λ e. evicts (alone e)) es
+
+-- a body is written whole, its entry is admitted, and then these are evicted
+abbrev pub stores : ℕ → FinishedBody → List Entry → List (Change Kept)
+stores n b gone = begins (write_of n b) ∷ appends n b.bytes ∷ finishes (write_of n b) ∷ admits (alone b.entry) (weight_for b) ∷ goes gone
+
+-- what an entry's key has is removed, and the entry departs
+abbrev pub clears : Entry → List (Change Kept)
+clears e = removes (stored_key e) ∷ departs (alone e) ∷ []
+
+-- a put that is refused after its body was stored: what was done until then, and then body and entry go again
+abbrev pub takes_back : ℕ → FinishedBody → Done → List (Change Kept)
+takes_back n b done = if done.stored then ((if done.admitted then stores n b (entries_of done.evicted) else []) ++ clears b.entry) else []
+
+-- by a put whose response gave a body
+abbrev pub put_changes : ℕ → Option FinishedBody → Outcome → List (Change Kept)
+put_changes n (Some b) (Ok (Finished length evicted)) = stores n b (entries_of evicted)
+put_changes n (Some b) (Err fault) = takes_back n b (done_of fault)
+put_changes n _ _ = []
+
+-- a hit that shows x is a use of the entry
+abbrev pub hit_changes : Entry → Option (Stored Kept) → List (Change Kept)
+hit_changes e None = []
+hit_changes e (Some x) = uses (alone e) (max 1 (length x.bytes)) ∷ []
+
+-- by a complete hit of a request that is open for an entry
+abbrev pub look_changes : Option Entry → Changes Kept → List (Change Kept)
+look_changes None before = []
+look_changes (Some e) before = hit_changes e (shown_at (stored_key e) (store_of before))
+
+abbrev pub changes_in : Action → Outcome → Option FinishedBody → History → Changes Kept → List (Change Kept)
+changes_in (LookUp id) (Ok (Found fresh true)) body h before = look_changes (opened_for id h) before
+changes_in (Purge key) (Ok (Purged true)) body h before = clears (entry_of key)
+changes_in (Put key pieces) outcome body h before = put_changes (length h) body outcome
+changes_in _ _ body h before = []
+
+-- what a call changes, in the order in which it happens; h are the calls before it, and `before` what those changed
+abbrev pub changes_by : Call → History → Changes Kept → List (Change Kept)
+changes_by c h before = changes_in c.event.action c.outcome (stored_in (read_by c)) h before
+
+-- what a history changed, the latest change first. What was loaded was admitted before any call
+abbrev pub changes_of : Opening → History → Changes Kept
+changes_of start [] = admissions (rows_alone start.loaded)
+changes_of start (c ∷ h) = extended (changes_of start h) (changes_by c h (changes_of start h))
 
 -- the request's last look-up found all of w; since are the calls after it
-pub record HasHit (id : ℕ) (w : FinishedBody) (since h : History) : Type 0 where
+pub record HasHit (start : Opening) (id : ℕ) (w : Write Kept) (since h : History) : Type 0 where
   pub call : Call
   pub before : History
   pub entry : Entry
   pub split : h ≡ since ++ call ∷ before
   pub hit : hits id call ≡ true
   pub of_entry : opened_for id before ≡ Some entry
-  pub shows : IsBody (stored_key entry) w before
+  pub shows : IsShown (stored_key entry) w (changes_of start before)
   pub last : AllByRecursion (λ c. ends_reader id c ≡ false) since
-
--- bodies of different stored keys
-abbrev pub HasDistinctKeys : List FinishedBody → Type 0
-HasDistinctKeys [] = Unit {0}
-HasDistinctKeys (b ∷ bs) = AllByRecursion (λ c. same_key (stored_key c.entry) (stored_key b.entry) ≡ false) bs × HasDistinctKeys bs
-
--- finished bodies, one a key, keep the weight limit with their bytes, and the watermark with their number
-abbrev pub IsWithin : ℕ → Option ℕ → History → Type 0
-IsWithin limit watermark h =
-    (bodies : List FinishedBody) → HasDistinctKeys bodies → AllByRecursion (λ b. IsBody (stored_key b.entry) b h) bodies
-    → (sum_by (λ b. length b.bytes) bodies ≤ limit) × (is_past watermark (length bodies) ≡ false)

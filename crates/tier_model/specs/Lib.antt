@@ -3,7 +3,6 @@ pub mod Response
 pub mod Calls
 pub mod Histories
 pub mod Requests
-pub mod Use
 pub mod Headline
 pub mod Rows
 pub mod State

@@ -1,38 +1,56 @@
 -- A state with the history that led to it.
-use Rattle.std.specs.Prelude.{◌≡◌, List, [], ◌∷◌}
+use Rattle.std.specs.Prelude.{◌≡◌, ℕ, List, [], ◌∷◌, map}
+use Rattle.cache_entries.specs.Rows.{AreDistinct}
+use Rattle.cache_changes.specs.Changes.{Write, Changes}
+use Rattle.cache_changes.specs.Writes.{bytes_of, meta_of}
+use Rattle.cache_changes.specs.Uses.{IsOrderOfUse}
+use Rattle.tier_model.specs.declared.state.FinishedBody.{FinishedBody}
 use Rattle.tier_model.specs.Calls.{Call, History, extended}
+use Rattle.tier_model.specs.Histories.{Kept, rows_alone, Opening, kept_of, changes_of}
 use Rattle.tier_model.specs.Headline.{HoldsHeadline}
-use Rattle.tier_model.specs.Use.{IsOrderOfUse}
 use Rattle.tier_model.specs.Requests.{AreRequests}
 use Rattle.tier_model.specs.Reports.{AreAllBodies, shown, found_answers, absent_answers, evictions}
-use Rattle.tier_model.specs.State.{Settings, State, empty_state}
+use Rattle.tier_model.specs.State.{State, empty_state}
 use Rattle.tier_model.specs.Step.{Allows, after}
 
 -- the state of a tier after a history
-abbrev pub state_of : Settings → History → State
-state_of settings [] = empty_state settings
-state_of settings (c ∷ h) = after (state_of settings h) c
+abbrev pub state_of : Opening → History → State
+state_of start [] = record (empty_state start.settings) { tracked = start.loaded }
+state_of start (c ∷ h) = after (state_of start h) c
 
--- each outcome is one that the state before it allows
-abbrev pub IsLawful : Settings → History → Type 0
-IsLawful settings [] = Unit {0}
-IsLawful settings (c ∷ h) = Allows (state_of settings h) c × IsLawful settings h
+-- each outcome is one that the state before it allows; no entry was loaded twice
+abbrev pub IsLawful : Opening → History → Type 0
+IsLawful start [] = AreDistinct (rows_alone start.loaded)
+IsLawful start (c ∷ h) = Allows (state_of start h) c × IsLawful start h
 
--- the state is what the history says: its bodies, one a key, the order of use, the open requests, and the counts
-pub record MatchesHistory (s : State) (h : History) : Type 0 where
-  pub bodies : AreAllBodies s.bodies h
-  pub order : IsOrderOfUse s.tracked h
-  pub requests : AreRequests s.requests h
+-- what is kept of a body, and what changes say of a write
+abbrev pub held_of : FinishedBody → Kept × List ℕ
+held_of b = (kept_of b, b.bytes)
+
+abbrev pub told_of : Changes Kept → Write Kept → Kept × List ℕ
+told_of changes w = (meta_of w changes, bytes_of w.number changes)
+
+-- the state's bodies are all that the history has, one a key, each with its bytes, its entry and its moment
+abbrev pub HoldsBodies : State → Opening → History → Type 0
+HoldsBodies s start h =
+    (writes : List (Write Kept)) × AreAllBodies writes (changes_of start h)
+    × (map held_of s.bodies ≡ map (told_of (changes_of start h)) writes)
+
+-- the state is what the history says: its bodies, the order of use, the open requests, and the counts
+pub record MatchesHistory (s : State) (start : Opening) (h : History) : Type 0 where
+  pub bodies : HoldsBodies s start h
+  pub order : IsOrderOfUse (rows_alone s.tracked) (changes_of start h)
+  pub requests : AreRequests start s.requests h
   pub found : s.found ≡ shown (found_answers h)
   pub absent : s.absent ≡ shown (absent_answers h)
   pub evicted : s.evicted ≡ shown (evictions h)
 
 -- the state may come after that history; the headline holds of it, and the state is what it says
-pub record HasPast (settings : Settings) (s : State) (h : History) : Type 0 where
-  pub lawful : IsLawful settings h
-  pub state : s ≡ state_of settings h
-  pub headline : HoldsHeadline settings.limit settings.watermark h
-  pub matches : MatchesHistory s h
+pub record HasPast (start : Opening) (s : State) (h : History) : Type 0 where
+  pub lawful : IsLawful start h
+  pub state : s ≡ state_of start h
+  pub headline : HoldsHeadline start h
+  pub matches : MatchesHistory s start h
 
 -- the calls were taken in order, each one that the state before it allows, and led from the old state to the new one
 abbrev pub AreTaken : State → List Call → State → Type 0
@@ -41,4 +59,4 @@ AreTaken old (c ∷ calls) new = Allows old c × AreTaken (after old c) calls ne
 
 -- the headline holds of every past that the tier may have had, with these calls after it
 abbrev pub CarriesHeadline : State → List Call → State → Type 0
-CarriesHeadline old calls new = (settings : Settings) (past : History) → HasPast settings old past → HasPast settings new (extended past calls)
+CarriesHeadline old calls new = (start : Opening) (past : History) → HasPast start old past → HasPast start new (extended past calls)

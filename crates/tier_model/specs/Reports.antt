@@ -1,17 +1,18 @@
 -- The report of a tier: of a state, and of the history after it.
-use Rattle.std.specs.Prelude.{◌≡◌, ℕ, ◌+◌, ◌-◌, ◌^◌, min, Bool, true, false, List, [], ◌∷◌, length, if◌then◌else◌, Some, Ok}
+use Rattle.std.specs.Prelude.{◌≡◌, ℕ, ◌+◌, ◌-◌, ◌^◌, min, Bool, true, false, List, [], ◌∷◌, length, find, if◌then◌else◌, Some, Ok}
 use Rattle.std.specs.List.{sum_by, AllByRecursion}
-use Rattle.tier_entries.specs.Keys.{stored_key}
-use Rattle.tier_entries.specs.declared.rows.Tracked.{Tracked}
-use Rattle.tier_entries.specs.Rows.{all_weights}
-use Rattle.tier_model.specs.declared.state.FinishedBody.{FinishedBody}
+use Rattle.cache_entries.specs.Keys.{same_bytes}
+use Rattle.cache_entries.specs.declared.rows.Tracked.{Tracked}
+use Rattle.cache_entries.specs.Rows.{all_weights}
+use Rattle.cache_changes.specs.Changes.{StoredKey, Write, Changes}
+use Rattle.cache_changes.specs.Writes.{bytes_of, IsBody}
+use Rattle.cache_changes.specs.Uses.{IsOrderOfUse}
+use Rattle.cache_changes.specs.Bound.{HasDistinctKeys}
+use Rattle.tier_entries.specs.Rows as held
 use Rattle.tier_model.specs.declared.event.Answer.TheVariants.{Found, Absent}
 use Rattle.tier_model.specs.declared.report.Report.{Report}
-use Rattle.tier_model.specs.Keys.{StoredKey}
 use Rattle.tier_model.specs.Calls.{History, Outcome, evicted_by}
-use Rattle.tier_model.specs.Histories.{IsBody, HasDistinctKeys}
-use Rattle.tier_model.specs.Use.{IsOrderOfUse}
-use Rattle.tier_model.specs.Rows.{body_of}
+use Rattle.tier_model.specs.Histories.{Kept, Opening, changes_of}
 use Rattle.tier_model.specs.State.{State}
 use Rattle.tier_model.specs.Step.{counted}
 
@@ -23,7 +24,7 @@ report_of s = record {
   bodies = length s.bodies;
   bytes = counted 0 (sum_by (λ b. length b.bytes) s.bodies);
   tracked = length s.tracked;
-  weight = all_weights s.tracked;
+  weight = held.all_weights s.tracked;
   evicted = s.evicted;
 }
 
@@ -54,16 +55,17 @@ evictions (c ∷ h) = evictions h + length (evicted_by c.outcome)
 abbrev pub shown : ℕ → ℕ
 shown n = min n (2 ^ 64 - 1)
 
--- the bodies are all that the history has, each once
-pub record AreAllBodies (bodies : List FinishedBody) (h : History) : Type 0 where
-  pub distinct : HasDistinctKeys bodies
-  pub each : AllByRecursion (λ b. IsBody (stored_key b.entry) b h) bodies
-  pub all : (k : StoredKey) (b : FinishedBody) → IsBody k b h → body_of k bodies ≡ Some b
+-- the writes are all that are bodies, each once
+pub record AreAllBodies (writes : List (Write Kept)) (changes : Changes Kept) : Type 0 where
+  pub distinct : HasDistinctKeys writes
+  pub each : AllByRecursion (λ w. IsBody w.key w changes) writes
+  pub all : (k : StoredKey) (w : Write Kept) → IsBody k w changes → find (λ v. same_bytes v.key k) writes ≡ Some w
 
 -- what the report tells of a history
-pub record IsReport (r : Report) (h : History) : Type 0 where
+pub record IsReport (r : Report) (start : Opening) (h : History) : Type 0 where
   pub found : r.found ≡ shown (found_answers h)
   pub absent : r.absent ≡ shown (absent_answers h)
   pub evicted : r.evicted ≡ shown (evictions h)
-  pub bodies : (bodies : List FinishedBody) × AreAllBodies bodies h × (r.bodies ≡ length bodies) × (r.bytes ≡ shown (sum_by (λ b. length b.bytes) bodies))
-  pub tracked : (rows : List Tracked) × IsOrderOfUse rows h × (r.tracked ≡ length rows) × (r.weight ≡ all_weights rows)
+  pub bodies : (writes : List (Write Kept)) × AreAllBodies writes (changes_of start h) × (r.bodies ≡ length writes)
+      × (r.bytes ≡ shown (sum_by (λ w. length (bytes_of w.number (changes_of start h))) writes))
+  pub tracked : (rows : List Tracked) × IsOrderOfUse rows (changes_of start h) × (r.tracked ≡ length rows) × (r.weight ≡ all_weights rows)

@@ -2,7 +2,8 @@
 use Rattle.std.specs.Prelude.{◌≡◌, ℕ, ◌==◌, List, [], ◌∷◌, if◌then◌else◌, Some, None, Ok, MatchOption}
 use Rattle.std.specs.FinMap.{FinMap, get}
 use Rattle.std.specs.Ordering.{nat_cmp}
-use Rattle.tier_model.specs.declared.state.FinishedBody.{FinishedBody}
+use Rattle.cache_changes.specs.Changes.{Write}
+use Rattle.cache_changes.specs.Writes.{bytes_of}
 use Rattle.tier_model.specs.declared.state.Request.{Request}
 use Rattle.tier_model.specs.declared.state.Phase.{Phase}
 use Rattle.tier_model.specs.declared.state.Phase.TheVariants.{CacheKey, Hit, Stale, Miss}
@@ -12,7 +13,7 @@ use Rattle.tier_model.specs.declared.event.Action.{Action}
 use Rattle.tier_model.specs.declared.event.Action.TheVariants.{Open, LookUp, Read}
 use Rattle.tier_model.specs.declared.event.Answer.TheVariants.{Opened, Found, Absent}
 use Rattle.tier_model.specs.Calls.{History, Outcome, opened_for}
-use Rattle.tier_model.specs.Histories.{HasHit}
+use Rattle.tier_model.specs.Histories.{Kept, Opening, changes_of, HasHit}
 
 abbrev pub phase_after : ℕ → Action → Outcome → Phase → Phase
 phase_after id (Open request key) (Ok Opened) old = if request == id then CacheKey else old
@@ -38,15 +39,15 @@ reader_of id bytes [] = Closed
 reader_of id bytes (c ∷ h) = reader_after id bytes c.event.action c.outcome (reader_of id bytes h)
 
 -- the request's last look-up found all of a body with these bytes
-abbrev pub HasFound : ℕ → List ℕ → History → Type 0
-HasFound id bytes h = (w : FinishedBody) × (since : History) × HasHit id w since h × (bytes ≡ w.bytes)
+abbrev pub HasFound : Opening → ℕ → List ℕ → History → Type 0
+HasFound start id bytes h = (w : Write Kept) × (since : History) × (hit : HasHit start id w since h) × (bytes ≡ bytes_of w.number (changes_of start hit.before))
 
 -- q is what the calls of the open request say
-pub record IsRequestOf (id : ℕ) (q : Request) (h : History) : Type 0 where
+pub record IsRequestOf (start : Opening) (id : ℕ) (q : Request) (h : History) : Type 0 where
   pub entry : opened_for id h ≡ Some q.entry
   pub phase : q.phase ≡ phase_of id h
-  pub reader : (bytes : List ℕ) × (q.reader ≡ reader_of id bytes h) × (q.reader ≡ Unread bytes → HasFound id bytes h)
+  pub reader : (bytes : List ℕ) × (q.reader ≡ reader_of id bytes h) × (q.reader ≡ Unread bytes → HasFound start id bytes h)
 
 -- the requests are those that are open, each as its calls say
-abbrev pub AreRequests : FinMap nat_cmp Request → History → Type 0
-AreRequests requests h = (id : ℕ) → MatchOption (get requests id) (opened_for id h ≡ None) (λ q. IsRequestOf id q h)
+abbrev pub AreRequests : Opening → FinMap nat_cmp Request → History → Type 0
+AreRequests start requests h = (id : ℕ) → MatchOption (get requests id) (opened_for id h ≡ None) (λ q. IsRequestOf start id q h)

@@ -1,28 +1,38 @@
 //! Laws over definitions alone. The functions do nothing: their contracts are the laws.
 ghost use Rattle.tier_model.specs.Calls.{History};
 ghost use Rattle.tier_model.specs.Headline.{HoldsHeadline};
+ghost use Rattle.tier_model.specs.Histories.{Opening, changes_of};
+ghost use Rattle.cache_changes.specs.Bound.{TracksBodies};
+ghost use Rattle.cache_changes.specs.Writes.{IsOrderly};
 ghost use Rattle.std.specs.Prelude.{◌≡◌, ◌≢◌, ℕ, List};
 ghost use Rattle.tier_model.specs.declared.whole.Whole.TheVariants.{BadHead};
 ghost use Rattle.cache_words.specs.Time.{MomentValue};
 ghost use Rattle.tier_model.specs.Keys.{Entry};
 ghost use Rattle.tier_model.specs.Response.{IsPlain, IsWellFormed, Reading, IsReading, whole_of};
-ghost use Rattle.tier_model.specs.State.{Settings, State};
+ghost use Rattle.tier_model.specs.State.{State};
 ghost use Rattle.tier_model.specs.Past.{IsLawful, MatchesHistory, state_of};
 ghost use Rattle.tier_model.specs.Reports.{IsReport, report_of};
 
-/// Whatever a tier's state allows, call by call from the empty one, the headline holds of the whole history.
+/// Whatever a tier's state allows, call by call from its opening, the headline holds of the whole history.
 pub fn lawful_histories_hold_the_headline()
-    ensures { (settings : Settings) (h : History) → IsLawful settings h → HoldsHeadline settings.limit settings.watermark h }
+    ensures { (start : Opening) (h : History) → IsLawful start h → HoldsHeadline start h }
+{}
+
+/// The changes of such a history are orderly: writes begin, get bytes and finish in order, with a number each. And they keep
+/// each body tracked: its entry is admitted as it finishes, and departs only when the body's key has none.
+pub fn lawful_histories_are_orderly()
+    ensures orderly { (start : Opening) (h : History) → IsLawful start h → IsOrderly (changes_of start h) }
+    ensures tracks { (start : Opening) (h : History) → IsLawful start h → TracksBodies (changes_of start h) }
 {}
 
 /// The state after such a history is what it says.
 pub fn lawful_states_tell_their_history()
-    ensures { (settings : Settings) (h : History) → IsLawful settings h → MatchesHistory (state_of settings h) h }
+    ensures { (start : Opening) (h : History) → IsLawful start h → MatchesHistory (state_of start h) start h }
 {}
 
 /// The report of a state that is what a history says tells of that history.
 pub fn reports_tell_the_history()
-    ensures { (s : State) (h : History) → MatchesHistory s h → IsReport (report_of s) h }
+    ensures { (s : State) (start : Opening) (h : History) → MatchesHistory s start h → IsReport (report_of s) start h }
 {}
 
 /// A response whose head the parser's default options read or begin to read has one reading, and so gives one thing at a moment.

@@ -4,6 +4,7 @@ use Rattle.std.specs.Prelude.{Option, Some, None, IfSome}
 use Rattle.std.specs.Io.KnownBytes.{Appends, Keeps, prepend_known}
 use Rattle.std.specs.Io.BufRead.{take_through, drop_through, strip_last}
 use Rattle.tier_model.specs.Calls.{Call, History}
+use Rattle.tier_model.specs.Histories.{empty_opening}
 use Rattle.tier_model.specs.Past.{HasPast}
 use Rattle.tier_model.specs.Reports.{report_of}
 use Rattle.tier_model.specs.State.{Settings, State, empty_state}
@@ -38,7 +39,7 @@ pub record Answered (settings : Settings) (lines left : List Line) (answers : Li
   pub history : History
   pub split : lines ≡ answered ++ left
   pub replays : Replays answered [] history answers
-  pub past : HasPast settings state history
+  pub past : HasPast (empty_opening settings) state history
 
 -- of the answers, `sent` are written and the others are waiting
 pub record Progress (settings : Settings) (trace : List ℕ) (reads : ℕ) (rest held written : Option (List ℕ)) (waiting : List ℕ) (state : State) : Type 0 where
@@ -53,7 +54,7 @@ pub record Progress (settings : Settings) (trace : List ℕ) (reads : ℕ) (rest
 abbrev pub Halfway : Settings → ℕ → Option (List ℕ) → Option (List ℕ) → Option (List ℕ) → Option (List ℕ) → List ℕ → State → Type 0
 Halfway settings reads input rest held written waiting state = IfSome input (λ trace. Progress settings trace reads rest held written waiting state)
 
-answered_none : (settings : Settings) (lines : List Line) (state : State) → HasPast settings state [] → Answered settings lines lines [] state
+answered_none : (settings : Settings) (lines : List Line) (state : State) → HasPast (empty_opening settings) state [] → Answered settings lines lines [] state
 answered_none settings lines state past = record {
   answered = [];
   history = [];
@@ -62,7 +63,7 @@ answered_none settings lines state past = record {
   past = past;
 }
 
-pub halfway_start : (settings : Settings) (input held : Option (List ℕ)) (state : State) (front waiting : List ℕ) → HasPast settings state [] → front ≡ [] → waiting ≡ []
+pub halfway_start : (settings : Settings) (input held : Option (List ℕ)) (state : State) (front waiting : List ℕ) → HasPast (empty_opening settings) state [] → front ≡ [] → waiting ≡ []
     → Halfway settings 0 input (prepend_known front input) held held waiting state
 halfway_start settings None held state front waiting past none empty = tt
 halfway_start settings (Some trace) held state front waiting past none empty = record {
@@ -81,7 +82,7 @@ answered_more settings old new lines (Refused refusal) left answers text so_far 
   history = so_far.history;
   split = so_far.split ∙ sym (append_assoc so_far.answered (Refused refusal ∷ []) left);
   replays = replays_more so_far.answered (Refused refusal) [] so_far.history so_far.history answers text so_far.replays ([], answer.2 ∙ (ap ended answer.1.1 ∙ sym (append-nil (ended (refusal_text refusal)))), (refl, refl));
-  past = subst (λ s. HasPast settings s so_far.history) (sym answer.1.0) so_far.past;
+  past = subst (λ s. HasPast (empty_opening settings) s so_far.history) (sym answer.1.0) so_far.past;
 }
 answered_more settings old new lines (Accepted event) left answers text so_far answer =
     let call : Call = answer.1.0 in
@@ -91,7 +92,7 @@ answered_more settings old new lines (Accepted event) left answers text so_far a
       split = so_far.split ∙ sym (append_assoc so_far.answered (Accepted event ∷ []) left);
       replays = replays_more so_far.answered (Accepted event) [] so_far.history (call ∷ so_far.history) answers text so_far.replays
           (call, [], answer.1.1, answer.2 ∙ (ap ended answer.1.3 ∙ sym (append-nil (ended (outcome_text call.outcome)))), (refl, refl));
-      past = answer.1.2 settings so_far.history so_far.past;
+      past = answer.1.2 (empty_opening settings) so_far.history so_far.past;
     }
 
 -- the bytes that are left, after reading ahead
@@ -191,7 +192,7 @@ nothing_left settings reads n trace next held new front waiting state half first
     no_line front known.0 half.left n zero (subst (λ o. IfSome o (λ rest. IsLineBefore n front rest)) known.1 first) known.2
 
 all_answered : (settings : Settings) (lines : List Line) (answers : List ℕ) (state : State) → Answered settings lines [] answers state
-    → (history : History) × Replays lines [] history answers × HasPast settings state history
+    → (history : History) × Replays lines [] history answers × HasPast (empty_opening settings) state history
 all_answered settings lines answers state so_far =
     (so_far.history, subst (λ l. Replays l [] so_far.history answers) (sym (so_far.split ∙ append-nil so_far.answered)) so_far.replays, so_far.past)
 

@@ -1,6 +1,7 @@
 -- What a trace is answered with.
 use Rattle.std.specs.Prelude.{◌≡◌, ℕ, ◌==◌, List, [], ◌∷◌, ◌++◌, map, if◌then◌else◌}
 use Rattle.tier_model.specs.Calls.{Call, History}
+use Rattle.tier_model.specs.Histories.{empty_opening}
 use Rattle.tier_model.specs.Past.{HasPast}
 use Rattle.tier_model.specs.Reports.{report_of}
 use Rattle.tier_model.specs.State.{Settings, State}
@@ -43,7 +44,7 @@ pub record IsReplay (settings : Settings) (lines : List Line) (text : List ℕ) 
   pub answers : List ℕ
   pub state : State
   pub replays : Replays lines [] history answers
-  pub past : HasPast settings state history
+  pub past : HasPast (empty_opening settings) state history
   pub reported : text ≡ answers ++ ended (report_text (report_of state))
 
 -- the report of the state, where no line is left
@@ -62,5 +63,5 @@ pub record IsBegun (settings : Settings) (lines : List Line) (text : List ℕ) :
   pub rest : List ℕ
   pub split : lines ≡ answered ++ left
   pub replays : Replays answered [] history answers
-  pub past : HasPast settings state history
+  pub past : HasPast (empty_opening settings) state history
   pub begins : answers ++ last_text left state ≡ text ++ rest

@@ -2,6 +2,7 @@
 ghost use Rattle.std.specs.Prelude.{◌≡◌, ℕ, List, [], ◌++◌, IfOk, IfErr, OnOk, OnErr, IfSome, string_bytes, ◌≤◌, ◌-◌, ◌^◌, length};
 ghost use Rattle.std.specs.Io.KnownBytes.{Appends, Keeps, prepend_known};
 ghost use Rattle.std.specs.Io.BufRead.{strip_last};
+ghost use Rattle.tier_model.specs.Histories.{empty_opening};
 ghost use Rattle.tier_model.specs.Past.{HasPast};
 ghost use Rattle.tier_model.specs.Reports.{report_of};
 ghost use Rattle.trace_lines.specs.Lines.{line_of};
@@ -116,7 +117,7 @@ pub fn run<R: Read, W: Write>(
 }
 
 fn tier_for(alloc: Global, options: &ReplayOptions) -> Result<Tier<1>, AllocError>
-    ensures { IfOk result (λ tier. HasPast (settings_of options.now) tier []) }
+    ensures { IfOk result (λ tier. HasPast (empty_opening (settings_of options.now)) tier []) }
 {
     let watermark = options.watermark.map(|entries| entries as usize);
     let age = Duration::from_seconds(PERMIT_AGE);

@@ -1,4 +1,4 @@
-use Rattle.tier_model.proofs.ReportLaws.{IsReport-matches}
+use Rattle.tier_model.proofs.Carried.{IsReport-matches}
 use Rattle.tier_model.proofs.laws.reports_tell_the_history.Goals as goal
 
 pub returns : goal.returns

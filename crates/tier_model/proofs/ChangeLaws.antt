@@ -1,0 +1,301 @@
+-- What changes leave is what a tier's state holds: change by change.
+use Rattle.std.proofs.Common.{◌≡◌, ℕ, ◌≤◌, suc, refl, ap, sym, ◌∙◌, true, false, subst, cond, [], ◌∷◌, length, arith}
+use Rattle.std.specs.Prelude.{Bool, List, Option, Some, None, option_map, is_some, map, find}
+use Rattle.std.specs.List.{AllByRecursion}
+use Rattle.cache_entries.specs.Keys.{same_bytes}
+use Rattle.cache_entries.specs.declared.rows.Tracked as entries
+use Rattle.cache_entries.specs.Rows as all
+use Rattle.cache_changes.specs.Changes.{StoredKey, Write, Change, Changes, begins, appends, finishes, removes, uses, evicts}
+use Rattle.cache_changes.specs.Writes.{bytes_of, has_ended, BeginsBelow, IsOrderly, IsInFlight, IsAlive, IsFlying, IsFound, IsShown, IsBody}
+use Rattle.cache_changes.specs.Store.{Stored, Flying, Store, store_of, after, with_body, marked, body_at, shown_at, is_found_at, flying_at, stored_of, has_number, IsFlight}
+use Rattle.cache_changes.specs.Bound.{SettlesAtOnce, TracksBodies, is_settled}
+use Rattle.cache_changes.specs.Uses.{rows_of, last_weight, IsOrderOfUse, EvictsLawfully}
+use Rattle.cache_changes.proofs.FoundLaws.{store_of-is}
+use Rattle.cache_changes.proofs.UseLaws.{IsOrderOfUse-rows_of}
+use Rattle.cache_changes.proofs.WriteLaws.{same_number, fresh_end, all_begin_less}
+use Rattle.std.proofs.Math.Nat.{le-max_right}
+use Rattle.tier_entries.specs.Keys.{stored_key, same_key, has_key}
+use Rattle.tier_entries.proofs.KeyLaws.{same_key-tells}
+use Rattle.tier_entries.specs.declared.rows.Tracked.{Tracked}
+use Rattle.tier_entries.specs.Rows as alone_rows
+use Rattle.tier_entries.specs.Rows.{weight_of, without_row, without_rows, admitted, used, is_over}
+use Rattle.tier_model.specs.declared.state.FinishedBody.{FinishedBody}
+use Rattle.tier_model.specs.Keys.{Entry}
+use Rattle.tier_model.specs.Calls.{extended}
+use Rattle.tier_model.specs.Histories.{Kept, alone, rows_alone, kept_of, write_of, goes, stores, clears}
+use Rattle.tier_model.specs.Headline.{shards}
+use Rattle.tier_model.specs.Past.{held_of, told_of}
+use Rattle.tier_model.specs.Rows.{body_of, with_body as put_body, without_body, without_bodies, weight_for}
+use Rattle.tier_model.proofs.BodyLaws.{body_of-without, body_of-with, body_of-without_all, body_at-without, body_at-with, view, AreSame, both_gone, both_there}
+use Rattle.tier_model.proofs.RowSteps.{rows-without, rows-weight, rows-admitted, rows-used, rows-over, rows-last, AreLasts, taken_out}
+
+-- after n calls the changes leave these bodies, with none in flight, and these rows; what went went lawfully
+pub record Leaves (limit : ℕ) (mark : Option ℕ) (n : ℕ) (held : List FinishedBody) (tracked : List Tracked) (changes : Changes Kept) : Type 0 where
+  pub orderly : IsOrderly changes
+  pub below : AllByRecursion (BeginsBelow n) changes
+  pub landed : (store_of changes).flying ≡ []
+  pub bodies : (k : StoredKey) → AreSame (body_of k held) (body_at k (store_of changes))
+  pub rows : rows_alone tracked ≡ rows_of changes
+  pub lawful : EvictsLawfully shards limit mark changes
+  pub tracks : TracksBodies changes
+  pub settled : is_settled changes ≡ true
+
+-- the store after a whole write
+stored_whole : (w : Write Kept) (bytes : List ℕ) (s : Store Kept) → s.flying ≡ []
+    → after (finishes w) (after (appends w.number bytes) (after (begins w) s)) ≡ record { bodies = with_body (Some (record { write = w; meta = w.meta; bytes = bytes })) s.bodies; flying = [] }
+stored_whole w bytes s e = rw (e, same_number w.number, same_number w.number) refl
+
+-- after what is settled anything may come
+pub unbound : (c : Change Kept) (before : Changes Kept) → is_settled before ≡ true → SettlesAtOnce c before
+unbound c [] e = tt
+unbound c (finishes w ∷ before) e = absurd cc
+unbound c (_ ∷ before) e = tt
+
+-- a write that just began
+just_began : (w : Write Kept) (before : Changes Kept) → IsInFlight w (begins w ∷ before)
+just_began w before = record { since = []; before = before; split = refl; flies = tt }
+
+-- what was removed has no body
+no_body : (j : StoredKey) (w : Write Kept) (changes : Changes Kept) → IsOrderly (removes j ∷ changes) → same_bytes j w.key ≡ true → IsBody w.key w (removes j ∷ changes) → ⊥
+no_body j w changes o t i =
+    let there : body_at w.key (store_of (removes j ∷ changes)) ≡ Some (stored_of w (removes j ∷ changes)) = ((store_of-is (removes j ∷ changes) o).bodies w.key (stored_of w (removes j ∷ changes))).1 (i, refl) in
+    let none : body_at w.key (store_of (removes j ∷ changes)) ≡ None = body_at-without w.key j (store_of changes).bodies ∙ ap (λ v. cond v None (body_at w.key (store_of changes))) t in
+    absurd cc
+
+module _ (limit : ℕ) (mark : Option ℕ) where
+  pub leaves-later : (m n : ℕ) (bodies : List FinishedBody) (rows : List Tracked) (changes : Changes Kept) → m ≤ n → Leaves limit mark m bodies rows changes → Leaves limit mark n bodies rows changes
+  leaves-later m n bodies rows changes h l = record {
+    orderly = l.orderly;
+    below = all_begin_less m n changes h l.below;
+    landed = l.landed;
+    bodies = l.bodies;
+    rows = l.rows;
+    lawful = l.lawful;
+    tracks = l.tracks;
+    settled = l.settled;
+  }
+
+  -- other bodies and rows that are the same
+  leaves-same : (n : ℕ) (old new : List FinishedBody) (rows rows2 : List Tracked) (changes : Changes Kept)
+      → ((k : StoredKey) → body_of k new ≡ body_of k old) → rows2 ≡ rows → Leaves limit mark n old rows changes → Leaves limit mark n new rows2 changes
+  leaves-same n old new rows rows2 changes f e l = record {
+    orderly = l.orderly;
+    below = l.below;
+    landed = l.landed;
+    bodies = λ k. ap (option_map held_of) (f k) ∙ l.bodies k;
+    rows = ap rows_alone e ∙ l.rows;
+    lawful = l.lawful;
+    tracks = l.tracks;
+    settled = l.settled;
+  }
+
+  without_same : (j : StoredKey) (bodies : List FinishedBody) (s : Store Kept) → ((k : StoredKey) → AreSame (body_of k bodies) (body_at k s))
+      → (k : StoredKey) → AreSame (body_of k (without_body j bodies)) (body_at k (after (removes j) s))
+  without_same j bodies s f k =
+      ap (option_map held_of) (body_of-without k j bodies) ∙ both_gone (same_key j k) (body_of k bodies) (body_at k s) (f k) ∙ sym (ap (option_map view) (body_at-without k j s.bodies))
+
+  pub leaves-removed : (n : ℕ) (j : StoredKey) (bodies : List FinishedBody) (rows : List Tracked) (changes : Changes Kept)
+      → Leaves limit mark n bodies rows changes → Leaves limit mark n (without_body j bodies) rows (removes j ∷ changes)
+  leaves-removed n j bodies rows changes l = record {
+    orderly = (tt, l.orderly);
+    below = (tt, l.below);
+    landed = ap (map (marked (Some j))) l.landed;
+    bodies = without_same j bodies (store_of changes) l.bodies;
+    rows = l.rows;
+    lawful = l.lawful;
+    tracks = (unbound (removes j) changes l.settled, tt, l.tracks);
+    settled = refl;
+  }
+
+  pub leaves-used : (n : ℕ) (e : Entry) (w : ℕ) (bodies : List FinishedBody) (rows : List Tracked) (changes : Changes Kept)
+      → Leaves limit mark n bodies rows changes → Leaves limit mark n bodies (used e w rows) (uses (alone e) w ∷ changes)
+  leaves-used n e w bodies rows changes l = record {
+    orderly = (tt, l.orderly);
+    below = (tt, l.below);
+    landed = l.landed;
+    bodies = l.bodies;
+    rows = rows-used e w rows ∙ ap (all.used (alone e) w) l.rows;
+    lawful = l.lawful;
+    tracks = (unbound (uses (alone e) w) changes l.settled, tt, l.tracks);
+    settled = refl;
+  }
+
+  leaves-evicted : (n : ℕ) (e : Entry) (bodies : List FinishedBody) (rows : List Tracked) (changes : Changes Kept) → is_over limit mark rows ≡ true → alone_rows.IsLast e rows
+      → Leaves limit mark n bodies rows changes → Leaves limit mark n (without_body (stored_key e) bodies) (without_row e rows) (evicts (alone e) ∷ changes)
+  leaves-evicted n e bodies rows changes over last l = record {
+    orderly = (tt, l.orderly);
+    below = (tt, l.below);
+    landed = ap (map (marked (Some (stored_key e)))) l.landed;
+    bodies = without_same (stored_key e) bodies (store_of changes) l.bodies;
+    rows = rows-without e rows ∙ ap (all.without_row (alone e)) l.rows;
+    lawful = (
+      record {
+        rows = rows_alone rows;
+        order = subst (λ (r : List entries.Tracked). IsOrderOfUse r changes) (sym l.rows) (IsOrderOfUse-rows_of changes);
+        over = rows-over limit mark rows ∙ over;
+        last = rows-last e rows last;
+      },
+      l.lawful,
+    );
+    tracks = (unbound (evicts (alone e)) changes l.settled, tt, l.tracks);
+    settled = refl;
+  }
+
+  pub leaves-gone : (n : ℕ) (es : List Entry) (bodies : List FinishedBody) (rows : List Tracked) (changes : Changes Kept) → AreLasts limit mark rows es
+      → Leaves limit mark n bodies rows changes → Leaves limit mark n (without_bodies es bodies) (without_rows es rows) (extended changes (goes es))
+  leaves-gone n [] bodies rows changes h l = l
+  leaves-gone n (e ∷ es) bodies rows changes h l =
+      leaves-gone n es (without_body (stored_key e) bodies) (without_row e rows) (evicts (alone e) ∷ changes) h.2 (leaves-evicted n e bodies rows changes h.0 h.1 l)
+
+  pub leaves-cleared : (n : ℕ) (e : Entry) (bodies : List FinishedBody) (rows : List Tracked) (changes : Changes Kept)
+      → Leaves limit mark n bodies rows changes → Leaves limit mark n (without_body (stored_key e) bodies) (without_row e rows) (extended changes (clears e))
+  leaves-cleared n e bodies rows changes l =
+      let r = leaves-removed n (stored_key e) bodies rows changes l in
+      record {
+        orderly = (tt, r.orderly);
+        below = (tt, r.below);
+        landed = r.landed;
+        bodies = r.bodies;
+        rows = rows-without e rows ∙ ap (all.without_row (alone e)) l.rows;
+        lawful = l.lawful;
+        tracks = (tt, λ w t i. no_body (stored_key e) w changes r.orderly t i, r.tracks);
+        settled = refl;
+      }
+
+  -- a body is written whole and its entry admitted
+  pub leaves-stored : (n : ℕ) (b : FinishedBody) (bodies : List FinishedBody) (rows : List Tracked) (changes : Changes Kept)
+      → Leaves limit mark n bodies rows changes → Leaves limit mark (suc n) (put_body b bodies) (admitted b.entry (weight_for b) rows) (extended changes (stores n b []))
+  leaves-stored n b bodies rows changes l =
+      let w : Write Kept = write_of n b in
+      let x : Stored Kept = record { write = w; meta = kept_of b; bytes = b.bytes } in
+      let left = stored_whole w b.bytes (store_of changes) l.landed in
+      let written : Changes Kept = appends n b.bytes ∷ begins w ∷ changes in
+      let flies : IsInFlight w written = record { since = appends n b.bytes ∷ []; before = changes; split = refl; flies = (refl, tt) } in
+      let alive : IsAlive w written = record { since = appends n b.bytes ∷ []; before = changes; split = refl; kept = (refl, tt); held = (refl, tt) } in
+      let finished : Changes Kept = finishes w ∷ written in
+      let orderly : IsOrderly finished = ((flies, alive), (((w, refl, just_began w changes), fresh_end n changes l.below l.orderly), (l.below, l.orderly))) in
+      let enough : (v : Write Kept) → same_bytes (stored_key b.entry) v.key ≡ true → IsBody v.key v finished → length (bytes_of v.number finished) ≤ weight_for b =
+      λ v t i.
+      let there : body_at v.key (store_of finished) ≡ Some (stored_of v finished) = ((store_of-is finished orderly).bodies v.key (stored_of v finished)).1 (i, refl) in
+      let here : body_at v.key (store_of finished) ≡ Some x = ap (body_at v.key) left ∙ body_at-with v.key x (store_of changes).bodies ∙ ap (λ t. cond t (Some x) (body_at v.key (store_of changes))) t in
+      let same : x ≡ stored_of v finished = cc in
+      subst (λ (y : Stored Kept). length y.bytes ≤ weight_for b) same (le-max_right 1 (length b.bytes)) in
+      record {
+        orderly = (tt, orderly);
+        below = (tt, (tt, (tt, (omega arith, all_begin_less n (suc n) changes (omega arith) l.below))));
+        landed = ap (λ (s : Store Kept). s.flying) left;
+        bodies = λ k. ap (option_map held_of) (body_of-with k b bodies)
+            ∙ both_there (same_key (stored_key b.entry) k) b x (body_of k bodies) (body_at k (store_of changes)) refl (l.bodies k)
+            ∙ sym (ap (option_map view) (ap (body_at k) left ∙ body_at-with k x (store_of changes).bodies));
+        rows = rows-admitted b.entry (weight_for b) rows ∙ ap (all.admitted (alone b.entry) (weight_for b)) l.rows;
+        lawful = l.lawful;
+        tracks = (same_key-tells.itself (stored_key b.entry), enough, (tt, tt, (tt, tt, (unbound (begins w) changes l.settled, tt, l.tracks))));
+        settled = refl;
+      }
+
+  -- a body that is stored and taken back leaves what was there, without what went
+  pub leaves-back : (n : ℕ) (b : FinishedBody) (es : List Entry) (bodies : List FinishedBody) (rows : List Tracked) (changes : Changes Kept)
+      → Leaves limit mark (suc n) (without_bodies es (put_body b bodies)) (without_rows es (admitted b.entry (weight_for b) rows)) (extended changes (stores n b es))
+      → Leaves limit mark (suc n) (without_body (stored_key b.entry) (without_bodies es bodies)) (without_row b.entry (without_rows es rows)) (extended (extended changes (stores n b es)) (clears b.entry))
+  leaves-back n b es bodies rows changes l =
+      leaves-same (suc n) (without_body (stored_key b.entry) (without_bodies es (put_body b bodies))) (without_body (stored_key b.entry) (without_bodies es bodies))
+      (without_row b.entry (without_rows es (admitted b.entry (weight_for b) rows))) (without_row b.entry (without_rows es rows))
+      (extended (extended changes (stores n b es)) (clears b.entry)) same (sym (taken_out b.entry (weight_for b) es rows))
+      (leaves-cleared (suc n) b.entry (without_bodies es (put_body b bodies)) (without_rows es (admitted b.entry (weight_for b) rows)) (extended changes (stores n b es)) l)
+    where
+      gone : (v w : Bool) (o p : Option FinishedBody) → cond v None (cond w None o) ≡ cond v None (cond w None (cond v p o))
+      gone true w o p = refl
+      gone false w o p = refl
+
+      same : (k : StoredKey) → body_of k (without_body (stored_key b.entry) (without_bodies es bodies)) ≡ body_of k (without_body (stored_key b.entry) (without_bodies es (put_body b bodies)))
+      same k =
+          body_of-without k (stored_key b.entry) (without_bodies es bodies) ∙ ap (cond (same_key (stored_key b.entry) k) None) (body_of-without_all k es bodies)
+          ∙ gone (same_key (stored_key b.entry) k) (has_key k es) (body_of k bodies) (Some b)
+          ∙ sym (body_of-without k (stored_key b.entry) (without_bodies es (put_body b bodies)) ∙ ap (cond (same_key (stored_key b.entry) k) None) (body_of-without_all k es (put_body b bodies)
+          ∙ ap (cond (has_key k es) None) (body_of-with k b bodies)))
+
+-- ---- what the bodies that are left tell of writes
+
+none_flies : (k : StoredKey) (v : Write Kept) (changes : Changes Kept) → IsOrderly changes → (store_of changes).flying ≡ [] → IsFlying k v changes → ⊥
+none_flies k v changes o e f =
+    let flight : Flying Kept = record { stored = stored_of v changes; ended = has_ended v.number changes; removed = false } in
+    let is : IsFlight flight changes = record { flies = f.flies; stored = refl; ended = refl; alive = (λ t. f.alive, λ a. refl) } in
+    let there : flying_at v.number (store_of changes) ≡ Some flight = ((store_of-is changes o).flights v.number flight).1 (refl, is) in
+    let none : flying_at v.number (store_of changes) ≡ None = ap (find (has_number v.number)) e in
+    absurd cc
+
+-- a look-up shows the body
+pub shown_body : (k : StoredKey) (changes : Changes Kept) → (store_of changes).flying ≡ [] → shown_at k (store_of changes) ≡ body_at k (store_of changes)
+shown_body k changes e = rw e refl
+
+held_there : (o : Option FinishedBody) (b : FinishedBody) (x : Option (Stored Kept)) → o ≡ Some b → AreSame o x → (y : Stored Kept) × (x ≡ Some y) × (view y ≡ held_of b)
+held_there None b x there e = absurd cc
+held_there (Some c) b None there e = absurd cc
+held_there (Some c) b (Some y) there e =
+    let same : c ≡ b = cc in
+    let pair : held_of c ≡ view y = cc in
+    (y, refl, sym pair ∙ ap held_of same)
+
+held_none : (o : Option FinishedBody) (x : Option (Stored Kept)) → o ≡ None → AreSame o x → x ≡ None
+held_none None None there e = refl
+held_none None (Some y) there e = absurd cc
+held_none (Some c) x there e = absurd cc
+
+held_back : (o : Option FinishedBody) (x : Option (Stored Kept)) (y : Stored Kept) → x ≡ Some y → AreSame o x → (b : FinishedBody) × (o ≡ Some b) × (held_of b ≡ view y)
+held_back None (Some z) y there e = absurd cc
+held_back None None y there e = absurd cc
+held_back (Some b) None y there e = absurd cc
+held_back (Some b) (Some z) y there e =
+    let same : z ≡ y = cc in
+    let pair : held_of b ≡ view z = cc in
+    (b, refl, pair ∙ ap view same)
+
+-- the write of a body that is held
+pub record Shows (k : StoredKey) (b : FinishedBody) (changes : Changes Kept) : Type 0 where
+  pub write : Write Kept
+  pub shown : IsShown k write changes
+  pub body : IsBody k write changes
+  pub at : body_at k (store_of changes) ≡ Some (stored_of write changes)
+  pub tells : told_of changes write ≡ held_of b
+
+module _ (limit : ℕ) (mark : Option ℕ) (n : ℕ) (bodies : List FinishedBody) (rows : List Tracked) (changes : Changes Kept) (l : Leaves limit mark n bodies rows changes) where
+  pub none_in_flight : (k : StoredKey) (v : Write Kept) → IsFlying k v changes → ⊥
+  none_in_flight k v f = none_flies k v changes l.orderly l.landed f
+
+  pub shows : (k : StoredKey) (b : FinishedBody) → body_of k bodies ≡ Some b → Shows k b changes
+  shows k b e =
+      let there = held_there (body_of k bodies) b (body_at k (store_of changes)) e (l.bodies k) in
+      let x : Stored Kept = there.0 in
+      let body = ((store_of-is changes l.orderly).bodies k x).0 there.1 in
+      let shown = ((store_of-is changes l.orderly).shown k x).0 (shown_body k changes l.landed ∙ there.1) in
+      record {
+        write = x.write;
+        shown = shown.0;
+        body = body.0;
+        at = there.1 ∙ ap (λ (y : Stored Kept). Some y) body.1;
+        tells = ap view (sym body.1) ∙ there.2;
+      }
+
+  pub found : (k : StoredKey) (b : FinishedBody) → body_of k bodies ≡ Some b → IsFound k changes
+  found k b e =
+      let x = shows k b e in
+      (x.write, x.body.of_key, x.body.alive)
+
+  pub not_found : (k : StoredKey) → body_of k bodies ≡ None → ¬ IsFound k changes
+  not_found k e f =
+      let none : body_at k (store_of changes) ≡ None = held_none (body_of k bodies) (body_at k (store_of changes)) e (l.bodies k) in
+      let there = ((store_of-is changes l.orderly).found k).1 f in
+      let not_there : is_found_at k (store_of changes) ≡ false = ap is_some (shown_body k changes l.landed ∙ none) in
+      absurd cc
+
+  -- the body of a write is held
+  pub is_held : (k : StoredKey) (w : Write Kept) → IsBody k w changes → (b : FinishedBody) × (body_of k bodies ≡ Some b) × (held_of b ≡ told_of changes w)
+  is_held k w i =
+      let at = ((store_of-is changes l.orderly).bodies k (stored_of w changes)).1 (i, refl) in
+      held_back (body_of k bodies) (body_at k (store_of changes)) (stored_of w changes) at (l.bodies k)
+
+  pub weighs : (e : Entry) → last_weight (alone e) changes ≡ weight_of e rows
+  weighs e = sym ((IsOrderOfUse-rows_of changes).weights (alone e)) ∙ ap (all.weight_of (alone e)) (sym l.rows) ∙ rows-weight e rows
+
+  pub in_order : IsOrderOfUse (rows_alone rows) changes
+  in_order = subst (λ (r : List entries.Tracked). IsOrderOfUse r changes) (sym l.rows) (IsOrderOfUse-rows_of changes)

@@ -1,0 +1,8 @@
+use Rattle.tier_model.proofs.Carried.{IsOrderly-lawful, TracksBodies-lawful}
+use Rattle.tier_model.proofs.laws.lawful_histories_are_orderly.Goals as goal
+
+pub returns-clause-orderly : goal.returns-clause-orderly
+returns-clause-orderly c = IsOrderly-lawful
+
+pub returns-clause-tracks : goal.returns-clause-tracks
+returns-clause-tracks c = TracksBodies-lawful
