@@ -11,3 +11,4 @@ pub mod GoneLaws
 pub mod FaultLaws
 pub mod LoadLaws
 pub mod TextLaws
+pub mod OneLaws

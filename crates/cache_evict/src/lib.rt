@@ -8,4 +8,5 @@ mod fault;
 mod load_fault;
 pub mod lru;
 pub mod numbers;
+pub mod simple_lru;
 mod tracker;

@@ -219,10 +219,7 @@ impl<const N: usize, S: BuildHasher> Manager<N, S> {
         ensures refused { IfErr result (λ fault. StopsAt (pick_by_draws N) N item (max size 1) self.old (R.stream rng.old) fault self.new (R.stream rng.new)) }
     {
         match self.tracker.admit(item, size.max(1)) {
-            Ok(()) => match self.tracker.evict_by_draws(alloc, rng) {
-                Ok(gone) => Ok(gone),
-                Err(gone) => Err(EvictFault::Memory(gone)),
-            },
+            Ok(()) => self.tracker.evict_by_draws(alloc, rng),
             Err(refusal) => Err(EvictFault::of(alloc, refusal)),
         }
     }
@@ -243,10 +240,7 @@ impl<const N: usize, S: BuildHasher> Manager<N, S> {
         ensures refused { let w = weight_after N item.now delta max_weight self.old in IfErr result (λ fault. StopsAt (pick_by_draws N) N item.now w self.old (R.stream rng.old) fault self.new (R.stream rng.new)) }
     {
         match self.tracker.increment(item, delta, max_weight) {
-            Ok(()) => match self.tracker.evict_by_draws(alloc, rng) {
-                Ok(gone) => Ok(gone),
-                Err(gone) => Err(EvictFault::Memory(gone)),
-            },
+            Ok(()) => self.tracker.evict_by_draws(alloc, rng),
             Err(refusal) => Err(EvictFault::of(alloc, refusal)),
         }
     }
