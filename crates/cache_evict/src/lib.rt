@@ -3,10 +3,12 @@
 
 pub use fault::EvictFault;
 pub use load_fault::LoadFault;
+pub use manager::EvictionManager;
 
 mod fault;
 mod load_fault;
 pub mod lru;
+mod manager;
 pub mod numbers;
 pub mod simple_lru;
 mod tracker;

@@ -11,6 +11,7 @@ ghost use Rattle.cache_evict.specs.Managed.{Evicts, fresh, rows_at, rows_of, put
 
 use crate::fault::EvictFault;
 use crate::load_fault::LoadFault;
+use crate::manager::EvictionManager;
 use crate::tracker::{Again, Tracker};
 use cache_entries::entry::{CacheEntryKey, CacheEntryKeyRef};
 use cache_words::pack::PackWriteFault;
@@ -81,113 +82,6 @@ impl<const N: usize, S: BuildHasher + Copy> OneList<N, S> {
 }
 
 impl<const N: usize, S: BuildHasher> OneList<N, S> {
-    /// Returns the weight of all entries.
-    pub fn total_size(&self) -> usize
-        ensures { result ≡ total_size self.now }
-    {
-        self.tracker.total_size()
-    }
-
-    /// Returns the number of all entries.
-    pub fn total_items(&self) -> usize
-        ensures { result ≡ total_items self.now }
-    {
-        self.tracker.total_items()
-    }
-
-    /// Returns the weight of all evicted entries, up to 2^64 - 1.
-    pub fn evicted_size(&self) -> usize
-        ensures { result ≡ self.now.evicted_size }
-    {
-        self.tracker.evicted_size()
-    }
-
-    /// Returns the number of all evicted entries, up to 2^64 - 1.
-    pub fn evicted_items(&self) -> usize
-        ensures { result ≡ self.now.evicted_items }
-    {
-        self.tracker.evicted_items()
-    }
-
-    /// Returns whether an entry is tracked. The order stays.
-    pub fn peek(&self, item: &CacheEntryKey) -> bool
-        ensures { result ≡ is_some (weight_of item.now (rows_of N item.now self.now)) }
-    {
-        self.tracker
-            .weight_of(CacheEntryKeyRef::from(item))
-            .is_some()
-    }
-
-    /// Puts an entry at the front with that weight, also 0, and evicts the last entry until neither limit is passed. Returns
-    /// the evicted entries, in order. The generator stays as it is.
-    pub fn admit<R: Rng>(
-        &mut self,
-        alloc: Global,
-        item: CacheEntryKey,
-        size: usize,
-        _fresh_until: Moment,
-        _rng: &mut R,
-    ) -> Result<Vec<CacheEntryKey>, EvictFault>
-        ensures ok { IfOk result (λ v. Evicts pick_first (put_first N item size self.old) v.items (R.stream _rng.old) self.new (R.stream _rng.new)) }
-        ensures within { OnOk result (is_over self.new ≡ false) }
-        ensures refused { IfErr result (λ fault. StopsAt pick_first N item size self.old (R.stream _rng.old) fault self.new (R.stream _rng.new)) }
-    {
-        if let Err(refusal) = self.tracker.admit(item, size) {
-            return Err(EvictFault::of(alloc, refusal));
-        }
-        self.tracker.evict_in_order(alloc)
-    }
-
-    /// Adds `delta` to the weight of an entry, up to `max_weight` but never down, and moves the entry to the front; one that
-    /// isn't tracked is put there with that weight, of 1 at least. It then evicts as `admit` does.
-    pub fn increment_weight<R: Rng>(
-        &mut self,
-        alloc: Global,
-        item: &CacheEntryKey,
-        delta: usize,
-        max_weight: Option<usize>,
-        _rng: &mut R,
-    ) -> Result<Vec<CacheEntryKey>, EvictFault>
-        ensures ok { let w = weight_after N item.now delta max_weight self.old in IfOk result (λ v. Evicts pick_first (put_first N item.now w self.old) v.items (R.stream _rng.old) self.new (R.stream _rng.new)) }
-        ensures within { OnOk result (is_over self.new ≡ false) }
-        ensures refused { let w = weight_after N item.now delta max_weight self.old in IfErr result (λ fault. StopsAt pick_first N item.now w self.old (R.stream _rng.old) fault self.new (R.stream _rng.new)) }
-    {
-        if let Err(refusal) = self.tracker.increment(item, delta, max_weight) {
-            return Err(EvictFault::of(alloc, refusal));
-        }
-        self.tracker.evict_in_order(alloc)
-    }
-
-    /// A use of an entry: a tracked one moves to the front, and the answer is `true`; another one is put there with that
-    /// weight, also 0, and the answer is `false`. It evicts nothing.
-    pub fn access(
-        &mut self,
-        alloc: Global,
-        item: &CacheEntryKey,
-        size: usize,
-        _fresh_until: Moment,
-    ) -> Result<bool, EvictFault>
-        ensures ok { OnOk result (self.new ≡ use_first N item.now size self.old) }
-        ensures found { IfOk result (λ b. b ≡ is_some (weight_of item.now (rows_of N item.now self.old))) }
-        ensures tracked { weight_of item.now (rows_of N item.now self.old) ≢ None → IsOk result }
-        ensures err { OnErr result (self.new ≡ self.old) }
-        ensures refused { IfErr result (λ fault. IsPutRefused N item.now size self.old fault) }
-        ensures none { IfErr result (λ fault. evicted_of fault ≡ []) }
-    {
-        let refusal = match self.tracker.access(item, size) {
-            Ok(was_tracked) => return Ok(was_tracked),
-            Err(refusal) => refusal,
-        };
-        Err(EvictFault::of(alloc, refusal))
-    }
-
-    /// Takes an entry out.
-    pub fn remove(&mut self, item: CacheEntryKeyRef<'_>)
-        ensures { self.new ≡ taken_out N (owned_of item.entry) self.old }
-    {
-        self.tracker.remove(item);
-    }
-
     /// Returns the text of the entries with their weights, most recent first.
     ///
     /// # Errors
@@ -211,5 +105,83 @@ impl<const N: usize, S: BuildHasher> OneList<N, S> {
         ensures spelled { (rows : List Tracked) (text rest : List ℕ) → SpellsRecency rows text → bytes.now ≡ text ++ rest → OnOk result (self.new ≡ all_put (restored N) rows self.old) }
     {
         self.tracker.load(alloc, bytes, Again::MovedFirst)
+    }
+}
+
+impl<const N: usize, S: BuildHasher> EvictionManager for OneList<N, S> {
+    ghost managed = { λ m. m };
+
+    ghost shards = { N };
+
+    ghost least = { λ size. size };
+
+    ghost pick = { pick_first };
+
+    fn total_size(&self) -> usize {
+        self.tracker.total_size()
+    }
+
+    fn total_items(&self) -> usize {
+        self.tracker.total_items()
+    }
+
+    fn evicted_size(&self) -> usize {
+        self.tracker.evicted_size()
+    }
+
+    fn evicted_items(&self) -> usize {
+        self.tracker.evicted_items()
+    }
+
+    fn peek(&self, item: &CacheEntryKey) -> bool {
+        self.tracker
+            .weight_of(CacheEntryKeyRef::from(item))
+            .is_some()
+    }
+
+    fn admit<R: Rng>(
+        &mut self,
+        alloc: Global,
+        item: CacheEntryKey,
+        size: usize,
+        _fresh_until: Moment,
+        _rng: &mut R,
+    ) -> Result<Vec<CacheEntryKey>, EvictFault> {
+        if let Err(refusal) = self.tracker.admit(item, size) {
+            return Err(EvictFault::of(alloc, refusal));
+        }
+        self.tracker.evict_in_order(alloc)
+    }
+
+    fn increment_weight<R: Rng>(
+        &mut self,
+        alloc: Global,
+        item: &CacheEntryKey,
+        delta: usize,
+        max_weight: Option<usize>,
+        _rng: &mut R,
+    ) -> Result<Vec<CacheEntryKey>, EvictFault> {
+        if let Err(refusal) = self.tracker.increment(item, delta, max_weight) {
+            return Err(EvictFault::of(alloc, refusal));
+        }
+        self.tracker.evict_in_order(alloc)
+    }
+
+    fn access(
+        &mut self,
+        alloc: Global,
+        item: &CacheEntryKey,
+        size: usize,
+        _fresh_until: Moment,
+    ) -> Result<bool, EvictFault> {
+        let refusal = match self.tracker.access(item, size) {
+            Ok(was_tracked) => return Ok(was_tracked),
+            Err(refusal) => refusal,
+        };
+        Err(EvictFault::of(alloc, refusal))
+    }
+
+    fn remove(&mut self, item: CacheEntryKeyRef<'_>) {
+        self.tracker.remove(item);
     }
 }

@@ -1,5 +1,5 @@
 use Rattle.cache_evict.proofs.FaultLaws.{told}
-use Rattle.cache_evict.proofs.simple_lru.OneList.access.Goals as goal
+use Rattle.cache_evict.proofs.simple_lru.OneListEvictionManager.access.Goals as goal
 
 pub returns-clause-tracked : goal.returns-clause-tracked
 returns-clause-tracked g c = rw (← c.self.view_is) c.in-Err.ensures.tracked
