@@ -12,3 +12,4 @@ pub mod FaultLaws
 pub mod LoadLaws
 pub mod TextLaws
 pub mod OneLaws
+pub mod AlikeLaws

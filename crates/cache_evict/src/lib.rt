@@ -6,6 +6,7 @@ pub use load_fault::LoadFault;
 pub use manager::EvictionManager;
 
 mod fault;
+pub mod laws;
 mod load_fault;
 pub mod lru;
 mod manager;

@@ -73,7 +73,8 @@ pub trait EvictionManager {
     ) -> Result<Vec<CacheEntryKey>, EvictFault>
         ensures ok { IfOk result (λ v. Evicts pick (weighed_first shards item.now delta max_weight (managed self.old)) v.items (R.stream rng.old) (managed self.new) (R.stream rng.new)) }
         ensures within { OnOk result (is_over (managed self.new) ≡ false) }
-        ensures refused { let w = weight_after shards item.now delta max_weight (managed self.old) in IfErr result (λ fault. StopsAt pick shards item.now w (managed self.old) (R.stream rng.old) fault (managed self.new) (R.stream rng.new)) };
+        ensures refused { let w = weight_after shards item.now delta max_weight (managed self.old) in
+            IfErr result (λ fault. StopsAt pick shards item.now w (managed self.old) (R.stream rng.old) fault (managed self.new) (R.stream rng.new)) };
 
     /// A use of an entry: a tracked one moves to the front of its shard, and the answer is `true`; another one is put there
     /// with that weight, or the least that the manager gives, and the answer is `false`. It evicts nothing.
