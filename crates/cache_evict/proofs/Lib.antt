@@ -11,3 +11,5 @@ pub mod GoneLaws
 pub mod FaultLaws
 pub mod LoadLaws
 pub mod TextLaws
+pub mod OneLaws
+pub mod AlikeLaws

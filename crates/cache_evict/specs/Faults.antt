@@ -49,9 +49,12 @@ IsMemory (Length v) = ⊥
 IsMemory (NumbersSpent v) = ⊥
 IsMemory (File v) = ⊥
 
+-- memory runs out in evictions, which stop with what is gone until then
+abbrev pub RunsOut : (List (List Tracked) → Stream → ℕ × Stream) → Managed → Stream → EvictFault → Managed → Stream → Type 0
+RunsOut pick old s fault new rest = IsMemory fault × Evicts pick old (evicted_of fault) s new rest × (is_over new ≡ true)
+
 -- a fault of a call that puts e first and then evicts: either e isn't put, and all is as before, or memory runs out in the
--- evictions, and what is evicted until then is gone
+-- evictions
 abbrev pub StopsAt : (List (List Tracked) → Stream → ℕ × Stream) → ℕ → CacheEntryKey → ℕ → Managed → Stream → EvictFault → Managed → Stream → Type 0
 StopsAt pick n e w old s fault new rest =
-    (IsPutRefused n e w old fault × (evicted_of fault ≡ []) × (new ≡ old) × (rest ≡ s))
-    ⊎ (IsMemory fault × Evicts pick (put_first n e w old) (evicted_of fault) s new rest × (is_over new ≡ true))
+    (IsPutRefused n e w old fault × (evicted_of fault ≡ []) × (new ≡ old) × (rest ≡ s)) ⊎ RunsOut pick (put_first n e w old) s fault new rest

@@ -2,6 +2,7 @@ pub mod Names
 pub mod Places
 pub mod FaultTexts
 pub mod Managed
+pub mod Runs
 pub mod Numbered
 pub mod Refusals
 pub mod Faults

@@ -70,6 +70,10 @@ added (Some old) delta cap = raised old delta cap
 abbrev pub weight_after : ℕ → CacheEntryKey → ℕ → Option ℕ → Managed → ℕ
 weight_after n e delta cap m = added (weight_of e (rows_of n e m)) delta cap
 
+-- e at the front of its shard, with that weight
+abbrev pub weighed_first : ℕ → CacheEntryKey → ℕ → Option ℕ → Managed → Managed
+weighed_first n e delta cap m = put_first n e (weight_after n e delta cap m) m
+
 -- e last in its shard with weight w, unless it has a row
 abbrev pub put_last : ℕ → CacheEntryKey → ℕ → Managed → Managed
 put_last n e w m = with_rows n e (with_last e w (rows_of n e m)) m

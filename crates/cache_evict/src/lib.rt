@@ -3,9 +3,13 @@
 
 pub use fault::EvictFault;
 pub use load_fault::LoadFault;
+pub use manager::EvictionManager;
 
 mod fault;
+pub mod laws;
 mod load_fault;
 pub mod lru;
+mod manager;
 pub mod numbers;
+pub mod simple_lru;
 mod tracker;

@@ -1,6 +1,6 @@
 //! Entries in N shards, whose evictions go by two draws.
 
-ghost use Rattle.std.specs.Prelude.{◌≡◌, ◌≢◌, ◌<◌, ◌++◌, ℕ, List, [], length, max, None, false, is_some, IsOk, IfOk, IfErr, OnOk, OnErr, IsErrOf, MatchOption};
+ghost use Rattle.std.specs.Prelude.{◌≡◌, ◌<◌, ◌++◌, ℕ, List, [], length, max, None, false, is_some, IsOk, IfOk, IfErr, OnOk, OnErr, IsErrOf, MatchOption};
 ghost use Rattle.cache_entries.specs.Entry.{owned_of};
 ghost use Rattle.cache_entries.specs.Rows.{weight_of, all_weights};
 ghost use Rattle.cache_entries.specs.RowText.{SpellsRecency, recency_at, recency_text};
@@ -11,6 +11,7 @@ ghost use Rattle.cache_evict.specs.Faults.{evicted_of, IsPutRefused, StopsAt};
 
 use crate::fault::EvictFault;
 use crate::load_fault::LoadFault;
+use crate::manager::EvictionManager;
 use crate::tracker::{Again, Tracker};
 use cache_entries::entry::{CacheEntryKey, CacheEntryKeyRef};
 use cache_words::pack::PackWriteFault;
@@ -126,43 +127,6 @@ impl<const N: usize, S: BuildHasher> Manager<N, S> {
         self.tracker.shard_of(CacheEntryKeyRef::from(key))
     }
 
-    /// Returns the weight of all entries.
-    pub fn total_size(&self) -> usize
-        ensures { result ≡ total_size self.now }
-    {
-        self.tracker.total_size()
-    }
-
-    /// Returns the number of all entries.
-    pub fn total_items(&self) -> usize
-        ensures { result ≡ total_items self.now }
-    {
-        self.tracker.total_items()
-    }
-
-    /// Returns the weight of all evicted entries, up to 2^64 - 1.
-    pub fn evicted_size(&self) -> usize
-        ensures { result ≡ self.now.evicted_size }
-    {
-        self.tracker.evicted_size()
-    }
-
-    /// Returns the number of all evicted entries, up to 2^64 - 1.
-    pub fn evicted_items(&self) -> usize
-        ensures { result ≡ self.now.evicted_items }
-    {
-        self.tracker.evicted_items()
-    }
-
-    /// Returns whether an entry is tracked. The order stays.
-    pub fn peek(&self, item: &CacheEntryKey) -> bool
-        ensures { result ≡ is_some (weight_of item.now (rows_of N item.now self.now)) }
-    {
-        self.tracker
-            .weight_of(CacheEntryKeyRef::from(item))
-            .is_some()
-    }
-
     /// Returns the weight of an entry, if it is tracked. The order stays.
     pub fn peek_weight(&self, item: &CacheEntryKey) -> Option<usize>
         ensures { result ≡ weight_of item.now (rows_of N item.now self.now) }
@@ -203,70 +167,74 @@ impl<const N: usize, S: BuildHasher> Manager<N, S> {
     {
         self.tracker.load(alloc, bytes, Again::PassedOver)
     }
+}
 
-    /// Puts an entry at the front of its shard with that weight, of 1 at least, and evicts until neither limit is passed, each
-    /// by the next two words of the generator. Returns the evicted entries, in order.
-    pub fn admit<R: Rng>(
+impl<const N: usize, S: BuildHasher> EvictionManager for Manager<N, S> {
+    ghost managed = { λ m. m };
+
+    ghost shards = { N };
+
+    ghost least = { λ size. max size 1 };
+
+    ghost pick = { pick_by_draws N };
+
+    fn total_size(&self) -> usize {
+        self.tracker.total_size()
+    }
+
+    fn total_items(&self) -> usize {
+        self.tracker.total_items()
+    }
+
+    fn evicted_size(&self) -> usize {
+        self.tracker.evicted_size()
+    }
+
+    fn evicted_items(&self) -> usize {
+        self.tracker.evicted_items()
+    }
+
+    fn peek(&self, item: &CacheEntryKey) -> bool {
+        self.tracker
+            .weight_of(CacheEntryKeyRef::from(item))
+            .is_some()
+    }
+
+    fn admit<R: Rng>(
         &mut self,
         alloc: Global,
         item: CacheEntryKey,
         size: usize,
         _fresh_until: Moment,
         rng: &mut R,
-    ) -> Result<Vec<CacheEntryKey>, EvictFault>
-        ensures ok { IfOk result (λ v. Evicts (pick_by_draws N) (put_first N item (max size 1) self.old) v.items (R.stream rng.old) self.new (R.stream rng.new)) }
-        ensures within { OnOk result (is_over self.new ≡ false) }
-        ensures refused { IfErr result (λ fault. StopsAt (pick_by_draws N) N item (max size 1) self.old (R.stream rng.old) fault self.new (R.stream rng.new)) }
-    {
+    ) -> Result<Vec<CacheEntryKey>, EvictFault> {
         match self.tracker.admit(item, size.max(1)) {
-            Ok(()) => match self.tracker.evict_by_draws(alloc, rng) {
-                Ok(gone) => Ok(gone),
-                Err(gone) => Err(EvictFault::Memory(gone)),
-            },
+            Ok(()) => self.tracker.evict_by_draws(alloc, rng),
             Err(refusal) => Err(EvictFault::of(alloc, refusal)),
         }
     }
 
-    /// Adds `delta` to the weight of an entry, up to `max_weight` but never down, and moves the entry to the front of its
-    /// shard; one that isn't tracked is put there with that weight, of 1 at least. It then evicts as `admit` does, and returns
-    /// the evicted entries, in order.
-    pub fn increment_weight<R: Rng>(
+    fn increment_weight<R: Rng>(
         &mut self,
         alloc: Global,
         item: &CacheEntryKey,
         delta: usize,
         max_weight: Option<usize>,
         rng: &mut R,
-    ) -> Result<Vec<CacheEntryKey>, EvictFault>
-        ensures ok { let w = weight_after N item.now delta max_weight self.old in IfOk result (λ v. Evicts (pick_by_draws N) (put_first N item.now w self.old) v.items (R.stream rng.old) self.new (R.stream rng.new)) }
-        ensures within { OnOk result (is_over self.new ≡ false) }
-        ensures refused { let w = weight_after N item.now delta max_weight self.old in IfErr result (λ fault. StopsAt (pick_by_draws N) N item.now w self.old (R.stream rng.old) fault self.new (R.stream rng.new)) }
-    {
+    ) -> Result<Vec<CacheEntryKey>, EvictFault> {
         match self.tracker.increment(item, delta, max_weight) {
-            Ok(()) => match self.tracker.evict_by_draws(alloc, rng) {
-                Ok(gone) => Ok(gone),
-                Err(gone) => Err(EvictFault::Memory(gone)),
-            },
+            Ok(()) => self.tracker.evict_by_draws(alloc, rng),
             Err(refusal) => Err(EvictFault::of(alloc, refusal)),
         }
     }
 
-    /// A use of an entry: a tracked one moves to the front of its shard, and the answer is `true`; another one is put there
-    /// with that weight, of 1 at least, and the answer is `false`. It evicts nothing.
-    pub fn access(
+    fn access(
         &mut self,
         alloc: Global,
         item: &CacheEntryKey,
         size: usize,
         _fresh_until: Moment,
-    ) -> Result<bool, EvictFault>
-        ensures ok { OnOk result (self.new ≡ use_first N item.now (max size 1) self.old) }
-        ensures found { IfOk result (λ b. b ≡ is_some (weight_of item.now (rows_of N item.now self.old))) }
-        ensures tracked { weight_of item.now (rows_of N item.now self.old) ≢ None → IsOk result }
-        ensures err { OnErr result (self.new ≡ self.old) }
-        ensures refused { IfErr result (λ fault. IsPutRefused N item.now (max size 1) self.old fault) }
-        ensures none { IfErr result (λ fault. evicted_of fault ≡ []) }
-    {
+    ) -> Result<bool, EvictFault> {
         let refusal = match self.tracker.access(item, size.max(1)) {
             Ok(was_tracked) => return Ok(was_tracked),
             Err(refusal) => refusal,
@@ -274,10 +242,7 @@ impl<const N: usize, S: BuildHasher> Manager<N, S> {
         Err(EvictFault::of(alloc, refusal))
     }
 
-    /// Takes an entry out.
-    pub fn remove(&mut self, item: CacheEntryKeyRef<'_>)
-        ensures { self.new ≡ taken_out N (owned_of item.entry) self.old }
-    {
+    fn remove(&mut self, item: CacheEntryKeyRef<'_>) {
         self.tracker.remove(item);
     }
 }

@@ -1,9 +1,12 @@
 //! Evictions, each of the last entry of a shard.
 
-ghost use Rattle.std.specs.Prelude.{◌≡◌, ◌+◌, ◌<◌, true, false, IsTrue, vec_len, vec_capacity, IsSome, IfSome, IfNone, IfOk, IfErr, OnOk, OnErr, OnSome};
-ghost use Rattle.cache_evict.specs.Managed.{GoesLast, Evicts, is_over, picked, pick_by_draws, total_items};
+ghost use Rattle.std.specs.Prelude.{◌≡◌, ◌+◌, ◌<◌, true, false, IsTrue, vec_len, vec_capacity, IsSome, IfSome, IfNone, IfOk, IfErr, OnOk, OnSome};
+ghost use Rattle.rand_core.specs.Stream.{Stream};
+ghost use Rattle.cache_evict.specs.Faults.{RunsOut};
+ghost use Rattle.cache_evict.specs.Managed.{GoesLast, Evicts, is_over, picked, pick_by_draws, pick_first, total_items};
 
 use super::Tracker;
+use crate::fault::EvictFault;
 use cache_entries::entry::CacheEntryKey;
 use rand_core::Rng;
 use std::alloc::Global;
@@ -36,20 +39,37 @@ impl<const N: usize, S: BuildHasher> Tracker<N, S> {
         &mut self,
         alloc: Global,
         rng: &mut R,
-    ) -> Result<Vec<CacheEntryKey>, Vec<CacheEntryKey>>
+    ) -> Result<Vec<CacheEntryKey>, EvictFault>
         ensures gone { IfOk result (λ v. Evicts (pick_by_draws N) self.old v.items (R.stream rng.old) self.new (R.stream rng.new)) }
         ensures within { OnOk result (is_over self.new ≡ false) }
-        ensures refused { IfErr result (λ v. Evicts (pick_by_draws N) self.old v.items (R.stream rng.old) self.new (R.stream rng.new)) }
-        ensures more { OnErr result (is_over self.new ≡ true) }
+        ensures refused { IfErr result (λ fault. RunsOut (pick_by_draws N) self.old (R.stream rng.old) fault self.new (R.stream rng.new)) }
     {
         let mut gone = Vec::new(alloc);
         'steps: while self.is_over() {
             if !has_room(&mut gone) {
-                return Err(gone);
+                return Err(EvictFault::Memory(gone));
             }
             let a = rng.next_u64();
             let b = rng.next_u64();
             gone.push_reserved(self.evict_step(a, b).unwrap());
+        }
+        Ok(gone)
+    }
+
+    /// Evicts the last entry of the only shard until neither limit is passed. If memory for an entry runs out, its error has
+    /// the entries so far.
+    pub fn evict_in_order(&mut self, alloc: Global) -> Result<Vec<CacheEntryKey>, EvictFault>
+        requires { N ≡ 1 }
+        ensures gone { IfOk result (λ v. (s : Stream) → Evicts pick_first self.old v.items s self.new s) }
+        ensures within { OnOk result (is_over self.new ≡ false) }
+        ensures refused { IfErr result (λ fault. (s : Stream) → RunsOut pick_first self.old s fault self.new s) }
+    {
+        let mut gone = Vec::new(alloc);
+        'steps: while self.is_over() {
+            if !has_room(&mut gone) {
+                return Err(EvictFault::Memory(gone));
+            }
+            gone.push_reserved(self.evict_step(0, 0).unwrap());
         }
         Ok(gone)
     }

@@ -64,7 +64,8 @@ fn put_weightless<const N: usize>(core: &mut LruCore<u64, N>, number: u64) -> Re
 // Gives the row of a number the weight 0, where it is or else at the back of its shard.
 fn weigh_nothing<const N: usize>(core: &mut LruCore<u64, N>, number: u64) -> Result<(), Refusal>
     requires { HasOwnRow number (shard_of N core.old number) }
-    ensures ok { OnOk result ((rows : List (Row ℕ)) × (core.new ≡ with_shard N core.old number rows) × (promoted number rows ≡ a_row number number 0 ∷ others number (shard_of N core.old number))) }
+    ensures ok { OnOk result ((rows : List (Row ℕ)) × (core.new ≡ with_shard N core.old number rows)
+        × (promoted number rows ≡ a_row number number 0 ∷ others number (shard_of N core.old number))) }
     ensures err { OnErr result (core.new ≡ core.old) }
     ensures why { IfErr result (IsRowRefusal N number 0 core.old) }
 {
@@ -102,7 +103,8 @@ pub(super) fn raise_first<const N: usize>(
     delta: usize,
     cap: Option<usize>,
 ) -> Result<(), Refusal>
-    ensures ok { let rows = shard_of N core.old number in (v : ℕ) → only number rows ≡ a_row number number v ∷ [] → OnOk result (core.new ≡ with_shard N core.old number (a_row number number (raised v delta cap) ∷ others number rows)) }
+    ensures ok { let rows = shard_of N core.old number in (v : ℕ) → only number rows ≡ a_row number number v ∷ []
+        → OnOk result (core.new ≡ with_shard N core.old number (a_row number number (raised v delta cap) ∷ others number rows)) }
     ensures err { OnErr result (core.new ≡ core.old) }
     ensures why { let rows = shard_of N core.old number in (v : ℕ) → only number rows ≡ a_row number number v ∷ [] → IfErr result (IsRowRefusal N number (raised v delta cap) core.old) }
 {
@@ -132,7 +134,9 @@ pub(super) fn put_new<const N: usize, S: BuildHasher>(
 ) -> Result<(), Refusal>
     requires new { HasNoNumber (name_at numbers.old) entry }
     requires free { (k : ℕ) → name_at numbers.old k ≡ None → (k % N < length core.old.shards) × (only k (shard_of N core.old k) ≡ []) }
-    ensures ok { OnOk result ((k : ℕ) × IsFirstFree N (name_at numbers.old) (entry_hash entry) k × ((i : ℕ) → name_at numbers.new i ≡ with_name (name_at numbers.old) k entry i) × (core.new ≡ with_shard N core.old k (placed end (a_row k k weight) (others k (shard_of N core.old k))))) }
+    ensures ok { OnOk result ((k : ℕ) × IsFirstFree N (name_at numbers.old) (entry_hash entry) k
+        × ((i : ℕ) → name_at numbers.new i ≡ with_name (name_at numbers.old) k entry i)
+        × (core.new ≡ with_shard N core.old k (placed end (a_row k k weight) (others k (shard_of N core.old k))))) }
     ensures numbers { OnErr result ((i : ℕ) → name_at numbers.new i ≡ name_at numbers.old i) }
     ensures core { OnErr result (core.new ≡ core.old) }
     ensures why { IfErr result (IsNewRefusal N (name_at numbers.old) (entry_hash entry) weight core.old) }

@@ -1,0 +1,32 @@
+-- Calls of a manager, one after another, none refused.
+use Rattle.std.specs.Prelude.{◌≡◌, ℕ, ◌≤◌, false, List, [], ◌∷◌}
+use Rattle.rand_core.specs.Stream.{Stream}
+use Rattle.cache_entries.specs.declared.entry.CacheEntryKey.{CacheEntryKey}
+use Rattle.cache_entries.specs.declared.rows.Tracked.{Tracked}
+use Rattle.cache_evict.specs.Managed.{Managed, Evicts, put_first, use_first, taken_out, is_over}
+
+pub data Call : Type 0 where
+  Admit : CacheEntryKey → ℕ → Call
+  Access : CacheEntryKey → ℕ → Call
+  Remove : CacheEntryKey → Call
+
+-- each entry that is put has a size from 1
+abbrev pub AreSized : List Call → Type 0
+AreSized [] = Unit {0}
+AreSized (Admit e size ∷ calls) = (1 ≤ size) × AreSized calls
+AreSized (Access e size ∷ calls) = (1 ≤ size) × AreSized calls
+AreSized (Remove e ∷ calls) = AreSized calls
+
+-- what a call evicts and leaves, of a manager of n shards that picks by `pick`, where an entry that is put weighs `least` of its size
+abbrev pub Does : (List (List Tracked) → Stream → ℕ × Stream) → ℕ → (ℕ → ℕ) → Managed → Stream → Call → List CacheEntryKey → Managed → Stream → Type 0
+Does pick n least old s (Admit e size) gone new rest = Evicts pick (put_first n e (least size) old) gone s new rest × (is_over new ≡ false)
+Does pick n least old s (Access e size) gone new rest = (gone ≡ []) × (new ≡ use_first n e (least size) old) × (rest ≡ s)
+Does pick n least old s (Remove e) gone new rest = (gone ≡ []) × (new ≡ taken_out n e old) × (rest ≡ s)
+
+-- the same of calls in turn, with what each evicts
+abbrev pub Runs : (List (List Tracked) → Stream → ℕ × Stream) → ℕ → (ℕ → ℕ) → Managed → Stream → List Call → List (List CacheEntryKey) → Managed → Stream → Type 0
+Runs pick n least old s [] [] new rest = (new ≡ old) × (rest ≡ s)
+Runs pick n least old s [] (gone ∷ more) new rest = ⊥
+Runs pick n least old s (call ∷ calls) [] new rest = ⊥
+Runs pick n least old s (call ∷ calls) (gone ∷ more) new rest =
+    (mid : Managed) × (left : Stream) × Does pick n least old s call gone mid left × Runs pick n least mid left calls more new rest
