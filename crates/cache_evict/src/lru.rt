@@ -25,7 +25,8 @@ use std::marker::Model;
 /// shard of its hash modulo N.
 ///
 /// With the default hasher it is for entries that the caller chooses itself; with one whose start the caller takes at random,
-/// strangers can't choose entries that slow look-ups down.
+/// strangers can't choose entries that slow the look-up of their numbers down. The core's own table hashes those numbers with a
+/// fixed start.
 #[derive(Drop)]
 pub struct Manager<const N: usize, S: BuildHasher = BuildHasherDefault<FoldHasher>> {
     tracker: Tracker<N, S>,
@@ -40,8 +41,7 @@ impl<const N: usize, S: BuildHasher> Model for Manager<N, S> {
 }
 
 impl<const N: usize> Manager<N, BuildHasherDefault<FoldHasher>> {
-    /// Returns N shards without entries, which may weigh `limit` together. `capacity` is a hint: room for that many entries is
-    /// reserved.
+    /// Returns N shards without entries, which may weigh `limit` together. `capacity` is a hint for the room of their rows.
     pub fn with_capacity(alloc: Global, limit: usize, capacity: usize) -> Result<Self, AllocError>
         requires { 0 < N }
         ensures { IfOk result (λ m. m ≡ fresh N limit None) }

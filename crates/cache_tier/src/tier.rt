@@ -107,8 +107,8 @@ impl Tier<1> {
         }
     }
 
-    /// Takes one event and answers it. A refusal says why, and leaves the tier as before, but for a body
-    /// that was stored and removed again. The generator's words pick the shard of each eviction, two by two.
+    /// Takes one event and answers it. A refusal says why, and leaves the tier as before; but where a body was stored, what its
+    /// key has is removed again, and the evictions done until then stay done. The generator's words pick the shard of each eviction, two by two.
     pub fn step<R: Rng>(&mut self, rng: &mut R, event: &Event) -> Result<Answer, TierFault>
         ensures { Takes self.old (R.stream rng.old) (event.now ∷ []) (result ∷ []) self.new (R.stream rng.new) }
     {
