@@ -1,0 +1,41 @@
+//! Entries by short names.
+
+use cache_entries::entry::{CacheEntryId, CacheEntryKey};
+use cache_words::key::CacheKey;
+use std::alloc::{AllocError, Global};
+
+/// The bytes of a key, and the id of one body of it.
+pub type Name = (&'static [u8], Option<u64>);
+
+pub const A: Name = (b"a", None);
+
+pub const B: Name = (b"b", None);
+
+pub const C: Name = (b"c", None);
+
+pub const D: Name = (b"d", None);
+
+pub const E: Name = (b"e", None);
+
+pub const F: Name = (b"f", None);
+
+/// The entry of a name, with the tag `1`.
+pub fn entry(alloc: Global, name: Name) -> Result<CacheEntryKey, AllocError> {
+    let primary = Vec::from_slice(alloc, name.0)?;
+    let key = CacheKey::new(primary, String::from_str(alloc, "1")?).to_compact()?;
+    Ok(CacheEntryKey::from_entry_id(key, name.1.map(CacheEntryId::new)))
+}
+
+/// Whether the entries are those of the names, in order.
+pub fn are(alloc: Global, entries: &[CacheEntryKey], names: &[Name]) -> bool {
+    if entries.len() != names.len() {
+        return false;
+    }
+    for (found, name) in entries.iter().zip(names) {
+        match entry(alloc, *name) {
+            Ok(wanted) if wanted == *found => {}
+            _ => return false,
+        }
+    }
+    true
+}
