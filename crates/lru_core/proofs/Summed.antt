@@ -1,5 +1,5 @@
 -- The sums over the shards after a change of one of them.
-use Rattle.std.proofs.Common.{Result, Ok, Err, OnOk, OnErr, replicate, zero, suc, ◌≡◌, ℕ, ◌+◌, ◌-◌, ◌*◌, ◌/◌, ◌^◌, ◌<◌, ◌≤◌, List, [], ◌∷◌, length, get_or, set, map, sym, refl, ap, ◌∙◌, arith, length-set, get_or-set_same}
+use Rattle.std.proofs.Common.{Result, Ok, Err, OnOk, OnErr, replicate, zero, suc, ◌≡◌, ℕ, ◌+◌, ◌-◌, ◌*◌, ◌/◌, ◌%◌, ◌^◌, ◌<◌, ◌≤◌, List, [], ◌∷◌, length, get_or, set, map, sym, refl, ap, ◌∙◌, arith, length-set, get_or-set_same}
 use Rattle.std.specs.List.{All, sum_by}
 use Rattle.std.proofs.Math.Nat.{mul-div-le}
 use Rattle.std.proofs.lemmas.List.{map-set, get_or-map, length-map, set-get_or, set-set}
@@ -10,7 +10,7 @@ use Rattle.std.proofs.lemmas.List.Elements.{All-set, All-map, All-weaker}
 use Rattle.lru_core.specs.declared.rows.Row.{Row}
 use Rattle.lru_core.specs.Rows.{Shard, total_weight}
 use Rattle.lru_core.specs.declared.sharded.totals.Totals.{Totals}
-use Rattle.lru_core.specs.Cores.{rows_at, core_weight, core_len, shard_bound}
+use Rattle.lru_core.specs.Cores.{Core, rows_at, shard_of, core_weight, core_len, shard_bound}
 use Rattle.lru_core.specs.Units.{AreSums, IsBounded, IsSummed, IsChanged}
 
 below : (a b : ℕ) → a ≤ b → b ≤ 2 ^ 64 - 1 → a < 2 ^ 64
@@ -122,6 +122,11 @@ module _ {T : Type 0} where
 
   pub was_bound : {n : ℕ} {units : List (Shard T)} {all : Totals} {i : ℕ} {was : Shard T} → IsSummed n units all → i < n → was ≡ get_or units i was → was.bound ≡ shard_bound n
   was_bound {n} {units} {all} {i} {was} w h e = let l : i < length units = rw w.count h in let b : IsBounded n was = rw (sym e) at (w.bounded i was l) in b.0
+
+  -- the shard of key k as the core shows it, and its bound
+  pub shard_was : {n : ℕ} {units : List (Shard T)} {all : Totals} {i : ℕ} {was : Shard T} (core : Core T) (k : ℕ) → IsSummed n units all → i < n → was ≡ get_or units i was
+      → lists units ≡ core.shards → i ≡ k % n → (shard_of n core k ≡ was.rows) × (was.bound ≡ shard_bound n)
+  shard_was core k w h e v p = (rw (← v, ← p) (was_rows w h e), was_bound w h e)
 
   pub now_rows : {n : ℕ} {units : List (Shard T)} {all : Totals} {i : ℕ} → (now : Shard T) → IsSummed n units all → i < n → rows_at (lists (set units i now)) i ≡ now.rows
   now_rows {n} {units} {all} {i} now w h =

@@ -13,19 +13,23 @@ mod fault;
 mod iter;
 
 use crate::rows::Rows;
+use std::hash::{BuildHasher, BuildHasherDefault, FoldHasher};
 use std::marker::Model;
 
 /// A shard of rows of distinct keys, most recent first.
+///
+/// Rows are found by the hashes of their keys. `with_capacity` hashes with a fixed start, for keys that the caller chooses
+/// itself; `with_hasher` takes a start of the caller's, for keys that strangers choose, who then can't slow look-ups down.
 #[derive(Drop)]
-pub struct LruUnit<T> {
-    rows: Rows<T>,
+pub struct LruUnit<T, S: BuildHasher = BuildHasherDefault<FoldHasher>> {
+    rows: Rows<T, S>,
     // The sum of the rows' weights.
     used: usize,
     // What neither the number of rows nor their weight may pass.
     bound: usize,
 }
 
-impl<T> Model for LruUnit<T> {
+impl<T, S: BuildHasher> Model for LruUnit<T, S> {
     ghost use Rattle.lru_core.specs.Rows.{Shard};
 
     ghost Value = { Shard T };
@@ -38,7 +42,7 @@ impl<T> Model for LruUnit<T> {
     ghost invariant = { λ u. (u.used ≡ total_weight u.rows) × (u.used ≤ u.bound) × (length u.rows ≤ u.bound) };
 }
 
-impl<T> LruUnit<T> {
+impl<T, S: BuildHasher> LruUnit<T, S> {
     /// Returns the number of rows.
     pub fn len(&self) -> usize
         ensures value { result ≡ length self.now.rows }
@@ -130,7 +134,7 @@ fn raised(old: usize, delta: usize, max_weight: Option<usize>) -> Option<usize>
 }
 
 // The weight of the row of `key`.
-fn weight_at<T>(rows: &Rows<T>, key: u64) -> Option<usize>
+fn weight_at<T, S: BuildHasher>(rows: &Rows<T, S>, key: u64) -> Option<usize>
     ensures some { IfSome result (λ w. Weighs key rows.now w) }
     ensures none { IfNone result ((only key rows.now ≡ []) × (others key rows.now ≡ rows.now)) }
 {

@@ -13,6 +13,7 @@ use lru_list::linked_list::{LinkedList, LinkedListIter, ListFault};
 use slots::new_slot;
 use std::alloc::{AllocError, Global};
 use std::collections::HashMap;
+use std::hash::BuildHasher;
 use std::marker::Model;
 use table::{index_of, put_key, room_for, take_key};
 
@@ -36,13 +37,13 @@ pub enum End {
 
 /// Rows of distinct keys, most recent first.
 #[derive(Drop)]
-pub struct Rows<T> {
+pub struct Rows<T, S: BuildHasher> {
     /// The index of each key in the list.
-    table: HashMap<u64, usize>,
+    table: HashMap<u64, usize, S>,
     list: LinkedList<Option<Row<T>>>,
 }
 
-impl<T> Model for Rows<T> {
+impl<T, S: BuildHasher> Model for Rows<T, S> {
     ghost use Rattle.std.specs.Prelude.{List, nat_eq};
     ghost use Rattle.std.specs.HashMap.{get};
     ghost use Rattle.lru_core.specs.declared.rows.Row.{Row};
@@ -56,7 +57,7 @@ impl<T> Model for Rows<T> {
     ghost invariant = { λ u. IsTabled (get nat_eq u.table) u.list.items u.list.order };
 }
 
-impl<T> Rows<T> {
+impl<T, S: BuildHasher> Rows<T, S> {
     /// Returns the number of rows.
     pub fn len(&self) -> usize
         ensures { result ≡ length self.now }
@@ -134,17 +135,19 @@ impl<T> Rows<T> {
     }
 }
 
-impl<T: Drop> Rows<T> {
-    /// Returns no rows. `capacity` is a hint: room for that many rows is reserved.
-    pub fn with_capacity(alloc: Global, capacity: usize) -> Result<Self, AllocError>
+impl<T: Drop, S: BuildHasher + Copy> Rows<T, S> {
+    /// Returns no rows, whose look-ups hash with that start. `capacity` is a hint: room for that many rows is reserved.
+    pub fn with_hasher(alloc: Global, hasher: S, capacity: usize) -> Result<Self, AllocError>
         ensures { IfOk result (λ rows. rows ≡ []) }
     {
         Ok(Rows {
-            table: HashMap::with_capacity(alloc, capacity)?,
+            table: HashMap::with_capacity_and_hasher(alloc, capacity, hasher)?,
             list: LinkedList::with_capacity(alloc, capacity)?,
         })
     }
+}
 
+impl<T: Drop, S: BuildHasher> Rows<T, S> {
     /// Reserves room for `additional` more rows. It is a hint.
     pub fn reserve(&mut self, additional: usize) -> Result<(), AllocError>
         ensures same { self.new ≡ self.old }

@@ -11,13 +11,17 @@ mod totals;
 
 use crate::lru_unit::LruUnit;
 use std::alloc::{AllocError, Global};
+use std::hash::{BuildHasher, BuildHasherDefault, FoldHasher};
 use std::marker::Model;
 use totals::Totals;
 
 /// N shards of rows of distinct keys, each most recent first.
+///
+/// Rows are found by the hashes of their keys. The default hasher starts at a fixed place, for keys that the caller chooses
+/// itself; `with_hasher` takes a start of the caller's, for keys that strangers choose, who then can't slow look-ups down.
 #[derive(Drop)]
-pub struct LruCore<T, const N: usize> {
-    units: Vec<LruUnit<T>>,
+pub struct LruCore<T, const N: usize, S: BuildHasher = BuildHasherDefault<FoldHasher>> {
+    units: Vec<LruUnit<T, S>>,
     totals: Totals,
     weight_limit: usize,
     len_watermark: Option<usize>,
@@ -25,7 +29,7 @@ pub struct LruCore<T, const N: usize> {
     evicted_len: usize,
 }
 
-impl<T, const N: usize> Model for LruCore<T, N> {
+impl<T, const N: usize, S: BuildHasher> Model for LruCore<T, N, S> {
     ghost use Rattle.lru_core.specs.Cores.{Core};
 
     ghost Value = { Core T };
@@ -38,7 +42,7 @@ impl<T, const N: usize> Model for LruCore<T, N> {
     ghost invariant = { λ c. IsSummed N c.units.items c.totals };
 }
 
-impl<T, const N: usize> LruCore<T, N> {
+impl<T, const N: usize, S: BuildHasher> LruCore<T, N, S> {
     /// Returns the weight of all rows.
     pub fn weight(&self) -> usize
         ensures { result ≡ core_weight self.now.shards }
@@ -116,8 +120,8 @@ impl<T, const N: usize> LruCore<T, N> {
     }
 }
 
-impl<T: Drop, const N: usize> LruCore<T, N> {
-    /// Returns N shards without rows. `capacity` is a hint: room for that many rows is reserved.
+impl<T: Drop, const N: usize> LruCore<T, N, BuildHasherDefault<FoldHasher>> {
+    /// Returns N shards without rows, under hashes with a fixed start. `capacity` is a hint: room for that many rows is reserved.
     pub fn with_capacity(
         alloc: Global,
         weight_limit: usize,
@@ -139,9 +143,31 @@ impl<T: Drop, const N: usize> LruCore<T, N> {
         requires { 0 < N }
         ensures { IfOk result (λ c. c ≡ record { shards = replicate N []; limit = weight_limit; watermark = len_watermark; evicted_weight = 0; evicted_len = 0 }) }
     {
+        LruCore::with_hasher(
+            alloc,
+            BuildHasherDefault::new(),
+            weight_limit,
+            capacity,
+            len_watermark,
+        )
+    }
+}
+
+impl<T: Drop, const N: usize, S: BuildHasher + Copy> LruCore<T, N, S> {
+    /// The same, with hashes of that start.
+    pub fn with_hasher(
+        alloc: Global,
+        hasher: S,
+        weight_limit: usize,
+        capacity: usize,
+        len_watermark: Option<usize>,
+    ) -> Result<Self, AllocError>
+        requires { 0 < N }
+        ensures { IfOk result (λ c. c ≡ record { shards = replicate N []; limit = weight_limit; watermark = len_watermark; evicted_weight = 0; evicted_len = 0 }) }
+    {
         let mut units = Vec::new(alloc);
         'units: for _ in 0..N {
-            let unit = LruUnit::with_capacity(alloc, capacity / N, usize::MAX / N)?;
+            let unit = LruUnit::with_hasher(alloc, hasher, capacity / N, usize::MAX / N)?;
             units.push(unit)?;
         }
         Ok(LruCore {
@@ -153,7 +179,9 @@ impl<T: Drop, const N: usize> LruCore<T, N> {
             evicted_len: 0,
         })
     }
+}
 
+impl<T: Drop, const N: usize, S: BuildHasher> LruCore<T, N, S> {
     /// Reserves room for `additional` more rows in a shard. It is a hint.
     pub fn reserve_shard(&mut self, shard: usize, additional: usize) -> Result<(), AllocError>
         requires { shard < N }

@@ -9,20 +9,37 @@ ghost use Rattle.lru_core.specs.Orders.{with_last};
 use super::{LruFault, LruUnit, lowered, raised, weight_at};
 use crate::rows::{End, Row, Rows};
 use std::alloc::{AllocError, Global};
+use std::hash::{BuildHasher, BuildHasherDefault, FoldHasher};
 
-impl<T: Drop> LruUnit<T> {
-    /// Returns a shard without rows. `capacity` is a hint: room for that many rows is reserved. Neither the number of
-    /// rows nor their weight will pass `bound`.
+impl<T: Drop> LruUnit<T, BuildHasherDefault<FoldHasher>> {
+    /// Returns a shard without rows, under hashes with a fixed start. `capacity` is a hint: room for that many rows is
+    /// reserved. Neither the number of rows nor their weight will pass `bound`.
     pub fn with_capacity(alloc: Global, capacity: usize, bound: usize) -> Result<Self, AllocError>
         ensures { IfOk result (λ u. (u.rows ≡ []) × (u.bound ≡ bound)) }
     {
+        LruUnit::with_hasher(alloc, BuildHasherDefault::new(), capacity, bound)
+    }
+}
+
+impl<T: Drop, S: BuildHasher + Copy> LruUnit<T, S> {
+    /// The same, with hashes of that start.
+    pub fn with_hasher(
+        alloc: Global,
+        hasher: S,
+        capacity: usize,
+        bound: usize,
+    ) -> Result<Self, AllocError>
+        ensures { IfOk result (λ u. (u.rows ≡ []) × (u.bound ≡ bound)) }
+    {
         Ok(LruUnit {
-            rows: Rows::with_capacity(alloc, capacity)?,
+            rows: Rows::with_hasher(alloc, hasher, capacity)?,
             used: 0,
             bound,
         })
     }
+}
 
+impl<T: Drop, S: BuildHasher> LruUnit<T, S> {
     /// Reserves room for `additional` more rows. It is a hint.
     pub fn reserve(&mut self, additional: usize) -> Result<(), AllocError>
         ensures same { self.new ≡ self.old }

@@ -9,10 +9,11 @@ use super::table::room_for;
 use super::{End, MOST_ROWS, Row};
 use lru_list::linked_list::{LinkedList, ListFault};
 use std::collections::HashMap;
+use std::hash::BuildHasher;
 
 // Inserts a slot with `item` at that end, and makes room for its key in the table. `Full` if there are `MOST_ROWS`.
-pub(super) fn new_slot<T: Drop>(
-    table: &mut HashMap<u64, usize>,
+pub(super) fn new_slot<T: Drop, S: BuildHasher>(
+    table: &mut HashMap<u64, usize, S>,
     list: &mut LinkedList<Option<Row<T>>>,
     item: Option<Row<T>>,
     end: End,

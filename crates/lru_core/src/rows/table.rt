@@ -5,14 +5,18 @@ ghost use Rattle.std.specs.HashMap.{get, spare};
 
 use std::alloc::AllocError;
 use std::collections::HashMap;
+use std::hash::BuildHasher;
 
-pub(super) fn index_of(table: &HashMap<u64, usize>, key: u64) -> Option<usize>
+pub(super) fn index_of<S: BuildHasher>(table: &HashMap<u64, usize, S>, key: u64) -> Option<usize>
     ensures { result ≡ get nat_eq table.now key }
 {
     table.get(&key).copied()
 }
 
-pub(super) fn take_key(table: &mut HashMap<u64, usize>, key: u64) -> Option<usize>
+pub(super) fn take_key<S: BuildHasher>(
+    table: &mut HashMap<u64, usize, S>,
+    key: u64,
+) -> Option<usize>
     ensures value { result ≡ get nat_eq table.old key }
     ensures gone { get nat_eq table.new key ≡ None }
     ensures kept { (q : ℕ) → (q ≡ key → ⊥) → get nat_eq table.new q ≡ get nat_eq table.old q }
@@ -20,7 +24,7 @@ pub(super) fn take_key(table: &mut HashMap<u64, usize>, key: u64) -> Option<usiz
     table.remove(&key)
 }
 
-pub(super) fn put_key(table: &mut HashMap<u64, usize>, key: u64, i: usize)
+pub(super) fn put_key<S: BuildHasher>(table: &mut HashMap<u64, usize, S>, key: u64, i: usize)
     requires { 0 < spare table.old }
     ensures here { get nat_eq table.new key ≡ Some i }
     ensures kept { (q : ℕ) → (q ≡ key → ⊥) → get nat_eq table.new q ≡ get nat_eq table.old q }
@@ -29,7 +33,10 @@ pub(super) fn put_key(table: &mut HashMap<u64, usize>, key: u64, i: usize)
     let _old = inserted.unwrap();
 }
 
-pub(super) fn room_for(table: &mut HashMap<u64, usize>, additional: usize) -> Result<(), AllocError>
+pub(super) fn room_for<S: BuildHasher>(
+    table: &mut HashMap<u64, usize, S>,
+    additional: usize,
+) -> Result<(), AllocError>
     ensures same { (q : ℕ) → get nat_eq table.new q ≡ get nat_eq table.old q }
     ensures ok { OnOk result (additional ≤ spare table.new) }
     ensures refused { OnErr result (0 < additional) }

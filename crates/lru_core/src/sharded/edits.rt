@@ -9,8 +9,9 @@ ghost use Rattle.lru_core.specs.Updates.{WasUpdated, IsUpdateRefused, IsRefused}
 use super::LruCore;
 use super::totals::Totals;
 use crate::lru_unit::LruFault;
+use std::hash::BuildHasher;
 
-impl<T, const N: usize> LruCore<T, N> {
+impl<T, const N: usize, S: BuildHasher> LruCore<T, N, S> {
     /// Moves the row of `key` to the front of its shard, and returns whether there is one.
     pub fn promote(&mut self, key: u64) -> bool
         ensures found { result ≡ is_some (row_of key (shard_of N self.old key)) }
@@ -20,7 +21,7 @@ impl<T, const N: usize> LruCore<T, N> {
         let unit = &mut self.units[place];
         let before = Totals::of(unit);
         let found = unit.access(key);
-        self.totals.recount::<T, N>(&self.units, place, before);
+        self.totals.recount::<T, N, S>(&self.units, place, before);
         found
     }
 
@@ -39,7 +40,7 @@ impl<T, const N: usize> LruCore<T, N> {
     }
 }
 
-impl<T: Drop, const N: usize> LruCore<T, N> {
+impl<T: Drop, const N: usize, S: BuildHasher> LruCore<T, N, S> {
     /// Inserts `item` under `key` at the front of its shard, with a weight of 1 at least, in place of what the key had.
     /// Returns the shard.
     pub fn admit(&mut self, key: u64, item: T, weight: usize) -> Result<usize, LruFault<T>>
@@ -54,7 +55,7 @@ impl<T: Drop, const N: usize> LruCore<T, N> {
         let unit = &mut self.units[place];
         let before = Totals::of(unit);
         let admitted: Result<usize, LruFault<T>> = unit.admit(key, item, weight);
-        self.totals.recount::<T, N>(&self.units, place, before);
+        self.totals.recount::<T, N, S>(&self.units, place, before);
         let _old = admitted?;
         Ok(place)
     }
@@ -73,7 +74,7 @@ impl<T: Drop, const N: usize> LruCore<T, N> {
         let unit = &mut self.units[place];
         let before = Totals::of(unit);
         let added: Result<bool, LruFault<T>> = unit.insert_tail(key, item, weight);
-        self.totals.recount::<T, N>(&self.units, place, before);
+        self.totals.recount::<T, N, S>(&self.units, place, before);
         added
     }
 
@@ -88,7 +89,7 @@ impl<T: Drop, const N: usize> LruCore<T, N> {
         let unit = &mut self.units[place];
         let before = Totals::of(unit);
         let set: Result<Option<usize>, LruFault<()>> = unit.set_weight(key, weight);
-        self.totals.recount::<T, N>(&self.units, place, before);
+        self.totals.recount::<T, N, S>(&self.units, place, before);
         let old = set?;
         Ok(old)
     }
@@ -121,7 +122,7 @@ impl<T: Drop, const N: usize> LruCore<T, N> {
         let added: Result<(usize, usize, bool), LruFault<F>> = unit.increment_weight(
             key, admit_data, delta, max_weight,
         );
-        self.totals.recount::<T, N>(&self.units, place, before);
+        self.totals.recount::<T, N, S>(&self.units, place, before);
         let now = added?;
         Ok(now.1)
     }
@@ -155,7 +156,7 @@ impl<T: Drop, const N: usize> LruCore<T, N> {
         let added: Result<(Option<usize>, usize), LruFault<Option<T>>> = unit.update_or_admit(
             key, update, admit_data,
         );
-        self.totals.recount::<T, N>(&self.units, place, before);
+        self.totals.recount::<T, N, S>(&self.units, place, before);
         let now = match added {
             Ok(now) => now,
             Err(fault) => return Err(fault),
@@ -172,7 +173,7 @@ impl<T: Drop, const N: usize> LruCore<T, N> {
         let unit = &mut self.units[place];
         let before = Totals::of(unit);
         let gone = unit.remove(key);
-        self.totals.recount::<T, N>(&self.units, place, before);
+        self.totals.recount::<T, N, S>(&self.units, place, before);
         gone
     }
 }

@@ -7,8 +7,9 @@ use super::LruCore;
 use super::totals::Totals;
 use rand_core::Rng;
 use std::alloc::Global;
+use std::hash::BuildHasher;
 
-impl<T: Drop, const N: usize> LruCore<T, N> {
+impl<T: Drop, const N: usize, S: BuildHasher> LruCore<T, N, S> {
     /// Evicts the last row of the shard of that number modulo N, whatever the limit.
     pub fn evict_shard(&mut self, shard: u64) -> Option<(T, usize)>
         ensures none { IfNone result ((rows_at self.old.shards (shard % N) ≡ []) × (self.new ≡ self.old)) }
@@ -68,7 +69,7 @@ impl<T: Drop, const N: usize> LruCore<T, N> {
         let unit = &mut self.units[place];
         let before = Totals::of(unit);
         let gone = unit.evict();
-        self.totals.recount::<T, N>(&self.units, place, before);
+        self.totals.recount::<T, N, S>(&self.units, place, before);
         let (data, weight) = gone?;
         self.evicted_weight = self.evicted_weight.wrapping_add(weight);
         self.evicted_len = self.evicted_len.wrapping_add(1);
@@ -76,7 +77,7 @@ impl<T: Drop, const N: usize> LruCore<T, N> {
     }
 }
 
-impl<T, const N: usize> LruCore<T, N> {
+impl<T, const N: usize, S: BuildHasher> LruCore<T, N, S> {
     /// Returns whether the weight is past the limit, or the number of rows past the watermark.
     pub fn is_over(&self) -> bool
         ensures { result ≡ is_over self.now }

@@ -10,8 +10,9 @@ ghost use Rattle.lru_core.specs.declared.rows.Row.{Row};
 
 use super::LruCore;
 use crate::lru_unit::{LruUnit, LruUnitIter};
+use std::hash::BuildHasher;
 
-impl<T, const N: usize> LruCore<T, N> {
+impl<T, const N: usize, S: BuildHasher> LruCore<T, N, S> {
     /// Returns whether `key` is there. The order stays.
     pub fn peek(&self, key: u64) -> bool
         ensures { result ≡ is_some (row_of key (shard_of N self.now key)) }
@@ -61,7 +62,7 @@ impl<T, const N: usize> LruCore<T, N> {
 }
 
 // Calls `f` with the data and the weight of each row, most recent first.
-fn visit<T, F: FnMut((&T, usize))>(unit: &LruUnit<T>, f: &mut F)
+fn visit<T, S: BuildHasher, F: FnMut((&T, usize))>(unit: &LruUnit<T, S>, f: &mut F)
     requires { F.IsAlwaysCallable f.old }
     ensures called { FoldsTo (Visits F.FnMut) f.old (pairs_of unit.now.rows) f.new }
     ensures again { F.IsAlwaysCallable f.new }

@@ -4,6 +4,7 @@ ghost use Rattle.std.specs.Prelude.{◌<◌};
 ghost use Rattle.lru_core.specs.Units.{AreSums, IsSummed, IsChanged};
 
 use crate::lru_unit::LruUnit;
+use std::hash::BuildHasher;
 
 // How many rows there are, and their weight.
 #[derive(Clone, Copy)]
@@ -14,7 +15,7 @@ pub(super) struct Totals {
 
 impl Totals {
     // The sums of one shard.
-    pub(super) fn of<T>(unit: &LruUnit<T>) -> Totals
+    pub(super) fn of<T, S: BuildHasher>(unit: &LruUnit<T, S>) -> Totals
         ensures { AreSums result unit.now }
     {
         Totals {
@@ -24,9 +25,9 @@ impl Totals {
     }
 
     // Counts again the shard at `place`, which was changed and had the sums `before`.
-    pub(super) fn recount<T, const N: usize>(
+    pub(super) fn recount<T, const N: usize, S: BuildHasher>(
         &mut self,
-        units: &Vec<LruUnit<T>>,
+        units: &Vec<LruUnit<T, S>>,
         place: usize,
         before: Totals,
     )

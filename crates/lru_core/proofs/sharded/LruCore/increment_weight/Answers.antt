@@ -1,8 +1,8 @@
-use Rattle.std.proofs.Common.{◌≡◌, ℕ, ◌%◌, List, ◌∷◌, set, refl, ap, ◌∙◌}
+use Rattle.std.proofs.Common.{rules, ◌≡◌, ℕ, ◌%◌, List, ◌∷◌, set, refl, ap, ◌∙◌}
 use Rattle.lru_core.specs.declared.rows.Row.{Row}
 use Rattle.lru_core.specs.Rows.{a_row}
 use Rattle.lru_core.specs.Cores.{Core, rows_at}
-use Rattle.lru_core.proofs.Summed.{undone, shown_rows, was_rows, rows_after}
+use Rattle.lru_core.proofs.Summed.{undone, shard_was, shown_rows, was_rows, rows_after}
 use Rattle.lru_core.proofs.sharded.LruCore.increment_weight.Goals as goal
 use Rattle.lru_core.proofs.sharded.LruCore.increment_weight.Goals.{In_ok-now}
 
@@ -25,3 +25,11 @@ returns-clause-admitted g c n =
     let s = rows_after c.self.inside.units.items c.place_of-place.result i c.index_mut-unit.result.now c.increment_weight-added.new.self f c.place_of-place.ensures.value r (ap (λ u. u.rows) p.2) in
     let t = ap (λ s. record { shards = s; limit = c.self.inside.weight_limit; watermark = c.self.inside.len_watermark; evicted_weight = c.self.inside.evicted_weight; evicted_len = c.self.inside.evicted_len }) s in
     (p.0, p.1, t ∙ ap {A = Core g.row.T.Denot} {B = Core g.row.T.Denot} (λ v. record v { shards = set v.shards i (f (rows_at v.shards i)) }) c.self.view_is)
+
+pub returns-in_err-now-clause-long : goal.returns-in_err-now-clause-long
+returns-in_err-now-clause-long g c back e =
+    let f = shard_was c.args.self.now c.args.key c.self.invariant c.place_of-place.ensures.within c.index_mut-unit.ensures.value (ap (λ v. v.shards) c.self.view_is) c.place_of-place.ensures.value in
+    rw f.0 (rw f.1 at (c.in_err-now.ensures.long back (search rules)))
+
+pub returns-clause-raised : goal.returns-clause-raised
+returns-clause-raised g c n = rw (old_rows g c) (ap (λ p. p.1) (c.in_ok-now.ensures.raised (rw (old_rows g c) at n)))

@@ -1,6 +1,6 @@
 use Rattle.std.proofs.Common.{◌≡◌, arith, refl, ◌-◌, ◌/◌, ◌^◌}
 use Rattle.lru_core.proofs.Summed.{none_summed, lists-replicate}
-use Rattle.lru_core.proofs.sharded.LruCore.with_capacity_and_watermark.Goals as goal
+use Rattle.lru_core.proofs.sharded.LruCore.with_hasher.Goals as goal
 
 pub invariant_of-result : goal.invariant_of-result
 invariant_of-result g c =
