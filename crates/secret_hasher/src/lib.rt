@@ -1,0 +1,27 @@
+//! Hashes whose start is a word of the caller's.
+#![tactic(auto)]
+
+ghost use Rattle.secret_hasher.specs.Start.{start_of};
+
+use std::hash::{BuildHasher, FoldHasher, Hasher};
+
+/// A start of hashes that the owner of a table keeps secret, so that strangers who choose keys don't know their hashes. Take the
+/// word at random, one for each table. `FoldHasher` is fast and not cryptographic: for tables that show strangers how long
+/// look-ups take, std's `RandomState` is safer and slower.
+#[derive(Clone, Copy)]
+pub struct SecretHasher {
+    /// What each hasher writes first.
+    pub word: u64,
+}
+
+impl BuildHasher for SecretHasher {
+    type Hasher = FoldHasher;
+
+    ghost build_hasher = { λ s. start_of s.word };
+
+    fn build_hasher(&self) -> FoldHasher {
+        let mut hasher = FoldHasher::default();
+        hasher.write_u64(self.word);
+        hasher
+    }
+}
