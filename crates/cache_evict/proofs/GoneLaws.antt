@@ -19,6 +19,7 @@ use Rattle.cache_evict.specs.Numbered.{nobody, tracked_row, tracked, managed_in,
 use Rattle.cache_evict.proofs.PlaceLaws.{some_of, none_some}
 use Rattle.cache_evict.proofs.NumberedLaws.{IsNumber-named, tracked-others}
 use Rattle.cache_evict.proofs.WrittenLaws.{seen, below, shown-written, IsNumbered-without, one-without, without-here, without-other}
+use Rattle.cache_evict.proofs.CountLaws.{counts}
 use Rattle.cache_evict.proofs.RefusalLaws.{all_weights-tracked, same_names}
 
 -- ---- sums
@@ -31,19 +32,12 @@ module _ (names : ℕ → Option CacheEntryKey) where
       let one = all_weights-tracked names rows in
       sum_by-cons all_weights (tracked names rows) (map (tracked names) shards) ∙ omega (arith, ih, one) ∙ sym (sum_by-cons total_weight rows shards)
 
-  pub counts : (shards : List (List (Row ℕ))) → sum_by length (map (tracked names) shards) ≡ core_len shards
-  counts [] = refl
-  counts (rows ∷ shards) =
-      let ih = counts shards in
-      let one = length-map rows (tracked_row names) in
-      sum_by-cons length (tracked names rows) (map (tracked names) shards) ∙ omega (arith, ih, one) ∙ sym (sum_by-cons length rows shards)
-
   passed : (mark : Option ℕ) (m : ℕ) → is_past mark m ≡ passes mark m
   passed None m = refl
   passed (Some bound) m = refl
 
   pub over : (core : Core ℕ) (size items : ℕ) → is_over (managed_in names core size items) ≡ is_core_over core
-  over core size items = rw (sizes core.shards, counts core.shards, passed core.watermark (core_len core.shards)) refl
+  over core size items = rw (sizes core.shards, counts names core.shards, passed core.watermark (core_len core.shards)) refl
 
   -- ---- which shard
 

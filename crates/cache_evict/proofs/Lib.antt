@@ -4,12 +4,15 @@ pub mod SwapLaws
 pub mod FreeLaws
 pub mod NumberedLaws
 pub mod WrittenLaws
+pub mod CountLaws
 pub mod RowLaws
 pub mod BackLaws
 pub mod RefusalLaws
 pub mod GoneLaws
+pub mod ShardLaws
 pub mod FaultLaws
 pub mod LoadLaws
+pub mod InverseLaws
 pub mod TextLaws
 pub mod OneLaws
 pub mod AlikeLaws

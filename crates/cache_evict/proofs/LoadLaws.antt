@@ -1,17 +1,18 @@
 -- Rows that are read and put.
-use Rattle.std.proofs.Common.{◌≡◌, ℕ, zero, suc, ◌<◌, List, [], ◌∷◌, ◌++◌, length, slice_get, Option, Some, None, sym, refl, ap, ◌∙◌, subst, arith, append_assoc}
+use Rattle.std.proofs.Common.{◌≡◌, ℕ, zero, suc, ◌<◌, List, [], ◌∷◌, ◌++◌, inl, inr, length, slice_get, Option, Some, None, sym, refl, ap, ◌∙◌, subst, arith, append_assoc}
 use Rattle.std.specs.Prelude.{unwrap_or, option_map, Result, Ok, Err, IsErrAnd, OnOk}
 use Rattle.std.proofs.lemmas.Nat.{mod_below}
 use Rattle.std.proofs.lemmas.List.{append-nil}
 use Rattle.cache_words.specs.declared.pack.fault.PackFault.{PackFault}
 use Rattle.cache_words.specs.Forms.{arrays}
 use Rattle.cache_words.specs.Reading.{number_at}
+use Rattle.cache_words.proofs.ReadingLaws.{IsBytes}
 use Rattle.cache_entries.specs.declared.entry.CacheEntryKey.{CacheEntryKey}
 use Rattle.cache_entries.specs.declared.rows.Tracked.{Tracked}
 use Rattle.cache_entries.specs.EntryText.{entry_hash}
-use Rattle.cache_entries.proofs.RowLaws.{recency_again}
+use Rattle.cache_entries.proofs.RowLaws.{recency_again, recency_takes}
 use Rattle.cache_entries.specs.RowText.{SpellsRecency, RowsRead, row_at, rows_until, recency_at, counted_rows}
-use Rattle.cache_entries.specs.Rows.{row_of, admitted}
+use Rattle.cache_entries.specs.Rows.{row_of, weight_of, admitted}
 use Rattle.lru_core.specs.declared.rows.Row.{Row}
 use Rattle.lru_core.specs.Rows.{only, a_row}
 use Rattle.lru_core.specs.Cores.{Core, rows_at}
@@ -24,7 +25,7 @@ use Rattle.cache_evict.specs.declared.tracker.refusal.Refusal.TheVariants as ref
 use Rattle.cache_evict.specs.Names.{HasNoNumber}
 use Rattle.cache_evict.specs.Managed.{Managed, rows_of, with_rows, shard_of, put_first, put_last}
 use Rattle.cache_evict.specs.Refusals.{IsRefusal}
-use Rattle.cache_evict.specs.Loads.{restored, loaded, all_put, IsLoadRefusal, StopsBefore, Loads}
+use Rattle.cache_evict.specs.Loads.{restored, loaded, all_put, IsTried, IsLoadRefusal, Loads, LoadsText}
 use Rattle.cache_evict.specs.LoadTexts.{fault_of}
 use Rattle.cache_evict.specs.Numbered.{tracked_row, managed_in, IsNumbered}
 use Rattle.cache_evict.proofs.NumberedLaws.{IsNumber-named, row_of-number, absent}
@@ -67,11 +68,16 @@ module _ (n : ℕ) (names : ℕ → Option CacheEntryKey) (core : Core ℕ) (e :
       ap (λ (o : Option Tracked). unwrap_or (option_map (λ _. rows_of n e held) o) last) (unlisted none)
       ∙ sym (ap (λ (o : Option Tracked). unwrap_or (option_map (λ _. admitted e w (rows_of n e held)) o) last) (unlisted none)))
 
-pub load_refused : (n : ℕ) (e : CacheEntryKey) (w : ℕ) (m : Managed) (why : Refusal) → IsRefusal n e w m why → IsLoadRefusal n (record { entry = e; weight = w }) m why
-load_refused n e w m refusal.Memory p = tt
-load_refused n e w m refusal.Weight p = p
-load_refused n e w m refusal.Length p = p
-load_refused n e w m refusal.Spent p = p
+pub load_refused : (again : Again) (n : ℕ) (e : CacheEntryKey) (w : ℕ) (m : Managed) (why : Refusal) → IsTried again n (record { entry = e; weight = w }) m → IsRefusal n e w m why
+    → IsLoadRefusal again n (record { entry = e; weight = w }) m why
+load_refused again n e w m refusal.Memory t p = tt
+load_refused again n e w m refusal.Weight t p = (t, p)
+load_refused again n e w m refusal.Length t p = (t, p)
+load_refused again n e w m refusal.Spent t p = (t, p)
+
+pub tried : (again : Again) (n : ℕ) (r : Tracked) (m : Managed) → weight_of r.entry (rows_of n r.entry m) ≡ None → IsTried again n r m
+tried PassedOver n r m none = none
+tried MovedFirst n r m none = tt
 
 -- ---- all rows
 
@@ -99,56 +105,58 @@ module _ (put : Tracked → Managed → Managed) where
         s ∙ ap (put r) h.3 ∙ sym (all_put-push h.0 r old),
       )
 
-  module _ (n : ℕ) (read : RowsRead) (old m : Managed) where
-    pub loads-all : (bytes : List ℕ) → HasLoaded read old zero bytes m → Loads n put read old m (Ok tt)
-    unfolding rows_until
-    loads-all bytes h = (h.2, h.3 ∙ ap (λ (l : List Tracked). all_put put l old) (sym (h.1 ∙ append-nil h.0)))
+module _ (again : Again) (n : ℕ) (read : RowsRead) (old m : Managed) where
+  abbrev put : Tracked → Managed → Managed
+  put = loaded again n
 
-    pub loads-text : (left : ℕ) (bytes : List ℕ) (f : PackFault) (fault : LoadFault) → HasLoaded read old (suc left) bytes m → row_at bytes ≡ Err f → fault ≡ load.Text f → Loads n put read old m (Err fault)
-    unfolding rows_until
-    loads-text left bytes f fault h e is =
-        let next : rows_until (suc left) bytes ≡ ([], Some f) = rw e refl in
-        subst (λ (x : LoadFault). Loads n put read old m (Err x)) (sym is) (
-          h.2 ∙ ap (λ (x : RowsRead). x.1) next,
-          h.3 ∙ ap (λ (l : List Tracked). all_put put l old) (sym (h.1 ∙ ap (λ (x : RowsRead). h.0 ++ x.0) next ∙ append-nil h.0)),
-        )
+  pub loads-all : (bytes : List ℕ) → HasLoaded put read old zero bytes m → Loads again n read old m (Ok tt)
+  unfolding rows_until
+  loads-all bytes h = (h.2, h.3 ∙ ap (λ (l : List Tracked). all_put put l old) (sym (h.1 ∙ append-nil h.0)))
 
-    pub loads-stop : (left : ℕ) (bytes rest : List ℕ) (r : Tracked) (mid : Managed) (why : Refusal) (fault : LoadFault) → HasLoaded read old (suc left) bytes mid → row_at bytes ≡ Ok (r, rest) → m ≡ mid → IsLoadRefusal n r mid why
-        → fault ≡ fault_of why → Loads n put read old m (Err fault)
-    unfolding rows_until
-    loads-stop left bytes rest r mid why fault h e same p is =
-        let next : rows_until (suc left) bytes ≡ (r ∷ (rows_until left rest).0, (rows_until left rest).1) = rw e refl in
-        let stops : StopsBefore n put read old m why = (
+  pub loads-text : (left : ℕ) (bytes : List ℕ) (f : PackFault) (fault : LoadFault) → HasLoaded put read old (suc left) bytes m → row_at bytes ≡ Err f → fault ≡ load.Text f → Loads again n read old m (Err fault)
+  unfolding rows_until
+  loads-text left bytes f fault h e is =
+      let next : rows_until (suc left) bytes ≡ ([], Some f) = rw e refl in
+      inl (
+        f,
+        is,
+        h.2 ∙ ap (λ (x : RowsRead). x.1) next,
+        h.3 ∙ ap (λ (l : List Tracked). all_put put l old) (sym (h.1 ∙ ap (λ (x : RowsRead). h.0 ++ x.0) next ∙ append-nil h.0)),
+      )
+
+  pub loads-stop : (left : ℕ) (bytes rest : List ℕ) (r : Tracked) (mid : Managed) (why : Refusal) (fault : LoadFault) → HasLoaded put read old (suc left) bytes mid → row_at bytes ≡ Ok (r, rest) → m ≡ mid → IsLoadRefusal again n r mid why
+      → fault ≡ fault_of why → Loads again n read old m (Err fault)
+  unfolding rows_until
+  loads-stop left bytes rest r mid why fault h e same p is =
+      let next : rows_until (suc left) bytes ≡ (r ∷ (rows_until left rest).0, (rows_until left rest).1) = rw e refl in
+      inr (
+        why,
+        is,
+        (
           h.0,
           r,
           (rows_until left rest).0,
           h.1 ∙ ap (λ (x : RowsRead). h.0 ++ x.0) next,
           same ∙ h.3,
-          subst (λ (x : Managed). IsLoadRefusal n r x why) (sym same) p,
-        ) in
-        subst (λ (x : LoadFault). Loads n put read old m (Err x)) (sym is) (told why stops)
-      where
-        told : (w : Refusal) → StopsBefore n put read old m w → Loads n put read old m (Err (fault_of w))
-        told refusal.Memory s = s
-        told refusal.Weight s = s
-        told refusal.Length s = s
-        told refusal.Spent s = s
+          subst (λ (x : Managed). IsLoadRefusal again n r x why) (sym same) p,
+        ),
+      )
 
-pub loads-head : (n : ℕ) (put : Tracked → Managed → Managed) (bytes : List ℕ) (old : Managed) (f : PackFault) (fault : LoadFault) → number_at arrays bytes ≡ Err f → fault ≡ load.Text f
-    → Loads n put (recency_at bytes) old old (Err fault)
-loads-head n put bytes old f fault e is =
-    let read = ap counted_rows e in
-    subst (λ (x : LoadFault). Loads n put (recency_at bytes) old old (Err x)) (sym is) (ap (λ (r : RowsRead). r.1) read, ap (λ (r : RowsRead). all_put put r.0 old) (sym read))
+  -- the same of a fault that was told by another
+  pub loads-err : (r : Result (Unit {0}) LoadFault) (P : LoadFault → Type 0) → IsErrAnd r P → ((fault : LoadFault) → P fault → Loads again n read old m (Err fault)) → Loads again n read old m r
+  loads-err (Ok x) P e f = absurd e
+  loads-err (Err fault) P e f = f fault e
 
--- the same of a fault that was told by another
-pub loads-err : (n : ℕ) (put : Tracked → Managed → Managed) (read : RowsRead) (old m : Managed) (r : Result (Unit {0}) LoadFault) (P : LoadFault → Type 0) → IsErrAnd r P → ((fault : LoadFault) → P fault → Loads n put read old m (Err fault))
-    → Loads n put read old m r
-loads-err n put read old m (Ok x) P e f = absurd e
-loads-err n put read old m (Err fault) P e f = f fault e
+module _ (again : Again) (n : ℕ) (bytes : List ℕ) (old m : Managed) where
+  pub loads-head : (f : PackFault) (fault : LoadFault) → number_at arrays bytes ≡ Err f → fault ≡ load.Text f → m ≡ old → Loads again n (recency_at bytes) old m (Err fault)
+  loads-head f fault e is same =
+      let read = ap counted_rows e in
+      inl (f, is, ap (λ (r : RowsRead). r.1) read, same ∙ ap (λ (r : RowsRead). all_put (loaded again n) r.0 old) (sym read))
 
--- a spelling of rows brings them all
-pub loads-spelled : (n : ℕ) (put : Tracked → Managed → Managed) (bytes : List ℕ) (rows : List Tracked) (text rest : List ℕ) (old m : Managed) (r : Result (Unit {0}) LoadFault) → SpellsRecency rows text → bytes ≡ text ++ rest
-    → Loads n put (recency_at bytes) old m r → OnOk r (m ≡ all_put put rows old)
-loads-spelled n put bytes rows text rest old m (Ok x) spelled is h =
-    h.1 ∙ ap (λ (read : RowsRead). all_put put read.0 old) (ap recency_at is ∙ recency_again rows text rest spelled)
-loads-spelled n put bytes rows text rest old m (Err fault) spelled is h = tt
+  -- rows are loaded as they are spelled
+  pub loads-spelled : (rows : List Tracked) (text rest : List ℕ) (r : Result (Unit {0}) LoadFault) → SpellsRecency rows text → bytes ≡ text ++ rest → Loads again n (recency_at bytes) old m r → Loads again n (rows, None) old m r
+  loads-spelled rows text rest r spelled is h = subst (λ (read : RowsRead). Loads again n read old m r) (ap recency_at is ∙ recency_again rows text rest spelled) h
+
+  pub loads_text : (r : Result (Unit {0}) LoadFault) → IsBytes bytes → Loads again n (recency_at bytes) old m r → OnOk r (LoadsText again n bytes old m)
+  loads_text (Ok x) fits h = let t = recency_takes bytes fits h.0 in ((recency_at bytes).0, t.0, t.1, t.2, t.3, h.1)
+  loads_text (Err fault) fits h = tt

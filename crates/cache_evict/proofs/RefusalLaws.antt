@@ -4,7 +4,7 @@ use Rattle.std.specs.Prelude.{option_map, Result, Ok, Err, OnOk, OnErr, IfErr}
 use Rattle.std.proofs.lemmas.Bool.{cases_eq, cases_lt}
 use Rattle.std.proofs.lemmas.Nat.{mod_below}
 use Rattle.std.proofs.lemmas.List.{length-map, nil_from_length}
-use Rattle.std.proofs.lemmas.List.Sums.{sum_by-cons}
+use Rattle.std.proofs.lemmas.List.Sums.{sum_by-cons, get_or-le-sum_by}
 use Rattle.std.proofs.Math.Nat.{mul-le-mul_left, mul-add, mul-one, add-mul-mod_self_left, mod-mod}
 use Rattle.cache_entries.specs.EntryText.{entry_hash}
 use Rattle.lru_core.proofs.Filters.{length_parts}
@@ -21,6 +21,7 @@ use Rattle.cache_evict.specs.declared.tracker.rows.End.{End}
 use Rattle.cache_evict.specs.Managed.{Managed, shard_of, rows_of, put_at, put_first, added, weight_after, IsFull}
 use Rattle.cache_evict.specs.Numbered.{tracked_row, tracked, managed_in, IsNumbered, placed, HasOwnRow}
 use Rattle.cache_evict.specs.Refusals.{IsRefusal, IsRowRefusal, IsNewRefusal}
+use Rattle.cache_evict.proofs.CountLaws.{counts, counted}
 use Rattle.cache_evict.proofs.PlaceLaws.{none_some, some_of}
 use Rattle.cache_evict.proofs.NumberedLaws.{IsNumber, IsNumber-named, IsNumber-free, others-without}
 use Rattle.cache_evict.proofs.BackLaws.{IsNumbered-placed, managed-placed, unnamed_row}
@@ -51,7 +52,7 @@ module _ (n : ℕ) (names : ℕ → Option CacheEntryKey) (core : Core ℕ) (k :
       → (r : Refusal) → IsRowRefusal n k w core r → IsRefusal n e w (managed_in names core size items) r
   refused none Memory p = none p
   refused none Weight p = omega (arith, p, left_weight)
-  refused none Length p = (none p.0, elim p.1 [ inl a ↦ inl (omega (arith, a, seen_length)) | inr a ↦ inr (omega (arith, a, seen_length)) ])
+  refused none Length p = (none p.0, elim p.1 [ inl a ↦ inl (omega (arith, a, seen_length)) | inr a ↦ inr (omega (arith, a, counts names core.shards, get_or-le-sum_by length core.shards (k % n) [] within)) ])
   refused none Spent p = absurd p
 
 -- names as functions
@@ -142,10 +143,19 @@ module _ (n : ℕ) (names now : ℕ → Option CacheEntryKey) (core left : Core 
     managed-given =
         managed-placed n names now core left g.0 e size items h (λ i m. g.2 i ∙ with-other names g.0 e i m) g.1.rest w one (g.2 g.0 ∙ with-here names g.0 e) (IsNumber-free names g.0 e g.1.free none) none end g.3
 
+  has_row : (k : ℕ) → names k ≢ None → (k % n < length core.shards) × (only k (rows_at core.shards (k % n)) ≢ [])
+  has_row k some =
+      let x = some_of (names k) some in
+      let row = h.known k x.0 x.1 in
+      (let m = mod_below k n h.some in omega (arith, m, h.count), λ z. let f : a_row k k row.0 ∷ [] ≡ [] = sym row.1 ∙ z in cc)
+
   pub refused-new : (r : Refusal) → IsNewRefusal n names (entry_hash e) w core r → IsRefusal n e w (managed_in names core size items) r
   refused-new Memory p = weight_of-none n names core 0 e h none
   refused-new Weight p = refused n names core p.0 e w size items h (IsNumber-free names p.0 e p.1 none) p.2 (λ z. weight_of-none n names core 0 e h none) Weight p.3
-  refused-new Length p = refused n names core p.0 e w size items h (IsNumber-free names p.0 e p.1 none) p.2 (λ z. weight_of-none n names core 0 e h none) Length p.3
+  refused-new Length p = elim p [
+    | inl many ↦ (weight_of-none n names core 0 e h none, inr (let c = counted n many.0 names core.shards has_row many.2 in omega (arith, many.1, c, counts names core.shards)))
+    | inr q ↦ refused n names core q.0 e w size items h (IsNumber-free names q.0 e q.1 none) q.2 (λ z. weight_of-none n names core 0 e h none) Length q.3
+  ]
   refused-new Spent p = full_shard n names core e size items h none p
 
 -- names that are as they were

@@ -11,7 +11,7 @@ use Rattle.lru_core.specs.declared.lru_unit.fault.LruFault.TheVariants as row
 use Rattle.lru_core.proofs.Filters.{only-append, others-append, only-reweighed, others-reweighed, others_all, one_row}
 use Rattle.cache_evict.specs.declared.tracker.refusal.Refusal.{Refusal}
 use Rattle.cache_evict.specs.Numbered.{HasOwnRow}
-use Rattle.cache_evict.specs.Refusals.{IsRowRefusal, fault_refusal}
+use Rattle.cache_evict.specs.Refusals.{IsRowRefusal, row_refusal}
 
 -- rows that were written and then promoted
 pub promoted_after : (n k : ℕ) (core mid new : Core ℕ) (rows : List (Row ℕ)) → k % n < length core.shards → mid ≡ with_shard n core k rows → new ≡ with_shard n mid k (promoted k (shard_of n mid k))
@@ -63,7 +63,7 @@ module _ (n k w : ℕ) (core : Core ℕ) where
   abbrev err : LruFault ℕ → Result Bool (LruFault ℕ)
   err fault = Err fault
 
-  pub refused_last : (fault : LruFault ℕ) (why : Refusal) → why ≡ fault_refusal fault
+  pub refused_last : (fault : LruFault ℕ) (why : Refusal) → why ≡ row_refusal fault
       → ((back : ℕ) → err fault ≡ err (row.Memory back) → (back ≡ k) × (only k (shard_of n core k) ≡ []) × HasPlace (shard_bound n) (shard_of n core k))
       → ((back : ℕ) → err fault ≡ err (row.Weight back) → (back ≡ k) × (only k (shard_of n core k) ≡ []) × (shard_bound n < total_weight (shard_of n core k) + w))
       → ((back : ℕ) → err fault ≡ err (row.Length back) → (back ≡ k) × (only k (shard_of n core k) ≡ []) × IsLong (shard_bound n) (shard_of n core k)) → IsRowRefusal n k w core why

@@ -1,12 +1,15 @@
 -- Rows of numbers as text, and the last of them.
-use Rattle.std.proofs.Common.{◌≡◌, ◌≢◌, ℕ, ◌<◌, map, List, [], ◌∷◌, ◌++◌, length, Option, Some, None, sym, refl, ap, ◌∙◌, subst, arith, append_assoc}
+use Rattle.std.proofs.Common.{◌≡◌, ◌≢◌, ℕ, ◌<◌, ◌^◌, map, List, [], ◌∷◌, ◌++◌, length, Option, Some, None, sym, refl, ap, ◌∙◌, subst, arith, append_assoc}
 use Rattle.std.specs.Prelude.{unwrap_or, flat_map, MatchOption, option_copied}
 use Rattle.std.specs.Borrow.{Bor}
 use Rattle.std.proofs.lemmas.List.{map-append, length-map}
 use Rattle.cache_words.specs.Forms.{shortest, arrays}
 use Rattle.cache_entries.specs.declared.entry.CacheEntryKey.{CacheEntryKey}
 use Rattle.cache_entries.specs.declared.rows.Tracked.{Tracked}
-use Rattle.cache_entries.specs.RowText.{row_text, recency_text}
+use Rattle.cache_entries.specs.RowText.{SpellsRecency, row_text, recency_text}
+use Rattle.cache_entries.specs.Writable.{IsRow}
+use Rattle.cache_entries.proofs.WrittenLaws.{recency_spelled}
+use Rattle.std.specs.List.{AllByRecursion}
 use Rattle.lru_core.specs.declared.rows.Row.{Row}
 use Rattle.lru_core.specs.Rows.{a_row, pairs_of}
 use Rattle.lru_core.specs.Cores.{Core, rows_at}
@@ -44,6 +47,14 @@ module _ (n : ℕ) (names : ℕ → Option CacheEntryKey) where
     text_shown out head first all =
         all ∙ ap (λ (l : List ℕ). l ++ flat_map row_text (map (row_of_pair names) (pairs_of (rows_at core.shards s)))) (first ∙ ap (shortest arrays) (sym counted))
         ∙ ap (λ (l : List Tracked). shortest arrays (length (rows_in (managed_in names core size items).shards s)) ++ flat_map row_text l) (sym shown)
+
+    -- the same as a spelling
+    pub text_spelled : (out head : List ℕ) (pairs : List (ℕ × ℕ)) (count : ℕ) → head ≡ shortest arrays count → count ≡ length (rows_at core.shards s) → count < 2 ^ 32 → pairs ≡ pairs_of (rows_at core.shards s)
+        → out ≡ head ++ flat_map row_text (map (row_of_pair names) pairs) → AllByRecursion IsRow (map (row_of_pair names) pairs) → SpellsRecency (rows_in (managed_in names core size items).shards s) out
+    text_spelled out head pairs count first is few same all fits =
+        let rows = rows_in (managed_in names core size items).shards s in
+        subst (λ (text : List ℕ). SpellsRecency rows text) (sym (text_shown out head (first ∙ ap (shortest arrays) is) (all ∙ ap (λ (l : List (ℕ × ℕ)). head ++ flat_map row_text (map (row_of_pair names) l)) same)))
+        (recency_spelled rows (let c = counted in omega (arith, c, is, few)) (subst (AllByRecursion IsRow) (ap (map (row_of_pair names)) same ∙ sym shown) fits))
 
     pub none_last : rows_at core.shards s ≡ [] → rows_in (managed_in names core size items).shards s ≡ []
     none_last e = seen n names core.shards s within ∙ ap (tracked names) e

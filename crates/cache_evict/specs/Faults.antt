@@ -3,12 +3,12 @@ use Rattle.std.specs.Prelude.{◌≡◌, ℕ, ◌⊎◌, true, List, [], Option,
 use Rattle.rand_core.specs.Stream.{Stream}
 use Rattle.cache_entries.specs.declared.entry.CacheEntryKey.{CacheEntryKey}
 use Rattle.cache_entries.specs.declared.rows.Tracked.{Tracked}
-use Rattle.cache_entries.specs.Rows.{weight_of}
 use Rattle.cache_evict.specs.declared.fault.EvictFault.{EvictFault}
 use Rattle.cache_evict.specs.declared.fault.EvictFault.TheVariants.{Memory, Weight, Length, NumbersSpent, File}
 use Rattle.cache_evict.specs.declared.tracker.refusal.Refusal.{Refusal}
 use Rattle.cache_evict.specs.declared.tracker.refusal.Refusal.TheVariants as refusal
-use Rattle.cache_evict.specs.Managed.{Managed, rows_of, put_first, is_over, Evicts, IsHeavy, IsLong, IsFull}
+use Rattle.cache_evict.specs.Managed.{Managed, put_first, is_over, Evicts}
+use Rattle.cache_evict.specs.Refusals.{IsRefusal}
 
 -- the entries evicted until then
 abbrev pub evicted_of : EvictFault → List CacheEntryKey
@@ -18,40 +18,28 @@ evicted_of (Length v) = v.items
 evicted_of (NumbersSpent v) = v.items
 evicted_of (File v) = v.items
 
--- the refusal that it tells
-abbrev pub refusal_in : EvictFault → Option Refusal
-refusal_in (Memory v) = Some refusal.Memory
-refusal_in (Weight v) = Some refusal.Weight
-refusal_in (Length v) = Some refusal.Length
-refusal_in (NumbersSpent v) = Some refusal.Spent
-refusal_in (File v) = None
+-- the cause that it tells of an entry that isn't put
+abbrev pub cause_of : EvictFault → Option Refusal
+cause_of (Memory v) = Some refusal.Memory
+cause_of (Weight v) = Some refusal.Weight
+cause_of (Length v) = Some refusal.Length
+cause_of (NumbersSpent v) = Some refusal.Spent
+cause_of (File v) = None
 
 abbrev pub evict_fault_text : EvictFault → List ℕ
 evict_fault_text (Memory v) = codes "out of memory"
 evict_fault_text (Weight v) = codes "the weight of the shard could not be counted"
-evict_fault_text (Length v) = codes "the shard has no room for one more entry"
+evict_fault_text (Length v) = codes "there is no room for one more entry"
 evict_fault_text (NumbersSpent v) = codes "no number is left for the entry's hash"
-evict_fault_text (File v) = codes "a file could not be written"
+evict_fault_text (File v) = codes "a file could not be read or written"
 
 -- why e isn't put first with weight w, of n shards, where nothing has changed
 abbrev pub IsPutRefused : ℕ → CacheEntryKey → ℕ → Managed → EvictFault → Type 0
-IsPutRefused n e w m (Memory v) = weight_of e (rows_of n e m) ≡ None
-IsPutRefused n e w m (Weight v) = IsHeavy n e w m
-IsPutRefused n e w m (Length v) = IsLong n e m
-IsPutRefused n e w m (NumbersSpent v) = IsFull n e m
-IsPutRefused n e w m (File v) = ⊥
-
--- it is out of memory
-abbrev pub IsMemory : EvictFault → Type 0
-IsMemory (Memory v) = Unit {0}
-IsMemory (Weight v) = ⊥
-IsMemory (Length v) = ⊥
-IsMemory (NumbersSpent v) = ⊥
-IsMemory (File v) = ⊥
+IsPutRefused n e w m fault = (why : Refusal) × (cause_of fault ≡ Some why) × IsRefusal n e w m why
 
 -- memory runs out in evictions, which stop with what is gone until then
 abbrev pub RunsOut : (List (List Tracked) → Stream → ℕ × Stream) → Managed → Stream → EvictFault → Managed → Stream → Type 0
-RunsOut pick old s fault new rest = IsMemory fault × Evicts pick old (evicted_of fault) s new rest × (is_over new ≡ true)
+RunsOut pick old s fault new rest = (cause_of fault ≡ Some refusal.Memory) × Evicts pick old (evicted_of fault) s new rest × (is_over new ≡ true)
 
 -- a fault of a call that puts e first and then evicts: either e isn't put, and all is as before, or memory runs out in the
 -- evictions

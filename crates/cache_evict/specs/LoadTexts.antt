@@ -16,5 +16,5 @@ abbrev pub load_fault_text : LoadFault → List ℕ
 load_fault_text (load.Text fault) = fault_text fault
 load_fault_text load.Memory = codes "out of memory"
 load_fault_text load.Weight = codes "the weight of the shard could not be counted"
-load_fault_text load.Length = codes "the shard has no room for one more entry"
+load_fault_text load.Length = codes "there is no room for one more entry"
 load_fault_text load.NumbersSpent = codes "no number is left for the entry's hash"

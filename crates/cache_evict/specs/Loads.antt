@@ -3,15 +3,18 @@ use Rattle.std.specs.Prelude.{◌≡◌, ℕ, ◌^◌, ◌≤◌, ◌⊎◌, Lis
 use Rattle.cache_entries.specs.declared.entry.CacheEntryKey.{CacheEntryKey}
 use Rattle.cache_entries.specs.declared.rows.Tracked.{Tracked}
 use Rattle.cache_entries.specs.Entry.{key_of}
-use Rattle.cache_entries.specs.RowText.{RowsRead}
-use Rattle.cache_entries.specs.Rows.{row_of, admitted}
+use Rattle.cache_entries.specs.RowText.{RowsRead, SpellsRecency}
+use Rattle.cache_entries.specs.Rows.{row_of, weight_of, admitted}
+use Rattle.cache_words.specs.declared.pack.fault.PackFault.{PackFault}
 use Rattle.cache_evict.specs.declared.load_fault.LoadFault.{LoadFault}
-use Rattle.cache_evict.specs.declared.load_fault.LoadFault.TheVariants.{Text, Memory, Weight, Length, NumbersSpent}
+use Rattle.cache_evict.specs.declared.load_fault.LoadFault.TheVariants.{Text}
+use Rattle.cache_evict.specs.LoadTexts.{fault_of}
 use Rattle.cache_evict.specs.declared.tracker.loading.Again.{Again}
 use Rattle.cache_evict.specs.declared.tracker.loading.Again.TheVariants.{PassedOver, MovedFirst}
 use Rattle.cache_evict.specs.declared.tracker.refusal.Refusal.{Refusal}
 use Rattle.cache_evict.specs.declared.tracker.refusal.Refusal.TheVariants as refusal
-use Rattle.cache_evict.specs.Managed.{Managed, rows_of, with_rows, put_last, IsHeavy, IsLong, IsFull}
+use Rattle.cache_evict.specs.Managed.{Managed, rows_of, with_rows, put_last}
+use Rattle.cache_evict.specs.Refusals.{IsRefusal}
 
 -- a row's entry goes last in its shard, unless it is there
 abbrev pub appended : ℕ → Tracked → Managed → Managed
@@ -34,26 +37,32 @@ abbrev pub all_put : (Tracked → Managed → Managed) → List Tracked → Mana
 all_put put [] m = m
 all_put put (r ∷ rows) m = all_put put rows (put r m)
 
+-- a row of a tracked entry that is passed over is never refused
+abbrev pub IsTried : Again → ℕ → Tracked → Managed → Type 0
+IsTried PassedOver n r m = weight_of r.entry (rows_of n r.entry m) ≡ None
+IsTried MovedFirst n r m = Unit {0}
+
 -- why a row isn't put
-abbrev pub IsLoadRefusal : ℕ → Tracked → Managed → Refusal → Type 0
-IsLoadRefusal n r m refusal.Memory = Unit {0}
-IsLoadRefusal n r m refusal.Weight = IsHeavy n r.entry r.weight m
-IsLoadRefusal n r m refusal.Length = IsLong n r.entry m
-IsLoadRefusal n r m refusal.Spent = IsFull n r.entry m
+abbrev pub IsLoadRefusal : Again → ℕ → Tracked → Managed → Refusal → Type 0
+IsLoadRefusal again n r m refusal.Memory = Unit {0}
+IsLoadRefusal again n r m why = IsTried again n r m × IsRefusal n r.entry r.weight m why
 
 -- the rows before one that isn't put are put
-abbrev pub StopsBefore : ℕ → (Tracked → Managed → Managed) → RowsRead → Managed → Managed → Refusal → Type 0
-StopsBefore n put read old new why =
-    (done : List Tracked) × (r : Tracked) × (rest : List Tracked) × (read.0 ≡ done ++ r ∷ rest) × (new ≡ all_put put done old) × IsLoadRefusal n r new why
+abbrev pub StopsBefore : Again → ℕ → RowsRead → Managed → Managed → Refusal → Type 0
+StopsBefore again n read old new why =
+    (done : List Tracked) × (r : Tracked) × (rest : List Tracked) × (read.0 ≡ done ++ r ∷ rest) × (new ≡ all_put (loaded again n) done old) × IsLoadRefusal again n r new why
 
 -- Of n shards, the rows that were read are put in turn, up to one that can't be put. A fault of the text is told after its rows.
-abbrev pub Loads : ℕ → (Tracked → Managed → Managed) → RowsRead → Managed → Managed → Result (Unit {0}) LoadFault → Type 0
-Loads n put read old new (Ok x) = (read.1 ≡ None) × (new ≡ all_put put read.0 old)
-Loads n put read old new (Err (Text f)) = (read.1 ≡ Some f) × (new ≡ all_put put read.0 old)
-Loads n put read old new (Err Memory) = StopsBefore n put read old new refusal.Memory
-Loads n put read old new (Err Weight) = StopsBefore n put read old new refusal.Weight
-Loads n put read old new (Err Length) = StopsBefore n put read old new refusal.Length
-Loads n put read old new (Err NumbersSpent) = StopsBefore n put read old new refusal.Spent
+abbrev pub Loads : Again → ℕ → RowsRead → Managed → Managed → Result (Unit {0}) LoadFault → Type 0
+Loads again n read old new (Ok x) = (read.1 ≡ None) × (new ≡ all_put (loaded again n) read.0 old)
+Loads again n read old new (Err fault) =
+    ((f : PackFault) × (fault ≡ Text f) × (read.1 ≡ Some f) × (new ≡ all_put (loaded again n) read.0 old))
+    ⊎ ((why : Refusal) × (fault ≡ fault_of why) × StopsBefore again n read old new why)
+
+-- the bytes begin with a text of rows, which are put in turn
+abbrev pub LoadsText : Again → ℕ → List ℕ → Managed → Managed → Type 0
+LoadsText again n bytes old new =
+    (rows : List Tracked) × (text : List ℕ) × (rest : List ℕ) × SpellsRecency rows text × (bytes ≡ text ++ rest) × (new ≡ all_put (loaded again n) rows old)
 
 -- the entry of some row has a tag that no form counts
 abbrev pub HasLongTag : List Tracked → Type 0

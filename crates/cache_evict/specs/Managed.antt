@@ -1,11 +1,11 @@
 -- What an eviction manager holds: shards of tracked entries, each most recent first.
 use Rattle.std.specs.Prelude.{◌≡◌, ℕ, zero, suc, Bool, true, ◌||◌, ◌==◌, ◌+◌, ◌-◌, ◌*◌, ◌%◌, ◌^◌, ◌<◌, ◌≤◌, ◌⊎◌, min, max, nat_lt, if◌then◌else◌, List, [], ◌∷◌, ◌++◌, length, replicate, slice_set, slice_index_or, Option, Some, None}
-use Rattle.std.specs.List.{sum_by}
+use Rattle.std.specs.List.{sum_by, AllByRecursion}
 use Rattle.rand_core.specs.Stream.{Stream, next_u64}
 use Rattle.cache_entries.specs.declared.entry.CacheEntryKey.{CacheEntryKey}
 use Rattle.cache_entries.specs.declared.rows.Tracked.{Tracked}
 use Rattle.cache_entries.specs.EntryText.{entry_hash}
-use Rattle.cache_entries.specs.Rows.{weight_of, all_weights, without_row, admitted, used, with_last, is_past}
+use Rattle.cache_entries.specs.Rows.{AreDistinct, weight_of, all_weights, without_row, admitted, used, with_last, is_past}
 use Rattle.cache_evict.specs.declared.tracker.rows.End.{End}
 use Rattle.cache_evict.specs.declared.tracker.rows.End.TheVariants as end
 use Rattle.lru_core.specs.Rows.{capped, raised}
@@ -39,6 +39,13 @@ rows_of n e m = rows_at m.shards (shard_of n e)
 -- with other rows there
 abbrev pub with_rows : ℕ → CacheEntryKey → List Tracked → Managed → Managed
 with_rows n e rows m = record m { shards = slice_set m.shards (shard_of n e) rows }
+
+-- n shards, of which there is one at least, each with rows of its own entries alone, no entry twice
+pub record IsSharded (n : ℕ) (m : Managed) : Type 0 where
+  pub some : 0 < n
+  pub count : length m.shards ≡ n
+  pub distinct : (s : ℕ) → AreDistinct (rows_at m.shards s)
+  pub home : (s : ℕ) → AllByRecursion (λ r. shard_of n r.entry ≡ s) (rows_at m.shards s)
 
 abbrev pub total_size : Managed → ℕ
 total_size m = sum_by all_weights m.shards
@@ -127,9 +134,9 @@ pick_first shards s = (0, s)
 abbrev pub IsHeavy : ℕ → CacheEntryKey → ℕ → Managed → Type 0
 IsHeavy n e w m = shard_bound n < all_weights (without_row e (rows_of n e m)) + w
 
--- e has no row, and its shard no room for one more
+-- e has no row, and its shard no room for one more, or all shards together none
 abbrev pub IsLong : ℕ → CacheEntryKey → Managed → Type 0
-IsLong n e m = (weight_of e (rows_of n e m) ≡ None) × ((shard_bound n ≤ length (rows_of n e m)) ⊎ (MOST_ROWS ≤ length (rows_of n e m)))
+IsLong n e m = (weight_of e (rows_of n e m) ≡ None) × ((shard_bound n ≤ length (rows_of n e m)) ⊎ (MOST_ROWS ≤ total_items m))
 
 -- e has no row, and its shard as many as there are numbers below 2 ^ 64 with the shard's rest modulo n
 abbrev pub IsFull : ℕ → CacheEntryKey → Managed → Type 0

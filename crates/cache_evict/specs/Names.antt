@@ -1,5 +1,5 @@
 -- Numbers of entries: a finite map of numbers to entries, no entry under two numbers.
-use Rattle.std.specs.Prelude.{◌≡◌, ◌≢◌, ℕ, ◌+◌, ◌%◌, ◌^◌, ◌<◌, ◌≤◌, ◌==◌, nat_lt, if◌then◌else◌, List, Option, Some, None, option_map, find}
+use Rattle.std.specs.Prelude.{◌≡◌, ◌≢◌, ℕ, ◌+◌, ◌%◌, ◌^◌, ◌<◌, ◌≤◌, ◌==◌, nat_lt, if◌then◌else◌, List, [], ◌∷◌, length, Option, Some, None, option_map, find}
 use Rattle.cache_entries.specs.declared.entry.CacheEntryKey.{CacheEntryKey}
 
 -- the entry that has number k, of entries with their numbers
@@ -36,3 +36,12 @@ pub record IsFirstFree {X : Type 0} (n : ℕ) (names : ℕ → Option X) (hash k
 -- each number with the hash's rest modulo n has an entry
 abbrev pub IsSpent : {X : Type 0} → ℕ → (ℕ → Option X) → ℕ → Type 0
 IsSpent n names hash = (k : ℕ) → k < 2 ^ 64 → k % n ≡ hash % n → names k ≢ None
+
+-- each of the numbers has an entry, and none comes twice
+abbrev pub AreNumbersApart : (ℕ → Option CacheEntryKey) → List ℕ → Type 0
+AreNumbersApart names [] = Unit {0}
+AreNumbersApart names (k ∷ ks) = (names k ≢ None) × AreNumbersApart (without_name names k) ks
+
+-- m numbers or more have an entry
+abbrev pub HasMany : ℕ → (ℕ → Option CacheEntryKey) → Type 0
+HasMany m names = (ks : List ℕ) × (m ≤ length ks) × AreNumbersApart names ks

@@ -1,16 +1,17 @@
 -- Why an entry isn't put into its shard.
-use Rattle.std.specs.Prelude.{◌≡◌, ℕ, ◌+◌, ◌%◌, ◌<◌, [], Option, None}
+use Rattle.std.specs.Prelude.{◌≡◌, ℕ, ◌+◌, ◌%◌, ◌<◌, ◌⊎◌, [], Option, None}
 use Rattle.cache_entries.specs.declared.entry.CacheEntryKey.{CacheEntryKey}
 use Rattle.cache_entries.specs.Rows.{weight_of}
 use Rattle.lru_core.specs.Rows.{only, others, total_weight, IsLong as IsShardLong}
 use Rattle.lru_core.specs.Cores.{Core, shard_of, shard_bound}
+use Rattle.lru_core.specs.declared.rows.TheConstants.{MOST_ROWS}
 use Rattle.lru_core.specs.declared.lru_unit.fault.LruFault.{LruFault}
 use Rattle.lru_core.specs.declared.lru_unit.fault.LruFault.TheVariants as row
 use Rattle.cache_evict.specs.declared.tracker.refusal.Refusal.{Refusal}
 use Rattle.cache_evict.specs.declared.tracker.refusal.Refusal.TheVariants.{Memory, Weight, Length, Spent}
 use Rattle.cache_evict.specs.declared.numbers.fault.NumbersFault.{NumbersFault}
 use Rattle.cache_evict.specs.declared.numbers.fault.NumbersFault.TheVariants as numbers
-use Rattle.cache_evict.specs.Names.{IsSpent}
+use Rattle.cache_evict.specs.Names.{IsSpent, HasMany}
 use Rattle.cache_evict.specs.Managed.{Managed, rows_of, IsHeavy, IsLong, IsFull}
 
 -- of an entry with weight w, as a manager sees it
@@ -31,14 +32,15 @@ IsRowRefusal n k w core Spent = ⊥
 abbrev pub IsNewRefusal : ℕ → (ℕ → Option CacheEntryKey) → ℕ → ℕ → Core ℕ → Refusal → Type 0
 IsNewRefusal n names hash w core Memory = Unit {0}
 IsNewRefusal n names hash w core Weight = (k : ℕ) × (names k ≡ None) × (k % n ≡ hash % n) × IsRowRefusal n k w core Weight
-IsNewRefusal n names hash w core Length = (k : ℕ) × (names k ≡ None) × (k % n ≡ hash % n) × IsRowRefusal n k w core Length
+IsNewRefusal n names hash w core Length = HasMany MOST_ROWS names ⊎ ((k : ℕ) × (names k ≡ None) × (k % n ≡ hash % n) × IsRowRefusal n k w core Length)
 IsNewRefusal n names hash w core Spent = IsSpent n names hash
 
 abbrev pub refusal_of : NumbersFault → Refusal
 refusal_of (numbers.Memory back) = Memory
+refusal_of (numbers.Length back) = Length
 refusal_of (numbers.NumbersSpent back) = Spent
 
-abbrev pub fault_refusal : {D : Type 0} → LruFault D → Refusal
-fault_refusal (row.Memory back) = Memory
-fault_refusal (row.Weight back) = Weight
-fault_refusal (row.Length back) = Length
+abbrev pub row_refusal : {D : Type 0} → LruFault D → Refusal
+row_refusal (row.Memory back) = Memory
+row_refusal (row.Weight back) = Weight
+row_refusal (row.Length back) = Length

@@ -1,9 +1,13 @@
 //! Laws of managers. Each is the contract of a function with an empty body.
 
-ghost use Rattle.std.specs.Prelude.{◌≡◌, List};
+ghost use Rattle.std.specs.Prelude.{◌≡◌, ◌<◌, ℕ, List, [], length, slice_set};
+ghost use Rattle.std.specs.List.{AllByRecursion};
+ghost use Rattle.cache_entries.specs.Rows.{AreDistinct};
+ghost use Rattle.cache_entries.specs.declared.rows.Tracked.{Tracked};
+ghost use Rattle.cache_evict.specs.Loads.{appended, restored, all_put};
 ghost use Rattle.rand_core.specs.Stream.{Stream};
 ghost use Rattle.cache_entries.specs.declared.entry.CacheEntryKey.{CacheEntryKey};
-ghost use Rattle.cache_evict.specs.Managed.{Managed};
+ghost use Rattle.cache_evict.specs.Managed.{Managed, rows_at, shard_of};
 ghost use Rattle.cache_evict.specs.Runs.{Call, AreSized, Runs};
 
 use crate::manager::EvictionManager;
@@ -17,7 +21,16 @@ type Single = simple_lru::Manager;
 /// same, whatever is drawn.
 pub fn both_evict_alike()
     ensures { (calls : List Call) (old new new' : Managed) (s rest s' rest' : Stream) (gone gone' : List (List CacheEntryKey)) → AreSized calls
-        → Runs ⟦<Shard as EvictionManager>⟧.pick 1 ⟦<Shard as EvictionManager>⟧.least old s calls gone new rest
-        → Runs ⟦<Single as EvictionManager>⟧.pick 1 ⟦<Single as EvictionManager>⟧.least old s' calls gone' new' rest'
+        → Runs ⟦<Shard as EvictionManager>⟧.pick 1 ⟦<Shard as EvictionManager>⟧.weighed old s calls gone new rest
+        → Runs ⟦<Single as EvictionManager>⟧.pick 1 ⟦<Single as EvictionManager>⟧.weighed old s' calls gone' new' rest'
         → (gone ≡ gone') × (new ≡ new') }
+{}
+
+/// Rows of one shard, none of an entry twice, are the shard's rows again once they are put into it in turn while it is empty. So
+/// what is read is what was written.
+pub fn written_rows_are_read()
+    ensures appended { (n s : ℕ) (m : Managed) → s < length m.shards → (rows : List Tracked) → rows_at m.shards s ≡ [] → AreDistinct rows → AllByRecursion (λ r. shard_of n r.entry ≡ s) rows
+        → all_put (appended n) rows m ≡ record m { shards = slice_set m.shards s rows } }
+    ensures restored { (n s : ℕ) (m : Managed) → s < length m.shards → (rows : List Tracked) → rows_at m.shards s ≡ [] → AreDistinct rows → AllByRecursion (λ r. shard_of n r.entry ≡ s) rows
+        → all_put (restored n) rows m ≡ record m { shards = slice_set m.shards s rows } }
 {}

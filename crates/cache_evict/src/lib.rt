@@ -1,6 +1,9 @@
-//! Which entries of a cache are tracked, in which order they were used, and which are evicted.
+//! Which entries of a cache are tracked, in which order they were used, and which are evicted. Weights are in bytes, or in
+//! whatever unit the caller gives its limit in.
 #![tactic(auto)]
 
+pub use cache_entries::entry::{CacheEntryId, CacheEntryKey, CacheEntryKeyRef};
+pub use cache_words::pack::{PackFault, PackWriteFault};
 pub use fault::EvictFault;
 pub use load_fault::LoadFault;
 pub use manager::EvictionManager;

@@ -15,11 +15,11 @@ pub enum LoadFault {
     Text(PackFault),
     /// There is no memory for one more entry.
     Memory,
-    /// The weight of a shard could not be counted.
+    /// The weight of a shard would pass (2^64 - 1) / N, so that it could not be counted.
     Weight,
-    /// A shard has no room for one more entry.
+    /// A shard has (2^64 - 1) / N entries, or all shards together have 2415919104, which is the most.
     Length,
-    /// Each number of an entry's shard has an entry.
+    /// Each number below 2^64 of the entry's shard has an entry.
     NumbersSpent,
 }
 
@@ -58,7 +58,7 @@ impl fmt::Display for LoadFault {
             LoadFault::Text(fault) => fmt::Display::fmt(fault, f),
             LoadFault::Memory => f.write_str("out of memory"),
             LoadFault::Weight => f.write_str("the weight of the shard could not be counted"),
-            LoadFault::Length => f.write_str("the shard has no room for one more entry"),
+            LoadFault::Length => f.write_str("there is no room for one more entry"),
             LoadFault::NumbersSpent => f.write_str("no number is left for the entry's hash"),
         }
     }

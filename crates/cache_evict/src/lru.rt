@@ -5,8 +5,8 @@ ghost use Rattle.cache_entries.specs.Entry.{owned_of};
 ghost use Rattle.cache_entries.specs.Rows.{weight_of, all_weights};
 ghost use Rattle.cache_entries.specs.RowText.{SpellsRecency, recency_at, recency_text};
 ghost use Rattle.cache_entries.specs.declared.rows.Tracked.{Tracked};
-ghost use Rattle.cache_evict.specs.Loads.{Loads, CantBeWritten, all_put, appended};
-ghost use Rattle.cache_evict.specs.Managed.{Evicts, IsLast, fresh, rows_at, rows_of, shard_of, put_first, use_first, taken_out, weight_after, is_over, pick_by_draws, total_size, total_items};
+ghost use Rattle.cache_evict.specs.Loads.{Loads, LoadsText, CantBeWritten};
+ghost use Rattle.cache_evict.specs.Managed.{Evicts, IsLast, IsSharded, fresh, rows_at, rows_of, shard_of, put_first, use_first, taken_out, weight_after, is_over, pick_by_draws, total_size, total_items};
 ghost use Rattle.cache_evict.specs.Faults.{evicted_of, IsPutRefused, StopsAt};
 
 use crate::fault::EvictFault;
@@ -41,7 +41,12 @@ impl<const N: usize, S: BuildHasher> Model for Manager<N, S> {
 }
 
 impl<const N: usize> Manager<N, BuildHasherDefault<FoldHasher>> {
-    /// Returns N shards without entries, which may weigh `limit` together. `capacity` is a hint for the room of their rows.
+    /// Returns N shards without entries, which may weigh `limit` together, in the unit of the sizes, as bytes. Room for `capacity`
+    /// entries is reserved.
+    ///
+    /// # Errors
+    ///
+    /// No memory for the shards or that room.
     pub fn with_capacity(alloc: Global, limit: usize, capacity: usize) -> Result<Self, AllocError>
         requires { 0 < N }
         ensures { IfOk result (λ m. m ≡ fresh N limit None) }
@@ -50,6 +55,10 @@ impl<const N: usize> Manager<N, BuildHasherDefault<FoldHasher>> {
     }
 
     /// The same, with a number of entries past which an eviction also takes some.
+    ///
+    /// # Errors
+    ///
+    /// Those of `with_capacity`.
     pub fn with_capacity_and_watermark(
         alloc: Global,
         limit: usize,
@@ -65,6 +74,10 @@ impl<const N: usize> Manager<N, BuildHasherDefault<FoldHasher>> {
 
 impl<const N: usize, S: BuildHasher + Copy> Manager<N, S> {
     /// The same, with hashes of that start.
+    ///
+    /// # Errors
+    ///
+    /// Those of `with_capacity`.
     pub fn with_hasher(
         alloc: Global,
         hasher: S,
@@ -98,8 +111,7 @@ impl<const N: usize, S: BuildHasher> Manager<N, S> {
     /// Returns the number of shards.
     pub fn shards(&self) -> usize
         ensures count { result ≡ N }
-        ensures some { 0 < N }
-        ensures lists { length self.now.shards ≡ N }
+        ensures sharded { IsSharded N self.now }
     {
         self.tracker.shards()
     }
@@ -150,6 +162,7 @@ impl<const N: usize, S: BuildHasher> Manager<N, S> {
     pub fn serialize_shard(&self, alloc: Global, shard: usize) -> Result<Vec<u8>, PackWriteFault>
         requires { shard < N }
         ensures ok { IfOk result (λ v. v.items ≡ recency_text (rows_at self.now.shards shard)) }
+        ensures spelled { IfOk result (λ v. SpellsRecency (rows_at self.now.shards shard) v.items) }
         ensures long { IsErrOf result PackWriteFault.TooLong → CantBeWritten (rows_at self.now.shards shard) }
     {
         self.tracker.text_of(alloc, shard)
@@ -162,8 +175,9 @@ impl<const N: usize, S: BuildHasher> Manager<N, S> {
     ///
     /// The first fault from the left, of the text or of a row that can't be put. The rows before it stay.
     pub fn deserialize_shard(&mut self, alloc: Global, bytes: &[u8]) -> Result<(), LoadFault>
-        ensures rows { Loads N (appended N) (recency_at bytes.now) self.old self.new result }
-        ensures spelled { (rows : List Tracked) (text rest : List ℕ) → SpellsRecency rows text → bytes.now ≡ text ++ rest → OnOk result (self.new ≡ all_put (appended N) rows self.old) }
+        ensures rows { Loads Again.PassedOver N (recency_at bytes.now) self.old self.new result }
+        ensures spelled { (rows : List Tracked) (text rest : List ℕ) → SpellsRecency rows text → bytes.now ≡ text ++ rest → Loads Again.PassedOver N (rows, None) self.old self.new result }
+        ensures text { OnOk result (LoadsText Again.PassedOver N bytes.now self.old self.new) }
     {
         self.tracker.load(alloc, bytes, Again::PassedOver)
     }
@@ -172,9 +186,9 @@ impl<const N: usize, S: BuildHasher> Manager<N, S> {
 impl<const N: usize, S: BuildHasher> EvictionManager for Manager<N, S> {
     ghost managed = { λ m. m };
 
-    ghost shards = { N };
+    ghost shard_count = { N };
 
-    ghost least = { λ size. max size 1 };
+    ghost weighed = { λ size. max size 1 };
 
     ghost pick = { pick_by_draws N };
 

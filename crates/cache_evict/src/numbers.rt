@@ -1,8 +1,9 @@
 //! Numbers of entries. An entry keeps its number for as long as it has one, and no two have the same.
 
-ghost use Rattle.std.specs.Prelude.{◌≡◌, ℕ, ◌<◌, [], length, Some, IfSome, IfNone, IfOk, OnErr, option_copied};
+ghost use Rattle.std.specs.Prelude.{◌≡◌, ℕ, ◌<◌, ◌+◌, [], length, Some, IfSome, IfNone, IfOk, OnOk, OnErr, option_copied};
 ghost use Rattle.cache_entries.specs.Entry.{owned_of};
-ghost use Rattle.cache_evict.specs.Names.{name_at, IsOneToOne, HasNoNumber, with_name, without_name, IsFirstFree, IsSpent};
+ghost use Rattle.cache_evict.specs.Names.{name_at, IsOneToOne, HasNoNumber, with_name, without_name, IsFirstFree, IsSpent, HasMany};
+ghost use Rattle.lru_core.specs.declared.rows.TheConstants.{MOST_ROWS};
 
 mod fault;
 mod search;
@@ -11,12 +12,13 @@ mod table;
 use cache_entries::entry::{CacheEntryKey, CacheEntryKeyRef};
 pub use fault::NumbersFault;
 use indexmap::IndexMap;
+use lru_core::MOST_ROWS;
 use search::first_free;
-use std::alloc::Global;
+use std::alloc::{AllocError, Global};
 use std::collections::HashMap;
 use std::hash::{BuildHasher, BuildHasherDefault, FoldHasher};
 use std::marker::Model;
-use table::{move_place, put_entry, put_place, room_for_one, take_place};
+use table::{move_place, put_entry, put_place, room_for, take_place};
 
 /// Entries and their numbers, N numbers apart for entries whose hashes are the same. A contract sees the pairs of entry and
 /// number.
@@ -68,6 +70,26 @@ impl<const N: usize, S: BuildHasher + Copy> Numbers<N, S> {
     }
 }
 
+impl<const N: usize, S: BuildHasher + Copy> Numbers<N, S> {
+    /// The same, with room for so many entries.
+    ///
+    /// # Errors
+    ///
+    /// No memory for that room.
+    pub fn with_capacity_and_hasher(
+        alloc: Global,
+        capacity: usize,
+        hasher: S,
+    ) -> Result<Self, AllocError>
+        requires { 0 < N }
+        ensures { IfOk result (λ numbers. numbers ≡ []) }
+    {
+        let mut numbers = Numbers::with_hasher(alloc, hasher);
+        room_for(&mut numbers.entries, &mut numbers.places, capacity)?;
+        Ok(numbers)
+    }
+}
+
 impl<const N: usize, S: BuildHasher> Numbers<N, S> {
     /// Returns how many entries have a number.
     pub fn len(&self) -> usize
@@ -95,22 +117,32 @@ impl<const N: usize, S: BuildHasher> Numbers<N, S> {
     }
 
     /// Gives an entry that has none a number: the first free one of the hash, the hash + N and so on below 2^64, then of the
-    /// hash modulo N, that + N and so on below the hash. Without one, or out of memory, it returns the entry.
+    /// hash modulo N, that + N and so on below the hash.
+    ///
+    /// # Errors
+    ///
+    /// `Length` where 2415919104 entries have a number, else `NumbersSpent` where each number of the hash has an entry, else
+    /// `Memory`. Each has the entry, and nothing has changed.
     pub fn give(&mut self, entry: CacheEntryKey, hash: u64) -> Result<u64, NumbersFault>
         requires { HasNoNumber (name_at self.old) entry }
         ensures first { IfOk result (λ k. IsFirstFree N (name_at self.old) hash k) }
         ensures named { IfOk result (λ k. (i : ℕ) → name_at self.new i ≡ with_name (name_at self.old) k entry i) }
+        ensures len { OnOk result (length self.new ≡ length self.old + 1) }
         ensures err { OnErr result (self.new ≡ self.old) }
         ensures memory { (back : CacheEntryKey) → result ≡ Err (NumbersFault.Memory back) → back ≡ entry }
+        ensures long { (back : CacheEntryKey) → result ≡ Err (NumbersFault.Length back) → (back ≡ entry) × HasMany MOST_ROWS (name_at self.old) }
         ensures spent { (back : CacheEntryKey) → result ≡ Err (NumbersFault.NumbersSpent back) → (back ≡ entry) × IsSpent N (name_at self.old) hash }
     {
+        let place = self.entries.len();
+        if place >= MOST_ROWS {
+            return Err(NumbersFault::Length(entry));
+        }
         let Some(number) = first_free(&self.places, N as u64, hash) else {
             return Err(NumbersFault::NumbersSpent(entry));
         };
-        if room_for_one(&mut self.entries, &mut self.places).is_err() {
+        if room_for(&mut self.entries, &mut self.places, 1).is_err() {
             return Err(NumbersFault::Memory(entry));
         }
-        let place = self.entries.len();
         put_entry(&mut self.entries, entry, number);
         put_place(&mut self.places, number, place);
         Ok(number)
@@ -120,6 +152,8 @@ impl<const N: usize, S: BuildHasher> Numbers<N, S> {
     pub fn give_back(&mut self, number: u64) -> Option<CacheEntryKey>
         ensures value { result ≡ name_at self.old number }
         ensures after { (i : ℕ) → name_at self.new i ≡ without_name (name_at self.old) number i }
+        ensures len { IfSome result (λ _. length self.new + 1 ≡ length self.old) }
+        ensures none { IfNone result (self.new ≡ self.old) }
     {
         let place = take_place(&mut self.places, number)?;
         let (entry, _number) = self.entries.swap_remove_index(place).unwrap();

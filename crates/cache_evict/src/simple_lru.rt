@@ -6,7 +6,7 @@ ghost use Rattle.cache_entries.specs.Entry.{owned_of};
 ghost use Rattle.cache_entries.specs.RowText.{SpellsRecency, recency_at, recency_text};
 ghost use Rattle.cache_entries.specs.Rows.{weight_of};
 ghost use Rattle.cache_evict.specs.Faults.{evicted_of, IsPutRefused, StopsAt};
-ghost use Rattle.cache_evict.specs.Loads.{Loads, CantBeWritten, all_put, restored};
+ghost use Rattle.cache_evict.specs.Loads.{Loads, LoadsText, CantBeWritten};
 ghost use Rattle.cache_evict.specs.Managed.{Evicts, fresh, rows_at, rows_of, put_first, use_first, taken_out, weight_after, is_over, pick_first, total_size, total_items};
 
 use crate::fault::EvictFault;
@@ -27,6 +27,9 @@ use std::marker::Model;
 /// With the default hasher it is for entries that the caller chooses itself; with one whose start the caller takes at random,
 /// strangers can't choose entries that slow the look-up of their numbers down. The core's own table hashes those numbers with a
 /// fixed start.
+///
+/// An alias with a parameter's default isn't called by its name: write `OneList::new`, and the type at the variable, as in
+/// `let list: simple_lru::Manager = simple_lru::OneList::new(alloc, limit)?`.
 pub type Manager<S = BuildHasherDefault<FoldHasher>> = OneList<1, S>;
 
 /// A `Manager`, whose N is 1.
@@ -45,7 +48,11 @@ impl<const N: usize, S: BuildHasher> Model for OneList<N, S> {
 }
 
 impl<const N: usize> OneList<N, BuildHasherDefault<FoldHasher>> {
-    /// Returns a list without entries, which may weigh `limit` together.
+    /// Returns a list without entries, which may weigh `limit` together, in the unit of the sizes, as bytes.
+    ///
+    /// # Errors
+    ///
+    /// No memory for the list.
     pub fn new(alloc: Global, limit: usize) -> Result<Self, AllocError>
         requires { N ≡ 1 }
         ensures { IfOk result (λ m. m ≡ fresh N limit None) }
@@ -54,6 +61,10 @@ impl<const N: usize> OneList<N, BuildHasherDefault<FoldHasher>> {
     }
 
     /// The same, with a number of entries past which an eviction also takes some.
+    ///
+    /// # Errors
+    ///
+    /// No memory for the list.
     pub fn new_with_watermark(
         alloc: Global,
         limit: usize,
@@ -68,6 +79,10 @@ impl<const N: usize> OneList<N, BuildHasherDefault<FoldHasher>> {
 
 impl<const N: usize, S: BuildHasher + Copy> OneList<N, S> {
     /// The same, with hashes of that start.
+    ///
+    /// # Errors
+    ///
+    /// No memory for the list.
     pub fn with_hasher(
         alloc: Global,
         hasher: S,
@@ -90,6 +105,8 @@ impl<const N: usize, S: BuildHasher> OneList<N, S> {
     /// No memory for the text; or no form counts the entries or the bytes of a tag, which is `TooLong`.
     pub fn serialize(&self, alloc: Global) -> Result<Vec<u8>, PackWriteFault>
         ensures ok { IfOk result (λ v. v.items ≡ recency_text (rows_at self.now.shards 0)) }
+        ensures spelled { IfOk result (λ v. SpellsRecency (rows_at self.now.shards 0) v.items) }
+        ensures one { N ≡ 1 }
         ensures long { IsErrOf result PackWriteFault.TooLong → CantBeWritten (rows_at self.now.shards 0) }
     {
         self.tracker.text_of(alloc, 0)
@@ -102,8 +119,9 @@ impl<const N: usize, S: BuildHasher> OneList<N, S> {
     ///
     /// The first fault from the left, of the text or of a row that can't be put. The rows before it stay.
     pub fn deserialize(&mut self, alloc: Global, bytes: &[u8]) -> Result<(), LoadFault>
-        ensures rows { Loads N (restored N) (recency_at bytes.now) self.old self.new result }
-        ensures spelled { (rows : List Tracked) (text rest : List ℕ) → SpellsRecency rows text → bytes.now ≡ text ++ rest → OnOk result (self.new ≡ all_put (restored N) rows self.old) }
+        ensures rows { Loads Again.MovedFirst N (recency_at bytes.now) self.old self.new result }
+        ensures spelled { (rows : List Tracked) (text rest : List ℕ) → SpellsRecency rows text → bytes.now ≡ text ++ rest → Loads Again.MovedFirst N (rows, None) self.old self.new result }
+        ensures text { OnOk result (LoadsText Again.MovedFirst N bytes.now self.old self.new) }
     {
         self.tracker.load(alloc, bytes, Again::MovedFirst)
     }
@@ -112,9 +130,9 @@ impl<const N: usize, S: BuildHasher> OneList<N, S> {
 impl<const N: usize, S: BuildHasher> EvictionManager for OneList<N, S> {
     ghost managed = { λ m. m };
 
-    ghost shards = { N };
+    ghost shard_count = { N };
 
-    ghost least = { λ size. size };
+    ghost weighed = { λ size. size };
 
     ghost pick = { pick_first };
 

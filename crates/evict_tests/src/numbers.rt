@@ -32,7 +32,7 @@ fn is_done<const N: usize>(alloc: Global, numbers: &mut Numbers<N>, step: Step) 
                 Err(NumbersFault::NumbersSpent(back)) => {
                     Some(wanted.is_none() && back == entry(alloc, name).ok()?)
                 }
-                Err(NumbersFault::Memory(_)) => None,
+                Err(NumbersFault::Memory(_) | NumbersFault::Length(_)) => None,
             }
         }
         Step::GiveBack(number, name) => match (numbers.give_back(number), name) {

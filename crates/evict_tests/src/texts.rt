@@ -46,7 +46,12 @@ const SHORT: Result<(), LoadFault> = Err(LoadFault::Text(PackFault::Short));
 
 const KIND: Result<(), LoadFault> = Err(LoadFault::Text(PackFault::Kind));
 
-const TEXTS: [(Text, Loaded, Loaded); 9] = [
+const WEIGHT: Result<(), LoadFault> = Err(LoadFault::Weight);
+
+/// A weight that a shard of four can't have.
+const HEAVY: &[u8] = b"\xcf\xff\xff\xff\xff\xff\xff\xff\xff";
+
+const TEXTS: &[(Text, Loaded, Loaded)] = &[
     ((b"\x91", &[b"\x01"]), (Ok(()), 1, 1), (Ok(()), 1, 1)),
     (
         (b"\xdc\0\x01", &[b"\xcd\0\x03\xc1"]),
@@ -60,6 +65,12 @@ const TEXTS: [(Text, Loaded, Loaded); 9] = [
         (Ok(()), 1, 1),
         (Ok(()), 2, 1),
     ),
+    ((b"\x91", &[HEAVY]), (WEIGHT, 0, 0), (Ok(()), usize::MAX, 1)),
+    (
+        (b"\x92", &[b"\x01", HEAVY]),
+        (Ok(()), 1, 1),
+        (Ok(()), usize::MAX, 1),
+    ),
     ((b"\x91", &[b"\xc0"]), (KIND, 0, 0), (KIND, 0, 0)),
     ((b"\xdd\xff\xff\xff\xff", &[]), (SHORT, 0, 0), (SHORT, 0, 0)),
     ((b"\x90", &[]), (Ok(()), 0, 0), (Ok(()), 0, 0)),
@@ -68,7 +79,7 @@ const TEXTS: [(Text, Loaded, Loaded); 9] = [
 
 #[test]
 fn texts_are_read(rt: HostRuntime) {
-    for (text, sharded, simple) in TEXTS {
+    for &(text, sharded, simple) in TEXTS {
         assert_eq!(rt;
             loaded(rt.alloc(), text),
             Some((sharded, simple)),

@@ -16,7 +16,7 @@ pub fn use_twice<E: EvictionManager>(
     size: usize,
     moment: Moment,
 ) -> Result<bool, EvictFault>
-    ensures { let used = use_first E.shards item.now (E.least size) in OnOk result (E.managed manager.new ≡ used (used (E.managed manager.old))) }
+    ensures { let used = use_first E.shard_count item.now (E.weighed size) in OnOk result (E.managed manager.new ≡ used (used (E.managed manager.old))) }
 {
     let _was_tracked = manager.access(alloc, item, size, moment)?;
     manager.access(alloc, item, size, moment)

@@ -8,10 +8,12 @@ use std::error::Error;
 use std::fmt;
 
 /// Why an entry got no number, with the entry.
-#[derive(Debug, Drop)]
+#[derive(Debug, Drop, PartialEq)]
 pub enum NumbersFault {
     /// There is no memory for one more number.
     Memory(CacheEntryKey),
+    /// 2415919104 entries have a number, which is the most.
+    Length(CacheEntryKey),
     /// Each number that the entry's hash allows has an entry.
     NumbersSpent(CacheEntryKey),
 }
@@ -22,6 +24,7 @@ impl fmt::Display for NumbersFault {
     fn fmt<W: fmt::Write>(&self, f: &mut fmt::Formatter<W>) -> fmt::Result {
         f.write_str(match self {
             NumbersFault::Memory(_) => "out of memory",
+            NumbersFault::Length(_) => "there is no room for one more entry",
             NumbersFault::NumbersSpent(_) => "no number is left for the entry's hash",
         })
     }

@@ -1,6 +1,6 @@
 //! Calls of both maps, by what a look-up gives.
 
-ghost use Rattle.std.specs.Prelude.{◌≡◌, ℕ, ◌<◌, ◌++◌, ◌∷◌, [], cond, None, Some, OnOk, nat_eq};
+ghost use Rattle.std.specs.Prelude.{◌≡◌, ℕ, ◌<◌, ◌≤◌, ◌++◌, ◌∷◌, [], cond, None, Some, OnOk, nat_eq};
 ghost use Rattle.std.specs.HashMap.{get, spare, IsUnchanged};
 ghost use Rattle.cache_entries.specs.Entry.{same_entry};
 
@@ -61,15 +61,16 @@ pub(super) fn put_entry<S: BuildHasher>(
     let _old = inserted.unwrap();
 }
 
-// Reserves room for one more number.
-pub(super) fn room_for_one<S: BuildHasher>(
+// Reserves room for so many more numbers.
+pub(super) fn room_for<S: BuildHasher>(
     entries: &mut IndexMap<CacheEntryKey, u64, S>,
     places: &mut HashMap<u64, usize, S>,
+    more: usize,
 ) -> Result<(), AllocError>
     ensures entries { IsUnchanged entries.old entries.new }
     ensures places { (q : ℕ) → get nat_eq places.new q ≡ get nat_eq places.old q }
-    ensures room { OnOk result ((0 < spare entries.new) × (0 < spare places.new)) }
+    ensures room { OnOk result ((more ≤ spare entries.new) × (more ≤ spare places.new)) }
 {
-    entries.reserve(1)?;
-    places.reserve(1)
+    entries.reserve(more)?;
+    places.reserve(more)
 }

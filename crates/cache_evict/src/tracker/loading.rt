@@ -27,7 +27,7 @@ impl<const N: usize, S: BuildHasher> Tracker<N, S> {
     /// Puts the rows of a text last, each in its entry's shard, until one can't be read or put. What follows the text is
     /// passed over.
     pub fn load(&mut self, alloc: Global, bytes: &[u8], again: Again) -> Result<(), LoadFault>
-        ensures { Loads N (loaded again N) (recency_at bytes.now) self.old self.new result }
+        ensures { Loads again N (recency_at bytes.now) self.old self.new result }
     {
         let mut cursor = Cursor { rest: bytes };
         let count = cursor.array()?;
@@ -47,7 +47,7 @@ impl<const N: usize, S: BuildHasher> Tracker<N, S> {
     ) -> Result<(), Refusal>
         ensures ok { OnOk result (self.new ≡ loaded again N (borrowed_row row.now) self.old) }
         ensures err { OnErr result (self.new ≡ self.old) }
-        ensures why { IfErr result (IsLoadRefusal N (borrowed_row row.now) self.old) }
+        ensures why { IfErr result (IsLoadRefusal again N (borrowed_row row.now) self.old) }
     {
         let Ok(entry) = row.entry.to_entry(alloc) else {
             return Err(Refusal::Memory);
@@ -59,7 +59,7 @@ impl<const N: usize, S: BuildHasher> Tracker<N, S> {
     fn restore(&mut self, entry: CacheEntryKey, weight: usize, again: Again) -> Result<(), Refusal>
         ensures ok { OnOk result (self.new ≡ loaded again N (record { entry = entry; weight = weight }) self.old) }
         ensures err { OnErr result (self.new ≡ self.old) }
-        ensures why { IfErr result (IsLoadRefusal N (record { entry = entry; weight = weight }) self.old) }
+        ensures why { IfErr result (IsLoadRefusal again N (record { entry = entry; weight = weight }) self.old) }
     {
         match self.numbers.number_of(CacheEntryKeyRef::from(&entry)) {
             Some(number) => {

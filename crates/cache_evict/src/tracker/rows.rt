@@ -8,7 +8,7 @@ ghost use Rattle.lru_core.specs.Cores.{shard_of, with_shard};
 ghost use Rattle.cache_evict.specs.Managed.{added};
 ghost use Rattle.cache_evict.specs.Names.{name_at, HasNoNumber, with_name, without_name, IsFirstFree};
 ghost use Rattle.cache_evict.specs.Numbered.{HasOwnRow, placed};
-ghost use Rattle.cache_evict.specs.Refusals.{IsRowRefusal, IsNewRefusal, refusal_of, fault_refusal};
+ghost use Rattle.cache_evict.specs.Refusals.{IsRowRefusal, IsNewRefusal, refusal_of, row_refusal};
 
 use super::Refusal;
 use crate::numbers::{Numbers, NumbersFault};
@@ -44,7 +44,7 @@ pub(super) fn put_first<const N: usize>(
     }
     match core.admit(number, number, weight) {
         Ok(_) => Ok(()),
-        Err(fault) => Err(refusal_in(fault)),
+        Err(fault) => Err(row_refusal(fault)),
     }
 }
 
@@ -75,7 +75,7 @@ fn weigh_nothing<const N: usize>(core: &mut LruCore<u64, N>, number: u64) -> Res
             Ok(_) => Ok(()),
             Err(_) => Err(Refusal::Weight),
         },
-        Err(fault) => Err(refusal_in(fault)),
+        Err(fault) => Err(row_refusal(fault)),
     }
 }
 
@@ -92,7 +92,7 @@ fn put_last<const N: usize>(
 {
     match core.insert_tail(number, number, weight) {
         Ok(_) => Ok(()),
-        Err(fault) => Err(refusal_in(fault)),
+        Err(fault) => Err(row_refusal(fault)),
     }
 }
 
@@ -110,7 +110,7 @@ pub(super) fn raise_first<const N: usize>(
 {
     match core.increment_weight(number, move || number, delta, cap) {
         Ok(_) => Ok(()),
-        Err(fault) => Err(refusal_in(fault)),
+        Err(fault) => Err(row_refusal(fault)),
     }
 }
 
@@ -202,13 +202,14 @@ fn refusal_of(fault: NumbersFault) -> Refusal
 {
     match fault {
         NumbersFault::Memory(_) => Refusal::Memory,
+        NumbersFault::Length(_) => Refusal::Length,
         NumbersFault::NumbersSpent(_) => Refusal::Spent,
     }
 }
 
 // Why a core doesn't take a row.
-fn refusal_in<D: Drop>(fault: LruFault<D>) -> Refusal
-    ensures { result ≡ fault_refusal fault }
+fn row_refusal<D: Drop>(fault: LruFault<D>) -> Refusal
+    ensures { result ≡ row_refusal fault }
 {
     match fault {
         LruFault::Memory(_) => Refusal::Memory,

@@ -3,7 +3,7 @@
 ghost use Rattle.std.specs.Prelude.{◌≡◌, ◌<◌, length, IfOk};
 ghost use Rattle.cache_entries.specs.Entry.{owned_of};
 ghost use Rattle.cache_entries.specs.Rows.{all_weights};
-ghost use Rattle.cache_evict.specs.Managed.{fresh, rows_at, shard_of, total_size, total_items};
+ghost use Rattle.cache_evict.specs.Managed.{IsSharded, fresh, rows_at, shard_of, total_size, total_items};
 
 use super::Tracker;
 use crate::numbers::Numbers;
@@ -26,8 +26,9 @@ impl<const N: usize, S: BuildHasher + Copy> Tracker<N, S> {
         ensures { IfOk result (λ t. t ≡ fresh N limit watermark) }
     {
         let core = LruCore::with_capacity_and_watermark(alloc, limit, capacity, watermark)?;
+        let numbers = Numbers::with_capacity_and_hasher(alloc, capacity, hasher)?;
         Ok(Tracker {
-            numbers: Numbers::with_hasher(alloc, hasher),
+            numbers,
             core,
             evicted_size: 0,
             evicted_items: 0,
@@ -53,9 +54,9 @@ impl<const N: usize, S: BuildHasher> Tracker<N, S> {
     /// Returns the number of shards.
     pub fn shards(&self) -> usize
         ensures count { result ≡ N }
-        ensures some { 0 < N }
-        ensures lists { length self.now.shards ≡ N }
+        ensures sharded { IsSharded N self.now }
     {
+        let _ = &self.numbers;
         self.core.shards()
     }
 
@@ -91,8 +92,10 @@ impl<const N: usize, S: BuildHasher> Tracker<N, S> {
 
     /// Returns the number of all entries.
     pub fn total_items(&self) -> usize
-        ensures { result ≡ total_items self.now }
+        ensures sum { result ≡ total_items self.now }
+        ensures sharded { IsSharded N self.now }
     {
+        let _ = &self.numbers;
         self.core.len()
     }
 

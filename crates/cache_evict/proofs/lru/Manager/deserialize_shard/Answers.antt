@@ -1,7 +1,15 @@
-use Rattle.cache_evict.specs.Loads.{appended}
-use Rattle.cache_evict.proofs.LoadLaws.{loads-spelled}
+use Rattle.std.proofs.Common.{arith}
+use Rattle.cache_evict.specs.declared.tracker.loading.Again.TheVariants.{PassedOver}
+use Rattle.cache_evict.proofs.LoadLaws.{loads-spelled, loads_text}
 use Rattle.cache_evict.proofs.lru.Manager.deserialize_shard.Goals as goal
+
+pub returns-clause-rows : goal.returns-clause-rows
+returns-clause-rows g c = rw (← c.self.view_is) c.load.ensures
 
 pub returns-clause-spelled : goal.returns-clause-spelled
 returns-clause-spelled g c rows text rest spelled is =
-    rw (← c.self.view_is) (loads-spelled g.row.N (appended g.row.N) c.args.bytes.now rows text rest c.self.inside.tracker c.load.new.self c.load.result spelled is c.load.ensures)
+    rw (← c.self.view_is) (loads-spelled PassedOver g.row.N c.args.bytes.now c.self.inside.tracker c.load.new.self rows text rest c.load.result spelled is c.load.ensures)
+
+pub returns-clause-text : goal.returns-clause-text
+returns-clause-text g c =
+    rw (← c.self.view_is) (loads_text PassedOver g.row.N c.args.bytes.now c.self.inside.tracker c.load.new.self c.load.result (λ i. let f = c.type_inv.bytes i in omega arith) c.load.ensures)

@@ -20,8 +20,8 @@ returns-in_err-row g c =
     let left = c.in_ok-count.count - (c.rows.counter + 1) in
     let one : c.in_ok-count.count - c.rows.counter ≡ suc left = omega arith in
     let before = subst (λ (j : ℕ). HasLoaded put read c.args.self.now j c.rows.cursor.rest.now c.rows.self) one c.rows.invariant in
-    loads-err g.row.N put read c.args.self.now c.rows.self c.from_residual-in_err-row.result _ c.from_residual-in_err-row.ensures.1 (λ fault e.
-    loads-text put g.row.N read c.args.self.now c.rows.self left c.rows.cursor.rest.now c.in_err-row.field-0.0 fault before c.in_err-row.ensures.exact e)
+    loads-err c.args.again g.row.N read c.args.self.now c.rows.self c.from_residual-in_err-row.result _ c.from_residual-in_err-row.ensures.1 (λ fault e.
+    loads-text c.args.again g.row.N read c.args.self.now c.rows.self left c.rows.cursor.rest.now c.in_err-row.field-0.0 fault before c.in_err-row.ensures.exact e)
 
 pub returns-in_err-load_row : goal.returns-in_err-load_row
 returns-in_err-load_row g c =
@@ -30,8 +30,8 @@ returns-in_err-load_row g c =
     let left = c.in_ok-count.count - (c.rows.counter + 1) in
     let one : c.in_ok-count.count - c.rows.counter ≡ suc left = omega arith in
     let before = subst (λ (j : ℕ). HasLoaded put read c.args.self.now j c.rows.cursor.rest.now c.rows.self) one c.rows.invariant in
-    loads-err g.row.N put read c.args.self.now c.load_row.new.self c.from_residual-in_err-load_row.result _ c.from_residual-in_err-load_row.ensures.1 (λ fault e.
-    loads-stop put g.row.N read c.args.self.now c.load_row.new.self left c.rows.cursor.rest.now c.take_row.new.bytes.rest.now (borrowed_row c.in_ok-row.row) c.rows.self c.in_err-load_row.field-0.0 fault before
+    loads-err c.args.again g.row.N read c.args.self.now c.load_row.new.self c.from_residual-in_err-load_row.result _ c.from_residual-in_err-load_row.ensures.1 (λ fault e.
+    loads-stop c.args.again g.row.N read c.args.self.now c.load_row.new.self left c.rows.cursor.rest.now c.take_row.new.bytes.rest.now (borrowed_row c.in_ok-row.row) c.rows.self c.in_err-load_row.field-0.0 fault before
     c.in_ok-row.ensures.exact c.in_err-load_row.ensures.err c.in_err-load_row.ensures.why e)
 
 pub rows-preserved : goal.rows-preserved
@@ -48,4 +48,4 @@ returns g c =
     let put = loaded c.args.again g.row.N in
     let read = recency_at c.args.bytes.now in
     let none : c.in_ok-count.count - c.rows.counter ≡ zero = omega arith in
-    loads-all put g.row.N read c.args.self.now c.rows.self c.rows.cursor.rest.now (subst (λ (j : ℕ). HasLoaded put read c.args.self.now j c.rows.cursor.rest.now c.rows.self) none c.rows.invariant)
+    loads-all c.args.again g.row.N read c.args.self.now c.rows.self c.rows.cursor.rest.now (subst (λ (j : ℕ). HasLoaded put read c.args.self.now j c.rows.cursor.rest.now c.rows.self) none c.rows.invariant)

@@ -1,11 +1,13 @@
 use Rattle.std.proofs.Common.{◌∙◌, refl, rules}
 use Rattle.cache_evict.specs.Names.{name_at}
-use Rattle.std.specs.Prelude.{◌≡◌}
+use Rattle.std.specs.Prelude.{◌≡◌, None}
+use Rattle.cache_entries.specs.Rows.{weight_of}
 use Rattle.cache_evict.specs.Loads.{loaded}
-use Rattle.cache_evict.specs.Managed.{put_last}
+use Rattle.cache_evict.specs.Managed.{put_last, rows_of}
 use Rattle.cache_evict.specs.Numbered.{managed_in}
 use Rattle.cache_evict.proofs.BackLaws.{managed-kept}
-use Rattle.cache_evict.proofs.LoadLaws.{restored-first, loaded-last, load_refused}
+use Rattle.cache_evict.proofs.LoadLaws.{restored-first, loaded-last, load_refused, tried}
+use Rattle.cache_evict.specs.declared.tracker.loading.Again.TheVariants.{MovedFirst}
 use Rattle.cache_evict.proofs.WrittenLaws.{weight_of-none}
 use Rattle.cache_evict.proofs.RefusalLaws.{ok_then, err_then, either_way, has_shard, has_own_row, IsNumbered-put, managed-put, refused-named, IsNumbered-same}
 use Rattle.cache_evict.proofs.tracker.Tracker.restore.Goals as goal
@@ -46,8 +48,8 @@ returns-in-MovedFirst-clause-ok g c =
 
 pub returns-in-MovedFirst-clause-why : goal.returns-in-MovedFirst-clause-why
 returns-in-MovedFirst-clause-why g c =
-    rw (← c.self.view_is) (err_then c.put_first.result _ _ (λ why p. load_refused g.row.N c.args.entry c.args.weight (managed_in (name_at c.self.inside.numbers) c.self.inside.core c.self.inside.evicted_size c.self.inside.evicted_items) why
-    (refused-named g.row.N (name_at c.self.inside.numbers) c.self.inside.core c.self.inside.core c.in-Some.number c.args.entry c.args.weight c.self.inside.evicted_size c.self.inside.evicted_items c.self.invariant (rw c.from.ensures at c.in-Some.ensures.some) why p))
+    rw (← c.self.view_is) (err_then c.put_first.result _ _ (λ why p. rw c.in-MovedFirst.is (load_refused MovedFirst g.row.N c.args.entry c.args.weight (managed_in (name_at c.self.inside.numbers) c.self.inside.core c.self.inside.evicted_size c.self.inside.evicted_items) why tt
+    (refused-named g.row.N (name_at c.self.inside.numbers) c.self.inside.core c.self.inside.core c.in-Some.number c.args.entry c.args.weight c.self.inside.evicted_size c.self.inside.evicted_items c.self.invariant (rw c.from.ensures at c.in-Some.ensures.some) why p)))
     c.put_first.ensures.why)
 
 pub returns-in-None-clause-ok : goal.returns-in-None-clause-ok
@@ -57,4 +59,7 @@ returns-in-None-clause-ok g c =
     ok_then c.put_new.result _ _ (λ s. s ∙ last) c.put_new.ensures.ok
 
 pub returns-in-None-clause-why : goal.returns-in-None-clause-why
-returns-in-None-clause-why g c = err_then c.put_new.result _ _ (load_refused g.row.N c.args.entry c.args.weight c.args.self.now) c.put_new.ensures.why
+returns-in-None-clause-why g c =
+    let none : weight_of c.args.entry (rows_of g.row.N c.args.entry c.args.self.now) ≡ None =
+    rw (← c.self.view_is) (weight_of-none g.row.N (name_at c.self.inside.numbers) c.self.inside.core 0 c.args.entry c.self.invariant (rw c.from.ensures at c.in-None.ensures.none)) in
+    err_then c.put_new.result _ _ (λ why. load_refused c.args.again g.row.N c.args.entry c.args.weight c.args.self.now why (tried c.args.again g.row.N (record { entry = c.args.entry; weight = c.args.weight }) c.args.self.now none)) c.put_new.ensures.why

@@ -7,7 +7,7 @@ use Rattle.cache_entries.specs.RowText.{row_text}
 use Rattle.cache_evict.specs.Loads.{HasLongTag}
 use Rattle.cache_evict.specs.Names.{name_at}
 use Rattle.cache_evict.specs.Numbered.{row_of_pair}
-use Rattle.cache_evict.proofs.TextLaws.{shown, named, text_shown}
+use Rattle.cache_evict.proofs.TextLaws.{shown, named, text_shown, text_spelled}
 use Rattle.cache_evict.proofs.tracker.Tracker.text_of.Goals as goal
 
 pub put_rows-requires : goal.put_rows-requires
@@ -29,3 +29,8 @@ returns-in-Ok-clause-ok g c =
     rw (← c.self.view_is) (text_shown g.row.N names c.self.inside.core c.self.inside.evicted_size c.self.inside.evicted_items c.args.shard c.self.invariant c.requires c.put_rows.new.out.items c.in_ok-out.out.items
     (c.in_ok-out.ensures.ok ∙ ap (shortest arrays) c.shard_len.ensures)
     (c.in-Ok.ensures.ok ∙ ap (λ (l : List (ℕ × ℕ)). c.in_ok-out.out.items ++ flat_map row_text (map (row_of_pair names) l)) c.iter.ensures))
+
+pub returns-in-Ok-clause-spelled : goal.returns-in-Ok-clause-spelled
+returns-in-Ok-clause-spelled g c =
+    rw (← c.self.view_is) (text_spelled g.row.N (name_at c.self.inside.numbers) c.self.inside.core c.self.inside.evicted_size c.self.inside.evicted_items c.args.shard c.self.invariant c.requires c.put_rows.new.out.items c.in_ok-out.out.items c.iter.result c.shard_len.result
+    c.in_ok-out.ensures.ok c.shard_len.ensures c.in_ok-out.ensures.short c.iter.ensures c.in-Ok.ensures.ok c.in-Ok.ensures.fits)

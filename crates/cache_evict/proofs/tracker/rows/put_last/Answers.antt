@@ -9,4 +9,4 @@ returns-in-Ok-clause-ok g c =
 
 pub returns-in-Err-clause-why : goal.returns-in-Err-clause-why
 returns-in-Err-clause-why g c =
-    refused_last g.row.N c.args.number c.args.weight c.args.core.now c.in-Err.fault c.refusal_in.result c.refusal_in.ensures c.in-Err.ensures.memory c.in-Err.ensures.heavy c.in-Err.ensures.long
+    refused_last g.row.N c.args.number c.args.weight c.args.core.now c.in-Err.fault c.row_refusal.result c.row_refusal.ensures c.in-Err.ensures.memory c.in-Err.ensures.heavy c.in-Err.ensures.long
