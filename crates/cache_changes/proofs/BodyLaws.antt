@@ -6,25 +6,11 @@ use Rattle.std.proofs.lemmas.Bool.{eqb-true}
 use Rattle.cache_entries.specs.Keys.{same_bytes}
 use Rattle.cache_entries.specs.SameEntry.{same_bytes-tells, same-sym}
 use Rattle.cache_changes.specs.Changes.{StoredKey, Write, Change, Changes, appends, finishes, leaves, renews, removes, evicts, key_alone, is_key}
-use Rattle.cache_changes.specs.Writes.{removes_key, leaves_write, finishes_key, IsInFlight, IsAlive, IsBody, Flies, MayCome, IsOrderly, HasBegun}
+use Rattle.cache_changes.specs.Writes.{finished_by, body_chosen, body_now, removes_key, leaves_write, finishes_key, IsInFlight, IsAlive, IsBody, Flies, MayCome, IsOrderly, HasBegun}
 use Rattle.cache_changes.specs.Store.{Stored, Flying, stored_of, is_of, body_at, flying_at, renewed, with_body, after, store_of}
 use Rattle.cache_changes.proofs.RowLaws.{not_true, not_false, find-map, find-kept, find-gone}
 use Rattle.cache_changes.proofs.WriteLaws.{Life, life, life_by, begun_by, lived, flight_began, began_more, began_later, begun_none, life-began, life-flies, life-alive, life-tells, is_alive, and_true, neither, not_either, same_number}
 use Rattle.cache_changes.proofs.FlightLaws.{live, flight, flying_of, flying_at-is}
-
-abbrev pub finished_by : {M : Type 0} → StoredKey → Change M → Option (Write M)
-finished_by k (finishes w) = cond (same_bytes w.key k) (Some w) None
-finished_by k _ = None
-
-abbrev pub body_chosen : {M : Type 0} → Bool → Option (Write M) → Option (Write M) → Option (Write M)
-body_chosen true new old = None
-body_chosen false (Some w) old = Some w
-body_chosen false None old = old
-
--- the write whose body a key has, found change by change
-abbrev pub body_now : {M : Type 0} → StoredKey → Changes M → Option (Write M)
-body_now k [] = None
-body_now k (c ∷ before) = body_chosen (removes_key k c) (finished_by k c) (body_now k before)
 
 pub one_life : {M : Type 0} (x y : Life M) → Some x ≡ Some y → x ≡ y
 one_life x y e = cc

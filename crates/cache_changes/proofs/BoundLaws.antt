@@ -10,12 +10,12 @@ use Rattle.cache_entries.specs.Keys.{same_bytes}
 use Rattle.cache_entries.specs.Rows.{weight_of, all_weights, without_row, is_over}
 use Rattle.cache_entries.specs.SameEntry.{same_entry-tells, same_bytes-tells, same-sym}
 use Rattle.cache_changes.specs.Changes.{StoredKey, Write, Change, Changes, appends, finishes, removes, admits, uses, departs, evicts, key_alone, is_key}
-use Rattle.cache_changes.specs.Writes.{bytes_of, removes_key, IsBody, IsOrderly}
+use Rattle.cache_changes.specs.Writes.{finished_by, body_chosen, body_now, bytes_of, removes_key, IsBody, IsOrderly}
 use Rattle.cache_changes.specs.Uses.{last_weight, IsOrderOfUse}
 use Rattle.cache_changes.specs.Bound.{is_entry_of, SettlesKey, SettlesAtOnce, MindsBodies, TracksBodies, is_settled, IsTrackedBody, HasDistinctKeys, AreWithin}
 use Rattle.cache_changes.proofs.RowLaws.{weight_of-without}
 use Rattle.cache_changes.proofs.WeightLaws.{without_tracked, kept_limits}
-use Rattle.cache_changes.proofs.BodyLaws.{finished_by, body_chosen, body_now, body_now-has, body_now-is, body_now-of, not_appended}
+use Rattle.cache_changes.proofs.BodyLaws.{body_now-has, body_now-is, body_now-of, not_appended}
 
 -- the last change finished w
 abbrev JustFinished : {M : Type 0} → Write M → Changes M → Type 0

@@ -2,11 +2,11 @@
 use Rattle.std.proofs.Common.{◌≡◌, ℕ, refl, ap, sym, ◌∙◌, true, false, subst, cond}
 use Rattle.std.specs.Prelude.{Bool, ◌↔◌, Option, Some, None, not}
 use Rattle.cache_changes.specs.Changes.{StoredKey, Write, Changes}
-use Rattle.cache_changes.specs.Writes.{IsBody, IsOrderly}
+use Rattle.cache_changes.specs.Writes.{body_now, IsBody, IsOrderly}
 use Rattle.cache_changes.specs.Store.{Stored, Flying, IsFlight, stored_of, body_at, flying_at, store_of}
 use Rattle.cache_changes.proofs.WriteLaws.{Life, life, life-flies, is_flight, is_alive, life_number}
 use Rattle.cache_changes.proofs.FlightLaws.{live, flight, flying_of, flying_at-is}
-use Rattle.cache_changes.proofs.BodyLaws.{body_now, body_now-is, body_now-of, body_at-is, stored_in, life-both, one_life}
+use Rattle.cache_changes.proofs.BodyLaws.{body_now-is, body_now-of, body_at-is, stored_in, life-both, one_life}
 
 -- ---- writes in flight
 

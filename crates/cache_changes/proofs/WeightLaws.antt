@@ -1,12 +1,12 @@
 -- Weights and numbers of rows without an entry.
 use Rattle.std.proofs.Common.{◌≡◌, ℕ, ◌+◌, ◌≤◌, ◌<◌, refl, true, false, cond, [], ◌∷◌, ◌||◌, length, arith}
-use Rattle.std.specs.Prelude.{Bool, List, Option, Some, None, option_map, not, nat_lt}
+use Rattle.std.specs.Prelude.{Bool, List, Option, Some, None, option_map, unwrap_or, IfSome, not, nat_lt}
 use Rattle.std.proofs.lemmas.List.Sums.{sum_by-cons}
 use Rattle.std.proofs.lemmas.Bool.Decides.{nat_tests}
 use Rattle.cache_entries.specs.declared.entry.CacheEntryKey.{CacheEntryKey}
 use Rattle.cache_entries.specs.declared.rows.Tracked.{Tracked}
 use Rattle.cache_entries.specs.Entry.{same_entry}
-use Rattle.cache_entries.specs.Rows.{row_of, weight_of, all_weights, without_row, is_past, is_over}
+use Rattle.cache_entries.specs.Rows.{row_of, weight_of, all_weights, without_row, is_over}
 
 -- they weigh and count no more
 no_more : (r : Tracked) (rows less : List Tracked) (v : Bool) → (all_weights less ≤ all_weights rows) × (length less ≤ length rows)
@@ -44,13 +44,13 @@ either_false false y e = (refl, e)
 not_under : (limit n : ℕ) → nat_lt limit n ≡ false → n ≤ limit
 not_under limit n e = grind (arith, nat_tests)
 
-past_less : (mark : Option ℕ) (m n : ℕ) → m ≤ n → is_past mark n ≡ false → is_past mark m ≡ false
-past_less None m n h e = refl
-past_less (Some bound) m n h e = grind (arith, nat_tests)
+mark_kept : (mark : Option ℕ) (m n : ℕ) → m ≤ n → unwrap_or (option_map (λ b. nat_lt b n) mark) false ≡ false → IfSome mark (λ b. m ≤ b)
+mark_kept None m n h e = tt
+mark_kept (Some bound) m n h e = omega (arith, not_under bound n e, h)
 
 -- what weighs and counts no more than rows that keep both limits keeps them
 pub kept_limits : (limit : ℕ) (mark : Option ℕ) (rows : List Tracked) (weight count : ℕ) → is_over limit mark rows ≡ false → weight ≤ all_weights rows → count ≤ length rows
-    → (weight ≤ limit) × (is_past mark count ≡ false)
+    → (weight ≤ limit) × IfSome mark (λ b. count ≤ b)
 kept_limits limit mark rows weight count e w c =
-    let parts = either_false (nat_lt limit (all_weights rows)) (is_past mark (length rows)) e in
-    (omega (arith, not_under limit (all_weights rows) parts.0), past_less mark count (length rows) c parts.1)
+    let parts = either_false (nat_lt limit (all_weights rows)) (unwrap_or (option_map (λ b. nat_lt b (length rows)) mark) false) e in
+    (omega (arith, not_under limit (all_weights rows) parts.0), mark_kept mark count (length rows) c parts.1)

@@ -1,9 +1,8 @@
 -- Bodies and the order of use together: each body is tracked, and so the bodies keep the limits that the rows keep.
-use Rattle.std.specs.Prelude.{◌≡◌, ℕ, ◌≤◌, Bool, true, false, List, [], ◌∷◌, ◌++◌, length, Option, Some}
+use Rattle.std.specs.Prelude.{◌≡◌, ℕ, ◌≤◌, Bool, true, false, List, [], ◌∷◌, ◌++◌, length, Option, Some, IfSome}
 use Rattle.std.specs.List.{AllByRecursion, sum_by}
 use Rattle.cache_entries.specs.declared.entry.CacheEntryKey.{CacheEntryKey}
 use Rattle.cache_entries.specs.Keys.{same_bytes}
-use Rattle.cache_entries.specs.Rows.{is_past}
 use Rattle.cache_changes.specs.Changes.{StoredKey, Write, Change, Changes, finishes, removes, admits, departs, key_alone, is_key}
 use Rattle.cache_changes.specs.Writes.{bytes_of, IsBody}
 use Rattle.cache_changes.specs.Uses.{last_weight}
@@ -60,4 +59,4 @@ HasDistinctKeys (w ∷ ws) = AllByRecursion (λ v. same_bytes v.key w.key ≡ fa
 abbrev pub AreWithin : {M : Type 0} → ℕ → Option ℕ → Changes M → Type 0
 AreWithin {M = M} limit watermark changes =
     (bodies : List (Write M)) → HasDistinctKeys bodies → AllByRecursion (λ w. IsBody w.key w changes) bodies
-    → (sum_by (λ w. length (bytes_of w.number changes)) bodies ≤ limit) × (is_past watermark (length bodies) ≡ false)
+    → (sum_by (λ w. length (bytes_of w.number changes)) bodies ≤ limit) × IfSome watermark (λ mark. length bodies ≤ mark)

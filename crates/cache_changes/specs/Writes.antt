@@ -1,5 +1,5 @@
 -- What changes leave of writes: which are in flight, which are alive, what a key has.
-use Rattle.std.specs.Prelude.{◌≡◌, ℕ, ◌==◌, ◌<◌, ◌≤◌, Bool, true, false, List, [], ◌∷◌, ◌++◌, ◌⊎◌, if◌then◌else◌}
+use Rattle.std.specs.Prelude.{◌≡◌, ℕ, ◌==◌, ◌<◌, ◌≤◌, Bool, true, false, List, [], ◌∷◌, ◌++◌, ◌⊎◌, Option, Some, None, if◌then◌else◌}
 use Rattle.std.specs.List.{AllByRecursion}
 use Rattle.cache_entries.specs.Keys.{same_bytes}
 use Rattle.cache_changes.specs.Changes.{StoredKey, Write, Change, Changes, begins, appends, ends, finishes, leaves, renews, key_removed, is_key}
@@ -75,6 +75,22 @@ pub record IsBody {M : Type 0} (k : StoredKey) (w : Write M) (changes : Changes 
   pub before : Changes M
   pub split : changes ≡ since ++ finishes w ∷ before
   pub last : AllByRecursion (λ c. finishes_key k c ≡ false) since
+
+-- the write of k that the change finishes
+abbrev pub finished_by : {M : Type 0} → StoredKey → Change M → Option (Write M)
+finished_by k (finishes w) = if same_bytes w.key k then Some w else None
+finished_by k _ = None
+
+-- none after a removal; else what was finished, and without that what there was
+abbrev pub body_chosen : {M : Type 0} → Bool → Option (Write M) → Option (Write M) → Option (Write M)
+body_chosen true new old = None
+body_chosen false (Some w) old = Some w
+body_chosen false None old = old
+
+-- the same, found change by change
+abbrev pub body_now : {M : Type 0} → StoredKey → Changes M → Option (Write M)
+body_now k [] = None
+body_now k (c ∷ before) = body_chosen (removes_key k c) (finished_by k c) (body_now k before)
 
 -- w is an alive write of k in flight
 pub record IsFlying {M : Type 0} (k : StoredKey) (w : Write M) (changes : Changes M) : Type 0 where

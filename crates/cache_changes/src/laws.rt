@@ -5,7 +5,7 @@ ghost use Rattle.cache_entries.specs.declared.entry.CacheEntryKey.{CacheEntryKey
 ghost use Rattle.cache_entries.specs.declared.rows.Tracked.{Tracked};
 ghost use Rattle.cache_entries.specs.Rows.{AreDistinct, all_weights, is_over};
 ghost use Rattle.cache_changes.specs.Changes.{StoredKey, Write, Change, Changes, appends, finishes, renews, evicts};
-ghost use Rattle.cache_changes.specs.Writes.{bytes_of, HasBegun, IsInFlight, IsBody, IsShown, Flies, MayCome, IsOrderly};
+ghost use Rattle.cache_changes.specs.Writes.{body_now, bytes_of, HasBegun, IsInFlight, IsBody, IsShown, Flies, MayCome, IsOrderly};
 ghost use Rattle.cache_changes.specs.Store.{Stored, Flying, IsStateOf, body_at, flying_at, store_of};
 ghost use Rattle.cache_changes.specs.Bound.{TracksBodies, is_settled, IsTrackedBody, AreWithin};
 ghost use Rattle.cache_changes.specs.Uses.{IsOrderOfUse, IsLast, IsLawfulEviction, rows_after, rows_of, shard_of, in_shard, changes_shard, entry_changed, AreShardsOf, shards_after, admissions};
@@ -36,8 +36,9 @@ pub fn bytes_only_come_in_flight<M>()
         → bytes_of w.number (since ++ before) ≡ bytes_of w.number before }
 {}
 
-/// A key has one body at most, and shows one write.
+/// A key has one body at most, which is found change by change, and shows one write.
 pub fn a_key_has_one_body<M>()
+    ensures now { (k : StoredKey) (w : Write M) (changes : Changes M) → IsOrderly changes → IsBody k w changes ↔ (body_now k changes ≡ Some w) }
     ensures body { (k : StoredKey) (v w : Write M) (changes : Changes M) → IsOrderly changes → IsBody k v changes → IsBody k w changes → v ≡ w }
     ensures shown { (k : StoredKey) (v w : Write M) (changes : Changes M) → IsOrderly changes → IsShown k v changes → IsShown k w changes → v ≡ w }
 {}

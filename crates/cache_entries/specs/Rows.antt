@@ -43,11 +43,6 @@ abbrev pub AreDistinct : List Tracked → Type 0
 AreDistinct [] = Unit {0}
 AreDistinct (r ∷ rows) = (row_of r.entry rows ≡ None) × AreDistinct rows
 
--- a number is past a bound, if there is one
-abbrev pub is_past : Option ℕ → ℕ → Bool
-is_past None n = false
-is_past (Some bound) n = nat_lt bound n
-
--- the weights' sum passes the limit, or the number of entries the watermark
+-- the weights' sum passes the limit, or the number of entries the watermark, if there is one
 abbrev pub is_over : ℕ → Option ℕ → List Tracked → Bool
-is_over limit watermark rows = nat_lt limit (all_weights rows) || is_past watermark (length rows)
+is_over limit watermark rows = nat_lt limit (all_weights rows) || unwrap_or (option_map (λ mark. nat_lt mark (length rows)) watermark) false

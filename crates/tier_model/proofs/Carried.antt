@@ -1,10 +1,9 @@
 -- Lawful histories hold the headline, and runs carry it on.
 use Rattle.std.proofs.Common.{◌≡◌, ℕ, length, refl, ap, sym, ◌∙◌, false, subst, [], ◌∷◌, arith}
-use Rattle.std.specs.Prelude.{List, Option, Some, None}
+use Rattle.std.specs.Prelude.{◌≤◌, List, Option, Some, None, IfSome}
 use Rattle.std.specs.List.{AllByRecursion}
 use Rattle.std.specs.FinMap.{get, get-empty}
 use Rattle.std.specs.Ordering.{nat_cmp}
-use Rattle.std.proofs.lemmas.Bool.Decides.{nat_tests}
 use Rattle.tier_entries.specs.declared.rows.Tracked.{Tracked}
 use Rattle.cache_entries.specs.Rows.{AreDistinct}
 use Rattle.cache_changes.specs.Changes.{Write, Changes, admits}
@@ -13,7 +12,6 @@ use Rattle.cache_changes.specs.Uses.{EvictsLawfully, admissions}
 use Rattle.cache_changes.specs.Bound.{TracksBodies, AreWithin}
 use Rattle.cache_changes.proofs.BoundLaws.{bodies-tracked}
 use Rattle.cache_changes.proofs.UseLaws.{rows_of-admissions}
-use Rattle.tier_entries.specs.Rows.{is_past}
 use Rattle.tier_model.specs.declared.state.Request.{Request}
 use Rattle.tier_model.specs.Calls.{Call, History}
 use Rattle.tier_model.specs.Response.{IsRead}
@@ -36,16 +34,16 @@ no_request : (start : Opening) (id : ℕ) (o : Option Request) → o ≡ None �
 no_request start id None e = refl
 no_request start id (Some q) e = cc
 
-never_past : (mark : Option ℕ) → is_past mark 0 ≡ false
-never_past None = refl
-never_past (Some bound) = grind (arith, nat_tests)
+none_past : (mark : Option ℕ) → IfSome mark (λ b. 0 ≤ b)
+none_past None = tt
+none_past (Some bound) = omega arith
 
 -- where no body is held no write is one
 none_held : (limit : ℕ) (mark : Option ℕ) (n : ℕ) (rows : List Tracked) (changes : Changes Kept) → Leaves limit mark n [] rows changes → (w : Write Kept) → IsBody w.key w changes → ⊥
 none_held limit mark n rows changes l w i = let there = (is_held limit mark n [] rows changes l w.key w i).1 in absurd cc
 
 none_within : (limit : ℕ) (mark : Option ℕ) (n : ℕ) (rows : List Tracked) (changes : Changes Kept) → Leaves limit mark n [] rows changes → AreWithin limit mark changes
-none_within limit mark n rows changes l [] d all = (omega arith, never_past mark)
+none_within limit mark n rows changes l [] d all = (omega arith, none_past mark)
 none_within limit mark n rows changes l (w ∷ ws) d all = absurd (none_held limit mark n rows changes l w all.0)
 
 -- an order of use that was loaded
