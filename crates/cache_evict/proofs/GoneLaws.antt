@@ -8,7 +8,7 @@ use Rattle.std.proofs.lemmas.List.{length-map, length-append, nil_from_length, a
 use Rattle.std.proofs.lemmas.List.Sums.{sum_by-cons}
 use Rattle.cache_entries.specs.declared.entry.CacheEntryKey.{CacheEntryKey}
 use Rattle.cache_entries.specs.declared.rows.Tracked.{Tracked}
-use Rattle.cache_entries.specs.Rows.{all_weights, is_past}
+use Rattle.cache_entries.specs.Rows.{all_weights}
 use Rattle.lru_core.specs.declared.rows.Row.{Row}
 use Rattle.lru_core.specs.Rows.{only, others, a_row, total_weight}
 use Rattle.lru_core.specs.Cores.{Core, rows_at, core_weight, core_len, passes, is_over as is_core_over, longer_of_two, first_nonempty_from, IsStep}
@@ -32,12 +32,8 @@ module _ (names : ℕ → Option CacheEntryKey) where
       let one = all_weights-tracked names rows in
       sum_by-cons all_weights (tracked names rows) (map (tracked names) shards) ∙ omega (arith, ih, one) ∙ sym (sum_by-cons total_weight rows shards)
 
-  passed : (mark : Option ℕ) (m : ℕ) → is_past mark m ≡ passes mark m
-  passed None m = refl
-  passed (Some bound) m = refl
-
   pub over : (core : Core ℕ) (size items : ℕ) → is_over (managed_in names core size items) ≡ is_core_over core
-  over core size items = rw (sizes core.shards, counts names core.shards, passed core.watermark (core_len core.shards)) refl
+  over core size items = rw (sizes core.shards, counts names core.shards) refl
 
   -- ---- which shard
 

@@ -5,11 +5,11 @@ use Rattle.rand_core.specs.Stream.{Stream, next_u64}
 use Rattle.cache_entries.specs.declared.entry.CacheEntryKey.{CacheEntryKey}
 use Rattle.cache_entries.specs.declared.rows.Tracked.{Tracked}
 use Rattle.cache_entries.specs.EntryText.{entry_hash}
-use Rattle.cache_entries.specs.Rows.{AreDistinct, weight_of, all_weights, without_row, admitted, used, with_last, is_past}
+use Rattle.cache_entries.specs.Rows.{AreDistinct, weight_of, all_weights, without_row, admitted, used, with_last}
 use Rattle.cache_evict.specs.declared.tracker.rows.End.{End}
 use Rattle.cache_evict.specs.declared.tracker.rows.End.TheVariants as end
 use Rattle.lru_core.specs.Rows.{capped, raised}
-use Rattle.lru_core.specs.Cores.{shard_bound}
+use Rattle.lru_core.specs.Cores.{shard_bound, passes}
 use Rattle.lru_core.specs.declared.rows.TheConstants.{MOST_ROWS}
 
 -- `limit` is what the entries may weigh together, `watermark` how many there may be; the rest tells of all that were
@@ -55,7 +55,7 @@ total_items m = sum_by length m.shards
 
 -- the weight is past the limit, or the number of entries past the watermark
 abbrev pub is_over : Managed → Bool
-is_over m = nat_lt m.limit (total_size m) || is_past m.watermark (total_items m)
+is_over m = nat_lt m.limit (total_size m) || passes m.watermark (total_items m)
 
 -- e at the front of its shard, with weight w
 abbrev pub put_first : ℕ → CacheEntryKey → ℕ → Managed → Managed
