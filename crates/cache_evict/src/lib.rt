@@ -4,6 +4,7 @@
 pub use fault::EvictFault;
 pub use load_fault::LoadFault;
 pub use manager::EvictionManager;
+pub use parts::KeyParts;
 
 mod fault;
 pub mod laws;
@@ -11,5 +12,6 @@ mod load_fault;
 pub mod lru;
 mod manager;
 pub mod numbers;
+mod parts;
 pub mod simple_lru;
 mod tracker;
