@@ -1,36 +1,46 @@
 -- Bodies found by key after edits, in a tier's state and in what changes leave of writes.
-use Rattle.std.proofs.Common.{◌≡◌, ℕ, refl, ap, sym, ◌∙◌, true, false, subst, cond, [], ◌∷◌}
+use Rattle.std.proofs.Common.{◌≡◌, ℕ, refl, ap, sym, ◌∙◌, true, false, subst, cond, [], ◌∷◌, ◌||◌}
 use Rattle.std.specs.Prelude.{Bool, List, Option, Some, None, option_map, not, find, filter}
 use Rattle.cache_entries.specs.Keys.{same_bytes}
-use Rattle.cache_changes.specs.Changes.{StoredKey, is_key}
+use Rattle.cache_changes.specs.Changes.{StoredKey, stored_key, key_alone, is_key}
 use Rattle.cache_changes.specs.Store.{Stored, is_of}
 use Rattle.cache_changes.proofs.RowLaws.{not_true, not_false, find-kept, find-gone}
-use Rattle.tier_entries.specs.Keys.{stored_key, same_key, has_key}
-use Rattle.tier_entries.proofs.KeyLaws.{same_key-tells, same-sym, find-without, find-at_end, either_none}
+use Rattle.cache_entries.specs.declared.entry.CacheEntryKey.{CacheEntryKey}
+use Rattle.cache_entries.specs.SameEntry.{same_bytes-tells, same-sym}
+use Rattle.tier_model.proofs.KeyLaws.{find-without, find-at_end, either_none}
 use Rattle.tier_model.specs.declared.state.FinishedBody.{FinishedBody}
-use Rattle.tier_model.specs.Keys.{Entry}
 use Rattle.tier_model.specs.Histories.{Kept}
 use Rattle.tier_model.specs.Past.{held_of}
-use Rattle.tier_model.specs.Rows.{body_of, with_body, without_body, without_bodies}
+use Rattle.tier_model.specs.Rows.{body_of, with_body, without_body, without_key, without_bodies}
 
 -- in a state
-pub body_of-without : (k j : StoredKey) (bodies : List FinishedBody) → body_of k (without_body j bodies) ≡ cond (same_key j k) None (body_of k bodies)
-body_of-without k j bodies = find-without same_key same_key-tells (λ b. stored_key b.entry) k j bodies
+pub body_of-without : (k j : StoredKey) (bodies : List FinishedBody) → body_of k (without_body j bodies) ≡ cond (same_bytes j k) None (body_of k bodies)
+body_of-without k j bodies = find-without same_bytes same_bytes-tells (λ b. stored_key b.entry) k j bodies
 
-pub body_of-with : (k : StoredKey) (b : FinishedBody) (bodies : List FinishedBody) → body_of k (with_body b bodies) ≡ cond (same_key (stored_key b.entry) k) (Some b) (body_of k bodies)
-body_of-with k b bodies = find-at_end same_key same_key-tells (λ b. stored_key b.entry) k b bodies
+pub body_of-with : (k : StoredKey) (b : FinishedBody) (bodies : List FinishedBody) → body_of k (with_body b bodies) ≡ cond (same_bytes (stored_key b.entry) k) (Some b) (body_of k bodies)
+body_of-with k b bodies = find-at_end same_bytes same_bytes-tells (λ b. stored_key b.entry) k b bodies
 
-pub body_of-without_all : (k : StoredKey) (es : List Entry) (bodies : List FinishedBody) → body_of k (without_bodies es bodies) ≡ cond (has_key k es) None (body_of k bodies)
+-- one of the entries has no id and the stored key k
+abbrev pub has_key : StoredKey → List CacheEntryKey → Bool
+has_key k [] = false
+has_key k (e ∷ es) = is_key k (key_alone e) || has_key k es
+
+pub body_of-without_key : (k : StoredKey) (j : Option StoredKey) (bodies : List FinishedBody) → body_of k (without_key j bodies) ≡ cond (is_key k j) None (body_of k bodies)
+body_of-without_key k None bodies = refl
+body_of-without_key k (Some j) bodies = body_of-without k j bodies
+
+pub body_of-without_all : (k : StoredKey) (es : List CacheEntryKey) (bodies : List FinishedBody) → body_of k (without_bodies es bodies) ≡ cond (has_key k es) None (body_of k bodies)
 body_of-without_all k [] bodies = refl
 body_of-without_all k (e ∷ es) bodies =
-    body_of-without_all k es (without_body (stored_key e) bodies) ∙ ap (cond (has_key k es) None) (body_of-without k (stored_key e) bodies) ∙ either_none (same_key (stored_key e) k) (has_key k es) (body_of k bodies)
+    body_of-without_all k es (without_key (key_alone e) bodies) ∙ ap (cond (has_key k es) None) (body_of-without_key k (key_alone e) bodies) ∙ either_none (is_key k (key_alone e)) (has_key k es) (body_of k bodies)
 
 -- in what changes leave
 of_key : (k : StoredKey) (x : Stored Kept) → is_of k x ≡ true → x.write.key ≡ k
-of_key k x t = same_key-tells.equal x.write.key k t
+of_key k x t = same_bytes-tells.equal x.write.key k t
 
-pub body_at-without : (k j : StoredKey) (xs : List (Stored Kept)) → find (is_of k) (filter (λ x. not (is_key x.write.key (Some j))) xs) ≡ cond (same_bytes j k) None (find (is_of k) xs)
-body_at-without k j xs = by_test (same_bytes j k) refl
+pub body_at-without : (k : StoredKey) (j : Option StoredKey) (xs : List (Stored Kept)) → find (is_of k) (filter (λ x. not (is_key x.write.key j)) xs) ≡ cond (is_key k j) None (find (is_of k) xs)
+body_at-without k None xs = find-kept (is_of k) (λ x. not (is_key x.write.key None)) xs (λ x t. refl)
+body_at-without k (Some j) xs = by_test (same_bytes j k) refl
   where
     by_test : (v : Bool) → same_bytes j k ≡ v → find (is_of k) (filter (λ x. not (is_key x.write.key (Some j))) xs) ≡ cond v None (find (is_of k) xs)
     by_test true e = find-gone (is_of k) (λ x. not (is_key x.write.key (Some j))) xs (λ x t. not_true (same_bytes j x.write.key) (subst (λ (i : StoredKey). same_bytes j i ≡ true) (sym (of_key k x t)) e))
@@ -40,7 +50,7 @@ pub body_at-with : (k : StoredKey) (x : Stored Kept) (xs : List (Stored Kept)) �
 body_at-with k x xs = by_test (is_of k x) refl
   where
     other : is_of k x ≡ false → (y : Stored Kept) → is_of k y ≡ true → is_of x.write.key y ≡ false
-    other e y t = ap (λ (j : StoredKey). same_bytes j x.write.key) (of_key k y t) ∙ same-sym same_key same_key-tells k x.write.key ∙ e
+    other e y t = ap (λ (j : StoredKey). same_bytes j x.write.key) (of_key k y t) ∙ same-sym same_bytes same_bytes-tells k x.write.key ∙ e
 
     by_test : (v : Bool) → is_of k x ≡ v → cond v (Some x) (find (is_of k) (filter (λ y. not (is_of x.write.key y)) xs)) ≡ cond v (Some x) (find (is_of k) xs)
     by_test true e = refl

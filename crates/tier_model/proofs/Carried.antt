@@ -1,29 +1,34 @@
 -- Lawful histories hold the headline, and runs carry it on.
-use Rattle.std.proofs.Common.{◌≡◌, ℕ, length, refl, ap, sym, ◌∙◌, false, subst, [], ◌∷◌, arith}
-use Rattle.std.specs.Prelude.{◌≤◌, List, Option, Some, None, IfSome}
+use Rattle.std.proofs.Common.{◌≡◌, ℕ, ◌<◌, length, refl, ap, sym, ◌∙◌, false, subst, [], ◌∷◌, arith}
+use Rattle.std.specs.Prelude.{◌≤◌, List, Option, Some, None, IfSome, replicate}
+use Rattle.std.proofs.lemmas.List.{ext_get_or}
 use Rattle.std.specs.List.{AllByRecursion}
 use Rattle.std.specs.FinMap.{get, get-empty}
 use Rattle.std.specs.Ordering.{nat_cmp}
-use Rattle.tier_entries.specs.declared.rows.Tracked.{Tracked}
+use Rattle.cache_entries.specs.declared.rows.Tracked.{Tracked}
 use Rattle.cache_entries.specs.Rows.{AreDistinct}
 use Rattle.cache_changes.specs.Changes.{Write, Changes, admits}
 use Rattle.cache_changes.specs.Writes.{IsOrderly, IsBody}
-use Rattle.cache_changes.specs.Uses.{EvictsLawfully, admissions}
+use Rattle.cache_changes.specs.Uses.{EvictsLawfully, AreShardsOf, rows_of, admissions}
+use Rattle.cache_changes.proofs.ManyShards.{AreShardsOf-none, weights-shards, length-shards}
+use Rattle.cache_changes.proofs.UseLaws.{IsOrderOfUse-rows_of}
 use Rattle.cache_changes.specs.Bound.{TracksBodies, AreWithin}
 use Rattle.cache_changes.proofs.BoundLaws.{bodies-tracked}
 use Rattle.cache_changes.proofs.UseLaws.{rows_of-admissions}
+use Rattle.cache_evict.specs.Managed.{Managed, fresh}
 use Rattle.tier_model.specs.declared.state.Request.{Request}
 use Rattle.tier_model.specs.Calls.{Call, History}
 use Rattle.tier_model.specs.Response.{IsRead}
-use Rattle.tier_model.specs.Histories.{Kept, alone, rows_alone, Opening, empty_opening, changes_of}
-use Rattle.tier_model.specs.Headline.{shards, Headline, HoldsHeadline}
+use Rattle.tier_model.specs.Histories.{Kept, Opening, empty_opening, changes_of}
+use Rattle.tier_model.specs.Headline.{Headline, HoldsHeadline}
 use Rattle.tier_model.specs.Reports.{IsReport, report_of}
-use Rattle.tier_model.specs.State.{Settings, State, empty_state}
+use Rattle.tier_model.specs.State.{Settings, State, shards_of, empty_state}
 use Rattle.tier_model.specs.Step.{Allows, after}
-use Rattle.tier_model.specs.Past.{state_of, IsLawful, MatchesHistory, HasPast, AreTaken, CarriesHeadline}
-use Rattle.tier_model.proofs.RowSteps.{rows-length, rows-weights}
-use Rattle.tier_model.proofs.ChangeLaws.{Leaves, unbound, is_held, in_order}
-use Rattle.tier_model.proofs.StepLaws.{settings-after}
+use Rattle.tier_model.specs.Past.{in_shards, loaded_of, state_of, IsLawful, MatchesHistory, HasPast, AreTaken, CarriesHeadline}
+use Rattle.tier_model.proofs.RowSteps.{IsMade, in_shards-are}
+use Rattle.tier_model.proofs.ChangeLaws.{Leaves, unbound, is_held}
+use Rattle.tier_model.proofs.StepLaws.{made-after}
+use Rattle.tier_model.proofs.BoundLaws.{Keeps}
 use Rattle.tier_model.proofs.EventLaws.{Holds}
 use Rattle.tier_model.proofs.RequestLaws.{RequestFits, Fits, Fits-after, IsRequestOf-fits}
 use Rattle.tier_model.proofs.HeadlineLaws.{IsRight-allowed}
@@ -39,51 +44,61 @@ none_past None = tt
 none_past (Some bound) = omega arith
 
 -- where no body is held no write is one
-none_held : (limit : ℕ) (mark : Option ℕ) (n : ℕ) (rows : List Tracked) (changes : Changes Kept) → Leaves limit mark n [] rows changes → (w : Write Kept) → IsBody w.key w changes → ⊥
-none_held limit mark n rows changes l w i = let there = (is_held limit mark n [] rows changes l w.key w i).1 in absurd cc
+none_held : (N n : ℕ) (m : Managed) (changes : Changes Kept) → Leaves N n [] m changes → (w : Write Kept) → IsBody w.key w changes → ⊥
+none_held N n m changes l w i = let there = (is_held N n [] m changes l w.key w i).1 in absurd cc
 
-none_within : (limit : ℕ) (mark : Option ℕ) (n : ℕ) (rows : List Tracked) (changes : Changes Kept) → Leaves limit mark n [] rows changes → AreWithin limit mark changes
-none_within limit mark n rows changes l [] d all = (omega arith, none_past mark)
-none_within limit mark n rows changes l (w ∷ ws) d all = absurd (none_held limit mark n rows changes l w all.0)
+none_within : (N n : ℕ) (m : Managed) (changes : Changes Kept) → Leaves N n [] m changes → AreWithin m.limit m.watermark changes
+none_within N n m changes l [] d all = (omega arith, none_past m.watermark)
+none_within N n m changes l (w ∷ ws) d all = absurd (none_held N n m changes l w all.0)
 
--- an order of use that was loaded
-loaded : (limit : ℕ) (mark : Option ℕ) (rows : List Tracked) → AreDistinct (rows_alone rows) → Leaves limit mark 0 [] rows (admissions (rows_alone rows))
-loaded limit mark [] d = record { orderly = tt; below = tt; landed = refl; bodies = λ k. refl; rows = refl; lawful = tt; tracks = tt; settled = refl }
-loaded limit mark (r ∷ rows) d =
-    let l : Leaves limit mark 0 [] rows (admissions (rows_alone rows)) = loaded limit mark rows d.1 in
+-- an order of use that was loaded, in other shards
+abbrev in_shards_of : (N : ℕ) (m : Managed) (rows : List Tracked) → Managed
+in_shards_of N m rows = record m { shards = in_shards N rows }
+
+loaded : (N : ℕ) (m : Managed) (rows : List Tracked) → 0 < N → AreDistinct rows → Leaves N 0 [] (in_shards_of N m rows) (admissions rows)
+loaded N m [] pos d =
+    record { orderly = tt; below = tt; landed = refl; bodies = λ k. refl; some = pos; rows = in_shards-are N []; lawful = tt; tracks = tt; settled = refl }
+loaded N m (r ∷ rows) pos d =
+    let l : Leaves N 0 [] (in_shards_of N m rows) (admissions rows) = loaded N m rows pos d.1 in
     record {
       orderly = (tt, l.orderly);
       below = (tt, l.below);
       landed = l.landed;
       bodies = l.bodies;
-      rows = sym (rows_of-admissions Kept (rows_alone (r ∷ rows)) d);
+      some = pos;
+      rows = subst (λ (x : List Tracked). AreShardsOf N (in_shards N (r ∷ rows)) x) (sym (rows_of-admissions Kept (r ∷ rows) d)) (in_shards-are N (r ∷ rows));
       lawful = l.lawful;
-      tracks = (unbound (admits (alone r.entry) r.weight) (admissions (rows_alone rows)) l.settled, λ w t i. absurd (none_held limit mark 0 rows (admissions (rows_alone rows)) l w i), l.tracks);
+      tracks = (unbound (admits r.entry r.weight) (admissions rows) l.settled, λ w t i. absurd (none_held N 0 (in_shards_of N m rows) (admissions rows) l w i), l.tracks);
       settled = refl;
     }
 
-opened : (start : Opening) → AreDistinct (rows_alone start.loaded) → Holds start (state_of start []) []
-opened start d =
-    let l = loaded start.settings.limit start.settings.watermark start.loaded d in
-    record { leaves = l; within = none_within start.settings.limit start.settings.watermark 0 start.loaded (admissions (rows_alone start.loaded)) l }
+made-loaded : (start : Opening) → IsMade start.settings (loaded_of start)
+made-loaded start = record { shards = (in_shards-are start.settings.shards start.loaded).count; limit = refl; watermark = refl }
+
+opened : (start : Opening) → 0 < start.settings.shards → AreDistinct start.loaded → Holds start (state_of start []) []
+opened start pos d =
+    let N : ℕ = start.settings.shards in
+    let l : Leaves N 0 [] (loaded_of start) (admissions start.loaded) = loaded N (fresh N start.settings.limit start.settings.watermark) start.loaded pos d in
+    subst (λ (n : ℕ). Keeps n 0 [] (loaded_of start) (admissions start.loaded)) (sym (made-loaded start).shards)
+    (record { leaves = l; within = none_within N 0 (loaded_of start) (admissions start.loaded) l })
 
 -- what a state is to the history after it
 pub record Stands (start : Opening) (s : State) (h : History) : Type 0 where
-  pub made : s.settings ≡ start.settings
+  pub made : IsMade start.settings s.managed
   pub fits : Fits start s h
   pub tallies : Tallies s h
 
 -- the state after a lawful history stands for it
 pub Stands-lawful : (start : Opening) (h : History) → IsLawful start h → Stands start (state_of start h) h
 Stands-lawful start [] l = record {
-  made = refl;
-  fits = record { requests = λ id. no_request start id (get (empty_state start.settings).requests id) (get-empty nat_cmp id); holds = opened start l };
+  made = made-loaded start;
+  fits = record { requests = λ id. no_request start id (get (empty_state start.settings).requests id) (get-empty nat_cmp id); holds = opened start l.0 l.1 };
   tallies = record { found = omega arith; absent = omega arith; evicted = omega arith; distinct = tt };
 }
 Stands-lawful start (c ∷ h) l =
     let past : Stands start (state_of start h) h = Stands-lawful start h l.1 in
     record {
-      made = settings-after (state_of start h) c ∙ past.made;
+      made = made-after (state_of start h) c start.settings past.made;
       fits = Fits-after start (state_of start h) c h past.fits l.0;
       tallies = Tallies-after (state_of start h) c h l.0 past.tallies;
     }
@@ -111,16 +126,27 @@ HoldsHeadline-lawful start h l =
     record {
       readings = readings-lawful start h l;
       answers = Headline-lawful start h l;
-      within = subst (λ (x : Settings). AreWithin x.limit x.watermark (changes_of start h)) past.made past.fits.holds.within;
+      within = subst (λ (x : ℕ). AreWithin x start.settings.watermark (changes_of start h)) past.made.limit
+          (subst (λ (x : Option ℕ). AreWithin (state_of start h).managed.limit x (changes_of start h)) past.made.watermark past.fits.holds.within);
       tracked = bodies-tracked (changes_of start h) past.fits.holds.leaves.orderly past.fits.holds.leaves.tracks past.fits.holds.leaves.settled;
-      evictions = subst (λ (x : Settings). EvictsLawfully shards x.limit x.watermark (changes_of start h)) past.made past.fits.holds.leaves.lawful;
+      evictions = lawfully (shards_of (state_of start h)) (state_of start h).managed.limit (state_of start h).managed.watermark past.made.shards past.made.limit past.made.watermark past.fits.holds.leaves.lawful;
     }
+  where
+    lawfully : (n limit : ℕ) (mark : Option ℕ) → n ≡ start.settings.shards → limit ≡ start.settings.limit → mark ≡ start.settings.watermark → EvictsLawfully n limit mark (changes_of start h)
+        → EvictsLawfully start.settings.shards start.settings.limit start.settings.watermark (changes_of start h)
+    lawfully n limit mark a b c l =
+        subst (λ (x : ℕ). EvictsLawfully x start.settings.limit start.settings.watermark (changes_of start h)) a
+        (subst (λ (x : ℕ). EvictsLawfully n x start.settings.watermark (changes_of start h)) b (subst (λ (x : Option ℕ). EvictsLawfully n limit x (changes_of start h)) c l))
+
+-- there is a shard
+start-some : (start : Opening) (h : History) (s : State) → Stands start s h → 0 < start.settings.shards
+start-some start h s past = subst (λ (n : ℕ). 0 < n) past.made.shards past.fits.holds.leaves.some
 
 -- the state after a lawful history is what it says
 MatchesHistory-lawful : (start : Opening) (s : State) (h : History) → Stands start s h → MatchesHistory s start h
 MatchesHistory-lawful start s h past = record {
-  bodies = all-held s.settings.limit s.settings.watermark (length h) s.bodies s.tracked (changes_of start h) past.fits.holds.leaves past.tallies.distinct;
-  order = in_order s.settings.limit s.settings.watermark (length h) s.bodies s.tracked (changes_of start h) past.fits.holds.leaves;
+  bodies = all-held (shards_of s) (length h) s.bodies s.managed (changes_of start h) past.fits.holds.leaves past.tallies.distinct;
+  order = (start-some start h s past, (rows_of (changes_of start h), IsOrderOfUse-rows_of (changes_of start h), subst (λ (n : ℕ). AreShardsOf n s.managed.shards (rows_of (changes_of start h))) past.made.shards past.fits.holds.leaves.rows));
   requests = λ id. IsRequestOf-fits start id (get s.requests id) h (past.fits.requests id);
   found = past.tallies.found;
   absent = past.tallies.absent;
@@ -138,8 +164,17 @@ HasPast-lawful start s h l e =
       matches = subst (λ (x : State). MatchesHistory x start h) (sym e) (MatchesHistory-lawful start (state_of start h) h past);
     }
 
-pub empty-past : (settings : Settings) → HasPast (empty_opening settings) (empty_state settings) []
-empty-past settings = HasPast-lawful (empty_opening settings) (empty_state settings) [] tt refl
+-- no rows in n shards
+empty-shards : (n : ℕ) → in_shards n [] ≡ replicate n []
+empty-shards n =
+    let a = in_shards-are n [] in
+    let b = AreShardsOf-none n in
+    ext_get_or [] (in_shards n []) (replicate n []) (a.count ∙ sym b.count) (λ i h. let inside : i < n = subst (λ (m : ℕ). i < m) a.count h in a.each i inside ∙ sym (b.each i inside))
+
+pub empty-past : (settings : Settings) → 0 < settings.shards → HasPast (empty_opening settings) (empty_state settings) []
+empty-past settings pos =
+    HasPast-lawful (empty_opening settings) (empty_state settings) [] (pos, tt)
+    (ap (λ (l : List (List Tracked)). record (empty_state settings) { managed = record (fresh settings.shards settings.limit settings.watermark) { shards = l } }) (sym (empty-shards settings.shards)))
 
 pub more_past : (start : Opening) (old : State) (past : History) (c : Call) (new : State) → Allows old c → new ≡ after old c → HasPast start old past → HasPast start new (c ∷ past)
 more_past start old past c new allowed is h =
@@ -159,5 +194,10 @@ IsReport-matches s start h m =
       absent = m.absent;
       evicted = m.evicted;
       bodies = (m.bodies.0, m.bodies.1, same.1, omega (arith, same.0));
-      tracked = (rows_alone s.tracked, m.order, sym (rows-length s.tracked), sym (rows-weights s.tracked));
+      tracked = (
+        m.order.1.0,
+        m.order.1.1,
+        length-shards start.settings.shards s.managed.shards m.order.1.0 m.order.0 m.order.1.2,
+        weights-shards start.settings.shards s.managed.shards m.order.1.0 m.order.0 m.order.1.2,
+      );
     }

@@ -1,42 +1,41 @@
 -- What changes leave is what a tier's state holds: change by change.
-use Rattle.std.proofs.Common.{◌≡◌, ℕ, ◌≤◌, suc, refl, ap, sym, ◌∙◌, true, false, subst, cond, [], ◌∷◌, length, arith}
+use Rattle.std.proofs.Common.{◌≡◌, ℕ, ◌≤◌, ◌<◌, suc, refl, ap, sym, ◌∙◌, true, false, subst, cond, [], ◌∷◌, length, arith}
 use Rattle.std.specs.Prelude.{Bool, List, Option, Some, None, option_map, is_some, map, find}
 use Rattle.std.specs.List.{AllByRecursion}
+use Rattle.std.proofs.Math.Nat.{le-max_right}
+use Rattle.cache_entries.specs.declared.entry.CacheEntryKey.{CacheEntryKey}
 use Rattle.cache_entries.specs.Keys.{same_bytes}
-use Rattle.cache_entries.specs.declared.rows.Tracked as entries
-use Rattle.cache_entries.specs.Rows as all
-use Rattle.cache_changes.specs.Changes.{StoredKey, Write, Change, Changes, begins, appends, finishes, removes, uses, evicts}
+use Rattle.cache_entries.specs.SameEntry.{same_bytes-tells}
+use Rattle.cache_changes.specs.Changes.{StoredKey, stored_key, key_alone, is_key, Write, Change, Changes, begins, appends, finishes, removes, admits, uses, departs, evicts}
 use Rattle.cache_changes.specs.Writes.{bytes_of, has_ended, BeginsBelow, IsOrderly, IsInFlight, IsAlive, IsFlying, IsFound, IsShown, IsBody}
-use Rattle.cache_changes.specs.Store.{Stored, Flying, Store, store_of, after, with_body, marked, body_at, shown_at, is_found_at, flying_at, stored_of, has_number, IsFlight}
+use Rattle.cache_changes.specs.Store.{Stored, Flying, Store, store_of, after, with_body, removed_from, marked, body_at, shown_at, is_found_at, flying_at, stored_of, has_number, IsFlight}
 use Rattle.cache_changes.specs.Bound.{SettlesAtOnce, TracksBodies, is_settled}
-use Rattle.cache_changes.specs.Uses.{rows_of, last_weight, IsOrderOfUse, EvictsLawfully}
+use Rattle.cache_changes.specs.Uses.{rows_of, EvictsLawfully, AreShardsOf}
 use Rattle.cache_changes.proofs.FoundLaws.{store_of-is}
+use Rattle.cache_changes.proofs.ManyShards.{AreShardsOf-after}
 use Rattle.cache_changes.proofs.UseLaws.{IsOrderOfUse-rows_of}
 use Rattle.cache_changes.proofs.WriteLaws.{same_number, fresh_end, all_begin_less}
-use Rattle.std.proofs.Math.Nat.{le-max_right}
-use Rattle.tier_entries.specs.Keys.{stored_key, same_key, has_key}
-use Rattle.tier_entries.proofs.KeyLaws.{same_key-tells}
-use Rattle.tier_entries.specs.declared.rows.Tracked.{Tracked}
-use Rattle.tier_entries.specs.Rows as alone_rows
-use Rattle.tier_entries.specs.Rows.{weight_of, without_row, without_rows, admitted, used, is_over}
+use Rattle.cache_evict.specs.Managed.{Managed, is_over, put_first, use_first, taken_out}
+use Rattle.cache_evict.specs.Managed as managed
 use Rattle.tier_model.specs.declared.state.FinishedBody.{FinishedBody}
-use Rattle.tier_model.specs.Keys.{Entry}
+use Rattle.tier_model.specs.Keys.{Entry, alone}
 use Rattle.tier_model.specs.Calls.{extended}
-use Rattle.tier_model.specs.Histories.{Kept, alone, rows_alone, kept_of, write_of, goes, stores, clears}
-use Rattle.tier_model.specs.Headline.{shards}
+use Rattle.tier_model.specs.Evictions.{gone, all_gone, GoInTurn}
+use Rattle.tier_model.specs.Histories.{Kept, kept_of, write_of, goes, stores, clears}
 use Rattle.tier_model.specs.Past.{held_of, told_of}
-use Rattle.tier_model.specs.Rows.{body_of, with_body as put_body, without_body, without_bodies, weight_for}
-use Rattle.tier_model.proofs.BodyLaws.{body_of-without, body_of-with, body_of-without_all, body_at-without, body_at-with, view, AreSame, both_gone, both_there}
-use Rattle.tier_model.proofs.RowSteps.{rows-without, rows-weight, rows-admitted, rows-used, rows-over, rows-last, AreLasts, taken_out}
+use Rattle.tier_model.specs.Rows.{body_of, with_body as put_body, without_body, without_key, without_bodies, weight_for}
+use Rattle.tier_model.proofs.BodyLaws.{has_key, body_of-without, body_of-without_key, body_of-with, body_of-without_all, body_at-without, body_at-with, view, AreSame, both_gone, both_there}
+use Rattle.tier_model.proofs.RowSteps.{over-rows, last-rows}
 
--- after n calls the changes leave these bodies, with none in flight, and these rows; what went went lawfully
-pub record Leaves (limit : ℕ) (mark : Option ℕ) (n : ℕ) (held : List FinishedBody) (tracked : List Tracked) (changes : Changes Kept) : Type 0 where
+-- after n calls the changes leave these bodies, with none in flight, and these N shards; what went went lawfully
+pub record Leaves (N n : ℕ) (held : List FinishedBody) (m : Managed) (changes : Changes Kept) : Type 0 where
   pub orderly : IsOrderly changes
   pub below : AllByRecursion (BeginsBelow n) changes
   pub landed : (store_of changes).flying ≡ []
   pub bodies : (k : StoredKey) → AreSame (body_of k held) (body_at k (store_of changes))
-  pub rows : rows_alone tracked ≡ rows_of changes
-  pub lawful : EvictsLawfully shards limit mark changes
+  pub some : 0 < N
+  pub rows : AreShardsOf N m.shards (rows_of changes)
+  pub lawful : EvictsLawfully N m.limit m.watermark changes
   pub tracks : TracksBodies changes
   pub settled : is_settled changes ≡ true
 
@@ -59,113 +58,113 @@ just_began w before = record { since = []; before = before; split = refl; flies 
 no_body : (j : StoredKey) (w : Write Kept) (changes : Changes Kept) → IsOrderly (removes j ∷ changes) → same_bytes j w.key ≡ true → IsBody w.key w (removes j ∷ changes) → ⊥
 no_body j w changes o t i =
     let there : body_at w.key (store_of (removes j ∷ changes)) ≡ Some (stored_of w (removes j ∷ changes)) = ((store_of-is (removes j ∷ changes) o).bodies w.key (stored_of w (removes j ∷ changes))).1 (i, refl) in
-    let none : body_at w.key (store_of (removes j ∷ changes)) ≡ None = body_at-without w.key j (store_of changes).bodies ∙ ap (λ v. cond v None (body_at w.key (store_of changes))) t in
+    let none : body_at w.key (store_of (removes j ∷ changes)) ≡ None = body_at-without w.key (Some j) (store_of changes).bodies ∙ ap (λ v. cond v None (body_at w.key (store_of changes))) t in
     absurd cc
 
-module _ (limit : ℕ) (mark : Option ℕ) where
-  pub leaves-later : (m n : ℕ) (bodies : List FinishedBody) (rows : List Tracked) (changes : Changes Kept) → m ≤ n → Leaves limit mark m bodies rows changes → Leaves limit mark n bodies rows changes
-  leaves-later m n bodies rows changes h l = record {
+module _ (N : ℕ) where
+  pub leaves-later : (i n : ℕ) (bodies : List FinishedBody) (m : Managed) (changes : Changes Kept) → i ≤ n → Leaves N i bodies m changes → Leaves N n bodies m changes
+  leaves-later i n bodies m changes h l = record {
     orderly = l.orderly;
-    below = all_begin_less m n changes h l.below;
+    below = all_begin_less i n changes h l.below;
     landed = l.landed;
     bodies = l.bodies;
+    some = l.some;
     rows = l.rows;
     lawful = l.lawful;
     tracks = l.tracks;
     settled = l.settled;
   }
 
-  -- other bodies and rows that are the same
-  leaves-same : (n : ℕ) (old new : List FinishedBody) (rows rows2 : List Tracked) (changes : Changes Kept)
-      → ((k : StoredKey) → body_of k new ≡ body_of k old) → rows2 ≡ rows → Leaves limit mark n old rows changes → Leaves limit mark n new rows2 changes
-  leaves-same n old new rows rows2 changes f e l = record {
+  -- other bodies that are the same
+  leaves-same : (n : ℕ) (old new : List FinishedBody) (m : Managed) (changes : Changes Kept) → ((k : StoredKey) → body_of k new ≡ body_of k old) → Leaves N n old m changes → Leaves N n new m changes
+  leaves-same n old new m changes f l = record {
     orderly = l.orderly;
     below = l.below;
     landed = l.landed;
     bodies = λ k. ap (option_map held_of) (f k) ∙ l.bodies k;
-    rows = ap rows_alone e ∙ l.rows;
+    some = l.some;
+    rows = l.rows;
     lawful = l.lawful;
     tracks = l.tracks;
     settled = l.settled;
   }
 
-  without_same : (j : StoredKey) (bodies : List FinishedBody) (s : Store Kept) → ((k : StoredKey) → AreSame (body_of k bodies) (body_at k s))
-      → (k : StoredKey) → AreSame (body_of k (without_body j bodies)) (body_at k (after (removes j) s))
+  without_same : (j : Option StoredKey) (bodies : List FinishedBody) (s : Store Kept) → ((k : StoredKey) → AreSame (body_of k bodies) (body_at k s))
+      → (k : StoredKey) → AreSame (body_of k (without_key j bodies)) (body_at k (removed_from j s))
   without_same j bodies s f k =
-      ap (option_map held_of) (body_of-without k j bodies) ∙ both_gone (same_key j k) (body_of k bodies) (body_at k s) (f k) ∙ sym (ap (option_map view) (body_at-without k j s.bodies))
+      ap (option_map held_of) (body_of-without_key k j bodies) ∙ both_gone (is_key k j) (body_of k bodies) (body_at k s) (f k) ∙ sym (ap (option_map view) (body_at-without k j s.bodies))
 
-  pub leaves-removed : (n : ℕ) (j : StoredKey) (bodies : List FinishedBody) (rows : List Tracked) (changes : Changes Kept)
-      → Leaves limit mark n bodies rows changes → Leaves limit mark n (without_body j bodies) rows (removes j ∷ changes)
-  leaves-removed n j bodies rows changes l = record {
+  pub leaves-removed : (n : ℕ) (j : StoredKey) (bodies : List FinishedBody) (m : Managed) (changes : Changes Kept)
+      → Leaves N n bodies m changes → Leaves N n (without_body j bodies) m (removes j ∷ changes)
+  leaves-removed n j bodies m changes l = record {
     orderly = (tt, l.orderly);
     below = (tt, l.below);
     landed = ap (map (marked (Some j))) l.landed;
-    bodies = without_same j bodies (store_of changes) l.bodies;
+    bodies = without_same (Some j) bodies (store_of changes) l.bodies;
+    some = l.some;
     rows = l.rows;
     lawful = l.lawful;
     tracks = (unbound (removes j) changes l.settled, tt, l.tracks);
     settled = refl;
   }
 
-  pub leaves-used : (n : ℕ) (e : Entry) (w : ℕ) (bodies : List FinishedBody) (rows : List Tracked) (changes : Changes Kept)
-      → Leaves limit mark n bodies rows changes → Leaves limit mark n bodies (used e w rows) (uses (alone e) w ∷ changes)
-  leaves-used n e w bodies rows changes l = record {
+  pub leaves-used : (n : ℕ) (e : CacheEntryKey) (w : ℕ) (bodies : List FinishedBody) (m : Managed) (changes : Changes Kept)
+      → Leaves N n bodies m changes → Leaves N n bodies (use_first N e w m) (uses e w ∷ changes)
+  leaves-used n e w bodies m changes l = record {
     orderly = (tt, l.orderly);
     below = (tt, l.below);
     landed = l.landed;
     bodies = l.bodies;
-    rows = rows-used e w rows ∙ ap (all.used (alone e) w) l.rows;
+    some = l.some;
+    rows = AreShardsOf-after {M = Kept} N (uses e w) e m.shards (rows_of changes) l.some refl l.rows;
     lawful = l.lawful;
-    tracks = (unbound (uses (alone e) w) changes l.settled, tt, l.tracks);
+    tracks = (unbound (uses e w) changes l.settled, tt, l.tracks);
     settled = refl;
   }
 
-  leaves-evicted : (n : ℕ) (e : Entry) (bodies : List FinishedBody) (rows : List Tracked) (changes : Changes Kept) → is_over limit mark rows ≡ true → alone_rows.IsLast e rows
-      → Leaves limit mark n bodies rows changes → Leaves limit mark n (without_body (stored_key e) bodies) (without_row e rows) (evicts (alone e) ∷ changes)
-  leaves-evicted n e bodies rows changes over last l = record {
+  leaves-evicted : (n : ℕ) (e : CacheEntryKey) (bodies : List FinishedBody) (m : Managed) (changes : Changes Kept) → is_over m ≡ true → managed.IsLast (managed.rows_of N e m) e
+      → Leaves N n bodies m changes → Leaves N n (without_key (key_alone e) bodies) (gone N e m) (evicts e ∷ changes)
+  leaves-evicted n e bodies m changes over last l = record {
     orderly = (tt, l.orderly);
     below = (tt, l.below);
-    landed = ap (map (marked (Some (stored_key e)))) l.landed;
-    bodies = without_same (stored_key e) bodies (store_of changes) l.bodies;
-    rows = rows-without e rows ∙ ap (all.without_row (alone e)) l.rows;
+    landed = ap (map (marked (key_alone e))) l.landed;
+    bodies = without_same (key_alone e) bodies (store_of changes) l.bodies;
+    some = l.some;
+    rows = AreShardsOf-after {M = Kept} N (evicts e) e m.shards (rows_of changes) l.some refl l.rows;
     lawful = (
-      record {
-        rows = rows_alone rows;
-        order = subst (λ (r : List entries.Tracked). IsOrderOfUse r changes) (sym l.rows) (IsOrderOfUse-rows_of changes);
-        over = rows-over limit mark rows ∙ over;
-        last = rows-last e rows last;
-      },
+      record { rows = rows_of changes; order = IsOrderOfUse-rows_of changes; over = over-rows N m (rows_of changes) l.some l.rows ∙ over; last = last-rows N e m (rows_of changes) l.some l.rows last },
       l.lawful,
     );
-    tracks = (unbound (evicts (alone e)) changes l.settled, tt, l.tracks);
+    tracks = (unbound (evicts e) changes l.settled, tt, l.tracks);
     settled = refl;
   }
 
-  pub leaves-gone : (n : ℕ) (es : List Entry) (bodies : List FinishedBody) (rows : List Tracked) (changes : Changes Kept) → AreLasts limit mark rows es
-      → Leaves limit mark n bodies rows changes → Leaves limit mark n (without_bodies es bodies) (without_rows es rows) (extended changes (goes es))
-  leaves-gone n [] bodies rows changes h l = l
-  leaves-gone n (e ∷ es) bodies rows changes h l =
-      leaves-gone n es (without_body (stored_key e) bodies) (without_row e rows) (evicts (alone e) ∷ changes) h.2 (leaves-evicted n e bodies rows changes h.0 h.1 l)
+  pub leaves-gone : (n : ℕ) (over : Bool) (es : List CacheEntryKey) (bodies : List FinishedBody) (m : Managed) (changes : Changes Kept) → GoInTurn N over es m
+      → Leaves N n bodies m changes → Leaves N n (without_bodies es bodies) (all_gone N es m) (extended changes (goes es))
+  leaves-gone n over [] bodies m changes h l = l
+  leaves-gone n over (e ∷ es) bodies m changes h l =
+      leaves-gone n over es (without_key (key_alone e) bodies) (gone N e m) (evicts e ∷ changes) h.2 (leaves-evicted n e bodies m changes h.0 h.1 l)
 
-  pub leaves-cleared : (n : ℕ) (e : Entry) (bodies : List FinishedBody) (rows : List Tracked) (changes : Changes Kept)
-      → Leaves limit mark n bodies rows changes → Leaves limit mark n (without_body (stored_key e) bodies) (without_row e rows) (extended changes (clears e))
-  leaves-cleared n e bodies rows changes l =
-      let r = leaves-removed n (stored_key e) bodies rows changes l in
+  pub leaves-cleared : (n : ℕ) (e : Entry) (bodies : List FinishedBody) (m : Managed) (changes : Changes Kept)
+      → Leaves N n bodies m changes → Leaves N n (without_body (stored_key e) bodies) (taken_out N (alone e) m) (extended changes (clears e))
+  leaves-cleared n e bodies m changes l =
+      let r = leaves-removed n (stored_key e) bodies m changes l in
       record {
         orderly = (tt, r.orderly);
         below = (tt, r.below);
         landed = r.landed;
         bodies = r.bodies;
-        rows = rows-without e rows ∙ ap (all.without_row (alone e)) l.rows;
+        some = r.some;
+        rows = AreShardsOf-after {M = Kept} N (departs (alone e)) (alone e) m.shards (rows_of changes) l.some refl l.rows;
         lawful = l.lawful;
         tracks = (tt, λ w t i. no_body (stored_key e) w changes r.orderly t i, r.tracks);
         settled = refl;
       }
 
   -- a body is written whole and its entry admitted
-  pub leaves-stored : (n : ℕ) (b : FinishedBody) (bodies : List FinishedBody) (rows : List Tracked) (changes : Changes Kept)
-      → Leaves limit mark n bodies rows changes → Leaves limit mark (suc n) (put_body b bodies) (admitted b.entry (weight_for b) rows) (extended changes (stores n b []))
-  leaves-stored n b bodies rows changes l =
+  pub leaves-stored : (n : ℕ) (b : FinishedBody) (bodies : List FinishedBody) (m : Managed) (changes : Changes Kept)
+      → Leaves N n bodies m changes → Leaves N (suc n) (put_body b bodies) (put_first N (alone b.entry) (weight_for b) m) (extended changes (stores n b []))
+  leaves-stored n b bodies m changes l =
       let w : Write Kept = write_of n b in
       let x : Stored Kept = record { write = w; meta = kept_of b; bytes = b.bytes } in
       let left = stored_whole w b.bytes (store_of changes) l.landed in
@@ -185,33 +184,33 @@ module _ (limit : ℕ) (mark : Option ℕ) where
         below = (tt, (tt, (tt, (omega arith, all_begin_less n (suc n) changes (omega arith) l.below))));
         landed = ap (λ (s : Store Kept). s.flying) left;
         bodies = λ k. ap (option_map held_of) (body_of-with k b bodies)
-            ∙ both_there (same_key (stored_key b.entry) k) b x (body_of k bodies) (body_at k (store_of changes)) refl (l.bodies k)
+            ∙ both_there (same_bytes (stored_key b.entry) k) b x (body_of k bodies) (body_at k (store_of changes)) refl (l.bodies k)
             ∙ sym (ap (option_map view) (ap (body_at k) left ∙ body_at-with k x (store_of changes).bodies));
-        rows = rows-admitted b.entry (weight_for b) rows ∙ ap (all.admitted (alone b.entry) (weight_for b)) l.rows;
+        some = l.some;
+        rows = AreShardsOf-after {M = Kept} N (admits (alone b.entry) (weight_for b)) (alone b.entry) m.shards (rows_of changes) l.some refl l.rows;
         lawful = l.lawful;
-        tracks = (same_key-tells.itself (stored_key b.entry), enough, (tt, tt, (tt, tt, (unbound (begins w) changes l.settled, tt, l.tracks))));
+        tracks = (same_bytes-tells.itself (stored_key b.entry), enough, (tt, tt, (tt, tt, (unbound (begins w) changes l.settled, tt, l.tracks))));
         settled = refl;
       }
 
   -- a body that is stored and taken back leaves what was there, without what went
-  pub leaves-back : (n : ℕ) (b : FinishedBody) (es : List Entry) (bodies : List FinishedBody) (rows : List Tracked) (changes : Changes Kept)
-      → Leaves limit mark (suc n) (without_bodies es (put_body b bodies)) (without_rows es (admitted b.entry (weight_for b) rows)) (extended changes (stores n b es))
-      → Leaves limit mark (suc n) (without_body (stored_key b.entry) (without_bodies es bodies)) (without_row b.entry (without_rows es rows)) (extended (extended changes (stores n b es)) (clears b.entry))
-  leaves-back n b es bodies rows changes l =
+  pub leaves-back : (n : ℕ) (b : FinishedBody) (es : List CacheEntryKey) (bodies : List FinishedBody) (m : Managed) (changes : Changes Kept)
+      → Leaves N (suc n) (without_bodies es (put_body b bodies)) m (extended changes (stores n b es))
+      → Leaves N (suc n) (without_body (stored_key b.entry) (without_bodies es bodies)) (taken_out N (alone b.entry) m) (extended (extended changes (stores n b es)) (clears b.entry))
+  leaves-back n b es bodies m changes l =
       leaves-same (suc n) (without_body (stored_key b.entry) (without_bodies es (put_body b bodies))) (without_body (stored_key b.entry) (without_bodies es bodies))
-      (without_row b.entry (without_rows es (admitted b.entry (weight_for b) rows))) (without_row b.entry (without_rows es rows))
-      (extended (extended changes (stores n b es)) (clears b.entry)) same (sym (taken_out b.entry (weight_for b) es rows))
-      (leaves-cleared (suc n) b.entry (without_bodies es (put_body b bodies)) (without_rows es (admitted b.entry (weight_for b) rows)) (extended changes (stores n b es)) l)
+      (taken_out N (alone b.entry) m) (extended (extended changes (stores n b es)) (clears b.entry)) same
+      (leaves-cleared (suc n) b.entry (without_bodies es (put_body b bodies)) m (extended changes (stores n b es)) l)
     where
-      gone : (v w : Bool) (o p : Option FinishedBody) → cond v None (cond w None o) ≡ cond v None (cond w None (cond v p o))
-      gone true w o p = refl
-      gone false w o p = refl
+      none : (v w : Bool) (o p : Option FinishedBody) → cond v None (cond w None o) ≡ cond v None (cond w None (cond v p o))
+      none true w o p = refl
+      none false w o p = refl
 
       same : (k : StoredKey) → body_of k (without_body (stored_key b.entry) (without_bodies es bodies)) ≡ body_of k (without_body (stored_key b.entry) (without_bodies es (put_body b bodies)))
       same k =
-          body_of-without k (stored_key b.entry) (without_bodies es bodies) ∙ ap (cond (same_key (stored_key b.entry) k) None) (body_of-without_all k es bodies)
-          ∙ gone (same_key (stored_key b.entry) k) (has_key k es) (body_of k bodies) (Some b)
-          ∙ sym (body_of-without k (stored_key b.entry) (without_bodies es (put_body b bodies)) ∙ ap (cond (same_key (stored_key b.entry) k) None) (body_of-without_all k es (put_body b bodies)
+          body_of-without k (stored_key b.entry) (without_bodies es bodies) ∙ ap (cond (same_bytes (stored_key b.entry) k) None) (body_of-without_all k es bodies)
+          ∙ none (same_bytes (stored_key b.entry) k) (has_key k es) (body_of k bodies) (Some b)
+          ∙ sym (body_of-without k (stored_key b.entry) (without_bodies es (put_body b bodies)) ∙ ap (cond (same_bytes (stored_key b.entry) k) None) (body_of-without_all k es (put_body b bodies)
           ∙ ap (cond (has_key k es) None) (body_of-with k b bodies)))
 
 -- ---- what the bodies that are left tell of writes
@@ -258,7 +257,7 @@ pub record Shows (k : StoredKey) (b : FinishedBody) (changes : Changes Kept) : T
   pub at : body_at k (store_of changes) ≡ Some (stored_of write changes)
   pub tells : told_of changes write ≡ held_of b
 
-module _ (limit : ℕ) (mark : Option ℕ) (n : ℕ) (bodies : List FinishedBody) (rows : List Tracked) (changes : Changes Kept) (l : Leaves limit mark n bodies rows changes) where
+module _ (N n : ℕ) (bodies : List FinishedBody) (m : Managed) (changes : Changes Kept) (l : Leaves N n bodies m changes) where
   pub none_in_flight : (k : StoredKey) (v : Write Kept) → IsFlying k v changes → ⊥
   none_in_flight k v f = none_flies k v changes l.orderly l.landed f
 
@@ -293,9 +292,3 @@ module _ (limit : ℕ) (mark : Option ℕ) (n : ℕ) (bodies : List FinishedBody
   is_held k w i =
       let at = ((store_of-is changes l.orderly).bodies k (stored_of w changes)).1 (i, refl) in
       held_back (body_of k bodies) (body_at k (store_of changes)) (stored_of w changes) at (l.bodies k)
-
-  pub weighs : (e : Entry) → last_weight (alone e) changes ≡ weight_of e rows
-  weighs e = sym ((IsOrderOfUse-rows_of changes).weights (alone e)) ∙ ap (all.weight_of (alone e)) (sym l.rows) ∙ rows-weight e rows
-
-  pub in_order : IsOrderOfUse (rows_alone rows) changes
-  in_order = subst (λ (r : List entries.Tracked). IsOrderOfUse r changes) (sym l.rows) (IsOrderOfUse-rows_of changes)

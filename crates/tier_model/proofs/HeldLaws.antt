@@ -1,15 +1,14 @@
 -- The bodies that a state holds are the writes that are bodies, each with what is told of it.
 use Rattle.std.proofs.Common.{◌≡◌, ℕ, ◌+◌, refl, ap, sym, ◌∙◌, true, false, subst, cond, [], ◌∷◌, length, arith}
-use Rattle.std.specs.Prelude.{Bool, List, Option, Some, map, find}
+use Rattle.std.specs.Prelude.{Bool, List, Some, map, find}
 use Rattle.std.specs.List.{AllByRecursion, sum_by}
 use Rattle.std.proofs.lemmas.List.Sums.{sum_by-cons}
 use Rattle.cache_entries.specs.Keys.{same_bytes}
-use Rattle.cache_changes.specs.Changes.{StoredKey, Write, Changes}
+use Rattle.cache_changes.specs.Changes.{StoredKey, stored_key, Write, Changes}
 use Rattle.cache_changes.specs.Writes.{bytes_of, IsBody}
 use Rattle.cache_changes.specs.Bound as writes
-use Rattle.tier_entries.specs.Keys.{stored_key, same_key}
-use Rattle.tier_entries.specs.declared.rows.Tracked.{Tracked}
-use Rattle.tier_entries.proofs.KeyLaws.{same_key-tells}
+use Rattle.cache_entries.specs.SameEntry.{same_bytes-tells}
+use Rattle.cache_evict.specs.Managed.{Managed}
 use Rattle.tier_model.specs.declared.state.FinishedBody.{FinishedBody}
 use Rattle.tier_model.specs.Histories.{Kept}
 use Rattle.tier_model.specs.Reports.{AreAllBodies}
@@ -34,7 +33,7 @@ sums changes (b ∷ bs) (w ∷ ws) e =
 sums changes [] (w ∷ ws) e = absurd cc
 sums changes (b ∷ bs) [] e = absurd cc
 
-module _ (limit : ℕ) (mark : Option ℕ) (n : ℕ) (bodies : List FinishedBody) (rows : List Tracked) (changes : Changes Kept) (l : Leaves limit mark n bodies rows changes) where
+module _ (N n : ℕ) (bodies : List FinishedBody) (m : Managed) (changes : Changes Kept) (l : Leaves N n bodies m changes) where
   -- each body with its write
   abbrev ArePairs : List FinishedBody → List (Write Kept) → Type 0
   ArePairs [] [] = Unit {0}
@@ -42,18 +41,18 @@ module _ (limit : ℕ) (mark : Option ℕ) (n : ℕ) (bodies : List FinishedBody
   ArePairs _ _ = ⊥
 
   one_key : (k : StoredKey) (w : Write Kept) → IsBody k w changes → w.key ≡ k
-  one_key k w i = same_key-tells.equal w.key k i.of_key
+  one_key k w i = same_bytes-tells.equal w.key k i.of_key
 
   with_writes : (ys : List FinishedBody) → AllByRecursion (λ b. body_of (stored_key b.entry) bodies ≡ Some b) ys → (ws : List (Write Kept)) × ArePairs ys ws
   with_writes [] h = ([], tt)
   with_writes (b ∷ bs) h =
-      let x = shows limit mark n bodies rows changes l (stored_key b.entry) b h.0 in
+      let x = shows N n bodies m changes l (stored_key b.entry) b h.0 in
       let rest = with_writes bs h.1 in
       (x.write ∷ rest.0, (x.body, sym x.tells, rest.1))
 
   -- one key each
   apart_writes : (j k : StoredKey) (ys : List FinishedBody) (ws : List (Write Kept)) → j ≡ k → ArePairs ys ws
-      → AllByRecursion (λ c. same_key (stored_key c.entry) j ≡ false) ys → AllByRecursion (λ v. same_bytes v.key k ≡ false) ws
+      → AllByRecursion (λ c. same_bytes (stored_key c.entry) j ≡ false) ys → AllByRecursion (λ v. same_bytes v.key k ≡ false) ws
   apart_writes j k [] [] e p h = tt
   apart_writes j k (b ∷ bs) (w ∷ ws) e p h =
       (ap (λ (x : StoredKey). same_bytes x k) (one_key (stored_key b.entry) w p.0) ∙ ap (same_bytes (stored_key b.entry)) (sym e) ∙ h.0, apart_writes j k bs ws e p.2 h.1)
@@ -82,15 +81,15 @@ module _ (limit : ℕ) (mark : Option ℕ) (n : ℕ) (bodies : List FinishedBody
   found_in : (k : StoredKey) (w : Write Kept) (b : FinishedBody) (ys : List FinishedBody) (ws : List (Write Kept)) → ArePairs ys ws → IsBody k w changes → body_of k ys ≡ Some b
       → find (λ v. same_bytes v.key k) ws ≡ Some w
   found_in k w b [] [] p i e = absurd cc
-  found_in k w b (y ∷ ys) (v ∷ ws) p i e = by_test (found_in k w b ys ws p.2 i) (same_key (stored_key y.entry) k) refl e
+  found_in k w b (y ∷ ys) (v ∷ ws) p i e = by_test (found_in k w b ys ws p.2 i) (same_bytes (stored_key y.entry) k) refl e
     where
-      key : same_bytes v.key k ≡ same_key (stored_key y.entry) k
+      key : same_bytes v.key k ≡ same_bytes (stored_key y.entry) k
       key = ap (λ (x : StoredKey). same_bytes x k) (one_key (stored_key y.entry) v p.0)
 
-      by_test : (body_of k ys ≡ Some b → find (λ v. same_bytes v.key k) ws ≡ Some w) → (t : Bool) → same_key (stored_key y.entry) k ≡ t → cond t (Some y) (body_of k ys) ≡ Some b → cond (same_bytes v.key k) (Some v) (find (λ v. same_bytes v.key k) ws) ≡ Some w
+      by_test : (body_of k ys ≡ Some b → find (λ v. same_bytes v.key k) ws ≡ Some w) → (t : Bool) → same_bytes (stored_key y.entry) k ≡ t → cond t (Some y) (body_of k ys) ≡ Some b → cond (same_bytes v.key k) (Some v) (find (λ v. same_bytes v.key k) ws) ≡ Some w
       by_test ih true f g =
           ap (λ t. cond t (Some v) (find (λ v. same_bytes v.key k) ws)) (key ∙ f)
-          ∙ ap (λ (x : Write Kept). Some x) (one_body k v w changes l.orderly (subst (λ (j : StoredKey). IsBody j v changes) (same_key-tells.equal (stored_key y.entry) k f) p.0) i)
+          ∙ ap (λ (x : Write Kept). Some x) (one_body k v w changes l.orderly (subst (λ (j : StoredKey). IsBody j v changes) (same_bytes-tells.equal (stored_key y.entry) k f) p.0) i)
       by_test ih false f g = ap (λ t. cond t (Some v) (find (λ v. same_bytes v.key k) ws)) (key ∙ f) ∙ ih g
   found_in k w b [] (v ∷ ws) p i e = absurd p
   found_in k w b (y ∷ ys) [] p i e = absurd p
@@ -99,5 +98,5 @@ module _ (limit : ℕ) (mark : Option ℕ) (n : ℕ) (bodies : List FinishedBody
   all-held d =
       let pairs = with_writes bodies (found_each bodies d) in
       let is_there : (k : StoredKey) (w : Write Kept) → IsBody k w changes → find (λ v. same_bytes v.key k) pairs.0 ≡ Some w =
-      λ k w i. let x = is_held limit mark n bodies rows changes l k w i in found_in k w x.0 bodies pairs.0 pairs.1 i x.1 in
+      λ k w i. let x = is_held N n bodies m changes l k w i in found_in k w x.0 bodies pairs.0 pairs.1 i x.1 in
       (pairs.0, record { distinct = distinct_writes bodies pairs.0 pairs.1 d; each = all_bodies bodies pairs.0 pairs.1; all = is_there }, all_told bodies pairs.0 pairs.1)

@@ -1,13 +1,14 @@
 pub mod Tables
 pub mod ResponseLaws
+pub mod KeyLaws
 pub mod BodyLaws
 pub mod RowSteps
 pub mod ChangeLaws
+pub mod BoundLaws
 pub mod StepLaws
 pub mod EventLaws
 pub mod RequestLaws
 pub mod HeadlineLaws
-pub mod BoundLaws
 pub mod ReportLaws
 pub mod HeldLaws
 pub mod Carried

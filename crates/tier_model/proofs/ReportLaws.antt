@@ -1,11 +1,14 @@
 -- A state's bodies have a key each, and its counts are those of the history.
-use Rattle.std.proofs.Common.{◌≡◌, ℕ, ◌+◌, refl, ap, sym, ◌∙◌, true, false, subst, cond, [], ◌∷◌, ◌++◌, length, arith}
+use Rattle.std.proofs.Common.{◌≡◌, ℕ, ◌+◌, refl, ap, sym, ◌∙◌, true, false, subst, cond, [], ◌∷◌, ◌++◌, length, arith, inl, inr}
 use Rattle.std.specs.Prelude.{Bool, List, Option, Some, None, is_some, not, Ok, Err, MatchOption}
 use Rattle.std.specs.List.{AllByRecursion}
 use Rattle.std.specs.FinMap.{get, insert}
 use Rattle.cache_words.specs.Time.{MomentValue}
 use Rattle.cache_words.specs.Key.{CacheKeyValue}
-use Rattle.tier_entries.specs.Keys.{entry_of, stored_key, same_key}
+use Rattle.cache_entries.specs.declared.entry.CacheEntryKey.{CacheEntryKey}
+use Rattle.cache_entries.specs.Keys.{same_bytes}
+use Rattle.cache_entries.specs.SameEntry.{same_bytes-tells, same-sym}
+use Rattle.cache_changes.specs.Changes.{StoredKey, stored_key, key_alone}
 use Rattle.tier_model.specs.declared.whole.Whole.{Whole}
 use Rattle.tier_model.specs.declared.whole.Whole.TheVariants.{Stored}
 use Rattle.tier_model.specs.declared.whole.Whole.TheVariants as whole
@@ -20,25 +23,25 @@ use Rattle.tier_model.specs.declared.event.Answer.TheVariants.{Opened, Bytes, En
 use Rattle.tier_model.specs.declared.event.Answer.TheVariants as answer
 use Rattle.tier_model.specs.declared.event.Done.{Done}
 use Rattle.tier_model.specs.declared.event.TierFault.{TierFault}
-use Rattle.tier_model.specs.Keys.{StoredKey, Entry, entries_of, stored_key_of}
+use Rattle.tier_model.specs.Keys.{alone, stored_key_of}
 use Rattle.tier_model.specs.Response.{Reading}
 use Rattle.tier_model.specs.Calls.{Call, History, Outcome, read_by, evicted_by, nothing_done, done_of}
 use Rattle.tier_model.specs.Reports.{found_answers, absent_answers, evictions, is_found, is_absent, shown}
-use Rattle.tier_model.specs.Rows.{body_of, with_body, without_body, without_bodies}
-use Rattle.tier_model.specs.State.{State}
-use Rattle.tier_model.specs.Step.{refusal, AllowsBy, Allows, IsAnswer, IsPutAnswer, after, answered, undone, taken_back, on_request, look_answer, after_look_up, read_answer, after_read, after_purge, after_put, use_is_too_heavy, body_for, counted}
-use Rattle.tier_entries.proofs.KeyLaws.{same_key-tells, same-sym}
-use Rattle.tier_model.proofs.StepLaws.{call_at, answer_allowed, did_nothing}
+use Rattle.tier_model.specs.Rows.{body_of, with_body, without_body, without_key, without_bodies, weight_for}
+use Rattle.tier_model.specs.State.{State, shards_of}
+use Rattle.tier_model.specs.Step.{refusal, AllowsBy, Allows, IsAnswer, IsPutAnswer, after, answered, undone, taken_back, on_request, look_answer, after_look_up, read_answer, after_read, after_purge, after_put, UseFits, body_for, counted, admitted, until, stored_alone, IsPutFault}
+use Rattle.tier_model.proofs.RowSteps.{gone-count}
+use Rattle.tier_model.proofs.StepLaws.{call_at, answer_allowed, did_nothing, kept_out-done}
 
 -- bodies of different stored keys
 abbrev pub HasDistinctKeys : List FinishedBody → Type 0
 HasDistinctKeys [] = Unit {0}
-HasDistinctKeys (b ∷ bs) = AllByRecursion (λ c. same_key (stored_key c.entry) (stored_key b.entry) ≡ false) bs × HasDistinctKeys bs
+HasDistinctKeys (b ∷ bs) = AllByRecursion (λ c. same_bytes (stored_key c.entry) (stored_key b.entry) ≡ false) bs × HasDistinctKeys bs
 
 -- distinct keys stay distinct
 all_without : (P : FinishedBody → Type 0) (k : StoredKey) (bodies : List FinishedBody) → AllByRecursion P bodies → AllByRecursion P (without_body k bodies)
 all_without P k [] all = tt
-all_without P k (b ∷ bs) all = by_key (same_key (stored_key b.entry) k) (all_without P k bs all.1)
+all_without P k (b ∷ bs) all = by_key (same_bytes (stored_key b.entry) k) (all_without P k bs all.1)
   where
     by_key : (v : Bool) → AllByRecursion P (without_body k bs) → AllByRecursion P (cond (not v) (b ∷ without_body k bs) (without_body k bs))
     by_key true rest = rest
@@ -46,30 +49,34 @@ all_without P k (b ∷ bs) all = by_key (same_key (stored_key b.entry) k) (all_w
 
 distinct_without : (k : StoredKey) (bodies : List FinishedBody) → HasDistinctKeys bodies → HasDistinctKeys (without_body k bodies)
 distinct_without k [] d = tt
-distinct_without k (b ∷ bs) d = by_key (same_key (stored_key b.entry) k) (distinct_without k bs d.1)
+distinct_without k (b ∷ bs) d = by_key (same_bytes (stored_key b.entry) k) (distinct_without k bs d.1)
   where
     by_key : (v : Bool) → HasDistinctKeys (without_body k bs) → HasDistinctKeys (cond (not v) (b ∷ without_body k bs) (without_body k bs))
     by_key true rest = rest
-    by_key false rest = (all_without (λ c. same_key (stored_key c.entry) (stored_key b.entry) ≡ false) k bs d.0, rest)
+    by_key false rest = (all_without (λ c. same_bytes (stored_key c.entry) (stored_key b.entry) ≡ false) k bs d.0, rest)
 
-distinct_without_all : (es : List Entry) (bodies : List FinishedBody) → HasDistinctKeys bodies → HasDistinctKeys (without_bodies es bodies)
+distinct_without_key : (k : Option StoredKey) (bodies : List FinishedBody) → HasDistinctKeys bodies → HasDistinctKeys (without_key k bodies)
+distinct_without_key None bodies d = d
+distinct_without_key (Some k) bodies d = distinct_without k bodies d
+
+distinct_without_all : (es : List CacheEntryKey) (bodies : List FinishedBody) → HasDistinctKeys bodies → HasDistinctKeys (without_bodies es bodies)
 distinct_without_all [] bodies d = d
-distinct_without_all (e ∷ es) bodies d = distinct_without_all es (without_body (stored_key e) bodies) (distinct_without (stored_key e) bodies d)
+distinct_without_all (e ∷ es) bodies d = distinct_without_all es (without_key (key_alone e) bodies) (distinct_without_key (key_alone e) bodies d)
 
 all_and : (P : FinishedBody → Type 0) (x : FinishedBody) (bodies : List FinishedBody) → AllByRecursion P bodies → P x → AllByRecursion P (bodies ++ x ∷ [])
 all_and P x [] all p = (p, tt)
 all_and P x (b ∷ bs) all p = (all.0, all_and P x bs all.1 p)
 
-distinct_end : (x : FinishedBody) (bodies : List FinishedBody) → HasDistinctKeys bodies → AllByRecursion (λ c. same_key (stored_key c.entry) (stored_key x.entry) ≡ false) bodies → HasDistinctKeys (bodies ++ x ∷ [])
+distinct_end : (x : FinishedBody) (bodies : List FinishedBody) → HasDistinctKeys bodies → AllByRecursion (λ c. same_bytes (stored_key c.entry) (stored_key x.entry) ≡ false) bodies → HasDistinctKeys (bodies ++ x ∷ [])
 distinct_end x [] d all = (tt, tt)
-distinct_end x (b ∷ bs) d all = (all_and (λ c. same_key (stored_key c.entry) (stored_key b.entry) ≡ false) x bs d.0 (same-sym same_key same_key-tells (stored_key x.entry) (stored_key b.entry) ∙ all.0), distinct_end x bs d.1 all.1)
+distinct_end x (b ∷ bs) d all = (all_and (λ c. same_bytes (stored_key c.entry) (stored_key b.entry) ≡ false) x bs d.0 (same-sym same_bytes same_bytes-tells (stored_key x.entry) (stored_key b.entry) ∙ all.0), distinct_end x bs d.1 all.1)
 
-none_left : (k : StoredKey) (bodies : List FinishedBody) → AllByRecursion (λ c. same_key (stored_key c.entry) k ≡ false) (without_body k bodies)
+none_left : (k : StoredKey) (bodies : List FinishedBody) → AllByRecursion (λ c. same_bytes (stored_key c.entry) k ≡ false) (without_body k bodies)
 none_left k [] = tt
-none_left k (b ∷ bs) = by_key (same_key (stored_key b.entry) k) refl (none_left k bs)
+none_left k (b ∷ bs) = by_key (same_bytes (stored_key b.entry) k) refl (none_left k bs)
   where
-    by_key : (v : Bool) → same_key (stored_key b.entry) k ≡ v → AllByRecursion (λ c. same_key (stored_key c.entry) k ≡ false) (without_body k bs)
-        → AllByRecursion (λ c. same_key (stored_key c.entry) k ≡ false) (cond (not v) (b ∷ without_body k bs) (without_body k bs))
+    by_key : (v : Bool) → same_bytes (stored_key b.entry) k ≡ v → AllByRecursion (λ c. same_bytes (stored_key c.entry) k ≡ false) (without_body k bs)
+        → AllByRecursion (λ c. same_bytes (stored_key c.entry) k ≡ false) (cond (not v) (b ∷ without_body k bs) (without_body k bs))
     by_key true e rest = rest
     by_key false e rest = (e, rest)
 
@@ -79,25 +86,25 @@ distinct_with x bodies d = distinct_end x (without_body (stored_key x.entry) bod
 -- each of distinct bodies is found by its key
 pub found_each : (bodies : List FinishedBody) → HasDistinctKeys bodies → AllByRecursion (λ b. body_of (stored_key b.entry) bodies ≡ Some b) bodies
 found_each [] d = tt
-found_each (x ∷ xs) d = (ap (λ v. cond v (Some x) (body_of (stored_key x.entry) xs)) (same_key-tells.itself (stored_key x.entry)), others xs (found_each xs d.1) d.0)
+found_each (x ∷ xs) d = (ap (λ v. cond v (Some x) (body_of (stored_key x.entry) xs)) (same_bytes-tells.itself (stored_key x.entry)), others xs (found_each xs d.1) d.0)
   where
-    others : (ys : List FinishedBody) → AllByRecursion (λ b. body_of (stored_key b.entry) xs ≡ Some b) ys → AllByRecursion (λ c. same_key (stored_key c.entry) (stored_key x.entry) ≡ false) ys
+    others : (ys : List FinishedBody) → AllByRecursion (λ b. body_of (stored_key b.entry) xs ≡ Some b) ys → AllByRecursion (λ c. same_bytes (stored_key c.entry) (stored_key x.entry) ≡ false) ys
         → AllByRecursion (λ b. body_of (stored_key b.entry) (x ∷ xs) ≡ Some b) ys
     others [] found apart = tt
-    others (y ∷ ys) found apart = (ap (λ v. cond v (Some x) (body_of (stored_key y.entry) xs)) (same-sym same_key same_key-tells (stored_key x.entry) (stored_key y.entry) ∙ apart.0) ∙ found.0, others ys found.1 apart.1)
+    others (y ∷ ys) found apart = (ap (λ v. cond v (Some x) (body_of (stored_key y.entry) xs)) (same-sym same_bytes same_bytes-tells (stored_key x.entry) (stored_key y.entry) ∙ apart.0) ∙ found.0, others ys found.1 apart.1)
 
 -- the counts of a state are those of its history
 pub record Tallies (s : State) (h : History) : Type 0 where
   pub found : s.found ≡ shown (found_answers h)
   pub absent : s.absent ≡ shown (absent_answers h)
-  pub evicted : s.evicted ≡ shown (evictions h)
+  pub evicted : s.managed.evicted_items ≡ shown (evictions h)
   pub distinct : HasDistinctKeys s.bodies
 
 more_shown : (n m k : ℕ) → n ≡ shown m → counted n k ≡ shown (m + k)
 more_shown n m k e = rw e (omega arith)
 
 -- a call that counts nothing
-uncounted : (s new : State) (c : Call) (h : History) → new.found ≡ s.found → new.absent ≡ s.absent → new.evicted ≡ s.evicted → HasDistinctKeys new.bodies
+uncounted : (s new : State) (c : Call) (h : History) → new.found ≡ s.found → new.absent ≡ s.absent → new.managed.evicted_items ≡ s.managed.evicted_items → HasDistinctKeys new.bodies
     → is_found c.outcome ≡ false → is_absent c.outcome ≡ false → evicted_by c.outcome ≡ [] → Tallies s h → Tallies new (c ∷ h)
 uncounted s new c h f a e d nf na ne t = record {
   found = f ∙ t.found ∙ ap (λ v. shown (cond v (found_answers h + 1) (found_answers h))) (sym nf);
@@ -122,7 +129,7 @@ look_tally s t read i q (Some b) a h e tally = subst (λ (y : Answer). Tallies (
 })
 
 request_tally : (s : State) (t : MomentValue) (read : Option Reading) (i : ℕ) (a : Answer) (h : History) (o : Option Request)
-    → MatchOption o ⊥ (λ q. (a ≡ look_answer t (body_for q s.bodies)) × (use_is_too_heavy q.entry (body_for q s.bodies) s.tracked ≡ false))
+    → MatchOption o ⊥ (λ q. (a ≡ look_answer t (body_for q s.bodies)) × UseFits s q)
     → Tallies s h → Tallies (on_request s o (λ q. after_look_up s t i q (body_for q s.bodies))) (call_at t (LookUp i) read (Ok a) ∷ h)
 request_tally s t read i a h None p tally = absurd p
 request_tally s t read i a h (Some q) p tally = look_tally s t read i q (body_for q s.bodies) a h p.0 tally
@@ -151,8 +158,8 @@ put_tally : (s : State) (t : MomentValue) (read : Option Reading) (g : Option Wh
 put_tally s t read (Some (Stored b)) key pieces (Finished n es) h p tally = record {
   found = tally.found;
   absent = tally.absent;
-  evicted = more_shown s.evicted (evictions h) (length (entries_of es)) tally.evicted;
-  distinct = distinct_without_all (entries_of es) (with_body b s.bodies) (distinct_with b s.bodies tally.distinct);
+  evicted = gone-count (shards_of s) (evictions h) es (admitted s b) tally.evicted;
+  distinct = distinct_without_all es (with_body b s.bodies) (distinct_with b s.bodies tally.distinct);
 }
 put_tally s t read (Some (whole.Uncacheable reason)) key pieces (answer.Uncacheable shown) h p tally =
     uncounted s s (call_at t (Put key pieces) read (Ok (answer.Uncacheable shown))) h refl refl refl tally.distinct refl refl refl tally
@@ -176,29 +183,62 @@ answer_tally s t read g (Purge key) a h p tally =
     subst (λ (y : Answer). Tallies (answered s t (Purge key) g y) (call_at t (Purge key) read (Ok y) ∷ h)) (sym p) (purge_tally s t read key h (is_some (body_of (stored_key_of key) s.bodies)) tally)
 answer_tally s t read g (Put key pieces) a h p tally = put_tally s t read g key pieces a h p tally
 
--- a put's fault that had stored, and one that had not
-back_tally : (v : Bool) (s : State) (t : MomentValue) (read : Option Reading) (key : CacheKeyValue) (pieces : List (List ℕ)) (f : TierFault) (h : History) → (done_of f).stored ≡ v
-    → Tallies s h → Tallies (taken_back v s (entry_of key) (entries_of (done_of f).evicted)) (call_at t (Put key pieces) read (Err f) ∷ h)
-back_tally false s t read key pieces f h e tally =
-    uncounted s s (call_at t (Put key pieces) read (Err f)) h refl refl refl tally.distinct refl refl (ap (λ v. cond v (entries_of (done_of f).evicted) []) e) tally
-back_tally true s t read key pieces f h e tally = record {
-  found = tally.found;
-  absent = tally.absent;
-  evicted = more_shown s.evicted (evictions h) (length (entries_of (done_of f).evicted)) tally.evicted ∙ ap (λ v. shown (evictions h + length (cond v (entries_of (done_of f).evicted) []))) (sym e);
-  distinct = distinct_without (stored_key_of key) (without_bodies (entries_of (done_of f).evicted) s.bodies) (distinct_without_all (entries_of (done_of f).evicted) s.bodies tally.distinct);
-}
+-- a refused put that had stored nothing, and one that had
+quiet_evicts : (done : Done) → done ≡ nothing_done → cond done.stored done.evicted [] ≡ []
+quiet_evicts done e = subst (λ (d : Done). cond d.stored d.evicted [] ≡ []) (sym e) refl
 
-quiet_evicts : (done : Done) → done ≡ nothing_done → cond done.stored (entries_of done.evicted) [] ≡ []
-quiet_evicts done e = subst (λ (d : Done). cond d.stored (entries_of d.evicted) [] ≡ []) (sym e) refl
+quiet_undone : (s : State) (g : Option Whole) (done : Done) → done ≡ nothing_done → undone s g done ≡ s
+quiet_undone s (Some (Stored b)) done e = rw e refl
+quiet_undone s (Some whole.Incomplete) done e = refl
+quiet_undone s (Some whole.BadHead) done e = refl
+quiet_undone s (Some whole.BeforeEpoch) done e = refl
+quiet_undone s (Some (whole.Uncacheable reason)) done e = refl
+quiet_undone s None done e = refl
+
+quiet_tally : (s : State) (t : MomentValue) (read : Option Reading) (g : Option Whole) (action : Action) (f : TierFault) (h : History) → done_of f ≡ nothing_done → Tallies s h
+    → Tallies (undone s g (done_of f)) (call_at t action read (Err f) ∷ h)
+quiet_tally s t read g action f h d tally =
+    subst (λ (x : State). Tallies x (call_at t action read (Err f) ∷ h)) (sym (quiet_undone s g (done_of f) d))
+    (uncounted s s (call_at t action read (Err f)) h refl refl refl tally.distinct refl refl (quiet_evicts (done_of f) d) tally)
+
+until_count : (v : Bool) (s : State) (b : FinishedBody) → (until v s b).evicted_items ≡ s.managed.evicted_items
+until_count false s b = refl
+until_count true s b = refl
+
+back_tally : (s : State) (t : MomentValue) (read : Option Reading) (b : FinishedBody) (action : Action) (f : TierFault) (h : History) → (done_of f).stored ≡ true → Tallies s h
+    → Tallies (undone s (Some (Stored b)) (done_of f)) (call_at t action read (Err f) ∷ h)
+back_tally s t read b action f h stored tally =
+    subst (λ (v : Bool). Tallies (taken_back v s b (done_of f)) (call_at t action read (Err f) ∷ h)) (sym stored) (record {
+      found = tally.found;
+      absent = tally.absent;
+      evicted = gone-count (shards_of s) (evictions h) (done_of f).evicted (until (done_of f).admitted s b) (until_count (done_of f).admitted s b ∙ tally.evicted)
+          ∙ ap (λ (v : Bool). shown (evictions h + length (cond v (done_of f).evicted []))) (sym stored);
+      distinct = distinct_without (stored_key b.entry) (without_bodies (done_of f).evicted s.bodies) (distinct_without_all (done_of f).evicted s.bodies tally.distinct);
+    })
+
+put_fault_tally : (s : State) (t : MomentValue) (read : Option Reading) (g : Option Whole) (action : Action) (f : TierFault) (h : History) → IsPutFault s g f → Tallies s h
+    → Tallies (undone s g (done_of f)) (call_at t action read (Err f) ∷ h)
+put_fault_tally s t read (Some (Stored b)) action f h p tally = elim p [
+  | inl out ↦ back_tally s t read b action f h (ap (λ (d : Done). d.stored) (kept_out-done s (alone b.entry) (weight_for b) stored_alone f out)) tally
+  | inr cut ↦ back_tally s t read b action f h (ap (λ (x : TierFault). (done_of x).stored) cut.1) tally
+]
+put_fault_tally s t read (Some whole.Incomplete) action f h p tally = quiet_tally s t read (Some whole.Incomplete) action f h (ap done_of p) tally
+put_fault_tally s t read (Some whole.BadHead) action f h p tally = quiet_tally s t read (Some whole.BadHead) action f h (ap done_of p) tally
+put_fault_tally s t read (Some whole.BeforeEpoch) action f h p tally = quiet_tally s t read (Some whole.BeforeEpoch) action f h (ap done_of p) tally
+put_fault_tally s t read (Some (whole.Uncacheable reason)) action f h p tally = absurd p
+put_fault_tally s t read None action f h p tally = absurd p
 
 fault_tally : (s : State) (t : MomentValue) (read : Option Reading) (g : Option Whole) (action : Action) (f : TierFault) (h : History) → AllowsBy (refusal s action) s t action g (Err f) → Tallies s h
-    → Tallies (undone s action (done_of f)) (call_at t action read (Err f) ∷ h)
-fault_tally s t read g (Open i key) f h p tally = uncounted s s (call_at t (Open i key) read (Err f)) h refl refl refl tally.distinct refl refl (quiet_evicts (done_of f) (did_nothing s t g (Open i key) f p refl)) tally
-fault_tally s t read g (LookUp i) f h p tally = uncounted s s (call_at t (LookUp i) read (Err f)) h refl refl refl tally.distinct refl refl (quiet_evicts (done_of f) (did_nothing s t g (LookUp i) f p refl)) tally
-fault_tally s t read g (Read i) f h p tally = uncounted s s (call_at t (Read i) read (Err f)) h refl refl refl tally.distinct refl refl (quiet_evicts (done_of f) (did_nothing s t g (Read i) f p refl)) tally
-fault_tally s t read g (Drop i) f h p tally = uncounted s s (call_at t (Drop i) read (Err f)) h refl refl refl tally.distinct refl refl (quiet_evicts (done_of f) (did_nothing s t g (Drop i) f p refl)) tally
-fault_tally s t read g (Purge key) f h p tally = uncounted s s (call_at t (Purge key) read (Err f)) h refl refl refl tally.distinct refl refl (quiet_evicts (done_of f) (did_nothing s t g (Purge key) f p refl)) tally
-fault_tally s t read g (Put key pieces) f h p tally = back_tally (done_of f).stored s t read key pieces f h refl tally
+    → Tallies (undone s g (done_of f)) (call_at t action read (Err f) ∷ h)
+fault_tally s t read g (Open i key) f h p tally = quiet_tally s t read g (Open i key) f h (did_nothing s t g (Open i key) f p refl) tally
+fault_tally s t read g (LookUp i) f h p tally = quiet_tally s t read g (LookUp i) f h (did_nothing s t g (LookUp i) f p refl) tally
+fault_tally s t read g (Read i) f h p tally = quiet_tally s t read g (Read i) f h (did_nothing s t g (Read i) f p refl) tally
+fault_tally s t read g (Drop i) f h p tally = quiet_tally s t read g (Drop i) f h (did_nothing s t g (Drop i) f p refl) tally
+fault_tally s t read g (Purge key) f h p tally = quiet_tally s t read g (Purge key) f h (did_nothing s t g (Purge key) f p refl) tally
+fault_tally s t read g (Put key pieces) f h p tally = elim p [
+  | inl m ↦ quiet_tally s t read g (Put key pieces) f h (ap done_of m.0) tally
+  | inr x ↦ put_fault_tally s t read g (Put key pieces) f h x tally
+]
 
 -- each lawful call keeps the counts
 pub Tallies-after : (s : State) (c : Call) (h : History) → Allows s c → Tallies s h → Tallies (after s c) (c ∷ h)

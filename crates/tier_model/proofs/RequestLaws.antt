@@ -7,10 +7,10 @@ use Rattle.std.specs.Cmp.{unsigned_tied}
 use Rattle.std.proofs.lemmas.Cmp.{nat_cmp_total, eq_by_cmp_equiv}
 use Rattle.std.proofs.lemmas.Bool.{eqb-true, eq-eqb}
 use Rattle.cache_words.specs.Time.{MomentValue, at_most}
-use Rattle.cache_changes.specs.Changes.{Write}
+use Rattle.cache_changes.specs.Changes.{stored_key, Write}
 use Rattle.cache_changes.specs.Writes.{bytes_of}
-use Rattle.tier_entries.specs.Keys.{entry_of, stored_key}
-use Rattle.tier_model.specs.Keys.{stored_key_of}
+use Rattle.cache_entries.specs.Entry.{key_of}
+use Rattle.tier_model.specs.Keys.{Entry, entry_of, alone, stored_key_of}
 use Rattle.tier_model.specs.declared.whole.Whole.{Whole}
 use Rattle.tier_model.specs.declared.state.FinishedBody.{FinishedBody}
 use Rattle.tier_model.specs.declared.state.Request.{Request}
@@ -29,9 +29,9 @@ use Rattle.tier_model.specs.Calls.{Call, History, Outcome, read_by, opened_for, 
 use Rattle.tier_model.specs.Histories.{Kept, Opening, changes_of, HasHit}
 use Rattle.tier_model.specs.Requests.{phase_after, phase_of, reader_after, reader_of, HasFound, IsRequestOf}
 use Rattle.tier_model.specs.Rows.{body_of}
-use Rattle.tier_model.specs.State.{Settings, State}
-use Rattle.tier_model.specs.Step.{refusal, unless_open, has_reader, AllowsBy, Allows, IsAnswer, after, answered, undone, opened_request, look_answer, looked, after_look_up, on_request, read_answer, after_read, after_purge, after_put, use_is_too_heavy, body_for}
-use Rattle.tier_model.proofs.StepLaws.{call_at, answer_allowed, KeepsRequests-purge, KeepsRequests-put, KeepsRequests-undone, settings-after}
+use Rattle.tier_model.specs.State.{State, shards_of}
+use Rattle.tier_model.specs.Step.{refusal, unless_open, has_reader, AllowsBy, Allows, IsAnswer, after, answered, undone, opened_request, look_answer, looked, after_look_up, on_request, read_answer, after_read, after_purge, after_put, UseFits, body_for}
+use Rattle.tier_model.proofs.StepLaws.{call_at, answer_allowed, KeepsRequests-purge, KeepsRequests-put, KeepsRequests-undone, made-after}
 use Rattle.tier_model.proofs.ChangeLaws.{Shows, shows}
 use Rattle.tier_model.proofs.BoundLaws.{Keeps}
 use Rattle.tier_model.proofs.EventLaws.{Holds, Holds-after}
@@ -43,9 +43,13 @@ module _ (start : Opening) where
   ReaderFits id (Unread bytes) h = (w : Write Kept) × (since : History) × (hit : HasHit start id w since h) × (bytes_read id since ≡ []) × (bytes ≡ bytes_of w.number (changes_of start hit.before))
   ReaderFits id Spent h = (w : Write Kept) × (since : History) × (hit : HasHit start id w since h) × (bytes_read id since ≡ bytes_of w.number (changes_of start hit.before))
 
+  -- a request is of that entry, which has no id
+  abbrev pub IsFor : Request → Option Entry → Type 0
+  IsFor q opened = (opened ≡ Some (key_of q.entry)) × (q.entry ≡ alone (key_of q.entry))
+
   abbrev pub RequestFits : ℕ → Option Request → History → Type 0
   RequestFits id None h = opened_for id h ≡ None
-  RequestFits id (Some q) h = (opened_for id h ≡ Some q.entry) × ReaderFits id q.reader h × (q.phase ≡ phase_of id h) × ((bytes : List ℕ) × (q.reader ≡ reader_of id bytes h))
+  RequestFits id (Some q) h = IsFor q (opened_for id h) × ReaderFits id q.reader h × (q.phase ≡ phase_of id h) × ((bytes : List ℕ) × (q.reader ≡ reader_of id bytes h))
 
   -- a reader that is unread has the bytes that the last look-up found
   found-unread : (id : ℕ) (r : Reader) (h : History) (bytes : List ℕ) → ReaderFits id r h → r ≡ Unread bytes → HasFound start id bytes h
@@ -55,7 +59,7 @@ module _ (start : Opening) where
 
   pub IsRequestOf-fits : (id : ℕ) (o : Option Request) (h : History) → RequestFits id o h → MatchOption o (opened_for id h ≡ None) (λ q. IsRequestOf start id q h)
   IsRequestOf-fits id None h fits = fits
-  IsRequestOf-fits id (Some q) h fits = record { entry = fits.0; phase = fits.2; reader = (fits.3.0, fits.3.1, found-unread id q.reader h fits.3.0 fits.1) }
+  IsRequestOf-fits id (Some q) h fits = record { key = fits.0.0; entry = fits.0.1; phase = fits.2; reader = (fits.3.0, fits.3.1, found-unread id q.reader h fits.3.0 fits.1) }
 
   -- a call that doesn't concern a request
   pub record IsOther (id : ℕ) (c : Call) (h : History) : Type 0 where
@@ -95,7 +99,7 @@ module _ (start : Opening) where
   pub other_request : (id : ℕ) (o : Option Request) (c : Call) (h : History) → IsOther id c h → RequestFits id o h → RequestFits id o (c ∷ h)
   other_request id None c h o fits = o.key ∙ fits
   other_request id (Some q) c h o fits =
-      (o.key ∙ fits.0, other_reader id q.reader c h o fits.1, fits.2 ∙ sym (o.phase (phase_of id h)), (fits.3.0, fits.3.1 ∙ sym (o.left fits.3.0 (reader_of id fits.3.0 h))))
+      ((o.key ∙ fits.0.0, fits.0.1), other_reader id q.reader c h o fits.1, fits.2 ∙ sym (o.phase (phase_of id h)), (fits.3.0, fits.3.1 ∙ sym (o.left fits.3.0 (reader_of id fits.3.0 h))))
 
   -- the open requests after an edit
   at-insert : (m : FinMap nat_cmp Request) (i : ℕ) (q : Request) (id : ℕ) → get (insert m i q) id ≡ cond (i == id) (Some q) (get m id)
@@ -134,23 +138,23 @@ module _ (start : Opening) where
   of_request s h fits i q e = subst (λ (o : Option Request). RequestFits i o h) e (fits.requests i)
 
   -- what a complete hit showed is what the reader has
-  found_reader : (t : MomentValue) (read : Option Reading) (i : ℕ) (q : Request) (b : FinishedBody) (fresh : Bool) (h : History) → opened_for i h ≡ Some q.entry → Shows (stored_key q.entry) b (changes_of start h)
+  found_reader : (t : MomentValue) (read : Option Reading) (i : ℕ) (q : Request) (b : FinishedBody) (fresh : Bool) (h : History) → opened_for i h ≡ Some (key_of q.entry) → Shows (stored_key (key_of q.entry)) b (changes_of start h)
       → ReaderFits i (Unread b.bytes) (call_at t (LookUp i) read (Ok (Found fresh true)) ∷ h)
   found_reader t read i q b fresh h key x = (
     x.write,
     [],
-    record { call = call_at t (LookUp i) read (Ok (Found fresh true)); before = h; entry = q.entry; split = refl; hit = ap (λ v. v && true) (itself i); of_entry = key; shows = x.shown; last = tt },
+    record { call = call_at t (LookUp i) read (Ok (Found fresh true)); before = h; entry = key_of q.entry; split = refl; hit = ap (λ v. v && true) (itself i); of_entry = key; shows = x.shown; last = tt },
     refl,
     sym (ap (λ (p : Kept × List ℕ). p.1) x.tells),
   )
 
   look_fits : (s : State) (t : MomentValue) (read : Option Reading) (i : ℕ) (a : Answer) (h : History) (o : Option Request) → Fits s h → get s.requests i ≡ o
-      → MatchOption o ⊥ (λ q. (a ≡ look_answer t (body_for q s.bodies)) × (use_is_too_heavy q.entry (body_for q s.bodies) s.tracked ≡ false))
+      → MatchOption o ⊥ (λ q. (a ≡ look_answer t (body_for q s.bodies)) × UseFits s q)
       → (id : ℕ) → RequestFits id (get (on_request s o (λ q. after_look_up s t i q (body_for q s.bodies))).requests id) (call_at t (LookUp i) read (Ok a) ∷ h)
   look_fits s t read i a h None fits e p id = absurd p
   look_fits s t read i a h (Some q) fits e p id = by_body (body_for q s.bodies) refl p.0
     where
-      open_key : opened_for i h ≡ Some q.entry
+      open_key : IsFor q (opened_for i h)
       open_key = (of_request s h fits i q e).0
 
       by_body : (b : Option FinishedBody) → body_for q s.bodies ≡ b → a ≡ look_answer t b → RequestFits id (get (after_look_up s t i q b).requests id) (call_at t (LookUp i) read (Ok a) ∷ h)
@@ -164,7 +168,7 @@ module _ (start : Opening) where
           subst (λ (x : Answer). RequestFits id (get (after_look_up s t i q (Some w)).requests id) (call_at t (LookUp i) read (Ok x) ∷ h)) (sym ae)
           (placed s.requests i (looked t q (Some w)) id (call_at t (LookUp i) read (Ok (Found fresh true))) h (
             open_key,
-            found_reader t read i q w fresh h open_key (shows s.settings.limit s.settings.watermark (length h) s.bodies s.tracked (changes_of start h) fits.holds.leaves (stored_key q.entry) w be),
+            found_reader t read i q w fresh h open_key.0 (shows (shards_of s) (length h) s.bodies s.managed (changes_of start h) fits.holds.leaves (stored_key (key_of q.entry)) w be),
             sym (ap (λ v. cond v (cond fresh Hit Stale) (phase_of i h)) (itself i)),
             (w.bytes, sym (ap (λ v. cond v (Unread w.bytes) (reader_of i w.bytes h)) (itself i))),
           )
@@ -216,7 +220,7 @@ module _ (start : Opening) where
   answer_fits s t read g (Open i key) a h fits n p id =
       subst (λ (x : Answer). RequestFits id (get (insert s.requests i (opened_request (entry_of key))) id) (call_at t (Open i key) read (Ok x) ∷ h)) (sym p)
       (placed s.requests i (opened_request (entry_of key)) id (call_at t (Open i key) read (Ok Opened)) h (
-        ap (λ v. cond v (Some (entry_of key)) (opened_for i h)) (itself i),
+        (ap (λ v. cond v (Some (entry_of key)) (opened_for i h)) (itself i), refl),
         tt,
         sym (ap (λ v. cond v CacheKey (phase_of i h)) (itself i)),
         ([], sym (ap (λ v. cond v Closed (reader_of i [] h)) (itself i))),
@@ -254,13 +258,15 @@ module _ (start : Opening) where
 
   -- the state after a lawful call fits the history with it
   pub Fits-after : (s : State) (c : Call) (h : History) → Fits s h → Allows s c → Fits (after s c) (c ∷ h)
-  Fits-after s c h fits p = record { requests = by_outcome c.outcome p.1; holds = kept (after s c).settings (settings-after s c) (Holds-after start s h fits.holds (λ i q e. (of_request s h fits i q e).0) c p) }
+  Fits-after s c h fits p = record { requests = by_outcome c.outcome p.1; holds = kept (shards_of (after s c)) shards (Holds-after start s h fits.holds (λ i q e. (of_request s h fits i q e).0) c p) }
     where
-      kept : (settings : Settings) → settings ≡ s.settings → Keeps s.settings.limit s.settings.watermark (length (c ∷ h)) (after s c).bodies (after s c).tracked (changes_of start (c ∷ h))
-          → Keeps settings.limit settings.watermark (length (c ∷ h)) (after s c).bodies (after s c).tracked (changes_of start (c ∷ h))
-      kept settings e l = subst (λ (x : Settings). Keeps x.limit x.watermark (length (c ∷ h)) (after s c).bodies (after s c).tracked (changes_of start (c ∷ h))) (sym e) l
+      shards : shards_of (after s c) ≡ shards_of s
+      shards = (made-after s c (record { shards = shards_of s; limit = s.managed.limit; watermark = s.managed.watermark; age = s.age; wait = s.wait }) (record { shards = refl; limit = refl; watermark = refl })).shards
+
+      kept : (n : ℕ) → n ≡ shards_of s → Keeps (shards_of s) (length (c ∷ h)) (after s c).bodies (after s c).managed (changes_of start (c ∷ h)) → Keeps n (length (c ∷ h)) (after s c).bodies (after s c).managed (changes_of start (c ∷ h))
+      kept n e l = subst (λ (x : ℕ). Keeps x (length (c ∷ h)) (after s c).bodies (after s c).managed (changes_of start (c ∷ h))) (sym e) l
 
       by_outcome : (o : Outcome) → AllowsBy (refusal s c.event.action) s c.event.moment c.event.action (read_by c) o → (id : ℕ) → RequestFits id (get (after s (record c { outcome = o })).requests id) (record c { outcome = o } ∷ h)
       by_outcome (Ok a) p = answer_fits s c.event.moment c.reading (read_by c) c.event.action a h fits
           (unrefused (refusal s c.event.action) s c.event.moment (read_by c) c.event.action a refl p) (answer_allowed (refusal s c.event.action) s c.event.moment (read_by c) c.event.action a p)
-      by_outcome (Err f) p = unmoved s (undone s c.event.action (done_of f)) (call_at c.event.moment c.event.action c.reading (Err f)) h fits (KeepsRequests-undone s c.event.action f).requests (fault_other c.event.moment c.reading c.event.action f h)
+      by_outcome (Err f) p = unmoved s (undone s (read_by c) (done_of f)) (call_at c.event.moment c.event.action c.reading (Err f)) h fits (KeepsRequests-undone s (read_by c) f).requests (fault_other c.event.moment c.reading c.event.action f h)

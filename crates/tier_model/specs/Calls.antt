@@ -1,6 +1,6 @@
 -- Calls of a tier, and what one call tells: what it stored and evicted, and what a request read.
 use Rattle.std.specs.Prelude.{◌≡◌, ℕ, ◌==◌, Bool, false, ◌&&◌, List, [], ◌∷◌, ◌++◌, if◌then◌else◌, Option, Some, None, Result, Ok, Err}
-use Rattle.tier_entries.specs.Keys.{entry_of}
+use Rattle.cache_entries.specs.declared.entry.CacheEntryKey.{CacheEntryKey}
 use Rattle.tier_model.specs.declared.state.FinishedBody.{FinishedBody}
 use Rattle.tier_model.specs.declared.whole.Whole.{Whole}
 use Rattle.tier_model.specs.declared.whole.Whole.TheVariants.{Stored}
@@ -12,7 +12,7 @@ use Rattle.tier_model.specs.declared.event.Answer.TheVariants.{Opened, Found, By
 use Rattle.tier_model.specs.declared.event.Done.{Done}
 use Rattle.tier_model.specs.declared.event.TierFault.{TierFault}
 use Rattle.tier_model.specs.declared.event.TierFault.TheVariants.{NumbersSpent, TooHeavy, TooLong, Memory}
-use Rattle.tier_model.specs.Keys.{Entry, entries_of}
+use Rattle.tier_model.specs.Keys.{Entry, entry_of}
 use Rattle.tier_model.specs.Response.{Reading, whole_in}
 
 -- what a call answered, or the fault that refused it
@@ -53,12 +53,12 @@ done_of (Memory done) = done
 done_of _ = nothing_done
 
 -- the entries that went before a refusal; where nothing was stored none did
-abbrev pub evicted_before : Done → List Entry
-evicted_before done = if done.stored then entries_of done.evicted else []
+abbrev pub evicted_before : Done → List CacheEntryKey
+evicted_before done = if done.stored then done.evicted else []
 
 -- the entries that went
-abbrev pub evicted_by : Outcome → List Entry
-evicted_by (Ok (Finished length evicted)) = entries_of evicted
+abbrev pub evicted_by : Outcome → List CacheEntryKey
+evicted_by (Ok (Finished length evicted)) = evicted
 evicted_by (Ok _) = []
 evicted_by (Err fault) = evicted_before (done_of fault)
 

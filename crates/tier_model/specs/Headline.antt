@@ -1,32 +1,28 @@
 -- The headline: what a history says of the answers in it. It names no state.
-use Rattle.std.specs.Prelude.{◌≡◌, ◌↔◌, ℕ, Bool, true, false, List, [], ◌∷◌, ◌++◌, length, Option, Some, Ok, Err, All}
+use Rattle.std.specs.Prelude.{◌≡◌, ◌≢◌, ◌↔◌, ℕ, Bool, true, false, List, [], ◌∷◌, ◌++◌, length, Option, Some, None, Ok, Err}
 use Rattle.std.specs.List.{AllByRecursion}
 use Rattle.cache_words.specs.Time.{MomentValue, at_most}
 use Rattle.cache_entries.specs.declared.rows.Tracked.{Tracked}
 use Rattle.cache_entries.specs.Rows.{is_over}
-use Rattle.cache_changes.specs.Changes.{StoredKey, Write, Changes}
+use Rattle.cache_entries.specs.declared.entry.CacheEntryKey.{CacheEntryKey}
+use Rattle.cache_changes.specs.Changes.{StoredKey, stored_key, Write, Changes}
 use Rattle.cache_changes.specs.Writes.{bytes_of, meta_of, IsFound, IsBody, IsFlying, IsShown}
-use Rattle.cache_changes.specs.Uses.{last_weight, IsOrderOfUse, EvictsLawfully}
+use Rattle.cache_changes.specs.Uses.{IsOrderOfUse, EvictsLawfully}
 use Rattle.cache_changes.specs.Bound.{IsTrackedBody, AreWithin}
-use Rattle.tier_entries.specs.Keys.{stored_key}
 use Rattle.tier_model.specs.declared.state.FinishedBody.{FinishedBody}
 use Rattle.tier_model.specs.declared.event.Action.{Action}
 use Rattle.tier_model.specs.declared.whole.Whole.{Whole}
 use Rattle.tier_model.specs.declared.whole.Whole.TheVariants as whole
 use Rattle.tier_model.specs.declared.event.Action.TheVariants.{Open, LookUp, Read, Drop, Purge, Put}
 use Rattle.tier_model.specs.declared.event.Answer.{Answer}
-use Rattle.tier_model.specs.declared.event.Answer.TheVariants.{Opened, Found, Absent, Dropped, Purged, Finished}
+use Rattle.tier_model.specs.declared.event.Answer.TheVariants.{Opened, Found, Absent, Bytes, End, Dropped, Purged, Finished}
 use Rattle.tier_model.specs.declared.event.Answer.TheVariants as answer
 use Rattle.tier_model.specs.declared.event.TierFault.TheVariants as fault
-use Rattle.tier_model.specs.Keys.{Entry, Evicted, entries_of, stored_key_of}
+use Rattle.tier_model.specs.Keys.{Entry, stored_key_of}
 use Rattle.tier_model.specs.Response.{IsRead}
-use Rattle.tier_model.specs.Calls.{History, Outcome, extended, nothing_done, done_of, read_by, opened_for, bytes_read, bytes_answered}
-use Rattle.tier_model.specs.Histories.{Kept, alone, Opening, stores, changes_of, HasHit}
+use Rattle.tier_model.specs.Calls.{History, Outcome, extended, nothing_done, done_of, read_by, opened_for, bytes_read}
+use Rattle.tier_model.specs.Histories.{Kept, Opening, stores, changes_of, HasHit}
 use Rattle.tier_model.specs.State.{Settings}
-
--- how many shards the order of use has
-abbrev pub shards : ℕ
-shards = 1
 
 -- a look-up at t is answered found exactly where a write of its key is alive; then it shows one, fresh exactly up to its
 -- moment, and complete exactly where none of the key is in flight
@@ -38,28 +34,27 @@ LooksRight id t (Found fresh complete) h before =
 LooksRight id t Absent h before = (e : Entry) × (opened_for id h ≡ Some e) × (¬ IsFound (stored_key e) before)
 LooksRight id t _ h before = ⊥
 
--- what a request read since its complete hit, joined, is the body that the look-up showed, whatever came later
-pub record ReadsWhole (start : Opening) (id : ℕ) (answer : Answer) (h : History) : Type 0 where
+-- what a request read since its complete hit, joined, with these bytes, is the body that the look-up showed, whatever came later
+pub record ReadsWhole (start : Opening) (id : ℕ) (bytes : List ℕ) (h : History) : Type 0 where
   pub write : Write Kept
   pub since : History
   pub hit : HasHit start id write since h
-  pub whole : bytes_read id since ++ bytes_answered answer ≡ bytes_of write.number (changes_of start hit.before)
+  pub whole : bytes_read id since ++ bytes ≡ bytes_of write.number (changes_of start hit.before)
 
 -- a purge is answered true exactly where a write of the key is alive
 abbrev pub PurgesRight : StoredKey → Answer → Changes Kept → Type 0
 PurgesRight k (Purged was_there) before = (was_there ≡ true) ↔ IsFound k before
 PurgesRight k _ before = ⊥
 
--- those that went after the storing of b each weighed what is listed; after them a limit is passed still, or both are kept
-pub record MakesRoom (settings : Settings) (over : Bool) (n : ℕ) (b : FinishedBody) (evicted : List Evicted) (before : Changes Kept) : Type 0 where
-  pub weights : All (λ pair. last_weight (alone pair.0) (extended before (stores n b [])) ≡ Some pair.1) evicted
+-- after those that went after the storing of b a limit is passed still, or both are kept
+pub record MakesRoom (settings : Settings) (over : Bool) (n : ℕ) (b : FinishedBody) (evicted : List CacheEntryKey) (before : Changes Kept) : Type 0 where
   pub rows : List Tracked
-  pub order : IsOrderOfUse rows (extended before (stores n b (entries_of evicted)))
+  pub order : IsOrderOfUse rows (extended before (stores n b evicted))
   pub ends : is_over settings.limit settings.watermark rows ≡ over
 
 -- by what was stored and admitted before a refusal: none went where nothing was admitted, and where it was, not enough
-abbrev pub WasStored : Settings → Bool → Bool → ℕ → Option Whole → List Evicted → Changes Kept → Type 0
-WasStored settings false admitted n w evicted before = Unit {0}
+abbrev pub WasStored : Settings → Bool → Bool → ℕ → Option Whole → List CacheEntryKey → Changes Kept → Type 0
+WasStored settings false admitted n w evicted before = (admitted ≡ false) × (evicted ≡ [])
 WasStored settings true false n w evicted before = (b : FinishedBody) × (w ≡ Some (whole.Stored b)) × (evicted ≡ [])
 WasStored settings true true n w evicted before = (b : FinishedBody) × (w ≡ Some (whole.Stored b)) × MakesRoom settings true n b evicted before
 
@@ -78,10 +73,13 @@ PutsRight settings n w (Err f) before = WasStored settings (done_of f).stored (d
 -- what the calls before say of one call, and of a put what its response gave; any other call that is refused had done nothing
 abbrev pub IsRight : Opening → MomentValue → Action → Option Whole → Outcome → History → Type 0
 IsRight start t (Put key pieces) w outcome h = PutsRight start.settings (length h) w outcome (changes_of start h)
+IsRight start t (Open id key) w (Err f) h = (done_of f ≡ nothing_done) × ((f ≡ fault.IdInUse) ↔ (opened_for id h ≢ None))
 IsRight start t action w (Err f) h = done_of f ≡ nothing_done
-IsRight start t (Open id key) w (Ok answer) h = answer ≡ Opened
+IsRight start t (Open id key) w (Ok answer) h = (answer ≡ Opened) × (opened_for id h ≡ None)
 IsRight start t (LookUp id) w (Ok answer) h = LooksRight id t answer h (changes_of start h)
-IsRight start t (Read id) w (Ok answer) h = ReadsWhole start id answer h
+IsRight start t (Read id) w (Ok (Bytes bytes)) h = ReadsWhole start id bytes h
+IsRight start t (Read id) w (Ok End) h = ReadsWhole start id [] h
+IsRight start t (Read id) w (Ok _) h = ⊥
 IsRight start t (Drop id) w (Ok answer) h = answer ≡ Dropped
 IsRight start t (Purge key) w (Ok answer) h = PurgesRight (stored_key_of key) answer (changes_of start h)
 
@@ -97,4 +95,4 @@ pub record HoldsHeadline (start : Opening) (h : History) : Type 0 where
   pub answers : Headline start h
   pub within : AreWithin start.settings.limit start.settings.watermark (changes_of start h)
   pub tracked : (w : Write Kept) → IsBody w.key w (changes_of start h) → IsTrackedBody w (changes_of start h)
-  pub evictions : EvictsLawfully shards start.settings.limit start.settings.watermark (changes_of start h)
+  pub evictions : EvictsLawfully start.settings.shards start.settings.limit start.settings.watermark (changes_of start h)

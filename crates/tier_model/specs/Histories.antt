@@ -3,20 +3,17 @@ use Rattle.std.specs.Prelude.{◌≡◌, ℕ, max, true, false, List, [], ◌∷
 use Rattle.std.specs.List.{AllByRecursion}
 use Rattle.cache_words.specs.Time.{MomentValue}
 use Rattle.cache_entries.specs.declared.entry.CacheEntryKey.{CacheEntryKey}
-use Rattle.cache_entries.specs.declared.entry.CacheEntryKey.TheVariants.{KeyOnly}
-use Rattle.cache_entries.specs.declared.rows.Tracked as entries
-use Rattle.cache_changes.specs.Changes.{Write, Change, Changes, begins, appends, finishes, removes, admits, uses, departs, evicts}
+use Rattle.cache_entries.specs.declared.rows.Tracked.{Tracked}
+use Rattle.cache_changes.specs.Changes.{stored_key, Write, Change, Changes, begins, appends, finishes, removes, admits, uses, departs, evicts}
 use Rattle.cache_changes.specs.Writes.{IsShown}
 use Rattle.cache_changes.specs.Store.{Stored, store_of, shown_at}
 use Rattle.cache_changes.specs.Uses.{admissions}
-use Rattle.tier_entries.specs.Keys.{entry_of, stored_key}
-use Rattle.tier_entries.specs.declared.rows.Tracked.{Tracked}
 use Rattle.tier_model.specs.declared.state.FinishedBody.{FinishedBody}
 use Rattle.tier_model.specs.declared.event.Action.{Action}
 use Rattle.tier_model.specs.declared.event.Action.TheVariants.{LookUp, Purge, Put}
 use Rattle.tier_model.specs.declared.event.Answer.TheVariants.{Found, Purged, Finished}
 use Rattle.tier_model.specs.declared.event.Done.{Done}
-use Rattle.tier_model.specs.Keys.{Entry, entries_of}
+use Rattle.tier_model.specs.Keys.{Entry, entry_of, alone}
 use Rattle.tier_model.specs.Calls.{Call, History, Outcome, extended, done_of, read_by, stored_in, opened_for, hits, ends_reader}
 use Rattle.tier_model.specs.Rows.{weight_for}
 use Rattle.tier_model.specs.State.{Settings}
@@ -25,13 +22,6 @@ use Rattle.tier_model.specs.State.{Settings}
 pub record Kept : Type 0 where
   pub entry : CacheEntryKey
   pub fresh_until : MomentValue
-
--- the entry that a key has here: it has no id
-abbrev pub alone : Entry → CacheEntryKey
-alone key = KeyOnly key
-
-abbrev pub rows_alone : List Tracked → List entries.Tracked
-rows_alone rows = map (λ r. record { entry = alone r.entry; weight = r.weight }) rows
 
 -- how a tier began: what it was made with, and the order of use that it loaded. No body was stored
 pub record Opening : Type 0 where
@@ -50,11 +40,11 @@ abbrev pub write_of : ℕ → FinishedBody → Write Kept
 write_of n b = record { number = n; key = stored_key b.entry; meta = kept_of b }
 
 -- these are evicted, in order
-abbrev pub goes : List Entry → List (Change Kept)
-goes es = map (λ e. evicts (alone e)) es
+abbrev pub goes : List CacheEntryKey → List (Change Kept)
+goes es = map (λ e. evicts e) es
 
 -- a body is written whole, its entry is admitted, and then these are evicted
-abbrev pub stores : ℕ → FinishedBody → List Entry → List (Change Kept)
+abbrev pub stores : ℕ → FinishedBody → List CacheEntryKey → List (Change Kept)
 stores n b gone = begins (write_of n b) ∷ appends n b.bytes ∷ finishes (write_of n b) ∷ admits (alone b.entry) (weight_for b) ∷ goes gone
 
 -- what an entry's key has is removed, and the entry departs
@@ -63,11 +53,11 @@ clears e = removes (stored_key e) ∷ departs (alone e) ∷ []
 
 -- a put that is refused after its body was stored: what was done until then, and then body and entry go again
 abbrev pub takes_back : ℕ → FinishedBody → Done → List (Change Kept)
-takes_back n b done = if done.stored then ((if done.admitted then stores n b (entries_of done.evicted) else []) ++ clears b.entry) else []
+takes_back n b done = if done.stored then ((if done.admitted then stores n b done.evicted else []) ++ clears b.entry) else []
 
 -- by a put whose response gave a body
 abbrev pub put_changes : ℕ → Option FinishedBody → Outcome → List (Change Kept)
-put_changes n (Some b) (Ok (Finished length evicted)) = stores n b (entries_of evicted)
+put_changes n (Some b) (Ok (Finished length evicted)) = stores n b evicted
 put_changes n (Some b) (Err fault) = takes_back n b (done_of fault)
 put_changes n _ _ = []
 
@@ -93,7 +83,7 @@ changes_by c h before = changes_in c.event.action c.outcome (stored_in (read_by 
 
 -- what a history changed, the latest change first. What was loaded was admitted before any call
 abbrev pub changes_of : Opening → History → Changes Kept
-changes_of start [] = admissions (rows_alone start.loaded)
+changes_of start [] = admissions start.loaded
 changes_of start (c ∷ h) = extended (changes_of start h) (changes_by c h (changes_of start h))
 
 -- the request's last look-up found all of w; since are the calls after it

@@ -1,30 +1,22 @@
 -- Stored keys and entries.
-use Rattle.std.specs.Prelude.{◌≡◌, ℕ, List, map, Some, All}
-use Rattle.cache_words.specs.Key.{CacheKeyValue}
+use Rattle.cache_words.specs.Key.{CacheKeyValue, primary_hash}
 use Rattle.cache_words.specs.declared.key.CompactCacheKey.{CompactCacheKey}
-use Rattle.tier_entries.specs.Keys.{entry_of, stored_key}
-use Rattle.tier_entries.specs.declared.rows.Tracked.{Tracked}
-use Rattle.tier_entries.specs.Rows.{weight_of}
-
--- the 16 bytes under which a body is stored. Two keys of one stored key are one key here
-abbrev pub StoredKey : Type 0
-StoredKey = List ℕ
+use Rattle.cache_entries.specs.declared.entry.CacheEntryKey.{CacheEntryKey}
+use Rattle.cache_entries.specs.declared.entry.CacheEntryKey.TheVariants.{KeyOnly}
+use Rattle.cache_changes.specs.Changes.{StoredKey, stored_key}
 
 -- a key as it is kept, with its tag
 abbrev pub Entry : Type 0
 Entry = CompactCacheKey
 
+-- the entry of a key that is asked for
+abbrev pub entry_of : CacheKeyValue → Entry
+entry_of k = record { primary = primary_hash k.primary_bin_override k.primary; variance = k.variance; user_tag = k.user_tag }
+
+-- the entry that a key has in the order of use: it has no id
+abbrev pub alone : Entry → CacheEntryKey
+alone key = KeyOnly key
+
 -- the stored key of a requested key
 abbrev pub stored_key_of : CacheKeyValue → StoredKey
 stored_key_of k = stored_key (entry_of k)
-
--- an entry that was evicted, with what it weighed
-abbrev pub Evicted : Type 0
-Evicted = Entry × ℕ
-
-abbrev pub entries_of : List Evicted → List Entry
-entries_of evicted = map (λ pair. pair.0) evicted
-
--- each weighed what its row says
-abbrev pub AreWeighed : List Tracked → List Evicted → Type 0
-AreWeighed rows evicted = All (λ pair. weight_of pair.0 rows ≡ Some pair.1) evicted

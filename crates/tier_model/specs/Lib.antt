@@ -5,6 +5,7 @@ pub mod Histories
 pub mod Requests
 pub mod Headline
 pub mod Rows
+pub mod Evictions
 pub mod State
 pub mod Step
 pub mod Reports

@@ -1,26 +1,37 @@
 -- A state with the history that led to it.
-use Rattle.std.specs.Prelude.{◌≡◌, ℕ, List, [], ◌∷◌, map}
+use Rattle.std.specs.Prelude.{◌≡◌, ◌<◌, ℕ, List, [], ◌∷◌, map}
+use Rattle.std.specs.List.{range_with_len}
+use Rattle.cache_entries.specs.declared.rows.Tracked.{Tracked}
 use Rattle.cache_entries.specs.Rows.{AreDistinct}
 use Rattle.cache_changes.specs.Changes.{Write, Changes}
 use Rattle.cache_changes.specs.Writes.{bytes_of, meta_of}
-use Rattle.cache_changes.specs.Uses.{IsOrderOfUse}
+use Rattle.cache_changes.specs.Uses.{IsOrderOfUse, in_shard, AreShardsOf}
+use Rattle.cache_evict.specs.Managed.{Managed, fresh}
 use Rattle.tier_model.specs.declared.state.FinishedBody.{FinishedBody}
 use Rattle.tier_model.specs.Calls.{Call, History, extended}
-use Rattle.tier_model.specs.Histories.{Kept, rows_alone, Opening, kept_of, changes_of}
+use Rattle.tier_model.specs.Histories.{Kept, Opening, kept_of, changes_of}
 use Rattle.tier_model.specs.Headline.{HoldsHeadline}
 use Rattle.tier_model.specs.Requests.{AreRequests}
 use Rattle.tier_model.specs.Reports.{AreAllBodies, shown, found_answers, absent_answers, evictions}
 use Rattle.tier_model.specs.State.{State, empty_state}
 use Rattle.tier_model.specs.Step.{Allows, after}
 
+-- rows put into n shards
+abbrev pub in_shards : ℕ → List Tracked → List (List Tracked)
+in_shards n rows = map (λ s. in_shard n s rows) (range_with_len 0 n)
+
+-- the order of use that a tier begins with
+abbrev pub loaded_of : Opening → Managed
+loaded_of start = record (fresh start.settings.shards start.settings.limit start.settings.watermark) { shards = in_shards start.settings.shards start.loaded }
+
 -- the state of a tier after a history
 abbrev pub state_of : Opening → History → State
-state_of start [] = record (empty_state start.settings) { tracked = start.loaded }
+state_of start [] = record (empty_state start.settings) { managed = loaded_of start }
 state_of start (c ∷ h) = after (state_of start h) c
 
--- each outcome is one that the state before it allows; no entry was loaded twice
+-- each outcome is one that the state before it allows; there is a shard, and no entry was loaded twice
 abbrev pub IsLawful : Opening → History → Type 0
-IsLawful start [] = AreDistinct (rows_alone start.loaded)
+IsLawful start [] = (0 < start.settings.shards) × AreDistinct start.loaded
 IsLawful start (c ∷ h) = Allows (state_of start h) c × IsLawful start h
 
 -- what is kept of a body, and what changes say of a write
@@ -36,14 +47,19 @@ HoldsBodies s start h =
     (writes : List (Write Kept)) × AreAllBodies writes (changes_of start h)
     × (map held_of s.bodies ≡ map (told_of (changes_of start h)) writes)
 
+-- the shards hold the entries that a history leaves tracked, in the order of use, with what each weighs
+abbrev pub HoldsOrder : Managed → Opening → History → Type 0
+HoldsOrder m start h =
+    (0 < start.settings.shards) × ((rows : List Tracked) × IsOrderOfUse rows (changes_of start h) × AreShardsOf start.settings.shards m.shards rows)
+
 -- the state is what the history says: its bodies, the order of use, the open requests, and the counts
 pub record MatchesHistory (s : State) (start : Opening) (h : History) : Type 0 where
   pub bodies : HoldsBodies s start h
-  pub order : IsOrderOfUse (rows_alone s.tracked) (changes_of start h)
+  pub order : HoldsOrder s.managed start h
   pub requests : AreRequests start s.requests h
   pub found : s.found ≡ shown (found_answers h)
   pub absent : s.absent ≡ shown (absent_answers h)
-  pub evicted : s.evicted ≡ shown (evictions h)
+  pub evicted : s.managed.evicted_items ≡ shown (evictions h)
 
 -- the state may come after that history; the headline holds of it, and the state is what it says
 pub record HasPast (start : Opening) (s : State) (h : History) : Type 0 where

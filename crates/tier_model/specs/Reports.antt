@@ -4,11 +4,11 @@ use Rattle.std.specs.List.{sum_by, AllByRecursion}
 use Rattle.cache_entries.specs.Keys.{same_bytes}
 use Rattle.cache_entries.specs.declared.rows.Tracked.{Tracked}
 use Rattle.cache_entries.specs.Rows.{all_weights}
+use Rattle.cache_evict.specs.Managed.{total_size, total_items}
 use Rattle.cache_changes.specs.Changes.{StoredKey, Write, Changes}
 use Rattle.cache_changes.specs.Writes.{bytes_of, IsBody}
 use Rattle.cache_changes.specs.Uses.{IsOrderOfUse}
 use Rattle.cache_changes.specs.Bound.{HasDistinctKeys}
-use Rattle.tier_entries.specs.Rows as held
 use Rattle.tier_model.specs.declared.event.Answer.TheVariants.{Found, Absent}
 use Rattle.tier_model.specs.declared.report.Report.{Report}
 use Rattle.tier_model.specs.Calls.{History, Outcome, evicted_by}
@@ -23,9 +23,9 @@ report_of s = record {
   absent = s.absent;
   bodies = length s.bodies;
   bytes = counted 0 (sum_by (λ b. length b.bytes) s.bodies);
-  tracked = length s.tracked;
-  weight = held.all_weights s.tracked;
-  evicted = s.evicted;
+  tracked = total_items s.managed;
+  weight = total_size s.managed;
+  evicted = s.managed.evicted_items;
 }
 
 abbrev pub is_found : Outcome → Bool

@@ -2,6 +2,7 @@
 use Rattle.std.specs.Prelude.{◌≡◌, ℕ, ◌==◌, List, [], ◌∷◌, if◌then◌else◌, Some, None, Ok, MatchOption}
 use Rattle.std.specs.FinMap.{FinMap, get}
 use Rattle.std.specs.Ordering.{nat_cmp}
+use Rattle.cache_entries.specs.Entry.{key_of}
 use Rattle.cache_changes.specs.Changes.{Write}
 use Rattle.cache_changes.specs.Writes.{bytes_of}
 use Rattle.tier_model.specs.declared.state.Request.{Request}
@@ -12,6 +13,7 @@ use Rattle.tier_model.specs.declared.state.Reader.TheVariants.{Closed, Unread, S
 use Rattle.tier_model.specs.declared.event.Action.{Action}
 use Rattle.tier_model.specs.declared.event.Action.TheVariants.{Open, LookUp, Read}
 use Rattle.tier_model.specs.declared.event.Answer.TheVariants.{Opened, Found, Absent}
+use Rattle.tier_model.specs.Keys.{alone}
 use Rattle.tier_model.specs.Calls.{History, Outcome, opened_for}
 use Rattle.tier_model.specs.Histories.{Kept, Opening, changes_of, HasHit}
 
@@ -44,7 +46,8 @@ HasFound start id bytes h = (w : Write Kept) × (since : History) × (hit : HasH
 
 -- q is what the calls of the open request say
 pub record IsRequestOf (start : Opening) (id : ℕ) (q : Request) (h : History) : Type 0 where
-  pub entry : opened_for id h ≡ Some q.entry
+  pub key : opened_for id h ≡ Some (key_of q.entry)
+  pub entry : q.entry ≡ alone (key_of q.entry)
   pub phase : q.phase ≡ phase_of id h
   pub reader : (bytes : List ℕ) × (q.reader ≡ reader_of id bytes h) × (q.reader ≡ Unread bytes → HasFound start id bytes h)
 

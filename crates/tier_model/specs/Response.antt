@@ -9,8 +9,7 @@ use Rattle.cache_heads.specs.declared.reason.NoCacheReason.TheVariants.{OriginNo
 use Rattle.http_header.specs.Token.{lowercase}
 use Rattle.httparse.specs.Grammar.{ResponseHead, ReadsResponse, HasNoResponse, status_code}
 use Rattle.httparse.specs.Spans.{name_and_value}
-use Rattle.tier_entries.specs.Keys.{entry_of}
-use Rattle.tier_model.specs.Keys.{Entry}
+use Rattle.tier_model.specs.Keys.{Entry, entry_of}
 use Rattle.tier_model.specs.declared.event.Action.{Action}
 use Rattle.tier_model.specs.declared.event.Action.TheVariants.{Put}
 use Rattle.tier_model.specs.declared.whole.Whole.{Whole}

@@ -1,12 +1,15 @@
 -- One event: the first refusal, the answers and faults that a state allows, and the state after them.
-use Rattle.std.specs.Prelude.{◌≡◌, ℕ, ◌+◌, ◌-◌, ◌^◌, min, nat_le, Bool, true, false, ◌&&◌, not, List, [], length, if◌then◌else◌, Option, Some, None, is_some, Ok, Err, MatchResult, MatchOption, ◌⊎◌}
+use Rattle.std.specs.Prelude.{◌≡◌, ◌<◌, ℕ, ◌+◌, ◌-◌, ◌^◌, min, Bool, true, false, List, [], length, if◌then◌else◌, Option, Some, None, is_some, Ok, Err, MatchResult, MatchOption, ◌⊎◌}
 use Rattle.std.specs.FinMap.{get, insert, remove}
 use Rattle.cache_words.specs.Time.{MomentValue, at_most}
 use Rattle.cache_words.specs.Key.{CacheKeyValue}
-use Rattle.tier_entries.specs.Keys.{entry_of, stored_key}
-use Rattle.tier_entries.specs.declared.rows.Tracked.{Tracked}
-use Rattle.tier_entries.specs.Rows.{weight_of, all_weights, admitted, used, without_row, without_rows, IsLawfulEviction, IsBegunEviction}
-use Rattle.tier_model.specs.Keys.{Entry, Evicted, entries_of, AreWeighed, stored_key_of}
+use Rattle.cache_entries.specs.declared.entry.CacheEntryKey.{CacheEntryKey}
+use Rattle.cache_entries.specs.Entry.{key_of}
+use Rattle.cache_entries.specs.Rows.{weight_of}
+use Rattle.cache_changes.specs.Changes.{stored_key}
+use Rattle.cache_evict.specs.Managed.{Managed, rows_of, put_first, use_first, taken_out, total_size, IsHeavy, IsLong, IsFull}
+use Rattle.tier_model.specs.Keys.{Entry, entry_of, alone, stored_key_of}
+use Rattle.tier_model.specs.Evictions.{all_gone, GoInTurn}
 use Rattle.tier_model.specs.declared.state.FinishedBody.{FinishedBody}
 use Rattle.tier_model.specs.declared.state.Request.{Request}
 use Rattle.tier_model.specs.declared.state.Phase.{Phase}
@@ -24,11 +27,11 @@ use Rattle.tier_model.specs.declared.event.Answer.{Answer}
 use Rattle.tier_model.specs.declared.event.Answer.TheVariants.{Opened, Found, Absent, Bytes, End, Dropped, Purged, Finished}
 use Rattle.tier_model.specs.declared.event.Done.{Done}
 use Rattle.tier_model.specs.declared.event.TierFault.{TierFault}
-use Rattle.tier_model.specs.declared.event.TierFault.TheVariants.{NoRequest, IdInUse, WrongPhase, TooHeavy, TooLong, Memory}
+use Rattle.tier_model.specs.declared.event.TierFault.TheVariants.{NoRequest, IdInUse, WrongPhase, NumbersSpent, TooHeavy, TooLong, Memory}
 use Rattle.tier_model.specs.Response.{IsRead}
 use Rattle.tier_model.specs.Calls.{Call, Outcome, nothing_done, done_of, read_by}
 use Rattle.tier_model.specs.Rows.{body_of, with_body, without_body, without_bodies, weight_for}
-use Rattle.tier_model.specs.State.{State}
+use Rattle.tier_model.specs.State.{State, shards_of}
 
 -- the phases in which a request may look up
 abbrev pub can_look_up : Phase → Bool
@@ -62,11 +65,11 @@ on_request s (Some q) f = f q
 
 -- a request that was just opened
 abbrev pub opened_request : Entry → Request
-opened_request entry = record { entry = entry; phase = CacheKey; reader = Closed }
+opened_request entry = record { entry = alone entry; phase = CacheKey; reader = Closed }
 
 -- the body that a request finds
 abbrev pub body_for : Request → List FinishedBody → Option FinishedBody
-body_for q bodies = body_of (stored_key q.entry) bodies
+body_for q bodies = body_of (stored_key (key_of q.entry)) bodies
 
 abbrev pub look_answer : MomentValue → Option FinishedBody → Answer
 look_answer t None = Absent
@@ -92,51 +95,41 @@ abbrev pub stored_alone : Done
 stored_alone = record { stored = true; admitted = false; evicted = [] }
 
 -- the body is stored and its entry admitted, these are evicted, and then the body is taken back
-abbrev pub all_done : List Evicted → Done
+abbrev pub all_done : List CacheEntryKey → Done
 all_done evicted = record { stored = true; admitted = true; evicted = evicted }
 
--- a sum of weights that doesn't fit
-abbrev pub is_too_heavy : ℕ → Bool
-is_too_heavy weights = nat_le (2 ^ 64) weights
+-- the order of use with the entry of a body put first
+abbrev pub admitted : State → FinishedBody → Managed
+admitted s b = put_first (shards_of s) (alone b.entry) (weight_for b) s.managed
 
--- the weights after an admission don't fit
-abbrev pub admission_is_too_heavy : FinishedBody → List Tracked → Bool
-admission_is_too_heavy b rows = is_too_heavy (weight_for b + all_weights (without_row b.entry rows))
+-- the order of use after a use of an entry for which that body was found
+abbrev pub used : State → CacheEntryKey → FinishedBody → Managed
+used s e b = use_first (shards_of s) e (weight_for b) s.managed
 
--- the weights after the use of an entry don't fit; never of a tracked one
-abbrev pub use_is_too_heavy : Entry → Option FinishedBody → List Tracked → Bool
-use_is_too_heavy e None rows = false
-use_is_too_heavy e (Some b) rows = is_too_heavy (all_weights (used e (weight_for b) rows))
+-- the weights together can be counted
+abbrev pub Fits : Managed → Type 0
+Fits m = total_size m < 2 ^ 64
 
--- the list is full, with 2415919104 entries, and the entry not in it
-abbrev pub is_too_long : Entry → List Tracked → Bool
-is_too_long e rows = nat_le 2415919104 (length rows) && not (is_some (weight_of e rows))
-
-abbrev pub use_is_too_long : Entry → Option FinishedBody → List Tracked → Bool
-use_is_too_long e None rows = false
-use_is_too_long e (Some b) rows = is_too_long e rows
+-- why an entry of that weight is kept out of the order of use, and what was done until then
+abbrev pub IsKeptOut : State → CacheEntryKey → ℕ → Done → TierFault → Type 0
+IsKeptOut s e w done (TooHeavy told) = (told ≡ done) × IsHeavy (shards_of s) e w s.managed
+IsKeptOut s e w done (TooLong told) = (told ≡ done) × IsLong (shards_of s) e s.managed
+IsKeptOut s e w done (NumbersSpent told) = (told ≡ done) × IsFull (shards_of s) e s.managed
+IsKeptOut s e w done _ = ⊥
 
 -- what a put may answer, by what its response gives
 abbrev pub IsPutAnswer : State → Option Whole → Answer → Type 0
-IsPutAnswer s (Some (Stored b)) (Finished n evicted) =
-    (n ≡ length b.bytes) × (admission_is_too_heavy b s.tracked ≡ false)
-    × IsLawfulEviction s.settings.limit s.settings.watermark (admitted b.entry (weight_for b) s.tracked) (entries_of evicted)
-    × AreWeighed (admitted b.entry (weight_for b) s.tracked) evicted
+IsPutAnswer s (Some (Stored b)) (Finished n evicted) = (n ≡ length b.bytes) × Fits (admitted s b) × GoInTurn (shards_of s) false evicted (admitted s b)
 IsPutAnswer s (Some (whole.Uncacheable reason)) (answer.Uncacheable shown) = shown ≡ reason
 IsPutAnswer s _ _ = ⊥
 
 -- memory ran out in the midst of the evictions, after an admission that fits
 abbrev pub IsCutShort : State → FinishedBody → TierFault → Type 0
-IsCutShort s b f =
-    (evicted : List Evicted) × (f ≡ Memory (all_done evicted))
-    × IsBegunEviction s.settings.limit s.settings.watermark (admitted b.entry (weight_for b) s.tracked) (entries_of evicted)
-    × (admission_is_too_heavy b s.tracked ≡ false) × AreWeighed (admitted b.entry (weight_for b) s.tracked) evicted
+IsCutShort s b f = (evicted : List CacheEntryKey) × (f ≡ Memory (all_done evicted)) × Fits (admitted s b) × GoInTurn (shards_of s) true evicted (admitted s b)
 
 -- why a body that was stored is taken back
 abbrev pub IsStoreFault : State → FinishedBody → TierFault → Type 0
-IsStoreFault s b f =
-    ((f ≡ TooHeavy stored_alone) × (admission_is_too_heavy b s.tracked ≡ true))
-    ⊎ (((f ≡ TooLong stored_alone) × (is_too_long b.entry s.tracked ≡ true)) ⊎ IsCutShort s b f)
+IsStoreFault s b f = IsKeptOut s (alone b.entry) (weight_for b) stored_alone f ⊎ IsCutShort s b f
 
 -- the faults of a put but for memory that is refused before anything is stored
 abbrev pub IsPutFault : State → Option Whole → TierFault → Type 0
@@ -146,11 +139,15 @@ IsPutFault s (Some whole.BadHead) f = f ≡ fault.BadHead
 IsPutFault s (Some whole.BeforeEpoch) f = f ≡ fault.BeforeEpoch
 IsPutFault s _ f = ⊥
 
+-- the weights can be counted after the use of what a request found
+abbrev pub UseFits : State → Request → Type 0
+UseFits s q = MatchOption (body_for q s.bodies) (Unit {0}) (λ b. Fits (used s q.entry b))
+
 -- the answers to an event that is not refused
 abbrev pub IsAnswer : State → MomentValue → Action → Option Whole → Answer → Type 0
 IsAnswer s t (Open id key) w a = a ≡ Opened
 IsAnswer s t (LookUp id) w a =
-    MatchOption (get s.requests id) ⊥ (λ q. (a ≡ look_answer t (body_for q s.bodies)) × (use_is_too_heavy q.entry (body_for q s.bodies) s.tracked ≡ false))
+    MatchOption (get s.requests id) ⊥ (λ q. (a ≡ look_answer t (body_for q s.bodies)) × UseFits s q)
 IsAnswer s t (Read id) w a = MatchOption (get s.requests id) ⊥ (λ q. a ≡ read_answer q.reader)
 IsAnswer s t (Drop id) w a = a ≡ Dropped
 IsAnswer s t (Purge key) w a = a ≡ Purged (is_some (body_of (stored_key_of key) s.bodies))
@@ -165,16 +162,14 @@ MayTakeMemory s (Drop id) = ⊥
 MayTakeMemory s (Purge key) = ⊥
 MayTakeMemory s (Put key pieces) = Unit {0}
 
--- why the entry of what a request found isn't used
+-- why the entry of what a request found isn't used: it isn't tracked, and is kept out
 abbrev pub IsUseFault : State → Request → TierFault → Type 0
 IsUseFault s q f =
-    ((f ≡ TooHeavy nothing_done) × (use_is_too_heavy q.entry (body_for q s.bodies) s.tracked ≡ true))
-    ⊎ ((f ≡ TooLong nothing_done) × (use_is_too_long q.entry (body_for q s.bodies) s.tracked ≡ true))
+    MatchOption (body_for q s.bodies) ⊥ (λ b. (weight_of q.entry (rows_of (shards_of s) q.entry s.managed) ≡ None) × IsKeptOut s q.entry (weight_for b) nothing_done f)
 
 -- the faults that come after the checks, but for memory
 abbrev pub IsLateFault : State → Action → Option Whole → TierFault → Type 0
-IsLateFault s (LookUp id) w f =
-    MatchOption (get s.requests id) ⊥ (λ q. IsUseFault s q f)
+IsLateFault s (LookUp id) w f = MatchOption (get s.requests id) ⊥ (λ q. IsUseFault s q f)
 IsLateFault s (Put key pieces) w f = IsPutFault s w f
 IsLateFault s _ w f = ⊥
 
@@ -198,22 +193,18 @@ counted n more = min (n + more) (2 ^ 64 - 1)
 abbrev pub after_look_up : State → MomentValue → ℕ → Request → Option FinishedBody → State
 after_look_up s t id q None = record s { requests = insert s.requests id (looked t q None); absent = counted s.absent 1 }
 after_look_up s t id q (Some b) =
-    record s { requests = insert s.requests id (looked t q (Some b)); tracked = used q.entry (weight_for b) s.tracked; found = counted s.found 1 }
+    record s { requests = insert s.requests id (looked t q (Some b)); managed = used s q.entry b; found = counted s.found 1 }
 
 -- the state after a put of a body with these evictions
 abbrev pub after_put : State → Option Whole → Answer → State
 after_put s (Some (Stored b)) (Finished n evicted) =
-    record s {
-      bodies = without_bodies (entries_of evicted) (with_body b s.bodies);
-      tracked = without_rows (entries_of evicted) (admitted b.entry (weight_for b) s.tracked);
-      evicted = counted s.evicted (length (entries_of evicted));
-    }
+    record s { bodies = without_bodies evicted (with_body b s.bodies); managed = all_gone (shards_of s) evicted (admitted s b) }
 after_put s _ _ = s
 
 -- the state after a purge that found something, or nothing
 abbrev pub after_purge : State → CacheKeyValue → Bool → State
 after_purge s key false = s
-after_purge s key true = record s { bodies = without_body (stored_key_of key) s.bodies; tracked = without_row (entry_of key) s.tracked }
+after_purge s key true = record s { bodies = without_body (stored_key_of key) s.bodies; managed = taken_out (shards_of s) (alone (entry_of key)) s.managed }
 
 -- the state after an answer
 abbrev pub answered : State → MomentValue → Action → Option Whole → Answer → State
@@ -224,19 +215,27 @@ answered s t (Drop id) w a = record s { requests = remove s.requests id }
 answered s t (Purge key) w a = after_purge s key (is_some (body_of (stored_key_of key) s.bodies))
 answered s t (Put key pieces) w a = after_put s w a
 
--- after a refusal that had stored a body under an entry: that body is gone with its entry, and the evictions are done
-abbrev pub taken_back : Bool → State → Entry → List Entry → State
-taken_back false s entry evicted = s
-taken_back true s entry evicted =
-    record s { bodies = without_body (stored_key entry) (without_bodies evicted s.bodies); tracked = without_row entry (without_rows evicted s.tracked); evicted = counted s.evicted (length evicted) }
+-- the order of use at a refusal: with the body's entry, if that was admitted
+abbrev pub until : Bool → State → FinishedBody → Managed
+until false s b = s.managed
+until true s b = admitted s b
 
-abbrev pub undone : State → Action → Done → State
-undone s (Put key pieces) done = taken_back done.stored s (entry_of key) (entries_of done.evicted)
+-- after a refusal that had stored a body: that body is gone with its entry, and the evictions are done
+abbrev pub taken_back : Bool → State → FinishedBody → Done → State
+taken_back false s b done = s
+taken_back true s b done =
+    record s {
+      bodies = without_body (stored_key b.entry) (without_bodies done.evicted s.bodies);
+      managed = taken_out (shards_of s) (alone b.entry) (all_gone (shards_of s) done.evicted (until done.admitted s b));
+    }
+
+abbrev pub undone : State → Option Whole → Done → State
+undone s (Some (Stored b)) done = taken_back done.stored s b done
 undone s _ done = s
 
 abbrev pub after_outcome : State → MomentValue → Action → Option Whole → Outcome → State
 after_outcome s t action w (Ok a) = answered s t action w a
-after_outcome s t action w (Err f) = undone s action (done_of f)
+after_outcome s t action w (Err f) = undone s w (done_of f)
 
 -- the state after a call
 abbrev pub after : State → Call → State

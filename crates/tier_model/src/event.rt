@@ -2,8 +2,9 @@
 ghost use Rattle.std.specs.Prelude.{◌≡◌, []};
 
 use bytes::Bytes;
+use cache_entries::entry::CacheEntryKey;
 use cache_heads::NoCacheReason;
-use cache_words::key::{CacheKey, CompactCacheKey};
+use cache_words::key::CacheKey;
 use cache_words::time::Moment;
 use std::alloc::Global;
 use std::marker::Model;
@@ -84,11 +85,11 @@ pub enum TierFault {
     BeforeEpoch,
     /// The response ends too early.
     Incomplete,
-    /// No number is left.
+    /// No number is left for the entry's hash.
     NumbersSpent(Done),
-    /// The weights' sum doesn't fit.
+    /// The weights of the entry's shard can't be counted.
     TooHeavy(Done),
-    /// The list is full.
+    /// The entry's shard is full.
     TooLong(Done),
     /// The growth of a part was refused.
     Memory(Done),
@@ -128,17 +129,17 @@ impl Pieces {
     }
 }
 
-/// Evicted entries, in order, each with what it weighed.
+/// Evicted entries, in order.
 #[derive(Debug, Drop)]
 pub struct Entries {
-    items: Vec<(CompactCacheKey, usize)>,
+    items: Vec<CacheEntryKey>,
 }
 
 impl Model for Entries {
     ghost use Rattle.std.specs.Prelude.{List};
-    ghost use Rattle.tier_model.specs.Keys.{Evicted};
+    ghost use Rattle.cache_entries.specs.declared.entry.CacheEntryKey.{CacheEntryKey};
 
-    ghost Value = { List Evicted };
+    ghost Value = { List CacheEntryKey };
 
     ghost view = { λ e. e.items.items };
 }
@@ -154,14 +155,14 @@ impl Entries {
     }
 
     /// Makes a list of entries. It takes no memory.
-    pub fn from_vec(items: Vec<(CompactCacheKey, usize)>) -> Entries
+    pub fn from_vec(items: Vec<CacheEntryKey>) -> Entries
         ensures { result ≡ items.items }
     {
         Entries { items }
     }
 
-    /// Returns the entries in order, each with what it weighed.
-    pub fn as_slice(&self) -> &[(CompactCacheKey, usize)]
+    /// Returns the entries in order.
+    pub fn as_slice(&self) -> &[CacheEntryKey]
         ensures { result.now ≡ self.now }
     {
         &self.items

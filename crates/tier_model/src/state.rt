@@ -1,5 +1,6 @@
 //! What a tier holds: finished bodies and open requests.
 use bytes::Bytes;
+use cache_entries::entry::CacheEntryKey;
 use cache_words::key::CompactCacheKey;
 use cache_words::time::Moment;
 
@@ -38,7 +39,7 @@ pub enum Reader {
 /// An open request, and the entry that it was opened for.
 #[derive(Debug, Drop)]
 pub struct Request {
-    pub entry: CompactCacheKey,
+    pub entry: CacheEntryKey,
     pub phase: Phase,
     pub reader: Reader,
 }

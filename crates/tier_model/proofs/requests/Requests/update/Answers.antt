@@ -2,7 +2,7 @@ use Rattle.std.proofs.Common.{◌≡◌, ℕ, List, Some, None, nat_eq, sym, ◌
 use Rattle.std.specs.FinMap as finite
 use Rattle.std.specs.Map.{lookup}
 use Rattle.std.specs.Ordering.{nat_cmp}
-use Rattle.cache_words.specs.declared.key.CompactCacheKey.{CompactCacheKey}
+use Rattle.cache_entries.specs.declared.entry.CacheEntryKey.{CacheEntryKey}
 use Rattle.tier_model.specs.declared.state.Request.{Request}
 use Rattle.tier_model.specs.declared.state.Reader.{Reader}
 use Rattle.tier_model.proofs.Tables.{get-table, set-table}
@@ -24,7 +24,7 @@ returns-clause-some c = λ q there.
     let table = set-table c.self.inside.table.entries c.args.id q new found in (
       ap (λ (r : Reader). Some r) (c.replace.ensures.value ∙ ap (λ (x : Request). x.reader) same),
       ap (λ (es : List (ℕ × Request)). finite.from_entries {R = nat_cmp} es) wrote ∙ table
-          ∙ rw c.self.view_is (ap (λ (e : CompactCacheKey). finite.insert c.args.self.now c.args.id (record new { entry = e })) (ap (λ (x : Request). x.entry) same)
+          ∙ rw c.self.view_is (ap (λ (e : CacheEntryKey). finite.insert c.args.self.now c.args.id (record new { entry = e })) (ap (λ (x : Request). x.entry) same)
           ∙ ap (λ (r : Reader). finite.insert c.args.self.now c.args.id (record { entry = q.entry; phase = c.args.phase; reader = r })) c.replace.ensures.after),
     )
 
