@@ -1,15 +1,15 @@
 -- Faults of calls that were refused.
-use Rattle.std.proofs.Common.{◌≡◌, inl, ℕ, [], List, Option, Some, None, refl, sym, ap, is_some, false, true≢false}
-use Rattle.std.specs.Prelude.{unwrap_or}
+use Rattle.std.proofs.Common.{◌≡◌, ◌<◌, ◌^◌, inl, inr, subst, ℕ, [], List, Option, Some, None, refl, sym, ap, is_some, false, true≢false}
+use Rattle.std.specs.Prelude.{unwrap_or, Result, Ok, Err, IfOk, IfErr, OnOk}
 use Rattle.rand_core.specs.Stream.{Stream}
 use Rattle.cache_entries.specs.declared.entry.CacheEntryKey.{CacheEntryKey}
 use Rattle.cache_entries.specs.declared.rows.Tracked.{Tracked}
 use Rattle.cache_entries.specs.Rows.{weight_of}
 use Rattle.cache_evict.specs.declared.fault.EvictFault.{EvictFault}
 use Rattle.cache_evict.specs.declared.tracker.refusal.Refusal.{Refusal}
-use Rattle.cache_evict.specs.Managed.{Managed, rows_of, put_first, use_first}
+use Rattle.cache_evict.specs.Managed.{Managed, rows_of, put_first, use_first, total_size}
 use Rattle.cache_evict.specs.Refusals.{IsRefusal}
-use Rattle.cache_evict.specs.Faults.{evicted_of, cause_of, StopsAt}
+use Rattle.cache_evict.specs.Faults.{evicted_of, cause_of, RunsOut, StopsAt}
 
 pub stops_at_once : (pick : List (List Tracked) → Stream → ℕ × Stream) (n : ℕ) (e : CacheEntryKey) (w : ℕ) (old new : Managed) (s : Stream) (f : EvictFault) (r : Refusal) → cause_of f ≡ Some r → evicted_of f ≡ [] → IsRefusal n e w old r → new ≡ old
     → StopsAt pick n e w old s f new s
@@ -22,3 +22,19 @@ used_new n e w m none = ap (λ (o : Option ℕ). put_first n e (unwrap_or o w) m
 pub none_there : {X : Type 0} (o : Option X) → false ≡ is_some o → o ≡ None
 none_there None f = refl
 none_there (Some x) f = absurd (true≢false (sym f))
+
+-- ---- a put that is followed by evictions, whose weights fit
+
+pub stops_later : {A : Type 0} (pick : List (List Tracked) → Stream → ℕ × Stream) (n : ℕ) (e : CacheEntryKey) (w : ℕ) (old mid new : Managed) (s rest : Stream) (r : Result A EvictFault)
+    → mid ≡ put_first n e w old → total_size mid < 2 ^ 64 → IfErr r (λ fault. RunsOut pick mid s fault new rest) → IfErr r (λ fault. StopsAt pick n e w old s fault new rest)
+stops_later pick n e w old mid new s rest (Ok x) same fits p = tt
+stops_later pick n e w old mid new s rest (Err f) same fits p =
+    inr (subst (λ (m : Managed). RunsOut pick m s f new rest × (total_size m < 2 ^ 64)) same (p, fits))
+
+pub ok_means : {A B : Type 0} (r : Result A B) (P Q : A → Type 0) → ((x : A) → P x → Q x) → IfOk r P → IfOk r Q
+ok_means (Ok x) P Q f p = f x p
+ok_means (Err x) P Q f p = tt
+
+pub fits_then : {A B : Type 0} (r : Result A B) (size : ℕ) (m mid : Managed) → mid ≡ m → size ≡ total_size mid → size < 2 ^ 64 → OnOk r (total_size m < 2 ^ 64)
+fits_then (Ok x) size m mid same is small = subst (λ (k : Managed). total_size k < 2 ^ 64) same (subst (λ (k : ℕ). k < 2 ^ 64) is small)
+fits_then (Err x) size m mid same is small = tt

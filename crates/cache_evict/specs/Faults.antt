@@ -1,5 +1,5 @@
 -- Faults of managers, and what each leaves.
-use Rattle.std.specs.Prelude.{◌≡◌, ℕ, ◌⊎◌, true, List, [], Option, Some, None, codes}
+use Rattle.std.specs.Prelude.{◌≡◌, ◌<◌, ◌^◌, ℕ, ◌⊎◌, true, List, [], Option, Some, None, codes}
 use Rattle.rand_core.specs.Stream.{Stream}
 use Rattle.cache_entries.specs.declared.entry.CacheEntryKey.{CacheEntryKey}
 use Rattle.cache_entries.specs.declared.rows.Tracked.{Tracked}
@@ -7,7 +7,7 @@ use Rattle.cache_evict.specs.declared.fault.EvictFault.{EvictFault}
 use Rattle.cache_evict.specs.declared.fault.EvictFault.TheVariants.{Memory, Weight, Length, NumbersSpent, File}
 use Rattle.cache_evict.specs.declared.tracker.refusal.Refusal.{Refusal}
 use Rattle.cache_evict.specs.declared.tracker.refusal.Refusal.TheVariants as refusal
-use Rattle.cache_evict.specs.Managed.{Managed, put_first, is_over, Evicts}
+use Rattle.cache_evict.specs.Managed.{Managed, put_first, is_over, total_size, Evicts}
 use Rattle.cache_evict.specs.Refusals.{IsRefusal}
 
 -- the entries evicted until then
@@ -42,7 +42,7 @@ abbrev pub RunsOut : (List (List Tracked) → Stream → ℕ × Stream) → Mana
 RunsOut pick old s fault new rest = (cause_of fault ≡ Some refusal.Memory) × Evicts pick old (evicted_of fault) s new rest × (is_over new ≡ true)
 
 -- a fault of a call that puts e first and then evicts: either e isn't put, and all is as before, or memory runs out in the
--- evictions
+-- evictions, where the weights with e fit
 abbrev pub StopsAt : (List (List Tracked) → Stream → ℕ × Stream) → ℕ → CacheEntryKey → ℕ → Managed → Stream → EvictFault → Managed → Stream → Type 0
 StopsAt pick n e w old s fault new rest =
-    (IsPutRefused n e w old fault × (evicted_of fault ≡ []) × (new ≡ old) × (rest ≡ s)) ⊎ RunsOut pick (put_first n e w old) s fault new rest
+    (IsPutRefused n e w old fault × (evicted_of fault ≡ []) × (new ≡ old) × (rest ≡ s)) ⊎ (RunsOut pick (put_first n e w old) s fault new rest × (total_size (put_first n e w old) < 2 ^ 64))

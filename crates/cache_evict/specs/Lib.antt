@@ -1,4 +1,5 @@
 pub mod Names
+pub mod Parts
 pub mod Places
 pub mod FaultTexts
 pub mod Managed

@@ -7,6 +7,7 @@ pub use cache_words::pack::{PackFault, PackWriteFault};
 pub use fault::EvictFault;
 pub use load_fault::LoadFault;
 pub use manager::EvictionManager;
+pub use parts::KeyParts;
 
 mod fault;
 pub mod laws;
@@ -14,5 +15,6 @@ mod load_fault;
 pub mod lru;
 mod manager;
 pub mod numbers;
+mod parts;
 pub mod simple_lru;
 mod tracker;

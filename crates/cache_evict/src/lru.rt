@@ -1,6 +1,6 @@
 //! Entries in N shards, whose evictions go by two draws.
 
-ghost use Rattle.std.specs.Prelude.{◌≡◌, ◌<◌, ◌++◌, ℕ, List, [], length, max, None, false, is_some, IsOk, IfOk, IfErr, OnOk, OnErr, IsErrOf, MatchOption};
+ghost use Rattle.std.specs.Prelude.{◌≡◌, ◌<◌, ◌^◌, ◌++◌, ℕ, List, [], length, max, None, false, is_some, IsOk, IfOk, IfErr, OnOk, OnErr, IsErrOf, MatchOption};
 ghost use Rattle.cache_entries.specs.Entry.{owned_of};
 ghost use Rattle.cache_entries.specs.Rows.{weight_of, all_weights};
 ghost use Rattle.cache_entries.specs.RowText.{SpellsRecency, recency_at, recency_text};
@@ -8,10 +8,12 @@ ghost use Rattle.cache_entries.specs.declared.rows.Tracked.{Tracked};
 ghost use Rattle.cache_evict.specs.Loads.{Loads, LoadsText, CantBeWritten};
 ghost use Rattle.cache_evict.specs.Managed.{Evicts, IsLast, IsSharded, fresh, rows_at, rows_of, shard_of, put_first, use_first, taken_out, weight_after, is_over, pick_by_draws, total_size, total_items};
 ghost use Rattle.cache_evict.specs.Faults.{evicted_of, IsPutRefused, StopsAt};
+ghost use Rattle.cache_evict.specs.Parts.{entry_with_parts};
 
 use crate::fault::EvictFault;
 use crate::load_fault::LoadFault;
 use crate::manager::EvictionManager;
+use crate::parts::KeyParts;
 use crate::tracker::{Again, Tracker};
 use cache_entries::entry::{CacheEntryKey, CacheEntryKeyRef};
 use cache_words::pack::PackWriteFault;
@@ -154,6 +156,13 @@ impl<const N: usize, S: BuildHasher> Manager<N, S> {
         self.tracker.peek_lru(shard)
     }
 
+    /// Takes the entry of a key alone out, by the key's parts.
+    pub fn remove_parts(&mut self, parts: KeyParts<'_>)
+        ensures { self.new ≡ taken_out N (entry_with_parts parts.entry) self.old }
+    {
+        self.tracker.remove_parts(parts);
+    }
+
     /// Returns the text of the entries of a shard with their weights, most recent first.
     ///
     /// # Errors
@@ -223,7 +232,11 @@ impl<const N: usize, S: BuildHasher> EvictionManager for Manager<N, S> {
         rng: &mut R,
     ) -> Result<Vec<CacheEntryKey>, EvictFault> {
         match self.tracker.admit(item, size.max(1)) {
-            Ok(()) => self.tracker.evict_by_draws(alloc, rng),
+            Ok(()) => {
+                // A usize, so that the sum is known to be below 2^64.
+                let _size = self.tracker.total_size();
+                self.tracker.evict_by_draws(alloc, rng)
+            }
             Err(refusal) => Err(EvictFault::of(alloc, refusal)),
         }
     }
@@ -237,7 +250,10 @@ impl<const N: usize, S: BuildHasher> EvictionManager for Manager<N, S> {
         rng: &mut R,
     ) -> Result<Vec<CacheEntryKey>, EvictFault> {
         match self.tracker.increment(item, delta, max_weight) {
-            Ok(()) => self.tracker.evict_by_draws(alloc, rng),
+            Ok(()) => {
+                let _size = self.tracker.total_size();
+                self.tracker.evict_by_draws(alloc, rng)
+            }
             Err(refusal) => Err(EvictFault::of(alloc, refusal)),
         }
     }

@@ -1,6 +1,6 @@
 //! What every manager of entries does.
 
-ghost use Rattle.std.specs.Prelude.{◌≡◌, ◌≢◌, ℕ, List, [], None, false, is_some, IsOk, IfOk, IfErr, OnOk, OnErr};
+ghost use Rattle.std.specs.Prelude.{◌≡◌, ◌≢◌, ◌<◌, ◌^◌, ℕ, List, [], None, false, is_some, IsOk, IfOk, IfErr, OnOk, OnErr};
 ghost use Rattle.rand_core.specs.Stream.{Stream};
 ghost use Rattle.cache_entries.specs.declared.rows.Tracked.{Tracked};
 ghost use Rattle.cache_entries.specs.Entry.{owned_of};
@@ -66,6 +66,7 @@ pub trait EvictionManager {
     ) -> Result<Vec<CacheEntryKey>, EvictFault>
         ensures ok { IfOk result (λ v. Evicts pick (put_first shard_count item (weighed size) (managed self.old)) v.items (R.stream rng.old) (managed self.new) (R.stream rng.new)) }
         ensures within { OnOk result (is_over (managed self.new) ≡ false) }
+        ensures fits { OnOk result (total_size (put_first shard_count item (weighed size) (managed self.old)) < 2 ^ 64) }
         ensures refused { IfErr result (λ fault. StopsAt pick shard_count item (weighed size) (managed self.old) (R.stream rng.old) fault (managed self.new) (R.stream rng.new)) };
 
     /// Adds `delta` to the weight of an entry, up to `max_weight` but never down, and moves the entry to the front of its

@@ -2,6 +2,7 @@
 
 ghost use Rattle.std.specs.Prelude.{◌≡◌, ℕ, ◌<◌, ◌+◌, [], length, Some, IfSome, IfNone, IfOk, OnOk, OnErr, option_copied};
 ghost use Rattle.cache_entries.specs.Entry.{owned_of};
+ghost use Rattle.cache_evict.specs.Parts.{entry_with_parts};
 ghost use Rattle.cache_evict.specs.Names.{name_at, IsOneToOne, HasNoNumber, with_name, without_name, IsFirstFree, IsSpent, HasMany};
 ghost use Rattle.lru_core.specs.declared.rows.TheConstants.{MOST_ROWS};
 
@@ -9,6 +10,7 @@ mod fault;
 mod search;
 mod table;
 
+use crate::parts::KeyParts;
 use cache_entries::entry::{CacheEntryKey, CacheEntryKeyRef};
 pub use fault::NumbersFault;
 use indexmap::IndexMap;
@@ -105,6 +107,14 @@ impl<const N: usize, S: BuildHasher> Numbers<N, S> {
         ensures none { IfNone result (HasNoNumber (name_at self.now) (owned_of entry.entry)) }
     {
         self.entries.get(entry).copied()
+    }
+
+    /// Returns the number of the entry of a key alone, by the key's parts.
+    pub fn number_of_parts(&self, parts: KeyParts<'_>) -> Option<u64>
+        ensures some { IfSome result (λ k. name_at self.now k ≡ Some (entry_with_parts parts.entry)) }
+        ensures none { IfNone result (HasNoNumber (name_at self.now) (entry_with_parts parts.entry)) }
+    {
+        self.entries.get(parts).copied()
     }
 
     /// Returns the entry of a number.

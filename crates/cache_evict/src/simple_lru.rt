@@ -1,6 +1,6 @@
 //! Entries in one list, whose evictions go by no draw.
 
-ghost use Rattle.std.specs.Prelude.{◌≡◌, ◌≢◌, ◌++◌, ℕ, List, [], None, false, is_some, IsOk, IfOk, IfErr, OnOk, OnErr, IsErrOf};
+ghost use Rattle.std.specs.Prelude.{◌≡◌, ◌≢◌, ◌<◌, ◌^◌, ◌++◌, ℕ, List, [], None, false, is_some, IsOk, IfOk, IfErr, OnOk, OnErr, IsErrOf};
 ghost use Rattle.cache_entries.specs.declared.rows.Tracked.{Tracked};
 ghost use Rattle.cache_entries.specs.Entry.{owned_of};
 ghost use Rattle.cache_entries.specs.RowText.{SpellsRecency, recency_at, recency_text};
@@ -169,6 +169,8 @@ impl<const N: usize, S: BuildHasher> EvictionManager for OneList<N, S> {
         if let Err(refusal) = self.tracker.admit(item, size) {
             return Err(EvictFault::of(alloc, refusal));
         }
+        // A usize, so that the sum is known to be below 2^64.
+        let _size = self.tracker.total_size();
         self.tracker.evict_in_order(alloc)
     }
 
@@ -183,6 +185,7 @@ impl<const N: usize, S: BuildHasher> EvictionManager for OneList<N, S> {
         if let Err(refusal) = self.tracker.increment(item, delta, max_weight) {
             return Err(EvictFault::of(alloc, refusal));
         }
+        let _size = self.tracker.total_size();
         self.tracker.evict_in_order(alloc)
     }
 

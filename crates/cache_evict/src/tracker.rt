@@ -4,6 +4,7 @@ ghost use Rattle.std.specs.Prelude.{◌≡◌, ◌≢◌, ℕ, None, true, false
 ghost use Rattle.cache_entries.specs.Entry.{owned_of};
 ghost use Rattle.cache_entries.specs.Rows.{weight_of};
 ghost use Rattle.cache_evict.specs.Managed.{rows_of, put_at, put_first, use_first, taken_out, weight_after};
+ghost use Rattle.cache_evict.specs.Parts.{entry_with_parts};
 ghost use Rattle.cache_evict.specs.Refusals.{IsRefusal};
 
 mod eviction;
@@ -14,6 +15,7 @@ mod totals;
 mod writing;
 
 use crate::numbers::Numbers;
+use crate::parts::KeyParts;
 use cache_entries::entry::{CacheEntryKey, CacheEntryKeyRef};
 pub use loading::Again;
 use lru_core::LruCore;
@@ -132,6 +134,16 @@ impl<const N: usize, S: BuildHasher> Tracker<N, S> {
         ensures why { IfErr result (IsRefusal N entry weight self.old) }
     {
         put_new(&mut self.numbers, &mut self.core, entry, weight, end)
+    }
+
+    /// Takes the entry of a key alone out, by the key's parts.
+    pub fn remove_parts(&mut self, parts: KeyParts<'_>)
+        ensures { self.new ≡ taken_out N (entry_with_parts parts.entry) self.old }
+    {
+        if let Some(number) = self.numbers.number_of_parts(parts) {
+            let _row = self.core.remove(number);
+            take_back(&mut self.numbers, number);
+        }
     }
 
     /// Takes an entry out.
