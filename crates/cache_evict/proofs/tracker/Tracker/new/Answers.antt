@@ -9,7 +9,7 @@ use Rattle.cache_evict.proofs.tracker.Tracker.new.Goals as goal
 
 pub invariant_of-result : goal.invariant_of-result
 invariant_of-result g c =
-    IsNumbered-fresh g.row.N (name_at c.with_hasher.result) c.in_ok-core.core.shards c.requires (λ i. ap (λ (l : List (CacheEntryKey × ℕ)). name_at l i) c.with_hasher.ensures) (ap (λ (core : Core ℕ). core.shards) c.in_ok-core.ensures)
+    IsNumbered-fresh g.row.N (name_at c.with_hasher-2.result) c.in_ok-core.core.shards c.requires (λ i. ap (λ (l : List (CacheEntryKey × ℕ)). name_at l i) c.with_hasher-2.ensures) (ap (λ (core : Core ℕ). core.shards) c.in_ok-core.ensures)
 
 pub returns : goal.returns
-returns g c = rw c.in_ok-core.ensures (ap (λ (l : List (List Tracked)). record (fresh g.row.N c.args.limit c.args.watermark) { shards = l }) (fresh_seen (name_at c.with_hasher.result) g.row.N))
+returns g c = rw c.in_ok-core.ensures (ap (λ (l : List (List Tracked)). record (fresh g.row.N c.args.limit c.args.watermark) { shards = l }) (fresh_seen (name_at c.with_hasher-2.result) g.row.N))
