@@ -1,5 +1,5 @@
 -- What a lock answers in a state, and what each answer changes.
-use Rattle.std.specs.Prelude.{◌≡◌, ◌⊎◌, ℕ, ◌-◌, ◌^◌, Bool, List, [], ◌∷◌, Option, Some, None, option_map, if◌then◌else◌}
+use Rattle.std.specs.Prelude.{◌≡◌, ◌⊎◌, ℕ, ◌-◌, ◌^◌, Bool, true, false, ◌&&◌, List, [], ◌∷◌, Option, Some, None, option_map, if◌then◌else◌}
 use Rattle.std.specs.FinMap.{get}
 use Rattle.cache_words.specs.Time.{MomentValue, elapsed, at_least}
 use Rattle.cache_lock.specs.declared.lock_core.HeldCore.{HeldCore}
@@ -50,6 +50,9 @@ release_changes key n reason s =
     then spends n ∷ []
     else spends n ∷ stores n (reason_stored reason (get s.current key)) ∷ takes_out key ∷ []
 
+abbrev pub unlock_changes : ℕ → LockStatus → List Change
+unlock_changes n reason = spends n ∷ stores n reason ∷ []
+
 -- a permit that is dropped is Dangling
 abbrev pub leave_changes : Locked → List Change
 leave_changes (Write permit) = spends permit.number ∷ stores permit.number Dangling ∷ []
@@ -73,3 +76,17 @@ wait_outcome n fills moment s = outcome (get s.cores n) (tokens_of n s) fills mo
 abbrev pub poll_changes : ℕ → Option WaitOutcome → List Change
 poll_changes n (Some Aged) = stores n AgeTimeout ∷ []
 poll_changes n _ = []
+
+-- what a permit and a read lock tell of their core
+abbrev pub is_stale : Option HeldCore → Bool
+is_stale None = false
+is_stale (Some c) = c.core.stale_writer
+
+abbrev pub is_expired : Option HeldCore → MomentValue → Bool
+is_expired None moment = true
+is_expired (Some c) moment = is_over_age c.core moment
+
+-- one that waits past its age has AgeTimeout, though no poll stored it
+abbrev pub status_at_moment : Option HeldCore → MomentValue → LockStatus
+status_at_moment None moment = Dangling
+status_at_moment (Some c) moment = if is_waiting c.core.status && is_over_age c.core moment then AgeTimeout else c.core.status

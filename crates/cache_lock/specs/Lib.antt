@@ -6,3 +6,5 @@ pub mod Fills
 pub mod State
 pub mod StateCode
 pub mod Answers
+pub mod Outcomes
+pub mod Waits

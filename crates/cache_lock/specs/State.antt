@@ -25,6 +25,9 @@ fresh_core age stale moment = record { lock_start = moment; age_timeout = age; s
 abbrev pub given_core : List ℕ → Bool → MomentValue → DurationValue → HeldCore
 given_core key stale moment age = record { core = fresh_core age stale moment; key = key; names = 1 }
 
+abbrev pub core_in : Option HeldCore → Option LockCore
+core_in o = option_map (λ c. c.core) o
+
 -- the status of a core; Dangling where nobody names it
 abbrev pub status_in : Option HeldCore → LockStatus
 status_in None = Dangling

@@ -1,7 +1,10 @@
 //! Fills that a reader can't use, by the tokens under which writers publish them.
 ghost use Rattle.std.specs.Prelude.{◌≡◌, option_copied};
 ghost use Rattle.cache_lock.specs.Fills.{is_published, fill_among};
+ghost use Rattle.cache_lock.specs.Outcomes.{status_of_outcome};
 
+use crate::status::LockStatus;
+use cache_heads::NoCacheReason;
 use std::marker::Model;
 
 /// A fill that a reader can't use.
@@ -65,6 +68,46 @@ pub enum WaitOutcome {
     AgeTimeout,
     /// The writer published a fill that the reader can't use.
     Abandoned(UnusableFill),
+}
+
+/// How a wait ended, as the one who waited is told.
+#[derive(Clone, Copy, Debug, PartialEq, Eq)]
+pub enum LockWaitOutcome {
+    /// The response is stored.
+    Done,
+    /// The writer failed, and another may not.
+    TransientError,
+    /// The permit was dropped.
+    Dangling,
+    /// The reader waited for its longest time.
+    WaitTimeout,
+    /// The permit is older than the lock's age.
+    AgeTimeout,
+    /// The response is not kept.
+    GiveUp,
+    /// The writer published a fill that the reader can't use.
+    Abandoned {
+        /// Why the reader can't use it.
+        reason: NoCacheReason,
+        /// What the writer published of it.
+        token: u64,
+    },
+}
+
+impl LockWaitOutcome {
+    /// Returns the status of the same name; of `Abandoned` it is `GiveUp`.
+    pub fn lock_status(&self) -> LockStatus
+        ensures { result ≡ status_of_outcome self.now }
+    {
+        match self {
+            LockWaitOutcome::Done => LockStatus::Done,
+            LockWaitOutcome::TransientError => LockStatus::TransientError,
+            LockWaitOutcome::Dangling => LockStatus::Dangling,
+            LockWaitOutcome::WaitTimeout => LockStatus::WaitTimeout,
+            LockWaitOutcome::AgeTimeout => LockStatus::AgeTimeout,
+            LockWaitOutcome::GiveUp | LockWaitOutcome::Abandoned { .. } => LockStatus::GiveUp,
+        }
+    }
 }
 
 // The tokens that a writer published last.

@@ -3,6 +3,7 @@
 
 mod fault;
 mod fills;
+mod key_lock;
 mod lock;
 mod lock_core;
 mod status;
@@ -10,7 +11,8 @@ mod table;
 mod tokens;
 
 pub use fault::LockFault;
-pub use fills::{UnusableFill, UnusableFills, WaitOutcome};
+pub use fills::{LockWaitOutcome, UnusableFill, UnusableFills, WaitOutcome};
+pub use key_lock::CacheKeyLock;
 pub use lock::CacheLock;
 pub use lock_core::LockCore;
 pub use status::LockStatus;

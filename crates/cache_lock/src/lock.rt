@@ -1,20 +1,17 @@
 //! The lock.
-ghost use Rattle.std.specs.Prelude.{◌≡◌, ◌∷◌, [], OnOk, OnErr, IfOk, ◌≢◌, true, is_some, option_map};
-ghost use Rattle.std.specs.FinMap as finite;
-ghost use Rattle.cache_words.specs.Key.{key_of, combined};
-ghost use Rattle.cache_lock.specs.Changes.{gives, lends, stores, takes_out, spends};
-ghost use Rattle.cache_lock.specs.State.{after, after_all, status_of, empty_lock};
-ghost use Rattle.cache_lock.specs.Answers.{to_wait_for, locked_by, lock_change, IsSpent, release_changes, leave_changes, wait_outcome, poll_changes};
+ghost use Rattle.std.specs.Prelude.{◌≡◌, IfOk};
+ghost use Rattle.cache_lock.specs.State.{empty_lock};
 
 use crate::fault::LockFault;
 use crate::fills::{PublishedTokens, UnusableFills, WaitOutcome};
+use crate::key_lock::CacheKeyLock;
 use crate::lock_core::{HeldCore, LockCore};
 use crate::status::LockStatus;
 use crate::table::{ByKey, ByNumber};
 use crate::tokens::{Locked, ReadLock, WritePermit};
-use cache_words::key::{CacheHashKey, CacheKey, HashBinary};
+use cache_words::key::{CacheHashKey, CacheKey};
 use cache_words::time::{Duration, Moment};
-use std::alloc::Global;
+use std::alloc::{AllocError, Global};
 use std::hash::{BuildHasher, BuildHasherDefault, FoldHasher};
 use std::marker::Model;
 
@@ -56,6 +53,13 @@ impl CacheLock<BuildHasherDefault<FoldHasher>> {
     {
         CacheLock::with_hasher(alloc, age_timeout, BuildHasherDefault::new())
     }
+
+    /// Returns such a lock in a box.
+    pub fn new_boxed(alloc: Global, age_timeout: Duration) -> Result<Box<Self>, AllocError>
+        ensures { IfOk result (λ l. l.value ≡ empty_lock age_timeout) }
+    {
+        Ok(Box::new(alloc, CacheLock::new(alloc, age_timeout))?)
+    }
 }
 
 impl<S: BuildHasher + Copy> CacheLock<S> {
@@ -74,19 +78,15 @@ impl<S: BuildHasher + Copy> CacheLock<S> {
     }
 }
 
-impl<S: BuildHasher> CacheLock<S> {
-    /// Returns a read lock of the key's core, if it waits or is done, and otherwise the permit, under a new core.
-    pub fn lock(
+impl<S: BuildHasher> CacheKeyLock for CacheLock<S> {
+    ghost state = { λ l. l };
+
+    fn lock(
         &mut self,
         key: &CacheKey,
         stale_writer: bool,
         moment: Moment,
-    ) -> Result<Locked, LockFault>
-        ensures answer { IfOk result (λ l. l ≡ locked_by self.old (to_wait_for (combined (key_of key.now)) self.old)) }
-        ensures change { OnOk result (self.new ≡ after (lock_change (combined (key_of key.now)) stale_writer moment self.old (to_wait_for (combined (key_of key.now)) self.old)) self.old) }
-        ensures err { OnErr result (self.new ≡ self.old) }
-        ensures spent { result ≡ Err LockFault.CoreNumbersSpent → IsSpent self.old (to_wait_for (combined (key_of key.now)) self.old) }
-    {
+    ) -> Result<Locked, LockFault> {
         let key = key.combined_bin();
         match self.to_wait_for(&key) {
             Some(number) => self.lend(number),
@@ -94,12 +94,7 @@ impl<S: BuildHasher> CacheLock<S> {
         }
     }
 
-    /// Spends a permit: its key has no core any more, and the reason is stored in the permit's, or `Dangling` where
-    /// the key has none. Where a poll found the permit past its age, the key and that status stay.
-    pub fn release(&mut self, key: &CacheKey, permit: WritePermit, reason: LockStatus)
-        requires { reason ≢ LockStatus.WaitTimeout }
-        ensures { self.new ≡ after_all (release_changes (combined (key_of key.now)) permit.number reason self.old) self.old }
-    {
+    fn release(&mut self, key: &CacheKey, permit: WritePermit, reason: LockStatus) {
         let WritePermit { number } = permit;
         if !matches!(self.status_of(number), LockStatus::AgeTimeout) {
             let key = key.combined_bin();
@@ -113,10 +108,13 @@ impl<S: BuildHasher> CacheLock<S> {
         self.spend(number);
     }
 
-    /// Spends a permit that is dropped, which is then `Dangling`, or a read lock.
-    pub fn leave(&mut self, locked: Locked)
-        ensures { self.new ≡ after_all (leave_changes locked) self.old }
-    {
+    fn unlock(&mut self, permit: WritePermit, reason: LockStatus) {
+        let WritePermit { number } = permit;
+        self.store(number, reason);
+        self.spend(number);
+    }
+
+    fn leave(&mut self, locked: Locked) {
         match locked {
             Locked::Write(WritePermit { number }) => {
                 self.store(number, LockStatus::Dangling);
@@ -126,21 +124,38 @@ impl<S: BuildHasher> CacheLock<S> {
         }
     }
 
-    /// Returns how a wait ended, the first that holds: the permit has ended; it is past its age, which is then stored;
-    /// a fill that the reader can't use is published. `None` while the wait goes on. Moments may come in any order.
-    pub fn poll_wait(
+    fn publish(
+        &mut self,
+        alloc: Global,
+        permit: &WritePermit,
+        tokens: &[u64],
+    ) -> Result<(), AllocError> {
+        if self.cores.get(permit.number).is_none() {
+            return Ok(());
+        }
+        let mut list = Vec::new(alloc);
+        list.extend_from_slice(tokens)?;
+        self.published
+            .insert(permit.number, PublishedTokens::new(list))
+    }
+
+    fn poll_wait(
         &mut self,
         read: &ReadLock,
         fills: &UnusableFills,
         moment: Moment,
-    ) -> Option<WaitOutcome>
-        ensures outcome { result ≡ wait_outcome read.now.number fills.now.fills.items moment self.old }
-        ensures change { self.new ≡ after_all (poll_changes read.now.number result) self.old }
-    {
+    ) -> Option<WaitOutcome> {
         let outcome = self.outcome(read.number, fills, moment);
         if let Some(WaitOutcome::AgeTimeout) = outcome {
             self.store(read.number, LockStatus::AgeTimeout);
         }
         outcome
+    }
+
+    fn core(&self, number: u64) -> Option<LockCore> {
+        match self.cores.get(number) {
+            Some(held) => Some(held.core),
+            None => None,
+        }
     }
 }
