@@ -4,6 +4,7 @@
 mod fault;
 mod fills;
 mod key_lock;
+pub mod laws;
 mod lock;
 mod lock_core;
 mod status;
