@@ -1,6 +1,6 @@
 -- What finishes and removals do to the bodies that keys have.
 use Rattle.std.proofs.Common.{◌≡◌, ℕ, refl, ap, sym, ◌∙◌, true, false, subst, cond, [], ◌∷◌, nat_eq}
-use Rattle.std.specs.Prelude.{Bool, List, Option, Some, None, option_map, not, find, filter, map}
+use Rattle.std.specs.Prelude.{Bool, List, Option, Some, None, option_map, is_some, not, find, filter, map}
 use Rattle.std.specs.Map.{lookup}
 use Rattle.std.specs.Cmp.Lexicographic.{pointwise}
 use Rattle.cache_heads.specs.declared.meta.CacheMeta.{CacheMeta}
@@ -12,6 +12,7 @@ use Rattle.cache_changes.proofs.RowLaws.{find-kept, find-gone, not_true, not_fal
 use Rattle.mem_cache.specs.declared.flight.Body.{Body}
 use Rattle.mem_cache.specs.Agree.{settled, settled_flying, Agree}
 use Rattle.mem_cache.specs.Kept.{body_of, bodies_of}
+use Rattle.mem_cache.specs.Renewals.{body_with, stored_with}
 use Rattle.mem_cache.proofs.SeenLaws.{same-sym}
 use Rattle.mem_cache.proofs.FirstLaws.{body-found}
 
@@ -67,3 +68,27 @@ pub kept-removed : (old new : List (StoredKey × Body)) (key : StoredKey) → ((
 kept-removed old new key h k =
     body-found k new ∙ ap (option_map (λ x. body_of (k, x))) (h k) ∙ none_option k (same_bytes key k) (lookup (pointwise nat_eq k) old)
     ∙ ap (cond (same_bytes key k) None) (sym (body-found k old)) ∙ sym (body-removed key (bodies_of old) k)
+
+-- a body's meta changes
+pub has-body : (k : StoredKey) (es : List (StoredKey × Body)) → is_some (lookup (pointwise nat_eq k) es) ≡ is_some (find (is_of k) (bodies_of es))
+has-body k es = by_option (lookup (pointwise nat_eq k) es) ∙ sym (ap is_some (body-found k es))
+  where
+    by_option : (o : Option Body) → is_some o ≡ is_some (option_map (λ b. body_of (k, b)) o)
+    by_option None = refl
+    by_option (Some b) = refl
+
+changed-option : (k : StoredKey) (change : CacheMeta → CacheMeta) (o : Option Body) → option_map (λ b. body_of (k, b)) (option_map (body_with change) o) ≡ option_map (stored_with change) (option_map (λ b. body_of (k, b)) o)
+changed-option k change None = refl
+changed-option k change (Some b) = refl
+
+pub kept-renewed : (key : StoredKey) (change : CacheMeta → CacheMeta) (old new : List (StoredKey × Body))
+    → ((k : StoredKey) → lookup (pointwise nat_eq k) new ≡ cond (pointwise nat_eq key k) (option_map (body_with change) (lookup (pointwise nat_eq key) old)) (lookup (pointwise nat_eq k) old))
+    → (k : StoredKey) → find (is_of k) (bodies_of new) ≡ cond (same_bytes key k) (option_map (stored_with change) (find (is_of key) (bodies_of old))) (find (is_of k) (bodies_of old))
+kept-renewed key change old new h k = body-found k new ∙ ap (option_map (λ b. body_of (k, b))) (h k) ∙ by_test (same_bytes key k) refl
+  where
+    by_test : (v : Bool) → same_bytes key k ≡ v → option_map (λ b. body_of (k, b)) (cond v (option_map (body_with change) (lookup (pointwise nat_eq key) old)) (lookup (pointwise nat_eq k) old))
+        ≡ cond v (option_map (stored_with change) (find (is_of key) (bodies_of old))) (find (is_of k) (bodies_of old))
+    by_test true e =
+        ap (λ (j : StoredKey). option_map (λ b. body_of (j, b)) (option_map (body_with change) (lookup (pointwise nat_eq key) old))) (sym (same_bytes-tells.equal key k e))
+        ∙ changed-option key change (lookup (pointwise nat_eq key) old) ∙ ap (option_map (stored_with change)) (sym (body-found key old))
+    by_test false e = sym (body-found k old)

@@ -1,5 +1,5 @@
 -- Readers: of a whole body, and of a write as it comes.
-use Rattle.std.specs.Prelude.{◌≡◌, ℕ, ◌==◌, ◌+◌, ◌-◌, ◌||◌, not, min, IsOk, Bool, true, false, nat_lt, List, drop, length, slice_range, Option, Some, None, option_map, option_and_then, Result, Ok, Err, MatchResult, find, if◌then◌else◌}
+use Rattle.std.specs.Prelude.{◌≡◌, ℕ, ◌==◌, ◌+◌, ◌-◌, ◌^◌, ◌<◌, ⊤, ◌||◌, not, min, IsOk, Bool, true, false, nat_lt, List, drop, length, slice_range, Option, Some, None, option_map, option_and_then, Result, Ok, Err, MatchResult, find, if◌then◌else◌}
 use Rattle.cache_heads.specs.declared.meta.CacheMeta.{CacheMeta}
 use Rattle.cache_changes.specs.Store.{Flying, flying_at}
 use Rattle.cache_store.specs.declared.storage.ReadStep.{ReadStep}
@@ -101,3 +101,8 @@ pub record IsParted (n : ℕ) (old new : Held) : Type 0 where
   pub store : new.store ≡ old.store
   pub next : new.next ≡ old.next
   pub readings : (m : ℕ) → reading_at m new.readings ≡ (if n == m then one_less (reading_at n old.readings) else reading_at m old.readings)
+
+-- the place past what was read is a number of memory
+abbrev pub FitsPast : ℕ → Result ReadStep StoreFault → Type 0
+FitsPast place (Ok (Bytes bytes)) = place + length bytes < 2 ^ 64
+FitsPast place _ = ⊤

@@ -1,5 +1,5 @@
 -- What is kept of bodies, of writes in flight and of their readers, as a plain state.
-use Rattle.std.specs.Prelude.{◌≡◌, ℕ, ◌<◌, Bool, true, not, cond, List, Option, Some, option_map, map}
+use Rattle.std.specs.Prelude.{◌≡◌, ℕ, ◌<◌, Bool, true, not, cond, ◌+◌, ◌-◌, nat_lt, List, Option, Some, None, option_map, map}
 use Rattle.std.specs.List.{AllByRecursion}
 use Rattle.std.specs.Ordering.{nat_cmp}
 use Rattle.std.specs.BTreeMap as tree
@@ -63,3 +63,15 @@ pub record IsSound (alive : StoredKey → ℕ → Bool) (flights : BTreeMap ℕ 
   pub ordered : tree.IsOrdered nat_cmp flights
   pub below : AllByRecursion (λ n. n < next) (tree.keys flights)
   pub known : (k : StoredKey) (n : ℕ) → alive k n ≡ true → key_at flights n ≡ Some k
+
+-- the readers of a write, counted anew, with one more, and with one less
+abbrev pub counted : ℕ → Readers → Readers
+counted n r = record r { count = n }
+
+abbrev pub joined : Option Readers → Readers
+joined None = record { count = 1; left = None }
+joined (Some r) = counted (r.count + 1) r
+
+abbrev pub parted : Option Readers → Option Readers
+parted None = None
+parted (Some r) = cond (nat_lt 1 r.count) (Some (counted (r.count - 1) r)) None

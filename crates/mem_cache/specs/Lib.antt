@@ -4,4 +4,9 @@ pub mod Answers
 pub mod Held
 pub mod Hits
 pub mod Kept
+pub mod Looks
+pub mod Misses
+pub mod Purges
+pub mod Readings
+pub mod Renewals
 pub mod Shown

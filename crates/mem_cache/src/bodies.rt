@@ -1,10 +1,13 @@
 //! The finished bodies.
-ghost use Rattle.std.specs.Prelude.{◌≡◌, ◌<◌, List, ℕ, Some, None, cond, nat_eq, OnOk, OnErr};
+ghost use Rattle.std.specs.Prelude.{◌≡◌, ◌<◌, List, ℕ, Some, None, cond, is_some, option_map, nat_eq, OnOk, OnErr};
 ghost use Rattle.std.specs.Cmp.Lexicographic.{pointwise};
 ghost use Rattle.std.specs.HashMap.{get, spare};
+ghost use Rattle.mem_cache.specs.Renewals.{expired, body_with};
 
 use crate::flight::Body;
+use cache_heads::CacheMeta;
 use cache_words::key::HashBinary;
+use cache_words::time::Moment;
 use std::alloc::AllocError;
 use std::collections::HashMap;
 use std::hash::BuildHasher;
@@ -34,4 +37,40 @@ pub(crate) fn remove<S: BuildHasher>(bodies: &mut Bodies<S>, key: &HashBinary)
     ensures { (k : List ℕ) → get (pointwise nat_eq) bodies.new k ≡ cond (pointwise nat_eq key.now k) None (get (pointwise nat_eq) bodies.old k) }
 {
     bodies.remove(key);
+}
+
+// Lets the body of a key go stale at a moment, and returns whether there is one.
+pub(crate) fn expire<S: BuildHasher>(
+    bodies: &mut Bodies<S>,
+    key: &HashBinary,
+    moment: Moment,
+) -> bool
+    ensures found { result ≡ is_some (get (pointwise nat_eq) bodies.old key.now) }
+    ensures after { (k : List ℕ) → get (pointwise nat_eq) bodies.new k ≡ cond (pointwise nat_eq key.now k) (option_map (body_with (expired moment)) (get (pointwise nat_eq) bodies.old key.now)) (get (pointwise nat_eq) bodies.old k) }
+{
+    match bodies.get_mut(key) {
+        Some(body) => {
+            body.meta.expire_at(moment);
+            true
+        }
+        None => false,
+    }
+}
+
+// Gives the body of a key another meta, and returns whether there is one.
+pub(crate) fn set_meta<S: BuildHasher>(
+    bodies: &mut Bodies<S>,
+    key: &HashBinary,
+    meta: CacheMeta,
+) -> bool
+    ensures found { result ≡ is_some (get (pointwise nat_eq) bodies.old key.now) }
+    ensures after { (k : List ℕ) → get (pointwise nat_eq) bodies.new k ≡ cond (pointwise nat_eq key.now k) (option_map (body_with (λ _. meta)) (get (pointwise nat_eq) bodies.old key.now)) (get (pointwise nat_eq) bodies.old k) }
+{
+    match bodies.get_mut(key) {
+        Some(body) => {
+            body.meta = meta;
+            true
+        }
+        None => false,
+    }
 }

@@ -1,18 +1,21 @@
 //! The store in memory.
-ghost use Rattle.std.specs.Prelude.{◌≡◌, ◌↔◌, ◌+◌, ◌-◌, ◌^◌, ℕ, [], Some, option_map, is_some, Ok, Err, IfOk, IfErr, OnOk, OnErr};
+ghost use Rattle.std.specs.Prelude.{◌≡◌, ◌≢◌, ◌↔◌, ◌+◌, ◌-◌, ◌^◌, ℕ, [], Some, option_map, is_some, Ok, Err, IfOk, IfErr, OnOk, OnErr};
 ghost use Rattle.cache_changes.specs.Changes.{begins, removes};
 ghost use Rattle.cache_changes.specs.Store.{after, empty_store, flying_at, is_found_at};
+ghost use Rattle.cache_metas.specs.Internal.{IsWritable};
 ghost use Rattle.cache_heads.specs.declared.meta.CacheMeta.{CacheMeta as MetaValue};
 ghost use Rattle.cache_store.specs.declared.storage.StoreFault.{StoreFault as Fault};
 ghost use Rattle.mem_cache.specs.Agree.{Agree};
 ghost use Rattle.mem_cache.specs.Answers.{WriteAnswer, after_write, alive_key, left, IsFinished, FinishAnswer, look_up};
-ghost use Rattle.mem_cache.specs.Hits.{ReadAnswer, readable};
+ghost use Rattle.mem_cache.specs.Hits.{ReadAnswer, FitsPast, readable, IsJoined, IsParted};
 ghost use Rattle.mem_cache.specs.Shown.{shown_of};
 
 use crate::alive::{self, Alive};
 use crate::bodies::{self, Bodies};
 use crate::flight::{Body, Buffer, Flight, Shown};
 use crate::flights::{self, Flights};
+use crate::handlers::MemMissHandler;
+use crate::meta::written_copy;
 use crate::readers::{self, AllReaders};
 use cache_heads::CacheMeta;
 use cache_store::storage::{ReadStep, StoreFault};
@@ -21,6 +24,8 @@ use std::alloc::Global;
 use std::collections::{BTreeMap, HashMap};
 use std::hash::{BuildHasher, BuildHasherDefault, FoldHasher};
 use std::marker::Model;
+
+mod renewals;
 
 /// Bodies and writes in flight, by stored key. A contract sees the plain state that changes leave, the number of the next
 /// write, and the writes that have readers.
@@ -86,6 +91,7 @@ impl<S: BuildHasher> MemCache<S> {
         }) }
         ensures err { OnErr result (self.new ≡ self.old) }
         ensures spent { result ≡ Err Fault.WriteNumbersSpent ↔ (self.old.next ≡ 2 ^ 64 - 1) }
+        ensures kind { result ≢ Err Fault.MetaMoment }
     {
         let number = self.next;
         let Some(next) = number.checked_add(1) else {
@@ -106,6 +112,32 @@ impl<S: BuildHasher> MemCache<S> {
         }
         self.next = next;
         Ok(number)
+    }
+
+    // Begins a write with a copy of a meta.
+    pub(crate) fn begin_copy(
+        &mut self,
+        key: HashBinary,
+        meta: &CacheMeta,
+    ) -> Result<MemMissHandler, StoreFault>
+        ensures number { IfOk result (λ handler. handler ≡ self.old.next) }
+        ensures begun { OnOk result (self.new ≡ record self.old {
+          store = after (begins (record { number = self.old.next; key = key; meta = meta.now })) self.old.store;
+          next = self.old.next + 1;
+        }) }
+        ensures writable { OnOk result (IsWritable meta.now.internal) }
+        ensures moment { result ≡ Err Fault.MetaMoment → IsWritable meta.now.internal → ⊥ }
+        ensures spent { result ≡ Err Fault.WriteNumbersSpent → self.old.next ≡ 2 ^ 64 - 1 }
+        ensures err { OnErr result (self.new ≡ self.old) }
+    {
+        let copy = match written_copy(self.alloc, meta) {
+            Ok(copy) => copy,
+            Err(fault) => return Err(fault),
+        };
+        match self.begin(key, copy) {
+            Ok(number) => Ok(MemMissHandler::new(number)),
+            Err(fault) => Err(fault),
+        }
     }
 
     // Adds bytes to a write, and marks its end where they are the last.
@@ -222,7 +254,8 @@ impl<S: BuildHasher> MemCache<S> {
 
     // Does a step of reading a write from a place.
     pub(crate) fn read(&self, number: u64, place: usize) -> Result<ReadStep, StoreFault>
-        ensures { ReadAnswer (readable number self.now) place result }
+        ensures answer { ReadAnswer (readable number self.now) place result }
+        ensures fits { FitsPast place result }
     {
         if let Some(flight) = self.flights.get(&number) {
             return flight.buffer.read_from(self.alloc, place, flight.ended);
@@ -231,5 +264,23 @@ impl<S: BuildHasher> MemCache<S> {
             Some(buffer) => buffer.read_from(self.alloc, place, true),
             None => Ok(ReadStep::End),
         }
+    }
+    // Counts one more reader of a write.
+    pub(crate) fn attach(&mut self, number: u64) -> Result<(), StoreFault>
+        ensures fault { IfErr result (λ f. f ≡ Fault.Memory) }
+        ensures ok { OnOk result (IsJoined number self.old self.new) }
+        ensures err { OnErr result (self.new ≡ self.old) }
+    {
+        if let Err(fault) = readers::attach(&mut self.readers, number) {
+            return Err(fault);
+        }
+        Ok(())
+    }
+
+    // Counts one reader of a write less.
+    pub(crate) fn detach(&mut self, number: u64)
+        ensures { IsParted number self.old self.new }
+    {
+        readers::detach(&mut self.readers, number);
     }
 }

@@ -6,6 +6,21 @@ use bytes::Bytes;
 use cache_store::storage::{ReadStep, StoreFault};
 use std::marker::Model;
 
+mod hit;
+mod miss;
+mod stream;
+
+pub use miss::MemMissHandler;
+pub use stream::PartialHit;
+
+/// A reader of what is stored under a key. It is spent by `finish`.
+pub enum MemHitHandler {
+    /// Of a finished body.
+    Complete(CompleteHit),
+    /// Of a write, as it comes.
+    Partial(PartialHit),
+}
+
 /// A reader of a finished body, which it keeps whatever becomes of the key.
 #[derive(Drop)]
 pub struct CompleteHit {

@@ -8,6 +8,9 @@ mod flight;
 mod flights;
 pub mod handlers;
 pub mod laws;
+mod lookup;
+mod meta;
 mod readers;
+mod storage;
 
 pub use cache::MemCache;

@@ -1,6 +1,6 @@
 //! The bytes of a write.
 ghost use Rattle.std.specs.Prelude.{◌≡◌, ◌++◌, ◌≤◌, length, drop, Some, IfOk, OnOk, OnErr};
-ghost use Rattle.mem_cache.specs.Hits.{ReadAnswer};
+ghost use Rattle.mem_cache.specs.Hits.{ReadAnswer, FitsPast};
 ghost use Rattle.mem_cache.specs.Kept.{bytes_in};
 
 use super::Buffer;
@@ -65,7 +65,8 @@ impl Buffer {
         place: usize,
         over: bool,
     ) -> Result<ReadStep, StoreFault>
-        ensures { ReadAnswer (Some (bytes_in self.now, over)) place result }
+        ensures answer { ReadAnswer (Some (bytes_in self.now, over)) place result }
+        ensures fits { FitsPast place result }
     {
         if place < self.len() {
             return match self.rest(alloc, place) {
