@@ -15,7 +15,7 @@ returns-in-Ok-clause-after g c =
     let rows : c.increment_weight.new.self.rows ≡ weighing c.args.key c.args.item c.in-Ok.new c.args.unit.now.rows =
     weighed_after c.args.key c.args.item c.in-Ok.new c.args.unit.now.rows c.increment_weight.new.self.rows (λ n. ap (λ u. u.rows) (c.in-Ok.ensures.moved n))
     (λ n.
-      let p = c.in-Ok.ensures.admitted n in
-      let same : p.0 ≡ c.args.item = (let made = p.1 in search rules) in
-      ap (λ u. u.rows) p.2 ∙ ap (λ d. a_row c.args.key d c.in-Ok.new ∷ c.args.unit.now.rows) same) in
+    let p = c.in-Ok.ensures.admitted n in
+    let same : p.0 ≡ c.args.item = (let made = p.1 in search rules) in
+    ap (λ u. u.rows) p.2 ∙ ap (λ d. a_row c.args.key d c.in-Ok.new ∷ c.args.unit.now.rows) same) in
     rw (← v.1, ← rows, ← c.in-Ok.ensures.bound) refl
