@@ -1,5 +1,5 @@
 -- What an edit leaves, by whether its key is there.
-use Rattle.std.proofs.Common.{◌≡◌, ◌≢◌, ℕ, Bool, true, false, cond, not, max, List, [], ◌∷◌, ◌++◌, take, slice_get, is_some, Option, sym, refl, ap, ◌∙◌}
+use Rattle.std.proofs.Common.{◌≡◌, ◌≢◌, ℕ, Bool, true, false, cond, not, max, List, [], ◌∷◌, take, slice_get, is_some, Option, sym, refl, ap}
 use Rattle.lru_core.specs.declared.rows.Row.{Row}
 use Rattle.lru_core.specs.Rows.{only, promoted, reweighed, row_of, a_row, total_weight, capped, raised, incremented}
 use Rattle.lru_core.proofs.Filters.{others_all}
