@@ -1,5 +1,5 @@
 -- Calls and replies without data are those of rows without data.
-use Rattle.std.proofs.Common.{◌≡◌, ℕ, zero, suc, Bool, true, false, ◌+◌, ◌-◌, max, cond, not, eqb, inl, inr, List, [], ◌∷◌, ◌++◌, length, map, take, slice_get, is_some, Option, Some, None, sym, refl, ap, ◌∙◌}
+use Rattle.std.proofs.Common.{◌≡◌, ℕ, zero, suc, Bool, true, false, ◌+◌, max, cond, inl, inr, List, [], ◌∷◌, ◌++◌, take, slice_get, is_some, Option, sym, refl, ap, ◌∙◌}
 use Rattle.std.specs.Bool.{⊤}
 use Rattle.std.specs.Option.{option_map}
 use Rattle.std.proofs.lemmas.Bool.{cases_eq, eq-eqb, ne_eqb}
@@ -9,9 +9,8 @@ use Rattle.lru_core.specs.declared.rows.Row.{Row}
 use Rattle.lru_core.specs.Rows.{only, others, promoted, reweighed, row_of, a_row, pair_of, total_weight, incremented}
 use Rattle.pingora_lru.specs.declared.call.Call.{Call}
 use Rattle.pingora_lru.specs.declared.call.Call.TheVariants.{Admit, InsertTail, IncrementWeight, UpdateOrAdmit, SetWeight, Promote, PromoteTopN, Evict, Remove}
-use Rattle.pingora_lru.specs.declared.call.Reply.TheVariants.{Admitted, Inserted, Incremented, Updated, WeightSet, Promoted, Taken}
 use Rattle.pingora_lru.specs.declared.call.Kept.{Kept}
-use Rattle.pingora_lru.specs.Calls.{after, reply_of, bare_call, bare_reply, weight_of, weighing}
+use Rattle.pingora_lru.specs.Calls.{after, reply_of, bare_call, bare_reply, weight_of}
 use Rattle.pingora_lru.specs.Records.{bare, IsRecord}
 
 module _ {T : Type 0} where

@@ -1,5 +1,5 @@
 -- What an edit leaves, by whether its key is there.
-use Rattle.std.proofs.Common.{◌≡◌, ◌≢◌, ℕ, Bool, true, false, cond, not, max, List, [], ◌∷◌, ◌++◌, take, slice_get, is_some, Option, sym, refl, ap, ◌∙◌}
+use Rattle.std.proofs.Common.{◌≡◌, ◌≢◌, ℕ, Bool, true, false, cond, not, max, List, [], ◌∷◌, take, slice_get, is_some, Option, sym, refl, ap}
 use Rattle.lru_core.specs.declared.rows.Row.{Row}
 use Rattle.lru_core.specs.Rows.{only, promoted, reweighed, row_of, a_row, total_weight, capped, raised, incremented}
 use Rattle.lru_core.proofs.Filters.{others_all}
@@ -22,7 +22,8 @@ module _ {T : Type 0} where
       → (only k xs ≡ [] → ◌≡◌ {A = ℕ × ℕ × Bool} (old, new, absent) (0, max 1 (capped most delta), true))
       → (old ≡ total_weight (only k xs)) × (new ≡ incremented k delta most xs) × (absent ≡ not (is_some (row_of k xs)))
   raised_reply k delta most xs old new absent h j =
-      elim (only k xs) as (λ l. (l ≢ [] → ◌≡◌ {A = ℕ × ℕ × Bool} (old, new, absent) (total_weight l, raised (total_weight l) delta most, false)) → (l ≡ [] → ◌≡◌ {A = ℕ × ℕ × Bool} (old, new, absent) (0, max 1 (capped most delta), true))
+      elim (only k xs) as (λ l. (l ≢ [] → ◌≡◌ {A = ℕ × ℕ × Bool} (old, new, absent) (total_weight l, raised (total_weight l) delta most, false))
+      → (l ≡ [] → ◌≡◌ {A = ℕ × ℕ × Bool} (old, new, absent) (0, max 1 (capped most delta), true))
       → (old ≡ total_weight l) × (new ≡ cond (is_some (slice_get l 0)) (raised (total_weight l) delta most) (max 1 (capped most delta))) × (absent ≡ not (is_some (slice_get l 0)))) [
         | [] ↦ λ a b. let e = b refl in (ap (λ p. p.0) e, ap (λ p. p.1) e, ap (λ p. p.2) e)
         | r ∷ l ↦ λ a b. let e = a (λ n. cc) in (ap (λ p. p.0) e, ap (λ p. p.1) e, ap (λ p. p.2) e)

@@ -1,5 +1,5 @@
 -- What each call of a shard leaves of its rows, and what it returns.
-use Rattle.std.specs.Prelude.{ℕ, ⊤, ◌-◌, max, not, List, [], ◌∷◌, ◌++◌, length, take, slice_get, map, Option, is_some, if◌then◌else◌}
+use Rattle.std.specs.Prelude.{ℕ, ⊤, ◌-◌, max, not, List, ◌∷◌, length, take, slice_get, Option, is_some, if◌then◌else◌}
 use Rattle.std.specs.Option.{option_map}
 use Rattle.lru_core.specs.declared.rows.Row.{Row}
 use Rattle.lru_core.specs.Rows.{only, others, promoted, reweighed, admitted, row_of, a_row, pair_of, incremented, total_weight}

@@ -4,7 +4,7 @@ ghost use Rattle.std.specs.Prelude.{◌≡◌};
 ghost use Rattle.pingora_lru.specs.Calls.{bare_call, bare_reply};
 
 /// A call that changes a shard.
-#[derive(Debug, PartialEq, Eq, Drop)]
+#[derive(Clone, Debug, PartialEq, Eq, Drop)]
 pub enum Call<T> {
     /// Puts the data under the key at the front, with that weight, of 1 at least, in place of what the key had.
     Admit(u64, T, usize),
@@ -28,7 +28,7 @@ pub enum Call<T> {
 }
 
 /// What a call returns.
-#[derive(Debug, PartialEq, Eq, Drop)]
+#[derive(Clone, Debug, PartialEq, Eq, Drop)]
 pub enum Reply<T> {
     /// The weight that the key had, or 0.
     Admitted(usize),
@@ -47,7 +47,7 @@ pub enum Reply<T> {
 }
 
 /// A call with its reply, as they are kept: keys and weights without data.
-#[derive(Debug, PartialEq, Eq, Drop)]
+#[derive(Clone, Debug, PartialEq, Eq, Drop)]
 pub struct Kept {
     pub call: Call<()>,
     pub reply: Reply<()>,

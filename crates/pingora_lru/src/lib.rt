@@ -5,7 +5,9 @@
 
 pub use lru_core::{LruCore, MOST_ROWS, linked_list, lru_unit};
 pub use recorded::RecordedUnit;
+pub use recorded_lru::RecordedLru;
 
 pub mod call;
 mod edits;
 mod recorded;
+mod recorded_lru;
