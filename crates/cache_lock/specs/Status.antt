@@ -1,5 +1,5 @@
 -- Statuses as numbers and names, and what each means for the next that asks.
-use Rattle.std.specs.Prelude.{ℕ, Bool, true, false, List, Option, Some, None, unwrap_or, slice_get, ◌∷◌, [], codes}
+use Rattle.std.specs.Prelude.{ℕ, Bool, true, false, List, Option, unwrap_or, slice_get, ◌∷◌, [], codes}
 use Rattle.cache_lock.specs.declared.status.LockStatus.{LockStatus}
 use Rattle.cache_lock.specs.declared.status.LockStatus.TheVariants.{Waiting, Done, TransientError, GiveUp, Dangling, WaitTimeout, AgeTimeout}
 

@@ -31,7 +31,7 @@ pub trait CacheKeyLock {
         moment: Moment,
     ) -> Result<Locked, LockFault>
         ensures answer { let k = combined (key_of key.now) in IfOk result (λ l. l ≡ locked_by (state self.old) (to_wait_for k (state self.old))) }
-        ensures change { let k = combined (key_of key.now) in OnOk result (state self.new ≡ after (lock_change k stale_writer moment (state self.old) (to_wait_for k (state self.old))) (state self.old)) }
+        ensures change { let k = combined (key_of key.now) in let s = state self.old in OnOk result (state self.new ≡ after (lock_change k stale_writer moment s (to_wait_for k s)) s) }
         ensures err { OnErr result (state self.new ≡ state self.old) }
         ensures spent { result ≡ Err LockFault.CoreNumbersSpent → IsSpent (state self.old) (to_wait_for (combined (key_of key.now)) (state self.old)) };
 

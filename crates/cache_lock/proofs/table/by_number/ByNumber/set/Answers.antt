@@ -1,4 +1,4 @@
-use Rattle.std.proofs.Common.{◌≡◌, ap, sym, ◌∙◌, Some, None, Option, IsSome, nat_eq}
+use Rattle.std.proofs.Common.{nat_eq}
 use Rattle.std.proofs.lemmas.Cmp.{nat_cmp_total}
 use Rattle.std.specs.Map.{lookup}
 use Rattle.std.specs.FinMap.{nat_cmp-IsAntisymmetric}
