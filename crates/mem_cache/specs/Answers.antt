@@ -57,3 +57,11 @@ look_of None body = option_map finished body
 
 abbrev pub look_up : StoredKey → Store CacheMeta → Option Look
 look_up k s = look_of (find (flies_for k) s.flying) (body_at k s)
+
+-- the alive write of k in flight of that number
+abbrev pub streamed_of : StoredKey → Option (Flying CacheMeta) → Option Look
+streamed_of k None = None
+streamed_of k (Some f) = if flies_for k f then Some (in_flight f.stored) else None
+
+abbrev pub streamed : StoredKey → ℕ → Store CacheMeta → Option Look
+streamed k n s = streamed_of k (flying_at n s)

@@ -6,7 +6,8 @@ ghost use Rattle.cache_metas.specs.Internal.{IsWritable};
 ghost use Rattle.cache_heads.specs.declared.meta.CacheMeta.{CacheMeta as MetaValue};
 ghost use Rattle.cache_store.specs.declared.storage.StoreFault.{StoreFault as Fault};
 ghost use Rattle.mem_cache.specs.Agree.{Agree};
-ghost use Rattle.mem_cache.specs.Answers.{WriteAnswer, after_write, alive_key, left, IsFinished, FinishAnswer, look_up};
+ghost use Rattle.mem_cache.specs.Answers.{WriteAnswer, after_write, alive_key, left, IsFinished, FinishAnswer, in_flight, look_up, streamed};
+ghost use Rattle.mem_cache.specs.Kept.{stored_flight};
 ghost use Rattle.mem_cache.specs.Hits.{ReadAnswer, FitsPast, readable, IsJoined, IsParted};
 ghost use Rattle.mem_cache.specs.Shown.{shown_of};
 
@@ -282,5 +283,16 @@ impl<S: BuildHasher> MemCache<S> {
         ensures { IsParted number self.old self.new }
     {
         readers::detach(&mut self.readers, number);
+    }
+
+    // Returns the alive write of a key in flight of that number.
+    pub(crate) fn flying(&self, key: &HashBinary, number: u64) -> Option<&Flight>
+        ensures { option_map (λ f. in_flight (stored_flight (number, f.now))) result ≡ streamed key.now number self.now.store }
+    {
+        if alive::is_alive(&self.alive, key, number) {
+            Some(self.flights.get(&number).unwrap())
+        } else {
+            None
+        }
     }
 }

@@ -1,17 +1,18 @@
 //! The store, as what a cache asks of one.
-ghost use Rattle.std.specs.Prelude.{◌≡◌, ◌^◌, ◌-◌, ◌+◌, true, Err, IfOk, IsOk, OnOk, OnErr};
+ghost use Rattle.std.specs.Prelude.{◌≡◌, ◌^◌, ◌-◌, ◌+◌, true, option_map, Err, IfOk, IsOk, OnOk, OnErr};
 ghost use Rattle.cache_words.specs.Key.{combined, key_of};
 ghost use Rattle.cache_metas.specs.Internal.{IsWritable};
 ghost use Rattle.cache_changes.specs.Changes.{begins};
 ghost use Rattle.cache_changes.specs.Store.{after, body_at};
 ghost use Rattle.cache_store.specs.declared.storage.StoreFault.{StoreFault as Fault};
 ghost use Rattle.mem_cache.specs.Answers.{look_up};
-ghost use Rattle.mem_cache.specs.Looks.{LookAnswer};
+ghost use Rattle.mem_cache.specs.Looks.{LookAnswer, StreamAnswer, streamed_by, tag_number};
 ghost use Rattle.mem_cache.specs.Purges.{PurgeAnswer, target_key};
 ghost use Rattle.mem_cache.specs.Renewals.{ExpireAnswer, UpdateAnswer};
 
 use crate::MemCache;
 use crate::handlers::{MemHitHandler, MemMissHandler};
+use crate::lookup::number_of;
 use crate::meta::written_copy;
 use cache_entries::entry::CacheEntryKey;
 use cache_heads::CacheMeta;
@@ -29,6 +30,19 @@ impl<S: BuildHasher> Storage for MemCache<S> {
         ensures { LookAnswer (look_up (combined (key_of key.now)) self.old.store) self.old result self.new }
     {
         self.look(&key.combined_bin())
+    }
+
+    fn lookup_streaming_write(
+        &mut self,
+        key: &CacheKey,
+        tag: Option<&[u8]>,
+    ) -> Result<Found<MemHitHandler>, StoreFault>
+        ensures { StreamAnswer (streamed_by (combined (key_of key.now)) (tag_number (option_map (λ t. t.now) tag.entry)) self.old.store) self.old result self.new }
+    {
+        match number_of(tag) {
+            Some(number) => self.look_at(&key.combined_bin(), number),
+            None => Err(StoreFault::WriteRemoved),
+        }
     }
 
     // `MetaMoment` exactly where the meta can't be written.
