@@ -27,8 +27,7 @@ use std::marker::Model;
 /// shard of its hash modulo N.
 ///
 /// With the default hasher it is for entries that the caller chooses itself; with one whose start the caller takes at random,
-/// strangers can't choose entries that slow the look-up of their numbers down. The core's own table hashes those numbers with a
-/// fixed start.
+/// strangers can't choose entries that slow look-ups down, neither of their numbers nor of the numbers' rows.
 #[derive(Drop)]
 pub struct Manager<const N: usize, S: BuildHasher = BuildHasherDefault<FoldHasher>> {
     tracker: Tracker<N, S>,

@@ -25,8 +25,7 @@ use std::marker::Model;
 /// the last entry goes, so nothing is drawn.
 ///
 /// With the default hasher it is for entries that the caller chooses itself; with one whose start the caller takes at random,
-/// strangers can't choose entries that slow the look-up of their numbers down. The core's own table hashes those numbers with a
-/// fixed start.
+/// strangers can't choose entries that slow look-ups down, neither of their numbers nor of the numbers' rows.
 ///
 /// An alias with a parameter's default isn't called by its name: write `OneList::new`, and the type at the variable, as in
 /// `let list: simple_lru::Manager = simple_lru::OneList::new(alloc, limit)?`.

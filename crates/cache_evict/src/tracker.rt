@@ -29,7 +29,7 @@ use std::marker::Model;
 #[derive(Drop)]
 pub struct Tracker<const N: usize, S: BuildHasher> {
     numbers: Numbers<N, S>,
-    core: LruCore<u64, N>,
+    core: LruCore<u64, N, S>,
     evicted_size: usize,
     evicted_items: usize,
 }

@@ -9,7 +9,10 @@ use cache_words::key::CompactCacheKey;
 use std::error::Error;
 use std::fmt;
 
+mod store;
 pub mod streaming_write;
+
+pub use store::{Found, HandleHit, HandleMiss, MissFault, Storage};
 
 /// Why a body is purged.
 #[derive(Clone, Copy, PartialEq, Eq, Debug)]

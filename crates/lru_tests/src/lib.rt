@@ -10,4 +10,6 @@ mod orders;
 #[cfg(test)]
 mod refused;
 #[cfg(test)]
+mod secrets;
+#[cfg(test)]
 mod shards;

@@ -4,6 +4,8 @@
 #[cfg(test)]
 mod decisions;
 #[cfg(test)]
+mod memory;
+#[cfg(test)]
 mod targets;
 #[cfg(test)]
 mod tracing;

@@ -5,9 +5,9 @@ use Rattle.std.specs.List.{AllByRecursion, sum_by}
 use Rattle.std.proofs.lemmas.List.Sums.{sum_by-cons}
 use Rattle.cache_entries.specs.Keys.{same_bytes}
 use Rattle.cache_changes.specs.Changes.{StoredKey, stored_key, key_alone, is_key, Write, Changes, uses, evicts}
-use Rattle.cache_changes.specs.Writes.{bytes_of, IsOrderly, IsBody}
+use Rattle.cache_changes.specs.Writes.{bytes_of, IsOrderly, IsBody, body_now, body_chosen}
 use Rattle.cache_changes.specs.Bound.{AreWithin}
-use Rattle.cache_changes.proofs.BodyLaws.{body_now, body_now-is, body_now-of, body_chosen}
+use Rattle.cache_changes.proofs.BodyLaws.{body_now-is, body_now-of}
 use Rattle.cache_changes.proofs.BoundLaws.{bodies-within}
 use Rattle.cache_changes.proofs.WriteLaws.{above_apart, alive_began, began_below}
 use Rattle.cache_entries.specs.declared.entry.CacheEntryKey.{CacheEntryKey}

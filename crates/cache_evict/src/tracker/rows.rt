@@ -28,8 +28,8 @@ pub enum End {
 }
 
 // Puts the row of a number at the front of its shard, with that weight.
-pub(super) fn put_first<const N: usize>(
-    core: &mut LruCore<u64, N>,
+pub(super) fn put_first<const N: usize, S: BuildHasher>(
+    core: &mut LruCore<u64, N, S>,
     number: u64,
     weight: usize,
 ) -> Result<(), Refusal>
@@ -49,7 +49,10 @@ pub(super) fn put_first<const N: usize>(
 }
 
 // The same with the weight 0, which a core never gives a row that it admits.
-fn put_weightless<const N: usize>(core: &mut LruCore<u64, N>, number: u64) -> Result<(), Refusal>
+fn put_weightless<const N: usize, S: BuildHasher>(
+    core: &mut LruCore<u64, N, S>,
+    number: u64,
+) -> Result<(), Refusal>
     requires within { number % N < length core.old.shards }
     requires own { HasOwnRow number (shard_of N core.old number) }
     ensures ok { OnOk result (core.new ≡ with_shard N core.old number (a_row number number 0 ∷ others number (shard_of N core.old number))) }
@@ -62,7 +65,10 @@ fn put_weightless<const N: usize>(core: &mut LruCore<u64, N>, number: u64) -> Re
 }
 
 // Gives the row of a number the weight 0, where it is or else at the back of its shard.
-fn weigh_nothing<const N: usize>(core: &mut LruCore<u64, N>, number: u64) -> Result<(), Refusal>
+fn weigh_nothing<const N: usize, S: BuildHasher>(
+    core: &mut LruCore<u64, N, S>,
+    number: u64,
+) -> Result<(), Refusal>
     requires { HasOwnRow number (shard_of N core.old number) }
     ensures ok { OnOk result ((rows : List (Row ℕ)) × (core.new ≡ with_shard N core.old number rows)
         × (promoted number rows ≡ a_row number number 0 ∷ others number (shard_of N core.old number))) }
@@ -80,8 +86,8 @@ fn weigh_nothing<const N: usize>(core: &mut LruCore<u64, N>, number: u64) -> Res
 }
 
 // Puts the row of a number that has none at the back of its shard, with that weight.
-fn put_last<const N: usize>(
-    core: &mut LruCore<u64, N>,
+fn put_last<const N: usize, S: BuildHasher>(
+    core: &mut LruCore<u64, N, S>,
     number: u64,
     weight: usize,
 ) -> Result<(), Refusal>
@@ -97,8 +103,8 @@ fn put_last<const N: usize>(
 }
 
 // Adds `delta` to the weight of a number's row, up to a cap but never down, and moves the row to the front of its shard.
-pub(super) fn raise_first<const N: usize>(
-    core: &mut LruCore<u64, N>,
+pub(super) fn raise_first<const N: usize, S: BuildHasher>(
+    core: &mut LruCore<u64, N, S>,
     number: u64,
     delta: usize,
     cap: Option<usize>,
@@ -127,7 +133,7 @@ pub(super) fn weight_of_new(delta: usize, cap: Option<usize>) -> usize
 // Gives an entry a number, and puts the number's row at that end of its shard, with that weight.
 pub(super) fn put_new<const N: usize, S: BuildHasher>(
     numbers: &mut Numbers<N, S>,
-    core: &mut LruCore<u64, N>,
+    core: &mut LruCore<u64, N, S>,
     entry: CacheEntryKey,
     weight: usize,
     end: End,
@@ -155,8 +161,8 @@ pub(super) fn put_new<const N: usize, S: BuildHasher>(
 }
 
 // Puts the row of a number that has none at that end of its shard, with that weight.
-fn put_free<const N: usize>(
-    core: &mut LruCore<u64, N>,
+fn put_free<const N: usize, S: BuildHasher>(
+    core: &mut LruCore<u64, N, S>,
     number: u64,
     weight: usize,
     end: End,

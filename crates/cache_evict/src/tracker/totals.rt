@@ -25,7 +25,7 @@ impl<const N: usize, S: BuildHasher + Copy> Tracker<N, S> {
         requires { 0 < N }
         ensures { IfOk result (λ t. t ≡ fresh N limit watermark) }
     {
-        let core = LruCore::with_capacity_and_watermark(alloc, limit, capacity, watermark)?;
+        let core = LruCore::with_hasher(alloc, hasher, limit, capacity, watermark)?;
         let numbers = Numbers::with_capacity_and_hasher(alloc, capacity, hasher)?;
         Ok(Tracker {
             numbers,

@@ -1,0 +1,162 @@
+//! The changes of which the calls are made.
+ghost use Rattle.std.specs.Prelude.{◌≡◌, ◌∷◌, [], OnOk, OnErr, IfOk, Some};
+ghost use Rattle.std.specs.FinMap as finite;
+ghost use Rattle.cache_lock.specs.Changes.{gives, lends, stores, takes_out, spends};
+ghost use Rattle.cache_lock.specs.State.{after, status_of, without_core};
+ghost use Rattle.cache_lock.specs.Answers.{to_wait_for, locked_by, IsSpent, wait_outcome};
+
+use super::CacheLock;
+use crate::fault::LockFault;
+use crate::fills::{UnusableFills, WaitOutcome};
+use crate::lock_core::{HeldCore, LockCore};
+use crate::status::LockStatus;
+use crate::tokens::{Locked, ReadLock, WritePermit};
+use cache_words::key::HashBinary;
+use cache_words::time::Moment;
+use std::alloc::AllocError;
+use std::hash::BuildHasher;
+
+impl<S: BuildHasher> CacheLock<S> {
+    // The status of a core; Dangling where nobody names it.
+    pub(super) fn status_of(&self, number: u64) -> LockStatus
+        ensures { result ≡ status_of number self.now }
+    {
+        match self.cores.get(number) {
+            Some(held) => held.core.status,
+            None => LockStatus::Dangling,
+        }
+    }
+
+    // The core that who asks for a key is to wait for.
+    pub(super) fn to_wait_for(&self, key: &HashBinary) -> Option<u64>
+        ensures { result ≡ to_wait_for key.now self.now }
+    {
+        let number = self.current.get(key)?;
+        match self.status_of(number) {
+            LockStatus::Dangling | LockStatus::AgeTimeout => None,
+            _ => Some(number),
+        }
+    }
+
+    // Gives a read lock of a core.
+    pub(super) fn lend(&mut self, number: u64) -> Result<Locked, LockFault>
+        ensures answer { IfOk result (λ l. l ≡ locked_by self.old (Some number)) }
+        ensures change { OnOk result (self.new ≡ after (lends number) self.old) }
+        ensures err { OnErr result (self.new ≡ self.old) }
+        ensures spent { result ≡ Err LockFault.CoreNumbersSpent → IsSpent self.old (Some number) }
+    {
+        if let Some(&held) = self.cores.get(number) {
+            if held.names == u64::MAX {
+                return Err(LockFault::CoreNumbersSpent);
+            }
+            let names = held.names + 1;
+            self.cores.set(number, HeldCore { names, ..held });
+        }
+        Ok(Locked::Read(ReadLock { number }))
+    }
+
+    // Gives the permit of a key, under the next number.
+    pub(super) fn give(
+        &mut self,
+        key: HashBinary,
+        stale_writer: bool,
+        moment: Moment,
+    ) -> Result<Locked, LockFault>
+        ensures answer { IfOk result (λ l. l ≡ locked_by self.old None) }
+        ensures change { OnOk result (self.new ≡ after (gives self.old.next key stale_writer moment) self.old) }
+        ensures err { OnErr result (self.new ≡ self.old) }
+        ensures spent { result ≡ Err LockFault.CoreNumbersSpent → IsSpent self.old None }
+    {
+        let number = self.next;
+        if number == u64::MAX {
+            return Err(LockFault::CoreNumbersSpent);
+        }
+        let core = LockCore::new(self.age_timeout, stale_writer, moment);
+        let held = HeldCore {
+            core,
+            key,
+            names: 1,
+        };
+        self.cores.insert(number, held)?;
+        match self.current.insert(key, number) {
+            Ok(()) => {
+                self.next = number + 1;
+                Ok(Locked::Write(WritePermit { number }))
+            }
+            Err(AllocError) => {
+                self.cores.remove(number);
+                Err(LockFault::Memory)
+            }
+        }
+    }
+
+    // Takes a key's core out of the table.
+    pub(super) fn take_out(&mut self, key: &HashBinary)
+        ensures { self.new ≡ after (takes_out key.now) self.old }
+    {
+        self.current.remove(key);
+    }
+
+    // Stores a status in a core.
+    pub(super) fn store(&mut self, number: u64, status: LockStatus)
+        ensures { self.new ≡ after (stores number status) self.old }
+    {
+        if let Some(&held) = self.cores.get(number) {
+            let core = LockCore {
+                status,
+                ..held.core
+            };
+            self.cores.set(number, HeldCore { core, ..held });
+        }
+    }
+
+    // Takes back a name of a core, which goes with the last.
+    pub(super) fn spend(&mut self, number: u64)
+        ensures { self.new ≡ after (spends number) self.old }
+    {
+        if let Some(&held) = self.cores.get(number) {
+            if held.names <= 1 {
+                self.forget(number, &held.key);
+            } else {
+                let names = held.names - 1;
+                self.cores.set(number, HeldCore { names, ..held });
+            }
+        }
+    }
+
+    // Takes a core out, and out of the table if it is its key's.
+    fn forget(&mut self, number: u64, key: &HashBinary)
+        ensures { self.new ≡ without_core number key.now self.old }
+    {
+        self.cores.remove(number);
+        self.published.remove(number);
+        if self.current.get(key) == Some(number) {
+            self.current.remove(key);
+        }
+    }
+
+    // How the wait for a core ends.
+    pub(super) fn outcome(
+        &self,
+        number: u64,
+        fills: &UnusableFills,
+        moment: Moment,
+    ) -> Option<WaitOutcome>
+        ensures { result ≡ wait_outcome number fills.now.fills.items moment self.now }
+    {
+        let Some(held) = self.cores.get(number) else {
+            return Some(WaitOutcome::Released);
+        };
+        if !matches!(held.core.status, LockStatus::Waiting) {
+            return Some(WaitOutcome::Released);
+        }
+        if held.core.is_over_age(moment) {
+            return Some(WaitOutcome::AgeTimeout);
+        }
+        let tokens = match self.published.get(number) {
+            Some(published) => published.tokens(),
+            None => &[],
+        };
+        fills.first_match(tokens).map(WaitOutcome::Abandoned)
+    }
+}

@@ -1,0 +1,123 @@
+//! Permits and read locks: numbers of cores, which must be spent.
+ghost use Rattle.std.specs.Prelude.{◌≡◌};
+ghost use Rattle.std.specs.FinMap as finite;
+ghost use Rattle.cache_lock.specs.Tokens.{is_permit};
+ghost use Rattle.cache_lock.specs.Status.{is_waiting};
+ghost use Rattle.cache_lock.specs.State.{status_of};
+ghost use Rattle.cache_lock.specs.Answers.{is_stale, is_expired, status_at_moment};
+
+use crate::key_lock::CacheKeyLock;
+use crate::status::LockStatus;
+use cache_words::time::Moment;
+
+/// The right to fill a key. It is spent by `release` or `leave`.
+#[derive(Debug)]
+pub struct WritePermit {
+    /// The number of the core.
+    pub number: u64,
+}
+
+impl WritePermit {
+    /// Returns a permit that names that core.
+    pub fn new(number: u64) -> WritePermit
+        ensures { result.number ≡ number }
+    {
+        WritePermit { number }
+    }
+
+    /// Returns whether the permit was given where a stale response is there; false where the lock has no such core.
+    pub fn stale_writer<L: CacheKeyLock>(&self, lock: &L) -> bool
+        ensures { result ≡ is_stale (finite.get (L.state lock.now).cores self.now.number) }
+    {
+        match lock.core(self.number) {
+            Some(core) => core.stale_writer(),
+            None => false,
+        }
+    }
+
+    /// Returns the status of the permit's core.
+    pub fn lock_status<L: CacheKeyLock>(&self, lock: &L) -> LockStatus
+        ensures { result ≡ status_of self.now.number (L.state lock.now) }
+    {
+        match lock.core(self.number) {
+            Some(core) => core.lock_status(),
+            None => LockStatus::Dangling,
+        }
+    }
+}
+
+/// A wait for the permit of a key. It is spent by `leave`.
+#[derive(Debug)]
+pub struct ReadLock {
+    /// The number of the core.
+    pub number: u64,
+}
+
+impl ReadLock {
+    /// Whether the permit has not ended.
+    pub fn locked<L: CacheKeyLock>(&self, lock: &L) -> bool
+        ensures { result ≡ is_waiting (status_of self.now.number (L.state lock.now)) }
+    {
+        match lock.core(self.number) {
+            Some(core) => core.locked(),
+            None => false,
+        }
+    }
+
+    /// Whether the permit is past its age at that moment, or the lock has no such core.
+    pub fn expired<L: CacheKeyLock>(&self, lock: &L, moment: Moment) -> bool
+        ensures { result ≡ is_expired (finite.get (L.state lock.now).cores self.now.number) moment }
+    {
+        match lock.core(self.number) {
+            Some(core) => core.is_over_age(moment),
+            None => true,
+        }
+    }
+
+    /// Returns how the wait stands at that moment: the status of the core, but `AgeTimeout` where it waits past its age.
+    pub fn lock_status<L: CacheKeyLock>(&self, lock: &L, moment: Moment) -> LockStatus
+        ensures { result ≡ status_at_moment (finite.get (L.state lock.now).cores self.now.number) moment }
+    {
+        match lock.core(self.number) {
+            Some(core) if core.locked() && core.is_over_age(moment) => LockStatus::AgeTimeout,
+            Some(core) => core.lock_status(),
+            None => LockStatus::Dangling,
+        }
+    }
+}
+
+/// The number of a core, of which read locks are made.
+#[derive(Debug, Drop)]
+pub struct LockStub {
+    /// The number of the core.
+    pub number: u64,
+}
+
+impl LockStub {
+    /// Returns a read lock that names that core.
+    pub fn read_lock(&self) -> ReadLock
+        ensures { result.number ≡ self.now.number }
+    {
+        ReadLock {
+            number: self.number,
+        }
+    }
+}
+
+/// What a lock gives.
+#[derive(Debug)]
+pub enum Locked {
+    /// The permit: nobody else fills the key.
+    Write(WritePermit),
+    /// A wait for the permit that another holds.
+    Read(ReadLock),
+}
+
+impl Locked {
+    /// Whether it is the permit.
+    pub fn is_write(&self) -> bool
+        ensures { result ≡ is_permit self.now }
+    {
+        matches!(self, Locked::Write(_))
+    }
+}

@@ -1,0 +1,5 @@
+//! Tests of recorded shards, as tables of calls.
+#![tactic(auto)]
+
+#[cfg(test)]
+mod records;

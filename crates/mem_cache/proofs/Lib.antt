@@ -1,0 +1,13 @@
+mod AgreeLaws
+mod AliveLaws
+mod BodyLaws
+mod FinishLaws
+mod FirstLaws
+mod FlightLaws
+mod HeldLaws
+mod ReadLaws
+mod ReaderLaws
+mod RowLaws
+mod SeenLaws
+mod ShownLaws
+mod SoundLaws

@@ -1,0 +1,35 @@
+use Rattle.std.proofs.Common.{sym, ◌∙◌, ap, ◌≡◌}
+use Rattle.std.specs.Prelude.{option_map, None}
+use Rattle.cache_changes.specs.Store.{flying_at}
+use Rattle.mem_cache.specs.Alive.{has}
+use Rattle.mem_cache.specs.Kept.{seen, flights_of, bodies_of, readings_of}
+use Rattle.mem_cache.specs.declared.flight.Flight.{Flight}
+use Rattle.mem_cache.proofs.HeldLaws.{held, held-flying}
+use Rattle.mem_cache.proofs.RowLaws.{ascends}
+use Rattle.mem_cache.proofs.SeenLaws.{seen-landed}
+use Rattle.mem_cache.proofs.SoundLaws.{sound-entries, sound-landed}
+use Rattle.mem_cache.proofs.FinishLaws.{seen-at, not-seen-at, left-none, left-some}
+use Rattle.mem_cache.proofs.cache.MemCache.leave.Goals as goal
+
+pub invariant_of-self : goal.invariant_of-self
+invariant_of-self g c = sound-entries (has c.self.inside.alive) c.self.inside.flights c.remove.new.self c.self.inside.next c.in_default.ensures.unchanged c.self.invariant
+
+pub returns-in_default : goal.returns-in_default
+returns-in_default g c =
+    rw (← c.self.view_is) (held-flying (bodies_of c.self.inside.bodies.entries) (flights_of (has c.self.inside.alive) c.remove.new.self.entries) (flights_of (has c.self.inside.alive) c.self.inside.flights.entries) c.self.inside.next (readings_of c.self.inside.readers.entries)
+    (ap (flights_of (has c.self.inside.alive)) c.in_default.ensures.unchanged)
+    ∙ left-none c.args.number (held (bodies_of c.self.inside.bodies.entries) (flights_of (has c.self.inside.alive) c.self.inside.flights.entries) c.self.inside.next (readings_of c.self.inside.readers.entries))
+    (not-seen-at (has c.self.inside.alive) c.args.number c.self.inside.flights (sym c.in_default.ensures.value)))
+
+pub invariant_of-self-2 : goal.invariant_of-self-2
+invariant_of-self-2 g c =
+    sound-landed (has c.self.inside.alive) (has c.take_out.new.alive) c.self.inside.flights c.remove.new.self c.in-Some.flight.key c.args.number c.self.inside.next c.self.invariant c.take_out.ensures c.in-Some.ensures.entries
+    (ap (option_map (λ (f : Flight). f.key)) (sym c.in-Some.ensures.value)) c.in-Some.ensures.ordered
+
+pub returns : goal.returns
+returns g c =
+    rw (← c.self.view_is) (left-some c.args.number (held (bodies_of c.self.inside.bodies.entries) (flights_of (has c.self.inside.alive) c.self.inside.flights.entries) c.self.inside.next (readings_of c.self.inside.readers.entries))
+    (seen (has c.self.inside.alive) (c.args.number, c.in-Some.flight)) (flights_of (has c.take_out.new.alive) c.remove.new.self.entries) (readings_of c.leave_bytes.new.readers.entries)
+    (seen-at (has c.self.inside.alive) c.args.number c.in-Some.flight c.self.inside.flights (sym c.in-Some.ensures.value))
+    (ap (flights_of (has c.take_out.new.alive)) c.in-Some.ensures.entries ∙ seen-landed (has c.self.inside.alive) (has c.take_out.new.alive) c.in-Some.flight.key c.args.number c.self.inside.flights.entries c.take_out.ensures (ascends c.self.inside.flights.entries c.self.invariant.ordered))
+    c.leave_bytes.ensures)

@@ -1,0 +1,20 @@
+-- What a store in memory holds.
+use Rattle.std.specs.Prelude.{ℕ, ◌==◌, if◌then◌else◌, List, Option, Some, map}
+use Rattle.cache_changes.specs.Store.{Store}
+use Rattle.cache_heads.specs.declared.meta.CacheMeta.{CacheMeta}
+
+-- how many readers a write has, and what they are left with once it is in flight no more
+pub record Reading : Type 0 where
+  pub number : ℕ
+  pub count : ℕ
+  pub left : Option (List ℕ)
+
+-- the bodies and the writes in flight, the number of the next write, and the writes that have readers
+pub record Held : Type 0 where
+  pub store : Store CacheMeta
+  pub next : ℕ
+  pub readings : List Reading
+
+-- the readers of a write are left with its bytes
+abbrev pub left_with : ℕ → List ℕ → List Reading → List Reading
+left_with n bytes rs = map (λ (r : Reading). if n == r.number then record r { left = Some bytes } else r) rs

@@ -1,0 +1,77 @@
+-- What is kept of bodies, of writes in flight and of their readers, as a plain state.
+use Rattle.std.specs.Prelude.{◌≡◌, ℕ, ◌<◌, Bool, true, not, cond, ◌+◌, ◌-◌, nat_lt, List, Option, Some, None, option_map, map}
+use Rattle.std.specs.List.{AllByRecursion}
+use Rattle.std.specs.Ordering.{nat_cmp}
+use Rattle.std.specs.BTreeMap as tree
+use Rattle.std.specs.BTreeMap.{BTreeMap}
+use Rattle.cache_heads.specs.declared.meta.CacheMeta.{CacheMeta}
+use Rattle.cache_changes.specs.Changes.{StoredKey}
+use Rattle.cache_changes.specs.Store.{Stored, Flying, on_flying, with_bytes, ended}
+use Rattle.mem_cache.specs.Held.{Reading}
+use Rattle.mem_cache.specs.declared.flight.Buffer.{Buffer}
+use Rattle.mem_cache.specs.declared.flight.Buffer.TheVariants.{Open, Shared}
+use Rattle.mem_cache.specs.declared.flight.Flight.{Flight}
+use Rattle.mem_cache.specs.declared.flight.Body.{Body}
+use Rattle.mem_cache.specs.declared.flight.Readers.{Readers}
+
+abbrev pub bytes_in : Buffer → List ℕ
+bytes_in (Open bytes) = bytes.items
+bytes_in (Shared bytes) = bytes
+
+abbrev pub stored_flight : ℕ × Flight → Stored CacheMeta
+stored_flight e = record { write = record { number = e.0; key = e.1.key; meta = e.1.meta }; meta = e.1.meta; bytes = bytes_in e.1.buffer }
+
+-- a write in flight, where `alive` tells which are
+abbrev pub seen : (StoredKey → ℕ → Bool) → ℕ × Flight → Flying CacheMeta
+seen alive e = record {
+  stored = stored_flight e;
+  ended = e.1.ended;
+  removed = not (alive e.1.key e.0);
+}
+
+abbrev pub flights_of : (StoredKey → ℕ → Bool) → List (ℕ × Flight) → List (Flying CacheMeta)
+flights_of alive es = map (seen alive) es
+
+abbrev pub body_of : StoredKey × Body → Stored CacheMeta
+body_of e = record { write = record { number = e.1.number; key = e.0; meta = e.1.meta }; meta = e.1.meta; bytes = e.1.bytes }
+
+abbrev pub bodies_of : List (StoredKey × Body) → List (Stored CacheMeta)
+bodies_of es = map body_of es
+
+abbrev pub reading_of : ℕ × Readers → Reading
+reading_of e = record { number = e.0; count = e.1.count; left = option_map bytes_in e.1.left }
+
+abbrev pub readings_of : List (ℕ × Readers) → List Reading
+readings_of es = map reading_of es
+
+-- the key of the write in flight of that number
+abbrev pub key_at : BTreeMap ℕ Flight → ℕ → Option StoredKey
+key_at flights n = option_map (λ f. f.key) (tree.get nat_cmp flights n)
+
+-- with more bytes, which may be the last
+abbrev pub written : List ℕ → Bool → Flying CacheMeta → Flying CacheMeta
+written more eof f = cond eof (ended (with_bytes more f)) (with_bytes more f)
+
+-- the write in flight of that number changed, and no other; and its key is as before
+pub record ChangesAt (n : ℕ) (change : Flying CacheMeta → Flying CacheMeta) (old new : BTreeMap ℕ Flight) : Type 0 where
+  pub keys : tree.keys new ≡ tree.keys old
+  pub known : (m : ℕ) → key_at new m ≡ key_at old m
+  pub seen : (alive : StoredKey → ℕ → Bool) → flights_of alive new.entries ≡ on_flying n change (flights_of alive old.entries)
+
+-- numbers ascend and are below the next; and an alive number is that of a write in flight of its key
+pub record IsSound (alive : StoredKey → ℕ → Bool) (flights : BTreeMap ℕ Flight) (next : ℕ) : Type 0 where
+  pub ordered : tree.IsOrdered nat_cmp flights
+  pub below : AllByRecursion (λ n. n < next) (tree.keys flights)
+  pub known : (k : StoredKey) (n : ℕ) → alive k n ≡ true → key_at flights n ≡ Some k
+
+-- the readers of a write, counted anew, with one more, and with one less
+abbrev pub counted : ℕ → Readers → Readers
+counted n r = record r { count = n }
+
+abbrev pub joined : Option Readers → Readers
+joined None = record { count = 1; left = None }
+joined (Some r) = counted (r.count + 1) r
+
+abbrev pub parted : Option Readers → Option Readers
+parted None = None
+parted (Some r) = cond (nat_lt 1 r.count) (Some (counted (r.count - 1) r)) None

@@ -1,0 +1,12 @@
+pub mod Agree
+pub mod Alive
+pub mod Answers
+pub mod Held
+pub mod Hits
+pub mod Kept
+pub mod Looks
+pub mod Misses
+pub mod Purges
+pub mod Readings
+pub mod Renewals
+pub mod Shown

@@ -1,0 +1,76 @@
+//! The finished bodies.
+ghost use Rattle.std.specs.Prelude.{◌≡◌, ◌<◌, List, ℕ, Some, None, cond, is_some, option_map, nat_eq, OnOk, OnErr};
+ghost use Rattle.std.specs.Cmp.Lexicographic.{pointwise};
+ghost use Rattle.std.specs.HashMap.{get, spare};
+ghost use Rattle.mem_cache.specs.Renewals.{expired, body_with};
+
+use crate::flight::Body;
+use cache_heads::CacheMeta;
+use cache_words::key::HashBinary;
+use cache_words::time::Moment;
+use std::alloc::AllocError;
+use std::collections::HashMap;
+use std::hash::BuildHasher;
+
+pub(crate) type Bodies<S> = HashMap<HashBinary, Body, S>;
+
+// Puts a body in the place of the one before it.
+pub(crate) fn put<S: BuildHasher>(bodies: &mut Bodies<S>, key: HashBinary, body: Body)
+    requires { 0 < spare bodies.old }
+    ensures { (k : List ℕ) → get (pointwise nat_eq) bodies.new k ≡ cond (pointwise nat_eq key k) (Some body) (get (pointwise nat_eq) bodies.old k) }
+{
+    let inserted: Result<_, _> = bodies.insert(key, body);
+    let _old = inserted.unwrap();
+}
+
+// Reserves room for one more body.
+pub(crate) fn make_room<S: BuildHasher>(bodies: &mut Bodies<S>) -> Result<(), AllocError>
+    ensures ok { OnOk result (0 < spare bodies.new) }
+    ensures same { (k : List ℕ) → get (pointwise nat_eq) bodies.new k ≡ get (pointwise nat_eq) bodies.old k }
+    ensures err { OnErr result (bodies.new.entries ≡ bodies.old.entries) }
+{
+    bodies.reserve(1)
+}
+
+// Removes the body of a key.
+pub(crate) fn remove<S: BuildHasher>(bodies: &mut Bodies<S>, key: &HashBinary)
+    ensures { (k : List ℕ) → get (pointwise nat_eq) bodies.new k ≡ cond (pointwise nat_eq key.now k) None (get (pointwise nat_eq) bodies.old k) }
+{
+    bodies.remove(key);
+}
+
+// Lets the body of a key go stale at a moment, and returns whether there is one.
+pub(crate) fn expire<S: BuildHasher>(
+    bodies: &mut Bodies<S>,
+    key: &HashBinary,
+    moment: Moment,
+) -> bool
+    ensures found { result ≡ is_some (get (pointwise nat_eq) bodies.old key.now) }
+    ensures after { (k : List ℕ) → get (pointwise nat_eq) bodies.new k ≡ cond (pointwise nat_eq key.now k) (option_map (body_with (expired moment)) (get (pointwise nat_eq) bodies.old key.now)) (get (pointwise nat_eq) bodies.old k) }
+{
+    match bodies.get_mut(key) {
+        Some(body) => {
+            body.meta.expire_at(moment);
+            true
+        }
+        None => false,
+    }
+}
+
+// Gives the body of a key another meta, and returns whether there is one.
+pub(crate) fn set_meta<S: BuildHasher>(
+    bodies: &mut Bodies<S>,
+    key: &HashBinary,
+    meta: CacheMeta,
+) -> bool
+    ensures found { result ≡ is_some (get (pointwise nat_eq) bodies.old key.now) }
+    ensures after { (k : List ℕ) → get (pointwise nat_eq) bodies.new k ≡ cond (pointwise nat_eq key.now k) (option_map (body_with (λ _. meta)) (get (pointwise nat_eq) bodies.old key.now)) (get (pointwise nat_eq) bodies.old k) }
+{
+    match bodies.get_mut(key) {
+        Some(body) => {
+            body.meta = meta;
+            true
+        }
+        None => false,
+    }
+}

@@ -1,0 +1,298 @@
+//! The store in memory.
+ghost use Rattle.std.specs.Prelude.{◌≡◌, ◌≢◌, ◌↔◌, ◌+◌, ◌-◌, ◌^◌, ℕ, [], Some, option_map, is_some, Ok, Err, IfOk, IfErr, OnOk, OnErr};
+ghost use Rattle.cache_changes.specs.Changes.{begins, removes};
+ghost use Rattle.cache_changes.specs.Store.{after, empty_store, flying_at, is_found_at};
+ghost use Rattle.cache_metas.specs.Internal.{IsWritable};
+ghost use Rattle.cache_heads.specs.declared.meta.CacheMeta.{CacheMeta as MetaValue};
+ghost use Rattle.cache_store.specs.declared.storage.StoreFault.{StoreFault as Fault};
+ghost use Rattle.mem_cache.specs.Agree.{Agree};
+ghost use Rattle.mem_cache.specs.Answers.{WriteAnswer, after_write, alive_key, left, IsFinished, FinishAnswer, in_flight, look_up, streamed};
+ghost use Rattle.mem_cache.specs.Kept.{stored_flight};
+ghost use Rattle.mem_cache.specs.Hits.{ReadAnswer, FitsPast, readable, IsJoined, IsParted};
+ghost use Rattle.mem_cache.specs.Shown.{shown_of};
+
+use crate::alive::{self, Alive};
+use crate::bodies::{self, Bodies};
+use crate::flight::{Body, Buffer, Flight, Shown};
+use crate::flights::{self, Flights};
+use crate::handlers::MemMissHandler;
+use crate::meta::written_copy;
+use crate::readers::{self, AllReaders};
+use cache_heads::CacheMeta;
+use cache_store::storage::{ReadStep, StoreFault};
+use cache_words::key::HashBinary;
+use std::alloc::Global;
+use std::collections::{BTreeMap, HashMap};
+use std::hash::{BuildHasher, BuildHasherDefault, FoldHasher};
+use std::marker::Model;
+
+mod renewals;
+
+/// Bodies and writes in flight, by stored key. A contract sees the plain state that changes leave, the number of the next
+/// write, and the writes that have readers.
+///
+/// Keys are found by their hashes. `new` hashes with a fixed start, for keys that the caller chooses itself; `with_hasher`
+/// takes a start of the caller's, for keys that strangers choose, who then can't slow look-ups down.
+#[derive(Drop)]
+pub struct MemCache<S: BuildHasher = BuildHasherDefault<FoldHasher>> {
+    alloc: Global,
+    bodies: Bodies<S>,
+    flights: Flights,
+    // Of each key the writes in flight that no removal met.
+    alive: Alive<S>,
+    readers: AllReaders,
+    next: u64,
+}
+
+impl<S: BuildHasher> Model for MemCache<S> {
+    ghost use Rattle.mem_cache.specs.Held.{Held};
+
+    ghost Value = { Held };
+
+    ghost use Rattle.mem_cache.specs.Alive.{has};
+    ghost use Rattle.mem_cache.specs.Kept.{bodies_of, flights_of, readings_of, IsSound};
+
+    ghost view = { λ c. record { store = record { bodies = bodies_of c.bodies.entries; flying = flights_of (has c.alive) c.flights.entries }; next = c.next; readings = readings_of c.readers.entries } };
+
+    ghost invariant = { λ c. IsSound (has c.alive) c.flights c.next };
+}
+
+impl MemCache<BuildHasherDefault<FoldHasher>> {
+    /// Returns an empty store, under hashes with a fixed start. It takes no memory.
+    pub fn new(alloc: Global) -> Self
+        ensures { result ≡ record { store = empty_store; next = 0; readings = [] } }
+    {
+        MemCache::with_hasher(alloc, BuildHasherDefault::new())
+    }
+}
+
+impl<S: BuildHasher + Copy> MemCache<S> {
+    /// Returns an empty store, under hashes of that start. It takes no memory.
+    pub fn with_hasher(alloc: Global, hasher: S) -> Self
+        ensures { result ≡ record { store = empty_store; next = 0; readings = [] } }
+    {
+        MemCache {
+            alloc,
+            bodies: HashMap::with_hasher(alloc, hasher),
+            flights: BTreeMap::new(alloc),
+            alive: HashMap::with_hasher(alloc, hasher),
+            readers: BTreeMap::new(alloc),
+            next: 0,
+        }
+    }
+}
+
+impl<S: BuildHasher> MemCache<S> {
+    // Begins a write, and returns its number.
+    pub(crate) fn begin(&mut self, key: HashBinary, meta: CacheMeta) -> Result<u64, StoreFault>
+        ensures number { IfOk result (λ n. n ≡ self.old.next) }
+        ensures begun { OnOk result (self.new ≡ record self.old {
+          store = after (begins (record { number = self.old.next; key = key; meta = meta })) self.old.store;
+          next = self.old.next + 1;
+        }) }
+        ensures err { OnErr result (self.new ≡ self.old) }
+        ensures spent { result ≡ Err Fault.WriteNumbersSpent ↔ (self.old.next ≡ 2 ^ 64 - 1) }
+        ensures kind { result ≢ Err Fault.MetaMoment }
+    {
+        let number = self.next;
+        let Some(next) = number.checked_add(1) else {
+            return Err(StoreFault::WriteNumbersSpent);
+        };
+        if let Err(fault) = alive::add(&mut self.alive, self.alloc, key, number) {
+            return Err(fault);
+        }
+        let flight = Flight {
+            key,
+            meta,
+            buffer: Buffer::Open(Vec::new(self.alloc)),
+            ended: false,
+        };
+        if let Err(fault) = flights::put(&mut self.flights, number, flight) {
+            alive::take_out(&mut self.alive, &key, number);
+            return Err(fault);
+        }
+        self.next = next;
+        Ok(number)
+    }
+
+    // Begins a write with a copy of a meta.
+    pub(crate) fn begin_copy(
+        &mut self,
+        key: HashBinary,
+        meta: &CacheMeta,
+    ) -> Result<MemMissHandler, StoreFault>
+        ensures number { IfOk result (λ handler. handler ≡ self.old.next) }
+        ensures begun { OnOk result (self.new ≡ record self.old {
+          store = after (begins (record { number = self.old.next; key = key; meta = meta.now })) self.old.store;
+          next = self.old.next + 1;
+        }) }
+        ensures writable { OnOk result (IsWritable meta.now.internal) }
+        ensures moment { result ≡ Err Fault.MetaMoment → IsWritable meta.now.internal → ⊥ }
+        ensures spent { result ≡ Err Fault.WriteNumbersSpent → self.old.next ≡ 2 ^ 64 - 1 }
+        ensures err { OnErr result (self.new ≡ self.old) }
+    {
+        let copy = match written_copy(self.alloc, meta) {
+            Ok(copy) => copy,
+            Err(fault) => return Err(fault),
+        };
+        match self.begin(key, copy) {
+            Ok(number) => Ok(MemMissHandler::new(number)),
+            Err(fault) => Err(fault),
+        }
+    }
+
+    // Adds bytes to a write, and marks its end where they are the last.
+    pub(crate) fn append(&mut self, number: u64, more: &[u8], eof: bool) -> Result<(), StoreFault>
+        ensures answer { WriteAnswer (option_map (λ f. f.ended) (flying_at number self.old.store)) result }
+        ensures ok { OnOk result (self.new ≡ record self.old { store = after_write number more.now eof self.old.store }) }
+        ensures err { OnErr result (self.new ≡ self.old) }
+    {
+        if let Err(fault) = flights::append(&mut self.flights, self.alloc, number, more, eof) {
+            return Err(fault);
+        }
+        Ok(())
+    }
+
+    // Gives a write up.
+    pub(crate) fn leave(&mut self, number: u64)
+        ensures { self.new ≡ left number self.old }
+    {
+        let Some(flight) = self.flights.remove(&number) else {
+            return;
+        };
+        let Flight { key, buffer, .. } = flight;
+        alive::take_out(&mut self.alive, &key, number);
+        readers::leave_bytes(&mut self.readers, number, buffer);
+    }
+
+    // Returns the key of a write that no removal met.
+    fn key_of(&self, number: u64) -> Option<HashBinary>
+        ensures { result ≡ alive_key (flying_at number self.now.store) }
+    {
+        let Some(key) = flights::key_of(&self.flights, number) else {
+            return None;
+        };
+        if alive::is_alive(&self.alive, &key, number) {
+            Some(key)
+        } else {
+            None
+        }
+    }
+
+    // Finishes a write that no removal met, and returns its length.
+    fn store_body(&mut self, key: HashBinary, number: u64) -> Result<usize, StoreFault>
+        requires { alive_key (flying_at number self.old.store) ≡ Some key }
+        ensures fault { IfErr result (λ f. f ≡ Fault.Memory) }
+        ensures err { OnErr result (self.new ≡ self.old) }
+        ensures ok { IfOk result (λ length. IsFinished number length self.old self.new) }
+    {
+        let Ok(bytes) = flights::share(&mut self.flights, self.alloc, number) else {
+            return Err(StoreFault::Memory);
+        };
+        let Ok(()) = bodies::make_room(&mut self.bodies) else {
+            return Err(StoreFault::Memory);
+        };
+        let length = bytes.len();
+        let Flight { meta, buffer, .. } = flights::take(&mut self.flights, number);
+        alive::take_out(&mut self.alive, &key, number);
+        readers::leave_bytes(&mut self.readers, number, buffer);
+        bodies::put(
+            &mut self.bodies,
+            key,
+            Body {
+                number,
+                meta,
+                bytes,
+            },
+        );
+        Ok(length)
+    }
+
+    // Finishes a write, and returns its length.
+    pub(crate) fn finish(&mut self, number: u64) -> Result<usize, StoreFault>
+        ensures { FinishAnswer number self.old result self.new (alive_key (flying_at number self.old.store)) }
+    {
+        match self.key_of(number) {
+            Some(key) => self.store_body(key, number),
+            None => {
+                self.leave(number);
+                Err(StoreFault::WriteRemoved)
+            }
+        }
+    }
+
+    // Removes what is stored under a key, and returns whether there was any.
+    pub(crate) fn remove(&mut self, key: &HashBinary) -> bool
+        ensures found { result ≡ is_found_at key.now self.old.store }
+        ensures store { Agree self.new.store (after (removes key.now) self.old.store) }
+        ensures others { (self.new.next ≡ self.old.next) × (self.new.readings ≡ self.old.readings) }
+    {
+        let found = self.has(key);
+        bodies::remove(&mut self.bodies, key);
+        alive::take_all(&mut self.alive, key);
+        found
+    }
+
+    // Returns whether a look-up of a key shows anything.
+    fn has(&self, key: &HashBinary) -> bool
+        ensures { result ≡ is_found_at key.now self.now.store }
+    {
+        self.shown(key).is_some()
+    }
+
+    // Returns what a look-up of a key shows.
+    pub(crate) fn shown(&self, key: &HashBinary) -> Option<Shown<'_>>
+        ensures { option_map (shown_of key.now) result ≡ look_up key.now self.now.store }
+    {
+        match alive::first(&self.alive, key) {
+            Some(number) => Some(Shown::Flying(number, self.flights.get(&number).unwrap())),
+            None => match self.bodies.get(key) {
+                Some(body) => Some(Shown::Body(body)),
+                None => None,
+            },
+        }
+    }
+
+    // Does a step of reading a write from a place.
+    pub(crate) fn read(&self, number: u64, place: usize) -> Result<ReadStep, StoreFault>
+        ensures answer { ReadAnswer (readable number self.now) place result }
+        ensures fits { FitsPast place result }
+    {
+        if let Some(flight) = self.flights.get(&number) {
+            return flight.buffer.read_from(self.alloc, place, flight.ended);
+        }
+        match readers::left_of(&self.readers, number) {
+            Some(buffer) => buffer.read_from(self.alloc, place, true),
+            None => Ok(ReadStep::End),
+        }
+    }
+    // Counts one more reader of a write.
+    pub(crate) fn attach(&mut self, number: u64) -> Result<(), StoreFault>
+        ensures fault { IfErr result (λ f. f ≡ Fault.Memory) }
+        ensures ok { OnOk result (IsJoined number self.old self.new) }
+        ensures err { OnErr result (self.new ≡ self.old) }
+    {
+        if let Err(fault) = readers::attach(&mut self.readers, number) {
+            return Err(fault);
+        }
+        Ok(())
+    }
+
+    // Counts one reader of a write less.
+    pub(crate) fn detach(&mut self, number: u64)
+        ensures { IsParted number self.old self.new }
+    {
+        readers::detach(&mut self.readers, number);
+    }
+
+    // Returns the alive write of a key in flight of that number.
+    pub(crate) fn flying(&self, key: &HashBinary, number: u64) -> Option<&Flight>
+        ensures { option_map (λ f. in_flight (stored_flight (number, f.now))) result ≡ streamed key.now number self.now.store }
+    {
+        if alive::is_alive(&self.alive, key, number) {
+            Some(self.flights.get(&number).unwrap())
+        } else {
+            None
+        }
+    }
+}

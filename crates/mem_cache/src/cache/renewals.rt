@@ -1,0 +1,58 @@
+//! Other metas for bodies.
+ghost use Rattle.std.specs.Prelude.{◌≡◌, is_some};
+ghost use Rattle.cache_changes.specs.Store.{body_at};
+ghost use Rattle.mem_cache.specs.Renewals.{expired, IsRenewed, UpdateAnswer};
+
+use super::MemCache;
+use crate::bodies;
+use crate::meta::written_copy;
+use cache_heads::CacheMeta;
+use cache_store::storage::StoreFault;
+use cache_words::key::HashBinary;
+use cache_words::time::Moment;
+use std::hash::BuildHasher;
+
+impl<S: BuildHasher> MemCache<S> {
+    // Lets the body of a key go stale at a moment, and returns whether there is one.
+    pub(crate) fn expire_body(&mut self, key: &HashBinary, moment: Moment) -> bool
+        ensures found { result ≡ is_some (body_at key.now self.old.store) }
+        ensures renewed { IsRenewed key.now (expired moment) self.old self.new }
+    {
+        bodies::expire(&mut self.bodies, key, moment)
+    }
+
+    // Gives the body of a key another meta, and returns whether there is one.
+    fn set_meta(&mut self, key: &HashBinary, meta: CacheMeta) -> bool
+        ensures found { result ≡ is_some (body_at key.now self.old.store) }
+        ensures renewed { IsRenewed key.now (λ _. meta) self.old self.new }
+    {
+        bodies::set_meta(&mut self.bodies, key, meta)
+    }
+
+    // Returns whether a key has a body.
+    fn has_body(&self, key: &HashBinary) -> bool
+        ensures { result ≡ is_some (body_at key.now self.now.store) }
+    {
+        self.bodies.contains_key(key)
+    }
+
+    // Gives the body of a key a copy of a meta.
+    pub(crate) fn replace_meta(
+        &mut self,
+        key: &HashBinary,
+        meta: &CacheMeta,
+    ) -> Result<(), StoreFault>
+        ensures { UpdateAnswer (body_at key.now self.old.store) key.now meta.now self.old result self.new }
+    {
+        if !self.has_body(key) {
+            return Err(StoreFault::NoMeta);
+        }
+        match written_copy(self.alloc, meta) {
+            Ok(copy) => {
+                self.set_meta(key, copy);
+                Ok(())
+            }
+            Err(fault) => Err(fault),
+        }
+    }
+}

@@ -1,0 +1,59 @@
+//! Readers, as what a store gives out.
+ghost use Rattle.std.specs.Prelude.{◌≡◌};
+ghost use Rattle.mem_cache.specs.Readings.{HitRead, HitFinish, HitSeek, is_complete, weight_of};
+
+use super::MemHitHandler;
+use crate::MemCache;
+use cache_store::storage::{HandleHit, ReadStep, StoreFault};
+use std::hash::BuildHasher;
+
+impl<S: BuildHasher> HandleHit<MemCache<S>> for MemHitHandler {
+    fn read_body(&mut self, store: &mut MemCache<S>) -> Result<ReadStep, StoreFault>
+        ensures answer { HitRead self.old store.old result self.new }
+        ensures same { store.new ≡ store.old }
+    {
+        match self {
+            MemHitHandler::Complete(hit) => hit.read(),
+            MemHitHandler::Partial(hit) => hit.read(store),
+        }
+    }
+
+    fn finish(self, store: &mut MemCache<S>)
+        ensures { HitFinish self store.old store.new }
+    {
+        match self {
+            MemHitHandler::Complete(_hit) => {}
+            MemHitHandler::Partial(hit) => store.detach(hit.number()),
+        }
+    }
+
+    fn can_seek(&self) -> bool
+        ensures { result ≡ is_complete self.now }
+    {
+        matches!(self, MemHitHandler::Complete(_))
+    }
+
+    fn seek(&mut self, start: usize, end: Option<usize>) -> Result<(), StoreFault>
+        ensures { HitSeek start end self.old result self.new }
+    {
+        match self {
+            MemHitHandler::Complete(hit) => hit.seek(start, end),
+            MemHitHandler::Partial(_) => Err(StoreFault::SeekRange),
+        }
+    }
+
+    fn should_count_access(&self) -> bool
+        ensures { result ≡ is_complete self.now }
+    {
+        matches!(self, MemHitHandler::Complete(_))
+    }
+
+    fn get_eviction_weight(&self) -> usize
+        ensures { result ≡ weight_of self.now }
+    {
+        match self {
+            MemHitHandler::Complete(hit) => hit.len(),
+            MemHitHandler::Partial(_) => 0,
+        }
+    }
+}

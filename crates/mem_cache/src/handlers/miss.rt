@@ -1,0 +1,91 @@
+//! Writers.
+ghost use Rattle.std.specs.Prelude.{◌≡◌, Some, option_map, OnOk, OnErr};
+ghost use Rattle.std.specs.Int.{w64, to_be_bytes};
+ghost use Rattle.cache_changes.specs.Store.{flying_at};
+ghost use Rattle.mem_cache.specs.Answers.{WriteAnswer, after_write, alive_key, left};
+ghost use Rattle.mem_cache.specs.Misses.{MissAnswer};
+
+use crate::MemCache;
+use bytes::Bytes;
+use cache_store::storage::streaming_write::U64WriteId;
+use cache_store::storage::{HandleMiss, MissFault, MissFinishType, StoreFault};
+use std::hash::BuildHasher;
+use std::marker::Model;
+
+/// The writer of a body. It is spent by `finish` or `leave`.
+pub struct MemMissHandler {
+    number: u64,
+    tag: U64WriteId,
+}
+
+impl Model for MemMissHandler {
+    ghost use Rattle.std.specs.Prelude.{◌≡◌, ℕ};
+    ghost use Rattle.std.specs.Int.{w64, to_be_bytes};
+    ghost use Rattle.cache_store.specs.WriteTag.{bytes_of};
+
+    ghost Value = { ℕ };
+
+    ghost view = { λ h. h.number };
+
+    ghost invariant = { λ h. bytes_of h.tag ≡ to_be_bytes w64 h.number };
+}
+
+impl MemMissHandler {
+    // Returns the writer of that write.
+    pub(crate) fn new(number: u64) -> MemMissHandler
+        ensures { result ≡ number }
+    {
+        MemMissHandler {
+            number,
+            tag: U64WriteId::from(number),
+        }
+    }
+
+    // Spends the writer, and returns the number of its write.
+    fn spend(self) -> u64
+        ensures { result ≡ self }
+    {
+        let MemMissHandler { number, tag: _tag } = self;
+        number
+    }
+}
+
+impl<S: BuildHasher> HandleMiss<MemCache<S>> for MemMissHandler {
+    // Of a write that the store doesn't have, `WriteRemoved`.
+    fn write_body(
+        &mut self,
+        store: &mut MemCache<S>,
+        more: Bytes,
+        eof: bool,
+    ) -> Result<(), StoreFault>
+        ensures answer { WriteAnswer (option_map (λ f. f.ended) (flying_at self.old store.old.store)) result }
+        ensures ok { OnOk result (store.new ≡ record store.old { store = after_write self.old more eof store.old.store }) }
+        ensures err { OnErr result (store.new ≡ store.old) }
+        ensures same { self.new ≡ self.old }
+    {
+        store.append(self.number, more.as_slice(), eof)
+    }
+
+    fn finish(self, store: &mut MemCache<S>) -> Result<MissFinishType, MissFault<MemMissHandler>>
+        ensures { MissAnswer (alive_key (flying_at self store.old.store)) self store.old result store.new }
+    {
+        let number = self.spend();
+        match store.finish(number) {
+            Ok(size) => Ok(MissFinishType::Created(size)),
+            Err(StoreFault::WriteRemoved) => Err(MissFault::WriteRemoved),
+            Err(_) => Err(MissFault::Memory(MemMissHandler::new(number))),
+        }
+    }
+
+    fn leave(self, store: &mut MemCache<S>)
+        ensures { store.new ≡ left self store.old }
+    {
+        store.leave(self.spend());
+    }
+
+    fn streaming_write_tag(&self) -> Option<&[u8]>
+        ensures { option_map (λ tag. tag.now) result ≡ Some (to_be_bytes w64 self.now) }
+    {
+        Some(self.tag.as_bytes())
+    }
+}

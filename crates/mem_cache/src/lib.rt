@@ -1,0 +1,16 @@
+//! A store in memory: writes in flight and finished bodies, by stored key.
+#![tactic(auto)]
+
+mod alive;
+mod bodies;
+mod cache;
+mod flight;
+mod flights;
+pub mod handlers;
+pub mod laws;
+mod lookup;
+mod meta;
+mod readers;
+mod storage;
+
+pub use cache::MemCache;

@@ -1,0 +1,79 @@
+//! Look-ups, with handlers.
+ghost use Rattle.std.specs.Prelude.{◌≡◌, Some, option_map, MatchResult};
+ghost use Rattle.cache_store.specs.declared.storage.StoreFault.{StoreFault as Fault};
+ghost use Rattle.mem_cache.specs.declared.handlers.MemHitHandler.{MemHitHandler as Handler};
+ghost use Rattle.mem_cache.specs.Answers.{look_up, streamed};
+ghost use Rattle.mem_cache.specs.Hits.{unread};
+ghost use Rattle.mem_cache.specs.Looks.{LookAnswer, StreamAnswer, tag_number};
+
+use crate::MemCache;
+use crate::flight::{Body, Shown};
+use crate::handlers::{CompleteHit, MemHitHandler, PartialHit};
+use crate::meta::copy_of;
+use cache_store::storage::streaming_write::U64WriteId;
+use cache_store::storage::{Found, StoreFault};
+use cache_words::key::HashBinary;
+use std::hash::BuildHasher;
+
+// Returns the number that a tag names.
+pub(crate) fn number_of(tag: Option<&[u8]>) -> Option<u64>
+    ensures { result ≡ tag_number (option_map (λ t. t.now) tag.entry) }
+{
+    match U64WriteId::try_from(tag?) {
+        Ok(id) => Some(u64::from(id)),
+        Err(_) => None,
+    }
+}
+
+// Returns what a look-up found where that is a body, which is shared.
+fn found_body(body: &Body) -> Result<Found<MemHitHandler>, StoreFault>
+    ensures { MatchResult result (λ found. found ≡ Some (body.now.meta, Handler.Complete (unread body.now.bytes))) (λ f. f ≡ Fault.Memory) }
+{
+    let meta = copy_of(&body.meta)?;
+    let shared: Result<_, _> = body.bytes.clone();
+    match shared {
+        Ok(bytes) => Ok(Some((meta, MemHitHandler::Complete(CompleteHit::new(bytes))))),
+        Err(_) => Err(StoreFault::Memory),
+    }
+}
+
+impl<S: BuildHasher> MemCache<S> {
+    // Looks a key up.
+    pub(crate) fn look(&mut self, key: &HashBinary) -> Result<Found<MemHitHandler>, StoreFault>
+        ensures { LookAnswer (look_up key.now self.old.store) self.old result self.new }
+    {
+        let (meta, number) = match self.shown(key) {
+            None => return Ok(None),
+            Some(Shown::Body(body)) => return found_body(body),
+            Some(Shown::Flying(number, flight)) => match copy_of(&flight.meta) {
+                Ok(meta) => (meta, number),
+                Err(fault) => return Err(fault),
+            },
+        };
+        if let Err(fault) = self.attach(number) {
+            return Err(fault);
+        }
+        Ok(Some((meta, MemHitHandler::Partial(PartialHit::new(number)))))
+    }
+
+    // Looks up the write of a key in flight of that number.
+    pub(crate) fn look_at(
+        &mut self,
+        key: &HashBinary,
+        number: u64,
+    ) -> Result<Found<MemHitHandler>, StoreFault>
+        ensures { StreamAnswer (streamed key.now number self.old.store) self.old result self.new }
+    {
+        let meta = match self.flying(key, number) {
+            Some(flight) => match copy_of(&flight.meta) {
+                Ok(meta) => meta,
+                Err(fault) => return Err(fault),
+            },
+            None => return Err(StoreFault::WriteRemoved),
+        };
+        if let Err(fault) = self.attach(number) {
+            return Err(fault);
+        }
+        Ok(Some((meta, MemHitHandler::Partial(PartialHit::new(number)))))
+    }
+}

@@ -1,0 +1,168 @@
+//! A shard's edits, each by its call.
+
+ghost use Rattle.std.specs.Prelude.{◌≡◌, ◌-◌, length, slice_get, is_some, IfOk, IfErr, OnOk, OnErr};
+ghost use Rattle.std.specs.Option.{option_map};
+ghost use Rattle.lru_core.specs.Rows.{row_of, pair_of};
+ghost use Rattle.pingora_lru.specs.Calls.{after, reply_of, lost};
+
+use crate::call::{Call, Reply};
+use lru_core::lru_unit::{LruFault, LruUnit};
+use std::hash::BuildHasher;
+
+// Does a call. A refusal changes nothing, and hands the call back.
+pub(crate) fn apply<T: Drop, S: BuildHasher>(
+    unit: &mut LruUnit<T, S>,
+    call: Call<T>,
+) -> Result<Reply<T>, LruFault<Call<T>>>
+    ensures reply { IfOk result (λ r. r ≡ reply_of call unit.old.rows) }
+    ensures after { OnOk result (unit.new ≡ record unit.old { rows = after call unit.old.rows }) }
+    ensures err { OnErr result (unit.new ≡ unit.old) }
+    ensures back { IfErr result (λ fault. lost fault ≡ call) }
+{
+    match call {
+        Call::Admit(key, item, weight) => admit(unit, key, item, weight),
+        Call::InsertTail(key, item, weight) => insert_tail(unit, key, item, weight),
+        Call::IncrementWeight(key, item, delta, cap) => {
+            increment_weight(unit, key, item, delta, cap)
+        }
+        Call::UpdateOrAdmit(key, item, weight) => update_or_admit(unit, key, item, weight),
+        Call::SetWeight(key, weight) => set_weight(unit, key, weight),
+        Call::Promote(key) => Ok(Reply::Promoted(unit.access(key))),
+        Call::PromoteTopN(key, top) => Ok(Reply::Promoted(promote_top_n(unit, key, top))),
+        Call::Evict => Ok(Reply::Taken(evict(unit))),
+        Call::Remove(key) => Ok(Reply::Taken(unit.remove(key))),
+    }
+}
+
+fn admit<T: Drop, S: BuildHasher>(
+    unit: &mut LruUnit<T, S>,
+    key: u64,
+    item: T,
+    weight: usize,
+) -> Result<Reply<T>, LruFault<Call<T>>>
+    ensures reply { IfOk result (λ r. r ≡ reply_of (Call.Admit key item weight) unit.old.rows) }
+    ensures after { OnOk result (unit.new ≡ record unit.old { rows = after (Call.Admit key item weight) unit.old.rows }) }
+    ensures err { OnErr result (unit.new ≡ unit.old) }
+    ensures back { IfErr result (λ fault. lost fault ≡ Call.Admit key item weight) }
+{
+    match unit.admit(key, item, weight) {
+        Ok(old) => Ok(Reply::Admitted(old)),
+        Err(LruFault::Memory(back)) => Err(LruFault::Memory(Call::Admit(key, back, weight))),
+        Err(LruFault::Weight(back)) => Err(LruFault::Weight(Call::Admit(key, back, weight))),
+        Err(LruFault::Length(back)) => Err(LruFault::Length(Call::Admit(key, back, weight))),
+    }
+}
+
+fn insert_tail<T: Drop, S: BuildHasher>(
+    unit: &mut LruUnit<T, S>,
+    key: u64,
+    item: T,
+    weight: usize,
+) -> Result<Reply<T>, LruFault<Call<T>>>
+    ensures reply { IfOk result (λ r. r ≡ reply_of (Call.InsertTail key item weight) unit.old.rows) }
+    ensures after { OnOk result (unit.new ≡ record unit.old { rows = after (Call.InsertTail key item weight) unit.old.rows }) }
+    ensures err { OnErr result (unit.new ≡ unit.old) }
+    ensures back { IfErr result (λ fault. lost fault ≡ Call.InsertTail key item weight) }
+{
+    match unit.insert_tail(key, item, weight) {
+        Ok(added) => Ok(Reply::Inserted(added)),
+        Err(LruFault::Memory(back)) => Err(LruFault::Memory(Call::InsertTail(key, back, weight))),
+        Err(LruFault::Weight(back)) => Err(LruFault::Weight(Call::InsertTail(key, back, weight))),
+        Err(LruFault::Length(back)) => Err(LruFault::Length(Call::InsertTail(key, back, weight))),
+    }
+}
+
+fn increment_weight<T: Drop, S: BuildHasher>(
+    unit: &mut LruUnit<T, S>,
+    key: u64,
+    item: T,
+    delta: usize,
+    cap: Option<usize>,
+) -> Result<Reply<T>, LruFault<Call<T>>>
+    ensures reply { IfOk result (λ r. r ≡ reply_of (Call.IncrementWeight key item delta cap) unit.old.rows) }
+    ensures after { OnOk result (unit.new ≡ record unit.old { rows = after (Call.IncrementWeight key item delta cap) unit.old.rows }) }
+    ensures err { OnErr result (unit.new ≡ unit.old) }
+    ensures back { IfErr result (λ fault. lost fault ≡ Call.IncrementWeight key item delta cap) }
+{
+    match unit.increment_weight(key, move || item, delta, cap) {
+        Ok((old, new, absent)) => Ok(Reply::Incremented(old, new, absent)),
+        Err(LruFault::Memory(back)) => Err(LruFault::Memory(Call::IncrementWeight(
+            key,
+            back(),
+            delta,
+            cap,
+        ))),
+        Err(LruFault::Weight(back)) => Err(LruFault::Weight(Call::IncrementWeight(
+            key,
+            back(),
+            delta,
+            cap,
+        ))),
+        Err(LruFault::Length(back)) => Err(LruFault::Length(Call::IncrementWeight(
+            key,
+            back(),
+            delta,
+            cap,
+        ))),
+    }
+}
+
+fn update_or_admit<T: Drop, S: BuildHasher>(
+    unit: &mut LruUnit<T, S>,
+    key: u64,
+    item: T,
+    weight: usize,
+) -> Result<Reply<T>, LruFault<Call<T>>>
+    ensures reply { IfOk result (λ r. r ≡ reply_of (Call.UpdateOrAdmit key item weight) unit.old.rows) }
+    ensures after { OnOk result (unit.new ≡ record unit.old { rows = after (Call.UpdateOrAdmit key item weight) unit.old.rows }) }
+    ensures err { OnErr result (unit.new ≡ unit.old) }
+    ensures back { IfErr result (λ fault. lost fault ≡ Call.UpdateOrAdmit key item weight) }
+{
+    let old = unit.peek_weight(key);
+    match unit.admit(key, item, weight) {
+        Ok(_) => Ok(Reply::Updated(old, weight.max(1))),
+        Err(LruFault::Memory(back)) => Err(LruFault::Memory(Call::UpdateOrAdmit(
+            key, back, weight,
+        ))),
+        Err(LruFault::Weight(back)) => Err(LruFault::Weight(Call::UpdateOrAdmit(
+            key, back, weight,
+        ))),
+        Err(LruFault::Length(back)) => Err(LruFault::Length(Call::UpdateOrAdmit(
+            key, back, weight,
+        ))),
+    }
+}
+
+fn set_weight<T: Drop, S: BuildHasher>(
+    unit: &mut LruUnit<T, S>,
+    key: u64,
+    weight: usize,
+) -> Result<Reply<T>, LruFault<Call<T>>>
+    ensures reply { IfOk result (λ r. r ≡ reply_of (Call.SetWeight key weight) unit.old.rows) }
+    ensures after { OnOk result (unit.new ≡ record unit.old { rows = after (Call.SetWeight key weight) unit.old.rows }) }
+    ensures err { OnErr result (unit.new ≡ unit.old) }
+    ensures back { IfErr result (λ fault. lost fault ≡ Call.SetWeight key weight) }
+{
+    match unit.set_weight(key, weight) {
+        Ok(old) => Ok(Reply::WeightSet(old)),
+        Err(_) => Err(LruFault::Weight(Call::SetWeight(key, weight))),
+    }
+}
+
+fn promote_top_n<T, S: BuildHasher>(unit: &mut LruUnit<T, S>, key: u64, top: usize) -> bool
+    ensures found { result ≡ is_some (row_of key unit.old.rows) }
+    ensures after { unit.new ≡ record unit.old { rows = after (Call.PromoteTopN key top) unit.old.rows } }
+{
+    if unit.need_promote(key, top) {
+        unit.access(key)
+    } else {
+        unit.peek_weight(key).is_some()
+    }
+}
+
+fn evict<T: Drop, S: BuildHasher>(unit: &mut LruUnit<T, S>) -> Option<(T, usize)>
+    ensures taken { result ≡ option_map pair_of (slice_get unit.old.rows (length unit.old.rows - 1)) }
+    ensures after { unit.new ≡ record unit.old { rows = after Call.Evict unit.old.rows } }
+{
+    unit.evict()
+}
