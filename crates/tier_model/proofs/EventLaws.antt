@@ -4,8 +4,9 @@ use Rattle.std.specs.Prelude.{Bool, List, Option, Some, None, is_some, Ok, Err, 
 use Rattle.std.specs.FinMap.{get, insert}
 use Rattle.cache_words.specs.Time.{MomentValue}
 use Rattle.cache_words.specs.Key.{CacheKeyValue}
-use Rattle.cache_changes.specs.Changes.{stored_key, Change, Changes, uses}
-use Rattle.cache_changes.specs.Store.{store_of, shown_at}
+use Rattle.cache_changes.specs.Changes.{stored_key, Write, Change, Changes, uses}
+use Rattle.cache_changes.specs.Writes.{IsOrderly, body_now}
+use Rattle.cache_changes.proofs.BodyLaws.{body_now-of}
 use Rattle.cache_entries.specs.declared.entry.CacheEntryKey.{CacheEntryKey}
 use Rattle.cache_entries.specs.Entry.{key_of}
 use Rattle.cache_entries.specs.Rows.{is_over}
@@ -34,7 +35,7 @@ use Rattle.tier_model.specs.State.{Settings, State, shards_of}
 use Rattle.tier_model.specs.Step.{refusal, AllowsBy, Allows, IsAnswer, IsPutAnswer, IsPutFault, after, answered, undone, on_request, look_answer, after_look_up, after_read, after_purge, after_put, UseFits, admitted, body_for, stored_alone, all_done}
 use Rattle.tier_model.proofs.StepLaws.{call_at, answer_allowed, kept_out-done}
 use Rattle.tier_model.proofs.RowSteps.{IsMade, over-rows}
-use Rattle.tier_model.proofs.ChangeLaws.{Shows, shows, shown_body}
+use Rattle.tier_model.proofs.ChangeLaws.{Shows, shows}
 use Rattle.tier_model.proofs.BoundLaws.{Keeps, ends-over, gone-limit, keeps-later, keeps-used, keeps-cleared, leaves-room, keeps-stored, keeps-back}
 
 -- what a state holds after a history
@@ -111,9 +112,9 @@ abbrev use_of : Entry → Kept × List ℕ → List (Change Kept)
 use_of e p = uses (alone e) (max 1 (length p.1)) ∷ []
 
 -- what a hit changes: its entry is used
-hit_uses : (e : Entry) (b : FinishedBody) (changes : Changes Kept) → (store_of changes).flying ≡ [] → Shows (stored_key e) b changes → hit_changes e (shown_at (stored_key e) (store_of changes)) ≡ uses (alone e) (weight_for b) ∷ []
-hit_uses e b changes none x =
-    ap (hit_changes e) (shown_body (stored_key e) changes none ∙ x.at) ∙ ap (λ (p : Kept × List ℕ). use_of e p) x.tells
+hit_uses : (e : Entry) (b : FinishedBody) (changes : Changes Kept) → IsOrderly changes → Shows (stored_key e) b changes → hit_changes e (body_now (stored_key e) changes) changes ≡ uses (alone e) (weight_for b) ∷ []
+hit_uses e b changes o x =
+    ap (λ (w : Option (Write Kept)). hit_changes e w changes) (body_now-of (stored_key e) changes x.write o x.body) ∙ ap (λ (p : Kept × List ℕ). use_of e p) x.tells
 
 module _ (start : Opening) (s : State) (h : History) (l : Holds start s h) (opened : (i : ℕ) (q : Request) → get s.requests i ≡ Some q → (opened_for i h ≡ Some (key_of q.entry)) × (q.entry ≡ alone (key_of q.entry))) where
   abbrev Next : State → Call → Type 0
@@ -128,7 +129,7 @@ module _ (start : Opening) (s : State) (h : History) (l : Holds start s h) (open
   look_holds t read i q (Some b) a for_it be ae =
       let key = key_of q.entry in
       let x = shows (shards_of s) (length h) s.bodies s.managed (changes_of start h) l.leaves (stored_key key) b be in
-      let now = ap (λ (e : Option Entry). look_changes e (changes_of start h)) for_it.0 ∙ hit_uses key b (changes_of start h) l.leaves.landed x ∙ ap (λ (e : CacheEntryKey). uses e (weight_for b) ∷ []) (sym for_it.1) in
+      let now = ap (λ (e : Option Entry). look_changes e (changes_of start h)) for_it.0 ∙ hit_uses key b (changes_of start h) l.leaves.orderly x ∙ ap (λ (e : CacheEntryKey). uses e (weight_for b) ∷ []) (sym for_it.1) in
       subst (λ (x : Answer). Next (after_look_up s t i q (Some b)) (call_at t (LookUp i) read (Ok x))) (sym ae)
       (subst (λ (cs : List (Change Kept)). HoldsNext s (length h) s.bodies (after_look_up s t i q (Some b)).managed (extended (changes_of start h) cs)) (sym now)
       (keeps-used (shards_of s) (suc (length h)) s.bodies s.managed (changes_of start h) still q.entry (weight_for b)))

@@ -1,6 +1,6 @@
 -- The shards hold the rows that changes leave, whatever is done to them, and keep their limits.
-use Rattle.std.proofs.Common.{◌≡◌, ℕ, ◌+◌, ◌<◌, ap, sym, ◌∙◌, [], ◌∷◌, length, arith}
-use Rattle.std.specs.Prelude.{◌-◌, ◌||◌, nat_lt, List, min, ◌^◌}
+use Rattle.std.proofs.Common.{◌≡◌, ℕ, ◌+◌, ◌<◌, refl, false, ap, sym, ◌∙◌, [], ◌∷◌, length, arith}
+use Rattle.std.specs.Prelude.{◌-◌, ◌||◌, nat_lt, Bool, List, Option, Some, None, option_map, unwrap_or, min, ◌^◌}
 use Rattle.std.specs.List.{range_with_len}
 use Rattle.std.proofs.Math.Nat.{mod-lt}
 use Rattle.std.proofs.lemmas.List.{length-set, length-map}
@@ -17,12 +17,16 @@ use Rattle.tier_model.specs.Evictions.{gone, all_gone}
 use Rattle.tier_model.specs.Past.{in_shards}
 use Rattle.tier_model.specs.State.{Settings}
 
+over_by : (m : Managed) (mark : Option ℕ) → m.watermark ≡ mark → is_over m ≡ (nat_lt m.limit (managed.total_size m) || unwrap_or (option_map (λ b. nat_lt b (managed.total_items m)) mark) false)
+over_by m None e = rw e refl
+over_by m (Some b) e = rw e refl
+
 -- a limit is passed by the shards as it is by the rows
 pub over-rows : (n : ℕ) (m : Managed) (all : List Tracked) → 0 < n → AreShardsOf n m.shards all → rows.is_over m.limit m.watermark all ≡ is_over m
 over-rows n m all pos a =
-    let weight = weights-shards n m.shards all pos a in
-    let count = length-shards n m.shards all pos a in
-    ap (λ (w : ℕ). nat_lt m.limit w || rows.is_past m.watermark (length all)) (sym weight) ∙ ap (λ (c : ℕ). nat_lt m.limit (managed.total_size m) || rows.is_past m.watermark c) (sym count)
+    ap (λ (w : ℕ). nat_lt m.limit w || unwrap_or (option_map (λ b. nat_lt b (length all)) m.watermark) false) (sym (weights-shards n m.shards all pos a))
+    ∙ ap (λ (c : ℕ). nat_lt m.limit (managed.total_size m) || unwrap_or (option_map (λ b. nat_lt b c) m.watermark) false) (sym (length-shards n m.shards all pos a))
+    ∙ sym (over_by m m.watermark refl)
 
 pub shard-below : (n : ℕ) (e : CacheEntryKey) → 0 < n → shard_of n e < n
 shard-below n e h = mod-lt (entry_hash e) h

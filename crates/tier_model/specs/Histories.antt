@@ -5,8 +5,7 @@ use Rattle.cache_words.specs.Time.{MomentValue}
 use Rattle.cache_entries.specs.declared.entry.CacheEntryKey.{CacheEntryKey}
 use Rattle.cache_entries.specs.declared.rows.Tracked.{Tracked}
 use Rattle.cache_changes.specs.Changes.{stored_key, Write, Change, Changes, begins, appends, finishes, removes, admits, uses, departs, evicts}
-use Rattle.cache_changes.specs.Writes.{IsShown}
-use Rattle.cache_changes.specs.Store.{Stored, store_of, shown_at}
+use Rattle.cache_changes.specs.Writes.{bytes_of, body_now, IsShown}
 use Rattle.cache_changes.specs.Uses.{admissions}
 use Rattle.tier_model.specs.declared.state.FinishedBody.{FinishedBody}
 use Rattle.tier_model.specs.declared.event.Action.{Action}
@@ -61,15 +60,15 @@ put_changes n (Some b) (Ok (Finished length evicted)) = stores n b evicted
 put_changes n (Some b) (Err fault) = takes_back n b (done_of fault)
 put_changes n _ _ = []
 
--- a hit that shows x is a use of the entry
-abbrev pub hit_changes : Entry → Option (Stored Kept) → List (Change Kept)
-hit_changes e None = []
-hit_changes e (Some x) = uses (alone e) (max 1 (length x.bytes)) ∷ []
+-- a hit of the body of w is a use of the entry
+abbrev pub hit_changes : Entry → Option (Write Kept) → Changes Kept → List (Change Kept)
+hit_changes e None before = []
+hit_changes e (Some w) before = uses (alone e) (max 1 (length (bytes_of w.number before))) ∷ []
 
 -- by a complete hit of a request that is open for an entry
 abbrev pub look_changes : Option Entry → Changes Kept → List (Change Kept)
 look_changes None before = []
-look_changes (Some e) before = hit_changes e (shown_at (stored_key e) (store_of before))
+look_changes (Some e) before = hit_changes e (body_now (stored_key e) before) before
 
 abbrev pub changes_in : Action → Outcome → Option FinishedBody → History → Changes Kept → List (Change Kept)
 changes_in (LookUp id) (Ok (Found fresh true)) body h before = look_changes (opened_for id h) before
