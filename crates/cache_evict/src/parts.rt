@@ -3,10 +3,10 @@
 ghost use Rattle.std.specs.Prelude.{◌≡◌};
 ghost use Rattle.cache_entries.specs.Entry.{same_entry, entry_writes};
 ghost use Rattle.cache_entries.specs.SameEntry.{entries_equivalence, same-hashed, same_entry-tells};
-ghost use Rattle.cache_evict.specs.Parts.{entry_with_parts};
+ghost use Rattle.cache_evict.specs.Parts.{entry_with_parts, key_with_parts};
 
 use cache_entries::entry::{CacheEntryKey, CacheEntryKeyRef};
-use cache_words::key::HashBinary;
+use cache_words::key::{CacheHashKey, HashBinary};
 use indexmap::Equivalent;
 use std::hash::{Hash, Hasher};
 
@@ -71,5 +71,21 @@ impl<'a> Equivalent<CacheEntryKey> for KeyParts<'a> {
             }
             CacheEntryKey::Identified { .. } => false,
         }
+    }
+}
+
+impl<'a> CacheHashKey for KeyParts<'a> {
+    ghost key = { key_with_parts };
+
+    fn primary_bin(&self) -> HashBinary {
+        self.primary
+    }
+
+    fn variance_bin(&self) -> Option<HashBinary> {
+        self.variance
+    }
+
+    fn user_tag(&self) -> &str {
+        self.user_tag
     }
 }

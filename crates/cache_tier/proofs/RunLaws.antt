@@ -2,8 +2,7 @@
 use Rattle.std.proofs.Common.{◌≡◌, ℕ, List, Option, Some, None, Ok, Err, MatchResult, [], ◌∷◌, ◌++◌, subst, sym, inl, inr, refl, ap, ◌∙◌}
 use Rattle.cache_words.specs.Time.{MomentValue}
 use Rattle.cache_words.specs.Key.{CacheKeyValue}
-use Rattle.tier_entries.specs.Keys.{entry_of}
-use Rattle.tier_model.specs.Keys.{Entry, entries_of}
+use Rattle.tier_model.specs.Keys.{entry_of}
 use Rattle.tier_model.specs.declared.state.FinishedBody.{FinishedBody}
 use Rattle.tier_model.specs.declared.whole.Whole.{Whole}
 use Rattle.tier_model.specs.declared.whole.Whole.TheVariants.{Stored}
@@ -11,17 +10,16 @@ use Rattle.tier_model.specs.declared.event.Event.{Event}
 use Rattle.tier_model.specs.declared.event.Action.{Action}
 use Rattle.tier_model.specs.declared.event.Action.TheVariants.{Open, LookUp, Read, Drop, Purge, Put}
 use Rattle.tier_model.specs.declared.event.TierFault.{TierFault}
-use Rattle.tier_model.specs.Calls.{Call, Outcome, AreCallsOf, read_by, nothing_done, done_of, evicted_by}
+use Rattle.tier_model.specs.Calls.{Call, Outcome, AreCallsOf, read_by, done_of, evicted_by}
 use Rattle.tier_model.specs.Response.{IsRead, whole_of, whole_in, joined}
-use Rattle.tier_model.specs.State.{State}
-use Rattle.tier_model.specs.Step.{AllowsBy, Allows, IsPutAnswer, IsFault, refusal, taken_back, undone, after_outcome, after}
+use Rattle.tier_model.specs.State.{State, shards_of}
+use Rattle.tier_model.specs.Step.{AllowsBy, Allows, IsPutAnswer, IsFault, admitted, refusal, undone, after_outcome, after}
 use Rattle.tier_model.specs.Past.{AreTaken, CarriesHeadline}
-use Rattle.tier_model.proofs.ResponseLaws.{whole_of-entry}
 use Rattle.tier_model.proofs.Carried.{CarriesHeadline-taken}
 use Rattle.rand_core.specs.Stream.{Stream}
-use Rattle.entry_order.specs.Orders.{Order, IsDrawn}
+use Rattle.cache_evict.specs.Managed.{Managed, Evicts, pick_by_draws}
 use Rattle.cache_tier.specs.Heads.{Gives}
-use Rattle.cache_tier.specs.Draws.{order_admitted, AreDrawn, AreAllDrawn, Takes}
+use Rattle.cache_tier.specs.Draws.{AreDrawn, AreAllDrawn, Takes}
 use Rattle.cache_tier.specs.Acts.{AllowsUnrefused, after_action, TakesBy, IsRefusal, after_store, StepsBy}
 
 -- a put was taken, by what its response gave
@@ -40,11 +38,10 @@ Takes-put old s t key pieces g o new rest gives allowed is drawn =
 -- a body is stored that the response of a put gave
 pub Takes-stored : (old : State) (s : Stream) (t : MomentValue) (key : CacheKeyValue) (pieces : List (List ℕ)) (b : FinishedBody) (o : Outcome) (new : State) (rest : Stream)
     → Gives t (entry_of key) (joined pieces) (Stored b) → MatchResult o (IsPutAnswer old (Some (Stored b))) (IsRefusal old b) → new ≡ after_store old b o
-    → (left : Order) × IsDrawn (order_admitted old b) (evicted_by o) s left rest → TakesBy old s t (Put key pieces) o new rest
+    → (left : Managed) × Evicts (pick_by_draws (shards_of old)) (admitted old b) (evicted_by o) s left rest → TakesBy old s t (Put key pieces) o new rest
 Takes-stored old s t key pieces b (Ok a) new rest gives allowed is drawn = Takes-put old s t key pieces (Stored b) (Ok a) new rest gives allowed is drawn
 Takes-stored old s t key pieces b (Err f) new rest gives allowed is drawn =
-    Takes-put old s t key pieces (Stored b) (Err f) new rest gives fault
-    (subst (λ (k : Entry). new ≡ taken_back (done_of f).stored old k (entries_of (done_of f).evicted)) (whole_of-entry t (entry_of key) gives.0 b gives.2) is) drawn
+    Takes-put old s t key pieces (Stored b) (Err f) new rest gives fault is drawn
   where
     fault : IsFault old (Put key pieces) (Some (Stored b)) f
     fault = elim allowed [ inl memory ↦ inl (memory, tt) | inr late ↦ inr late ]
@@ -66,22 +63,14 @@ whole_in-none t (Drop id) = refl
 whole_in-none t (Purge key) = refl
 whole_in-none t (Put key pieces) = refl
 
--- a refusal that did nothing leaves all as before
-undone-nothing : (old : State) (action : Action) → undone old action nothing_done ≡ old
-undone-nothing old (Open id key) = refl
-undone-nothing old (LookUp id) = refl
-undone-nothing old (Read id) = refl
-undone-nothing old (Drop id) = refl
-undone-nothing old (Purge key) = refl
-undone-nothing old (Put key pieces) = refl
-
-pub Steps-refused : (old : State) (s : Stream) (e : Event) (f : TierFault) → refusal old e.action ≡ Some f → done_of f ≡ nothing_done → StepsBy old s e (Err f) old s
-Steps-refused old s e f refused nothing = (
+-- a refusal before anything else leaves all as before
+pub Steps-refused : (old : State) (s : Stream) (e : Event) (f : TierFault) → refusal old e.action ≡ Some f → StepsBy old s e (Err f) old s
+Steps-refused old s e f refused = (
   record { event = e; outcome = Err f; reading = None },
   refl,
   refl,
   (IsRead-none e.action, subst (λ r. AllowsBy r old e.moment e.action (whole_in e.moment e.action None) (Err f)) (sym refused) refl),
-  sym (ap (undone old e.action) nothing ∙ undone-nothing old e.action),
+  sym (ap (λ (w : Option Whole). undone old w (done_of f)) (whole_in-none e.moment e.action)),
   subst (λ (x : Option Whole). AreDrawn old x (Err f) s s) (sym (whole_in-none e.moment e.action)) refl,
 )
 

@@ -1,157 +1,268 @@
--- Bodies and rows after a storing, its evictions, and its taking back.
-use Rattle.std.proofs.Common.{◌≡◌, ℕ, ◌+◌, ◌≤◌, ◌<◌, ◌^◌, Bool, true, false, List, [], ◌∷◌, ◌++◌, length, map, refl, ap, ap₂, sym, ◌∙◌, arith, append-nil, cond, Some, None, Option, Ok, Err, IfOk, IfErr, MatchResult, inr, subst, max, ◌≢◌}
-use Rattle.std.specs.Prelude.{not, filter, unwrap_or}
-use Rattle.std.proofs.lemmas.List.Elements.{filter-append}
-use Rattle.std.proofs.lemmas.List.Sums.{sum_by-cons}
-use Rattle.std.proofs.lemmas.Bool.Decides.{nat_tests}
+-- What the storing of a body leaves: its evictions, and its taking back; and why an entry isn't used.
+use Rattle.std.proofs.Common.{◌≡◌, ◌≢◌, ℕ, ◌<◌, ◌^◌, Bool, true, false, List, [], ◌∷◌, ◌++◌, refl, ap, sym, ◌∙◌, arith, Some, None, Option, Err, inl, inr, subst, max, length, cond}
+use Rattle.std.specs.Prelude.{◌⊎◌, ◌+◌, not, is_some, MatchOption, Ok}
+use Rattle.std.specs.FinMap.{get, insert}
+use Rattle.cache_words.specs.Time.{MomentValue, at_most}
+use Rattle.cache_words.specs.Key.{CacheKeyValue}
 use Rattle.rand_core.specs.Stream.{Stream}
-use Rattle.lru_core.specs.declared.rows.Row.{Row}
-use Rattle.lru_core.specs.Rows.{a_row}
-use Rattle.lru_core.specs.Cores.{Core}
-use Rattle.tier_entries.specs.declared.rows.Tracked.{Tracked}
-use Rattle.tier_entries.specs.Keys.{stored_key, same_key, same_entry}
-use Rattle.tier_entries.specs.Rows.{weight_of, without_row, without_rows, all_weights, admitted, used, IsLawfulEviction, IsBegunEviction}
-use Rattle.tier_entries.proofs.KeyLaws.{same_key-tells, same_entry-tells}
-use Rattle.entry_order.specs.declared.order.OrderFault.{OrderFault}
-use Rattle.entry_order.specs.declared.order.OrderFault.TheVariants as order
-use Rattle.entry_order.specs.Orders.{Order, IsDrawn, order_in, tracked_row}
-use Rattle.tier_model.specs.Keys.{Entry, Evicted, entries_of, AreWeighed, StoredKey}
+use Rattle.cache_entries.specs.declared.entry.CacheEntryKey.{CacheEntryKey}
+use Rattle.cache_entries.specs.Rows.{weight_of}
+use Rattle.cache_changes.specs.Changes.{StoredKey, stored_key, key_alone}
+use Rattle.cache_evict.specs.declared.fault.EvictFault.{EvictFault}
+use Rattle.cache_evict.specs.declared.fault.EvictFault.TheVariants as evict
+use Rattle.cache_evict.specs.Faults.{evicted_of, IsPutRefused, RunsOut, StopsAt, IsMemory}
+use Rattle.cache_evict.specs.Managed.{Managed, Evicts, rows_of, put_first, use_first, taken_out, pick_by_draws, is_over, total_size, IsHeavy, IsLong, IsFull}
+use Rattle.tier_model.specs.Keys.{Entry, entry_of, alone, stored_key_of}
+use Rattle.tier_model.specs.declared.event.Action.TheVariants.{LookUp}
+use Rattle.tier_model.specs.declared.event.Answer.TheVariants.{Found}
+use Rattle.tier_model.specs.declared.state.Phase.TheVariants.{Hit, Stale}
+use Rattle.tier_model.specs.declared.state.Reader.TheVariants.{Unread}
 use Rattle.tier_model.specs.declared.event.TierFault.{TierFault}
-use Rattle.tier_model.specs.declared.event.TierFault.TheVariants.{Memory}
-use Rattle.tier_model.specs.declared.event.Answer.{Answer}
-use Rattle.tier_model.specs.declared.event.Answer.TheVariants.{Finished}
-use Rattle.tier_model.specs.declared.whole.Whole.TheVariants.{Stored}
-use Rattle.tier_model.specs.Calls.{Outcome, nothing_done, evicted_by}
-use Rattle.cache_tier.specs.Acts.{fault_for, after_store, IsRefusal}
-use Rattle.cache_tier.specs.Draws.{evicted_from}
+use Rattle.tier_model.specs.declared.event.TierFault.TheVariants.{Memory, TooHeavy, TooLong, NumbersSpent}
 use Rattle.tier_model.specs.declared.state.FinishedBody.{FinishedBody}
-use Rattle.tier_model.specs.Rows.{without_body, without_bodies, with_body, weight_for}
-use Rattle.tier_model.specs.State.{State}
-use Rattle.tier_model.specs.Step.{IsPutAnswer, taken_back, is_too_heavy, is_too_long, admission_is_too_heavy, use_is_too_heavy, stored_alone, all_done, after_put}
+use Rattle.tier_model.specs.declared.state.Request.{Request}
+use Rattle.tier_model.specs.Calls.{nothing_done, evicted_by}
+use Rattle.tier_model.specs.Evictions.{all_gone, GoInTurn}
+use Rattle.tier_model.specs.Rows.{body_of, without_body, without_key, without_bodies, with_body, weight_for}
+use Rattle.tier_model.specs.State.{State, shards_of}
+use Rattle.tier_model.specs.Step.{Fits, UseFits, admitted, used, IsKeptOut, IsUseFault, body_for, taken_back, stored_alone, all_done, after_purge, after_read, on_request, after_look_up, looked, look_answer, counted}
+use Rattle.cache_tier.specs.Acts.{AllowsUnrefused, fault_for, after_store, cleared, is_untouched, RollsBack, IsRefusal}
+use Rattle.cache_tier.specs.Shards.{AreKept}
+use Rattle.cache_tier.proofs.ShardLaws.{kept-put, put-there, Went, evicts-went}
 
 -- one more eviction
-pub without_bodies-more : (es : List Entry) (e : Entry) (bodies : List FinishedBody) → without_bodies (es ++ e ∷ []) bodies ≡ without_body (stored_key e) (without_bodies es bodies)
+pub without_bodies-more : (es : List CacheEntryKey) (e : CacheEntryKey) (bodies : List FinishedBody) → without_bodies (es ++ e ∷ []) bodies ≡ without_key (key_alone e) (without_bodies es bodies)
 without_bodies-more [] e bodies = refl
-without_bodies-more (k ∷ ks) e bodies = without_bodies-more ks e (without_body (stored_key k) bodies)
+without_bodies-more (k ∷ ks) e bodies = without_bodies-more ks e (without_key (key_alone k) bodies)
 
--- two filters, in either order
-either_order : {X : Type 0} (f g : X → Bool) (x : X) (xs : List X) (u v : Bool) → f x ≡ u → g x ≡ v → filter f (filter g xs) ≡ filter g (filter f xs) → filter f (cond v (x ∷ filter g xs) (filter g xs)) ≡ filter g (cond u (x ∷ filter f xs) (filter f xs))
-either_order f g x xs true true a b ih = rw (a, b) (ap (λ (l : List _). x ∷ l) ih)
-either_order f g x xs true false a b ih = rw b ih
-either_order f g x xs false true a b ih = rw a ih
-either_order f g x xs false false a b ih = ih
-
-filter-filter : {X : Type 0} (f g : X → Bool) (xs : List X) → filter f (filter g xs) ≡ filter g (filter f xs)
-filter-filter f g [] = refl
-filter-filter f g (x ∷ xs) = either_order f g x xs (f x) (g x) refl refl (filter-filter f g xs)
-
-filter-twice : {X : Type 0} (f : X → Bool) (xs : List X) → filter f (filter f xs) ≡ filter f xs
-filter-twice f [] = refl
-filter-twice f (x ∷ xs) = by_test (f x) refl (filter-twice f xs)
-  where
-    by_test : (v : Bool) → f x ≡ v → filter f (filter f xs) ≡ filter f xs → filter f (cond v (x ∷ filter f xs) (filter f xs)) ≡ cond v (x ∷ filter f xs) (filter f xs)
-    by_test true e ih = rw e (ap (λ (l : List _). x ∷ l) ih)
-    by_test false e ih = ih
-
-row-last : (e : Entry) (es : List Entry) (rows : List Tracked) → without_row e (without_rows es rows) ≡ without_rows es (without_row e rows)
-row-last e [] rows = refl
-row-last e (x ∷ es) rows = row-last e es (without_row x rows) ∙ ap (without_rows es) (filter-filter (λ r. not (same_entry r.entry e)) (λ r. not (same_entry r.entry x)) rows)
-
-body-last : (k : StoredKey) (es : List Entry) (bodies : List FinishedBody) → without_body k (without_bodies es bodies) ≡ without_bodies es (without_body k bodies)
-body-last k [] bodies = refl
-body-last k (x ∷ es) bodies =
-    body-last k es (without_body (stored_key x) bodies) ∙ ap (without_bodies es) (filter-filter (λ b. not (same_key (stored_key b.entry) k)) (λ b. not (same_key (stored_key b.entry) (stored_key x))) bodies)
-
-admitted_gone : (e : Entry) (w : ℕ) (rows : List Tracked) → without_row e (admitted e w rows) ≡ without_row e rows
-admitted_gone e w rows = rw (same_entry-tells.itself e) (filter-twice (λ r. not (same_entry r.entry e)) rows)
-
-with_gone : (b : FinishedBody) (bodies : List FinishedBody) → without_body (stored_key b.entry) (with_body b bodies) ≡ without_body (stored_key b.entry) bodies
-with_gone b bodies =
-    let P : FinishedBody → Bool = λ x. not (same_key (stored_key x.entry) (stored_key b.entry)) in
-    let gone : filter P (b ∷ []) ≡ [] = rw (same_key-tells.itself (stored_key b.entry)) refl in
-    filter-append P (filter P bodies) (b ∷ []) ∙ ap (λ (l : List FinishedBody). filter P (filter P bodies) ++ l) gone ∙ append-nil _ ∙ filter-twice P bodies
-
--- a body that was stored and is taken back after evictions leaves what they leave
-pub taken_back-stored : (s mid : State) (b : FinishedBody) (w : ℕ) (es : List Entry) → mid ≡ record s { bodies = with_body b s.bodies; tracked = admitted b.entry w s.tracked }
-    → taken_back true mid b.entry es ≡ taken_back true s b.entry es
-taken_back-stored s mid b w es is =
-    let bodies : without_body (stored_key b.entry) (without_bodies es (with_body b s.bodies)) ≡ without_body (stored_key b.entry) (without_bodies es s.bodies) =
-    body-last (stored_key b.entry) es (with_body b s.bodies) ∙ ap (without_bodies es) (with_gone b s.bodies) ∙ sym (body-last (stored_key b.entry) es s.bodies) in
-    let rows : without_row b.entry (without_rows es (admitted b.entry w s.tracked)) ≡ without_row b.entry (without_rows es s.tracked) =
-    row-last b.entry es (admitted b.entry w s.tracked) ∙ ap (without_rows es) (admitted_gone b.entry w s.tracked) ∙ sym (row-last b.entry es s.tracked) in
-    rw is (ap₂ (λ (x : List FinishedBody) (y : List Tracked). record (taken_back true s b.entry es) { bodies = x; tracked = y }) bodies rows)
-
-pub max_twice : (n : ℕ) → max 1 (max 1 n) ≡ max 1 n
+pub max_twice : (n : ℕ) → max (max 1 n) 1 ≡ max 1 n
 max_twice n = omega arith
 
--- rows of a core that are these
-numbered : List Tracked → List (Row Entry)
-numbered rows = map (λ r. a_row 0 r.entry r.weight) rows
+-- what the manager evicted after the admission of a body, and left
+pub record HasEvicted (n : ℕ) (s : State) (b : FinishedBody) (over : Bool) (es : List CacheEntryKey) (m : Managed) (st rest : Stream) : Type 0 where
+  pub fits : Fits (admitted s b)
+  pub turns : GoInTurn (shards_of s) over es (admitted s b)
+  pub left : m ≡ all_gone (shards_of s) es (admitted s b)
+  pub drawn : Evicts (pick_by_draws (shards_of s)) (admitted s b) es st m rest
+  pub kept : AreKept n m
 
-seen_again : (rows : List Tracked) → map tracked_row (numbered rows) ≡ rows
-unfolding numbered
-seen_again [] = refl
-seen_again (r ∷ rows) = ap (λ (l : List Tracked). r ∷ l) (seen_again rows)
+pub has_evicted : (n w : ℕ) (s : State) (b : FinishedBody) (over : Bool) (es : List CacheEntryKey) (m : Managed) (st rest : Stream) → AreKept n s.managed → w ≡ weight_for b
+    → total_size (put_first n (alone b.entry) w s.managed) < 2 ^ 64 → Evicts (pick_by_draws n) (put_first n (alone b.entry) w s.managed) es st m rest → is_over m ≡ over → HasEvicted n s b over es m st rest
+has_evicted n w s b over es m st rest k weighs fits went ends =
+    let N = shards_of s in
+    let turn : (x v : ℕ) → Type 0 = λ x v. (total_size (put_first x (alone b.entry) v s.managed) < 2 ^ 64) × Evicts (pick_by_draws x) (put_first x (alone b.entry) v s.managed) es st m rest in
+    let here : turn N (weight_for b) = subst (λ (v : ℕ). turn N v) weighs (subst (λ (x : ℕ). turn x w) (sym k.count) (fits, went)) in
+    let kept : AreKept N s.managed = subst (λ (x : ℕ). AreKept x s.managed) (sym k.count) k in
+    let all : Went N over es (admitted s b) m = evicts-went (pick_by_draws N) N over es (admitted s b) m st rest (kept-put N s.managed kept (alone b.entry) (weight_for b)) here.1 ends in
+    record { fits = here.0; turns = all.turns; left = all.left; drawn = here.1; kept = subst (λ (x : ℕ). AreKept x m) k.count all.kept }
 
--- where nothing goes nothing is drawn
-pub drawn_none : (o : Order) (s : Stream) → IsDrawn o [] s o s
-drawn_none o s =
-    let core : Core Entry = record { shards = numbered o.rows ∷ []; limit = o.limit; watermark = o.watermark; evicted_weight = 0; evicted_len = 0 } in
-    let seen : order_in core ≡ o = ap (λ (l : List Tracked). record o { rows = l }) (seen_again o.rows) in
-    (core, core, [], refl, seen, seen, refl, (refl, refl))
+-- ---- a put that is refused
 
--- what doesn't fit
-pub heavy_use : (e : Entry) (b : FinishedBody) (rows : List Tracked) → weight_of e rows ≡ None → 2 ^ 64 ≤ max 1 (weight_for b) + all_weights (without_row e rows) → use_is_too_heavy e (Some b) rows ≡ true
-heavy_use e b rows none heavy =
-    let sum : all_weights (used e (weight_for b) rows) ≡ weight_for b + all_weights (without_row e rows) =
-    ap (λ (o : Option ℕ). all_weights (admitted e (unwrap_or o (weight_for b)) rows)) none ∙ sum_by-cons (λ (r : Tracked). r.weight) (record { entry = e; weight = weight_for b }) (without_row e rows) in
-    le_true _ (omega (arith, sum, heavy, max_twice (length b.bytes)))
+pub record IsRefusedPut (s : State) (b : FinishedBody) (f : TierFault) (new : State) (st rest : Stream) : Type 0 where
+  pub allowed : IsRefusal s b f
+  pub after : new ≡ after_store s b (Err f)
+  pub drawn : (left : Managed) × Evicts (pick_by_draws (shards_of s)) (admitted s b) (evicted_by (Err f)) st left rest
+
+module _ (n w : ℕ) (s : State) (b : FinishedBody) (k : AreKept n s.managed) (weighs : w ≡ weight_for b) where
+  nothing_put : (m : Managed) (f : TierFault) (new : State) (st rest : Stream) → m ≡ s.managed → rest ≡ st → (f ≡ Memory nothing_done) × (new ≡ record s { managed = m }) → IsRefusedPut s b f new st rest
+  nothing_put m f new st rest same none r =
+      let is : new ≡ s = r.1 ∙ ap (λ (x : Managed). record s { managed = x }) same in
+      subst (λ (x : TierFault). IsRefusedPut s b x new st rest) (sym r.0) (record { allowed = inl refl; after = is; drawn = (admitted s b, (refl, none)) })
+
+  cut_put : (m : Managed) (f : TierFault) (new : State) (st rest : Stream) (es : List CacheEntryKey) → HasEvicted n s b true es m st rest
+      → (f ≡ Memory (all_done es)) × (new ≡ cleared n b.entry es (record s { managed = m })) → IsRefusedPut s b f new st rest
+  cut_put m f new st rest es h r =
+      let is : new ≡ taken_back true s b (all_done es) = r.1
+      ∙ ap (λ (x : Managed). record s { bodies = without_body (stored_key b.entry) (without_bodies es s.bodies); managed = taken_out n (alone b.entry) x }) h.left
+      ∙ ap (λ (x : ℕ). record s { bodies = without_body (stored_key b.entry) (without_bodies es s.bodies); managed = taken_out x (alone b.entry) (all_gone (shards_of s) es (admitted s b)) }) (sym k.count) in
+      subst (λ (x : TierFault). IsRefusedPut s b x new st rest) (sym r.0) (record { allowed = inr (inr (es, refl, h.fits, h.turns)); after = is; drawn = (m, h.drawn) })
+
+  kept_out : (m : Managed) (f : TierFault) (new : State) (st rest : Stream) → m ≡ s.managed → rest ≡ st → IsKeptOut s (alone b.entry) (weight_for b) stored_alone f → evicted_by (Err f) ≡ []
+      → new ≡ cleared n b.entry [] (record s { managed = m }) → after_store s b (Err f) ≡ taken_back true s b stored_alone → IsRefusedPut s b f new st rest
+  kept_out m f new st rest same none out nobody r store =
+      let is : new ≡ taken_back true s b stored_alone = r
+      ∙ ap (λ (x : Managed). record s { bodies = without_body (stored_key b.entry) s.bodies; managed = taken_out n (alone b.entry) x }) same
+      ∙ ap (λ (x : ℕ). record s { bodies = without_body (stored_key b.entry) s.bodies; managed = taken_out x (alone b.entry) s.managed }) (sym k.count) in
+      record {
+        allowed = inr (inl out);
+        after = is ∙ sym store;
+        drawn = (admitted s b, subst (λ (l : List CacheEntryKey). Evicts (pick_by_draws (shards_of s)) (admitted s b) l st (admitted s b) rest) (sym nobody) (refl, none));
+      }
+
+  -- an entry that was put is tracked where nothing went
+  there : (m : Managed) (es : List CacheEntryKey) (st rest : Stream) → Evicts (pick_by_draws n) (put_first n (alone b.entry) w s.managed) es st m rest → es ≡ [] → weight_of (alone b.entry) (rows_of n (alone b.entry) m) ≢ None
+  there m [] st rest h e none =
+      let is : weight_of (alone b.entry) (rows_of n (alone b.entry) m) ≡ Some w = ap (λ (x : Managed). weight_of (alone b.entry) (rows_of n (alone b.entry) x)) h.0 ∙ put-there n s.managed k (alone b.entry) w in
+      absurd cc
+  there m (x ∷ es) st rest h e none = absurd cc
+
+  heavy_here : (fault : ℕ → ℕ → Type 0) → fault n w → fault (shards_of s) (weight_for b)
+  heavy_here fault p = subst (λ (v : ℕ). fault (shards_of s) v) weighs (subst (λ (x : ℕ). fault x w) (sym k.count) p)
+
+  refused_by : (m : Managed) (fault : EvictFault) (f : TierFault) (new : State) (st rest : Stream) → IsPutRefused n (alone b.entry) w s.managed fault → evicted_of fault ≡ [] → m ≡ s.managed → rest ≡ st
+      → RollsBack n b.entry fault (record s { managed = m }) f new → IsRefusedPut s b f new st rest
+  refused_by m (evict.Memory v) f new st rest p none same drawn r =
+      nothing_put m f new st rest same drawn (r.nothing tt none (ap (λ (x : Managed). weight_of (alone b.entry) (rows_of n (alone b.entry) x)) same ∙ p))
+  refused_by m (evict.Weight v) f new st rest p none same drawn r =
+      let back = r.other (λ x. x) in
+      subst (λ (x : TierFault). IsRefusedPut s b x new st rest) (sym back.0)
+      (kept_out m (TooHeavy stored_alone) new st rest same drawn (refl, heavy_here (λ x v. IsHeavy x (alone b.entry) v s.managed) p) refl back.1 refl)
+  refused_by m (evict.Length v) f new st rest p none same drawn r =
+      let back = r.other (λ x. x) in
+      subst (λ (x : TierFault). IsRefusedPut s b x new st rest) (sym back.0)
+      (kept_out m (TooLong stored_alone) new st rest same drawn (refl, heavy_here (λ x v. IsLong x (alone b.entry) s.managed) p) refl back.1 refl)
+  refused_by m (evict.NumbersSpent v) f new st rest p none same drawn r =
+      let back = r.other (λ x. x) in
+      subst (λ (x : TierFault). IsRefusedPut s b x new st rest) (sym back.0)
+      (kept_out m (NumbersSpent stored_alone) new st rest same drawn (refl, heavy_here (λ x v. IsFull x (alone b.entry) s.managed) p) refl back.1 refl)
+  refused_by m (evict.File v) f new st rest p none same drawn r = absurd p
+
+  pub refused-put : (m : Managed) (fault : EvictFault) (f : TierFault) (mid new : State) (st rest : Stream) → StopsAt (pick_by_draws n) n (alone b.entry) w s.managed st fault m rest
+      → mid ≡ record s { managed = m } → RollsBack n b.entry fault mid f new → IsRefusedPut s b f new st rest
+  refused-put m fault f mid new st rest stops is r = by_case stops (subst (λ (x : State). RollsBack n b.entry fault x f new) is r)
+    where
+      by_case : StopsAt (pick_by_draws n) n (alone b.entry) w s.managed st fault m rest → RollsBack n b.entry fault (record s { managed = m }) f new → IsRefusedPut s b f new st rest
+      by_case stops r = elim stops [
+        | inl p ↦ refused_by m fault f new st rest p.0 p.1 p.2 p.3 r
+        | inr q ↦
+            let h = has_evicted n w s b true (evicted_of fault) m st rest k weighs q.1 q.0.1 q.0.2 in
+            cut_put m f new st rest (evicted_of fault) h (by_list (evicted_of fault) refl q.0.0 q.0.1 r)
+      ]
+        where
+          by_list : (es : List CacheEntryKey) → evicted_of fault ≡ es → IsMemory fault → Evicts (pick_by_draws n) (put_first n (alone b.entry) w s.managed) (evicted_of fault) st m rest
+              → RollsBack n b.entry fault (record s { managed = m }) f new → (f ≡ Memory (all_done (evicted_of fault))) × (new ≡ cleared n b.entry (evicted_of fault) (record s { managed = m }))
+          by_list [] e memory h r = r.admitted memory (there m (evicted_of fault) st rest h e)
+          by_list (x ∷ es) e memory h r = r.evicted memory (λ none. let same : x ∷ es ≡ [] = sym e ∙ none in absurd cc)
+
+-- whatever became of an admission, the shards are kept
+pub kept-stopped : (n w : ℕ) (s : State) (b : FinishedBody) (k : AreKept n s.managed) (m : Managed) (fault : EvictFault) (st rest : Stream) → w ≡ weight_for b
+    → StopsAt (pick_by_draws n) n (alone b.entry) w s.managed st fault m rest → AreKept n m
+kept-stopped n w s b k m fault st rest weighs stops = elim stops [
+  | inl p ↦ subst (λ (x : Managed). AreKept n x) (sym p.2) k
+  | inr q ↦ (has_evicted n w s b true (evicted_of fault) m st rest k weighs q.1 q.0.1 q.0.2).kept
+]
+
+-- ---- a use that is refused
+
+-- what is never refused where it is there isn't there
+pub no_weight : (o : Option ℕ) → (o ≢ None → false ≡ true) → o ≡ None
+no_weight None h = refl
+no_weight (Some w) h = absurd (let never = h (λ e. cc) in cc)
+
+pub use-fault : (n w : ℕ) (s : State) (q : Request) (b : FinishedBody) (fault : EvictFault) → AreKept n s.managed → w ≡ weight_for b → body_for q s.bodies ≡ Some b
+    → weight_of q.entry (rows_of n q.entry s.managed) ≡ None → IsPutRefused n q.entry w s.managed fault → (fault_for fault nothing_done ≡ Memory nothing_done) ⊎ IsUseFault s q (fault_for fault nothing_done)
+use-fault n w s q b fault k weighs found none p = by_fault fault p
   where
-    le_true : (n : ℕ) → 2 ^ 64 ≤ n → is_too_heavy n ≡ true
-    le_true n h = grind (arith, nat_tests)
+    at : (f : TierFault) → (weight_of q.entry (rows_of (shards_of s) q.entry s.managed) ≡ None) × IsKeptOut s q.entry (weight_for b) nothing_done f → IsUseFault s q f
+    at f h = subst (λ (o : Option FinishedBody). MatchOption o ⊥ (λ b. (weight_of q.entry (rows_of (shards_of s) q.entry s.managed) ≡ None) × IsKeptOut s q.entry (weight_for b) nothing_done f)) (sym found) h
 
-pub light_use : (e : Entry) (b : FinishedBody) (rows : List Tracked) → all_weights (used e (weight_for b) rows) < 2 ^ 64 → use_is_too_heavy e (Some b) rows ≡ false
-light_use e b rows light = grind (arith, nat_tests)
+    move : (P : ℕ → ℕ → Type 0) → P n w → P (shards_of s) (weight_for b)
+    move P h = subst (λ (v : ℕ). P (shards_of s) v) weighs (subst (λ (x : ℕ). P x w) (sym k.count) h)
 
-pub long_use : (e : Entry) (rows : List Tracked) → weight_of e rows ≡ None → 2415919104 ≤ length rows → is_too_long e rows ≡ true
-long_use e rows none long = rw none (grind (arith, nat_tests))
+    none_here : weight_of q.entry (rows_of (shards_of s) q.entry s.managed) ≡ None
+    none_here = move (λ x v. weight_of q.entry (rows_of x q.entry s.managed) ≡ None) none
 
--- a refused admission evicts nothing
-pub refused_none : (fault : OrderFault) (x : TierFault) → (fault ≡ order.Memory → x ≡ Memory nothing_done) → (fault ≢ order.Memory → x ≡ fault_for fault stored_alone) → evicted_by (Err x) ≡ []
-refused_none order.Memory x memory other = ap (λ (f : TierFault). evicted_by (Err f)) (memory refl)
-refused_none order.TooHeavy x memory other = ap (λ (f : TierFault). evicted_by (Err f)) (other (λ e. cc))
-refused_none order.TooLong x memory other = ap (λ (f : TierFault). evicted_by (Err f)) (other (λ e. cc))
+    by_fault : (fault : EvictFault) → IsPutRefused n q.entry w s.managed fault → (fault_for fault nothing_done ≡ Memory nothing_done) ⊎ IsUseFault s q (fault_for fault nothing_done)
+    by_fault (evict.Memory v) p = inl refl
+    by_fault (evict.Weight v) p = inr (at (TooHeavy nothing_done) (none_here, (refl, move (λ x v. IsHeavy x q.entry v s.managed) p)))
+    by_fault (evict.Length v) p = inr (at (TooLong nothing_done) (none_here, (refl, move (λ x v. IsLong x q.entry s.managed) p)))
+    by_fault (evict.NumbersSpent v) p = inr (at (NumbersSpent nothing_done) (none_here, (refl, move (λ x v. IsFull x q.entry s.managed) p)))
+    by_fault (evict.File v) p = absurd p
 
--- a body that was stored and admitted, after the making of room for it
-pub room-after : (s mid new : State) (b : FinishedBody) (e : Entry) (n : ℕ) (o : Outcome) → mid ≡ record s { bodies = with_body b s.bodies; tracked = admitted b.entry (weight_for b) s.tracked } → b.entry ≡ e
-    → IfOk o (λ a. (es : List Evicted) × (a ≡ Finished n es) × IsLawfulEviction mid.settings.limit mid.settings.watermark mid.tracked (entries_of es) × (new ≡ evicted_from mid (entries_of es)) × AreWeighed mid.tracked es)
-    → IfErr o (λ f. (es : List Evicted) × (f ≡ Memory (all_done es)) × IsBegunEviction mid.settings.limit mid.settings.watermark mid.tracked (entries_of es) × (new ≡ taken_back true mid e (entries_of es)) × AreWeighed mid.tracked es)
-    → new ≡ after_store s b o
-room-after s mid new b e n (Ok a) is same kept cut = subst (λ (x : Answer). new ≡ after_put s (Some (Stored b)) x) (sym kept.1) (kept.3 ∙ ap (λ (m : State). evicted_from m (entries_of kept.0)) is)
-room-after s mid new b e n (Err f) is same kept cut =
-    subst (λ (x : TierFault). new ≡ after_store s b (Err x)) (sym cut.1) (cut.3 ∙ ap (λ (y : Entry). taken_back true mid y (entries_of cut.0)) (sym same) ∙ taken_back-stored s mid b (weight_for b) (entries_of cut.0) is)
+-- ---- what is rolled back
 
--- an admission that fits
-light_admission : (b : FinishedBody) (rows : List Tracked) → all_weights (admitted b.entry (weight_for b) rows) < 2 ^ 64 → admission_is_too_heavy b rows ≡ false
-light_admission b rows light = le_false _ (omega (arith, light, sum_by-cons (λ (r : Tracked). r.weight) (record { entry = b.entry; weight = weight_for b }) (without_row b.entry rows)))
+none_there : (o : Option ℕ) → not (is_some o) ≡ is_untouched [] o
+none_there None = refl
+none_there (Some w) = refl
+
+pub untouched-peeked : (v : Bool) (o : Option ℕ) → v ≡ is_some o → not v ≡ is_untouched [] o
+untouched-peeked v o e = ap not e ∙ none_there o
+
+untouched_none : (es : List CacheEntryKey) (o : Option ℕ) → is_untouched es o ≡ true → (es ≡ []) × (o ≡ None)
+untouched_none [] None e = (refl, refl)
+untouched_none [] (Some w) e = absurd cc
+untouched_none (x ∷ es) o e = absurd cc
+
+pub rolled-untouched : (n : ℕ) (e : Entry) (fault : EvictFault) (old new : State) (f : TierFault) → IsMemory fault → is_untouched (evicted_of fault) (weight_of (alone e) (rows_of n (alone e) old.managed)) ≡ true
+    → f ≡ Memory nothing_done → new ≡ old → RollsBack n e fault old f new
+rolled-untouched n e fault old new f memory is told same =
+    let none = untouched_none (evicted_of fault) (weight_of (alone e) (rows_of n (alone e) old.managed)) is in
+    record { nothing = λ m a b. (told, same); evicted = λ m some. absurd (some none.0); admitted = λ m some. absurd (some none.1); other = λ x. absurd (x memory) }
+
+pub rolled-cleared : (n : ℕ) (e : Entry) (fault : EvictFault) (old new : State) (f : TierFault) → IsMemory fault → is_untouched (evicted_of fault) (weight_of (alone e) (rows_of n (alone e) old.managed)) ≡ false
+    → f ≡ Memory (all_done (evicted_of fault)) → new ≡ cleared n e (evicted_of fault) old → RollsBack n e fault old f new
+rolled-cleared n e fault old new f memory is told same = record {
+  nothing = λ m a b. absurd (both a b);
+  evicted = λ m some. (told, same);
+  admitted = λ m some. (told, same);
+  other = λ x. absurd (x memory);
+}
   where
-    le_false : (n : ℕ) → n < 2 ^ 64 → is_too_heavy n ≡ false
-    le_false n h = grind (arith, nat_tests)
+    both : evicted_of fault ≡ [] → weight_of (alone e) (rows_of n (alone e) old.managed) ≡ None → ⊥
+    both a b =
+        let here : is_untouched (evicted_of fault) (weight_of (alone e) (rows_of n (alone e) old.managed)) ≡ true = ap (λ (es : List CacheEntryKey). is_untouched es (weight_of (alone e) (rows_of n (alone e) old.managed))) a ∙ ap (is_untouched []) b in
+        absurd cc
 
-pub light_by : (b : FinishedBody) (rows : List Tracked) (after before : Order) (e : Entry) (w : ℕ) → after ≡ record before { rows = admitted e (max 1 w) before.rows } → before.rows ≡ rows → e ≡ b.entry
-    → w ≡ weight_for b → all_weights after.rows < 2 ^ 64 → admission_is_too_heavy b rows ≡ false
-light_by b rows after before e w is from same weighs light =
-    let new : after.rows ≡ admitted b.entry (weight_for b) rows = ap (λ (o : Order). o.rows) is ∙ rw (from, same, weighs, max_twice) refl in
-    light_admission b rows (subst (λ (rs : List Tracked). all_weights rs < 2 ^ 64) new light)
+pub not_memory : (fault : EvictFault) → ((v : _) → fault ≡ evict.Memory v → ⊥) → IsMemory fault → ⊥
+not_memory (evict.Memory v) other m = other v refl
+not_memory (evict.Weight v) other m = m
+not_memory (evict.Length v) other m = m
+not_memory (evict.NumbersSpent v) other m = m
+not_memory (evict.File v) other m = m
 
--- what the making of room answers is allowed for a put that fits
-pub room-allowed : (s mid new : State) (b : FinishedBody) (e : Entry) (n : ℕ) (o : Outcome) → mid ≡ record s { bodies = with_body b s.bodies; tracked = admitted b.entry (weight_for b) s.tracked } → n ≡ length b.bytes
-    → admission_is_too_heavy b s.tracked ≡ false
-    → IfOk o (λ a. (es : List Evicted) × (a ≡ Finished n es) × IsLawfulEviction mid.settings.limit mid.settings.watermark mid.tracked (entries_of es) × (new ≡ evicted_from mid (entries_of es)) × AreWeighed mid.tracked es)
-    → IfErr o (λ f. (es : List Evicted) × (f ≡ Memory (all_done es)) × IsBegunEviction mid.settings.limit mid.settings.watermark mid.tracked (entries_of es) × (new ≡ taken_back true mid e (entries_of es)) × AreWeighed mid.tracked es)
-    → MatchResult o (IsPutAnswer s (Some (Stored b))) (IsRefusal s b)
-room-allowed s mid new b e n (Ok a) is size fits kept cut =
-    subst (IsPutAnswer s (Some (Stored b))) (sym kept.1)
-    (size, fits, subst (λ (m : State). IsLawfulEviction m.settings.limit m.settings.watermark m.tracked (entries_of kept.0)) is kept.2, subst (λ (m : State). AreWeighed m.tracked kept.0) is kept.4)
-room-allowed s mid new b e n (Err f) is size fits kept cut =
-    inr (inr (inr (cut.0, cut.1, subst (λ (m : State). IsBegunEviction m.settings.limit m.settings.watermark m.tracked (entries_of cut.0)) is cut.2, fits, subst (λ (m : State). AreWeighed m.tracked cut.0) is cut.4)))
+pub rolled-other : (n : ℕ) (e : Entry) (fault : EvictFault) (old new : State) (f : TierFault) → (IsMemory fault → ⊥) → f ≡ fault_for fault stored_alone → new ≡ cleared n e [] old → RollsBack n e fault old f new
+rolled-other n e fault old new f other told same = record {
+  nothing = λ m a b. absurd (other m);
+  evicted = λ m some. absurd (other m);
+  admitted = λ m some. absurd (other m);
+  other = λ x. (told, same);
+}
+
+-- ---- actions of requests and keys
+
+pub purged : (n : ℕ) (s new : State) (key : CacheKeyValue) (k : StoredKey) (e : CacheEntryKey) → length s.managed.shards ≡ n → k ≡ stored_key_of key → e ≡ alone (entry_of key) → is_some (body_of k s.bodies) ≡ true
+    → new ≡ record s { bodies = without_body k s.bodies; managed = taken_out n e s.managed } → new ≡ after_purge s key (is_some (body_of (stored_key_of key) s.bodies))
+purged n s new key k e count stored entry found is =
+    is ∙ ap (λ (x : StoredKey). record s { bodies = without_body x s.bodies; managed = taken_out n e s.managed }) stored
+    ∙ ap (λ (x : CacheEntryKey). record s { bodies = without_body (stored_key_of key) s.bodies; managed = taken_out n x s.managed }) entry
+    ∙ ap (λ (x : ℕ). record s { bodies = without_body (stored_key_of key) s.bodies; managed = taken_out x (alone (entry_of key)) s.managed }) (sym count)
+    ∙ ap (after_purge s key) (sym found ∙ ap (λ (x : StoredKey). is_some (body_of x s.bodies)) stored)
+
+pub not_purged : (s : State) (key : CacheKeyValue) (k : StoredKey) → k ≡ stored_key_of key → is_some (body_of k s.bodies) ≡ false → s ≡ after_purge s key (is_some (body_of (stored_key_of key) s.bodies))
+not_purged s key k stored none = ap (after_purge s key) (sym none ∙ ap (λ (x : StoredKey). is_some (body_of x s.bodies)) stored)
+
+module _ (s : State) (t : MomentValue) (i : ℕ) (q : Request) (there : Some q ≡ get s.requests i) where
+  pub read-after : (new : State) → new ≡ record s { requests = insert s.requests i (after_read q) } → new ≡ on_request s (get s.requests i) (λ q. record s { requests = insert s.requests i (after_read q) })
+  read-after new is = is ∙ ap (λ (o : Option Request). on_request s o (λ q. record s { requests = insert s.requests i (after_read q) })) there
+
+  look-after : (new : State) (o : Option FinishedBody) → o ≡ body_for q s.bodies → new ≡ after_look_up s t i q o → new ≡ on_request s (get s.requests i) (λ q. after_look_up s t i q (body_for q s.bodies))
+  look-after new o found is =
+      is ∙ ap (after_look_up s t i q) found ∙ ap (λ (x : Option Request). on_request s x (λ q. after_look_up s t i q (body_for q s.bodies))) there
+
+  pub look-absent : (new : State) → None ≡ body_for q s.bodies → new ≡ record s { requests = insert s.requests i (looked t q None); absent = counted s.absent 1 } → new ≡ on_request s (get s.requests i) (λ q. after_look_up s t i q (body_for q s.bodies))
+  look-absent new found is = look-after new None found is
+
+  module _ (n w : ℕ) (b : FinishedBody) (k : AreKept n s.managed) (weighs : w ≡ weight_for b) (found : Some b ≡ body_for q s.bodies) where
+    here : (P : Managed → Type 0) → P (use_first n q.entry w s.managed) → P (used s q.entry b)
+    here P p = subst (λ (v : ℕ). P (use_first (shards_of s) q.entry v s.managed)) weighs (subst (λ (x : ℕ). P (use_first x q.entry w s.managed)) (sym k.count) p)
+
+    pub look-found : (new : State) (m : Managed) (fresh : Bool) → m ≡ use_first n q.entry w s.managed → fresh ≡ at_most t b.fresh_until
+        → new ≡ record s { requests = insert s.requests i (record q { phase = cond fresh Hit Stale; reader = Unread b.bytes }); managed = m; found = counted s.found 1 }
+        → new ≡ on_request s (get s.requests i) (λ q. after_look_up s t i q (body_for q s.bodies))
+    look-found new m fresh left is_fresh is =
+        let used_now : m ≡ used s q.entry b = here (λ (x : Managed). m ≡ x) left in
+        look-after new (Some b) found (is
+        ∙ ap (λ (v : Bool). record s { requests = insert s.requests i (record q { phase = cond v Hit Stale; reader = Unread b.bytes }); managed = m; found = counted s.found 1 }) is_fresh
+        ∙ ap (λ (x : Managed). record s { requests = insert s.requests i (looked t q (Some b)); managed = x; found = counted s.found 1 }) used_now)
+
+    pub look-allowed : (m : Managed) (fresh : Bool) → m ≡ use_first n q.entry w s.managed → total_size m < 2 ^ 64 → fresh ≡ at_most t b.fresh_until → AllowsUnrefused s t (LookUp i) (Ok (Found fresh true))
+    look-allowed m fresh left fits is_fresh =
+        let small : Fits (used s q.entry b) = here (λ (x : Managed). Fits x) (subst (λ (x : Managed). total_size x < 2 ^ 64) left fits) in
+        subst (λ (o : Option Request). MatchOption o ⊥ (λ q. (Found fresh true ≡ look_answer t (body_for q s.bodies)) × UseFits s q)) there
+        (subst (λ (o : Option FinishedBody). (Found fresh true ≡ look_answer t o) × MatchOption o (Unit {0}) (λ b. Fits (used s q.entry b))) found (ap (λ (v : Bool). Found v true) is_fresh, small))
+
+    pub look-refused : (fault : EvictFault) (f : TierFault) → weight_of q.entry (rows_of n q.entry s.managed) ≡ None → IsPutRefused n q.entry w s.managed fault → f ≡ fault_for fault nothing_done → AllowsUnrefused s t (LookUp i) (Err f)
+    look-refused fault f none p is = subst (λ (x : TierFault). AllowsUnrefused s t (LookUp i) (Err x)) (sym is) (elim (use-fault n w s q b fault k weighs (sym found) none p) [
+      | inl memory ↦ inl (memory, subst (λ (o : Option Request). MatchOption o ⊥ (λ q. is_some (body_for q s.bodies) ≡ true)) there (ap is_some (sym found)))
+      | inr late ↦ inr (subst (λ (o : Option Request). MatchOption o ⊥ (λ q. IsUseFault s q (fault_for fault nothing_done))) there late)
+    ])

@@ -1,21 +1,27 @@
 -- One action at a moment: the outcomes that a state allows after the checks, and the state after an outcome.
-use Rattle.std.specs.Prelude.{◌≡◌, Option, Some, None, Ok, Err, ◌⊎◌}
+use Rattle.std.specs.Prelude.{◌≡◌, ◌≢◌, ℕ, Bool, true, false, List, [], Option, Some, None, Ok, Err, ◌⊎◌}
 use Rattle.cache_words.specs.Time.{MomentValue}
 use Rattle.tier_model.specs.declared.state.FinishedBody.{FinishedBody}
 use Rattle.tier_model.specs.declared.event.Done.{Done}
 use Rattle.rand_core.specs.Stream.{Stream}
-use Rattle.entry_order.specs.declared.order.OrderFault.{OrderFault}
-use Rattle.entry_order.specs.declared.order.OrderFault.TheVariants as order
+use Rattle.cache_entries.specs.declared.entry.CacheEntryKey.{CacheEntryKey}
+use Rattle.cache_entries.specs.Rows.{weight_of}
+use Rattle.cache_changes.specs.Changes.{stored_key}
+use Rattle.cache_evict.specs.declared.fault.EvictFault.{EvictFault}
+use Rattle.cache_evict.specs.declared.fault.EvictFault.TheVariants as evict
+use Rattle.cache_evict.specs.Faults.{evicted_of, IsMemory}
+use Rattle.cache_evict.specs.Managed.{rows_of, taken_out}
 use Rattle.cache_tier.specs.Draws.{AreDrawn}
 use Rattle.tier_model.specs.declared.whole.Whole.TheVariants.{Stored}
 use Rattle.tier_model.specs.declared.event.Action.{Action}
 use Rattle.tier_model.specs.declared.event.TierFault.{TierFault}
-use Rattle.tier_model.specs.declared.event.TierFault.TheVariants.{Memory, TooHeavy, TooLong}
-use Rattle.tier_model.specs.Keys.{entries_of}
+use Rattle.tier_model.specs.declared.event.TierFault.TheVariants.{Memory, TooHeavy, TooLong, NumbersSpent, Folder}
+use Rattle.tier_model.specs.Keys.{Entry, alone}
+use Rattle.tier_model.specs.Rows.{without_body, without_bodies}
 use Rattle.tier_model.specs.declared.event.Event.{Event}
 use Rattle.tier_model.specs.Calls.{Call, Outcome, nothing_done, done_of, read_by}
 use Rattle.tier_model.specs.State.{State}
-use Rattle.tier_model.specs.Step.{AllowsBy, Allows, IsStoreFault, after_put, taken_back, after_outcome, after}
+use Rattle.tier_model.specs.Step.{AllowsBy, Allows, IsStoreFault, stored_alone, all_done, after_put, taken_back, after_outcome, after}
 use Rattle.tier_model.specs.Response.{Reading, IsRead, whole_in}
 
 -- an outcome of an action that is not refused and has no response
@@ -32,13 +38,32 @@ IsRefusal s b f = (f ≡ Memory nothing_done) ⊎ IsStoreFault s b f
 -- the state after the storing of a body
 abbrev pub after_store : State → FinishedBody → Outcome → State
 after_store s b (Ok a) = after_put s (Some (Stored b)) a
-after_store s b (Err f) = taken_back (done_of f).stored s b.entry (entries_of (done_of f).evicted)
+after_store s b (Err f) = taken_back (done_of f).stored s b (done_of f)
 
 -- a fault of the order of use, after what was done
-abbrev pub fault_for : OrderFault → Done → TierFault
-fault_for order.Memory done = Memory done
-fault_for order.TooHeavy done = TooHeavy done
-fault_for order.TooLong done = TooLong done
+abbrev pub fault_for : EvictFault → Done → TierFault
+fault_for (evict.Memory v) done = Memory done
+fault_for (evict.Weight v) done = TooHeavy done
+fault_for (evict.Length v) done = TooLong done
+fault_for (evict.NumbersSpent v) done = NumbersSpent done
+fault_for (evict.File v) done = Folder
+
+-- the body of an entry is gone with its entry, and those of the entries that were evicted
+abbrev pub cleared : ℕ → Entry → List CacheEntryKey → State → State
+cleared n e evicted s = record s { bodies = without_body (stored_key e) (without_bodies evicted s.bodies); managed = taken_out n (alone e) s.managed }
+
+-- nothing went, and an entry of that weight isn't there
+abbrev pub is_untouched : List CacheEntryKey → Option ℕ → Bool
+is_untouched [] None = true
+is_untouched _ _ = false
+
+-- what becomes of a fault at the admission of e, after which the state was `old`. Memory ran out before anything was done, or
+-- in the evictions; any other fault came before the admission
+pub record RollsBack (n : ℕ) (e : Entry) (fault : EvictFault) (old : State) (f : TierFault) (new : State) : Type 0 where
+  pub nothing : IsMemory fault → evicted_of fault ≡ [] → weight_of (alone e) (rows_of n (alone e) old.managed) ≡ None → (f ≡ Memory nothing_done) × (new ≡ old)
+  pub evicted : IsMemory fault → evicted_of fault ≢ [] → (f ≡ Memory (all_done (evicted_of fault))) × (new ≡ cleared n e (evicted_of fault) old)
+  pub admitted : IsMemory fault → weight_of (alone e) (rows_of n (alone e) old.managed) ≢ None → (f ≡ Memory (all_done (evicted_of fault))) × (new ≡ cleared n e (evicted_of fault) old)
+  pub other : (IsMemory fault → ⊥) → (f ≡ fault_for fault stored_alone) × (new ≡ cleared n e [] old)
 
 -- an action that is not refused was taken, by a reading of its response, and with it the words from s to rest
 abbrev pub TakesBy : State → Stream → MomentValue → Action → Outcome → State → Stream → Type 0

@@ -1,4 +1,5 @@
 pub mod Heads
 pub mod Codes
+pub mod Shards
 pub mod Acts
 pub mod Draws

@@ -2,6 +2,7 @@
 #![tactic(auto)]
 
 mod bodies;
+mod keys;
 pub mod laws;
 mod response;
 pub mod tier;

@@ -1,9 +1,9 @@
 //! The tier.
-ghost use Rattle.std.specs.Prelude.{◌≡◌, ◌∷◌, [], IfOk, IfErr, OnErr};
+ghost use Rattle.std.specs.Prelude.{◌≡◌, ◌<◌, ◌∷◌, [], IfOk, IfErr, OnErr};
 ghost use Rattle.tier_model.specs.State.{empty_state};
-ghost use Rattle.tier_model.specs.Calls.{nothing_done};
-ghost use Rattle.tier_model.specs.Histories.{empty_opening};
-ghost use Rattle.tier_model.specs.Past.{HasPast};
+ghost use Rattle.tier_model.specs.Calls.{History, nothing_done};
+ghost use Rattle.tier_model.specs.Histories.{Opening, empty_opening};
+ghost use Rattle.tier_model.specs.Past.{HasPast, HoldsOrder};
 ghost use Rattle.tier_model.specs.Reports.{report_of};
 ghost use Rattle.cache_tier.specs.Draws.{Takes};
 ghost use Rattle.cache_tier.specs.Acts.{StepsBy};
@@ -13,11 +13,13 @@ mod requests;
 mod store;
 
 use crate::bodies::all_bytes;
+use cache_evict::EvictionManager;
+use cache_evict::lru::Manager;
 use cache_words::time::Duration;
-use entry_order::EntryOrder;
 use faults::nothing_done;
 use rand_core::Rng;
 use std::alloc::{AllocError, Global};
+use std::hash::{BuildHasher, BuildHasherDefault, FoldHasher};
 use std::marker::Model;
 use tier_model::event::{Action, Answer, Event, TierFault};
 use tier_model::report::Report;
@@ -25,69 +27,112 @@ use tier_model::requests::Requests;
 use tier_model::state::FinishedBody;
 
 /// A cache tier over N shards.
+///
+/// With the default hasher it is for keys that the caller chooses itself; with one whose start the caller takes at random,
+/// strangers can't choose keys whose look-up among the tracked entries is slow.
 #[derive(Drop)]
-pub struct Tier<const N: usize> {
+pub struct Tier<const N: usize, S: BuildHasher = BuildHasherDefault<FoldHasher>> {
     alloc: Global,
     age: Duration,
     wait: Option<Duration>,
     bodies: Vec<FinishedBody>,
     // The order of use, with the limits.
-    order: EntryOrder,
+    manager: Manager<N, S>,
     requests: Requests,
     found: u64,
     absent: u64,
-    evicted: u64,
 }
 
-impl<const N: usize> Model for Tier<N> {
+impl<const N: usize, S: BuildHasher> Model for Tier<N, S> {
     ghost use Rattle.tier_model.specs.State.{State};
     ghost use Rattle.cache_tier.specs.Codes.{state_code};
+    ghost use Rattle.cache_tier.specs.Shards.{AreKept};
 
     ghost Value = { State };
 
     ghost coded = { state_code };
 
     ghost view = { λ t. record {
-      settings = record { limit = t.order.limit; watermark = t.order.watermark; age = t.age; wait = t.wait };
+      managed = t.manager;
+      age = t.age;
+      wait = t.wait;
       bodies = t.bodies.items;
-      tracked = t.order.rows;
       requests = t.requests;
       found = t.found;
       absent = t.absent;
-      evicted = t.evicted;
     } };
+
+    ghost invariant = { λ t. AreKept N t.manager };
 }
 
-impl Tier<1> {
+impl<const N: usize> Tier<N, BuildHasherDefault<FoldHasher>> {
     /// Makes an empty tier. `limit` bounds the sum of the entries' weights, `watermark` their number. `age` is
     /// how long a permit holds, `wait` how long a request waits for one; neither is looked at yet.
     ///
     /// # Errors
     ///
-    /// `AllocError` where there is no memory for its one shard.
+    /// `AllocError` where there is no memory for its shards.
     pub fn new(
         alloc: Global,
         limit: usize,
         watermark: Option<usize>,
         age: Duration,
         wait: Option<Duration>,
-    ) -> Result<Tier<1>, AllocError>
+    ) -> Result<Self, AllocError>
+        requires { 0 < N }
         ensures state { IfOk result (λ tier. tier ≡ empty_state
-            (record { limit = limit; watermark = watermark; age = age; wait = wait })) }
+            (record { shards = N; limit = limit; watermark = watermark; age = age; wait = wait })) }
         ensures past { IfOk result (λ tier. HasPast
-            (empty_opening (record { limit = limit; watermark = watermark; age = age; wait = wait })) tier []) }
+            (empty_opening (record { shards = N; limit = limit; watermark = watermark; age = age; wait = wait })) tier []) }
     {
+        Tier::with_hasher(
+            alloc,
+            BuildHasherDefault::new(),
+            limit,
+            watermark,
+            age,
+            wait,
+        )
+    }
+}
+
+impl<const N: usize, S: BuildHasher + Copy> Tier<N, S> {
+    /// The same, with hashes of that start in the tracked entries' table.
+    pub fn with_hasher(
+        alloc: Global,
+        hasher: S,
+        limit: usize,
+        watermark: Option<usize>,
+        age: Duration,
+        wait: Option<Duration>,
+    ) -> Result<Self, AllocError>
+        requires { 0 < N }
+        ensures state { IfOk result (λ tier. tier ≡ empty_state
+            (record { shards = N; limit = limit; watermark = watermark; age = age; wait = wait })) }
+        ensures past { IfOk result (λ tier. HasPast
+            (empty_opening (record { shards = N; limit = limit; watermark = watermark; age = age; wait = wait })) tier []) }
+    {
+        let manager = Manager::with_hasher(alloc, hasher, limit, 0, watermark)?;
         Ok(Tier {
             alloc,
             age,
             wait,
             bodies: Vec::new(alloc),
-            order: EntryOrder::new(alloc, limit, watermark)?,
+            manager,
             requests: Requests::new(alloc),
             found: 0,
             absent: 0,
-            evicted: 0,
         })
+    }
+}
+
+impl<const N: usize, S: BuildHasher> Tier<N, S> {
+    /// Returns what tracks the entries: in shards, each in the order of use, latest first, with their weights in bytes.
+    pub fn manager(&self) -> &Manager<N, S>
+        ensures same { result.now ≡ self.now.managed }
+        ensures order { (start : Opening) (h : History) → HasPast start self.now h → HoldsOrder result.now start h }
+    {
+        &self.manager
     }
 
     // Checks an event, and takes it by its own method.
@@ -146,9 +191,9 @@ impl Tier<1> {
             absent: self.absent,
             bodies: self.bodies.len() as u64,
             bytes: all_bytes(&self.bodies),
-            tracked: self.order.len() as u64,
-            weight: self.order.weight() as u64,
-            evicted: self.evicted,
+            tracked: self.manager.total_items() as u64,
+            weight: self.manager.total_size() as u64,
+            evicted: self.manager.evicted_items() as u64,
         }
     }
 }

@@ -6,8 +6,6 @@ mod cores;
 #[cfg(test)]
 mod lists;
 #[cfg(test)]
-mod orders;
-#[cfg(test)]
 mod refused;
 #[cfg(test)]
 mod secrets;

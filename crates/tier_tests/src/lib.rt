@@ -4,8 +4,6 @@
 #[cfg(test)]
 mod asks;
 #[cfg(test)]
-mod entries;
-#[cfg(test)]
 mod head_rows;
 #[cfg(test)]
 mod heads;

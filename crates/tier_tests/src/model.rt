@@ -1,5 +1,6 @@
 //! Each small type once.
 use bytes::Bytes;
+use cache_entries::entry::CacheEntryKey;
 use cache_words::key::CompactCacheKey;
 use cache_words::text::Text;
 use std::alloc::Global;
@@ -7,12 +8,12 @@ use tier_model::event::{Entries, Pieces};
 use tier_model::requests::Requests;
 use tier_model::state::{Phase, Reader, Request};
 
-fn entry(alloc: Global, last: u8) -> CompactCacheKey {
-    CompactCacheKey {
+fn entry(alloc: Global, last: u8) -> CacheEntryKey {
+    CacheEntryKey::key_only(CompactCacheKey {
         primary: [last; 16],
         variance: None,
         user_tag: Text::from_string(String::new(alloc)),
-    }
+    })
 }
 
 fn opened(alloc: Global, last: u8) -> Request {
@@ -34,12 +35,12 @@ fn pieces(alloc: Global) -> Option<(usize, bool)> {
     ))
 }
 
-// The same of entries with their weights.
+// The same of entries.
 fn entries(alloc: Global) -> Option<(usize, bool)> {
-    let all = vec![in alloc; (entry(alloc, 1), 3), (entry(alloc, 2), 4)].ok()?;
+    let all = vec![in alloc; entry(alloc, 1), entry(alloc, 2)].ok()?;
     let entries = Entries::from_vec(all);
     let first = entries.as_slice().first()?;
-    let is_first = first.0 == entry(alloc, 1) && first.1 == 3;
+    let is_first = *first == entry(alloc, 1);
     Some((entries.as_slice().len(), is_first))
 }
 

@@ -257,9 +257,9 @@ halfway_cut_last settings reads n (Some trace) next held written new front waiti
     (ap (λ l. last_text (requests_in l) state) none) begun
 
 -- an early end before the first line
-pub cut_at_start : (settings : Settings) (input held : Option (List ℕ)) → IsCutShort settings input held held
-cut_at_start settings None held = tt
-cut_at_start settings (Some trace) held = (
+pub cut_at_start : (settings : Settings) (input held : Option (List ℕ)) → 0 < settings.shards → IsCutShort settings input held held
+cut_at_start settings None held pos = tt
+cut_at_start settings (Some trace) held pos = (
   [],
   Appends-nil held,
   record {
@@ -271,7 +271,7 @@ cut_at_start settings (Some trace) held = (
     rest = last_text (requests_in trace) (empty_state settings);
     split = refl;
     replays = (refl, refl);
-    past = empty-past settings;
+    past = empty-past settings pos;
     begins = refl;
   },
 )

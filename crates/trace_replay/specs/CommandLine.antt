@@ -83,6 +83,6 @@ IsReadNumber name value (Err Memory) = Unit {0}
 IsReadNumber name value (Err (WrongValue shown error)) = (shown ≡ name) × (kind_of error ≡ ValueValidation) × IsWrong value
 IsReadNumber name value (Err _) = ⊥
 
--- the tier that the options describe: a permit's age is ten seconds, and a wait has no end
+-- the tier that the options describe, of one shard: a permit's age is ten seconds, and a wait has no end
 abbrev pub settings_of : ReplayOptions → Settings
-settings_of o = record { limit = o.limit; watermark = o.watermark; age = span_of 10; wait = None }
+settings_of o = record { shards = 1; limit = o.limit; watermark = o.watermark; age = span_of 10; wait = None }

@@ -4,7 +4,7 @@ ghost use Rattle.tier_model.specs.Calls.{nothing_done};
 ghost use Rattle.tier_model.specs.Step.{stored_alone};
 ghost use Rattle.cache_tier.specs.Acts.{fault_for};
 
-use entry_order::OrderFault;
+use cache_evict::EvictFault;
 use std::alloc::Global;
 use tier_model::event::{Done, Entries, TierFault};
 
@@ -31,12 +31,14 @@ pub(super) fn stored_alone(alloc: Global) -> Done
 }
 
 // A fault of the order of use, after what was done.
-pub(super) fn fault_for(fault: OrderFault, done: Done) -> TierFault
+pub(super) fn fault_for(fault: EvictFault, done: Done) -> TierFault
     ensures { result ≡ fault_for fault done }
 {
     match fault {
-        OrderFault::Memory => TierFault::Memory(done),
-        OrderFault::TooHeavy => TierFault::TooHeavy(done),
-        OrderFault::TooLong => TierFault::TooLong(done),
+        EvictFault::Memory(_) => TierFault::Memory(done),
+        EvictFault::Weight(_) => TierFault::TooHeavy(done),
+        EvictFault::Length(_) => TierFault::TooLong(done),
+        EvictFault::NumbersSpent(_) => TierFault::NumbersSpent(done),
+        EvictFault::File(_) => TierFault::Folder,
     }
 }

@@ -1,15 +1,18 @@
 //! Requests: what is checked first, and their events.
-ghost use Rattle.std.specs.Prelude.{◌≡◌, None, IfSome};
-ghost use Rattle.tier_model.specs.Calls.{nothing_done, done_of};
+ghost use Rattle.std.specs.Prelude.{◌≡◌, None, if◌then◌else◌};
+ghost use Rattle.tier_model.specs.declared.state.Phase.TheVariants.{Hit, Stale};
 ghost use Rattle.tier_model.specs.Step.{refusal, can_look_up, has_reader, read_answer};
 ghost use Rattle.cache_tier.specs.Acts.{AllowsUnrefused, after_action};
 
 use super::Tier;
 use super::faults::{fault_for, nothing_done};
 use crate::bodies::{body_of, weight_for};
+use crate::keys::{entry_of, stored_key};
+use cache_entries::entry::CacheEntryKey;
+use cache_evict::EvictionManager;
 use cache_words::key::CacheKey;
 use cache_words::time::Moment;
-use tier_entries::keys::{entry_of, stored_key};
+use std::hash::BuildHasher;
 use tier_model::event::{Action, Answer, TierFault};
 use tier_model::state::{Phase, Reader, Request};
 
@@ -33,6 +36,13 @@ fn has_reader(reader: &Reader) -> bool
     }
 }
 
+// The phase after a look-up that found something.
+fn phase_by(fresh: bool) -> Phase
+    ensures { result ≡ if fresh then Hit else Stale }
+{
+    if fresh { Phase::Hit } else { Phase::Stale }
+}
+
 // What a reader gives next.
 fn read_answer(reader: Reader) -> Answer
     ensures { result ≡ read_answer reader }
@@ -43,11 +53,10 @@ fn read_answer(reader: Reader) -> Answer
     }
 }
 
-impl Tier<1> {
+impl<const N: usize, S: BuildHasher> Tier<N, S> {
     // The checks that come before anything else: the first that fails.
     pub(super) fn refusal(&self, action: &Action) -> Option<TierFault>
-        ensures undone { IfSome result (λ fault. done_of fault ≡ nothing_done) }
-        ensures value { result ≡ refusal self.now action.now }
+        ensures { result ≡ refusal self.now action.now }
     {
         match action {
             Action::Open { request, .. } => match self.requests.get(*request) {
@@ -81,17 +90,17 @@ impl Tier<1> {
         ensures allowed { AllowsUnrefused self.old moment (Action.Open id key.now) result }
         ensures after { self.new ≡ after_action self.old moment (Action.Open id key.now) result }
     {
-        let Ok(entry) = entry_of(key) else {
+        let Ok(kept) = entry_of(key) else {
             return Err(TierFault::Memory(nothing_done(self.alloc)));
         };
         let request = Request {
-            entry,
+            entry: CacheEntryKey::key_only(kept),
             phase: Phase::CacheKey,
             reader: Reader::Closed,
         };
-        if self.requests.insert(id, request).is_err() {
+        let Ok(()) = self.requests.insert(id, request) else {
             return Err(TierFault::Memory(nothing_done(self.alloc)));
-        }
+        };
         Ok(Answer::Opened)
     }
 
@@ -103,7 +112,7 @@ impl Tier<1> {
         let Some(request) = self.requests.get(id) else {
             return Err(TierFault::NoRequest);
         };
-        let Some(body) = body_of(&self.bodies, &stored_key(&request.entry)) else {
+        let Some(body) = body_of(&self.bodies, &stored_key(request.entry.key())) else {
             let _old = self.requests.update(id, Phase::Miss, Reader::Closed);
             self.absent = self.absent.saturating_add(1);
             return Ok(Answer::Absent);
@@ -111,12 +120,19 @@ impl Tier<1> {
         let Ok(bytes) = body.bytes.clone() else {
             return Err(TierFault::Memory(nothing_done(self.alloc)));
         };
-        if let Err(fault) = self.order.touch(&request.entry, weight_for(body)) {
+        let weight = weight_for(body);
+        if let Err(fault) = self
+            .manager
+            .access(self.alloc, &request.entry, weight, body.fresh_until)
+        {
             return Err(fault_for(fault, nothing_done(self.alloc)));
         }
+        // A usize, so that the sum is known to be below 2^64.
+        let _size = self.manager.total_size();
         let fresh = moment.is_at_most(&body.fresh_until);
-        let phase = if fresh { Phase::Hit } else { Phase::Stale };
-        let _old = self.requests.update(id, phase, Reader::Unread(bytes));
+        let _old = self
+            .requests
+            .update(id, phase_by(fresh), Reader::Unread(bytes));
         self.found = self.found.saturating_add(1);
         Ok(Answer::Found {
             fresh,

@@ -9,11 +9,11 @@ use Rattle.trace_replay.proofs.replay.run.Goals as goal
 
 pub returns-in_err-tier-clause-begun : goal.returns-in_err-tier-clause-begun
 returns-in_err-tier-clause-begun g c =
-    on_err c.from_residual.result (cut_at_start (settings_of c.args.options.now) (g.R.Read.remaining c.args.reader.now) (g.W.Write.contents c.args.writer.now))
+    on_err c.from_residual.result (cut_at_start (settings_of c.args.options.now) (g.R.Read.remaining c.args.reader.now) (g.W.Write.contents c.args.writer.now) (omega arith))
 
 pub returns-in_err-input-clause-begun : goal.returns-in_err-input-clause-begun
 returns-in_err-input-clause-begun g c =
-    on_err c.from_residual-in_err-input.result (cut_at_start (settings_of c.args.options.now) (g.R.Read.remaining c.args.reader.now) (g.W.Write.contents c.args.writer.now))
+    on_err c.from_residual-in_err-input.result (cut_at_start (settings_of c.args.options.now) (g.R.Read.remaining c.args.reader.now) (g.W.Write.contents c.args.writer.now) (omega arith))
 
 pub returns-in_err-len-clause-begun : goal.returns-in_err-len-clause-begun
 returns-in_err-len-clause-begun g c =

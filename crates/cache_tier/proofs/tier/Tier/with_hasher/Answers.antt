@@ -1,0 +1,9 @@
+use Rattle.tier_model.proofs.Carried.{empty-past}
+use Rattle.cache_tier.proofs.ShardLaws.{kept-fresh}
+use Rattle.cache_tier.proofs.tier.Tier.with_hasher.Goals as goal
+
+pub invariant_of-result : goal.invariant_of-result
+invariant_of-result g c = rw c.in_ok-manager.ensures (kept-fresh g.row.N c.args.limit c.args.watermark c.requires)
+
+pub returns-clause-past : goal.returns-clause-past
+returns-clause-past g c = rw (c.new.ensures.items, c.in_ok-manager.ensures, c.new-2.ensures) (empty-past _ c.requires)

@@ -1,5 +1,0 @@
-pub mod NameLaws
-pub mod NamedLaws
-pub mod TrackedLaws
-pub mod KeptLaws
-pub mod EvictionLaws

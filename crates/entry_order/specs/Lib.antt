@@ -1,3 +1,0 @@
-pub mod Names
-pub mod Named
-pub mod Orders
