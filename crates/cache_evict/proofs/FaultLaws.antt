@@ -9,11 +9,24 @@ use Rattle.cache_evict.specs.declared.fault.EvictFault.{EvictFault}
 use Rattle.cache_evict.specs.declared.tracker.refusal.Refusal.{Refusal}
 use Rattle.cache_evict.specs.Managed.{Managed, rows_of, put_first, use_first, total_size}
 use Rattle.cache_evict.specs.Refusals.{IsRefusal}
-use Rattle.cache_evict.specs.Faults.{evicted_of, cause_of, RunsOut, StopsAt}
+use Rattle.cache_evict.specs.declared.fault.EvictFault.TheVariants as fault
+use Rattle.cache_evict.specs.declared.tracker.refusal.Refusal.TheVariants.{Memory, Weight, Length, Spent}
+use Rattle.cache_evict.specs.Faults.{evicted_of, cause_of, IsPutRefused, RunsOut, StopsAt}
+
+one_cause : (r s : Refusal) → Some r ≡ Some s → r ≡ s
+one_cause r s e = cc
+
+-- the fault of a refusal tells why
+pub told : (n : ℕ) (e : CacheEntryKey) (w : ℕ) (m : Managed) (f : EvictFault) (r : Refusal) → cause_of f ≡ Some r → IsRefusal n e w m r → IsPutRefused n e w m f
+told n e w m (fault.Memory v) r i p = subst (λ (x : Refusal). IsRefusal n e w m x) (sym (one_cause Memory r i)) p
+told n e w m (fault.Weight v) r i p = subst (λ (x : Refusal). IsRefusal n e w m x) (sym (one_cause Weight r i)) p
+told n e w m (fault.Length v) r i p = subst (λ (x : Refusal). IsRefusal n e w m x) (sym (one_cause Length r i)) p
+told n e w m (fault.NumbersSpent v) r i p = subst (λ (x : Refusal). IsRefusal n e w m x) (sym (one_cause Spent r i)) p
+told n e w m (fault.File v) r i p = absurd cc
 
 pub stops_at_once : (pick : List (List Tracked) → Stream → ℕ × Stream) (n : ℕ) (e : CacheEntryKey) (w : ℕ) (old new : Managed) (s : Stream) (f : EvictFault) (r : Refusal) → cause_of f ≡ Some r → evicted_of f ≡ [] → IsRefusal n e w old r → new ≡ old
     → StopsAt pick n e w old s f new s
-stops_at_once pick n e w old new s f r i none p same = inl ((r, i, p), none, same, refl)
+stops_at_once pick n e w old new s f r i none p same = inl (told n e w old f r i p, none, same, refl)
 
 -- a use of an entry that has no row puts it first
 pub used_new : (n : ℕ) (e : CacheEntryKey) (w : ℕ) (m : Managed) → weight_of e (rows_of n e m) ≡ None → put_first n e w m ≡ use_first n e w m

@@ -7,8 +7,8 @@ use Rattle.cache_evict.specs.declared.fault.EvictFault.{EvictFault}
 use Rattle.cache_evict.specs.declared.fault.EvictFault.TheVariants.{Memory, Weight, Length, NumbersSpent, File}
 use Rattle.cache_evict.specs.declared.tracker.refusal.Refusal.{Refusal}
 use Rattle.cache_evict.specs.declared.tracker.refusal.Refusal.TheVariants as refusal
-use Rattle.cache_evict.specs.Managed.{Managed, put_first, is_over, total_size, Evicts}
-use Rattle.cache_evict.specs.Refusals.{IsRefusal}
+use Rattle.cache_entries.specs.Rows.{weight_of}
+use Rattle.cache_evict.specs.Managed.{Managed, rows_of, put_first, is_over, total_size, Evicts, IsHeavy, IsLong, IsFull}
 
 -- the entries evicted until then
 abbrev pub evicted_of : EvictFault → List CacheEntryKey
@@ -35,11 +35,20 @@ evict_fault_text (File v) = codes "a file could not be read or written"
 
 -- why e isn't put first with weight w, of n shards, where nothing has changed
 abbrev pub IsPutRefused : ℕ → CacheEntryKey → ℕ → Managed → EvictFault → Type 0
-IsPutRefused n e w m fault = (why : Refusal) × (cause_of fault ≡ Some why) × IsRefusal n e w m why
+IsPutRefused n e w m (Memory v) = weight_of e (rows_of n e m) ≡ None
+IsPutRefused n e w m (Weight v) = IsHeavy n e w m
+IsPutRefused n e w m (Length v) = IsLong n e m
+IsPutRefused n e w m (NumbersSpent v) = IsFull n e m
+IsPutRefused n e w m (File v) = ⊥
+
+-- it is out of memory
+abbrev pub IsMemory : EvictFault → Type 0
+IsMemory (Memory v) = Unit {0}
+IsMemory _ = ⊥
 
 -- memory runs out in evictions, which stop with what is gone until then
 abbrev pub RunsOut : (List (List Tracked) → Stream → ℕ × Stream) → Managed → Stream → EvictFault → Managed → Stream → Type 0
-RunsOut pick old s fault new rest = (cause_of fault ≡ Some refusal.Memory) × Evicts pick old (evicted_of fault) s new rest × (is_over new ≡ true)
+RunsOut pick old s fault new rest = IsMemory fault × Evicts pick old (evicted_of fault) s new rest × (is_over new ≡ true)
 
 -- a fault of a call that puts e first and then evicts: either e isn't put, and all is as before, or memory runs out in the
 -- evictions, where the weights with e fit
