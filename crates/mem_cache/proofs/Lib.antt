@@ -1,10 +1,12 @@
 mod AgreeLaws
 mod AliveLaws
+mod BeginningLaws
 mod BodyLaws
 mod FinishLaws
 mod FirstLaws
 mod FlightLaws
 mod HeldLaws
+mod LookLaws
 mod ReadLaws
 mod ReaderLaws
 mod RowLaws

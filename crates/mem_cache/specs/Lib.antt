@@ -4,6 +4,7 @@ pub mod Answers
 pub mod Held
 pub mod Hits
 pub mod Kept
+pub mod Laws
 pub mod Looks
 pub mod Misses
 pub mod Purges

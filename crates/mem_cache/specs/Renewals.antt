@@ -37,9 +37,9 @@ abbrev pub ExpireAnswer : Option StoredKey → MomentValue → Held → PurgeOut
 ExpireAnswer None moment old outcome new = (outcome ≡ NotFound) × (new ≡ old)
 ExpireAnswer (Some k) moment old outcome new = (outcome ≡ (if is_some (body_at k old.store) then Expired else NotFound)) × IsRenewed k (expired moment) old new
 
--- a meta that can't be written is refused, and one for which there is no memory
+-- a meta that can't be written is refused as that, and another where there is no memory for it
 abbrev pub Refused : CacheMeta → StoreFault → Type 0
-Refused meta f = ((f ≡ MetaMoment) × (IsWritable meta.internal → ⊥)) ⊎ (f ≡ Memory)
+Refused meta f = ((f ≡ MetaMoment) × (IsWritable meta.internal → ⊥)) ⊎ ((f ≡ Memory) × IsWritable meta.internal)
 
 -- the body of a key gets another meta, where there is a body, the meta can be written and there is memory
 abbrev pub UpdateAnswer : Option (Stored CacheMeta) → StoredKey → CacheMeta → Held → Result (Unit {0}) StoreFault → Held → Type 0

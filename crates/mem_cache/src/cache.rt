@@ -1,14 +1,13 @@
 //! The store in memory.
-ghost use Rattle.std.specs.Prelude.{◌≡◌, ◌≢◌, ◌↔◌, ◌+◌, ◌-◌, ◌^◌, ℕ, [], Some, option_map, is_some, Ok, Err, IfOk, IfErr, OnOk, OnErr};
+ghost use Rattle.std.specs.Prelude.{◌≡◌, ◌+◌, false, [], Some, option_map, IfOk, IfErr, OnOk, OnErr};
 ghost use Rattle.cache_changes.specs.Changes.{begins, removes};
 ghost use Rattle.cache_changes.specs.Store.{after, empty_store, flying_at, is_found_at};
-ghost use Rattle.cache_metas.specs.Internal.{IsWritable};
-ghost use Rattle.cache_heads.specs.declared.meta.CacheMeta.{CacheMeta as MetaValue};
 ghost use Rattle.cache_store.specs.declared.storage.StoreFault.{StoreFault as Fault};
 ghost use Rattle.mem_cache.specs.Agree.{Agree};
 ghost use Rattle.mem_cache.specs.Answers.{WriteAnswer, after_write, alive_key, left, IsFinished, FinishAnswer, in_flight, look_up, streamed};
 ghost use Rattle.mem_cache.specs.Kept.{stored_flight};
 ghost use Rattle.mem_cache.specs.Hits.{ReadAnswer, FitsPast, readable, IsJoined, IsParted};
+ghost use Rattle.mem_cache.specs.Misses.{are_numbers_spent, BeginAnswer};
 ghost use Rattle.mem_cache.specs.Shown.{shown_of};
 
 use crate::alive::{self, Alive};
@@ -84,20 +83,18 @@ impl<S: BuildHasher + Copy> MemCache<S> {
 
 impl<S: BuildHasher> MemCache<S> {
     // Begins a write, and returns its number.
-    pub(crate) fn begin(&mut self, key: HashBinary, meta: CacheMeta) -> Result<u64, StoreFault>
+    fn begin(&mut self, key: HashBinary, meta: CacheMeta) -> Result<u64, StoreFault>
+        requires { are_numbers_spent self.old ≡ false }
         ensures number { IfOk result (λ n. n ≡ self.old.next) }
         ensures begun { OnOk result (self.new ≡ record self.old {
           store = after (begins (record { number = self.old.next; key = key; meta = meta })) self.old.store;
           next = self.old.next + 1;
         }) }
         ensures err { OnErr result (self.new ≡ self.old) }
-        ensures spent { result ≡ Err Fault.WriteNumbersSpent ↔ (self.old.next ≡ 2 ^ 64 - 1) }
-        ensures kind { result ≢ Err Fault.MetaMoment }
+        ensures fault { IfErr result (λ f. f ≡ Fault.Memory) }
     {
         let number = self.next;
-        let Some(next) = number.checked_add(1) else {
-            return Err(StoreFault::WriteNumbersSpent);
-        };
+        let next = number + 1;
         if let Err(fault) = alive::add(&mut self.alive, self.alloc, key, number) {
             return Err(fault);
         }
@@ -121,16 +118,11 @@ impl<S: BuildHasher> MemCache<S> {
         key: HashBinary,
         meta: &CacheMeta,
     ) -> Result<MemMissHandler, StoreFault>
-        ensures number { IfOk result (λ handler. handler ≡ self.old.next) }
-        ensures begun { OnOk result (self.new ≡ record self.old {
-          store = after (begins (record { number = self.old.next; key = key; meta = meta.now })) self.old.store;
-          next = self.old.next + 1;
-        }) }
-        ensures writable { OnOk result (IsWritable meta.now.internal) }
-        ensures moment { result ≡ Err Fault.MetaMoment → IsWritable meta.now.internal → ⊥ }
-        ensures spent { result ≡ Err Fault.WriteNumbersSpent → self.old.next ≡ 2 ^ 64 - 1 }
-        ensures err { OnErr result (self.new ≡ self.old) }
+        ensures { BeginAnswer (are_numbers_spent self.old) key meta.now self.old result self.new }
     {
+        if self.next == u64::MAX {
+            return Err(StoreFault::WriteNumbersSpent);
+        }
         let copy = match written_copy(self.alloc, meta) {
             Ok(copy) => copy,
             Err(fault) => return Err(fault),

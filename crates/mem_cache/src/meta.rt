@@ -1,7 +1,8 @@
 //! Copies of metas.
-ghost use Rattle.std.specs.Prelude.{◌≡◌, ◌≢◌, ◌⊎◌, Err, IfOk, IfErr};
+ghost use Rattle.std.specs.Prelude.{◌≡◌, IfOk, IfErr};
 ghost use Rattle.cache_metas.specs.Internal.{IsWritable};
 ghost use Rattle.cache_store.specs.declared.storage.StoreFault.{StoreFault as Fault};
+ghost use Rattle.mem_cache.specs.Renewals.{Refused};
 
 use cache_heads::CacheMeta;
 use cache_metas::fault::MetaFault;
@@ -26,8 +27,7 @@ pub(crate) fn copy_of(meta: &CacheMeta) -> Result<CacheMeta, StoreFault>
 // Returns a copy of a meta that can be written.
 pub(crate) fn written_copy(alloc: Global, meta: &CacheMeta) -> Result<CacheMeta, StoreFault>
     ensures value { IfOk result (λ copy. (copy ≡ meta.now) × IsWritable meta.now.internal) }
-    ensures moment { result ≡ Err Fault.MetaMoment → IsWritable meta.now.internal → ⊥ }
-    ensures fault { IfErr result (λ f. (f ≡ Fault.MetaMoment) ⊎ (f ≡ Fault.Memory)) }
+    ensures fault { IfErr result (Refused meta.now) }
 {
     match internal::write(alloc, &meta.internal) {
         Ok(_) => copy_of(meta),

@@ -1,12 +1,10 @@
 //! The store, as what a cache asks of one.
-ghost use Rattle.std.specs.Prelude.{◌≡◌, ◌^◌, ◌-◌, ◌+◌, true, option_map, Err, IfOk, IsOk, OnOk, OnErr};
+ghost use Rattle.std.specs.Prelude.{◌≡◌, true, option_map, IfOk, IsOk};
 ghost use Rattle.cache_words.specs.Key.{combined, key_of};
-ghost use Rattle.cache_metas.specs.Internal.{IsWritable};
-ghost use Rattle.cache_changes.specs.Changes.{begins};
-ghost use Rattle.cache_changes.specs.Store.{after, body_at};
-ghost use Rattle.cache_store.specs.declared.storage.StoreFault.{StoreFault as Fault};
+ghost use Rattle.cache_changes.specs.Store.{body_at};
 ghost use Rattle.mem_cache.specs.Answers.{look_up};
 ghost use Rattle.mem_cache.specs.Looks.{LookAnswer, StreamAnswer, streamed_by, tag_number};
+ghost use Rattle.mem_cache.specs.Misses.{are_numbers_spent, BeginAnswer};
 ghost use Rattle.mem_cache.specs.Purges.{PurgeAnswer, target_key};
 ghost use Rattle.mem_cache.specs.Renewals.{ExpireAnswer, UpdateAnswer};
 
@@ -45,21 +43,13 @@ impl<S: BuildHasher> Storage for MemCache<S> {
         }
     }
 
-    // `MetaMoment` exactly where the meta can't be written.
+    // `WriteNumbersSpent` exactly where no number is left, and then `MetaMoment` exactly where the meta can't be written.
     fn get_miss_handler(
         &mut self,
         key: &CacheKey,
         meta: &CacheMeta,
     ) -> Result<MemMissHandler, StoreFault>
-        ensures number { IfOk result (λ handler. handler ≡ self.old.next) }
-        ensures begun { OnOk result (self.new ≡ record self.old {
-          store = after (begins (record { number = self.old.next; key = combined (key_of key.now); meta = meta.now })) self.old.store;
-          next = self.old.next + 1;
-        }) }
-        ensures writable { OnOk result (IsWritable meta.now.internal) }
-        ensures moment { result ≡ Err Fault.MetaMoment → IsWritable meta.now.internal → ⊥ }
-        ensures spent { result ≡ Err Fault.WriteNumbersSpent → self.old.next ≡ 2 ^ 64 - 1 }
-        ensures err { OnErr result (self.new ≡ self.old) }
+        ensures { BeginAnswer (are_numbers_spent self.old) (combined (key_of key.now)) meta.now self.old result self.new }
     {
         self.begin_copy(key.combined_bin(), meta)
     }

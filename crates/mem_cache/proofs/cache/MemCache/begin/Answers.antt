@@ -20,24 +20,22 @@ pub invariant_of-self-in-Err-put : goal.invariant_of-self-in-Err-put
 invariant_of-self-in-Err-put g c =
     sound-entries (has c.take_out.new.alive) c.self.inside.flights c.put.new.flights c.self.inside.next c.in-Err-put.ensures.err
     (sound-alike (has c.self.inside.alive) (has c.take_out.new.alive) c.self.inside.flights c.self.inside.next
-    (sound-back (has c.self.inside.alive) (has c.add.new.alive) (has c.take_out.new.alive) c.self.inside.flights c.args.key c.self.inside.next c.self.invariant c.in_default-add.ensures.ok c.take_out.ensures) c.self.invariant)
+    (sound-back (has c.self.inside.alive) (has c.add.new.alive) (has c.take_out.new.alive) c.self.inside.flights c.args.key c.self.inside.next c.self.invariant c.in_default.ensures.ok c.take_out.ensures) c.self.invariant)
 
 pub returns-in-Err-put-clause-err : goal.returns-in-Err-put-clause-err
 returns-in-Err-put-clause-err g c =
     held-flying (bodies_of c.self.inside.bodies.entries) (flights_of (has c.take_out.new.alive) c.put.new.flights.entries) (flights_of (has c.self.inside.alive) c.self.inside.flights.entries) c.self.inside.next (readings_of c.self.inside.readers.entries)
     (ap (flights_of (has c.take_out.new.alive)) c.in-Err-put.ensures.err
     ∙ seen-alike (has c.self.inside.alive) (has c.take_out.new.alive) c.self.inside.flights.entries
-    (sound-back (has c.self.inside.alive) (has c.add.new.alive) (has c.take_out.new.alive) c.self.inside.flights c.args.key c.self.inside.next c.self.invariant c.in_default-add.ensures.ok c.take_out.ensures)) ∙ c.self.view_is
+    (sound-back (has c.self.inside.alive) (has c.add.new.alive) (has c.take_out.new.alive) c.self.inside.flights c.args.key c.self.inside.next c.self.invariant c.in_default.ensures.ok c.take_out.ensures)) ∙ c.self.view_is
 
 pub invariant_of-self-2 : goal.invariant_of-self-2
 invariant_of-self-2 g c =
-    let next : c.in-Some.next ≡ c.self.inside.next + 1 = search rules in
-    rw next (sound-begun (has c.self.inside.alive) (has c.add.new.alive) c.self.inside.flights c.put.new.flights c.args.key c.self.inside.next _ c.self.invariant c.in_default-add.ensures.ok c.in_default-put.ensures.ok.0 refl c.in_default-put.ensures.ok.1)
+    sound-begun (has c.self.inside.alive) (has c.add.new.alive) c.self.inside.flights c.put.new.flights c.args.key c.self.inside.next _ c.self.invariant c.in_default.ensures.ok c.in_default-put.ensures.ok.0 refl c.in_default-put.ensures.ok.1
 
 pub returns-clause-begun : goal.returns-clause-begun
 returns-clause-begun g c =
-    let next : c.in-Some.next ≡ c.self.inside.next + 1 = search rules in
-    rw (← c.self.view_is) (held-next (bodies_of c.self.inside.bodies.entries) _ _ c.in-Some.next (c.self.inside.next + 1) (readings_of c.self.inside.readers.entries)
+    rw (← c.self.view_is) (held-next (bodies_of c.self.inside.bodies.entries) _ _ (c.self.inside.next + 1) (c.self.inside.next + 1) (readings_of c.self.inside.readers.entries)
     (ap (flights_of (has c.add.new.alive)) c.in_default-put.ensures.ok.0
-    ∙ seen-push (has c.self.inside.alive) (has c.add.new.alive) c.args.key c.self.inside.next c.args.meta (Open c.new.result) c.self.inside.flights.entries c.in_default-add.ensures.ok c.self.invariant.below c.new.ensures.items)
-    next)
+    ∙ seen-push (has c.self.inside.alive) (has c.add.new.alive) c.args.key c.self.inside.next c.args.meta (Open c.new.result) c.self.inside.flights.entries c.in_default.ensures.ok c.self.invariant.below c.new.ensures.items)
+    refl)
