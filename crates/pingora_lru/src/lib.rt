@@ -3,11 +3,13 @@
 //! The lists of one thread are shown again: `linked_list`, `lru_unit` and `LruCore`.
 #![tactic(auto)]
 
+pub use locked::Lru;
 pub use lru_core::{LruCore, MOST_ROWS, linked_list, lru_unit};
 pub use recorded::RecordedUnit;
 pub use recorded_lru::RecordedLru;
 
 pub mod call;
 mod edits;
+mod locked;
 mod recorded;
 mod recorded_lru;

@@ -1,0 +1,93 @@
+//! Evictions, each of the last row of a shard.
+
+ghost use Rattle.std.specs.Prelude.{◌≡◌, ◌<◌};
+
+use super::Lru;
+use super::counts::Sums;
+use rand_core::Rng;
+use std::alloc::Global;
+use std::hash::BuildHasher;
+use std::sync::Wait;
+
+impl<T: Drop, const N: usize, S: BuildHasher> Lru<T, N, S> {
+    /// Evicts the last row of the shard of that number modulo N, whatever the limit.
+    pub fn evict_shard<R: Wait>(&self, rt: &R, shard: u64) -> Option<(T, usize)> {
+        self.evict_at(rt, self.place_of(shard))
+    }
+
+    /// One step of eviction, by two draws: if the weight is past the limit or the number of rows past the watermark, it
+    /// removes the last row of the longer of the two shards that the draws name, of the first if they are equally long;
+    /// if that shard is empty, of the next non-empty one around the circle.
+    pub fn evict_step<R: Wait>(&self, rt: &R, a: u64, b: u64) -> Option<(T, usize)> {
+        if !self.is_over() {
+            return None;
+        }
+        let first = self.place_of(a);
+        let second = self.place_of(b);
+        let mut place = if self.shard_len(rt, first) < self.shard_len(rt, second) {
+            second
+        } else {
+            first
+        };
+        'circle: for _ in 0..N {
+            let gone = self.evict_at(rt, place);
+            if gone.is_some() {
+                return gone;
+            }
+            place = if place + 1 == N { 0 } else { place + 1 };
+        }
+        None
+    }
+
+    /// Evicts by steps, each by the next two words of the generator, until neither limit is passed, but at most as many rows as
+    /// there are when it begins, so that rows which others admit meanwhile don't hold it. If memory for a pair runs out, it
+    /// stops before the draws for that pair, and its error has the pairs so far.
+    pub fn evict_to_limit<R: Wait, G: Rng>(
+        &self,
+        rt: &R,
+        alloc: Global,
+        rng: &mut G,
+    ) -> Result<Vec<(T, usize)>, Vec<(T, usize)>> {
+        let mut pairs = Vec::new(alloc);
+        'steps: for _ in 0..self.len() {
+            if !self.is_over() {
+                break;
+            }
+            if pairs.reserve(1).is_err() {
+                return Err(pairs);
+            }
+            let a = rng.next_u64();
+            let b = rng.next_u64();
+            match self.evict_step(rt, a, b) {
+                Some(pair) => pairs.push_reserved(pair),
+                None => break,
+            }
+        }
+        Ok(pairs)
+    }
+
+    // Removes the last row of a shard, and counts it.
+    fn evict_at<R: Wait>(&self, rt: &R, place: usize) -> Option<(T, usize)>
+        requires { place < N }
+    {
+        let mut unit = self.shards[place].lock(rt);
+        let before = Sums::of(&*unit);
+        let (data, weight) = unit.evict()?;
+        self.counts.recount(&*unit, before);
+        self.counts.evicted(weight);
+        Some((data, weight))
+    }
+}
+
+impl<T, const N: usize, S: BuildHasher> Lru<T, N, S> {
+    // Whether the weight is past the limit, or the number of rows past the watermark.
+    fn is_over(&self) -> bool {
+        if self.weight() > self.weight_limit() {
+            return true;
+        }
+        match self.len_watermark {
+            Some(mark) => self.len() > mark,
+            None => false,
+        }
+    }
+}
