@@ -1,4 +1,5 @@
 use bytes::Bytes;
+use cache_entries::entry::CacheEntryKey;
 use cache_words::key::{CacheHashKey, CacheKey, CompactCacheKey};
 use cache_words::text::Text;
 use std::alloc::{AllocError, Global};
@@ -15,12 +16,12 @@ fn is_wanted(key: &CacheKey, tag: &str) -> bool {
     key.primary_key() == b"\0\x6a".as_slice() && key.user_tag() == tag
 }
 
-fn entry(alloc: Global) -> CompactCacheKey {
-    CompactCacheKey {
+fn entry(alloc: Global) -> CacheEntryKey {
+    CacheEntryKey::key_only(CompactCacheKey {
         primary: [1; 16],
         variance: None,
         user_tag: Text::from_string(String::new(alloc)),
-    }
+    })
 }
 
 // The line that a refused line is answered with.
@@ -213,7 +214,7 @@ fn body(alloc: Global) -> Result<Bytes, AllocError> {
 }
 
 fn evicted(alloc: Global) -> Result<Entries, AllocError> {
-    Ok(Entries::from_vec(vec![in alloc; (entry(alloc), 1), (entry(alloc), 2)]?))
+    Ok(Entries::from_vec(vec![in alloc; entry(alloc), entry(alloc)]?))
 }
 
 #[test]
