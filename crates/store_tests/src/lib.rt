@@ -6,6 +6,8 @@ mod decisions;
 #[cfg(test)]
 mod memory;
 #[cfg(test)]
+mod streaming;
+#[cfg(test)]
 mod targets;
 #[cfg(test)]
 mod tracing;

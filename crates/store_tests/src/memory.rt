@@ -195,7 +195,7 @@ impl Bench {
             Step::End(late) => Some(matches!(self.read(late)?, ReadStep::End)),
             Step::Seek(start, end, fault) => {
                 let early = self.early.as_mut()?;
-                let answer = <MemHitHandler as HandleHit<MemCache>>::seek(early, start, end);
+                let answer = early.seek(start, end);
                 Some(answer.err() == fault)
             }
             Step::Purge(outcome) => self.purge(None, outcome),

@@ -7,6 +7,30 @@ use crate::MemCache;
 use cache_store::storage::{HandleHit, ReadStep, StoreFault};
 use std::hash::BuildHasher;
 
+// What needs no store has a name of its own, so that a caller need not say which store.
+impl MemHitHandler {
+    /// Returns whether `seek` can set a range, as it can of a finished body.
+    pub fn can_seek(&self) -> bool
+        ensures { result ≡ is_complete self.now }
+    {
+        matches!(self, MemHitHandler::Complete(_))
+    }
+
+    /// Sets what is read next of a finished body: from `start` to `end` or, where that is less, to the body's end.
+    ///
+    /// # Errors
+    ///
+    /// `SeekRange` for a write, and where `start` isn't within the body, or `end` is below it; then an earlier range stays.
+    pub fn seek(&mut self, start: usize, end: Option<usize>) -> Result<(), StoreFault>
+        ensures { HitSeek start end self.old result self.new }
+    {
+        match self {
+            MemHitHandler::Complete(hit) => hit.seek(start, end),
+            MemHitHandler::Partial(_) => Err(StoreFault::SeekRange),
+        }
+    }
+}
+
 impl<S: BuildHasher> HandleHit<MemCache<S>> for MemHitHandler {
     fn read_body(&mut self, store: &mut MemCache<S>) -> Result<ReadStep, StoreFault>
         ensures answer { HitRead self.old store.old result self.new }
@@ -30,16 +54,13 @@ impl<S: BuildHasher> HandleHit<MemCache<S>> for MemHitHandler {
     fn can_seek(&self) -> bool
         ensures { result ≡ is_complete self.now }
     {
-        matches!(self, MemHitHandler::Complete(_))
+        MemHitHandler::can_seek(self)
     }
 
     fn seek(&mut self, start: usize, end: Option<usize>) -> Result<(), StoreFault>
         ensures { HitSeek start end self.old result self.new }
     {
-        match self {
-            MemHitHandler::Complete(hit) => hit.seek(start, end),
-            MemHitHandler::Partial(_) => Err(StoreFault::SeekRange),
-        }
+        MemHitHandler::seek(self, start, end)
     }
 
     fn should_count_access(&self) -> bool
