@@ -1,3 +1,4 @@
 pub mod Tables
 pub mod BelowLaws
+pub mod ChangeLaws
 pub mod WaitLaws
