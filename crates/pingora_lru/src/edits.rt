@@ -4,6 +4,7 @@ ghost use Rattle.std.specs.Prelude.{◌≡◌, ◌-◌, length, slice_get, is_so
 ghost use Rattle.std.specs.Option.{option_map};
 ghost use Rattle.lru_core.specs.Rows.{row_of, pair_of};
 ghost use Rattle.pingora_lru.specs.Calls.{after, reply_of, lost};
+ghost use Rattle.pingora_lru.specs.Refusals.{IsReason};
 
 use crate::call::{Call, Reply};
 use lru_core::lru_unit::{LruFault, LruUnit};
@@ -18,6 +19,7 @@ pub(crate) fn apply<T: Drop, S: BuildHasher>(
     ensures after { OnOk result (unit.new ≡ record unit.old { rows = after call unit.old.rows }) }
     ensures err { OnErr result (unit.new ≡ unit.old) }
     ensures back { IfErr result (λ fault. lost fault ≡ call) }
+    ensures reason { IfErr result (λ fault. IsReason call unit.old.bound unit.old.rows fault) }
 {
     match call {
         Call::Admit(key, item, weight) => admit(unit, key, item, weight),
@@ -44,6 +46,7 @@ fn admit<T: Drop, S: BuildHasher>(
     ensures after { OnOk result (unit.new ≡ record unit.old { rows = after (Call.Admit key item weight) unit.old.rows }) }
     ensures err { OnErr result (unit.new ≡ unit.old) }
     ensures back { IfErr result (λ fault. lost fault ≡ Call.Admit key item weight) }
+    ensures reason { IfErr result (λ fault. IsReason (Call.Admit key item weight) unit.old.bound unit.old.rows fault) }
 {
     match unit.admit(key, item, weight) {
         Ok(old) => Ok(Reply::Admitted(old)),
@@ -63,6 +66,7 @@ fn insert_tail<T: Drop, S: BuildHasher>(
     ensures after { OnOk result (unit.new ≡ record unit.old { rows = after (Call.InsertTail key item weight) unit.old.rows }) }
     ensures err { OnErr result (unit.new ≡ unit.old) }
     ensures back { IfErr result (λ fault. lost fault ≡ Call.InsertTail key item weight) }
+    ensures reason { IfErr result (λ fault. IsReason (Call.InsertTail key item weight) unit.old.bound unit.old.rows fault) }
 {
     match unit.insert_tail(key, item, weight) {
         Ok(added) => Ok(Reply::Inserted(added)),
@@ -83,6 +87,7 @@ fn increment_weight<T: Drop, S: BuildHasher>(
     ensures after { OnOk result (unit.new ≡ record unit.old { rows = after (Call.IncrementWeight key item delta cap) unit.old.rows }) }
     ensures err { OnErr result (unit.new ≡ unit.old) }
     ensures back { IfErr result (λ fault. lost fault ≡ Call.IncrementWeight key item delta cap) }
+    ensures reason { IfErr result (λ fault. IsReason (Call.IncrementWeight key item delta cap) unit.old.bound unit.old.rows fault) }
 {
     match unit.increment_weight(key, move || item, delta, cap) {
         Ok((old, new, absent)) => Ok(Reply::Incremented(old, new, absent)),
@@ -117,6 +122,7 @@ fn update_or_admit<T: Drop, S: BuildHasher>(
     ensures after { OnOk result (unit.new ≡ record unit.old { rows = after (Call.UpdateOrAdmit key item weight) unit.old.rows }) }
     ensures err { OnErr result (unit.new ≡ unit.old) }
     ensures back { IfErr result (λ fault. lost fault ≡ Call.UpdateOrAdmit key item weight) }
+    ensures reason { IfErr result (λ fault. IsReason (Call.UpdateOrAdmit key item weight) unit.old.bound unit.old.rows fault) }
 {
     let old = unit.peek_weight(key);
     match unit.admit(key, item, weight) {
@@ -142,6 +148,7 @@ fn set_weight<T: Drop, S: BuildHasher>(
     ensures after { OnOk result (unit.new ≡ record unit.old { rows = after (Call.SetWeight key weight) unit.old.rows }) }
     ensures err { OnErr result (unit.new ≡ unit.old) }
     ensures back { IfErr result (λ fault. lost fault ≡ Call.SetWeight key weight) }
+    ensures reason { IfErr result (λ fault. IsReason (Call.SetWeight key weight) unit.old.bound unit.old.rows fault) }
 {
     match unit.set_weight(key, weight) {
         Ok(old) => Ok(Reply::WeightSet(old)),

@@ -3,6 +3,7 @@
 ghost use Rattle.std.specs.Prelude.{◌≡◌, ◌++◌, ◌∷◌, [], IfOk, IfErr, OnOk, OnErr};
 ghost use Rattle.pingora_lru.specs.Calls.{after, reply_of, bare_call, bare_reply, lost};
 ghost use Rattle.pingora_lru.specs.Records.{IsRecord, bare};
+ghost use Rattle.pingora_lru.specs.Refusals.{IsReason};
 
 use crate::call::{Call, Kept, Reply};
 use crate::edits::apply;
@@ -30,6 +31,16 @@ impl<T, S: BuildHasher> Model for RecordedUnit<T, S> {
     ghost view = { λ u. record { rows = u.unit.rows; bound = u.unit.bound; kept = u.kept.items } };
 
     ghost invariant = { λ u. IsRecord [] u.kept.items (bare u.unit.rows) };
+}
+
+impl<T: Drop> RecordedUnit<T, BuildHasherDefault<FoldHasher>> {
+    /// Returns a shard without rows and calls, under hashes with a fixed start. Neither the number of rows nor their weight will
+    /// pass `bound`. `capacity` is a hint for the room of its rows.
+    pub fn with_capacity(alloc: Global, capacity: usize, bound: usize) -> Result<Self, AllocError>
+        ensures { IfOk result (λ u. u ≡ record { rows = []; bound = bound; kept = [] }) }
+    {
+        RecordedUnit::with_hasher(alloc, BuildHasherDefault::new(), capacity, bound)
+    }
 }
 
 impl<T: Drop, S: BuildHasher + Copy> RecordedUnit<T, S> {
@@ -63,6 +74,7 @@ impl<T: Drop, S: BuildHasher> RecordedUnit<T, S> {
         ensures bound { self.new.bound ≡ self.old.bound }
         ensures err { OnErr result (self.new ≡ self.old) }
         ensures back { IfErr result (λ fault. lost fault ≡ call) }
+        ensures reason { IfErr result (λ fault. IsReason call self.old.bound self.old.rows fault) }
     {
         if self.kept.reserve(1).is_err() {
             return Err(LruFault::Memory(call));

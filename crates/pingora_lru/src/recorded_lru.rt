@@ -3,7 +3,7 @@
 ghost use Rattle.std.specs.Prelude.{◌≡◌, ◌%◌, ◌<◌, vec_len, IfErr};
 ghost use Rattle.pingora_lru.specs.Calls.{lost};
 
-use crate::call::{Call, Reply};
+use crate::call::{Call, Kept, Reply};
 use crate::recorded::RecordedUnit;
 use lru_core::lru_unit::LruFault;
 use std::alloc::{AllocError, Global};
@@ -17,6 +17,15 @@ pub struct RecordedLru<T, const N: usize, S: BuildHasher = BuildHasherDefault<Fo
     shards: Vec<Mutex<RecordedUnit<T, S>>>,
     ghost count: { vec_len shards ≡ N },
     ghost some: { 0 < N },
+}
+
+impl<T: Drop, const N: usize> RecordedLru<T, N, BuildHasherDefault<FoldHasher>> {
+    /// Returns N shards without rows and calls, under hashes with a fixed start. `capacity` is a hint for the room of their rows.
+    pub fn with_capacity(alloc: Global, capacity: usize) -> Result<Self, AllocError>
+        requires { 0 < N }
+    {
+        RecordedLru::with_hasher(alloc, BuildHasherDefault::new(), capacity)
+    }
 }
 
 impl<T: Drop, const N: usize, S: BuildHasher + Copy> RecordedLru<T, N, S> {
@@ -58,6 +67,15 @@ impl<T: Drop, const N: usize, S: BuildHasher> RecordedLru<T, N, S> {
         ensures { IfErr result (λ fault. lost fault ≡ call) }
     {
         self.shards[shard].lock(rt).step(call)
+    }
+
+    /// Calls `look` with a shard's record, the first call first, under the shard's lock, for which it must not ask.
+    pub fn look<R: Wait, F: FnOnce(&[Kept])>(&self, rt: &R, shard: usize, look: F)
+        requires within { shard < N }
+        requires callable { F.IsAlwaysCallable look }
+    {
+        let unit = self.shards[shard].lock(rt);
+        look(unit.kept());
     }
 
     /// Returns the shards, in order, for looks at what they kept.
