@@ -126,11 +126,11 @@ calls-more [] (p ∷ os) calls e o c are is gave = absurd are
 calls-more (d ∷ es) [] calls e o c are is gave = absurd are
 calls-more (d ∷ es) (p ∷ os) [] e o c are is gave = absurd are
 
-taken-more : (old : State) (calls : List Call) (mid : State) (c : Call) (new : State) → AreTaken old calls mid → Allows mid c → new ≡ after mid c → AreTaken old (calls ++ c ∷ []) new
+pub taken-more : (old : State) (calls : List Call) (mid : State) (c : Call) (new : State) → AreTaken old calls mid → Allows mid c → new ≡ after mid c → AreTaken old (calls ++ c ∷ []) new
 taken-more old [] mid c new taken allowed is = subst (λ (x : State). AreTaken x (c ∷ []) new) taken (allowed, is)
 taken-more old (b ∷ calls) mid c new taken allowed is = (taken.0, taken-more (after old b) calls mid c new taken.1 allowed is)
 
-drawn-more : (old : State) (calls : List Call) (mid : State) (c : Call) (s left rest : Stream) → AreTaken old calls mid → AreAllDrawn old calls s left → AreDrawn mid (read_by c) c.outcome left rest
+pub drawn-more : (old : State) (calls : List Call) (mid : State) (c : Call) (s left rest : Stream) → AreTaken old calls mid → AreAllDrawn old calls s left → AreDrawn mid (read_by c) c.outcome left rest
     → AreAllDrawn old (calls ++ c ∷ []) s rest
 drawn-more old [] mid c s left rest taken drawn more =
     (rest, subst (λ (x : State). AreDrawn x (read_by c) c.outcome s rest) taken (subst (λ (x : Stream). AreDrawn mid (read_by c) c.outcome x rest) drawn more), refl)
@@ -150,7 +150,7 @@ Takes-call old s es os mid left e o new rest before step =
     }
 
 -- what is taken of one event is a step
-StepsBy-takes : (old : State) (s : Stream) (e : Event) (o : Outcome) (new : State) (rest : Stream) → Takes old s (e ∷ []) (o ∷ []) new rest → StepsBy old s e o new rest
+pub StepsBy-takes : (old : State) (s : Stream) (e : Event) (o : Outcome) (new : State) (rest : Stream) → Takes old s (e ∷ []) (o ∷ []) new rest → StepsBy old s e o new rest
 StepsBy-takes old s e o new rest takes = by_calls takes.calls takes.are_of takes.taken takes.drawn
   where
     by_calls : (calls : List Call) → AreCallsOf (e ∷ []) (o ∷ []) calls → AreTaken old calls new → AreAllDrawn old calls s rest → StepsBy old s e o new rest

@@ -1,5 +1,5 @@
 -- What the words of a command line give.
-use Rattle.std.specs.Prelude.{◌≡◌, ℕ, Bool, true, false, ◌<◌, ◌^◌, List, codes, Option, Some, None, Result, Ok, Err, ⊤, []}
+use Rattle.std.specs.Prelude.{◌≡◌, ℕ, Bool, true, false, ◌<◌, ◌^◌, bytes_eq, if◌then◌else◌, List, codes, Option, Some, None, Result, Ok, Err, ⊤, []}
 use Rattle.std.specs.Str.Parse.{IsNumeral, digits_value, without_leading_plus}
 use Rattle.clap.specs.Values.{kind_of}
 use Rattle.clap.specs.declared.error.kind.ErrorKind.TheVariants.{InvalidValue, ValueValidation}
@@ -10,8 +10,12 @@ use Rattle.clap.specs.Kinds.{IsAmong}
 use Rattle.cache_words.specs.Time.{span_of}
 use Rattle.tier_model.specs.State.{Settings}
 use Rattle.trace_replay.specs.declared.options.OptionName.{OptionName}
-use Rattle.trace_replay.specs.declared.options.OptionName.TheVariants.{Limit, Watermark}
+use Rattle.trace_replay.specs.declared.options.OptionName.TheVariants.{Limit, Watermark, Shards, Seed}
+use Rattle.trace_replay.specs.declared.options.ShardCount.{ShardCount}
+use Rattle.trace_replay.specs.declared.options.ShardCount.TheVariants.{One, Four, Sixteen}
 use Rattle.trace_replay.specs.declared.options.ReplayOptions.{ReplayOptions}
+use Rattle.trace_replay.specs.Words.{words_of}
+use Rattle.trace_replay.specs.Replays.{Start}
 use Rattle.trace_replay.specs.declared.options.OptionsError.{OptionsError}
 use Rattle.trace_replay.specs.declared.options.OptionsError.TheVariants.{CommandLine, NoLimit, WrongValue, NotUtf8, Memory}
 
@@ -24,8 +28,12 @@ abbrev pub named_app : App
 named_app = on_top (λ shape. record shape { has_version = true }) (new_app (codes "tier-replay"))
 
 -- the command `tier-replay --limit BYTES [--watermark ENTRIES]`
+abbrev pub limited_app : App
+limited_app = with_rule (with_rule named_app (option_rule (codes "limit") true)) (option_rule (codes "watermark") false)
+
+-- the same with `[--shards COUNT] [--seed SEED]`
 abbrev pub app : App
-app = with_rule (with_rule named_app (option_rule (codes "limit") true)) (option_rule (codes "watermark") false)
+app = with_rule (with_rule limited_app (option_rule (codes "shards") false)) (option_rule (codes "seed") false)
 
 -- the text that the words give an option
 abbrev pub value_of : Text → List Text → Option Text
@@ -46,15 +54,32 @@ IsGiven value (Some n) = (text : Text) × (value ≡ Some text) × IsNumber text
 abbrev pub name_of : OptionName → Text
 name_of Limit = codes "limit"
 name_of Watermark = codes "watermark"
+name_of Shards = codes "shards"
+name_of Seed = codes "seed"
 
 -- a text is given, and is no number
 abbrev pub IsWrong : Option Text → Type 0
 IsWrong value = (text : Text) × (value ≡ Some text) × ((n : ℕ) → ¬ IsNumber text n)
 
--- the option is the first whose value is wrong: the limit comes before the watermark
+-- how many shards a text says
+abbrev pub shards_named : Text → Option ShardCount
+shards_named text = if bytes_eq text (codes "1") then Some One else (if bytes_eq text (codes "4") then Some Four else (if bytes_eq text (codes "16") then Some Sixteen else None))
+
+-- the same of a text that may be given; without one it is one
+abbrev pub shards_in : Option Text → Option ShardCount
+shards_in None = Some One
+shards_in (Some text) = shards_named text
+
+-- limit and watermark are right
+abbrev pub HasLimits : List Text → Type 0
+HasLimits words = ((n : ℕ) × IsGiven (value_of (codes "limit") words) (Some n)) × ((w : Option ℕ) × IsGiven (value_of (codes "watermark") words) w)
+
+-- the option is the first whose value is wrong, in the order limit, watermark, shards, seed
 abbrev pub IsFirstWrong : List Text → OptionName → Type 0
 IsFirstWrong words Limit = IsWrong (value_of (codes "limit") words)
 IsFirstWrong words Watermark = IsWrong (value_of (codes "watermark") words) × ((n : ℕ) × IsGiven (value_of (codes "limit") words) (Some n))
+IsFirstWrong words Shards = (shards_in (value_of (codes "shards") words) ≡ None) × HasLimits words
+IsFirstWrong words Seed = IsWrong (value_of (codes "seed") words) × ((k : ShardCount) × (shards_in (value_of (codes "shards") words) ≡ Some k)) × HasLimits words
 
 -- why the words give no options; memory may have run out instead
 abbrev pub IsFault : List Text → OptionsError → Type 0
@@ -83,6 +108,25 @@ IsReadNumber name value (Err Memory) = Unit {0}
 IsReadNumber name value (Err (WrongValue shown error)) = (shown ≡ name) × (kind_of error ≡ ValueValidation) × IsWrong value
 IsReadNumber name value (Err _) = ⊥
 
--- the tier that the options describe, of one shard: a permit's age is ten seconds, and a wait has no end
-abbrev pub settings_of : ReplayOptions → Settings
-settings_of o = record { shards = 1; limit = o.limit; watermark = o.watermark; age = span_of 10; wait = None }
+-- what the number of shards was read as
+abbrev pub IsReadShards : Option Text → Result ShardCount OptionsError → Type 0
+IsReadShards value (Ok count) = shards_in value ≡ Some count
+IsReadShards value (Err Memory) = Unit {0}
+IsReadShards value (Err (WrongValue shown error)) = (shown ≡ Shards) × (kind_of error ≡ ValueValidation) × (shards_in value ≡ None)
+IsReadShards value (Err _) = ⊥
+
+-- the empty tier that the options describe, of n shards: a permit's age is ten seconds, and a wait has no end
+abbrev pub settings_over : ℕ → ReplayOptions → Settings
+settings_over n o = record { shards = n; limit = o.limit; watermark = o.watermark; age = span_of 10; wait = None }
+
+-- with that tier and the words of the seed a replay begins
+abbrev pub start_over : ℕ → ReplayOptions → Start
+start_over n o = record { settings = settings_over n o; words = words_of o.seed }
+
+abbrev pub count_of : ShardCount → ℕ
+count_of One = 1
+count_of Four = 4
+count_of Sixteen = 16
+
+abbrev pub start_of : ReplayOptions → Start
+start_of o = start_over (count_of o.shards) o

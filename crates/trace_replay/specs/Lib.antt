@@ -5,3 +5,4 @@ pub mod Statuses
 pub mod Errors
 pub mod Inputs
 pub mod Outputs
+pub mod Words

@@ -1,10 +1,12 @@
 -- What a trace is answered with.
 use Rattle.std.specs.Prelude.{◌≡◌, ℕ, ◌==◌, List, [], ◌∷◌, ◌++◌, map, if◌then◌else◌}
-use Rattle.tier_model.specs.Calls.{Call, History}
+use Rattle.rand_core.specs.Stream.{Stream}
+use Rattle.tier_model.specs.Calls.{Call, History, extended}
 use Rattle.tier_model.specs.Histories.{empty_opening}
 use Rattle.tier_model.specs.Past.{HasPast}
 use Rattle.tier_model.specs.Reports.{report_of}
-use Rattle.tier_model.specs.State.{Settings, State}
+use Rattle.tier_model.specs.State.{Settings, State, empty_state}
+use Rattle.cache_tier.specs.Draws.{AreAllDrawn}
 use Rattle.trace_lines.specs.Lines.{line_of}
 use Rattle.trace_lines.specs.Texts.{outcome_text, refusal_text, report_text}
 use Rattle.trace_lines.specs.declared.line.Line.{Line}
@@ -37,14 +39,24 @@ Replays (Refused refusal ∷ lines) past h text =
 Replays (Accepted event ∷ lines) past h text =
     (call : Call) × (rest : List ℕ) × (call.event ≡ event) × (text ≡ ended (outcome_text call.outcome) ++ rest) × Replays lines (call ∷ past) h rest
 
--- the text answers each line of a trace by one tier that began empty, whose history keeps the headline, and ends with the
--- report of its state
-pub record IsReplay (settings : Settings) (lines : List Line) (text : List ℕ) : Type 0 where
+-- what a replay begins with: the settings of an empty tier, and the words of a generator
+pub record Start : Type 0 where
+  pub settings : Settings
+  pub words : Stream
+
+-- the calls evicted, in order, what the words pick from the first on
+abbrev pub AreFromWords : Start → History → Type 0
+AreFromWords start history = (calls : List Call) × (extended [] calls ≡ history) × ((rest : Stream) × AreAllDrawn (empty_state start.settings) calls start.words rest)
+
+-- the text answers each line of a trace by one tier that began empty, whose history keeps the headline and whose evictions the
+-- words pick, and ends with the report of its state
+pub record IsReplay (start : Start) (lines : List Line) (text : List ℕ) : Type 0 where
   pub history : History
   pub answers : List ℕ
   pub state : State
   pub replays : Replays lines [] history answers
-  pub past : HasPast (empty_opening settings) state history
+  pub past : HasPast (empty_opening start.settings) state history
+  pub drawn : AreFromWords start history
   pub reported : text ≡ answers ++ ended (report_text (report_of state))
 
 -- the report of the state, where no line is left
@@ -53,8 +65,8 @@ last_text [] state = ended (report_text (report_of state))
 last_text (line ∷ lines) state = []
 
 -- the text is a beginning of what answers the first of the lines, or all of them and the report, by one tier that began
--- empty, whose history keeps the headline
-pub record IsBegun (settings : Settings) (lines : List Line) (text : List ℕ) : Type 0 where
+-- empty, whose history keeps the headline and whose evictions the words pick
+pub record IsBegun (start : Start) (lines : List Line) (text : List ℕ) : Type 0 where
   pub answered : List Line
   pub left : List Line
   pub history : History
@@ -63,5 +75,6 @@ pub record IsBegun (settings : Settings) (lines : List Line) (text : List ℕ) :
   pub rest : List ℕ
   pub split : lines ≡ answered ++ left
   pub replays : Replays answered [] history answers
-  pub past : HasPast (empty_opening settings) state history
+  pub past : HasPast (empty_opening start.settings) state history
+  pub drawn : AreFromWords start history
   pub begins : answers ++ last_text left state ≡ text ++ rest

@@ -1,11 +1,11 @@
 //! The options of a command line.
-ghost use Rattle.std.specs.Prelude.{◌≡◌, [], map, codes, Some, IfOk, IfErr, false};
+ghost use Rattle.std.specs.Prelude.{◌≡◌, [], map, codes, ℕ, Option, Some, unwrap_or, IfOk, IfErr, false};
 ghost use Rattle.clap.specs.Values.{kind_of};
 ghost use Rattle.clap.specs.Faults.{fault_of};
 ghost use Rattle.clap.specs.Matches.{found_of, first_value};
 ghost use Rattle.clap.specs.Simple.{HasMatchesOf, app_of};
 ghost use Rattle.clap.specs.Walk.{rule_of};
-ghost use Rattle.trace_replay.specs.CommandLine.{app, name_of, named_app, option_rule, value_of, IsGiven, IsFault, IsWrongValue, IsReadNumber, IsUnreadable};
+ghost use Rattle.trace_replay.specs.CommandLine.{limited_app, app, name_of, named_app, option_rule, value_of, IsGiven, IsFault, IsWrongValue, IsReadNumber, IsReadShards, shards_named, shards_in, IsUnreadable};
 
 use clap::error::ErrorKind;
 use clap::{Arg, ArgMatches, Command};
@@ -21,6 +21,8 @@ const ABOUT: &str =
 const STATUSES: &str =
     "Exit status: 0; 1 on an I/O error or out of memory; 2 on a bad command line.";
 
+const A_NUMBER: &str = "a number from 0 to 18446744073709551615";
+
 /// How a trace is replayed.
 #[derive(Clone, Copy, PartialEq, Eq, Debug)]
 pub struct ReplayOptions {
@@ -28,6 +30,21 @@ pub struct ReplayOptions {
     pub limit: u64,
     /// The most entries that the tier tracks, if their number has a bound.
     pub watermark: Option<u64>,
+    /// How many shards the order of use has.
+    pub shards: ShardCount,
+    /// The seed of the generator whose words pick the evicted entries.
+    pub seed: u64,
+}
+
+/// A number of shards.
+#[derive(Clone, Copy, PartialEq, Eq, Debug)]
+pub enum ShardCount {
+    /// 1
+    One,
+    /// 4
+    Four,
+    /// 16
+    Sixteen,
 }
 
 /// An option that has a value.
@@ -37,6 +54,10 @@ pub enum OptionName {
     Limit,
     /// `--watermark`
     Watermark,
+    /// `--shards`
+    Shards,
+    /// `--seed`
+    Seed,
 }
 
 impl OptionName {
@@ -47,6 +68,8 @@ impl OptionName {
         match self {
             OptionName::Limit => "limit",
             OptionName::Watermark => "watermark",
+            OptionName::Shards => "shards",
+            OptionName::Seed => "seed",
         }
     }
 }
@@ -60,7 +83,7 @@ pub enum OptionsError {
     /// No `--limit` is given.
     #[error("--limit is missing")]
     NoLimit,
-    /// The value of this option is no number; the first such option is named.
+    /// The value of this option is none that it may have; the first such option is named.
     #[error("{1}")]
     WrongValue(OptionName, clap::Error),
     /// A word is not UTF-8.
@@ -75,6 +98,8 @@ pub enum OptionsError {
 pub fn options<'a, S: AsStr>(alloc: Global, words: &'a [S]) -> Result<ReplayOptions, OptionsError>
     ensures limit { IfOk result (λ o. IsGiven (value_of (codes "limit") (map S.text words.entry.now)) (Some o.limit)) }
     ensures watermark { IfOk result (λ o. IsGiven (value_of (codes "watermark") (map S.text words.entry.now)) o.watermark) }
+    ensures shards { IfOk result (λ o. shards_in (value_of (codes "shards") (map S.text words.entry.now)) ≡ Some o.shards) }
+    ensures seed { IfOk result (λ o. (given : Option ℕ) × IsGiven (value_of (codes "seed") (map S.text words.entry.now)) given × (o.seed ≡ unwrap_or given 0)) }
     ensures faultless { IfOk result (λ _. fault_of app (map S.text words.entry.now) ≡ []) }
     ensures refused { IfErr result (IsFault (map S.text words.entry.now)) }
 {
@@ -83,7 +108,14 @@ pub fn options<'a, S: AsStr>(alloc: Global, words: &'a [S]) -> Result<ReplayOpti
         return Err(OptionsError::NoLimit);
     };
     let watermark = number(alloc, &matches, OptionName::Watermark)?;
-    Ok(ReplayOptions { limit, watermark })
+    let shards = shards(alloc, &matches)?;
+    let seed = number(alloc, &matches, OptionName::Seed)?;
+    Ok(ReplayOptions {
+        limit,
+        watermark,
+        shards,
+        seed: seed.unwrap_or(0),
+    })
 }
 
 /// The words of the program's own command line.
@@ -121,25 +153,51 @@ fn number(
     };
     match text.parse::<u64>() {
         Ok(number) => Ok(Some(number)),
-        Err(_) => Err(wrong_value(alloc, name, text)),
+        Err(_) => Err(wrong_value(alloc, name, text, A_NUMBER)),
     }
 }
 
-fn wrong_value(alloc: Global, name: OptionName, text: &str) -> OptionsError
+fn shards(alloc: Global, matches: &ArgMatches<'_>) -> Result<ShardCount, OptionsError>
+    ensures { IsReadShards (first_value (found_of matches.now) (codes "shards")) result }
+{
+    let Some(text) = matches.get_str("shards") else {
+        return Ok(ShardCount::One);
+    };
+    match shards_named(text) {
+        Some(count) => Ok(count),
+        None => Err(wrong_value(alloc, OptionName::Shards, text, "1, 4 or 16")),
+    }
+}
+
+fn shards_named(text: &str) -> Option<ShardCount>
+    ensures { result ≡ shards_named text.now }
+{
+    match text {
+        "1" => Some(ShardCount::One),
+        "4" => Some(ShardCount::Four),
+        "16" => Some(ShardCount::Sixteen),
+        _ => None,
+    }
+}
+
+fn wrong_value(alloc: Global, name: OptionName, text: &str, wanted: &str) -> OptionsError
     ensures { IsWrongValue name result }
 {
-    match value_fault(alloc, name.as_str(), text) {
+    match value_fault(alloc, name.as_str(), text, wanted) {
         Ok(error) => OptionsError::WrongValue(name, error),
         Err(AllocError) => OptionsError::Memory,
     }
 }
 
-fn value_fault(alloc: Global, name: &str, text: &str) -> Result<clap::Error, AllocError>
+fn value_fault(
+    alloc: Global,
+    name: &str,
+    text: &str,
+    wanted: &str,
+) -> Result<clap::Error, AllocError>
     ensures { IfOk result (λ error. kind_of error ≡ ErrorKind.ValueValidation) }
 {
-    let message = format!(in alloc;
-        "invalid value '{text}' for '--{name}': a number from 0 to 18446744073709551615 is wanted"
-    )?;
+    let message = format!(in alloc; "invalid value '{text}' for '--{name}': {wanted} is wanted")?;
     fault(alloc, ErrorKind::ValueValidation, message.as_str())
 }
 
@@ -170,6 +228,18 @@ fn matches<'a, S: AsStr>(alloc: Global, words: &'a [S]) -> Result<ArgMatches<'a>
 
 fn command<'a>(alloc: Global) -> Result<Command<'a>, AllocError>
     ensures { IfOk result (λ c. app_of c ≡ app) }
+{
+    let shards = option(alloc, "shards", "COUNT", false).help(
+        "How many shards the order of use has: 1, 4 or 16 [default: 1]",
+    );
+    let seed = option(alloc, "seed", "SEED", false).help(
+        "The seed of the generator that picks the evicted entries [default: 0]",
+    );
+    limited(alloc)?.arg(shards)?.arg(seed)
+}
+
+fn limited<'a>(alloc: Global) -> Result<Command<'a>, AllocError>
+    ensures { IfOk result (λ c. app_of c ≡ limited_app) }
 {
     let limit = option(alloc, "limit", "BYTES", true).help(
         "The most bytes that the bodies in the tier weigh together; an empty body weighs 1",

@@ -1,13 +1,14 @@
 //! Answering a trace.
-ghost use Rattle.std.specs.Prelude.{◌≡◌, ℕ, List, [], ◌++◌, IfOk, IfErr, OnOk, OnErr, IfSome, string_bytes, ◌≤◌, ◌-◌, ◌^◌, length};
+ghost use Rattle.std.specs.Prelude.{◌≡◌, ℕ, List, [], ◌++◌, IfOk, IfErr, OnOk, OnErr, IfSome, string_bytes, ◌<◌, ◌≤◌, ◌-◌, ◌^◌, length};
 ghost use Rattle.std.specs.Io.KnownBytes.{Appends, Keeps, prepend_known};
 ghost use Rattle.std.specs.Io.BufRead.{strip_last};
 ghost use Rattle.tier_model.specs.Histories.{empty_opening};
 ghost use Rattle.tier_model.specs.Past.{HasPast};
 ghost use Rattle.tier_model.specs.Reports.{report_of};
+ghost use Rattle.tier_model.specs.State.{empty_state};
 ghost use Rattle.trace_lines.specs.Lines.{line_of};
 ghost use Rattle.trace_lines.specs.Texts.{report_text};
-ghost use Rattle.trace_replay.specs.CommandLine.{settings_of};
+ghost use Rattle.trace_replay.specs.CommandLine.{settings_over, start_over, start_of};
 ghost use Rattle.trace_replay.specs.Replays.{requests_in, lines_in, ended, IsReplay, IsBegun};
 ghost use Rattle.trace_replay.specs.Errors.{IsOther};
 ghost use Rattle.trace_replay.specs.Inputs.{IsLineBefore};
@@ -16,7 +17,7 @@ ghost use Rattle.trace_replay.specs.declared.replay.ReplayError.TheVariants.{Mem
 ghost use Rattle.trace_replay.specs.Steps.{Answers, Replies, RepliesTo};
 
 use crate::input::Input;
-use crate::options::ReplayOptions;
+use crate::options::{ReplayOptions, ShardCount};
 use crate::output::hand_on;
 use cache_tier::tier::Tier;
 use cache_words::time::Duration;
@@ -89,16 +90,39 @@ pub fn run<R: Read, W: Write>(
 ) -> Result<(), ReplayError>
     ensures answered { OnOk result (IfSome (R.remaining reader.old) (λ input. (text : List ℕ)
         × Appends (W.contents writer.old) (W.contents writer.new) text
-        × IsReplay (settings_of options.now) (requests_in input) text)) }
+        × IsReplay (start_of options.now) (requests_in input) text)) }
     ensures begun { OnErr result (IfSome (R.remaining reader.old) (λ input. (text : List ℕ)
         × Appends (W.contents writer.old) (W.contents writer.new) text
-        × IsBegun (settings_of options.now) (requests_in input) text)) }
+        × IsBegun (start_of options.now) (requests_in input) text)) }
     ensures too_many { result ≡ Err ReplayError.TooManyReads → IfSome (R.remaining reader.old) (λ input. 2 ^ 64 - 1 ≤ length (lines_in input)) }
 {
-    let mut tier = tier_for(alloc, options)?;
+    match options.shards {
+        ShardCount::One => run_over::<R, W, 1>(alloc, reader, writer, options),
+        ShardCount::Four => run_over::<R, W, 4>(alloc, reader, writer, options),
+        ShardCount::Sixteen => run_over::<R, W, 16>(alloc, reader, writer, options),
+    }
+}
+
+// The same by a tier of N shards.
+fn run_over<R: Read, W: Write, const N: usize>(
+    alloc: Global,
+    reader: &mut R,
+    writer: &mut W,
+    options: &ReplayOptions,
+) -> Result<(), ReplayError>
+    requires { 0 < N }
+    ensures answered { OnOk result (IfSome (R.remaining reader.old) (λ input. (text : List ℕ)
+        × Appends (W.contents writer.old) (W.contents writer.new) text
+        × IsReplay (start_over N options.now) (requests_in input) text)) }
+    ensures begun { OnErr result (IfSome (R.remaining reader.old) (λ input. (text : List ℕ)
+        × Appends (W.contents writer.old) (W.contents writer.new) text
+        × IsBegun (start_over N options.now) (requests_in input) text)) }
+    ensures too_many { result ≡ Err ReplayError.TooManyReads → IfSome (R.remaining reader.old) (λ input. 2 ^ 64 - 1 ≤ length (lines_in input)) }
+{
+    let mut tier = tier_for::<N>(alloc, options)?;
     let mut input = Input::new(alloc)?;
     let mut lines = LineReader::new(alloc);
-    let mut rng = Pcg64::seed_from_u64(0);
+    let mut rng = Pcg64::seed_from_u64(options.seed);
     let mut waiting = Vec::new(alloc);
     for _ in 0..u64::MAX {
         let len = next_line(&mut input, reader, &mut waiting, writer)?;
@@ -116,8 +140,10 @@ pub fn run<R: Read, W: Write>(
     Err(ReplayError::TooManyReads)
 }
 
-fn tier_for(alloc: Global, options: &ReplayOptions) -> Result<Tier<1>, AllocError>
-    ensures { IfOk result (λ tier. HasPast (empty_opening (settings_of options.now)) tier []) }
+fn tier_for<const N: usize>(alloc: Global, options: &ReplayOptions) -> Result<Tier<N>, AllocError>
+    requires { 0 < N }
+    ensures state { IfOk result (λ tier. tier ≡ empty_state (settings_over N options.now)) }
+    ensures past { IfOk result (λ tier. HasPast (empty_opening (settings_over N options.now)) tier []) }
 {
     let watermark = options.watermark.map(|entries| entries as usize);
     let age = Duration::from_seconds(PERMIT_AGE);
@@ -158,9 +184,9 @@ fn make_way<W: Write>(
     hand_on(waiting, writer)
 }
 
-fn finish<W: Write>(
+fn finish<W: Write, const N: usize>(
     alloc: Global,
-    tier: &Tier<1>,
+    tier: &Tier<N>,
     waiting: &mut Vec<u8>,
     writer: &mut W,
 ) -> Result<(), ReplayError>
@@ -176,7 +202,11 @@ fn finish<W: Write>(
 }
 
 // Adds the report to what is waiting.
-fn report(alloc: Global, tier: &Tier<1>, waiting: &mut Vec<u8>) -> Result<(), AllocError>
+fn report<const N: usize>(
+    alloc: Global,
+    tier: &Tier<N>,
+    waiting: &mut Vec<u8>,
+) -> Result<(), AllocError>
     ensures ok { OnOk result (waiting.new.items ≡ waiting.old.items ++ ended (report_text (report_of tier.now))) }
     ensures err { OnErr result (waiting.new.items ≡ waiting.old.items) }
 {
@@ -196,15 +226,15 @@ fn without_line_feed(line: &[u8]) -> &[u8]
 }
 
 // Adds the line that answers a line to what is waiting.
-fn add_answer<G: Rng>(
+fn add_answer<G: Rng, const N: usize>(
     alloc: Global,
-    tier: &mut Tier<1>,
+    tier: &mut Tier<N>,
     lines: &mut LineReader,
     rng: &mut G,
     line: &[u8],
     waiting: &mut Vec<u8>,
 ) -> Result<(), ReplayError>
-    ensures answered { OnOk result ((text : List ℕ) × (waiting.new.items ≡ waiting.old.items ++ text) × Answers tier.old tier.new (line_of line.now) text) }
+    ensures answered { OnOk result ((text : List ℕ) × (waiting.new.items ≡ waiting.old.items ++ text) × Answers (record { state = tier.old; words = G.stream rng.old }) (record { state = tier.new; words = G.stream rng.new }) (line_of line.now) text) }
     ensures err { OnErr result (waiting.new.items ≡ waiting.old.items) }
     ensures other { IfErr result IsOther }
 {
@@ -214,14 +244,14 @@ fn add_answer<G: Rng>(
 }
 
 // The line that answers a line, with its line feed.
-fn answer<G: Rng>(
+fn answer<G: Rng, const N: usize>(
     alloc: Global,
-    tier: &mut Tier<1>,
+    tier: &mut Tier<N>,
     lines: &mut LineReader,
     rng: &mut G,
     line: &[u8],
 ) -> Result<String, ReplayError>
-    ensures answered { IfOk result (λ text. Answers tier.old tier.new (line_of line.now) (string_bytes text)) }
+    ensures answered { IfOk result (λ text. Answers (record { state = tier.old; words = G.stream rng.old }) (record { state = tier.new; words = G.stream rng.new }) (line_of line.now) (string_bytes text)) }
     ensures other { IfErr result IsOther }
 {
     let mut text = reply(alloc, tier, lines, rng, line)?;
@@ -230,14 +260,14 @@ fn answer<G: Rng>(
 }
 
 // What answers a line.
-fn reply<G: Rng>(
+fn reply<G: Rng, const N: usize>(
     alloc: Global,
-    tier: &mut Tier<1>,
+    tier: &mut Tier<N>,
     lines: &mut LineReader,
     rng: &mut G,
     line: &[u8],
 ) -> Result<String, ReplayError>
-    ensures answered { IfOk result (λ text. Replies tier.old tier.new (line_of line.now) (string_bytes text)) }
+    ensures answered { IfOk result (λ text. Replies (record { state = tier.old; words = G.stream rng.old }) (record { state = tier.new; words = G.stream rng.new }) (line_of line.now) (string_bytes text)) }
     ensures other { IfErr result IsOther }
 {
     match lines.read(alloc, line)? {
@@ -247,13 +277,13 @@ fn reply<G: Rng>(
 }
 
 // What the tier answers to an event.
-fn reply_to<G: Rng>(
+fn reply_to<G: Rng, const N: usize>(
     alloc: Global,
-    tier: &mut Tier<1>,
+    tier: &mut Tier<N>,
     rng: &mut G,
     event: &Event,
 ) -> Result<String, ReplayError>
-    ensures answered { IfOk result (λ text. RepliesTo tier.old tier.new event.now (string_bytes text)) }
+    ensures answered { IfOk result (λ text. RepliesTo (record { state = tier.old; words = G.stream rng.old }) (record { state = tier.new; words = G.stream rng.new }) event.now (string_bytes text)) }
     ensures other { IfErr result IsOther }
 {
     let outcome = tier.step(rng, event);

@@ -3,7 +3,7 @@ use std::alloc::Global;
 use std::cell::Cell;
 use std::io::{self, Read, Write};
 use std::test::Fail;
-use trace_replay::options::ReplayOptions;
+use trace_replay::options::{ReplayOptions, ShardCount};
 use trace_replay::replay::run;
 
 // Gives a line at each read, and fails where a line before it isn't answered.
@@ -63,6 +63,8 @@ fn conversation(alloc: Global, lines: &[&[u8]]) -> Result<Vec<u8>, Fail> {
     let options = ReplayOptions {
         limit: 1,
         watermark: None,
+        shards: ShardCount::One,
+        seed: 0,
     };
     run(alloc, &mut reader, &mut writer, &options)?;
     Ok(writer.text)

@@ -1,7 +1,7 @@
 //! The command line: what is read from it, the exit status and the text of a fault.
 use std::alloc::{AllocError, Global};
 use std::test::Fail;
-use trace_replay::options::{OptionsError, ReplayOptions, options};
+use trace_replay::options::{OptionsError, ReplayOptions, ShardCount, options};
 use trace_replay::replay::ReplayError;
 use trace_replay::status::{Fault, status};
 
@@ -23,7 +23,15 @@ fn options_are_read(rt: HostRuntime) -> Result<(), Fail> {
     ];
     for (words, limit, watermark) in table {
         let given = options(rt.alloc(), words)?;
-        assert_eq!(rt; given, ReplayOptions { limit, watermark });
+        assert_eq!(rt;
+            given,
+            ReplayOptions {
+                limit,
+                watermark,
+                shards: ShardCount::One,
+                seed: 0
+            }
+        );
     }
     Ok(())
 }
@@ -40,7 +48,7 @@ fn shown(alloc: Global, words: &[&str]) -> Result<(u8, String), AllocError> {
 
 #[test]
 fn command_lines_end_with_a_status_and_a_text(rt: HostRuntime) -> Result<(), Fail> {
-    let table: [(&[&str], u8, &str); 10] = [
+    let table: [(&[&str], u8, &str); 11] = [
         (
             &["tier-replay"],
             2,
@@ -77,9 +85,14 @@ fn command_lines_end_with_a_status_and_a_text(rt: HostRuntime) -> Result<(), Fai
             "error: unexpected argument 'x' found",
         ),
         (
-            &["tier-replay", "--limit=1", "--seed=1"],
+            &["tier-replay", "--limit=1", "--shards=2"],
             2,
-            "error: unexpected argument '--seed' found",
+            "error: invalid value '2' for '--shards': 1, 4 or 16 is wanted",
+        ),
+        (
+            &["tier-replay", "--limit=1", "--age=1"],
+            2,
+            "error: unexpected argument '--age' found",
         ),
         (
             &["tier-replay", "--help"],

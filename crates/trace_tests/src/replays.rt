@@ -2,7 +2,7 @@
 use std::alloc::Global;
 use std::process::Abort;
 use std::test::Fail;
-use trace_replay::options::ReplayOptions;
+use trace_replay::options::{ReplayOptions, ShardCount};
 use trace_replay::replay::{ReplayError, run};
 
 // The put of the body `abc`, fresh for ten seconds from second 1000 on.
@@ -18,7 +18,12 @@ fn replayed(
 ) -> Result<Vec<u8>, ReplayError> {
     let mut reader = trace;
     let mut written = Vec::new(alloc);
-    let options = ReplayOptions { limit, watermark };
+    let options = ReplayOptions {
+        limit,
+        watermark,
+        shards: ShardCount::One,
+        seed: 0,
+    };
     run(alloc, &mut reader, &mut written, &options)?;
     Ok(written)
 }

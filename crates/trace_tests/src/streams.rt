@@ -1,7 +1,7 @@
 //! Readers and writers that fail, and memory that runs out, in mid-stream.
 use crate::replays::FIRST_PUT;
 use std::io::{self, Read, Write};
-use trace_replay::options::ReplayOptions;
+use trace_replay::options::{ReplayOptions, ShardCount};
 use trace_replay::replay::{ReplayError, run};
 use trace_replay::status::{Fault, status};
 
@@ -27,6 +27,8 @@ fn a_fault_of_the_reader_ends_the_run(rt: HostRuntime) {
         let options = ReplayOptions {
             limit: 1,
             watermark: None,
+            shards: ShardCount::One,
+            seed: 0,
         };
         let outcome = run(rt.alloc(), &mut reader, &mut written, &options).map_err(Fault::Replay);
         assert_eq!(rt; written.as_slice(), b"refused Op\n".as_slice());
@@ -61,6 +63,8 @@ fn a_fault_of_the_writer_ends_the_run(rt: HostRuntime) {
     let options = ReplayOptions {
         limit: 1,
         watermark: None,
+        shards: ShardCount::One,
+        seed: 0,
     };
     let outcome = run(rt.alloc(), &mut reader, &mut writer, &options).map_err(Fault::Replay);
     assert!(rt; matches!(&outcome, Err(Fault::Replay(ReplayError::Stream(_)))));
@@ -91,6 +95,8 @@ fn out_of_memory_changes_no_line(rt: HostRuntime) {
     let options = ReplayOptions {
         limit: 100,
         watermark: None,
+        shards: ShardCount::One,
+        seed: 0,
     };
     match run(rt.alloc(), &mut reader, &mut written, &options) {
         Ok(()) | Err(ReplayError::Memory) => {
