@@ -17,7 +17,7 @@ use std::sync::{Mutex, Wait};
 /// N shards of rows of distinct keys, each most recent first and under a lock of its own, for threads: key k is in shard k
 /// modulo N. A call takes one lock at a time, and does under it what `LruUnit`'s call of that name does.
 ///
-/// Of what the counters show while other threads are in a call nothing is claimed. With one thread they are exact.
+/// Nothing is claimed of what the counters show, also with one thread alone.
 ///
 /// Rows are found by the hashes of their keys. The default hasher starts at a fixed place, for keys that the caller chooses
 /// itself; `with_hasher` takes a start of the caller's, for keys that strangers choose, who then can't slow look-ups down.
