@@ -3,8 +3,6 @@
 use crate::shards::gives;
 use lru_core::LruCore;
 use lru_core::lru_unit::LruFault;
-use rand_core::SeedableRng;
-use rand_pcg::Pcg64;
 use std::alloc::Global;
 
 /// A call that changes a core, with what it must return.
@@ -98,7 +96,7 @@ fn is_done<const N: usize>(core: &mut LruCore<u32, N>, edit: Edit) -> bool {
 }
 
 /// Whether a shard has these data and weights, and the sum of them.
-fn has<const N: usize>(core: &LruCore<u32, N>, shard: usize, rows: &[(u32, usize)]) -> bool {
+pub(crate) fn has<const N: usize>(core: &LruCore<u32, N>, shard: usize, rows: &[(u32, usize)]) -> bool {
     if shard >= core.shards() {
         return false;
     }
@@ -238,75 +236,4 @@ fn a_step_goes_around_the_circle(rt: HostRuntime) {
     let alloc = rt.alloc();
     let core = LruCore::<u32, 4>::with_capacity_and_watermark(alloc, 9, 0, Some(0)).ok();
     assert_eq!(rt; rows_done(core, MARKED), Some(MARKED.len()));
-}
-
-/// A core of two shards with a row of weight 2 for each key.
-fn filled(alloc: Global) -> Option<LruCore<u64, 2>> {
-    let mut core: LruCore<u64, 2> = LruCore::with_capacity(alloc, 6, 10).ok()?;
-    core.reserve_shard(1, 3).ok()?;
-    for key in 2..8 {
-        if core.admit(key, key, 2).is_err() {
-            return None;
-        }
-    }
-    Some(core)
-}
-
-/// How many of six rows of weight 2 are evicted to a limit of 6, by the draws of a seed.
-fn evicted(core: &mut LruCore<u64, 2>, alloc: Global, seed: u64) -> usize {
-    let mut rng = Pcg64::seed_from_u64(seed);
-    let evicted: Result<_, _> = core.evict_to_limit(alloc, &mut rng);
-    match evicted {
-        Ok(pairs) => pairs.len(),
-        Err(_) => 0,
-    }
-}
-
-/// Whether three are, and three left.
-fn evicts_to_limit(alloc: Global, seed: u64) -> Option<bool> {
-    let mut core = filled(alloc)?;
-    Some(
-        evicted(&mut core, alloc, seed) == 3
-            && (core.len(), core.weight(), core.shards()) == (3, 6, 2)
-            && (core.evicted_len(), core.evicted_weight()) == (3, 6)
-            && core.shard_len(0).wrapping_add(core.shard_len(1)) == 3
-            && core.shard_weight(0).wrapping_add(core.shard_weight(1)) == 6,
-    )
-}
-
-#[test]
-fn evicts_to_its_limit_whatever_the_draws(rt: HostRuntime) {
-    for seed in 0..8 {
-        assert_eq!(rt; evicts_to_limit(rt.alloc(), seed), Some(true));
-    }
-}
-
-/// The data of each row of a shard as digits, and their weight.
-fn each_row(core: &LruCore<u32, 2>) -> (u32, usize) {
-    let mut digits = 0u32;
-    let mut weight = 0usize;
-    core.iter_for_each(1, |row| {
-        digits = digits.wrapping_mul(10).wrapping_add(*row.0);
-        weight = weight.wrapping_add(row.1);
-    });
-    (digits, weight)
-}
-
-fn calls_each_row(alloc: Global) -> Option<[bool; 3]> {
-    let mut core: LruCore<u32, 2> = LruCore::with_capacity(alloc, 9, 4).ok()?;
-    for key in 1..5 {
-        if core.admit(key, key as u32, 1).is_err() {
-            return None;
-        }
-    }
-    Some([
-        each_row(&core) == (31, 2),
-        has(&core, 0, &[(4, 1), (2, 1)]),
-        has(&core, 1, &[(3, 1), (1, 1)]),
-    ])
-}
-
-#[test]
-fn calls_at_each_row_of_a_shard(rt: HostRuntime) {
-    assert_eq!(rt; calls_each_row(rt.alloc()), Some([true, true, true]));
 }

@@ -1,4 +1,4 @@
-//! Tests of the linked list, of shards, cores, and the order of entries, as tables of calls.
+//! Tests of the linked list, of shards and of cores, as tables of calls.
 #![tactic(auto)]
 
 #[cfg(test)]
@@ -11,3 +11,5 @@ mod refused;
 mod secrets;
 #[cfg(test)]
 mod shards;
+#[cfg(test)]
+mod walks;

@@ -112,7 +112,7 @@ pub(crate) const ROWS: &[(&str, &str, i64, &[i64], &str)] = &[
         "1 true false [97]",
     ),
     ("A:\x01\r\n", "", 0, &[], "BadHead"),
-    // A body behind more than an eighth of its length is kept by itself.
+    // A body is kept by itself where what comes after it is more than an eighth.
     (
         "Cache-Control: max-age=9\r\nContent-Length: 2\r\n",
         "abcdefghijklmnopqrstuvwxyz",

@@ -28,7 +28,7 @@ pub(super) fn new_slot<T: Drop, S: BuildHasher>(
     ensures memory { (back : Option (Row T)) → result ≡ Err (ListFault.Memory back) → (back ≡ item) × (length list.old.order < MOST_ROWS) }
     ensures full { (back : Option (Row T)) → result ≡ Err (ListFault.Full back) → (back ≡ item) × (MOST_ROWS ≤ length list.old.order) }
 {
-    // The table refuses more as it does for want of memory.
+    // The table refuses more as it does where memory is out.
     if list.len() >= MOST_ROWS {
         return Err(ListFault::Full(item));
     }
