@@ -1,11 +1,11 @@
-use Rattle.std.proofs.Common.{◌-◌, ◌^◌, ◌<◌, subst, arith}
+use Rattle.std.proofs.Common.{◌-◌, ◌^◌, ◌<◌, ap, subst, arith}
 use Rattle.std.proofs.lemmas.Result.{on_ok_weaker}
 use Rattle.std.specs.Io.KnownBytes.{prepend_known}
 use Rattle.trace_replay.specs.CommandLine.{start_over}
 use Rattle.trace_replay.specs.Words.{pcg_words}
 use Rattle.trace_replay.specs.Outputs.{HasBegun}
 use Rattle.trace_replay.proofs.OutputLemmas.{begun_whole, on_err, on_err_weaker, not_err}
-use Rattle.trace_replay.proofs.Progress.{Halfway, cut_at_start, halfway_read, halfway_more, halfway_done, halfway_cut, halfway_cut_last, halfway_counted}
+use Rattle.trace_replay.proofs.Progress.{Halfway, halfway_start, cut_at_start, halfway_read, halfway_more, halfway_done, halfway_cut, halfway_cut_last, halfway_counted}
 use Rattle.trace_replay.proofs.replay.run_over.Goals as goal
 
 pub returns-in_err-tier-clause-begun : goal.returns-in_err-tier-clause-begun
@@ -15,6 +15,11 @@ returns-in_err-tier-clause-begun g c =
 pub returns-in_err-input-clause-begun : goal.returns-in_err-input-clause-begun
 returns-in_err-input-clause-begun g c =
     on_err c.from_residual-in_err-input.result (cut_at_start (start_over g.row.N c.args.options.now) (g.R.Read.remaining c.args.reader.now) (g.W.Write.contents c.args.writer.now) c.requires)
+
+pub loop-init : goal.loop-init
+loop-init g c =
+    halfway_start (start_over g.row.N c.args.options.now) (g.R.Read.remaining c.args.reader.now) (g.W.Write.contents c.args.writer.now) (record { state = c.in_ok-tier.tier; words = pcg_words c.seed_from_u64-rng.result })
+    c.in_ok-input.input c.new-waiting.result.items c.in_ok-tier.ensures.past c.in_ok-tier.ensures.state (ap pcg_words c.seed_from_u64-rng.ensures) c.in_ok-input.ensures c.new-waiting.ensures.items
 
 pub returns-in_err-len-clause-begun : goal.returns-in_err-len-clause-begun
 returns-in_err-len-clause-begun g c =
