@@ -1,7 +1,3 @@
-pub mod RestLaws
-pub mod PlaceLaws
-pub mod SwapLaws
-pub mod FreeLaws
 pub mod NumberedLaws
 pub mod WrittenLaws
 pub mod CountLaws

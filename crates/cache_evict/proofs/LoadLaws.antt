@@ -21,10 +21,8 @@ use Rattle.cache_evict.specs.declared.load_fault.LoadFault.TheVariants as load
 use Rattle.cache_evict.specs.declared.tracker.loading.Again.{Again}
 use Rattle.cache_evict.specs.declared.tracker.loading.Again.TheVariants.{PassedOver, MovedFirst}
 use Rattle.cache_evict.specs.declared.tracker.refusal.Refusal.{Refusal}
-use Rattle.cache_evict.specs.declared.tracker.refusal.Refusal.TheVariants as refusal
-use Rattle.cache_evict.specs.Names.{HasNoNumber}
+use Rattle.entry_numbers.specs.Names.{HasNoNumber}
 use Rattle.cache_evict.specs.Managed.{Managed, rows_of, with_rows, shard_of, put_first, put_last}
-use Rattle.cache_evict.specs.Refusals.{IsRefusal}
 use Rattle.cache_evict.specs.Loads.{restored, loaded, all_put, IsTried, IsLoadRefusal, Loads, LoadsText}
 use Rattle.cache_evict.specs.LoadTexts.{fault_of}
 use Rattle.cache_evict.specs.Numbered.{tracked_row, managed_in, IsNumbered}
@@ -67,13 +65,6 @@ module _ (n : ℕ) (names : ℕ → Option CacheEntryKey) (core : Core ℕ) (e :
       ap (λ (l : List Tracked). with_rows n e l held) (
       ap (λ (o : Option Tracked). unwrap_or (option_map (λ _. rows_of n e held) o) last) (unlisted none)
       ∙ sym (ap (λ (o : Option Tracked). unwrap_or (option_map (λ _. admitted e w (rows_of n e held)) o) last) (unlisted none)))
-
-pub load_refused : (again : Again) (n : ℕ) (e : CacheEntryKey) (w : ℕ) (m : Managed) (why : Refusal) → IsTried again n (record { entry = e; weight = w }) m → IsRefusal n e w m why
-    → IsLoadRefusal again n (record { entry = e; weight = w }) m why
-load_refused again n e w m refusal.Memory t p = tt
-load_refused again n e w m refusal.Weight t p = (t, p)
-load_refused again n e w m refusal.Length t p = (t, p)
-load_refused again n e w m refusal.Spent t p = (t, p)
 
 pub tried : (again : Again) (n : ℕ) (r : Tracked) (m : Managed) → weight_of r.entry (rows_of n r.entry m) ≡ None → IsTried again n r m
 tried PassedOver n r m none = none

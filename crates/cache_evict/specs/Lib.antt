@@ -1,7 +1,4 @@
-pub mod Names
 pub mod Parts
-pub mod Places
-pub mod FaultTexts
 pub mod Managed
 pub mod Runs
 pub mod Numbered

@@ -12,7 +12,6 @@ use Rattle.cache_evict.specs.LoadTexts.{fault_of}
 use Rattle.cache_evict.specs.declared.tracker.loading.Again.{Again}
 use Rattle.cache_evict.specs.declared.tracker.loading.Again.TheVariants.{PassedOver, MovedFirst}
 use Rattle.cache_evict.specs.declared.tracker.refusal.Refusal.{Refusal}
-use Rattle.cache_evict.specs.declared.tracker.refusal.Refusal.TheVariants as refusal
 use Rattle.cache_evict.specs.Managed.{Managed, rows_of, with_rows, put_last}
 use Rattle.cache_evict.specs.Refusals.{IsRefusal}
 
@@ -44,7 +43,6 @@ IsTried MovedFirst n r m = Unit {0}
 
 -- why a row isn't put
 abbrev pub IsLoadRefusal : Again → ℕ → Tracked → Managed → Refusal → Type 0
-IsLoadRefusal again n r m refusal.Memory = Unit {0}
 IsLoadRefusal again n r m why = IsTried again n r m × IsRefusal n r.entry r.weight m why
 
 -- the rows before one that isn't put are put

@@ -4,8 +4,9 @@ use Rattle.std.specs.List.{sum_by, AllByRecursion}
 use Rattle.rand_core.specs.Stream.{Stream, next_u64}
 use Rattle.cache_entries.specs.declared.entry.CacheEntryKey.{CacheEntryKey}
 use Rattle.cache_entries.specs.declared.rows.Tracked.{Tracked}
-use Rattle.cache_entries.specs.EntryText.{entry_hash}
 use Rattle.cache_entries.specs.Rows.{AreDistinct, weight_of, all_weights, without_row, admitted, used, with_last}
+pub use Rattle.cache_changes.specs.Uses.{shard_of}
+use Rattle.cache_changes.specs.Uses as uses
 use Rattle.cache_evict.specs.declared.tracker.rows.End.{End}
 use Rattle.cache_evict.specs.declared.tracker.rows.End.TheVariants as end
 use Rattle.lru_core.specs.Rows.{capped, raised}
@@ -24,10 +25,6 @@ pub record Managed : Type 0 where
 -- n shards without entries
 abbrev pub fresh : ℕ → ℕ → Option ℕ → Managed
 fresh n limit watermark = record { shards = replicate n []; limit = limit; watermark = watermark; evicted_size = 0; evicted_items = 0 }
-
--- the shard of an entry, of n shards
-abbrev pub shard_of : ℕ → CacheEntryKey → ℕ
-shard_of n e = entry_hash e % n
 
 abbrev pub rows_at : List (List Tracked) → ℕ → List Tracked
 rows_at shards s = slice_index_or shards s []
@@ -95,7 +92,7 @@ saturated n = min n (2 ^ 64 - 1)
 
 -- e is the last entry of the rows
 abbrev pub IsLast : List Tracked → CacheEntryKey → Type 0
-IsLast rows e = (front : List Tracked) × (w : ℕ) × (rows ≡ front ++ record { entry = e; weight = w } ∷ [])
+IsLast rows e = uses.IsLast e rows
 
 -- e is the last entry of shard s, and goes
 abbrev pub GoesLast : Managed → ℕ → CacheEntryKey → Managed → Type 0

@@ -9,9 +9,9 @@ use Rattle.lru_core.specs.declared.lru_unit.fault.LruFault.{LruFault}
 use Rattle.lru_core.specs.declared.lru_unit.fault.LruFault.TheVariants as row
 use Rattle.cache_evict.specs.declared.tracker.refusal.Refusal.{Refusal}
 use Rattle.cache_evict.specs.declared.tracker.refusal.Refusal.TheVariants.{Memory, Weight, Length, Spent}
-use Rattle.cache_evict.specs.declared.numbers.fault.NumbersFault.{NumbersFault}
-use Rattle.cache_evict.specs.declared.numbers.fault.NumbersFault.TheVariants as numbers
-use Rattle.cache_evict.specs.Names.{IsSpent, HasMany}
+use Rattle.entry_numbers.specs.declared.fault.NumbersFault.{NumbersFault}
+use Rattle.entry_numbers.specs.declared.fault.NumbersFault.TheVariants as numbers
+use Rattle.entry_numbers.specs.Names.{IsSpent, HasMany}
 use Rattle.cache_evict.specs.Managed.{Managed, rows_of, IsHeavy, IsLong, IsFull}
 
 -- of an entry with weight w, as a manager sees it

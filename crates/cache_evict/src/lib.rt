@@ -4,10 +4,10 @@
 
 pub use cache_entries::entry::{CacheEntryId, CacheEntryKey, CacheEntryKeyRef};
 pub use cache_words::pack::{PackFault, PackWriteFault};
+pub use entry_numbers::KeyParts;
 pub use fault::EvictFault;
 pub use load_fault::LoadFault;
 pub use manager::EvictionManager;
-pub use parts::KeyParts;
 
 mod fault;
 pub mod laws;
@@ -15,6 +15,5 @@ mod load_fault;
 pub mod lru;
 mod manager;
 pub mod numbers;
-mod parts;
 pub mod simple_lru;
 mod tracker;

@@ -8,18 +8,19 @@ ghost use Rattle.cache_entries.specs.declared.rows.Tracked.{Tracked};
 ghost use Rattle.cache_evict.specs.Loads.{Loads, LoadsText, CantBeWritten};
 ghost use Rattle.cache_evict.specs.Managed.{Evicts, IsLast, IsSharded, fresh, rows_at, rows_of, shard_of, put_first, use_first, taken_out, weight_after, is_over, pick_by_draws, total_size, total_items};
 ghost use Rattle.cache_evict.specs.Faults.{evicted_of, IsPutRefused, StopsAt};
-ghost use Rattle.cache_evict.specs.Parts.{entry_with_parts};
+ghost use Rattle.entry_numbers.specs.Parts.{entry_with_parts};
 
 use crate::fault::EvictFault;
 use crate::load_fault::LoadFault;
 use crate::manager::EvictionManager;
-use crate::parts::KeyParts;
 use crate::tracker::{Again, Tracker};
 use cache_entries::entry::{CacheEntryKey, CacheEntryKeyRef};
 use cache_words::pack::PackWriteFault;
 use cache_words::time::Moment;
+use entry_numbers::KeyParts;
 use rand_core::Rng;
 use std::alloc::{AllocError, Global};
+use std::fmt;
 use std::hash::{BuildHasher, BuildHasherDefault, FoldHasher};
 use std::marker::Model;
 
@@ -39,6 +40,17 @@ impl<const N: usize, S: BuildHasher> Model for Manager<N, S> {
     ghost Value = { Managed };
 
     ghost view = { λ m. m.tracker };
+}
+
+impl<const N: usize, S: BuildHasher> fmt::Debug for Manager<N, S> {
+    // The limit and the sums, and no entry.
+    fn fmt<W: fmt::Write>(&self, f: &mut fmt::Formatter<W>) -> fmt::Result {
+        f.debug_struct("Manager")
+            .field("weight_limit", &self.tracker.weight_limit())
+            .field("total_size", &self.tracker.total_size())
+            .field("total_items", &self.tracker.total_items())
+            .finish_non_exhaustive()
+    }
 }
 
 impl<const N: usize> Manager<N, BuildHasherDefault<FoldHasher>> {
@@ -181,7 +193,8 @@ impl<const N: usize, S: BuildHasher> Manager<N, S> {
     ///
     /// # Errors
     ///
-    /// The first fault from the left, of the text or of a row that can't be put. The rows before it stay.
+    /// The first fault from the left: `Text` where the text can't be read, else why a row can't be put. The rows before it
+    /// stay. A row of a tracked entry is never refused, and takes no memory.
     pub fn deserialize_shard(&mut self, alloc: Global, bytes: &[u8]) -> Result<(), LoadFault>
         ensures rows { Loads Again.PassedOver N (recency_at bytes.now) self.old self.new result }
         ensures spelled { (rows : List Tracked) (text rest : List ℕ) → SpellsRecency rows text → bytes.now ≡ text ++ rest → Loads Again.PassedOver N (rows, None) self.old self.new result }

@@ -18,6 +18,7 @@ use cache_words::pack::PackWriteFault;
 use cache_words::time::Moment;
 use rand_core::Rng;
 use std::alloc::{AllocError, Global};
+use std::fmt;
 use std::hash::{BuildHasher, BuildHasherDefault, FoldHasher};
 use std::marker::Model;
 
@@ -44,6 +45,17 @@ impl<const N: usize, S: BuildHasher> Model for OneList<N, S> {
     ghost Value = { Managed };
 
     ghost view = { λ m. m.tracker };
+}
+
+impl<const N: usize, S: BuildHasher> fmt::Debug for OneList<N, S> {
+    // The limit and the sums, and no entry.
+    fn fmt<W: fmt::Write>(&self, f: &mut fmt::Formatter<W>) -> fmt::Result {
+        f.debug_struct("Manager")
+            .field("weight_limit", &self.tracker.weight_limit())
+            .field("total_size", &self.tracker.total_size())
+            .field("total_items", &self.tracker.total_items())
+            .finish_non_exhaustive()
+    }
 }
 
 impl<const N: usize> OneList<N, BuildHasherDefault<FoldHasher>> {
@@ -116,7 +128,8 @@ impl<const N: usize, S: BuildHasher> OneList<N, S> {
     ///
     /// # Errors
     ///
-    /// The first fault from the left, of the text or of a row that can't be put. The rows before it stay.
+    /// The first fault from the left: `Text` where the text can't be read, else why a row can't be put. The rows before it
+    /// stay. A row of a tracked entry is refused for its weight alone, and takes no memory.
     pub fn deserialize(&mut self, alloc: Global, bytes: &[u8]) -> Result<(), LoadFault>
         ensures rows { Loads Again.MovedFirst N (recency_at bytes.now) self.old self.new result }
         ensures spelled { (rows : List Tracked) (text rest : List ℕ) → SpellsRecency rows text → bytes.now ≡ text ++ rest → Loads Again.MovedFirst N (rows, None) self.old self.new result }

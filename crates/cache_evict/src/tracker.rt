@@ -4,7 +4,7 @@ ghost use Rattle.std.specs.Prelude.{◌≡◌, ◌≢◌, ℕ, None, true, false
 ghost use Rattle.cache_entries.specs.Entry.{owned_of};
 ghost use Rattle.cache_entries.specs.Rows.{weight_of};
 ghost use Rattle.cache_evict.specs.Managed.{rows_of, put_at, put_first, use_first, taken_out, weight_after};
-ghost use Rattle.cache_evict.specs.Parts.{entry_with_parts};
+ghost use Rattle.entry_numbers.specs.Parts.{entry_with_parts};
 ghost use Rattle.cache_evict.specs.Refusals.{IsRefusal};
 
 mod eviction;
@@ -14,9 +14,8 @@ mod rows;
 mod totals;
 mod writing;
 
-use crate::numbers::Numbers;
-use crate::parts::KeyParts;
 use cache_entries::entry::{CacheEntryKey, CacheEntryKeyRef};
+use entry_numbers::{KeyParts, Numbers};
 pub use loading::Again;
 use lru_core::LruCore;
 pub use refusal::Refusal;
@@ -39,7 +38,7 @@ impl<const N: usize, S: BuildHasher> Model for Tracker<N, S> {
 
     ghost Value = { Managed };
 
-    ghost use Rattle.cache_evict.specs.Names.{name_at};
+    ghost use Rattle.entry_numbers.specs.Names.{name_at};
     ghost use Rattle.cache_evict.specs.Numbered.{managed_in, IsNumbered};
 
     ghost view = { λ t. managed_in (name_at t.numbers) t.core t.evicted_size t.evicted_items };

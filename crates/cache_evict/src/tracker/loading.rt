@@ -1,15 +1,16 @@
 //! Rows as text.
 
-ghost use Rattle.std.specs.Prelude.{◌≡◌, IfErr, OnOk, OnErr};
+ghost use Rattle.std.specs.Prelude.{◌≡◌, IfOk, IfErr, OnOk, OnErr};
+ghost use Rattle.cache_entries.specs.BorrowedEntry.{borrowed_entry};
 ghost use Rattle.cache_entries.specs.BorrowedRow.{borrowed_row};
 ghost use Rattle.cache_entries.specs.RowText.{recency_at};
 ghost use Rattle.cache_evict.specs.Loads.{loaded, IsLoadRefusal, Loads};
 
-use super::rows::{End, discard, put_first};
+use super::rows::{End, put_first};
 use super::{Refusal, Tracker};
 use crate::load_fault::LoadFault;
-use cache_entries::entry::{CacheEntryKey, CacheEntryKeyRef};
-use cache_entries::pack::{BorrowedRow, take_row};
+use cache_entries::entry::CacheEntryKey;
+use cache_entries::pack::{BorrowedEntry, BorrowedRow, take_row};
 use cache_words::pack::Cursor;
 use std::alloc::Global;
 use std::hash::BuildHasher;
@@ -38,7 +39,7 @@ impl<const N: usize, S: BuildHasher> Tracker<N, S> {
         Ok(())
     }
 
-    // Puts a row last in its entry's shard, unless the entry is tracked.
+    // Puts a row last in its entry's shard, unless the entry is tracked. It copies no entry but one that it puts.
     fn load_row(
         &mut self,
         alloc: Global,
@@ -49,27 +50,26 @@ impl<const N: usize, S: BuildHasher> Tracker<N, S> {
         ensures err { OnErr result (self.new ≡ self.old) }
         ensures why { IfErr result (IsLoadRefusal again N (borrowed_row row.now) self.old) }
     {
-        let Ok(entry) = row.entry.to_entry(alloc) else {
-            return Err(Refusal::Memory);
-        };
-        self.restore(entry, row.weight, again)
-    }
-
-    // Puts an entry last in its shard, with that weight, unless it is tracked.
-    fn restore(&mut self, entry: CacheEntryKey, weight: usize, again: Again) -> Result<(), Refusal>
-        ensures ok { OnOk result (self.new ≡ loaded again N (record { entry = entry; weight = weight }) self.old) }
-        ensures err { OnErr result (self.new ≡ self.old) }
-        ensures why { IfErr result (IsLoadRefusal again N (record { entry = entry; weight = weight }) self.old) }
-    {
-        match self.numbers.number_of(CacheEntryKeyRef::from(&entry)) {
-            Some(number) => {
-                discard(entry);
-                match again {
-                    Again::PassedOver => Ok(()),
-                    Again::MovedFirst => put_first(&mut self.core, number, weight),
-                }
+        match self.numbers.number_of_borrowed(row.entry) {
+            Some(number) => match again {
+                Again::PassedOver => Ok(()),
+                Again::MovedFirst => put_first(&mut self.core, number, row.weight),
+            },
+            None => {
+                let copy = owned(alloc, row.entry)?;
+                self.put_new(copy, row.weight, End::Last)
             }
-            None => self.put_new(entry, weight, End::Last),
         }
+    }
+}
+
+// A copy of an entry whose tag is borrowed.
+fn owned(alloc: Global, entry: BorrowedEntry<'_>) -> Result<CacheEntryKey, Refusal>
+    ensures copy { IfOk result (λ copy. copy ≡ borrowed_entry entry.entry) }
+    ensures memory { IfErr result (λ refusal. refusal ≡ Refusal.Memory) }
+{
+    match entry.to_entry(alloc) {
+        Ok(copy) => Ok(copy),
+        Err(_) => Err(Refusal::Memory),
     }
 }

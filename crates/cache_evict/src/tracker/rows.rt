@@ -6,14 +6,14 @@ ghost use Rattle.lru_core.specs.declared.rows.Row.{Row};
 ghost use Rattle.lru_core.specs.Rows.{only, others, promoted, raised, a_row};
 ghost use Rattle.lru_core.specs.Cores.{shard_of, with_shard};
 ghost use Rattle.cache_evict.specs.Managed.{added};
-ghost use Rattle.cache_evict.specs.Names.{name_at, HasNoNumber, with_name, without_name, IsFirstFree};
+ghost use Rattle.entry_numbers.specs.Names.{name_at, HasNoNumber, with_name, without_name, IsFirstFree};
 ghost use Rattle.cache_evict.specs.Numbered.{HasOwnRow, placed};
 ghost use Rattle.cache_evict.specs.Refusals.{IsRowRefusal, IsNewRefusal, refusal_of, row_refusal};
 
 use super::Refusal;
-use crate::numbers::{Numbers, NumbersFault};
 use cache_entries::entry::{CacheEntryKey, CacheEntryKeyRef};
 use cache_entries::pack::entry_hash;
+use entry_numbers::{Numbers, NumbersFault};
 use lru_core::LruCore;
 use lru_core::lru_unit::LruFault;
 use std::hash::BuildHasher;

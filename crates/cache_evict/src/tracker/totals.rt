@@ -6,9 +6,9 @@ ghost use Rattle.cache_entries.specs.Rows.{all_weights};
 ghost use Rattle.cache_evict.specs.Managed.{IsSharded, fresh, rows_at, shard_of, total_size, total_items};
 
 use super::Tracker;
-use crate::numbers::Numbers;
 use cache_entries::entry::CacheEntryKeyRef;
 use cache_entries::pack::entry_hash;
+use entry_numbers::Numbers;
 use lru_core::LruCore;
 use std::alloc::{AllocError, Global};
 use std::hash::BuildHasher;

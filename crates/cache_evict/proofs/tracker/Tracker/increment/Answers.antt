@@ -3,7 +3,7 @@ use Rattle.std.specs.Prelude.{◌≡◌, None}
 use Rattle.cache_entries.specs.declared.entry.CacheEntryKey.{CacheEntryKey}
 use Rattle.cache_entries.specs.Rows.{weight_of}
 use Rattle.lru_core.specs.Rows.{raised}
-use Rattle.cache_evict.specs.Names.{name_at}
+use Rattle.entry_numbers.specs.Names.{name_at}
 use Rattle.cache_evict.specs.Managed.{rows_of, put_first}
 use Rattle.cache_evict.specs.Numbered.{managed_in}
 use Rattle.cache_evict.specs.Refusals.{IsRefusal}

@@ -1,9 +1,10 @@
 use Rattle.std.proofs.Common.{◌∙◌, sym, subst}
-use Rattle.cache_evict.specs.Parts.{entry_with_parts}
-use Rattle.cache_evict.specs.Names.{name_at, without_name, IsOneToOne}
+use Rattle.entry_numbers.specs.Parts.{entry_with_parts}
+use Rattle.entry_numbers.specs.Names.{name_at, without_name, IsOneToOne}
 use Rattle.cache_evict.proofs.NumberedLaws.{IsNumber-named}
 use Rattle.cache_evict.proofs.RefusalLaws.{same_names}
-use Rattle.cache_evict.proofs.WrittenLaws.{IsNumbered-without, managed-without, managed-untouched, one-without, without-here, without-other}
+use Rattle.entry_numbers.proofs.NameLaws.{one-without, without-here, without-other}
+use Rattle.cache_evict.proofs.WrittenLaws.{IsNumbered-without, managed-without, managed-untouched}
 use Rattle.cache_evict.proofs.tracker.Tracker.remove_parts.Goals as goal
 
 pub invariant_of-self : goal.invariant_of-self

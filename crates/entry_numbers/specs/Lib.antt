@@ -1,0 +1,4 @@
+pub mod Names
+pub mod Parts
+pub mod Places
+pub mod FaultTexts
