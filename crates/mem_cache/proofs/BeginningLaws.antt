@@ -12,8 +12,9 @@ use Rattle.cache_changes.proofs.LaterLaws.{bytes-later}
 use Rattle.cache_store.specs.declared.storage.ReadStep.{ReadStep}
 use Rattle.cache_store.specs.declared.storage.ReadStep.TheVariants.{Bytes, Pending, End}
 use Rattle.cache_store.specs.declared.storage.StoreFault.{StoreFault}
-use Rattle.mem_cache.specs.Agree.{settled_flying, Agree}
-use Rattle.mem_cache.specs.Hits.{StreamHit, StepAnswer, ReadAnswer, moved}
+use Rattle.cache_store.specs.Agree.{settled_flying, Agree}
+use Rattle.cache_store.specs.Readers.{StreamHit}
+use Rattle.mem_cache.specs.Hits.{StepAnswer, ReadAnswer, moved}
 use Rattle.mem_cache.specs.Laws.{given, HasRead}
 
 past : (xs ys : List ℕ) → drop (length xs) (xs ++ ys) ≡ ys

@@ -10,9 +10,10 @@ use Rattle.cache_changes.specs.Changes.{StoredKey, Write, Change, finishes, remo
 use Rattle.cache_changes.specs.Store.{Stored, Flying, Store, is_of, body_at, flying_at, with_body, landed, marked, after}
 use Rattle.cache_changes.proofs.RowLaws.{find-kept, find-gone, not_true, not_false}
 use Rattle.mem_cache.specs.declared.flight.Body.{Body}
-use Rattle.mem_cache.specs.Agree.{settled, settled_flying, Agree}
+use Rattle.cache_store.specs.Agree.{settled, settled_flying, Agree}
 use Rattle.mem_cache.specs.Kept.{body_of, bodies_of}
-use Rattle.mem_cache.specs.Renewals.{body_with, stored_with}
+use Rattle.cache_store.specs.Renewals.{stored_with}
+use Rattle.mem_cache.specs.Renewals.{body_with}
 use Rattle.mem_cache.proofs.SeenLaws.{same-sym}
 use Rattle.mem_cache.proofs.FirstLaws.{body-found}
 

@@ -12,9 +12,9 @@ use Rattle.cache_changes.specs.Changes.{StoredKey, Write, finishes, leaves}
 use Rattle.cache_changes.specs.Store.{Stored, Flying, Store, is_of, has_number, flying_at, with_body, landed, after}
 use Rattle.mem_cache.specs.declared.flight.Body.{Body}
 use Rattle.mem_cache.specs.declared.flight.Flight.{Flight}
-use Rattle.mem_cache.specs.Agree.{Agree}
-use Rattle.mem_cache.specs.Held.{Reading, Held, left_with}
-use Rattle.mem_cache.specs.Answers.{alive_key, left_behind, left, IsFinished}
+use Rattle.cache_store.specs.Agree.{Agree}
+use Rattle.cache_store.specs.Held.{Reading, Held, left_with}
+use Rattle.cache_store.specs.Answers.{alive_key, left_behind, left, IsFinished}
 use Rattle.mem_cache.specs.Alive.{is_pair}
 use Rattle.mem_cache.specs.Kept.{bytes_in, seen, flights_of, body_of, bodies_of, key_at, ChangesAt}
 use Rattle.mem_cache.proofs.HeldLaws.{held}

@@ -7,7 +7,7 @@ use Rattle.std.specs.BTreeMap.{BTreeMap, is_at}
 use Rattle.std.specs.Ordering.{nat_cmp}
 use Rattle.mem_cache.specs.declared.flight.Buffer.{Buffer}
 use Rattle.mem_cache.specs.declared.flight.Readers.{Readers}
-use Rattle.mem_cache.specs.Held.{Reading, left_with}
+use Rattle.cache_store.specs.Held.{Reading, left_with}
 use Rattle.mem_cache.specs.Kept.{bytes_in, reading_of, readings_of}
 use Rattle.mem_cache.proofs.RowLaws.{ascends, at_is, seen-set}
 

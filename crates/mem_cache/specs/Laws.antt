@@ -8,7 +8,7 @@ use Rattle.cache_changes.specs.Store.{Stored, Store, body_at, flying_at, flies_f
 use Rattle.cache_store.specs.declared.storage.ReadStep.{ReadStep}
 use Rattle.cache_store.specs.declared.storage.ReadStep.TheVariants.{Bytes}
 use Rattle.cache_store.specs.declared.storage.StoreFault.{StoreFault}
-use Rattle.mem_cache.specs.Answers.{Look, in_flight, finished}
+use Rattle.cache_store.specs.Answers.{Look, in_flight, finished}
 
 -- the write that a look-up shows
 abbrev pub write_shown : Look → Stored CacheMeta
