@@ -1,6 +1,5 @@
 -- What purges answer.
-use Rattle.std.specs.Prelude.{◌≡◌, ℕ, ◌==◌, ⊤, Bool, false, Option, Some, None, option_map, if◌then◌else◌}
-use Rattle.cache_words.specs.declared.key.CompactCacheKey.{CompactCacheKey}
+use Rattle.std.specs.Prelude.{◌≡◌, ◌==◌, Bool, false, Option, Some, None, if◌then◌else◌}
 use Rattle.cache_entries.specs.declared.entry.CacheEntryId.{CacheEntryId}
 use Rattle.cache_entries.specs.declared.entry.CacheEntryKey.{CacheEntryKey}
 use Rattle.cache_entries.specs.declared.entry.CacheEntryKey.TheVariants.{KeyOnly, Identified}

@@ -1,5 +1,5 @@
 -- What gives a body another meta.
-use Rattle.std.specs.Prelude.{◌≡◌, ℕ, Bool, cond, List, Option, Some, None, option_map, is_some, Result, Err, MatchResult, if◌then◌else◌, ◌⊎◌}
+use Rattle.std.specs.Prelude.{◌≡◌, cond, Option, Some, None, option_map, is_some, Result, Err, MatchResult, if◌then◌else◌, ◌⊎◌}
 use Rattle.cache_words.specs.Time.{MomentValue}
 use Rattle.cache_entries.specs.Keys.{same_bytes}
 use Rattle.cache_entries.specs.declared.entry.CacheEntryId.{CacheEntryId}

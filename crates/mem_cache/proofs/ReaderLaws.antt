@@ -1,6 +1,6 @@
 -- Readers that are left with bytes.
 use Rattle.std.proofs.Common.{◌≡◌, ℕ, refl, ap, sym, ◌∙◌, true, false, cond, [], ◌∷◌}
-use Rattle.std.specs.Prelude.{◌==◌, Bool, List, Option, Some, None, is_some, map}
+use Rattle.std.specs.Prelude.{◌==◌, Bool, List, Some, is_some}
 use Rattle.std.specs.Map.{lookup, set_value}
 use Rattle.std.specs.BTreeMap as tree
 use Rattle.std.specs.BTreeMap.{BTreeMap, is_at}

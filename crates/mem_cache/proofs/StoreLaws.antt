@@ -1,5 +1,5 @@
 -- What the store's own answers say in the words of any store.
-use Rattle.std.proofs.Common.{arith, ◌≡◌, ℕ, ◌<◌, ◌-◌, refl, ap, sym, ◌∙◌, subst, [], ◌∷◌}
+use Rattle.std.proofs.Common.{arith, ◌≡◌, ℕ, ◌<◌, refl, ap, sym, ◌∙◌, subst, [], ◌∷◌}
 use Rattle.std.specs.Prelude.{List, length, take, slice_range, Option, Some, None, Result, Ok, Err, find}
 use Rattle.std.specs.List.{AllByRecursion}
 use Rattle.std.specs.Map.{keys_of}

@@ -1,5 +1,5 @@
 -- Words of the laws: which write a look-up shows, whose number a body's is, and what a reader has read.
-use Rattle.std.specs.Prelude.{◌≡◌, ℕ, ◌++◌, true, false, List, [], length, Option, Some, None, Result, Ok}
+use Rattle.std.specs.Prelude.{◌≡◌, ℕ, ◌++◌, true, false, List, [], length, Some, None, Result, Ok}
 use Rattle.std.specs.List.{AllByRecursion}
 use Rattle.cache_entries.specs.Keys.{same_bytes}
 use Rattle.cache_heads.specs.declared.meta.CacheMeta.{CacheMeta}

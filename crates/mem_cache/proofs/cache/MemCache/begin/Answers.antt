@@ -1,5 +1,4 @@
-use Rattle.std.proofs.Common.{rules, arith, ◌+◌, ◌≡◌, refl, sym, ◌∙◌, ap, subst}
-use Rattle.std.specs.Prelude.{Option, Bool}
+use Rattle.std.proofs.Common.{◌+◌, refl, ◌∙◌, ap}
 use Rattle.mem_cache.specs.Alive.{has}
 use Rattle.mem_cache.specs.Kept.{flights_of, bodies_of, readings_of}
 use Rattle.mem_cache.specs.declared.flight.Buffer.TheVariants.{Open}

@@ -1,4 +1,4 @@
-use Rattle.std.proofs.Common.{refl, sym, ◌∙◌}
+use Rattle.std.proofs.Common.{refl, sym}
 use Rattle.std.specs.Prelude.{Some, None}
 use Rattle.mem_cache.specs.Alive.{has}
 use Rattle.cache_store.specs.Readers.{left_at}
