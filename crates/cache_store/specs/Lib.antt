@@ -1,3 +1,11 @@
 pub mod Admission
+pub mod Agree
+pub mod Answers
+pub mod Held
+pub mod Looks
+pub mod Misses
+pub mod Purges
+pub mod Readers
+pub mod Renewals
 pub mod Storage
 pub mod WriteTag

@@ -3,6 +3,7 @@
 #![tactic(auto)]
 
 pub mod admission;
+pub mod laws;
 pub mod max_file_size;
 pub mod storage;
 pub mod trace;

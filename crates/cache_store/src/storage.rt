@@ -12,7 +12,7 @@ use std::fmt;
 mod store;
 pub mod streaming_write;
 
-pub use store::{Found, HandleHit, HandleMiss, MissFault, Storage};
+pub use store::{Contents, Found, HandleHit, HandleMiss, MissFault, Storage};
 
 /// Why a body is purged.
 #[derive(Clone, Copy, PartialEq, Eq, Debug)]

@@ -1,12 +1,11 @@
 -- Each change keeps two states in agreement.
-use Rattle.std.proofs.Common.{◌≡◌, ℕ, refl, ap, sym, ◌∙◌, true, false, subst, cond, [], ◌∷◌, ◌++◌}
+use Rattle.std.proofs.Common.{◌≡◌, ℕ, refl, ap, sym, ◌∙◌, true, false, cond, [], ◌∷◌, ◌++◌}
 use Rattle.std.specs.Prelude.{◌==◌, Bool, List, Option, Some, None, option_map, not, find, filter, map}
-use Rattle.cache_entries.specs.declared.entry.CacheEntryKey.{CacheEntryKey}
 use Rattle.cache_entries.specs.Keys.{same_bytes}
 use Rattle.cache_changes.specs.Changes.{StoredKey, Write, Change, begins, appends, ends, finishes, leaves, renews, removes, admits, uses, departs, evicts, key_alone, is_key}
-use Rattle.cache_changes.specs.Store.{Stored, Flying, Store, is_of, has_number, body_at, flying_at, begun, with_bytes, ended, renewed, renewed_flying, marked, on_flying, landed, with_body, removed_from, after}
+use Rattle.cache_changes.specs.Store.{Stored, Flying, Store, is_of, has_number, body_at, flying_at, begun, with_bytes, ended, renewed, renewed_flying, marked, landed, with_body, removed_from, after}
 use Rattle.cache_changes.proofs.RowLaws.{find-map}
-use Rattle.mem_cache.specs.Agree.{settled, settled_flying, Agree}
+use Rattle.cache_store.specs.Agree.{settled, settled_flying, Agree}
 use Rattle.mem_cache.proofs.BodyLaws.{body-put, body-removed}
 
 module _ {M : Type 0} where

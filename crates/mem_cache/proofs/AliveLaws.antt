@@ -1,11 +1,9 @@
 -- Edits of the alive numbers that change none.
 use Rattle.std.proofs.Common.{◌≡◌, ℕ, refl, ap, sym, ◌∙◌, true, false, subst, cond, nat_eq}
 use Rattle.std.specs.Prelude.{Bool, List, Option, Some, None}
-use Rattle.std.specs.Ordering.{nat_cmp}
 use Rattle.std.specs.Cmp.Lexicographic.{pointwise}
 use Rattle.std.specs.HashMap as hash
 use Rattle.std.specs.HashMap.{HashMap}
-use Rattle.std.specs.BTreeSet as sorted
 use Rattle.std.specs.BTreeSet.{BTreeSet}
 use Rattle.cache_entries.specs.SameEntry.{same_bytes-tells}
 use Rattle.mem_cache.specs.Alive.{is_in, has}

@@ -1,19 +1,16 @@
 -- What a reader of a write reads is a beginning of its bytes.
-use Rattle.std.proofs.Common.{◌≡◌, ℕ, refl, ap, sym, ◌∙◌, true, false, subst, cond, [], ◌∷◌, ◌++◌, append_assoc, append-nil}
-use Rattle.std.specs.Prelude.{◌==◌, ◌+◌, nat_lt, Bool, List, length, drop, Option, Some, None, option_map, find, map, Result, Ok, Err}
+use Rattle.std.proofs.Common.{◌≡◌, ℕ, refl, ap, sym, ◌∙◌, true, false, [], ◌∷◌, ◌++◌, append_assoc, append-nil}
+use Rattle.std.specs.Prelude.{◌+◌, nat_lt, Bool, List, length, drop, Some, Result, Ok, Err}
 use Rattle.std.proofs.lemmas.List.{length-append}
 use Rattle.cache_heads.specs.declared.meta.CacheMeta.{CacheMeta}
 use Rattle.cache_changes.specs.Changes.{Changes}
-use Rattle.cache_changes.specs.Writes.{bytes_of, IsOrderly}
-use Rattle.cache_changes.specs.Store.{Stored, Flying, Store, has_number, flying_at, IsStateOf, store_of}
-use Rattle.cache_changes.proofs.RowLaws.{find-map}
-use Rattle.cache_changes.proofs.FoundLaws.{store_of-is}
+use Rattle.cache_changes.specs.Writes.{bytes_of}
 use Rattle.cache_changes.proofs.LaterLaws.{bytes-later}
 use Rattle.cache_store.specs.declared.storage.ReadStep.{ReadStep}
 use Rattle.cache_store.specs.declared.storage.ReadStep.TheVariants.{Bytes, Pending, End}
 use Rattle.cache_store.specs.declared.storage.StoreFault.{StoreFault}
-use Rattle.mem_cache.specs.Agree.{settled_flying, Agree}
-use Rattle.mem_cache.specs.Hits.{StreamHit, StepAnswer, ReadAnswer, moved}
+use Rattle.cache_store.specs.Readers.{StreamHit}
+use Rattle.mem_cache.specs.Hits.{StepAnswer, ReadAnswer, moved}
 use Rattle.mem_cache.specs.Laws.{given, HasRead}
 
 past : (xs ys : List ℕ) → drop (length xs) (xs ++ ys) ≡ ys
@@ -48,20 +45,3 @@ read-later n place read since before a = record {
   split = bytes-later n since before ∙ ap (λ (l : List ℕ). l ++ bytes_of n since) a.split ∙ append_assoc read a.rest (bytes_of n since);
   place = a.place;
 }
-
--- a write in flight has the bytes that came
-agreed : (n : ℕ) (s t : Store CacheMeta) (f : Flying CacheMeta) → Agree s t → flying_at n s ≡ Some f → option_map settled_flying (flying_at n t) ≡ Some (settled_flying f)
-agreed n s t f a e =
-    sym (find-map (has_number n) settled_flying t.flying (λ g. refl)) ∙ ap (find (has_number n)) (sym a.flying) ∙ find-map (has_number n) settled_flying s.flying (λ g. refl) ∙ ap (option_map settled_flying) e
-
-pub bytes-came : (n : ℕ) (s : Store CacheMeta) (changes : Changes CacheMeta) (f : Flying CacheMeta) → IsOrderly changes → Agree s (store_of changes) → flying_at n s ≡ Some f
-    → f.stored.bytes ≡ bytes_of n changes
-bytes-came n s changes f o a e = by_option (flying_at n (store_of changes)) refl (agreed n s (store_of changes) f a e)
-  where
-    by_option : (g : Option (Flying CacheMeta)) → flying_at n (store_of changes) ≡ g → option_map settled_flying g ≡ Some (settled_flying f) → f.stored.bytes ≡ bytes_of n changes
-    by_option None t h = absurd cc
-    by_option (Some g) t h =
-        let flight = (store_of-is changes o).flights n g in
-        let told = flight.0 t in
-        let alike : settled_flying g ≡ settled_flying f = cc in
-        sym (ap (λ (x : Flying CacheMeta). x.stored.bytes) alike) ∙ ap (λ (x : Stored CacheMeta). x.bytes) told.1.stored ∙ ap (λ (m : ℕ). bytes_of m changes) told.0

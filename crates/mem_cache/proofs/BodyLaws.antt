@@ -1,18 +1,19 @@
 -- What finishes and removals do to the bodies that keys have.
-use Rattle.std.proofs.Common.{◌≡◌, ℕ, refl, ap, sym, ◌∙◌, true, false, subst, cond, [], ◌∷◌, nat_eq}
+use Rattle.std.proofs.Common.{◌≡◌, refl, ap, sym, ◌∙◌, true, false, subst, cond, nat_eq}
 use Rattle.std.specs.Prelude.{Bool, List, Option, Some, None, option_map, is_some, not, find, filter, map}
 use Rattle.std.specs.Map.{lookup}
 use Rattle.std.specs.Cmp.Lexicographic.{pointwise}
 use Rattle.cache_heads.specs.declared.meta.CacheMeta.{CacheMeta}
 use Rattle.cache_entries.specs.Keys.{same_bytes}
 use Rattle.cache_entries.specs.SameEntry.{same_bytes-tells}
-use Rattle.cache_changes.specs.Changes.{StoredKey, Write, Change, finishes, removes, is_key}
-use Rattle.cache_changes.specs.Store.{Stored, Flying, Store, is_of, body_at, flying_at, with_body, landed, marked, after}
+use Rattle.cache_changes.specs.Changes.{StoredKey, is_key}
+use Rattle.cache_changes.specs.Store.{Stored, Store, is_of, body_at, with_body}
 use Rattle.cache_changes.proofs.RowLaws.{find-kept, find-gone, not_true, not_false}
 use Rattle.mem_cache.specs.declared.flight.Body.{Body}
-use Rattle.mem_cache.specs.Agree.{settled, settled_flying, Agree}
+use Rattle.cache_store.specs.Agree.{settled, settled_flying, Agree}
 use Rattle.mem_cache.specs.Kept.{body_of, bodies_of}
-use Rattle.mem_cache.specs.Renewals.{body_with, stored_with}
+use Rattle.cache_store.specs.Renewals.{stored_with}
+use Rattle.mem_cache.specs.Renewals.{body_with}
 use Rattle.mem_cache.proofs.SeenLaws.{same-sym}
 use Rattle.mem_cache.proofs.FirstLaws.{body-found}
 

@@ -1,6 +1,6 @@
 -- Writes that land: given up, or finished.
 use Rattle.std.proofs.Common.{◌≡◌, ℕ, refl, ap, sym, ◌∙◌, true, false, subst, cond, [], ◌∷◌, nat_eq}
-use Rattle.std.specs.Prelude.{Bool, List, Option, Some, None, option_map, not, find, filter, map, is_some, length, ◌&&◌}
+use Rattle.std.specs.Prelude.{Bool, List, Option, Some, None, option_map, not, find, is_some, length, ◌&&◌}
 use Rattle.std.specs.Map.{lookup, remove_entry}
 use Rattle.std.specs.List.Sorted.{IsStrictlySortedBy}
 use Rattle.std.specs.BTreeMap as tree
@@ -8,13 +8,13 @@ use Rattle.std.specs.BTreeMap.{BTreeMap, is_at}
 use Rattle.std.specs.Ordering.{nat_cmp}
 use Rattle.std.specs.Cmp.Lexicographic.{pointwise}
 use Rattle.cache_heads.specs.declared.meta.CacheMeta.{CacheMeta}
-use Rattle.cache_changes.specs.Changes.{StoredKey, Write, finishes, leaves}
+use Rattle.cache_changes.specs.Changes.{StoredKey, Write, finishes}
 use Rattle.cache_changes.specs.Store.{Stored, Flying, Store, is_of, has_number, flying_at, with_body, landed, after}
 use Rattle.mem_cache.specs.declared.flight.Body.{Body}
 use Rattle.mem_cache.specs.declared.flight.Flight.{Flight}
-use Rattle.mem_cache.specs.Agree.{Agree}
-use Rattle.mem_cache.specs.Held.{Reading, Held, left_with}
-use Rattle.mem_cache.specs.Answers.{alive_key, left_behind, left, IsFinished}
+use Rattle.cache_store.specs.Agree.{Agree}
+use Rattle.cache_store.specs.Held.{Reading, Held, left_with}
+use Rattle.cache_store.specs.Answers.{alive_key, left_behind, left, IsFinished}
 use Rattle.mem_cache.specs.Alive.{is_pair}
 use Rattle.mem_cache.specs.Kept.{bytes_in, seen, flights_of, body_of, bodies_of, key_at, ChangesAt}
 use Rattle.mem_cache.proofs.HeldLaws.{held}

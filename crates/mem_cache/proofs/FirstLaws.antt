@@ -1,6 +1,6 @@
 -- What is found of writes in flight and of bodies.
 use Rattle.std.proofs.Common.{arith, ◌≡◌, ℕ, ◌<◌, ◌≤◌, refl, ap, sym, ◌∙◌, true, false, subst, cond, [], ◌∷◌, nat_eq}
-use Rattle.std.specs.Prelude.{◌==◌, Bool, List, Option, Some, None, option_map, not, ◌&&◌, find, map}
+use Rattle.std.specs.Prelude.{◌==◌, Bool, List, Option, Some, None, option_map, not, ◌&&◌, find}
 use Rattle.std.specs.Map.{lookup}
 use Rattle.std.specs.BTreeMap.{is_at}
 use Rattle.std.specs.Ordering.{nat_cmp}
@@ -10,7 +10,7 @@ use Rattle.std.proofs.lemmas.Bool.Decides.{nat_tests}
 use Rattle.cache_heads.specs.declared.meta.CacheMeta.{CacheMeta}
 use Rattle.cache_entries.specs.SameEntry.{same_bytes-tells}
 use Rattle.cache_changes.specs.Changes.{StoredKey}
-use Rattle.cache_changes.specs.Store.{Stored, Flying, is_of, has_number, flies_for}
+use Rattle.cache_changes.specs.Store.{Flying, is_of, has_number, flies_for}
 use Rattle.mem_cache.specs.declared.flight.Flight.{Flight}
 use Rattle.mem_cache.specs.declared.flight.Body.{Body}
 use Rattle.mem_cache.specs.Kept.{seen, flights_of, body_of, bodies_of}

@@ -1,20 +1,18 @@
 -- A write in flight that is changed through a borrow: the others are as before.
-use Rattle.std.proofs.Common.{◌≡◌, ℕ, refl, ap, sym, ◌∙◌, true, false, subst, cond, [], ◌∷◌, ◌++◌}
-use Rattle.std.specs.Prelude.{◌==◌, Bool, List, Option, Some, None, option_map, map}
-use Rattle.std.specs.List.{AllByRecursion}
+use Rattle.std.proofs.Common.{◌≡◌, ℕ, refl, ap, sym, ◌∙◌, true, false, cond, [], ◌∷◌, ◌++◌}
+use Rattle.std.specs.Prelude.{Bool, List, Some, option_map}
 use Rattle.std.specs.Map.{lookup, keys_of, set_value}
 use Rattle.std.specs.BTreeMap as tree
 use Rattle.std.specs.BTreeMap.{BTreeMap, is_at}
 use Rattle.std.specs.Ordering.{nat_cmp}
 use Rattle.std.proofs.lemmas.Map.{keys-set_value}
-use Rattle.std.proofs.lemmas.Bool.{eqb-true}
 use Rattle.cache_heads.specs.declared.meta.CacheMeta.{CacheMeta}
 use Rattle.cache_changes.specs.Changes.{StoredKey}
 use Rattle.cache_changes.specs.Store.{Flying, has_number, on_flying, with_bytes, ended}
 use Rattle.mem_cache.specs.declared.flight.Flight.{Flight}
 use Rattle.mem_cache.specs.declared.flight.Buffer.{Buffer}
-use Rattle.mem_cache.specs.Kept.{bytes_in, seen, flights_of, key_at, written, ChangesAt}
-use Rattle.mem_cache.proofs.RowLaws.{Ascends, ascends, at_is, seen-set}
+use Rattle.mem_cache.specs.Kept.{bytes_in, seen, flights_of, written, ChangesAt}
+use Rattle.mem_cache.proofs.RowLaws.{ascends, seen-set}
 
 key-set : (n : ℕ) (v w : Flight) → w.key ≡ v.key → (m : ℕ) (es : List (ℕ × Flight)) → lookup (is_at (nat_cmp n)) es ≡ Some v
     → option_map (λ f. f.key) (lookup (is_at (nat_cmp m)) (set_value (is_at (nat_cmp n)) es w)) ≡ option_map (λ f. f.key) (lookup (is_at (nat_cmp m)) es)

@@ -1,11 +1,11 @@
 -- What a contract sees, by its parts.
-use Rattle.std.proofs.Common.{◌≡◌, ℕ, refl, ap, sym, ◌∙◌, true, false, cond}
-use Rattle.std.specs.Prelude.{Bool, List, Option, Result, Ok, Err, OnErr}
+use Rattle.std.proofs.Common.{◌≡◌, ℕ, ◌∙◌, true, false}
+use Rattle.std.specs.Prelude.{Bool, List}
 use Rattle.cache_heads.specs.declared.meta.CacheMeta.{CacheMeta}
 use Rattle.cache_changes.specs.Store.{Stored, Flying, on_flying, with_bytes, ended}
-use Rattle.mem_cache.specs.Held.{Reading, Held}
+use Rattle.cache_store.specs.Held.{Reading, Held}
 use Rattle.mem_cache.specs.Kept.{written}
-use Rattle.mem_cache.specs.Answers.{after_write}
+use Rattle.cache_store.specs.Answers.{after_write}
 use Rattle.mem_cache.proofs.FlightLaws.{seen-written}
 
 abbrev pub held : List (Stored CacheMeta) → List (Flying CacheMeta) → ℕ → List Reading → Held

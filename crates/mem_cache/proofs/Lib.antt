@@ -13,3 +13,4 @@ mod RowLaws
 mod SeenLaws
 mod ShownLaws
 mod SoundLaws
+mod StoreLaws

@@ -9,12 +9,12 @@ use Rattle.cache_heads.specs.declared.meta.CacheMeta.{CacheMeta}
 use Rattle.cache_entries.specs.Keys.{same_bytes}
 use Rattle.cache_entries.specs.SameEntry.{same_bytes-tells}
 use Rattle.cache_changes.specs.Changes.{StoredKey, renews}
-use Rattle.cache_changes.specs.Store.{Stored, Flying, Store, is_of, has_number, body_at, flying_at, flies_for, shown_at, renewed, renewed_flying, after}
+use Rattle.cache_changes.specs.Store.{Stored, Flying, Store, is_of, has_number, body_at, flies_for, shown_at, renewed, renewed_flying, after}
 use Rattle.cache_changes.proofs.RowLaws.{find-map}
-use Rattle.mem_cache.specs.Agree.{settled, settled_flying, Agree}
-use Rattle.mem_cache.specs.Answers.{Look, in_flight, finished, look_of, look_up}
-use Rattle.mem_cache.specs.Held.{Held}
-use Rattle.mem_cache.specs.Renewals.{stored_with, IsRenewed}
+use Rattle.cache_store.specs.Agree.{settled, settled_flying, Agree}
+use Rattle.cache_store.specs.Answers.{finished, look_of, look_up}
+use Rattle.cache_store.specs.Held.{Held}
+use Rattle.cache_store.specs.Renewals.{stored_with, IsRenewed}
 use Rattle.mem_cache.specs.Laws.{write_shown, NoneFlies, IsOwnNumber}
 
 -- the write that is shown

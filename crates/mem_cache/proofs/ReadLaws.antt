@@ -10,8 +10,8 @@ use Rattle.cache_heads.specs.declared.meta.CacheMeta.{CacheMeta}
 use Rattle.cache_changes.specs.Store.{Flying, has_number}
 use Rattle.mem_cache.specs.declared.flight.Flight.{Flight}
 use Rattle.mem_cache.specs.declared.flight.Readers.{Readers}
-use Rattle.mem_cache.specs.Held.{Reading}
-use Rattle.mem_cache.specs.Hits.{left_at, readable_of, reading_at, one_more, one_less}
+use Rattle.cache_store.specs.Held.{Reading}
+use Rattle.cache_store.specs.Readers.{left_at, readable_of, reading_at, one_more, one_less}
 use Rattle.mem_cache.specs.Kept.{bytes_in, flights_of, reading_of, readings_of, counted, joined, parted}
 use Rattle.mem_cache.proofs.RowLaws.{at_is}
 use Rattle.mem_cache.proofs.SeenLaws.{Alive}

@@ -1,13 +1,13 @@
 -- Readers that are left with bytes.
 use Rattle.std.proofs.Common.{◌≡◌, ℕ, refl, ap, sym, ◌∙◌, true, false, cond, [], ◌∷◌}
-use Rattle.std.specs.Prelude.{◌==◌, Bool, List, Option, Some, None, is_some, map}
+use Rattle.std.specs.Prelude.{◌==◌, Bool, List, Some, is_some}
 use Rattle.std.specs.Map.{lookup, set_value}
 use Rattle.std.specs.BTreeMap as tree
 use Rattle.std.specs.BTreeMap.{BTreeMap, is_at}
 use Rattle.std.specs.Ordering.{nat_cmp}
 use Rattle.mem_cache.specs.declared.flight.Buffer.{Buffer}
 use Rattle.mem_cache.specs.declared.flight.Readers.{Readers}
-use Rattle.mem_cache.specs.Held.{Reading, left_with}
+use Rattle.cache_store.specs.Held.{Reading, left_with}
 use Rattle.mem_cache.specs.Kept.{bytes_in, reading_of, readings_of}
 use Rattle.mem_cache.proofs.RowLaws.{ascends, at_is, seen-set}
 

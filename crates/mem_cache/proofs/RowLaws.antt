@@ -1,6 +1,6 @@
 -- Entries under numbers that ascend, each seen by g: what edits of the entries do to what is seen.
-use Rattle.std.proofs.Common.{arith, rules, ◌≡◌, ℕ, ◌<◌, refl, ap, sym, ◌∙◌, true, false, subst, cond, [], ◌∷◌, ◌++◌, Less}
-use Rattle.std.specs.Prelude.{◌==◌, Bool, List, Option, Some, None, not, map, filter}
+use Rattle.std.proofs.Common.{arith, ◌≡◌, ℕ, ◌<◌, refl, ap, sym, true, false, subst, cond, [], ◌∷◌, ◌++◌, Less}
+use Rattle.std.specs.Prelude.{◌==◌, Bool, List, Some, not, map, filter}
 use Rattle.std.specs.List.{AllByRecursion}
 use Rattle.std.specs.List.Sorted.{IsStrictlySortedBy}
 use Rattle.std.specs.Map.{lookup, keys_of, remove_entry, set_value}

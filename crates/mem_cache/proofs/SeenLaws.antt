@@ -1,24 +1,22 @@
 -- What edits of the writes in flight, and of which are alive, do to what is seen of them.
-use Rattle.std.proofs.Common.{arith, ◌≡◌, ℕ, ◌<◌, ◌≤◌, refl, ap, sym, ◌∙◌, true, false, subst, cond, [], ◌∷◌, ◌++◌}
-use Rattle.std.specs.Prelude.{◌==◌, Bool, List, Option, Some, None, option_map, not, ◌||◌, ◌&&◌, map, filter, find, nat_eq}
+use Rattle.std.proofs.Common.{arith, ◌≡◌, ℕ, ◌<◌, refl, ap, sym, ◌∙◌, true, false, subst, [], ◌∷◌, ◌++◌}
+use Rattle.std.specs.Prelude.{◌==◌, Bool, List, Some, not, ◌||◌, ◌&&◌, map, nat_eq}
 use Rattle.std.specs.List.{AllByRecursion}
-use Rattle.std.specs.Map.{lookup, keys_of, remove_entry, set_value}
-use Rattle.std.specs.BTreeMap as tree
-use Rattle.std.specs.BTreeMap.{BTreeMap, is_at, insert_entry}
+use Rattle.std.specs.Map.{keys_of, remove_entry}
+use Rattle.std.specs.BTreeMap.{is_at}
 use Rattle.std.specs.Ordering.{nat_cmp}
 use Rattle.std.specs.Cmp.Lexicographic.{pointwise}
-use Rattle.std.proofs.lemmas.Bool.{eqb-true}
 use Rattle.std.proofs.lemmas.Bool.Decides.{nat_tests}
 use Rattle.cache_heads.specs.declared.meta.CacheMeta.{CacheMeta}
 use Rattle.cache_entries.specs.Keys.{same_bytes}
 use Rattle.cache_entries.specs.SameEntry.{same_bytes-tells}
-use Rattle.cache_changes.specs.Changes.{StoredKey, Write}
-use Rattle.cache_changes.specs.Store.{Stored, Flying, has_number, flies_for, on_flying, landed, begun, marked}
+use Rattle.cache_changes.specs.Changes.{StoredKey}
+use Rattle.cache_changes.specs.Store.{Flying, has_number, landed, begun, marked}
 use Rattle.mem_cache.specs.declared.flight.Flight.{Flight}
 use Rattle.mem_cache.specs.declared.flight.Buffer.{Buffer}
 use Rattle.mem_cache.specs.Alive.{is_pair}
-use Rattle.mem_cache.specs.Kept.{bytes_in, seen, flights_of, key_at, ChangesAt, IsSound}
-use Rattle.mem_cache.proofs.RowLaws.{Ascends, ascends, at_is, below_apart, above_apart, seen-set, seen-removed, insert_entry-last, removed-apart}
+use Rattle.mem_cache.specs.Kept.{bytes_in, seen, flights_of}
+use Rattle.mem_cache.proofs.RowLaws.{Ascends, above_apart, seen-removed, removed-apart}
 
 abbrev pub Alive : Type 0
 Alive = StoredKey → ℕ → Bool

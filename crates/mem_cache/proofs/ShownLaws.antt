@@ -13,8 +13,8 @@ use Rattle.cache_changes.specs.Changes.{StoredKey}
 use Rattle.cache_changes.specs.Store.{Stored, Flying, is_of, has_number, flies_for}
 use Rattle.mem_cache.specs.declared.flight.Body.{Body}
 use Rattle.mem_cache.specs.declared.flight.Flight.{Flight}
-use Rattle.mem_cache.specs.Answers.{Look, in_flight, finished, look_of, streamed_of}
-use Rattle.mem_cache.specs.Kept.{seen, stored_flight, flights_of, body_of, bodies_of, key_at, IsSound}
+use Rattle.cache_store.specs.Answers.{in_flight, finished, look_of, streamed_of}
+use Rattle.mem_cache.specs.Kept.{seen, stored_flight, flights_of, body_of, bodies_of, IsSound}
 use Rattle.mem_cache.proofs.RowLaws.{ascends}
 use Rattle.mem_cache.proofs.SeenLaws.{Alive}
 use Rattle.mem_cache.proofs.FirstLaws.{flying-seen, first-seen, none-seen, body-found}

@@ -1,6 +1,6 @@
 -- Changes of what is kept that keep it sound.
 use Rattle.std.proofs.Common.{arith, ◌≡◌, ℕ, ◌<◌, ◌+◌, refl, ap, sym, ◌∙◌, true, false, subst, cond, [], ◌∷◌, ◌++◌, nat_eq}
-use Rattle.std.specs.Prelude.{◌==◌, Bool, List, Option, Some, None, option_map, not, ◌||◌, ◌&&◌}
+use Rattle.std.specs.Prelude.{◌==◌, Bool, List, Some, None, option_map, not, ◌||◌, ◌&&◌}
 use Rattle.std.specs.List.{AllByRecursion}
 use Rattle.std.specs.List.Sorted.{IsStrictlySortedBy}
 use Rattle.std.specs.Map.{lookup, keys_of, remove_entry}
@@ -17,7 +17,7 @@ use Rattle.cache_changes.specs.Store.{Flying}
 use Rattle.mem_cache.specs.declared.flight.Flight.{Flight}
 use Rattle.mem_cache.specs.Alive.{is_pair}
 use Rattle.mem_cache.specs.Kept.{key_at, ChangesAt, IsSound}
-use Rattle.mem_cache.proofs.RowLaws.{at_is, below_apart, above_apart}
+use Rattle.mem_cache.proofs.RowLaws.{at_is, above_apart}
 use Rattle.mem_cache.proofs.SeenLaws.{Alive}
 
 pub sound-alike : (a b : Alive) (flights : BTreeMap ℕ Flight) (next : ℕ) → ((k : StoredKey) (n : ℕ) → b k n ≡ a k n) → IsSound a flights next → IsSound b flights next

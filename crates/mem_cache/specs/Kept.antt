@@ -7,7 +7,7 @@ use Rattle.std.specs.BTreeMap.{BTreeMap}
 use Rattle.cache_heads.specs.declared.meta.CacheMeta.{CacheMeta}
 use Rattle.cache_changes.specs.Changes.{StoredKey}
 use Rattle.cache_changes.specs.Store.{Stored, Flying, on_flying, with_bytes, ended}
-use Rattle.mem_cache.specs.Held.{Reading}
+use Rattle.cache_store.specs.Held.{Reading}
 use Rattle.mem_cache.specs.declared.flight.Buffer.{Buffer}
 use Rattle.mem_cache.specs.declared.flight.Buffer.TheVariants.{Open, Shared}
 use Rattle.mem_cache.specs.declared.flight.Flight.{Flight}

@@ -1,5 +1,5 @@
 -- Words of the laws: which write a look-up shows, whose number a body's is, and what a reader has read.
-use Rattle.std.specs.Prelude.{◌≡◌, ℕ, ◌++◌, true, false, List, [], length, Option, Some, None, Result, Ok}
+use Rattle.std.specs.Prelude.{◌≡◌, ℕ, ◌++◌, true, false, List, [], length, Some, None, Result, Ok}
 use Rattle.std.specs.List.{AllByRecursion}
 use Rattle.cache_entries.specs.Keys.{same_bytes}
 use Rattle.cache_heads.specs.declared.meta.CacheMeta.{CacheMeta}
@@ -8,7 +8,7 @@ use Rattle.cache_changes.specs.Store.{Stored, Store, body_at, flying_at, flies_f
 use Rattle.cache_store.specs.declared.storage.ReadStep.{ReadStep}
 use Rattle.cache_store.specs.declared.storage.ReadStep.TheVariants.{Bytes}
 use Rattle.cache_store.specs.declared.storage.StoreFault.{StoreFault}
-use Rattle.mem_cache.specs.Answers.{Look, in_flight, finished}
+use Rattle.cache_store.specs.Answers.{Look, in_flight, finished}
 
 -- the write that a look-up shows
 abbrev pub write_shown : Look → Stored CacheMeta

@@ -1,13 +1,9 @@
-pub mod Agree
 pub mod Alive
-pub mod Answers
-pub mod Held
 pub mod Hits
 pub mod Kept
 pub mod Laws
 pub mod Looks
 pub mod Misses
-pub mod Purges
 pub mod Readings
 pub mod Renewals
 pub mod Shown

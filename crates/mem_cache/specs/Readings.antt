@@ -5,8 +5,9 @@ use Rattle.cache_store.specs.declared.storage.StoreFault.{StoreFault}
 use Rattle.cache_store.specs.declared.storage.StoreFault.TheVariants.{SeekRange}
 use Rattle.mem_cache.specs.declared.handlers.MemHitHandler.{MemHitHandler}
 use Rattle.mem_cache.specs.declared.handlers.MemHitHandler.TheVariants.{Complete, Partial}
-use Rattle.mem_cache.specs.Held.{Held}
-use Rattle.mem_cache.specs.Hits.{WholeHit, WholeAnswer, after_read, ReadAnswer, readable, moved, SeekAnswer, IsParted}
+use Rattle.cache_store.specs.Held.{Held}
+use Rattle.cache_store.specs.Readers.{Reader, whole, streaming, readable}
+use Rattle.mem_cache.specs.Hits.{WholeHit, WholeAnswer, after_read, next_bytes, ReadAnswer, moved, SeekAnswer}
 
 abbrev pub is_complete : MemHitHandler → Bool
 is_complete (Complete h) = true
@@ -17,15 +18,15 @@ abbrev pub weight_of : MemHitHandler → ℕ
 weight_of (Complete h) = length h.body
 weight_of (Partial h) = 0
 
+-- what a reader is to read
+abbrev pub reader_of : MemHitHandler → Reader
+reader_of (Complete h) = whole h.body (next_bytes h)
+reader_of (Partial h) = streaming h
+
 -- a step of reading
 abbrev pub HitRead : MemHitHandler → Held → Result ReadStep StoreFault → MemHitHandler → Type 0
 HitRead (Complete h) store r new = WholeAnswer h.done h r × (new ≡ Complete (after_read h r))
 HitRead (Partial h) store r new = ReadAnswer (readable h.number store) h.place r × (new ≡ Partial (moved h r))
-
--- a reader is spent: of a write it is no longer counted
-abbrev pub HitFinish : MemHitHandler → Held → Held → Type 0
-HitFinish (Complete h) old new = new ≡ old
-HitFinish (Partial h) old new = IsParted h.number old new
 
 -- a reader of a body is set to a range; one of a write can't be
 abbrev pub HitSeek : ℕ → Option ℕ → MemHitHandler → Result (Unit {0}) StoreFault → MemHitHandler → Type 0

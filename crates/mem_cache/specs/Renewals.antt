@@ -1,47 +1,6 @@
--- What gives a body another meta.
-use Rattle.std.specs.Prelude.{◌≡◌, ℕ, Bool, cond, List, Option, Some, None, option_map, is_some, Result, Err, MatchResult, if◌then◌else◌, ◌⊎◌}
-use Rattle.cache_words.specs.Time.{MomentValue}
-use Rattle.cache_entries.specs.Keys.{same_bytes}
-use Rattle.cache_heads.specs.Fresh.{earlier_of}
+-- Other metas for what is kept of bodies.
 use Rattle.cache_heads.specs.declared.meta.CacheMeta.{CacheMeta}
-use Rattle.cache_changes.specs.Changes.{StoredKey}
-use Rattle.cache_changes.specs.Store.{Stored, body_at}
-use Rattle.cache_store.specs.declared.storage.PurgeOutcome.{PurgeOutcome}
-use Rattle.cache_store.specs.declared.storage.PurgeOutcome.TheVariants.{NotFound, Expired}
-use Rattle.cache_metas.specs.Internal.{IsWritable}
-use Rattle.cache_store.specs.declared.storage.StoreFault.{StoreFault}
-use Rattle.cache_store.specs.declared.storage.StoreFault.TheVariants.{Memory, NoMeta, MetaMoment}
 use Rattle.mem_cache.specs.declared.flight.Body.{Body}
-use Rattle.mem_cache.specs.Held.{Held}
-
--- fresh until that moment at most
-abbrev pub expired : MomentValue → CacheMeta → CacheMeta
-expired moment m = record m { internal = record m.internal { fresh_until = earlier_of m.internal.fresh_until moment } }
 
 abbrev pub body_with : (CacheMeta → CacheMeta) → Body → Body
 body_with change b = record b { meta = change b.meta }
-
--- a body with its meta changed
-abbrev pub stored_with : (CacheMeta → CacheMeta) → Stored CacheMeta → Stored CacheMeta
-stored_with change x = record x { write = record x.write { meta = change x.meta }; meta = change x.meta }
-
--- the body of a key has its meta changed, if there is one, and nothing else changed
-pub record IsRenewed (key : StoredKey) (change : CacheMeta → CacheMeta) (old new : Held) : Type 0 where
-  pub bodies : (k : StoredKey) → body_at k new.store ≡ cond (same_bytes key k) (option_map (stored_with change) (body_at key old.store)) (body_at k old.store)
-  pub flying : new.store.flying ≡ old.store.flying
-  pub next : new.next ≡ old.next
-  pub readings : new.readings ≡ old.readings
-
--- the body of the target's key goes stale, where there is one
-abbrev pub ExpireAnswer : Option StoredKey → MomentValue → Held → PurgeOutcome → Held → Type 0
-ExpireAnswer None moment old outcome new = (outcome ≡ NotFound) × (new ≡ old)
-ExpireAnswer (Some k) moment old outcome new = (outcome ≡ (if is_some (body_at k old.store) then Expired else NotFound)) × IsRenewed k (expired moment) old new
-
--- a meta that can't be written is refused as that, and another where there is no memory for it
-abbrev pub Refused : CacheMeta → StoreFault → Type 0
-Refused meta f = ((f ≡ MetaMoment) × (IsWritable meta.internal → ⊥)) ⊎ ((f ≡ Memory) × IsWritable meta.internal)
-
--- the body of a key gets another meta, where there is a body, the meta can be written and there is memory
-abbrev pub UpdateAnswer : Option (Stored CacheMeta) → StoredKey → CacheMeta → Held → Result (Unit {0}) StoreFault → Held → Type 0
-UpdateAnswer None key meta old r new = (r ≡ Err NoMeta) × (new ≡ old)
-UpdateAnswer (Some x) key meta old r new = MatchResult r (λ _. IsWritable meta.internal × IsRenewed key (λ _. meta) old new) (λ f. Refused meta f × (new ≡ old))

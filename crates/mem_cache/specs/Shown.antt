@@ -3,7 +3,7 @@ use Rattle.cache_changes.specs.Changes.{StoredKey}
 use Rattle.mem_cache.specs.declared.flight.Shown.{Shown}
 use Rattle.mem_cache.specs.declared.flight.Shown.TheVariants as shown
 use Rattle.mem_cache.specs.Kept.{stored_flight, body_of}
-use Rattle.mem_cache.specs.Answers.{Look, in_flight, finished}
+use Rattle.cache_store.specs.Answers.{Look, in_flight, finished}
 
 abbrev pub shown_of : StoredKey → Shown → Look
 shown_of k (shown.Flying n f) = in_flight (stored_flight (n, f.now))

@@ -2,7 +2,8 @@
 ghost use Rattle.std.specs.Prelude.{◌≡◌, ◌<◌, List, ℕ, Some, None, cond, is_some, option_map, nat_eq, OnOk, OnErr};
 ghost use Rattle.std.specs.Cmp.Lexicographic.{pointwise};
 ghost use Rattle.std.specs.HashMap.{get, spare};
-ghost use Rattle.mem_cache.specs.Renewals.{expired, body_with};
+ghost use Rattle.cache_store.specs.Renewals.{expired};
+ghost use Rattle.mem_cache.specs.Renewals.{body_with};
 
 use crate::flight::Body;
 use cache_heads::CacheMeta;

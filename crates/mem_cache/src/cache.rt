@@ -1,13 +1,15 @@
 //! The store in memory.
-ghost use Rattle.std.specs.Prelude.{◌≡◌, ◌+◌, false, [], Some, option_map, IfOk, IfErr, OnOk, OnErr};
+ghost use Rattle.std.specs.Prelude.{◌≡◌, ◌+◌, false, [], Some, None, option_map, IfOk, IfErr, OnOk, OnErr};
 ghost use Rattle.cache_changes.specs.Changes.{begins, removes};
 ghost use Rattle.cache_changes.specs.Store.{after, empty_store, flying_at, is_found_at};
 ghost use Rattle.cache_store.specs.declared.storage.StoreFault.{StoreFault as Fault};
-ghost use Rattle.mem_cache.specs.Agree.{Agree};
-ghost use Rattle.mem_cache.specs.Answers.{WriteAnswer, after_write, alive_key, left, IsFinished, FinishAnswer, in_flight, look_up, streamed};
+ghost use Rattle.cache_store.specs.Agree.{Agree};
+ghost use Rattle.cache_store.specs.Answers.{WriteAnswer, after_write, alive_key, left, IsFinished, FinishAnswer, in_flight, look_up, streamed};
 ghost use Rattle.mem_cache.specs.Kept.{stored_flight};
-ghost use Rattle.mem_cache.specs.Hits.{ReadAnswer, FitsPast, readable, IsJoined, IsParted};
-ghost use Rattle.mem_cache.specs.Misses.{are_numbers_spent, BeginAnswer};
+ghost use Rattle.cache_store.specs.Misses.{BeginAnswer};
+ghost use Rattle.cache_store.specs.Readers.{readable, IsJoined, IsParted};
+ghost use Rattle.mem_cache.specs.Hits.{ReadAnswer, FitsPast};
+ghost use Rattle.mem_cache.specs.Misses.{are_numbers_spent};
 ghost use Rattle.mem_cache.specs.Shown.{shown_of};
 
 use crate::alive::{self, Alive};
@@ -44,7 +46,7 @@ pub struct MemCache<S: BuildHasher = BuildHasherDefault<FoldHasher>> {
 }
 
 impl<S: BuildHasher> Model for MemCache<S> {
-    ghost use Rattle.mem_cache.specs.Held.{Held};
+    ghost use Rattle.cache_store.specs.Held.{Held};
 
     ghost Value = { Held };
 
@@ -86,6 +88,7 @@ impl<S: BuildHasher> MemCache<S> {
     fn begin(&mut self, key: HashBinary, meta: CacheMeta) -> Result<u64, StoreFault>
         requires { are_numbers_spent self.old ≡ false }
         ensures number { IfOk result (λ n. n ≡ self.old.next) }
+        ensures fresh { OnOk result (flying_at self.old.next self.old.store ≡ None) }
         ensures begun { OnOk result (self.new ≡ record self.old {
           store = after (begins (record { number = self.old.next; key = key; meta = meta })) self.old.store;
           next = self.old.next + 1;
@@ -118,7 +121,7 @@ impl<S: BuildHasher> MemCache<S> {
         key: HashBinary,
         meta: &CacheMeta,
     ) -> Result<MemMissHandler, StoreFault>
-        ensures { BeginAnswer (are_numbers_spent self.old) key meta.now self.old result self.new }
+        ensures { BeginAnswer (λ h. h) (are_numbers_spent self.old) key meta.now self.old result self.new }
     {
         if self.next == u64::MAX {
             return Err(StoreFault::WriteNumbersSpent);

@@ -7,7 +7,7 @@ ghost use Rattle.std.specs.List.{AllByRecursion};
 ghost use Rattle.cache_store.specs.declared.storage.StoreFault.{StoreFault as Fault};
 ghost use Rattle.mem_cache.specs.declared.flight.Flight.{Flight as FlightValue};
 ghost use Rattle.mem_cache.specs.Kept.{bytes_in, key_at, written, ChangesAt};
-ghost use Rattle.mem_cache.specs.Answers.{WriteAnswer};
+ghost use Rattle.cache_store.specs.Answers.{WriteAnswer};
 
 use crate::flight::Flight;
 use bytes::Bytes;

@@ -6,12 +6,13 @@ ghost use Rattle.cache_changes.specs.Writes.{bytes_of, IsOrderly};
 ghost use Rattle.cache_changes.specs.Store.{Stored, Flying, Store, after, body_at, flying_at, shown_at, store_of};
 ghost use Rattle.cache_store.specs.declared.storage.ReadStep.{ReadStep};
 ghost use Rattle.cache_store.specs.declared.storage.StoreFault.{StoreFault};
-ghost use Rattle.mem_cache.specs.Agree.{Agree};
-ghost use Rattle.mem_cache.specs.Answers.{look_up, finished};
-ghost use Rattle.mem_cache.specs.Held.{Held};
-ghost use Rattle.mem_cache.specs.Hits.{StreamHit, ReadAnswer, moved};
+ghost use Rattle.cache_store.specs.Agree.{Agree};
+ghost use Rattle.cache_store.specs.Answers.{look_up, finished};
+ghost use Rattle.cache_store.specs.Held.{Held};
+ghost use Rattle.cache_store.specs.Readers.{StreamHit};
+ghost use Rattle.mem_cache.specs.Hits.{ReadAnswer, moved};
 ghost use Rattle.mem_cache.specs.Laws.{write_shown, NoneFlies, IsOwnNumber, given, HasRead};
-ghost use Rattle.mem_cache.specs.Renewals.{IsRenewed};
+ghost use Rattle.cache_store.specs.Renewals.{IsRenewed};
 
 /// States that agree do so after each change. So a store that agrees with what changes left, and then does a change, agrees
 /// with what all of them leave.

@@ -2,9 +2,9 @@
 ghost use Rattle.std.specs.Prelude.{◌≡◌, Some, option_map, MatchResult};
 ghost use Rattle.cache_store.specs.declared.storage.StoreFault.{StoreFault as Fault};
 ghost use Rattle.mem_cache.specs.declared.handlers.MemHitHandler.{MemHitHandler as Handler};
-ghost use Rattle.mem_cache.specs.Answers.{look_up, streamed};
+ghost use Rattle.cache_store.specs.Answers.{look_up, streamed};
 ghost use Rattle.mem_cache.specs.Hits.{unread};
-ghost use Rattle.mem_cache.specs.Looks.{LookAnswer, StreamAnswer, tag_number};
+ghost use Rattle.mem_cache.specs.Looks.{MemLookAnswer, MemStreamAnswer, tag_number};
 
 use crate::MemCache;
 use crate::flight::{Body, Shown};
@@ -40,7 +40,7 @@ fn found_body(body: &Body) -> Result<Found<MemHitHandler>, StoreFault>
 impl<S: BuildHasher> MemCache<S> {
     // Looks a key up.
     pub(crate) fn look(&mut self, key: &HashBinary) -> Result<Found<MemHitHandler>, StoreFault>
-        ensures { LookAnswer (look_up key.now self.old.store) self.old result self.new }
+        ensures { MemLookAnswer (look_up key.now self.old.store) self.old result self.new }
     {
         let (meta, number) = match self.shown(key) {
             None => return Ok(None),
@@ -62,7 +62,7 @@ impl<S: BuildHasher> MemCache<S> {
         key: &HashBinary,
         number: u64,
     ) -> Result<Found<MemHitHandler>, StoreFault>
-        ensures { StreamAnswer (streamed key.now number self.old.store) self.old result self.new }
+        ensures { MemStreamAnswer (streamed key.now number self.old.store) self.old result self.new }
     {
         let meta = match self.flying(key, number) {
             Some(flight) => match copy_of(&flight.meta) {

@@ -2,7 +2,7 @@
 ghost use Rattle.std.specs.Prelude.{◌≡◌, IfOk, IfErr};
 ghost use Rattle.cache_metas.specs.Internal.{IsWritable};
 ghost use Rattle.cache_store.specs.declared.storage.StoreFault.{StoreFault as Fault};
-ghost use Rattle.mem_cache.specs.Renewals.{Refused};
+ghost use Rattle.cache_store.specs.Renewals.{Refused};
 
 use cache_heads::CacheMeta;
 use cache_metas::fault::MetaFault;

@@ -3,8 +3,8 @@ ghost use Rattle.std.specs.Prelude.{◌≡◌, ℕ, ◌==◌, is_some, true, con
 ghost use Rattle.std.specs.Ordering.{nat_cmp};
 ghost use Rattle.std.specs.BTreeMap.{get};
 ghost use Rattle.cache_store.specs.declared.storage.StoreFault.{StoreFault as Fault};
-ghost use Rattle.mem_cache.specs.Held.{left_with};
-ghost use Rattle.mem_cache.specs.Hits.{left_at};
+ghost use Rattle.cache_store.specs.Held.{left_with};
+ghost use Rattle.cache_store.specs.Readers.{left_at};
 ghost use Rattle.mem_cache.specs.Kept.{bytes_in, readings_of, counted, joined, parted};
 
 use crate::flight::{Buffer, Readers};

@@ -1,12 +1,14 @@
 //! The store, as what a cache asks of one.
-ghost use Rattle.std.specs.Prelude.{◌≡◌, true, option_map, IfOk, IsOk};
+ghost use Rattle.std.specs.Prelude.{◌≡◌, ◌⊎◌, true, None, option_map, IfOk, IsOk, MatchResult};
 ghost use Rattle.cache_words.specs.Key.{combined, key_of};
-ghost use Rattle.cache_changes.specs.Store.{body_at};
-ghost use Rattle.mem_cache.specs.Answers.{look_up};
-ghost use Rattle.mem_cache.specs.Looks.{LookAnswer, StreamAnswer, streamed_by, tag_number};
-ghost use Rattle.mem_cache.specs.Misses.{are_numbers_spent, BeginAnswer};
-ghost use Rattle.mem_cache.specs.Purges.{PurgeAnswer, target_key};
-ghost use Rattle.mem_cache.specs.Renewals.{ExpireAnswer, UpdateAnswer};
+ghost use Rattle.cache_store.specs.Answers.{look_up};
+ghost use Rattle.cache_store.specs.Looks.{LookAnswer, StreamAnswer, shows, streamed_by};
+ghost use Rattle.cache_store.specs.Purges.{target_key, id_at};
+ghost use Rattle.cache_store.specs.Renewals.{ExpireAnswer, StaleAnswer};
+ghost use Rattle.cache_store.specs.declared.storage.StoreFault.{StoreFault as Fault};
+ghost use Rattle.mem_cache.specs.Looks.{MemLookAnswer, MemStreamAnswer, tag_number};
+ghost use Rattle.mem_cache.specs.Misses.{are_numbers_spent};
+ghost use Rattle.mem_cache.specs.Readings.{reader_of};
 
 use crate::MemCache;
 use crate::handlers::{MemHitHandler, MemMissHandler};
@@ -14,18 +16,33 @@ use crate::lookup::number_of;
 use crate::meta::written_copy;
 use cache_entries::entry::CacheEntryKey;
 use cache_heads::CacheMeta;
-use cache_store::storage::{Found, PurgeOutcome, PurgeTarget, PurgeType, Storage, StoreFault};
+use cache_store::storage::{
+    Contents, Found, PurgeOutcome, PurgeTarget, PurgeType, Storage, StoreFault,
+};
 use cache_words::key::{CacheHashKey, CacheKey};
 use cache_words::time::Moment;
 use std::hash::BuildHasher;
+
+impl<S: BuildHasher> Contents for MemCache<S> {
+    ghost held = { λ c. c };
+}
 
 impl<S: BuildHasher> Storage for MemCache<S> {
     type Hit = MemHitHandler;
 
     type Miss = MemMissHandler;
 
+    ghost is_spent = { are_numbers_spent };
+
+    ghost ids = { λ _ _. None };
+
+    ghost streams = { true };
+
+    ghost tagged = { tag_number };
+
     fn lookup(&mut self, key: &CacheKey) -> Result<Found<MemHitHandler>, StoreFault>
-        ensures { LookAnswer (look_up (combined (key_of key.now)) self.old.store) self.old result self.new }
+        ensures answer { MemLookAnswer (look_up (combined (key_of key.now)) self.old.store) self.old result self.new }
+        ensures look { LookAnswer reader_of (shows true (combined (key_of key.now)) self.old.store) self.old result self.new }
     {
         self.look(&key.combined_bin())
     }
@@ -35,7 +52,9 @@ impl<S: BuildHasher> Storage for MemCache<S> {
         key: &CacheKey,
         tag: Option<&[u8]>,
     ) -> Result<Found<MemHitHandler>, StoreFault>
-        ensures { StreamAnswer (streamed_by (combined (key_of key.now)) (tag_number (option_map (λ t. t.now) tag.entry)) self.old.store) self.old result self.new }
+        ensures answer { MemStreamAnswer (streamed_by (combined (key_of key.now)) (tag_number (option_map (λ t. t.now) tag.entry)) self.old.store) self.old result self.new }
+        ensures stream { LookAnswer reader_of (shows true (combined (key_of key.now)) self.old.store) self.old result self.new
+            ⊎ StreamAnswer reader_of (streamed_by (combined (key_of key.now)) (tag_number (option_map (λ t. t.now) tag.entry)) self.old.store) self.old result self.new }
     {
         match number_of(tag) {
             Some(number) => self.look_at(&key.combined_bin(), number),
@@ -43,20 +62,15 @@ impl<S: BuildHasher> Storage for MemCache<S> {
         }
     }
 
-    // `WriteNumbersSpent` exactly where no number is left, and then `MetaMoment` exactly where the meta can't be written.
     fn get_miss_handler(
         &mut self,
         key: &CacheKey,
         meta: &CacheMeta,
-    ) -> Result<MemMissHandler, StoreFault>
-        ensures { BeginAnswer (are_numbers_spent self.old) (combined (key_of key.now)) meta.now self.old result self.new }
-    {
+    ) -> Result<MemMissHandler, StoreFault> {
         self.begin_copy(key.combined_bin(), meta)
     }
 
-    fn purge(&mut self, target: PurgeTarget<'_>, _purge_type: PurgeType) -> PurgeOutcome
-        ensures { PurgeAnswer (target_key target.entry) self.old result self.new }
-    {
+    fn purge(&mut self, target: PurgeTarget<'_>, _purge_type: PurgeType) -> PurgeOutcome {
         if matches!(target, PurgeTarget::Exact(CacheEntryKey::Identified { .. })) {
             return PurgeOutcome::NotFound;
         }
@@ -73,7 +87,9 @@ impl<S: BuildHasher> Storage for MemCache<S> {
         target: PurgeTarget<'_>,
         moment: Moment,
     ) -> Result<PurgeOutcome, StoreFault>
-        ensures { IfOk result (λ outcome. ExpireAnswer (target_key target.entry) moment self.old outcome self.new) × IsOk result }
+        ensures answer { IfOk result (λ outcome. ExpireAnswer (target_key (λ _. None) target.entry) moment self.old outcome self.new) × IsOk result }
+        ensures stale { let k = target_key (λ _. None) target.entry in
+            MatchResult result (λ outcome. StaleAnswer k (id_at (λ _. None) k) moment self.old outcome self.new) (λ f. (f ≡ Fault.Memory) × (self.new ≡ self.old)) }
     {
         if matches!(target, PurgeTarget::Exact(CacheEntryKey::Identified { .. })) {
             return Ok(PurgeOutcome::NotFound);
@@ -85,15 +101,13 @@ impl<S: BuildHasher> Storage for MemCache<S> {
         }
     }
 
-    // `NoMeta` where there is no body, and then `MetaMoment` where the meta can't be written.
-    fn update_meta(&mut self, key: &CacheKey, meta: &CacheMeta) -> Result<(), StoreFault>
-        ensures { UpdateAnswer (body_at (combined (key_of key.now)) self.old.store) (combined (key_of key.now)) meta.now self.old result self.new }
-    {
+    fn update_meta(&mut self, key: &CacheKey, meta: &CacheMeta) -> Result<(), StoreFault> {
         self.replace_meta(&key.combined_bin(), meta)
     }
 
     fn support_streaming_partial_write(&self) -> bool
-        ensures { result ≡ true }
+        ensures answer { result ≡ true }
+        ensures streams { result ≡ true → true ≡ true }
     {
         true
     }

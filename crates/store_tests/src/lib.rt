@@ -11,3 +11,4 @@ mod streaming;
 mod targets;
 #[cfg(test)]
 mod tracing;
+pub mod whole;

@@ -1,4 +1,19 @@
 //! What a store does, and the handlers that it gives out.
+ghost use Rattle.std.specs.Prelude.{◌≡◌, ◌⊎◌, ℕ, Bool, List, Option, true, option_map, OnOk, OnErr, MatchResult};
+ghost use Rattle.cache_words.specs.Key.{combined, key_of};
+ghost use Rattle.cache_changes.specs.Changes.{StoredKey};
+ghost use Rattle.cache_changes.specs.Store.{body_at, flying_at};
+ghost use Rattle.cache_entries.specs.declared.entry.CacheEntryId.{CacheEntryId as Id};
+ghost use Rattle.cache_store.specs.declared.storage.MissFinishType.{MissFinishType as FinishType};
+ghost use Rattle.cache_store.specs.declared.storage.StoreFault.{StoreFault as Fault};
+ghost use Rattle.cache_store.specs.Answers.{WriteAnswer, after_write, alive_key, left};
+ghost use Rattle.cache_store.specs.Held.{Held};
+ghost use Rattle.cache_store.specs.Looks.{LookAnswer, StreamAnswer, shows, streamed_by};
+ghost use Rattle.cache_store.specs.Misses.{BeginAnswer, MissAnswer};
+ghost use Rattle.cache_store.specs.Purges.{PurgeAnswer, target_key, id_at};
+ghost use Rattle.cache_store.specs.Readers.{Reader, IsStep, IsSought, Parts, ahead};
+ghost use Rattle.cache_store.specs.Renewals.{StaleAnswer, UpdateAnswer};
+
 use super::{MissFinishType, PurgeOutcome, PurgeTarget, PurgeType, ReadStep, StoreFault};
 use bytes::Bytes;
 use cache_entries::entry::CacheEntryId;
@@ -18,61 +33,122 @@ pub enum MissFault<M> {
     WriteRemoved,
 }
 
+/// What a store holds, as contracts see it: bodies, writes in flight, the number of the next write, and the writes that have
+/// readers. A trait of its own, since the handlers' contracts speak of it too.
+pub trait Contents {
+    ghost held: { Self → Held };
+}
+
 /// A store of bodies.
-pub trait Storage {
+///
+/// What differs between stores are the members: whether no number is left for a write, the ids of what is stored, whether a
+/// look-up shows writes in flight, and which number a tag names.
+pub trait Storage: Contents {
     /// What reads a body. It is spent by its `finish`.
     type Hit: HandleHit<Self>;
 
     /// What writes a body. It is spent by its `finish` or `leave`.
     type Miss: HandleMiss<Self>;
 
-    /// Looks a key up.
-    fn lookup(&mut self, key: &CacheKey) -> Result<Found<Self::Hit>, StoreFault>;
+    ghost is_spent: { Held → Bool };
 
-    /// Looks up the write of a key with that tag, which its handler lends.
+    ghost ids: { Self → StoredKey → Option Id };
+
+    ghost streams: { Bool };
+
+    ghost tagged: { Option (List ℕ) → Option ℕ };
+
+    /// Looks a key up.
+    ///
+    /// # Errors
+    ///
+    /// `Memory` when out of memory; nothing has changed.
+    fn lookup(&mut self, key: &CacheKey) -> Result<Found<Self::Hit>, StoreFault>
+        ensures look { LookAnswer Self.Hit.reader (shows streams (combined (key_of key.now)) (Self.held self.old).store) (Self.held self.old) result (Self.held self.new) };
+
+    /// Looks up the write of a key with that tag, which its handler lends; in a store without tags, the key.
+    ///
+    /// # Errors
+    ///
+    /// `WriteRemoved` where the tag names no write of the key in flight; those of `lookup`.
     fn lookup_streaming_write(
         &mut self,
         key: &CacheKey,
         _tag: Option<&[u8]>,
-    ) -> Result<Found<Self::Hit>, StoreFault> {
+    ) -> Result<Found<Self::Hit>, StoreFault>
+        ensures stream { LookAnswer Self.Hit.reader (shows streams (combined (key_of key.now)) (Self.held self.old).store) (Self.held self.old) result (Self.held self.new)
+            ⊎ StreamAnswer Self.Hit.reader (streamed_by (combined (key_of key.now)) (tagged (option_map (λ t. t.now) _tag.entry)) (Self.held self.old).store) (Self.held self.old) result (Self.held self.new) }
+    {
         self.lookup(key)
     }
 
     /// Begins a write.
+    ///
+    /// # Errors
+    ///
+    /// `WriteNumbersSpent` exactly where no number is left, and then `MetaMoment` exactly where the meta can't be written;
+    /// `Memory` when out of memory. Nothing has changed.
     fn get_miss_handler(
         &mut self,
         key: &CacheKey,
         meta: &CacheMeta,
-    ) -> Result<Self::Miss, StoreFault>;
+    ) -> Result<Self::Miss, StoreFault>
+        ensures { BeginAnswer Self.Miss.number (is_spent (Self.held self.old)) (combined (key_of key.now)) meta.now (Self.held self.old) result (Self.held self.new) };
 
     /// Removes what is stored of the target. It takes no memory.
-    fn purge(&mut self, target: PurgeTarget<'_>, purge_type: PurgeType) -> PurgeOutcome;
+    fn purge(&mut self, target: PurgeTarget<'_>, purge_type: PurgeType) -> PurgeOutcome
+        ensures { let k = target_key (ids self.old) target.entry in PurgeAnswer k (id_at (ids self.old) k) (Self.held self.old) result (Self.held self.new) };
 
     /// Lets what is stored of the target go stale at a moment.
+    ///
+    /// # Errors
+    ///
+    /// `Memory` when out of memory; nothing has changed.
     fn expire(
         &mut self,
         target: PurgeTarget<'_>,
         _moment: Moment,
-    ) -> Result<PurgeOutcome, StoreFault> {
+    ) -> Result<PurgeOutcome, StoreFault>
+        ensures stale { let k = target_key (ids self.old) target.entry in
+            MatchResult result (λ outcome. StaleAnswer k (id_at (ids self.old) k) _moment (Self.held self.old) outcome (Self.held self.new))
+            (λ f. (f ≡ Fault.Memory) × (Self.held self.new ≡ Self.held self.old)) }
+    {
         Ok(self.purge(target, PurgeType::Invalidation))
     }
 
     /// Gives the body of a key another meta.
-    fn update_meta(&mut self, key: &CacheKey, meta: &CacheMeta) -> Result<(), StoreFault>;
+    ///
+    /// # Errors
+    ///
+    /// `NoMeta` where there is no body, and then `MetaMoment` where the meta can't be written; `Memory` when out of memory.
+    /// Nothing has changed.
+    fn update_meta(&mut self, key: &CacheKey, meta: &CacheMeta) -> Result<(), StoreFault>
+        ensures { let k = combined (key_of key.now) in UpdateAnswer (body_at k (Self.held self.old).store) k meta.now (Self.held self.old) result (Self.held self.new) };
 
     /// Returns whether a write is read while it is written.
-    fn support_streaming_partial_write(&self) -> bool {
+    fn support_streaming_partial_write(&self) -> bool
+        ensures streams { result ≡ true → streams ≡ true }
+    {
         false
     }
 }
 
-/// What reads a body from a store.
-pub trait HandleHit<S> {
+/// What reads a body from a store. A contract sees what it is to read.
+pub trait HandleHit<S: Contents> {
+    ghost reader: { Self → Reader };
+
     /// Does a step of reading.
-    fn read_body(&mut self, store: &mut S) -> Result<ReadStep, StoreFault>;
+    ///
+    /// # Errors
+    ///
+    /// `Memory` when out of memory; then it may be read again.
+    fn read_body(&mut self, store: &mut S) -> Result<ReadStep, StoreFault>
+        ensures step { IsStep (ahead (reader self.old) (S.held store.old)) result (ahead (reader self.new) (S.held store.old)) }
+        ensures same { S.held store.new ≡ S.held store.old };
 
     /// Ends the reading.
-    fn finish(self, store: &mut S);
+    fn finish(self, store: &mut S)
+        ensures parts { Parts (reader self) (S.held store.old) (S.held store.new) };
 
     /// Returns whether `seek` can set a range.
     fn can_seek(&self) -> bool {
@@ -85,12 +161,24 @@ pub trait HandleHit<S> {
     }
 
     /// Sets what is read next: from `start` to `end`, or to the body's end.
-    fn seek(&mut self, _start: usize, _end: Option<usize>) -> Result<(), StoreFault> {
+    ///
+    /// # Errors
+    ///
+    /// `SeekRange` where the reader can't be set, or the range isn't within the body; an earlier range stays.
+    fn seek(&mut self, _start: usize, _end: Option<usize>) -> Result<(), StoreFault>
+        ensures sought { MatchResult result (λ _. IsSought _start _end (reader self.old) (reader self.new)) (λ f. (f ≡ Fault.SeekRange) × (reader self.new ≡ reader self.old)) }
+    {
         Err(StoreFault::SeekRange)
     }
 
     /// Sets one of several ranges.
-    fn seek_multipart(&mut self, start: usize, end: Option<usize>) -> Result<(), StoreFault> {
+    ///
+    /// # Errors
+    ///
+    /// Those of `seek`.
+    fn seek_multipart(&mut self, start: usize, end: Option<usize>) -> Result<(), StoreFault>
+        ensures sought { MatchResult result (λ _. IsSought start end (reader self.old) (reader self.new)) (λ f. (f ≡ Fault.SeekRange) × (reader self.new ≡ reader self.old)) }
+    {
         self.seek(start, end)
     }
 
@@ -110,16 +198,36 @@ pub trait HandleHit<S> {
     }
 }
 
-/// What writes a body to a store.
-pub trait HandleMiss<S> {
+/// What writes a body to a store. A contract sees the number of its write, and what a finish answers for a body of a size.
+pub trait HandleMiss<S: Contents> {
+    ghost number: { Self → ℕ };
+
+    ghost told: { ℕ → FinishType };
+
     /// Adds bytes, which are the last where `eof` says so.
-    fn write_body(&mut self, store: &mut S, data: Bytes, eof: bool) -> Result<(), StoreFault>;
+    ///
+    /// # Errors
+    ///
+    /// `WriteRemoved` where the store doesn't have the write, and else `AfterEnd` where its end was marked; `Memory` when out of
+    /// memory. Nothing has changed.
+    fn write_body(&mut self, store: &mut S, more: Bytes, eof: bool) -> Result<(), StoreFault>
+        ensures answer { WriteAnswer (option_map (λ f. f.ended) (flying_at (number self.old) (S.held store.old).store)) result }
+        ensures ok { OnOk result (S.held store.new ≡ record (S.held store.old) { store = after_write (number self.old) more eof (S.held store.old).store }) }
+        ensures err { OnErr result (S.held store.new ≡ S.held store.old) }
+        ensures same { number self.new ≡ number self.old };
 
     /// Stores the body.
-    fn finish(self, store: &mut S) -> Result<MissFinishType, MissFault<Self>>;
+    ///
+    /// # Errors
+    ///
+    /// `WriteRemoved` exactly where a removal met the write, or the store doesn't have it, which is then given up; `Memory` when
+    /// out of memory, with the handler, and nothing has changed.
+    fn finish(self, store: &mut S) -> Result<MissFinishType, MissFault<Self>>
+        ensures { MissAnswer number told (alive_key (flying_at (number self) (S.held store.old).store)) (number self) (S.held store.old) result (S.held store.new) };
 
     /// Gives the write up.
-    fn leave(self, store: &mut S);
+    fn leave(self, store: &mut S)
+        ensures { S.held store.new ≡ left (number self) (S.held store.old) };
 
     /// Lends the tag by which the write is looked up, where there is one.
     fn streaming_write_tag(&self) -> Option<&[u8]> {

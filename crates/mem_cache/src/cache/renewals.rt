@@ -1,7 +1,7 @@
 //! Other metas for bodies.
 ghost use Rattle.std.specs.Prelude.{◌≡◌, is_some};
 ghost use Rattle.cache_changes.specs.Store.{body_at};
-ghost use Rattle.mem_cache.specs.Renewals.{expired, IsRenewed, UpdateAnswer};
+ghost use Rattle.cache_store.specs.Renewals.{expired, IsRenewed, UpdateAnswer};
 
 use super::MemCache;
 use crate::bodies;

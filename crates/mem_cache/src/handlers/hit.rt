@@ -1,6 +1,8 @@
 //! Readers, as what a store gives out.
-ghost use Rattle.std.specs.Prelude.{◌≡◌};
-ghost use Rattle.mem_cache.specs.Readings.{HitRead, HitFinish, HitSeek, is_complete, weight_of};
+ghost use Rattle.std.specs.Prelude.{◌≡◌, MatchResult};
+ghost use Rattle.cache_store.specs.declared.storage.StoreFault.{StoreFault as Fault};
+ghost use Rattle.cache_store.specs.Readers.{IsStep, IsSought, ahead};
+ghost use Rattle.mem_cache.specs.Readings.{HitRead, HitSeek, is_complete, reader_of, weight_of};
 
 use super::MemHitHandler;
 use crate::MemCache;
@@ -32,8 +34,11 @@ impl MemHitHandler {
 }
 
 impl<S: BuildHasher> HandleHit<MemCache<S>> for MemHitHandler {
+    ghost reader = { reader_of };
+
     fn read_body(&mut self, store: &mut MemCache<S>) -> Result<ReadStep, StoreFault>
         ensures answer { HitRead self.old store.old result self.new }
+        ensures step { IsStep (ahead (reader_of self.old) store.old) result (ahead (reader_of self.new) store.old) }
         ensures same { store.new ≡ store.old }
     {
         match self {
@@ -42,9 +47,7 @@ impl<S: BuildHasher> HandleHit<MemCache<S>> for MemHitHandler {
         }
     }
 
-    fn finish(self, store: &mut MemCache<S>)
-        ensures { HitFinish self store.old store.new }
-    {
+    fn finish(self, store: &mut MemCache<S>) {
         match self {
             MemHitHandler::Complete(_hit) => {}
             MemHitHandler::Partial(hit) => store.detach(hit.number()),
@@ -58,7 +61,8 @@ impl<S: BuildHasher> HandleHit<MemCache<S>> for MemHitHandler {
     }
 
     fn seek(&mut self, start: usize, end: Option<usize>) -> Result<(), StoreFault>
-        ensures { HitSeek start end self.old result self.new }
+        ensures answer { HitSeek start end self.old result self.new }
+        ensures sought { MatchResult result (λ _. IsSought start end (reader_of self.old) (reader_of self.new)) (λ f. (f ≡ Fault.SeekRange) × (reader_of self.new ≡ reader_of self.old)) }
     {
         MemHitHandler::seek(self, start, end)
     }

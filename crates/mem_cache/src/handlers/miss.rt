@@ -1,9 +1,7 @@
 //! Writers.
-ghost use Rattle.std.specs.Prelude.{◌≡◌, Some, option_map, OnOk, OnErr};
+ghost use Rattle.std.specs.Prelude.{◌≡◌, Some, option_map};
 ghost use Rattle.std.specs.Int.{w64, to_be_bytes};
-ghost use Rattle.cache_changes.specs.Store.{flying_at};
-ghost use Rattle.mem_cache.specs.Answers.{WriteAnswer, after_write, alive_key, left};
-ghost use Rattle.mem_cache.specs.Misses.{MissAnswer};
+ghost use Rattle.cache_store.specs.declared.storage.MissFinishType.TheVariants.{Created};
 
 use crate::MemCache;
 use bytes::Bytes;
@@ -51,24 +49,20 @@ impl MemMissHandler {
 }
 
 impl<S: BuildHasher> HandleMiss<MemCache<S>> for MemMissHandler {
-    // Of a write that the store doesn't have, `WriteRemoved`.
+    ghost number = { λ h. h };
+
+    ghost told = { Created };
+
     fn write_body(
         &mut self,
         store: &mut MemCache<S>,
         more: Bytes,
         eof: bool,
-    ) -> Result<(), StoreFault>
-        ensures answer { WriteAnswer (option_map (λ f. f.ended) (flying_at self.old store.old.store)) result }
-        ensures ok { OnOk result (store.new ≡ record store.old { store = after_write self.old more eof store.old.store }) }
-        ensures err { OnErr result (store.new ≡ store.old) }
-        ensures same { self.new ≡ self.old }
-    {
+    ) -> Result<(), StoreFault> {
         store.append(self.number, more.as_slice(), eof)
     }
 
-    fn finish(self, store: &mut MemCache<S>) -> Result<MissFinishType, MissFault<MemMissHandler>>
-        ensures { MissAnswer (alive_key (flying_at self store.old.store)) self store.old result store.new }
-    {
+    fn finish(self, store: &mut MemCache<S>) -> Result<MissFinishType, MissFault<MemMissHandler>> {
         let number = self.spend();
         match store.finish(number) {
             Ok(size) => Ok(MissFinishType::Created(size)),
@@ -77,9 +71,7 @@ impl<S: BuildHasher> HandleMiss<MemCache<S>> for MemMissHandler {
         }
     }
 
-    fn leave(self, store: &mut MemCache<S>)
-        ensures { store.new ≡ left self store.old }
-    {
+    fn leave(self, store: &mut MemCache<S>) {
         store.leave(self.spend());
     }
 

@@ -1,6 +1,7 @@
 //! Readers of writes, as they come.
 ghost use Rattle.std.specs.Prelude.{◌≡◌};
-ghost use Rattle.mem_cache.specs.Hits.{ReadAnswer, readable, moved};
+ghost use Rattle.cache_store.specs.Readers.{readable};
+ghost use Rattle.mem_cache.specs.Hits.{ReadAnswer, moved};
 
 use crate::MemCache;
 use cache_store::storage::{ReadStep, StoreFault};
@@ -14,7 +15,7 @@ pub struct PartialHit {
 }
 
 impl Model for PartialHit {
-    ghost use Rattle.mem_cache.specs.Hits.{StreamHit};
+    ghost use Rattle.cache_store.specs.Readers.{StreamHit};
 
     ghost Value = { StreamHit };
 

@@ -1,4 +1,5 @@
-use Rattle.mem_cache.proofs.BeginningLaws.{read-step, read-later, bytes-came}
+use Rattle.cache_store.proofs.LeftLaws.{bytes-came}
+use Rattle.mem_cache.proofs.BeginningLaws.{read-step, read-later}
 use Rattle.mem_cache.proofs.laws.a_reader_reads_a_beginning.Goals as goal
 
 pub returns-clause-step : goal.returns-clause-step

@@ -1,4 +1,4 @@
-use Rattle.std.proofs.Common.{rules, sym, ◌∙◌}
+use Rattle.std.proofs.Common.{rules, sym}
 use Rattle.mem_cache.proofs.ReadLaws.{left-here, left-nowhere}
 use Rattle.mem_cache.proofs.readers.left_of.Goals as goal
 

@@ -1,4 +1,4 @@
-use Rattle.std.proofs.Common.{◌==◌, sym, ◌∙◌, ap, refl}
+use Rattle.std.proofs.Common.{sym, ◌∙◌, ap}
 use Rattle.std.specs.Option.{option_copied_mut}
 use Rattle.mem_cache.proofs.ReaderLaws.{left-set}
 use Rattle.mem_cache.proofs.readers.put_bytes.Goals as goal

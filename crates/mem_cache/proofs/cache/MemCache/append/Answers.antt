@@ -1,7 +1,5 @@
-use Rattle.std.proofs.Common.{rules, sym, ◌∙◌, ap, subst}
-use Rattle.std.specs.Prelude.{Option, Bool}
+use Rattle.std.proofs.Common.{◌∙◌}
 use Rattle.mem_cache.specs.Alive.{has}
-use Rattle.mem_cache.specs.Answers.{WriteAnswer}
 use Rattle.mem_cache.specs.Kept.{flights_of, bodies_of, readings_of, written}
 use Rattle.mem_cache.proofs.FlightLaws.{seen-unchanged}
 use Rattle.mem_cache.proofs.FirstLaws.{ended-seen}

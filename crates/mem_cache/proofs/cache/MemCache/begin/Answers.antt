@@ -1,10 +1,10 @@
-use Rattle.std.proofs.Common.{rules, arith, ◌+◌, ◌≡◌, refl, sym, ◌∙◌, ap, subst}
-use Rattle.std.specs.Prelude.{Option, Bool}
+use Rattle.std.proofs.Common.{◌+◌, refl, ◌∙◌, ap}
 use Rattle.mem_cache.specs.Alive.{has}
 use Rattle.mem_cache.specs.Kept.{flights_of, bodies_of, readings_of}
 use Rattle.mem_cache.specs.declared.flight.Buffer.TheVariants.{Open}
 use Rattle.mem_cache.proofs.HeldLaws.{held-flying, held-next}
 use Rattle.mem_cache.proofs.SeenLaws.{seen-alike, seen-push}
+use Rattle.mem_cache.proofs.StoreLaws.{fresh-number}
 use Rattle.mem_cache.proofs.SoundLaws.{sound-alike, sound-back, sound-entries, sound-begun}
 use Rattle.mem_cache.proofs.cache.MemCache.begin.Goals as goal
 
@@ -39,3 +39,6 @@ returns-clause-begun g c =
     (ap (flights_of (has c.add.new.alive)) c.in_default-put.ensures.ok.0
     ∙ seen-push (has c.self.inside.alive) (has c.add.new.alive) c.args.key c.self.inside.next c.args.meta (Open c.new.result) c.self.inside.flights.entries c.in_default.ensures.ok c.self.invariant.below c.new.ensures.items)
     refl)
+
+pub returns-clause-fresh : goal.returns-clause-fresh
+returns-clause-fresh g c = rw (← c.self.view_is) (fresh-number (has c.self.inside.alive) c.self.inside.next c.self.inside.flights.entries c.self.invariant.below)

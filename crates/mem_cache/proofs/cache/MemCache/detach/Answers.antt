@@ -1,4 +1,4 @@
-use Rattle.std.proofs.Common.{refl, ap}
+use Rattle.std.proofs.Common.{refl}
 use Rattle.mem_cache.proofs.ReadLaws.{reading-parted}
 use Rattle.mem_cache.proofs.cache.MemCache.detach.Goals as goal
 

@@ -1,5 +1,5 @@
 use Rattle.std.proofs.Common.{refl, ◌∙◌}
-use Rattle.mem_cache.specs.Renewals.{expired}
+use Rattle.cache_store.specs.Renewals.{expired}
 use Rattle.mem_cache.proofs.BodyLaws.{has-body, kept-renewed}
 use Rattle.mem_cache.proofs.cache.MemCache.expire_body.Goals as goal
 

@@ -1,4 +1,4 @@
-use Rattle.std.proofs.Common.{true, false, sym, ◌∙◌, ap}
+use Rattle.std.proofs.Common.{sym, ◌∙◌, ap}
 use Rattle.std.specs.Option.{option_copied}
 use Rattle.mem_cache.specs.Alive.{has}
 use Rattle.mem_cache.proofs.ShownLaws.{streamed-none, streamed-alive}

@@ -1,6 +1,5 @@
-use Rattle.std.proofs.Common.{sym, ◌∙◌, ap, ◌≡◌}
-use Rattle.std.specs.Prelude.{option_map, None}
-use Rattle.cache_changes.specs.Store.{flying_at}
+use Rattle.std.proofs.Common.{sym, ◌∙◌, ap}
+use Rattle.std.specs.Prelude.{option_map}
 use Rattle.mem_cache.specs.Alive.{has}
 use Rattle.mem_cache.specs.Kept.{seen, flights_of, bodies_of, readings_of}
 use Rattle.mem_cache.specs.declared.flight.Flight.{Flight}

@@ -1,7 +1,7 @@
-use Rattle.std.proofs.Common.{refl, sym, ◌∙◌}
+use Rattle.std.proofs.Common.{refl, sym}
 use Rattle.std.specs.Prelude.{Some, None}
 use Rattle.mem_cache.specs.Alive.{has}
-use Rattle.mem_cache.specs.Hits.{left_at}
+use Rattle.cache_store.specs.Readers.{left_at}
 use Rattle.mem_cache.specs.Kept.{bytes_in, readings_of}
 use Rattle.mem_cache.proofs.ReadLaws.{readable-flight, readable-left}
 use Rattle.mem_cache.proofs.cache.MemCache.read.Goals as goal

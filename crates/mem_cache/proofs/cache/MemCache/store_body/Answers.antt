@@ -1,10 +1,9 @@
-use Rattle.std.proofs.Common.{sym, ◌∙◌, ap, refl, ◌≡◌, nat_eq, cond}
-use Rattle.std.specs.Prelude.{option_map, Option, Some, List, ℕ}
+use Rattle.std.proofs.Common.{◌∙◌, ap, refl, nat_eq, cond}
+use Rattle.std.specs.Prelude.{Some, List, ℕ}
 use Rattle.std.specs.Cmp.Lexicographic.{pointwise}
 use Rattle.mem_cache.specs.Alive.{has}
-use Rattle.mem_cache.specs.Kept.{seen, flights_of, bodies_of, readings_of, key_at}
+use Rattle.mem_cache.specs.Kept.{flights_of, bodies_of, readings_of}
 use Rattle.mem_cache.specs.declared.flight.Body.{Body}
-use Rattle.mem_cache.specs.declared.flight.Flight.{Flight}
 use Rattle.mem_cache.proofs.HeldLaws.{held, held-flying}
 use Rattle.mem_cache.proofs.FlightLaws.{seen-unchanged}
 use Rattle.mem_cache.proofs.SoundLaws.{sound-changed, sound-landed}

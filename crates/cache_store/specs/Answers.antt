@@ -1,12 +1,12 @@
--- What calls of a store in memory answer.
+-- What calls of a store answer.
 use Rattle.std.specs.Prelude.{◌≡◌, ℕ, Bool, true, false, List, length, Option, Some, None, option_map, Result, Err, IfErr, MatchResult, find, if◌then◌else◌}
 use Rattle.cache_heads.specs.declared.meta.CacheMeta.{CacheMeta}
 use Rattle.cache_changes.specs.Changes.{StoredKey, Write, appends, ends, finishes, leaves}
 use Rattle.cache_changes.specs.Store.{Stored, Flying, Store, after, flying_at, flies_for, body_at}
 use Rattle.cache_store.specs.declared.storage.StoreFault.{StoreFault}
 use Rattle.cache_store.specs.declared.storage.StoreFault.TheVariants.{Memory, WriteRemoved, AfterEnd}
-use Rattle.mem_cache.specs.Agree.{Agree}
-use Rattle.mem_cache.specs.Held.{Reading, Held, left_with}
+use Rattle.cache_store.specs.Agree.{Agree}
+use Rattle.cache_store.specs.Held.{Reading, Held, left_with}
 
 -- the answer to bytes, by whether the end of the write in flight is marked: none where there is no such write
 abbrev pub WriteAnswer : {X : Type 0} → Option Bool → Result X StoreFault → Type 0

@@ -1,5 +1,5 @@
 -- When two plain states are one but for what no look-up shows: the order of the bodies, and the metas that writes began with.
-use Rattle.std.specs.Prelude.{◌≡◌, List, Option, option_map, map}
+use Rattle.std.specs.Prelude.{◌≡◌, option_map, map}
 use Rattle.cache_changes.specs.Changes.{StoredKey}
 use Rattle.cache_changes.specs.Store.{Stored, Flying, Store, body_at}
 

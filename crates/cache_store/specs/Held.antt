@@ -1,4 +1,4 @@
--- What a store in memory holds.
+-- What a store holds.
 use Rattle.std.specs.Prelude.{ℕ, ◌==◌, if◌then◌else◌, List, Option, Some, map}
 use Rattle.cache_changes.specs.Store.{Store}
 use Rattle.cache_heads.specs.declared.meta.CacheMeta.{CacheMeta}

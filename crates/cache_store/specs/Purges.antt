@@ -1,0 +1,39 @@
+-- What purges answer.
+use Rattle.std.specs.Prelude.{◌≡◌, ◌==◌, Bool, false, Option, Some, None, if◌then◌else◌}
+use Rattle.cache_entries.specs.declared.entry.CacheEntryId.{CacheEntryId}
+use Rattle.cache_entries.specs.declared.entry.CacheEntryKey.{CacheEntryKey}
+use Rattle.cache_entries.specs.declared.entry.CacheEntryKey.TheVariants.{KeyOnly, Identified}
+use Rattle.cache_entries.specs.Entry.{number_of}
+use Rattle.cache_changes.specs.Changes.{StoredKey, stored_key, removes}
+use Rattle.cache_changes.specs.Store.{after, is_found_at}
+use Rattle.cache_store.specs.declared.storage.PurgeTarget.{PurgeTarget}
+use Rattle.cache_store.specs.declared.storage.PurgeTarget.TheVariants.{Active, Exact}
+use Rattle.cache_store.specs.declared.storage.PurgeOutcome.{PurgeOutcome}
+use Rattle.cache_store.specs.declared.storage.PurgeOutcome.TheVariants.{NotFound, Purged}
+use Rattle.cache_store.specs.Agree.{Agree}
+use Rattle.cache_store.specs.Held.{Held}
+
+-- it is that id
+abbrev pub is_id : CacheEntryId → Option CacheEntryId → Bool
+is_id id None = false
+is_id id (Some other) = number_of id == number_of other
+
+-- the key that an entry names; one with an id names it only where the body stored under it has that id
+abbrev pub entry_key : (StoredKey → Option CacheEntryId) → CacheEntryKey → Option StoredKey
+entry_key ids (KeyOnly key) = Some (stored_key key)
+entry_key ids (Identified key id) = if is_id id (ids (stored_key key)) then Some (stored_key key) else None
+
+-- the key that a target names, by the ids of what is stored
+abbrev pub target_key : (StoredKey → Option CacheEntryId) → PurgeTarget → Option StoredKey
+target_key ids (Active key) = Some (stored_key key.now)
+target_key ids (Exact entry) = entry_key ids entry.now
+
+abbrev pub id_at : (StoredKey → Option CacheEntryId) → Option StoredKey → Option CacheEntryId
+id_at ids None = None
+id_at ids (Some k) = ids k
+
+-- what is stored under a key is removed, where anything is found, and its id is told
+abbrev pub PurgeAnswer : Option StoredKey → Option CacheEntryId → Held → PurgeOutcome → Held → Type 0
+PurgeAnswer None id old outcome new = (outcome ≡ NotFound) × (new ≡ old)
+PurgeAnswer (Some k) id old outcome new =
+    (outcome ≡ (if is_found_at k old.store then Purged id else NotFound)) × Agree new.store (after (removes k) old.store) × (new.next ≡ old.next) × (new.readings ≡ old.readings)

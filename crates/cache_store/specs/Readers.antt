@@ -1,0 +1,88 @@
+-- Readers: of a whole body, and of a write as it comes.
+use Rattle.std.specs.Prelude.{◌≡◌, ℕ, ◌==◌, ◌+◌, ◌-◌, ◌<◌, min, Bool, true, false, nat_lt, List, [], ◌++◌, drop, length, slice_range, Option, Some, None, option_map, option_and_then, Result, Ok, Err, find, if◌then◌else◌}
+use Rattle.cache_heads.specs.declared.meta.CacheMeta.{CacheMeta}
+use Rattle.cache_changes.specs.Store.{Flying, flying_at}
+use Rattle.cache_store.specs.declared.storage.ReadStep.{ReadStep}
+use Rattle.cache_store.specs.declared.storage.ReadStep.TheVariants.{Bytes, Pending, End}
+use Rattle.cache_store.specs.declared.storage.StoreFault.{StoreFault}
+use Rattle.cache_store.specs.declared.storage.StoreFault.TheVariants.{Memory}
+use Rattle.cache_store.specs.Held.{Reading, Held}
+
+-- a reader of a write, and how much it has read
+pub record StreamHit : Type 0 where
+  pub number : ℕ
+  pub place : ℕ
+
+-- what a reader is to read: of a body, and what of it comes next; or a write as it comes
+pub data Reader : Type 0 where
+  whole : List ℕ → List ℕ → Reader
+  streaming : StreamHit → Reader
+
+-- the bytes that readers of a write were left with
+abbrev pub left_at : ℕ → List Reading → Option (List ℕ)
+left_at n rs = option_and_then (λ r. r.left) (find (λ r. n == r.number) rs)
+
+-- what there is to read of a write: its bytes, and whether no more come
+abbrev pub readable_of : Option (Flying CacheMeta) → Option (List ℕ) → Option (List ℕ × Bool)
+readable_of (Some f) left = Some (f.stored.bytes, f.ended)
+readable_of None left = option_map (λ bytes. (bytes, true)) left
+
+abbrev pub readable : ℕ → Held → Option (List ℕ × Bool)
+readable n h = readable_of (flying_at n h.store) (left_at n h.readings)
+
+-- where a range of a body ends: at the body's end where none is given, or a later one
+abbrev pub end_within : ℕ → Option ℕ → ℕ
+end_within size None = size
+end_within size (Some n) = min n size
+
+-- what is left to read from a place; a write that isn't there has ended
+abbrev pub past_place : ℕ → Option (List ℕ × Bool) → List ℕ × Bool
+past_place place None = ([], true)
+past_place place (Some p) = (drop place p.0, p.1)
+
+-- what a reader has yet to read of what is there, and whether no more comes
+abbrev pub ahead : Reader → Held → List ℕ × Bool
+ahead (whole body bytes) h = (bytes, true)
+ahead (streaming s) h = past_place s.place (readable s.number h)
+
+-- a step of reading, by what was ahead and what is: the next bytes; nothing where all was read, and the end once no more comes
+abbrev pub IsStep : List ℕ × Bool → Result ReadStep StoreFault → List ℕ × Bool → Type 0
+IsStep old (Ok (Bytes bytes)) new = (old.0 ≡ bytes ++ new.0) × (new.1 ≡ old.1)
+IsStep old (Ok Pending) new = (old ≡ ([], false)) × (new ≡ old)
+IsStep old (Ok End) new = (old ≡ ([], true)) × (new ≡ old)
+IsStep old (Err f) new = (f ≡ Memory) × (new ≡ old)
+
+-- what a reader set to a range reads next: that part of a body. A reader of a write can't be set
+abbrev pub IsSought : ℕ → Option ℕ → Reader → Reader → Type 0
+IsSought start stop (whole body bytes) new = (start < length body) × (new ≡ whole body (slice_range body start (end_within (length body) stop)))
+IsSought start stop (streaming s) new = ⊥
+
+-- the readers of a write
+abbrev pub reading_at : ℕ → List Reading → Option Reading
+reading_at n rs = find (λ (r : Reading). n == r.number) rs
+
+-- one reader more, and one less; without any the bytes go
+abbrev pub one_more : ℕ → Option Reading → Reading
+one_more n None = record { number = n; count = 1; left = None }
+one_more n (Some r) = record r { count = r.count + 1 }
+
+abbrev pub one_less : Option Reading → Option Reading
+one_less None = None
+one_less (Some r) = if nat_lt 1 r.count then Some (record r { count = r.count - 1 }) else None
+
+-- a write has one reader more, and nothing else changed
+pub record IsJoined (n : ℕ) (old new : Held) : Type 0 where
+  pub store : new.store ≡ old.store
+  pub next : new.next ≡ old.next
+  pub readings : (m : ℕ) → reading_at m new.readings ≡ (if n == m then Some (one_more n (reading_at n old.readings)) else reading_at m old.readings)
+
+-- a write has one reader less, and nothing else changed
+pub record IsParted (n : ℕ) (old new : Held) : Type 0 where
+  pub store : new.store ≡ old.store
+  pub next : new.next ≡ old.next
+  pub readings : (m : ℕ) → reading_at m new.readings ≡ (if n == m then one_less (reading_at n old.readings) else reading_at m old.readings)
+
+-- a reader is spent: of a write it is no longer counted
+abbrev pub Parts : Reader → Held → Held → Type 0
+Parts (whole body bytes) old new = new ≡ old
+Parts (streaming s) old new = IsParted s.number old new
