@@ -181,7 +181,7 @@ fn marks_are_remembered(rt: HostRuntime) {
     }
 }
 
-/// Lists of more than 32 keys' places are allowed; a mark that is skipped by no predicate of the default kind is remembered.
+/// There may be more than 32 lists.
 #[test]
 fn many_lists(rt: HostRuntime) {
     check::<64>(&rt, rt.alloc(), 10, None, MARKS);
