@@ -204,6 +204,21 @@ const LATE: &[Step] = &[
     Step::Lock(12, 1, Given::Write(2)),
 ];
 
+/// A permit that is dropped late leaves the new one; its readers find it dropped.
+const LATE_DROP: &[Step] = &[
+    Step::Lock(10, 1, Given::Write(0)),
+    Step::Lock(11, 1, Given::Read(0)),
+    Step::Lock(11, 1, Given::Read(0)),
+    Step::Poll(11, 0, None),
+    Step::Poll(12, 0, AGED),
+    Step::LeaveRead(0),
+    Step::Lock(12, 1, Given::Write(1)),
+    Step::DropPermit(0),
+    Step::Lock(12, 1, Given::Read(1)),
+    Step::Poll(12, 0, RELEASED),
+    Step::Status(12, 0, LockStatus::Dangling),
+];
+
 /// A release comes before the age, the age before a published fill; moments may go back.
 const ORDER: &[Step] = &[
     Step::Lock(10, 1, Given::Write(0)),
@@ -239,7 +254,7 @@ const OTHERS: &[Step] = &[
 #[test]
 fn permits_of_keys(rt: HostRuntime) {
     let alloc = rt.alloc();
-    for &steps in [GET_RELEASE, DANGLING, LATE, ORDER, OTHERS].as_slice() {
+    for &steps in [GET_RELEASE, DANGLING, LATE, LATE_DROP, ORDER, OTHERS].as_slice() {
         let mut lock = CacheLock::new(alloc, Duration::from_seconds(2));
         check(&rt, alloc, &mut lock, steps);
     }
