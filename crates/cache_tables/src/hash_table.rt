@@ -24,6 +24,10 @@ pub struct ConcurrentHashTable<
 
 impl<V: Drop, const N: usize> ConcurrentHashTable<V, N> {
     /// Returns empty maps, under hashes with a fixed start.
+    ///
+    /// # Errors
+    ///
+    /// Out of memory.
     pub fn new(alloc: Global) -> Result<Self, AllocError>
         requires { 0 < N }
     {
@@ -33,6 +37,10 @@ impl<V: Drop, const N: usize> ConcurrentHashTable<V, N> {
 
 impl<V: Drop, const N: usize, S: BuildHasher + Copy + Drop> ConcurrentHashTable<V, N, S> {
     /// The same, with hashes of that start.
+    ///
+    /// # Errors
+    ///
+    /// Out of memory.
     pub fn with_hasher(alloc: Global, hasher: S) -> Result<Self, AllocError>
         requires { 0 < N }
     {

@@ -24,6 +24,10 @@ pub struct ConcurrentLruCache<
 
 impl<V: Drop, const N: usize> ConcurrentLruCache<V, N> {
     /// Returns empty lists of that capacity, under hashes with a fixed start; 0 is 1. No room is reserved.
+    ///
+    /// # Errors
+    ///
+    /// Out of memory.
     pub fn new(alloc: Global, shard_capacity: usize) -> Result<Self, AllocError>
         requires { 0 < N }
     {
@@ -33,6 +37,10 @@ impl<V: Drop, const N: usize> ConcurrentLruCache<V, N> {
 
 impl<V: Drop, const N: usize, S: BuildHasher + Copy + Drop> ConcurrentLruCache<V, N, S> {
     /// The same, with hashes of that start.
+    ///
+    /// # Errors
+    ///
+    /// Out of memory.
     pub fn with_hasher(alloc: Global, shard_capacity: usize, hasher: S) -> Result<Self, AllocError>
         requires { 0 < N }
     {

@@ -42,6 +42,10 @@ fn at_least_one(capacity: usize) -> NonZeroUsize
 
 impl<V: Drop, S: BuildHasher + Drop> LruShard<V, S> {
     /// Returns an empty list of that capacity, under hashes of that start; 0 is 1. No room is reserved.
+    ///
+    /// # Errors
+    ///
+    /// Out of memory.
     pub fn with_hasher(alloc: Global, capacity: usize, hasher: S) -> Result<Self, AllocError>
         ensures { IfOk result (λ s. s ≡ lru_cache [] (at_least_one capacity)) }
     {
