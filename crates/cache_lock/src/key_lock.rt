@@ -77,7 +77,8 @@ pub trait CacheKeyLock {
 
     /// Adds nothing to the span.
     fn trace_lock_wait(&self, span: &Span, _read_lock: &ReadLock, lock_status: LockStatus) {
-        span.set_tag(|| Tag::new("status", lock_status.name()));
+        let name: &'static str = lock_status.into();
+        span.set_tag(|| Tag::new("status", name));
     }
 
     /// Returns what readers are told of a custom reason not to keep a response.
@@ -87,3 +88,6 @@ pub trait CacheKeyLock {
         LockStatus::GiveUp
     }
 }
+
+/// Any lock of keys, in a box.
+pub type CacheKeyLockImpl = Box<dyn CacheKeyLock + Send + Sync + Drop>;

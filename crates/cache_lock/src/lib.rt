@@ -13,7 +13,7 @@ mod tokens;
 
 pub use fault::LockFault;
 pub use fills::{LockWaitOutcome, UnusableFill, UnusableFills, WaitOutcome};
-pub use key_lock::CacheKeyLock;
+pub use key_lock::{CacheKeyLock, CacheKeyLockImpl};
 pub use lock::CacheLock;
 pub use lock_core::LockCore;
 pub use status::LockStatus;

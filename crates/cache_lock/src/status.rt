@@ -37,12 +37,14 @@ impl LockStatus {
             _ => None,
         }
     }
+}
 
-    /// Returns the status's name.
-    pub fn name(self) -> &'static str
-        ensures { result.now ≡ status_name self }
-    {
-        match self {
+/// The status's name.
+impl From<LockStatus> for &'static str {
+    ghost from_gives = { λ status name. name.now ≡ status_name status };
+
+    fn from(status: LockStatus) -> &'static str {
+        match status {
             LockStatus::Waiting => "Waiting",
             LockStatus::Done => "Done",
             LockStatus::TransientError => "TransientError",

@@ -1,14 +1,16 @@
 //! Permits and read locks: numbers of cores, which must be spent.
-ghost use Rattle.std.specs.Prelude.{◌≡◌};
+ghost use Rattle.std.specs.Prelude.{◌≡◌, ◌≢◌, OnOk, OnErr};
 ghost use Rattle.std.specs.FinMap as finite;
+ghost use Rattle.cache_lock.specs.Changes.{publishes};
 ghost use Rattle.cache_lock.specs.Tokens.{is_permit};
 ghost use Rattle.cache_lock.specs.Status.{is_waiting};
-ghost use Rattle.cache_lock.specs.State.{status_of};
-ghost use Rattle.cache_lock.specs.Answers.{is_stale, is_expired, status_at_moment};
+ghost use Rattle.cache_lock.specs.State.{after, after_all, status_of};
+ghost use Rattle.cache_lock.specs.Answers.{is_stale, is_expired, status_at_moment, unlock_changes};
 
 use crate::key_lock::CacheKeyLock;
 use crate::status::LockStatus;
 use cache_words::time::Moment;
+use std::alloc::{AllocError, Global};
 
 /// The right to fill a key. It is spent by `release` or `leave`.
 #[derive(Debug)]
@@ -43,6 +45,31 @@ impl WritePermit {
             Some(core) => core.lock_status(),
             None => LockStatus::Dangling,
         }
+    }
+
+    /// Spends the permit, and stores how it ended; its key keeps its core. `WaitTimeout` is a reader's own, and is not stored.
+    pub fn unlock<L: CacheKeyLock>(self, lock: &mut L, reason: LockStatus)
+        requires { reason ≢ LockStatus.WaitTimeout }
+        ensures { L.state lock.new ≡ after_all (unlock_changes self.number reason) (L.state lock.old) }
+    {
+        lock.unlock(self, reason);
+    }
+
+    /// Publishes tokens of what the permit's writer fills, in the place of those before.
+    ///
+    /// # Errors
+    ///
+    /// Out of memory. Nothing changes.
+    pub fn publish<L: CacheKeyLock>(
+        &self,
+        alloc: Global,
+        lock: &mut L,
+        tokens: &[u64],
+    ) -> Result<(), AllocError>
+        ensures ok { OnOk result (L.state lock.new ≡ after (publishes self.now.number tokens.now) (L.state lock.old)) }
+        ensures err { OnErr result (L.state lock.new ≡ L.state lock.old) }
+    {
+        lock.publish(alloc, self, tokens)
     }
 }
 

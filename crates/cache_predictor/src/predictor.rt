@@ -11,14 +11,22 @@ use cache_heads::NoCacheReason;
 use cache_words::key::{CacheHashKey, CacheKey, HashBinary};
 use lru::LruCache;
 use std::alloc::{AllocError, Global};
+use std::hash::{BuildHasher, BuildHasherDefault, FoldHasher};
 use std::marker::Model;
 use std::num::NonZeroUsize;
 
 /// Remembers which keys answered a response lately that is not kept, and why. A contract sees N lists of keys with reasons,
 /// the key that was marked last first, each of a bounded length.
+///
+/// Keys are found by their hashes. `new` hashes with a fixed start, for keys that the caller chooses itself; `with_hasher`
+/// takes a start of the caller's, for keys that strangers choose, who then can't slow look-ups down.
 #[derive(Drop)]
-pub struct Predictor<const N: usize, P: CustomReasonPredicate + Drop = NothingSkipped> {
-    lists: Vec<LruCache<HashBinary, NoCacheReason>>,
+pub struct Predictor<
+    const N: usize,
+    P: CustomReasonPredicate + Drop = NothingSkipped,
+    S: BuildHasher + Drop = BuildHasherDefault<FoldHasher>,
+> {
+    lists: Vec<LruCache<HashBinary, NoCacheReason, S>>,
     skipped: Option<P>,
 }
 
@@ -35,7 +43,8 @@ fn at_least_one(capacity: usize) -> NonZeroUsize
     }
 }
 
-impl<const N: usize, P: CustomReasonPredicate + Drop> Model for Predictor<N, P> {
+impl<const N: usize, P: CustomReasonPredicate + Drop, S: BuildHasher + Drop> Model
+    for Predictor<N, P, S> {
     ghost use Rattle.std.specs.Prelude.{◌≡◌, ◌<◌, length};
     ghost use Rattle.cache_predictor.specs.Reasons.{Predictions};
 
@@ -47,8 +56,8 @@ impl<const N: usize, P: CustomReasonPredicate + Drop> Model for Predictor<N, P> 
 }
 
 impl<const N: usize, P: CustomReasonPredicate + Drop> Predictor<N, P> {
-    /// Returns a predictor without marks, whose lists have that capacity; 0 is 1. Custom reasons that the predicate names
-    /// are not remembered.
+    /// Returns a predictor without marks, under hashes with a fixed start, whose lists have that capacity; 0 is 1. Custom
+    /// reasons that the predicate names are not remembered.
     pub fn new(
         alloc: Global,
         capacity: usize,
@@ -57,8 +66,27 @@ impl<const N: usize, P: CustomReasonPredicate + Drop> Predictor<N, P> {
         requires { 0 < N }
         ensures { IfOk result (λ p. p ≡ no_reasons N capacity skipped) }
     {
+        Predictor::with_hasher(alloc, capacity, skipped, BuildHasherDefault::new())
+    }
+}
+
+impl<const N: usize, P: CustomReasonPredicate + Drop, S: BuildHasher + Copy + Drop> Predictor<
+    N,
+    P,
+    S,
+> {
+    /// The same, with hashes of that start.
+    pub fn with_hasher(
+        alloc: Global,
+        capacity: usize,
+        skipped: Option<P>,
+        hasher: S,
+    ) -> Result<Predictor<N, P, S>, AllocError>
+        requires { 0 < N }
+        ensures { IfOk result (λ p. p ≡ no_reasons N capacity skipped) }
+    {
         let most = at_least_one(capacity);
-        let lists = Self::empty_lists(alloc, N, most)?;
+        let lists = Self::empty_lists(alloc, N, most, hasher)?;
         Ok(Predictor { lists, skipped })
     }
 
@@ -67,16 +95,21 @@ impl<const N: usize, P: CustomReasonPredicate + Drop> Predictor<N, P> {
         alloc: Global,
         number: usize,
         capacity: NonZeroUsize,
-    ) -> Result<Vec<LruCache<HashBinary, NoCacheReason>>, AllocError>
+        hasher: S,
+    ) -> Result<Vec<LruCache<HashBinary, NoCacheReason, S>>, AllocError>
         ensures { IfOk result (λ v. v.items ≡ replicate number (lru_cache [] (non_zero_usize_get capacity))) }
     {
         let mut lists = Vec::new(alloc);
         'lists: for _ in 0..number {
-            lists.push(LruCache::sparse(alloc, capacity)?)?;
+            let mut list = LruCache::unbounded_with_hasher(alloc, hasher)?;
+            list.resize(capacity);
+            lists.push(list)?;
         }
         Ok(lists)
     }
+}
 
+impl<const N: usize, P: CustomReasonPredicate + Drop, S: BuildHasher + Drop> Predictor<N, P, S> {
     // The number of a key's list.
     fn list_number(key: &HashBinary) -> usize
         requires { 0 < N }
@@ -112,7 +145,8 @@ impl<const N: usize, P: CustomReasonPredicate + Drop> Predictor<N, P> {
     }
 }
 
-impl<const N: usize, P: CustomReasonPredicate + Drop> CacheablePredictor for Predictor<N, P> {
+impl<const N: usize, P: CustomReasonPredicate + Drop, S: BuildHasher + Drop> CacheablePredictor
+    for Predictor<N, P, S> {
     ghost reason_of = { λ p key. listed_reason N key p };
 
     ghost remembers = { λ p reason. is_remembered P.skips p.skipped reason };

@@ -1,0 +1,14 @@
+//! Tables for threads: N shards, each under a lock of its own, where key k is in shard k modulo N.
+//!
+//! A shard's lock gives the shard as the last holder left it. Nothing is claimed of what a shard holds at the next lock: other
+//! threads may have changed it.
+#![tactic(auto)]
+
+mod hash_table;
+mod lru_cache;
+mod lru_shard;
+mod shards;
+
+pub use hash_table::ConcurrentHashTable;
+pub use lru_cache::ConcurrentLruCache;
+pub use lru_shard::LruShard;
