@@ -1,5 +1,9 @@
-//! Tests of recorded shards, as tables of calls.
+//! Tests of locked lists and recorded shards, as tables of calls, and of two threads at one list.
 #![tactic(auto)]
 
 #[cfg(test)]
+mod recorded_lists;
+#[cfg(test)]
 mod records;
+#[cfg(test)]
+mod threads;

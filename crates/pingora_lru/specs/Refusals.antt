@@ -24,3 +24,7 @@ abbrev pub IsReason : {T : Type 0} → Call T → ℕ → List (Row T) → LruFa
 IsReason call bound rows (Memory back) = ⊤
 IsReason call bound rows (Weight back) = MatchOption (asked call rows) ⊥ (λ p. IsHeavy bound p.0 p.1 rows)
 IsReason call bound rows (Length back) = MatchOption (asked call rows) ⊥ (λ p. (only p.0 rows ≡ []) × IsLong bound rows)
+
+-- some shard refuses the call so
+abbrev pub IsRefused : {T : Type 0} → Call T → LruFault (Call T) → Type 0
+IsRefused {T} call fault = (bound : ℕ) × (rows : List (Row T)) × IsReason call bound rows fault

@@ -1,7 +1,7 @@
 //! Calls of a shard and their replies, with the rows' data or without.
 
 ghost use Rattle.std.specs.Prelude.{◌≡◌};
-ghost use Rattle.pingora_lru.specs.Calls.{bare_call, bare_reply};
+ghost use Rattle.pingora_lru.specs.Calls.{bare_call, bare_reply, item_of};
 
 /// A call that changes a shard.
 #[derive(Clone, Debug, PartialEq, Eq, Drop)]
@@ -70,6 +70,21 @@ impl<T> Call<T> {
             Call::PromoteTopN(key, top) => Call::PromoteTopN(*key, *top),
             Call::Evict => Call::Evict,
             Call::Remove(key) => Call::Remove(*key),
+        }
+    }
+}
+
+impl<T: Drop> Call<T> {
+    // Returns the data of the call, if it has any.
+    pub(crate) fn into_item(self) -> Option<T>
+        ensures { result ≡ item_of self }
+    {
+        match self {
+            Call::Admit(_, item, _) => Some(item),
+            Call::InsertTail(_, item, _) => Some(item),
+            Call::IncrementWeight(_, item, _, _) => Some(item),
+            Call::UpdateOrAdmit(_, item, _) => Some(item),
+            _ => None,
         }
     }
 }

@@ -9,7 +9,9 @@ pub use recorded::RecordedUnit;
 pub use recorded_lru::RecordedLru;
 
 pub mod call;
+mod counts;
 mod edits;
 mod locked;
+mod looks;
 mod recorded;
 mod recorded_lru;

@@ -2,16 +2,15 @@
 
 ghost use Rattle.std.specs.Prelude.{◌≡◌, ◌%◌, ◌<◌, vec_len, OnErr};
 
-mod counts;
 mod edits;
 mod eviction;
 mod looks;
 
-use counts::Counts;
+use crate::counts::Counts;
 use lru_core::lru_unit::LruUnit;
 use std::alloc::{AllocError, Global};
 use std::hash::{BuildHasher, BuildHasherDefault, FoldHasher};
-use std::sync::atomic::{AtomicUsize, Ordering};
+use std::sync::atomic::Ordering;
 use std::sync::{Mutex, Wait};
 
 /// N shards of rows of distinct keys, each most recent first and under a lock of its own, for threads: key k is in shard k
@@ -25,8 +24,6 @@ use std::sync::{Mutex, Wait};
 pub struct Lru<T, const N: usize, S: BuildHasher = BuildHasherDefault<FoldHasher>> {
     shards: Vec<Mutex<LruUnit<T, S>>>,
     counts: Counts,
-    weight_limit: AtomicUsize,
-    len_watermark: Option<usize>,
     ghost count: { vec_len shards ≡ N },
     ghost some: { 0 < N },
 }
@@ -80,9 +77,7 @@ impl<T: Drop, const N: usize, S: BuildHasher + Copy> Lru<T, N, S> {
         }
         Ok(Lru {
             shards,
-            counts: Counts::new(),
-            weight_limit: AtomicUsize::new(weight_limit),
-            len_watermark,
+            counts: Counts::new(weight_limit, len_watermark),
         })
     }
 }
@@ -113,12 +108,14 @@ impl<T, const N: usize, S: BuildHasher> Lru<T, N, S> {
 
     /// Returns the weight that the rows may have together.
     pub fn weight_limit(&self) -> usize {
-        self.weight_limit.load(Ordering::SeqCst)
+        self.counts.weight_limit.load(Ordering::SeqCst)
     }
 
     /// Sets the weight that the rows may have together. It evicts nothing.
     pub fn set_weight_limit(&self, weight_limit: usize) {
-        self.weight_limit.store(weight_limit, Ordering::SeqCst);
+        self.counts
+            .weight_limit
+            .store(weight_limit, Ordering::SeqCst);
     }
 
     /// Returns the weight of all rows.

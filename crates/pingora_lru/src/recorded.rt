@@ -1,9 +1,11 @@
 //! A shard that keeps a record of its calls and their replies.
 
-ghost use Rattle.std.specs.Prelude.{◌≡◌, ◌++◌, ◌∷◌, [], IfOk, IfErr, OnOk, OnErr};
+ghost use Rattle.std.specs.Prelude.{◌≡◌, ◌<◌, ◌++◌, ◌∷◌, [], IfOk, IfErr, OnOk, OnErr};
 ghost use Rattle.pingora_lru.specs.Calls.{after, reply_of, bare_call, bare_reply, lost};
 ghost use Rattle.pingora_lru.specs.Records.{IsRecord, bare};
 ghost use Rattle.pingora_lru.specs.Refusals.{IsReason};
+
+mod updates;
 
 use crate::call::{Call, Kept, Reply};
 use crate::edits::apply;
@@ -90,6 +92,14 @@ impl<T: Drop, S: BuildHasher> RecordedUnit<T, S> {
             }
             Err(fault) => Err(fault),
         }
+    }
+
+    /// Reserves room for `additional` more rows. It is a hint.
+    pub fn reserve(&mut self, additional: usize) -> Result<(), AllocError>
+        ensures same { self.new ≡ self.old }
+        ensures refused { OnErr result (0 < additional) }
+    {
+        self.unit.reserve(additional)
     }
 
     /// Returns the shard under the record, for looks.

@@ -1,10 +1,12 @@
 //! Uses, insertion, weights and removal, each under the lock of its shard.
 
-ghost use Rattle.std.specs.Prelude.{◌≡◌, ℕ, ◌%◌, IfOk, IfErr};
+ghost use Rattle.std.specs.Prelude.{◌≡◌, ℕ, ◌%◌, ◌⊎◌, max, IfOk, IfErr, MatchOption};
+ghost use Rattle.lru_core.specs.Rows.{capped, raised};
 ghost use Rattle.pingora_lru.specs.Calls.{lost};
+ghost use Rattle.pingora_lru.specs.Closures.{WasCalled};
 
 use super::Lru;
-use super::counts::Sums;
+use crate::counts::Sums;
 use lru_core::lru_unit::LruFault;
 use std::hash::BuildHasher;
 use std::sync::Wait;
@@ -112,7 +114,8 @@ impl<T: Drop, const N: usize, S: BuildHasher> Lru<T, N, S> {
     where
         F: Drop,
         requires { F.IsAlwaysCallable admit_data }
-        ensures { IfErr result (λ fault. lost fault ≡ admit_data) }
+        ensures weight { IfOk result (λ w. (w ≡ max 1 (capped max_weight delta)) ⊎ ((old : ℕ) × (w ≡ raised old delta max_weight))) }
+        ensures back { IfErr result (λ fault. lost fault ≡ admit_data) }
     {
         let mut unit = self.shards[self.place_of(key)].lock(rt);
         let before = Sums::of(&*unit);
@@ -144,6 +147,8 @@ impl<T: Drop, const N: usize, S: BuildHasher> Lru<T, N, S> {
         A: Drop,
         requires update { U.IsAlwaysCallable update }
         requires admit { A.IsAlwaysCallable admit_data }
+        ensures called { IfOk result (λ old. MatchOption old ((d : T) × (w : ℕ) × A.post admit_data (d, w)) (λ v. WasCalled U.FnOnce update v)) }
+        ensures back { IfErr result (λ fault. MatchOption (lost fault) ((v : ℕ) × WasCalled U.FnOnce update v) (λ d. (w : ℕ) × A.post admit_data (d, w))) }
     {
         let mut unit = self.shards[self.place_of(key)].lock(rt);
         let before = Sums::of(&*unit);

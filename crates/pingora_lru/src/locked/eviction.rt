@@ -3,7 +3,7 @@
 ghost use Rattle.std.specs.Prelude.{◌≡◌, ◌<◌};
 
 use super::Lru;
-use super::counts::Sums;
+use crate::counts::Sums;
 use rand_core::Rng;
 use std::alloc::Global;
 use std::hash::BuildHasher;
@@ -19,7 +19,7 @@ impl<T: Drop, const N: usize, S: BuildHasher> Lru<T, N, S> {
     /// removes the last row of the longer of the two shards that the draws name, of the first if they are equally long;
     /// if that shard is empty, of the next non-empty one around the circle.
     pub fn evict_step<R: Wait>(&self, rt: &R, a: u64, b: u64) -> Option<(T, usize)> {
-        if !self.is_over() {
+        if !self.counts.is_over() {
             return None;
         }
         let first = self.place_of(a);
@@ -50,7 +50,7 @@ impl<T: Drop, const N: usize, S: BuildHasher> Lru<T, N, S> {
     ) -> Result<Vec<(T, usize)>, Vec<(T, usize)>> {
         let mut pairs = Vec::new(alloc);
         'steps: for _ in 0..self.len() {
-            if !self.is_over() {
+            if !self.counts.is_over() {
                 break;
             }
             if pairs.reserve(1).is_err() {
@@ -76,18 +76,5 @@ impl<T: Drop, const N: usize, S: BuildHasher> Lru<T, N, S> {
         self.counts.recount(&*unit, before);
         self.counts.evicted(weight);
         Some((data, weight))
-    }
-}
-
-impl<T, const N: usize, S: BuildHasher> Lru<T, N, S> {
-    // Whether the weight is past the limit, or the number of rows past the watermark.
-    fn is_over(&self) -> bool {
-        if self.weight() > self.weight_limit() {
-            return true;
-        }
-        match self.len_watermark {
-            Some(mark) => self.len() > mark,
-            None => false,
-        }
     }
 }

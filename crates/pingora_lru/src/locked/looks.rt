@@ -1,12 +1,10 @@
 //! Looks at rows, which change no order.
 
-ghost use Rattle.std.specs.Prelude.{◌≡◌, ◌<◌};
-ghost use Rattle.std.specs.List.{FoldsTo};
-ghost use Rattle.lru_core.specs.Rows.{pairs_of};
-ghost use Rattle.lru_core.specs.Updates.{Visits};
+ghost use Rattle.std.specs.Prelude.{◌<◌};
 
 use super::Lru;
-use lru_core::lru_unit::LruUnit;
+use crate::looks::visit;
+use std::alloc::AllocError;
 use std::hash::BuildHasher;
 use std::sync::Wait;
 
@@ -46,14 +44,15 @@ impl<T, const N: usize, S: BuildHasher> Lru<T, N, S> {
     }
 }
 
-// Calls `f` with the data and the weight of each row, most recent first.
-fn visit<T, S: BuildHasher, F: FnMut((&T, usize))>(unit: &LruUnit<T, S>, f: &mut F)
-    requires { F.IsAlwaysCallable f.old }
-    ensures called { FoldsTo (Visits F.FnMut) f.old (pairs_of unit.now.rows) f.new }
-    ensures again { F.IsAlwaysCallable f.new }
-{
-    let mut items = unit.iter();
-    'items: while let Some(item) = items.next() {
-        f(item);
+impl<T: Clone, const N: usize, S: BuildHasher> Lru<T, N, S> {
+    /// Returns a clone of the data of the last row of a shard, and its weight. The order stays.
+    pub fn peek_lru<R: Wait>(&self, rt: &R, shard: usize) -> Result<Option<(T, usize)>, AllocError>
+        requires { shard < N }
+    {
+        let unit = self.shards[shard].lock(rt);
+        match unit.peek_lru() {
+            Some((item, weight)) => Ok(Some((item.clone()?, weight))),
+            None => Ok(None),
+        }
     }
 }

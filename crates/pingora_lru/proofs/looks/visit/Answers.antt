@@ -1,5 +1,5 @@
 use Rattle.std.proofs.Common.{of_calls, refl}
-use Rattle.pingora_lru.proofs.locked.looks.visit.Goals as goal
+use Rattle.pingora_lru.proofs.looks.visit.Goals as goal
 
 pub items-preserved : goal.items-preserved
 items-preserved g c =

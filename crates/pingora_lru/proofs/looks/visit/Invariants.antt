@@ -1,7 +1,7 @@
 use denote.Param.Always.{always_mut}
 use Rattle.std.specs.List.{FoldsTo}
 use Rattle.lru_core.specs.Updates.{Visits}
-use Rattle.pingora_lru.proofs.locked.looks.visit.Given as goal
+use Rattle.pingora_lru.proofs.looks.visit.Given as goal
 
 -- the calls that are to come, after those that were made, are all calls
 abbrev pub invariant-items : goal.invariant-items

@@ -1,0 +1,176 @@
+//! Uses, insertion and weights, each a call that is kept under the lock of its shard.
+
+ghost use Rattle.std.specs.Prelude.{◌≡◌, ◌≢◌, ℕ, ◌%◌, Some, IsSome, max, IfOk, IfErr, MatchOption};
+ghost use Rattle.pingora_lru.specs.Calls.{lost, item_of};
+
+use super::RecordedLru;
+use crate::call::{Call, Reply};
+use crate::counts::Sums;
+use lru_core::lru_unit::LruFault;
+use std::alloc::AllocError;
+use std::hash::BuildHasher;
+use std::sync::Wait;
+
+impl<T: Drop, const N: usize, S: BuildHasher> RecordedLru<T, N, S> {
+    /// Moves the row of `key` to the front of its shard, and returns whether there is one.
+    ///
+    /// # Errors
+    ///
+    /// No room in the record. Nothing changes.
+    pub fn promote<R: Wait>(&self, rt: &R, key: u64) -> Result<bool, AllocError> {
+        match self.step(rt, self.shard_of(key), Call::Promote(key)) {
+            Ok(Reply::Promoted(found)) => Ok(found),
+            Ok(_) => unreachable!(),
+            Err(_) => Err(AllocError),
+        }
+    }
+
+    /// Moves the row of `key` to the front of its shard if it is not among the first `top`, and returns whether there is one.
+    ///
+    /// # Errors
+    ///
+    /// No room in the record. Nothing changes.
+    pub fn promote_top_n<R: Wait>(&self, rt: &R, key: u64, top: usize) -> Result<bool, AllocError> {
+        match self.step(rt, self.shard_of(key), Call::PromoteTopN(key, top)) {
+            Ok(Reply::Promoted(found)) => Ok(found),
+            Ok(_) => unreachable!(),
+            Err(_) => Err(AllocError),
+        }
+    }
+
+    /// Inserts `item` under `key` at the front of its shard, with a weight of 1 at least, in place of what the key had.
+    /// Returns the shard.
+    ///
+    /// # Errors
+    ///
+    /// No room in the record, or what the shard refuses. Nothing changes, and the item comes back.
+    pub fn admit<R: Wait>(
+        &self,
+        rt: &R,
+        key: u64,
+        item: T,
+        weight: usize,
+    ) -> Result<usize, LruFault<T>>
+        ensures shard { IfOk result (λ i. i ≡ key % N) }
+        ensures back { IfErr result (λ fault. lost fault ≡ item) }
+    {
+        let shard = self.shard_of(key);
+        match self.step(rt, shard, Call::Admit(key, item, weight)) {
+            Ok(_) => Ok(shard),
+            Err(fault) => Err(item_back(fault)),
+        }
+    }
+
+    /// Inserts `item` under a new key at the back of its shard, with its weight as it is, and returns `true`. Nothing changes
+    /// if the key is there.
+    ///
+    /// # Errors
+    ///
+    /// No room in the record, or what the shard refuses. Nothing changes, and the item comes back.
+    pub fn insert_tail<R: Wait>(
+        &self,
+        rt: &R,
+        key: u64,
+        item: T,
+        weight: usize,
+    ) -> Result<bool, LruFault<T>>
+        ensures { IfErr result (λ fault. lost fault ≡ item) }
+    {
+        match self.step(rt, self.shard_of(key), Call::InsertTail(key, item, weight)) {
+            Ok(Reply::Inserted(added)) => Ok(added),
+            Ok(_) => unreachable!(),
+            Err(fault) => Err(item_back(fault)),
+        }
+    }
+
+    /// Sets the weight of `key`, as it is, and returns the old one, if the key is there. The order stays.
+    ///
+    /// # Errors
+    ///
+    /// No room in the record, or the shard's weight would pass its bound. Nothing changes.
+    pub fn set_weight<R: Wait>(
+        &self,
+        rt: &R,
+        key: u64,
+        weight: usize,
+    ) -> Result<Option<usize>, LruFault<()>> {
+        match self.step(rt, self.shard_of(key), Call::SetWeight(key, weight)) {
+            Ok(Reply::WeightSet(old)) => Ok(old),
+            Ok(_) => unreachable!(),
+            Err(LruFault::Memory(_)) => Err(LruFault::Memory(())),
+            Err(LruFault::Weight(_)) => Err(LruFault::Weight(())),
+            Err(LruFault::Length(_)) => Err(LruFault::Length(())),
+        }
+    }
+
+    /// Adds `delta` to the weight of `key`, as `Lru::increment_weight`. `admit_data` runs under the shard's lock.
+    ///
+    /// # Errors
+    ///
+    /// No room in the record, or what the shard refuses. Nothing changes, and `admit_data` comes back uncalled.
+    pub fn increment_weight<R: Wait, F: FnOnce() -> T>(
+        &self,
+        rt: &R,
+        key: u64,
+        admit_data: F,
+        delta: usize,
+        max_weight: Option<usize>,
+    ) -> Result<usize, LruFault<F>>
+    where
+        F: Drop,
+        requires { F.IsAlwaysCallable admit_data }
+        ensures { IfErr result (λ fault. lost fault ≡ admit_data) }
+    {
+        let mut unit = self.shards[self.shard_of(key)].lock(rt);
+        let before = Sums::of(unit.unit());
+        let added: Result<(usize, usize, bool), LruFault<F>> = unit.increment_weight(
+            key, admit_data, delta, max_weight,
+        );
+        self.counts.recount(unit.unit(), before);
+        let now = added?;
+        Ok(now.1)
+    }
+
+    /// Updates or inserts, as `Lru::update_or_admit`. The kept weight is the one that was set. Both run under the shard's
+    /// lock, and must not ask for it.
+    ///
+    /// # Errors
+    ///
+    /// No room in the record, when neither is called; or what the shard refuses, as there.
+    pub fn update_or_admit<R: Wait, U: FnOnce(&mut T, usize) -> usize, A: FnOnce() -> (T, usize)>(
+        &self,
+        rt: &R,
+        key: u64,
+        update: U,
+        admit_data: A,
+    ) -> Result<Option<usize>, LruFault<Option<T>>>
+    where
+        U: Drop,
+        A: Drop,
+        requires update { U.IsAlwaysCallable update }
+        requires admit { A.IsAlwaysCallable admit_data }
+    {
+        let mut unit = self.shards[self.shard_of(key)].lock(rt);
+        let before = Sums::of(unit.unit());
+        let added: Result<(Option<usize>, usize), LruFault<Option<T>>> = unit.update_or_admit(
+            key, update, admit_data,
+        );
+        self.counts.recount(unit.unit(), before);
+        match added {
+            Ok(now) => Ok(now.0),
+            Err(fault) => Err(fault),
+        }
+    }
+}
+
+// The refusal of a call with its data alone.
+fn item_back<T: Drop>(fault: LruFault<Call<T>>) -> LruFault<T>
+    requires { IsSome (item_of (lost fault)) }
+    ensures { Some (lost result) ≡ item_of (lost fault) }
+{
+    match fault {
+        LruFault::Memory(call) => LruFault::Memory(call.into_item().unwrap()),
+        LruFault::Weight(call) => LruFault::Weight(call.into_item().unwrap()),
+        LruFault::Length(call) => LruFault::Length(call.into_item().unwrap()),
+    }
+}

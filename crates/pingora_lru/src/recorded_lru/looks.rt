@@ -1,0 +1,75 @@
+//! Looks at rows and records, which change nothing and are not kept.
+
+ghost use Rattle.std.specs.Prelude.{◌<◌};
+
+use super::RecordedLru;
+use crate::call::Kept;
+use crate::looks::visit;
+use std::alloc::AllocError;
+use std::hash::BuildHasher;
+use std::sync::Wait;
+
+impl<T: Drop, const N: usize, S: BuildHasher> RecordedLru<T, N, S> {
+    /// Returns whether `key` is there. The order stays.
+    pub fn peek<R: Wait>(&self, rt: &R, key: u64) -> bool {
+        self.shards[self.shard_of(key)]
+            .lock(rt)
+            .unit()
+            .peek(key)
+            .is_some()
+    }
+
+    /// Returns the weight of `key`. The order stays.
+    pub fn peek_weight<R: Wait>(&self, rt: &R, key: u64) -> Option<usize> {
+        self.shards[self.shard_of(key)]
+            .lock(rt)
+            .unit()
+            .peek_weight(key)
+    }
+
+    /// Returns the number of rows of a shard.
+    pub fn shard_len<R: Wait>(&self, rt: &R, shard: usize) -> usize
+        requires { shard < N }
+    {
+        self.shards[shard].lock(rt).unit().len()
+    }
+
+    /// Returns the weight of the rows of a shard.
+    pub fn shard_weight<R: Wait>(&self, rt: &R, shard: usize) -> usize
+        requires { shard < N }
+    {
+        self.shards[shard].lock(rt).unit().weight()
+    }
+
+    /// Calls `f` with the data and the weight of each row of a shard, most recent first. It runs under the shard's lock, and
+    /// must not ask for it.
+    pub fn iter_for_each<R: Wait, F: FnMut((&T, usize))>(&self, rt: &R, shard: usize, mut f: F)
+        requires within { shard < N }
+        requires callable { F.IsAlwaysCallable f }
+    {
+        let unit = self.shards[shard].lock(rt);
+        visit(unit.unit(), &mut f);
+    }
+
+    /// Calls `look` with a shard's record, the first call first, under the shard's lock, for which it must not ask.
+    pub fn look<R: Wait, F: FnOnce(&[Kept])>(&self, rt: &R, shard: usize, look: F)
+        requires within { shard < N }
+        requires callable { F.IsAlwaysCallable look }
+    {
+        let unit = self.shards[shard].lock(rt);
+        look(unit.kept());
+    }
+}
+
+impl<T: Clone, const N: usize, S: BuildHasher> RecordedLru<T, N, S> {
+    /// Returns a clone of the data of the last row of a shard, and its weight. The order stays.
+    pub fn peek_lru<R: Wait>(&self, rt: &R, shard: usize) -> Result<Option<(T, usize)>, AllocError>
+        requires { shard < N }
+    {
+        let unit = self.shards[shard].lock(rt);
+        match unit.unit().peek_lru() {
+            Some((item, weight)) => Ok(Some((item.clone()?, weight))),
+            None => Ok(None),
+        }
+    }
+}
