@@ -23,7 +23,7 @@ use Rattle.tier_model.specs.declared.state.FinishedBody.{FinishedBody}
 use Rattle.tier_model.specs.declared.state.Request.{Request}
 use Rattle.tier_model.specs.Calls.{nothing_done, evicted_by}
 use Rattle.tier_model.specs.Evictions.{all_gone, GoInTurn}
-use Rattle.tier_model.specs.Rows.{body_of, without_body, without_key, without_bodies, with_body, weight_for}
+use Rattle.tier_model.specs.Rows.{Bodies, body_of, without_body, without_key, without_bodies, with_body, weight_for}
 use Rattle.tier_model.specs.State.{State, shards_of}
 use Rattle.tier_model.specs.Step.{Fits, UseFits, admitted, used, IsKeptOut, IsUseFault, body_for, taken_back, stored_alone, all_done, after_purge, after_read, on_request, after_look_up, looked, look_answer, counted}
 use Rattle.cache_tier.specs.Acts.{AllowsUnrefused, fault_for, after_store, cleared, is_untouched, RollsBack, IsRefusal}
@@ -31,7 +31,7 @@ use Rattle.cache_tier.specs.Shards.{AreKept}
 use Rattle.cache_tier.proofs.ShardLaws.{kept-put, put-there, Went, evicts-went}
 
 -- one more eviction
-pub without_bodies-more : (es : List CacheEntryKey) (e : CacheEntryKey) (bodies : List FinishedBody) → without_bodies (es ++ e ∷ []) bodies ≡ without_key (key_alone e) (without_bodies es bodies)
+pub without_bodies-more : (es : List CacheEntryKey) (e : CacheEntryKey) (bodies : Bodies) → without_bodies (es ++ e ∷ []) bodies ≡ without_key (key_alone e) (without_bodies es bodies)
 without_bodies-more [] e bodies = refl
 without_bodies-more (k ∷ ks) e bodies = without_bodies-more ks e (without_key (key_alone k) bodies)
 

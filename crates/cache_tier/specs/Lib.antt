@@ -1,4 +1,5 @@
 pub mod Heads
+pub mod Bodies
 pub mod Codes
 pub mod Shards
 pub mod Acts
