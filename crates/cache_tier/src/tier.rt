@@ -47,7 +47,7 @@ impl<const N: usize, S: BuildHasher> Model for Tier<N, S> {
     ghost use Rattle.tier_model.specs.State.{State};
     ghost use Rattle.cache_tier.specs.Bodies.{bodies_in};
     ghost use Rattle.cache_tier.specs.Codes.{state_code};
-    ghost use Rattle.cache_tier.specs.Shards.{AreKept};
+    ghost use Rattle.cache_evict.specs.Managed.{IsSharded};
 
     ghost Value = { State };
 
@@ -63,7 +63,7 @@ impl<const N: usize, S: BuildHasher> Model for Tier<N, S> {
       absent = t.absent;
     } };
 
-    ghost invariant = { λ t. AreKept N t.manager };
+    ghost invariant = { λ t. IsSharded N t.manager };
 }
 
 impl<const N: usize> Tier<N, BuildHasherDefault<FoldHasher>> {

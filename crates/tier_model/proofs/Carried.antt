@@ -1,9 +1,9 @@
 -- Lawful histories hold the headline, and runs carry it on.
-use Rattle.std.proofs.Common.{◌≡◌, ℕ, ◌<◌, length, refl, ap, sym, ◌∙◌, false, subst, [], ◌∷◌, arith}
+use Rattle.std.proofs.Common.{◌≡◌, ℕ, ◌<◌, length, refl, ap, sym, ◌∙◌, subst, [], ◌∷◌, arith}
 use Rattle.std.specs.Prelude.{◌≤◌, List, Option, Some, None, IfSome, replicate, option_map}
 use Rattle.std.proofs.lemmas.List.{ext_get_or}
 use Rattle.std.specs.List.{AllByRecursion}
-use Rattle.std.specs.FinMap.{get, get-empty, empty, entries, len, len-entries}
+use Rattle.std.specs.FinMap.{get, get-empty, empty, entries, len-entries}
 use Rattle.std.specs.Cmp.Lexicographic.{slice_cmp}
 use Rattle.std.specs.Ordering.{nat_cmp}
 use Rattle.cache_entries.specs.declared.rows.Tracked.{Tracked}

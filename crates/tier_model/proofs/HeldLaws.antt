@@ -18,7 +18,7 @@ use Rattle.tier_model.specs.declared.state.FinishedBody.{FinishedBody}
 use Rattle.tier_model.specs.Histories.{Kept}
 use Rattle.tier_model.specs.Reports.{AreAllBodies}
 use Rattle.tier_model.specs.Past.{held_of, told_of, held_at, told_at}
-use Rattle.tier_model.specs.Rows.{Bodies, body_of}
+use Rattle.tier_model.specs.Rows.{Bodies}
 use Rattle.tier_model.proofs.BodyLaws.{ties-same}
 use Rattle.tier_model.proofs.ChangeLaws.{Leaves, shows, is_held}
 use Rattle.cache_changes.proofs.LaterLaws.{one_body}

@@ -1,7 +1,6 @@
-use Rattle.std.proofs.Common.{◌≡◌, ◌≢◌, refl, sym, Some, None, max, ◌∙◌, ap}
+use Rattle.std.proofs.Common.{◌≡◌, refl, sym, Some, None, max}
 use Rattle.cache_entries.specs.Entry.{key_of}
 use Rattle.cache_changes.specs.Changes.{stored_key}
-use Rattle.cache_evict.specs.Managed.{use_first}
 use Rattle.tier_model.specs.Rows.{body_of, weight_for}
 use Rattle.tier_model.specs.State.{State}
 use Rattle.cache_tier.specs.Bodies.{bodies_in}
