@@ -3,3 +3,4 @@ pub mod StoreLaws
 pub mod HeadLaws
 pub mod LengthLaws
 pub mod RunLaws
+mod TableLaws

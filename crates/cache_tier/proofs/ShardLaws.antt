@@ -1,5 +1,5 @@
 -- Shards keep to what they keep to, whatever is done to them; and what goes last in a shard is evicted.
-use Rattle.std.proofs.Common.{◌≡◌, ◌≢◌, ℕ, ◌+◌, ◌<◌, ◌≤◌, Bool, true, false, List, [], ◌∷◌, ◌++◌, length, replicate, refl, ap, sym, ◌∙◌, arith, cond, Some, None, Option, inl, inr, subst}
+use Rattle.std.proofs.Common.{◌≡◌, ℕ, ◌+◌, ◌<◌, ◌≤◌, Bool, true, false, List, [], ◌∷◌, ◌++◌, length, replicate, refl, ap, sym, ◌∙◌, arith, cond, Some, None, Option, inl, inr, subst}
 use Rattle.std.specs.Prelude.{not, unwrap_or, option_map, slice_set}
 use Rattle.std.specs.List.{AllByRecursion}
 use Rattle.std.proofs.Math.Nat.{mod-lt}
@@ -14,9 +14,13 @@ use Rattle.cache_entries.specs.EntryText.{entry_hash}
 use Rattle.cache_entries.specs.Rows.{row_of, weight_of, without_row, admitted, AreDistinct}
 use Rattle.cache_entries.specs.SameEntry.{same_entry-tells}
 use Rattle.cache_changes.proofs.RowLaws.{row_of-without, weight_of-admitted}
-use Rattle.cache_evict.specs.Managed.{Managed, fresh, shard_of, rows_at, rows_of, put_first, use_first, taken_out, is_over, saturated, GoesLast, Evicts}
+use Rattle.cache_evict.specs.Managed.{Managed, fresh, shard_of, rows_at, rows_of, put_first, use_first, taken_out, is_over, saturated, GoesLast, Evicts, IsSharded}
 use Rattle.tier_model.specs.Evictions.{gone, all_gone, GoInTurn}
-use Rattle.cache_tier.specs.Shards.{IsShard, AreKept}
+
+-- rows of shard s, of n shards: no entry has two, and each is of an entry of that shard
+record IsShard (n s : ℕ) (rows : List Tracked) : Type 0 where
+  distinct : AreDistinct rows
+  home : AllByRecursion (λ r. shard_of n r.entry ≡ s) rows
 
 -- ---- one shard
 
@@ -83,7 +87,13 @@ last-home n s e w (r ∷ front) h = last-home n s e w front h.1
 
 -- ---- all of them
 
-pub shard-below : (n : ℕ) (e : CacheEntryKey) (m : Managed) → AreKept n m → shard_of n e < length m.shards
+each-shard : (n : ℕ) (m : Managed) → IsSharded n m → (s : ℕ) → IsShard n s (rows_at m.shards s)
+each-shard n m k s = record { distinct = k.distinct s; home = k.home s }
+
+sharded : (n : ℕ) (m : Managed) → 0 < n → length m.shards ≡ n → ((s : ℕ) → IsShard n s (rows_at m.shards s)) → IsSharded n m
+sharded n m some count each = record { some = some; count = count; distinct = λ s. (each s).distinct; home = λ s. (each s).home }
+
+pub shard-below : (n : ℕ) (e : CacheEntryKey) (m : Managed) → IsSharded n m → shard_of n e < length m.shards
 shard-below n e m k = subst (λ (x : ℕ). shard_of n e < x) (sym k.count) (mod-lt (entry_hash e) k.some)
 
 none_past : (m : Managed) (s : ℕ) → length m.shards ≤ s → rows_at m.shards s ≡ []
@@ -102,36 +112,30 @@ each-set n i shards rows each here s = elim (cases_eq s i) [
   | inr other ↦ subst (λ (l : List Tracked). IsShard n s l) (sym (get_or-set_other shards i s rows [] other)) (each s)
 ]
 
-pub kept-fresh : (n limit : ℕ) (mark : Option ℕ) → 0 < n → AreKept n (fresh n limit mark)
-kept-fresh n limit mark pos = record {
-  some = pos;
-  count = length-replicate n [];
-  each = λ s. elim (cases_lt s n) [
-    | inl within ↦ subst (λ (l : List Tracked). IsShard n s l) (sym (get_or-replicate n s [] [] within)) (empty_shard n s)
-    | inr past ↦ subst (λ (l : List Tracked). IsShard n s l) (sym (get_or_past (replicate n []) s [] (omega (arith, past, length-replicate {A = List Tracked} n [])))) (empty_shard n s)
-  ];
-}
+pub kept-fresh : (n limit : ℕ) (mark : Option ℕ) → 0 < n → IsSharded n (fresh n limit mark)
+kept-fresh n limit mark pos =
+    sharded n (fresh n limit mark) pos (length-replicate n [])
+    (λ s. elim (cases_lt s n) [
+      | inl within ↦ subst (λ (l : List Tracked). IsShard n s l) (sym (get_or-replicate n s [] [] within)) (empty_shard n s)
+      | inr past ↦ subst (λ (l : List Tracked). IsShard n s l) (sym (get_or_past (replicate n []) s [] (omega (arith, past, length-replicate {A = List Tracked} n [])))) (empty_shard n s)
+    ])
 
-module _ (n : ℕ) (m : Managed) (k : AreKept n m) where
-  pub kept-put : (e : CacheEntryKey) (w : ℕ) → AreKept n (put_first n e w m)
-  kept-put e w = record {
-    some = k.some;
-    count = length-set m.shards (shard_of n e) _ ∙ k.count;
-    each = each-set n (shard_of n e) m.shards (admitted e w (rows_of n e m)) k.each (shard-admitted n (shard_of n e) e w (rows_of n e m) refl (k.each (shard_of n e)));
-  }
+module _ (n : ℕ) (m : Managed) (k : IsSharded n m) where
+  pub kept-put : (e : CacheEntryKey) (w : ℕ) → IsSharded n (put_first n e w m)
+  kept-put e w =
+      sharded n (put_first n e w m) k.some (length-set m.shards (shard_of n e) _ ∙ k.count)
+      (each-set n (shard_of n e) m.shards (admitted e w (rows_of n e m)) (each-shard n m k) (shard-admitted n (shard_of n e) e w (rows_of n e m) refl (each-shard n m k (shard_of n e))))
 
-  pub kept-use : (e : CacheEntryKey) (w : ℕ) → AreKept n (use_first n e w m)
+  pub kept-use : (e : CacheEntryKey) (w : ℕ) → IsSharded n (use_first n e w m)
   kept-use e w = kept-put e (unwrap_or (weight_of e (rows_of n e m)) w)
 
-  pub kept-out : (e : CacheEntryKey) → AreKept n (taken_out n e m)
-  kept-out e = record {
-    some = k.some;
-    count = length-set m.shards (shard_of n e) _ ∙ k.count;
-    each = each-set n (shard_of n e) m.shards (without_row e (rows_of n e m)) k.each (shard-without n (shard_of n e) e (rows_of n e m) (k.each (shard_of n e)));
-  }
+  pub kept-out : (e : CacheEntryKey) → IsSharded n (taken_out n e m)
+  kept-out e =
+      sharded n (taken_out n e m) k.some (length-set m.shards (shard_of n e) _ ∙ k.count)
+      (each-set n (shard_of n e) m.shards (without_row e (rows_of n e m)) (each-shard n m k) (shard-without n (shard_of n e) e (rows_of n e m) (each-shard n m k (shard_of n e))))
 
-  kept-gone : (e : CacheEntryKey) → AreKept n (gone n e m)
-  kept-gone e = record { some = k.some; count = (kept-out e).count; each = (kept-out e).each }
+  kept-gone : (e : CacheEntryKey) → IsSharded n (gone n e m)
+  kept-gone e = record { some = k.some; count = (kept-out e).count; distinct = (kept-out e).distinct; home = (kept-out e).home }
 
   -- an entry that is put first is there
   pub put-there : (e : CacheEntryKey) (w : ℕ) → weight_of e (rows_of n e (put_first n e w m)) ≡ Some w
@@ -143,7 +147,7 @@ module _ (n : ℕ) (m : Managed) (k : AreKept n m) where
   goes-gone : (s : ℕ) (e : CacheEntryKey) (new : Managed) → GoesLast m s e new → (new ≡ gone n e m) × ((front : List Tracked) × (w : ℕ) × (rows_of n e m ≡ front ++ record { entry = e; weight = w } ∷ []))
   goes-gone s e new g =
       let row : Tracked = record { entry = e; weight = g.1 } in
-      let shard : IsShard n s (g.0 ++ row ∷ []) = subst (λ (l : List Tracked). IsShard n s l) g.2 (k.each s) in
+      let shard : IsShard n s (g.0 ++ row ∷ []) = subst (λ (l : List Tracked). IsShard n s l) g.2 (each-shard n m k s) in
       let home : shard_of n e ≡ s = last-home n s e g.1 g.0 shard.home in
       let rows : rows_of n e m ≡ g.0 ++ row ∷ [] = ap (rows_at m.shards) home ∙ g.2 in
       let weight : weight_of e (rows_of n e m) ≡ Some g.1 = ap (weight_of e) rows ∙ last-weight e g.1 g.0 shard.distinct in
@@ -159,18 +163,18 @@ module _ (n : ℕ) (m : Managed) (k : AreKept n m) where
 pub record Went (n : ℕ) (over : Bool) (es : List CacheEntryKey) (old new : Managed) : Type 0 where
   pub left : new ≡ all_gone n es old
   pub turns : GoInTurn n over es old
-  pub kept : AreKept n new
+  pub kept : IsSharded n new
 
-pub evicts-went : (pick : List (List Tracked) → Stream → ℕ × Stream) (n : ℕ) (over : Bool) (es : List CacheEntryKey) (old new : Managed) (s rest : Stream) → AreKept n old → Evicts pick old es s new rest → is_over new ≡ over
+pub evicts-went : (pick : List (List Tracked) → Stream → ℕ × Stream) (n : ℕ) (over : Bool) (es : List CacheEntryKey) (old new : Managed) (s rest : Stream) → IsSharded n old → Evicts pick old es s new rest → is_over new ≡ over
     → Went n over es old new
 evicts-went pick n over [] old new s rest k h o = record {
   left = h.0;
   turns = subst (λ (m : Managed). is_over m ≡ over) h.0 o;
-  kept = subst (λ (m : Managed). AreKept n m) (sym h.0) k;
+  kept = subst (λ (m : Managed). IsSharded n m) (sym h.0) k;
 }
 evicts-went pick n over (e ∷ es) old new s rest k h o =
     let first = goes-gone n old k (pick old.shards s).0 e h.0 h.2 in
-    let mid : AreKept n h.0 = subst (λ (m : Managed). AreKept n m) (sym first.0) (kept-gone n old k e) in
+    let mid : IsSharded n h.0 = subst (λ (m : Managed). IsSharded n m) (sym first.0) (kept-gone n old k e) in
     let later = evicts-went pick n over es h.0 new (pick old.shards s).1 rest mid h.3 o in
     record {
       left = later.left ∙ ap (all_gone n es) first.0;

@@ -1,6 +1,6 @@
 -- What the storing of a body leaves: its evictions, and its taking back; and why an entry isn't used.
 use Rattle.std.proofs.Common.{◌≡◌, ◌≢◌, ℕ, ◌<◌, ◌^◌, Bool, true, false, List, [], ◌∷◌, ◌++◌, refl, ap, sym, ◌∙◌, arith, Some, None, Option, Err, inl, inr, subst, max, length, cond}
-use Rattle.std.specs.Prelude.{◌⊎◌, ◌+◌, not, is_some, MatchOption, Ok}
+use Rattle.std.specs.Prelude.{◌⊎◌, not, is_some, MatchOption, Ok}
 use Rattle.std.specs.FinMap.{get, insert}
 use Rattle.cache_words.specs.Time.{MomentValue, at_most}
 use Rattle.cache_words.specs.Key.{CacheKeyValue}
@@ -10,8 +10,8 @@ use Rattle.cache_entries.specs.Rows.{weight_of}
 use Rattle.cache_changes.specs.Changes.{StoredKey, stored_key, key_alone}
 use Rattle.cache_evict.specs.declared.fault.EvictFault.{EvictFault}
 use Rattle.cache_evict.specs.declared.fault.EvictFault.TheVariants as evict
-use Rattle.cache_evict.specs.Faults.{evicted_of, IsPutRefused, RunsOut, StopsAt, IsMemory}
-use Rattle.cache_evict.specs.Managed.{Managed, Evicts, rows_of, put_first, use_first, taken_out, pick_by_draws, is_over, total_size, IsHeavy, IsLong, IsFull}
+use Rattle.cache_evict.specs.Faults.{evicted_of, IsPutRefused, StopsAt, IsMemory}
+use Rattle.cache_evict.specs.Managed.{Managed, Evicts, rows_of, put_first, use_first, taken_out, pick_by_draws, is_over, total_size, IsHeavy, IsLong, IsFull, IsSharded}
 use Rattle.tier_model.specs.Keys.{Entry, entry_of, alone, stored_key_of}
 use Rattle.tier_model.specs.declared.event.Action.TheVariants.{LookUp}
 use Rattle.tier_model.specs.declared.event.Answer.TheVariants.{Found}
@@ -23,15 +23,14 @@ use Rattle.tier_model.specs.declared.state.FinishedBody.{FinishedBody}
 use Rattle.tier_model.specs.declared.state.Request.{Request}
 use Rattle.tier_model.specs.Calls.{nothing_done, evicted_by}
 use Rattle.tier_model.specs.Evictions.{all_gone, GoInTurn}
-use Rattle.tier_model.specs.Rows.{body_of, without_body, without_key, without_bodies, with_body, weight_for}
+use Rattle.tier_model.specs.Rows.{Bodies, body_of, without_body, without_key, without_bodies, weight_for}
 use Rattle.tier_model.specs.State.{State, shards_of}
 use Rattle.tier_model.specs.Step.{Fits, UseFits, admitted, used, IsKeptOut, IsUseFault, body_for, taken_back, stored_alone, all_done, after_purge, after_read, on_request, after_look_up, looked, look_answer, counted}
 use Rattle.cache_tier.specs.Acts.{AllowsUnrefused, fault_for, after_store, cleared, is_untouched, RollsBack, IsRefusal}
-use Rattle.cache_tier.specs.Shards.{AreKept}
 use Rattle.cache_tier.proofs.ShardLaws.{kept-put, put-there, Went, evicts-went}
 
 -- one more eviction
-pub without_bodies-more : (es : List CacheEntryKey) (e : CacheEntryKey) (bodies : List FinishedBody) → without_bodies (es ++ e ∷ []) bodies ≡ without_key (key_alone e) (without_bodies es bodies)
+pub without_bodies-more : (es : List CacheEntryKey) (e : CacheEntryKey) (bodies : Bodies) → without_bodies (es ++ e ∷ []) bodies ≡ without_key (key_alone e) (without_bodies es bodies)
 without_bodies-more [] e bodies = refl
 without_bodies-more (k ∷ ks) e bodies = without_bodies-more ks e (without_key (key_alone k) bodies)
 
@@ -44,17 +43,17 @@ pub record HasEvicted (n : ℕ) (s : State) (b : FinishedBody) (over : Bool) (es
   pub turns : GoInTurn (shards_of s) over es (admitted s b)
   pub left : m ≡ all_gone (shards_of s) es (admitted s b)
   pub drawn : Evicts (pick_by_draws (shards_of s)) (admitted s b) es st m rest
-  pub kept : AreKept n m
+  pub kept : IsSharded n m
 
-pub has_evicted : (n w : ℕ) (s : State) (b : FinishedBody) (over : Bool) (es : List CacheEntryKey) (m : Managed) (st rest : Stream) → AreKept n s.managed → w ≡ weight_for b
+pub has_evicted : (n w : ℕ) (s : State) (b : FinishedBody) (over : Bool) (es : List CacheEntryKey) (m : Managed) (st rest : Stream) → IsSharded n s.managed → w ≡ weight_for b
     → total_size (put_first n (alone b.entry) w s.managed) < 2 ^ 64 → Evicts (pick_by_draws n) (put_first n (alone b.entry) w s.managed) es st m rest → is_over m ≡ over → HasEvicted n s b over es m st rest
 has_evicted n w s b over es m st rest k weighs fits went ends =
     let N = shards_of s in
     let turn : (x v : ℕ) → Type 0 = λ x v. (total_size (put_first x (alone b.entry) v s.managed) < 2 ^ 64) × Evicts (pick_by_draws x) (put_first x (alone b.entry) v s.managed) es st m rest in
     let here : turn N (weight_for b) = subst (λ (v : ℕ). turn N v) weighs (subst (λ (x : ℕ). turn x w) (sym k.count) (fits, went)) in
-    let kept : AreKept N s.managed = subst (λ (x : ℕ). AreKept x s.managed) (sym k.count) k in
+    let kept : IsSharded N s.managed = subst (λ (x : ℕ). IsSharded x s.managed) (sym k.count) k in
     let all : Went N over es (admitted s b) m = evicts-went (pick_by_draws N) N over es (admitted s b) m st rest (kept-put N s.managed kept (alone b.entry) (weight_for b)) here.1 ends in
-    record { fits = here.0; turns = all.turns; left = all.left; drawn = here.1; kept = subst (λ (x : ℕ). AreKept x m) k.count all.kept }
+    record { fits = here.0; turns = all.turns; left = all.left; drawn = here.1; kept = subst (λ (x : ℕ). IsSharded x m) k.count all.kept }
 
 -- ---- a put that is refused
 
@@ -63,7 +62,7 @@ pub record IsRefusedPut (s : State) (b : FinishedBody) (f : TierFault) (new : St
   pub after : new ≡ after_store s b (Err f)
   pub drawn : (left : Managed) × Evicts (pick_by_draws (shards_of s)) (admitted s b) (evicted_by (Err f)) st left rest
 
-module _ (n w : ℕ) (s : State) (b : FinishedBody) (k : AreKept n s.managed) (weighs : w ≡ weight_for b) where
+module _ (n w : ℕ) (s : State) (b : FinishedBody) (k : IsSharded n s.managed) (weighs : w ≡ weight_for b) where
   nothing_put : (m : Managed) (f : TierFault) (new : State) (st rest : Stream) → m ≡ s.managed → rest ≡ st → (f ≡ Memory nothing_done) × (new ≡ record s { managed = m }) → IsRefusedPut s b f new st rest
   nothing_put m f new st rest same none r =
       let is : new ≡ s = r.1 ∙ ap (λ (x : Managed). record s { managed = x }) same in
@@ -135,10 +134,10 @@ module _ (n w : ℕ) (s : State) (b : FinishedBody) (k : AreKept n s.managed) (w
           by_list (x ∷ es) e memory h r = r.evicted memory (λ none. let same : x ∷ es ≡ [] = sym e ∙ none in absurd cc)
 
 -- whatever became of an admission, the shards are kept
-pub kept-stopped : (n w : ℕ) (s : State) (b : FinishedBody) (k : AreKept n s.managed) (m : Managed) (fault : EvictFault) (st rest : Stream) → w ≡ weight_for b
-    → StopsAt (pick_by_draws n) n (alone b.entry) w s.managed st fault m rest → AreKept n m
+pub kept-stopped : (n w : ℕ) (s : State) (b : FinishedBody) (k : IsSharded n s.managed) (m : Managed) (fault : EvictFault) (st rest : Stream) → w ≡ weight_for b
+    → StopsAt (pick_by_draws n) n (alone b.entry) w s.managed st fault m rest → IsSharded n m
 kept-stopped n w s b k m fault st rest weighs stops = elim stops [
-  | inl p ↦ subst (λ (x : Managed). AreKept n x) (sym p.2) k
+  | inl p ↦ subst (λ (x : Managed). IsSharded n x) (sym p.2) k
   | inr q ↦ (has_evicted n w s b true (evicted_of fault) m st rest k weighs q.1 q.0.1 q.0.2).kept
 ]
 
@@ -149,7 +148,7 @@ pub no_weight : (o : Option ℕ) → (o ≢ None → false ≡ true) → o ≡ N
 no_weight None h = refl
 no_weight (Some w) h = absurd (let never = h (λ e. cc) in cc)
 
-pub use-fault : (n w : ℕ) (s : State) (q : Request) (b : FinishedBody) (fault : EvictFault) → AreKept n s.managed → w ≡ weight_for b → body_for q s.bodies ≡ Some b
+pub use-fault : (n w : ℕ) (s : State) (q : Request) (b : FinishedBody) (fault : EvictFault) → IsSharded n s.managed → w ≡ weight_for b → body_for q s.bodies ≡ Some b
     → weight_of q.entry (rows_of n q.entry s.managed) ≡ None → IsPutRefused n q.entry w s.managed fault → (fault_for fault nothing_done ≡ Memory nothing_done) ⊎ IsUseFault s q (fault_for fault nothing_done)
 use-fault n w s q b fault k weighs found none p = by_fault fault p
   where
@@ -242,7 +241,7 @@ module _ (s : State) (t : MomentValue) (i : ℕ) (q : Request) (there : Some q �
   pub look-absent : (new : State) → None ≡ body_for q s.bodies → new ≡ record s { requests = insert s.requests i (looked t q None); absent = counted s.absent 1 } → new ≡ on_request s (get s.requests i) (λ q. after_look_up s t i q (body_for q s.bodies))
   look-absent new found is = look-after new None found is
 
-  module _ (n w : ℕ) (b : FinishedBody) (k : AreKept n s.managed) (weighs : w ≡ weight_for b) (found : Some b ≡ body_for q s.bodies) where
+  module _ (n w : ℕ) (b : FinishedBody) (k : IsSharded n s.managed) (weighs : w ≡ weight_for b) (found : Some b ≡ body_for q s.bodies) where
     here : (P : Managed → Type 0) → P (use_first n q.entry w s.managed) → P (used s q.entry b)
     here P p = subst (λ (v : ℕ). P (use_first (shards_of s) q.entry v s.managed)) weighs (subst (λ (x : ℕ). P (use_first x q.entry w s.managed)) (sym k.count) p)
 

@@ -7,10 +7,10 @@ use Rattle.cache_words.specs.Time.{DurationValue}
 use Rattle.cache_entries.specs.declared.rows.Tracked.{Tracked}
 use Rattle.cache_entries.specs.contracts.rows.Tracked.{the_row as tracked_row}
 use Rattle.cache_evict.specs.Managed.{Managed}
-use Rattle.tier_model.specs.declared.state.FinishedBody.{FinishedBody}
 use Rattle.tier_model.specs.declared.state.Request.{Request}
 use Rattle.tier_model.specs.contracts.state.FinishedBody.{the_row as body_row}
 use Rattle.tier_model.specs.contracts.state.Request.{the_row as request_row}
+use Rattle.tier_model.specs.Rows.{Bodies}
 use Rattle.tier_model.specs.State.{State}
 
 abbrev pub span_code : Coded DurationValue
@@ -24,7 +24,7 @@ managed_code =
 
 abbrev pub state_code : Coded State
 state_code =
-    code_by (Managed × (DurationValue × (Option DurationValue × (List FinishedBody × (finite.FinMap nat_cmp Request × (ℕ × ℕ))))))
-    (coded× managed_code (coded× span_code (coded× (coded_option span_code) (coded× (coded_list body_row.coded) (coded× (finite.code coded_ℕ request_row.coded) (coded× coded_ℕ coded_ℕ))))))
+    code_by (Managed × (DurationValue × (Option DurationValue × (Bodies × (finite.FinMap nat_cmp Request × (ℕ × ℕ))))))
+    (coded× managed_code (coded× span_code (coded× (coded_option span_code) (coded× (finite.code (coded_list coded_ℕ) body_row.coded) (coded× (finite.code coded_ℕ request_row.coded) (coded× coded_ℕ coded_ℕ))))))
     (λ s. (s.managed, (s.age, (s.wait, (s.bodies, (s.requests, (s.found, s.absent)))))))
     (λ p. record { managed = p.0; age = p.1.0; wait = p.1.1.0; bodies = p.1.1.1.0; requests = p.1.1.1.1.0; found = p.1.1.1.1.1.0; absent = p.1.1.1.1.1.1 }) (λ _. refl)

@@ -12,30 +12,30 @@ mod faults;
 mod requests;
 mod store;
 
-use crate::bodies::all_bytes;
+use crate::bodies::{Bodies, all_bytes, count_of};
 use cache_evict::EvictionManager;
 use cache_evict::lru::Manager;
 use cache_words::time::Duration;
 use faults::nothing_done;
 use rand_core::Rng;
 use std::alloc::{AllocError, Global};
+use std::collections::HashMap;
 use std::hash::{BuildHasher, BuildHasherDefault, FoldHasher};
 use std::marker::Model;
 use tier_model::event::{Action, Answer, Event, TierFault};
 use tier_model::report::Report;
 use tier_model::requests::Requests;
-use tier_model::state::FinishedBody;
 
 /// A cache tier over N shards.
 ///
 /// With the default hasher it is for keys that the caller chooses itself; with one whose start the caller takes at random,
-/// strangers can't choose keys whose look-up among the tracked entries is slow.
+/// strangers can't choose keys whose look-up among the tracked entries or the bodies is slow.
 #[derive(Drop)]
 pub struct Tier<const N: usize, S: BuildHasher = BuildHasherDefault<FoldHasher>> {
     alloc: Global,
     age: Duration,
     wait: Option<Duration>,
-    bodies: Vec<FinishedBody>,
+    bodies: Bodies<S>,
     // The order of use, with the limits.
     manager: Manager<N, S>,
     requests: Requests,
@@ -45,8 +45,9 @@ pub struct Tier<const N: usize, S: BuildHasher = BuildHasherDefault<FoldHasher>>
 
 impl<const N: usize, S: BuildHasher> Model for Tier<N, S> {
     ghost use Rattle.tier_model.specs.State.{State};
+    ghost use Rattle.cache_tier.specs.Bodies.{bodies_in};
     ghost use Rattle.cache_tier.specs.Codes.{state_code};
-    ghost use Rattle.cache_tier.specs.Shards.{AreKept};
+    ghost use Rattle.cache_evict.specs.Managed.{IsSharded};
 
     ghost Value = { State };
 
@@ -56,13 +57,13 @@ impl<const N: usize, S: BuildHasher> Model for Tier<N, S> {
       managed = t.manager;
       age = t.age;
       wait = t.wait;
-      bodies = t.bodies.items;
+      bodies = bodies_in t.bodies.entries;
       requests = t.requests;
       found = t.found;
       absent = t.absent;
     } };
 
-    ghost invariant = { λ t. AreKept N t.manager };
+    ghost invariant = { λ t. IsSharded N t.manager };
 }
 
 impl<const N: usize> Tier<N, BuildHasherDefault<FoldHasher>> {
@@ -97,7 +98,7 @@ impl<const N: usize> Tier<N, BuildHasherDefault<FoldHasher>> {
 }
 
 impl<const N: usize, S: BuildHasher + Copy> Tier<N, S> {
-    /// The same, with hashes of that start in the tracked entries' table.
+    /// The same, with hashes of that start in the tables of tracked entries and of bodies.
     pub fn with_hasher(
         alloc: Global,
         hasher: S,
@@ -117,7 +118,7 @@ impl<const N: usize, S: BuildHasher + Copy> Tier<N, S> {
             alloc,
             age,
             wait,
-            bodies: Vec::new(alloc),
+            bodies: HashMap::with_hasher(alloc, hasher),
             manager,
             requests: Requests::new(alloc),
             found: 0,
@@ -189,7 +190,7 @@ impl<const N: usize, S: BuildHasher> Tier<N, S> {
         Report {
             found: self.found,
             absent: self.absent,
-            bodies: self.bodies.len() as u64,
+            bodies: count_of(&self.bodies),
             bytes: all_bytes(&self.bodies),
             tracked: self.manager.total_items() as u64,
             weight: self.manager.total_size() as u64,

@@ -1,35 +1,47 @@
 -- Bodies found by key after edits, in a tier's state and in what changes leave of writes.
 use Rattle.std.proofs.Common.{◌≡◌, ℕ, refl, ap, sym, ◌∙◌, true, false, subst, cond, [], ◌∷◌, ◌||◌}
 use Rattle.std.specs.Prelude.{Bool, List, Option, Some, None, option_map, not, find, filter}
+use Rattle.std.specs.Ordering.{nat_cmp, eq_by_cmp}
+use Rattle.std.specs.Cmp.Lexicographic.{slice_cmp, texts_ties, nat_list_cmp_total}
+use Rattle.std.specs.FinMap.{get-insert, get-remove}
 use Rattle.cache_entries.specs.Keys.{same_bytes}
 use Rattle.cache_changes.specs.Changes.{StoredKey, stored_key, key_alone, is_key}
 use Rattle.cache_changes.specs.Store.{Stored, is_of}
 use Rattle.cache_changes.proofs.RowLaws.{not_true, not_false, find-kept, find-gone}
 use Rattle.cache_entries.specs.declared.entry.CacheEntryKey.{CacheEntryKey}
 use Rattle.cache_entries.specs.SameEntry.{same_bytes-tells, same-sym}
-use Rattle.tier_model.proofs.KeyLaws.{find-without, find-at_end, either_none}
 use Rattle.tier_model.specs.declared.state.FinishedBody.{FinishedBody}
 use Rattle.tier_model.specs.Histories.{Kept}
 use Rattle.tier_model.specs.Past.{held_of}
-use Rattle.tier_model.specs.Rows.{body_of, with_body, without_body, without_key, without_bodies}
+use Rattle.tier_model.specs.Rows.{Bodies, body_of, with_body, without_body, without_key, without_bodies}
+
+-- keys that tie in the order of their bytes are the same
+pub ties-same : (k j : StoredKey) → eq_by_cmp (slice_cmp nat_cmp) k j ≡ same_bytes j k
+ties-same k j = sym (texts_ties k j) ∙ same-sym same_bytes same_bytes-tells k j
 
 -- in a state
-pub body_of-without : (k j : StoredKey) (bodies : List FinishedBody) → body_of k (without_body j bodies) ≡ cond (same_bytes j k) None (body_of k bodies)
-body_of-without k j bodies = find-without same_bytes same_bytes-tells (λ b. stored_key b.entry) k j bodies
+pub body_of-without : (k j : StoredKey) (bodies : Bodies) → body_of k (without_body j bodies) ≡ cond (same_bytes j k) None (body_of k bodies)
+body_of-without k j bodies = get-remove nat_list_cmp_total bodies j k ∙ ap (λ v. cond v None (body_of k bodies)) (ties-same k j)
 
-pub body_of-with : (k : StoredKey) (b : FinishedBody) (bodies : List FinishedBody) → body_of k (with_body b bodies) ≡ cond (same_bytes (stored_key b.entry) k) (Some b) (body_of k bodies)
-body_of-with k b bodies = find-at_end same_bytes same_bytes-tells (λ b. stored_key b.entry) k b bodies
+pub body_of-with : (k : StoredKey) (b : FinishedBody) (bodies : Bodies) → body_of k (with_body b bodies) ≡ cond (same_bytes (stored_key b.entry) k) (Some b) (body_of k bodies)
+body_of-with k b bodies = get-insert nat_list_cmp_total bodies (stored_key b.entry) b k ∙ ap (λ v. cond v (Some b) (body_of k bodies)) (ties-same k (stored_key b.entry))
+
+either_none : {X : Type 0} (x y : Bool) (o : Option X) → cond y None (cond x None o) ≡ cond (x || y) None o
+either_none true true o = refl
+either_none true false o = refl
+either_none false true o = refl
+either_none false false o = refl
 
 -- one of the entries has no id and the stored key k
 abbrev pub has_key : StoredKey → List CacheEntryKey → Bool
 has_key k [] = false
 has_key k (e ∷ es) = is_key k (key_alone e) || has_key k es
 
-pub body_of-without_key : (k : StoredKey) (j : Option StoredKey) (bodies : List FinishedBody) → body_of k (without_key j bodies) ≡ cond (is_key k j) None (body_of k bodies)
+pub body_of-without_key : (k : StoredKey) (j : Option StoredKey) (bodies : Bodies) → body_of k (without_key j bodies) ≡ cond (is_key k j) None (body_of k bodies)
 body_of-without_key k None bodies = refl
 body_of-without_key k (Some j) bodies = body_of-without k j bodies
 
-pub body_of-without_all : (k : StoredKey) (es : List CacheEntryKey) (bodies : List FinishedBody) → body_of k (without_bodies es bodies) ≡ cond (has_key k es) None (body_of k bodies)
+pub body_of-without_all : (k : StoredKey) (es : List CacheEntryKey) (bodies : Bodies) → body_of k (without_bodies es bodies) ≡ cond (has_key k es) None (body_of k bodies)
 body_of-without_all k [] bodies = refl
 body_of-without_all k (e ∷ es) bodies =
     body_of-without_all k es (without_key (key_alone e) bodies) ∙ ap (cond (has_key k es) None) (body_of-without_key k (key_alone e) bodies) ∙ either_none (is_key k (key_alone e)) (has_key k es) (body_of k bodies)

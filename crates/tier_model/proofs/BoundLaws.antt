@@ -19,12 +19,12 @@ use Rattle.tier_model.specs.Keys.{Entry, alone}
 use Rattle.tier_model.specs.Calls.{extended}
 use Rattle.tier_model.specs.Evictions.{gone, all_gone, GoInTurn}
 use Rattle.tier_model.specs.Histories.{Kept, write_of, goes, stores, clears}
-use Rattle.tier_model.specs.Rows.{with_body, without_body, without_bodies, weight_for}
+use Rattle.tier_model.specs.Rows.{Bodies, with_body, without_body, without_bodies, weight_for}
 use Rattle.tier_model.proofs.RowSteps.{over-rows}
 use Rattle.tier_model.proofs.ChangeLaws.{Leaves, leaves-later, leaves-used, leaves-cleared, leaves-gone, leaves-stored, leaves-back}
 
 -- what the changes leave, with bodies that keep both limits
-pub record Keeps (N n : ℕ) (held : List FinishedBody) (m : Managed) (changes : Changes Kept) : Type 0 where
+pub record Keeps (N n : ℕ) (held : Bodies) (m : Managed) (changes : Changes Kept) : Type 0 where
   pub leaves : Leaves N n held m changes
   pub within : AreWithin m.limit m.watermark changes
 
@@ -71,7 +71,7 @@ pub gone-limit : (N : ℕ) (es : List CacheEntryKey) (m : Managed) → ((all_gon
 gone-limit N [] m = (refl, refl)
 gone-limit N (e ∷ es) m = gone-limit N es (gone N e m)
 
-module _ (N n : ℕ) (bodies : List FinishedBody) (m : Managed) (changes : Changes Kept) (l : Keeps N n bodies m changes) where
+module _ (N n : ℕ) (bodies : Bodies) (m : Managed) (changes : Changes Kept) (l : Keeps N n bodies m changes) where
   pub keeps-later : (k : ℕ) → n ≤ k → Keeps N k bodies m changes
   keeps-later k h = record { leaves = leaves-later N n k bodies m changes h l.leaves; within = l.within }
 

@@ -1,9 +1,10 @@
 -- Lawful histories hold the headline, and runs carry it on.
-use Rattle.std.proofs.Common.{◌≡◌, ℕ, ◌<◌, length, refl, ap, sym, ◌∙◌, false, subst, [], ◌∷◌, arith}
-use Rattle.std.specs.Prelude.{◌≤◌, List, Option, Some, None, IfSome, replicate}
+use Rattle.std.proofs.Common.{◌≡◌, ℕ, ◌<◌, length, refl, ap, sym, ◌∙◌, subst, [], ◌∷◌, arith}
+use Rattle.std.specs.Prelude.{◌≤◌, List, Option, Some, None, IfSome, replicate, option_map}
 use Rattle.std.proofs.lemmas.List.{ext_get_or}
 use Rattle.std.specs.List.{AllByRecursion}
-use Rattle.std.specs.FinMap.{get, get-empty}
+use Rattle.std.specs.FinMap.{get, get-empty, empty, entries, len-entries}
+use Rattle.std.specs.Cmp.Lexicographic.{slice_cmp}
 use Rattle.std.specs.Ordering.{nat_cmp}
 use Rattle.cache_entries.specs.declared.rows.Tracked.{Tracked}
 use Rattle.cache_entries.specs.Rows.{AreDistinct}
@@ -24,7 +25,7 @@ use Rattle.tier_model.specs.Headline.{Headline, HoldsHeadline}
 use Rattle.tier_model.specs.Reports.{IsReport, report_of}
 use Rattle.tier_model.specs.State.{Settings, State, shards_of, empty_state}
 use Rattle.tier_model.specs.Step.{Allows, after}
-use Rattle.tier_model.specs.Past.{in_shards, loaded_of, state_of, IsLawful, MatchesHistory, HasPast, AreTaken, CarriesHeadline}
+use Rattle.tier_model.specs.Past.{in_shards, held_of, loaded_of, state_of, IsLawful, MatchesHistory, HasPast, AreTaken, CarriesHeadline}
 use Rattle.tier_model.proofs.RowSteps.{IsMade, in_shards-are}
 use Rattle.tier_model.proofs.ChangeLaws.{Leaves, unbound, is_held}
 use Rattle.tier_model.proofs.StepLaws.{made-after}
@@ -44,10 +45,13 @@ none_past None = tt
 none_past (Some bound) = omega arith
 
 -- where no body is held no write is one
-none_held : (N n : ℕ) (m : Managed) (changes : Changes Kept) → Leaves N n [] m changes → (w : Write Kept) → IsBody w.key w changes → ⊥
-none_held N n m changes l w i = let there = (is_held N n [] m changes l w.key w i).1 in absurd cc
+none_held : (N n : ℕ) (m : Managed) (changes : Changes Kept) → Leaves N n empty m changes → (w : Write Kept) → IsBody w.key w changes → ⊥
+none_held N n m changes l w i =
+    let x = is_held N n empty m changes l w.key w i in
+    let there : None ≡ Some x.0 = sym (get-empty (slice_cmp nat_cmp) w.key) ∙ x.1 in
+    absurd cc
 
-none_within : (N n : ℕ) (m : Managed) (changes : Changes Kept) → Leaves N n [] m changes → AreWithin m.limit m.watermark changes
+none_within : (N n : ℕ) (m : Managed) (changes : Changes Kept) → Leaves N n empty m changes → AreWithin m.limit m.watermark changes
 none_within N n m changes l [] d all = (omega arith, none_past m.watermark)
 none_within N n m changes l (w ∷ ws) d all = absurd (none_held N n m changes l w all.0)
 
@@ -55,11 +59,11 @@ none_within N n m changes l (w ∷ ws) d all = absurd (none_held N n m changes l
 abbrev in_shards_of : (N : ℕ) (m : Managed) (rows : List Tracked) → Managed
 in_shards_of N m rows = record m { shards = in_shards N rows }
 
-loaded : (N : ℕ) (m : Managed) (rows : List Tracked) → 0 < N → AreDistinct rows → Leaves N 0 [] (in_shards_of N m rows) (admissions rows)
+loaded : (N : ℕ) (m : Managed) (rows : List Tracked) → 0 < N → AreDistinct rows → Leaves N 0 empty (in_shards_of N m rows) (admissions rows)
 loaded N m [] pos d =
-    record { orderly = tt; below = tt; landed = refl; bodies = λ k. refl; some = pos; rows = in_shards-are N []; lawful = tt; tracks = tt; settled = refl }
+    record { orderly = tt; below = tt; landed = refl; bodies = λ k. ap (option_map held_of) (get-empty (slice_cmp nat_cmp) k); some = pos; rows = in_shards-are N []; lawful = tt; tracks = tt; settled = refl }
 loaded N m (r ∷ rows) pos d =
-    let l : Leaves N 0 [] (in_shards_of N m rows) (admissions rows) = loaded N m rows pos d.1 in
+    let l : Leaves N 0 empty (in_shards_of N m rows) (admissions rows) = loaded N m rows pos d.1 in
     record {
       orderly = (tt, l.orderly);
       below = (tt, l.below);
@@ -78,8 +82,8 @@ made-loaded start = record { shards = (in_shards-are start.settings.shards start
 opened : (start : Opening) → 0 < start.settings.shards → AreDistinct start.loaded → Holds start (state_of start []) []
 opened start pos d =
     let N : ℕ = start.settings.shards in
-    let l : Leaves N 0 [] (loaded_of start) (admissions start.loaded) = loaded N (fresh N start.settings.limit start.settings.watermark) start.loaded pos d in
-    subst (λ (n : ℕ). Keeps n 0 [] (loaded_of start) (admissions start.loaded)) (sym (made-loaded start).shards)
+    let l : Leaves N 0 empty (loaded_of start) (admissions start.loaded) = loaded N (fresh N start.settings.limit start.settings.watermark) start.loaded pos d in
+    subst (λ (n : ℕ). Keeps n 0 empty (loaded_of start) (admissions start.loaded)) (sym (made-loaded start).shards)
     (record { leaves = l; within = none_within N 0 (loaded_of start) (admissions start.loaded) l })
 
 -- what a state is to the history after it
@@ -93,7 +97,7 @@ pub Stands-lawful : (start : Opening) (h : History) → IsLawful start h → Sta
 Stands-lawful start [] l = record {
   made = made-loaded start;
   fits = record { requests = λ id. no_request start id (get (empty_state start.settings).requests id) (get-empty nat_cmp id); holds = opened start l.0 l.1 };
-  tallies = record { found = omega arith; absent = omega arith; evicted = omega arith; distinct = tt };
+  tallies = record { found = omega arith; absent = omega arith; evicted = omega arith };
 }
 Stands-lawful start (c ∷ h) l =
     let past : Stands start (state_of start h) h = Stands-lawful start h l.1 in
@@ -145,7 +149,7 @@ start-some start h s past = subst (λ (n : ℕ). 0 < n) past.made.shards past.fi
 -- the state after a lawful history is what it says
 MatchesHistory-lawful : (start : Opening) (s : State) (h : History) → Stands start s h → MatchesHistory s start h
 MatchesHistory-lawful start s h past = record {
-  bodies = all-held (shards_of s) (length h) s.bodies s.managed (changes_of start h) past.fits.holds.leaves past.tallies.distinct;
+  bodies = all-held (shards_of s) (length h) s.bodies s.managed (changes_of start h) past.fits.holds.leaves;
   order = (start-some start h s past, (rows_of (changes_of start h), IsOrderOfUse-rows_of (changes_of start h), subst (λ (n : ℕ). AreShardsOf n s.managed.shards (rows_of (changes_of start h))) past.made.shards past.fits.holds.leaves.rows));
   requests = λ id. IsRequestOf-fits start id (get s.requests id) h (past.fits.requests id);
   found = past.tallies.found;
@@ -188,12 +192,12 @@ CarriesHeadline-taken old (c ∷ calls) new taken start past h = CarriesHeadline
 -- the report of a state that a history says is the history's
 pub IsReport-matches : (s : State) (start : Opening) (h : History) → MatchesHistory s start h → IsReport (report_of s) start h
 IsReport-matches s start h m =
-    let same = sums (changes_of start h) s.bodies m.bodies.0 m.bodies.2 in
+    let same = sums (changes_of start h) (entries s.bodies) m.bodies.0 m.bodies.2 in
     record {
       found = m.found;
       absent = m.absent;
       evicted = m.evicted;
-      bodies = (m.bodies.0, m.bodies.1, same.1, omega (arith, same.0));
+      bodies = (m.bodies.0, m.bodies.1, len-entries s.bodies ∙ same.1, omega (arith, same.0));
       tracked = (
         m.order.1.0,
         m.order.1.1,

@@ -23,12 +23,12 @@ use Rattle.tier_model.specs.Calls.{extended}
 use Rattle.tier_model.specs.Evictions.{gone, all_gone, GoInTurn}
 use Rattle.tier_model.specs.Histories.{Kept, kept_of, write_of, goes, stores, clears}
 use Rattle.tier_model.specs.Past.{held_of, told_of}
-use Rattle.tier_model.specs.Rows.{body_of, with_body as put_body, without_body, without_key, without_bodies, weight_for}
+use Rattle.tier_model.specs.Rows.{Bodies, body_of, with_body as put_body, without_body, without_key, without_bodies, weight_for}
 use Rattle.tier_model.proofs.BodyLaws.{has_key, body_of-without, body_of-without_key, body_of-with, body_of-without_all, body_at-without, body_at-with, view, AreSame, both_gone, both_there}
 use Rattle.tier_model.proofs.RowSteps.{over-rows, last-rows}
 
 -- after n calls the changes leave these bodies, with none in flight, and these N shards; what went went lawfully
-pub record Leaves (N n : ℕ) (held : List FinishedBody) (m : Managed) (changes : Changes Kept) : Type 0 where
+pub record Leaves (N n : ℕ) (held : Bodies) (m : Managed) (changes : Changes Kept) : Type 0 where
   pub orderly : IsOrderly changes
   pub below : AllByRecursion (BeginsBelow n) changes
   pub landed : (store_of changes).flying ≡ []
@@ -62,7 +62,7 @@ no_body j w changes o t i =
     absurd cc
 
 module _ (N : ℕ) where
-  pub leaves-later : (i n : ℕ) (bodies : List FinishedBody) (m : Managed) (changes : Changes Kept) → i ≤ n → Leaves N i bodies m changes → Leaves N n bodies m changes
+  pub leaves-later : (i n : ℕ) (bodies : Bodies) (m : Managed) (changes : Changes Kept) → i ≤ n → Leaves N i bodies m changes → Leaves N n bodies m changes
   leaves-later i n bodies m changes h l = record {
     orderly = l.orderly;
     below = all_begin_less i n changes h l.below;
@@ -76,7 +76,7 @@ module _ (N : ℕ) where
   }
 
   -- other bodies that are the same
-  leaves-same : (n : ℕ) (old new : List FinishedBody) (m : Managed) (changes : Changes Kept) → ((k : StoredKey) → body_of k new ≡ body_of k old) → Leaves N n old m changes → Leaves N n new m changes
+  leaves-same : (n : ℕ) (old new : Bodies) (m : Managed) (changes : Changes Kept) → ((k : StoredKey) → body_of k new ≡ body_of k old) → Leaves N n old m changes → Leaves N n new m changes
   leaves-same n old new m changes f l = record {
     orderly = l.orderly;
     below = l.below;
@@ -89,12 +89,12 @@ module _ (N : ℕ) where
     settled = l.settled;
   }
 
-  without_same : (j : Option StoredKey) (bodies : List FinishedBody) (s : Store Kept) → ((k : StoredKey) → AreSame (body_of k bodies) (body_at k s))
+  without_same : (j : Option StoredKey) (bodies : Bodies) (s : Store Kept) → ((k : StoredKey) → AreSame (body_of k bodies) (body_at k s))
       → (k : StoredKey) → AreSame (body_of k (without_key j bodies)) (body_at k (removed_from j s))
   without_same j bodies s f k =
       ap (option_map held_of) (body_of-without_key k j bodies) ∙ both_gone (is_key k j) (body_of k bodies) (body_at k s) (f k) ∙ sym (ap (option_map view) (body_at-without k j s.bodies))
 
-  pub leaves-removed : (n : ℕ) (j : StoredKey) (bodies : List FinishedBody) (m : Managed) (changes : Changes Kept)
+  pub leaves-removed : (n : ℕ) (j : StoredKey) (bodies : Bodies) (m : Managed) (changes : Changes Kept)
       → Leaves N n bodies m changes → Leaves N n (without_body j bodies) m (removes j ∷ changes)
   leaves-removed n j bodies m changes l = record {
     orderly = (tt, l.orderly);
@@ -108,7 +108,7 @@ module _ (N : ℕ) where
     settled = refl;
   }
 
-  pub leaves-used : (n : ℕ) (e : CacheEntryKey) (w : ℕ) (bodies : List FinishedBody) (m : Managed) (changes : Changes Kept)
+  pub leaves-used : (n : ℕ) (e : CacheEntryKey) (w : ℕ) (bodies : Bodies) (m : Managed) (changes : Changes Kept)
       → Leaves N n bodies m changes → Leaves N n bodies (use_first N e w m) (uses e w ∷ changes)
   leaves-used n e w bodies m changes l = record {
     orderly = (tt, l.orderly);
@@ -122,7 +122,7 @@ module _ (N : ℕ) where
     settled = refl;
   }
 
-  leaves-evicted : (n : ℕ) (e : CacheEntryKey) (bodies : List FinishedBody) (m : Managed) (changes : Changes Kept) → is_over m ≡ true → managed.IsLast (managed.rows_of N e m) e
+  leaves-evicted : (n : ℕ) (e : CacheEntryKey) (bodies : Bodies) (m : Managed) (changes : Changes Kept) → is_over m ≡ true → managed.IsLast (managed.rows_of N e m) e
       → Leaves N n bodies m changes → Leaves N n (without_key (key_alone e) bodies) (gone N e m) (evicts e ∷ changes)
   leaves-evicted n e bodies m changes over last l = record {
     orderly = (tt, l.orderly);
@@ -139,13 +139,13 @@ module _ (N : ℕ) where
     settled = refl;
   }
 
-  pub leaves-gone : (n : ℕ) (over : Bool) (es : List CacheEntryKey) (bodies : List FinishedBody) (m : Managed) (changes : Changes Kept) → GoInTurn N over es m
+  pub leaves-gone : (n : ℕ) (over : Bool) (es : List CacheEntryKey) (bodies : Bodies) (m : Managed) (changes : Changes Kept) → GoInTurn N over es m
       → Leaves N n bodies m changes → Leaves N n (without_bodies es bodies) (all_gone N es m) (extended changes (goes es))
   leaves-gone n over [] bodies m changes h l = l
   leaves-gone n over (e ∷ es) bodies m changes h l =
       leaves-gone n over es (without_key (key_alone e) bodies) (gone N e m) (evicts e ∷ changes) h.2 (leaves-evicted n e bodies m changes h.0 h.1 l)
 
-  pub leaves-cleared : (n : ℕ) (e : Entry) (bodies : List FinishedBody) (m : Managed) (changes : Changes Kept)
+  pub leaves-cleared : (n : ℕ) (e : Entry) (bodies : Bodies) (m : Managed) (changes : Changes Kept)
       → Leaves N n bodies m changes → Leaves N n (without_body (stored_key e) bodies) (taken_out N (alone e) m) (extended changes (clears e))
   leaves-cleared n e bodies m changes l =
       let r = leaves-removed n (stored_key e) bodies m changes l in
@@ -162,7 +162,7 @@ module _ (N : ℕ) where
       }
 
   -- a body is written whole and its entry admitted
-  pub leaves-stored : (n : ℕ) (b : FinishedBody) (bodies : List FinishedBody) (m : Managed) (changes : Changes Kept)
+  pub leaves-stored : (n : ℕ) (b : FinishedBody) (bodies : Bodies) (m : Managed) (changes : Changes Kept)
       → Leaves N n bodies m changes → Leaves N (suc n) (put_body b bodies) (put_first N (alone b.entry) (weight_for b) m) (extended changes (stores n b []))
   leaves-stored n b bodies m changes l =
       let w : Write Kept = write_of n b in
@@ -194,7 +194,7 @@ module _ (N : ℕ) where
       }
 
   -- a body that is stored and taken back leaves what was there, without what went
-  pub leaves-back : (n : ℕ) (b : FinishedBody) (es : List CacheEntryKey) (bodies : List FinishedBody) (m : Managed) (changes : Changes Kept)
+  pub leaves-back : (n : ℕ) (b : FinishedBody) (es : List CacheEntryKey) (bodies : Bodies) (m : Managed) (changes : Changes Kept)
       → Leaves N (suc n) (without_bodies es (put_body b bodies)) m (extended changes (stores n b es))
       → Leaves N (suc n) (without_body (stored_key b.entry) (without_bodies es bodies)) (taken_out N (alone b.entry) m) (extended (extended changes (stores n b es)) (clears b.entry))
   leaves-back n b es bodies m changes l =
@@ -257,7 +257,7 @@ pub record Shows (k : StoredKey) (b : FinishedBody) (changes : Changes Kept) : T
   pub at : body_at k (store_of changes) ≡ Some (stored_of write changes)
   pub tells : told_of changes write ≡ held_of b
 
-module _ (N n : ℕ) (bodies : List FinishedBody) (m : Managed) (changes : Changes Kept) (l : Leaves N n bodies m changes) where
+module _ (N n : ℕ) (bodies : Bodies) (m : Managed) (changes : Changes Kept) (l : Leaves N n bodies m changes) where
   pub none_in_flight : (k : StoredKey) (v : Write Kept) → IsFlying k v changes → ⊥
   none_in_flight k v f = none_flies k v changes l.orderly l.landed f
 

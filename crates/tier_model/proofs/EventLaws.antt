@@ -30,7 +30,7 @@ use Rattle.tier_model.specs.Response.{Reading, whole_in}
 use Rattle.tier_model.specs.Calls.{Call, History, Outcome, extended, nothing_done, done_of, read_by, stored_in, opened_for}
 use Rattle.tier_model.specs.Histories.{Kept, Opening, stores, clears, put_changes, hit_changes, look_changes, changes_of}
 use Rattle.tier_model.specs.Headline.{MakesRoom}
-use Rattle.tier_model.specs.Rows.{body_of, weight_for}
+use Rattle.tier_model.specs.Rows.{Bodies, body_of, weight_for}
 use Rattle.tier_model.specs.State.{Settings, State, shards_of}
 use Rattle.tier_model.specs.Step.{refusal, AllowsBy, Allows, IsAnswer, IsPutAnswer, IsPutFault, after, answered, undone, on_request, look_answer, after_look_up, after_read, after_purge, after_put, UseFits, admitted, body_for, stored_alone, all_done}
 use Rattle.tier_model.proofs.StepLaws.{call_at, answer_allowed, kept_out-done}
@@ -43,7 +43,7 @@ abbrev pub Holds : Opening → State → History → Type 0
 Holds start s h = Keeps (shards_of s) (length h) s.bodies s.managed (changes_of start h)
 
 -- what is held after one call more
-abbrev pub HoldsNext : State → ℕ → List FinishedBody → Managed → Changes Kept → Type 0
+abbrev pub HoldsNext : State → ℕ → Bodies → Managed → Changes Kept → Type 0
 HoldsNext s n bodies m changes = Keeps (shards_of s) (suc n) bodies m changes
 
 extended-append : (past : Changes Kept) (xs ys : List (Change Kept)) → extended past (xs ++ ys) ≡ extended (extended past xs) ys

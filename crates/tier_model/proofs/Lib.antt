@@ -1,6 +1,5 @@
 pub mod Tables
 pub mod ResponseLaws
-pub mod KeyLaws
 pub mod BodyLaws
 pub mod RowSteps
 pub mod ChangeLaws

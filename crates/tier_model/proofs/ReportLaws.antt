@@ -1,14 +1,9 @@
--- A state's bodies have a key each, and its counts are those of the history.
-use Rattle.std.proofs.Common.{◌≡◌, ℕ, ◌+◌, refl, ap, sym, ◌∙◌, true, false, subst, cond, [], ◌∷◌, ◌++◌, length, arith, inl, inr}
-use Rattle.std.specs.Prelude.{Bool, List, Option, Some, None, is_some, not, Ok, Err, MatchOption}
-use Rattle.std.specs.List.{AllByRecursion}
+-- The counts of a state are those of its history.
+use Rattle.std.proofs.Common.{◌≡◌, ℕ, ◌+◌, refl, ap, sym, ◌∙◌, true, false, subst, cond, [], ◌∷◌, length, arith, inl, inr}
+use Rattle.std.specs.Prelude.{Bool, List, Option, Some, None, is_some, Ok, Err, MatchOption}
 use Rattle.std.specs.FinMap.{get, insert}
 use Rattle.cache_words.specs.Time.{MomentValue}
 use Rattle.cache_words.specs.Key.{CacheKeyValue}
-use Rattle.cache_entries.specs.declared.entry.CacheEntryKey.{CacheEntryKey}
-use Rattle.cache_entries.specs.Keys.{same_bytes}
-use Rattle.cache_entries.specs.SameEntry.{same_bytes-tells, same-sym}
-use Rattle.cache_changes.specs.Changes.{StoredKey, stored_key, key_alone}
 use Rattle.tier_model.specs.declared.whole.Whole.{Whole}
 use Rattle.tier_model.specs.declared.whole.Whole.TheVariants.{Stored}
 use Rattle.tier_model.specs.declared.whole.Whole.TheVariants as whole
@@ -27,90 +22,28 @@ use Rattle.tier_model.specs.Keys.{alone, stored_key_of}
 use Rattle.tier_model.specs.Response.{Reading}
 use Rattle.tier_model.specs.Calls.{Call, History, Outcome, read_by, evicted_by, nothing_done, done_of}
 use Rattle.tier_model.specs.Reports.{found_answers, absent_answers, evictions, is_found, is_absent, shown}
-use Rattle.tier_model.specs.Rows.{body_of, with_body, without_body, without_key, without_bodies, weight_for}
+use Rattle.tier_model.specs.Rows.{body_of, weight_for}
 use Rattle.tier_model.specs.State.{State, shards_of}
 use Rattle.tier_model.specs.Step.{refusal, AllowsBy, Allows, IsAnswer, IsPutAnswer, after, answered, undone, taken_back, on_request, look_answer, after_look_up, read_answer, after_read, after_purge, after_put, UseFits, body_for, counted, admitted, until, stored_alone, IsPutFault}
 use Rattle.tier_model.proofs.RowSteps.{gone-count}
 use Rattle.tier_model.proofs.StepLaws.{call_at, answer_allowed, did_nothing, kept_out-done}
-
--- bodies of different stored keys
-abbrev pub HasDistinctKeys : List FinishedBody → Type 0
-HasDistinctKeys [] = Unit {0}
-HasDistinctKeys (b ∷ bs) = AllByRecursion (λ c. same_bytes (stored_key c.entry) (stored_key b.entry) ≡ false) bs × HasDistinctKeys bs
-
--- distinct keys stay distinct
-all_without : (P : FinishedBody → Type 0) (k : StoredKey) (bodies : List FinishedBody) → AllByRecursion P bodies → AllByRecursion P (without_body k bodies)
-all_without P k [] all = tt
-all_without P k (b ∷ bs) all = by_key (same_bytes (stored_key b.entry) k) (all_without P k bs all.1)
-  where
-    by_key : (v : Bool) → AllByRecursion P (without_body k bs) → AllByRecursion P (cond (not v) (b ∷ without_body k bs) (without_body k bs))
-    by_key true rest = rest
-    by_key false rest = (all.0, rest)
-
-distinct_without : (k : StoredKey) (bodies : List FinishedBody) → HasDistinctKeys bodies → HasDistinctKeys (without_body k bodies)
-distinct_without k [] d = tt
-distinct_without k (b ∷ bs) d = by_key (same_bytes (stored_key b.entry) k) (distinct_without k bs d.1)
-  where
-    by_key : (v : Bool) → HasDistinctKeys (without_body k bs) → HasDistinctKeys (cond (not v) (b ∷ without_body k bs) (without_body k bs))
-    by_key true rest = rest
-    by_key false rest = (all_without (λ c. same_bytes (stored_key c.entry) (stored_key b.entry) ≡ false) k bs d.0, rest)
-
-distinct_without_key : (k : Option StoredKey) (bodies : List FinishedBody) → HasDistinctKeys bodies → HasDistinctKeys (without_key k bodies)
-distinct_without_key None bodies d = d
-distinct_without_key (Some k) bodies d = distinct_without k bodies d
-
-distinct_without_all : (es : List CacheEntryKey) (bodies : List FinishedBody) → HasDistinctKeys bodies → HasDistinctKeys (without_bodies es bodies)
-distinct_without_all [] bodies d = d
-distinct_without_all (e ∷ es) bodies d = distinct_without_all es (without_key (key_alone e) bodies) (distinct_without_key (key_alone e) bodies d)
-
-all_and : (P : FinishedBody → Type 0) (x : FinishedBody) (bodies : List FinishedBody) → AllByRecursion P bodies → P x → AllByRecursion P (bodies ++ x ∷ [])
-all_and P x [] all p = (p, tt)
-all_and P x (b ∷ bs) all p = (all.0, all_and P x bs all.1 p)
-
-distinct_end : (x : FinishedBody) (bodies : List FinishedBody) → HasDistinctKeys bodies → AllByRecursion (λ c. same_bytes (stored_key c.entry) (stored_key x.entry) ≡ false) bodies → HasDistinctKeys (bodies ++ x ∷ [])
-distinct_end x [] d all = (tt, tt)
-distinct_end x (b ∷ bs) d all = (all_and (λ c. same_bytes (stored_key c.entry) (stored_key b.entry) ≡ false) x bs d.0 (same-sym same_bytes same_bytes-tells (stored_key x.entry) (stored_key b.entry) ∙ all.0), distinct_end x bs d.1 all.1)
-
-none_left : (k : StoredKey) (bodies : List FinishedBody) → AllByRecursion (λ c. same_bytes (stored_key c.entry) k ≡ false) (without_body k bodies)
-none_left k [] = tt
-none_left k (b ∷ bs) = by_key (same_bytes (stored_key b.entry) k) refl (none_left k bs)
-  where
-    by_key : (v : Bool) → same_bytes (stored_key b.entry) k ≡ v → AllByRecursion (λ c. same_bytes (stored_key c.entry) k ≡ false) (without_body k bs)
-        → AllByRecursion (λ c. same_bytes (stored_key c.entry) k ≡ false) (cond (not v) (b ∷ without_body k bs) (without_body k bs))
-    by_key true e rest = rest
-    by_key false e rest = (e, rest)
-
-distinct_with : (x : FinishedBody) (bodies : List FinishedBody) → HasDistinctKeys bodies → HasDistinctKeys (with_body x bodies)
-distinct_with x bodies d = distinct_end x (without_body (stored_key x.entry) bodies) (distinct_without (stored_key x.entry) bodies d) (none_left (stored_key x.entry) bodies)
-
--- each of distinct bodies is found by its key
-pub found_each : (bodies : List FinishedBody) → HasDistinctKeys bodies → AllByRecursion (λ b. body_of (stored_key b.entry) bodies ≡ Some b) bodies
-found_each [] d = tt
-found_each (x ∷ xs) d = (ap (λ v. cond v (Some x) (body_of (stored_key x.entry) xs)) (same_bytes-tells.itself (stored_key x.entry)), others xs (found_each xs d.1) d.0)
-  where
-    others : (ys : List FinishedBody) → AllByRecursion (λ b. body_of (stored_key b.entry) xs ≡ Some b) ys → AllByRecursion (λ c. same_bytes (stored_key c.entry) (stored_key x.entry) ≡ false) ys
-        → AllByRecursion (λ b. body_of (stored_key b.entry) (x ∷ xs) ≡ Some b) ys
-    others [] found apart = tt
-    others (y ∷ ys) found apart = (ap (λ v. cond v (Some x) (body_of (stored_key y.entry) xs)) (same-sym same_bytes same_bytes-tells (stored_key x.entry) (stored_key y.entry) ∙ apart.0) ∙ found.0, others ys found.1 apart.1)
 
 -- the counts of a state are those of its history
 pub record Tallies (s : State) (h : History) : Type 0 where
   pub found : s.found ≡ shown (found_answers h)
   pub absent : s.absent ≡ shown (absent_answers h)
   pub evicted : s.managed.evicted_items ≡ shown (evictions h)
-  pub distinct : HasDistinctKeys s.bodies
 
 more_shown : (n m k : ℕ) → n ≡ shown m → counted n k ≡ shown (m + k)
 more_shown n m k e = rw e (omega arith)
 
 -- a call that counts nothing
-uncounted : (s new : State) (c : Call) (h : History) → new.found ≡ s.found → new.absent ≡ s.absent → new.managed.evicted_items ≡ s.managed.evicted_items → HasDistinctKeys new.bodies
+uncounted : (s new : State) (c : Call) (h : History) → new.found ≡ s.found → new.absent ≡ s.absent → new.managed.evicted_items ≡ s.managed.evicted_items
     → is_found c.outcome ≡ false → is_absent c.outcome ≡ false → evicted_by c.outcome ≡ [] → Tallies s h → Tallies new (c ∷ h)
-uncounted s new c h f a e d nf na ne t = record {
+uncounted s new c h f a e nf na ne t = record {
   found = f ∙ t.found ∙ ap (λ v. shown (cond v (found_answers h + 1) (found_answers h))) (sym nf);
   absent = a ∙ t.absent ∙ ap (λ v. shown (cond v (absent_answers h + 1) (absent_answers h))) (sym na);
   evicted = e ∙ t.evicted ∙ ap shown (omega (arith, ap length ne));
-  distinct = d;
 }
 
 look_tally : (s : State) (t : MomentValue) (read : Option Reading) (i : ℕ) (q : Request) (b : Option FinishedBody) (a : Answer) (h : History) → a ≡ look_answer t b → Tallies s h
@@ -119,13 +52,11 @@ look_tally s t read i q None a h e tally = subst (λ (y : Answer). Tallies (afte
   found = tally.found;
   absent = more_shown s.absent (absent_answers h) 1 tally.absent;
   evicted = tally.evicted ∙ ap shown (omega arith);
-  distinct = tally.distinct;
 })
 look_tally s t read i q (Some b) a h e tally = subst (λ (y : Answer). Tallies (after_look_up s t i q (Some b)) (call_at t (LookUp i) read (Ok y) ∷ h)) (sym e) (record {
   found = more_shown s.found (found_answers h) 1 tally.found;
   absent = tally.absent;
   evicted = tally.evicted ∙ ap shown (omega arith);
-  distinct = tally.distinct;
 })
 
 request_tally : (s : State) (t : MomentValue) (read : Option Reading) (i : ℕ) (a : Answer) (h : History) (o : Option Request)
@@ -143,15 +74,15 @@ read_tally s t read i a h (Some q) p tally = by_reader q.reader p
     new = record s { requests = insert s.requests i (after_read q) }
 
     by_reader : (r : Reader) → a ≡ read_answer r → Tallies new (call_at t (Read i) read (Ok a) ∷ h)
-    by_reader Closed e = subst (λ (y : Answer). Tallies new (call_at t (Read i) read (Ok y) ∷ h)) (sym e) (uncounted s new (call_at t (Read i) read (Ok End)) h refl refl refl tally.distinct refl refl refl tally)
+    by_reader Closed e = subst (λ (y : Answer). Tallies new (call_at t (Read i) read (Ok y) ∷ h)) (sym e) (uncounted s new (call_at t (Read i) read (Ok End)) h refl refl refl refl refl refl tally)
     by_reader (Unread bytes) e =
-        subst (λ (y : Answer). Tallies new (call_at t (Read i) read (Ok y) ∷ h)) (sym e) (uncounted s new (call_at t (Read i) read (Ok (Bytes bytes))) h refl refl refl tally.distinct refl refl refl tally)
-    by_reader Spent e = subst (λ (y : Answer). Tallies new (call_at t (Read i) read (Ok y) ∷ h)) (sym e) (uncounted s new (call_at t (Read i) read (Ok End)) h refl refl refl tally.distinct refl refl refl tally)
+        subst (λ (y : Answer). Tallies new (call_at t (Read i) read (Ok y) ∷ h)) (sym e) (uncounted s new (call_at t (Read i) read (Ok (Bytes bytes))) h refl refl refl refl refl refl tally)
+    by_reader Spent e = subst (λ (y : Answer). Tallies new (call_at t (Read i) read (Ok y) ∷ h)) (sym e) (uncounted s new (call_at t (Read i) read (Ok End)) h refl refl refl refl refl refl tally)
 
 purge_tally : (s : State) (t : MomentValue) (read : Option Reading) (key : CacheKeyValue) (h : History) (v : Bool) → Tallies s h → Tallies (after_purge s key v) (call_at t (Purge key) read (Ok (Purged v)) ∷ h)
-purge_tally s t read key h false tally = uncounted s s (call_at t (Purge key) read (Ok (Purged false))) h refl refl refl tally.distinct refl refl refl tally
+purge_tally s t read key h false tally = uncounted s s (call_at t (Purge key) read (Ok (Purged false))) h refl refl refl refl refl refl tally
 purge_tally s t read key h true tally =
-    uncounted s (after_purge s key true) (call_at t (Purge key) read (Ok (Purged true))) h refl refl refl (distinct_without (stored_key_of key) s.bodies tally.distinct) refl refl refl tally
+    uncounted s (after_purge s key true) (call_at t (Purge key) read (Ok (Purged true))) h refl refl refl refl refl refl tally
 
 put_tally : (s : State) (t : MomentValue) (read : Option Reading) (g : Option Whole) (key : CacheKeyValue) (pieces : List (List ℕ)) (a : Answer) (h : History) → IsPutAnswer s g a
     → Tallies s h → Tallies (after_put s g a) (call_at t (Put key pieces) read (Ok a) ∷ h)
@@ -159,10 +90,9 @@ put_tally s t read (Some (Stored b)) key pieces (Finished n es) h p tally = reco
   found = tally.found;
   absent = tally.absent;
   evicted = gone-count (shards_of s) (evictions h) es (admitted s b) tally.evicted;
-  distinct = distinct_without_all es (with_body b s.bodies) (distinct_with b s.bodies tally.distinct);
 }
 put_tally s t read (Some (whole.Uncacheable reason)) key pieces (answer.Uncacheable shown) h p tally =
-    uncounted s s (call_at t (Put key pieces) read (Ok (answer.Uncacheable shown))) h refl refl refl tally.distinct refl refl refl tally
+    uncounted s s (call_at t (Put key pieces) read (Ok (answer.Uncacheable shown))) h refl refl refl refl refl refl tally
 put_tally s t read (Some (Stored b)) key pieces _ h p tally = absurd p
 put_tally s t read (Some whole.Incomplete) key pieces _ h p tally = absurd p
 put_tally s t read (Some whole.BadHead) key pieces _ h p tally = absurd p
@@ -173,12 +103,12 @@ put_tally s t read None key pieces _ h p tally = absurd p
 answer_tally : (s : State) (t : MomentValue) (read : Option Reading) (g : Option Whole) (action : Action) (a : Answer) (h : History) → IsAnswer s t action g a → Tallies s h → Tallies (answered s t action g a) (call_at t action read (Ok a) ∷ h)
 answer_tally s t read g (Open i key) a h p tally =
     subst (λ (y : Answer). Tallies (answered s t (Open i key) g y) (call_at t (Open i key) read (Ok y) ∷ h)) (sym p)
-    (uncounted s (answered s t (Open i key) g Opened) (call_at t (Open i key) read (Ok Opened)) h refl refl refl tally.distinct refl refl refl tally)
+    (uncounted s (answered s t (Open i key) g Opened) (call_at t (Open i key) read (Ok Opened)) h refl refl refl refl refl refl tally)
 answer_tally s t read g (LookUp i) a h p tally = request_tally s t read i a h (get s.requests i) p tally
 answer_tally s t read g (Read i) a h p tally = read_tally s t read i a h (get s.requests i) p tally
 answer_tally s t read g (Drop i) a h p tally =
     subst (λ (y : Answer). Tallies (answered s t (Drop i) g y) (call_at t (Drop i) read (Ok y) ∷ h)) (sym p)
-    (uncounted s (answered s t (Drop i) g Dropped) (call_at t (Drop i) read (Ok Dropped)) h refl refl refl tally.distinct refl refl refl tally)
+    (uncounted s (answered s t (Drop i) g Dropped) (call_at t (Drop i) read (Ok Dropped)) h refl refl refl refl refl refl tally)
 answer_tally s t read g (Purge key) a h p tally =
     subst (λ (y : Answer). Tallies (answered s t (Purge key) g y) (call_at t (Purge key) read (Ok y) ∷ h)) (sym p) (purge_tally s t read key h (is_some (body_of (stored_key_of key) s.bodies)) tally)
 answer_tally s t read g (Put key pieces) a h p tally = put_tally s t read g key pieces a h p tally
@@ -199,7 +129,7 @@ quiet_tally : (s : State) (t : MomentValue) (read : Option Reading) (g : Option 
     → Tallies (undone s g (done_of f)) (call_at t action read (Err f) ∷ h)
 quiet_tally s t read g action f h d tally =
     subst (λ (x : State). Tallies x (call_at t action read (Err f) ∷ h)) (sym (quiet_undone s g (done_of f) d))
-    (uncounted s s (call_at t action read (Err f)) h refl refl refl tally.distinct refl refl (quiet_evicts (done_of f) d) tally)
+    (uncounted s s (call_at t action read (Err f)) h refl refl refl refl refl (quiet_evicts (done_of f) d) tally)
 
 until_count : (v : Bool) (s : State) (b : FinishedBody) → (until v s b).evicted_items ≡ s.managed.evicted_items
 until_count false s b = refl
@@ -213,7 +143,6 @@ back_tally s t read b action f h stored tally =
       absent = tally.absent;
       evicted = gone-count (shards_of s) (evictions h) (done_of f).evicted (until (done_of f).admitted s b) (until_count (done_of f).admitted s b ∙ tally.evicted)
           ∙ ap (λ (v : Bool). shown (evictions h + length (cond v (done_of f).evicted []))) (sym stored);
-      distinct = distinct_without (stored_key b.entry) (without_bodies (done_of f).evicted s.bodies) (distinct_without_all (done_of f).evicted s.bodies tally.distinct);
     })
 
 put_fault_tally : (s : State) (t : MomentValue) (read : Option Reading) (g : Option Whole) (action : Action) (f : TierFault) (h : History) → IsPutFault s g f → Tallies s h

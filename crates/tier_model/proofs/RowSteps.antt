@@ -1,6 +1,6 @@
 -- The shards hold the rows that changes leave, whatever is done to them, and keep their limits.
 use Rattle.std.proofs.Common.{◌≡◌, ℕ, ◌+◌, ◌<◌, refl, false, ap, sym, ◌∙◌, [], ◌∷◌, length, arith}
-use Rattle.std.specs.Prelude.{◌-◌, ◌||◌, nat_lt, Bool, List, Option, Some, None, option_map, unwrap_or, min, ◌^◌}
+use Rattle.std.specs.Prelude.{◌-◌, ◌||◌, nat_lt, List, Option, Some, None, option_map, unwrap_or, min, ◌^◌}
 use Rattle.std.specs.List.{range_with_len}
 use Rattle.std.proofs.Math.Nat.{mod-lt}
 use Rattle.std.proofs.lemmas.List.{length-set, length-map}

@@ -1,9 +1,10 @@
 -- A state with the history that led to it.
 use Rattle.std.specs.Prelude.{◌≡◌, ◌<◌, ℕ, List, [], ◌∷◌, map}
 use Rattle.std.specs.List.{range_with_len}
+use Rattle.std.specs.FinMap.{entries}
 use Rattle.cache_entries.specs.declared.rows.Tracked.{Tracked}
 use Rattle.cache_entries.specs.Rows.{AreDistinct}
-use Rattle.cache_changes.specs.Changes.{Write, Changes}
+use Rattle.cache_changes.specs.Changes.{StoredKey, Write, Changes}
 use Rattle.cache_changes.specs.Writes.{bytes_of, meta_of}
 use Rattle.cache_changes.specs.Uses.{IsOrderOfUse, in_shard, AreShardsOf}
 use Rattle.cache_evict.specs.Managed.{Managed, fresh}
@@ -41,11 +42,18 @@ held_of b = (kept_of b, b.bytes)
 abbrev pub told_of : Changes Kept → Write Kept → Kept × List ℕ
 told_of changes w = (meta_of w changes, bytes_of w.number changes)
 
--- the state's bodies are all that the history has, one a key, each with its bytes, its entry and its moment
+-- the same of a body that is held under a key, and of a write with its key
+abbrev pub held_at : StoredKey × FinishedBody → StoredKey × (Kept × List ℕ)
+held_at e = (e.0, held_of e.1)
+
+abbrev pub told_at : Changes Kept → Write Kept → StoredKey × (Kept × List ℕ)
+told_at changes w = (w.key, told_of changes w)
+
+-- the state's bodies are all that the history has, one a key, each under its key with its bytes, its entry and its moment
 abbrev pub HoldsBodies : State → Opening → History → Type 0
 HoldsBodies s start h =
     (writes : List (Write Kept)) × AreAllBodies writes (changes_of start h)
-    × (map held_of s.bodies ≡ map (told_of (changes_of start h)) writes)
+    × (map held_at (entries s.bodies) ≡ map (told_at (changes_of start h)) writes)
 
 -- the shards hold the entries that a history leaves tracked, in the order of use, with what each weighs
 abbrev pub HoldsOrder : Managed → Opening → History → Type 0

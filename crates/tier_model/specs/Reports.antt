@@ -1,6 +1,7 @@
 -- The report of a tier: of a state, and of the history after it.
 use Rattle.std.specs.Prelude.{◌≡◌, ℕ, ◌+◌, ◌-◌, ◌^◌, min, Bool, true, false, List, [], ◌∷◌, length, find, if◌then◌else◌, Some, Ok}
 use Rattle.std.specs.List.{sum_by, AllByRecursion}
+use Rattle.std.specs.FinMap.{len, values}
 use Rattle.cache_entries.specs.Keys.{same_bytes}
 use Rattle.cache_entries.specs.declared.rows.Tracked.{Tracked}
 use Rattle.cache_entries.specs.Rows.{all_weights}
@@ -21,8 +22,8 @@ abbrev pub report_of : State → Report
 report_of s = record {
   found = s.found;
   absent = s.absent;
-  bodies = length s.bodies;
-  bytes = counted 0 (sum_by (λ b. length b.bytes) s.bodies);
+  bodies = len s.bodies;
+  bytes = counted 0 (sum_by (λ b. length b.bytes) (values s.bodies));
   tracked = total_items s.managed;
   weight = total_size s.managed;
   evicted = s.managed.evicted_items;

@@ -30,7 +30,7 @@ use Rattle.tier_model.specs.declared.event.TierFault.{TierFault}
 use Rattle.tier_model.specs.declared.event.TierFault.TheVariants.{NoRequest, IdInUse, WrongPhase, NumbersSpent, TooHeavy, TooLong, Memory}
 use Rattle.tier_model.specs.Response.{IsRead}
 use Rattle.tier_model.specs.Calls.{Call, Outcome, nothing_done, done_of, read_by}
-use Rattle.tier_model.specs.Rows.{body_of, with_body, without_body, without_bodies, weight_for}
+use Rattle.tier_model.specs.Rows.{Bodies, body_of, with_body, without_body, without_bodies, weight_for}
 use Rattle.tier_model.specs.State.{State, shards_of}
 
 -- the phases in which a request may look up
@@ -68,7 +68,7 @@ abbrev pub opened_request : Entry → Request
 opened_request entry = record { entry = alone entry; phase = CacheKey; reader = Closed }
 
 -- the body that a request finds
-abbrev pub body_for : Request → List FinishedBody → Option FinishedBody
+abbrev pub body_for : Request → Bodies → Option FinishedBody
 body_for q bodies = body_of (stored_key (key_of q.entry)) bodies
 
 abbrev pub look_answer : MomentValue → Option FinishedBody → Answer

@@ -10,7 +10,7 @@ ghost use Rattle.cache_tier.specs.Acts.{AllowsUnrefused, after_action, IsRefusal
 
 use super::Tier;
 use super::faults::{fault_for, nothing_done, stored_alone};
-use crate::bodies::{has_body, has_room, put_body, remove_bodies, remove_body, weight_for};
+use crate::bodies::{has_room, put_body, remove_bodies, remove_body, weight_for};
 use crate::keys::{copy_of, entry_of, parts_of, stored_key};
 use crate::response::whole_of_put;
 use cache_entries::entry::{CacheEntryKey, CacheEntryKeyRef};
@@ -29,8 +29,7 @@ impl<const N: usize, S: BuildHasher> Tier<N, S> {
         ensures after { self.new ≡ after_action self.old moment (Action.Purge key.now) result }
     {
         let (parts, stored) = parts_of(key);
-        if has_body(&self.bodies, &stored) {
-            remove_body(&mut self.bodies, &stored);
+        if remove_body(&mut self.bodies, &stored) {
             self.manager.remove_parts(parts);
             return Ok(Answer::Purged(true));
         }

@@ -1,9 +1,9 @@
-use Rattle.std.proofs.Common.{◌≡◌, ◌≢◌, refl, sym, Some, None, max, ◌∙◌, ap}
+use Rattle.std.proofs.Common.{◌≡◌, refl, sym, Some, None, max}
 use Rattle.cache_entries.specs.Entry.{key_of}
 use Rattle.cache_changes.specs.Changes.{stored_key}
-use Rattle.cache_evict.specs.Managed.{use_first}
 use Rattle.tier_model.specs.Rows.{body_of, weight_for}
 use Rattle.tier_model.specs.State.{State}
+use Rattle.cache_tier.specs.Bodies.{bodies_in}
 use Rattle.cache_tier.proofs.ShardLaws.{kept-use}
 use Rattle.cache_tier.proofs.StoreLaws.{max_twice, look-absent, look-found, look-allowed, look-refused, no_weight}
 use Rattle.cache_tier.proofs.tier.Tier.look_up.Goals as goal
@@ -11,7 +11,7 @@ use Rattle.cache_tier.proofs.tier.Tier.look_up.Goals as goal
 pub returns-in_default-body_of-clause-after : goal.returns-in_default-body_of-clause-after
 returns-in_default-body_of-clause-after g c =
     let q = c.in-Some.request.now in
-    let none : None ≡ body_of (stored_key (key_of q.entry)) c.self.inside.bodies.items = rw (c.deref.ensures.value, c.stored_key.ensures, c.key.ensures) at c.in_default-body_of.ensures in
+    let none : None ≡ body_of (stored_key (key_of q.entry)) (bodies_in c.self.inside.bodies.entries) = rw (c.stored_key.ensures, c.key.ensures) at c.in_default-body_of.ensures in
     let handed = (c.update-old.ensures.some q (sym c.in-Some.ensures)).1 in
     rw (← c.self.view_is) (look-absent _ c.args.moment c.args.id q c.in-Some.ensures _ none (rw (handed, c.saturating_add-self-inside.ensures) refl))
 
@@ -22,8 +22,8 @@ pub returns-in-Err-clause-allowed : goal.returns-in-Err-clause-allowed
 returns-in-Err-clause-allowed g c =
     let q = c.in-Some.request.now in
     let b = c.in-Some-body_of.body.now in
-    let s : State = record { managed = c.self.inside.manager; age = c.self.inside.age; wait = c.self.inside.wait; bodies = c.self.inside.bodies.items; requests = c.self.inside.requests; found = c.self.inside.found; absent = c.self.inside.absent } in
-    let found : Some b ≡ body_of (stored_key (key_of q.entry)) c.self.inside.bodies.items = rw (c.deref.ensures.value, c.stored_key.ensures, c.key.ensures) at c.in-Some-body_of.ensures in
+    let s : State = record { managed = c.self.inside.manager; age = c.self.inside.age; wait = c.self.inside.wait; bodies = bodies_in c.self.inside.bodies.entries; requests = c.self.inside.requests; found = c.self.inside.found; absent = c.self.inside.absent } in
+    let found : Some b ≡ body_of (stored_key (key_of q.entry)) (bodies_in c.self.inside.bodies.entries) = rw (c.stored_key.ensures, c.key.ensures) at c.in-Some-body_of.ensures in
     let weighs : max c.weight_for-weight.result 1 ≡ weight_for b = rw c.weight_for-weight.ensures (max_twice _) in
     rw (← c.self.view_is) (look-refused s c.args.moment c.args.id q c.in-Some.ensures g.row.N (max c.weight_for-weight.result 1) b c.self.invariant weighs found c.in-Err.fault c.fault_for.result
     (no_weight _ c.in-Err.ensures.tracked) c.in-Err.ensures.refused (rw c.nothing_done-in-Err.ensures at c.fault_for.ensures))
@@ -32,8 +32,8 @@ pub returns-clause-allowed : goal.returns-clause-allowed
 returns-clause-allowed g c =
     let q = c.in-Some.request.now in
     let b = c.in-Some-body_of.body.now in
-    let s : State = record { managed = c.self.inside.manager; age = c.self.inside.age; wait = c.self.inside.wait; bodies = c.self.inside.bodies.items; requests = c.self.inside.requests; found = c.self.inside.found; absent = c.self.inside.absent } in
-    let found : Some b ≡ body_of (stored_key (key_of q.entry)) c.self.inside.bodies.items = rw (c.deref.ensures.value, c.stored_key.ensures, c.key.ensures) at c.in-Some-body_of.ensures in
+    let s : State = record { managed = c.self.inside.manager; age = c.self.inside.age; wait = c.self.inside.wait; bodies = bodies_in c.self.inside.bodies.entries; requests = c.self.inside.requests; found = c.self.inside.found; absent = c.self.inside.absent } in
+    let found : Some b ≡ body_of (stored_key (key_of q.entry)) (bodies_in c.self.inside.bodies.entries) = rw (c.stored_key.ensures, c.key.ensures) at c.in-Some-body_of.ensures in
     let weighs : max c.weight_for-weight.result 1 ≡ weight_for b = rw c.weight_for-weight.ensures (max_twice _) in
     rw (← c.self.view_is) (look-allowed s c.args.moment c.args.id q c.in-Some.ensures g.row.N (max c.weight_for-weight.result 1) b c.self.invariant weighs found c.access.new.self c.is_at_most-fresh.result
     c.in_default-access.ensures.ok (rw (← c.total_size-size.ensures) c.total_size-size.type_inv) c.is_at_most-fresh.ensures)
@@ -42,8 +42,8 @@ pub returns-clause-after : goal.returns-clause-after
 returns-clause-after g c =
     let q = c.in-Some.request.now in
     let b = c.in-Some-body_of.body.now in
-    let s : State = record { managed = c.self.inside.manager; age = c.self.inside.age; wait = c.self.inside.wait; bodies = c.self.inside.bodies.items; requests = c.self.inside.requests; found = c.self.inside.found; absent = c.self.inside.absent } in
-    let found : Some b ≡ body_of (stored_key (key_of q.entry)) c.self.inside.bodies.items = rw (c.deref.ensures.value, c.stored_key.ensures, c.key.ensures) at c.in-Some-body_of.ensures in
+    let s : State = record { managed = c.self.inside.manager; age = c.self.inside.age; wait = c.self.inside.wait; bodies = bodies_in c.self.inside.bodies.entries; requests = c.self.inside.requests; found = c.self.inside.found; absent = c.self.inside.absent } in
+    let found : Some b ≡ body_of (stored_key (key_of q.entry)) (bodies_in c.self.inside.bodies.entries) = rw (c.stored_key.ensures, c.key.ensures) at c.in-Some-body_of.ensures in
     let weighs : max c.weight_for-weight.result 1 ≡ weight_for b = rw c.weight_for-weight.ensures (max_twice _) in
     let handed = (c.update-old-2.ensures.some q (sym c.in-Some.ensures)).1 in
     rw (← c.self.view_is) (look-found s c.args.moment c.args.id q c.in-Some.ensures g.row.N (max c.weight_for-weight.result 1) b c.self.invariant weighs found _ c.access.new.self c.is_at_most-fresh.result

@@ -1,4 +1,4 @@
-use Rattle.std.proofs.Common.{sym, ◌∙◌, refl, ap, ℕ, List}
+use Rattle.std.proofs.Common.{sym, ◌∙◌, refl, ap, List}
 use Rattle.cache_entries.specs.declared.entry.CacheEntryKey.{CacheEntryKey}
 use Rattle.cache_evict.specs.declared.fault.EvictFault.TheVariants as evict
 use Rattle.tier_model.specs.declared.event.TierFault.TheVariants.{Memory}

@@ -2,6 +2,7 @@ use Rattle.std.proofs.Common.{◌≡◌, false, max, refl, rules}
 use Rattle.tier_model.specs.Rows.{weight_for}
 use Rattle.tier_model.specs.State.{State}
 use Rattle.tier_model.specs.Step.{admitted}
+use Rattle.cache_tier.specs.Bodies.{bodies_in}
 use Rattle.cache_tier.proofs.StoreLaws.{max_twice, HasEvicted, has_evicted, IsRefusedPut, refused-put, kept-stopped}
 use Rattle.cache_tier.proofs.tier.Tier.store.Goals as goal
 
@@ -23,7 +24,7 @@ invariant_of-self-in-Ok-admit g c =
     let rest = g.R.Rng.stream c.admit.new.rng in
     let b = c.args.body in
     let w = max c.weight_for-weight.result 1 in
-    let s : State = record { managed = c.self.inside.manager; age = c.self.inside.age; wait = c.self.inside.wait; bodies = c.self.inside.bodies.items; requests = c.self.inside.requests; found = c.self.inside.found; absent = c.self.inside.absent } in
+    let s : State = record { managed = c.self.inside.manager; age = c.self.inside.age; wait = c.self.inside.wait; bodies = bodies_in c.self.inside.bodies.entries; requests = c.self.inside.requests; found = c.self.inside.found; absent = c.self.inside.absent } in
     let weighs : w ≡ weight_for b = rw c.weight_for-weight.ensures (max_twice _) in
     let h : HasEvicted g.row.N s b false c.in-Ok-admit.evicted.items c.admit.new.self st rest = has_evicted g.row.N w s b false c.in-Ok-admit.evicted.items c.admit.new.self st rest c.self.invariant weighs
     (rw (c.key_only-entry.ensures, c.in-Ok.ensures) at c.in-Ok-admit.ensures.fits) (rw (c.key_only-entry.ensures, c.in-Ok.ensures) at c.in-Ok-admit.ensures.ok) c.in-Ok-admit.ensures.within in
@@ -35,7 +36,7 @@ invariant_of-self-in-Err g c =
     let rest = g.R.Rng.stream c.admit.new.rng in
     let b = c.args.body in
     let w = max c.weight_for-weight.result 1 in
-    let s : State = record { managed = c.self.inside.manager; age = c.self.inside.age; wait = c.self.inside.wait; bodies = c.self.inside.bodies.items; requests = c.self.inside.requests; found = c.self.inside.found; absent = c.self.inside.absent } in
+    let s : State = record { managed = c.self.inside.manager; age = c.self.inside.age; wait = c.self.inside.wait; bodies = bodies_in c.self.inside.bodies.entries; requests = c.self.inside.requests; found = c.self.inside.found; absent = c.self.inside.absent } in
     let weighs : w ≡ weight_for b = rw c.weight_for-weight.ensures (max_twice _) in
     kept-stopped g.row.N w s b c.self.invariant c.admit.new.self c.in-Err.fault st rest weighs (rw (c.key_only-entry.ensures, c.in-Ok.ensures) at c.in-Err.ensures.refused)
 
@@ -45,7 +46,7 @@ returns-in-Ok-admit-clause-allowed g c =
     let rest = g.R.Rng.stream c.admit.new.rng in
     let b = c.args.body in
     let w = max c.weight_for-weight.result 1 in
-    let s : State = record { managed = c.self.inside.manager; age = c.self.inside.age; wait = c.self.inside.wait; bodies = c.self.inside.bodies.items; requests = c.self.inside.requests; found = c.self.inside.found; absent = c.self.inside.absent } in
+    let s : State = record { managed = c.self.inside.manager; age = c.self.inside.age; wait = c.self.inside.wait; bodies = bodies_in c.self.inside.bodies.entries; requests = c.self.inside.requests; found = c.self.inside.found; absent = c.self.inside.absent } in
     let weighs : w ≡ weight_for b = rw c.weight_for-weight.ensures (max_twice _) in
     let h : HasEvicted g.row.N s b false c.in-Ok-admit.evicted.items c.admit.new.self st rest = has_evicted g.row.N w s b false c.in-Ok-admit.evicted.items c.admit.new.self st rest c.self.invariant weighs
     (rw (c.key_only-entry.ensures, c.in-Ok.ensures) at c.in-Ok-admit.ensures.fits) (rw (c.key_only-entry.ensures, c.in-Ok.ensures) at c.in-Ok-admit.ensures.ok) c.in-Ok-admit.ensures.within in
@@ -57,7 +58,7 @@ returns-in-Ok-admit-clause-after g c =
     let rest = g.R.Rng.stream c.admit.new.rng in
     let b = c.args.body in
     let w = max c.weight_for-weight.result 1 in
-    let s : State = record { managed = c.self.inside.manager; age = c.self.inside.age; wait = c.self.inside.wait; bodies = c.self.inside.bodies.items; requests = c.self.inside.requests; found = c.self.inside.found; absent = c.self.inside.absent } in
+    let s : State = record { managed = c.self.inside.manager; age = c.self.inside.age; wait = c.self.inside.wait; bodies = bodies_in c.self.inside.bodies.entries; requests = c.self.inside.requests; found = c.self.inside.found; absent = c.self.inside.absent } in
     let weighs : w ≡ weight_for b = rw c.weight_for-weight.ensures (max_twice _) in
     let h : HasEvicted g.row.N s b false c.in-Ok-admit.evicted.items c.admit.new.self st rest = has_evicted g.row.N w s b false c.in-Ok-admit.evicted.items c.admit.new.self st rest c.self.invariant weighs
     (rw (c.key_only-entry.ensures, c.in-Ok.ensures) at c.in-Ok-admit.ensures.fits) (rw (c.key_only-entry.ensures, c.in-Ok.ensures) at c.in-Ok-admit.ensures.ok) c.in-Ok-admit.ensures.within in
@@ -69,7 +70,7 @@ returns-in-Ok-admit-clause-drawn g c =
     let rest = g.R.Rng.stream c.admit.new.rng in
     let b = c.args.body in
     let w = max c.weight_for-weight.result 1 in
-    let s : State = record { managed = c.self.inside.manager; age = c.self.inside.age; wait = c.self.inside.wait; bodies = c.self.inside.bodies.items; requests = c.self.inside.requests; found = c.self.inside.found; absent = c.self.inside.absent } in
+    let s : State = record { managed = c.self.inside.manager; age = c.self.inside.age; wait = c.self.inside.wait; bodies = bodies_in c.self.inside.bodies.entries; requests = c.self.inside.requests; found = c.self.inside.found; absent = c.self.inside.absent } in
     let weighs : w ≡ weight_for b = rw c.weight_for-weight.ensures (max_twice _) in
     let h : HasEvicted g.row.N s b false c.in-Ok-admit.evicted.items c.admit.new.self st rest = has_evicted g.row.N w s b false c.in-Ok-admit.evicted.items c.admit.new.self st rest c.self.invariant weighs
     (rw (c.key_only-entry.ensures, c.in-Ok.ensures) at c.in-Ok-admit.ensures.fits) (rw (c.key_only-entry.ensures, c.in-Ok.ensures) at c.in-Ok-admit.ensures.ok) c.in-Ok-admit.ensures.within in
@@ -81,7 +82,7 @@ returns-in-Err-clause-allowed g c =
     let rest = g.R.Rng.stream c.admit.new.rng in
     let b = c.args.body in
     let w = max c.weight_for-weight.result 1 in
-    let s : State = record { managed = c.self.inside.manager; age = c.self.inside.age; wait = c.self.inside.wait; bodies = c.self.inside.bodies.items; requests = c.self.inside.requests; found = c.self.inside.found; absent = c.self.inside.absent } in
+    let s : State = record { managed = c.self.inside.manager; age = c.self.inside.age; wait = c.self.inside.wait; bodies = bodies_in c.self.inside.bodies.entries; requests = c.self.inside.requests; found = c.self.inside.found; absent = c.self.inside.absent } in
     let weighs : w ≡ weight_for b = rw c.weight_for-weight.ensures (max_twice _) in
     let r : IsRefusedPut s b c.roll_back.result c.roll_back.new.self st rest = refused-put g.row.N w s b c.self.invariant weighs c.admit.new.self c.in-Err.fault c.roll_back.result _ c.roll_back.new.self st rest
     (rw (c.key_only-entry.ensures, c.in-Ok.ensures) at c.in-Err.ensures.refused) (rw c.has_room.ensures.same refl) c.roll_back.ensures in
@@ -93,7 +94,7 @@ returns-in-Err-clause-after g c =
     let rest = g.R.Rng.stream c.admit.new.rng in
     let b = c.args.body in
     let w = max c.weight_for-weight.result 1 in
-    let s : State = record { managed = c.self.inside.manager; age = c.self.inside.age; wait = c.self.inside.wait; bodies = c.self.inside.bodies.items; requests = c.self.inside.requests; found = c.self.inside.found; absent = c.self.inside.absent } in
+    let s : State = record { managed = c.self.inside.manager; age = c.self.inside.age; wait = c.self.inside.wait; bodies = bodies_in c.self.inside.bodies.entries; requests = c.self.inside.requests; found = c.self.inside.found; absent = c.self.inside.absent } in
     let weighs : w ≡ weight_for b = rw c.weight_for-weight.ensures (max_twice _) in
     let r : IsRefusedPut s b c.roll_back.result c.roll_back.new.self st rest = refused-put g.row.N w s b c.self.invariant weighs c.admit.new.self c.in-Err.fault c.roll_back.result _ c.roll_back.new.self st rest
     (rw (c.key_only-entry.ensures, c.in-Ok.ensures) at c.in-Err.ensures.refused) (rw c.has_room.ensures.same refl) c.roll_back.ensures in
@@ -105,7 +106,7 @@ returns-in-Err-clause-drawn g c =
     let rest = g.R.Rng.stream c.admit.new.rng in
     let b = c.args.body in
     let w = max c.weight_for-weight.result 1 in
-    let s : State = record { managed = c.self.inside.manager; age = c.self.inside.age; wait = c.self.inside.wait; bodies = c.self.inside.bodies.items; requests = c.self.inside.requests; found = c.self.inside.found; absent = c.self.inside.absent } in
+    let s : State = record { managed = c.self.inside.manager; age = c.self.inside.age; wait = c.self.inside.wait; bodies = bodies_in c.self.inside.bodies.entries; requests = c.self.inside.requests; found = c.self.inside.found; absent = c.self.inside.absent } in
     let weighs : w ≡ weight_for b = rw c.weight_for-weight.ensures (max_twice _) in
     let r : IsRefusedPut s b c.roll_back.result c.roll_back.new.self st rest = refused-put g.row.N w s b c.self.invariant weighs c.admit.new.self c.in-Err.fault c.roll_back.result _ c.roll_back.new.self st rest
     (rw (c.key_only-entry.ensures, c.in-Ok.ensures) at c.in-Err.ensures.refused) (rw c.has_room.ensures.same refl) c.roll_back.ensures in
