@@ -1,5 +1,3 @@
 pub mod ShardLaws
 pub mod StoreLaws
-pub mod HeadLaws
-pub mod LengthLaws
 pub mod RunLaws

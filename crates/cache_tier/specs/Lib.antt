@@ -1,4 +1,4 @@
-pub mod Heads
+pub mod Puts
 pub mod Codes
 pub mod Shards
 pub mod Acts
