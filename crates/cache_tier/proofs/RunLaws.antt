@@ -18,7 +18,7 @@ use Rattle.tier_model.specs.Past.{AreTaken, CarriesHeadline}
 use Rattle.tier_model.proofs.Carried.{CarriesHeadline-taken}
 use Rattle.rand_core.specs.Stream.{Stream}
 use Rattle.cache_evict.specs.Managed.{Managed, Evicts, pick_by_draws}
-use Rattle.cache_tier.specs.Heads.{Gives}
+use Rattle.cache_tier.specs.Puts.{Gives}
 use Rattle.cache_tier.specs.Draws.{AreDrawn, AreAllDrawn, Takes}
 use Rattle.cache_tier.specs.Acts.{AllowsUnrefused, after_action, TakesBy, IsRefusal, after_store, StepsBy}
 

@@ -22,7 +22,8 @@ use Rattle.tier_model.specs.declared.event.Event.{Event}
 use Rattle.tier_model.specs.Calls.{Call, Outcome, nothing_done, done_of, read_by}
 use Rattle.tier_model.specs.State.{State}
 use Rattle.tier_model.specs.Step.{AllowsBy, Allows, IsStoreFault, stored_alone, all_done, after_put, taken_back, after_outcome, after}
-use Rattle.tier_model.specs.Response.{Reading, IsRead, whole_in}
+use Rattle.response_parse.specs.Response.{Reading}
+use Rattle.tier_model.specs.Response.{IsRead, whole_in}
 
 -- an outcome of an action that is not refused and has no response
 abbrev pub AllowsUnrefused : State → MomentValue → Action → Outcome → Type 0

@@ -1,5 +1,5 @@
-pub mod Heads
 pub mod Bodies
+pub mod Puts
 pub mod Codes
 pub mod Acts
 pub mod Draws

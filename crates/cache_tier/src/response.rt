@@ -1,19 +1,20 @@
-//! What the bytes of a response give.
-ghost use Rattle.std.specs.Prelude.{◌≡◌, ◌≤◌, length, drop, IfOk, ◌⊎◌};
-ghost use Rattle.httparse.specs.Grammar.{HasNoResponse, NeverHasResponse};
-ghost use Rattle.tier_model.specs.Response.{joined};
-ghost use Rattle.cache_tier.specs.Heads.{whole_by_head, Gives};
+//! What the response of a put gives.
+ghost use Rattle.std.specs.Prelude.{◌≡◌, Some, IfOk};
+ghost use Rattle.response_parse.specs.declared.response.Parsed.TheVariants.{Complete};
+ghost use Rattle.tier_model.specs.Response.{joined, whole_until, whole_by};
+ghost use Rattle.cache_tier.specs.Puts.{Gives};
 
-mod body;
-mod head;
-
-use body::whole_by_head;
 use bytes::Bytes;
+use cache_directives::CacheControl;
+use cache_heads::NoCacheReason;
+use cache_heads::filters::calculate_fresh_until;
+use cache_heads::meta::{CacheMetaDefaults, NeverByStatus};
 use cache_words::key::CompactCacheKey;
 use cache_words::time::Moment;
-use head::{Head, HeadFault, read_head, read_leniently, waits_with_a_line_more};
+use response_parse::{Parsed, Response, read_response};
 use std::alloc::{AllocError, Global};
 use tier_model::event::Pieces;
+use tier_model::state::FinishedBody;
 use tier_model::whole::Whole;
 
 // The pieces, one after another. A piece that comes alone is shared.
@@ -32,73 +33,50 @@ fn joined(alloc: Global, pieces: &[Bytes]) -> Result<Bytes, AllocError>
     Ok(all)
 }
 
-// What a response gives whose head that is.
-fn whole_at_head(
+// What a whole body gives that may be kept.
+fn stored(arrival: Moment, entry: CompactCacheKey, bytes: Bytes, fresh_until: Moment) -> Whole
+    ensures { result ≡ whole_until arrival entry bytes (Some fresh_until) }
+{
+    if arrival.is_before_epoch() || fresh_until.is_before_epoch() {
+        return Whole::BeforeEpoch;
+    }
+    Whole::Stored(FinishedBody {
+        entry,
+        bytes,
+        fresh_until,
+    })
+}
+
+// The body by itself, so that a body that is kept doesn't keep a long response: it is copied, unless all but an eighth
+// of the response, whose length that is, is the body.
+fn kept(alloc: Global, body: Bytes, response: usize) -> Result<Bytes, AllocError>
+    ensures { IfOk result (λ own. own ≡ body) }
+{
+    if response.saturating_sub(body.len()) <= body.len() / 8 {
+        return Ok(body);
+    }
+    Bytes::copy_from_slice(alloc, body.as_slice())
+}
+
+// What a whole response of that length gives.
+fn whole_by(
     alloc: Global,
     arrival: Moment,
     entry: CompactCacheKey,
-    head: Head,
-    response: Bytes,
+    response: Response,
+    len: usize,
 ) -> Result<Whole, AllocError>
-    requires { head.len ≤ length response }
-    ensures { IfOk result (λ whole. whole ≡ whole_by_head arrival entry head.header (drop head.len response)) }
+    ensures { IfOk result (λ whole. whole ≡ whole_by arrival entry (Complete response)) }
 {
-    let len = response.len();
-    let mut rest = response;
-    rest.advance(head.len);
-    whole_by_head(alloc, arrival, entry, head.header, rest, len)
-}
-
-// What a response gives whose head has too many lines. The lenient options are asked only where no head is whole even with
-// a line more: they may still wait for a folded value to go on.
-fn whole_too_long(alloc: Global, response: &[u8]) -> Result<Whole, AllocError>
-    ensures { IfOk result (λ whole. (whole ≡ Whole.BadHead)
-        ⊎ ((whole ≡ Whole.Incomplete) × HasNoResponse response.now)) }
-{
-    if !waits_with_a_line_more(response) {
-        return Ok(Whole::BadHead);
-    }
-    match read_leniently(alloc, response) {
-        Ok(None) => Ok(Whole::Incomplete),
-        Err(HeadFault::Memory) => Err(AllocError),
-        Ok(Some(_)) | Err(_) => Ok(Whole::BadHead),
-    }
-}
-
-// What a response gives that the parser's default options refuse.
-fn whole_leniently(
-    alloc: Global,
-    arrival: Moment,
-    entry: CompactCacheKey,
-    response: Bytes,
-) -> Result<Whole, AllocError>
-    requires { NeverHasResponse response }
-    ensures { IfOk result (Gives arrival entry response) }
-{
-    match read_leniently(alloc, response.as_slice()) {
-        Ok(Some(head)) => whole_at_head(alloc, arrival, entry, head, response),
-        Ok(None) => Ok(Whole::Incomplete),
-        Err(HeadFault::Memory) => Err(AllocError),
-        Err(_) => Ok(Whole::BadHead),
-    }
-}
-
-// What a response gives.
-fn whole_of(
-    alloc: Global,
-    arrival: Moment,
-    entry: CompactCacheKey,
-    response: Bytes,
-) -> Result<Whole, AllocError>
-    ensures { IfOk result (Gives arrival entry response) }
-{
-    match read_head(alloc, response.as_slice()) {
-        Ok(Some(head)) => whole_at_head(alloc, arrival, entry, head, response),
-        Ok(None) => Ok(Whole::Incomplete),
-        Err(HeadFault::Memory) => Err(AllocError),
-        Err(HeadFault::Bounds) => Ok(Whole::BadHead),
-        Err(HeadFault::TooLong) => whole_too_long(alloc, response.as_slice()),
-        Err(HeadFault::Refused) => whole_leniently(alloc, arrival, entry, response),
+    let Response { header, body } = response;
+    let control = CacheControl::from_resp_headers(alloc, &header)?;
+    let defaults = CacheMetaDefaults::new(NeverByStatus, 0, 0);
+    match calculate_fresh_until(arrival, control.as_ref(), &header, false, &defaults) {
+        Some(fresh_until) => {
+            let bytes = kept(alloc, body, len)?;
+            Ok(stored(arrival, entry, bytes, fresh_until))
+        }
+        None => Ok(Whole::Uncacheable(NoCacheReason::OriginNotCache)),
     }
 }
 
@@ -111,6 +89,11 @@ pub(crate) fn whole_of_put(
 ) -> Result<Whole, AllocError>
     ensures { IfOk result (Gives arrival entry (joined pieces.now)) }
 {
-    let response = joined(alloc, pieces.as_slice())?;
-    whole_of(alloc, arrival, entry, response)
+    let bytes = joined(alloc, pieces.as_slice())?;
+    let len = bytes.len();
+    match read_response(alloc, bytes)? {
+        Parsed::Complete(response) => whole_by(alloc, arrival, entry, response, len),
+        Parsed::Incomplete => Ok(Whole::Incomplete),
+        Parsed::BadHead => Ok(Whole::BadHead),
+    }
 }

@@ -26,7 +26,8 @@ use Rattle.tier_model.specs.declared.event.Answer.TheVariants as answer
 use Rattle.tier_model.specs.declared.event.TierFault.{TierFault}
 use Rattle.tier_model.specs.Keys.{Entry, entry_of, alone, stored_key_of}
 use Rattle.tier_model.specs.Evictions.{all_gone, GoInTurn}
-use Rattle.tier_model.specs.Response.{Reading, whole_in}
+use Rattle.response_parse.specs.Response.{Reading}
+use Rattle.tier_model.specs.Response.{whole_in}
 use Rattle.tier_model.specs.Calls.{Call, History, Outcome, extended, nothing_done, done_of, read_by, stored_in, opened_for}
 use Rattle.tier_model.specs.Histories.{Kept, Opening, stores, clears, put_changes, hit_changes, look_changes, changes_of}
 use Rattle.tier_model.specs.Headline.{MakesRoom}

@@ -21,7 +21,7 @@ use Rattle.cache_entries.specs.Rows.{weight_of}
 use Rattle.cache_evict.specs.Managed.{rows_of}
 use Rattle.tier_model.specs.Keys.{entry_of, alone, stored_key_of}
 use Rattle.tier_model.specs.Evictions.{all_gone}
-use Rattle.tier_model.specs.Response.{Reading}
+use Rattle.response_parse.specs.Response.{Reading}
 use Rattle.tier_model.specs.Calls.{Call, Outcome, read_by, nothing_done, done_of}
 use Rattle.tier_model.specs.Rows.{body_of, weight_for}
 use Rattle.tier_model.specs.State.{Settings, State, shards_of}

@@ -13,7 +13,8 @@ use Rattle.tier_model.specs.declared.event.Done.{Done}
 use Rattle.tier_model.specs.declared.event.TierFault.{TierFault}
 use Rattle.tier_model.specs.declared.event.TierFault.TheVariants.{NumbersSpent, TooHeavy, TooLong, Memory}
 use Rattle.tier_model.specs.Keys.{Entry, entry_of}
-use Rattle.tier_model.specs.Response.{Reading, whole_in}
+use Rattle.response_parse.specs.Response.{Reading}
+use Rattle.tier_model.specs.Response.{whole_in}
 
 -- what a call answered, or the fault that refused it
 abbrev pub Outcome : Type 0

@@ -8,7 +8,8 @@ ghost use Rattle.std.specs.Prelude.{◌≡◌, ◌≢◌, ℕ, List};
 ghost use Rattle.tier_model.specs.declared.whole.Whole.TheVariants.{BadHead};
 ghost use Rattle.cache_words.specs.Time.{MomentValue};
 ghost use Rattle.tier_model.specs.Keys.{Entry};
-ghost use Rattle.tier_model.specs.Response.{IsPlain, IsWellFormed, Reading, IsReading, whole_of};
+ghost use Rattle.response_parse.specs.Response.{IsWellFormed, Reading, IsReading};
+ghost use Rattle.tier_model.specs.Response.{whole_of};
 ghost use Rattle.tier_model.specs.State.{State};
 ghost use Rattle.tier_model.specs.Past.{IsLawful, MatchesHistory, state_of};
 ghost use Rattle.tier_model.specs.Reports.{IsReport, report_of};
@@ -35,12 +36,7 @@ pub fn reports_tell_the_history()
     ensures { (s : State) (start : Opening) (h : History) → MatchesHistory s start h → IsReport (report_of s) start h }
 {}
 
-/// A response whose head the parser's default options read or begin to read has one reading, and so gives one thing at a moment.
-pub fn plain_responses_have_one_reading()
-    ensures { (bytes : List ℕ) (a b : Reading) → IsPlain bytes → IsReading bytes a → IsReading bytes b → a ≡ b }
-{}
-
-/// Where that head is within bounds the response is never a bad head.
+/// A response whose head the parser's default options read or begin to read, within bounds, is never a bad head.
 pub fn well_formed_responses_are_read()
     ensures { (arrival : MomentValue) (entry : Entry) (bytes : List ℕ) (r : Reading) → IsWellFormed bytes → IsReading bytes r → whole_of arrival entry r ≢ BadHead }
 {}

@@ -1,0 +1,14 @@
+use Rattle.response_parse.proofs.HeadLaws.{front-lenient, front-refused}
+use Rattle.response_parse.proofs.ReadingLaws.{never-has}
+use Rattle.response_parse.proofs.front.front_leniently.Goals as goal
+
+pub returns-in-Ok-Some : goal.returns-in-Ok-Some
+returns-in-Ok-Some c =
+    let some = rw c.in-Ok-Some.field-0-is at c.in-Ok-Some.ensures in
+    front-lenient c.args.bytes.now c.in-Ok-Some.head c.requires some
+
+pub returns-in-Ok-None : goal.returns-in-Ok-None
+returns-in-Ok-None c = never-has c.args.bytes.now c.requires
+
+pub returns-in-Err : goal.returns-in-Err
+returns-in-Err c = front-refused c.args.bytes.now c.requires

@@ -1,0 +1,97 @@
+-- What the bytes of a response are read as (RFC 9112), and what that gives: a head, and the body that it announces.
+use Rattle.std.specs.Prelude.{◌≡◌, ℕ, ◌^◌, ◌<◌, ◌≤◌, ◌==◌, nat_le, nat_lt, ◌&&◌, ◌||◌, Bool, true, List, [], ◌∷◌, ◌++◌, length, take, codes, map, filter, if◌then◌else◌, Option, Some, None, bytes_eq, ◌⊎◌}
+use Rattle.std.specs.Char.{is_ascii_digit}
+use Rattle.std.specs.List.{list_all}
+use Rattle.std.specs.Str.Parse.{digits_value}
+use Rattle.cache_headers.specs.Lines.{Line, map_of}
+use Rattle.cache_headers.specs.declared.header.ResponseHeader.{ResponseHeader}
+use Rattle.http_header.specs.Token.{lowercase}
+use Rattle.httparse.specs.Grammar.{ResponseHead, ReadsResponse, HasNoResponse, status_code}
+use Rattle.httparse.specs.Spans.{name_and_value}
+use Rattle.response_parse.specs.declared.response.Parsed.{Parsed}
+use Rattle.response_parse.specs.declared.response.Parsed.TheVariants.{Complete, Incomplete, BadHead}
+
+-- the values of the header lines of a name, in order (RFC 9110, 5.1: names in any case)
+abbrev pub values_of : List ℕ → List Line → List (List ℕ)
+values_of name lines = map (λ line. line.1) (filter (λ line. bytes_eq (lowercase line.0) name) lines)
+
+abbrev pub decimal : List ℕ → Option ℕ
+decimal digits =
+    if nat_lt 0 (length digits) && (list_all is_ascii_digit digits && nat_lt (digits_value 10 digits) (2 ^ 64))
+    then Some (digits_value 10 digits)
+    else None
+
+-- a length in bytes: an optional plus sign, then digits and nothing else, below 2^64 (RFC 9110, 8.6)
+abbrev pub length_in : List ℕ → Option ℕ
+length_in [] = None
+length_in (b ∷ digits) = if b == 43 then decimal digits else decimal (b ∷ digits)
+
+-- what the first Content-Length says, if it can be read
+abbrev pub first_length : List (List ℕ) → Option ℕ
+first_length [] = None
+first_length (value ∷ values) = length_in value
+
+-- how many bytes of body a response has: none under 204 and 304 (RFC 9112, 6.3), else as many as its Content-Length says
+abbrev pub body_length : ℕ → List Line → Option ℕ
+body_length status lines = if status == 204 || status == 304 then Some 0 else first_length (values_of (codes "content-length") lines)
+
+-- the body among the bytes after the head: so many, or without a length all of them; none where fewer came
+abbrev pub body_within : Option ℕ → List ℕ → Option (List ℕ)
+body_within None rest = Some rest
+body_within (Some n) rest = if nat_le n (length rest) then Some (take n rest) else None
+
+abbrev pub has_short_name : Line → Bool
+has_short_name line = nat_le (length line.0) 65535
+
+-- a status from 100, and names of at most 65535 bytes
+abbrev pub is_within_bounds : ℕ → List Line → Bool
+is_within_bounds status lines = nat_le 100 status && list_all has_short_name lines
+
+-- the bytes, or these with more after them, begin with a head that the parser's default options read (RFC 9112), of at most 256 lines
+abbrev pub IsPlain : List ℕ → Type 0
+IsPlain bytes = (more : List ℕ) × (h : ResponseHead) × (rest : List ℕ) × ReadsResponse (bytes ++ more) h rest × (length h.fields ≤ 256)
+
+-- that head is within its bounds, too
+abbrev pub IsWellFormed : List ℕ → Type 0
+IsWellFormed bytes =
+    (more : List ℕ) × (h : ResponseHead) × (rest : List ℕ) × ReadsResponse (bytes ++ more) h rest × (length h.fields ≤ 256)
+    × (is_within_bounds (status_code h) (map name_and_value h.fields) ≡ true)
+
+-- what the parser made of a response's bytes: a whole head, by its status and its lines, with the bytes after it; the beginning
+-- of a head; or no head
+pub data Reading : Type 0 where
+  whole_head : ℕ → List Line → List ℕ → Reading
+  begun_head : Reading
+  no_head : Reading
+
+-- r is a reading of the bytes. By the parser's default options it is the head at their front, or the beginning of one; a head of
+-- more than 256 lines is none, and the beginning of one is none or a beginning. What the lenient options make of other bytes is
+-- left open, but for what comes after a head
+pub record IsReading (bytes : List ℕ) (r : Reading) : Type 0 where
+  pub whole : (h : ResponseHead) (rest : List ℕ) → ReadsResponse bytes h rest → length h.fields ≤ 256 → r ≡ whole_head (status_code h) (map name_and_value h.fields) rest
+  pub begins : HasNoResponse bytes → IsPlain bytes → r ≡ begun_head
+  pub long : (h : ResponseHead) (rest : List ℕ) → ReadsResponse bytes h rest → 256 < length h.fields → r ≡ no_head
+  pub longer : (more : List ℕ) (h : ResponseHead) (rest : List ℕ) → ReadsResponse (bytes ++ more) h rest → 256 < length h.fields → (r ≡ no_head) ⊎ (r ≡ begun_head)
+  pub within : (status : ℕ) (lines : List Line) (rest : List ℕ) → r ≡ whole_head status lines rest → (front : List ℕ) × (bytes ≡ front ++ rest)
+
+-- a head, with its body if that is whole
+abbrev pub parsed_by_body : ResponseHeader → Option (List ℕ) → Parsed
+parsed_by_body header None = Incomplete
+parsed_by_body header (Some body) = Complete (record { header = header; body = body })
+
+-- what a head of this status and these header lines gives, with the bytes after it
+unfoldable pub parsed_by_lines : ℕ → List Line → List ℕ → Parsed
+parsed_by_lines status lines rest =
+    if is_within_bounds status lines
+    then parsed_by_body (record { status = status; headers = map_of lines }) (body_within (body_length status lines) rest)
+    else BadHead
+
+-- what a reading gives
+abbrev pub parsed_of : Reading → Parsed
+parsed_of (whole_head status lines rest) = parsed_by_lines status lines rest
+parsed_of begun_head = Incomplete
+parsed_of no_head = BadHead
+
+-- that is what the bytes give by one of their readings
+abbrev pub Gives : List ℕ → Parsed → Type 0
+Gives bytes parsed = (r : Reading) × IsReading bytes r × (parsed ≡ parsed_of r)
