@@ -8,6 +8,8 @@ use Rattle.cache_lock.specs.declared.status.LockStatus.{LockStatus}
 use Rattle.cache_lock.specs.declared.status.LockStatus.TheVariants.{Dangling, AgeTimeout}
 use Rattle.cache_lock.specs.declared.tokens.Locked.{Locked}
 use Rattle.cache_lock.specs.declared.tokens.Locked.TheVariants.{Write, Read}
+use Rattle.cache_lock.specs.declared.fault.LockFault.{LockFault}
+use Rattle.cache_lock.specs.declared.fault.LockFault.TheVariants.{Memory, CoreNumbersSpent}
 use Rattle.cache_lock.specs.declared.fills.UnusableFill.{UnusableFill}
 use Rattle.cache_lock.specs.declared.fills.WaitOutcome.{WaitOutcome}
 use Rattle.cache_lock.specs.declared.fills.WaitOutcome.TheVariants.{Released, AgeTimeout as Aged, Abandoned}
@@ -37,6 +39,12 @@ lock_change key stale moment s (Some n) = lends n
 abbrev pub IsSpent : LockState → Option ℕ → Type 0
 IsSpent s None = s.next ≡ 2 ^ 64 - 1
 IsSpent s (Some n) = (c : HeldCore) × (get s.cores n ≡ Some c) × (c.names ≡ 2 ^ 64 - 1)
+
+-- why no lock is given: that, or, for a new core alone, no memory
+abbrev pub IsRefused : LockState → Option ℕ → LockFault → Type 0
+IsRefused s o CoreNumbersSpent = IsSpent s o
+IsRefused s None Memory = IsSpent s None → ⊥
+IsRefused s (Some n) Memory = ⊥
 
 -- what a release stores: its reason, where the key has a core
 abbrev pub reason_stored : LockStatus → Option ℕ → LockStatus

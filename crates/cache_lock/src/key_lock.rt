@@ -1,10 +1,10 @@
 //! What a lock of keys is asked for.
-ghost use Rattle.std.specs.Prelude.{◌≡◌, ◌≢◌, OnOk, OnErr, IfOk, option_map};
+ghost use Rattle.std.specs.Prelude.{◌≡◌, ◌≢◌, OnOk, OnErr, IfOk, IfErr, option_map};
 ghost use Rattle.std.specs.FinMap as finite;
 ghost use Rattle.cache_words.specs.Key.{key_of, combined};
 ghost use Rattle.cache_lock.specs.Changes.{publishes};
 ghost use Rattle.cache_lock.specs.State.{LockState, after, after_all, core_in};
-ghost use Rattle.cache_lock.specs.Answers.{to_wait_for, locked_by, lock_change, IsSpent, release_changes, unlock_changes, leave_changes, wait_outcome, poll_changes};
+ghost use Rattle.cache_lock.specs.Answers.{to_wait_for, locked_by, lock_change, IsRefused, release_changes, unlock_changes, leave_changes, wait_outcome, poll_changes};
 
 use crate::fault::LockFault;
 use crate::fills::{UnusableFills, WaitOutcome};
@@ -23,7 +23,12 @@ pub trait CacheKeyLock {
     ghost state: { Self → LockState };
 
     /// Returns a read lock of the key's core, unless its status is `Dangling` or `AgeTimeout`, and otherwise the permit, under
-    /// a new core. A refusal leaves all as before.
+    /// a new core.
+    ///
+    /// # Errors
+    ///
+    /// `CoreNumbersSpent` exactly where the last number was given, or the core can't be named once more; `Memory` when out of memory
+    /// for a new core. Nothing has changed.
     fn lock(
         &mut self,
         key: &CacheKey,
@@ -33,7 +38,7 @@ pub trait CacheKeyLock {
         ensures answer { let k = combined (key_of key.now) in IfOk result (λ l. l ≡ locked_by (state self.old) (to_wait_for k (state self.old))) }
         ensures change { let k = combined (key_of key.now) in let s = state self.old in OnOk result (state self.new ≡ after (lock_change k stale_writer moment s (to_wait_for k s)) s) }
         ensures err { OnErr result (state self.new ≡ state self.old) }
-        ensures spent { result ≡ Err LockFault.CoreNumbersSpent → IsSpent (state self.old) (to_wait_for (combined (key_of key.now)) (state self.old)) };
+        ensures refused { IfErr result (IsRefused (state self.old) (to_wait_for (combined (key_of key.now)) (state self.old))) };
 
     /// Spends a permit: its key has no core any more, and the reason is stored in the permit's, or `Dangling` where
     /// the key has none. Where a poll found the permit past its age, the key's core and that status stay.

@@ -1,9 +1,9 @@
 //! The changes of which the calls are made.
-ghost use Rattle.std.specs.Prelude.{◌≡◌, ◌∷◌, [], OnOk, OnErr, IfOk, Some};
+ghost use Rattle.std.specs.Prelude.{◌≡◌, ◌∷◌, [], OnOk, OnErr, IfOk, IfErr, Some};
 ghost use Rattle.std.specs.FinMap as finite;
 ghost use Rattle.cache_lock.specs.Changes.{gives, lends, stores, takes_out, spends};
 ghost use Rattle.cache_lock.specs.State.{after, status_of, without_core};
-ghost use Rattle.cache_lock.specs.Answers.{to_wait_for, locked_by, IsSpent, wait_outcome};
+ghost use Rattle.cache_lock.specs.Answers.{to_wait_for, locked_by, IsRefused, wait_outcome};
 
 use super::CacheLock;
 use crate::fault::LockFault;
@@ -43,7 +43,7 @@ impl<S: BuildHasher> CacheLock<S> {
         ensures answer { IfOk result (λ l. l ≡ locked_by self.old (Some number)) }
         ensures change { OnOk result (self.new ≡ after (lends number) self.old) }
         ensures err { OnErr result (self.new ≡ self.old) }
-        ensures spent { result ≡ Err LockFault.CoreNumbersSpent → IsSpent self.old (Some number) }
+        ensures refused { IfErr result (IsRefused self.old (Some number)) }
     {
         if let Some(&held) = self.cores.get(number) {
             if held.names == u64::MAX {
@@ -65,7 +65,7 @@ impl<S: BuildHasher> CacheLock<S> {
         ensures answer { IfOk result (λ l. l ≡ locked_by self.old None) }
         ensures change { OnOk result (self.new ≡ after (gives self.old.next key stale_writer moment) self.old) }
         ensures err { OnErr result (self.new ≡ self.old) }
-        ensures spent { result ≡ Err LockFault.CoreNumbersSpent → IsSpent self.old None }
+        ensures refused { IfErr result (IsRefused self.old None) }
     {
         let number = self.next;
         if number == u64::MAX {
