@@ -1,9 +1,8 @@
 -- What purges answer.
-use Rattle.std.specs.Prelude.{◌≡◌, ◌==◌, Bool, false, Option, Some, None, if◌then◌else◌}
+use Rattle.std.specs.Prelude.{◌≡◌, Option, Some, None, option_map, if◌then◌else◌}
 use Rattle.cache_entries.specs.declared.entry.CacheEntryId.{CacheEntryId}
 use Rattle.cache_entries.specs.declared.entry.CacheEntryKey.{CacheEntryKey}
-use Rattle.cache_entries.specs.declared.entry.CacheEntryKey.TheVariants.{KeyOnly, Identified}
-use Rattle.cache_entries.specs.Entry.{number_of}
+use Rattle.cache_entries.specs.Entry.{number_of, key_of, id_of, same_id}
 use Rattle.cache_changes.specs.Changes.{StoredKey, stored_key, removes}
 use Rattle.cache_changes.specs.Store.{after, is_found_at}
 use Rattle.cache_store.specs.declared.storage.PurgeTarget.{PurgeTarget}
@@ -13,15 +12,9 @@ use Rattle.cache_store.specs.declared.storage.PurgeOutcome.TheVariants.{NotFound
 use Rattle.cache_store.specs.Agree.{Agree}
 use Rattle.cache_store.specs.Held.{Held}
 
--- it is that id
-abbrev pub is_id : CacheEntryId → Option CacheEntryId → Bool
-is_id id None = false
-is_id id (Some other) = number_of id == number_of other
-
--- the key that an entry names; one with an id names it only where the body stored under it has that id
+-- the key that an entry names, where what is stored under it has the entry's id, or both have none
 abbrev pub entry_key : (StoredKey → Option CacheEntryId) → CacheEntryKey → Option StoredKey
-entry_key ids (KeyOnly key) = Some (stored_key key)
-entry_key ids (Identified key id) = if is_id id (ids (stored_key key)) then Some (stored_key key) else None
+entry_key ids entry = if same_id (id_of entry) (option_map number_of (ids (stored_key (key_of entry)))) then Some (stored_key (key_of entry)) else None
 
 -- the key that a target names, by the ids of what is stored
 abbrev pub target_key : (StoredKey → Option CacheEntryId) → PurgeTarget → Option StoredKey
