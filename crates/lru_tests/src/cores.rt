@@ -96,7 +96,11 @@ fn is_done<const N: usize>(core: &mut LruCore<u32, N>, edit: Edit) -> bool {
 }
 
 /// Whether a shard has these data and weights, and the sum of them.
-pub(crate) fn has<const N: usize>(core: &LruCore<u32, N>, shard: usize, rows: &[(u32, usize)]) -> bool {
+pub(crate) fn has<const N: usize>(
+    core: &LruCore<u32, N>,
+    shard: usize,
+    rows: &[(u32, usize)],
+) -> bool {
     if shard >= core.shards() {
         return false;
     }
