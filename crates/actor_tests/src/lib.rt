@@ -1,0 +1,5 @@
+//! Tests of actors, as tables of steps.
+#![tactic(auto)]
+
+#[cfg(test)]
+mod worlds;

@@ -1,0 +1,174 @@
+//! Steps of a world of actors, and what they leave.
+
+use async_lru::{Event, Message, Outcome, World};
+use std::alloc::Global;
+
+/// A step, and what it must answer.
+#[derive(Clone, Copy)]
+enum Step {
+    /// A key of that weight is admitted under itself; its shard.
+    Admit(u32, usize, usize),
+    /// A key of that weight is put last.
+    InsertTail(u32, usize),
+    Promote(u32),
+    Remove(u32),
+    /// Weight is added, up to a cap.
+    Increment(u32, usize, usize),
+    /// The actor of that shard acts: whether a message waited.
+    Act(usize, bool),
+    /// By these words a pair is evicted, or not.
+    Evict(u64, u64, bool),
+    /// The pair to call back with.
+    CallBack(u32, usize),
+    /// No pair waits.
+    NoCallBack,
+}
+
+/// Steps from no rows, and what they leave: the pairs that wait for their callbacks, and the rows of shard 0.
+struct Row {
+    steps: &'static [Step],
+    dispatch: &'static [(u32, usize)],
+    rows: &'static [(u32, usize)],
+}
+
+const A: Step = Step::Admit(0, 1, 0);
+
+const B: Step = Step::Admit(2, 1, 0);
+
+const ACT: Step = Step::Act(0, true);
+
+/// One shard and a limit of 1.
+const TIGHT: &[Row] = &[
+    Row {
+        steps: &[A, B, ACT, ACT, Step::Evict(0, 0, true)],
+        dispatch: &[(0, 1)],
+        rows: &[(2, 1)],
+    },
+    Row {
+        steps: &[A, B, ACT, Step::Evict(0, 0, false), ACT],
+        dispatch: &[],
+        rows: &[(2, 1), (0, 1)],
+    },
+    Row {
+        steps: &[
+            A,
+            B,
+            ACT,
+            Step::Evict(0, 0, false),
+            ACT,
+            Step::Evict(0, 0, true),
+        ],
+        dispatch: &[(0, 1)],
+        rows: &[(2, 1)],
+    },
+    Row {
+        steps: &[
+            A,
+            B,
+            ACT,
+            ACT,
+            Step::Evict(0, 0, true),
+            Step::CallBack(0, 1),
+            Step::NoCallBack,
+        ],
+        dispatch: &[],
+        rows: &[(2, 1)],
+    },
+    Row {
+        steps: &[
+            Step::Act(0, false),
+            A,
+            Step::InsertTail(2, 0),
+            ACT,
+            ACT,
+            Step::Promote(2),
+            ACT,
+        ],
+        dispatch: &[],
+        rows: &[(2, 0), (0, 1)],
+    },
+    Row {
+        steps: &[
+            Step::Increment(4, 7, 5),
+            A,
+            ACT,
+            ACT,
+            Step::Remove(0),
+            ACT,
+            Step::Act(0, false),
+        ],
+        dispatch: &[],
+        rows: &[(4, 5)],
+    },
+];
+
+/// Whether a world does a step as it must.
+fn does<const N: usize>(world: &mut World<u32, N>, step: Step) -> bool {
+    match step {
+        Step::Admit(key, weight, to) => matches!(
+            world.step(Event::Send(Message::Admit(key as u64, key, weight))),
+            Ok(Outcome::Sent(shard)) if shard == to
+        ),
+        Step::InsertTail(key, weight) => sends(world, Message::InsertTail(key as u64, key, weight)),
+        Step::Promote(key) => sends(world, Message::Promote(key as u64)),
+        Step::Remove(key) => sends(world, Message::Remove(key as u64)),
+        Step::Increment(key, delta, cap) => {
+            sends(
+                world,
+                Message::IncrementWeight(key as u64, key, delta, Some(cap)),
+            )
+        }
+        Step::Act(shard, true) => matches!(world.step(Event::Act(shard)), Ok(Outcome::Applied)),
+        Step::Act(shard, false) => matches!(world.step(Event::Act(shard)), Ok(Outcome::Nothing)),
+        Step::Evict(a, b, true) => matches!(world.step(Event::Evict(a, b)), Ok(Outcome::Evicted)),
+        Step::Evict(a, b, false) => matches!(world.step(Event::Evict(a, b)), Ok(Outcome::Nothing)),
+        Step::CallBack(key, weight) => match world.step(Event::CallBack) {
+            Ok(Outcome::Called(called, with)) => called == key && with == weight,
+            _ => false,
+        },
+        Step::NoCallBack => matches!(world.step(Event::CallBack), Ok(Outcome::Nothing)),
+    }
+}
+
+fn sends<const N: usize>(world: &mut World<u32, N>, message: Message<u32>) -> bool {
+    matches!(world.step(Event::Send(message)), Ok(Outcome::Sent(_)))
+}
+
+/// Whether the world has these rows in shard 0, and these pairs wait for their callbacks.
+fn shows<const N: usize>(world: &World<u32, N>, row: &Row) -> bool {
+    let core = world.core();
+    if core.shards() == 0 || world.dispatch().len() != row.dispatch.len() {
+        return false;
+    }
+    let mut rows = core.iter(0);
+    for pair in row.rows {
+        match rows.next() {
+            Some((key, weight)) if *key == pair.0 && weight == pair.1 => {}
+            _ => return false,
+        }
+    }
+    rows.next().is_none()
+        && world
+            .dispatch()
+            .iter()
+            .zip(row.dispatch.iter())
+            .all(|(waits, pair)| waits == pair)
+}
+
+/// Whether a world of one shard does the steps of a row and shows what they leave.
+fn goes(alloc: Global, row: &Row) -> Option<bool> {
+    let mut world: World<u32, 1> = World::new(alloc, 1, None).ok()?;
+    for &step in row.steps {
+        if !does(&mut world, step) {
+            return Some(false);
+        }
+    }
+    Some(shows(&world, row))
+}
+
+#[test]
+fn a_tight_world_evicts_the_last(rt: HostRuntime) {
+    for row in TIGHT {
+        assert_eq!(rt; goes(rt.alloc(), row), Some(true));
+    }
+}
