@@ -1,6 +1,7 @@
 use Rattle.std.proofs.Common.{◌≡◌, ◌++◌, ◌∙◌, ap, rules, take, length, ℕ, arith}
 use Rattle.std.specs.Prelude.{◌≢◌}
 use Rattle.response_parse.specs.declared.position.Position.TheVariants.{AfterEmptyLine}
+use Rattle.response_parse.specs.Heads.{IsFrontOf}
 use Rattle.response_parse.proofs.PositionLaws.{after-part, part-has-none}
 use Rattle.response_parse.proofs.ParseLaws.{told-front}
 use Rattle.std.proofs.lemmas.List.{take_all}
@@ -30,4 +31,5 @@ returns-then-ne-clause-none c = λ _ none.
 
 pub returns-clause-told : goal.returns-clause-told
 returns-clause-told c =
-    told-front c.extend_from_slice.new.self.items c.in_ok-front.front (rw c.deref.ensures.value at c.in_ok-front.ensures)
+    let front : IsFrontOf c.extend_from_slice.new.self.items c.in_ok-front.front = search rules in
+    told-front c.extend_from_slice.new.self.items c.in_ok-front.front front
