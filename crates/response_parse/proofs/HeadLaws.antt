@@ -26,8 +26,9 @@ use Rattle.response_parse.specs.declared.response.Parsed.TheVariants.{Incomplete
 use Rattle.response_parse.specs.declared.head.Head.{Head}
 use Rattle.response_parse.specs.declared.front.Front.{Front}
 use Rattle.response_parse.specs.declared.front.Front.TheVariants.{Found, Begun, Refused}
-use Rattle.response_parse.specs.Response.{values_of, parsed_by_lines, has_short_name, is_within_bounds, whole_head, begun_head, no_head, Gives}
-use Rattle.response_parse.specs.Heads.{values_under, parsed_by_header, IsHeaderOf, IsHeaderFor, IsBad, IsFrontOf, IsHeadAt, IsHeadOf, IsOutOfBounds, IsSomeHead, AreShortLines}
+use Rattle.response_parse.specs.Response.{values_of, body_length, parsed_by_lines, has_short_name, is_within_bounds, whole_head, begun_head, no_head, Gives}
+use Rattle.response_parse.specs.Parse.{values_under, announced, IsHeaderOf, IsHeaderFor, IsBad}
+use Rattle.response_parse.specs.Heads.{parsed_by_header, IsFrontOf, IsHeadAt, IsHeadOf, IsOutOfBounds, IsSomeHead, AreShortLines}
 use Rattle.response_parse.proofs.ReadingLaws.{reads-more, reading-whole, reading-begun, reading-long, reading-lenient, reading-refused, overflows-more}
 
 -- a further line adds one value, and one name at most
@@ -158,11 +159,15 @@ whole-head bytes headers r h at room status all is code value short = (
   },
 )
 
+-- a header announces what its lines say
+pub announced-is : (header : ResponseHeader) (lines : List Line) → IsHeaderOf header lines → announced header ≡ body_length header.status lines
+announced-is header lines is = rw (is.0, under-map_of lines (codes "content-length")) refl
+
 -- a head as a map gives what its lines give
 parsed_by_header-is : (header : ResponseHeader) (rest : List ℕ) (lines : List Line) → IsHeaderOf header lines → parsed_by_header header rest ≡ parsed_by_lines header.status lines rest
 unfolding parsed_by_lines
 parsed_by_header-is header rest lines is =
-    rw (is.1, ← under-map_of lines (codes "content-length"), ← is.0) refl
+    rw (is.1, ← announced-is header lines is, ← is.0) refl
 
 parsed_by_lines-out : (status : ℕ) (lines : List Line) (rest : List ℕ) → is_within_bounds status lines ≡ false → parsed_by_lines status lines rest ≡ BadHead
 unfolding parsed_by_lines

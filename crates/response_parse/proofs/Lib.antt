@@ -1,3 +1,6 @@
+pub mod ReadingLaws
 pub mod HeadLaws
 pub mod LengthLaws
-pub mod ReadingLaws
+pub mod PositionLaws
+pub mod ParseLaws
+pub mod StageLaws

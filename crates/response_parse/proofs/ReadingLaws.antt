@@ -13,7 +13,7 @@ use Rattle.response_parse.specs.declared.response.Parsed.TheVariants.{Incomplete
 use Rattle.response_parse.specs.Response.{IsPlain, IsWellFormed, is_within_bounds, body_within, body_length, parsed_by_body, parsed_by_lines, Reading, whole_head, begun_head, no_head, IsReading, parsed_of}
 
 -- a head that stands whole in the first part of some bytes is read there
-read_front : (bytes more : List ℕ) (h : ResponseHead) (rest : List ℕ) → ReadsResponse (bytes ++ more) h rest → length (print_response h) ≤ length bytes → ReadsResponse bytes h (drop (length (print_response h)) bytes)
+pub read_front : (bytes more : List ℕ) (h : ResponseHead) (rest : List ℕ) → ReadsResponse (bytes ++ more) h rest → length (print_response h) ≤ length bytes → ReadsResponse bytes h (drop (length (print_response h)) bytes)
 read_front bytes more h rest r l =
     let n : ℕ = length (print_response h) in
     let front : take n bytes ≡ print_response h = sym (take-append-le n bytes more l) ∙ ap (take n) r.1 ∙ take-append_seam (print_response h) rest in
@@ -39,7 +39,7 @@ IsReading-one bytes p q plain x y =
     ]
 
 -- what a head within bounds gives is no bad head
-parsed_by_body-read : (header : ResponseHeader) (body : Option (List ℕ)) → parsed_by_body header body ≢ BadHead
+pub parsed_by_body-read : (header : ResponseHeader) (body : Option (List ℕ)) → parsed_by_body header body ≢ BadHead
 parsed_by_body-read header None e = cc
 parsed_by_body-read header (Some body) e = cc
 

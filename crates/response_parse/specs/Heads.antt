@@ -1,26 +1,18 @@
 -- Heads as the code holds them: a map of the lines, and a length.
-use Rattle.std.specs.Prelude.{◌≡◌, ℕ, ◌≤◌, ◌==◌, ◌||◌, true, false, List, ◌++◌, length, drop, map, codes, if◌then◌else◌, Option, Some}
+use Rattle.std.specs.Prelude.{◌≡◌, ℕ, ◌≤◌, true, false, List, length, drop, map}
 use Rattle.std.specs.List.{list_all}
-use Rattle.http_header.specs.HeaderMap.{Entries, get_all}
+use Rattle.http_header.specs.HeaderMap.{Entries}
 use Rattle.http_header.specs.FieldValue.{FieldValue}
 use Rattle.cache_headers.specs.Lines.{Line, map_of}
 use Rattle.cache_headers.specs.declared.header.ResponseHeader.{ResponseHeader}
 use Rattle.httparse.specs.Grammar.{ResponseHead, ReadsResponse, HasNoResponse, status_code}
 use Rattle.httparse.specs.Spans.{name_and_value}
 use Rattle.response_parse.specs.declared.response.Parsed.{Parsed}
-use Rattle.response_parse.specs.declared.response.Parsed.TheVariants.{BadHead}
 use Rattle.response_parse.specs.declared.head.Head.{Head}
 use Rattle.response_parse.specs.declared.front.Front.{Front}
 use Rattle.response_parse.specs.declared.front.Front.TheVariants.{Found, Begun, Refused}
-use Rattle.response_parse.specs.Response.{first_length, body_within, has_short_name, is_within_bounds, whole_head, IsReading, parsed_by_body, Gives}
-
--- the values under a name in a map
-abbrev pub values_under : List ℕ → Entries FieldValue → List (List ℕ)
-values_under name headers = map (λ value. value.bytes) (get_all headers name)
-
--- how many bytes of body a head announces
-abbrev pub announced : ResponseHeader → Option ℕ
-announced head = if head.status == 204 || head.status == 304 then Some 0 else first_length (values_under (codes "content-length") head.headers)
+use Rattle.response_parse.specs.Response.{body_within, has_short_name, is_within_bounds, parsed_by_body}
+use Rattle.response_parse.specs.Parse.{announced, IsHeaderOf, IsHeaderFor, IsBad}
 
 -- what a head gives, with the bytes after it
 abbrev pub parsed_by_header : ResponseHeader → List ℕ → Parsed
@@ -37,10 +29,6 @@ pub record IsHeadAt (bytes : List ℕ) (head : Head) (h : ResponseHead) : Type 0
 abbrev pub IsHeadOf : List ℕ → Head → Type 0
 IsHeadOf bytes head = (h : ResponseHead) × IsHeadAt bytes head h
 
--- the header has these lines, and they are within bounds
-abbrev pub IsHeaderOf : ResponseHeader → List Line → Type 0
-IsHeaderOf header lines = (header.headers ≡ map_of lines) × (is_within_bounds header.status lines ≡ true)
-
 -- a head that was read in some way, within its bounds
 pub record IsSomeHead (bytes : List ℕ) (head : Head) : Type 0 where
   pub len : head.len ≤ length bytes
@@ -56,17 +44,14 @@ IsOutOfBounds bytes =
     (h : ResponseHead) × (rest : List ℕ) × ReadsResponse bytes h rest × (length h.fields ≤ 256)
     × (is_within_bounds (status_code h) (map name_and_value h.fields) ≡ false)
 
--- the header is that of these bytes, with what comes after it, whatever more comes
-abbrev pub IsHeaderFor : List ℕ → ResponseHeader → List ℕ → Type 0
-IsHeaderFor bytes header rest =
-    (lines : List Line) × IsHeaderOf header lines × ((more : List ℕ) → IsReading (bytes ++ more) (whole_head header.status lines (rest ++ more)))
-
--- no head is read, whatever more comes
-abbrev pub IsBad : List ℕ → Type 0
-IsBad bytes = (more : List ℕ) → Gives (bytes ++ more) BadHead
-
 -- what the front of some bytes is read as
 abbrev pub IsFrontOf : List ℕ → Front → Type 0
 IsFrontOf bytes (Found head) = (head.len ≤ length bytes) × IsHeaderFor bytes head.header (drop head.len bytes)
 IsFrontOf bytes Begun = HasNoResponse bytes
 IsFrontOf bytes Refused = IsBad bytes
+
+-- what is told of a front; where a head goes on, nothing is
+abbrev pub IsToldFront : List ℕ → Front → Type 0
+IsToldFront bytes (Found head) = (head.len ≤ length bytes) × IsHeaderFor bytes head.header (drop head.len bytes)
+IsToldFront bytes Begun = Unit {0}
+IsToldFront bytes Refused = IsBad bytes

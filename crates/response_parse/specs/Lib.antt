@@ -1,2 +1,5 @@
 pub mod Response
+pub mod Parse
+pub mod Positions
 pub mod Heads
+pub mod Stages

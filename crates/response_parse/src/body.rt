@@ -1,7 +1,8 @@
 //! The body that a head announces.
 ghost use Rattle.std.specs.Prelude.{◌≡◌};
 ghost use Rattle.response_parse.specs.Response.{length_in, body_within};
-ghost use Rattle.response_parse.specs.Heads.{announced, parsed_by_header};
+ghost use Rattle.response_parse.specs.Parse.{announced};
+ghost use Rattle.response_parse.specs.Heads.{parsed_by_header};
 
 use crate::response::{Parsed, Response};
 use bytes::Bytes;

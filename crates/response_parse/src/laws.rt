@@ -2,7 +2,7 @@
 ghost use Rattle.std.specs.Prelude.{◌≡◌, ◌≢◌, ℕ, List};
 ghost use Rattle.cache_headers.specs.Lines.{Line, map_of};
 ghost use Rattle.response_parse.specs.declared.response.Parsed.TheVariants.{BadHead};
-ghost use Rattle.response_parse.specs.Heads.{values_under};
+ghost use Rattle.response_parse.specs.Parse.{values_under};
 ghost use Rattle.response_parse.specs.Response.{values_of, IsPlain, IsWellFormed, Reading, IsReading, parsed_of};
 
 /// A response whose head the parser's default options read or begin to read has one reading, and so gives one thing.

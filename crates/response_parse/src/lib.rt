@@ -1,12 +1,17 @@
-//! Responses read from their bytes: a head, by httparse, and the body that it announces.
+//! Responses read from their bytes, whole or in pieces: a head, by httparse, and the body that it announces.
 #![tactic(auto)]
 
+mod begun;
 mod body;
+mod collected;
 mod front;
 mod head;
 pub mod laws;
+pub mod parse;
+mod position;
 pub mod read;
 pub mod response;
 
+pub use parse::ResponseParse;
 pub use read::read_response;
-pub use response::{Parsed, Response};
+pub use response::{Parsed, Progress, Response};

@@ -22,3 +22,16 @@ pub enum Parsed {
     /// status below 100.
     BadHead,
 }
+
+/// How far a response has come.
+#[derive(Clone, Copy, PartialEq, Eq, Debug)]
+pub enum Progress {
+    /// Its head hasn't come whole.
+    Head,
+    /// Its head has come, and so many bytes of its body, whose end isn't there or isn't known.
+    Body(usize),
+    /// All of it has come: its body has so many bytes, and what comes after them is ignored.
+    Done(usize),
+    /// The bytes are no head, or one that is out of bounds.
+    BadHead,
+}
