@@ -9,7 +9,7 @@ use Rattle.async_lru.specs.Worlds.{State, queue_of}
 abbrev pub applied : {K : Type 0} → ℕ → Core K → Message K → Core K
 applied n core m = with_shard n core (hash_of m) (after m (shard_of n core (hash_of m)))
 
--- the message waits behind those of shard i
+-- the message waits after those of shard i
 abbrev pub IsSent : {K : Type 0} → State K → ℕ → Message K → State K → Type 0
 IsSent old i m new = new ≡ record old { queues = slice_set old.queues i (queue_of old i ++ m ∷ []) }
 
