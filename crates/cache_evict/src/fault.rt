@@ -25,32 +25,6 @@ pub enum EvictFault {
 }
 
 impl EvictFault {
-    /// Returns the evicted entries, in order.
-    pub fn evicted(&self) -> &[CacheEntryKey]
-        ensures { result.now ≡ evicted_of self.now }
-    {
-        match self {
-            EvictFault::Memory(entries) => entries.as_slice(),
-            EvictFault::Weight(entries) => entries.as_slice(),
-            EvictFault::Length(entries) => entries.as_slice(),
-            EvictFault::NumbersSpent(entries) => entries.as_slice(),
-            EvictFault::File(entries) => entries.as_slice(),
-        }
-    }
-
-    /// Returns the evicted entries, in order, which are given away.
-    pub fn into_evicted(self) -> Vec<CacheEntryKey>
-        ensures { result.items ≡ evicted_of self }
-    {
-        match self {
-            EvictFault::Memory(entries) => entries,
-            EvictFault::Weight(entries) => entries,
-            EvictFault::Length(entries) => entries,
-            EvictFault::NumbersSpent(entries) => entries,
-            EvictFault::File(entries) => entries,
-        }
-    }
-
     // The fault of a refusal before any eviction.
     pub(crate) fn of(alloc: Global, refusal: Refusal) -> EvictFault
         ensures why { cause_of result ≡ Some refusal }

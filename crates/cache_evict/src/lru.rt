@@ -15,6 +15,7 @@ use crate::load_fault::LoadFault;
 use crate::manager::EvictionManager;
 use crate::tracker::{Again, Tracker};
 use cache_entries::entry::{CacheEntryKey, CacheEntryKeyRef};
+use cache_entries::pack::entry_hash;
 use cache_words::pack::PackWriteFault;
 use cache_words::time::Moment;
 use entry_numbers::KeyParts;
@@ -46,7 +47,7 @@ impl<const N: usize, S: BuildHasher> fmt::Debug for Manager<N, S> {
     // The limit and the sums, and no entry.
     fn fmt<W: fmt::Write>(&self, f: &mut fmt::Formatter<W>) -> fmt::Result {
         f.debug_struct("Manager")
-            .field("weight_limit", &self.tracker.weight_limit())
+            .field("weight_limit", &self.tracker.core.weight_limit())
             .field("total_size", &self.tracker.total_size())
             .field("total_items", &self.tracker.total_items())
             .finish_non_exhaustive()
@@ -111,14 +112,14 @@ impl<const N: usize, S: BuildHasher> Manager<N, S> {
     pub fn weight_limit(&self) -> usize
         ensures { result ≡ self.now.limit }
     {
-        self.tracker.weight_limit()
+        self.tracker.core.weight_limit()
     }
 
     /// Sets the weight that the entries may have together. It evicts nothing.
     pub fn set_weight_limit(&mut self, limit: usize)
         ensures { self.new ≡ record self.old { limit = limit } }
     {
-        self.tracker.set_weight_limit(limit);
+        self.tracker.core.set_weight_limit(limit);
     }
 
     /// Returns the number of shards.
@@ -134,7 +135,7 @@ impl<const N: usize, S: BuildHasher> Manager<N, S> {
         requires { shard < N }
         ensures { result ≡ all_weights (rows_at self.now.shards shard) }
     {
-        self.tracker.shard_weight(shard)
+        self.tracker.core.shard_weight(shard)
     }
 
     /// Returns the number of entries of a shard.
@@ -142,14 +143,14 @@ impl<const N: usize, S: BuildHasher> Manager<N, S> {
         requires { shard < N }
         ensures { result ≡ length (rows_at self.now.shards shard) }
     {
-        self.tracker.shard_len(shard)
+        self.tracker.core.shard_len(shard)
     }
 
     /// Returns the shard of an entry.
     pub fn get_shard_for_key(&self, key: &CacheEntryKey) -> usize
         ensures { result ≡ shard_of N key.now }
     {
-        self.tracker.shard_of(CacheEntryKeyRef::from(key))
+        entry_hash(CacheEntryKeyRef::from(key)) as usize % self.tracker.core.shards()
     }
 
     /// Returns the weight of an entry, if it is tracked. The order stays.
@@ -222,11 +223,11 @@ impl<const N: usize, S: BuildHasher> EvictionManager for Manager<N, S> {
     }
 
     fn evicted_size(&self) -> usize {
-        self.tracker.evicted_size()
+        self.tracker.evicted_size
     }
 
     fn evicted_items(&self) -> usize {
-        self.tracker.evicted_items()
+        self.tracker.evicted_items
     }
 
     fn peek(&self, item: &CacheEntryKey) -> bool {

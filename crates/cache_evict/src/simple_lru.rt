@@ -51,7 +51,7 @@ impl<const N: usize, S: BuildHasher> fmt::Debug for OneList<N, S> {
     // The limit and the sums, and no entry.
     fn fmt<W: fmt::Write>(&self, f: &mut fmt::Formatter<W>) -> fmt::Result {
         f.debug_struct("Manager")
-            .field("weight_limit", &self.tracker.weight_limit())
+            .field("weight_limit", &self.tracker.core.weight_limit())
             .field("total_size", &self.tracker.total_size())
             .field("total_items", &self.tracker.total_items())
             .finish_non_exhaustive()
@@ -157,11 +157,11 @@ impl<const N: usize, S: BuildHasher> EvictionManager for OneList<N, S> {
     }
 
     fn evicted_size(&self) -> usize {
-        self.tracker.evicted_size()
+        self.tracker.evicted_size
     }
 
     fn evicted_items(&self) -> usize {
-        self.tracker.evicted_items()
+        self.tracker.evicted_items
     }
 
     fn peek(&self, item: &CacheEntryKey) -> bool {

@@ -28,9 +28,9 @@ use std::marker::Model;
 #[derive(Drop)]
 pub struct Tracker<const N: usize, S: BuildHasher> {
     numbers: Numbers<N, S>,
-    core: LruCore<u64, N, S>,
-    evicted_size: usize,
-    evicted_items: usize,
+    pub(crate) core: LruCore<u64, N, S>,
+    pub(crate) evicted_size: usize,
+    pub(crate) evicted_items: usize,
 }
 
 impl<const N: usize, S: BuildHasher> Model for Tracker<N, S> {

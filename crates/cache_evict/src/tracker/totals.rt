@@ -1,13 +1,9 @@
 //! Limits and sums.
 
-ghost use Rattle.std.specs.Prelude.{◌≡◌, ◌<◌, length, IfOk};
-ghost use Rattle.cache_entries.specs.Entry.{owned_of};
-ghost use Rattle.cache_entries.specs.Rows.{all_weights};
-ghost use Rattle.cache_evict.specs.Managed.{IsSharded, fresh, rows_at, shard_of, total_size, total_items};
+ghost use Rattle.std.specs.Prelude.{◌≡◌, ◌<◌, IfOk};
+ghost use Rattle.cache_evict.specs.Managed.{IsSharded, fresh, total_size, total_items};
 
 use super::Tracker;
-use cache_entries::entry::CacheEntryKeyRef;
-use cache_entries::pack::entry_hash;
 use entry_numbers::Numbers;
 use lru_core::LruCore;
 use std::alloc::{AllocError, Global};
@@ -37,20 +33,6 @@ impl<const N: usize, S: BuildHasher + Copy> Tracker<N, S> {
 }
 
 impl<const N: usize, S: BuildHasher> Tracker<N, S> {
-    /// Returns the weight that the entries may have together.
-    pub fn weight_limit(&self) -> usize
-        ensures { result ≡ self.now.limit }
-    {
-        self.core.weight_limit()
-    }
-
-    /// Sets the weight that the entries may have together. It evicts nothing.
-    pub fn set_weight_limit(&mut self, limit: usize)
-        ensures { self.new ≡ record self.old { limit = limit } }
-    {
-        self.core.set_weight_limit(limit);
-    }
-
     /// Returns the number of shards.
     pub fn shards(&self) -> usize
         ensures count { result ≡ N }
@@ -58,29 +40,6 @@ impl<const N: usize, S: BuildHasher> Tracker<N, S> {
     {
         let _ = &self.numbers;
         self.core.shards()
-    }
-
-    /// Returns the number of entries of a shard.
-    pub fn shard_len(&self, shard: usize) -> usize
-        requires { shard < N }
-        ensures { result ≡ length (rows_at self.now.shards shard) }
-    {
-        self.core.shard_len(shard)
-    }
-
-    /// Returns the weight of the entries of a shard.
-    pub fn shard_weight(&self, shard: usize) -> usize
-        requires { shard < N }
-        ensures { result ≡ all_weights (rows_at self.now.shards shard) }
-    {
-        self.core.shard_weight(shard)
-    }
-
-    /// Returns the shard of an entry.
-    pub fn shard_of(&self, entry: CacheEntryKeyRef<'_>) -> usize
-        ensures { result ≡ shard_of N (owned_of entry.entry) }
-    {
-        entry_hash(entry) as usize % self.core.shards()
     }
 
     /// Returns the weight of all entries.
@@ -97,19 +56,5 @@ impl<const N: usize, S: BuildHasher> Tracker<N, S> {
     {
         let _ = &self.numbers;
         self.core.len()
-    }
-
-    /// Returns the weight of all evicted entries.
-    pub fn evicted_size(&self) -> usize
-        ensures { result ≡ self.now.evicted_size }
-    {
-        self.evicted_size
-    }
-
-    /// Returns the number of all evicted entries.
-    pub fn evicted_items(&self) -> usize
-        ensures { result ≡ self.now.evicted_items }
-    {
-        self.evicted_items
     }
 }
