@@ -23,7 +23,10 @@ pub const F: Name = (b"f", None);
 pub fn entry(alloc: Global, name: Name) -> Result<CacheEntryKey, AllocError> {
     let primary = Vec::from_slice(alloc, name.0)?;
     let key = CacheKey::new(primary, String::from_str(alloc, "1")?).to_compact()?;
-    Ok(CacheEntryKey::from_entry_id(key, name.1.map(CacheEntryId::new)))
+    Ok(match name.1 {
+        Some(id) => CacheEntryKey::from_entry_id(key, Some(CacheEntryId::new(id))),
+        None => CacheEntryKey::from_entry_id(key, None),
+    })
 }
 
 /// Whether the entries are those of the names, in order.

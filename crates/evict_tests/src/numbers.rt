@@ -6,11 +6,10 @@ use crate::names::{A, B, C, Name, entry};
 use cache_entries::entry::CacheEntryKeyRef;
 use cache_evict::numbers::{Numbers, NumbersFault};
 use std::alloc::Global;
-use std::process::Abort;
 use std::test::*;
 
 /// A call, with what it must return.
-#[derive(Clone, Copy, Debug)]
+#[derive(Clone, Copy)]
 enum Step {
     /// An entry of that hash gets that number, or none is left.
     Give(Name, u64, Option<u64>),
@@ -53,63 +52,58 @@ fn is_done<const N: usize>(alloc: Global, numbers: &mut Numbers<N>, step: Step) 
     }
 }
 
-fn check<const N: usize>(rt: &impl Abort, alloc: Global, steps: &[Step])
+/// How many calls come true before one that doesn't.
+fn steps_done<const N: usize>(alloc: Global, steps: &[Step]) -> usize
     requires { 0 < N }
 {
     let mut numbers: Numbers<N> = Numbers::new(alloc);
     for (number, step) in steps.iter().enumerate() {
-        let done = is_done(alloc, &mut numbers, *step);
-        assert_eq!(rt; done, Some(true), "step {number}: {step:?}");
+        if is_done(alloc, &mut numbers, *step) != Some(true) {
+            return number;
+        }
     }
+    steps.len()
 }
 
-#[test]
-fn numbers_of_one_rest(rt: HostRuntime) {
-    let alloc = rt.alloc();
-    check::<4>(
-        &rt,
-        alloc,
-        &[
-            Step::Give(A, 5, Some(5)),
-            Step::Give(B, 5, Some(9)),
-            Step::Give(C, 9, Some(13)),
-            Step::Len(3),
-            Step::NumberOf(B, Some(9)),
-            Step::EntryOf(13, Some(C)),
-        ],
-    );
-    check::<4>(
-        &rt,
-        alloc,
-        &[
-            Step::Give(A, u64::MAX, Some(u64::MAX)),
-            Step::Give(B, u64::MAX, Some(3)),
-        ],
-    );
-    check::<4>(
-        &rt,
-        alloc,
-        &[
-            Step::Give(A, 5, Some(5)),
-            Step::GiveBack(5, Some(A)),
-            Step::GiveBack(5, None),
-            Step::NumberOf(A, None),
-            Step::EntryOf(5, None),
-            Step::Give(B, 5, Some(5)),
-        ],
-    );
-}
+/// Numbers of one rest.
+const FOUR_APART: &[&[Step]] = &[
+    &[
+        Step::Give(A, 5, Some(5)),
+        Step::Give(B, 5, Some(9)),
+        Step::Give(C, 9, Some(13)),
+        Step::Len(3),
+        Step::NumberOf(B, Some(9)),
+        Step::EntryOf(13, Some(C)),
+    ],
+    &[
+        Step::Give(A, u64::MAX, Some(u64::MAX)),
+        Step::Give(B, u64::MAX, Some(3)),
+    ],
+    &[
+        Step::Give(A, 5, Some(5)),
+        Step::GiveBack(5, Some(A)),
+        Step::GiveBack(5, None),
+        Step::NumberOf(A, None),
+        Step::EntryOf(5, None),
+        Step::Give(B, 5, Some(5)),
+    ],
+];
+
+/// Only two numbers have a rest.
+const FAR_APART: &[Step] = &[
+    Step::Give(A, 0, Some(0)),
+    Step::Give(B, 0, Some(9_223_372_036_854_775_808)),
+    Step::Give(C, 0, None),
+    Step::Len(2),
+];
 
 #[test]
-fn numbers_far_apart(rt: HostRuntime) {
-    check::<9223372036854775808>(
-        &rt,
-        rt.alloc(),
-        &[
-            Step::Give(A, 0, Some(0)),
-            Step::Give(B, 0, Some(9223372036854775808)),
-            Step::Give(C, 0, None),
-            Step::Len(2),
-        ],
+fn numbers_are_given(rt: HostRuntime) {
+    for &steps in FOUR_APART {
+        assert_eq!(rt; steps_done::<4>(rt.alloc(), steps), steps.len());
+    }
+    assert_eq!(rt;
+        steps_done::<9_223_372_036_854_775_808>(rt.alloc(), FAR_APART),
+        FAR_APART.len()
     );
 }

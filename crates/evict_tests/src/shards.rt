@@ -1,54 +1,114 @@
-//! Shards of a manager, and a caller of any manager.
+//! Shards of a manager.
 
-use crate::names::{A, B, C, entry};
-use crate::steps::{Step, check};
-use crate::uses::use_twice;
-use cache_evict::{lru, simple_lru};
-use cache_words::time::Moment;
+ghost use Rattle.std.specs.Prelude.{◌<◌};
+
+use crate::names::{A, Name, entry};
+use crate::steps::{Step, is_done};
+use cache_evict::lru;
+use rand_core::SeedableRng;
+use rand_pcg::Pcg64;
+use std::alloc::Global;
 use std::test::*;
 
-#[test]
-fn shards_are_shown(rt: HostRuntime) -> Result<(), Fail> {
-    let alloc = rt.alloc();
-    // By the hash of the entry's text, 0xea9a2ac3dcd6c63c.
-    let aa = entry(alloc, (b"aa", None))?;
-    let mut four: lru::Manager<4> = lru::Manager::with_capacity(alloc, 9, 8)?;
-    assert_eq!(rt; (four.shards(), four.get_shard_for_key(&aa)), (4, 0));
-    check(&rt, alloc, &mut four, &[Step::Admit((b"aa", None), 3, &[])]);
-    assert_eq!(rt;
-        (four.shard_len(0), four.shard_weight(0), four.shard_len(1)),
-        (1, 3, 0)
-    );
-    assert_eq!(rt;
-        (four.peek_weight(&aa), four.peek_weight(&entry(alloc, A)?)),
-        (Some(3), None)
-    );
-    assert!(rt; four.peek_lru(0).is_some_and(|last| *last == aa) && four.peek_lru(1).is_none());
-    four.set_weight_limit(2);
-    assert_eq!(rt; four.weight_limit(), 2);
-    check(
-        &rt,
-        alloc,
-        &mut four,
-        &[Step::Access(A, 1, false), Step::Holds(4, 2)],
-    );
-    let sixteen: lru::Manager<16> = lru::Manager::with_capacity(alloc, 9, 0)?;
-    assert_eq!(rt; sixteen.get_shard_for_key(&aa), 12);
-    Ok(())
+/// A call, with what it must return.
+#[derive(Clone, Copy)]
+enum Look {
+    /// The number of shards.
+    Shards(usize),
+    /// The shard of an entry.
+    ShardOf(Name, usize),
+    /// The weight and the number of the entries of a shard.
+    Holds(usize, usize, usize),
+    /// The entry of a shard that was used longest ago.
+    Last(usize, Option<Name>),
+    /// The weight of an entry.
+    Weight(Name, Option<usize>),
+    SetLimit(usize),
+    /// A call of any manager.
+    Any(Step),
 }
 
-#[test]
-fn entries_are_used_twice(rt: HostRuntime) -> Result<(), Fail> {
-    let alloc = rt.alloc();
-    let moment = Moment::from_seconds(0);
-    let mut list: simple_lru::Manager = simple_lru::OneList::new(alloc, 2)?;
-    let mut shards: lru::Manager<4> = lru::Manager::with_capacity(alloc, 2, 0)?;
-    for name in [A, B, C] {
-        let item = entry(alloc, name)?;
-        assert!(rt; matches!(use_twice(alloc, &mut list, &item, 1, moment), Ok(true)));
-        assert!(rt; matches!(use_twice(alloc, &mut shards, &item, 1, moment), Ok(true)));
+fn is_last<const N: usize>(
+    alloc: Global,
+    manager: &lru::Manager<N>,
+    shard: usize,
+    name: Option<Name>,
+) -> Option<bool>
+    requires { shard < N }
+{
+    match (manager.peek_lru(shard), name) {
+        (None, None) => Some(true),
+        (Some(found), Some(name)) => Some(*found == entry(alloc, name).ok()?),
+        _ => Some(false),
     }
-    check(&rt, alloc, &mut list, &[Step::Holds(3, 3)]);
-    check(&rt, alloc, &mut shards, &[Step::Holds(3, 3)]);
-    Ok(())
+}
+
+fn is_seen<const N: usize>(
+    alloc: Global,
+    manager: &mut lru::Manager<N>,
+    look: Look,
+) -> Option<bool> {
+    match look {
+        Look::Shards(count) => Some(manager.shards() == count),
+        Look::ShardOf(name, shard) => {
+            Some(manager.get_shard_for_key(&entry(alloc, name).ok()?) == shard)
+        }
+        Look::Holds(shard, weight, len) if shard < manager.shards() => Some(
+            (manager.shard_weight(shard), manager.shard_len(shard)) == (weight, len),
+        ),
+        Look::Last(shard, name) if shard < manager.shards() => {
+            is_last(alloc, manager, shard, name)
+        }
+        Look::Weight(name, weight) => {
+            Some(manager.peek_weight(&entry(alloc, name).ok()?) == weight)
+        }
+        Look::SetLimit(limit) => {
+            manager.set_weight_limit(limit);
+            Some(manager.weight_limit() == limit)
+        }
+        Look::Any(step) => is_done(alloc, manager, &mut Pcg64::seed_from_u64(1), step),
+        _ => None,
+    }
+}
+
+/// How many looks come true before one that doesn't; `None` when out of memory.
+fn looks_done<const N: usize>(alloc: Global, capacity: usize, looks: &[Look]) -> Option<usize>
+    requires { 0 < N }
+{
+    let mut manager: lru::Manager<N> = lru::Manager::with_capacity(alloc, 9, capacity).ok()?;
+    for (number, look) in looks.iter().enumerate() {
+        if is_seen(alloc, &mut manager, *look) != Some(true) {
+            return Some(number);
+        }
+    }
+    Some(looks.len())
+}
+
+const AA: Name = (b"aa", None);
+
+const FOUR: &[Look] = &[
+    Look::Shards(4),
+    // By the hash of the entry's text, 0xea9a2ac3dcd6c63c.
+    Look::ShardOf(AA, 0),
+    Look::Any(Step::Admit(AA, 3, &[])),
+    Look::Holds(0, 3, 1),
+    Look::Holds(1, 0, 0),
+    Look::Weight(AA, Some(3)),
+    Look::Weight(A, None),
+    Look::Last(0, Some(AA)),
+    Look::Last(1, None),
+    Look::SetLimit(2),
+    Look::Any(Step::Access(A, 1, false)),
+    Look::Any(Step::Holds(4, 2)),
+];
+
+const SIXTEEN: &[Look] = &[Look::ShardOf(AA, 12)];
+
+#[test]
+fn shards_are_shown(rt: HostRuntime) {
+    assert_eq!(rt; looks_done::<4>(rt.alloc(), 8, FOUR), Some(FOUR.len()));
+    assert_eq!(rt;
+        looks_done::<16>(rt.alloc(), 0, SIXTEEN),
+        Some(SIXTEEN.len())
+    );
 }

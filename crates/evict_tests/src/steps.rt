@@ -1,23 +1,25 @@
 //! Calls of both managers at one shard, one after another.
 
 use crate::names::{A, B, C, D, E, F, Name, are, entry};
+use crate::uses::use_twice;
 use cache_entries::entry::CacheEntryKeyRef;
 use cache_evict::{EvictionManager, lru, simple_lru};
 use cache_words::time::Moment;
 use rand_core::{Rng, SeedableRng};
 use rand_pcg::Pcg64;
 use std::alloc::Global;
-use std::process::Abort;
 use std::test::*;
 
 /// A call, with what it must return.
-#[derive(Clone, Copy, Debug)]
+#[derive(Clone, Copy)]
 pub enum Step {
     Admit(Name, usize, &'static [Name]),
     Raise(Name, usize, Option<usize>, &'static [Name]),
     Access(Name, usize, bool),
     Remove(Name),
     Peek(Name, bool),
+    /// Two uses, of which the second finds the entry.
+    AccessTwice(Name, usize),
     /// The weight and the number of all entries.
     Holds(usize, usize),
     /// The same of all evicted ones.
@@ -53,6 +55,10 @@ pub fn is_done<M: EvictionManager, R: Rng>(
             manager.remove(CacheEntryKeyRef::from(&entry(alloc, name).ok()?));
             Some(true)
         }
+        Step::AccessTwice(name, size) => {
+            let item = entry(alloc, name).ok()?;
+            use_twice(alloc, manager, &item, size, moment).ok()
+        }
         Step::Peek(name, found) => Some(manager.peek(&entry(alloc, name).ok()?) == found),
         Step::Holds(size, items) => Some(
             (manager.total_size(), manager.total_items()) == (size, items),
@@ -63,19 +69,21 @@ pub fn is_done<M: EvictionManager, R: Rng>(
     }
 }
 
-/// Each call in turn.
-pub fn check<M: EvictionManager>(rt: &impl Abort, alloc: Global, manager: &mut M, steps: &[Step]) {
+/// How many calls come true before one that doesn't.
+pub fn steps_done<M: EvictionManager>(alloc: Global, manager: &mut M, steps: &[Step]) -> usize {
     let mut rng = Pcg64::seed_from_u64(1);
     for (number, step) in steps.iter().enumerate() {
-        let done = is_done(alloc, manager, &mut rng, *step);
-        assert_eq!(rt; done, Some(true), "step {number}: {step:?}");
+        if is_done(alloc, manager, &mut rng, *step) != Some(true) {
+            return number;
+        }
     }
+    steps.len()
 }
 
 /// What the entries may weigh, how many there may be, and the calls.
 type Case = (usize, Option<usize>, &'static [Step]);
 
-const CASES: [Case; 9] = [
+const CASES: &[Case] = &[
     (
         4,
         None,
@@ -182,48 +190,56 @@ const CASES: [Case; 9] = [
             Step::Peek((b"a", Some(2)), true),
         ],
     ),
+    (
+        2,
+        None,
+        &[
+            Step::AccessTwice(A, 1),
+            Step::AccessTwice(B, 1),
+            Step::AccessTwice(C, 1),
+            Step::Holds(3, 3),
+        ],
+    ),
 ];
 
-#[test]
-fn both_managers_evict_alike(rt: HostRuntime) -> Result<(), Fail> {
-    let alloc = rt.alloc();
-    for (limit, watermark, steps) in CASES {
-        let mut list: simple_lru::Manager = simple_lru::OneList::new_with_watermark(
-            alloc, limit, watermark,
-        )?;
-        check(&rt, alloc, &mut list, steps);
-        let mut shard: lru::Manager<1> = lru::Manager::with_capacity_and_watermark(
-            alloc, limit, 0, watermark,
-        )?;
-        check(&rt, alloc, &mut shard, steps);
-    }
-    Ok(())
+/// Calls that only one list counts so: an entry weighs what it is put with.
+const UNRAISED: &[Step] = &[
+    Step::Admit(A, 0, &[]),
+    Step::Access(B, 0, false),
+    Step::Holds(0, 2),
+];
+
+/// The same calls of shards: an entry weighs 1 at least.
+const RAISED: &[Step] = &[
+    Step::Admit(A, 0, &[]),
+    Step::Access(B, 0, false),
+    Step::Holds(2, 2),
+];
+
+fn done_by_list(alloc: Global, case: Case) -> Option<usize> {
+    let mut list: simple_lru::Manager = simple_lru::OneList::new_with_watermark(
+        alloc, case.0, case.1,
+    ).ok()?;
+    Some(steps_done(alloc, &mut list, case.2))
+}
+
+fn done_by_shard(alloc: Global, case: Case) -> Option<usize> {
+    let mut shard: lru::Manager<1> = lru::Manager::with_capacity_and_watermark(
+        alloc, case.0, 0, case.1,
+    ).ok()?;
+    Some(steps_done(alloc, &mut shard, case.2))
 }
 
 #[test]
-fn an_admission_without_weight(rt: HostRuntime) -> Result<(), Fail> {
+fn both_managers_evict_alike(rt: HostRuntime) {
     let alloc = rt.alloc();
-    let mut list: simple_lru::Manager = simple_lru::OneList::new(alloc, 1)?;
-    check(
-        &rt,
-        alloc,
-        &mut list,
-        &[
-            Step::Admit(A, 0, &[]),
-            Step::Access(B, 0, false),
-            Step::Holds(0, 2),
-        ],
+    for &case in CASES {
+        assert_eq!(rt; done_by_list(alloc, case), Some(case.2.len()));
+        assert_eq!(rt; done_by_shard(alloc, case), Some(case.2.len()));
+    }
+    assert_eq!(rt;
+        done_by_list(alloc, (1, None, UNRAISED)),
+        Some(UNRAISED.len())
     );
-    let mut shard: lru::Manager<1> = lru::Manager::with_capacity(alloc, 9, 0)?;
-    check(
-        &rt,
-        alloc,
-        &mut shard,
-        &[
-            Step::Admit(A, 0, &[]),
-            Step::Access(B, 0, false),
-            Step::Holds(2, 2),
-        ],
-    );
-    Ok(())
+    assert_eq!(rt; done_by_shard(alloc, (9, None, RAISED)), Some(RAISED.len()));
 }
