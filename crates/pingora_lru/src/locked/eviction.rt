@@ -1,6 +1,7 @@
 //! Evictions, each of the last row of a shard.
 
-ghost use Rattle.std.specs.Prelude.{◌≡◌, ◌<◌};
+ghost use Rattle.std.specs.Prelude.{◌≡◌, ◌<◌, vec_len, IfOk, IfErr};
+ghost use Rattle.pingora_lru.specs.Draws.{Draws, after_steps};
 
 use super::Lru;
 use crate::counts::Sums;
@@ -47,7 +48,10 @@ impl<T: Drop, const N: usize, S: BuildHasher> Lru<T, N, S> {
         rt: &R,
         alloc: Global,
         rng: &mut G,
-    ) -> Result<Vec<(T, usize)>, Vec<(T, usize)>> {
+    ) -> Result<Vec<(T, usize)>, Vec<(T, usize)>>
+        ensures draws { IfOk result (λ v. Draws (vec_len v) (G.stream rng.old) (G.stream rng.new)) }
+        ensures drawn { IfErr result (λ v. G.stream rng.new ≡ after_steps (vec_len v) (G.stream rng.old)) }
+    {
         let mut pairs = Vec::new(alloc);
         'steps: for _ in 0..self.len() {
             if !self.counts.is_over() {
