@@ -181,15 +181,15 @@ fn calls_of_two_threads_come_after_the_table(rt: HostRuntime) {
     if let Ok(list) = list {
         let list = List::Recorded(list);
         assert!(rt; does(&rt, &list));
-        if let List::Recorded(list) = list {
-            assert_eq!(rt; kept_after(&rt, &list), Some(5));
+        if let List::Recorded(list) = &list {
+            assert_eq!(rt; kept_after(&rt, list), Some(5));
             let (one, two) = thread::join(
                 &rt,
-                || more_calls(&rt, &list, 2),
-                || more_calls(&rt, &list, 4),
+                || more_calls(&rt, list, 2),
+                || more_calls(&rt, list, 4),
             );
             assert!(rt; one && two);
-            assert_eq!(rt; kept_after(&rt, &list), Some(13));
+            assert_eq!(rt; kept_after(&rt, list), Some(13));
             assert_eq!(rt; (list.len(), list.weight()), (1, 3));
         }
     }
