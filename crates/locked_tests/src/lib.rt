@@ -2,7 +2,7 @@
 #![tactic(auto)]
 
 #[cfg(test)]
-mod recorded_lists;
+mod lists;
 #[cfg(test)]
 mod records;
 #[cfg(test)]

@@ -1,9 +1,10 @@
 //! Calls of recorded shards with their replies, and what is kept of them.
 
-use pingora_lru::RecordedUnit;
 use pingora_lru::call::{Call, Kept, Reply};
+use pingora_lru::{RecordedLru, RecordedUnit};
 use std::alloc::Global;
 use std::hash::{BuildHasherDefault, FoldHasher};
+use std::sync::Wait;
 
 /// A call, and what it must return.
 type Row = (Call<u32>, Reply<u32>);
@@ -55,6 +56,37 @@ fn unit_does(alloc: Global, rows: &[Row]) -> Option<bool> {
         }
     }
     Some(keeps(unit.kept(), rows))
+}
+
+/// Does a call by the list's method of its name, and returns whether it isn't refused.
+fn list_does<R: Wait>(rt: &R, list: &RecordedLru<u32, 1>, call: &Call<u32>) -> bool {
+    match *call {
+        Call::Admit(key, item, weight) => list.admit(rt, key, item, weight).is_ok(),
+        Call::InsertTail(key, item, weight) => list.insert_tail(rt, key, item, weight).is_ok(),
+        Call::IncrementWeight(key, item, delta, cap) => list
+            .increment_weight(rt, key, || item, delta, cap)
+            .is_ok(),
+        Call::UpdateOrAdmit(key, item, weight) => list
+            .update_or_admit(rt, key, |_: &mut u32, _: usize| weight, || (item, weight))
+            .is_ok(),
+        Call::SetWeight(key, weight) => list.set_weight(rt, key, weight).is_ok(),
+        Call::Promote(key) => list.promote(rt, key).is_ok(),
+        Call::PromoteTopN(key, top) => list.promote_top_n(rt, key, top).is_ok(),
+        Call::Evict => list.evict_shard(rt, 0).is_ok(),
+        Call::Remove(key) => list.remove(rt, key).is_ok(),
+    }
+}
+
+/// Whether a list keeps the calls that its methods do, with their replies.
+fn list_keeps<R: Wait>(rt: &R, alloc: Global, rows: &[Row]) -> Option<bool> {
+    let list: RecordedLru<u32, 1> = RecordedLru::with_capacity(alloc, 99, 4).ok()?;
+    let done = rows.iter().all(|row| list_does(rt, &list, &row.0));
+    Some(done && list.look(rt, 0, |kept: &[Kept]| keeps(kept, rows)))
+}
+
+#[test]
+fn a_list_keeps_the_calls_of_its_methods(rt: HostRuntime) {
+    assert_eq!(rt; list_keeps(&rt, rt.alloc(), EDITS), Some(true));
 }
 
 #[test]

@@ -1,3 +1,4 @@
 pub mod Bare
+pub mod Drawing
 pub mod Present
 pub mod Updated

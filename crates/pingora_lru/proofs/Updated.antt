@@ -1,5 +1,5 @@
 -- Calls whose data closures make, and what they leave of the rows without data.
-use Rattle.std.proofs.Common.{arith, ◌≡◌, ◌≢◌, ℕ, Bool, not, max, inl, inr, List, [], ◌∷◌, ◌++◌, cond, slice_get, slice_index_or, is_some, Option, Some, None, sym, refl, ap, ◌∙◌, subst}
+use Rattle.std.proofs.Common.{arith, ◌≡◌, ◌≢◌, ℕ, Bool, not, max, inl, inr, List, [], ◌∷◌, ◌++◌, cond, slice_get, slice_index_or, is_some, Option, Some, None, refl, ap, subst}
 use Rattle.std.specs.Prelude.{drop}
 use Rattle.std.proofs.lemmas.Bool.{cases_eq, eq-eqb, ne_eqb}
 use Rattle.lru_core.specs.declared.rows.Row.{Row}

@@ -1,5 +1,5 @@
 -- What each call of a shard leaves of its rows, and what it returns.
-use Rattle.std.specs.Prelude.{◌≡◌, ℕ, ⊤, ◌-◌, max, not, List, ◌∷◌, length, take, slice_get, Option, Some, None, is_some, if◌then◌else◌}
+use Rattle.std.specs.Prelude.{ℕ, ⊤, ◌-◌, max, not, List, ◌∷◌, length, take, slice_get, Option, Some, None, is_some, if◌then◌else◌}
 use Rattle.std.specs.Option.{option_map}
 use Rattle.lru_core.specs.declared.rows.Row.{Row}
 use Rattle.lru_core.specs.Rows.{only, others, promoted, reweighed, admitted, row_of, a_row, pair_of, incremented, total_weight}
@@ -82,7 +82,3 @@ item_of (Promote k) = None
 item_of (PromoteTopN k n) = None
 item_of Evict = None
 item_of (Remove k) = None
-
--- the call returns this of some rows
-abbrev pub IsReply : {T : Type 0} → Call T → Reply T → Type 0
-IsReply {T} call reply = (rows : List (Row T)) × (reply ≡ reply_of call rows)

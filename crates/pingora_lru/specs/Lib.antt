@@ -1,4 +1,5 @@
 pub mod Calls
 pub mod Closures
+pub mod Draws
 pub mod Records
 pub mod Refusals

@@ -20,11 +20,7 @@ asked Evict rows = None
 asked (Remove k) rows = None
 
 -- Weight: what the call asks for would pass the bound. Length: its key is new, and there is no room for one row more. Memory else.
-abbrev pub IsReason : {T : Type 0} → Call T → ℕ → List (Row T) → LruFault (Call T) → Type 0
+abbrev pub IsReason : {T D : Type 0} → Call T → ℕ → List (Row T) → LruFault D → Type 0
 IsReason call bound rows (Memory back) = ⊤
 IsReason call bound rows (Weight back) = MatchOption (asked call rows) ⊥ (λ p. IsHeavy bound p.0 p.1 rows)
 IsReason call bound rows (Length back) = MatchOption (asked call rows) ⊥ (λ p. (only p.0 rows ≡ []) × IsLong bound rows)
-
--- some shard refuses the call so
-abbrev pub IsRefused : {T : Type 0} → Call T → LruFault (Call T) → Type 0
-IsRefused {T} call fault = (bound : ℕ) × (rows : List (Row T)) × IsReason call bound rows fault

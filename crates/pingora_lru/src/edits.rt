@@ -156,7 +156,12 @@ fn set_weight<T: Drop, S: BuildHasher>(
     }
 }
 
-fn promote_top_n<T, S: BuildHasher>(unit: &mut LruUnit<T, S>, key: u64, top: usize) -> bool
+// Moves the row of `key` to the front if it is not among the first `top`, and returns whether there is one.
+pub(crate) fn promote_top_n<T, S: BuildHasher>(
+    unit: &mut LruUnit<T, S>,
+    key: u64,
+    top: usize,
+) -> bool
     ensures found { result ≡ is_some (row_of key unit.old.rows) }
     ensures after { unit.new ≡ record unit.old { rows = after (Call.PromoteTopN key top) unit.old.rows } }
 {
@@ -167,7 +172,8 @@ fn promote_top_n<T, S: BuildHasher>(unit: &mut LruUnit<T, S>, key: u64, top: usi
     }
 }
 
-fn evict<T: Drop, S: BuildHasher>(unit: &mut LruUnit<T, S>) -> Option<(T, usize)>
+// Removes the last row.
+pub(crate) fn evict<T: Drop, S: BuildHasher>(unit: &mut LruUnit<T, S>) -> Option<(T, usize)>
     ensures taken { result ≡ option_map pair_of (slice_get unit.old.rows (length unit.old.rows - 1)) }
     ensures after { unit.new ≡ record unit.old { rows = after Call.Evict unit.old.rows } }
 {

@@ -106,6 +106,7 @@ impl<T: Drop, S: BuildHasher> RecordedUnit<T, S> {
     pub fn unit(&self) -> &LruUnit<T, S>
         ensures rows { result.now.rows ≡ self.now.rows }
         ensures bound { result.now.bound ≡ self.now.bound }
+        ensures replays { IsRecord [] self.now.kept (bare self.now.rows) }
     {
         &self.unit
     }

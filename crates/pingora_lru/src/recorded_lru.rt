@@ -1,14 +1,14 @@
 //! Recorded shards, each under a lock of its own.
 
 ghost use Rattle.std.specs.Prelude.{◌≡◌, ◌%◌, ◌<◌, vec_len, IfOk, IfErr, OnErr};
-ghost use Rattle.pingora_lru.specs.Calls.{lost, IsReply};
-ghost use Rattle.pingora_lru.specs.Refusals.{IsRefused};
+ghost use Rattle.pingora_lru.specs.Calls.{lost};
+ghost use Rattle.pingora_lru.specs.Records.{IsReply, IsRefused};
 
 mod edits;
 mod eviction;
 mod looks;
 
-use crate::call::{Call, Kept, Reply};
+use crate::call::{Call, Reply};
 use crate::counts::{Counts, Sums};
 use crate::recorded::RecordedUnit;
 use lru_core::lru_unit::LruFault;
@@ -131,13 +131,6 @@ impl<T, const N: usize, S: BuildHasher> RecordedLru<T, N, S> {
     /// Returns the number of all evicted rows, which wraps at 2^64.
     pub fn evicted_len(&self) -> usize {
         self.counts.evicted_len.load(Ordering::SeqCst)
-    }
-
-    /// Returns the shards, in order, for looks at what they kept.
-    pub fn into_shards(self) -> Vec<Mutex<RecordedUnit<T, S>>>
-        ensures { vec_len result ≡ N }
-    {
-        self.shards
     }
 }
 

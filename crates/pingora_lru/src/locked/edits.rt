@@ -1,30 +1,33 @@
 //! Uses, insertion, weights and removal, each under the lock of its shard.
 
-ghost use Rattle.std.specs.Prelude.{◌≡◌, ℕ, ◌%◌, ◌⊎◌, max, IfOk, IfErr, MatchOption};
-ghost use Rattle.lru_core.specs.Rows.{capped, raised};
-ghost use Rattle.pingora_lru.specs.Calls.{lost};
+ghost use Rattle.std.specs.Prelude.{◌≡◌, ◌↔◌, ℕ, ◌%◌, ◌⊎◌, List, [], max, is_some, IsTrue, IfOk, IfErr, MatchOption};
+ghost use Rattle.std.specs.Option.{option_map};
+ghost use Rattle.lru_core.specs.Rows.{only, row_of, pair_of, capped, raised};
+ghost use Rattle.lru_core.specs.declared.rows.Row.{Row};
+ghost use Rattle.pingora_lru.specs.Calls.{lost, weight_of};
 ghost use Rattle.pingora_lru.specs.Closures.{WasCalled};
 
 use super::Lru;
 use crate::counts::Sums;
+use crate::edits::promote_top_n;
 use lru_core::lru_unit::LruFault;
 use std::hash::BuildHasher;
 use std::sync::Wait;
 
 impl<T, const N: usize, S: BuildHasher> Lru<T, N, S> {
     /// Moves the row of `key` to the front of its shard, and returns whether there is one.
-    pub fn promote<R: Wait>(&self, rt: &R, key: u64) -> bool {
+    pub fn promote<R: Wait>(&self, rt: &R, key: u64) -> bool
+        ensures { (rows : List (Row T)) × (result ≡ is_some (row_of key rows)) }
+    {
         self.shards[self.place_of(key)].lock(rt).access(key)
     }
 
     /// Moves the row of `key` to the front of its shard if it is not among the first `top`, and returns whether there is one.
-    pub fn promote_top_n<R: Wait>(&self, rt: &R, key: u64, top: usize) -> bool {
+    pub fn promote_top_n<R: Wait>(&self, rt: &R, key: u64, top: usize) -> bool
+        ensures { (rows : List (Row T)) × (result ≡ is_some (row_of key rows)) }
+    {
         let mut unit = self.shards[self.place_of(key)].lock(rt);
-        if unit.need_promote(key, top) {
-            unit.access(key)
-        } else {
-            unit.peek_weight(key).is_some()
-        }
+        promote_top_n(&mut *unit, key, top)
     }
 }
 
@@ -67,7 +70,8 @@ impl<T: Drop, const N: usize, S: BuildHasher> Lru<T, N, S> {
         item: T,
         weight: usize,
     ) -> Result<bool, LruFault<T>>
-        ensures { IfErr result (λ fault. lost fault ≡ item) }
+        ensures added { IfOk result (λ b. (rows : List (Row T)) × (IsTrue b ↔ (only key rows ≡ []))) }
+        ensures back { IfErr result (λ fault. lost fault ≡ item) }
     {
         let mut unit = self.shards[self.place_of(key)].lock(rt);
         let before = Sums::of(&*unit);
@@ -87,7 +91,8 @@ impl<T: Drop, const N: usize, S: BuildHasher> Lru<T, N, S> {
         key: u64,
         weight: usize,
     ) -> Result<Option<usize>, LruFault<()>>
-        ensures { IfErr result (λ fault. fault ≡ LruFault.Weight tt) }
+        ensures before { IfOk result (λ old. (rows : List (Row T)) × (old ≡ weight_of key rows)) }
+        ensures heavy { IfErr result (λ fault. fault ≡ LruFault.Weight tt) }
     {
         let mut unit = self.shards[self.place_of(key)].lock(rt);
         let before = Sums::of(&*unit);
@@ -163,7 +168,9 @@ impl<T: Drop, const N: usize, S: BuildHasher> Lru<T, N, S> {
     }
 
     /// Removes the row of `key`, and returns its data and weight.
-    pub fn remove<R: Wait>(&self, rt: &R, key: u64) -> Option<(T, usize)> {
+    pub fn remove<R: Wait>(&self, rt: &R, key: u64) -> Option<(T, usize)>
+        ensures { (rows : List (Row T)) × (result ≡ option_map pair_of (row_of key rows)) }
+    {
         let mut unit = self.shards[self.place_of(key)].lock(rt);
         let before = Sums::of(&*unit);
         let gone = unit.remove(key);

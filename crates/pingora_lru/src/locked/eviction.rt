@@ -1,9 +1,14 @@
 //! Evictions, each of the last row of a shard.
 
-ghost use Rattle.std.specs.Prelude.{◌≡◌, ◌<◌};
+ghost use Rattle.std.specs.Prelude.{◌≡◌, ◌<◌, ◌-◌, List, length, slice_get, vec_len, Some, IfSome, IfOk, IfErr};
+ghost use Rattle.std.specs.Option.{option_map};
+ghost use Rattle.lru_core.specs.Rows.{pair_of};
+ghost use Rattle.lru_core.specs.declared.rows.Row.{Row};
+ghost use Rattle.pingora_lru.specs.Draws.{Draws, after_steps};
 
 use super::Lru;
 use crate::counts::Sums;
+use crate::edits::evict;
 use rand_core::Rng;
 use std::alloc::Global;
 use std::hash::BuildHasher;
@@ -11,14 +16,18 @@ use std::sync::Wait;
 
 impl<T: Drop, const N: usize, S: BuildHasher> Lru<T, N, S> {
     /// Evicts the last row of the shard of that number modulo N, whatever the limit.
-    pub fn evict_shard<R: Wait>(&self, rt: &R, shard: u64) -> Option<(T, usize)> {
+    pub fn evict_shard<R: Wait>(&self, rt: &R, shard: u64) -> Option<(T, usize)>
+        ensures { (rows : List (Row T)) × (result ≡ option_map pair_of (slice_get rows (length rows - 1))) }
+    {
         self.evict_at(rt, self.place_of(shard))
     }
 
     /// One step of eviction, by two draws: if the weight is past the limit or the number of rows past the watermark, it
     /// removes the last row of the longer of the two shards that the draws name, of the first if they are equally long;
     /// if that shard is empty, of the next non-empty one around the circle.
-    pub fn evict_step<R: Wait>(&self, rt: &R, a: u64, b: u64) -> Option<(T, usize)> {
+    pub fn evict_step<R: Wait>(&self, rt: &R, a: u64, b: u64) -> Option<(T, usize)>
+        ensures { IfSome result (λ pair. (rows : List (Row T)) × (Some pair ≡ option_map pair_of (slice_get rows (length rows - 1)))) }
+    {
         if !self.counts.is_over() {
             return None;
         }
@@ -47,7 +56,10 @@ impl<T: Drop, const N: usize, S: BuildHasher> Lru<T, N, S> {
         rt: &R,
         alloc: Global,
         rng: &mut G,
-    ) -> Result<Vec<(T, usize)>, Vec<(T, usize)>> {
+    ) -> Result<Vec<(T, usize)>, Vec<(T, usize)>>
+        ensures draws { IfOk result (λ v. Draws (vec_len v) (G.stream rng.old) (G.stream rng.new)) }
+        ensures drawn { IfErr result (λ v. G.stream rng.new ≡ after_steps (vec_len v) (G.stream rng.old)) }
+    {
         let mut pairs = Vec::new(alloc);
         'steps: for _ in 0..self.len() {
             if !self.counts.is_over() {
@@ -69,12 +81,15 @@ impl<T: Drop, const N: usize, S: BuildHasher> Lru<T, N, S> {
     // Removes the last row of a shard, and counts it.
     fn evict_at<R: Wait>(&self, rt: &R, place: usize) -> Option<(T, usize)>
         requires { place < N }
+        ensures { (rows : List (Row T)) × (result ≡ option_map pair_of (slice_get rows (length rows - 1))) }
     {
         let mut unit = self.shards[place].lock(rt);
         let before = Sums::of(&*unit);
-        let (data, weight) = unit.evict()?;
+        let gone = evict(&mut *unit);
         self.counts.recount(&*unit, before);
-        self.counts.evicted(weight);
-        Some((data, weight))
+        if let Some(pair) = &gone {
+            self.counts.evicted(pair.1);
+        }
+        gone
     }
 }

@@ -1,6 +1,11 @@
 //! Looks at rows, which change no order.
 
-ghost use Rattle.std.specs.Prelude.{◌<◌};
+ghost use Rattle.std.specs.Prelude.{◌≡◌, ◌<◌, List, length, is_some};
+ghost use Rattle.std.specs.List.{FoldsTo};
+ghost use Rattle.lru_core.specs.Rows.{row_of, pairs_of, total_weight};
+ghost use Rattle.lru_core.specs.Updates.{Visits};
+ghost use Rattle.lru_core.specs.declared.rows.Row.{Row};
+ghost use Rattle.pingora_lru.specs.Calls.{weight_of};
 
 use super::Lru;
 use crate::looks::visit;
@@ -10,18 +15,23 @@ use std::sync::Wait;
 
 impl<T, const N: usize, S: BuildHasher> Lru<T, N, S> {
     /// Returns whether `key` is there. The order stays.
-    pub fn peek<R: Wait>(&self, rt: &R, key: u64) -> bool {
+    pub fn peek<R: Wait>(&self, rt: &R, key: u64) -> bool
+        ensures { (rows : List (Row T)) × (result ≡ is_some (row_of key rows)) }
+    {
         self.shards[self.place_of(key)].lock(rt).peek(key).is_some()
     }
 
     /// Returns the weight of `key`. The order stays.
-    pub fn peek_weight<R: Wait>(&self, rt: &R, key: u64) -> Option<usize> {
+    pub fn peek_weight<R: Wait>(&self, rt: &R, key: u64) -> Option<usize>
+        ensures { (rows : List (Row T)) × (result ≡ weight_of key rows) }
+    {
         self.shards[self.place_of(key)].lock(rt).peek_weight(key)
     }
 
     /// Returns the number of rows of a shard.
     pub fn shard_len<R: Wait>(&self, rt: &R, shard: usize) -> usize
         requires { shard < N }
+        ensures { (rows : List (Row T)) × (result ≡ length rows) }
     {
         self.shards[shard].lock(rt).len()
     }
@@ -29,6 +39,7 @@ impl<T, const N: usize, S: BuildHasher> Lru<T, N, S> {
     /// Returns the weight of the rows of a shard.
     pub fn shard_weight<R: Wait>(&self, rt: &R, shard: usize) -> usize
         requires { shard < N }
+        ensures { (rows : List (Row T)) × (result ≡ total_weight rows) }
     {
         self.shards[shard].lock(rt).weight()
     }
@@ -38,6 +49,7 @@ impl<T, const N: usize, S: BuildHasher> Lru<T, N, S> {
     pub fn iter_for_each<R: Wait, F: FnMut((&T, usize))>(&self, rt: &R, shard: usize, mut f: F)
         requires within { shard < N }
         requires callable { F.IsAlwaysCallable f }
+        ensures { (rows : List (Row T)) × (last : F) × FoldsTo (Visits F.FnMut) f (pairs_of rows) last }
     {
         let unit = self.shards[shard].lock(rt);
         visit(&*unit, &mut f);

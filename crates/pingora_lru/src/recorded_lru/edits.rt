@@ -1,7 +1,12 @@
 //! Uses, insertion and weights, each a call that is kept under the lock of its shard.
 
-ghost use Rattle.std.specs.Prelude.{◌≡◌, ◌≢◌, ℕ, ◌%◌, Some, IsSome, max, IfOk, IfErr, MatchOption};
-ghost use Rattle.pingora_lru.specs.Calls.{lost, item_of};
+ghost use Rattle.std.specs.Prelude.{◌≡◌, ℕ, ◌%◌, List, Some, IsSome, IfOk, IfErr, MatchOption};
+ghost use Rattle.lru_core.specs.Rows.{incremented};
+ghost use Rattle.lru_core.specs.declared.rows.Row.{Row};
+ghost use Rattle.pingora_lru.specs.Calls.{lost, item_of, weight_of};
+ghost use Rattle.pingora_lru.specs.Closures.{WasCalled};
+ghost use Rattle.pingora_lru.specs.Records.{IsLed, IsReply, IsRefused};
+ghost use Rattle.pingora_lru.specs.Refusals.{IsReason};
 
 use super::RecordedLru;
 use crate::call::{Call, Reply};
@@ -17,7 +22,9 @@ impl<T: Drop, const N: usize, S: BuildHasher> RecordedLru<T, N, S> {
     /// # Errors
     ///
     /// No room in the record. Nothing changes.
-    pub fn promote<R: Wait>(&self, rt: &R, key: u64) -> Result<bool, AllocError> {
+    pub fn promote<R: Wait>(&self, rt: &R, key: u64) -> Result<bool, AllocError>
+        ensures { IfOk result (λ found. IsReply {T = T} (Call.Promote key) (Reply.Promoted found)) }
+    {
         match self.step(rt, self.shard_of(key), Call::Promote(key)) {
             Ok(Reply::Promoted(found)) => Ok(found),
             Ok(_) => unreachable!(),
@@ -30,7 +37,9 @@ impl<T: Drop, const N: usize, S: BuildHasher> RecordedLru<T, N, S> {
     /// # Errors
     ///
     /// No room in the record. Nothing changes.
-    pub fn promote_top_n<R: Wait>(&self, rt: &R, key: u64, top: usize) -> Result<bool, AllocError> {
+    pub fn promote_top_n<R: Wait>(&self, rt: &R, key: u64, top: usize) -> Result<bool, AllocError>
+        ensures { IfOk result (λ found. IsReply {T = T} (Call.PromoteTopN key top) (Reply.Promoted found)) }
+    {
         match self.step(rt, self.shard_of(key), Call::PromoteTopN(key, top)) {
             Ok(Reply::Promoted(found)) => Ok(found),
             Ok(_) => unreachable!(),
@@ -53,6 +62,7 @@ impl<T: Drop, const N: usize, S: BuildHasher> RecordedLru<T, N, S> {
     ) -> Result<usize, LruFault<T>>
         ensures shard { IfOk result (λ i. i ≡ key % N) }
         ensures back { IfErr result (λ fault. lost fault ≡ item) }
+        ensures reason { IfErr result (λ fault. IsRefused (Call.Admit key item weight) fault) }
     {
         let shard = self.shard_of(key);
         match self.step(rt, shard, Call::Admit(key, item, weight)) {
@@ -74,7 +84,9 @@ impl<T: Drop, const N: usize, S: BuildHasher> RecordedLru<T, N, S> {
         item: T,
         weight: usize,
     ) -> Result<bool, LruFault<T>>
-        ensures { IfErr result (λ fault. lost fault ≡ item) }
+        ensures reply { IfOk result (λ added. IsReply (Call.InsertTail key item weight) (Reply.Inserted added)) }
+        ensures back { IfErr result (λ fault. lost fault ≡ item) }
+        ensures reason { IfErr result (λ fault. IsRefused (Call.InsertTail key item weight) fault) }
     {
         match self.step(rt, self.shard_of(key), Call::InsertTail(key, item, weight)) {
             Ok(Reply::Inserted(added)) => Ok(added),
@@ -93,7 +105,10 @@ impl<T: Drop, const N: usize, S: BuildHasher> RecordedLru<T, N, S> {
         rt: &R,
         key: u64,
         weight: usize,
-    ) -> Result<Option<usize>, LruFault<()>> {
+    ) -> Result<Option<usize>, LruFault<()>>
+        ensures reply { IfOk result (λ old. IsReply {T = T} (Call.SetWeight key weight) (Reply.WeightSet old)) }
+        ensures reason { IfErr result (λ fault. IsRefused {T = T} (Call.SetWeight key weight) fault) }
+    {
         match self.step(rt, self.shard_of(key), Call::SetWeight(key, weight)) {
             Ok(Reply::WeightSet(old)) => Ok(old),
             Ok(_) => unreachable!(),
@@ -119,7 +134,8 @@ impl<T: Drop, const N: usize, S: BuildHasher> RecordedLru<T, N, S> {
     where
         F: Drop,
         requires { F.IsAlwaysCallable admit_data }
-        ensures { IfErr result (λ fault. lost fault ≡ admit_data) }
+        ensures weight { IfOk result (λ w. (rows : List (Row T)) × IsLed rows × (w ≡ incremented key delta max_weight rows)) }
+        ensures back { IfErr result (λ fault. lost fault ≡ admit_data) }
     {
         let mut unit = self.shards[self.shard_of(key)].lock(rt);
         let before = Sums::of(unit.unit());
@@ -149,6 +165,7 @@ impl<T: Drop, const N: usize, S: BuildHasher> RecordedLru<T, N, S> {
         A: Drop,
         requires update { U.IsAlwaysCallable update }
         requires admit { A.IsAlwaysCallable admit_data }
+        ensures old { IfOk result (λ old. (rows : List (Row T)) × IsLed rows × (old ≡ weight_of key rows)) }
     {
         let mut unit = self.shards[self.shard_of(key)].lock(rt);
         let before = Sums::of(unit.unit());
@@ -166,7 +183,8 @@ impl<T: Drop, const N: usize, S: BuildHasher> RecordedLru<T, N, S> {
 // The refusal of a call with its data alone.
 fn item_back<T: Drop>(fault: LruFault<Call<T>>) -> LruFault<T>
     requires { IsSome (item_of (lost fault)) }
-    ensures { Some (lost result) ≡ item_of (lost fault) }
+    ensures back { Some (lost result) ≡ item_of (lost fault) }
+    ensures reason { (call : Call T) (bound : ℕ) (rows : List (Row T)) → IsReason call bound rows fault → IsReason call bound rows result }
 {
     match fault {
         LruFault::Memory(call) => LruFault::Memory(call.into_item().unwrap()),

@@ -1,6 +1,8 @@
 //! Evictions, each of the last row of a shard.
 
-ghost use Rattle.std.specs.Prelude.{◌≡◌, ◌<◌};
+ghost use Rattle.std.specs.Prelude.{◌<◌, vec_len, Some, IfOk, IfErr, IfSome};
+ghost use Rattle.pingora_lru.specs.Draws.{Draws};
+ghost use Rattle.pingora_lru.specs.Records.{IsReply, AreEvicted};
 
 use super::RecordedLru;
 use crate::call::{Call, Reply};
@@ -15,11 +17,9 @@ impl<T: Drop, const N: usize, S: BuildHasher> RecordedLru<T, N, S> {
     /// # Errors
     ///
     /// No room in the record. Nothing changes.
-    pub fn evict_shard<R: Wait>(
-        &self,
-        rt: &R,
-        shard: u64,
-    ) -> Result<Option<(T, usize)>, AllocError> {
+    pub fn evict_shard<R: Wait>(&self, rt: &R, shard: u64) -> Result<Option<(T, usize)>, AllocError>
+        ensures { IfOk result (λ gone. IsReply Call.Evict (Reply.Taken gone)) }
+    {
         self.evict_at(rt, self.shard_of(shard))
     }
 
@@ -33,7 +33,9 @@ impl<T: Drop, const N: usize, S: BuildHasher> RecordedLru<T, N, S> {
         rt: &R,
         a: u64,
         b: u64,
-    ) -> Result<Option<(T, usize)>, AllocError> {
+    ) -> Result<Option<(T, usize)>, AllocError>
+        ensures { IfOk result (λ gone. IfSome gone (λ row. IsReply Call.Evict (Reply.Taken (Some row)))) }
+    {
         if !self.counts.is_over() {
             return Ok(None);
         }
@@ -61,7 +63,12 @@ impl<T: Drop, const N: usize, S: BuildHasher> RecordedLru<T, N, S> {
         rt: &R,
         alloc: Global,
         rng: &mut G,
-    ) -> Result<Vec<(T, usize)>, Vec<(T, usize)>> {
+    ) -> Result<Vec<(T, usize)>, Vec<(T, usize)>>
+        ensures pairs { IfOk result (λ v. AreEvicted v.items) }
+        ensures draws { IfOk result (λ v. Draws (vec_len v) (G.stream rng.old) (G.stream rng.new)) }
+        ensures refused { IfErr result (λ v. AreEvicted v.items) }
+        ensures drawn { IfErr result (λ v. Draws (vec_len v) (G.stream rng.old) (G.stream rng.new)) }
+    {
         let mut pairs = Vec::new(alloc);
         'steps: for _ in 0..self.len() {
             if !self.counts.is_over() {
@@ -86,7 +93,9 @@ impl<T: Drop, const N: usize, S: BuildHasher> RecordedLru<T, N, S> {
     /// # Errors
     ///
     /// No room in the record. Nothing changes.
-    pub fn remove<R: Wait>(&self, rt: &R, key: u64) -> Result<Option<(T, usize)>, AllocError> {
+    pub fn remove<R: Wait>(&self, rt: &R, key: u64) -> Result<Option<(T, usize)>, AllocError>
+        ensures { IfOk result (λ gone. IsReply (Call.Remove key) (Reply.Taken gone)) }
+    {
         match self.step(rt, self.shard_of(key), Call::Remove(key)) {
             Ok(Reply::Taken(row)) => Ok(row),
             Ok(_) => unreachable!(),
@@ -97,6 +106,7 @@ impl<T: Drop, const N: usize, S: BuildHasher> RecordedLru<T, N, S> {
     // Evicts the last row of a shard.
     fn evict_at<R: Wait>(&self, rt: &R, shard: usize) -> Result<Option<(T, usize)>, AllocError>
         requires { shard < N }
+        ensures { IfOk result (λ gone. IsReply Call.Evict (Reply.Taken gone)) }
     {
         match self.step(rt, shard, Call::Evict) {
             Ok(Reply::Taken(row)) => Ok(row),
