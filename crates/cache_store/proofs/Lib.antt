@@ -1,1 +1,4 @@
+mod AgreeLaws
+pub mod BodyLaws
 pub mod LeftLaws
+mod LookLaws

@@ -1,13 +1,34 @@
 //! Laws over definitions alone. The functions do nothing: their contracts are the laws.
-ghost use Rattle.std.specs.Prelude.{◌≡◌, ℕ, Some, true};
+ghost use Rattle.std.specs.Prelude.{◌≡◌, ◌↔◌, ℕ, Some, true, option_map};
 ghost use Rattle.cache_heads.specs.declared.meta.CacheMeta.{CacheMeta};
-ghost use Rattle.cache_changes.specs.Changes.{Changes};
+ghost use Rattle.cache_changes.specs.Changes.{StoredKey, Change, Changes, renews};
 ghost use Rattle.cache_changes.specs.Writes.{bytes_of, IsOrderly};
-ghost use Rattle.cache_changes.specs.Store.{Flying, flying_at, store_of};
+ghost use Rattle.cache_changes.specs.Store.{Stored, Flying, Store, after, body_at, flying_at, shown_at, store_of};
 ghost use Rattle.cache_store.specs.Agree.{Agree};
-ghost use Rattle.cache_store.specs.Answers.{left, IsFinished};
+ghost use Rattle.cache_store.specs.Answers.{left, look_up, finished, IsFinished};
 ghost use Rattle.cache_store.specs.Held.{Reading, Held};
+ghost use Rattle.cache_store.specs.Laws.{write_shown, NoneFlies, IsOwnNumber};
 ghost use Rattle.cache_store.specs.Readers.{readable, reading_at};
+ghost use Rattle.cache_store.specs.Renewals.{IsRenewed};
+
+/// States that agree do so after each change. So a store that agrees with what changes left, and then does a change, agrees
+/// with what all of them leave.
+pub fn changes_keep_agreement<M>()
+    ensures next { (c : Change M) (s t : Store M) → Agree s t → Agree (after c s) (after c t) }
+    ensures joined { (r s t : Store M) → Agree r s → Agree s t → Agree r t }
+{}
+
+/// A look-up shows the write that it is to show: a finished body exactly where no write of the key flies alive.
+pub fn a_look_up_shows_what_it_is_to()
+    ensures shown { (k : StoredKey) (s : Store CacheMeta) → option_map write_shown (look_up k s) ≡ shown_at k s }
+    ensures whole { (k : StoredKey) (s : Store CacheMeta) (x : Stored CacheMeta) → (look_up k s ≡ Some (finished x)) ↔ (NoneFlies k s × (body_at k s ≡ Some x)) }
+{}
+
+/// A body with another meta is what the change of its write leaves, where only that body has the write's number.
+pub fn another_meta_is_a_change()
+    ensures { (key : StoredKey) (change : CacheMeta → CacheMeta) (x : Stored CacheMeta) (old new : Held) → body_at key old.store ≡ Some x
+        → IsOwnNumber key x.write.number old.store → IsRenewed key change old new → Agree new.store (after (renews x.write.number (change x.meta)) old.store) }
+{}
 
 /// As a write is given up or finished, its readers are left with all of its bytes and its end: those that came, which none follow.
 pub fn readers_are_left_with_the_bytes()

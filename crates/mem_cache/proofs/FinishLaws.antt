@@ -22,7 +22,8 @@ use Rattle.mem_cache.proofs.FlightLaws.{seen-unchanged}
 use Rattle.mem_cache.proofs.RowLaws.{ascends}
 use Rattle.mem_cache.proofs.SeenLaws.{Alive, seen-landed}
 use Rattle.mem_cache.proofs.FirstLaws.{flying-seen}
-use Rattle.mem_cache.proofs.BodyLaws.{agree-by, kept-put}
+use Rattle.cache_store.proofs.BodyLaws.{agree-by}
+use Rattle.mem_cache.proofs.BodyLaws.{kept-put}
 
 -- the key of a write in flight, if it is alive
 key-none : (alive : Alive) (n : ℕ) (o : Option Flight) → option_map (λ f. f.key) o ≡ None → alive_key (option_map (λ f. seen alive (n, f)) o) ≡ None

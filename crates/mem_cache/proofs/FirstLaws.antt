@@ -17,7 +17,8 @@ use Rattle.mem_cache.specs.Kept.{seen, flights_of, body_of, bodies_of}
 use Rattle.std.specs.List.{AllByRecursion}
 use Rattle.cache_entries.specs.Keys.{same_bytes}
 use Rattle.mem_cache.proofs.RowLaws.{Ascends, at_is, below_apart}
-use Rattle.mem_cache.proofs.SeenLaws.{Alive, same-sym}
+use Rattle.cache_store.proofs.BodyLaws.{same-sym}
+use Rattle.mem_cache.proofs.SeenLaws.{Alive}
 
 -- the write of a number
 pub flying-seen : (alive : Alive) (n : ℕ) (es : List (ℕ × Flight)) → find (has_number n) (flights_of alive es) ≡ option_map (λ f. seen alive (n, f)) (lookup (is_at (nat_cmp n)) es)

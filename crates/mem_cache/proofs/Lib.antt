@@ -1,4 +1,3 @@
-mod AgreeLaws
 mod AliveLaws
 mod BeginningLaws
 mod BodyLaws
@@ -6,7 +5,6 @@ mod FinishLaws
 mod FirstLaws
 mod FlightLaws
 mod HeldLaws
-mod LookLaws
 mod ReadLaws
 mod ReaderLaws
 mod RowLaws

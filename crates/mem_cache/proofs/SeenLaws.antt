@@ -1,5 +1,5 @@
 -- What edits of the writes in flight, and of which are alive, do to what is seen of them.
-use Rattle.std.proofs.Common.{arith, ◌≡◌, ℕ, ◌<◌, refl, ap, sym, ◌∙◌, true, false, subst, [], ◌∷◌, ◌++◌}
+use Rattle.std.proofs.Common.{arith, ◌≡◌, ℕ, ◌<◌, refl, ap, ◌∙◌, true, false, [], ◌∷◌, ◌++◌}
 use Rattle.std.specs.Prelude.{◌==◌, Bool, List, Some, not, ◌||◌, ◌&&◌, map, nat_eq}
 use Rattle.std.specs.List.{AllByRecursion}
 use Rattle.std.specs.Map.{keys_of, remove_entry}
@@ -94,15 +94,6 @@ marks : (x s : Bool) → not (x && not s) ≡ (not x || s)
 marks true true = refl
 marks true false = refl
 marks false s = refl
-
-pub same-sym : (j k : StoredKey) → same_bytes j k ≡ same_bytes k j
-same-sym j k = by_test (same_bytes j k) (same_bytes k j) refl refl
-  where
-    by_test : (s t : Bool) → same_bytes j k ≡ s → same_bytes k j ≡ t → s ≡ t
-    by_test true true e f = refl
-    by_test false false e f = refl
-    by_test true false e f = let same : j ≡ k = same_bytes-tells.equal j k e in let back : same_bytes k j ≡ true = subst (λ (x : StoredKey). same_bytes k x ≡ true) (sym same) (same_bytes-tells.itself k) in sym back ∙ f
-    by_test false true e f = let same : k ≡ j = same_bytes-tells.equal k j f in let back : same_bytes j k ≡ true = subst (λ (x : StoredKey). same_bytes j x ≡ true) (sym same) (same_bytes-tells.itself j) in sym e ∙ back
 
 pub seen-marked : (a b : Alive) (k : StoredKey) (es : List (ℕ × Flight)) → ((j : StoredKey) (m : ℕ) → b j m ≡ (a j m && not (pointwise nat_eq k j))) → flights_of b es ≡ map (marked (Some k)) (flights_of a es)
 seen-marked a b k [] h = refl

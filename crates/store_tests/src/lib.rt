@@ -6,6 +6,10 @@ mod decisions;
 #[cfg(test)]
 mod memory;
 #[cfg(test)]
+mod nothing;
+#[cfg(test)]
+mod samples;
+#[cfg(test)]
 mod streaming;
 #[cfg(test)]
 mod targets;

@@ -1,25 +1,23 @@
 //! The store in memory: writes, readers before and after their pieces, purges and other metas.
 use bytes::Bytes;
 use cache_entries::entry::{CacheEntryId, CacheEntryKey};
-use cache_heads::CacheMeta;
-use cache_heads::meta::ResponseHeader;
 use cache_store::storage::{
     HandleHit, HandleMiss, MissFault, MissFinishType, PurgeOutcome, PurgeTarget, PurgeType,
     ReadStep, Storage, StoreFault,
 };
-use cache_words::key::CacheKey;
+use cache_words::key::CompactCacheKey;
 use cache_words::time::Moment;
-use http::StatusCode;
-use http_header::HeaderMap;
 use mem_cache::MemCache;
 use mem_cache::handlers::{MemHitHandler, MemMissHandler};
 use std::alloc::Global;
+use std::hash::BuildHasherDefault;
 use std::test::*;
 
 mod rows;
 
+use crate::samples::{key, meta};
 use crate::whole::store_whole;
-use rows::{ENDED, PURGED, RENEWED, SOUGHT, STREAMED, Step, WHOLE};
+use rows::{ENDED, PURGED, RENEWED, SOUGHT, STREAMED, Step, Target, WHOLE};
 
 struct Bench {
     alloc: Global,
@@ -29,30 +27,27 @@ struct Bench {
     late: Option<MemHitHandler>,
 }
 
-fn key(alloc: Global) -> Option<CacheKey> {
-    let primary = Vec::from_slice(alloc, b"aa").ok()?;
-    Some(CacheKey::new(primary, String::from_str(alloc, "").ok()?))
+// The key, and an entry of it with an id where the target has one.
+fn targets(alloc: Global, target: Target) -> Option<(CompactCacheKey, CacheEntryKey)> {
+    let id = (target == Target::Id).then_some(CacheEntryId::new(1));
+    let entry = CacheEntryKey::from_entry_id(key(alloc, b"aa")?.to_compact().ok()?, id);
+    Some((key(alloc, b"aa")?.to_compact().ok()?, entry))
 }
 
-fn meta(alloc: Global) -> CacheMeta {
-    let header = ResponseHeader {
-        status: StatusCode::OK,
-        headers: HeaderMap::new(alloc),
-    };
-    CacheMeta::new(
-        Moment::from_seconds(1300),
-        Moment::from_seconds(900),
-        30,
-        30,
-        header,
-    )
+// Returns whether the handler answers as one of a finished body does, or as one of a write.
+fn answers_alike(handler: &MemHitHandler, complete: bool) -> bool {
+    handler.can_seek() == complete
+        && <MemHitHandler as HandleHit<MemCache>>::can_seek(handler) == complete
+        && <MemHitHandler as HandleHit<MemCache>>::can_seek_multipart(handler) == complete
+        && <MemHitHandler as HandleHit<MemCache>>::should_count_access(handler) == complete
+        && <MemHitHandler as HandleHit<MemCache>>::entry_id(handler).is_none()
 }
 
 impl Bench {
     fn new(alloc: Global) -> Bench {
         Bench {
             alloc,
-            store: MemCache::new(alloc),
+            store: MemCache::with_hasher(alloc, BuildHasherDefault::new()),
             writer: None,
             early: None,
             late: None,
@@ -62,14 +57,26 @@ impl Bench {
     fn begin(&mut self) -> Option<bool> {
         let begun = self
             .store
-            .get_miss_handler(&key(self.alloc)?, &meta(self.alloc));
+            .get_miss_handler(&key(self.alloc, b"aa")?, &meta(self.alloc, 1300));
         let Ok(handler) = begun else {
             return None;
         };
         if let Some(before) = self.writer.replace(handler) {
             before.leave(&mut self.store);
         }
-        Some(true)
+        Some(self.store.support_streaming_partial_write())
+    }
+
+    // A write of a meta that can't be written.
+    fn unwritable(&mut self) -> Option<bool> {
+        let meta = meta(self.alloc, -1);
+        match self.store.get_miss_handler(&key(self.alloc, b"aa")?, &meta) {
+            Ok(handler) => {
+                handler.leave(&mut self.store);
+                Some(false)
+            }
+            Err(fault) => Some(fault == StoreFault::MetaMoment),
+        }
     }
 
     fn piece(&mut self, piece: &[u8], eof: bool, fault: Option<StoreFault>) -> Option<bool> {
@@ -94,7 +101,8 @@ impl Bench {
 
     fn whole(&mut self, body: &[u8]) -> Option<bool> {
         let bytes = Bytes::copy_from_slice(self.alloc, body).ok()?;
-        let stored = store_whole(&mut self.store, &key(self.alloc)?, &meta(self.alloc), bytes);
+        let meta = meta(self.alloc, 1300);
+        let stored = store_whole(&mut self.store, &key(self.alloc, b"aa")?, &meta, bytes);
         match stored.ok()? {
             MissFinishType::Created(size) => Some(size == body.len()),
             MissFinishType::Appended(_, _) => Some(false),
@@ -108,10 +116,11 @@ impl Bench {
     }
 
     fn look(&mut self, late: bool, complete: bool) -> Option<bool> {
-        let Ok(Some((_meta, handler))) = self.store.lookup(&key(self.alloc)?) else {
+        let Ok(Some((_meta, handler))) = self.store.lookup(&key(self.alloc, b"aa")?) else {
             return None;
         };
         let is_complete = matches!(&handler, MemHitHandler::Complete(_));
+        let is_right = answers_alike(&handler, complete);
         let before = if late {
             self.late.replace(handler)
         } else {
@@ -120,11 +129,11 @@ impl Bench {
         if let Some(before) = before {
             before.finish(&mut self.store);
         }
-        Some(is_complete == complete)
+        Some(is_complete == complete && is_right)
     }
 
     fn misses(&mut self) -> Option<bool> {
-        match self.store.lookup(&key(self.alloc)?) {
+        match self.store.lookup(&key(self.alloc, b"aa")?) {
             Ok(None) => Some(true),
             Ok(Some((_meta, handler))) => {
                 handler.finish(&mut self.store);
@@ -134,49 +143,82 @@ impl Bench {
         }
     }
 
+    // The later reader is read as any store's, the earlier one by its own calls.
     fn read(&mut self, late: bool) -> Option<ReadStep> {
         if late {
-            self.late.as_mut()?.read_body(&mut self.store).ok()
-        } else {
-            self.early.as_mut()?.read_body(&mut self.store).ok()
+            return self.late.as_mut()?.read_body(&mut self.store).ok();
+        }
+        match self.early.as_mut()? {
+            MemHitHandler::Complete(hit) => hit.read().ok(),
+            MemHitHandler::Partial(hit) => hit.read(&self.store).ok(),
         }
     }
 
-    fn purge(&mut self, id: Option<CacheEntryId>, outcome: PurgeOutcome) -> Option<bool> {
-        let compact = key(self.alloc)?.to_compact().ok()?;
-        if id.is_none() {
-            let answer = self
-                .store
-                .purge(PurgeTarget::Active(&compact), PurgeType::Invalidation);
-            return Some(answer == outcome);
-        }
-        let entry = CacheEntryKey::from_entry_id(compact, id);
-        let answer = self
-            .store
-            .purge(PurgeTarget::Exact(&entry), PurgeType::Eviction);
+    fn weighs(&self, late: bool, weight: usize) -> Option<bool> {
+        let handler = if late {
+            self.late.as_ref()?
+        } else {
+            self.early.as_ref()?
+        };
+        let len = match handler {
+            MemHitHandler::Complete(hit) => hit.len(),
+            MemHitHandler::Partial(_) => 0,
+        };
+        Some(
+            len == weight
+                && <MemHitHandler as HandleHit<MemCache>>::get_eviction_weight(handler) == weight,
+        )
+    }
+
+    fn purge(&mut self, target: Target, outcome: PurgeOutcome) -> Option<bool> {
+        let (compact, entry) = targets(self.alloc, target)?;
+        let answer = if target == Target::Key {
+            self.store
+                .purge(PurgeTarget::Active(&compact), PurgeType::Invalidation)
+        } else {
+            self.store
+                .purge(PurgeTarget::Exact(&entry), PurgeType::Eviction)
+        };
         Some(answer == outcome)
     }
 
-    // Lets the body go stale at 1000, and looks that it is stale at 1001.
-    fn expire(&mut self, outcome: PurgeOutcome) -> Option<bool> {
-        let compact = key(self.alloc)?.to_compact().ok()?;
-        let entry = CacheEntryKey::key_only(compact);
-        let target = PurgeTarget::Exact(&entry);
+    // Lets the body go stale at 1000, and looks that it is stale at 1001, when a stale one may be served.
+    fn expire(&mut self, target: Target, outcome: PurgeOutcome) -> Option<bool> {
+        let (compact, entry) = targets(self.alloc, target)?;
+        let target = if target == Target::Key {
+            PurgeTarget::Active(&compact)
+        } else {
+            PurgeTarget::Exact(&entry)
+        };
         let answer = self.store.expire(target, Moment::from_seconds(1000)).ok()?;
         if answer != PurgeOutcome::Expired {
             return Some(answer == outcome);
         }
-        let Ok(Some((meta, handler))) = self.store.lookup(&key(self.alloc)?) else {
+        let Ok(Some((meta, handler))) = self.store.lookup(&key(self.alloc, b"aa")?) else {
             return None;
         };
         handler.finish(&mut self.store);
-        let is_stale = !meta.is_fresh(Moment::from_seconds(1001));
-        Some(answer == outcome && is_stale && meta.is_fresh(Moment::from_seconds(1000)))
+        let (last, next) = (Moment::from_seconds(1000), Moment::from_seconds(1001));
+        let is_stale = meta.is_fresh(last) && !meta.is_fresh(next);
+        Some(answer == outcome && is_stale && meta.serve_stale_if_error(next))
+    }
+
+    // A meta that can't be written is refused as that.
+    fn update(&mut self, fault: Option<StoreFault>) -> Option<bool> {
+        let until = if fault == Some(StoreFault::MetaMoment) {
+            -1
+        } else {
+            1300
+        };
+        let meta = meta(self.alloc, until);
+        let answer = self.store.update_meta(&key(self.alloc, b"aa")?, &meta);
+        Some(answer.err() == fault)
     }
 
     fn step(&mut self, step: Step) -> Option<bool> {
         match step {
             Step::Begin => self.begin(),
+            Step::Unwritable => self.unwritable(),
             Step::Piece(piece, eof, fault) => self.piece(piece, eof, fault),
             Step::Finish(size) => self.finish(size),
             Step::Whole(body) => self.whole(body),
@@ -194,13 +236,17 @@ impl Bench {
                 let answer = early.seek(start, end);
                 Some(answer.err() == fault)
             }
-            Step::Purge(outcome) => self.purge(None, outcome),
-            Step::PurgeId(outcome) => self.purge(Some(CacheEntryId::new(1)), outcome),
-            Step::Expire(outcome) => self.expire(outcome),
-            Step::Update(fault) => {
-                let answer = self.store.update_meta(&key(self.alloc)?, &meta(self.alloc));
+            Step::SeekPart(start, end, fault) => {
+                let early = self.early.as_mut()?;
+                let answer = <MemHitHandler as HandleHit<MemCache>>::seek_multipart(
+                    early, start, end,
+                );
                 Some(answer.err() == fault)
             }
+            Step::Weighs(late, weight) => self.weighs(late, weight),
+            Step::Purge(target, outcome) => self.purge(target, outcome),
+            Step::Expire(target, outcome) => self.expire(target, outcome),
+            Step::Update(fault) => self.update(fault),
         }
     }
 

@@ -1,12 +1,7 @@
 //! The store in memory: look-ups of one write by its tag, and handlers that another store gave out.
+use crate::samples::{key, meta};
 use bytes::Bytes;
-use cache_heads::CacheMeta;
-use cache_heads::meta::ResponseHeader;
 use cache_store::storage::{HandleHit, HandleMiss, MissFault, ReadStep, Storage, StoreFault};
-use cache_words::key::CacheKey;
-use cache_words::time::Moment;
-use http::StatusCode;
-use http_header::HeaderMap;
 use mem_cache::MemCache;
 use mem_cache::handlers::MemMissHandler;
 use std::alloc::Global;
@@ -53,25 +48,6 @@ const ROWS: &[Row] = &[
     },
 ];
 
-fn key(alloc: Global, primary: &[u8]) -> Option<CacheKey> {
-    let primary = Vec::from_slice(alloc, primary).ok()?;
-    Some(CacheKey::new(primary, String::from_str(alloc, "").ok()?))
-}
-
-fn meta(alloc: Global) -> CacheMeta {
-    let header = ResponseHeader {
-        status: StatusCode::OK,
-        headers: HeaderMap::new(alloc),
-    };
-    CacheMeta::new(
-        Moment::from_seconds(1300),
-        Moment::from_seconds(900),
-        30,
-        30,
-        header,
-    )
-}
-
 // Begins a write with a piece. The writer that it had before is left.
 fn begin(
     store: &mut MemCache,
@@ -80,7 +56,7 @@ fn begin(
     piece: &[u8],
 ) -> Option<bool> {
     let bytes = Bytes::copy_from_slice(alloc, piece).ok()?;
-    let Ok(mut begun) = store.get_miss_handler(&key(alloc, b"aa")?, &meta(alloc)) else {
+    let Ok(mut begun) = store.get_miss_handler(&key(alloc, b"aa")?, &meta(alloc, 1300)) else {
         return None;
     };
     let answer = begun.write_body(store, bytes, false);

@@ -1,28 +1,9 @@
 //! Tracing that does nothing.
-use cache_heads::CacheMeta;
-use cache_heads::meta::ResponseHeader;
+use crate::samples;
 use cache_store::trace::{CacheTraceCTX, Span, Tag, tag_span_with_meta};
 use cache_words::time::Moment;
-use http::StatusCode;
-use http_header::HeaderMap;
-use std::alloc::Global;
 use std::cell::Cell;
 use std::test::*;
-
-// A meta without header lines.
-fn meta(alloc: Global) -> CacheMeta {
-    let header = ResponseHeader {
-        status: StatusCode::OK,
-        headers: HeaderMap::new(alloc),
-    };
-    CacheMeta::new(
-        Moment::from_seconds(1010),
-        Moment::from_seconds(1000),
-        5,
-        60,
-        header,
-    )
-}
 
 #[test]
 fn spans_call_nothing(rt: HostRuntime) {
@@ -49,7 +30,7 @@ fn spans_call_nothing(rt: HostRuntime) {
 
 #[test]
 fn contexts_keep_their_spans(rt: HostRuntime) {
-    let meta = meta(rt.alloc());
+    let meta = samples::meta(rt.alloc(), 1010);
     let mut context = CacheTraceCTX::new();
     context.enable(Span::inactive());
     context.start_hit_span();

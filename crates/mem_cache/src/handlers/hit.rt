@@ -15,7 +15,7 @@ impl MemHitHandler {
     pub fn can_seek(&self) -> bool
         ensures { result ≡ is_complete self.now }
     {
-        matches!(self, MemHitHandler::Complete(_))
+        !matches!(self, MemHitHandler::Partial(_))
     }
 
     /// Sets what is read next of a finished body: from `start` to `end` or, where that is less, to the body's end.

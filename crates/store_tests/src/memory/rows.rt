@@ -5,6 +5,7 @@ use cache_store::storage::{PurgeOutcome, StoreFault};
 #[derive(Clone, Copy)]
 pub(super) enum Step {
     Begin,
+    Unwritable,
     Piece(&'static [u8], bool, Option<StoreFault>),
     Finish(Option<usize>),
     Whole(&'static [u8]),
@@ -15,15 +16,26 @@ pub(super) enum Step {
     Pending(bool),
     End(bool),
     Seek(usize, Option<usize>, Option<StoreFault>),
-    Purge(PurgeOutcome),
-    PurgeId(PurgeOutcome),
-    Expire(PurgeOutcome),
+    SeekPart(usize, Option<usize>, Option<StoreFault>),
+    Weighs(bool, usize),
+    Purge(Target, PurgeOutcome),
+    Expire(Target, PurgeOutcome),
     Update(Option<StoreFault>),
+}
+
+// The key, its entry without an id, or one with an id.
+#[derive(Clone, Copy, PartialEq, Eq)]
+pub(super) enum Target {
+    Key,
+    Entry,
+    Id,
 }
 
 pub(super) const STREAMED: &[Step] = &[
     Step::Begin,
     Step::Look(false, false),
+    Step::Weighs(false, 0),
+    Step::Seek(0, None, Some(StoreFault::SeekRange)),
     Step::Pending(false),
     Step::Piece(b"test1", false, None),
     Step::Bytes(false, b"test1"),
@@ -61,16 +73,16 @@ pub(super) const ENDED: &[Step] = &[
 
 pub(super) const PURGED: &[Step] = &[
     Step::Misses,
-    Step::Purge(PurgeOutcome::NotFound),
+    Step::Purge(Target::Key, PurgeOutcome::NotFound),
     Step::Begin,
     Step::Leave,
-    Step::Purge(PurgeOutcome::NotFound),
+    Step::Purge(Target::Key, PurgeOutcome::NotFound),
     Step::Begin,
     Step::Look(false, false),
-    Step::PurgeId(PurgeOutcome::NotFound),
-    Step::Purge(PurgeOutcome::Purged(None)),
+    Step::Purge(Target::Id, PurgeOutcome::NotFound),
+    Step::Purge(Target::Key, PurgeOutcome::Purged(None)),
     Step::Misses,
-    Step::Purge(PurgeOutcome::NotFound),
+    Step::Purge(Target::Key, PurgeOutcome::NotFound),
     Step::Piece(b"abc", false, None),
     Step::Bytes(false, b"abc"),
     Step::Pending(false),
@@ -81,7 +93,7 @@ pub(super) const PURGED: &[Step] = &[
     Step::Piece(b"new", true, None),
     Step::Finish(Some(3)),
     Step::Look(false, true),
-    Step::Purge(PurgeOutcome::Purged(None)),
+    Step::Purge(Target::Entry, PurgeOutcome::Purged(None)),
     Step::Bytes(false, b"new"),
     Step::Misses,
 ];
@@ -91,6 +103,7 @@ pub(super) const SOUGHT: &[Step] = &[
     Step::Piece(b"test1test2", true, None),
     Step::Finish(Some(10)),
     Step::Look(false, true),
+    Step::Weighs(false, 10),
     Step::Seek(5, None, None),
     Step::Bytes(false, b"test2"),
     Step::Seek(4, Some(5), None),
@@ -102,19 +115,26 @@ pub(super) const SOUGHT: &[Step] = &[
     Step::Seek(4, Some(3), Some(StoreFault::SeekRange)),
     Step::Bytes(false, b"1"),
     Step::End(false),
+    Step::SeekPart(8, Some(20), None),
+    Step::Bytes(false, b"t2"),
 ];
 
 pub(super) const RENEWED: &[Step] = &[
-    Step::Expire(PurgeOutcome::NotFound),
+    Step::Unwritable,
+    Step::Expire(Target::Entry, PurgeOutcome::NotFound),
     Step::Update(Some(StoreFault::NoMeta)),
     Step::Begin,
-    Step::Expire(PurgeOutcome::NotFound),
+    Step::Piece(b"abc", true, None),
+    Step::Expire(Target::Key, PurgeOutcome::NotFound),
     Step::Update(Some(StoreFault::NoMeta)),
-    Step::Finish(Some(0)),
-    Step::Expire(PurgeOutcome::Expired),
+    Step::Finish(Some(3)),
+    Step::Expire(Target::Id, PurgeOutcome::NotFound),
+    Step::Expire(Target::Entry, PurgeOutcome::Expired),
     Step::Update(None),
+    Step::Update(Some(StoreFault::MetaMoment)),
+    Step::Expire(Target::Key, PurgeOutcome::Expired),
     Step::Look(false, true),
-    Step::Bytes(false, b""),
+    Step::Bytes(false, b"abc"),
     Step::End(false),
 ];
 
@@ -127,4 +147,8 @@ pub(super) const WHOLE: &[Step] = &[
     Step::Whole(b"de"),
     Step::Look(true, true),
     Step::Bytes(true, b"de"),
+    Step::Whole(b""),
+    Step::Look(true, true),
+    Step::Bytes(true, b""),
+    Step::End(true),
 ];

@@ -1,7 +1,8 @@
 use Rattle.std.proofs.Common.{nat_eq}
 use Rattle.std.specs.Cmp.Lexicographic.{pointwise}
 use Rattle.mem_cache.specs.Alive.{has}
-use Rattle.mem_cache.proofs.BodyLaws.{agree-by, kept-removed}
+use Rattle.cache_store.proofs.BodyLaws.{agree-by}
+use Rattle.mem_cache.proofs.BodyLaws.{kept-removed}
 use Rattle.mem_cache.proofs.SeenLaws.{seen-marked}
 use Rattle.mem_cache.proofs.SoundLaws.{sound-fewer}
 use Rattle.mem_cache.proofs.cache.MemCache.remove.Goals as goal

@@ -1,5 +1,5 @@
-use Rattle.mem_cache.proofs.LookLaws.{look-shown, body-shown, shows-body}
-use Rattle.mem_cache.proofs.laws.a_look_up_shows_what_it_is_to.Goals as goal
+use Rattle.cache_store.proofs.LookLaws.{look-shown, body-shown, shows-body}
+use Rattle.cache_store.proofs.laws.a_look_up_shows_what_it_is_to.Goals as goal
 
 pub returns-clause-shown : goal.returns-clause-shown
 returns-clause-shown c = λ k s. look-shown k s

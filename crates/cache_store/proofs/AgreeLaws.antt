@@ -6,7 +6,7 @@ use Rattle.cache_changes.specs.Changes.{StoredKey, Write, Change, begins, append
 use Rattle.cache_changes.specs.Store.{Stored, Flying, Store, is_of, has_number, body_at, flying_at, begun, with_bytes, ended, renewed, renewed_flying, marked, landed, with_body, removed_from, after}
 use Rattle.cache_changes.proofs.RowLaws.{find-map}
 use Rattle.cache_store.specs.Agree.{settled, settled_flying, Agree}
-use Rattle.mem_cache.proofs.BodyLaws.{body-put, body-removed}
+use Rattle.cache_store.proofs.BodyLaws.{body-put, body-removed}
 
 module _ {M : Type 0} where
   -- writes in flight, each changed

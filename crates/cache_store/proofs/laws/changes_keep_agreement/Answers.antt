@@ -1,6 +1,6 @@
 use Rattle.std.proofs.Common.{◌∙◌}
-use Rattle.mem_cache.proofs.AgreeLaws.{agree-after}
-use Rattle.mem_cache.proofs.laws.changes_keep_agreement.Goals as goal
+use Rattle.cache_store.proofs.AgreeLaws.{agree-after}
+use Rattle.cache_store.proofs.laws.changes_keep_agreement.Goals as goal
 
 pub returns-clause-next : goal.returns-clause-next
 returns-clause-next g c change s t a = agree-after change s t a

@@ -15,7 +15,7 @@ use Rattle.cache_store.specs.Agree.{settled, settled_flying, Agree}
 use Rattle.cache_store.specs.Answers.{finished, look_of, look_up}
 use Rattle.cache_store.specs.Held.{Held}
 use Rattle.cache_store.specs.Renewals.{stored_with, IsRenewed}
-use Rattle.mem_cache.specs.Laws.{write_shown, NoneFlies, IsOwnNumber}
+use Rattle.cache_store.specs.Laws.{write_shown, NoneFlies, IsOwnNumber}
 
 -- the write that is shown
 pub look-shown : (k : StoredKey) (s : Store CacheMeta) → option_map write_shown (look_up k s) ≡ shown_at k s

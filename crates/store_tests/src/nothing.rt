@@ -1,0 +1,125 @@
+//! A store that stores nothing, and takes what it can from the traits: what their default bodies answer.
+ghost use Rattle.std.specs.Prelude.{true, false, None, [], ℕ};
+ghost use Rattle.cache_changes.specs.Store.{empty_store};
+ghost use Rattle.cache_store.specs.Readers.{whole};
+ghost use Rattle.cache_store.specs.declared.storage.MissFinishType.TheVariants.{Created};
+
+use crate::samples::{key, meta};
+use bytes::Bytes;
+use cache_heads::CacheMeta;
+use cache_store::storage::{
+    Contents, Found, HandleHit, HandleMiss, MissFault, MissFinishType, PurgeOutcome, PurgeTarget,
+    PurgeType, ReadStep, Storage, StoreFault,
+};
+use cache_words::key::CacheKey;
+use cache_words::time::Moment;
+use std::alloc::Global;
+use std::test::*;
+
+#[derive(Clone, Copy)]
+struct Nothing;
+
+// A reader of no bytes, and a writer of nothing.
+#[derive(Clone, Copy)]
+struct Nobody;
+
+impl Contents for Nothing {
+    ghost held = { λ _. record { store = empty_store; next = 0; readings = [] } };
+}
+
+impl Storage for Nothing {
+    type Hit = Nobody;
+
+    type Miss = Nobody;
+
+    ghost is_spent = { λ _. true };
+
+    ghost ids = { λ _ _. None };
+
+    ghost streams = { false };
+
+    ghost tagged = { λ _. None };
+
+    fn lookup(&mut self, _key: &CacheKey) -> Result<Found<Nobody>, StoreFault> {
+        Ok(None)
+    }
+
+    fn get_miss_handler(
+        &mut self,
+        _key: &CacheKey,
+        _meta: &CacheMeta,
+    ) -> Result<Nobody, StoreFault> {
+        Err(StoreFault::WriteNumbersSpent)
+    }
+
+    fn purge(&mut self, _target: PurgeTarget<'_>, _purge_type: PurgeType) -> PurgeOutcome {
+        PurgeOutcome::NotFound
+    }
+
+    fn update_meta(&mut self, _key: &CacheKey, _meta: &CacheMeta) -> Result<(), StoreFault> {
+        Err(StoreFault::NoMeta)
+    }
+}
+
+impl HandleHit<Nothing> for Nobody {
+    ghost reader = { λ _. whole [] [] };
+
+    fn read_body(&mut self, _store: &mut Nothing) -> Result<ReadStep, StoreFault> {
+        Ok(ReadStep::End)
+    }
+
+    fn finish(self, _store: &mut Nothing) {}
+}
+
+impl HandleMiss<Nothing> for Nobody {
+    ghost number = { λ _. 0 };
+
+    ghost told = { Created };
+
+    fn write_body(
+        &mut self,
+        _store: &mut Nothing,
+        _more: Bytes,
+        _eof: bool,
+    ) -> Result<(), StoreFault> {
+        Err(StoreFault::WriteRemoved)
+    }
+
+    fn finish(self, _store: &mut Nothing) -> Result<MissFinishType, MissFault<Nobody>> {
+        Err(MissFault::WriteRemoved)
+    }
+
+    fn leave(self, _store: &mut Nothing) {}
+}
+
+// What the calls of a store with default bodies answer: whether a look-up of a write finds any, what came of an expiry, and
+// whether writes are read while they are written.
+fn asked(alloc: Global) -> Option<(bool, PurgeOutcome, bool)> {
+    let key = key(alloc, b"aa")?;
+    let compact = key.to_compact().ok()?;
+    let found = Nothing.lookup_streaming_write(&key, Some(&[0])).ok()?;
+    let moment = Moment::from_seconds(1000);
+    let outcome = Nothing.expire(PurgeTarget::Active(&compact), moment).ok()?;
+    let streams = Nothing.support_streaming_partial_write();
+    Some((found.is_some(), outcome, streams))
+}
+
+#[test]
+fn calls_have_default_bodies(rt: HostRuntime) {
+    let answers = asked(rt.alloc());
+    assert_eq!(rt; answers, Some((false, PurgeOutcome::NotFound, false)));
+    let mut hit = Nobody;
+    let sought = hit.seek(0, None) == Err(StoreFault::SeekRange)
+        && hit.seek_multipart(0, None) == Err(StoreFault::SeekRange);
+    let asked = (
+        hit.can_seek(),
+        hit.can_seek_multipart(),
+        hit.should_count_access(),
+        hit.get_eviction_weight(),
+    );
+    let hit_id = <Nobody as HandleHit<Nothing>>::entry_id(&hit).is_none();
+    let miss_id = <Nobody as HandleMiss<Nothing>>::entry_id(&hit).is_none();
+    let is_tagged = hit.streaming_write_tag().is_some();
+    assert!(rt; sought && hit_id && miss_id && !is_tagged);
+    assert_eq!(rt; asked, (false, false, true, 0));
+}
