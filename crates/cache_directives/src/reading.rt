@@ -115,13 +115,12 @@ fn insert(alloc: Global, all: &mut DirectiveMap, found: RawDirective<'_>) -> Res
     let Ok(name) = str::from_utf8(found.name) else {
         return Ok(());
     };
-    let mut name = String::from_str(alloc, name)?;
-    name.make_ascii_lowercase();
+    let key = DirectiveKey::from_any_case(alloc, name)?;
     let value = match found.value {
         Some(bytes) => Some(DirectiveValue(bytes.to_vec(alloc)?)),
         None => None,
     };
-    all.insert(DirectiveKey::from_lowercase_owned(name), value)?;
+    all.insert(key, value)?;
     Ok(())
 }
 
