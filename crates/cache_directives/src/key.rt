@@ -1,5 +1,6 @@
 //! Names of directives.
-ghost use Rattle.std.specs.Prelude.{◌≡◌, ◌↔◌, IsTrue, IfOk, IfSome, IfNone, Some, false, nat_eq, string_bytes};
+ghost use Rattle.std.specs.Char.{to_ascii_lowercase};
+ghost use Rattle.std.specs.Prelude.{◌≡◌, ◌↔◌, map, IsTrue, IfOk, IfSome, IfNone, Some, false, nat_eq, string_bytes};
 ghost use Rattle.std.specs.Hash as fed;
 ghost use Rattle.std.specs.Cmp.{on_equiv, on_per, partial_equiv_from_equiv};
 ghost use Rattle.std.specs.Cmp.Lexicographic.{pointwise, nat_list_eq_equiv};
@@ -56,10 +57,11 @@ impl DirectiveKey {
         }
     }
 
-    // One of the names with a variant of its own.
+    // One of the names with a variant of its own, which are in lower case.
     #[tactic(auto, unfolding(crate::specs::Names::has_own_variant))]
     pub(crate) fn known(name: &str) -> Option<Self>
         ensures name { IfSome result (λ key. name_of key ≡ name.now) }
+        ensures lower { IfSome result (λ key. name_of key ≡ map to_ascii_lowercase name.now) }
         ensures own { IfSome result IsOwnKey }
         ensures none { IfNone result (has_own_variant name.now ≡ false) }
     {
@@ -106,6 +108,19 @@ impl DirectiveKey {
             Some(key) => key,
             None => DirectiveKey::Unknown(name),
         }
+    }
+
+    // The key of a name in any case. One of the names above takes no memory where it is in lower case.
+    pub(crate) fn from_any_case(alloc: Global, name: &str) -> Result<Self, AllocError>
+        ensures name { IfOk result (λ key. name_of key ≡ map to_ascii_lowercase name.now) }
+        ensures own { IfOk result IsOwnKey }
+    {
+        if let Some(key) = DirectiveKey::known(name) {
+            return Ok(key);
+        }
+        let mut name = String::from_str(alloc, name)?;
+        name.make_ascii_lowercase();
+        Ok(DirectiveKey::from_lowercase_owned(name))
     }
 
     /// Whether the name is this text.

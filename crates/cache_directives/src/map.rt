@@ -2,17 +2,17 @@
 use crate::key::DirectiveKey;
 use crate::value::DirectiveValue;
 use cache_words::blake::Blake2b128;
-use http_header::HeaderMap;
+use http_header::{GetAll, HeaderValue};
 use indexmap::IndexMap;
 use std::hash::{BuildHasher, DefaultHasher, Hasher};
 
 // Lines of so many bytes together hold few names: it does no harm if they collide.
 const SHORT: usize = 256;
 
-// Whether the lines under a name are short together.
-fn are_short(name: &str, headers: &HeaderMap) -> bool {
+// Whether the lines are short together.
+fn are_short(lines: &GetAll<'_, HeaderValue>) -> bool {
     let mut bytes = 0usize;
-    for line in headers.get_all(name).iter() {
+    for line in lines.iter() {
         bytes = bytes.saturating_add(line.as_bytes().len());
     }
     bytes <= SHORT
@@ -51,17 +51,17 @@ impl BuildHasher for BuildDirectiveHasher {
 }
 
 impl BuildDirectiveHasher {
-    // For the lines under a name.
-    pub(crate) fn of_lines(name: &str, headers: &HeaderMap) -> Self {
-        if are_short(name, headers) {
+    // For the lines of a map.
+    pub(crate) fn of_lines(lines: &GetAll<'_, HeaderValue>) -> Self {
+        if are_short(lines) {
             return BuildDirectiveHasher::default();
         }
-        let mut lines = Blake2b128::new();
-        for line in headers.get_all(name).iter() {
-            lines.update(line.as_bytes());
+        let mut digest = Blake2b128::new();
+        for line in lines.iter() {
+            digest.update(line.as_bytes());
         }
         let mut start = DefaultHasher::new();
-        start.write(&lines.finalize());
+        start.write(&digest.finalize());
         BuildDirectiveHasher { start }
     }
 }

@@ -1,7 +1,5 @@
 //! How the directives of a head are read.
 ghost use Rattle.std.specs.Prelude.{◌≡◌, map, codes, IfOk, IfSome, OnOk, option_map};
-ghost use Rattle.http_header.specs.HeaderMap.{get_all};
-ghost use Rattle.http_header.specs.Token.{lowercase};
 ghost use Rattle.cache_directives.specs.Found.{written};
 ghost use Rattle.cache_directives.specs.Entries.{entries_of, HasOwnKeys};
 ghost use Rattle.cache_directives.specs.Keeps.{keep, keep_line, kept, IsKept};
@@ -13,7 +11,7 @@ use crate::line::{RawDirective, Scan};
 use crate::map::{BuildDirectiveHasher, DirectiveMap};
 use crate::value::DirectiveValue;
 use cache_headers::{RequestHeader, ResponseHeader};
-use http_header::HeaderMap;
+use http_header::{GetAll, HeaderMap, HeaderValue};
 use std::alloc::{AllocError, Global};
 use std::str;
 
@@ -33,10 +31,11 @@ impl CacheControl {
         ensures read { IfOk result (λ o. IfSome o (λ c. IsKept (lines_under header_name.now headers.now) (directives_of c))) }
         ensures own { IfOk result (λ o. IfSome o HasOwnVariants) }
     {
-        match headers.get(header_name) {
+        let lines = headers.get_all(header_name);
+        match lines.iter().next() {
             None => Ok(None),
             Some(_) => Ok(Some(CacheControl {
-                directives: from_fields(alloc, header_name, headers)?,
+                directives: from_lines(alloc, &lines)?,
             })),
         }
     }
@@ -115,13 +114,12 @@ fn insert(alloc: Global, all: &mut DirectiveMap, found: RawDirective<'_>) -> Res
     let Ok(name) = str::from_utf8(found.name) else {
         return Ok(());
     };
-    let mut name = String::from_str(alloc, name)?;
-    name.make_ascii_lowercase();
+    let key = DirectiveKey::from_any_case(alloc, name)?;
     let value = match found.value {
         Some(bytes) => Some(DirectiveValue(bytes.to_vec(alloc)?)),
         None => None,
     };
-    all.insert(DirectiveKey::from_lowercase_owned(name), value)?;
+    all.insert(key, value)?;
     Ok(())
 }
 
@@ -136,13 +134,13 @@ fn add_line(alloc: Global, all: &mut DirectiveMap, line: &[u8]) -> Result<(), Al
     Ok(())
 }
 
-// The directives of all lines under a name.
-fn from_fields(alloc: Global, name: &str, headers: &HeaderMap) -> Result<DirectiveMap, AllocError>
-    ensures read { IfOk result (λ all. entries_of all.entries ≡ kept (map (λ line. line.bytes) (get_all headers.now (lowercase name.now)))) }
+// The directives of all these lines.
+fn from_lines(alloc: Global, lines: &GetAll<'_, HeaderValue>) -> Result<DirectiveMap, AllocError>
+    ensures read { IfOk result (λ all. entries_of all.entries ≡ kept (map (λ line. line.bytes) lines.now)) }
     ensures own { IfOk result (λ all. HasOwnKeys all.entries) }
 {
-    let mut all = DirectiveMap::with_hasher(alloc, BuildDirectiveHasher::of_lines(name, headers));
-    for line in headers.get_all(name).iter() {
+    let mut all = DirectiveMap::with_hasher(alloc, BuildDirectiveHasher::of_lines(lines));
+    for line in lines.iter() {
         add_line(alloc, &mut all, line.as_bytes())?;
     }
     Ok(all)

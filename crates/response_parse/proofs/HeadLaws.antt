@@ -1,5 +1,5 @@
 -- The lines of a map, and what heads within the bounds give.
-use Rattle.std.proofs.Common.{◌≡◌, ℕ, ◌+◌, ◌≤◌, ◌<◌, true, false, List, [], ◌∷◌, ◌++◌, length, map, take, drop, refl, ap, sym, ◌∙◌, subst, arith, inl, inr, append_assoc, append-nil, All, length-append, length-take, get_or}
+use Rattle.std.proofs.Common.{◌≡◌, ℕ, ◌+◌, ◌≤◌, ◌<◌, true, false, List, [], ◌∷◌, ◌++◌, length, map, take, drop, refl, ap, sym, ◌∙◌, subst, arith, inl, inr, append_assoc, append-nil, All, length-append, length-take, get_or, rules}
 use Rattle.std.specs.Prelude.{◌≢◌, bytes_eq, codes, ◌&&◌, ◌⊎◌, Bool, nat_le}
 use Rattle.std.specs.List.{list_all}
 use Rattle.std.proofs.lemmas.Bool.Decides.{nat_tests}
@@ -7,7 +7,7 @@ use Rattle.std.proofs.lemmas.List.Folds.{list_all-append, list_all-map}
 use Rattle.std.proofs.lemmas.Bool.{cases_Bool}
 use Rattle.std.proofs.lemmas.Slice.Eq.{bytes_eq-Decides}
 use Rattle.std.proofs.lemmas.List.{map-append, take_more, get_or-map, length-map}
-use Rattle.std.proofs.lemmas.List.Elements.{All-map}
+use Rattle.std.proofs.lemmas.List.Elements.{All-map, All-tail}
 use Rattle.std.proofs.lemmas.List.Sums.{sum_by-cons, AllPass-from_list_all}
 use Rattle.cache_headers.specs.declared.header.ResponseHeader.{ResponseHeader}
 use Rattle.http.specs.StatusCode.{IsStatusCode}
@@ -19,7 +19,9 @@ use Rattle.http_header.proofs.HeaderMapLemmas.{get_all-append_same, get_all-appe
 use Rattle.httparse.specs.Grammar.{ResponseHead, ReadsResponse, HasNoResponse, NeverHasResponse, Field, IsField, is_value_byte, is_token_byte, status_code}
 use Rattle.httparse.specs.declared.spans.HeaderSpan.{HeaderSpan}
 use Rattle.httparse.specs.declared.spans.ResponseSpans.{ResponseSpans}
-use Rattle.httparse.specs.Spans.{header_bytes, name_and_value, AreFieldsAt, IsResponseAt, ResponseOverflows}
+use Rattle.bytes.proofs.Ranges.{slice_range_front}
+use Rattle.httparse.specs.declared.spans.Span.{Span}
+use Rattle.httparse.specs.Spans.{span_bytes, header_bytes, name_and_value, AreFieldsAt, IsWithin, IsHeaderWithin, IsResponseAt, ResponseOverflows}
 use Rattle.httparse.proofs.TrimLemmas.{AllPass-trim_ows}
 use Rattle.cache_headers.specs.Lines.{Line, pair_of, map_of, IsLine}
 use Rattle.response_parse.specs.declared.response.Parsed.TheVariants.{Incomplete, BadHead}
@@ -242,3 +244,15 @@ some-head bytes len status code all l is same lines = record { len = l; lines = 
   where
     high : 100 ≤ code → nat_le 100 code ≡ true
     high l = grind (arith, nat_tests)
+
+span-front : (bytes front : List ℕ) (n : ℕ) (s : Span) → take n bytes ≡ front → IsWithin n s → span_bytes front s ≡ span_bytes bytes s
+span-front bytes front n s e within = slice_range_front front bytes s.start s.end n e within.1
+
+header-front : (bytes front : List ℕ) (n : ℕ) (line : HeaderSpan) → take n bytes ≡ front → IsHeaderWithin n line → header_bytes front line ≡ header_bytes bytes line
+header-front bytes front n line e within = rw (span-front bytes front n line.name e within.0, span-front bytes front n line.value e within.1) refl
+
+-- lines that lie in a front are that front's
+pub lines-front : (bytes front : List ℕ) (n : ℕ) (lines : List HeaderSpan) → take n bytes ≡ front → All (IsHeaderWithin n) lines → map (header_bytes front) lines ≡ map (header_bytes bytes) lines
+lines-front bytes front n [] e within = refl
+lines-front bytes front n (line ∷ lines) e within =
+    rw (header-front bytes front n line e (within 0 line (search rules)), lines-front bytes front n lines e (All-tail (IsHeaderWithin n) line lines within)) refl

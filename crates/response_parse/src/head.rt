@@ -1,5 +1,5 @@
 //! Heads: read by the parser, with their lines as a map.
-ghost use Rattle.std.specs.Prelude.{◌≡◌, ◌≢◌, ◌<◌, ◌≤◌, length, map, IfOk, IfErr, IfSome, IfNone, OnOk, All, true};
+ghost use Rattle.std.specs.Prelude.{◌≡◌, ◌≢◌, ◌<◌, ◌≤◌, [], length, map, IfOk, IfErr, IfSome, IfNone, OnOk, All, true};
 ghost use Rattle.std.specs.List.{list_all};
 ghost use Rattle.http_header.specs.HeaderMap.{append, value_count};
 ghost use Rattle.http_header.specs.FieldValue.{plain_value};
@@ -11,11 +11,10 @@ ghost use Rattle.response_parse.specs.Response.{has_short_name};
 ghost use Rattle.cache_headers.specs.Lines.{map_of, IsLine};
 ghost use Rattle.response_parse.specs.Heads.{IsHeadOf, IsOutOfBounds, IsSomeHead, AreShortLines};
 
+use bytes::Bytes;
 use cache_headers::ResponseHeader;
 use http::StatusCode;
-use http_header::{
-    HeaderMap, HeaderMapError, HeaderName, HeaderNameError, HeaderValue, HeaderValueError,
-};
+use http_header::{HeaderMap, HeaderMapError, HeaderName, HeaderNameError, HeaderValue};
 use httparse::spans::{EMPTY_HEADER_SPAN, HeaderSpan, ResponseSpans, parse_response};
 use httparse::{Error, ParserConfig, Status};
 use std::alloc::{AllocError, Global};
@@ -43,13 +42,24 @@ pub(crate) struct Head {
     pub(crate) len: usize,
 }
 
+impl From<AllocError> for HeadFault {
+    ghost use Rattle.std.specs.Prelude.{◌≡◌};
+    ghost use Rattle.response_parse.specs.declared.head.HeadFault.TheVariants.{Memory};
+
+    ghost from_gives = { λ _ fault. fault ≡ Memory };
+
+    fn from(_error: AllocError) -> HeadFault {
+        HeadFault::Memory
+    }
+}
+
 // One more line of a head.
-fn add(alloc: Global, all: &mut HeaderMap, name: &[u8], value: &[u8]) -> Result<(), HeadFault>
+fn add(alloc: Global, all: &mut HeaderMap, name: &[u8], value: Bytes) -> Result<(), HeadFault>
     requires names { length all.old < 256 }
     requires values { value_count all.old < 256 }
-    ensures ok { OnOk result (all.new ≡ append all.old (lowercase name.now) (plain_value value.now)) }
-    ensures short { OnOk result (has_short_name (name.now, value.now) ≡ true) }
-    ensures bounds { result ≡ Err HeadFault.Bounds → ¬ (IsLine (name.now, value.now)) }
+    ensures ok { OnOk result (all.new ≡ append all.old (lowercase name.now) (plain_value value)) }
+    ensures short { OnOk result (has_short_name (name.now, value) ≡ true) }
+    ensures bounds { result ≡ Err HeadFault.Bounds → ¬ (IsLine (name.now, value)) }
     ensures read { result ≢ Err HeadFault.Refused }
     ensures room { result ≢ Err HeadFault.TooLong }
 {
@@ -58,10 +68,8 @@ fn add(alloc: Global, all: &mut HeaderMap, name: &[u8], value: &[u8]) -> Result<
         Err(HeaderNameError::Invalid) => return Err(HeadFault::Bounds),
         Err(HeaderNameError::OutOfMemory) => return Err(HeadFault::Memory),
     };
-    let value = match HeaderValue::from_bytes(alloc, value) {
-        Ok(value) => value,
-        Err(HeaderValueError::Invalid) => return Err(HeadFault::Bounds),
-        Err(HeaderValueError::OutOfMemory) => return Err(HeadFault::Memory),
+    let Ok(value) = HeaderValue::from_shared(value) else {
+        return Err(HeadFault::Bounds);
     };
     match all.append(name, value) {
         Ok(_) => Ok(()),
@@ -70,9 +78,40 @@ fn add(alloc: Global, all: &mut HeaderMap, name: &[u8], value: &[u8]) -> Result<
     }
 }
 
-// The map of header lines.
-fn collect(alloc: Global, bytes: &[u8], lines: &[HeaderSpan]) -> Result<HeaderMap, HeadFault>
-    requires within { All (IsHeaderWithin (length bytes.now)) lines.now }
+// An empty map with room for so many names.
+fn room_for(alloc: Global, count: usize) -> Result<HeaderMap, AllocError>
+    ensures { IfOk result (λ all. all ≡ []) }
+{
+    HeaderMap::with_capacity(alloc, count).map_err(|_| AllocError)
+}
+
+// The map of header lines of a head, whose bytes the values share.
+fn collect_shared(alloc: Global, head: &Bytes, lines: &[HeaderSpan]) -> Result<HeaderMap, HeadFault>
+    requires within { All (IsHeaderWithin (length head.now)) lines.now }
+    requires few { length lines.now ≤ 256 }
+    ensures value { IfOk result (λ all. all ≡ map_of (map (header_bytes head.now) lines.now)) }
+    ensures short { OnOk result (list_all has_short_name (map (header_bytes head.now) lines.now) ≡ true) }
+    ensures bounds { result ≡ Err HeadFault.Bounds → ¬ (All IsLine (map (header_bytes head.now) lines.now)) }
+    ensures read { result ≢ Err HeadFault.Refused }
+    ensures room { result ≢ Err HeadFault.TooLong }
+{
+    let mut all = room_for(alloc, lines.len())?;
+    for line in lines {
+        let value = head.slice(line.value.start..line.value.end)?;
+        add(alloc, &mut all, line.name.of(head.as_slice()), value)?;
+    }
+    Ok(all)
+}
+
+// The map of the header lines of a head that long. The head is copied once, which takes less than a copy of each value.
+fn collect(
+    alloc: Global,
+    bytes: &[u8],
+    len: usize,
+    lines: &[HeaderSpan],
+) -> Result<HeaderMap, HeadFault>
+    requires fits { len ≤ length bytes.now }
+    requires within { All (IsHeaderWithin len) lines.now }
     requires few { length lines.now ≤ 256 }
     ensures value { IfOk result (λ all. all ≡ map_of (map (header_bytes bytes.now) lines.now)) }
     ensures short { OnOk result (list_all has_short_name (map (header_bytes bytes.now) lines.now) ≡ true) }
@@ -80,11 +119,8 @@ fn collect(alloc: Global, bytes: &[u8], lines: &[HeaderSpan]) -> Result<HeaderMa
     ensures read { result ≢ Err HeadFault.Refused }
     ensures room { result ≢ Err HeadFault.TooLong }
 {
-    let mut all = HeaderMap::new(alloc);
-    for line in lines {
-        add(alloc, &mut all, line.name.of(bytes), line.value.of(bytes))?;
-    }
-    Ok(all)
+    let head = Bytes::copy_from_slice(alloc, &bytes[..len])?;
+    collect_shared(alloc, &head, lines)
 }
 
 // The head with these lines, whose status and length a parser read.
@@ -114,7 +150,7 @@ pub(crate) fn read_head(alloc: Global, bytes: &[u8]) -> Result<Option<Head>, Hea
     let mut lines = [EMPTY_HEADER_SPAN; MOST_LINES];
     match parse_response(bytes, &mut lines) {
         Ok(Status::Complete(head)) => {
-            let headers = collect(alloc, bytes, &lines[..head.headers])?;
+            let headers = collect(alloc, bytes, head.len, &lines[..head.headers])?;
             Ok(Some(head_of(headers, &head)?))
         }
         Ok(Status::Partial) => Ok(None),
@@ -135,14 +171,14 @@ pub(crate) fn waits_with_a_line_more(bytes: &[u8]) -> bool
 }
 
 // A folded value on one line: each CR and LF is a space (RFC 9112, 5.2).
-fn unfolded(alloc: Global, value: &[u8]) -> Result<Vec<u8>, AllocError> {
+fn unfolded(alloc: Global, value: &[u8]) -> Result<Bytes, AllocError> {
     let mut line = Vec::from_slice(alloc, value)?;
     for b in line.iter_mut() {
         if *b == b'\r' || *b == b'\n' {
             *b = b' ';
         }
     }
-    Ok(line)
+    Ok(Bytes::from_vec(line)?)
 }
 
 // The map of header lines whose values may be folded.
@@ -157,10 +193,8 @@ fn collect_unfolded(
 {
     let mut all = HeaderMap::new(alloc);
     for line in lines {
-        let Ok(value) = unfolded(alloc, line.value.of(bytes)) else {
-            return Err(HeadFault::Memory);
-        };
-        add(alloc, &mut all, line.name.of(bytes), value.as_slice())?;
+        let value = unfolded(alloc, line.value.of(bytes))?;
+        add(alloc, &mut all, line.name.of(bytes), value)?;
     }
     Ok(all)
 }

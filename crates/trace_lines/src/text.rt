@@ -1,5 +1,5 @@
 //! Writing a line. Each text lacks the line feed that ends it; the only error is out of memory.
-ghost use Rattle.std.specs.Prelude.{◌≡◌, IfOk, string_bytes};
+ghost use Rattle.std.specs.Prelude.{◌≡◌, [], IfOk, string_bytes};
 ghost use Rattle.trace_lines.specs.Texts.{fault_label, freshness_text, extent_text, bytes_text, purged_text, answer_text, outcome_text, field_text, reason_text, refusal_text, look_ups_text, bodies_text, entries_text, report_text};
 
 use crate::line::{FieldName, Refusal};
@@ -7,6 +7,25 @@ use bytes::Bytes;
 use std::alloc::{AllocError, Global};
 use tier_model::event::{Answer, TierFault};
 use tier_model::report::Report;
+
+// Room for a usual line, with the line feed that is to end it.
+const USUAL: usize = 64;
+
+// An empty line, which a usual text fits without another growth.
+fn empty_line(alloc: Global) -> Result<String, AllocError>
+    ensures { IfOk result (λ text. string_bytes text ≡ []) }
+{
+    String::with_capacity(alloc, USUAL)
+}
+
+// A line of that text.
+fn line_of(alloc: Global, text: &str) -> Result<String, AllocError>
+    ensures { IfOk result (λ line. string_bytes line ≡ text.now) }
+{
+    let mut line = empty_line(alloc)?;
+    line.push_str(text)?;
+    Ok(line)
+}
 
 /// Returns the line for the outcome of an event.
 pub fn outcome_line(
@@ -19,7 +38,9 @@ pub fn outcome_line(
         Ok(answer) => answer_line(alloc, answer),
         Err(fault) => {
             let (number, name) = fault_label(fault);
-            format!(in alloc; "fault {number} {name}")
+            let mut text = empty_line(alloc)?;
+            write!(text, "fault {number} {name}")?;
+            Ok(text)
         }
     }
 }
@@ -28,22 +49,26 @@ fn answer_line(alloc: Global, answer: &Answer) -> Result<String, AllocError>
     ensures { IfOk result (λ text. string_bytes text ≡ answer_text answer.now) }
 {
     match answer {
-        Answer::Opened => String::from_str(alloc, "opened"),
+        Answer::Opened => line_of(alloc, "opened"),
         Answer::Found { fresh, complete } => {
             let freshness = if *fresh { "fresh" } else { "stale" };
             let extent = if *complete { "complete" } else { "partial" };
-            format!(in alloc; "found {freshness} {extent} lock=none")
+            let mut text = empty_line(alloc)?;
+            write!(text, "found {freshness} {extent} lock=none")?;
+            Ok(text)
         }
-        Answer::Absent => String::from_str(alloc, "absent lock=none"),
+        Answer::Absent => line_of(alloc, "absent lock=none"),
         Answer::Bytes(bytes) => bytes_line(alloc, bytes),
-        Answer::End => String::from_str(alloc, "end"),
-        Answer::Dropped => String::from_str(alloc, "dropped"),
+        Answer::End => line_of(alloc, "end"),
+        Answer::Dropped => line_of(alloc, "dropped"),
         Answer::Purged(was_stored) => {
-            String::from_str(alloc, if *was_stored { "purged" } else { "nothing" })
+            line_of(alloc, if *was_stored { "purged" } else { "nothing" })
         }
         Answer::Finished { length, evicted } => {
             let count = evicted.as_slice().len();
-            format!(in alloc; "finished {length} evicted={count}")
+            let mut text = empty_line(alloc)?;
+            write!(text, "finished {length} evicted={count}")?;
+            Ok(text)
         }
         Answer::Uncacheable(reason) => {
             let reason = reason.as_str();
@@ -90,9 +115,9 @@ pub fn refusal_line(alloc: Global, refusal: &Refusal) -> Result<String, AllocErr
     ensures { IfOk result (λ text. string_bytes text ≡ refusal_text refusal.now) }
 {
     match refusal {
-        Refusal::NotJson => String::from_str(alloc, "refused NotJson"),
-        Refusal::NotObject => String::from_str(alloc, "refused NotObject"),
-        Refusal::Op => String::from_str(alloc, "refused Op"),
+        Refusal::NotJson => line_of(alloc, "refused NotJson"),
+        Refusal::NotObject => line_of(alloc, "refused NotObject"),
+        Refusal::Op => line_of(alloc, "refused Op"),
         Refusal::Field(field) => {
             let name = field_name(*field);
             format!(in alloc; "refused Field {name}")

@@ -62,9 +62,11 @@ impl Input {
         Some(searched + at + 1)
     }
 
-    // Whether a whole line is held.
-    pub(crate) fn has_line(&self) -> bool {
-        self.whole_line(0).is_some()
+    // The length of the first line, with its line feed, if it is held whole.
+    pub(crate) fn held_line(&self) -> Option<usize>
+        ensures { IfSome result (λ n. IsLineOf n self.now) }
+    {
+        self.whole_line(0)
     }
 
     // The first bytes that are held.

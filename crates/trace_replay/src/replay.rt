@@ -150,7 +150,7 @@ fn tier_for<const N: usize>(alloc: Global, options: &ReplayOptions) -> Result<Ti
     Tier::new(alloc, options.limit as usize, watermark, age, None)
 }
 
-// The length of the next line. What is waiting goes out before the stream is read.
+// The length of the next line. What is waiting goes out before the stream is read, and where it is much.
 fn next_line<R: Read, W: Write>(
     input: &mut Input,
     reader: &mut R,
@@ -164,24 +164,13 @@ fn next_line<R: Read, W: Write>(
     ensures begun { OnErr result (HasBegun (W.contents writer.old) (W.contents writer.new) waiting.old.items) }
     ensures other { IfErr result IsOther }
 {
-    make_way(input, waiting, writer)?;
-    Ok(input.next_line(reader)?)
-}
-
-// Hands on what is waiting, if the stream has to be read for the next line or much is waiting.
-fn make_way<W: Write>(
-    input: &Input,
-    waiting: &mut Vec<u8>,
-    writer: &mut W,
-) -> Result<(), ReplayError>
-    ensures passed { OnOk result (Passes (W.contents writer.old) (W.contents writer.new) waiting.old.items waiting.new.items) }
-    ensures begun { OnErr result (HasBegun (W.contents writer.old) (W.contents writer.new) waiting.old.items) }
-    ensures other { IfErr result IsOther }
-{
-    if waiting.len() < MOST_WAITING && input.has_line() {
-        return Ok(());
+    if waiting.len() < MOST_WAITING
+        && let Some(len) = input.held_line()
+    {
+        return Ok(len);
     }
-    hand_on(waiting, writer)
+    hand_on(waiting, writer)?;
+    Ok(input.next_line(reader)?)
 }
 
 fn finish<W: Write, const N: usize>(

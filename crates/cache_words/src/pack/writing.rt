@@ -1,5 +1,5 @@
 //! Writers. Each adds the shortest form of a value to a sink. An `Err` leaves the sink as it was.
-ghost use Rattle.std.specs.Prelude.{◌≡◌, ◌+◌, ◌++◌, ◌<◌, ◌≤◌, ◌^◌, ◌≤ℤ◌, ◌↔◌, ℕ, pos, nat_abs, length, OnOk, OnErr, IsOk, IsErrOf};
+ghost use Rattle.std.specs.Prelude.{◌≡◌, ◌+◌, ◌++◌, ◌<◌, ◌≤◌, ◌^◌, ◌≤ℤ◌, ◌↔◌, ℕ, pos, nat_abs, take, length, OnOk, OnErr, IsOk, IsErrOf};
 ghost use Rattle.cache_words.specs.Forms.{shortest, numbers, arrays, texts, byte_strings};
 ghost use Rattle.cache_words.specs.Pack.{nil, text_of, bytes_of, hash_of, optional_hash_of, moment_of, key_text_of};
 ghost use Rattle.cache_words.specs.CompactKey.{compact_view};
@@ -110,15 +110,42 @@ fn add_text<S: Sink>(out: &mut S, text: &str)
     out.put(text.as_bytes());
 }
 
+// Writes the form of a byte at that place, and returns where it ends. It has no branch, since a hash's bytes are like random ones.
+#[inline(always)]
+fn write_byte(forms: &mut [u8; HASH_ROOM], at: usize, byte: u8) -> usize
+    requires { at + 2 ≤ HASH_ROOM }
+    ensures end { result ≤ at + 2 }
+    ensures written { take result forms.new ≡ take at forms.old ++ shortest numbers byte }
+{
+    let more = if byte < 128 { 0 } else { 1 };
+    forms[at] = 0xcc;
+    forms[at + more] = byte;
+    at + more + 1
+}
+
+// The form of a hash at the front of an array, and its length.
+fn form_of(hash: &HashBinary) -> ([u8; HASH_ROOM], usize)
+    ensures within { result.1 ≤ HASH_ROOM }
+    ensures form { take result.1 result.0 ≡ hash_of hash.now }
+{
+    let mut forms = [0; HASH_ROOM];
+    forms[0] = 0xdc;
+    forms[2] = 16;
+    let mut len = 3;
+    'each: for byte in hash {
+        len = write_byte(&mut forms, len, *byte);
+    }
+    (forms, len)
+}
+
+// Adds a hash. Its form is made in an array first, since a sink takes one piece in less time than many.
 fn add_hash<S: Sink>(out: &mut S, hash: &HashBinary)
     requires { S.has_room out.old HASH_ROOM }
     ensures adds { S.adds out.old (hash_of hash.now) out.new }
     ensures room { (n : ℕ) → S.has_room out.old (HASH_ROOM + n) → S.has_room out.new n }
 {
-    add_array(out, 16);
-    'each: for byte in hash {
-        add_number(out, *byte as u64);
-    }
+    let (forms, len) = form_of(hash);
+    out.put(&forms[..len]);
 }
 
 fn add_optional_hash<S: Sink>(out: &mut S, hash: Option<HashBinary>)
