@@ -1,7 +1,5 @@
 -- Faults of puts as types of errors and as text.
 use Rattle.std.specs.Prelude.{ℕ, List, codes}
-use Rattle.cache_headers.specs.declared.error.ErrorType.{ErrorType}
-use Rattle.cache_headers.specs.declared.error.ErrorType.TheVariants.{InternalError, InvalidHTTPHeader}
 use Rattle.pingora_cache.specs.declared.put.outcome.PutFault.{PutFault}
 use Rattle.pingora_cache.specs.declared.put.outcome.PutFault.TheVariants.{BadHead, ResponseTooLarge, Incomplete, MetaMoment, WriteNumbersSpent, Weight, Length, NumbersSpent, Memory}
 
@@ -16,9 +14,9 @@ put_fault_text (Length done) = codes "there is no room for one more entry"
 put_fault_text (NumbersSpent done) = codes "no number is left for the entry's hash"
 put_fault_text (Memory done) = codes "out of memory"
 
--- the type of the error, by those of a body that is too large and of one that isn't whole
-abbrev pub fault_type : ErrorType → ErrorType → PutFault → ErrorType
-fault_type too_large incomplete BadHead = InvalidHTTPHeader
-fault_type too_large incomplete ResponseTooLarge = too_large
-fault_type too_large incomplete Incomplete = incomplete
-fault_type too_large incomplete _ = InternalError
+-- the name of the type of the error
+abbrev pub fault_type_name : PutFault → List ℕ
+fault_type_name BadHead = codes "InvalidHTTPHeader"
+fault_type_name ResponseTooLarge = codes "response too large"
+fault_type_name Incomplete = codes "IncompleteHttpBody"
+fault_type_name _ = codes "InternalError"

@@ -1,4 +1,4 @@
-//! A cache of responses: what its layers offer, under one roof, the parts that its calls are lent, and puts of whole responses.
+//! A cache of responses: what its layers offer, the parts that its calls are lent, and puts of whole responses.
 #![tactic(auto)]
 
 pub use cache_evict as eviction;
@@ -15,13 +15,3 @@ pub use parts::Parts;
 
 mod parts;
 pub mod put;
-
-#[cfg(test)]
-mod tests {
-    use std::test::*;
-
-    #[test]
-    fn nothing(rt: HostRuntime) {
-        assert_eq!(&rt; 1, 1);
-    }
-}

@@ -1,7 +1,5 @@
 //! What the calls of a cache are lent.
 
-use cache_store::admission::AdmissionPolicy;
-
 /// What a cache consists of. It is owned by whoever calls, and lent to each call.
 #[derive(Drop)]
 pub struct Parts<S, E, P, L> {
@@ -13,6 +11,4 @@ pub struct Parts<S, E, P, L> {
     pub predictor: P,
     /// The lock of the keys.
     pub lock: L,
-    /// Which keys are asked for often enough; without one each key is.
-    pub policy: Option<Box<dyn AdmissionPolicy + Drop>>,
 }

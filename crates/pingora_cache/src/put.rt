@@ -6,21 +6,17 @@ ghost use Rattle.cache_words.specs.Key.{key_of};
 ghost use Rattle.cache_headers.specs.declared.header.ResponseHeader.{ResponseHeader as Header};
 ghost use Rattle.cache_heads.specs.declared.reason.RespCacheable.{RespCacheable as Verdict};
 ghost use Rattle.pingora_cache.specs.Response.{joined, Gives, verdict_by_headers};
-ghost use Rattle.pingora_cache.specs.Put.{Puts};
+ghost use Rattle.pingora_cache.specs.Put.{Puts, rules_of, cache_of};
 
 mod admit;
 mod outcome;
 mod store;
 mod whole;
 
-pub use outcome::{Done, PutFault, PutOutcome};
-pub use response_parse::ResponseParse;
-pub use whole::Whole;
-
 use crate::parts::Parts;
+use admit::{out_of_memory, put_body};
 use bytes::Bytes;
 use cache_evict::EvictionManager;
-use admit::{out_of_memory, put_whole};
 use cache_heads::cache_control::CacheControl;
 use cache_heads::filters::resp_cacheable;
 use cache_heads::meta::{FreshDurationByStatusFn, ResponseHeader};
@@ -28,8 +24,11 @@ use cache_heads::{CacheMetaDefaults, ErrorType, RespCacheable};
 use cache_store::storage::Storage;
 use cache_words::key::CacheKey;
 use cache_words::time::Moment;
+pub use outcome::{Done, PutFault, PutOutcome};
 use rand_core::Rng;
+pub use response_parse::ResponseParse;
 use std::alloc::{AllocError, Global};
+pub use whole::Whole;
 use whole::whole_of;
 
 /// What a response that ends too early is refused with.
@@ -62,8 +61,7 @@ pub trait CachePut {
     /// Notes the header of a whole response.
     fn trace_header(&mut self, _response: &ResponseHeader)
         ensures { verdict self.new ≡ verdict self.old }
-    {
-    }
+    {}
 }
 
 /// Returns whether a response that came at `moment` is kept, and with which meta, by its Cache-Control, its Expires and
@@ -133,13 +131,10 @@ impl<C: CachePut> CachePutCtx<C> {
         pieces: &[Bytes],
         moment: Moment,
     ) -> Result<PutOutcome, PutFault>
-        ensures put { Puts (record { held = S.held; ids = S.ids; is_spent = S.is_spent; shards = E.shard_count; weighed = E.weighed; pick = E.pick }) (key_of self.old.key)
+        ensures put { Puts (rules_of S.held S.ids S.is_spent E.shard_count E.weighed E.pick) (key_of self.old.key)
             (Gives self.old.max_file_size_bytes (C.verdict self.old.cache_put moment) (joined pieces.now)) result
-            (record { store = parts.old.store; managed = E.managed parts.old.manager; words = R.stream rng.old })
-            (record { store = parts.new.store; managed = E.managed parts.new.manager; words = R.stream rng.new }) }
-        ensures predictor { parts.new.predictor ≡ parts.old.predictor }
-        ensures lock { parts.new.lock ≡ parts.old.lock }
-        ensures policy { parts.new.policy ≡ parts.old.policy }
+            (cache_of parts.old.store (E.managed parts.old.manager) (R.stream rng.old)) (cache_of parts.new.store (E.managed parts.new.manager) (R.stream rng.new)) }
+        ensures parts { parts.new ≡ record parts.old { store = parts.new.store; manager = parts.new.manager } }
         ensures key { self.new.key ≡ self.old.key }
         ensures limit { self.new.max_file_size_bytes ≡ self.old.max_file_size_bytes }
         ensures verdict { C.verdict self.new.cache_put ≡ C.verdict self.old.cache_put }
@@ -150,7 +145,7 @@ impl<C: CachePut> CachePutCtx<C> {
         };
         match whole {
             Whole::Cacheable { meta, body } => {
-                put_whole(alloc, &self.key, parts, rng, &meta, body)
+                put_body(alloc, &self.key, parts, rng, &meta, body)
             }
             Whole::Uncacheable(reason) => Ok(PutOutcome::Uncacheable(reason)),
             Whole::TooLarge => Err(PutFault::ResponseTooLarge),

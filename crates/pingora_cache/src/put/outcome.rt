@@ -1,7 +1,8 @@
 //! What came of a put.
 
 ghost use Rattle.std.specs.Prelude.{◌≡◌, Some};
-ghost use Rattle.pingora_cache.specs.Texts.{fault_type, put_fault_text};
+ghost use Rattle.cache_headers.specs.ErrorNames.{type_name};
+ghost use Rattle.pingora_cache.specs.Texts.{fault_type_name, put_fault_text};
 
 use super::INCOMPLETE_BODY;
 use cache_evict::CacheEntryKey;
@@ -61,7 +62,7 @@ pub enum PutFault {
 impl PutFault {
     /// Returns the type of the error, as a server names it.
     pub fn etype(&self) -> ErrorType
-        ensures { result ≡ fault_type ERR_RESPONSE_TOO_LARGE INCOMPLETE_BODY self.now }
+        ensures { type_name result ≡ fault_type_name self.now }
     {
         match self {
             PutFault::BadHead => ErrorType::InvalidHTTPHeader,

@@ -7,9 +7,7 @@ ghost use Rattle.pingora_cache.specs.Stored.{Stores, IsWriteFault, Purged};
 use bytes::Bytes;
 use cache_evict::{CacheEntryId, CacheEntryKey};
 use cache_heads::CacheMeta;
-use cache_store::storage::{
-    HandleMiss, MissFault, PurgeTarget, PurgeType, Storage, StoreFault,
-};
+use cache_store::storage::{HandleMiss, MissFault, PurgeTarget, PurgeType, Storage, StoreFault};
 use cache_words::key::CacheKey;
 
 // Stores a body that is there as a whole, and returns the id that the store gave it.
@@ -27,9 +25,9 @@ pub(super) fn store_whole<S: Storage>(
         Ok(miss) => miss,
         Err(fault) => return Err(fault),
     };
-    if miss.write_body(store, body, true).is_err() {
+    if let Err(fault) = miss.write_body(store, body, true) {
         miss.leave(store);
-        return Err(StoreFault::Memory);
+        return Err(fault);
     }
     let id = miss.entry_id();
     match miss.finish(store) {
