@@ -1,5 +1,5 @@
 -- Purges, one after another.
-use Rattle.std.proofs.Common.{◌≡◌, refl, subst, List, [], ◌∷◌, ◌++◌}
+use Rattle.std.proofs.Common.{refl, subst, List, [], ◌∷◌, ◌++◌}
 use Rattle.std.specs.Prelude.{Option}
 use Rattle.cache_entries.specs.declared.entry.CacheEntryId.{CacheEntryId}
 use Rattle.cache_entries.specs.declared.entry.CacheEntryKey.{CacheEntryKey}

@@ -1,19 +1,18 @@
 -- A write that begins under a number that no write in flight has: what is held once it has its bytes, is stored, or is given up.
-use Rattle.std.proofs.Common.{arith, ◌≡◌, ℕ, refl, ap, sym, ◌∙◌, true, false, subst, cond, [], ◌∷◌, ◌++◌, inl, inr}
-use Rattle.std.specs.Prelude.{◌==◌, ◌+◌, ◌⊎◌, Bool, List, Option, Some, None, option_map, Result, Ok, Err, find, filter, map, not}
+use Rattle.std.proofs.Common.{arith, ◌≡◌, ℕ, refl, ap, sym, ◌∙◌, true, false, subst, cond, [], ◌∷◌, ◌++◌, inr}
+use Rattle.std.specs.Prelude.{◌==◌, ◌+◌, Bool, List, Option, Some, None, option_map, Ok, Err, find, not}
 use Rattle.std.proofs.lemmas.Bool.Decides.{nat_tests}
 use Rattle.cache_heads.specs.declared.meta.CacheMeta.{CacheMeta}
-use Rattle.cache_changes.specs.Changes.{StoredKey, Write, begins, finishes, leaves}
-use Rattle.cache_changes.specs.Store.{Stored, Flying, Store, has_number, flying_at, begun, with_bytes, ended, on_flying, landed, with_body, after}
+use Rattle.cache_changes.specs.Changes.{StoredKey, Write, begins, finishes}
+use Rattle.cache_changes.specs.Store.{Flying, Store, has_number, flying_at, begun, with_bytes, ended, on_flying, landed, with_body, after}
 use Rattle.cache_store.specs.declared.storage.MissFinishType.{MissFinishType}
-use Rattle.cache_store.specs.declared.storage.store.MissFault.{MissFault}
 use Rattle.cache_store.specs.declared.storage.store.MissFault.TheVariants.{Memory, WriteRemoved}
 use Rattle.cache_store.specs.declared.storage.StoreFault.{StoreFault}
 use Rattle.cache_store.specs.declared.storage.StoreFault.TheVariants as store_fault
 use Rattle.cache_store.specs.Agree.{Agree}
 use Rattle.cache_store.specs.Answers.{WriteAnswer, after_write, alive_key, left, left_behind, IsFinished}
-use Rattle.cache_store.specs.Held.{Reading, Held, left_with}
-use Rattle.cache_store.specs.Misses.{IsBegun, BeginAnswer, MissAnswer, begun as begun_in}
+use Rattle.cache_store.specs.Held.{Held, left_with}
+use Rattle.cache_store.specs.Misses.{IsBegun, BeginAnswer, MissAnswer}
 use Rattle.pingora_cache.specs.Stored.{Stores, GivenUp, IsWriteFault, with_whole}
 
 own-number : (n : ℕ) → (n == n) ≡ true

@@ -1,4 +1,4 @@
-use Rattle.std.proofs.Common.{rules, ap, sym, ◌∙◌, ◌++◌, ◌∷◌, [], take}
+use Rattle.std.proofs.Common.{rules}
 use Rattle.std.proofs.lemmas.List.{take_more}
 use Rattle.pingora_cache.proofs.ReadLaws.{holds-more}
 use Rattle.pingora_cache.proofs.put.whole.parsed.Goals as goal
