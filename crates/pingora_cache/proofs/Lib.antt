@@ -1,0 +1,4 @@
+mod PurgeLaws
+mod PutLaws
+mod ReadLaws
+mod StoredLaws

@@ -1,0 +1,23 @@
+use Rattle.cache_words.specs.Key.{combined, key_of}
+use Rattle.pingora_cache.proofs.StoredLaws.{given-up, stores, never-removed, handed-back}
+use Rattle.pingora_cache.proofs.put.store.store_whole.Goals as goal
+
+pub returns-in-Err-write_body : goal.returns-in-Err-write_body
+returns-in-Err-write_body g c =
+    given-up g.S.Miss.HandleMiss.number g.S.Miss.HandleMiss.told (g.S.Storage.is_spent (g.S.Contents.held c.args.store.now)) (combined (key_of c.args.key.now)) c.args.meta.now c.args.body c.in-Ok.miss c.write_body.new.self (g.S.Contents.held c.args.store.now) (g.S.Contents.held c.get_miss_handler.new.self) (g.S.Contents.held c.write_body.new.store) (g.S.Contents.held c.leave.new.store)
+    c.in-Err-write_body.fault c.in-Ok.ensures c.in-Err-write_body.ensures.answer c.in-Err-write_body.ensures.same c.in-Err-write_body.ensures.err c.leave.ensures
+
+pub returns-in-Ok-finish : goal.returns-in-Ok-finish
+returns-in-Ok-finish g c =
+    stores g.S.Miss.HandleMiss.number g.S.Miss.HandleMiss.told (g.S.Storage.is_spent (g.S.Contents.held c.args.store.now)) (combined (key_of c.args.key.now)) c.args.meta.now c.args.body c.in-Ok.miss c.write_body.new.self (g.S.Contents.held c.args.store.now) (g.S.Contents.held c.get_miss_handler.new.self) (g.S.Contents.held c.write_body.new.store) (g.S.Contents.held c.finish.new.store)
+    (record { began = c.in-Ok.ensures; same = c.in_default.ensures.same; filled = c.in_default.ensures.ok }) c.in-Ok-finish.field-0 c.in-Ok-finish.ensures
+
+pub unreachable-requires : goal.unreachable-requires
+unreachable-requires g c =
+    never-removed g.S.Miss.HandleMiss.number g.S.Miss.HandleMiss.told (g.S.Storage.is_spent (g.S.Contents.held c.args.store.now)) (combined (key_of c.args.key.now)) c.args.meta.now c.args.body c.in-Ok.miss c.write_body.new.self (g.S.Contents.held c.args.store.now) (g.S.Contents.held c.get_miss_handler.new.self) (g.S.Contents.held c.write_body.new.store) (g.S.Contents.held c.finish.new.store)
+    (record { began = c.in-Ok.ensures; same = c.in_default.ensures.same; filled = c.in_default.ensures.ok }) (rw c.in-Err-WriteRemoved.field-0-is at c.in-Err-WriteRemoved.ensures)
+
+pub returns-in-Err-Memory : goal.returns-in-Err-Memory
+returns-in-Err-Memory g c =
+    handed-back g.S.Miss.HandleMiss.number g.S.Miss.HandleMiss.told (g.S.Storage.is_spent (g.S.Contents.held c.args.store.now)) (combined (key_of c.args.key.now)) c.args.meta.now c.args.body c.in-Ok.miss c.write_body.new.self (g.S.Contents.held c.args.store.now) (g.S.Contents.held c.get_miss_handler.new.self) (g.S.Contents.held c.write_body.new.store) (g.S.Contents.held c.finish.new.store)
+    (record { began = c.in-Ok.ensures; same = c.in_default.ensures.same; filled = c.in_default.ensures.ok }) c.in-Err-Memory.miss (g.S.Contents.held c.leave-in-Err-Memory.new.store) (rw c.in-Err-Memory.field-0-is at c.in-Err-Memory.ensures) (rw c.in-Err-Memory.field-0-is at c.leave-in-Err-Memory.ensures)

@@ -1,0 +1,4 @@
+pub mod Response
+pub mod Stored
+pub mod Put
+pub mod Texts

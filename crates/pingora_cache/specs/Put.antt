@@ -1,0 +1,167 @@
+-- What a put gives, and what it leaves.
+use Rattle.std.specs.Prelude.{◌≡◌, ℕ, ◌<◌, ◌^◌, max, Bool, true, false, not, ◌||◌, is_some, List, [], ◌∷◌, length, Option, Result, Ok, Err, ◌⊎◌}
+use Rattle.rand_core.specs.Stream.{Stream}
+use Rattle.cache_words.specs.Key.{Key, combined}
+use Rattle.cache_words.specs.declared.key.CompactCacheKey.{CompactCacheKey}
+use Rattle.cache_heads.specs.declared.meta.CacheMeta.{CacheMeta}
+use Rattle.cache_metas.specs.Internal.{IsWritable}
+use Rattle.cache_entries.specs.declared.entry.CacheEntryId.{CacheEntryId}
+use Rattle.cache_entries.specs.declared.entry.CacheEntryKey.{CacheEntryKey}
+use Rattle.cache_entries.specs.declared.rows.Tracked.{Tracked}
+use Rattle.cache_entries.specs.Entry.{entry_with, key_of}
+use Rattle.cache_entries.specs.Rows.{weight_of}
+use Rattle.cache_changes.specs.Changes.{StoredKey, stored_key}
+use Rattle.cache_evict.specs.declared.fault.EvictFault.{EvictFault}
+use Rattle.cache_evict.specs.declared.fault.EvictFault.TheVariants as evict
+use Rattle.cache_evict.specs.Faults.{StopsAt, evicted_of}
+use Rattle.cache_evict.specs.Managed.{Managed, Evicts, put_first, taken_out, rows_of, total_size, is_over}
+use Rattle.cache_store.specs.declared.storage.StoreFault.{StoreFault}
+use Rattle.cache_store.specs.declared.storage.StoreFault.TheVariants as store
+use Rattle.cache_store.specs.Held.{Held}
+use Rattle.pingora_cache.specs.declared.put.whole.Whole.{Whole}
+use Rattle.pingora_cache.specs.declared.put.whole.Whole.TheVariants as whole
+use Rattle.pingora_cache.specs.declared.put.outcome.Done.{Done}
+use Rattle.pingora_cache.specs.declared.put.outcome.PutOutcome.{PutOutcome}
+use Rattle.pingora_cache.specs.declared.put.outcome.PutOutcome.TheVariants.{Stored, Uncacheable}
+use Rattle.pingora_cache.specs.declared.put.outcome.PutFault.{PutFault}
+use Rattle.pingora_cache.specs.declared.put.outcome.PutFault.TheVariants.{BadHead, ResponseTooLarge, Incomplete, MetaMoment, WriteNumbersSpent, Weight, Length, NumbersSpent, Memory}
+use Rattle.pingora_cache.specs.Stored.{Stores, GivenUp, Purged, Removed}
+
+-- what is known of a store and of a manager of entries by their traits
+pub record Rules (S : Type 0) : Type 0 where
+  pub held : S → Held
+  pub ids : S → StoredKey → Option CacheEntryId
+  pub is_spent : Held → Bool
+  pub shards : ℕ
+  pub weighed : ℕ → ℕ
+  pub pick : List (List Tracked) → Stream → ℕ × Stream
+
+-- a store, the order of use, and the words that a generator has yet to give
+pub record Cache (S : Type 0) : Type 0 where
+  pub store : S
+  pub managed : Managed
+  pub words : Stream
+
+abbrev pub rules_of : {S : Type 0} → (S → Held) → (S → StoredKey → Option CacheEntryId) → (Held → Bool) → ℕ → (ℕ → ℕ) → (List (List Tracked) → Stream → ℕ × Stream) → Rules S
+rules_of held ids is_spent shards weighed pick = record { held = held; ids = ids; is_spent = is_spent; shards = shards; weighed = weighed; pick = pick }
+
+abbrev pub cache_of : {S : Type 0} → S → Managed → Stream → Cache S
+cache_of store managed words = record { store = store; managed = managed; words = words }
+
+-- a key as a cache keeps it
+abbrev pub compact : Key → CompactCacheKey
+compact k = record { primary = k.primary; variance = k.variance; user_tag = k.user_tag }
+
+-- what a body of that length weighs in the order of use
+abbrev pub weight_for : ℕ → ℕ
+weight_for size = max 1 size
+
+abbrev pub is_empty : {A : Type 0} → List A → Bool
+is_empty [] = true
+is_empty (x ∷ xs) = false
+
+-- what was done before a refusal
+pub record IsDone (is_stored is_admitted : Bool) (gone : List CacheEntryKey) (done : Done) : Type 0 where
+  pub stored : done.stored ≡ is_stored
+  pub admitted : done.admitted ≡ is_admitted
+  pub evicted : done.evicted.items ≡ gone
+
+-- memory ran out before anything was done
+abbrev pub IsOutOfMemory : PutFault → Type 0
+IsOutOfMemory fault = (done : Done) × (fault ≡ Memory done) × IsDone false false [] done
+
+-- a fault of the store, with which nothing was stored, is told as this
+abbrev pub IsStoreFaultTold : StoreFault → PutFault → Type 0
+IsStoreFaultTold store.WriteNumbersSpent fault = fault ≡ WriteNumbersSpent
+IsStoreFaultTold store.MetaMoment fault = fault ≡ MetaMoment
+IsStoreFaultTold _ fault = IsOutOfMemory fault
+
+-- a fault of the order of use, which came after a body was stored, is told as this
+abbrev pub IsTold : Bool → EvictFault → PutFault → Type 0
+IsTold admitted (evict.Memory v) (Memory done) = IsDone true admitted v.items done
+IsTold admitted (evict.Weight v) (Weight done) = IsDone true admitted v.items done
+IsTold admitted (evict.Length v) (Length done) = IsDone true admitted v.items done
+IsTold admitted (evict.NumbersSpent v) (NumbersSpent done) = IsDone true admitted v.items done
+IsTold admitted _ _ = ⊥
+
+-- whether an entry was admitted before a fault that left this order of use, of n shards
+abbrev pub was_admitted : ℕ → CacheEntryKey → EvictFault → Managed → Bool
+was_admitted n e (evict.Memory v) m = not (is_empty v.items) || is_some (weight_of e (rows_of n e m))
+was_admitted n e _ m = false
+
+-- no file is at fault
+abbrev pub IsWithoutFile : EvictFault → Type 0
+IsWithoutFile (evict.File v) = ⊥
+IsWithoutFile _ = Unit {0}
+
+module _ {S : Type 0} (rules : Rules S) where
+  -- nothing has changed
+  pub record IsSame (old new : Cache S) : Type 0 where
+    pub store : rules.held new.store ≡ rules.held old.store
+    pub managed : new.managed ≡ old.managed
+    pub words : new.words ≡ old.words
+
+  -- memory ran out before a body was stored
+  pub record RanOut (fault : PutFault) (old new : Cache S) : Type 0 where
+    pub told : IsOutOfMemory fault
+    pub store : GivenUp (rules.held old.store) (rules.held new.store)
+    pub managed : new.managed ≡ old.managed
+    pub words : new.words ≡ old.words
+
+  -- the order of use with that entry first, of a body of that size
+  abbrev pub with_first : CacheEntryKey → ℕ → Managed → Managed
+  with_first e size m = put_first rules.shards e (rules.weighed (weight_for size)) m
+
+  -- an entry was admitted, these were evicted, and what is stored of them was purged
+  pub record IsAdmitted (e : CacheEntryKey) (size : ℕ) (evicted : List CacheEntryKey) (old new : Cache S) : Type 0 where
+    pub evicts : Evicts rules.pick (with_first e size old.managed) evicted old.words new.managed new.words
+    pub within : is_over new.managed ≡ false
+    pub fits : total_size (with_first e size old.managed) < 2 ^ 64
+    pub purged : Purged rules.held rules.ids evicted old.store new.store
+
+  -- an entry was not admitted, or memory ran out in the evictions: what was evicted until then is purged, and then what is
+  -- stored under the entry's key is removed with the entry
+  pub record IsTakenBack (e : CacheEntryKey) (size : ℕ) (fault : PutFault) (old new : Cache S) : Type 0 where
+    pub cause : EvictFault
+    pub left : Managed
+    pub purged : S
+    pub stops : StopsAt rules.pick rules.shards e (rules.weighed (weight_for size)) old.managed old.words cause left new.words
+    pub purges : Purged rules.held rules.ids (evicted_of cause) old.store purged
+    pub removes : Removed rules.held rules.ids (stored_key (key_of e)) purged new.store
+    pub managed : new.managed ≡ taken_out rules.shards e left
+    pub told : IsTold (was_admitted rules.shards e cause left) cause fault
+
+  -- a body was stored, and then its entry was admitted, or both were taken back. The id is the one that the store gave the body
+  abbrev pub IsStoredThen : Key → CacheMeta → List ℕ → (CacheEntryKey → Cache S → Type 0) → Cache S → Type 0
+  IsStoredThen key meta body next old =
+      (id : Option ℕ) × (mid : S) × Stores (rules.is_spent (rules.held old.store)) (combined key) meta body (rules.held old.store) (rules.held mid)
+      × next (entry_with (compact key) id) (record old { store = mid })
+
+  -- the store takes no write
+  abbrev pub IsWriteRefused : CacheMeta → PutFault → Cache S → Cache S → Type 0
+  IsWriteRefused meta WriteNumbersSpent old new = (rules.is_spent (rules.held old.store) ≡ true) × IsSame old new
+  IsWriteRefused meta MetaMoment old new = (rules.is_spent (rules.held old.store) ≡ false) × (IsWritable meta.internal → ⊥) × IsSame old new
+  IsWriteRefused meta _ old new = ⊥
+
+  -- what comes of a body that may be kept
+  abbrev pub IsPut : Key → CacheMeta → List ℕ → Result PutOutcome PutFault → Cache S → Cache S → Type 0
+  IsPut key meta body (Ok (Stored size evicted)) old new = (size ≡ length body) × IsStoredThen key meta body (λ e mid. IsAdmitted e size evicted.items mid new) old
+  IsPut key meta body (Ok (Uncacheable reason)) old new = ⊥
+  IsPut key meta body (Err fault) old new =
+      IsWriteRefused meta fault old new ⊎ IsStoredThen key meta body (λ e mid. IsTakenBack e (length body) fault mid new) old
+
+  -- what comes of a response that gives this
+  abbrev pub IsOutcome : Key → Whole → Result PutOutcome PutFault → Cache S → Cache S → Type 0
+  IsOutcome key (whole.Cacheable meta body) r old new = IsPut key meta body r old new
+  IsOutcome key (whole.Uncacheable reason) r old new = (r ≡ Ok (Uncacheable reason)) × IsSame old new
+  IsOutcome key whole.TooLarge r old new = (r ≡ Err ResponseTooLarge) × IsSame old new
+  IsOutcome key whole.Incomplete r old new = (r ≡ Err Incomplete) × IsSame old new
+  IsOutcome key whole.BadHead r old new = (r ≡ Err BadHead) × IsSame old new
+
+  -- what holds, unless memory ran out before a body was stored
+  abbrev pub UnlessRanOut : (Result PutOutcome PutFault → Type 0) → Result PutOutcome PutFault → Cache S → Cache S → Type 0
+  UnlessRanOut holds r old new = ((fault : PutFault) × (r ≡ Err fault) × RanOut fault old new) ⊎ holds r
+
+  -- a put under a key of a response that gives one of these
+  abbrev pub Puts : Key → (Whole → Type 0) → Result PutOutcome PutFault → Cache S → Cache S → Type 0
+  Puts key gives r old new = UnlessRanOut (λ r. (w : Whole) × gives w × IsOutcome key w r old new) r old new

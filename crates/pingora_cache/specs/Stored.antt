@@ -1,0 +1,48 @@
+-- What a put does in a store: a body is stored, entries are purged, and a body is taken back.
+use Rattle.std.specs.Prelude.{◌≡◌, ℕ, ◌+◌, Bool, true, false, List, [], ◌∷◌, Option, Some, ◌⊎◌}
+use Rattle.cache_heads.specs.declared.meta.CacheMeta.{CacheMeta}
+use Rattle.cache_metas.specs.Internal.{IsWritable}
+use Rattle.cache_entries.specs.declared.entry.CacheEntryId.{CacheEntryId}
+use Rattle.cache_entries.specs.declared.entry.CacheEntryKey.{CacheEntryKey}
+use Rattle.cache_changes.specs.Changes.{StoredKey}
+use Rattle.cache_changes.specs.Store.{Store, with_body}
+use Rattle.cache_store.specs.declared.storage.PurgeOutcome.{PurgeOutcome}
+use Rattle.cache_store.specs.declared.storage.StoreFault.{StoreFault}
+use Rattle.cache_store.specs.declared.storage.StoreFault.TheVariants.{Memory, WriteNumbersSpent, MetaMoment}
+use Rattle.cache_store.specs.Agree.{Agree}
+use Rattle.cache_store.specs.Held.{Held, left_with}
+use Rattle.cache_store.specs.Purges.{PurgeAnswer, entry_key, id_at}
+
+-- the body of k has that meta and those bytes; the other bodies and the writes in flight are as before
+abbrev pub with_whole : StoredKey → CacheMeta → List ℕ → Held → Store CacheMeta
+with_whole k meta bytes h =
+    record h.store { bodies = with_body (Some (record { write = record { number = h.next; key = k; meta = meta }; meta = meta; bytes = bytes })) h.store.bodies }
+
+-- a body was stored whole, by a write that took the next number; `spent` tells whether none is left
+pub record Stores (spent : Bool) (k : StoredKey) (meta : CacheMeta) (bytes : List ℕ) (old new : Held) : Type 0 where
+  pub numbered : spent ≡ false
+  pub written : IsWritable meta.internal
+  pub store : Agree new.store (with_whole k meta bytes old)
+  pub next : new.next ≡ old.next + 1
+  pub readings : new.readings ≡ left_with old.next bytes old.readings
+
+-- nothing was done, or a write began and was given up: the bodies and the other writes in flight are as before
+abbrev pub GivenUp : Held → Held → Type 0
+GivenUp old new = (new ≡ old) ⊎ ((bytes : List ℕ) × (new ≡ record old { next = old.next + 1; readings = left_with old.next bytes old.readings }))
+
+-- why a body isn't stored
+abbrev pub IsWriteFault : Bool → CacheMeta → StoreFault → Held → Held → Type 0
+IsWriteFault spent meta WriteNumbersSpent old new = (spent ≡ true) × (new ≡ old)
+IsWriteFault spent meta MetaMoment old new = (spent ≡ false) × (IsWritable meta.internal → ⊥) × (new ≡ old)
+IsWriteFault spent meta Memory old new = GivenUp old new
+IsWriteFault spent meta _ old new = ⊥
+
+-- the entries are purged from a store, in order
+abbrev pub Purged : {S : Type 0} → (S → Held) → (S → StoredKey → Option CacheEntryId) → List CacheEntryKey → S → S → Type 0
+Purged held ids [] old new = new ≡ old
+Purged {S} held ids (e ∷ es) old new =
+    (mid : S) × (outcome : PurgeOutcome) × (let k = entry_key (ids old) e in PurgeAnswer k (id_at (ids old) k) (held old) outcome (held mid)) × Purged held ids es mid new
+
+-- what is stored under a key is removed from a store
+abbrev pub Removed : {S : Type 0} → (S → Held) → (S → StoredKey → Option CacheEntryId) → StoredKey → S → S → Type 0
+Removed held ids k old new = (outcome : PurgeOutcome) × PurgeAnswer (Some k) (ids old k) (held old) outcome (held new)

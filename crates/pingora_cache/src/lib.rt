@@ -1,0 +1,17 @@
+//! A cache of responses: what its layers offer, the parts that its calls are lent, and puts of whole responses.
+#![tactic(auto)]
+
+pub use cache_evict as eviction;
+pub use cache_evict::{CacheEntryId, CacheEntryKey, CacheEntryKeyRef};
+pub use cache_heads::{
+    CacheMeta, CacheMetaDefaults, NoCacheReason, RespCacheable, cache_control, filters, meta,
+};
+pub use cache_store::{admission, max_file_size, storage, trace};
+pub use cache_words::key::CacheKey;
+pub use cache_words::variance::VarianceBuilder;
+pub use cache_words::{key, time};
+pub use mem_cache::MemCache;
+pub use parts::Parts;
+
+mod parts;
+pub mod put;

@@ -1,0 +1,14 @@
+//! What the calls of a cache are lent.
+
+/// What a cache consists of. It is owned by whoever calls, and lent to each call.
+#[derive(Drop)]
+pub struct Parts<S, E, P, L> {
+    /// The store of the bodies.
+    pub store: S,
+    /// What tracks the entries and evicts.
+    pub manager: E,
+    /// What predicts whether a response may be kept.
+    pub predictor: P,
+    /// The lock of the keys.
+    pub lock: L,
+}

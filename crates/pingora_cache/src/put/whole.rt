@@ -1,0 +1,154 @@
+//! What the response of a put gives.
+
+ghost use Rattle.std.specs.Prelude.{◌≡◌, ◌++◌, Option, ℕ, IfOk};
+ghost use Rattle.cache_words.specs.Time.{MomentValue};
+ghost use Rattle.cache_headers.specs.declared.header.ResponseHeader.{ResponseHeader as Header};
+ghost use Rattle.cache_heads.specs.declared.reason.RespCacheable.{RespCacheable as Verdict};
+ghost use Rattle.response_parse.specs.Response.{Gives as IsParsed, length_in};
+ghost use Rattle.response_parse.specs.declared.response.Parsed.TheVariants.{Complete};
+ghost use Rattle.pingora_cache.specs.Response.{joined, content_length, judged, whole_by, Gives};
+
+use super::CachePut;
+use bytes::Bytes;
+use cache_heads::meta::ResponseHeader;
+use cache_heads::{CacheMeta, NoCacheReason, RespCacheable};
+use cache_store::max_file_size::MaxFileSizeTracker;
+use cache_words::time::Moment;
+use http_header::HeaderValue;
+use response_parse::{Parsed, Response, ResponseParse};
+use std::alloc::{AllocError, Global};
+
+/// What the bytes of a response give, as far as a cache may keep it.
+#[derive(Debug, Drop)]
+pub enum Whole {
+    /// A body that may be kept.
+    Cacheable {
+        /// What is kept beside it.
+        meta: CacheMeta,
+        /// The body.
+        body: Bytes,
+    },
+    /// A whole response that may not be kept.
+    Uncacheable(NoCacheReason),
+    /// The body is larger than the greatest size that is kept.
+    TooLarge,
+    /// The response ends too early.
+    Incomplete,
+    /// The bytes are no head, or one that is out of bounds.
+    BadHead,
+}
+
+// What the pieces give, one after another. All are parsed, whatever the head says.
+fn parsed(alloc: Global, pieces: &[Bytes]) -> Result<Parsed, AllocError>
+    ensures { IfOk result (IsParsed (joined pieces.now)) }
+{
+    let mut parser = ResponseParse::new(alloc);
+    for piece in pieces {
+        let shared = piece.clone()?;
+        parser.inject_data(shared)?;
+    }
+    parser.finish()
+}
+
+// The length that a Content-Length says, if it can be read.
+fn length_in(value: &HeaderValue) -> Option<usize>
+    ensures { result ≡ length_in value.now.bytes }
+{
+    let Ok(text) = value.to_str() else {
+        return None;
+    };
+    match text.parse::<usize>() {
+        Ok(length) => Some(length),
+        Err(_) => None,
+    }
+}
+
+// The length that a header's first Content-Length says, if it can be read.
+fn content_length(header: &ResponseHeader) -> Option<usize>
+    ensures { result ≡ content_length header.now }
+{
+    let value = header.headers.get_all("content-length").iter().next()?;
+    length_in(value)
+}
+
+// What a body gives that comes with a verdict on its header.
+fn judged(limit: Option<usize>, verdict: RespCacheable, body: Bytes) -> Whole
+    ensures { result ≡ judged limit verdict body }
+{
+    let meta = match verdict {
+        RespCacheable::Cacheable(meta) => meta,
+        RespCacheable::Uncacheable(reason) => return Whole::Uncacheable(reason),
+    };
+    let Some(limit) = limit else {
+        return Whole::Cacheable { meta, body };
+    };
+    if let Some(announced) = content_length(&meta.header)
+        && announced > limit
+    {
+        return Whole::Uncacheable(NoCacheReason::ResponseTooLarge);
+    }
+    let mut tracker = MaxFileSizeTracker::new(limit);
+    if !tracker.add_body_bytes(body.len()) {
+        return Whole::TooLarge;
+    }
+    Whole::Cacheable { meta, body }
+}
+
+// The body by itself, so that a body that is kept doesn't keep a long response: it is copied, unless the rest of the response,
+// whose length that is, is at most an eighth of it.
+fn kept(alloc: Global, body: Bytes, response: usize) -> Result<Bytes, AllocError>
+    ensures { IfOk result (λ own. own ≡ body) }
+{
+    if response.saturating_sub(body.len()) <= body.len() / 8 {
+        return Ok(body);
+    }
+    Bytes::copy_from_slice(alloc, body.as_slice())
+}
+
+// The length of all pieces.
+fn total_len(pieces: &[Bytes]) -> usize {
+    let mut total = 0usize;
+    for piece in pieces {
+        total = total.saturating_add(piece.len());
+    }
+    total
+}
+
+// What a whole response of that length gives.
+fn whole_by<C: CachePut>(
+    alloc: Global,
+    cache_put: &mut C,
+    limit: Option<usize>,
+    moment: Moment,
+    response: Response,
+    len: usize,
+) -> Result<Whole, AllocError>
+    ensures whole { IfOk result (λ whole. whole ≡ whole_by limit (C.verdict cache_put.old moment) (Complete response)) }
+    ensures verdict { C.verdict cache_put.new ≡ C.verdict cache_put.old }
+{
+    let Response { header, body } = response;
+    cache_put.trace_header(&header);
+    let verdict = cache_put.cacheable(alloc, moment, header)?;
+    let body = kept(alloc, body, len)?;
+    Ok(judged(limit, verdict, body))
+}
+
+// What the pieces of a response give that come at a moment.
+pub(super) fn whole_of<C: CachePut>(
+    alloc: Global,
+    cache_put: &mut C,
+    limit: Option<usize>,
+    moment: Moment,
+    pieces: &[Bytes],
+) -> Result<Whole, AllocError>
+    ensures whole { IfOk result (Gives limit (C.verdict cache_put.old moment) (joined pieces.now)) }
+    ensures verdict { C.verdict cache_put.new ≡ C.verdict cache_put.old }
+{
+    match parsed(alloc, pieces)? {
+        Parsed::Complete(response) => {
+            whole_by(alloc, cache_put, limit, moment, response, total_len(pieces))
+        }
+        Parsed::Incomplete => Ok(Whole::Incomplete),
+        Parsed::BadHead => Ok(Whole::BadHead),
+    }
+}
