@@ -1,5 +1,9 @@
-//! Tests of actors, as tables of steps.
+//! Tests of actors: a world of their steps, and threads that run.
 #![tactic(auto)]
 
+#[cfg(test)]
+mod callbacks;
+#[cfg(test)]
+mod running;
 #[cfg(test)]
 mod worlds;

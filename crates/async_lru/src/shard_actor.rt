@@ -13,6 +13,7 @@ use std::alloc::{AllocError, Global};
 pub struct ShardActor<K> {
     /// The rows, keyed by hash, most recent first.
     pub unit: LruUnit<K>,
+    alloc: Global,
 }
 
 impl<K: Drop> ShardActor<K> {
@@ -23,6 +24,7 @@ impl<K: Drop> ShardActor<K> {
     {
         Ok(ShardActor {
             unit: LruUnit::with_capacity(alloc, capacity, bound)?,
+            alloc,
         })
     }
 
@@ -122,5 +124,25 @@ fn increment_weight<K: Drop>(
             let message = Message::IncrementWeight(hash, back(), delta, cap);
             Err(LruFault::Length(message))
         }
+    }
+}
+
+impl<K: Clone> ShardActor<K> {
+    /// Returns a clone of the key of the last row, and its weight. The order stays.
+    pub fn peek_lru(&self) -> Result<Option<(K, usize)>, AllocError> {
+        match self.unit.peek_lru() {
+            Some((key, weight)) => Ok(Some((key.clone()?, weight))),
+            None => Ok(None),
+        }
+    }
+
+    /// Returns clones of the keys of all rows with their weights, most recent first.
+    pub fn snapshot(&self) -> Result<Vec<(K, usize)>, AllocError> {
+        let mut pairs = Vec::with_capacity(self.alloc, self.unit.len())?;
+        let mut rows = self.unit.iter();
+        'rows: while let Some((key, weight)) = rows.next() {
+            pairs.push((key.clone()?, weight))?;
+        }
+        Ok(pairs)
     }
 }

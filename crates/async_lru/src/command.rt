@@ -1,0 +1,24 @@
+//! What travels to an actor.
+
+use crate::message::Message;
+use crossbeam_channel::Sender;
+use std::alloc::AllocError;
+
+// A command to the actor of a shard. Replies go to the sender with it.
+#[derive(Drop)]
+pub(crate) enum Command<K> {
+    // Apply the message.
+    Apply(Message<K>),
+    // Move the hash to the front, and tell whether it was there.
+    Promote(u64, Sender<bool>),
+    // Tell the weight of the hash.
+    PeekWeight(u64, Sender<Option<usize>>),
+    // Tell the last row.
+    PeekLru(Sender<Result<Option<(K, usize)>, AllocError>>),
+    // Tell all rows, most recent first.
+    Snapshot(Sender<Result<Vec<(K, usize)>, AllocError>>),
+    // Tell the weight of all rows.
+    Weigh(Sender<usize>),
+    // Take the last row out, if a limit is passed.
+    Evict(Sender<Option<(K, usize)>>),
+}

@@ -1,0 +1,121 @@
+//! Calls that send a message.
+
+ghost use Rattle.std.specs.Prelude.{◌≡◌, ◌%◌, ◌<◌, IfOk, IfErr};
+ghost use Rattle.async_lru.specs.Faults.{unsent};
+ghost use Rattle.async_lru.specs.Hashes.{key_hash};
+ghost use Rattle.async_lru.specs.Messages.{hash_of};
+
+use super::AsyncLru;
+use crate::command::Command;
+use crate::fault::SendFault;
+use crate::hash::hash_key;
+use crate::message::Message;
+use crossbeam_channel::SendError;
+use std::hash::Hash;
+use std::sync::Wait;
+
+impl<K: Hash + Clone, const N: usize> AsyncLru<K, N> {
+    /// Puts a key at the front of its shard with that weight, of 1 at least, in place of what its hash had. Returns the shard.
+    ///
+    /// # Errors
+    ///
+    /// The key was not sent, and comes back.
+    pub fn admit<R: Wait>(&self, rt: &R, key: K, weight: usize) -> Result<usize, SendFault<K>>
+        ensures shard { IfOk result (λ i. i ≡ key_hash (K.hash_input key) % N) }
+        ensures back { IfErr result (λ fault. unsent fault ≡ key) }
+    {
+        match self.send(rt, Message::Admit(hash_key(&key), key, weight)) {
+            Ok(shard) => Ok(shard),
+            Err(SendFault::Memory(Message::Admit(_, key, _))) => Err(SendFault::Memory(key)),
+            Err(SendFault::Closed(Message::Admit(_, key, _))) => Err(SendFault::Closed(key)),
+            Err(_) => unreachable!(),
+        }
+    }
+
+    /// Puts a key at the back of its shard, with its weight as it is, if its hash is not there. Returns the shard.
+    ///
+    /// # Errors
+    ///
+    /// The key was not sent, and comes back.
+    pub fn insert_tail<R: Wait>(&self, rt: &R, key: K, weight: usize) -> Result<usize, SendFault<K>>
+        ensures shard { IfOk result (λ i. i ≡ key_hash (K.hash_input key) % N) }
+        ensures back { IfErr result (λ fault. unsent fault ≡ key) }
+    {
+        match self.send(rt, Message::InsertTail(hash_key(&key), key, weight)) {
+            Ok(shard) => Ok(shard),
+            Err(SendFault::Memory(Message::InsertTail(_, key, _))) => Err(SendFault::Memory(key)),
+            Err(SendFault::Closed(Message::InsertTail(_, key, _))) => Err(SendFault::Closed(key)),
+            Err(_) => unreachable!(),
+        }
+    }
+
+    /// Adds to the weight of a key, up to a cap, if there is one, but never down, and moves it to the front of its shard. If its
+    /// hash is not there, the key is put there with that weight, of 1 at least.
+    ///
+    /// # Errors
+    ///
+    /// The message was not sent.
+    pub fn increment_weight<R: Wait>(
+        &self,
+        rt: &R,
+        key: &K,
+        delta: usize,
+        max_weight: Option<usize>,
+    ) -> Result<(), SendFault<()>> {
+        let Ok(own) = key.clone() else {
+            return Err(SendFault::Memory(()));
+        };
+        self.tell(
+            rt,
+            Message::IncrementWeight(hash_key(key), own, delta, max_weight),
+        )
+    }
+
+    /// Takes the row of a key's hash out.
+    ///
+    /// # Errors
+    ///
+    /// The message was not sent.
+    pub fn remove<R: Wait>(&self, rt: &R, key: &K) -> Result<(), SendFault<()>> {
+        self.remove_by_hash(rt, hash_key(key))
+    }
+
+    /// Takes the row of a hash out.
+    ///
+    /// # Errors
+    ///
+    /// The message was not sent.
+    pub fn remove_by_hash<R: Wait>(&self, rt: &R, key_hash: u64) -> Result<(), SendFault<()>> {
+        self.tell(rt, Message::Remove(key_hash))
+    }
+
+    /// Wakes an eviction worker, which evicts if a limit is passed.
+    pub fn trigger_eviction<R: Wait>(&self, rt: &R) {
+        let _awake = self.crew.wake.try_send(rt, ());
+    }
+
+    // Sends a message that need not come back.
+    fn tell<R: Wait>(&self, rt: &R, message: Message<K>) -> Result<(), SendFault<()>> {
+        match self.send(rt, message) {
+            Ok(_) => Ok(()),
+            Err(SendFault::Memory(_)) => Err(SendFault::Memory(())),
+            Err(SendFault::Closed(_)) => Err(SendFault::Closed(())),
+        }
+    }
+
+    // Sends a message to the shard of its hash, which is returned. A message that is not sent comes back.
+    fn send<R: Wait>(&self, rt: &R, message: Message<K>) -> Result<usize, SendFault<Message<K>>>
+        ensures shard { IfOk result (λ i. i ≡ hash_of message % N) }
+        ensures back { IfErr result (λ fault. unsent fault ≡ message) }
+    {
+        let shard = self.shard_of(message.hash());
+        match self.crew.shards[shard].send(rt, Command::Apply(message)) {
+            Ok(()) => Ok(shard),
+            Err(SendError::OutOfMemory(Command::Apply(message))) => Err(SendFault::Memory(message)),
+            Err(SendError::Disconnected(Command::Apply(message))) => Err(SendFault::Closed(
+                message,
+            )),
+            Err(_) => unreachable!(),
+        }
+    }
+}
