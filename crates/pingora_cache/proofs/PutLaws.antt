@@ -17,27 +17,27 @@ use Rattle.pingora_cache.specs.declared.put.outcome.PutOutcome.{PutOutcome}
 use Rattle.pingora_cache.specs.declared.put.outcome.PutOutcome.TheVariants.{Stored}
 use Rattle.pingora_cache.specs.declared.put.outcome.PutFault.{PutFault}
 use Rattle.pingora_cache.specs.Stored.{Stores, IsWriteFault}
-use Rattle.pingora_cache.specs.Put.{Rules, Cache, cache_of, compact, IsStoreFaultTold, IsAdmitted, IsTakenBack, IsPut, IsOutcome, UnlessRanOut, Puts}
+use Rattle.pingora_cache.specs.Put.{Rules, Cache, cache_of, compact, IsStoreFaultTold, IsAdmitted, IsTakenBack, IsPut, IsOutcome, Puts}
 
 pub entry-of : (c : CompactCacheKey) (k : Key) (id : Option ℕ) (e : CacheEntryKey) → compact_view c ≡ k → e ≡ entry_with c id → e ≡ entry_with (compact k) id
 entry-of c k id e same made = made ∙ ap (λ (k : Key). entry_with (compact k) id) same
 
 module _ {S : Type 0} (rules : Rules S) (key : Key) where
-  pub puts-of : (gives : Whole → Type 0) (w : Whole) (r : Result PutOutcome PutFault) (old new : Cache S) → gives w → UnlessRanOut rules (λ r. IsOutcome rules key w r old new) r old new
+  pub puts-of : (gives : Whole → Type 0) (w : Whole) (r : Result PutOutcome PutFault) (old new : Cache S) → gives w → IsOutcome rules key w r old new
       → Puts rules key gives r old new
-  puts-of gives w r old new g p = elim p [ inl ran ↦ inl ran | inr q ↦ inr (w, g, q) ]
+  puts-of gives w r old new g p = inr (w, g, p)
 
   module _ (meta : CacheMeta) (body : List ℕ) (s0 s1 : S) (m0 : Managed) (w0 : Stream) where
     -- the store took no write
     pub refused : (fault : StoreFault) (told : PutFault) → IsWriteFault (rules.is_spent (rules.held s0)) meta fault (rules.held s0) (rules.held s1) → IsStoreFaultTold fault told
-        → UnlessRanOut rules (λ r. IsPut rules key meta body r (cache_of s0 m0 w0) (cache_of s1 m0 w0)) (Err told) (cache_of s0 m0 w0) (cache_of s1 m0 w0)
+        → IsPut rules key meta body (Err told) (cache_of s0 m0 w0) (cache_of s1 m0 w0)
     refused store_fault.WriteNumbersSpent told p e =
-        let P : PutFault → Type 0 = λ f. UnlessRanOut rules (λ r. IsPut rules key meta body r (cache_of s0 m0 w0) (cache_of s1 m0 w0)) (Err f) (cache_of s0 m0 w0) (cache_of s1 m0 w0) in
+        let P : PutFault → Type 0 = λ f. IsPut rules key meta body (Err f) (cache_of s0 m0 w0) (cache_of s1 m0 w0) in
         subst P (sym e) (inr (inl (p.0, record { store = p.1; managed = refl; words = refl })))
     refused store_fault.MetaMoment told p e =
-        let P : PutFault → Type 0 = λ f. UnlessRanOut rules (λ r. IsPut rules key meta body r (cache_of s0 m0 w0) (cache_of s1 m0 w0)) (Err f) (cache_of s0 m0 w0) (cache_of s1 m0 w0) in
+        let P : PutFault → Type 0 = λ f. IsPut rules key meta body (Err f) (cache_of s0 m0 w0) (cache_of s1 m0 w0) in
         subst P (sym e) (inr (inl (p.0, p.1, record { store = p.2; managed = refl; words = refl })))
-    refused store_fault.Memory told p t = inl (told, refl, record { told = t; store = p; managed = refl; words = refl })
+    refused store_fault.Memory told p t = inl (record { told = t; store = p; managed = refl; words = refl })
     refused store_fault.WriteRemoved told p t = absurd p
     refused store_fault.AfterEnd told p t = absurd p
     refused store_fault.SeekRange told p t = absurd p
@@ -47,13 +47,13 @@ module _ {S : Type 0} (rules : Rules S) (key : Key) where
       -- the entry was admitted
       pub admitted : (v : Vec CacheEntryKey) → Stores (rules.is_spent (rules.held s0)) (combined key) meta body (rules.held s0) (rules.held s1) → e ≡ entry_with (compact key) id → size ≡ length body
           → IsAdmitted rules e size v.items (cache_of s1 m0 w0) (cache_of s2 m2 w2)
-          → UnlessRanOut rules (λ r. IsPut rules key meta body r (cache_of s0 m0 w0) (cache_of s2 m2 w2)) (Ok (Stored size v)) (cache_of s0 m0 w0) (cache_of s2 m2 w2)
-      admitted v s same sized a = inr (sized, (id, s1, s, subst (λ (e : CacheEntryKey). IsAdmitted rules e size v.items (cache_of s1 m0 w0) (cache_of s2 m2 w2)) same a))
+          → IsPut rules key meta body (Ok (Stored size v)) (cache_of s0 m0 w0) (cache_of s2 m2 w2)
+      admitted v s same sized a = (sized, (id, s1, s, subst (λ (e : CacheEntryKey). IsAdmitted rules e size v.items (cache_of s1 m0 w0) (cache_of s2 m2 w2)) same a))
 
       -- it was not, and the body is gone with it
       pub taken-back : (fault : PutFault) → Stores (rules.is_spent (rules.held s0)) (combined key) meta body (rules.held s0) (rules.held s1) → e ≡ entry_with (compact key) id → size ≡ length body
           → IsTakenBack rules e size fault (cache_of s1 m0 w0) (cache_of s2 m2 w2)
-          → UnlessRanOut rules (λ r. IsPut rules key meta body r (cache_of s0 m0 w0) (cache_of s2 m2 w2)) (Err fault) (cache_of s0 m0 w0) (cache_of s2 m2 w2)
+          → IsPut rules key meta body (Err fault) (cache_of s0 m0 w0) (cache_of s2 m2 w2)
       taken-back fault s same sized t =
           inr (inr (
             id,

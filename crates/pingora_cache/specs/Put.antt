@@ -101,7 +101,7 @@ module _ {S : Type 0} (rules : Rules S) where
     pub managed : new.managed ≡ old.managed
     pub words : new.words ≡ old.words
 
-  -- memory ran out before a body was stored
+  -- memory ran out before a body that may be kept was stored
   pub record RanOut (fault : PutFault) (old new : Cache S) : Type 0 where
     pub told : IsOutOfMemory fault
     pub store : GivenUp (rules.held old.store) (rules.held new.store)
@@ -148,7 +148,7 @@ module _ {S : Type 0} (rules : Rules S) where
   IsPut key meta body (Ok (Stored size evicted)) old new = (size ≡ length body) × IsStoredThen key meta body (λ e mid. IsAdmitted e size evicted.items mid new) old
   IsPut key meta body (Ok (Uncacheable reason)) old new = ⊥
   IsPut key meta body (Err fault) old new =
-      IsWriteRefused meta fault old new ⊎ IsStoredThen key meta body (λ e mid. IsTakenBack e (length body) fault mid new) old
+      RanOut fault old new ⊎ (IsWriteRefused meta fault old new ⊎ IsStoredThen key meta body (λ e mid. IsTakenBack e (length body) fault mid new) old)
 
   -- what comes of a response that gives this
   abbrev pub IsOutcome : Key → Whole → Result PutOutcome PutFault → Cache S → Cache S → Type 0
@@ -158,10 +158,7 @@ module _ {S : Type 0} (rules : Rules S) where
   IsOutcome key whole.Incomplete r old new = (r ≡ Err Incomplete) × IsSame old new
   IsOutcome key whole.BadHead r old new = (r ≡ Err BadHead) × IsSame old new
 
-  -- what holds, unless memory ran out before a body was stored
-  abbrev pub UnlessRanOut : (Result PutOutcome PutFault → Type 0) → Result PutOutcome PutFault → Cache S → Cache S → Type 0
-  UnlessRanOut holds r old new = ((fault : PutFault) × (r ≡ Err fault) × RanOut fault old new) ⊎ holds r
-
-  -- a put under a key of a response that gives one of these
+  -- a put under a key of a response that gives one of these, unless memory runs out before that is known
   abbrev pub Puts : Key → (Whole → Type 0) → Result PutOutcome PutFault → Cache S → Cache S → Type 0
-  Puts key gives r old new = UnlessRanOut (λ r. (w : Whole) × gives w × IsOutcome key w r old new) r old new
+  Puts key gives r old new =
+      ((fault : PutFault) × (r ≡ Err fault) × IsOutOfMemory fault × IsSame old new) ⊎ ((w : Whole) × gives w × IsOutcome key w r old new)

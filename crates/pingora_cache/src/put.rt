@@ -4,6 +4,7 @@ ghost use Rattle.std.specs.Prelude.{◌≡◌, IfOk, None, Some};
 ghost use Rattle.cache_words.specs.Time.{MomentValue};
 ghost use Rattle.cache_words.specs.Key.{key_of};
 ghost use Rattle.cache_headers.specs.declared.header.ResponseHeader.{ResponseHeader as Header};
+ghost use Rattle.cache_heads.specs.declared.defaults.CacheMetaDefaults.{CacheMetaDefaults as Defaults};
 ghost use Rattle.cache_heads.specs.declared.reason.RespCacheable.{RespCacheable as Verdict};
 ghost use Rattle.pingora_cache.specs.Response.{joined, Gives, verdict_by_headers};
 ghost use Rattle.pingora_cache.specs.Put.{Puts, rules_of, cache_of};
@@ -39,6 +40,9 @@ pub trait CachePut {
     /// How long a response is fresh by its status.
     type Lifetimes: FreshDurationByStatusFn;
 
+    // The defaults.
+    ghost defaults: { Defaults Self.Lifetimes };
+
     // Whether a response with that header that comes at a moment is kept, and with which meta.
     ghost verdict: { Self → MomentValue → Header → Verdict };
 
@@ -56,7 +60,8 @@ pub trait CachePut {
         ensures { IfOk result (λ v. v ≡ verdict self.now moment response) };
 
     /// Returns the defaults for what a response does not say.
-    fn cache_defaults() -> CacheMetaDefaults<Self::Lifetimes>;
+    fn cache_defaults() -> CacheMetaDefaults<Self::Lifetimes>
+        ensures { result ≡ defaults };
 
     /// Notes the header of a whole response.
     fn trace_header(&mut self, _response: &ResponseHeader)

@@ -7,7 +7,7 @@ ghost use Rattle.cache_evict.specs.Managed.{taken_out};
 ghost use Rattle.cache_evict.specs.Faults.{evicted_of};
 ghost use Rattle.cache_changes.specs.Changes.{stored_key};
 ghost use Rattle.pingora_cache.specs.Stored.{Purged, Removed};
-ghost use Rattle.pingora_cache.specs.Put.{IsDone, IsOutOfMemory, IsTold, IsWithoutFile, IsStoreFaultTold, IsAdmitted, IsTakenBack, IsPut, UnlessRanOut, was_admitted, rules_of, cache_of, weight_for};
+ghost use Rattle.pingora_cache.specs.Put.{IsDone, IsOutOfMemory, IsTold, IsWithoutFile, IsStoreFaultTold, IsAdmitted, IsTakenBack, IsPut, was_admitted, rules_of, cache_of, weight_for};
 
 use super::outcome::{Done, PutFault, PutOutcome};
 use super::store::{purge_all, store_whole};
@@ -142,7 +142,7 @@ pub(super) fn put_body<S: Storage, E: EvictionManager, P, L, R: Rng>(
 ) -> Result<PutOutcome, PutFault>
     ensures put { let rules = rules_of S.held S.ids S.is_spent E.shard_count E.weighed E.pick in
         let old = cache_of parts.old.store (E.managed parts.old.manager) (R.stream rng.old) in let new = cache_of parts.new.store (E.managed parts.new.manager) (R.stream rng.new) in
-        UnlessRanOut rules (λ r. IsPut rules (key_of key.now) meta.now body r old new) result old new }
+        IsPut rules (key_of key.now) meta.now body result old new }
     ensures parts { parts.new ≡ record parts.old { store = parts.new.store; manager = parts.new.manager } }
 {
     let Ok(compact) = key.to_compact() else {
