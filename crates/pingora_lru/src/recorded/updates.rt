@@ -1,7 +1,9 @@
 //! Calls of a recorded shard whose data closures make.
 
-ghost use Rattle.std.specs.Prelude.{◌≡◌, ℕ, ◌++◌, ◌∷◌, [], max, not, is_some, IfOk, IfErr, OnErr};
-ghost use Rattle.lru_core.specs.Rows.{only, admitted, row_of, incremented, total_weight};
+ghost use Rattle.std.specs.Prelude.{◌≡◌, ◌≢◌, ℕ, ◌++◌, ◌∷◌, ◌⊎◌, [], max, not, is_some, Some, None, Err, IfOk, IfErr, OnErr};
+ghost use Rattle.lru_core.specs.Rows.{only, admitted, row_of, incremented, total_weight, a_row};
+ghost use Rattle.lru_core.specs.Updates.{IsUpdated, IsUpdateRefused};
+ghost use Rattle.pingora_lru.specs.Closures.{WasAdmitted, WasRefused};
 ghost use Rattle.pingora_lru.specs.Calls.{lost, weighing, weight_of};
 ghost use Rattle.pingora_lru.specs.Records.{bare};
 
@@ -28,6 +30,7 @@ impl<T: Drop, S: BuildHasher> RecordedUnit<T, S> {
         requires { F.IsAlwaysCallable admit_data }
         ensures reply { IfOk result (λ p. let rows = self.old.rows in p ≡ (total_weight (only key rows), incremented key delta max_weight rows, not (is_some (row_of key rows)))) }
         ensures after { IfOk result (λ p. (d : T) × (self.new.rows ≡ weighing key d p.1 self.old.rows)) }
+        ensures admitted { only key self.old.rows ≡ [] → IfOk result (λ p. (d : T) × F.post admit_data d × (self.new.rows ≡ a_row key d p.1 ∷ self.old.rows)) }
         ensures kept { IfOk result (λ p. self.new.kept ≡ self.old.kept ++ record { call = Call.IncrementWeight key tt delta max_weight; reply = Reply.Incremented p.0 p.1 p.2 } ∷ []) }
         ensures bound { self.new.bound ≡ self.old.bound }
         ensures err { OnErr result (self.new ≡ self.old) }
@@ -66,9 +69,15 @@ impl<T: Drop, S: BuildHasher> RecordedUnit<T, S> {
         requires admit { A.IsAlwaysCallable admit_data }
         ensures reply { IfOk result (λ p. p.0 ≡ weight_of key self.old.rows) }
         ensures after { IfOk result (λ p. (d : T) × (self.new.rows ≡ admitted key d p.1 self.old.rows)) }
+        ensures updated { only key self.old.rows ≢ [] → IfOk result (λ p. (v : ℕ) × (p.0 ≡ Some v) × IsUpdated U.FnOnce update key self.old.rows v p.1 self.new.rows) }
+        ensures admitted { only key self.old.rows ≡ [] → IfOk result (λ p. WasAdmitted (A.post admit_data) key p.1 self.old.rows self.new.rows) }
         ensures kept { IfOk result (λ p. self.new.kept ≡ self.old.kept ++ record { call = Call.UpdateOrAdmit key tt p.1; reply = Reply.Updated p.0 p.1 } ∷ []) }
         ensures bound { self.new.bound ≡ self.old.bound }
         ensures err { OnErr result ((bare self.new.rows ≡ bare self.old.rows) × (self.new.kept ≡ self.old.kept)) }
+        ensures update_refused { let s = self.old in only key s.rows ≢ [] → IfErr result (λ e. (e ≡ LruFault.Memory None) ⊎ IsUpdateRefused U.FnOnce update key s.rows s.bound e self.new.rows) }
+        ensures refused { let s = self.old in only key s.rows ≡ [] → IfErr result (λ e. (e ≡ LruFault.Memory None) ⊎ WasRefused (A.post admit_data) s.rows s.bound e) }
+        ensures same { only key self.old.rows ≡ [] → OnErr result (self.new ≡ self.old) }
+        ensures full { result ≡ Err (LruFault.Memory None) → self.new ≡ self.old }
     {
         if self.kept.reserve(1).is_err() {
             return Err(LruFault::Memory(None));

@@ -1,6 +1,6 @@
 //! Uses, insertion and weights, each a call that is kept under the lock of its shard.
 
-ghost use Rattle.std.specs.Prelude.{◌≡◌, ℕ, ◌%◌, List, Some, IsSome, IfOk, IfErr, MatchOption};
+ghost use Rattle.std.specs.Prelude.{◌≡◌, ℕ, ◌%◌, ◌⊎◌, List, Some, None, IsSome, IfOk, IfErr, MatchOption};
 ghost use Rattle.lru_core.specs.Rows.{incremented};
 ghost use Rattle.lru_core.specs.declared.rows.Row.{Row};
 ghost use Rattle.pingora_lru.specs.Calls.{lost, item_of, weight_of};
@@ -166,6 +166,8 @@ impl<T: Drop, const N: usize, S: BuildHasher> RecordedLru<T, N, S> {
         requires update { U.IsAlwaysCallable update }
         requires admit { A.IsAlwaysCallable admit_data }
         ensures old { IfOk result (λ old. (rows : List (Row T)) × IsLed rows × (old ≡ weight_of key rows)) }
+        ensures called { IfOk result (λ old. MatchOption old ((d : T) × (w : ℕ) × A.post admit_data (d, w)) (λ v. WasCalled U.FnOnce update v)) }
+        ensures back { IfErr result (λ fault. MatchOption (lost fault) ((fault ≡ LruFault.Memory None) ⊎ ((v : ℕ) × WasCalled U.FnOnce update v)) (λ d. (w : ℕ) × A.post admit_data (d, w))) }
     {
         let mut unit = self.shards[self.shard_of(key)].lock(rt);
         let before = Sums::of(unit.unit());

@@ -1,4 +1,4 @@
-use Rattle.std.proofs.Common.{Some, ap, ◌∙◌}
+use Rattle.std.proofs.Common.{Some, inr, ap, ◌∙◌}
 use Rattle.pingora_lru.proofs.Updated.{update_kept, updated_some, refused_bare}
 use Rattle.pingora_lru.proofs.recorded.RecordedUnit.update_or_admit.Goals as goal
 
@@ -28,3 +28,9 @@ returns-in-Err-clause-err g c =
     let b = refused_bare c.args.key c.self.inside.unit.rows c.update_or_admit-added.new.self.rows
     (λ n. let r = c.in-Err.ensures.update_refused n in (r.1.0, r.1.1, r.1.3.0, r.1.5)) (λ e. ap (λ u. u.rows) (c.in-Err.ensures.same e)) in
     rw (← c.self.view_is) (b, c.reserve.ensures.items)
+
+pub returns-in-Ok-clause-updated : goal.returns-in-Ok-clause-updated
+returns-in-Ok-clause-updated g c = rw (← c.self.view_is) c.in-Ok.ensures.updated
+
+pub returns-in-Err-clause-update_refused : goal.returns-in-Err-clause-update_refused
+returns-in-Err-clause-update_refused g c = rw (← c.self.view_is) (λ n. inr (c.in-Err.ensures.update_refused n))
