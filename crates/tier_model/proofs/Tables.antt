@@ -73,7 +73,7 @@ module _ {K X : Type 0} {R : K → K → Ordering} (eq : K → K → Bool) (tota
       len-insert total m e.0 e.1 ∙ ap (λ (o : Option X). cond (is_some o) (len m) (len m + 1)) (get-keyed es e.0 ∙ none_new e.0 es d.0) ∙ omega (arith, len-keyed es d.1)
 
 -- a map whose values are those of another one, each through a function
-abbrev each_of : {K X Y : Type 0} → (X → Y) → List (K × X) → List (K × Y)
+abbrev pub each_of : {K X Y : Type 0} → (X → Y) → List (K × X) → List (K × Y)
 each_of f es = map (λ e. (e.0, f e.1)) es
 
 module _ {K X Y : Type 0} (R : K → K → Ordering) (f : X → Y) where
