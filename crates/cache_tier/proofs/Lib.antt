@@ -1,4 +1,5 @@
-pub mod ShardLaws
-pub mod StoreLaws
+pub mod PutLaws
 pub mod RunLaws
-mod TableLaws
+pub mod ShardLaws
+pub mod ShelfLaws
+pub mod StoreLaws

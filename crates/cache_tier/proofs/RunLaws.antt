@@ -1,50 +1,96 @@
 -- Puts, single steps, and calls that go on by one event.
-use Rattle.std.proofs.Common.{◌≡◌, ℕ, List, Option, Some, None, Ok, Err, MatchResult, [], ◌∷◌, ◌++◌, subst, sym, inl, inr, refl, ap, ◌∙◌}
+use Rattle.std.proofs.Common.{◌≡◌, ℕ, List, Option, Some, None, Ok, Err, true, false, [], ◌∷◌, ◌++◌, subst, sym, inl, inr, refl, ap, ◌∙◌}
+use Rattle.std.specs.Prelude.{Bool, is_some}
+use Rattle.std.specs.FinMap.{get, insert}
 use Rattle.cache_words.specs.Time.{MomentValue}
 use Rattle.cache_words.specs.Key.{CacheKeyValue}
-use Rattle.tier_model.specs.Keys.{entry_of}
+use Rattle.tier_model.specs.Keys.{entry_of, stored_key_of}
+use Rattle.tier_model.specs.declared.state.Body.{Body}
 use Rattle.tier_model.specs.declared.state.FinishedBody.{FinishedBody}
+use Rattle.tier_model.specs.declared.state.Request.{Request}
 use Rattle.tier_model.specs.declared.whole.Whole.{Whole}
 use Rattle.tier_model.specs.declared.whole.Whole.TheVariants.{Stored}
 use Rattle.tier_model.specs.declared.event.Event.{Event}
 use Rattle.tier_model.specs.declared.event.Action.{Action}
 use Rattle.tier_model.specs.declared.event.Action.TheVariants.{Open, LookUp, Read, Drop, Purge, Put}
 use Rattle.tier_model.specs.declared.event.TierFault.{TierFault}
-use Rattle.tier_model.specs.Calls.{Call, Outcome, AreCallsOf, read_by, done_of, evicted_by}
+use Rattle.tier_model.specs.Calls.{Call, Outcome, AreCallsOf, read_by, done_of}
 use Rattle.tier_model.specs.Response.{IsRead, whole_of, whole_in, joined}
-use Rattle.tier_model.specs.State.{State, shards_of}
-use Rattle.tier_model.specs.Step.{AllowsBy, Allows, IsPutAnswer, IsFault, admitted, refusal, undone, after_outcome, after}
+use Rattle.tier_model.specs.State.{State}
+use Rattle.tier_model.specs.Rows.{body_of}
+use Rattle.tier_model.specs.Step.{AllowsBy, Allows, Begins, IsFault, refusal, undone, on_request, body_for, after_look_up, after_read, after_purge, after_outcome, after}
 use Rattle.tier_model.specs.Past.{AreTaken, CarriesHeadline}
 use Rattle.tier_model.proofs.Carried.{CarriesHeadline-taken}
 use Rattle.rand_core.specs.Stream.{Stream}
-use Rattle.cache_evict.specs.Managed.{Managed, Evicts, pick_by_draws}
 use Rattle.cache_tier.specs.Puts.{Gives}
 use Rattle.cache_tier.specs.Draws.{AreDrawn, AreAllDrawn, Takes}
-use Rattle.cache_tier.specs.Acts.{AllowsUnrefused, after_action, TakesBy, IsRefusal, after_store, StepsBy}
+use Rattle.cache_tier.specs.Acts.{AllowsUnrefused, after_action, counting, TakesBy, StoresBy, StepsBy}
 
 -- a put was taken, by what its response gave
-pub Takes-put : (old : State) (s : Stream) (t : MomentValue) (key : CacheKeyValue) (pieces : List (List ℕ)) (g : Whole) (o : Outcome) (new : State) (rest : Stream)
-    → Gives t (entry_of key) (joined pieces) g → AllowsBy None old t (Put key pieces) (Some g) o → new ≡ after_outcome old t (Put key pieces) (Some g) o → AreDrawn old (Some g) o s rest
+Takes-given : (old : State) (s : Stream) (t : MomentValue) (key : CacheKeyValue) (pieces : List (List ℕ)) (g : Whole) (o : Outcome) (new : State) (rest : Stream) (began : Bool)
+    → Gives t (entry_of key) (joined pieces) g → AllowsBy None old t (Put key pieces) (Some g) o → Begins old (Some g) o began → new ≡ counting began old (after_outcome old t (Put key pieces) (Some g) o) → AreDrawn old (Some g) o s rest
     → TakesBy old s t (Put key pieces) o new rest
-Takes-put old s t key pieces g o new rest gives allowed is drawn =
+Takes-given old s t key pieces g o new rest began gives allowed begins is drawn =
     let same : Some g ≡ Some (whole_of t (entry_of key) gives.0) = ap (λ (x : Whole). Some x) gives.2 in (
       Some gives.0,
+      began,
       gives.1,
       subst (λ (x : Option Whole). AllowsBy None old t (Put key pieces) x o) same allowed,
-      is ∙ ap (λ (x : Option Whole). after_outcome old t (Put key pieces) x o) same,
+      subst (λ (x : Option Whole). Begins old x o began) same begins,
+      is ∙ ap (λ (x : Option Whole). counting began old (after_outcome old t (Put key pieces) x o)) same,
       subst (λ (x : Option Whole). AreDrawn old x o s rest) same drawn,
     )
 
+-- no write began
+pub Takes-put : (old : State) (s : Stream) (t : MomentValue) (key : CacheKeyValue) (pieces : List (List ℕ)) (g : Whole) (o : Outcome)
+    → Gives t (entry_of key) (joined pieces) g → AllowsBy None old t (Put key pieces) (Some g) o → Begins old (Some g) o false → after_outcome old t (Put key pieces) (Some g) o ≡ old → AreDrawn old (Some g) o s s
+    → TakesBy old s t (Put key pieces) o old s
+Takes-put old s t key pieces g o gives allowed begins is drawn =
+    Takes-given old s t key pieces g o old s false gives allowed begins (sym (ap (counting false old) is)) drawn
+
 -- a body is stored that the response of a put gave
 pub Takes-stored : (old : State) (s : Stream) (t : MomentValue) (key : CacheKeyValue) (pieces : List (List ℕ)) (b : FinishedBody) (o : Outcome) (new : State) (rest : Stream)
-    → Gives t (entry_of key) (joined pieces) (Stored b) → MatchResult o (IsPutAnswer old (Some (Stored b))) (IsRefusal old b) → new ≡ after_store old b o
-    → (left : Managed) × Evicts (pick_by_draws (shards_of old)) (admitted old b) (evicted_by o) s left rest → TakesBy old s t (Put key pieces) o new rest
-Takes-stored old s t key pieces b (Ok a) new rest gives allowed is drawn = Takes-put old s t key pieces (Stored b) (Ok a) new rest gives allowed is drawn
-Takes-stored old s t key pieces b (Err f) new rest gives allowed is drawn =
-    Takes-put old s t key pieces (Stored b) (Err f) new rest gives fault is drawn
+    → Gives t (entry_of key) (joined pieces) (Stored b) → StoresBy old s b o new rest → TakesBy old s t (Put key pieces) o new rest
+Takes-stored old s t key pieces b (Ok a) new rest gives stores = Takes-given old s t key pieces (Stored b) (Ok a) new rest stores.began gives stores.allowed stores.begins stores.after stores.drawn
+Takes-stored old s t key pieces b (Err f) new rest gives stores =
+    Takes-given old s t key pieces (Stored b) (Err f) new rest stores.began gives fault stores.begins stores.after stores.drawn
   where
     fault : IsFault old (Put key pieces) (Some (Stored b)) f
-    fault = elim allowed [ inl memory ↦ inl (memory, tt) | inr late ↦ inr late ]
+    fault = elim stores.allowed [ inl memory ↦ inl (memory, tt) | inr late ↦ inr late ]
+
+-- an action without a response began no write
+begins-none : (s : State) (t : MomentValue) (action : Action) (o : Outcome) → Begins s (whole_in t action None) o false
+begins-none s t (Open id key) o = refl
+begins-none s t (LookUp id) o = refl
+begins-none s t (Read id) o = refl
+begins-none s t (Drop id) o = refl
+begins-none s t (Purge key) o = refl
+begins-none s t (Put key pieces) o = refl
+
+request_writes : (s : State) (o : Option Request) (f : Request → State) → ((q : Request) → (f q).writes ≡ s.writes) → (on_request s o f).writes ≡ s.writes
+request_writes s None f h = refl
+request_writes s (Some q) f h = h q
+
+look_writes : (s : State) (t : MomentValue) (id : ℕ) (q : Request) (b : Option Body) → (after_look_up s t id q b).writes ≡ s.writes
+look_writes s t id q None = refl
+look_writes s t id q (Some b) = refl
+
+purge_writes : (s : State) (key : CacheKeyValue) (v : Bool) → (after_purge s key v).writes ≡ s.writes
+purge_writes s key true = refl
+purge_writes s key false = refl
+
+kept_writes : (s : State) (t : MomentValue) (action : Action) (o : Outcome) → (after_outcome s t action None o).writes ≡ s.writes
+kept_writes s t (Open id key) (Ok a) = refl
+kept_writes s t (LookUp id) (Ok a) = request_writes s (get s.requests id) (λ q. after_look_up s t id q (body_for q s.bodies)) (λ q. look_writes s t id q (body_for q s.bodies))
+kept_writes s t (Read id) (Ok a) = request_writes s (get s.requests id) (λ q. record s { requests = insert s.requests id (after_read q) }) (λ q. refl)
+kept_writes s t (Drop id) (Ok a) = refl
+kept_writes s t (Purge key) (Ok a) = purge_writes s key (is_some (body_of (stored_key_of key) s.bodies))
+kept_writes s t (Put key pieces) (Ok a) = refl
+kept_writes s t action (Err f) = refl
+
+-- what leaves the count of writes as it was
+uncounted : (old x : State) → x.writes ≡ old.writes → x ≡ counting false old x
+uncounted old x e = ap (λ (n : ℕ). record x { writes = n }) e
 
 -- an action without a response
 IsRead-none : (action : Action) → IsRead action None
@@ -66,11 +112,11 @@ whole_in-none t (Put key pieces) = refl
 -- a refusal before anything else leaves all as before
 pub Steps-refused : (old : State) (s : Stream) (e : Event) (f : TierFault) → refusal old e.action ≡ Some f → StepsBy old s e (Err f) old s
 Steps-refused old s e f refused = (
-  record { event = e; outcome = Err f; reading = None },
+  record { event = e; outcome = Err f; reading = None; began = false },
   refl,
   refl,
-  (IsRead-none e.action, subst (λ r. AllowsBy r old e.moment e.action (whole_in e.moment e.action None) (Err f)) (sym refused) refl),
-  sym (ap (λ (w : Option Whole). undone old w (done_of f)) (whole_in-none e.moment e.action)),
+  (IsRead-none e.action, subst (λ r. AllowsBy r old e.moment e.action (whole_in e.moment e.action None) (Err f)) (sym refused) refl, begins-none old e.moment e.action (Err f)),
+  sym (ap (λ (w : Option Whole). counting false old (undone old w (done_of f))) (whole_in-none e.moment e.action)),
   subst (λ (x : Option Whole). AreDrawn old x (Err f) s s) (sym (whole_in-none e.moment e.action)) refl,
 )
 
@@ -78,8 +124,14 @@ Steps-refused old s e f refused = (
 pub Steps-taken : (old : State) (s : Stream) (e : Event) (action : Action) (o : Outcome) (new : State) (rest : Stream) → e.action ≡ action → refusal old e.action ≡ None → TakesBy old s e.moment action o new rest
     → StepsBy old s e o new rest
 Steps-taken old s e action o new rest is passed takes =
-    let taken : TakesBy old s e.moment e.action o new rest = subst (λ (a : Action). TakesBy old s e.moment a o new rest) (sym is) takes in
-    (record { event = e; outcome = o; reading = taken.0 }, refl, refl, (taken.1, subst (λ r. AllowsBy r old e.moment e.action (whole_in e.moment e.action taken.0) o) (sym passed) taken.2), taken.3, taken.4)
+    let taken : TakesBy old s e.moment e.action o new rest = subst (λ (a : Action). TakesBy old s e.moment a o new rest) (sym is) takes in (
+      record { event = e; outcome = o; reading = taken.0; began = taken.1 },
+      refl,
+      refl,
+      (taken.2, subst (λ r. AllowsBy r old e.moment e.action (whole_in e.moment e.action taken.0) o) (sym passed) taken.3, taken.4),
+      taken.5,
+      taken.6,
+    )
 
 pub Steps-plain : (old : State) (s : Stream) (e : Event) (action : Action) (o : Outcome) (new : State) → e.action ≡ action → refusal old e.action ≡ None → AllowsUnrefused old e.moment action o
     → new ≡ after_action old e.moment action o → StepsBy old s e o new s
@@ -87,9 +139,11 @@ Steps-plain old s e action o new is passed allowed after =
     let none : None ≡ whole_in e.moment action None = sym (whole_in-none e.moment action) in
     Steps-taken old s e action o new s is passed (
       None,
+      false,
       IsRead-none action,
       subst (λ (x : Option Whole). AllowsBy None old e.moment action x o) none allowed,
-      after ∙ ap (λ (x : Option Whole). after_outcome old e.moment action x o) none,
+      begins-none old e.moment action o,
+      after ∙ uncounted old (after_action old e.moment action o) (kept_writes old e.moment action o) ∙ ap (λ (x : Option Whole). counting false old (after_outcome old e.moment action x o)) none,
       subst (λ (x : Option Whole). AreDrawn old x o s s) none refl,
     )
 

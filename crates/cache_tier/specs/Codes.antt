@@ -8,10 +8,11 @@ use Rattle.cache_entries.specs.declared.rows.Tracked.{Tracked}
 use Rattle.cache_entries.specs.contracts.rows.Tracked.{the_row as tracked_row}
 use Rattle.cache_evict.specs.Managed.{Managed}
 use Rattle.tier_model.specs.declared.state.Request.{Request}
-use Rattle.tier_model.specs.contracts.state.FinishedBody.{the_row as body_row}
+use Rattle.tier_model.specs.contracts.state.Body.{the_row as body_row}
 use Rattle.tier_model.specs.contracts.state.Request.{the_row as request_row}
 use Rattle.tier_model.specs.Rows.{Bodies}
 use Rattle.tier_model.specs.State.{State}
+use Rattle.cache_tier.specs.Bodies.{Shelf}
 
 abbrev pub span_code : Coded DurationValue
 span_code = code_by (ℕ × ℕ) (coded× coded_ℕ coded_ℕ) (λ s. (s.seconds, s.nanoseconds)) (λ p. record { seconds = p.0; nanoseconds = p.1 }) (λ _. refl)
@@ -22,9 +23,12 @@ managed_code =
     (λ m. (m.shards, (m.limit, (m.watermark, (m.evicted_size, m.evicted_items)))))
     (λ p. record { shards = p.0; limit = p.1.0; watermark = p.1.1.0; evicted_size = p.1.1.1.0; evicted_items = p.1.1.1.1 }) (λ _. refl)
 
+abbrev pub shelf_code : Coded Shelf
+shelf_code = code_by (Bodies × ℕ) (coded× (finite.code (coded_list coded_ℕ) body_row.coded) coded_ℕ) (λ s. (s.bodies, s.writes)) (λ p. record { bodies = p.0; writes = p.1 }) (λ _. refl)
+
 abbrev pub state_code : Coded State
 state_code =
-    code_by (Managed × (DurationValue × (Option DurationValue × (Bodies × (finite.FinMap nat_cmp Request × (ℕ × ℕ))))))
-    (coded× managed_code (coded× span_code (coded× (coded_option span_code) (coded× (finite.code (coded_list coded_ℕ) body_row.coded) (coded× (finite.code coded_ℕ request_row.coded) (coded× coded_ℕ coded_ℕ))))))
-    (λ s. (s.managed, (s.age, (s.wait, (s.bodies, (s.requests, (s.found, s.absent)))))))
-    (λ p. record { managed = p.0; age = p.1.0; wait = p.1.1.0; bodies = p.1.1.1.0; requests = p.1.1.1.1.0; found = p.1.1.1.1.1.0; absent = p.1.1.1.1.1.1 }) (λ _. refl)
+    code_by (Managed × (DurationValue × (Option DurationValue × (Bodies × (finite.FinMap nat_cmp Request × (ℕ × (ℕ × ℕ)))))))
+    (coded× managed_code (coded× span_code (coded× (coded_option span_code) (coded× (finite.code (coded_list coded_ℕ) body_row.coded) (coded× (finite.code coded_ℕ request_row.coded) (coded× coded_ℕ (coded× coded_ℕ coded_ℕ)))))))
+    (λ s. (s.managed, (s.age, (s.wait, (s.bodies, (s.requests, (s.found, (s.absent, s.writes))))))))
+    (λ p. record { managed = p.0; age = p.1.0; wait = p.1.1.0; bodies = p.1.1.1.0; requests = p.1.1.1.1.0; found = p.1.1.1.1.1.0; absent = p.1.1.1.1.1.1.0; writes = p.1.1.1.1.1.1.1 }) (λ _. refl)

@@ -1,12 +1,13 @@
 //! Requested keys as they are kept.
 ghost use Rattle.std.specs.Prelude.{◌≡◌, IfOk};
+ghost use Rattle.cache_words.specs.Key.{combined, key_of};
 ghost use Rattle.cache_changes.specs.Changes.{stored_key};
 ghost use Rattle.cache_evict.specs.Parts.{entry_with_parts};
 ghost use Rattle.tier_model.specs.Keys.{entry_of, alone, stored_key_of};
 
 use cache_evict::KeyParts;
 use cache_words::key::{CacheHashKey, CacheKey, CompactCacheKey, HashBinary};
-use std::alloc::AllocError;
+use std::alloc::{AllocError, Global};
 
 // The entry of a requested key.
 pub(crate) fn entry_of(key: &CacheKey) -> Result<CompactCacheKey, AllocError>
@@ -40,4 +41,22 @@ pub(crate) fn parts_of(key: &CacheKey) -> (KeyParts<'_>, HashBinary)
         user_tag: key.user_tag(),
     };
     (parts, parts.combined_bin())
+}
+
+// A key as it is requested that is stored under that stored key: a look-up by it hashes nothing. It takes no memory.
+pub(crate) fn requested_by(alloc: Global, stored: HashBinary) -> CacheKey
+    ensures { combined (key_of result) ≡ stored }
+{
+    let mut key = CacheKey::new(Vec::new(alloc), String::new(alloc));
+    key.set_primary_bin_override(stored);
+    key
+}
+
+// The same as it is kept.
+pub(crate) fn named_by(alloc: Global, stored: HashBinary) -> CompactCacheKey
+    ensures { stored_key result ≡ stored }
+{
+    let mut key = CompactCacheKey::empty(alloc);
+    key.primary = stored;
+    key
 }

@@ -7,19 +7,20 @@ ghost use Rattle.tier_model.specs.Past.{HasPast, HoldsOrder};
 ghost use Rattle.tier_model.specs.Reports.{report_of};
 ghost use Rattle.cache_tier.specs.Draws.{Takes};
 ghost use Rattle.cache_tier.specs.Acts.{StepsBy};
+ghost use Rattle.cache_tier.specs.Bodies.{IsIdle, shelf_of, ShowsBodies};
 
 mod faults;
 mod requests;
 mod store;
 
-use crate::bodies::{Bodies, all_bytes, count_of};
+use crate::bodies::Bodies;
 use cache_evict::EvictionManager;
 use cache_evict::lru::Manager;
 use cache_words::time::Duration;
 use faults::nothing_done;
+use mem_cache::MemCache;
 use rand_core::Rng;
 use std::alloc::{AllocError, Global};
-use std::collections::HashMap;
 use std::hash::{BuildHasher, BuildHasherDefault, FoldHasher};
 use std::marker::Model;
 use tier_model::event::{Action, Answer, Event, TierFault};
@@ -45,7 +46,6 @@ pub struct Tier<const N: usize, S: BuildHasher = BuildHasherDefault<FoldHasher>>
 
 impl<const N: usize, S: BuildHasher> Model for Tier<N, S> {
     ghost use Rattle.tier_model.specs.State.{State};
-    ghost use Rattle.cache_tier.specs.Bodies.{bodies_in};
     ghost use Rattle.cache_tier.specs.Codes.{state_code};
     ghost use Rattle.cache_evict.specs.Managed.{IsSharded};
 
@@ -57,10 +57,11 @@ impl<const N: usize, S: BuildHasher> Model for Tier<N, S> {
       managed = t.manager;
       age = t.age;
       wait = t.wait;
-      bodies = bodies_in t.bodies.entries;
+      bodies = t.bodies.bodies;
       requests = t.requests;
       found = t.found;
       absent = t.absent;
+      writes = t.bodies.writes;
     } };
 
     ghost invariant = { λ t. IsSharded N t.manager };
@@ -118,7 +119,7 @@ impl<const N: usize, S: BuildHasher + Copy> Tier<N, S> {
             alloc,
             age,
             wait,
-            bodies: HashMap::with_hasher(alloc, hasher),
+            bodies: Bodies::with_hasher(alloc, hasher),
             manager,
             requests: Requests::new(alloc),
             found: 0,
@@ -134,6 +135,15 @@ impl<const N: usize, S: BuildHasher> Tier<N, S> {
         ensures order { (start : Opening) (h : History) → HasPast start self.now h → HoldsOrder result.now start h }
     {
         &self.manager
+    }
+
+    /// Returns what stores the bodies: just the finished bodies, each under its stored key.
+    pub fn store(&self) -> &MemCache<S>
+        ensures idle { IsIdle result.now }
+        ensures shows { shelf_of result.now ≡ record { bodies = self.now.bodies; writes = self.now.writes } }
+        ensures bodies { (start : Opening) (h : History) → HasPast start self.now h → ShowsBodies result.now start h }
+    {
+        self.bodies.store()
     }
 
     // Checks an event, and takes it by its own method.
@@ -190,8 +200,8 @@ impl<const N: usize, S: BuildHasher> Tier<N, S> {
         Report {
             found: self.found,
             absent: self.absent,
-            bodies: count_of(&self.bodies),
-            bytes: all_bytes(&self.bodies),
+            bodies: self.bodies.count(),
+            bytes: self.bodies.all_bytes(),
             tracked: self.manager.total_items() as u64,
             weight: self.manager.total_size() as u64,
             evicted: self.manager.evicted_items() as u64,

@@ -4,16 +4,18 @@ use Rattle.std.specs.Prelude.{Bool, List, Option, Some, None, option_map, not, f
 use Rattle.std.specs.Ordering.{nat_cmp, eq_by_cmp}
 use Rattle.std.specs.Cmp.Lexicographic.{slice_cmp, texts_ties, nat_list_cmp_total}
 use Rattle.std.specs.FinMap.{get-insert, get-remove}
+use Rattle.cache_words.specs.Time.{MomentValue}
 use Rattle.cache_entries.specs.Keys.{same_bytes}
 use Rattle.cache_changes.specs.Changes.{StoredKey, stored_key, key_alone, is_key}
 use Rattle.cache_changes.specs.Store.{Stored, is_of}
 use Rattle.cache_changes.proofs.RowLaws.{not_true, not_false, find-kept, find-gone}
 use Rattle.cache_entries.specs.declared.entry.CacheEntryKey.{CacheEntryKey}
 use Rattle.cache_entries.specs.SameEntry.{same_bytes-tells, same-sym}
+use Rattle.tier_model.specs.declared.state.Body.{Body}
 use Rattle.tier_model.specs.declared.state.FinishedBody.{FinishedBody}
 use Rattle.tier_model.specs.Histories.{Kept}
 use Rattle.tier_model.specs.Past.{held_of}
-use Rattle.tier_model.specs.Rows.{Bodies, body_of, with_body, without_body, without_key, without_bodies}
+use Rattle.tier_model.specs.Rows.{Bodies, body_of, found_of, with_body, without_body, without_key, without_bodies}
 
 -- keys that tie in the order of their bytes are the same
 pub ties-same : (k j : StoredKey) → eq_by_cmp (slice_cmp nat_cmp) k j ≡ same_bytes j k
@@ -23,8 +25,8 @@ ties-same k j = sym (texts_ties k j) ∙ same-sym same_bytes same_bytes-tells k 
 pub body_of-without : (k j : StoredKey) (bodies : Bodies) → body_of k (without_body j bodies) ≡ cond (same_bytes j k) None (body_of k bodies)
 body_of-without k j bodies = get-remove nat_list_cmp_total bodies j k ∙ ap (λ v. cond v None (body_of k bodies)) (ties-same k j)
 
-pub body_of-with : (k : StoredKey) (b : FinishedBody) (bodies : Bodies) → body_of k (with_body b bodies) ≡ cond (same_bytes (stored_key b.entry) k) (Some b) (body_of k bodies)
-body_of-with k b bodies = get-insert nat_list_cmp_total bodies (stored_key b.entry) b k ∙ ap (λ v. cond v (Some b) (body_of k bodies)) (ties-same k (stored_key b.entry))
+pub body_of-with : (k : StoredKey) (b : FinishedBody) (bodies : Bodies) → body_of k (with_body b bodies) ≡ cond (same_bytes (stored_key b.entry) k) (Some (found_of b)) (body_of k bodies)
+body_of-with k b bodies = get-insert nat_list_cmp_total bodies (stored_key b.entry) (found_of b) k ∙ ap (λ v. cond v (Some (found_of b)) (body_of k bodies)) (ties-same k (stored_key b.entry))
 
 either_none : {X : Type 0} (x y : Bool) (o : Option X) → cond y None (cond x None o) ≡ cond (x || y) None o
 either_none true true o = refl
@@ -47,21 +49,21 @@ body_of-without_all k (e ∷ es) bodies =
     body_of-without_all k es (without_key (key_alone e) bodies) ∙ ap (cond (has_key k es) None) (body_of-without_key k (key_alone e) bodies) ∙ either_none (is_key k (key_alone e)) (has_key k es) (body_of k bodies)
 
 -- in what changes leave
-of_key : (k : StoredKey) (x : Stored Kept) → is_of k x ≡ true → x.write.key ≡ k
+of_key : {M : Type 0} (k : StoredKey) (x : Stored M) → is_of k x ≡ true → x.write.key ≡ k
 of_key k x t = same_bytes-tells.equal x.write.key k t
 
-pub body_at-without : (k : StoredKey) (j : Option StoredKey) (xs : List (Stored Kept)) → find (is_of k) (filter (λ x. not (is_key x.write.key j)) xs) ≡ cond (is_key k j) None (find (is_of k) xs)
+pub body_at-without : {M : Type 0} (k : StoredKey) (j : Option StoredKey) (xs : List (Stored M)) → find (is_of k) (filter (λ x. not (is_key x.write.key j)) xs) ≡ cond (is_key k j) None (find (is_of k) xs)
 body_at-without k None xs = find-kept (is_of k) (λ x. not (is_key x.write.key None)) xs (λ x t. refl)
-body_at-without k (Some j) xs = by_test (same_bytes j k) refl
+body_at-without {M = M} k (Some j) xs = by_test (same_bytes j k) refl
   where
     by_test : (v : Bool) → same_bytes j k ≡ v → find (is_of k) (filter (λ x. not (is_key x.write.key (Some j))) xs) ≡ cond v None (find (is_of k) xs)
     by_test true e = find-gone (is_of k) (λ x. not (is_key x.write.key (Some j))) xs (λ x t. not_true (same_bytes j x.write.key) (subst (λ (i : StoredKey). same_bytes j i ≡ true) (sym (of_key k x t)) e))
     by_test false e = find-kept (is_of k) (λ x. not (is_key x.write.key (Some j))) xs (λ x t. not_false (same_bytes j x.write.key) (subst (λ (i : StoredKey). same_bytes j i ≡ false) (sym (of_key k x t)) e))
 
-pub body_at-with : (k : StoredKey) (x : Stored Kept) (xs : List (Stored Kept)) → find (is_of k) (x ∷ filter (λ y. not (is_of x.write.key y)) xs) ≡ cond (is_of k x) (Some x) (find (is_of k) xs)
-body_at-with k x xs = by_test (is_of k x) refl
+pub body_at-with : {M : Type 0} (k : StoredKey) (x : Stored M) (xs : List (Stored M)) → find (is_of k) (x ∷ filter (λ y. not (is_of x.write.key y)) xs) ≡ cond (is_of k x) (Some x) (find (is_of k) xs)
+body_at-with {M = M} k x xs = by_test (is_of k x) refl
   where
-    other : is_of k x ≡ false → (y : Stored Kept) → is_of k y ≡ true → is_of x.write.key y ≡ false
+    other : is_of k x ≡ false → (y : Stored M) → is_of k y ≡ true → is_of x.write.key y ≡ false
     other e y t = ap (λ (j : StoredKey). same_bytes j x.write.key) (of_key k y t) ∙ same-sym same_bytes same_bytes-tells k x.write.key ∙ e
 
     by_test : (v : Bool) → is_of k x ≡ v → cond v (Some x) (find (is_of k) (filter (λ y. not (is_of x.write.key y)) xs)) ≡ cond v (Some x) (find (is_of k) xs)
@@ -69,16 +71,16 @@ body_at-with k x xs = by_test (is_of k x) refl
     by_test false e = find-kept (is_of k) (λ y. not (is_of x.write.key y)) xs (λ y t. not_false (is_of x.write.key y) (other e y t))
 
 -- what is held of a body, and of what changes leave
-abbrev pub view : Stored Kept → Kept × List ℕ
-view x = (x.meta, x.bytes)
+abbrev pub view : Stored Kept → MomentValue × List ℕ
+view x = (x.meta.fresh_until, x.bytes)
 
-abbrev pub AreSame : Option FinishedBody → Option (Stored Kept) → Type 0
+abbrev pub AreSame : Option Body → Option (Stored Kept) → Type 0
 AreSame o x = option_map held_of o ≡ option_map view x
 
-pub both_gone : (v : Bool) (o : Option FinishedBody) (x : Option (Stored Kept)) → AreSame o x → AreSame (cond v None o) (cond v None x)
+pub both_gone : (v : Bool) (o : Option Body) (x : Option (Stored Kept)) → AreSame o x → AreSame (cond v None o) (cond v None x)
 both_gone true o x e = refl
 both_gone false o x e = e
 
-pub both_there : (v : Bool) (b : FinishedBody) (y : Stored Kept) (o : Option FinishedBody) (x : Option (Stored Kept)) → held_of b ≡ view y → AreSame o x → AreSame (cond v (Some b) o) (cond v (Some y) x)
-both_there true b y o x f e = ap (λ (p : Kept × List ℕ). Some p) f
+pub both_there : (v : Bool) (b : Body) (y : Stored Kept) (o : Option Body) (x : Option (Stored Kept)) → held_of b ≡ view y → AreSame o x → AreSame (cond v (Some b) o) (cond v (Some y) x)
+both_there true b y o x f e = ap (λ (p : MomentValue × List ℕ). Some p) f
 both_there false b y o x f e = e

@@ -90,7 +90,7 @@ module _ (N n : ℕ) (bodies : Bodies) (m : Managed) (changes : Changes Kept) (l
       }
 
   abbrev admitted : FinishedBody → Managed
-  admitted b = put_first N (alone b.entry) (weight_for b) m
+  admitted b = put_first N (alone b.entry) (weight_for b.bytes) m
 
   -- a body that is stored, and those that went to make room for it
   pub leaves-room : (b : FinishedBody) (over : Bool) (es : List CacheEntryKey) → GoInTurn N over es (admitted b)

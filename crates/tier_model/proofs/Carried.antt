@@ -8,7 +8,7 @@ use Rattle.std.specs.Cmp.Lexicographic.{slice_cmp}
 use Rattle.std.specs.Ordering.{nat_cmp}
 use Rattle.cache_entries.specs.declared.rows.Tracked.{Tracked}
 use Rattle.cache_entries.specs.Rows.{AreDistinct}
-use Rattle.cache_changes.specs.Changes.{Write, Changes, admits}
+use Rattle.cache_changes.specs.Changes.{StoredKey, Write, Changes, admits}
 use Rattle.cache_changes.specs.Writes.{IsOrderly, IsBody}
 use Rattle.cache_changes.specs.Uses.{EvictsLawfully, AreShardsOf, rows_of, admissions}
 use Rattle.cache_changes.proofs.ManyShards.{AreShardsOf-none, weights-shards, length-shards}
@@ -17,17 +17,19 @@ use Rattle.cache_changes.specs.Bound.{TracksBodies, AreWithin}
 use Rattle.cache_changes.proofs.BoundLaws.{bodies-tracked}
 use Rattle.cache_changes.proofs.UseLaws.{rows_of-admissions}
 use Rattle.cache_evict.specs.Managed.{Managed, fresh}
+use Rattle.tier_model.specs.declared.state.Body.{Body}
 use Rattle.tier_model.specs.declared.state.Request.{Request}
-use Rattle.tier_model.specs.Calls.{Call, History}
+use Rattle.tier_model.specs.Calls.{Call, History, writes_after}
 use Rattle.tier_model.specs.Response.{IsRead}
 use Rattle.tier_model.specs.Histories.{Kept, Opening, empty_opening, changes_of}
 use Rattle.tier_model.specs.Headline.{Headline, HoldsHeadline}
-use Rattle.tier_model.specs.Reports.{IsReport, report_of}
+use Rattle.tier_model.specs.Rows.{body_of}
+use Rattle.tier_model.specs.Reports.{IsReport, report_of, writes_begun}
 use Rattle.tier_model.specs.State.{Settings, State, shards_of, empty_state}
 use Rattle.tier_model.specs.Step.{Allows, after}
-use Rattle.tier_model.specs.Past.{in_shards, held_of, loaded_of, state_of, IsLawful, MatchesHistory, HasPast, AreTaken, CarriesHeadline}
+use Rattle.tier_model.specs.Past.{in_shards, held_of, told_of, loaded_of, state_of, IsLawful, MatchesHistory, HasPast, AreTaken, CarriesHeadline}
 use Rattle.tier_model.proofs.RowSteps.{IsMade, in_shards-are}
-use Rattle.tier_model.proofs.ChangeLaws.{Leaves, unbound, is_held}
+use Rattle.tier_model.proofs.ChangeLaws.{Leaves, unbound, is_held, shows}
 use Rattle.tier_model.proofs.StepLaws.{made-after}
 use Rattle.tier_model.proofs.BoundLaws.{Keeps}
 use Rattle.tier_model.proofs.EventLaws.{Holds}
@@ -91,6 +93,7 @@ pub record Stands (start : Opening) (s : State) (h : History) : Type 0 where
   pub made : IsMade start.settings s.managed
   pub fits : Fits start s h
   pub tallies : Tallies s h
+  pub writes : s.writes ≡ writes_begun h
 
 -- the state after a lawful history stands for it
 pub Stands-lawful : (start : Opening) (h : History) → IsLawful start h → Stands start (state_of start h) h
@@ -98,6 +101,7 @@ Stands-lawful start [] l = record {
   made = made-loaded start;
   fits = record { requests = λ id. no_request start id (get (empty_state start.settings).requests id) (get-empty nat_cmp id); holds = opened start l.0 l.1 };
   tallies = record { found = omega arith; absent = omega arith; evicted = omega arith };
+  writes = refl;
 }
 Stands-lawful start (c ∷ h) l =
     let past : Stands start (state_of start h) h = Stands-lawful start h l.1 in
@@ -105,6 +109,7 @@ Stands-lawful start (c ∷ h) l =
       made = made-after (state_of start h) c start.settings past.made;
       fits = Fits-after start (state_of start h) c h past.fits l.0;
       tallies = Tallies-after (state_of start h) c h l.0 past.tallies;
+      writes = ap (λ (n : ℕ). writes_after n c.began) past.writes;
     }
 
 pub IsOrderly-lawful : (start : Opening) (h : History) → IsLawful start h → IsOrderly (changes_of start h)
@@ -155,6 +160,7 @@ MatchesHistory-lawful start s h past = record {
   found = past.tallies.found;
   absent = past.tallies.absent;
   evicted = past.tallies.evicted;
+  writes = past.writes;
 }
 
 -- a lawful history is a past of the state after it
@@ -205,3 +211,18 @@ IsReport-matches s start h m =
         weights-shards start.settings.shards s.managed.shards m.order.1.0 m.order.0 m.order.1.2,
       );
     }
+
+-- what a state is to a past of it
+stands-past : (start : Opening) (s : State) (h : History) → HasPast start s h → Stands start s h
+stands-past start s h p = subst (λ (x : State). Stands start x h) (sym p.state) (Stands-lawful start h p.lawful)
+
+-- each body of a past is held, with its bytes and its moment
+pub held-past : (start : Opening) (s : State) (h : History) → HasPast start s h → (k : StoredKey) (w : Write Kept) → IsBody k w (changes_of start h)
+    → (b : Body) × (body_of k s.bodies ≡ Some b) × (held_of b ≡ told_of (changes_of start h) w)
+held-past start s h p k w i = is_held (shards_of s) (length h) s.bodies s.managed (changes_of start h) (stands-past start s h p).fits.holds.leaves k w i
+
+-- and what is held is one
+pub body-past : (start : Opening) (s : State) (h : History) → HasPast start s h → (k : StoredKey) (b : Body) → body_of k s.bodies ≡ Some b → (w : Write Kept) × IsBody k w (changes_of start h)
+body-past start s h p k b e =
+    let x = shows (shards_of s) (length h) s.bodies s.managed (changes_of start h) (stands-past start s h p).fits.holds.leaves k b e in
+    (x.write, x.body)

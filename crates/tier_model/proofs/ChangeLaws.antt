@@ -17,13 +17,14 @@ use Rattle.cache_changes.proofs.UseLaws.{IsOrderOfUse-rows_of}
 use Rattle.cache_changes.proofs.WriteLaws.{same_number, fresh_end, all_begin_less}
 use Rattle.cache_evict.specs.Managed.{Managed, is_over, put_first, use_first, taken_out}
 use Rattle.cache_evict.specs.Managed as managed
+use Rattle.tier_model.specs.declared.state.Body.{Body}
 use Rattle.tier_model.specs.declared.state.FinishedBody.{FinishedBody}
 use Rattle.tier_model.specs.Keys.{Entry, alone}
 use Rattle.tier_model.specs.Calls.{extended}
 use Rattle.tier_model.specs.Evictions.{gone, all_gone, GoInTurn}
 use Rattle.tier_model.specs.Histories.{Kept, kept_of, write_of, goes, stores, clears}
 use Rattle.tier_model.specs.Past.{held_of, told_of}
-use Rattle.tier_model.specs.Rows.{Bodies, body_of, with_body as put_body, without_body, without_key, without_bodies, weight_for}
+use Rattle.tier_model.specs.Rows.{Bodies, body_of, found_of, with_body as put_body, without_body, without_key, without_bodies, weight_for}
 use Rattle.tier_model.proofs.BodyLaws.{has_key, body_of-without, body_of-without_key, body_of-with, body_of-without_all, body_at-without, body_at-with, view, AreSame, both_gone, both_there}
 use Rattle.tier_model.proofs.RowSteps.{over-rows, last-rows}
 
@@ -163,7 +164,7 @@ module _ (N : ℕ) where
 
   -- a body is written whole and its entry admitted
   pub leaves-stored : (n : ℕ) (b : FinishedBody) (bodies : Bodies) (m : Managed) (changes : Changes Kept)
-      → Leaves N n bodies m changes → Leaves N (suc n) (put_body b bodies) (put_first N (alone b.entry) (weight_for b) m) (extended changes (stores n b []))
+      → Leaves N n bodies m changes → Leaves N (suc n) (put_body b bodies) (put_first N (alone b.entry) (weight_for b.bytes) m) (extended changes (stores n b []))
   leaves-stored n b bodies m changes l =
       let w : Write Kept = write_of n b in
       let x : Stored Kept = record { write = w; meta = kept_of b; bytes = b.bytes } in
@@ -173,21 +174,21 @@ module _ (N : ℕ) where
       let alive : IsAlive w written = record { since = appends n b.bytes ∷ []; before = changes; split = refl; kept = (refl, tt); held = (refl, tt) } in
       let finished : Changes Kept = finishes w ∷ written in
       let orderly : IsOrderly finished = ((flies, alive), (((w, refl, just_began w changes), fresh_end n changes l.below l.orderly), (l.below, l.orderly))) in
-      let enough : (v : Write Kept) → same_bytes (stored_key b.entry) v.key ≡ true → IsBody v.key v finished → length (bytes_of v.number finished) ≤ weight_for b =
+      let enough : (v : Write Kept) → same_bytes (stored_key b.entry) v.key ≡ true → IsBody v.key v finished → length (bytes_of v.number finished) ≤ weight_for b.bytes =
       λ v t i.
       let there : body_at v.key (store_of finished) ≡ Some (stored_of v finished) = ((store_of-is finished orderly).bodies v.key (stored_of v finished)).1 (i, refl) in
       let here : body_at v.key (store_of finished) ≡ Some x = ap (body_at v.key) left ∙ body_at-with v.key x (store_of changes).bodies ∙ ap (λ t. cond t (Some x) (body_at v.key (store_of changes))) t in
       let same : x ≡ stored_of v finished = cc in
-      subst (λ (y : Stored Kept). length y.bytes ≤ weight_for b) same (le-max_right 1 (length b.bytes)) in
+      subst (λ (y : Stored Kept). length y.bytes ≤ weight_for b.bytes) same (le-max_right 1 (length b.bytes)) in
       record {
         orderly = (tt, orderly);
         below = (tt, (tt, (tt, (omega arith, all_begin_less n (suc n) changes (omega arith) l.below))));
         landed = ap (λ (s : Store Kept). s.flying) left;
         bodies = λ k. ap (option_map held_of) (body_of-with k b bodies)
-            ∙ both_there (same_bytes (stored_key b.entry) k) b x (body_of k bodies) (body_at k (store_of changes)) refl (l.bodies k)
+            ∙ both_there (same_bytes (stored_key b.entry) k) (found_of b) x (body_of k bodies) (body_at k (store_of changes)) refl (l.bodies k)
             ∙ sym (ap (option_map view) (ap (body_at k) left ∙ body_at-with k x (store_of changes).bodies));
         some = l.some;
-        rows = AreShardsOf-after {M = Kept} N (admits (alone b.entry) (weight_for b)) (alone b.entry) m.shards (rows_of changes) l.some refl l.rows;
+        rows = AreShardsOf-after {M = Kept} N (admits (alone b.entry) (weight_for b.bytes)) (alone b.entry) m.shards (rows_of changes) l.some refl l.rows;
         lawful = l.lawful;
         tracks = (same_bytes-tells.itself (stored_key b.entry), enough, (tt, tt, (tt, tt, (unbound (begins w) changes l.settled, tt, l.tracks))));
         settled = refl;
@@ -202,14 +203,14 @@ module _ (N : ℕ) where
       (taken_out N (alone b.entry) m) (extended (extended changes (stores n b es)) (clears b.entry)) same
       (leaves-cleared (suc n) b.entry (without_bodies es (put_body b bodies)) m (extended changes (stores n b es)) l)
     where
-      none : (v w : Bool) (o p : Option FinishedBody) → cond v None (cond w None o) ≡ cond v None (cond w None (cond v p o))
+      none : (v w : Bool) (o p : Option Body) → cond v None (cond w None o) ≡ cond v None (cond w None (cond v p o))
       none true w o p = refl
       none false w o p = refl
 
       same : (k : StoredKey) → body_of k (without_body (stored_key b.entry) (without_bodies es bodies)) ≡ body_of k (without_body (stored_key b.entry) (without_bodies es (put_body b bodies)))
       same k =
           body_of-without k (stored_key b.entry) (without_bodies es bodies) ∙ ap (cond (same_bytes (stored_key b.entry) k) None) (body_of-without_all k es bodies)
-          ∙ none (same_bytes (stored_key b.entry) k) (has_key k es) (body_of k bodies) (Some b)
+          ∙ none (same_bytes (stored_key b.entry) k) (has_key k es) (body_of k bodies) (Some (found_of b))
           ∙ sym (body_of-without k (stored_key b.entry) (without_bodies es (put_body b bodies)) ∙ ap (cond (same_bytes (stored_key b.entry) k) None) (body_of-without_all k es (put_body b bodies)
           ∙ ap (cond (has_key k es) None) (body_of-with k b bodies)))
 
@@ -227,7 +228,7 @@ none_flies k v changes o e f =
 pub shown_body : (k : StoredKey) (changes : Changes Kept) → (store_of changes).flying ≡ [] → shown_at k (store_of changes) ≡ body_at k (store_of changes)
 shown_body k changes e = rw e refl
 
-held_there : (o : Option FinishedBody) (b : FinishedBody) (x : Option (Stored Kept)) → o ≡ Some b → AreSame o x → (y : Stored Kept) × (x ≡ Some y) × (view y ≡ held_of b)
+held_there : (o : Option Body) (b : Body) (x : Option (Stored Kept)) → o ≡ Some b → AreSame o x → (y : Stored Kept) × (x ≡ Some y) × (view y ≡ held_of b)
 held_there None b x there e = absurd cc
 held_there (Some c) b None there e = absurd cc
 held_there (Some c) b (Some y) there e =
@@ -235,12 +236,12 @@ held_there (Some c) b (Some y) there e =
     let pair : held_of c ≡ view y = cc in
     (y, refl, sym pair ∙ ap held_of same)
 
-held_none : (o : Option FinishedBody) (x : Option (Stored Kept)) → o ≡ None → AreSame o x → x ≡ None
+held_none : (o : Option Body) (x : Option (Stored Kept)) → o ≡ None → AreSame o x → x ≡ None
 held_none None None there e = refl
 held_none None (Some y) there e = absurd cc
 held_none (Some c) x there e = absurd cc
 
-held_back : (o : Option FinishedBody) (x : Option (Stored Kept)) (y : Stored Kept) → x ≡ Some y → AreSame o x → (b : FinishedBody) × (o ≡ Some b) × (held_of b ≡ view y)
+held_back : (o : Option Body) (x : Option (Stored Kept)) (y : Stored Kept) → x ≡ Some y → AreSame o x → (b : Body) × (o ≡ Some b) × (held_of b ≡ view y)
 held_back None (Some z) y there e = absurd cc
 held_back None None y there e = absurd cc
 held_back (Some b) None y there e = absurd cc
@@ -250,7 +251,7 @@ held_back (Some b) (Some z) y there e =
     (b, refl, pair ∙ ap view same)
 
 -- the write of a body that is held
-pub record Shows (k : StoredKey) (b : FinishedBody) (changes : Changes Kept) : Type 0 where
+pub record Shows (k : StoredKey) (b : Body) (changes : Changes Kept) : Type 0 where
   pub write : Write Kept
   pub shown : IsShown k write changes
   pub body : IsBody k write changes
@@ -261,7 +262,7 @@ module _ (N n : ℕ) (bodies : Bodies) (m : Managed) (changes : Changes Kept) (l
   pub none_in_flight : (k : StoredKey) (v : Write Kept) → IsFlying k v changes → ⊥
   none_in_flight k v f = none_flies k v changes l.orderly l.landed f
 
-  pub shows : (k : StoredKey) (b : FinishedBody) → body_of k bodies ≡ Some b → Shows k b changes
+  pub shows : (k : StoredKey) (b : Body) → body_of k bodies ≡ Some b → Shows k b changes
   shows k b e =
       let there = held_there (body_of k bodies) b (body_at k (store_of changes)) e (l.bodies k) in
       let x : Stored Kept = there.0 in
@@ -275,7 +276,7 @@ module _ (N n : ℕ) (bodies : Bodies) (m : Managed) (changes : Changes Kept) (l
         tells = ap view (sym body.1) ∙ there.2;
       }
 
-  pub found : (k : StoredKey) (b : FinishedBody) → body_of k bodies ≡ Some b → IsFound k changes
+  pub found : (k : StoredKey) (b : Body) → body_of k bodies ≡ Some b → IsFound k changes
   found k b e =
       let x = shows k b e in
       (x.write, x.body.of_key, x.body.alive)
@@ -288,7 +289,7 @@ module _ (N n : ℕ) (bodies : Bodies) (m : Managed) (changes : Changes Kept) (l
       absurd cc
 
   -- the body of a write is held
-  pub is_held : (k : StoredKey) (w : Write Kept) → IsBody k w changes → (b : FinishedBody) × (body_of k bodies ≡ Some b) × (held_of b ≡ told_of changes w)
+  pub is_held : (k : StoredKey) (w : Write Kept) → IsBody k w changes → (b : Body) × (body_of k bodies ≡ Some b) × (held_of b ≡ told_of changes w)
   is_held k w i =
       let at = ((store_of-is changes l.orderly).bodies k (stored_of w changes)).1 (i, refl) in
       held_back (body_of k bodies) (body_at k (store_of changes)) (stored_of w changes) at (l.bodies k)

@@ -9,6 +9,7 @@ use Rattle.cache_entries.specs.Entry.{key_of}
 use Rattle.tier_model.specs.Keys.{alone, stored_key_of}
 use Rattle.tier_model.specs.declared.whole.Whole.{Whole}
 use Rattle.tier_model.specs.declared.whole.Whole.TheVariants as whole
+use Rattle.tier_model.specs.declared.state.Body.{Body}
 use Rattle.tier_model.specs.declared.state.FinishedBody.{FinishedBody}
 use Rattle.tier_model.specs.declared.state.Request.{Request}
 use Rattle.tier_model.specs.declared.state.Reader.{Reader}
@@ -41,7 +42,7 @@ module _ (start : Opening) where
   look_right s t g i a h None fits e p = absurd p
   look_right s t g i a h (Some q) fits e p = by_body (body_for q s.bodies) refl p.0
     where
-      by_body : (b : Option FinishedBody) → body_for q s.bodies ≡ b → a ≡ look_answer t b → LooksRight i t a h (changes_of start h)
+      by_body : (b : Option Body) → body_for q s.bodies ≡ b → a ≡ look_answer t b → LooksRight i t a h (changes_of start h)
       by_body None be ae =
           subst (λ (x : Answer). LooksRight i t x h (changes_of start h)) (sym ae)
           (key_of q.entry, (of_request start s h fits i q e).0.0, not_found (shards_of s) (length h) s.bodies s.managed (changes_of start h) fits.holds.leaves (stored_key (key_of q.entry)) be)
@@ -49,7 +50,7 @@ module _ (start : Opening) where
           let x = shows (shards_of s) (length h) s.bodies s.managed (changes_of start h) fits.holds.leaves (stored_key (key_of q.entry)) b be in
           let none = none_in_flight (shards_of s) (length h) s.bodies s.managed (changes_of start h) fits.holds.leaves (stored_key (key_of q.entry)) in
           subst (λ (y : Answer). LooksRight i t y h (changes_of start h)) (sym ae)
-          (key_of q.entry, x.write, (of_request start s h fits i q e).0.0, x.shown, ap (λ (p : Kept × List ℕ). at_most t p.0.fresh_until) (sym x.tells), (λ c. none, λ n. refl))
+          (key_of q.entry, x.write, (of_request start s h fits i q e).0.0, x.shown, ap (λ (p : MomentValue × List ℕ). at_most t p.0) (sym x.tells), (λ c. none, λ n. refl))
 
   reader_right : (t : MomentValue) (g : Option Whole) (i : ℕ) (r : Reader) (h : History) → has_reader r ≡ true → ReaderFits start i r h → IsRight start t (Read i) g (Ok (read_answer r)) h
   reader_right t g i Closed h e fits = cc
@@ -80,7 +81,7 @@ module _ (start : Opening) where
   purge_right : (s : State) (k : StoredKey) (h : History) → Fits start s h → PurgesRight k (Purged (is_some (body_of k s.bodies))) (changes_of start h)
   purge_right s k h fits = by_body (body_of k s.bodies) refl
     where
-      by_body : (o : Option FinishedBody) → body_of k s.bodies ≡ o → (is_some o ≡ true) ↔ IsFound k (changes_of start h)
+      by_body : (o : Option Body) → body_of k s.bodies ≡ o → (is_some o ≡ true) ↔ IsFound k (changes_of start h)
       by_body None e =
           (λ t. absurd cc, λ found. absurd (not_found (shards_of s) (length h) s.bodies s.managed (changes_of start h) fits.holds.leaves k e found))
       by_body (Some b) e = (λ t. found (shards_of s) (length h) s.bodies s.managed (changes_of start h) fits.holds.leaves k b e, λ f. refl)
@@ -98,17 +99,21 @@ module _ (start : Opening) where
   put_right s n changes made l None a p = absurd p
 
   -- and so has one that is refused for it
-  kept_out_right : (s : State) (n : ℕ) (changes : Changes Kept) (b : FinishedBody) (f : TierFault) → IsKeptOut s (alone b.entry) (weight_for b) stored_alone f → PutsRight start.settings n (Some (whole.Stored b)) (Err f) changes
+  kept_out_right : (s : State) (n : ℕ) (changes : Changes Kept) (b : FinishedBody) (f : TierFault) → IsKeptOut s (alone b.entry) (weight_for b.bytes) stored_alone f → PutsRight start.settings n (Some (whole.Stored b)) (Err f) changes
   kept_out_right s n changes b (TooHeavy d) p = subst (λ (x : Done). PutsRight start.settings n (Some (whole.Stored b)) (Err (TooHeavy x)) changes) (sym p.0) (b, refl, refl)
   kept_out_right s n changes b (TooLong d) p = subst (λ (x : Done). PutsRight start.settings n (Some (whole.Stored b)) (Err (TooLong x)) changes) (sym p.0) (b, refl, refl)
   kept_out_right s n changes b (NumbersSpent d) p = subst (λ (x : Done). PutsRight start.settings n (Some (whole.Stored b)) (Err (NumbersSpent x)) changes) (sym p.0) (b, refl, refl)
+  kept_out_right s n changes b (Memory d) p = subst (λ (x : Done). PutsRight start.settings n (Some (whole.Stored b)) (Err (Memory x)) changes) (sym p.0) (b, refl, refl)
   kept_out_right s n changes b _ p = absurd p
 
   put_fault_right : (s : State) (n : ℕ) (changes : Changes Kept) → IsMade start.settings s.managed → Keeps (shards_of s) n s.bodies s.managed changes
       → (g : Option Whole) (f : TierFault) → IsPutFault s g f → PutsRight start.settings n g (Err f) changes
   put_fault_right s n changes made l (Some (whole.Stored b)) f p = elim p [
-    | inl out ↦ kept_out_right s n changes b f out
-    | inr cut ↦ subst (λ (x : TierFault). PutsRight start.settings n (Some (whole.Stored b)) (Err x) changes) (sym cut.1) (b, refl, makes_room s n changes l start.settings true b cut.0 made cut.3)
+    | inl spent ↦ subst (λ (x : TierFault). PutsRight start.settings n (Some (whole.Stored b)) (Err x) changes) (sym spent.0) (refl, refl)
+    | inr late ↦ elim late [
+      | inl out ↦ kept_out_right s n changes b f out
+      | inr cut ↦ subst (λ (x : TierFault). PutsRight start.settings n (Some (whole.Stored b)) (Err x) changes) (sym cut.1) (b, refl, makes_room s n changes l start.settings true b cut.0 made cut.3)
+    ]
   ]
   put_fault_right s n changes made l (Some whole.Incomplete) f p = subst (λ (x : TierFault). PutsRight start.settings n (Some whole.Incomplete) (Err x) changes) (sym p) refl
   put_fault_right s n changes made l (Some whole.BadHead) f p = subst (λ (x : TierFault). PutsRight start.settings n (Some whole.BadHead) (Err x) changes) (sym p) refl

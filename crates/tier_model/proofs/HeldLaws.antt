@@ -8,13 +8,14 @@ use Rattle.std.specs.FinMap.{entries, entries_sorted, get-entries, is_sorted}
 use Rattle.std.specs.FinMap.Entries.{below_all}
 use Rattle.std.specs.FinMap as finite
 use Rattle.std.proofs.lemmas.List.Sums.{sum_by-cons}
+use Rattle.cache_words.specs.Time.{MomentValue}
 use Rattle.cache_entries.specs.Keys.{same_bytes}
 use Rattle.cache_changes.specs.Changes.{StoredKey, Write, Changes}
 use Rattle.cache_changes.specs.Writes.{bytes_of, IsBody}
 use Rattle.cache_changes.specs.Bound as writes
 use Rattle.cache_entries.specs.SameEntry.{same_bytes-tells, same-sym}
 use Rattle.cache_evict.specs.Managed.{Managed}
-use Rattle.tier_model.specs.declared.state.FinishedBody.{FinishedBody}
+use Rattle.tier_model.specs.declared.state.Body.{Body}
 use Rattle.tier_model.specs.Histories.{Kept}
 use Rattle.tier_model.specs.Reports.{AreAllBodies}
 use Rattle.tier_model.specs.Past.{held_of, told_of, held_at, told_at}
@@ -24,7 +25,7 @@ use Rattle.tier_model.proofs.ChangeLaws.{Leaves, shows, is_held}
 use Rattle.cache_changes.proofs.LaterLaws.{one_body}
 
 abbrev Rows : Type 0
-Rows = List (StoredKey × FinishedBody)
+Rows = List (StoredKey × Body)
 
 -- sums over them
 pub sums : (changes : Changes Kept) (ys : Rows) (ws : List (Write Kept)) → map held_at ys ≡ map (told_at changes) ws
@@ -34,8 +35,8 @@ sums changes (b ∷ bs) (w ∷ ws) e =
     let one : held_at b ≡ told_at changes w = cc in
     let more : map held_at bs ≡ map (told_at changes) ws = cc in
     let rest = sums changes bs ws more in (
-      sum_by-cons (λ (x : FinishedBody). length x.bytes) b.1 (map (λ e. e.1) bs) ∙ ap (λ m. length b.1.bytes + m) rest.0
-          ∙ ap (λ (x : StoredKey × (Kept × List ℕ)). length x.1.1 + sum_by (λ w. length (bytes_of w.number changes)) ws) one
+      sum_by-cons (λ (x : Body). length x.bytes) b.1 (map (λ e. e.1) bs) ∙ ap (λ m. length b.1.bytes + m) rest.0
+          ∙ ap (λ (x : StoredKey × (MomentValue × List ℕ)). length x.1.1 + sum_by (λ w. length (bytes_of w.number changes)) ws) one
           ∙ sym (sum_by-cons (λ (x : Write Kept). length (bytes_of x.number changes)) w ws),
       omega (arith, rest.1),
     )
@@ -70,7 +71,7 @@ sorted_distinct [] h = tt
 sorted_distinct (y ∷ ys) h = (below_apart y.0 ys (first _ _ h), sorted_distinct ys (second _ _ h))
 
 -- the first body of a key
-abbrev found_at : StoredKey → Rows → Option FinishedBody
+abbrev found_at : StoredKey → Rows → Option Body
 found_at k ys = finite.find (slice_cmp nat_cmp) k ys
 
 -- each of them is found by its key
@@ -118,8 +119,8 @@ module _ (N n : ℕ) (bodies : Bodies) (m : Managed) (changes : Changes Kept) (l
   all_told : (ys : Rows) (ws : List (Write Kept)) → ArePairs ys ws → map held_at ys ≡ map (told_at changes) ws
   all_told [] [] p = refl
   all_told (b ∷ bs) (w ∷ ws) p =
-      ap (λ (x : Kept × List ℕ). (b.0, x) ∷ map held_at bs) p.1 ∙ ap (λ (k : StoredKey). (k, told_of changes w) ∷ map held_at bs) (sym (one_key b.0 w p.0))
-      ∙ ap (λ (xs : List (StoredKey × (Kept × List ℕ))). told_at changes w ∷ xs) (all_told bs ws p.2)
+      ap (λ (x : MomentValue × List ℕ). (b.0, x) ∷ map held_at bs) p.1 ∙ ap (λ (k : StoredKey). (k, told_of changes w) ∷ map held_at bs) (sym (one_key b.0 w p.0))
+      ∙ ap (λ (xs : List (StoredKey × (MomentValue × List ℕ))). told_at changes w ∷ xs) (all_told bs ws p.2)
   all_told [] (w ∷ ws) p = absurd p
   all_told (b ∷ bs) [] p = absurd p
 
@@ -129,7 +130,7 @@ module _ (N n : ℕ) (bodies : Bodies) (m : Managed) (changes : Changes Kept) (l
   all_bodies [] (w ∷ ws) p = absurd p
   all_bodies (b ∷ bs) [] p = absurd p
 
-  found_in : (k : StoredKey) (w : Write Kept) (b : FinishedBody) (ys : Rows) (ws : List (Write Kept)) → ArePairs ys ws → IsBody k w changes → found_at k ys ≡ Some b
+  found_in : (k : StoredKey) (w : Write Kept) (b : Body) (ys : Rows) (ws : List (Write Kept)) → ArePairs ys ws → IsBody k w changes → found_at k ys ≡ Some b
       → find (λ v. same_bytes v.key k) ws ≡ Some w
   found_in k w b [] [] p i e = absurd cc
   found_in k w b (y ∷ ys) (v ∷ ws) p i e = by_test (found_in k w b ys ws p.2 i) (eq_by_cmp (slice_cmp nat_cmp) k y.0) refl e

@@ -7,6 +7,7 @@ use Rattle.cache_words.specs.Key.{CacheKeyValue}
 use Rattle.tier_model.specs.declared.whole.Whole.{Whole}
 use Rattle.tier_model.specs.declared.whole.Whole.TheVariants.{Stored}
 use Rattle.tier_model.specs.declared.whole.Whole.TheVariants as whole
+use Rattle.tier_model.specs.declared.state.Body.{Body}
 use Rattle.tier_model.specs.declared.state.FinishedBody.{FinishedBody}
 use Rattle.tier_model.specs.declared.state.Request.{Request}
 use Rattle.tier_model.specs.declared.state.Reader.{Reader}
@@ -19,14 +20,13 @@ use Rattle.tier_model.specs.declared.event.Answer.TheVariants as answer
 use Rattle.tier_model.specs.declared.event.Done.{Done}
 use Rattle.tier_model.specs.declared.event.TierFault.{TierFault}
 use Rattle.tier_model.specs.Keys.{alone, stored_key_of}
-use Rattle.response_parse.specs.Response.{Reading}
 use Rattle.tier_model.specs.Calls.{Call, History, Outcome, read_by, evicted_by, nothing_done, done_of}
 use Rattle.tier_model.specs.Reports.{found_answers, absent_answers, evictions, is_found, is_absent, shown}
 use Rattle.tier_model.specs.Rows.{body_of, weight_for}
 use Rattle.tier_model.specs.State.{State, shards_of}
-use Rattle.tier_model.specs.Step.{refusal, AllowsBy, Allows, IsAnswer, IsPutAnswer, after, answered, undone, taken_back, on_request, look_answer, after_look_up, read_answer, after_read, after_purge, after_put, UseFits, body_for, counted, admitted, until, stored_alone, IsPutFault}
+use Rattle.tier_model.specs.Step.{refusal, AllowsBy, Allows, IsAnswer, IsPutAnswer, after, after_outcome, answered, undone, taken_back, on_request, look_answer, after_look_up, read_answer, after_read, after_purge, after_put, UseFits, body_for, counted, admitted, until, stored_alone, IsPutFault}
 use Rattle.tier_model.proofs.RowSteps.{gone-count}
-use Rattle.tier_model.proofs.StepLaws.{call_at, answer_allowed, did_nothing, kept_out-done}
+use Rattle.tier_model.proofs.StepLaws.{Inside, call_at, answer_allowed, did_nothing, kept_out-done}
 
 -- the counts of a state are those of its history
 pub record Tallies (s : State) (h : History) : Type 0 where
@@ -46,7 +46,7 @@ uncounted s new c h f a e nf na ne t = record {
   evicted = e ∙ t.evicted ∙ ap shown (omega (arith, ap length ne));
 }
 
-look_tally : (s : State) (t : MomentValue) (read : Option Reading) (i : ℕ) (q : Request) (b : Option FinishedBody) (a : Answer) (h : History) → a ≡ look_answer t b → Tallies s h
+look_tally : (s : State) (t : MomentValue) (read : Inside) (i : ℕ) (q : Request) (b : Option Body) (a : Answer) (h : History) → a ≡ look_answer t b → Tallies s h
     → Tallies (after_look_up s t i q b) (call_at t (LookUp i) read (Ok a) ∷ h)
 look_tally s t read i q None a h e tally = subst (λ (y : Answer). Tallies (after_look_up s t i q None) (call_at t (LookUp i) read (Ok y) ∷ h)) (sym e) (record {
   found = tally.found;
@@ -59,13 +59,13 @@ look_tally s t read i q (Some b) a h e tally = subst (λ (y : Answer). Tallies (
   evicted = tally.evicted ∙ ap shown (omega arith);
 })
 
-request_tally : (s : State) (t : MomentValue) (read : Option Reading) (i : ℕ) (a : Answer) (h : History) (o : Option Request)
+request_tally : (s : State) (t : MomentValue) (read : Inside) (i : ℕ) (a : Answer) (h : History) (o : Option Request)
     → MatchOption o ⊥ (λ q. (a ≡ look_answer t (body_for q s.bodies)) × UseFits s q)
     → Tallies s h → Tallies (on_request s o (λ q. after_look_up s t i q (body_for q s.bodies))) (call_at t (LookUp i) read (Ok a) ∷ h)
 request_tally s t read i a h None p tally = absurd p
 request_tally s t read i a h (Some q) p tally = look_tally s t read i q (body_for q s.bodies) a h p.0 tally
 
-read_tally : (s : State) (t : MomentValue) (read : Option Reading) (i : ℕ) (a : Answer) (h : History) (o : Option Request) → MatchOption o ⊥ (λ q. a ≡ read_answer q.reader)
+read_tally : (s : State) (t : MomentValue) (read : Inside) (i : ℕ) (a : Answer) (h : History) (o : Option Request) → MatchOption o ⊥ (λ q. a ≡ read_answer q.reader)
     → Tallies s h → Tallies (on_request s o (λ q. record s { requests = insert s.requests i (after_read q) })) (call_at t (Read i) read (Ok a) ∷ h)
 read_tally s t read i a h None p tally = absurd p
 read_tally s t read i a h (Some q) p tally = by_reader q.reader p
@@ -79,12 +79,12 @@ read_tally s t read i a h (Some q) p tally = by_reader q.reader p
         subst (λ (y : Answer). Tallies new (call_at t (Read i) read (Ok y) ∷ h)) (sym e) (uncounted s new (call_at t (Read i) read (Ok (Bytes bytes))) h refl refl refl refl refl refl tally)
     by_reader Spent e = subst (λ (y : Answer). Tallies new (call_at t (Read i) read (Ok y) ∷ h)) (sym e) (uncounted s new (call_at t (Read i) read (Ok End)) h refl refl refl refl refl refl tally)
 
-purge_tally : (s : State) (t : MomentValue) (read : Option Reading) (key : CacheKeyValue) (h : History) (v : Bool) → Tallies s h → Tallies (after_purge s key v) (call_at t (Purge key) read (Ok (Purged v)) ∷ h)
+purge_tally : (s : State) (t : MomentValue) (read : Inside) (key : CacheKeyValue) (h : History) (v : Bool) → Tallies s h → Tallies (after_purge s key v) (call_at t (Purge key) read (Ok (Purged v)) ∷ h)
 purge_tally s t read key h false tally = uncounted s s (call_at t (Purge key) read (Ok (Purged false))) h refl refl refl refl refl refl tally
 purge_tally s t read key h true tally =
     uncounted s (after_purge s key true) (call_at t (Purge key) read (Ok (Purged true))) h refl refl refl refl refl refl tally
 
-put_tally : (s : State) (t : MomentValue) (read : Option Reading) (g : Option Whole) (key : CacheKeyValue) (pieces : List (List ℕ)) (a : Answer) (h : History) → IsPutAnswer s g a
+put_tally : (s : State) (t : MomentValue) (read : Inside) (g : Option Whole) (key : CacheKeyValue) (pieces : List (List ℕ)) (a : Answer) (h : History) → IsPutAnswer s g a
     → Tallies s h → Tallies (after_put s g a) (call_at t (Put key pieces) read (Ok a) ∷ h)
 put_tally s t read (Some (Stored b)) key pieces (Finished n es) h p tally = record {
   found = tally.found;
@@ -100,7 +100,7 @@ put_tally s t read (Some whole.BeforeEpoch) key pieces _ h p tally = absurd p
 put_tally s t read (Some (whole.Uncacheable reason)) key pieces _ h p tally = absurd p
 put_tally s t read None key pieces _ h p tally = absurd p
 
-answer_tally : (s : State) (t : MomentValue) (read : Option Reading) (g : Option Whole) (action : Action) (a : Answer) (h : History) → IsAnswer s t action g a → Tallies s h → Tallies (answered s t action g a) (call_at t action read (Ok a) ∷ h)
+answer_tally : (s : State) (t : MomentValue) (read : Inside) (g : Option Whole) (action : Action) (a : Answer) (h : History) → IsAnswer s t action g a → Tallies s h → Tallies (answered s t action g a) (call_at t action read (Ok a) ∷ h)
 answer_tally s t read g (Open i key) a h p tally =
     subst (λ (y : Answer). Tallies (answered s t (Open i key) g y) (call_at t (Open i key) read (Ok y) ∷ h)) (sym p)
     (uncounted s (answered s t (Open i key) g Opened) (call_at t (Open i key) read (Ok Opened)) h refl refl refl refl refl refl tally)
@@ -125,7 +125,7 @@ quiet_undone s (Some whole.BeforeEpoch) done e = refl
 quiet_undone s (Some (whole.Uncacheable reason)) done e = refl
 quiet_undone s None done e = refl
 
-quiet_tally : (s : State) (t : MomentValue) (read : Option Reading) (g : Option Whole) (action : Action) (f : TierFault) (h : History) → done_of f ≡ nothing_done → Tallies s h
+quiet_tally : (s : State) (t : MomentValue) (read : Inside) (g : Option Whole) (action : Action) (f : TierFault) (h : History) → done_of f ≡ nothing_done → Tallies s h
     → Tallies (undone s g (done_of f)) (call_at t action read (Err f) ∷ h)
 quiet_tally s t read g action f h d tally =
     subst (λ (x : State). Tallies x (call_at t action read (Err f) ∷ h)) (sym (quiet_undone s g (done_of f) d))
@@ -135,7 +135,7 @@ until_count : (v : Bool) (s : State) (b : FinishedBody) → (until v s b).evicte
 until_count false s b = refl
 until_count true s b = refl
 
-back_tally : (s : State) (t : MomentValue) (read : Option Reading) (b : FinishedBody) (action : Action) (f : TierFault) (h : History) → (done_of f).stored ≡ true → Tallies s h
+back_tally : (s : State) (t : MomentValue) (read : Inside) (b : FinishedBody) (action : Action) (f : TierFault) (h : History) → (done_of f).stored ≡ true → Tallies s h
     → Tallies (undone s (Some (Stored b)) (done_of f)) (call_at t action read (Err f) ∷ h)
 back_tally s t read b action f h stored tally =
     subst (λ (v : Bool). Tallies (taken_back v s b (done_of f)) (call_at t action read (Err f) ∷ h)) (sym stored) (record {
@@ -145,11 +145,14 @@ back_tally s t read b action f h stored tally =
           ∙ ap (λ (v : Bool). shown (evictions h + length (cond v (done_of f).evicted []))) (sym stored);
     })
 
-put_fault_tally : (s : State) (t : MomentValue) (read : Option Reading) (g : Option Whole) (action : Action) (f : TierFault) (h : History) → IsPutFault s g f → Tallies s h
+put_fault_tally : (s : State) (t : MomentValue) (read : Inside) (g : Option Whole) (action : Action) (f : TierFault) (h : History) → IsPutFault s g f → Tallies s h
     → Tallies (undone s g (done_of f)) (call_at t action read (Err f) ∷ h)
 put_fault_tally s t read (Some (Stored b)) action f h p tally = elim p [
-  | inl out ↦ back_tally s t read b action f h (ap (λ (d : Done). d.stored) (kept_out-done s (alone b.entry) (weight_for b) stored_alone f out)) tally
-  | inr cut ↦ back_tally s t read b action f h (ap (λ (x : TierFault). (done_of x).stored) cut.1) tally
+  | inl spent ↦ quiet_tally s t read (Some (Stored b)) action f h (ap done_of spent.0) tally
+  | inr late ↦ elim late [
+    | inl out ↦ back_tally s t read b action f h (ap (λ (d : Done). d.stored) (kept_out-done s (alone b.entry) (weight_for b.bytes) stored_alone f out)) tally
+    | inr cut ↦ back_tally s t read b action f h (ap (λ (x : TierFault). (done_of x).stored) cut.1) tally
+  ]
 ]
 put_fault_tally s t read (Some whole.Incomplete) action f h p tally = quiet_tally s t read (Some whole.Incomplete) action f h (ap done_of p) tally
 put_fault_tally s t read (Some whole.BadHead) action f h p tally = quiet_tally s t read (Some whole.BadHead) action f h (ap done_of p) tally
@@ -157,7 +160,7 @@ put_fault_tally s t read (Some whole.BeforeEpoch) action f h p tally = quiet_tal
 put_fault_tally s t read (Some (whole.Uncacheable reason)) action f h p tally = absurd p
 put_fault_tally s t read None action f h p tally = absurd p
 
-fault_tally : (s : State) (t : MomentValue) (read : Option Reading) (g : Option Whole) (action : Action) (f : TierFault) (h : History) → AllowsBy (refusal s action) s t action g (Err f) → Tallies s h
+fault_tally : (s : State) (t : MomentValue) (read : Inside) (g : Option Whole) (action : Action) (f : TierFault) (h : History) → AllowsBy (refusal s action) s t action g (Err f) → Tallies s h
     → Tallies (undone s g (done_of f)) (call_at t action read (Err f) ∷ h)
 fault_tally s t read g (Open i key) f h p tally = quiet_tally s t read g (Open i key) f h (did_nothing s t g (Open i key) f p refl) tally
 fault_tally s t read g (LookUp i) f h p tally = quiet_tally s t read g (LookUp i) f h (did_nothing s t g (LookUp i) f p refl) tally
@@ -171,8 +174,10 @@ fault_tally s t read g (Put key pieces) f h p tally = elim p [
 
 -- each lawful call keeps the counts
 pub Tallies-after : (s : State) (c : Call) (h : History) → Allows s c → Tallies s h → Tallies (after s c) (c ∷ h)
-Tallies-after s c h p tally = by_outcome c.outcome p.1
+Tallies-after s c h p tally =
+    let t = by_outcome c.outcome p.1 in
+    record { found = t.found; absent = t.absent; evicted = t.evicted }
   where
-    by_outcome : (o : Outcome) → AllowsBy (refusal s c.event.action) s c.event.moment c.event.action (read_by c) o → Tallies (after s (record c { outcome = o })) (record c { outcome = o } ∷ h)
-    by_outcome (Ok a) p = answer_tally s c.event.moment c.reading (read_by c) c.event.action a h (answer_allowed (refusal s c.event.action) s c.event.moment (read_by c) c.event.action a p) tally
-    by_outcome (Err f) p = fault_tally s c.event.moment c.reading (read_by c) c.event.action f h p tally
+    by_outcome : (o : Outcome) → AllowsBy (refusal s c.event.action) s c.event.moment c.event.action (read_by c) o → Tallies (after_outcome s c.event.moment c.event.action (read_by c) o) (record c { outcome = o } ∷ h)
+    by_outcome (Ok a) p = answer_tally s c.event.moment (c.reading, c.began) (read_by c) c.event.action a h (answer_allowed (refusal s c.event.action) s c.event.moment (read_by c) c.event.action a p) tally
+    by_outcome (Err f) p = fault_tally s c.event.moment (c.reading, c.began) (read_by c) c.event.action f h p tally

@@ -12,7 +12,7 @@ use Rattle.cache_changes.specs.Writes.{bytes_of}
 use Rattle.cache_entries.specs.Entry.{key_of}
 use Rattle.tier_model.specs.Keys.{Entry, entry_of, alone, stored_key_of}
 use Rattle.tier_model.specs.declared.whole.Whole.{Whole}
-use Rattle.tier_model.specs.declared.state.FinishedBody.{FinishedBody}
+use Rattle.tier_model.specs.declared.state.Body.{Body}
 use Rattle.tier_model.specs.declared.state.Request.{Request}
 use Rattle.tier_model.specs.declared.state.Reader.{Reader}
 use Rattle.tier_model.specs.declared.state.Reader.TheVariants.{Closed, Unread, Spent}
@@ -24,14 +24,13 @@ use Rattle.tier_model.specs.declared.event.Answer.{Answer}
 use Rattle.tier_model.specs.declared.event.Answer.TheVariants.{Opened, Found, Absent, Bytes, End, Dropped}
 use Rattle.tier_model.specs.declared.event.TierFault.{TierFault}
 use Rattle.tier_model.specs.declared.event.TierFault.TheVariants.{WrongPhase}
-use Rattle.response_parse.specs.Response.{Reading}
 use Rattle.tier_model.specs.Calls.{Call, History, Outcome, read_by, opened_for, entry_after, ends_reader, bytes_given, bytes_read, bytes_answered, done_of}
 use Rattle.tier_model.specs.Histories.{Kept, Opening, changes_of, HasHit}
 use Rattle.tier_model.specs.Requests.{phase_after, phase_of, reader_after, reader_of, HasFound, IsRequestOf}
 use Rattle.tier_model.specs.Rows.{body_of}
 use Rattle.tier_model.specs.State.{State, shards_of}
 use Rattle.tier_model.specs.Step.{refusal, unless_open, has_reader, AllowsBy, Allows, IsAnswer, after, answered, undone, opened_request, look_answer, looked, after_look_up, on_request, read_answer, after_read, after_purge, after_put, UseFits, body_for}
-use Rattle.tier_model.proofs.StepLaws.{call_at, answer_allowed, KeepsRequests-purge, KeepsRequests-put, KeepsRequests-undone, made-after}
+use Rattle.tier_model.proofs.StepLaws.{Inside, call_at, answer_allowed, KeepsRequests-purge, KeepsRequests-put, KeepsRequests-undone, made-after}
 use Rattle.tier_model.proofs.ChangeLaws.{Shows, shows}
 use Rattle.tier_model.proofs.BoundLaws.{Keeps}
 use Rattle.tier_model.proofs.EventLaws.{Holds, Holds-after}
@@ -138,17 +137,17 @@ module _ (start : Opening) where
   of_request s h fits i q e = subst (λ (o : Option Request). RequestFits i o h) e (fits.requests i)
 
   -- what a complete hit showed is what the reader has
-  found_reader : (t : MomentValue) (read : Option Reading) (i : ℕ) (q : Request) (b : FinishedBody) (fresh : Bool) (h : History) → opened_for i h ≡ Some (key_of q.entry) → Shows (stored_key (key_of q.entry)) b (changes_of start h)
+  found_reader : (t : MomentValue) (read : Inside) (i : ℕ) (q : Request) (b : Body) (fresh : Bool) (h : History) → opened_for i h ≡ Some (key_of q.entry) → Shows (stored_key (key_of q.entry)) b (changes_of start h)
       → ReaderFits i (Unread b.bytes) (call_at t (LookUp i) read (Ok (Found fresh true)) ∷ h)
   found_reader t read i q b fresh h key x = (
     x.write,
     [],
     record { call = call_at t (LookUp i) read (Ok (Found fresh true)); before = h; entry = key_of q.entry; split = refl; hit = ap (λ v. v && true) (itself i); of_entry = key; shows = x.shown; last = tt },
     refl,
-    sym (ap (λ (p : Kept × List ℕ). p.1) x.tells),
+    sym (ap (λ (p : MomentValue × List ℕ). p.1) x.tells),
   )
 
-  look_fits : (s : State) (t : MomentValue) (read : Option Reading) (i : ℕ) (a : Answer) (h : History) (o : Option Request) → Fits s h → get s.requests i ≡ o
+  look_fits : (s : State) (t : MomentValue) (read : Inside) (i : ℕ) (a : Answer) (h : History) (o : Option Request) → Fits s h → get s.requests i ≡ o
       → MatchOption o ⊥ (λ q. (a ≡ look_answer t (body_for q s.bodies)) × UseFits s q)
       → (id : ℕ) → RequestFits id (get (on_request s o (λ q. after_look_up s t i q (body_for q s.bodies))).requests id) (call_at t (LookUp i) read (Ok a) ∷ h)
   look_fits s t read i a h None fits e p id = absurd p
@@ -157,7 +156,7 @@ module _ (start : Opening) where
       open_key : IsFor q (opened_for i h)
       open_key = (of_request s h fits i q e).0
 
-      by_body : (b : Option FinishedBody) → body_for q s.bodies ≡ b → a ≡ look_answer t b → RequestFits id (get (after_look_up s t i q b).requests id) (call_at t (LookUp i) read (Ok a) ∷ h)
+      by_body : (b : Option Body) → body_for q s.bodies ≡ b → a ≡ look_answer t b → RequestFits id (get (after_look_up s t i q b).requests id) (call_at t (LookUp i) read (Ok a) ∷ h)
       by_body None be ae =
           subst (λ (x : Answer). RequestFits id (get (after_look_up s t i q None).requests id) (call_at t (LookUp i) read (Ok x) ∷ h)) (sym ae)
           (placed s.requests i (looked t q None) id (call_at t (LookUp i) read (Ok Absent)) h
@@ -175,7 +174,7 @@ module _ (start : Opening) where
           (λ n. record { key = refl; reader = n; bytes = refl; phase = λ p. ap (λ v. cond v (cond fresh Hit Stale) p) n; left = λ bytes r. ap (λ v. cond v (Unread bytes) r) n }) (fits.requests id))
 
   -- a read of what is unread gives all of it, and one after it nothing
-  read_reader : (t : MomentValue) (read : Option Reading) (i : ℕ) (r : Reader) (h : History) → has_reader r ≡ true → ReaderFits i r h → ReaderFits i Spent (call_at t (Read i) read (Ok (read_answer r)) ∷ h)
+  read_reader : (t : MomentValue) (read : Inside) (i : ℕ) (r : Reader) (h : History) → has_reader r ≡ true → ReaderFits i r h → ReaderFits i Spent (call_at t (Read i) read (Ok (read_answer r)) ∷ h)
   read_reader t read i Closed h e fits = cc
   read_reader t read i (Unread bytes) h e fits = (
     fits.0,
@@ -198,7 +197,7 @@ module _ (start : Opening) where
       by_test true n e = n
       by_test false n e = cc
 
-  read_fits : (s : State) (t : MomentValue) (read : Option Reading) (i : ℕ) (a : Answer) (h : History) (o : Option Request) → Fits s h → get s.requests i ≡ o
+  read_fits : (s : State) (t : MomentValue) (read : Inside) (i : ℕ) (a : Answer) (h : History) (o : Option Request) → Fits s h → get s.requests i ≡ o
       → unless_open o (λ q. cond (has_reader q.reader) None (Some WrongPhase)) ≡ None → MatchOption o ⊥ (λ q. a ≡ read_answer q.reader)
       → (id : ℕ) → RequestFits id (get (on_request s o (λ q. record s { requests = insert s.requests i (after_read q) })).requests id) (call_at t (Read i) read (Ok a) ∷ h)
   read_fits s t read i a h None fits e n p id = absurd p
@@ -215,7 +214,7 @@ module _ (start : Opening) where
   pub unmoved : (s new : State) (c : Call) (h : History) → Fits s h → new.requests ≡ s.requests → ((id : ℕ) → IsOther id c h) → (id : ℕ) → RequestFits id (get new.requests id) (c ∷ h)
   unmoved s new c h fits e other id = subst (λ (m : FinMap nat_cmp Request). RequestFits id (get m id) (c ∷ h)) (sym e) (other_request id (get s.requests id) c h (other id) (fits.requests id))
 
-  answer_fits : (s : State) (t : MomentValue) (read : Option Reading) (g : Option Whole) (action : Action) (a : Answer) (h : History) → Fits s h → refusal s action ≡ None → IsAnswer s t action g a
+  answer_fits : (s : State) (t : MomentValue) (read : Inside) (g : Option Whole) (action : Action) (a : Answer) (h : History) → Fits s h → refusal s action ≡ None → IsAnswer s t action g a
       → (id : ℕ) → RequestFits id (get (answered s t action g a).requests id) (call_at t action read (Ok a) ∷ h)
   answer_fits s t read g (Open i key) a h fits n p id =
       subst (λ (x : Answer). RequestFits id (get (insert s.requests i (opened_request (entry_of key))) id) (call_at t (Open i key) read (Ok x) ∷ h)) (sym p)
@@ -243,7 +242,7 @@ module _ (start : Opening) where
   answer_fits s t read g (Put key pieces) a h fits n p id =
       unmoved s (after_put s g a) (call_at t (Put key pieces) read (Ok a)) h fits (KeepsRequests-put s g a).requests (λ i. record { key = refl; reader = refl; bytes = refl; phase = λ p. refl; left = λ bytes r. refl }) id
 
-  fault_other : (t : MomentValue) (read : Option Reading) (action : Action) (f : TierFault) (h : History) (id : ℕ) → IsOther id (call_at t action read (Err f)) h
+  fault_other : (t : MomentValue) (read : Inside) (action : Action) (f : TierFault) (h : History) (id : ℕ) → IsOther id (call_at t action read (Err f)) h
   fault_other t read (Open i key) f h id = record { key = refl; reader = refl; bytes = refl; phase = λ p. refl; left = λ bytes r. refl }
   fault_other t read (LookUp i) f h id = record { key = refl; reader = refl; bytes = refl; phase = λ p. refl; left = λ bytes r. refl }
   fault_other t read (Read i) f h id = record { key = refl; reader = refl; bytes = refl; phase = λ p. refl; left = λ bytes r. refl }
@@ -267,6 +266,6 @@ module _ (start : Opening) where
       kept n e l = subst (λ (x : ℕ). Keeps x (length (c ∷ h)) (after s c).bodies (after s c).managed (changes_of start (c ∷ h))) (sym e) l
 
       by_outcome : (o : Outcome) → AllowsBy (refusal s c.event.action) s c.event.moment c.event.action (read_by c) o → (id : ℕ) → RequestFits id (get (after s (record c { outcome = o })).requests id) (record c { outcome = o } ∷ h)
-      by_outcome (Ok a) p = answer_fits s c.event.moment c.reading (read_by c) c.event.action a h fits
+      by_outcome (Ok a) p = answer_fits s c.event.moment (c.reading, c.began) (read_by c) c.event.action a h fits
           (unrefused (refusal s c.event.action) s c.event.moment (read_by c) c.event.action a refl p) (answer_allowed (refusal s c.event.action) s c.event.moment (read_by c) c.event.action a p)
-      by_outcome (Err f) p = unmoved s (undone s (read_by c) (done_of f)) (call_at c.event.moment c.event.action c.reading (Err f)) h fits (KeepsRequests-undone s (read_by c) f).requests (fault_other c.event.moment c.reading c.event.action f h)
+      by_outcome (Err f) p = unmoved s (undone s (read_by c) (done_of f)) (call_at c.event.moment c.event.action (c.reading, c.began) (Err f)) h fits (KeepsRequests-undone s (read_by c) f).requests (fault_other c.event.moment (c.reading, c.began) c.event.action f h)

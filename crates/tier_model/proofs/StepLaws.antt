@@ -7,6 +7,7 @@ use Rattle.cache_words.specs.Key.{CacheKeyValue}
 use Rattle.tier_model.specs.declared.whole.Whole.{Whole}
 use Rattle.tier_model.specs.declared.whole.Whole.TheVariants.{Stored}
 use Rattle.tier_model.specs.declared.whole.Whole.TheVariants as whole
+use Rattle.tier_model.specs.declared.state.Body.{Body}
 use Rattle.tier_model.specs.declared.state.FinishedBody.{FinishedBody}
 use Rattle.tier_model.specs.declared.state.Request.{Request}
 use Rattle.tier_model.specs.declared.event.Action.{Action}
@@ -14,7 +15,7 @@ use Rattle.tier_model.specs.declared.event.Action.TheVariants.{Open, LookUp, Rea
 use Rattle.tier_model.specs.declared.event.Answer.{Answer}
 use Rattle.tier_model.specs.declared.event.Answer.TheVariants.{Finished}
 use Rattle.tier_model.specs.declared.event.TierFault.{TierFault}
-use Rattle.tier_model.specs.declared.event.TierFault.TheVariants.{NoRequest, IdInUse, WrongPhase, TooHeavy, TooLong, NumbersSpent}
+use Rattle.tier_model.specs.declared.event.TierFault.TheVariants.{NoRequest, IdInUse, WrongPhase, TooHeavy, TooLong, NumbersSpent, Memory}
 use Rattle.tier_model.specs.declared.event.Done.{Done}
 use Rattle.cache_entries.specs.declared.entry.CacheEntryKey.{CacheEntryKey}
 use Rattle.cache_entries.specs.Rows.{weight_of}
@@ -39,7 +40,7 @@ KeepsRequests-purge s key true = record { made = λ x h. made-out x (shards_of s
 
 pub KeepsRequests-put : (s : State) (g : Option Whole) (a : Answer) → KeepsRequests s (after_put s g a)
 KeepsRequests-put s (Some (Stored b)) (Finished n es) =
-    record { made = λ x h. made-gone x (shards_of s) es (admitted s b) (made-put x (shards_of s) (alone b.entry) (weight_for b) s.managed h); requests = refl }
+    record { made = λ x h. made-gone x (shards_of s) es (admitted s b) (made-put x (shards_of s) (alone b.entry) (weight_for b.bytes) s.managed h); requests = refl }
 KeepsRequests-put s (Some (Stored b)) _ = record { made = λ x h. h; requests = refl }
 KeepsRequests-put s (Some whole.Incomplete) a = record { made = λ x h. h; requests = refl }
 KeepsRequests-put s (Some whole.BadHead) a = record { made = λ x h. h; requests = refl }
@@ -49,7 +50,7 @@ KeepsRequests-put s None a = record { made = λ x h. h; requests = refl }
 
 made-until : (v : Bool) (s : State) (b : FinishedBody) (x : Settings) → IsMade x s.managed → IsMade x (until v s b)
 made-until false s b x h = h
-made-until true s b x h = made-put x (shards_of s) (alone b.entry) (weight_for b) s.managed h
+made-until true s b x h = made-put x (shards_of s) (alone b.entry) (weight_for b.bytes) s.managed h
 
 KeepsRequests-back : (v : Bool) (s : State) (b : FinishedBody) (done : Done) → KeepsRequests s (taken_back v s b done)
 KeepsRequests-back false s b done = record { made = λ x h. h; requests = refl }
@@ -95,8 +96,12 @@ refused_nothing s (Drop id) f e = by_request (get s.requests id) e
 refused_nothing s (Purge key) f e = cc
 refused_nothing s (Put key pieces) f e = cc
 
-abbrev pub call_at : MomentValue → Action → Option Reading → Outcome → Call
-call_at t action read outcome = record { event = record { moment = t; action = action }; outcome = outcome; reading = read }
+-- what a call did inside: the reading of its response, and whether a write began
+abbrev pub Inside : Type 0
+Inside = Option Reading × Bool
+
+abbrev pub call_at : MomentValue → Action → Inside → Outcome → Call
+call_at t action read outcome = record { event = record { moment = t; action = action }; outcome = outcome; reading = read.0; began = read.1 }
 
 -- what is answered where no check fails
 pub answer_allowed : (r : Option TierFault) (s : State) (t : MomentValue) (g : Option Whole) (action : Action) (a : Answer) → AllowsBy r s t action g (Ok a) → IsAnswer s t action g a
@@ -114,6 +119,7 @@ pub kept_out-done : (s : State) (e : CacheEntryKey) (w : ℕ) (done : Done) (f :
 kept_out-done s e w done (TooHeavy told) p = p.0
 kept_out-done s e w done (TooLong told) p = p.0
 kept_out-done s e w done (NumbersSpent told) p = p.0
+kept_out-done s e w done (Memory told) p = p.0
 kept_out-done s e w done _ p = absurd p
 
 -- a refused event that stores nothing did nothing
@@ -126,9 +132,9 @@ did_nothing s t g (LookUp id) f p e = elim (fault_allowed (refusal s (LookUp id)
     unused None x = absurd x
     unused (Some q) x = by_body (body_for q s.bodies) x
       where
-        by_body : (o : Option FinishedBody) → MatchOption o ⊥ (λ b. (weight_of q.entry (rows_of (shards_of s) q.entry s.managed) ≡ None) × IsKeptOut s q.entry (weight_for b) nothing_done f) → done_of f ≡ nothing_done
+        by_body : (o : Option Body) → MatchOption o ⊥ (λ b. (weight_of q.entry (rows_of (shards_of s) q.entry s.managed) ≡ None) × IsKeptOut s q.entry (weight_for b.bytes) nothing_done f) → done_of f ≡ nothing_done
         by_body None y = absurd y
-        by_body (Some b) y = kept_out-done s q.entry (weight_for b) nothing_done f y.1
+        by_body (Some b) y = kept_out-done s q.entry (weight_for b.bytes) nothing_done f y.1
 did_nothing s t g (Read id) f p e = elim (fault_allowed (refusal s (Read id)) s t g (Read id) f refl p) [ inl d ↦ d | inr q ↦ elim q [ inl m ↦ absurd m.1 | inr x ↦ absurd x ] ]
 did_nothing s t g (Drop id) f p e = elim (fault_allowed (refusal s (Drop id)) s t g (Drop id) f refl p) [ inl d ↦ d | inr q ↦ elim q [ inl m ↦ absurd m.1 | inr x ↦ absurd x ] ]
 did_nothing s t g (Purge key) f p e = elim p [ inl m ↦ absurd m.1 | inr x ↦ absurd x ]
@@ -138,9 +144,9 @@ request_made : (s : State) (x : Settings) (o : Option Request) (f : Request → 
 request_made s x None f m h = m
 request_made s x (Some q) f m h = h q
 
-look_made : (s : State) (x : Settings) (t : MomentValue) (i : ℕ) (q : Request) (b : Option FinishedBody) → IsMade x s.managed → IsMade x (after_look_up s t i q b).managed
+look_made : (s : State) (x : Settings) (t : MomentValue) (i : ℕ) (q : Request) (b : Option Body) → IsMade x s.managed → IsMade x (after_look_up s t i q b).managed
 look_made s x t i q None m = m
-look_made s x t i q (Some b) m = made-used x (shards_of s) q.entry (weight_for b) s.managed m
+look_made s x t i q (Some b) m = made-used x (shards_of s) q.entry (weight_for b.bytes) s.managed m
 
 answer_made : (s : State) (x : Settings) (t : MomentValue) (g : Option Whole) (action : Action) (a : Answer) → IsMade x s.managed → IsMade x (answered s t action g a).managed
 answer_made s x t g (Open i key) a m = m

@@ -1,13 +1,13 @@
 -- A hash map seen as a finite map: what is found in it, and sums over it.
-use Rattle.std.proofs.Common.{◌≡◌, ℕ, ◌+◌, List, [], ◌∷◌, refl, ap, sym, ◌∙◌, cond, true, false, length, arith, Ordering, Less, Equal, Greater}
-use Rattle.std.specs.Prelude.{Bool, Option, Some, None, is_some, map, nat_eq}
+use Rattle.std.proofs.Common.{◌≡◌, ℕ, ◌+◌, List, [], ◌∷◌, refl, ap, sym, ◌∙◌, subst, cond, true, false, length, arith, Ordering, Less, Equal, Greater}
+use Rattle.std.specs.Prelude.{Bool, T, ◌&&◌, Option, Some, None, is_some, option_map, map, nat_eq}
 use Rattle.std.specs.List.{AllByRecursion, IsDistinct, sum_by}
-use Rattle.std.specs.Ordering.{is_eq, nat_cmp, eq_by_cmp}
+use Rattle.std.specs.Ordering.{is_eq, is_lt, nat_cmp, eq_by_cmp}
 use Rattle.std.specs.Cmp.{IsTotalOrder, unsigned_tied}
 use Rattle.std.specs.Cmp.Lexicographic.{pointwise, slice_cmp, texts_ties}
 use Rattle.std.proofs.lemmas.Cmp.{nat_cmp_total, nat_eq_equiv, eq_by_cmp_equiv}
-use Rattle.std.specs.FinMap.{IsAntisymmetric, entries, empty, get, insert, remove, len, values, from_entries, find, put, same_map, get-entries, get-from_entries, get-insert, get-remove, entries-insert, len-entries, len-empty, len-insert, nat_cmp-IsAntisymmetric}
-use Rattle.std.specs.FinMap.Entries.{by_order}
+use Rattle.std.specs.FinMap.{FinMap, IsAntisymmetric, entries, entries_sorted, entries-from_sorted, from_sorted, get-from_sorted, is_sorted, empty, get, insert, remove, len, values, from_entries, find, put, same_map, get-entries, get-from_entries, get-insert, get-remove, entries-insert, len-entries, len-empty, len-insert, nat_cmp-IsAntisymmetric}
+use Rattle.std.specs.FinMap.Entries.{by_order, below_all}
 use Rattle.std.specs.Map.{keys_of, values_of, lookup, set_value}
 use Rattle.std.proofs.lemmas.List.{nil_from_length}
 use Rattle.std.proofs.lemmas.List.Sums.{sum_by-cons}
@@ -71,6 +71,33 @@ module _ {K X : Type 0} {R : K → K → Ordering} (eq : K → K → Bool) (tota
   len-keyed (e ∷ es) d =
       let m = from_entries {R = R} es in
       len-insert total m e.0 e.1 ∙ ap (λ (o : Option X). cond (is_some o) (len m) (len m + 1)) (get-keyed es e.0 ∙ none_new e.0 es d.0) ∙ omega (arith, len-keyed es d.1)
+
+-- a map whose values are those of another one, each through a function
+abbrev pub each_of : {K X Y : Type 0} → (X → Y) → List (K × X) → List (K × Y)
+each_of f es = map (λ e. (e.0, f e.1)) es
+
+module _ {K X Y : Type 0} (R : K → K → Ordering) (f : X → Y) where
+  each-below : (k : K) (es : List (K × X)) → below_all R k (each_of f es) ≡ below_all R k es
+  each-below k [] = refl
+  each-below k (e ∷ es) = ap (λ t. is_lt (R k e.0) && t) (each-below k es)
+
+  each-sorted : (es : List (K × X)) → is_sorted R (each_of f es) ≡ is_sorted R es
+  each-sorted [] = refl
+  each-sorted (e ∷ es) = ap (λ t. t && is_sorted R (each_of f es)) (each-below e.0 es) ∙ ap (λ t. below_all R e.0 es && t) (each-sorted es)
+
+  each-found : (q : K) (es : List (K × X)) → find R q (each_of f es) ≡ option_map f (find R q es)
+  each-found q [] = refl
+  each-found q (e ∷ es) = by_test (eq_by_cmp R q e.0) (each-found q es)
+    where
+      by_test : (t : Bool) → find R q (each_of f es) ≡ option_map f (find R q es) → cond t (Some (f e.1)) (find R q (each_of f es)) ≡ option_map f (cond t (Some e.1) (find R q es))
+      by_test true ih = refl
+      by_test false ih = ih
+
+  pub entries-each : IsTotalOrder R → IsAntisymmetric R → (m : FinMap R X) (n : FinMap R Y) → ((q : K) → get n q ≡ option_map f (get m q)) → entries n ≡ each_of f (entries m)
+  entries-each total apart m n h =
+      let sorted : T (is_sorted R (each_of f (entries m))) = subst T (sym (each-sorted (entries m))) (entries_sorted m) in
+      ap entries (same_map total apart n (from_sorted (each_of f (entries m))) (λ q. h q ∙ ap (option_map f) (get-entries m q) ∙ sym (each-found q (entries m)) ∙ sym (get-from_sorted R (each_of f (entries m)) q sorted)))
+      ∙ entries-from_sorted R (each_of f (entries m)) sorted
 
 -- keys of bytes
 pub bytes_tied : (x y : List ℕ) → eq_by_cmp (slice_cmp nat_cmp) x y ≡ pointwise nat_eq x y

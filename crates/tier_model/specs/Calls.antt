@@ -1,5 +1,5 @@
 -- Calls of a tier, and what one call tells: what it stored and evicted, and what a request read.
-use Rattle.std.specs.Prelude.{◌≡◌, ℕ, ◌==◌, Bool, false, ◌&&◌, List, [], ◌∷◌, ◌++◌, if◌then◌else◌, Option, Some, None, Result, Ok, Err}
+use Rattle.std.specs.Prelude.{◌≡◌, ℕ, ◌+◌, ◌==◌, Bool, true, false, ◌&&◌, List, [], ◌∷◌, ◌++◌, if◌then◌else◌, Option, Some, None, Result, Ok, Err}
 use Rattle.cache_entries.specs.declared.entry.CacheEntryKey.{CacheEntryKey}
 use Rattle.tier_model.specs.declared.state.FinishedBody.{FinishedBody}
 use Rattle.tier_model.specs.declared.whole.Whole.{Whole}
@@ -20,11 +20,12 @@ use Rattle.tier_model.specs.Response.{whole_in}
 abbrev pub Outcome : Type 0
 Outcome = Result Answer TierFault
 
--- an event with its outcome, and the reading of its response, where one was read
+-- an event with its outcome, the reading of its response, where one was read, and whether a write of its body began
 pub record Call : Type 0 where
   pub event : Event
   pub outcome : Outcome
   pub reading : Option Reading
+  pub began : Bool
 
 -- the calls of one tier, the latest first
 abbrev pub History : Type 0
@@ -71,6 +72,17 @@ read_by c = whole_in c.event.moment c.event.action c.reading
 abbrev pub stored_in : Option Whole → Option FinishedBody
 stored_in (Some (Stored body)) = Some body
 stored_in _ = None
+
+-- a body was stored, though it may have been removed again
+abbrev pub has_stored : Outcome → Bool
+has_stored (Ok (Finished length evicted)) = true
+has_stored (Ok _) = false
+has_stored (Err fault) = (done_of fault).stored
+
+-- how many writes began, after a call
+abbrev pub writes_after : ℕ → Bool → ℕ
+writes_after n false = n
+writes_after n true = n + 1
 
 abbrev pub entry_after : ℕ → Action → Outcome → Option Entry → Option Entry
 entry_after id (Open request key) (Ok Opened) old = if request == id then Some (entry_of key) else old

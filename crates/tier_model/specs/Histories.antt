@@ -44,7 +44,7 @@ goes es = map (λ e. evicts e) es
 
 -- a body is written whole, its entry is admitted, and then these are evicted
 abbrev pub stores : ℕ → FinishedBody → List CacheEntryKey → List (Change Kept)
-stores n b gone = begins (write_of n b) ∷ appends n b.bytes ∷ finishes (write_of n b) ∷ admits (alone b.entry) (weight_for b) ∷ goes gone
+stores n b gone = begins (write_of n b) ∷ appends n b.bytes ∷ finishes (write_of n b) ∷ admits (alone b.entry) (weight_for b.bytes) ∷ goes gone
 
 -- what an entry's key has is removed, and the entry departs
 abbrev pub clears : Entry → List (Change Kept)

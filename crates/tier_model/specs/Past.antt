@@ -8,12 +8,13 @@ use Rattle.cache_changes.specs.Changes.{StoredKey, Write, Changes}
 use Rattle.cache_changes.specs.Writes.{bytes_of, meta_of}
 use Rattle.cache_changes.specs.Uses.{IsOrderOfUse, in_shard, AreShardsOf}
 use Rattle.cache_evict.specs.Managed.{Managed, fresh}
-use Rattle.tier_model.specs.declared.state.FinishedBody.{FinishedBody}
+use Rattle.cache_words.specs.Time.{MomentValue}
+use Rattle.tier_model.specs.declared.state.Body.{Body}
 use Rattle.tier_model.specs.Calls.{Call, History, extended}
-use Rattle.tier_model.specs.Histories.{Kept, Opening, kept_of, changes_of}
+use Rattle.tier_model.specs.Histories.{Kept, Opening, changes_of}
 use Rattle.tier_model.specs.Headline.{HoldsHeadline}
 use Rattle.tier_model.specs.Requests.{AreRequests}
-use Rattle.tier_model.specs.Reports.{AreAllBodies, shown, found_answers, absent_answers, evictions}
+use Rattle.tier_model.specs.Reports.{AreAllBodies, shown, found_answers, absent_answers, evictions, writes_begun}
 use Rattle.tier_model.specs.State.{State, empty_state}
 use Rattle.tier_model.specs.Step.{Allows, after}
 
@@ -35,21 +36,21 @@ abbrev pub IsLawful : Opening → History → Type 0
 IsLawful start [] = (0 < start.settings.shards) × AreDistinct start.loaded
 IsLawful start (c ∷ h) = Allows (state_of start h) c × IsLawful start h
 
--- what is kept of a body, and what changes say of a write
-abbrev pub held_of : FinishedBody → Kept × List ℕ
-held_of b = (kept_of b, b.bytes)
+-- what a look-up finds of a body, and what changes say of a write: the last moment at which it is fresh, and the bytes
+abbrev pub held_of : Body → MomentValue × List ℕ
+held_of b = (b.fresh_until, b.bytes)
 
-abbrev pub told_of : Changes Kept → Write Kept → Kept × List ℕ
-told_of changes w = (meta_of w changes, bytes_of w.number changes)
+abbrev pub told_of : Changes Kept → Write Kept → MomentValue × List ℕ
+told_of changes w = ((meta_of w changes).fresh_until, bytes_of w.number changes)
 
 -- the same of a body that is held under a key, and of a write with its key
-abbrev pub held_at : StoredKey × FinishedBody → StoredKey × (Kept × List ℕ)
+abbrev pub held_at : StoredKey × Body → StoredKey × (MomentValue × List ℕ)
 held_at e = (e.0, held_of e.1)
 
-abbrev pub told_at : Changes Kept → Write Kept → StoredKey × (Kept × List ℕ)
+abbrev pub told_at : Changes Kept → Write Kept → StoredKey × (MomentValue × List ℕ)
 told_at changes w = (w.key, told_of changes w)
 
--- the state's bodies are all that the history has, one a key, each under its key with its bytes, its entry and its moment
+-- the state's bodies are all that the history has, one a key, each under its key with its bytes and its moment
 abbrev pub HoldsBodies : State → Opening → History → Type 0
 HoldsBodies s start h =
     (writes : List (Write Kept)) × AreAllBodies writes (changes_of start h)
@@ -60,7 +61,7 @@ abbrev pub HoldsOrder : Managed → Opening → History → Type 0
 HoldsOrder m start h =
     (0 < start.settings.shards) × ((rows : List Tracked) × IsOrderOfUse rows (changes_of start h) × AreShardsOf start.settings.shards m.shards rows)
 
--- the state is what the history says: its bodies, the order of use, the open requests, and the counts
+-- the state is what the history says: its bodies, the order of use, the open requests, the counts, and how many writes began
 pub record MatchesHistory (s : State) (start : Opening) (h : History) : Type 0 where
   pub bodies : HoldsBodies s start h
   pub order : HoldsOrder s.managed start h
@@ -68,6 +69,7 @@ pub record MatchesHistory (s : State) (start : Opening) (h : History) : Type 0 w
   pub found : s.found ≡ shown (found_answers h)
   pub absent : s.absent ≡ shown (absent_answers h)
   pub evicted : s.managed.evicted_items ≡ shown (evictions h)
+  pub writes : s.writes ≡ writes_begun h
 
 -- the state may come after that history; the headline holds of it, and the state is what it says
 pub record HasPast (start : Opening) (s : State) (h : History) : Type 0 where

@@ -5,14 +5,15 @@ use Rattle.std.specs.Cmp.Lexicographic.{slice_cmp}
 use Rattle.std.specs.FinMap.{FinMap, get, insert, remove}
 use Rattle.cache_entries.specs.declared.entry.CacheEntryKey.{CacheEntryKey}
 use Rattle.cache_changes.specs.Changes.{StoredKey, stored_key, key_alone}
+use Rattle.tier_model.specs.declared.state.Body.{Body}
 use Rattle.tier_model.specs.declared.state.FinishedBody.{FinishedBody}
 
 -- finished bodies by their stored keys, which are in the order of their bytes
 abbrev pub Bodies : Type 0
-Bodies = FinMap (slice_cmp nat_cmp) FinishedBody
+Bodies = FinMap (slice_cmp nat_cmp) Body
 
 -- the body of a key
-abbrev pub body_of : StoredKey → Bodies → Option FinishedBody
+abbrev pub body_of : StoredKey → Bodies → Option Body
 body_of k bodies = get bodies k
 
 abbrev pub without_body : StoredKey → Bodies → Bodies
@@ -28,10 +29,14 @@ abbrev pub without_bodies : List CacheEntryKey → Bodies → Bodies
 without_bodies [] bodies = bodies
 without_bodies (e ∷ es) bodies = without_bodies es (without_key (key_alone e) bodies)
 
+-- what a look-up finds of a body that was stored
+abbrev pub found_of : FinishedBody → Body
+found_of b = record { bytes = b.bytes; fresh_until = b.fresh_until }
+
 -- a body takes the place of the one before it
 abbrev pub with_body : FinishedBody → Bodies → Bodies
-with_body b bodies = insert bodies (stored_key b.entry) b
+with_body b bodies = insert bodies (stored_key b.entry) (found_of b)
 
--- what a body weighs
-abbrev pub weight_for : FinishedBody → ℕ
-weight_for b = max 1 (length b.bytes)
+-- what a body of these bytes weighs
+abbrev pub weight_for : List ℕ → ℕ
+weight_for bytes = max 1 (length bytes)

@@ -26,6 +26,8 @@ pub record State : Type 0 where
   -- look-ups answered found, look-ups answered absent; each stops at 2^64 - 1
   pub found : ℕ
   pub absent : ℕ
+  -- how many writes of bodies began: the number of the next
+  pub writes : ℕ
 
 -- how many shards the order of use has
 abbrev pub shards_of : State → ℕ
@@ -41,4 +43,5 @@ empty_state settings = record {
   requests = empty;
   found = 0;
   absent = 0;
+  writes = 0;
 }

@@ -1,5 +1,5 @@
 -- One event: the first refusal, the answers and faults that a state allows, and the state after them.
-use Rattle.std.specs.Prelude.{◌≡◌, ◌<◌, ℕ, ◌+◌, ◌-◌, ◌^◌, min, Bool, true, false, List, [], length, if◌then◌else◌, Option, Some, None, is_some, Ok, Err, MatchResult, MatchOption, ◌⊎◌}
+use Rattle.std.specs.Prelude.{◌≡◌, ◌≢◌, ◌<◌, ℕ, ◌+◌, ◌-◌, ◌^◌, min, Bool, true, false, List, [], length, if◌then◌else◌, Option, Some, None, is_some, Ok, Err, MatchResult, MatchOption, ◌⊎◌}
 use Rattle.std.specs.FinMap.{get, insert, remove}
 use Rattle.cache_words.specs.Time.{MomentValue, at_most}
 use Rattle.cache_words.specs.Key.{CacheKeyValue}
@@ -10,6 +10,7 @@ use Rattle.cache_changes.specs.Changes.{stored_key}
 use Rattle.cache_evict.specs.Managed.{Managed, rows_of, put_first, use_first, taken_out, total_size, IsHeavy, IsLong, IsFull}
 use Rattle.tier_model.specs.Keys.{Entry, entry_of, alone, stored_key_of}
 use Rattle.tier_model.specs.Evictions.{all_gone, GoInTurn}
+use Rattle.tier_model.specs.declared.state.Body.{Body}
 use Rattle.tier_model.specs.declared.state.FinishedBody.{FinishedBody}
 use Rattle.tier_model.specs.declared.state.Request.{Request}
 use Rattle.tier_model.specs.declared.state.Phase.{Phase}
@@ -29,7 +30,7 @@ use Rattle.tier_model.specs.declared.event.Done.{Done}
 use Rattle.tier_model.specs.declared.event.TierFault.{TierFault}
 use Rattle.tier_model.specs.declared.event.TierFault.TheVariants.{NoRequest, IdInUse, WrongPhase, NumbersSpent, TooHeavy, TooLong, Memory}
 use Rattle.tier_model.specs.Response.{IsRead}
-use Rattle.tier_model.specs.Calls.{Call, Outcome, nothing_done, done_of, read_by}
+use Rattle.tier_model.specs.Calls.{Call, Outcome, nothing_done, done_of, read_by, has_stored, writes_after}
 use Rattle.tier_model.specs.Rows.{Bodies, body_of, with_body, without_body, without_bodies, weight_for}
 use Rattle.tier_model.specs.State.{State, shards_of}
 
@@ -68,15 +69,15 @@ abbrev pub opened_request : Entry → Request
 opened_request entry = record { entry = alone entry; phase = CacheKey; reader = Closed }
 
 -- the body that a request finds
-abbrev pub body_for : Request → Bodies → Option FinishedBody
+abbrev pub body_for : Request → Bodies → Option Body
 body_for q bodies = body_of (stored_key (key_of q.entry)) bodies
 
-abbrev pub look_answer : MomentValue → Option FinishedBody → Answer
+abbrev pub look_answer : MomentValue → Option Body → Answer
 look_answer t None = Absent
 look_answer t (Some b) = Found (at_most t b.fresh_until) true
 
 -- a request after its look-up
-abbrev pub looked : MomentValue → Request → Option FinishedBody → Request
+abbrev pub looked : MomentValue → Request → Option Body → Request
 looked t q None = record q { phase = Miss; reader = Closed }
 looked t q (Some b) = record q { phase = if at_most t b.fresh_until then Hit else Stale; reader = Unread b.bytes }
 
@@ -100,18 +101,19 @@ all_done evicted = record { stored = true; admitted = true; evicted = evicted }
 
 -- the order of use with the entry of a body put first
 abbrev pub admitted : State → FinishedBody → Managed
-admitted s b = put_first (shards_of s) (alone b.entry) (weight_for b) s.managed
+admitted s b = put_first (shards_of s) (alone b.entry) (weight_for b.bytes) s.managed
 
 -- the order of use after a use of an entry for which that body was found
-abbrev pub used : State → CacheEntryKey → FinishedBody → Managed
-used s e b = use_first (shards_of s) e (weight_for b) s.managed
+abbrev pub used : State → CacheEntryKey → Body → Managed
+used s e b = use_first (shards_of s) e (weight_for b.bytes) s.managed
 
 -- the weights together can be counted
 abbrev pub Fits : Managed → Type 0
 Fits m = total_size m < 2 ^ 64
 
--- why an entry of that weight is kept out of the order of use, and what was done until then
+-- why an entry of that weight is kept out of the order of use, and what was done until then; one that is tracked takes no memory
 abbrev pub IsKeptOut : State → CacheEntryKey → ℕ → Done → TierFault → Type 0
+IsKeptOut s e w done (Memory told) = (told ≡ done) × (weight_of e (rows_of (shards_of s) e s.managed) ≡ None)
 IsKeptOut s e w done (TooHeavy told) = (told ≡ done) × IsHeavy (shards_of s) e w s.managed
 IsKeptOut s e w done (TooLong told) = (told ≡ done) × IsLong (shards_of s) e s.managed
 IsKeptOut s e w done (NumbersSpent told) = (told ≡ done) × IsFull (shards_of s) e s.managed
@@ -129,11 +131,15 @@ IsCutShort s b f = (evicted : List CacheEntryKey) × (f ≡ Memory (all_done evi
 
 -- why a body that was stored is taken back
 abbrev pub IsStoreFault : State → FinishedBody → TierFault → Type 0
-IsStoreFault s b f = IsKeptOut s (alone b.entry) (weight_for b) stored_alone f ⊎ IsCutShort s b f
+IsStoreFault s b f = IsKeptOut s (alone b.entry) (weight_for b.bytes) stored_alone f ⊎ IsCutShort s b f
+
+-- no number is left for a write
+abbrev pub HasNoNumber : State → TierFault → Type 0
+HasNoNumber s f = (f ≡ NumbersSpent nothing_done) × (s.writes ≡ 2 ^ 64 - 1)
 
 -- the faults of a put but for memory that is refused before anything is stored
 abbrev pub IsPutFault : State → Option Whole → TierFault → Type 0
-IsPutFault s (Some (Stored b)) f = IsStoreFault s b f
+IsPutFault s (Some (Stored b)) f = HasNoNumber s f ⊎ IsStoreFault s b f
 IsPutFault s (Some whole.Incomplete) f = f ≡ fault.Incomplete
 IsPutFault s (Some whole.BadHead) f = f ≡ fault.BadHead
 IsPutFault s (Some whole.BeforeEpoch) f = f ≡ fault.BeforeEpoch
@@ -165,7 +171,7 @@ MayTakeMemory s (Put key pieces) = Unit {0}
 -- why the entry of what a request found isn't used: it isn't tracked, and is kept out
 abbrev pub IsUseFault : State → Request → TierFault → Type 0
 IsUseFault s q f =
-    MatchOption (body_for q s.bodies) ⊥ (λ b. (weight_of q.entry (rows_of (shards_of s) q.entry s.managed) ≡ None) × IsKeptOut s q.entry (weight_for b) nothing_done f)
+    MatchOption (body_for q s.bodies) ⊥ (λ b. (weight_of q.entry (rows_of (shards_of s) q.entry s.managed) ≡ None) × IsKeptOut s q.entry (weight_for b.bytes) nothing_done f)
 
 -- the faults that come after the checks, but for memory
 abbrev pub IsLateFault : State → Action → Option Whole → TierFault → Type 0
@@ -181,16 +187,24 @@ abbrev pub AllowsBy : Option TierFault → State → MomentValue → Action → 
 AllowsBy (Some f) s t action w outcome = outcome ≡ Err f
 AllowsBy None s t action w outcome = MatchResult outcome (IsAnswer s t action w) (IsFault s action w)
 
+-- whether a write began: only of a body that a response gave, where a number is left, and always of one that was stored
+abbrev pub Begins : State → Option Whole → Outcome → Bool → Type 0
+Begins s (Some (Stored b)) outcome true = s.writes ≢ 2 ^ 64 - 1
+Begins s (Some (Stored b)) outcome false = has_stored outcome ≡ false
+Begins s _ outcome began = began ≡ false
+
 -- what a state allows for a call
 abbrev pub Allows : State → Call → Type 0
-Allows s c = IsRead c.event.action c.reading × AllowsBy (refusal s c.event.action) s c.event.moment c.event.action (read_by c) c.outcome
+Allows s c =
+    IsRead c.event.action c.reading × AllowsBy (refusal s c.event.action) s c.event.moment c.event.action (read_by c) c.outcome
+    × Begins s (read_by c) c.outcome c.began
 
 -- a count that stops at 2^64 - 1
 abbrev pub counted : ℕ → ℕ → ℕ
 counted n more = min (n + more) (2 ^ 64 - 1)
 
 -- the state after a look-up of request q, named id, that found this
-abbrev pub after_look_up : State → MomentValue → ℕ → Request → Option FinishedBody → State
+abbrev pub after_look_up : State → MomentValue → ℕ → Request → Option Body → State
 after_look_up s t id q None = record s { requests = insert s.requests id (looked t q None); absent = counted s.absent 1 }
 after_look_up s t id q (Some b) =
     record s { requests = insert s.requests id (looked t q (Some b)); managed = used s q.entry b; found = counted s.found 1 }
@@ -239,4 +253,4 @@ after_outcome s t action w (Err f) = undone s w (done_of f)
 
 -- the state after a call
 abbrev pub after : State → Call → State
-after s c = after_outcome s c.event.moment c.event.action (read_by c) c.outcome
+after s c = record (after_outcome s c.event.moment c.event.action (read_by c) c.outcome) { writes = writes_after s.writes c.began }

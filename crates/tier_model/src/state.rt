@@ -4,7 +4,14 @@ use cache_entries::entry::CacheEntryKey;
 use cache_words::key::CompactCacheKey;
 use cache_words::time::Moment;
 
-/// A body that was finished under an entry, and the last moment at which it is fresh.
+/// What a look-up finds: a body, and the last moment at which it is fresh.
+#[derive(Debug, Drop)]
+pub struct Body {
+    pub bytes: Bytes,
+    pub fresh_until: Moment,
+}
+
+/// A body to store under an entry, and the last moment at which it is fresh.
 #[derive(Debug, Drop)]
 pub struct FinishedBody {
     pub entry: CompactCacheKey,

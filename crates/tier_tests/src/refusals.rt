@@ -1,5 +1,6 @@
 //! Each refused growth in turn.
 use crate::asks::{Ask, event, events, put_of, tier};
+use cache_store::storage::Storage;
 use cache_tier::tier::Tier;
 use cache_words::time::Moment;
 use rand_pcg::Pcg32;
@@ -47,12 +48,10 @@ fn is_memory(outcome: &Result<Answer, TierFault>) -> bool {
     }
 }
 
-// Whether memory ran out before the first eviction of a put, so that its body was taken back.
+// Whether memory ran out before the admission of a put, or before its first eviction, so that its body was taken back.
 fn is_taken_back(outcome: &Result<Answer, TierFault>) -> bool {
     match outcome {
-        Err(TierFault::Memory(done)) => {
-            done.stored && done.admitted && done.evicted.as_slice().is_empty()
-        }
+        Err(TierFault::Memory(done)) => done.stored && done.evicted.as_slice().is_empty(),
         _ => false,
     }
 }
@@ -161,6 +160,17 @@ fn run_leaves_all(alloc: Global) -> Option<bool> {
 #[test]
 fn a_run_without_memory_does_nothing(rt: HostRuntime) {
     assert_ne!(rt; run_leaves_all(rt.alloc()), Some(false));
+}
+
+// The store that a tier lends shows writes in flight.
+fn store_streams(alloc: Global) -> Option<bool> {
+    let tier = fixture(alloc, 4, b"a", false)?;
+    Some(tier.store().support_streaming_partial_write())
+}
+
+#[test]
+fn a_store_is_lent(rt: HostRuntime) {
+    assert_ne!(rt; store_streams(rt.alloc()), Some(false));
 }
 
 // A put, an open, a look and a read, after more puts than any test above makes.

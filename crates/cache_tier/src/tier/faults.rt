@@ -2,9 +2,10 @@
 ghost use Rattle.std.specs.Prelude.{◌≡◌};
 ghost use Rattle.tier_model.specs.Calls.{nothing_done};
 ghost use Rattle.tier_model.specs.Step.{stored_alone};
-ghost use Rattle.cache_tier.specs.Acts.{fault_for};
+ghost use Rattle.cache_tier.specs.Acts.{fault_for, unstored};
 
 use cache_evict::EvictFault;
+use cache_store::storage::StoreFault;
 use std::alloc::Global;
 use tier_model::event::{Done, Entries, TierFault};
 
@@ -40,5 +41,15 @@ pub(super) fn fault_for(fault: EvictFault, done: Done) -> TierFault
         EvictFault::Length(_) => TierFault::TooLong(done),
         EvictFault::NumbersSpent(_) => TierFault::NumbersSpent(done),
         EvictFault::File(_) => TierFault::Folder,
+    }
+}
+
+// A fault of the store, which took no body.
+pub(super) fn unstored(fault: StoreFault, done: Done) -> TierFault
+    ensures { result ≡ unstored fault done }
+{
+    match fault {
+        StoreFault::WriteNumbersSpent => TierFault::NumbersSpent(done),
+        _ => TierFault::Memory(done),
     }
 }

@@ -6,7 +6,7 @@ ghost use Rattle.cache_tier.specs.Acts.{AllowsUnrefused, after_action};
 
 use super::Tier;
 use super::faults::{fault_for, nothing_done};
-use crate::bodies::{body_of, weight_for};
+use crate::bodies::weight_for;
 use crate::keys::{entry_of, stored_key};
 use cache_entries::entry::CacheEntryKey;
 use cache_evict::EvictionManager;
@@ -112,15 +112,15 @@ impl<const N: usize, S: BuildHasher> Tier<N, S> {
         let Some(request) = self.requests.get(id) else {
             return Err(TierFault::NoRequest);
         };
-        let Some(body) = body_of(&self.bodies, &stored_key(request.entry.key())) else {
+        let Ok(found) = self.bodies.look(&stored_key(request.entry.key())) else {
+            return Err(TierFault::Memory(nothing_done(self.alloc)));
+        };
+        let Some(body) = found else {
             let _old = self.requests.update(id, Phase::Miss, Reader::Closed);
             self.absent = self.absent.saturating_add(1);
             return Ok(Answer::Absent);
         };
-        let Ok(bytes) = body.bytes.clone() else {
-            return Err(TierFault::Memory(nothing_done(self.alloc)));
-        };
-        let weight = weight_for(body);
+        let weight = weight_for(&body.bytes);
         if let Err(fault) = self
             .manager
             .access(self.alloc, &request.entry, weight, body.fresh_until)
@@ -132,7 +132,7 @@ impl<const N: usize, S: BuildHasher> Tier<N, S> {
         let fresh = moment.is_at_most(&body.fresh_until);
         let _old = self
             .requests
-            .update(id, phase_by(fresh), Reader::Unread(bytes));
+            .update(id, phase_by(fresh), Reader::Unread(body.bytes));
         self.found = self.found.saturating_add(1);
         Ok(Answer::Found {
             fresh,

@@ -1,27 +1,22 @@
 //! What is stored, and how it goes.
-ghost use Rattle.std.specs.Prelude.{◌≡◌, Some, MatchResult};
+ghost use Rattle.std.specs.Prelude.{◌≡◌, List, ℕ, length};
 ghost use Rattle.cache_entries.specs.Rows.{weight_of};
-ghost use Rattle.cache_evict.specs.Managed.{Managed, Evicts, rows_of, pick_by_draws};
-ghost use Rattle.tier_model.specs.Calls.{evicted_by};
-ghost use Rattle.tier_model.specs.State.{shards_of};
-ghost use Rattle.tier_model.specs.declared.whole.Whole.TheVariants.{Stored};
-ghost use Rattle.tier_model.specs.Step.{admitted, IsPutAnswer};
-ghost use Rattle.cache_tier.specs.Acts.{AllowsUnrefused, after_action, IsRefusal, after_store, cleared, is_untouched, RollsBack, TakesBy};
+ghost use Rattle.cache_evict.specs.Managed.{rows_of};
+ghost use Rattle.cache_tier.specs.Acts.{AllowsUnrefused, after_action, cleared, is_untouched, AdmitsBy, RollsBack, StoresBy, TakesBy};
 
 use super::Tier;
-use super::faults::{fault_for, nothing_done, stored_alone};
-use crate::bodies::{has_room, put_body, remove_bodies, remove_body, weight_for};
+use super::faults::{fault_for, nothing_done, stored_alone, unstored};
 use crate::keys::{copy_of, entry_of, parts_of, stored_key};
-use crate::response::whole_of_put;
+use crate::response::{Given, given_by_put};
 use cache_entries::entry::{CacheEntryKey, CacheEntryKeyRef};
 use cache_evict::{EvictFault, EvictionManager};
+use cache_heads::CacheMeta;
 use cache_words::key::{CacheKey, CompactCacheKey};
 use cache_words::time::Moment;
 use rand_core::Rng;
 use std::hash::BuildHasher;
 use tier_model::event::{Action, Answer, Done, Entries, Pieces, TierFault};
 use tier_model::state::FinishedBody;
-use tier_model::whole::Whole;
 
 impl<const N: usize, S: BuildHasher> Tier<N, S> {
     pub(super) fn purge(&mut self, moment: Moment, key: &CacheKey) -> Result<Answer, TierFault>
@@ -29,7 +24,7 @@ impl<const N: usize, S: BuildHasher> Tier<N, S> {
         ensures after { self.new ≡ after_action self.old moment (Action.Purge key.now) result }
     {
         let (parts, stored) = parts_of(key);
-        if remove_body(&mut self.bodies, &stored) {
+        if self.bodies.remove(&stored) {
             self.manager.remove_parts(parts);
             return Ok(Answer::Purged(true));
         }
@@ -40,8 +35,8 @@ impl<const N: usize, S: BuildHasher> Tier<N, S> {
     fn clear(&mut self, entry: &CompactCacheKey, evicted: &[CacheEntryKey])
         ensures { self.new ≡ cleared N entry.now evicted.now self.old }
     {
-        remove_bodies(&mut self.bodies, evicted);
-        remove_body(&mut self.bodies, &stored_key(entry));
+        self.bodies.remove_all(evicted);
+        self.bodies.remove(&stored_key(entry));
         self.manager.remove(CacheEntryKeyRef::KeyOnly(entry));
     }
 
@@ -63,7 +58,8 @@ impl<const N: usize, S: BuildHasher> Tier<N, S> {
         match fault {
             EvictFault::Memory(evicted) => {
                 if self.is_untouched(&entry, &evicted) {
-                    return TierFault::Memory(nothing_done(self.alloc));
+                    self.clear(entry.key(), &[]);
+                    return TierFault::Memory(stored_alone(self.alloc));
                 }
                 self.clear(entry.key(), &evicted);
                 TierFault::Memory(Done {
@@ -79,36 +75,59 @@ impl<const N: usize, S: BuildHasher> Tier<N, S> {
         }
     }
 
-    // Stores a body, admits its entry, and evicts what passes a limit.
-    fn store<R: Rng>(&mut self, rng: &mut R, body: FinishedBody) -> Result<Answer, TierFault>
-        ensures allowed { MatchResult result (IsPutAnswer self.old (Some (Stored body))) (IsRefusal self.old body) }
-        ensures after { self.new ≡ after_store self.old body result }
-        ensures drawn { (left : Managed) × Evicts (pick_by_draws (shards_of self.old)) (admitted self.old body) (evicted_by result)
-            (R.stream rng.old) left (R.stream rng.new) }
+    // Admits the entry of a body of that length that was stored, and evicts what passes a limit.
+    fn admit_stored<R: Rng>(
+        &mut self,
+        rng: &mut R,
+        entry: CompactCacheKey,
+        copy: CompactCacheKey,
+        len: usize,
+        fresh_until: Moment,
+    ) -> Result<Answer, TierFault>
+        requires { copy ≡ entry }
+        ensures { (bytes : List ℕ) → len ≡ length bytes → AdmitsBy self.old (R.stream rng.old)
+            (record { entry = entry; bytes = bytes; fresh_until = fresh_until }) result self.new (R.stream rng.new) }
     {
-        let Ok(entry) = copy_of(&body.entry) else {
-            return Err(TierFault::Memory(nothing_done(self.alloc)));
-        };
-        if !has_room(&mut self.bodies) {
-            return Err(TierFault::Memory(nothing_done(self.alloc)));
-        }
-        let length = body.bytes.len();
-        let weight = weight_for(&body);
-        let entry = CacheEntryKey::key_only(entry);
+        let weight = len.max(1);
+        let copy = CacheEntryKey::key_only(copy);
         match self
             .manager
-            .admit(self.alloc, entry, weight, body.fresh_until, rng)
+            .admit(self.alloc, copy, weight, fresh_until, rng)
         {
             Ok(evicted) => {
-                put_body(&mut self.bodies, body);
-                remove_bodies(&mut self.bodies, &evicted);
+                self.bodies.remove_all(&evicted);
                 Ok(Answer::Finished {
-                    length,
+                    length: len,
                     evicted: Entries::from_vec(evicted),
                 })
             }
-            Err(fault) => Err(self.roll_back(body.entry, fault)),
+            Err(fault) => Err(self.roll_back(entry, fault)),
         }
+    }
+
+    // Stores a body, admits its entry, and evicts what passes a limit.
+    fn store_body<R: Rng>(
+        &mut self,
+        rng: &mut R,
+        body: FinishedBody,
+        meta: &CacheMeta,
+    ) -> Result<Answer, TierFault>
+        requires { meta.now.internal.fresh_until ≡ body.fresh_until }
+        ensures { StoresBy self.old (R.stream rng.old) body result self.new (R.stream rng.new) }
+    {
+        let FinishedBody {
+            entry,
+            bytes,
+            fresh_until,
+        } = body;
+        let Ok(copy) = copy_of(&entry) else {
+            return Err(TierFault::Memory(nothing_done(self.alloc)));
+        };
+        let len = bytes.len();
+        if let Err(fault) = self.bodies.put(stored_key(&entry), meta, bytes) {
+            return Err(unstored(fault, nothing_done(self.alloc)));
+        }
+        self.admit_stored(rng, entry, copy, len, fresh_until)
     }
 
     pub(super) fn put<R: Rng>(
@@ -124,15 +143,15 @@ impl<const N: usize, S: BuildHasher> Tier<N, S> {
         let Ok(entry) = entry_of(key) else {
             return Err(TierFault::Memory(nothing_done(self.alloc)));
         };
-        let Ok(whole) = whole_of_put(self.alloc, moment, entry, pieces) else {
+        let Ok(given) = given_by_put(self.alloc, moment, entry, pieces) else {
             return Err(TierFault::Memory(nothing_done(self.alloc)));
         };
-        match whole {
-            Whole::Stored(body) => self.store(rng, body),
-            Whole::Uncacheable(reason) => Ok(Answer::Uncacheable(reason)),
-            Whole::Incomplete => Err(TierFault::Incomplete),
-            Whole::BadHead => Err(TierFault::BadHead),
-            Whole::BeforeEpoch => Err(TierFault::BeforeEpoch),
+        match given {
+            Given::Stored(body, meta) => self.store_body(rng, body, &meta),
+            Given::Uncacheable(reason) => Ok(Answer::Uncacheable(reason)),
+            Given::Incomplete => Err(TierFault::Incomplete),
+            Given::BadHead => Err(TierFault::BadHead),
+            Given::BeforeEpoch => Err(TierFault::BeforeEpoch),
         }
     }
 }
