@@ -26,7 +26,7 @@ pub struct Manager<const N: usize> {
 impl<const N: usize> Manager<N> {
     /// Returns a manager of the entries of these lists.
     pub fn from_lru(lru: AsyncLru<CacheEntryKey, N>) -> Self
-        ensures { result.lru ≡ lru }
+        ensures { result.lru.weight_limit ≡ lru.entry.weight_limit }
     {
         Manager { lru }
     }
