@@ -1,12 +1,11 @@
 //! Calls of lists with their threads running, and what they answer.
 
-use async_lru::{AsyncLru, Event, Message, SendFault, World, hash_key};
+use async_lru::{AsyncLru, Event, Message, World, hash_key};
 use crossbeam_channel::Receiver;
 use rand_core::SeedableRng;
 use rand_pcg::Pcg64;
 use std::alloc::Global;
-use std::sync::atomic::{AtomicU64, Ordering};
-use std::sync::{Arc, Wait};
+use std::sync::Wait;
 use std::thread;
 use std::thread::Threads;
 

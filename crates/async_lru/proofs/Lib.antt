@@ -1,3 +1,1 @@
-pub mod Queues
-pub mod Rows
-pub mod Worlds
+pub mod Picks

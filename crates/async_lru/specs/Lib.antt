@@ -1,5 +1,3 @@
 pub mod Hashes
 pub mod Faults
-pub mod Messages
-pub mod Worlds
-pub mod Steps
+pub mod Picks

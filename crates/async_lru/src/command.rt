@@ -1,7 +1,7 @@
 //! What travels to an actor.
 
-use crate::message::Message;
 use crossbeam_channel::Sender;
+use shard_actors::Message;
 use std::alloc::AllocError;
 
 // A command to the actor of a shard. Replies go to the sender with it.

@@ -4,9 +4,9 @@ ghost use Rattle.std.specs.Prelude.{◌≡◌, ◌<◌, vec_len, IfOk};
 
 use crate::command::Command;
 use crate::counts::Counts;
-use crate::shard_actor::ShardActor;
 use crate::threads::{Actor, Evictor};
 use crossbeam_channel::{Receiver, Sender, bounded, unbounded};
+use shard_actors::ShardActor;
 use std::alloc::{AllocError, Global};
 use std::sync::Arc;
 

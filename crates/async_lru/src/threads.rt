@@ -6,11 +6,10 @@ ghost use Rattle.std.specs.Arc.{arc_value};
 use crate::callback::AsyncEvictionCallback;
 use crate::command::Command;
 use crate::counts::{Counts, Sums};
-use crate::message::Message;
 use crate::pick::pick;
-use crate::shard_actor::ShardActor;
 use crossbeam_channel::{Receiver, Sender};
 use rand_core::Rng;
+use shard_actors::{Message, ShardActor};
 use std::sync::atomic::Ordering;
 use std::sync::{Arc, Wait};
 

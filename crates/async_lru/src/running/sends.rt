@@ -3,14 +3,14 @@
 ghost use Rattle.std.specs.Prelude.{◌≡◌, ◌%◌, ◌<◌, IfOk, IfErr};
 ghost use Rattle.async_lru.specs.Faults.{unsent};
 ghost use Rattle.async_lru.specs.Hashes.{key_hash};
-ghost use Rattle.async_lru.specs.Messages.{hash_of};
+ghost use Rattle.shard_actors.specs.Messages.{hash_of};
 
 use super::AsyncLru;
 use crate::command::Command;
 use crate::fault::SendFault;
 use crate::hash::hash_key;
-use crate::message::Message;
 use crossbeam_channel::SendError;
+use shard_actors::Message;
 use std::hash::Hash;
 use std::sync::Wait;
 

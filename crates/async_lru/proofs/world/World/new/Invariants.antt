@@ -1,5 +1,0 @@
-use Rattle.std.proofs.Common.{◌≡◌, [], replicate}
-use Rattle.async_lru.proofs.world.World.new.Given as goal
-
-abbrev pub invariant-queues : goal.invariant-queues
-invariant-queues g l = l.queues.items ≡ replicate l.counter []

@@ -1,0 +1,4 @@
+pub mod Looks
+pub mod Queues
+pub mod Rows
+pub mod Worlds

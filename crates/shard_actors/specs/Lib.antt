@@ -1,0 +1,4 @@
+pub mod Looks
+pub mod Messages
+pub mod Worlds
+pub mod Steps
