@@ -4,8 +4,6 @@
 #[cfg(test)]
 mod callbacks;
 #[cfg(test)]
-mod managers;
-#[cfg(test)]
 mod running;
 #[cfg(test)]
 mod worlds;

@@ -46,8 +46,8 @@ impl<K: Drop, const N: usize> AsyncLru<K, N> {
         }
     }
 
-    /// Ends all threads and waits for them: the eviction workers once no limit is passed, the actors once they have applied all
-    /// messages, the callback workers once they have called back with all pairs.
+    /// Ends all threads and waits for them: the eviction workers at once, whether or not a limit is passed still, the actors once
+    /// they have applied all messages, the callback workers once they have called back with all pairs.
     pub fn shutdown<H: Threads + Wait>(self, rt: &H) {
         let AsyncLru {
             crew,

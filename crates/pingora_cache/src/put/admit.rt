@@ -74,6 +74,19 @@ fn was_admitted<E: EvictionManager>(manager: &E, entry: &CacheEntryKey, fault: &
     }
 }
 
+// The entries that were evicted until a fault, in order.
+fn evicted_of(fault: &EvictFault) -> &[CacheEntryKey]
+    ensures { result.now ≡ evicted_of fault.now }
+{
+    match fault {
+        EvictFault::Memory(entries) => entries.as_slice(),
+        EvictFault::Weight(entries) => entries.as_slice(),
+        EvictFault::Length(entries) => entries.as_slice(),
+        EvictFault::NumbersSpent(entries) => entries.as_slice(),
+        EvictFault::File(entries) => entries.as_slice(),
+    }
+}
+
 // Purges what was evicted until a fault of an entry's admission, and removes what is stored under the entry's key with the entry.
 fn take_back<S: Storage, E: EvictionManager, P, L>(
     parts: &mut Parts<S, E, P, L>,
@@ -87,7 +100,7 @@ fn take_back<S: Storage, E: EvictionManager, P, L>(
     ensures parts { parts.new ≡ record parts.old { store = parts.new.store; manager = parts.new.manager } }
 {
     let admitted = was_admitted(&parts.manager, entry, &fault);
-    purge_all(&mut parts.store, fault.evicted());
+    purge_all(&mut parts.store, evicted_of(&fault));
     let target = PurgeTarget::Active(entry.key());
     parts.store.purge(target, PurgeType::Invalidation);
     parts.manager.remove(CacheEntryKeyRef::from(entry));
