@@ -15,4 +15,3 @@ mod streaming;
 mod targets;
 #[cfg(test)]
 mod tracing;
-pub mod whole;
