@@ -16,7 +16,6 @@ use std::test::*;
 mod rows;
 
 use crate::samples::{key, meta};
-use crate::whole::store_whole;
 use rows::{ENDED, PURGED, RENEWED, SOUGHT, STREAMED, Step, Target, WHOLE};
 
 struct Bench {
@@ -99,14 +98,12 @@ impl Bench {
         }
     }
 
+    // A write in one piece. All of its steps are done.
     fn whole(&mut self, body: &[u8]) -> Option<bool> {
-        let bytes = Bytes::copy_from_slice(self.alloc, body).ok()?;
-        let meta = meta(self.alloc, 1300);
-        let stored = store_whole(&mut self.store, &key(self.alloc, b"aa")?, &meta, bytes);
-        match stored.ok()? {
-            MissFinishType::Created(size) => Some(size == body.len()),
-            MissFinishType::Appended(_, _) => Some(false),
-        }
+        let begun = self.begin()?;
+        let written = self.piece(body, true, None)?;
+        let finished = self.finish(Some(body.len()))?;
+        Some(begun && written && finished)
     }
 
     fn leave(&mut self) -> Option<bool> {
