@@ -3,11 +3,13 @@
 #![tactic(auto)]
 
 use log::{Log, warn};
+use secret_hasher::SecretHasher;
 use std::io;
 use std::process::ExitCode;
+use std::random::RandomSource;
 use std::rt::Env;
 use trace_replay::options::{OptionsError, options, words};
-use trace_replay::replay::run;
+use trace_replay::replay::{ReplayError, run};
 use trace_replay::status::{Fault, status};
 
 fn main(rt: HostRuntime) -> ExitCode {
@@ -16,14 +18,24 @@ fn main(rt: HostRuntime) -> ExitCode {
     ExitCode::from(status(&outcome))
 }
 
+// Hashes with a start that nobody knows, since strangers choose the keys of a trace.
+fn random_start<R: RandomSource>(rt: &R) -> Result<SecretHasher, io::Error> {
+    let mut bytes = [0; 8];
+    rt.fill_bytes(&mut bytes)?;
+    Ok(SecretHasher {
+        word: u64::from_le_bytes(bytes),
+    })
+}
+
 // Replays standard input by the options of the command line.
-fn replay_input<R: Env + Input + Print + AllocGlobal>(rt: &R) -> Result<(), Fault> {
+fn replay_input<R: Env + Input + Print + AllocGlobal + RandomSource>(rt: &R) -> Result<(), Fault> {
     let alloc = rt.alloc();
     let words = words(rt).map_err(Fault::Options)?;
     let options = options(alloc, words.as_slice()).map_err(Fault::Options)?;
+    let hasher = random_start(rt).map_err(|error| Fault::Replay(ReplayError::from(error)))?;
     let mut reader = rt.reader();
     let mut writer = io::writer(rt);
-    run(alloc, &mut reader, &mut writer, &options).map_err(Fault::Replay)
+    run(alloc, hasher, &mut reader, &mut writer, &options).map_err(Fault::Replay)
 }
 
 // Shows a fault on standard error, and a text that was requested on standard output.

@@ -2,10 +2,13 @@
 //! trace's name and the words of its options; NAME.jsonl is the trace, and NAME.out the expected output. Traces that differ are shown.
 #![tactic(auto)]
 
+use secret_hasher::SecretHasher;
 use std::fs::{self, Files};
 use std::io;
 use trace_replay::options::options;
 use trace_replay::replay::run;
+
+const HASHER: SecretHasher = SecretHasher { word: 0 };
 
 // Whether the trace of a line of the index is answered as expected.
 fn agrees<R: Files + AllocGlobal>(rt: &R, line: &str) -> io::Result<bool> {
@@ -21,7 +24,7 @@ fn agrees<R: Files + AllocGlobal>(rt: &R, line: &str) -> io::Result<bool> {
         return Ok(false);
     };
     let mut written = Vec::new(alloc);
-    let ran = run(alloc, &mut trace.as_slice(), &mut written, &options);
+    let ran = run(alloc, HASHER, &mut trace.as_slice(), &mut written, &options);
     Ok(ran.is_ok() && written.as_slice() == expected.as_slice())
 }
 

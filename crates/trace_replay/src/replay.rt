@@ -23,6 +23,7 @@ use cache_tier::tier::Tier;
 use cache_words::time::Duration;
 use rand_core::{Rng, SeedableRng};
 use rand_pcg::Pcg64;
+use secret_hasher::SecretHasher;
 use std::alloc::{AllocError, AllocFailed, Global};
 use std::io;
 use std::io::{Read, Write};
@@ -81,9 +82,11 @@ impl<T: Drop> From<AllocFailed<T>> for ReplayError {
 
 /// Answers each line of a trace, in order, by a tier that begins empty, and reports on the tier after the last. What was
 /// answered is handed on before each read. At most 2^64 - 1 lines are read. An error leaves a beginning of what was to
-/// be written.
+/// be written. The hashes of the tier's tables start as `hasher` says: take it at random where strangers choose the keys, who
+/// then can't slow look-ups down.
 pub fn run<R: Read, W: Write>(
     alloc: Global,
+    hasher: SecretHasher,
     reader: &mut R,
     writer: &mut W,
     options: &ReplayOptions,
@@ -97,15 +100,16 @@ pub fn run<R: Read, W: Write>(
     ensures too_many { result ≡ Err ReplayError.TooManyReads → IfSome (R.remaining reader.old) (λ input. 2 ^ 64 - 1 ≤ length (lines_in input)) }
 {
     match options.shards {
-        ShardCount::One => run_over::<R, W, 1>(alloc, reader, writer, options),
-        ShardCount::Four => run_over::<R, W, 4>(alloc, reader, writer, options),
-        ShardCount::Sixteen => run_over::<R, W, 16>(alloc, reader, writer, options),
+        ShardCount::One => run_over::<R, W, 1>(alloc, hasher, reader, writer, options),
+        ShardCount::Four => run_over::<R, W, 4>(alloc, hasher, reader, writer, options),
+        ShardCount::Sixteen => run_over::<R, W, 16>(alloc, hasher, reader, writer, options),
     }
 }
 
 // The same by a tier of N shards.
 fn run_over<R: Read, W: Write, const N: usize>(
     alloc: Global,
+    hasher: SecretHasher,
     reader: &mut R,
     writer: &mut W,
     options: &ReplayOptions,
@@ -119,7 +123,7 @@ fn run_over<R: Read, W: Write, const N: usize>(
         × IsBegun (start_over N options.now) (requests_in input) text)) }
     ensures too_many { result ≡ Err ReplayError.TooManyReads → IfSome (R.remaining reader.old) (λ input. 2 ^ 64 - 1 ≤ length (lines_in input)) }
 {
-    let mut tier = tier_for::<N>(alloc, options)?;
+    let mut tier = tier_for::<N>(alloc, hasher, options)?;
     let mut input = Input::new(alloc)?;
     let mut lines = LineReader::new(alloc);
     let mut rng = Pcg64::seed_from_u64(options.seed);
@@ -140,14 +144,18 @@ fn run_over<R: Read, W: Write, const N: usize>(
     Err(ReplayError::TooManyReads)
 }
 
-fn tier_for<const N: usize>(alloc: Global, options: &ReplayOptions) -> Result<Tier<N>, AllocError>
+fn tier_for<const N: usize>(
+    alloc: Global,
+    hasher: SecretHasher,
+    options: &ReplayOptions,
+) -> Result<Tier<N, SecretHasher>, AllocError>
     requires { 0 < N }
     ensures state { IfOk result (λ tier. tier ≡ empty_state (settings_over N options.now)) }
     ensures past { IfOk result (λ tier. HasPast (empty_opening (settings_over N options.now)) tier []) }
 {
     let watermark = options.watermark.map(|entries| entries as usize);
     let age = Duration::from_seconds(PERMIT_AGE);
-    Tier::new(alloc, options.limit as usize, watermark, age, None)
+    Tier::with_hasher(alloc, hasher, options.limit as usize, watermark, age, None)
 }
 
 // The length of the next line. What is waiting goes out before the stream is read, and where it is much.
@@ -175,7 +183,7 @@ fn next_line<R: Read, W: Write>(
 
 fn finish<W: Write, const N: usize>(
     alloc: Global,
-    tier: &Tier<N>,
+    tier: &Tier<N, SecretHasher>,
     waiting: &mut Vec<u8>,
     writer: &mut W,
 ) -> Result<(), ReplayError>
@@ -193,7 +201,7 @@ fn finish<W: Write, const N: usize>(
 // Adds the report to what is waiting.
 fn report<const N: usize>(
     alloc: Global,
-    tier: &Tier<N>,
+    tier: &Tier<N, SecretHasher>,
     waiting: &mut Vec<u8>,
 ) -> Result<(), AllocError>
     ensures ok { OnOk result (waiting.new.items ≡ waiting.old.items ++ ended (report_text (report_of tier.now))) }
@@ -217,7 +225,7 @@ fn without_line_feed(line: &[u8]) -> &[u8]
 // Adds the line that answers a line to what is waiting.
 fn add_answer<G: Rng, const N: usize>(
     alloc: Global,
-    tier: &mut Tier<N>,
+    tier: &mut Tier<N, SecretHasher>,
     lines: &mut LineReader,
     rng: &mut G,
     line: &[u8],
@@ -235,7 +243,7 @@ fn add_answer<G: Rng, const N: usize>(
 // The line that answers a line, with its line feed.
 fn answer<G: Rng, const N: usize>(
     alloc: Global,
-    tier: &mut Tier<N>,
+    tier: &mut Tier<N, SecretHasher>,
     lines: &mut LineReader,
     rng: &mut G,
     line: &[u8],
@@ -251,7 +259,7 @@ fn answer<G: Rng, const N: usize>(
 // What answers a line.
 fn reply<G: Rng, const N: usize>(
     alloc: Global,
-    tier: &mut Tier<N>,
+    tier: &mut Tier<N, SecretHasher>,
     lines: &mut LineReader,
     rng: &mut G,
     line: &[u8],
@@ -268,7 +276,7 @@ fn reply<G: Rng, const N: usize>(
 // What the tier answers to an event.
 fn reply_to<G: Rng, const N: usize>(
     alloc: Global,
-    tier: &mut Tier<N>,
+    tier: &mut Tier<N, SecretHasher>,
     rng: &mut G,
     event: &Event,
 ) -> Result<String, ReplayError>

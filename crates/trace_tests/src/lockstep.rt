@@ -1,10 +1,13 @@
 //! A reader that waits for each answer before it asks for more.
+use secret_hasher::SecretHasher;
 use std::alloc::Global;
 use std::cell::Cell;
 use std::io::{self, Read, Write};
 use std::test::Fail;
 use trace_replay::options::{ReplayOptions, ShardCount};
 use trace_replay::replay::run;
+
+const HASHER: SecretHasher = SecretHasher { word: 1 };
 
 // Gives a line at each read, and fails where a line before it isn't answered.
 #[derive(Drop)]
@@ -66,7 +69,7 @@ fn conversation(alloc: Global, lines: &[&[u8]]) -> Result<Vec<u8>, Fail> {
         shards: ShardCount::One,
         seed: 0,
     };
-    run(alloc, &mut reader, &mut writer, &options)?;
+    run(alloc, HASHER, &mut reader, &mut writer, &options)?;
     Ok(writer.text)
 }
 

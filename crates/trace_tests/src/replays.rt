@@ -1,9 +1,12 @@
 //! Traces, with what is written for them.
+use secret_hasher::SecretHasher;
 use std::alloc::Global;
 use std::process::Abort;
 use std::test::Fail;
 use trace_replay::options::{ReplayOptions, ShardCount};
 use trace_replay::replay::{ReplayError, run};
+
+const HASHER: SecretHasher = SecretHasher { word: 3 };
 
 // The put of the body `abc`, fresh for ten seconds from second 1000 on.
 pub(crate) const FIRST_PUT: &str =
@@ -24,7 +27,7 @@ fn replayed(
         shards: ShardCount::One,
         seed: 0,
     };
-    run(alloc, &mut reader, &mut written, &options)?;
+    run(alloc, HASHER, &mut reader, &mut written, &options)?;
     Ok(written)
 }
 

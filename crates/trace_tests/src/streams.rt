@@ -1,9 +1,12 @@
 //! Readers and writers that fail, and memory that runs out, in mid-stream.
 use crate::replays::FIRST_PUT;
+use secret_hasher::SecretHasher;
 use std::io::{self, Read, Write};
 use trace_replay::options::{ReplayOptions, ShardCount};
 use trace_replay::replay::{ReplayError, run};
 use trace_replay::status::{Fault, status};
+
+const HASHER: SecretHasher = SecretHasher { word: 2 };
 
 // Gives its bytes so many at a time, and then fails.
 #[derive(Drop)]
@@ -30,7 +33,9 @@ fn a_fault_of_the_reader_ends_the_run(rt: HostRuntime) {
             shards: ShardCount::One,
             seed: 0,
         };
-        let outcome = run(rt.alloc(), &mut reader, &mut written, &options).map_err(Fault::Replay);
+        let outcome = run(rt.alloc(), HASHER, &mut reader, &mut written, &options).map_err(
+            Fault::Replay,
+        );
         assert_eq!(rt; written.as_slice(), b"refused Op\n".as_slice());
         assert!(rt; matches!(&outcome, Err(Fault::Replay(ReplayError::Stream(_)))));
         assert_eq!(rt; status(&outcome), 1);
@@ -66,7 +71,9 @@ fn a_fault_of_the_writer_ends_the_run(rt: HostRuntime) {
         shards: ShardCount::One,
         seed: 0,
     };
-    let outcome = run(rt.alloc(), &mut reader, &mut writer, &options).map_err(Fault::Replay);
+    let outcome = run(rt.alloc(), HASHER, &mut reader, &mut writer, &options).map_err(
+        Fault::Replay,
+    );
     assert!(rt; matches!(&outcome, Err(Fault::Replay(ReplayError::Stream(_)))));
     assert_eq!(rt; status(&outcome), 1);
 }
@@ -98,7 +105,7 @@ fn out_of_memory_changes_no_line(rt: HostRuntime) {
         shards: ShardCount::One,
         seed: 0,
     };
-    match run(rt.alloc(), &mut reader, &mut written, &options) {
+    match run(rt.alloc(), HASHER, &mut reader, &mut written, &options) {
         Ok(()) | Err(ReplayError::Memory) => {
             assert!(rt; whole.starts_with(before_memory_fault(written.as_slice())));
         }
