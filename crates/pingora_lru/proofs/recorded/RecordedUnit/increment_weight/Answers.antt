@@ -1,4 +1,5 @@
-use Rattle.std.proofs.Common.{refl, ap}
+use Rattle.std.proofs.Common.{refl, ap, rules, arith}
+use Rattle.std.proofs.lemmas.Grind.{common_steps}
 use Rattle.pingora_lru.proofs.Present.{raised_reply}
 use Rattle.pingora_lru.proofs.Updated.{increment_kept, weighed_some}
 use Rattle.pingora_lru.proofs.recorded.RecordedUnit.increment_weight.Goals as goal
@@ -21,3 +22,6 @@ pub returns-clause-after : goal.returns-clause-after
 returns-clause-after g c =
     rw (← c.self.view_is) (weighed_some c.args.key c.in_ok-old.new c.self.inside.unit.rows c.increment_weight-added.new.self.rows (λ n. ap (λ u. u.rows) (c.in_ok-old.ensures.moved n))
     (λ e. let p = c.in_ok-old.ensures.admitted e in (p.0, ap (λ u. u.rows) p.2)))
+
+pub returns-clause-kept : goal.returns-clause-kept
+returns-clause-kept g c = first_of (search rules, grind (arith, common_steps))

@@ -1,4 +1,5 @@
-use Rattle.std.proofs.Common.{Some, inr, ap, ◌∙◌}
+use Rattle.std.proofs.Common.{Some, inr, ap, ◌∙◌, rules, arith}
+use Rattle.std.proofs.lemmas.Grind.{common_steps}
 use Rattle.pingora_lru.proofs.Updated.{update_kept, updated_some, refused_bare}
 use Rattle.pingora_lru.proofs.recorded.RecordedUnit.update_or_admit.Goals as goal
 
@@ -34,3 +35,6 @@ returns-in-Ok-clause-updated g c = rw (← c.self.view_is) c.in-Ok.ensures.updat
 
 pub returns-in-Err-clause-update_refused : goal.returns-in-Err-clause-update_refused
 returns-in-Err-clause-update_refused g c = rw (← c.self.view_is) (λ n. inr (c.in-Err.ensures.update_refused n))
+
+pub returns-in-Ok-clause-kept : goal.returns-in-Ok-clause-kept
+returns-in-Ok-clause-kept g c = first_of (search rules, grind (arith, common_steps))

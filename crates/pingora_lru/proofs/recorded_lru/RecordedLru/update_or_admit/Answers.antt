@@ -1,4 +1,5 @@
-use Rattle.std.proofs.Common.{◌≡◌, None, inl, inr, refl}
+use Rattle.std.proofs.Common.{◌≡◌, None, inl, inr, refl, rules, arith}
+use Rattle.std.proofs.lemmas.Grind.{common_steps}
 use Rattle.pingora_lru.proofs.Updated.{by_presence}
 use Rattle.pingora_lru.proofs.recorded_lru.RecordedLru.update_or_admit.Goals as goal
 
@@ -24,3 +25,6 @@ returns-clause-back g c = by_presence _
         | inr l ↦ elim l [ inl w ↦ rw w.0 (q.1, q.2) | inr s ↦ rw s.0 (q.1, q.2) ]
       ]
     ])
+
+pub returns-in-Ok-clause-old : goal.returns-in-Ok-clause-old
+returns-in-Ok-clause-old g c = first_of (search rules, grind (arith, common_steps))
