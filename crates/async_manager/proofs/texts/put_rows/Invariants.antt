@@ -10,4 +10,5 @@ abbrev pub invariant-rows : goal.invariant-rows
 invariant-rows l = record {
   text : l.out.items ++ flat_map row_text (map row_of_pair (drop l.pair-index l.pairs)) ≡ l.initial.out.items ++ flat_map row_text (map row_of_pair l.pairs);
   long : HasLongTag (map row_of_pair (drop l.pair-index l.pairs)) → HasLongTag (map row_of_pair l.pairs);
+  fits : HasLongTag (map row_of_pair l.pairs) → HasLongTag (map row_of_pair (drop l.pair-index l.pairs));
 }
