@@ -4,6 +4,8 @@
 #[cfg(test)]
 mod callbacks;
 #[cfg(test)]
+mod managers;
+#[cfg(test)]
 mod running;
 #[cfg(test)]
 mod worlds;

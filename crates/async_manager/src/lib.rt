@@ -1,0 +1,13 @@
+//! A manager of a cache's entries over shards whose changes are messages: a call returns before it takes effect, evicted entries go
+//! to a callback, and a question waits for the messages that were sent to its shard before it.
+#![tactic(auto)]
+
+pub use builder::ManagerBuilder;
+pub use fault::TextFault;
+pub use manager::Manager;
+pub use texts::text_of;
+
+mod builder;
+mod fault;
+mod manager;
+mod texts;
