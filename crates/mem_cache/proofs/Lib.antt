@@ -2,6 +2,7 @@ mod AliveLaws
 mod BeginningLaws
 mod BodyLaws
 mod FinishLaws
+mod FinishedLaws
 mod FirstLaws
 mod FlightLaws
 mod HeldLaws

@@ -1,7 +1,8 @@
 //! The finished bodies.
-ghost use Rattle.std.specs.Prelude.{◌≡◌, ◌<◌, List, ℕ, Some, None, cond, is_some, option_map, nat_eq, OnOk, OnErr};
+ghost use Rattle.std.specs.Prelude.{◌≡◌, ◌<◌, ◌-◌, ◌^◌, List, ℕ, Some, None, cond, is_some, length, min, option_map, nat_eq, OnOk, OnErr};
 ghost use Rattle.std.specs.Cmp.Lexicographic.{pointwise};
-ghost use Rattle.std.specs.HashMap.{get, spare};
+ghost use Rattle.std.specs.HashMap.{get, spare, values};
+ghost use Rattle.std.specs.List.{sum_by};
 ghost use Rattle.cache_store.specs.Renewals.{expired};
 ghost use Rattle.mem_cache.specs.Renewals.{body_with};
 
@@ -74,4 +75,15 @@ pub(crate) fn set_meta<S: BuildHasher>(
         }
         None => false,
     }
+}
+
+// Returns how many bytes all bodies have, counted up to 2^64 - 1.
+pub(crate) fn bytes_of_all<S: BuildHasher>(bodies: &Bodies<S>) -> u64
+    ensures { result ≡ min (sum_by (λ b. length b.bytes) (values bodies.now)) (2 ^ 64 - 1) }
+{
+    let mut count: u64 = 0;
+    for body in bodies.values() {
+        count = count.saturating_add(body.bytes.len() as u64);
+    }
+    count
 }

@@ -27,6 +27,7 @@ use std::collections::{BTreeMap, HashMap};
 use std::hash::{BuildHasher, BuildHasherDefault, FoldHasher};
 use std::marker::Model;
 
+mod finished;
 mod renewals;
 
 /// Bodies and writes in flight, by stored key. A contract sees the plain state that changes leave, the number of the next

@@ -1,14 +1,15 @@
 -- What comes of a put, by what its steps gave.
 use Rattle.std.proofs.Common.{◌≡◌, ℕ, refl, ap, sym, ◌∙◌, subst, inl, inr, length, List}
-use Rattle.std.specs.Prelude.{Option, Result, Ok, Err}
+use Rattle.std.specs.Prelude.{Option, option_map, Result, Ok, Err}
 use Rattle.std.specs.Global.{Vec}
 use Rattle.rand_core.specs.Stream.{Stream}
 use Rattle.cache_words.specs.Key.{Key, combined}
 use Rattle.cache_words.specs.CompactKey.{compact_view}
 use Rattle.cache_words.specs.declared.key.CompactCacheKey.{CompactCacheKey}
 use Rattle.cache_heads.specs.declared.meta.CacheMeta.{CacheMeta}
+use Rattle.cache_entries.specs.declared.entry.CacheEntryId.{CacheEntryId}
 use Rattle.cache_entries.specs.declared.entry.CacheEntryKey.{CacheEntryKey}
-use Rattle.cache_entries.specs.Entry.{entry_with}
+use Rattle.cache_entries.specs.Entry.{entry_with, number_of}
 use Rattle.cache_evict.specs.Managed.{Managed}
 use Rattle.cache_store.specs.declared.storage.StoreFault.{StoreFault}
 use Rattle.cache_store.specs.declared.storage.StoreFault.TheVariants as store_fault
@@ -43,22 +44,23 @@ module _ {S : Type 0} (rules : Rules S) (key : Key) where
     refused store_fault.SeekRange told p t = absurd p
     refused store_fault.NoMeta told p t = absurd p
 
-    module _ (id : Option ℕ) (e : CacheEntryKey) (size : ℕ) (s2 : S) (m2 : Managed) (w2 : Stream) where
+    module _ (id : Option CacheEntryId) (e : CacheEntryKey) (size : ℕ) (s2 : S) (m2 : Managed) (w2 : Stream) where
       -- the entry was admitted
-      pub admitted : (v : Vec CacheEntryKey) → Stores (rules.is_spent (rules.held s0)) (combined key) meta body (rules.held s0) (rules.held s1) → e ≡ entry_with (compact key) id → size ≡ length body
+      pub admitted : (v : Vec CacheEntryKey) → rules.gives id → Stores (rules.is_spent (rules.held s0)) (combined key) meta body (rules.held s0) (rules.held s1) → e ≡ entry_with (compact key) (option_map number_of id) → size ≡ length body
           → IsAdmitted rules e size v.items (cache_of s1 m0 w0) (cache_of s2 m2 w2)
           → IsPut rules key meta body (Ok (Stored size v)) (cache_of s0 m0 w0) (cache_of s2 m2 w2)
-      admitted v s same sized a = (sized, (id, s1, s, subst (λ (e : CacheEntryKey). IsAdmitted rules e size v.items (cache_of s1 m0 w0) (cache_of s2 m2 w2)) same a))
+      admitted v given s same sized a = (sized, (id, s1, given, s, subst (λ (e : CacheEntryKey). IsAdmitted rules e size v.items (cache_of s1 m0 w0) (cache_of s2 m2 w2)) same a))
 
       -- it was not, and the body is gone with it
-      pub taken-back : (fault : PutFault) → Stores (rules.is_spent (rules.held s0)) (combined key) meta body (rules.held s0) (rules.held s1) → e ≡ entry_with (compact key) id → size ≡ length body
+      pub taken-back : (fault : PutFault) → rules.gives id → Stores (rules.is_spent (rules.held s0)) (combined key) meta body (rules.held s0) (rules.held s1) → e ≡ entry_with (compact key) (option_map number_of id) → size ≡ length body
           → IsTakenBack rules e size fault (cache_of s1 m0 w0) (cache_of s2 m2 w2)
           → IsPut rules key meta body (Err fault) (cache_of s0 m0 w0) (cache_of s2 m2 w2)
-      taken-back fault s same sized t =
+      taken-back fault given s same sized t =
           inr (inr (
             id,
             s1,
+            given,
             s,
-            subst (λ (n : ℕ). IsTakenBack rules (entry_with (compact key) id) n fault (cache_of s1 m0 w0) (cache_of s2 m2 w2)) sized
+            subst (λ (n : ℕ). IsTakenBack rules (entry_with (compact key) (option_map number_of id)) n fault (cache_of s1 m0 w0) (cache_of s2 m2 w2)) sized
                 (subst (λ (e : CacheEntryKey). IsTakenBack rules e size fault (cache_of s1 m0 w0) (cache_of s2 m2 w2)) same t),
           ))

@@ -123,9 +123,10 @@ module _ {H : Type 0} (number : H → ℕ) (told : ℕ → MissFinishType) (spen
   pub given-up : (f : StoreFault) (a : BeginAnswer number spent key meta h0 (Ok m) h1) → WriteAnswer {X = Unit {0}} (option_map (λ f. f.ended) (flying_at (number m) h1.store)) (Err f)
       → number m2 ≡ number m → h2 ≡ h1 → h3 ≡ left (number m2) h2 → IsWriteFault spent meta f h0 h3
   given-up f a answer same e l =
-      let b = (begun-by number spent key meta m h0 h1 a).1 in
+      let begun = begun-by number spent key meta m h0 h1 a in
+      let b = begun.1 in
       subst (λ (f : StoreFault). IsWriteFault spent meta f h0 h3) (sym (write-refused a f answer))
-      (inr ([], l ∙ ap (λ (n : ℕ). left n h2) (same ∙ b.number) ∙ ap (left h0.next) (e ∙ b.begun) ∙ leave-last first h0 (at-first a) (own-number h0.next)))
+      (inr ([], begun.0, l ∙ ap (λ (n : ℕ). left n h2) (same ∙ b.number) ∙ ap (left h0.next) (e ∙ b.begun) ∙ leave-last first h0 (at-first a) (own-number h0.next)))
 
   flies : IsFilled → flying_at (number m2) h2.store ≡ Some full
   flies f =
@@ -166,8 +167,9 @@ module _ {H : Type 0} (number : H → ℕ) (told : ℕ → MissFinishType) (spen
   never-removed f a = not-removed (alive_key (flying_at (number m2) h2.store)) (number m2) (ap alive_key (flies f)) a
 
   pub handed-back : IsFilled → (h : H) (h4 : Held) → MissAnswer number told (alive_key (flying_at (number m2) h2.store)) (number m2) h2 (Err (Memory h)) h3 → h4 ≡ left (number h) h3
-      → GivenUp h0 h4
+      → GivenUp spent h0 h4
   handed-back f h h4 a l =
-      let b = (begun-by number spent key meta m h0 h1 f.began).1 in
+      let begun = begun-by number spent key meta m h0 h1 f.began in
+      let b = begun.1 in
       let back = handed-by (alive_key (flying_at (number m2) h2.store)) (number m2) h a in
-      inr (bytes, l ∙ ap (λ (n : ℕ). left n h3) (back.0 ∙ f.same ∙ b.number) ∙ ap (left h0.next) (back.1 ∙ in-flight f) ∙ leave-last full h0 (at-first f.began) (own-number h0.next))
+      inr (bytes, begun.0, l ∙ ap (λ (n : ℕ). left n h3) (back.0 ∙ f.same ∙ b.number) ∙ ap (left h0.next) (back.1 ∙ in-flight f) ∙ leave-last full h0 (at-first f.began) (own-number h0.next))

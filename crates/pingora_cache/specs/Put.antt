@@ -1,5 +1,5 @@
 -- What a put gives, and what it leaves.
-use Rattle.std.specs.Prelude.{◌≡◌, ℕ, ◌<◌, ◌^◌, max, Bool, true, false, not, ◌||◌, is_some, List, [], ◌∷◌, length, Option, Result, Ok, Err, ◌⊎◌}
+use Rattle.std.specs.Prelude.{◌≡◌, ℕ, ◌<◌, ◌^◌, max, Bool, true, false, not, ◌||◌, is_some, List, [], ◌∷◌, length, Option, option_map, Result, Ok, Err, ◌⊎◌}
 use Rattle.rand_core.specs.Stream.{Stream}
 use Rattle.cache_words.specs.Key.{Key, combined}
 use Rattle.cache_words.specs.declared.key.CompactCacheKey.{CompactCacheKey}
@@ -8,7 +8,7 @@ use Rattle.cache_metas.specs.Internal.{IsWritable}
 use Rattle.cache_entries.specs.declared.entry.CacheEntryId.{CacheEntryId}
 use Rattle.cache_entries.specs.declared.entry.CacheEntryKey.{CacheEntryKey}
 use Rattle.cache_entries.specs.declared.rows.Tracked.{Tracked}
-use Rattle.cache_entries.specs.Entry.{entry_with, key_of}
+use Rattle.cache_entries.specs.Entry.{entry_with, key_of, number_of}
 use Rattle.cache_entries.specs.Rows.{weight_of}
 use Rattle.cache_changes.specs.Changes.{StoredKey, stored_key}
 use Rattle.cache_evict.specs.declared.fault.EvictFault.{EvictFault}
@@ -27,11 +27,16 @@ use Rattle.pingora_cache.specs.declared.put.outcome.PutFault.{PutFault}
 use Rattle.pingora_cache.specs.declared.put.outcome.PutFault.TheVariants.{BadHead, ResponseTooLarge, Incomplete, MetaMoment, WriteNumbersSpent, Weight, Length, NumbersSpent, Memory}
 use Rattle.pingora_cache.specs.Stored.{Stores, GivenUp, Purged, Removed}
 
+-- some writer of a store gives its body that id
+abbrev pub IsGiven : {H : Type 0} → (H → Option CacheEntryId) → Option CacheEntryId → Type 0
+IsGiven {H} id given = (h : H) × (id h ≡ given)
+
 -- what is known of a store and of a manager of entries by their traits
-pub record Rules (S : Type 0) : Type 0 where
+pub record Rules (S : Type 0) : Type 1 where
   pub held : S → Held
   pub ids : S → StoredKey → Option CacheEntryId
   pub is_spent : Held → Bool
+  pub gives : Option CacheEntryId → Type 0
   pub shards : ℕ
   pub weighed : ℕ → ℕ
   pub pick : List (List Tracked) → Stream → ℕ × Stream
@@ -42,8 +47,8 @@ pub record Cache (S : Type 0) : Type 0 where
   pub managed : Managed
   pub words : Stream
 
-abbrev pub rules_of : {S : Type 0} → (S → Held) → (S → StoredKey → Option CacheEntryId) → (Held → Bool) → ℕ → (ℕ → ℕ) → (List (List Tracked) → Stream → ℕ × Stream) → Rules S
-rules_of held ids is_spent shards weighed pick = record { held = held; ids = ids; is_spent = is_spent; shards = shards; weighed = weighed; pick = pick }
+abbrev pub rules_of : {S : Type 0} → (S → Held) → (S → StoredKey → Option CacheEntryId) → (Held → Bool) → (Option CacheEntryId → Type 0) → ℕ → (ℕ → ℕ) → (List (List Tracked) → Stream → ℕ × Stream) → Rules S
+rules_of held ids is_spent gives shards weighed pick = record { held = held; ids = ids; is_spent = is_spent; gives = gives; shards = shards; weighed = weighed; pick = pick }
 
 abbrev pub cache_of : {S : Type 0} → S → Managed → Stream → Cache S
 cache_of store managed words = record { store = store; managed = managed; words = words }
@@ -104,7 +109,7 @@ module _ {S : Type 0} (rules : Rules S) where
   -- memory ran out before a body that may be kept was stored
   pub record RanOut (fault : PutFault) (old new : Cache S) : Type 0 where
     pub told : IsOutOfMemory fault
-    pub store : GivenUp (rules.held old.store) (rules.held new.store)
+    pub store : GivenUp (rules.is_spent (rules.held old.store)) (rules.held old.store) (rules.held new.store)
     pub managed : new.managed ≡ old.managed
     pub words : new.words ≡ old.words
 
@@ -131,11 +136,11 @@ module _ {S : Type 0} (rules : Rules S) where
     pub managed : new.managed ≡ taken_out rules.shards e left
     pub told : IsTold (was_admitted rules.shards e cause left) cause fault
 
-  -- a body was stored, and then its entry was admitted, or both were taken back. The id is the one that the store gave the body
+  -- a body was stored, and then its entry was admitted, or both were taken back. The id is one that the store's writers give
   abbrev pub IsStoredThen : Key → CacheMeta → List ℕ → (CacheEntryKey → Cache S → Type 0) → Cache S → Type 0
   IsStoredThen key meta body next old =
-      (id : Option ℕ) × (mid : S) × Stores (rules.is_spent (rules.held old.store)) (combined key) meta body (rules.held old.store) (rules.held mid)
-      × next (entry_with (compact key) id) (record old { store = mid })
+      (id : Option CacheEntryId) × (mid : S) × rules.gives id × Stores (rules.is_spent (rules.held old.store)) (combined key) meta body (rules.held old.store) (rules.held mid)
+      × next (entry_with (compact key) (option_map number_of id)) (record old { store = mid })
 
   -- the store takes no write
   abbrev pub IsWriteRefused : CacheMeta → PutFault → Cache S → Cache S → Type 0

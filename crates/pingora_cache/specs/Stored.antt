@@ -26,15 +26,16 @@ pub record Stores (spent : Bool) (k : StoredKey) (meta : CacheMeta) (bytes : Lis
   pub next : new.next ≡ old.next + 1
   pub readings : new.readings ≡ left_with old.next bytes old.readings
 
--- nothing was done, or a write began and was given up: the bodies and the other writes in flight are as before
-abbrev pub GivenUp : Held → Held → Type 0
-GivenUp old new = (new ≡ old) ⊎ ((bytes : List ℕ) × (new ≡ record old { next = old.next + 1; readings = left_with old.next bytes old.readings }))
+-- nothing was done, or a write began, for which a number was left, and was given up: the bodies and the other writes in flight are
+-- as before
+abbrev pub GivenUp : Bool → Held → Held → Type 0
+GivenUp spent old new = (new ≡ old) ⊎ ((bytes : List ℕ) × (spent ≡ false) × (new ≡ record old { next = old.next + 1; readings = left_with old.next bytes old.readings }))
 
 -- why a body isn't stored
 abbrev pub IsWriteFault : Bool → CacheMeta → StoreFault → Held → Held → Type 0
 IsWriteFault spent meta WriteNumbersSpent old new = (spent ≡ true) × (new ≡ old)
 IsWriteFault spent meta MetaMoment old new = (spent ≡ false) × (IsWritable meta.internal → ⊥) × (new ≡ old)
-IsWriteFault spent meta Memory old new = GivenUp old new
+IsWriteFault spent meta Memory old new = GivenUp spent old new
 IsWriteFault spent meta _ old new = ⊥
 
 -- the entries are purged from a store, in order

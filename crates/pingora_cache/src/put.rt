@@ -7,7 +7,7 @@ ghost use Rattle.cache_headers.specs.declared.header.ResponseHeader.{ResponseHea
 ghost use Rattle.cache_heads.specs.declared.defaults.CacheMetaDefaults.{CacheMetaDefaults as Defaults};
 ghost use Rattle.cache_heads.specs.declared.reason.RespCacheable.{RespCacheable as Verdict};
 ghost use Rattle.pingora_cache.specs.Response.{joined, Gives, verdict_by_headers};
-ghost use Rattle.pingora_cache.specs.Put.{Puts, rules_of, cache_of};
+ghost use Rattle.pingora_cache.specs.Put.{IsGiven, Puts, rules_of, cache_of};
 
 mod admit;
 mod outcome;
@@ -136,7 +136,7 @@ impl<C: CachePut> CachePutCtx<C> {
         pieces: &[Bytes],
         moment: Moment,
     ) -> Result<PutOutcome, PutFault>
-        ensures put { Puts (rules_of S.held S.ids S.is_spent E.shard_count E.weighed E.pick) (key_of self.old.key)
+        ensures put { Puts (rules_of S.held S.ids S.is_spent (IsGiven S.Miss.id) E.shard_count E.weighed E.pick) (key_of self.old.key)
             (Gives self.old.max_file_size_bytes (C.verdict self.old.cache_put moment) (joined pieces.now)) result
             (cache_of parts.old.store (E.managed parts.old.manager) (R.stream rng.old)) (cache_of parts.new.store (E.managed parts.new.manager) (R.stream rng.new)) }
         ensures parts { parts.new ≡ record parts.old { store = parts.new.store; manager = parts.new.manager } }

@@ -6,6 +6,7 @@ ghost use Rattle.cache_store.specs.declared.storage.MissFinishType.TheVariants.{
 
 use crate::samples::{key, meta};
 use bytes::Bytes;
+use cache_entries::entry::CacheEntryId;
 use cache_heads::CacheMeta;
 use cache_store::storage::{
     Contents, Found, HandleHit, HandleMiss, MissFault, MissFinishType, PurgeOutcome, PurgeTarget,
@@ -74,6 +75,8 @@ impl HandleHit<Nothing> for Nobody {
 impl HandleMiss<Nothing> for Nobody {
     ghost number = { λ _. 0 };
 
+    ghost id = { λ _. None };
+
     ghost told = { Created };
 
     fn write_body(
@@ -90,6 +93,10 @@ impl HandleMiss<Nothing> for Nobody {
     }
 
     fn leave(self, _store: &mut Nothing) {}
+
+    fn entry_id(&self) -> Option<CacheEntryId> {
+        None
+    }
 }
 
 // What the calls of a store with default bodies answer: whether a look-up of a write finds any, what came of an expiry, and

@@ -198,9 +198,12 @@ pub trait HandleHit<S: Contents> {
     }
 }
 
-/// What writes a body to a store. A contract sees the number of its write, and what a finish answers for a body of a size.
+/// What writes a body to a store. A contract sees the number of its write, the id that the store gives its body, if any, and what
+/// a finish answers for a body of a size.
 pub trait HandleMiss<S: Contents> {
     ghost number: { Self → ℕ };
+
+    ghost id: { Self → Option Id };
 
     ghost told: { ℕ → FinishType };
 
@@ -214,7 +217,8 @@ pub trait HandleMiss<S: Contents> {
         ensures answer { WriteAnswer (option_map (λ f. f.ended) (flying_at (number self.old) (S.held store.old).store)) result }
         ensures ok { OnOk result (S.held store.new ≡ record (S.held store.old) { store = after_write (number self.old) more eof (S.held store.old).store }) }
         ensures err { OnErr result (S.held store.new ≡ S.held store.old) }
-        ensures same { number self.new ≡ number self.old };
+        ensures same { number self.new ≡ number self.old }
+        ensures same_id { id self.new ≡ id self.old };
 
     /// Stores the body.
     ///
@@ -235,7 +239,6 @@ pub trait HandleMiss<S: Contents> {
     }
 
     /// Returns the id of the body, where the store gives ids.
-    fn entry_id(&self) -> Option<CacheEntryId> {
-        None
-    }
+    fn entry_id(&self) -> Option<CacheEntryId>
+        ensures { result ≡ id self.now };
 }

@@ -1,10 +1,11 @@
 //! Writers.
-ghost use Rattle.std.specs.Prelude.{◌≡◌, Some, option_map};
+ghost use Rattle.std.specs.Prelude.{◌≡◌, Some, None, option_map};
 ghost use Rattle.std.specs.Int.{w64, to_be_bytes};
 ghost use Rattle.cache_store.specs.declared.storage.MissFinishType.TheVariants.{Created};
 
 use crate::MemCache;
 use bytes::Bytes;
+use cache_entries::entry::CacheEntryId;
 use cache_store::storage::streaming_write::U64WriteId;
 use cache_store::storage::{HandleMiss, MissFault, MissFinishType, StoreFault};
 use std::hash::BuildHasher;
@@ -51,6 +52,8 @@ impl MemMissHandler {
 impl<S: BuildHasher> HandleMiss<MemCache<S>> for MemMissHandler {
     ghost number = { λ h. h };
 
+    ghost id = { λ _. None };
+
     ghost told = { Created };
 
     fn write_body(
@@ -79,5 +82,9 @@ impl<S: BuildHasher> HandleMiss<MemCache<S>> for MemMissHandler {
         ensures { option_map (λ tag. tag.now) result ≡ Some (to_be_bytes w64 self.now) }
     {
         Some(self.tag.as_bytes())
+    }
+
+    fn entry_id(&self) -> Option<CacheEntryId> {
+        None
     }
 }

@@ -7,7 +7,7 @@ ghost use Rattle.cache_evict.specs.Managed.{taken_out};
 ghost use Rattle.cache_evict.specs.Faults.{evicted_of};
 ghost use Rattle.cache_changes.specs.Changes.{stored_key};
 ghost use Rattle.pingora_cache.specs.Stored.{Purged, Removed};
-ghost use Rattle.pingora_cache.specs.Put.{IsDone, IsOutOfMemory, IsTold, IsWithoutFile, IsStoreFaultTold, IsAdmitted, IsTakenBack, IsPut, was_admitted, rules_of, cache_of, weight_for};
+ghost use Rattle.pingora_cache.specs.Put.{IsGiven, IsDone, IsOutOfMemory, IsTold, IsWithoutFile, IsStoreFaultTold, IsAdmitted, IsTakenBack, IsPut, was_admitted, rules_of, cache_of, weight_for};
 
 use super::outcome::{Done, PutFault, PutOutcome};
 use super::store::{purge_all, store_whole};
@@ -118,7 +118,7 @@ fn admit<S: Storage, E: EvictionManager, P, L, R: Rng>(
     fresh_until: Moment,
 ) -> Result<Vec<CacheEntryKey>, PutFault>
     requires { again.now ≡ entry }
-    ensures admitted { let rules = rules_of S.held S.ids S.is_spent E.shard_count E.weighed E.pick in
+    ensures admitted { let rules = rules_of S.held S.ids S.is_spent (IsGiven S.Miss.id) E.shard_count E.weighed E.pick in
         let old = cache_of parts.old.store (E.managed parts.old.manager) (R.stream rng.old) in let new = cache_of parts.new.store (E.managed parts.new.manager) (R.stream rng.new) in
         MatchResult result (λ v. IsAdmitted rules entry size v.items old new) (λ fault. IsTakenBack rules entry size fault old new) }
     ensures parts { parts.new ≡ record parts.old { store = parts.new.store; manager = parts.new.manager } }
@@ -153,7 +153,7 @@ pub(super) fn put_body<S: Storage, E: EvictionManager, P, L, R: Rng>(
     meta: &CacheMeta,
     body: Bytes,
 ) -> Result<PutOutcome, PutFault>
-    ensures put { let rules = rules_of S.held S.ids S.is_spent E.shard_count E.weighed E.pick in
+    ensures put { let rules = rules_of S.held S.ids S.is_spent (IsGiven S.Miss.id) E.shard_count E.weighed E.pick in
         let old = cache_of parts.old.store (E.managed parts.old.manager) (R.stream rng.old) in let new = cache_of parts.new.store (E.managed parts.new.manager) (R.stream rng.new) in
         IsPut rules (key_of key.now) meta.now body result old new }
     ensures parts { parts.new ≡ record parts.old { store = parts.new.store; manager = parts.new.manager } }

@@ -1,8 +1,9 @@
 //! What a put does in a store.
 
-ghost use Rattle.std.specs.Prelude.{◌≡◌, OnOk, IfErr, MatchResult};
+ghost use Rattle.std.specs.Prelude.{◌≡◌, IfOk, MatchResult};
 ghost use Rattle.cache_words.specs.Key.{combined, key_of};
 ghost use Rattle.pingora_cache.specs.Stored.{Stores, IsWriteFault, Purged};
+ghost use Rattle.pingora_cache.specs.Put.{IsGiven};
 
 use bytes::Bytes;
 use cache_evict::{CacheEntryId, CacheEntryKey};
@@ -10,14 +11,15 @@ use cache_heads::CacheMeta;
 use cache_store::storage::{HandleMiss, MissFault, PurgeTarget, PurgeType, Storage, StoreFault};
 use cache_words::key::CacheKey;
 
-// Stores a body that is there as a whole, and returns the id that the store gave it.
+// Stores a body that is there as a whole, and returns the id that its writer gave it.
 pub(super) fn store_whole<S: Storage>(
     store: &mut S,
     key: &CacheKey,
     meta: &CacheMeta,
     body: Bytes,
 ) -> Result<Option<CacheEntryId>, StoreFault>
-    ensures { let spent = S.is_spent (S.held store.old) in
+    ensures id { IfOk result (IsGiven S.Miss.id) }
+    ensures stored { let spent = S.is_spent (S.held store.old) in
         MatchResult result (λ _. Stores spent (combined (key_of key.now)) meta.now body (S.held store.old) (S.held store.new))
         (λ fault. IsWriteFault spent meta.now fault (S.held store.old) (S.held store.new)) }
 {

@@ -1,0 +1,40 @@
+//! What is kept of finished bodies, without a look at writes in flight.
+ghost use Rattle.std.specs.Prelude.{◌≡◌, ◌-◌, ◌^◌, List, ℕ, length, map, min, nat_eq, option_map};
+ghost use Rattle.std.specs.Cmp.Lexicographic.{pointwise};
+ghost use Rattle.std.specs.List.{IsDistinct, sum_by};
+ghost use Rattle.cache_changes.specs.Store.{body_at};
+ghost use Rattle.cache_heads.specs.declared.meta.CacheMeta.{CacheMeta as Meta};
+
+use super::MemCache;
+use crate::bodies;
+use bytes::Bytes;
+use cache_heads::CacheMeta;
+use cache_words::key::HashBinary;
+use std::hash::BuildHasher;
+
+impl<S: BuildHasher> MemCache<S> {
+    /// Lends the finished body of a stored key, with its meta. Writes in flight are not looked at, and no memory is taken.
+    pub fn finished(&self, key: &HashBinary) -> Option<(&CacheMeta, &Bytes)>
+        ensures { option_map {U = Meta × List ℕ} (λ f. (f.0.now, f.1.now)) result ≡ option_map (λ x. (x.meta, x.bytes)) (body_at key.now self.now.store) }
+    {
+        match self.bodies.get(key) {
+            Some(body) => Some((&body.meta, &body.bytes)),
+            None => None,
+        }
+    }
+
+    /// Returns how many finished bodies there are. No key is there twice.
+    pub fn finished_len(&self) -> usize
+        ensures count { result ≡ length self.now.store.bodies }
+        ensures unique { IsDistinct (pointwise nat_eq) (map (λ x. x.write.key) self.now.store.bodies) }
+    {
+        self.bodies.len()
+    }
+
+    /// Returns how many bytes all finished bodies have, counted up to 2^64 - 1. It looks at each body.
+    pub fn finished_bytes(&self) -> u64
+        ensures { result ≡ min (sum_by (λ x. length x.bytes) self.now.store.bodies) (2 ^ 64 - 1) }
+    {
+        bodies::bytes_of_all(&self.bodies)
+    }
+}
