@@ -5,15 +5,20 @@ use Rattle.std.specs.Cmp.Lexicographic.{pointwise}
 use Rattle.std.specs.HashMap as hash
 use Rattle.std.specs.HashMap.{HashMap}
 use Rattle.std.specs.BTreeSet as sorted
-use Rattle.std.specs.BTreeSet.{BTreeSet}
+use Rattle.mem_cache.specs.declared.alive.numbers.Numbers.{Numbers}
+use Rattle.mem_cache.specs.declared.alive.numbers.Numbers.TheVariants.{One, Several}
 
--- the set, if there is one, has n
-abbrev pub is_in : Option (BTreeSet ℕ) → ℕ → Bool
+abbrev pub is_among : Numbers → ℕ → Bool
+is_among (One m) n = m == n
+is_among (Several s) n = sorted.contains nat_cmp s n
+
+-- the numbers, if there are some, have n
+abbrev pub is_in : Option Numbers → ℕ → Bool
 is_in None n = false
-is_in (Some s) n = sorted.contains nat_cmp s n
+is_in (Some s) n = is_among s n
 
 -- the number n is among those of k
-abbrev pub has : {S : Type 0} → HashMap (List ℕ) (BTreeSet ℕ) S → List ℕ → ℕ → Bool
+abbrev pub has : {S : Type 0} → HashMap (List ℕ) Numbers S → List ℕ → ℕ → Bool
 has m k n = is_in (hash.get (pointwise nat_eq) m k) n
 
 -- it is the number n of the key k

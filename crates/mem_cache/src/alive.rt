@@ -6,11 +6,14 @@ ghost use Rattle.mem_cache.specs.Alive.{has, is_pair};
 
 use cache_store::storage::StoreFault;
 use cache_words::key::HashBinary;
+use numbers::Numbers;
 use std::alloc::Global;
-use std::collections::{BTreeSet, HashMap};
+use std::collections::HashMap;
 use std::hash::BuildHasher;
 
-pub(crate) type Alive<S> = HashMap<HashBinary, BTreeSet<u64>, S>;
+mod numbers;
+
+pub(crate) type Alive<S> = HashMap<HashBinary, Numbers, S>;
 
 // Adds a number to those of a key.
 pub(crate) fn add<S: BuildHasher>(
@@ -24,16 +27,12 @@ pub(crate) fn add<S: BuildHasher>(
     ensures fault { IfErr result (λ f. f ≡ Fault.Memory) }
 {
     if let Some(numbers) = alive.get_mut(&key) {
-        return match numbers.insert(number) {
-            Ok(_) => Ok(()),
-            Err(_) => Err(StoreFault::Memory),
+        return match numbers.add(alloc, number) {
+            Ok(()) => Ok(()),
+            Err(fault) => Err(fault),
         };
     }
-    let mut numbers = BTreeSet::new(alloc);
-    if numbers.insert(number).is_err() {
-        return Err(StoreFault::Memory);
-    }
-    match alive.insert(key, numbers) {
+    match alive.insert(key, Numbers::One(number)) {
         Ok(_) => Ok(()),
         Err(_) => Err(StoreFault::Memory),
     }
@@ -43,35 +42,18 @@ pub(crate) fn add<S: BuildHasher>(
 pub(crate) fn take_out<S: BuildHasher>(alive: &mut Alive<S>, key: &HashBinary, number: u64)
     ensures { (k : List ℕ) (n : ℕ) → has alive.new k n ≡ (has alive.old k n && not (is_pair key.now number k n)) }
 {
-    take_one(alive, key, number);
-    if has_none(alive, key) {
-        forget(alive, key);
+    if !take_one(alive, key, number) {
+        take_all(alive, key);
     }
 }
 
-// Takes a number out, and leaves the key even if it has no other.
-fn take_one<S: BuildHasher>(alive: &mut Alive<S>, key: &HashBinary, number: u64)
-    ensures { (k : List ℕ) (n : ℕ) → has alive.new k n ≡ (has alive.old k n && not (is_pair key.now number k n)) }
+// Takes a number out, and returns false where the key is to be forgotten, since it has no other.
+fn take_one<S: BuildHasher>(alive: &mut Alive<S>, key: &HashBinary, number: u64) -> bool
+    ensures left { result ≡ true → (k : List ℕ) (n : ℕ) → has alive.new k n ≡ (has alive.old k n && not (is_pair key.now number k n)) }
+    ensures none { result ≡ false → (k : List ℕ) (n : ℕ) → (has alive.new k n && not (pointwise nat_eq key.now k)) ≡ (has alive.old k n && not (is_pair key.now number k n)) }
 {
-    if let Some(numbers) = alive.get_mut(key) {
-        numbers.remove(&number);
-    }
-}
-
-// Forgets a key that has no number.
-fn forget<S: BuildHasher>(alive: &mut Alive<S>, key: &HashBinary)
-    requires { (n : ℕ) → has alive.old key.now n ≡ false }
-    ensures { (k : List ℕ) (n : ℕ) → has alive.new k n ≡ has alive.old k n }
-{
-    alive.remove(key);
-}
-
-// Returns whether a key has no number.
-fn has_none<S: BuildHasher>(alive: &Alive<S>, key: &HashBinary) -> bool
-    ensures { result ≡ true → (n : ℕ) → has alive.now key.now n ≡ false }
-{
-    match alive.get(key) {
-        Some(numbers) => numbers.is_empty(),
+    match alive.get_mut(key) {
+        Some(numbers) => numbers.take_out(number),
         None => true,
     }
 }
@@ -88,7 +70,7 @@ pub(crate) fn is_alive<S: BuildHasher>(alive: &Alive<S>, key: &HashBinary, numbe
     ensures { result ≡ has alive.now key.now number }
 {
     match alive.get(key) {
-        Some(numbers) => numbers.contains(&number),
+        Some(numbers) => numbers.contains(number),
         None => false,
     }
 }
@@ -98,5 +80,5 @@ pub(crate) fn first<S: BuildHasher>(alive: &Alive<S>, key: &HashBinary) -> Optio
     ensures some { IfSome result (λ n. (has alive.now key.now n ≡ true) × ((m : ℕ) → has alive.now key.now m ≡ true → n ≤ m)) }
     ensures none { IfNone result ((m : ℕ) → has alive.now key.now m ≡ false) }
 {
-    alive.get(key)?.first().copied()
+    alive.get(key)?.first()
 }

@@ -127,7 +127,7 @@ impl<S: BuildHasher> MemCache<S> {
         if self.next == u64::MAX {
             return Err(StoreFault::WriteNumbersSpent);
         }
-        let copy = match written_copy(self.alloc, meta) {
+        let copy = match written_copy(meta) {
             Ok(copy) => copy,
             Err(fault) => return Err(fault),
         };

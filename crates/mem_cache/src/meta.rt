@@ -1,14 +1,13 @@
 //! Copies of metas.
-ghost use Rattle.std.specs.Prelude.{◌≡◌, IfOk, IfErr};
-ghost use Rattle.cache_metas.specs.Internal.{IsWritable};
+ghost use Rattle.std.specs.Prelude.{◌≡◌, ◌↔◌, IfOk, IfErr, IfSome, IsTrue};
+ghost use Rattle.cache_metas.specs.Internal.{IsSinceEpoch, IsWritable};
 ghost use Rattle.cache_store.specs.declared.storage.StoreFault.{StoreFault as Fault};
 ghost use Rattle.cache_store.specs.Renewals.{Refused};
 
 use cache_heads::CacheMeta;
-use cache_metas::fault::MetaFault;
-use cache_metas::internal;
+use cache_metas::versions::InternalMetaV2;
 use cache_store::storage::StoreFault;
-use std::alloc::Global;
+use cache_words::time::Moment;
 
 // Returns a copy of a meta, whose head shares its values.
 pub(crate) fn copy_of(meta: &CacheMeta) -> Result<CacheMeta, StoreFault>
@@ -24,14 +23,35 @@ pub(crate) fn copy_of(meta: &CacheMeta) -> Result<CacheMeta, StoreFault>
     }
 }
 
+// Returns whether a moment that may be absent is not before 1970.
+fn is_since_epoch(moment: Option<Moment>) -> bool
+    ensures { IsTrue result ↔ IfSome moment IsSinceEpoch }
+{
+    match moment {
+        Some(moment) => !moment.is_before_epoch(),
+        None => true,
+    }
+}
+
+// Returns whether each moment can be written. It takes no memory, as writing would.
+fn is_writable(internal: &InternalMetaV2) -> bool
+    ensures { IsTrue result ↔ IsWritable internal.now }
+{
+    is_since_epoch(Some(internal.fresh_until))
+        && is_since_epoch(Some(internal.created))
+        && is_since_epoch(Some(internal.updated))
+        && is_since_epoch(internal.epoch_override)
+        && is_since_epoch(internal.provenance)
+}
+
 // Returns a copy of a meta that can be written.
-pub(crate) fn written_copy(alloc: Global, meta: &CacheMeta) -> Result<CacheMeta, StoreFault>
+pub(crate) fn written_copy(meta: &CacheMeta) -> Result<CacheMeta, StoreFault>
     ensures value { IfOk result (λ copy. (copy ≡ meta.now) × IsWritable meta.now.internal) }
     ensures fault { IfErr result (Refused meta.now) }
 {
-    match internal::write(alloc, &meta.internal) {
-        Ok(_) => copy_of(meta),
-        Err(MetaFault::MetaMoment) => Err(StoreFault::MetaMoment),
-        Err(MetaFault::Memory) => Err(StoreFault::Memory),
+    if is_writable(&meta.internal) {
+        copy_of(meta)
+    } else {
+        Err(StoreFault::MetaMoment)
     }
 }

@@ -47,7 +47,7 @@ impl<S: BuildHasher> MemCache<S> {
         if !self.has_body(key) {
             return Err(StoreFault::NoMeta);
         }
-        match written_copy(self.alloc, meta) {
+        match written_copy(meta) {
             Ok(copy) => {
                 self.set_meta(key, copy);
                 Ok(())

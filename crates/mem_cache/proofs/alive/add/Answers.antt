@@ -1,8 +1,13 @@
 use Rattle.std.proofs.Common.{rules, sym}
-use Rattle.mem_cache.proofs.AliveLaws.{wrote}
+use Rattle.mem_cache.proofs.AliveLaws.{added, unchanged}
 use Rattle.mem_cache.proofs.alive.add.Goals as goal
+
+pub returns-in-Ok-clause-ok : goal.returns-in-Ok-clause-ok
+returns-in-Ok-clause-ok g c =
+    added c.args.alive.now (c.get_mut.follows.lender c.add.new.self) c.args.key c.args.number c.in-Some.numbers.now c.add.new.self (sym c.in-Some.ensures.value)
+    ((c.get_mut.follows.holds c.add.new.self).3 (search rules)).0 c.in-Ok.ensures.ok
 
 pub returns-in-Err-clause-err : goal.returns-in-Err-clause-err
 returns-in-Err-clause-err g c =
-    wrote c.args.alive.now (c.get_mut.follows.lender c.insert.new.self) c.args.key c.in-Some.numbers.now c.insert.new.self (sym c.in-Some.ensures.value)
-    ((c.get_mut.follows.holds c.insert.new.self).3 (search rules)).0 c.in-Err.ensures.err
+    unchanged c.args.alive.now (c.get_mut.follows.lender c.add.new.self) c.args.key c.args.number c.in-Some.numbers.now c.add.new.self (sym c.in-Some.ensures.value)
+    ((c.get_mut.follows.holds c.add.new.self).3 (search rules)).0 c.in-Err.ensures.err
