@@ -255,4 +255,3 @@ stores-nothing s b st f new rest began none refusal number after same = record {
     begins : (v : Bool) → CanBegin s.writes v → Begins s (Some (Stored b)) (Err f) v
     begins true number = number
     begins false number = stored
-

@@ -130,7 +130,7 @@ module _ (n : ℕ) (s : State) (t : MomentValue) (key : CacheKeyValue) (pieces :
     sharded = kept;
     tellable = tt;
     takes = told-one put.Incomplete tier.Incomplete c0 (λ f e. e)
-    (Takes-put old c0.words t key pieces whole.Incomplete (Err tier.Incomplete) (subst (Gives t (entry_of key) (joined pieces)) is gives) (inr refl) refl refl refl);
+        (Takes-put old c0.words t key pieces whole.Incomplete (Err tier.Incomplete) (subst (Gives t (entry_of key) (joined pieces)) is gives) (inr refl) refl refl refl);
   }
 
   bad_head : (g : Whole) → Gives t (entry_of key) (joined pieces) g → g ≡ whole.BadHead → IsTaken (Err put.BadHead) c0
@@ -139,7 +139,7 @@ module _ (n : ℕ) (s : State) (t : MomentValue) (key : CacheKeyValue) (pieces :
     sharded = kept;
     tellable = tt;
     takes = told-one put.BadHead tier.BadHead c0 (λ f e. e)
-    (Takes-put old c0.words t key pieces whole.BadHead (Err tier.BadHead) (subst (Gives t (entry_of key) (joined pieces)) is gives) (inr refl) refl refl refl);
+        (Takes-put old c0.words t key pieces whole.BadHead (Err tier.BadHead) (subst (Gives t (entry_of key) (joined pieces)) is gives) (inr refl) refl refl refl);
   }
 
   -- ---- a body that may be kept
@@ -160,8 +160,8 @@ module _ (n : ℕ) (s : State) (t : MomentValue) (key : CacheKeyValue) (pieces :
             sharded = subst (λ (m : Managed). IsSharded n m) (sym out.managed) kept;
             tellable = told.0;
             takes = told-one fault (tier.Memory nothing_done) c told.1
-            (Takes-stored old c0.words t key pieces b (Err (tier.Memory nothing_done)) (with_cache s c) c.words gives
-            (stores-nothing old b c0.words (tier.Memory nothing_done) (with_cache s c) c.words sp.began refl (inl refl) sp.can (after ∙ ap (λ (x : Shelf). record old { writes = x.writes }) sp.shelf) out.words));
+                (Takes-stored old c0.words t key pieces b (Err (tier.Memory nothing_done)) (with_cache s c) c.words gives
+                (stores-nothing old b c0.words (tier.Memory nothing_done) (with_cache s c) c.words sp.began refl (inl refl) sp.can (after ∙ ap (λ (x : Shelf). record old { writes = x.writes }) sp.shelf) out.words));
           }
 
       -- the store takes no write
@@ -172,8 +172,8 @@ module _ (n : ℕ) (s : State) (t : MomentValue) (key : CacheKeyValue) (pieces :
             sharded = kept;
             tellable = tt;
             takes = told-one put.WriteNumbersSpent (tier.NumbersSpent nothing_done) c0 (λ f e. e)
-            (Takes-stored old c0.words t key pieces b (Err (tier.NumbersSpent nothing_done)) old c0.words gives
-            (stores-nothing old b c0.words (tier.NumbersSpent nothing_done) old c0.words false refl (inr (inl (refl, eqb-true c0.store.next (2 ^ 64 - 1) p.0))) tt refl refl));
+                (Takes-stored old c0.words t key pieces b (Err (tier.NumbersSpent nothing_done)) old c0.words gives
+                (stores-nothing old b c0.words (tier.NumbersSpent nothing_done) old c0.words false refl (inr (inl (refl, eqb-true c0.store.next (2 ^ 64 - 1) p.0))) tt refl refl));
           })
       refused put.MetaMoment c written p = absurd (p.1 written)
       refused _ c written p = absurd p
@@ -195,13 +195,13 @@ module _ (n : ℕ) (s : State) (t : MomentValue) (key : CacheKeyValue) (pieces :
               sharded = h.kept;
               tellable = tt;
               takes = λ o told. subst (λ (x : Outcome). TakesBy old c0.words t (Put key pieces) x (with_cache s c) c.words) (sym told)
-              (Takes-stored old c0.words t key pieces b (Ok (answer.Finished size es)) (with_cache s c) c.words gives (record {
-                allowed = (sized, h.fits, h.turns);
-                began = true;
-                begins = number;
-                after = λ i. record s { managed = h.left i; bodies = (shelf i).bodies; writes = (shelf i).writes };
-                drawn = (c.managed, h.drawn);
-              }));
+                  (Takes-stored old c0.words t key pieces b (Ok (answer.Finished size es)) (with_cache s c) c.words gives (record {
+                    allowed = (sized, h.fits, h.turns);
+                    began = true;
+                    begins = number;
+                    after = λ i. record s { managed = h.left i; bodies = (shelf i).bodies; writes = (shelf i).writes };
+                    drawn = (c.managed, h.drawn);
+                  }));
             }
 
         taken_back : (number : c0.store.next ≢ 2 ^ 64 - 1) (fault : PutFault) (c : Cache Held) → IsTakenBack (rules n) (alone (entry_of key)) (length body) fault (record c0 { store = mid }) c → IsTaken (Err fault) c
@@ -219,9 +219,9 @@ module _ (n : ℕ) (s : State) (t : MomentValue) (key : CacheKeyValue) (pieces :
               sharded = subst (λ (m : Managed). IsSharded n m) (sym k.managed) (kept-stopped n w old b kept weighs k.left k.cause c0.words c.words k.stops);
               tellable = told-tellable _ k.cause fault k.told;
               takes = λ o told. subst (λ (x : Outcome). TakesBy old c0.words t (Put key pieces) x (with_cache s c) c.words) (sym told.1)
-              (Takes-stored old c0.words t key pieces b (Err told.0) (with_cache s c) c.words gives
-              (stores-refused old b c0.words number told.0 (with_cache s c) c.words
-              (refused-put n w (put_in old b c0.words number) b kept weighs k.left k.cause fault told.0 (with_cache s c) c0.words c.words k.stops (k.told, told.2) after)));
+                  (Takes-stored old c0.words t key pieces b (Err told.0) (with_cache s c) c.words gives
+                  (stores-refused old b c0.words number told.0 (with_cache s c) c.words
+                  (refused-put n w (put_in old b c0.words number) b kept weighs k.left k.cause fault told.0 (with_cache s c) c0.words c.words k.stops (k.told, told.2) after)));
             }
 
       put-kept : (r : Result PutOutcome PutFault) (c : Cache Held) → IsWritable meta.internal → IsPut (rules n) (key_of key) meta body r c0 c → IsTaken r c

@@ -104,4 +104,3 @@ module _ (s : State) (t : MomentValue) (i : ℕ) (q : Request) (there : Some q �
       | inl memory ↦ inl (memory, subst (λ (o : Option Request). MatchOption o ⊥ (λ q. is_some (body_for q s.bodies) ≡ true)) there (ap is_some (sym found)))
       | inr late ↦ inr (subst (λ (o : Option Request). MatchOption o ⊥ (λ q. IsUseFault s q (fault_for fault nothing_done))) there late)
     ])
-
