@@ -3,3 +3,5 @@ pub mod RunLaws
 pub mod ShardLaws
 pub mod ShelfLaws
 pub mod StoreLaws
+pub mod TakenLaws
+pub mod UseLaws

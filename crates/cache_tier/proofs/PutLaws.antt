@@ -1,39 +1,99 @@
--- What a judgement of a response's header says.
-use Rattle.std.proofs.Common.{◌≡◌, ℕ, List, refl, ap, sym, ◌∙◌, subst, Some, None, Option, false}
-use Rattle.std.specs.Prelude.{codes, option_map, option_copied}
-use Rattle.cache_words.specs.Time.{MomentValue, DurationValue}
+-- What a response gives of which the tier decides, and which refusals of a put it may meet.
+use Rattle.std.proofs.Common.{◌≡◌, ℕ, List, refl, ap, sym, subst, Some, None, Option, true, false, inl, inr, cond, T, not}
+use Rattle.std.specs.Prelude.{Bool, ◌||◌, ◌⊎◌, codes}
+use Rattle.std.specs.Int.Signed.{lt_z_no}
+use Rattle.cache_words.specs.Time.{MomentValue}
+use Rattle.cache_metas.specs.Internal.{IsSinceEpoch, IsWritable}
 use Rattle.cache_directives.specs.Written.{Written}
-use Rattle.cache_directives.specs.Control.{directives_of, named, lines_under}
+use Rattle.cache_directives.specs.Control.{named, lines_under}
 use Rattle.cache_headers.specs.declared.header.ResponseHeader.{ResponseHeader}
 use Rattle.cache_heads.specs.FreshUntil.{fresh_until_by}
 use Rattle.cache_heads.specs.Verdict as verdicts
-use Rattle.cache_heads.specs.Verdict.{verdict}
-use Rattle.cache_heads.specs.declared.reason.RespCacheable.{RespCacheable}
-use Rattle.tier_model.specs.Response.{kept_until}
-use Rattle.std.specs.Borrow.{Bor}
-use Rattle.cache_directives.specs.declared.control.CacheControl.{CacheControl}
-use Rattle.cache_heads.specs.Directives.{directives_in}
-use Rattle.cache_tier.specs.Puts.{fresh_by, IsByOrigin}
+use Rattle.cache_heads.specs.Meta.{new_meta}
+use Rattle.cache_heads.specs.Stale.{revalidate_window, error_window}
+use Rattle.cache_heads.specs.declared.meta.CacheMeta.{CacheMeta}
+use Rattle.cache_heads.specs.declared.reason.NoCacheReason.TheVariants.{OriginNotCache, StorageError, ResponseTooLarge}
+use Rattle.cache_heads.specs.declared.reason.RespCacheable.TheVariants as verdict
+use Rattle.cache_evict.specs.declared.fault.EvictFault.{EvictFault}
+use Rattle.cache_evict.specs.declared.fault.EvictFault.TheVariants as evict
+use Rattle.response_parse.specs.declared.response.Parsed.{Parsed}
+use Rattle.response_parse.specs.declared.response.Parsed.TheVariants as parsed
+use Rattle.pingora_cache.specs.Put.{IsTold}
+use Rattle.pingora_cache.specs.Response as cache
+use Rattle.pingora_cache.specs.Response.{judged}
+use Rattle.pingora_cache.specs.declared.put.whole.Whole.{Whole as Given}
+use Rattle.pingora_cache.specs.declared.put.whole.Whole.TheVariants as given
+use Rattle.pingora_cache.specs.declared.put.outcome.PutFault.{PutFault}
+use Rattle.pingora_cache.specs.declared.put.outcome.PutFault.TheVariants as put
+use Rattle.tier_model.specs.Keys.{Entry}
+use Rattle.tier_model.specs.declared.state.FinishedBody.{FinishedBody}
+use Rattle.tier_model.specs.declared.whole.Whole.{Whole}
+use Rattle.tier_model.specs.declared.whole.Whole.TheVariants as whole
+use Rattle.tier_model.specs.Response.{is_before_epoch, whole_until, whole_by}
+use Rattle.cache_tier.specs.Puts.{since_epoch, kept_by, IsTellable}
 
--- directives that are lent are those that there are
-pub lent-directives : (lent : Option (Bor CacheControl)) (control : Option CacheControl) (ds : Option (List Written)) → option_copied lent ≡ control → option_map directives_of control ≡ ds → directives_in lent ≡ ds
-lent-directives None control ds e is = ap (option_map directives_of) e ∙ is
-lent-directives (Some c) control ds e is = ap (option_map directives_of) e ∙ is
+-- what a response gives a put, and what it gives by the tier's own words
+abbrev pub IsWholeFor : Entry → Given → Whole → Type 0
+IsWholeFor entry (given.Cacheable meta body) g = (g ≡ whole.Stored (record { entry = entry; bytes = body; fresh_until = meta.internal.fresh_until })) × IsWritable meta.internal
+IsWholeFor entry (given.Uncacheable reason) g = ((reason ≡ OriginNotCache) × (g ≡ whole.Uncacheable OriginNotCache)) ⊎ ((reason ≡ StorageError) × (g ≡ whole.BeforeEpoch))
+IsWholeFor entry given.TooLarge g = ⊥
+IsWholeFor entry given.Incomplete g = g ≡ whole.Incomplete
+IsWholeFor entry given.BadHead g = g ≡ whole.BadHead
 
-fresh_kept : (until : Option MomentValue) (now : MomentValue) (ds : Option (List Written)) (header : ResponseHeader) (r e : ℕ) → fresh_by (verdicts.kept_until until now ds header r e) ≡ until
-fresh_kept None now ds header r e = refl
-fresh_kept (Some until) now ds header r e = refl
+since : (t : MomentValue) → is_before_epoch t ≡ false → IsSinceEpoch t
+since t e = lt_z_no (subst T (sym (ap not e)) tt)
 
-by_origin : (until : Option MomentValue) (now : MomentValue) (ds : Option (List Written)) (header : ResponseHeader) (r e : ℕ) → IsByOrigin (verdicts.kept_until until now ds header r e)
-by_origin None now ds header r e = refl
-by_origin (Some until) now ds header r e = tt
+neither : (a b : Bool) → (a || b) ≡ false → (a ≡ false) × (b ≡ false)
+neither false b e = (refl, e)
+neither true b e = absurd cc
 
-module _ (now : MomentValue) (ds : Option (List Written)) (header : ResponseHeader) (r e : ℕ) (v : RespCacheable) (is : v ≡ verdict now ds header false None r e) where
-  -- it is fresh as long as the header says
-  pub judged-fresh : ds ≡ named (lines_under (codes "cache-control") header.headers) → fresh_by v ≡ kept_until now header
-  judged-fresh lines =
-      ap fresh_by is ∙ fresh_kept (fresh_until_by now ds (lines_under (codes "expires") header.headers) false None) now ds header r e
-      ∙ ap (λ (d : Option (List Written)). fresh_until_by now d (lines_under (codes "expires") header.headers) false None) lines
+-- without a size limit all that may be kept is
+unlimited : (announced : Option ℕ) → cache.announces_past None announced ≡ false
+unlimited None = refl
+unlimited (Some length) = refl
 
-  pub judged-reason : IsByOrigin v
-  judged-reason = subst IsByOrigin (sym is) (by_origin (fresh_until_by now ds (lines_under (codes "expires") header.headers) false None) now ds header r e)
+judged-kept : (meta : CacheMeta) (body : List ℕ) → judged None (verdict.Cacheable meta) body ≡ given.Cacheable meta body
+judged-kept meta body = ap (λ (v : Bool). cond v (given.Uncacheable ResponseTooLarge) (given.Cacheable meta body)) (unlimited (cache.content_length meta.header))
+
+module _ (t : MomentValue) (entry : Entry) where
+  by_until : (until : Option MomentValue) (ds : Option (List Written)) (header : ResponseHeader) (body : List ℕ)
+      → IsWholeFor entry (judged None (since_epoch t (verdicts.kept_until until t ds header 0 0)) body) (whole_until t entry body until)
+  by_until None ds header body = inl (refl, refl)
+  by_until (Some until) ds header body = by_test (is_before_epoch t || is_before_epoch until) refl
+    where
+      by_test : (v : Bool) → (is_before_epoch t || is_before_epoch until) ≡ v
+          → IsWholeFor entry (judged None (cond v (verdict.Uncacheable StorageError) (verdicts.kept_until (Some until) t ds header 0 0)) body)
+          (cond v whole.BeforeEpoch (whole.Stored (record { entry = entry; bytes = body; fresh_until = until })))
+      by_test true e = inr (refl, refl)
+      by_test false e =
+          let both = neither (is_before_epoch t) (is_before_epoch until) e in
+          let meta : CacheMeta = new_meta until t (revalidate_window ds 0) (error_window ds 0) (verdicts.kept_header header ds) in
+          let body_of : FinishedBody = record { entry = entry; bytes = body; fresh_until = until } in
+          subst (λ (w : Given). IsWholeFor entry w (whole.Stored body_of)) (sym (judged-kept meta body)) (refl, record { fresh_until = since until both.1; created = since t both.0; updated = since t both.0; epoch_override = tt; provenance = since t both.0 })
+
+  pub whole-for : (p : Parsed) → IsWholeFor entry (cache.whole_by None (kept_by t) p) (whole_by t entry p)
+  whole-for (parsed.Complete response) =
+      let lines = lines_under (codes "cache-control") response.header.headers in
+      by_until (fresh_until_by t (named lines) (lines_under (codes "expires") response.header.headers) false None) (named lines) response.header response.body
+  whole-for parsed.Incomplete = refl
+  whole-for parsed.BadHead = refl
+
+-- a fault of the order of use is never a size limit or a moment
+pub told-tellable : (a : Bool) (cause : EvictFault) (fault : PutFault) → IsTold a cause fault → IsTellable fault
+told-tellable a cause put.ResponseTooLarge t = no_limit cause t
+  where
+    no_limit : (cause : EvictFault) → IsTold a cause put.ResponseTooLarge → ⊥
+    no_limit (evict.Memory v) t = t
+    no_limit (evict.Weight v) t = t
+    no_limit (evict.Length v) t = t
+    no_limit (evict.NumbersSpent v) t = t
+    no_limit (evict.File v) t = t
+told-tellable a cause put.MetaMoment t = no_moment cause t
+  where
+    no_moment : (cause : EvictFault) → IsTold a cause put.MetaMoment → ⊥
+    no_moment (evict.Memory v) t = t
+    no_moment (evict.Weight v) t = t
+    no_moment (evict.Length v) t = t
+    no_moment (evict.NumbersSpent v) t = t
+    no_moment (evict.File v) t = t
+told-tellable a cause _ t = tt

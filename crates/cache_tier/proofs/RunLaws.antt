@@ -4,7 +4,8 @@ use Rattle.std.specs.Prelude.{Bool, is_some}
 use Rattle.std.specs.FinMap.{get, insert}
 use Rattle.cache_words.specs.Time.{MomentValue}
 use Rattle.cache_words.specs.Key.{CacheKeyValue}
-use Rattle.tier_model.specs.Keys.{entry_of, stored_key_of}
+use Rattle.response_parse.specs.Response.{Reading, IsReading}
+use Rattle.tier_model.specs.Keys.{Entry, entry_of, stored_key_of}
 use Rattle.tier_model.specs.declared.state.Body.{Body}
 use Rattle.tier_model.specs.declared.state.FinishedBody.{FinishedBody}
 use Rattle.tier_model.specs.declared.state.Request.{Request}
@@ -22,9 +23,13 @@ use Rattle.tier_model.specs.Step.{AllowsBy, Allows, Begins, IsFault, refusal, un
 use Rattle.tier_model.specs.Past.{AreTaken, CarriesHeadline}
 use Rattle.tier_model.proofs.Carried.{CarriesHeadline-taken}
 use Rattle.rand_core.specs.Stream.{Stream}
-use Rattle.cache_tier.specs.Puts.{Gives}
 use Rattle.cache_tier.specs.Draws.{AreDrawn, AreAllDrawn, Takes}
-use Rattle.cache_tier.specs.Acts.{AllowsUnrefused, after_action, counting, TakesBy, StoresBy, StepsBy}
+use Rattle.cache_tier.specs.Acts.{AllowsUnrefused, after_action, counting, TakesBy, StepsBy}
+use Rattle.cache_tier.proofs.StoreLaws.{StoresBy}
+
+-- that is what the bytes give by one of their readings, coming for an entry at a moment
+abbrev pub Gives : MomentValue → Entry → List ℕ → Whole → Type 0
+Gives arrival entry bytes whole = (r : Reading) × IsReading bytes r × (whole ≡ whole_of arrival entry r)
 
 -- a put was taken, by what its response gave
 Takes-given : (old : State) (s : Stream) (t : MomentValue) (key : CacheKeyValue) (pieces : List (List ℕ)) (g : Whole) (o : Outcome) (new : State) (rest : Stream) (began : Bool)

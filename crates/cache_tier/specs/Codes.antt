@@ -12,7 +12,6 @@ use Rattle.tier_model.specs.contracts.state.Body.{the_row as body_row}
 use Rattle.tier_model.specs.contracts.state.Request.{the_row as request_row}
 use Rattle.tier_model.specs.Rows.{Bodies}
 use Rattle.tier_model.specs.State.{State}
-use Rattle.cache_tier.specs.Bodies.{Shelf}
 
 abbrev pub span_code : Coded DurationValue
 span_code = code_by (ℕ × ℕ) (coded× coded_ℕ coded_ℕ) (λ s. (s.seconds, s.nanoseconds)) (λ p. record { seconds = p.0; nanoseconds = p.1 }) (λ _. refl)
@@ -22,9 +21,6 @@ managed_code =
     code_by (List (List Tracked) × (ℕ × (Option ℕ × (ℕ × ℕ)))) (coded× (coded_list (coded_list tracked_row.coded)) (coded× coded_ℕ (coded× (coded_option coded_ℕ) (coded× coded_ℕ coded_ℕ))))
     (λ m. (m.shards, (m.limit, (m.watermark, (m.evicted_size, m.evicted_items)))))
     (λ p. record { shards = p.0; limit = p.1.0; watermark = p.1.1.0; evicted_size = p.1.1.1.0; evicted_items = p.1.1.1.1 }) (λ _. refl)
-
-abbrev pub shelf_code : Coded Shelf
-shelf_code = code_by (Bodies × ℕ) (coded× (finite.code (coded_list coded_ℕ) body_row.coded) coded_ℕ) (λ s. (s.bodies, s.writes)) (λ p. record { bodies = p.0; writes = p.1 }) (λ _. refl)
 
 abbrev pub state_code : Coded State
 state_code =

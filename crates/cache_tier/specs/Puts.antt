@@ -1,41 +1,68 @@
--- What a put's response gives.
-use Rattle.std.specs.Prelude.{◌≡◌, ℕ, List, Option, Some, None}
-use Rattle.cache_words.specs.Time.{MomentValue}
-use Rattle.cache_heads.specs.declared.reason.NoCacheReason.TheVariants.{OriginNotCache}
+-- Which responses the tier keeps, and what it tells of a put.
+use Rattle.std.specs.Prelude.{◌≡◌, ℕ, Option, None, Ok, Err, ◌||◌, if◌then◌else◌}
+use Rattle.cache_words.specs.Time.{MomentValue, DurationValue}
+use Rattle.cache_headers.specs.declared.header.ResponseHeader.{ResponseHeader}
+use Rattle.cache_heads.specs.declared.defaults.CacheMetaDefaults.{CacheMetaDefaults}
+use Rattle.cache_heads.specs.declared.defaults.NeverByStatus.{NeverByStatus}
+use Rattle.cache_heads.specs.declared.reason.NoCacheReason.TheVariants.{OriginNotCache, StorageError}
 use Rattle.cache_heads.specs.declared.reason.RespCacheable.{RespCacheable}
-use Rattle.cache_heads.specs.declared.reason.RespCacheable.TheVariants.{Cacheable}
 use Rattle.cache_heads.specs.declared.reason.RespCacheable.TheVariants as verdict
-use Rattle.response_parse.specs.Response.{Reading, IsReading}
-use Rattle.tier_model.specs.Keys.{Entry}
-use Rattle.tier_model.specs.Response.{whole_of}
-use Rattle.tier_model.specs.declared.whole.Whole.{Whole}
-use Rattle.tier_model.specs.declared.whole.Whole.TheVariants as whole
-use Rattle.cache_tier.specs.declared.response.Given.{Given}
-use Rattle.cache_tier.specs.declared.response.Given.TheVariants.{Stored, Uncacheable, Incomplete, BadHead, BeforeEpoch}
+use Rattle.pingora_cache.specs.Response.{verdict_by_headers}
+use Rattle.pingora_cache.specs.declared.put.outcome.Done.{Done as PutDone}
+use Rattle.pingora_cache.specs.declared.put.outcome.PutOutcome.{PutOutcome}
+use Rattle.pingora_cache.specs.declared.put.outcome.PutOutcome.TheVariants.{Stored, Uncacheable}
+use Rattle.pingora_cache.specs.declared.put.outcome.PutFault.{PutFault}
+use Rattle.pingora_cache.specs.declared.put.outcome.PutFault.TheVariants as put
+use Rattle.tier_model.specs.declared.event.Answer.TheVariants as answer
+use Rattle.tier_model.specs.declared.event.Done.{Done}
+use Rattle.tier_model.specs.declared.event.TierFault.{TierFault}
+use Rattle.tier_model.specs.declared.event.TierFault.TheVariants as fault
+use Rattle.tier_model.specs.Calls.{Outcome, nothing_done}
+use Rattle.tier_model.specs.Response.{is_before_epoch}
 
--- that is what the bytes give by one of their readings, coming for an entry at a moment
-abbrev pub Gives : MomentValue → Entry → List ℕ → Whole → Type 0
-Gives arrival entry bytes whole = (r : Reading) × IsReading bytes r × (whole ≡ whole_of arrival entry r)
+-- no lifetime by status, and no time in which a stale response is served
+abbrev pub no_defaults : CacheMetaDefaults NeverByStatus
+no_defaults = record { fresh_sec_fn = record {}; stale_while_revalidate_sec = 0; stale_if_error_sec = 0 }
 
--- until when a response is fresh that may be kept
-abbrev pub fresh_by : RespCacheable → Option MomentValue
-fresh_by (Cacheable meta) = Some meta.internal.fresh_until
-fresh_by (verdict.Uncacheable reason) = None
+abbrev pub never : NeverByStatus → ℕ → Option DurationValue
+never f status = None
 
--- one that may not be kept is not to be by its origin
-abbrev pub IsByOrigin : RespCacheable → Type 0
-IsByOrigin (Cacheable meta) = Unit {0}
-IsByOrigin (verdict.Uncacheable reason) = reason ≡ OriginNotCache
+-- what came before 1970, or is fresh only before it, isn't kept, as if the store refused it: no store can write such a moment
+abbrev pub since_epoch : MomentValue → RespCacheable → RespCacheable
+since_epoch arrival (verdict.Uncacheable reason) = verdict.Uncacheable reason
+since_epoch arrival (verdict.Cacheable meta) =
+    if is_before_epoch arrival || is_before_epoch meta.internal.fresh_until
+    then verdict.Uncacheable StorageError
+    else verdict.Cacheable meta
 
--- what a response gives, without the meta
-abbrev pub whole_given : Given → Whole
-whole_given (Stored body meta) = whole.Stored body
-whole_given (Uncacheable reason) = whole.Uncacheable reason
-whole_given Incomplete = whole.Incomplete
-whole_given BadHead = whole.BadHead
-whole_given BeforeEpoch = whole.BeforeEpoch
+-- whether a response with this header is kept that comes at a moment, by its lines alone
+abbrev pub kept_by : MomentValue → ResponseHeader → RespCacheable
+kept_by arrival header = since_epoch arrival (verdict_by_headers arrival header never no_defaults)
 
--- the meta of a body is fresh until the body is
-abbrev pub IsUnderMeta : Given → Type 0
-IsUnderMeta (Stored body meta) = meta.internal.fresh_until ≡ body.fresh_until
-IsUnderMeta _ = Unit {0}
+-- what a put did, as the tier tells it
+abbrev pub done_as : PutDone → Done
+done_as done = record { stored = done.stored; admitted = done.admitted; evicted = done.evicted.items }
+
+-- what the tier answers after a put
+abbrev pub answer_as : PutOutcome → Outcome
+answer_as (Stored size evicted) = Ok (answer.Finished size evicted.items)
+answer_as (Uncacheable StorageError) = Err fault.BeforeEpoch
+answer_as (Uncacheable reason) = Ok (answer.Uncacheable reason)
+
+-- what the tier tells of a put's refusal. It knows no size limit, and has looked at 1970 before the store does
+abbrev pub IsToldAs : PutFault → TierFault → Type 0
+IsToldAs put.BadHead f = f ≡ fault.BadHead
+IsToldAs put.Incomplete f = f ≡ fault.Incomplete
+IsToldAs put.WriteNumbersSpent f = f ≡ fault.NumbersSpent nothing_done
+IsToldAs (put.Weight done) f = f ≡ fault.TooHeavy (done_as done)
+IsToldAs (put.Length done) f = f ≡ fault.TooLong (done_as done)
+IsToldAs (put.NumbersSpent done) f = f ≡ fault.NumbersSpent (done_as done)
+IsToldAs (put.Memory done) f = f ≡ fault.Memory (done_as done)
+IsToldAs put.ResponseTooLarge f = ⊥
+IsToldAs put.MetaMoment f = ⊥
+
+-- a refusal that a put of the tier may meet
+abbrev pub IsTellable : PutFault → Type 0
+IsTellable put.ResponseTooLarge = ⊥
+IsTellable put.MetaMoment = ⊥
+IsTellable _ = Unit {0}

@@ -1,6 +1,6 @@
 //! Requested keys as they are kept.
 ghost use Rattle.std.specs.Prelude.{◌≡◌, IfOk};
-ghost use Rattle.cache_words.specs.Key.{combined, key_of};
+ghost use Rattle.cache_words.specs.Key.{key_of};
 ghost use Rattle.cache_changes.specs.Changes.{stored_key};
 ghost use Rattle.cache_evict.specs.Parts.{entry_with_parts};
 ghost use Rattle.tier_model.specs.Keys.{entry_of, alone, stored_key_of};
@@ -14,13 +14,6 @@ pub(crate) fn entry_of(key: &CacheKey) -> Result<CompactCacheKey, AllocError>
     ensures { IfOk result (λ entry. entry ≡ entry_of key.now) }
 {
     key.to_compact()
-}
-
-// A copy of an entry.
-pub(crate) fn copy_of(entry: &CompactCacheKey) -> Result<CompactCacheKey, AllocError>
-    ensures { IfOk result (λ copy. copy ≡ entry.now) }
-{
-    entry.clone()
 }
 
 // The stored key of an entry: 16 bytes, in which its tag isn't.
@@ -43,16 +36,20 @@ pub(crate) fn parts_of(key: &CacheKey) -> (KeyParts<'_>, HashBinary)
     (parts, parts.combined_bin())
 }
 
-// A key as it is requested that is stored under that stored key: a look-up by it hashes nothing. It takes no memory.
-pub(crate) fn requested_by(alloc: Global, stored: HashBinary) -> CacheKey
-    ensures { combined (key_of result) ≡ stored }
+// A key that is kept as that one is: the bytes that it names aren't copied, but their hash.
+pub(crate) fn kept_key(alloc: Global, key: &CacheKey) -> Result<CacheKey, AllocError>
+    ensures { IfOk result (λ kept. key_of kept ≡ key_of key.now) }
 {
-    let mut key = CacheKey::new(Vec::new(alloc), String::new(alloc));
-    key.set_primary_bin_override(stored);
-    key
+    let tag = String::from_str(alloc, key.user_tag())?;
+    let mut kept = CacheKey::new(Vec::new(alloc), tag);
+    kept.set_primary_bin_override(key.primary_bin());
+    if let Some(variance) = key.variance_bin() {
+        kept.set_variance_key(variance);
+    }
+    Ok(kept)
 }
 
-// The same as it is kept.
+// A kept key that is stored under that stored key. It takes no memory.
 pub(crate) fn named_by(alloc: Global, stored: HashBinary) -> CompactCacheKey
     ensures { stored_key result ≡ stored }
 {

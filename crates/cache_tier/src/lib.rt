@@ -4,5 +4,5 @@
 mod bodies;
 mod keys;
 pub mod laws;
-mod response;
+mod put;
 pub mod tier;

@@ -13,12 +13,13 @@ mod faults;
 mod requests;
 mod store;
 
-use crate::bodies::Bodies;
+use crate::bodies::{all_bytes, count};
 use cache_evict::EvictionManager;
 use cache_evict::lru::Manager;
 use cache_words::time::Duration;
 use faults::nothing_done;
 use mem_cache::MemCache;
+use pingora_cache::Parts;
 use rand_core::Rng;
 use std::alloc::{AllocError, Global};
 use std::hash::{BuildHasher, BuildHasherDefault, FoldHasher};
@@ -36,9 +37,8 @@ pub struct Tier<const N: usize, S: BuildHasher = BuildHasherDefault<FoldHasher>>
     alloc: Global,
     age: Duration,
     wait: Option<Duration>,
-    bodies: Bodies<S>,
-    // The order of use, with the limits.
-    manager: Manager<N, S>,
+    // The store of the bodies, in which no write is left in flight and no reader, and the order of use, with the limits.
+    parts: Parts<MemCache<S>, Manager<N, S>, (), ()>,
     requests: Requests,
     found: u64,
     absent: u64,
@@ -48,23 +48,24 @@ impl<const N: usize, S: BuildHasher> Model for Tier<N, S> {
     ghost use Rattle.tier_model.specs.State.{State};
     ghost use Rattle.cache_tier.specs.Codes.{state_code};
     ghost use Rattle.cache_evict.specs.Managed.{IsSharded};
+    ghost use Rattle.cache_tier.specs.Bodies.{IsIdle, bodies_in};
 
     ghost Value = { State };
 
     ghost coded = { state_code };
 
     ghost view = { λ t. record {
-      managed = t.manager;
+      managed = t.parts.manager;
       age = t.age;
       wait = t.wait;
-      bodies = t.bodies.bodies;
+      bodies = bodies_in t.parts.store.store.bodies;
       requests = t.requests;
       found = t.found;
       absent = t.absent;
-      writes = t.bodies.writes;
+      writes = t.parts.store.next;
     } };
 
-    ghost invariant = { λ t. IsSharded N t.manager };
+    ghost invariant = { λ t. IsSharded N t.parts.manager × IsIdle t.parts.store };
 }
 
 impl<const N: usize> Tier<N, BuildHasherDefault<FoldHasher>> {
@@ -115,12 +116,17 @@ impl<const N: usize, S: BuildHasher + Copy> Tier<N, S> {
             (empty_opening (record { shards = N; limit = limit; watermark = watermark; age = age; wait = wait })) tier []) }
     {
         let manager = Manager::with_hasher(alloc, hasher, limit, 0, watermark)?;
+        let parts = Parts {
+            store: MemCache::with_hasher(alloc, hasher),
+            manager,
+            predictor: (),
+            lock: (),
+        };
         Ok(Tier {
             alloc,
             age,
             wait,
-            bodies: Bodies::with_hasher(alloc, hasher),
-            manager,
+            parts,
             requests: Requests::new(alloc),
             found: 0,
             absent: 0,
@@ -134,7 +140,7 @@ impl<const N: usize, S: BuildHasher> Tier<N, S> {
         ensures same { result.now ≡ self.now.managed }
         ensures order { (start : Opening) (h : History) → HasPast start self.now h → HoldsOrder result.now start h }
     {
-        &self.manager
+        &self.parts.manager
     }
 
     /// Returns what stores the bodies: just the finished bodies, each under its stored key.
@@ -143,7 +149,7 @@ impl<const N: usize, S: BuildHasher> Tier<N, S> {
         ensures shows { shelf_of result.now ≡ record { bodies = self.now.bodies; writes = self.now.writes } }
         ensures bodies { (start : Opening) (h : History) → HasPast start self.now h → ShowsBodies result.now start h }
     {
-        self.bodies.store()
+        &self.parts.store
     }
 
     // Checks an event, and takes it by its own method.
@@ -200,11 +206,11 @@ impl<const N: usize, S: BuildHasher> Tier<N, S> {
         Report {
             found: self.found,
             absent: self.absent,
-            bodies: self.bodies.count(),
-            bytes: self.bodies.all_bytes(),
-            tracked: self.manager.total_items() as u64,
-            weight: self.manager.total_size() as u64,
-            evicted: self.manager.evicted_items() as u64,
+            bodies: count(&self.parts.store),
+            bytes: all_bytes(&self.parts.store),
+            tracked: self.parts.manager.total_items() as u64,
+            weight: self.parts.manager.total_size() as u64,
+            evicted: self.parts.manager.evicted_items() as u64,
         }
     }
 }

@@ -1,13 +1,14 @@
-//! Faults of a tier, and what was done before them.
+//! What a tier tells of faults, and of puts.
 ghost use Rattle.std.specs.Prelude.{◌≡◌};
 ghost use Rattle.tier_model.specs.Calls.{nothing_done};
-ghost use Rattle.tier_model.specs.Step.{stored_alone};
-ghost use Rattle.cache_tier.specs.Acts.{fault_for, unstored};
+ghost use Rattle.cache_tier.specs.Acts.{fault_for};
+ghost use Rattle.cache_tier.specs.Puts.{done_as, answer_as, IsToldAs, IsTellable};
 
 use cache_evict::EvictFault;
-use cache_store::storage::StoreFault;
+use pingora_cache::NoCacheReason;
+use pingora_cache::put::{Done as PutDone, PutFault, PutOutcome};
 use std::alloc::Global;
-use tier_model::event::{Done, Entries, TierFault};
+use tier_model::event::{Answer, Done, Entries, TierFault};
 
 // Nothing was done before the refusal.
 pub(super) fn nothing_done(alloc: Global) -> Done
@@ -15,17 +16,6 @@ pub(super) fn nothing_done(alloc: Global) -> Done
 {
     Done {
         stored: false,
-        admitted: false,
-        evicted: Entries::new(alloc),
-    }
-}
-
-// The body that was stored is gone again.
-pub(super) fn stored_alone(alloc: Global) -> Done
-    ensures { result ≡ stored_alone }
-{
-    Done {
-        stored: true,
         admitted: false,
         evicted: Entries::new(alloc),
     }
@@ -44,12 +34,44 @@ pub(super) fn fault_for(fault: EvictFault, done: Done) -> TierFault
     }
 }
 
-// A fault of the store, which took no body.
-pub(super) fn unstored(fault: StoreFault, done: Done) -> TierFault
-    ensures { result ≡ unstored fault done }
+// What came of a put.
+pub(super) fn answer_as(outcome: PutOutcome) -> Result<Answer, TierFault>
+    ensures { result ≡ answer_as outcome }
+{
+    match outcome {
+        PutOutcome::Stored { size, evicted } => Ok(Answer::Finished {
+            length: size,
+            evicted: Entries::from_vec(evicted),
+        }),
+        PutOutcome::Uncacheable(NoCacheReason::StorageError) => Err(TierFault::BeforeEpoch),
+        PutOutcome::Uncacheable(reason) => Ok(Answer::Uncacheable(reason)),
+    }
+}
+
+// What a put did.
+fn done_as(done: PutDone) -> Done
+    ensures { result ≡ done_as done }
+{
+    Done {
+        stored: done.stored,
+        admitted: done.admitted,
+        evicted: Entries::from_vec(done.evicted),
+    }
+}
+
+// Why a put was refused.
+pub(super) fn told_as(alloc: Global, fault: PutFault) -> TierFault
+    requires { IsTellable fault }
+    ensures { IsToldAs fault result }
 {
     match fault {
-        StoreFault::WriteNumbersSpent => TierFault::NumbersSpent(done),
-        _ => TierFault::Memory(done),
+        PutFault::BadHead => TierFault::BadHead,
+        PutFault::Incomplete => TierFault::Incomplete,
+        PutFault::WriteNumbersSpent => TierFault::NumbersSpent(nothing_done(alloc)),
+        PutFault::Weight(done) => TierFault::TooHeavy(done_as(done)),
+        PutFault::Length(done) => TierFault::TooLong(done_as(done)),
+        PutFault::NumbersSpent(done) => TierFault::NumbersSpent(done_as(done)),
+        PutFault::Memory(done) => TierFault::Memory(done_as(done)),
+        PutFault::ResponseTooLarge | PutFault::MetaMoment => unreachable!(),
     }
 }

@@ -6,7 +6,7 @@ ghost use Rattle.cache_tier.specs.Acts.{AllowsUnrefused, after_action};
 
 use super::Tier;
 use super::faults::{fault_for, nothing_done};
-use crate::bodies::weight_for;
+use crate::bodies::{look, weight_for};
 use crate::keys::{entry_of, stored_key};
 use cache_entries::entry::CacheEntryKey;
 use cache_evict::EvictionManager;
@@ -112,7 +112,7 @@ impl<const N: usize, S: BuildHasher> Tier<N, S> {
         let Some(request) = self.requests.get(id) else {
             return Err(TierFault::NoRequest);
         };
-        let Ok(found) = self.bodies.look(&stored_key(request.entry.key())) else {
+        let Ok(found) = look(&self.parts.store, &stored_key(request.entry.key())) else {
             return Err(TierFault::Memory(nothing_done(self.alloc)));
         };
         let Some(body) = found else {
@@ -122,13 +122,14 @@ impl<const N: usize, S: BuildHasher> Tier<N, S> {
         };
         let weight = weight_for(&body.bytes);
         if let Err(fault) = self
+            .parts
             .manager
             .access(self.alloc, &request.entry, weight, body.fresh_until)
         {
             return Err(fault_for(fault, nothing_done(self.alloc)));
         }
         // A usize, so that the sum is known to be below 2^64.
-        let _size = self.manager.total_size();
+        let _size = self.parts.manager.total_size();
         let fresh = moment.is_at_most(&body.fresh_until);
         let _old = self
             .requests

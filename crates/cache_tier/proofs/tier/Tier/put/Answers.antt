@@ -1,32 +1,40 @@
-use Rattle.std.proofs.Common.{Ok, Err, refl, inr}
-use Rattle.tier_model.specs.declared.whole.Whole.TheVariants as whole
-use Rattle.tier_model.specs.declared.event.Answer.TheVariants as answer
-use Rattle.tier_model.specs.declared.event.TierFault.TheVariants as fault
-use Rattle.cache_tier.proofs.RunLaws.{Takes-put, Takes-stored}
+use Rattle.std.proofs.Common.{refl, Ok, Err}
+use Rattle.pingora_cache.specs.Put.{cache_of}
+use Rattle.tier_model.specs.State.{State}
+use Rattle.cache_tier.proofs.TakenLaws.{put-taken}
 use Rattle.cache_tier.proofs.tier.Tier.put.Goals as goal
 
-pub returns-in-Stored : goal.returns-in-Stored
-returns-in-Stored g c =
-    Takes-stored c.args.self.now _ c.args.moment c.args.key.now c.args.pieces.now c.in-Stored.body c.store_body.result c.store_body.new.self _ (rw (c.in-Stored.is, c.in-Ok.ensures) at c.in-Ok-given_by_put.ensures.whole)
-    c.store_body.ensures
+pub invariant_of-self : goal.invariant_of-self
+invariant_of-self g c =
+    let s : State = record { managed = c.self.inside.parts.manager; age = c.self.inside.age; wait = c.self.inside.wait; bodies = c.args.self.now.bodies; requests = c.self.inside.requests; found = c.self.inside.found; absent = c.self.inside.absent; writes = c.self.inside.parts.store.next } in
+    let t = put-taken g.row.N s c.args.moment c.args.key.now c.args.pieces.now (cache_of c.self.inside.parts.store c.self.inside.parts.manager (g.R.Rng.stream c.args.rng.now)) c.self.invariant.1 c.self.invariant.0 (Ok c.in-Ok-cache_put.outcome)
+    (cache_of c.cache_put.new.parts.store c.cache_put.new.parts.manager (g.R.Rng.stream c.cache_put.new.rng)) (rw (c.new-put.ensures, c.in-Ok.ensures, c.as_slice.ensures) at c.in-Ok-cache_put.ensures.put) in
+    (t.sharded, t.is_idle)
 
-pub returns-in-Uncacheable : goal.returns-in-Uncacheable
-returns-in-Uncacheable g c =
-    let s = g.R.Rng.stream c.args.rng.now in
-    Takes-put c.args.self.now s c.args.moment c.args.key.now c.args.pieces.now (whole.Uncacheable c.in-Uncacheable.reason) (Ok (answer.Uncacheable c.in-Uncacheable.reason))
-    (rw (c.in-Uncacheable.is, c.in-Ok.ensures) at c.in-Ok-given_by_put.ensures.whole) refl refl refl refl
+pub returns-in-Ok-cache_put : goal.returns-in-Ok-cache_put
+returns-in-Ok-cache_put g c =
+    let s : State = record { managed = c.self.inside.parts.manager; age = c.self.inside.age; wait = c.self.inside.wait; bodies = c.args.self.now.bodies; requests = c.self.inside.requests; found = c.self.inside.found; absent = c.self.inside.absent; writes = c.self.inside.parts.store.next } in
+    let t = put-taken g.row.N s c.args.moment c.args.key.now c.args.pieces.now (cache_of c.self.inside.parts.store c.self.inside.parts.manager (g.R.Rng.stream c.args.rng.now)) c.self.invariant.1 c.self.invariant.0 (Ok c.in-Ok-cache_put.outcome)
+    (cache_of c.cache_put.new.parts.store c.cache_put.new.parts.manager (g.R.Rng.stream c.cache_put.new.rng)) (rw (c.new-put.ensures, c.in-Ok.ensures, c.as_slice.ensures) at c.in-Ok-cache_put.ensures.put) in
+    rw (← c.self.view_is) (t.takes c.answer_as.result c.answer_as.ensures)
 
-pub returns-in-Incomplete : goal.returns-in-Incomplete
-returns-in-Incomplete g c =
-    let s = g.R.Rng.stream c.args.rng.now in
-    Takes-put c.args.self.now s c.args.moment c.args.key.now c.args.pieces.now whole.Incomplete (Err fault.Incomplete) (rw (c.in-Incomplete.is, c.in-Ok.ensures) at c.in-Ok-given_by_put.ensures.whole) (inr refl) refl refl refl
+pub told_as-requires : goal.told_as-requires
+told_as-requires g c =
+    let s : State = record { managed = c.self.inside.parts.manager; age = c.self.inside.age; wait = c.self.inside.wait; bodies = c.args.self.now.bodies; requests = c.self.inside.requests; found = c.self.inside.found; absent = c.self.inside.absent; writes = c.self.inside.parts.store.next } in
+    let t = put-taken g.row.N s c.args.moment c.args.key.now c.args.pieces.now (cache_of c.self.inside.parts.store c.self.inside.parts.manager (g.R.Rng.stream c.args.rng.now)) c.self.invariant.1 c.self.invariant.0 (Err c.in-Err.fault)
+    (cache_of c.cache_put.new.parts.store c.cache_put.new.parts.manager (g.R.Rng.stream c.cache_put.new.rng)) (rw (c.new-put.ensures, c.in-Ok.ensures, c.as_slice.ensures) at c.in-Err.ensures.put) in
+    t.tellable
 
-pub returns-in-BadHead : goal.returns-in-BadHead
-returns-in-BadHead g c =
-    let s = g.R.Rng.stream c.args.rng.now in
-    Takes-put c.args.self.now s c.args.moment c.args.key.now c.args.pieces.now whole.BadHead (Err fault.BadHead) (rw (c.in-BadHead.is, c.in-Ok.ensures) at c.in-Ok-given_by_put.ensures.whole) (inr refl) refl refl refl
+pub invariant_of-self-2 : goal.invariant_of-self-2
+invariant_of-self-2 g c =
+    let s : State = record { managed = c.self.inside.parts.manager; age = c.self.inside.age; wait = c.self.inside.wait; bodies = c.args.self.now.bodies; requests = c.self.inside.requests; found = c.self.inside.found; absent = c.self.inside.absent; writes = c.self.inside.parts.store.next } in
+    let t = put-taken g.row.N s c.args.moment c.args.key.now c.args.pieces.now (cache_of c.self.inside.parts.store c.self.inside.parts.manager (g.R.Rng.stream c.args.rng.now)) c.self.invariant.1 c.self.invariant.0 (Err c.in-Err.fault)
+    (cache_of c.cache_put.new.parts.store c.cache_put.new.parts.manager (g.R.Rng.stream c.cache_put.new.rng)) (rw (c.new-put.ensures, c.in-Ok.ensures, c.as_slice.ensures) at c.in-Err.ensures.put) in
+    (t.sharded, t.is_idle)
 
-pub returns-in-BeforeEpoch : goal.returns-in-BeforeEpoch
-returns-in-BeforeEpoch g c =
-    let s = g.R.Rng.stream c.args.rng.now in
-    Takes-put c.args.self.now s c.args.moment c.args.key.now c.args.pieces.now whole.BeforeEpoch (Err fault.BeforeEpoch) (rw (c.in-BeforeEpoch.is, c.in-Ok.ensures) at c.in-Ok-given_by_put.ensures.whole) (inr refl) refl refl refl
+pub returns : goal.returns
+returns g c =
+    let s : State = record { managed = c.self.inside.parts.manager; age = c.self.inside.age; wait = c.self.inside.wait; bodies = c.args.self.now.bodies; requests = c.self.inside.requests; found = c.self.inside.found; absent = c.self.inside.absent; writes = c.self.inside.parts.store.next } in
+    let t = put-taken g.row.N s c.args.moment c.args.key.now c.args.pieces.now (cache_of c.self.inside.parts.store c.self.inside.parts.manager (g.R.Rng.stream c.args.rng.now)) c.self.invariant.1 c.self.invariant.0 (Err c.in-Err.fault)
+    (cache_of c.cache_put.new.parts.store c.cache_put.new.parts.manager (g.R.Rng.stream c.cache_put.new.rng)) (rw (c.new-put.ensures, c.in-Ok.ensures, c.as_slice.ensures) at c.in-Err.ensures.put) in
+    rw (← c.self.view_is) (t.takes (Err c.told_as.result) (c.told_as.result, refl, c.told_as.ensures))

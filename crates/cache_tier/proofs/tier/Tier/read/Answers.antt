@@ -1,7 +1,7 @@
 use Rattle.std.proofs.Common.{◌≡◌, refl, sym, ap, ◌∙◌}
 use Rattle.tier_model.specs.declared.state.Reader.{Reader}
 use Rattle.tier_model.specs.Step.{read_answer}
-use Rattle.cache_tier.proofs.StoreLaws.{read-after}
+use Rattle.cache_tier.proofs.UseLaws.{read-after}
 use Rattle.cache_tier.proofs.tier.Tier.read.Goals as goal
 
 -- an open request's reader is handed back

@@ -1,0 +1,55 @@
+//! Which responses the tier keeps.
+ghost use Rattle.std.specs.Prelude.{◌≡◌};
+ghost use Rattle.cache_tier.specs.Puts.{no_defaults, since_epoch, kept_by};
+
+use cache_heads::meta::{NeverByStatus, ResponseHeader};
+use cache_words::time::Moment;
+use pingora_cache::put::{CachePut, cacheable_by_headers};
+use pingora_cache::{CacheMetaDefaults, NoCacheReason, RespCacheable};
+use std::alloc::{AllocError, Global};
+
+// Keeps what a response's own lines allow, from 1970 on.
+#[derive(Drop)]
+pub(crate) struct ByLines;
+
+// What is told of a response that came before 1970, or is fresh only before it: that is known before the store is asked, which
+// could not write such a moment either.
+fn since_epoch(arrival: Moment, verdict: RespCacheable) -> RespCacheable
+    ensures { result ≡ since_epoch arrival verdict }
+{
+    match verdict {
+        RespCacheable::Uncacheable(reason) => RespCacheable::Uncacheable(reason),
+        RespCacheable::Cacheable(meta) => {
+            if arrival.is_before_epoch() || meta.fresh_until().is_before_epoch() {
+                return RespCacheable::Uncacheable(NoCacheReason::StorageError);
+            }
+            RespCacheable::Cacheable(meta)
+        }
+    }
+}
+
+impl CachePut for ByLines {
+    type Lifetimes = NeverByStatus;
+
+    ghost defaults = { no_defaults };
+
+    ghost verdict = { λ _ moment header. kept_by moment header };
+
+    fn cacheable(
+        &self,
+        alloc: Global,
+        moment: Moment,
+        response: ResponseHeader,
+    ) -> Result<RespCacheable, AllocError> {
+        let verdict = cacheable_by_headers(alloc, moment, response, &ByLines::cache_defaults())?;
+        Ok(since_epoch(moment, verdict))
+    }
+
+    fn cache_defaults() -> CacheMetaDefaults<NeverByStatus> {
+        CacheMetaDefaults {
+            fresh_sec_fn: NeverByStatus,
+            stale_while_revalidate_sec: 0,
+            stale_if_error_sec: 0,
+        }
+    }
+}
