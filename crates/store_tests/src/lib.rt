@@ -4,6 +4,8 @@
 #[cfg(test)]
 mod decisions;
 #[cfg(test)]
+mod finished;
+#[cfg(test)]
 mod memory;
 #[cfg(test)]
 mod nothing;
