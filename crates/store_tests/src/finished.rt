@@ -1,9 +1,9 @@
 //! The store in memory: what is kept of finished bodies, whatever is in flight.
 use crate::samples::{key, meta};
-use crate::whole::store_whole;
 use bytes::Bytes;
-use cache_store::storage::{HandleMiss, PurgeOutcome, PurgeTarget, PurgeType, Storage};
-use cache_words::key::{CacheHashKey, HashBinary};
+use cache_heads::CacheMeta;
+use cache_store::storage::{HandleMiss, MissFault, PurgeOutcome, PurgeTarget, PurgeType, Storage};
+use cache_words::key::{CacheHashKey, CacheKey, HashBinary};
 use cache_words::time::Moment;
 use mem_cache::MemCache;
 use std::alloc::Global;
@@ -51,12 +51,25 @@ const ROWS: &[Row] = &[
     },
 ];
 
+// Whether a write in one piece is finished.
+fn stored(store: &mut MemCache, key: &CacheKey, meta: &CacheMeta, body: Bytes) -> Option<bool> {
+    let mut writer = store.get_miss_handler(key, meta).ok()?;
+    let is_written = writer.write_body(store, body, true).is_ok();
+    match writer.finish(store) {
+        Ok(_) => Some(is_written),
+        Err(MissFault::WriteRemoved) => Some(false),
+        Err(MissFault::Memory(writer)) => {
+            writer.leave(store);
+            None
+        }
+    }
+}
+
 fn step_is_done(store: &mut MemCache, alloc: Global, step: Step) -> Option<bool> {
     match step {
         Step::Whole(primary, body) => {
             let bytes = Bytes::copy_from_slice(alloc, body).ok()?;
-            let stored = store_whole(store, &key(alloc, primary)?, &meta(alloc, 1300), bytes);
-            Some(stored.is_ok())
+            stored(store, &key(alloc, primary)?, &meta(alloc, 1300), bytes)
         }
         Step::Purge(primary) => {
             let compact = key(alloc, primary)?.to_compact().ok()?;
