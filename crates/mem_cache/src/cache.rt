@@ -242,7 +242,7 @@ impl<S: BuildHasher> MemCache<S> {
     {
         match alive::first(&self.alive, key) {
             Some(number) => Some(Shown::Flying(number, self.flights.get(&number).unwrap())),
-            None => match self.bodies.get(key) {
+            None => match bodies::get(&self.bodies, key) {
                 Some(body) => Some(Shown::Body(body)),
                 None => None,
             },
