@@ -42,7 +42,7 @@ use Rattle.tier_model.specs.Rows.{without_body, without_bodies, with_body, weigh
 use Rattle.tier_model.specs.State.{State}
 use Rattle.cache_tier.specs.Acts.{TakesBy}
 use Rattle.cache_tier.specs.Bodies.{IsIdle, Shelf, shelf_of, bodies_in}
-use Rattle.cache_tier.specs.Puts.{done_as, answer_as, kept_by, IsToldAs, IsTellable}
+use Rattle.cache_tier.specs.Puts.{done_as, answer_as, kept_by, IsToldAs, IsTellable, IsToldOf}
 use Rattle.cache_tier.proofs.PutLaws.{IsWholeFor, whole-for, told-tellable}
 use Rattle.cache_tier.proofs.RunLaws.{Gives, Takes-put, Takes-stored}
 use Rattle.cache_tier.proofs.ShelfLaws.{IsPut as IsShelved, put-whole, some-left, spared, purged-all, purged-shelf}
@@ -55,11 +55,6 @@ rules n = rules_of (λ h. h) (λ h k. None) are_numbers_spent (IsGiven {H = ℕ}
 -- a state with what a cache holds
 abbrev pub with_cache : State → Cache Held → State
 with_cache s c = record s { managed = c.managed; bodies = bodies_in c.store.store.bodies; writes = c.store.next }
-
--- what the tier makes of what came of a put
-abbrev pub IsToldOf : Result PutOutcome PutFault → Outcome → Type 0
-IsToldOf (Ok outcome) o = o ≡ answer_as outcome
-IsToldOf (Err fault) o = (f : TierFault) × (o ≡ Err f) × IsToldAs fault f
 
 nothing-was : (d : PutDone) → IsDone false false [] d → done_as d ≡ nothing_done
 nothing-was d i = λ j. record { stored = i.stored j; admitted = i.admitted j; evicted = i.evicted j }

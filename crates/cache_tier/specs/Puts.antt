@@ -1,5 +1,5 @@
 -- Which responses the tier keeps, and what it tells of a put.
-use Rattle.std.specs.Prelude.{◌≡◌, ℕ, Option, None, Ok, Err, ◌||◌, if◌then◌else◌}
+use Rattle.std.specs.Prelude.{◌≡◌, ℕ, Option, None, Result, Ok, Err, ◌||◌, if◌then◌else◌}
 use Rattle.cache_words.specs.Time.{MomentValue, DurationValue}
 use Rattle.cache_headers.specs.declared.header.ResponseHeader.{ResponseHeader}
 use Rattle.cache_heads.specs.declared.defaults.CacheMetaDefaults.{CacheMetaDefaults}
@@ -43,7 +43,7 @@ kept_by arrival header = since_epoch arrival (verdict_by_headers arrival header 
 abbrev pub done_as : PutDone → Done
 done_as done = record { stored = done.stored; admitted = done.admitted; evicted = done.evicted.items }
 
--- what the tier answers after a put
+-- what the tier answers after a put that was not refused
 abbrev pub answer_as : PutOutcome → Outcome
 answer_as (Stored size evicted) = Ok (answer.Finished size evicted.items)
 answer_as (Uncacheable StorageError) = Err fault.BeforeEpoch
@@ -66,3 +66,8 @@ abbrev pub IsTellable : PutFault → Type 0
 IsTellable put.ResponseTooLarge = ⊥
 IsTellable put.MetaMoment = ⊥
 IsTellable _ = Unit {0}
+
+-- what the tier answers after a put
+abbrev pub IsToldOf : Result PutOutcome PutFault → Outcome → Type 0
+IsToldOf (Ok outcome) o = o ≡ answer_as outcome
+IsToldOf (Err fault) o = (f : TierFault) × (o ≡ Err f) × IsToldAs fault f

@@ -4,6 +4,7 @@ ghost use Rattle.std.specs.Cmp.Lexicographic.{pointwise};
 ghost use Rattle.cache_store.specs.declared.storage.StoreFault.{StoreFault as Fault};
 ghost use Rattle.mem_cache.specs.Alive.{has, is_pair};
 
+use crate::stored_key::StoredKey;
 use cache_store::storage::StoreFault;
 use cache_words::key::HashBinary;
 use numbers::Numbers;
@@ -13,7 +14,7 @@ use std::hash::BuildHasher;
 
 mod numbers;
 
-pub(crate) type Alive<S> = HashMap<HashBinary, Numbers, S>;
+pub(crate) type Alive<S> = HashMap<StoredKey, Numbers, S>;
 
 // Adds a number to those of a key.
 pub(crate) fn add<S: BuildHasher>(
@@ -26,13 +27,13 @@ pub(crate) fn add<S: BuildHasher>(
     ensures err { OnErr result ((k : List ℕ) (n : ℕ) → has alive.new k n ≡ has alive.old k n) }
     ensures fault { IfErr result (λ f. f ≡ Fault.Memory) }
 {
-    if let Some(numbers) = alive.get_mut(&key) {
+    if let Some(numbers) = alive.get_mut(&StoredKey::new(key)) {
         return match numbers.add(alloc, number) {
             Ok(()) => Ok(()),
             Err(fault) => Err(fault),
         };
     }
-    match alive.insert(key, Numbers::One(number)) {
+    match alive.insert(StoredKey::new(key), Numbers::One(number)) {
         Ok(_) => Ok(()),
         Err(_) => Err(StoreFault::Memory),
     }
@@ -52,7 +53,7 @@ fn take_one<S: BuildHasher>(alive: &mut Alive<S>, key: &HashBinary, number: u64)
     ensures left { result ≡ true → (k : List ℕ) (n : ℕ) → has alive.new k n ≡ (has alive.old k n && not (is_pair key.now number k n)) }
     ensures none { result ≡ false → (k : List ℕ) (n : ℕ) → (has alive.new k n && not (pointwise nat_eq key.now k)) ≡ (has alive.old k n && not (is_pair key.now number k n)) }
 {
-    match alive.get_mut(key) {
+    match alive.get_mut(&StoredKey::new(*key)) {
         Some(numbers) => numbers.take_out(number),
         None => true,
     }
@@ -62,14 +63,14 @@ fn take_one<S: BuildHasher>(alive: &mut Alive<S>, key: &HashBinary, number: u64)
 pub(crate) fn take_all<S: BuildHasher>(alive: &mut Alive<S>, key: &HashBinary)
     ensures { (k : List ℕ) (n : ℕ) → has alive.new k n ≡ (has alive.old k n && not (pointwise nat_eq key.now k)) }
 {
-    alive.remove(key);
+    alive.remove(&StoredKey::new(*key));
 }
 
 // Returns whether a key has a number.
 pub(crate) fn is_alive<S: BuildHasher>(alive: &Alive<S>, key: &HashBinary, number: u64) -> bool
     ensures { result ≡ has alive.now key.now number }
 {
-    match alive.get(key) {
+    match alive.get(&StoredKey::new(*key)) {
         Some(numbers) => numbers.contains(number),
         None => false,
     }
@@ -80,5 +81,5 @@ pub(crate) fn first<S: BuildHasher>(alive: &Alive<S>, key: &HashBinary) -> Optio
     ensures some { IfSome result (λ n. (has alive.now key.now n ≡ true) × ((m : ℕ) → has alive.now key.now m ≡ true → n ≤ m)) }
     ensures none { IfNone result ((m : ℕ) → has alive.now key.now m ≡ false) }
 {
-    alive.get(key)?.first()
+    alive.get(&StoredKey::new(*key))?.first()
 }

@@ -1,5 +1,5 @@
 //! The finished bodies.
-ghost use Rattle.std.specs.Prelude.{◌≡◌, ◌<◌, ◌-◌, ◌^◌, List, ℕ, Some, None, cond, is_some, length, min, option_map, nat_eq, OnOk, OnErr};
+ghost use Rattle.std.specs.Prelude.{◌≡◌, ◌<◌, ◌-◌, ◌^◌, List, ℕ, Some, None, cond, is_some, length, min, option_map, option_copied, nat_eq, OnOk, OnErr};
 ghost use Rattle.std.specs.Cmp.Lexicographic.{pointwise};
 ghost use Rattle.std.specs.HashMap.{get, spare, values};
 ghost use Rattle.std.specs.List.{sum_by};
@@ -7,6 +7,7 @@ ghost use Rattle.cache_store.specs.Renewals.{expired};
 ghost use Rattle.mem_cache.specs.Renewals.{body_with};
 
 use crate::flight::Body;
+use crate::stored_key::StoredKey;
 use cache_heads::CacheMeta;
 use cache_words::key::HashBinary;
 use cache_words::time::Moment;
@@ -14,14 +15,14 @@ use std::alloc::AllocError;
 use std::collections::HashMap;
 use std::hash::BuildHasher;
 
-pub(crate) type Bodies<S> = HashMap<HashBinary, Body, S>;
+pub(crate) type Bodies<S> = HashMap<StoredKey, Body, S>;
 
 // Puts a body in the place of the one before it.
 pub(crate) fn put<S: BuildHasher>(bodies: &mut Bodies<S>, key: HashBinary, body: Body)
     requires { 0 < spare bodies.old }
     ensures { (k : List ℕ) → get (pointwise nat_eq) bodies.new k ≡ cond (pointwise nat_eq key k) (Some body) (get (pointwise nat_eq) bodies.old k) }
 {
-    let inserted: Result<_, _> = bodies.insert(key, body);
+    let inserted: Result<_, _> = bodies.insert(StoredKey::new(key), body);
     let _old = inserted.unwrap();
 }
 
@@ -34,11 +35,25 @@ pub(crate) fn make_room<S: BuildHasher>(bodies: &mut Bodies<S>) -> Result<(), Al
     bodies.reserve(1)
 }
 
+// Returns the body of a key.
+pub(crate) fn get<'a, S: BuildHasher>(bodies: &'a Bodies<S>, key: &HashBinary) -> Option<&'a Body>
+    ensures { option_copied result ≡ get (pointwise nat_eq) bodies.now key.now }
+{
+    bodies.get(&StoredKey::new(*key))
+}
+
+// Returns whether a key has a body.
+pub(crate) fn has<S: BuildHasher>(bodies: &Bodies<S>, key: &HashBinary) -> bool
+    ensures { result ≡ is_some (get (pointwise nat_eq) bodies.now key.now) }
+{
+    bodies.contains_key(&StoredKey::new(*key))
+}
+
 // Removes the body of a key.
 pub(crate) fn remove<S: BuildHasher>(bodies: &mut Bodies<S>, key: &HashBinary)
     ensures { (k : List ℕ) → get (pointwise nat_eq) bodies.new k ≡ cond (pointwise nat_eq key.now k) None (get (pointwise nat_eq) bodies.old k) }
 {
-    bodies.remove(key);
+    bodies.remove(&StoredKey::new(*key));
 }
 
 // Lets the body of a key go stale at a moment, and returns whether there is one.
@@ -50,7 +65,7 @@ pub(crate) fn expire<S: BuildHasher>(
     ensures found { result ≡ is_some (get (pointwise nat_eq) bodies.old key.now) }
     ensures after { (k : List ℕ) → get (pointwise nat_eq) bodies.new k ≡ cond (pointwise nat_eq key.now k) (option_map (body_with (expired moment)) (get (pointwise nat_eq) bodies.old key.now)) (get (pointwise nat_eq) bodies.old k) }
 {
-    match bodies.get_mut(key) {
+    match bodies.get_mut(&StoredKey::new(*key)) {
         Some(body) => {
             body.meta.expire_at(moment);
             true
@@ -68,7 +83,7 @@ pub(crate) fn set_meta<S: BuildHasher>(
     ensures found { result ≡ is_some (get (pointwise nat_eq) bodies.old key.now) }
     ensures after { (k : List ℕ) → get (pointwise nat_eq) bodies.new k ≡ cond (pointwise nat_eq key.now k) (option_map (body_with (λ _. meta)) (get (pointwise nat_eq) bodies.old key.now)) (get (pointwise nat_eq) bodies.old k) }
 {
-    match bodies.get_mut(key) {
+    match bodies.get_mut(&StoredKey::new(*key)) {
         Some(body) => {
             body.meta = meta;
             true

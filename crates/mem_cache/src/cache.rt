@@ -17,7 +17,7 @@ use crate::bodies::{self, Bodies};
 use crate::flight::{Body, Buffer, Flight, Shown};
 use crate::flights::{self, Flights};
 use crate::handlers::MemMissHandler;
-use crate::meta::written_copy;
+use crate::meta::{is_writable, written_copy};
 use crate::readers::{self, AllReaders};
 use cache_heads::CacheMeta;
 use cache_store::storage::{ReadStep, StoreFault};
@@ -114,6 +114,26 @@ impl<S: BuildHasher> MemCache<S> {
         }
         self.next = next;
         Ok(number)
+    }
+
+    // Begins a write with a meta.
+    pub(crate) fn begin_write(
+        &mut self,
+        key: HashBinary,
+        meta: CacheMeta,
+    ) -> Result<MemMissHandler, StoreFault>
+        ensures { BeginAnswer (λ h. h) (are_numbers_spent self.old) key meta self.old result self.new }
+    {
+        if self.next == u64::MAX {
+            return Err(StoreFault::WriteNumbersSpent);
+        }
+        if !is_writable(&meta.internal) {
+            return Err(StoreFault::MetaMoment);
+        }
+        match self.begin(key, meta) {
+            Ok(number) => Ok(MemMissHandler::new(number)),
+            Err(fault) => Err(fault),
+        }
     }
 
     // Begins a write with a copy of a meta.
@@ -242,7 +262,7 @@ impl<S: BuildHasher> MemCache<S> {
     {
         match alive::first(&self.alive, key) {
             Some(number) => Some(Shown::Flying(number, self.flights.get(&number).unwrap())),
-            None => match self.bodies.get(key) {
+            None => match bodies::get(&self.bodies, key) {
                 Some(body) => Some(Shown::Body(body)),
                 None => None,
             },

@@ -12,5 +12,6 @@ mod lookup;
 mod meta;
 mod readers;
 mod storage;
+mod stored_key;
 
 pub use cache::MemCache;

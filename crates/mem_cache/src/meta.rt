@@ -34,7 +34,7 @@ fn is_since_epoch(moment: Option<Moment>) -> bool
 }
 
 // Returns whether each moment can be written. It takes no memory, as writing would.
-fn is_writable(internal: &InternalMetaV2) -> bool
+pub(crate) fn is_writable(internal: &InternalMetaV2) -> bool
     ensures { IsTrue result ↔ IsWritable internal.now }
 {
     is_since_epoch(Some(internal.fresh_until))

@@ -70,6 +70,14 @@ impl<S: BuildHasher> Storage for MemCache<S> {
         self.begin_copy(key.combined_bin(), meta)
     }
 
+    fn get_miss_handler_owned(
+        &mut self,
+        key: &CacheKey,
+        meta: CacheMeta,
+    ) -> Result<MemMissHandler, StoreFault> {
+        self.begin_write(key.combined_bin(), meta)
+    }
+
     fn purge(&mut self, target: PurgeTarget<'_>, _purge_type: PurgeType) -> PurgeOutcome {
         if matches!(target, PurgeTarget::Exact(CacheEntryKey::Identified { .. })) {
             return PurgeOutcome::NotFound;

@@ -21,6 +21,8 @@ fn is_read_so(alloc: Global, lines: usize, after: &[u8], want: &str) -> bool {
 
 // The number of lines, what comes after them, and what that gives.
 const LINES: &[(usize, &[u8], &str)] = &[
+    (64, b"\r\n", "200 64 []"),
+    (65, b"\r\n", "200 65 []"),
     (256, b"", "incomplete"),
     (256, b"\r\n", "200 256 []"),
     (256, b"\r\nc", "200 256 [99]"),

@@ -1,5 +1,5 @@
 -- A write that begins under a number that no write in flight has: what is held once it has its bytes, is stored, or is given up.
-use Rattle.std.proofs.Common.{arith, ◌≡◌, ℕ, refl, ap, sym, ◌∙◌, true, false, subst, cond, [], ◌∷◌, ◌++◌, inr}
+use Rattle.std.proofs.Common.{arith, ◌≡◌, ℕ, refl, ap, sym, ◌∙◌, true, false, subst, cond, [], ◌∷◌, ◌++◌, inl, inr}
 use Rattle.std.specs.Prelude.{◌==◌, ◌+◌, Bool, List, Option, Some, None, option_map, Ok, Err, find, not}
 use Rattle.std.proofs.lemmas.Bool.Decides.{nat_tests}
 use Rattle.cache_heads.specs.declared.meta.CacheMeta.{CacheMeta}
@@ -84,6 +84,17 @@ finish-last key meta bytes h none =
 begun-by : {H : Type 0} (number : H → ℕ) (spent : Bool) (key : StoredKey) (meta : CacheMeta) (h : H) (old new : Held) → BeginAnswer number spent key meta old (Ok h) new → (spent ≡ false) × IsBegun key meta (number h) old new
 begun-by number true key meta h old new a = absurd cc
 begun-by number false key meta h old new a = (refl, a)
+
+-- where none begins, the refusal says why no body is stored
+pub not-begun : {H : Type 0} (number : H → ℕ) (spent : Bool) (key : StoredKey) (meta : CacheMeta) (h0 h1 : Held) (f : StoreFault) → BeginAnswer number spent key meta h0 (Err f) h1 → IsWriteFault spent meta f h0 h1
+not-begun number true key meta h0 h1 f a =
+    let was = a.0 in
+    let spent : f ≡ store_fault.WriteNumbersSpent = cc in
+    subst (λ (f : StoreFault). IsWriteFault true meta f h0 h1) (sym spent) (refl, a.1)
+not-begun number false key meta h0 h1 f a = elim a.0 [
+  | inl moment ↦ subst (λ (f : StoreFault). IsWriteFault false meta f h0 h1) (sym moment.0) (refl, moment.1, a.1)
+  | inr memory ↦ subst (λ (f : StoreFault). IsWriteFault false meta f h0 h1) (sym memory.0) (inl a.1)
+]
 
 module _ {H : Type 0} (number : H → ℕ) (told : ℕ → MissFinishType) (spent : Bool) (key : StoredKey) (meta : CacheMeta) (bytes : List ℕ) (m m2 : H) (h0 h1 h2 h3 : Held) where
   abbrev first : Flying CacheMeta

@@ -150,7 +150,7 @@ impl<C: CachePut> CachePutCtx<C> {
         };
         match whole {
             Whole::Cacheable { meta, body } => {
-                put_body(alloc, &self.key, parts, rng, &meta, body)
+                put_body(alloc, &self.key, parts, rng, meta, body)
             }
             Whole::Uncacheable(reason) => Ok(PutOutcome::Uncacheable(reason)),
             Whole::TooLarge => Err(PutFault::ResponseTooLarge),

@@ -142,12 +142,12 @@ in-bounds h code e is short = rw (short, ← e, high is.0) refl
     high : 100 ≤ code → nat_le 100 code ≡ true
     high l = grind (arith, nat_tests)
 
-pub few-fields : (bytes : List ℕ) (headers : List HeaderSpan) (count : ℕ) (fields : List Field) → AreFieldsAt bytes headers count fields → length headers ≡ 256 → length fields ≤ 256
+pub few-fields : (bytes : List ℕ) (headers : List HeaderSpan) (count : ℕ) (fields : List Field) → AreFieldsAt bytes headers count fields → length headers ≤ 256 → length fields ≤ 256
 few-fields bytes headers count fields at room =
     omega (arith, room, length-take count headers, length-map (take count headers) (header_bytes bytes), length-map fields name_and_value, ap length at)
 
 -- a head whose status and lines are taken
-pub whole-head : (bytes : List ℕ) (headers : List HeaderSpan) (r : ResponseSpans) (h : ResponseHead) → IsResponseAt bytes headers r h → length headers ≡ 256
+pub whole-head : (bytes : List ℕ) (headers : List HeaderSpan) (r : ResponseSpans) (h : ResponseHead) → IsResponseAt bytes headers r h → length headers ≤ 256
     → (status : ℕ) (all : Entries FieldValue) → IsStatusCode r.code → status ≡ r.code → all ≡ map_of (map (header_bytes bytes) (take r.headers headers))
     → list_all has_short_name (map (header_bytes bytes) (take r.headers headers)) ≡ true → IsHeadOf bytes (record { header = record { status = status; headers = all }; len = r.len })
 whole-head bytes headers r h at room status all is code value short = (

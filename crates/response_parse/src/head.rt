@@ -22,6 +22,9 @@ use std::alloc::{AllocError, Global};
 // The most header lines of a head.
 const MOST_LINES: usize = 256;
 
+// As many header lines as nearly every head has at most: room for the most is cleared only for a head that has more.
+const FEW_LINES: usize = 64;
+
 // Why no head is read.
 #[derive(Clone, Copy, PartialEq, Eq)]
 pub(crate) enum HeadFault {
@@ -138,6 +141,31 @@ fn head_of(headers: HeaderMap, read: &ResponseSpans) -> Result<Head, HeadFault>
     }
 }
 
+// The head at the front, as the parser's default options read it into so many lines; none where it hasn't come whole.
+fn read_into(
+    alloc: Global,
+    bytes: &[u8],
+    lines: &mut [HeaderSpan],
+) -> Result<Option<Head>, HeadFault>
+    requires few { length lines.old ≤ 256 }
+    ensures within { IfOk result (λ o. IfSome o (λ head. head.len ≤ length bytes.now)) }
+    ensures whole { IfOk result (λ o. IfSome o (IsHeadOf bytes.now)) }
+    ensures begun { IfOk result (λ o. IfNone o (HasNoResponse bytes.now)) }
+    ensures bounds { result ≡ Err HeadFault.Bounds → IsOutOfBounds bytes.now }
+    ensures long { result ≡ Err HeadFault.TooLong → ResponseOverflows (length lines.old) bytes.now }
+    ensures refused { result ≡ Err HeadFault.Refused → NeverHasResponse bytes.now }
+{
+    match parse_response(bytes, lines) {
+        Ok(Status::Complete(head)) => {
+            let headers = collect(alloc, bytes, head.len, &lines[..head.headers])?;
+            Ok(Some(head_of(headers, &head)?))
+        }
+        Ok(Status::Partial) => Ok(None),
+        Err(Error::TooManyHeaders) => Err(HeadFault::TooLong),
+        Err(_) => Err(HeadFault::Refused),
+    }
+}
+
 // The head at the front, as the parser's default options read it; none where it hasn't come whole.
 pub(crate) fn read_head(alloc: Global, bytes: &[u8]) -> Result<Option<Head>, HeadFault>
     ensures within { IfOk result (λ o. IfSome o (λ head. head.len ≤ length bytes.now)) }
@@ -147,15 +175,13 @@ pub(crate) fn read_head(alloc: Global, bytes: &[u8]) -> Result<Option<Head>, Hea
     ensures long { result ≡ Err HeadFault.TooLong → ResponseOverflows 256 bytes.now }
     ensures refused { result ≡ Err HeadFault.Refused → NeverHasResponse bytes.now }
 {
-    let mut lines = [EMPTY_HEADER_SPAN; MOST_LINES];
-    match parse_response(bytes, &mut lines) {
-        Ok(Status::Complete(head)) => {
-            let headers = collect(alloc, bytes, head.len, &lines[..head.headers])?;
-            Ok(Some(head_of(headers, &head)?))
+    let mut few = [EMPTY_HEADER_SPAN; FEW_LINES];
+    match read_into(alloc, bytes, &mut few) {
+        Err(HeadFault::TooLong) => {
+            let mut lines = [EMPTY_HEADER_SPAN; MOST_LINES];
+            read_into(alloc, bytes, &mut lines)
         }
-        Ok(Status::Partial) => Ok(None),
-        Err(Error::TooManyHeaders) => Err(HeadFault::TooLong),
-        Err(_) => Err(HeadFault::Refused),
+        read => read,
     }
 }
 

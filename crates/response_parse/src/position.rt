@@ -22,6 +22,10 @@ impl Position {
     fn after(self, byte: u8) -> Position
         ensures { result ≡ position_after_byte self byte }
     {
+        // Most bytes are those of a line.
+        if self == Position::InLine && byte != b'\n' {
+            return Position::InLine;
+        }
         match (self, byte) {
             (Position::BeforeText, b'\n' | b'\r') => Position::BeforeText,
             (Position::InLine, b'\n') => Position::LineStart,

@@ -52,8 +52,8 @@ const ROWS: &[Row] = &[
 ];
 
 // Whether a write in one piece is finished.
-fn stored(store: &mut MemCache, key: &CacheKey, meta: &CacheMeta, body: Bytes) -> Option<bool> {
-    let mut writer = store.get_miss_handler(key, meta).ok()?;
+fn stored(store: &mut MemCache, key: &CacheKey, meta: CacheMeta, body: Bytes) -> Option<bool> {
+    let mut writer = store.get_miss_handler_owned(key, meta).ok()?;
     let is_written = writer.write_body(store, body, true).is_ok();
     match writer.finish(store) {
         Ok(_) => Some(is_written),
@@ -69,7 +69,7 @@ fn step_is_done(store: &mut MemCache, alloc: Global, step: Step) -> Option<bool>
     match step {
         Step::Whole(primary, body) => {
             let bytes = Bytes::copy_from_slice(alloc, body).ok()?;
-            stored(store, &key(alloc, primary)?, &meta(alloc, 1300), bytes)
+            stored(store, &key(alloc, primary)?, meta(alloc, 1300), bytes)
         }
         Step::Purge(primary) => {
             let compact = key(alloc, primary)?.to_compact().ok()?;

@@ -99,16 +99,17 @@ impl HandleMiss<Nothing> for Nobody {
     }
 }
 
-// What the calls of a store with default bodies answer: whether a look-up of a write finds any, what came of an expiry, and
-// whether writes are read while they are written.
+// What the calls of a store with default bodies answer: whether a write begins or a look-up of one finds any, what came of an
+// expiry, and whether writes are read while they are written.
 fn asked(alloc: Global) -> Option<(bool, PurgeOutcome, bool)> {
     let key = key(alloc, b"aa")?;
+    let begun = Nothing.get_miss_handler_owned(&key, meta(alloc, 1300));
     let compact = key.to_compact().ok()?;
     let found = Nothing.lookup_streaming_write(&key, Some(&[0])).ok()?;
     let moment = Moment::from_seconds(1000);
     let outcome = Nothing.expire(PurgeTarget::Active(&compact), moment).ok()?;
     let streams = Nothing.support_streaming_partial_write();
-    Some((found.is_some(), outcome, streams))
+    Some((found.is_some() || begun.is_ok(), outcome, streams))
 }
 
 #[test]

@@ -95,6 +95,21 @@ pub trait Storage: Contents {
     ) -> Result<Self::Miss, StoreFault>
         ensures { BeginAnswer Self.Miss.number (is_spent (Self.held self.old)) (combined (key_of key.now)) meta.now (Self.held self.old) result (Self.held self.new) };
 
+    /// Begins a write with a meta that is handed over: a store that keeps metas as they are needs no copy.
+    ///
+    /// # Errors
+    ///
+    /// Those of `get_miss_handler`.
+    fn get_miss_handler_owned(
+        &mut self,
+        key: &CacheKey,
+        meta: CacheMeta,
+    ) -> Result<Self::Miss, StoreFault>
+        ensures { BeginAnswer Self.Miss.number (is_spent (Self.held self.old)) (combined (key_of key.now)) meta (Self.held self.old) result (Self.held self.new) }
+    {
+        self.get_miss_handler(key, &meta)
+    }
+
     /// Removes what is stored of the target. It takes no memory.
     fn purge(&mut self, target: PurgeTarget<'_>, purge_type: PurgeType) -> PurgeOutcome
         ensures { let k = target_key (ids self.old) target.entry in PurgeAnswer k (id_at (ids self.old) k) (Self.held self.old) result (Self.held self.new) };
@@ -207,7 +222,8 @@ pub trait HandleMiss<S: Contents> {
 
     ghost told: { ℕ → FinishType };
 
-    /// Adds bytes, which are the last where `eof` says so.
+    /// Adds bytes, which are the last where `eof` says so. `more` may be a small part of a buffer, as of a whole response: a
+    /// store that keeps it and doesn't copy its bytes keeps that buffer.
     ///
     /// # Errors
     ///

@@ -1,8 +1,8 @@
 //! What a tier tells of faults, and of puts.
-ghost use Rattle.std.specs.Prelude.{◌≡◌};
+ghost use Rattle.std.specs.Prelude.{◌≡◌, IfErr};
 ghost use Rattle.tier_model.specs.Calls.{nothing_done};
 ghost use Rattle.cache_tier.specs.Acts.{fault_for};
-ghost use Rattle.cache_tier.specs.Puts.{done_as, answer_as, IsToldAs, IsTellable};
+ghost use Rattle.cache_tier.specs.Puts.{done_as, answer_as, IsToldAs, IsTellable, IsToldOf};
 
 use cache_evict::EvictFault;
 use pingora_cache::NoCacheReason;
@@ -34,8 +34,8 @@ pub(super) fn fault_for(fault: EvictFault, done: Done) -> TierFault
     }
 }
 
-// What came of a put.
-pub(super) fn answer_as(outcome: PutOutcome) -> Result<Answer, TierFault>
+// What came of a put that was not refused.
+fn answer_as(outcome: PutOutcome) -> Result<Answer, TierFault>
     ensures { result ≡ answer_as outcome }
 {
     match outcome {
@@ -60,7 +60,7 @@ fn done_as(done: PutDone) -> Done
 }
 
 // Why a put was refused.
-pub(super) fn told_as(alloc: Global, fault: PutFault) -> TierFault
+fn told_as(alloc: Global, fault: PutFault) -> TierFault
     requires { IsTellable fault }
     ensures { IsToldAs fault result }
 {
@@ -73,5 +73,19 @@ pub(super) fn told_as(alloc: Global, fault: PutFault) -> TierFault
         PutFault::NumbersSpent(done) => TierFault::NumbersSpent(done_as(done)),
         PutFault::Memory(done) => TierFault::Memory(done_as(done)),
         PutFault::ResponseTooLarge | PutFault::MetaMoment => unreachable!(),
+    }
+}
+
+// What came of a put.
+pub(super) fn told_of(
+    alloc: Global,
+    came: Result<PutOutcome, PutFault>,
+) -> Result<Answer, TierFault>
+    requires { IfErr came IsTellable }
+    ensures { IsToldOf came result }
+{
+    match came {
+        Ok(outcome) => answer_as(outcome),
+        Err(fault) => Err(told_as(alloc, fault)),
     }
 }

@@ -3,7 +3,7 @@ ghost use Rattle.std.specs.Prelude.{◌≡◌};
 ghost use Rattle.cache_tier.specs.Acts.{AllowsUnrefused, after_action, TakesBy};
 
 use super::Tier;
-use super::faults::{answer_as, nothing_done, told_as};
+use super::faults::{nothing_done, told_of};
 use crate::bodies::remove;
 use crate::keys::{kept_key, parts_of};
 use crate::put::ByLines;
@@ -41,9 +41,7 @@ impl<const N: usize, S: BuildHasher> Tier<N, S> {
             return Err(TierFault::Memory(nothing_done(self.alloc)));
         };
         let mut put = CachePutCtx::new(ByLines, key);
-        match put.cache_put(self.alloc, &mut self.parts, rng, pieces.as_slice(), moment) {
-            Ok(outcome) => answer_as(outcome),
-            Err(fault) => Err(told_as(self.alloc, fault)),
-        }
+        let came = put.cache_put(self.alloc, &mut self.parts, rng, pieces.as_slice(), moment);
+        told_of(self.alloc, came)
     }
 }

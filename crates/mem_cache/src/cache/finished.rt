@@ -17,7 +17,7 @@ impl<S: BuildHasher> MemCache<S> {
     pub fn finished(&self, key: &HashBinary) -> Option<(&CacheMeta, &Bytes)>
         ensures { option_map {U = Meta × List ℕ} (λ f. (f.0.now, f.1.now)) result ≡ option_map (λ x. (x.meta, x.bytes)) (body_at key.now self.now.store) }
     {
-        match self.bodies.get(key) {
+        match bodies::get(&self.bodies, key) {
             Some(body) => Some((&body.meta, &body.bytes)),
             None => None,
         }

@@ -33,7 +33,7 @@ impl<S: BuildHasher> MemCache<S> {
     fn has_body(&self, key: &HashBinary) -> bool
         ensures { result ≡ is_some (body_at key.now self.now.store) }
     {
-        self.bodies.contains_key(key)
+        bodies::has(&self.bodies, key)
     }
 
     // Gives the body of a key a copy of a meta.

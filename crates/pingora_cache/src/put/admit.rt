@@ -150,12 +150,12 @@ pub(super) fn put_body<S: Storage, E: EvictionManager, P, L, R: Rng>(
     key: &CacheKey,
     parts: &mut Parts<S, E, P, L>,
     rng: &mut R,
-    meta: &CacheMeta,
+    meta: CacheMeta,
     body: Bytes,
 ) -> Result<PutOutcome, PutFault>
     ensures put { let rules = rules_of S.held S.ids S.is_spent (IsGiven S.Miss.id) E.shard_count E.weighed E.pick in
         let old = cache_of parts.old.store (E.managed parts.old.manager) (R.stream rng.old) in let new = cache_of parts.new.store (E.managed parts.new.manager) (R.stream rng.new) in
-        IsPut rules (key_of key.now) meta.now body result old new }
+        IsPut rules (key_of key.now) meta body result old new }
     ensures parts { parts.new ≡ record parts.old { store = parts.new.store; manager = parts.new.manager } }
 {
     let Ok(compact) = key.to_compact() else {
@@ -165,13 +165,14 @@ pub(super) fn put_body<S: Storage, E: EvictionManager, P, L, R: Rng>(
         return Err(out_of_memory(alloc));
     };
     let size = body.len();
+    let fresh_until = meta.fresh_until();
     let id = match store_whole(&mut parts.store, key, meta, body) {
         Ok(id) => id,
         Err(fault) => return Err(told_of_store(alloc, fault)),
     };
     let entry = CacheEntryKey::from_entry_id(compact, id);
     let again = CacheEntryKey::from_entry_id(again, id);
-    match admit(alloc, parts, rng, entry, &again, size, meta.fresh_until()) {
+    match admit(alloc, parts, rng, entry, &again, size, fresh_until) {
         Ok(evicted) => Ok(PutOutcome::Stored { size, evicted }),
         Err(fault) => Err(fault),
     }

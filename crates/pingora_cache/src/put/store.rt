@@ -15,15 +15,15 @@ use cache_words::key::CacheKey;
 pub(super) fn store_whole<S: Storage>(
     store: &mut S,
     key: &CacheKey,
-    meta: &CacheMeta,
+    meta: CacheMeta,
     body: Bytes,
 ) -> Result<Option<CacheEntryId>, StoreFault>
     ensures id { IfOk result (IsGiven S.Miss.id) }
     ensures stored { let spent = S.is_spent (S.held store.old) in
-        MatchResult result (λ _. Stores spent (combined (key_of key.now)) meta.now body (S.held store.old) (S.held store.new))
-        (λ fault. IsWriteFault spent meta.now fault (S.held store.old) (S.held store.new)) }
+        MatchResult result (λ _. Stores spent (combined (key_of key.now)) meta body (S.held store.old) (S.held store.new))
+        (λ fault. IsWriteFault spent meta fault (S.held store.old) (S.held store.new)) }
 {
-    let mut miss = match store.get_miss_handler(key, meta) {
+    let mut miss = match store.get_miss_handler_owned(key, meta) {
         Ok(miss) => miss,
         Err(fault) => return Err(fault),
     };

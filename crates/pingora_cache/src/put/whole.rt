@@ -94,34 +94,13 @@ fn judged(limit: Option<usize>, verdict: RespCacheable, body: Bytes) -> Whole
     Whole::Cacheable { meta, body }
 }
 
-// The body by itself, so that a body that is kept doesn't keep a long response: it is copied, unless the rest of the response,
-// whose length that is, is at most an eighth of it.
-fn kept(alloc: Global, body: Bytes, response: usize) -> Result<Bytes, AllocError>
-    ensures { IfOk result (λ own. own ≡ body) }
-{
-    if response.saturating_sub(body.len()) <= body.len() / 8 {
-        return Ok(body);
-    }
-    Bytes::copy_from_slice(alloc, body.as_slice())
-}
-
-// The length of all pieces.
-fn total_len(pieces: &[Bytes]) -> usize {
-    let mut total = 0usize;
-    for piece in pieces {
-        total = total.saturating_add(piece.len());
-    }
-    total
-}
-
-// What a whole response of that length gives.
+// What a whole response gives.
 fn whole_by<C: CachePut>(
     alloc: Global,
     cache_put: &mut C,
     limit: Option<usize>,
     moment: Moment,
     response: Response,
-    len: usize,
 ) -> Result<Whole, AllocError>
     ensures whole { IfOk result (λ whole. whole ≡ whole_by limit (C.verdict cache_put.old moment) (Complete response)) }
     ensures verdict { C.verdict cache_put.new ≡ C.verdict cache_put.old }
@@ -129,7 +108,6 @@ fn whole_by<C: CachePut>(
     let Response { header, body } = response;
     cache_put.trace_header(&header);
     let verdict = cache_put.cacheable(alloc, moment, header)?;
-    let body = kept(alloc, body, len)?;
     Ok(judged(limit, verdict, body))
 }
 
@@ -145,9 +123,7 @@ pub(super) fn whole_of<C: CachePut>(
     ensures verdict { C.verdict cache_put.new ≡ C.verdict cache_put.old }
 {
     match parsed(alloc, pieces)? {
-        Parsed::Complete(response) => {
-            whole_by(alloc, cache_put, limit, moment, response, total_len(pieces))
-        }
+        Parsed::Complete(response) => whole_by(alloc, cache_put, limit, moment, response),
         Parsed::Incomplete => Ok(Whole::Incomplete),
         Parsed::BadHead => Ok(Whole::BadHead),
     }

@@ -4,10 +4,10 @@ use Rattle.mem_cache.proofs.alive.add.Goals as goal
 
 pub returns-in-Ok-clause-ok : goal.returns-in-Ok-clause-ok
 returns-in-Ok-clause-ok g c =
-    added c.args.alive.now (c.get_mut.follows.lender c.add.new.self) c.args.key c.args.number c.in-Some.numbers.now c.add.new.self (sym c.in-Some.ensures.value)
-    ((c.get_mut.follows.holds c.add.new.self).3 (search rules)).0 c.in-Ok.ensures.ok
+    added c.args.alive.now (c.get_mut.follows.lender c.add.new.self) c.args.key c.args.number c.in-Some.numbers.now c.add.new.self (sym (rw c.new.ensures at c.in-Some.ensures.value))
+    (rw c.new.ensures at ((c.get_mut.follows.holds c.add.new.self).3 (search rules)).0) c.in-Ok.ensures.ok
 
 pub returns-in-Err-clause-err : goal.returns-in-Err-clause-err
 returns-in-Err-clause-err g c =
-    unchanged c.args.alive.now (c.get_mut.follows.lender c.add.new.self) c.args.key c.args.number c.in-Some.numbers.now c.add.new.self (sym c.in-Some.ensures.value)
-    ((c.get_mut.follows.holds c.add.new.self).3 (search rules)).0 c.in-Err.ensures.err
+    unchanged c.args.alive.now (c.get_mut.follows.lender c.add.new.self) c.args.key c.args.number c.in-Some.numbers.now c.add.new.self (sym (rw c.new.ensures at c.in-Some.ensures.value))
+    (rw c.new.ensures at ((c.get_mut.follows.holds c.add.new.self).3 (search rules)).0) c.in-Err.ensures.err

@@ -3,7 +3,7 @@ use Rattle.cache_headers.specs.Lines.{IsLine}
 use Rattle.response_parse.specs.Heads.{IsHeadOf}
 use Rattle.response_parse.specs.declared.head.HeadFault.TheVariants.{Bounds}
 use Rattle.response_parse.proofs.HeadLaws.{few-fields, out-by-lines, out-by-status, whole-head}
-use Rattle.response_parse.proofs.head.read_head.Goals as goal
+use Rattle.response_parse.proofs.head.read_into.Goals as goal
 
 pub returns-in_err-headers-in-Ok-Complete-clause-bounds : goal.returns-in_err-headers-in-Ok-Complete-clause-bounds
 returns-in_err-headers-in-Ok-Complete-clause-bounds c e =
