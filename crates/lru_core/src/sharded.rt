@@ -1,8 +1,8 @@
 //! Shards of weighted rows with a limit on their weight: key k is in shard k modulo N.
 
-ghost use Rattle.std.specs.Prelude.{◌≡◌, ◌<◌, ◌%◌, [], length, replicate, IfOk, OnErr};
+ghost use Rattle.std.specs.Prelude.{◌≡◌, ◌<◌, ◌≤◌, ◌%◌, [], length, replicate, IfOk, OnErr};
 ghost use Rattle.lru_core.specs.Rows.{total_weight};
-ghost use Rattle.lru_core.specs.Cores.{rows_at, core_weight, core_len};
+ghost use Rattle.lru_core.specs.Cores.{rows_at, core_weight, core_len, shard_bound};
 
 mod edits;
 mod eviction;
@@ -105,7 +105,8 @@ impl<T, const N: usize, S: BuildHasher> LruCore<T, N, S> {
     /// Returns the weight of the rows of a shard.
     pub fn shard_weight(&self, shard: usize) -> usize
         requires { shard < N }
-        ensures { result ≡ total_weight (rows_at self.now.shards shard) }
+        ensures value { result ≡ total_weight (rows_at self.now.shards shard) }
+        ensures bound { result ≤ shard_bound N }
     {
         self.units[shard].weight()
     }
@@ -165,10 +166,10 @@ impl<T: Drop, const N: usize, S: BuildHasher + Copy> LruCore<T, N, S> {
         requires { 0 < N }
         ensures { IfOk result (λ c. c ≡ record { shards = replicate N []; limit = weight_limit; watermark = len_watermark; evicted_weight = 0; evicted_len = 0 }) }
     {
-        let mut units = Vec::new(alloc);
+        let mut units = Vec::with_capacity(alloc, N)?;
         'units: for _ in 0..N {
             let unit = LruUnit::with_hasher(alloc, hasher, capacity / N, usize::MAX / N)?;
-            units.push(unit)?;
+            units.push_reserved(unit);
         }
         Ok(LruCore {
             units,

@@ -11,6 +11,13 @@ module _ {T : Type 0} where
   none_left [] m = refl
   none_left (r ∷ xs) m = absurd (m (λ e. cc))
 
+  -- a key that is there has a row
+  pub row_there : (k : ℕ) (xs : List (Row T)) → only k xs ≢ [] → is_some (row_of k xs) ≡ true
+  row_there k xs n = elim (only k xs) as (λ l. l ≢ [] → is_some (slice_get l 0) ≡ true) [
+    | [] ↦ λ a. absurd (a refl)
+    | r ∷ l ↦ λ a. refl
+  ] n
+
   pub kept_near : (k n : ℕ) (xs : List (Row T)) → ((only k xs ≢ []) × (only k (take n xs) ≡ []) → ⊥) → xs ≡ cond (is_some (row_of k (take n xs))) xs (promoted k xs)
   kept_near k n xs h = elim (only k (take n xs)) as (λ l. ((only k xs ≢ []) × (l ≡ []) → ⊥) → xs ≡ cond (is_some (slice_get l 0)) xs (promoted k xs)) [
     | [] ↦ λ m. let e = none_left (only k xs) (λ s. m (s, refl)) in rw e (sym (others_all k xs e))

@@ -1,19 +1,19 @@
 -- Why a shard refuses a call.
-use Rattle.std.specs.Prelude.{◌≡◌, ℕ, ⊤, max, List, [], Option, Some, None, MatchOption}
+use Rattle.std.specs.Prelude.{◌≡◌, ℕ, ⊤, max, List, [], Option, Some, None, is_some, if◌then◌else◌, MatchOption}
 use Rattle.lru_core.specs.declared.rows.Row.{Row}
-use Rattle.lru_core.specs.Rows.{only, incremented, IsHeavy, IsLong}
+use Rattle.lru_core.specs.Rows.{only, row_of, incremented, IsHeavy, IsLong}
 use Rattle.lru_core.specs.declared.lru_unit.fault.LruFault.{LruFault}
 use Rattle.lru_core.specs.declared.lru_unit.fault.LruFault.TheVariants.{Memory, Weight, Length}
 use Rattle.pingora_lru.specs.declared.call.Call.{Call}
 use Rattle.pingora_lru.specs.declared.call.Call.TheVariants.{Admit, InsertTail, IncrementWeight, UpdateOrAdmit, SetWeight, Promote, PromoteTopN, Evict, Remove}
 
--- the key of which a call sets the weight, and that weight
+-- the key of which a call sets the weight, and that weight, if the call sets one
 abbrev pub asked : {T : Type 0} → Call T → List (Row T) → Option (ℕ × ℕ)
 asked (Admit k d w) rows = Some (k, max 1 w)
-asked (InsertTail k d w) rows = Some (k, w)
+asked (InsertTail k d w) rows = if is_some (row_of k rows) then None else Some (k, w)
 asked (IncrementWeight k d delta cap) rows = Some (k, incremented k delta cap rows)
 asked (UpdateOrAdmit k d w) rows = Some (k, max 1 w)
-asked (SetWeight k w) rows = Some (k, w)
+asked (SetWeight k w) rows = if is_some (row_of k rows) then Some (k, w) else None
 asked (Promote k) rows = None
 asked (PromoteTopN k n) rows = None
 asked Evict rows = None

@@ -99,7 +99,7 @@ impl<T: Drop, S: BuildHasher> LruUnit<T, S> {
         ensures before { IfOk result (λ old. old ≡ option_map (λ r. r.weight) (row_of key self.old.rows)) }
         ensures after { OnOk result (self.new ≡ record self.old { rows = reweighed key weight self.old.rows }) }
         ensures err { OnErr result (self.new ≡ self.old) }
-        ensures heavy { IfErr result (λ fault. (fault ≡ LruFault.Weight tt) × (self.old.bound < total_weight (others key self.old.rows) + weight)) }
+        ensures heavy { IfErr result (λ fault. (fault ≡ LruFault.Weight tt) × (only key self.old.rows ≢ []) × (self.old.bound < total_weight (others key self.old.rows) + weight)) }
     {
         let Some(old) = weight_at(&self.rows, key) else {
             return Ok(None);

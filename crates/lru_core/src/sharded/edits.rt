@@ -83,7 +83,7 @@ impl<T: Drop, const N: usize, S: BuildHasher> LruCore<T, N, S> {
         ensures before { IfOk result (λ old. old ≡ option_map (λ r. r.weight) (row_of key (shard_of N self.old key))) }
         ensures after { OnOk result (self.new ≡ with_shard N self.old key (reweighed key weight (shard_of N self.old key))) }
         ensures err { OnErr result (self.new ≡ self.old) }
-        ensures heavy { let rows = shard_of N self.old key in IfErr result (λ fault. (fault ≡ LruFault.Weight tt) × (shard_bound N < total_weight (others key rows) + weight)) }
+        ensures heavy { let rows = shard_of N self.old key in IfErr result (λ fault. (fault ≡ LruFault.Weight tt) × (only key rows ≢ []) × (shard_bound N < total_weight (others key rows) + weight)) }
     {
         let place = self.place_of(key);
         let unit = &mut self.units[place];

@@ -1,6 +1,6 @@
 //! Uses, insertion, weights and removal, each under the lock of its shard.
 
-ghost use Rattle.std.specs.Prelude.{◌≡◌, ◌↔◌, ℕ, ◌%◌, ◌⊎◌, List, [], max, is_some, IsTrue, IfOk, IfErr, MatchOption};
+ghost use Rattle.std.specs.Prelude.{◌≡◌, ◌↔◌, ℕ, ◌%◌, ◌⊎◌, List, [], None, max, is_some, IsTrue, IfOk, IfErr, MatchOption};
 ghost use Rattle.std.specs.Option.{option_map};
 ghost use Rattle.lru_core.specs.Rows.{only, row_of, pair_of, capped, raised};
 ghost use Rattle.lru_core.specs.declared.rows.Row.{Row};
@@ -153,7 +153,7 @@ impl<T: Drop, const N: usize, S: BuildHasher> Lru<T, N, S> {
         requires update { U.IsAlwaysCallable update }
         requires admit { A.IsAlwaysCallable admit_data }
         ensures called { IfOk result (λ old. MatchOption old ((d : T) × (w : ℕ) × A.post admit_data (d, w)) (λ v. WasCalled U.FnOnce update v)) }
-        ensures back { IfErr result (λ fault. MatchOption (lost fault) ((v : ℕ) × WasCalled U.FnOnce update v) (λ d. (w : ℕ) × A.post admit_data (d, w))) }
+        ensures back { IfErr result (λ fault. MatchOption (lost fault) ((fault ≡ LruFault.Weight None) × ((v : ℕ) × WasCalled U.FnOnce update v)) (λ d. (w : ℕ) × A.post admit_data (d, w))) }
     {
         let mut unit = self.shards[self.place_of(key)].lock(rt);
         let before = Sums::of(&*unit);

@@ -1,7 +1,7 @@
 //! Calls of a recorded shard whose data closures make.
 
 ghost use Rattle.std.specs.Prelude.{◌≡◌, ◌≢◌, ℕ, ◌++◌, ◌∷◌, ◌⊎◌, [], max, not, is_some, Some, None, Err, IfOk, IfErr, OnErr};
-ghost use Rattle.lru_core.specs.Rows.{only, admitted, row_of, incremented, total_weight, a_row};
+ghost use Rattle.lru_core.specs.Rows.{only, admitted, row_of, incremented, total_weight, a_row, IsHeavy, IsLong};
 ghost use Rattle.lru_core.specs.Updates.{IsUpdated, IsUpdateRefused};
 ghost use Rattle.pingora_lru.specs.Closures.{WasAdmitted, WasRefused};
 ghost use Rattle.pingora_lru.specs.Calls.{lost, weighing, weight_of};
@@ -35,6 +35,8 @@ impl<T: Drop, S: BuildHasher> RecordedUnit<T, S> {
         ensures bound { self.new.bound ≡ self.old.bound }
         ensures err { OnErr result (self.new ≡ self.old) }
         ensures back { IfErr result (λ fault. lost fault ≡ admit_data) }
+        ensures heavy { (f : F) → result ≡ Err (LruFault.Weight f) → IsHeavy self.old.bound key (incremented key delta max_weight self.old.rows) self.old.rows }
+        ensures long { (f : F) → result ≡ Err (LruFault.Length f) → (only key self.old.rows ≡ []) × IsLong self.old.bound self.old.rows }
     {
         if self.kept.reserve(1).is_err() {
             return Err(LruFault::Memory(admit_data));

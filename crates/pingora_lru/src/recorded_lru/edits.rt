@@ -167,7 +167,7 @@ impl<T: Drop, const N: usize, S: BuildHasher> RecordedLru<T, N, S> {
         requires admit { A.IsAlwaysCallable admit_data }
         ensures old { IfOk result (λ old. (rows : List (Row T)) × IsLed rows × (old ≡ weight_of key rows)) }
         ensures called { IfOk result (λ old. MatchOption old ((d : T) × (w : ℕ) × A.post admit_data (d, w)) (λ v. WasCalled U.FnOnce update v)) }
-        ensures back { IfErr result (λ fault. MatchOption (lost fault) ((fault ≡ LruFault.Memory None) ⊎ ((v : ℕ) × WasCalled U.FnOnce update v)) (λ d. (w : ℕ) × A.post admit_data (d, w))) }
+        ensures back { IfErr result (λ fault. MatchOption (lost fault) ((fault ≡ LruFault.Memory None) ⊎ ((fault ≡ LruFault.Weight None) × ((v : ℕ) × WasCalled U.FnOnce update v))) (λ d. (w : ℕ) × A.post admit_data (d, w))) }
     {
         let mut unit = self.shards[self.shard_of(key)].lock(rt);
         let before = Sums::of(unit.unit());

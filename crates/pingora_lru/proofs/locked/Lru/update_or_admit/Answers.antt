@@ -1,4 +1,4 @@
-use Rattle.std.proofs.Common.{inl, inr}
+use Rattle.std.proofs.Common.{inl, inr, refl}
 use Rattle.pingora_lru.proofs.Updated.{by_presence}
 use Rattle.pingora_lru.proofs.locked.Lru.update_or_admit.Goals as goal
 
@@ -9,7 +9,7 @@ returns-in-Ok-clause-called g c = by_presence _
 
 pub returns-clause-back : goal.returns-clause-back
 returns-clause-back g c = by_presence _
-    (λ n. let r = c.in-Err.ensures.update_refused n in rw r.0 (r.1.0.weight, (r.1.0.«data», r.1.1, r.1.2, r.1.3.1)))
+    (λ n. let r = c.in-Err.ensures.update_refused n in rw r.0 (refl, (r.1.0.weight, (r.1.0.«data», r.1.1, r.1.2, r.1.3.1))))
     (λ e. let q = c.in-Err.ensures.refused e in elim q.3 [
       | inl m ↦ rw m.0 (q.1, q.2)
       | inr l ↦ elim l [ inl w ↦ rw w.0 (q.1, q.2) | inr s ↦ rw s.0 (q.1, q.2) ]

@@ -16,7 +16,7 @@ pub returns-clause-back : goal.returns-clause-back
 returns-clause-back g c = by_presence _
     (λ n. elim (c.in-Err.ensures.update_refused n) [
       | inl m ↦ rw m (inl refl)
-      | inr r ↦ rw r.0 (inr (r.1.0.weight, (r.1.0.«data», r.1.1, r.1.2, r.1.3.1)))
+      | inr r ↦ rw r.0 (inr (refl, (r.1.0.weight, (r.1.0.«data», r.1.1, r.1.2, r.1.3.1))))
     ])
     (λ e. elim (c.in-Err.ensures.refused e) [
       | inl m ↦ rw m (inl refl)
