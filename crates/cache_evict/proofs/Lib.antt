@@ -4,6 +4,8 @@ pub mod CountLaws
 pub mod RowLaws
 pub mod BackLaws
 pub mod RefusalLaws
+pub mod RoomLaws
+pub mod BorrowedLaws
 pub mod GoneLaws
 pub mod ShardLaws
 pub mod FaultLaws

@@ -18,7 +18,7 @@ use Rattle.cache_evict.specs.declared.tracker.refusal.Refusal.{Refusal}
 use Rattle.cache_evict.specs.declared.tracker.refusal.Refusal.TheVariants.{Memory, Weight, Length, Spent}
 use Rattle.entry_numbers.specs.Names.{IsOneToOne, HasNoNumber, with_name, without_name, IsFirstFree, IsSpent}
 use Rattle.cache_evict.specs.declared.tracker.rows.End.{End}
-use Rattle.cache_evict.specs.Managed.{Managed, shard_of, rows_of, put_at, put_first, added, weight_after, IsFull}
+use Rattle.cache_evict.specs.Managed.{Managed, shard_of, rows_of, put_at, put_first, added, weight_after, IsFull, HasNoOtherReason}
 use Rattle.cache_evict.specs.Numbered.{tracked_row, tracked, managed_in, IsNumbered, placed, HasOwnRow}
 use Rattle.cache_evict.specs.Refusals.{IsRefusal, IsRowRefusal, IsNewRefusal}
 use Rattle.cache_evict.proofs.CountLaws.{counts, counted}
@@ -49,11 +49,11 @@ module _ (n : ℕ) (names : ℕ → Option CacheEntryKey) (core : Core ℕ) (k :
   seen_length : length (get_or (map (tracked names) core.shards) (shard_of n e) []) ≡ length (rows_at core.shards (k % n))
   seen_length = ap length rows_seen ∙ length-map (rows_at core.shards (k % n)) (tracked_row names)
 
-  pub refused : (only k (rows_at core.shards (k % n)) ≡ [] → weight_of e (get_or (map (tracked names) core.shards) (shard_of n e) []) ≡ None)
+  pub refused : (only k (rows_at core.shards (k % n)) ≡ [] → HasNoOtherReason n e w (managed_in names core size items))
       → (r : Refusal) → IsRowRefusal n k w core r → IsRefusal n e w (managed_in names core size items) r
   refused none Memory p = none p
   refused none Weight p = omega (arith, p, left_weight)
-  refused none Length p = (none p.0, elim p.1 [ inl a ↦ inl (omega (arith, a, seen_length)) | inr a ↦ inr (omega (arith, a, counts names core.shards, get_or-le-sum_by length core.shards (k % n) [] within)) ])
+  refused none Length p = ((none p.0).0, elim p.1 [ inl a ↦ inl (omega (arith, a, seen_length)) | inr a ↦ inr (omega (arith, a, counts names core.shards, get_or-le-sum_by length core.shards (k % n) [] within)) ])
   refused none Spent p = absurd p
 
 -- names as functions
@@ -150,14 +150,14 @@ module _ (n : ℕ) (names now : ℕ → Option CacheEntryKey) (core left : Core 
       let row = h.known k x.0 x.1 in
       (let m = mod_below k n h.some in omega (arith, m, h.count), λ z. let f : a_row k k row.0 ∷ [] ≡ [] = sym row.1 ∙ z in cc)
 
-  pub refused-new : (r : Refusal) → IsNewRefusal n names (entry_hash e) w core r → IsRefusal n e w (managed_in names core size items) r
-  refused-new Memory p = weight_of-none n names core 0 e h none
-  refused-new Weight p = refused n names core p.0 e w size items h (IsNumber-free names p.0 e p.1 none) p.2 (λ z. weight_of-none n names core 0 e h none) Weight p.3
-  refused-new Length p = elim p [
-    | inl many ↦ (weight_of-none n names core 0 e h none, inr (let c = counted n many.0 names core.shards has_row many.2 in omega (arith, many.1, c, counts names core.shards)))
-    | inr q ↦ refused n names core q.0 e w size items h (IsNumber-free names q.0 e q.1 none) q.2 (λ z. weight_of-none n names core 0 e h none) Length q.3
+  pub refused-new : HasNoOtherReason n e w (managed_in names core size items) → (r : Refusal) → IsNewRefusal n names (entry_hash e) w core r → IsRefusal n e w (managed_in names core size items) r
+  refused-new room Memory p = room
+  refused-new room Weight p = refused n names core p.0 e w size items h (IsNumber-free names p.0 e p.1 none) p.2 (λ z. room) Weight p.3
+  refused-new room Length p = elim p [
+    | inl many ↦ (room.0, inr (let c = counted n many.0 names core.shards has_row many.2 in omega (arith, many.1, c, counts names core.shards)))
+    | inr q ↦ refused n names core q.0 e w size items h (IsNumber-free names q.0 e q.1 none) q.2 (λ z. room) Length q.3
   ]
-  refused-new Spent p = full_shard n names core e size items h none p
+  refused-new room Spent p = full_shard n names core e size items h none p
 
 -- names that are as they were
 pub IsNumbered-same : (n : ℕ) (names now : ℕ → Option CacheEntryKey) (core left : Core ℕ) → ((i : ℕ) → now i ≡ names i) → left ≡ core → IsNumbered n names core.shards → IsNumbered n now left.shards

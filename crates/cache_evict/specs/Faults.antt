@@ -7,8 +7,7 @@ use Rattle.cache_evict.specs.declared.fault.EvictFault.{EvictFault}
 use Rattle.cache_evict.specs.declared.fault.EvictFault.TheVariants.{Memory, Weight, Length, NumbersSpent, File}
 use Rattle.cache_evict.specs.declared.tracker.refusal.Refusal.{Refusal}
 use Rattle.cache_evict.specs.declared.tracker.refusal.Refusal.TheVariants as refusal
-use Rattle.cache_entries.specs.Rows.{weight_of}
-use Rattle.cache_evict.specs.Managed.{Managed, rows_of, put_first, is_over, total_size, Evicts, IsHeavy, IsLong, IsFull}
+use Rattle.cache_evict.specs.Managed.{Managed, put_first, is_over, total_size, Evicts, IsHeavy, IsLong, IsFull, HasNoOtherReason}
 
 -- the entries evicted until then
 abbrev pub evicted_of : EvictFault → List CacheEntryKey
@@ -35,7 +34,7 @@ evict_fault_text (File v) = codes "a file could not be read or written"
 
 -- why e isn't put first with weight w, of n shards, where nothing has changed
 abbrev pub IsPutRefused : ℕ → CacheEntryKey → ℕ → Managed → EvictFault → Type 0
-IsPutRefused n e w m (Memory v) = weight_of e (rows_of n e m) ≡ None
+IsPutRefused n e w m (Memory v) = HasNoOtherReason n e w m
 IsPutRefused n e w m (Weight v) = IsHeavy n e w m
 IsPutRefused n e w m (Length v) = IsLong n e m
 IsPutRefused n e w m (NumbersSpent v) = IsFull n e m

@@ -138,3 +138,7 @@ IsLong n e m = (weight_of e (rows_of n e m) ≡ None) × ((shard_bound n ≤ len
 -- e has no row, and its shard as many as there are numbers below 2 ^ 64 with the shard's rest modulo n
 abbrev pub IsFull : ℕ → CacheEntryKey → Managed → Type 0
 IsFull n e m = (weight_of e (rows_of n e m) ≡ None) × (2 ^ 64 ≤ shard_of n e + n * length (rows_of n e m))
+
+-- e has no row, and nothing but memory is in the way of one with weight w
+abbrev pub HasNoOtherReason : ℕ → CacheEntryKey → ℕ → Managed → Type 0
+HasNoOtherReason n e w m = (weight_of e (rows_of n e m) ≡ None) × (IsHeavy n e w m → ⊥) × (IsLong n e m → ⊥) × (IsFull n e m → ⊥)

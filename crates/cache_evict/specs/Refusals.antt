@@ -1,9 +1,8 @@
 -- Why an entry isn't put into its shard.
-use Rattle.std.specs.Prelude.{◌≡◌, ℕ, ◌+◌, ◌%◌, ◌<◌, ◌⊎◌, [], Option, None}
+use Rattle.std.specs.Prelude.{◌≡◌, ℕ, ◌+◌, ◌%◌, ◌<◌, ◌≤◌, ◌⊎◌, [], length, Option, None}
 use Rattle.cache_entries.specs.declared.entry.CacheEntryKey.{CacheEntryKey}
-use Rattle.cache_entries.specs.Rows.{weight_of}
 use Rattle.lru_core.specs.Rows.{only, others, total_weight, IsLong as IsShardLong}
-use Rattle.lru_core.specs.Cores.{Core, shard_of, shard_bound}
+use Rattle.lru_core.specs.Cores.{Core, rows_at, shard_of, shard_bound, core_len}
 use Rattle.lru_core.specs.declared.rows.TheConstants.{MOST_ROWS}
 use Rattle.lru_core.specs.declared.lru_unit.fault.LruFault.{LruFault}
 use Rattle.lru_core.specs.declared.lru_unit.fault.LruFault.TheVariants as row
@@ -12,11 +11,11 @@ use Rattle.cache_evict.specs.declared.tracker.refusal.Refusal.TheVariants.{Memor
 use Rattle.entry_numbers.specs.declared.fault.NumbersFault.{NumbersFault}
 use Rattle.entry_numbers.specs.declared.fault.NumbersFault.TheVariants as numbers
 use Rattle.entry_numbers.specs.Names.{IsSpent, HasMany}
-use Rattle.cache_evict.specs.Managed.{Managed, rows_of, IsHeavy, IsLong, IsFull}
+use Rattle.cache_evict.specs.Managed.{Managed, IsHeavy, IsLong, IsFull, HasNoOtherReason}
 
 -- of an entry with weight w, as a manager sees it
 abbrev pub IsRefusal : ℕ → CacheEntryKey → ℕ → Managed → Refusal → Type 0
-IsRefusal n e w m Memory = weight_of e (rows_of n e m) ≡ None
+IsRefusal n e w m Memory = HasNoOtherReason n e w m
 IsRefusal n e w m Weight = IsHeavy n e w m
 IsRefusal n e w m Length = IsLong n e m
 IsRefusal n e w m Spent = IsFull n e m
@@ -34,6 +33,17 @@ IsNewRefusal n names hash w core Memory = Unit {0}
 IsNewRefusal n names hash w core Weight = (k : ℕ) × (names k ≡ None) × (k % n ≡ hash % n) × IsRowRefusal n k w core Weight
 IsNewRefusal n names hash w core Length = HasMany MOST_ROWS names ⊎ ((k : ℕ) × (names k ≡ None) × (k % n ≡ hash % n) × IsRowRefusal n k w core Length)
 IsNewRefusal n names hash w core Spent = IsSpent n names hash
+
+-- shard s has room for one row more, of weight w, and so have all shards together
+abbrev pub HasRoom : ℕ → ℕ → ℕ → Core ℕ → Type 0
+HasRoom n s w core = (total_weight (rows_at core.shards s) + w ≤ shard_bound n) × (length (rows_at core.shards s) < shard_bound n) × (core_len core.shards < MOST_ROWS)
+
+-- why there is no room, which is told before anything grows
+abbrev pub IsRoomRefusal : ℕ → ℕ → ℕ → Core ℕ → Refusal → Type 0
+IsRoomRefusal n s w core Memory = ⊥
+IsRoomRefusal n s w core Weight = shard_bound n < total_weight (rows_at core.shards s) + w
+IsRoomRefusal n s w core Length = (shard_bound n ≤ length (rows_at core.shards s)) ⊎ (MOST_ROWS ≤ core_len core.shards)
+IsRoomRefusal n s w core Spent = ⊥
 
 abbrev pub refusal_of : NumbersFault → Refusal
 refusal_of (numbers.Memory back) = Memory

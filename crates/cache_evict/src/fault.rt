@@ -10,7 +10,7 @@ use std::error::Error;
 use std::fmt;
 
 /// Why a call of a manager stopped, with the entries that it had evicted until then, in order.
-#[derive(Debug, Drop, PartialEq)]
+#[derive(Debug, Drop, PartialEq, Eq)]
 pub enum EvictFault {
     /// There is no memory.
     Memory(Vec<CacheEntryKey>),

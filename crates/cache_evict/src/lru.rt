@@ -190,7 +190,9 @@ impl<const N: usize, S: BuildHasher> Manager<N, S> {
     }
 
     /// Reads the text of a shard. Each row's entry goes last in the shard of its own hash, with its weight as it stands, also
-    /// 0; an entry that is tracked stays as it is. It evicts nothing, and passes over what follows the text.
+    /// 0; an entry that is tracked stays as it is. It evicts nothing, and passes over what follows the text. A row whose weight
+    /// leaves no room below usize::MAX / N makes each admission of another entry to its shard `Weight` until the row's entry
+    /// is removed.
     ///
     /// # Errors
     ///

@@ -55,7 +55,8 @@ pub trait EvictionManager {
     /// # Errors
     ///
     /// `Weight`, `Length`, `NumbersSpent` or `Memory` where the entry isn't put: all is as before. `Memory` too where there is
-    /// no memory for the evicted entries: those in the fault are gone, and a limit is still passed.
+    /// no memory for the evicted entries: those in the fault are gone, and a limit is still passed. Where the list is empty
+    /// and the entry was not tracked before, `peek` tells which.
     fn admit<R: Rng>(
         &mut self,
         alloc: Global,
@@ -85,6 +86,7 @@ pub trait EvictionManager {
     ) -> Result<Vec<CacheEntryKey>, EvictFault>
         ensures ok { IfOk result (λ v. Evicts pick (weighed_first shard_count item.now delta max_weight (managed self.old)) v.items (R.stream rng.old) (managed self.new) (R.stream rng.new)) }
         ensures within { OnOk result (is_over (managed self.new) ≡ false) }
+        ensures fits { OnOk result (total_size (weighed_first shard_count item.now delta max_weight (managed self.old)) < 2 ^ 64) }
         ensures refused { let w = weight_after shard_count item.now delta max_weight (managed self.old) in
             IfErr result (λ fault. StopsAt pick shard_count item.now w (managed self.old) (R.stream rng.old) fault (managed self.new) (R.stream rng.new)) };
 

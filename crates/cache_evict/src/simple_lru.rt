@@ -27,9 +27,6 @@ use std::marker::Model;
 ///
 /// With the default hasher it is for entries that the caller chooses itself; with one whose start the caller takes at random,
 /// strangers can't choose entries that slow look-ups down, neither of their numbers nor of the numbers' rows.
-///
-/// An alias with a parameter's default isn't called by its name: write `OneList::new`, and the type at the variable, as in
-/// `let list: simple_lru::Manager = simple_lru::OneList::new(alloc, limit)?`.
 pub type Manager<S = BuildHasherDefault<FoldHasher>> = OneList<1, S>;
 
 /// A `Manager`, whose N is 1.
@@ -124,7 +121,8 @@ impl<const N: usize, S: BuildHasher> OneList<N, S> {
     }
 
     /// Reads a text. Each row's entry goes last where it isn't tracked, and else to the front, with the row's weight. It evicts
-    /// nothing, and passes over what follows the text.
+    /// nothing, and passes over what follows the text. A row whose weight leaves no room below 2^64 - 1 makes each admission
+    /// of another entry `Weight` until the row's entry is removed.
     ///
     /// # Errors
     ///

@@ -3,13 +3,15 @@
 ghost use Rattle.std.specs.Prelude.{◌≡◌, ◌≢◌, ℕ, None, true, false, is_some, IsOk, IfOk, IfErr, OnOk, OnErr};
 ghost use Rattle.cache_entries.specs.Entry.{owned_of};
 ghost use Rattle.cache_entries.specs.Rows.{weight_of};
-ghost use Rattle.cache_evict.specs.Managed.{rows_of, put_at, put_first, use_first, taken_out, weight_after};
+ghost use Rattle.cache_evict.specs.Managed.{rows_of, put_at, put_first, use_first, taken_out, weight_after, HasNoOtherReason};
 ghost use Rattle.entry_numbers.specs.Parts.{entry_with_parts};
 ghost use Rattle.cache_evict.specs.Refusals.{IsRefusal};
 
 mod eviction;
+mod hashing;
 mod loading;
 mod refusal;
+mod room;
 mod rows;
 mod totals;
 mod writing;
@@ -20,7 +22,7 @@ pub use loading::Again;
 use lru_core::LruCore;
 pub use refusal::Refusal;
 pub use rows::End;
-use rows::{copy_of, discard, put_first, put_new, raise_first, take_back, weight_of_new};
+use rows::{discard, put_first, put_new, raise_first, take_back, weight_of_new};
 use std::hash::BuildHasher;
 use std::marker::Model;
 
@@ -83,7 +85,7 @@ impl<const N: usize, S: BuildHasher> Tracker<N, S> {
                 discard(entry);
                 put_first(&mut self.core, number, weight)
             }
-            None => self.put_new(entry, weight, End::First),
+            None => self.put_owned(entry, weight),
         }
     }
 
@@ -99,8 +101,7 @@ impl<const N: usize, S: BuildHasher> Tracker<N, S> {
         if self.touch(CacheEntryKeyRef::from(entry)) {
             return Ok(true);
         }
-        let copy = copy_of(entry)?;
-        self.put_new(copy, weight, End::First)?;
+        self.put_copy(entry, weight)?;
         Ok(false)
     }
 
@@ -118,16 +119,14 @@ impl<const N: usize, S: BuildHasher> Tracker<N, S> {
     {
         match self.numbers.number_of(CacheEntryKeyRef::from(entry)) {
             Some(number) => raise_first(&mut self.core, number, delta, cap),
-            None => {
-                let copy = copy_of(entry)?;
-                self.put_new(copy, weight_of_new(delta, cap), End::First)
-            }
+            None => self.put_copy(entry, weight_of_new(delta, cap)),
         }
     }
 
-    /// Puts an entry that isn't tracked at that end of its shard, with that weight. A refusal changes nothing.
+    /// Puts an entry that isn't tracked at that end of its shard, with that weight, for which there is room. A refusal
+    /// changes nothing.
     pub fn put_new(&mut self, entry: CacheEntryKey, weight: usize, end: End) -> Result<(), Refusal>
-        requires { weight_of entry (rows_of N entry self.old) ≡ None }
+        requires { HasNoOtherReason N entry weight self.old }
         ensures ok { OnOk result (self.new ≡ put_at end N entry weight self.old) }
         ensures err { OnErr result (self.new ≡ self.old) }
         ensures why { IfErr result (IsRefusal N entry weight self.old) }

@@ -156,7 +156,7 @@ impl<const N: usize, S: BuildHasher> Numbers<N, S> {
         ensures named { IfOk result (λ k. (i : ℕ) → name_at self.new i ≡ with_name (name_at self.old) k entry i) }
         ensures len { OnOk result (length self.new ≡ length self.old + 1) }
         ensures err { OnErr result (self.new ≡ self.old) }
-        ensures memory { (back : CacheEntryKey) → result ≡ Err (NumbersFault.Memory back) → back ≡ entry }
+        ensures memory { (back : CacheEntryKey) → result ≡ Err (NumbersFault.Memory back) → (back ≡ entry) × (length self.old < MOST_ROWS) × (k : ℕ) × IsFirstFree N (name_at self.old) hash k }
         ensures long { (back : CacheEntryKey) → result ≡ Err (NumbersFault.Length back) → (back ≡ entry) × HasMany MOST_ROWS (name_at self.old) }
         ensures spent { (back : CacheEntryKey) → result ≡ Err (NumbersFault.NumbersSpent back) → (back ≡ entry) × IsSpent N (name_at self.old) hash }
     {

@@ -1,11 +1,15 @@
 //! Rows as text.
 
-ghost use Rattle.std.specs.Prelude.{◌≡◌, IfOk, IfErr, OnOk, OnErr};
+ghost use Rattle.std.specs.Prelude.{◌≡◌, None, IfOk, IfErr, OnOk, OnErr};
 ghost use Rattle.cache_entries.specs.BorrowedEntry.{borrowed_entry};
 ghost use Rattle.cache_entries.specs.BorrowedRow.{borrowed_row};
 ghost use Rattle.cache_entries.specs.RowText.{recency_at};
+ghost use Rattle.cache_entries.specs.Rows.{weight_of};
 ghost use Rattle.cache_evict.specs.Loads.{loaded, IsLoadRefusal, Loads};
+ghost use Rattle.cache_evict.specs.Managed.{rows_of, put_last, HasNoOtherReason};
+ghost use Rattle.cache_evict.specs.Refusals.{IsRefusal};
 
+use super::hashing::borrowed_hash;
 use super::rows::{End, put_first};
 use super::{Refusal, Tracker};
 use crate::load_fault::LoadFault;
@@ -55,11 +59,40 @@ impl<const N: usize, S: BuildHasher> Tracker<N, S> {
                 Again::PassedOver => Ok(()),
                 Again::MovedFirst => put_first(&mut self.core, number, row.weight),
             },
-            None => {
-                let copy = owned(alloc, row.entry)?;
-                self.put_new(copy, row.weight, End::Last)
-            }
+            None => self.put_borrowed(alloc, row.entry, row.weight),
         }
+    }
+
+    // A copy of an entry that isn't tracked and whose tag is borrowed, once there is room for it with that weight.
+    fn owned_new(
+        &self,
+        alloc: Global,
+        entry: BorrowedEntry<'_>,
+        weight: usize,
+    ) -> Result<CacheEntryKey, Refusal>
+        requires { weight_of (borrowed_entry entry) (rows_of N (borrowed_entry entry) self.now) ≡ None }
+        ensures copy { IfOk result (λ copy. copy ≡ borrowed_entry entry.entry) }
+        ensures room { OnOk result (HasNoOtherReason N (borrowed_entry entry.entry) weight self.now) }
+        ensures why { IfErr result (IsRefusal N (borrowed_entry entry.entry) weight self.now) }
+    {
+        self.look_for_room(borrowed_hash(entry), weight)?;
+        owned(alloc, entry)
+    }
+
+    // Puts a copy of such an entry last.
+    fn put_borrowed(
+        &mut self,
+        alloc: Global,
+        entry: BorrowedEntry<'_>,
+        weight: usize,
+    ) -> Result<(), Refusal>
+        requires { weight_of (borrowed_entry entry) (rows_of N (borrowed_entry entry) self.old) ≡ None }
+        ensures ok { OnOk result (self.new ≡ put_last N (borrowed_entry entry.entry) weight self.old) }
+        ensures err { OnErr result (self.new ≡ self.old) }
+        ensures why { IfErr result (IsRefusal N (borrowed_entry entry.entry) weight self.old) }
+    {
+        let copy = self.owned_new(alloc, entry, weight)?;
+        self.put_new(copy, weight, End::Last)
     }
 }
 

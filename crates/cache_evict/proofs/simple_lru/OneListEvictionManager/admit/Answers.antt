@@ -1,6 +1,6 @@
 use Rattle.std.proofs.Common.{◌≡◌, subst}
 use Rattle.cache_evict.specs.Managed.{Managed, Evicts, pick_first, put_first}
-use Rattle.cache_evict.proofs.FaultLaws.{stops_later, ok_means, fits_then}
+use Rattle.cache_evict.proofs.FaultLaws.{stops_at_once, stops_later, ok_means, fits_then}
 use Rattle.cache_evict.proofs.RefusalLaws.{err_then}
 use Rattle.cache_evict.proofs.simple_lru.OneListEvictionManager.admit.Goals as goal
 
@@ -21,3 +21,8 @@ returns-clause-refused g c =
     let same : c.admit.new.self ≡ put_first g.row.N c.args.item c.args.size c.args.self.now = rw (← c.self.view_is) c.in_default.ensures.ok in
     stops_later pick_first g.row.N c.args.item c.args.size c.args.self.now c.admit.new.self c.evict_in_order.new.self s s c.evict_in_order.result same (rw (← c.total_size-size.ensures) c.total_size-size.type_inv)
     (err_then c.evict_in_order.result _ _ (λ f p. p s) c.evict_in_order.ensures.refused)
+
+pub returns-in-Err-clause-refused : goal.returns-in-Err-clause-refused
+returns-in-Err-clause-refused g c =
+    stops_at_once pick_first g.row.N c.args.item c.args.size c.args.self.now c.admit.new.self (g.R.Rng.stream c.args._rng.now) c.of.result c.in-Err.refusal
+    c.of.ensures.why c.of.ensures.none (rw (← c.self.view_is) c.in-Err.ensures.why) (rw (← c.self.view_is) c.in-Err.ensures.err)

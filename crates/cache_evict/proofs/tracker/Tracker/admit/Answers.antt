@@ -28,8 +28,8 @@ put_first-requires g c = (
   ),
 )
 
-pub put_new-requires : goal.put_new-requires
-put_new-requires g c = (
+pub put_owned-requires : goal.put_owned-requires
+put_owned-requires g c = (
   search rules,
   rw (← c.self.view_is) (weight_of-none g.row.N (name_at c.self.inside.numbers) c.self.inside.core 0 c.args.entry c.self.invariant (rw c.from.ensures at c.in-None.ensures.none)),
 )

@@ -11,12 +11,6 @@ use Rattle.cache_evict.proofs.WrittenLaws.{weight_of-none}
 use Rattle.cache_evict.proofs.RefusalLaws.{ok_then, err_then, either_way, IsNumbered-put, managed-put, refused-named, IsNumbered-same, weighed_after, weighs_new}
 use Rattle.cache_evict.proofs.tracker.Tracker.increment.Goals as goal
 
-pub put_new-requires : goal.put_new-requires
-put_new-requires g c = (
-  search rules,
-  rw (c.in_ok-copy-in-None.ensures.copy, ← c.self.view_is) (weight_of-none g.row.N (name_at c.self.inside.numbers) c.self.inside.core 0 c.args.entry.now c.self.invariant (rw c.from.ensures at c.in-None.ensures.none)),
-)
-
 pub invariant_of-self : goal.invariant_of-self
 invariant_of-self g c =
     let named = rw c.from.ensures at c.in-Some.ensures.some in
@@ -46,26 +40,20 @@ returns-in-Some-clause-why g c =
     (refused-named g.row.N (name_at c.self.inside.numbers) c.self.inside.core c.self.inside.core c.in-Some.number c.args.entry.now (raised own.0 c.args.delta c.args.cap) c.self.inside.evicted_size c.self.inside.evicted_items c.self.invariant named why p))
     (c.raise_first.ensures.why own.0 own.1))
 
-pub returns-in_err-copy-in-None-clause-why : goal.returns-in_err-copy-in-None-clause-why
-returns-in_err-copy-in-None-clause-why g c =
-    let none : weight_of c.args.entry.now (rows_of g.row.N c.args.entry.now c.args.self.now) ≡ None =
-    rw (← c.self.view_is) (weight_of-none g.row.N (name_at c.self.inside.numbers) c.self.inside.core 0 c.args.entry.now c.self.invariant (rw c.from.ensures at c.in-None.ensures.none)) in
-    search rules
+pub put_copy-requires : goal.put_copy-requires
+put_copy-requires g c = (
+  search rules,
+  rw (← c.self.view_is) (weight_of-none g.row.N (name_at c.self.inside.numbers) c.self.inside.core 0 c.args.entry.now c.self.invariant (rw c.from.ensures at c.in-None.ensures.none)),
+)
 
-pub returns-in_ok-copy-in-None-clause-ok : goal.returns-in_ok-copy-in-None-clause-ok
-returns-in_ok-copy-in-None-clause-ok g c =
+pub returns-in-None-clause-ok : goal.returns-in-None-clause-ok
+returns-in-None-clause-ok g c =
     let none : weight_of c.args.entry.now (rows_of g.row.N c.args.entry.now c.args.self.now) ≡ None =
     rw (← c.self.view_is) (weight_of-none g.row.N (name_at c.self.inside.numbers) c.self.inside.core 0 c.args.entry.now c.self.invariant (rw c.from.ensures at c.in-None.ensures.none)) in
-    ok_then c.put_new.result _ _ (λ s.
-    s ∙ ap (λ (e : CacheEntryKey). put_first g.row.N e c.weight_of_new.result c.args.self.now) c.in_ok-copy-in-None.ensures.copy
-    ∙ ap (λ (w : ℕ). put_first g.row.N c.args.entry.now w c.args.self.now) (weighs_new g.row.N c.args.entry.now c.weight_of_new.result c.args.delta c.args.cap c.args.self.now none c.weight_of_new.ensures))
-    c.put_new.ensures.ok
+    ok_then c.put_copy.result _ _ (λ s. s ∙ ap (λ (w : ℕ). put_first g.row.N c.args.entry.now w c.args.self.now) (weighs_new g.row.N c.args.entry.now c.weight_of_new.result c.args.delta c.args.cap c.args.self.now none c.weight_of_new.ensures)) c.put_copy.ensures.ok
 
-pub returns-in_ok-copy-in-None-clause-why : goal.returns-in_ok-copy-in-None-clause-why
-returns-in_ok-copy-in-None-clause-why g c =
+pub returns-in-None-clause-why : goal.returns-in-None-clause-why
+returns-in-None-clause-why g c =
     let none : weight_of c.args.entry.now (rows_of g.row.N c.args.entry.now c.args.self.now) ≡ None =
     rw (← c.self.view_is) (weight_of-none g.row.N (name_at c.self.inside.numbers) c.self.inside.core 0 c.args.entry.now c.self.invariant (rw c.from.ensures at c.in-None.ensures.none)) in
-    err_then c.put_new.result _ _ (λ why p.
-    subst (λ (w : ℕ). IsRefusal g.row.N c.args.entry.now w c.args.self.now why) (weighs_new g.row.N c.args.entry.now c.weight_of_new.result c.args.delta c.args.cap c.args.self.now none c.weight_of_new.ensures)
-    (subst (λ (e : CacheEntryKey). IsRefusal g.row.N e c.weight_of_new.result c.args.self.now why) c.in_ok-copy-in-None.ensures.copy p))
-    c.put_new.ensures.why
+    err_then c.put_copy.result _ _ (λ why p. subst (λ (w : ℕ). IsRefusal g.row.N c.args.entry.now w c.args.self.now why) (weighs_new g.row.N c.args.entry.now c.weight_of_new.result c.args.delta c.args.cap c.args.self.now none c.weight_of_new.ensures) p) c.put_copy.ensures.why

@@ -23,12 +23,6 @@ put_first-requires g c = (
   ),
 )
 
-pub put_new-requires : goal.put_new-requires
-put_new-requires g c = (
-  search rules,
-  rw (c.in_ok-copy-in-None.ensures.copy, ← c.self.view_is) (weight_of-none g.row.N (name_at c.self.inside.numbers) c.self.inside.core 0 (borrowed_entry c.args.row.now.entry) c.self.invariant c.in-None.ensures.none),
-)
-
 pub invariant_of-self : goal.invariant_of-self
 invariant_of-self g c =
     either_way c.put_first.result _ _ _
@@ -55,24 +49,20 @@ returns-in-MovedFirst-clause-why g c =
     ))
     c.put_first.ensures.why)
 
-pub returns-in_err-copy-in-None-clause-why : goal.returns-in_err-copy-in-None-clause-why
-returns-in_err-copy-in-None-clause-why g c =
-    let none : weight_of (borrowed_entry c.args.row.now.entry) (rows_of g.row.N (borrowed_entry c.args.row.now.entry) c.args.self.now) ≡ None =
-    rw (← c.self.view_is) (weight_of-none g.row.N (name_at c.self.inside.numbers) c.self.inside.core 0 (borrowed_entry c.args.row.now.entry) c.self.invariant c.in-None.ensures.none) in
-    let try = tried c.args.again g.row.N (borrowed_row c.args.row.now) c.args.self.now none in
-    search rules
+pub put_borrowed-requires : goal.put_borrowed-requires
+put_borrowed-requires g c = (
+  search rules,
+  rw (← c.self.view_is) (weight_of-none g.row.N (name_at c.self.inside.numbers) c.self.inside.core 0 (borrowed_entry c.args.row.now.entry) c.self.invariant c.in-None.ensures.none),
+)
 
-pub returns-in_ok-copy-in-None-clause-ok : goal.returns-in_ok-copy-in-None-clause-ok
-returns-in_ok-copy-in-None-clause-ok g c =
+pub returns-in-None-clause-ok : goal.returns-in-None-clause-ok
+returns-in-None-clause-ok g c =
     let last : put_last g.row.N (borrowed_entry c.args.row.now.entry) c.args.row.now.weight c.args.self.now ≡ loaded c.args.again g.row.N (borrowed_row c.args.row.now) c.args.self.now =
     rw (← c.self.view_is) (loaded-last g.row.N (name_at c.self.inside.numbers) c.self.inside.core (borrowed_entry c.args.row.now.entry) c.self.inside.evicted_size c.self.inside.evicted_items c.self.invariant c.args.again c.args.row.now.weight c.in-None.ensures.none) in
-    ok_then c.put_new.result _ _ (λ s. s ∙ ap (λ (e : CacheEntryKey). put_last g.row.N e c.args.row.now.weight c.args.self.now) c.in_ok-copy-in-None.ensures.copy ∙ last) c.put_new.ensures.ok
+    ok_then c.put_borrowed.result _ _ (λ s. s ∙ last) c.put_borrowed.ensures.ok
 
-pub returns-in_ok-copy-in-None-clause-why : goal.returns-in_ok-copy-in-None-clause-why
-returns-in_ok-copy-in-None-clause-why g c =
+pub returns-in-None-clause-why : goal.returns-in-None-clause-why
+returns-in-None-clause-why g c =
     let none : weight_of (borrowed_entry c.args.row.now.entry) (rows_of g.row.N (borrowed_entry c.args.row.now.entry) c.args.self.now) ≡ None =
     rw (← c.self.view_is) (weight_of-none g.row.N (name_at c.self.inside.numbers) c.self.inside.core 0 (borrowed_entry c.args.row.now.entry) c.self.invariant c.in-None.ensures.none) in
-    err_then c.put_new.result _ _ (λ why p. (
-      tried c.args.again g.row.N (borrowed_row c.args.row.now) c.args.self.now none,
-      subst (λ (e : CacheEntryKey). IsRefusal g.row.N e c.args.row.now.weight c.args.self.now why) c.in_ok-copy-in-None.ensures.copy p,
-    )) c.put_new.ensures.why
+    err_then c.put_borrowed.result _ _ (λ why p. (tried c.args.again g.row.N (borrowed_row c.args.row.now) c.args.self.now none, p)) c.put_borrowed.ensures.why

@@ -1,4 +1,4 @@
-use Rattle.std.proofs.Common.{◌∙◌, ℕ, nat_eq, cond, Some, ap, sym, length, arith}
+use Rattle.std.proofs.Common.{◌∙◌, ◌<◌, ℕ, nat_eq, cond, Some, ap, sym, length, arith}
 use Rattle.lru_core.specs.declared.rows.TheConstants.{MOST_ROWS}
 use Rattle.entry_numbers.proofs.CountLaws.{many_named}
 use Rattle.std.specs.HashMap.{get}
@@ -40,3 +40,8 @@ returns-clause-named g c i =
     rw (c.put_entry.ensures, ← c.self.view_is, ← c.room_for.ensures.entries) (names-push (get nat_eq c.room_for.new.places) (get nat_eq c.put_place.new.places) c.room_for.new.entries.entries c.args.entry c.in-Some.number still
     (c.room_for.ensures.places c.in-Some.number ∙ c.in-Some.ensures.some.free)
     (λ q. c.put_place.ensures q ∙ ap (λ (n : ℕ). cond (nat_eq c.in-Some.number q) (Some n) (get nat_eq c.room_for.new.places q)) (c.len-place.ensures.len ∙ sym (ap length c.room_for.ensures.entries))) i)
+
+pub returns-then-is_err-clause-memory : goal.returns-then-is_err-clause-memory
+returns-then-is_err-clause-memory g c back e =
+    let few : length c.self.inside.entries.entries < MOST_ROWS = omega (arith, c.if-place-ge-MOST_ROWS.false, c.len-place.ensures.len) in
+    (cc, rw (← c.self.view_is) few, c.in-Some.number, rw (← c.self.view_is) (first_named g.row.N (get nat_eq c.self.inside.places) c.self.inside.entries.entries c.args.hash c.self.invariant.1 c.in-Some.number c.in-Some.ensures.some))

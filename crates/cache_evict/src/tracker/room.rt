@@ -1,0 +1,88 @@
+//! Room for entries that aren't tracked.
+
+ghost use Rattle.std.specs.Prelude.{◌≡◌, ◌<◌, None, IfOk, IfErr, OnOk, OnErr};
+ghost use Rattle.cache_entries.specs.declared.entry.CacheEntryKey.{CacheEntryKey};
+ghost use Rattle.cache_entries.specs.EntryText.{entry_hash};
+ghost use Rattle.cache_entries.specs.Rows.{weight_of};
+ghost use Rattle.cache_evict.specs.Managed.{rows_of, put_first, HasNoOtherReason};
+ghost use Rattle.cache_evict.specs.Refusals.{HasRoom, IsRoomRefusal, IsRefusal};
+
+use super::rows::{End, copy_of};
+use super::{Refusal, Tracker};
+use cache_entries::entry::{CacheEntryKey, CacheEntryKeyRef};
+use cache_entries::pack::entry_hash;
+use lru_core::{LruCore, MOST_ROWS};
+use std::hash::BuildHasher;
+
+impl<const N: usize, S: BuildHasher> Tracker<N, S> {
+    // Looks for room for an entry of that hash that isn't tracked, with that weight, before anything grows for it.
+    pub(super) fn look_for_room(&self, hash: u64, weight: usize) -> Result<(), Refusal>
+        ensures room { (e : CacheEntryKey) → hash ≡ entry_hash e → weight_of e (rows_of N e self.now) ≡ None → OnOk result (HasNoOtherReason N e weight self.now) }
+        ensures why { (e : CacheEntryKey) → hash ≡ entry_hash e → weight_of e (rows_of N e self.now) ≡ None → IfErr result (IsRefusal N e weight self.now) }
+    {
+        let shard = hash as usize % self.core.shards();
+        look_for_room(&self.core, shard, weight)
+    }
+
+    // The same by the entry itself.
+    fn look_for(&self, entry: &CacheEntryKey, weight: usize) -> Result<(), Refusal>
+        requires { weight_of entry.now (rows_of N entry.now self.now) ≡ None }
+        ensures room { OnOk result (HasNoOtherReason N entry.now weight self.now) }
+        ensures why { IfErr result (IsRefusal N entry.now weight self.now) }
+    {
+        self.look_for_room(entry_hash(CacheEntryKeyRef::from(entry)), weight)
+    }
+
+    // A copy of an entry that isn't tracked, once there is room for it with that weight.
+    fn copy_new(&self, entry: &CacheEntryKey, weight: usize) -> Result<CacheEntryKey, Refusal>
+        requires { weight_of entry.now (rows_of N entry.now self.now) ≡ None }
+        ensures copy { IfOk result (λ copy. copy ≡ entry.now) }
+        ensures room { OnOk result (HasNoOtherReason N entry.now weight self.now) }
+        ensures why { IfErr result (IsRefusal N entry.now weight self.now) }
+    {
+        self.look_for(entry, weight)?;
+        copy_of(entry)
+    }
+
+    // Puts an entry that isn't tracked first, once there is room for it with that weight.
+    pub(super) fn put_owned(&mut self, entry: CacheEntryKey, weight: usize) -> Result<(), Refusal>
+        requires { weight_of entry (rows_of N entry self.old) ≡ None }
+        ensures ok { OnOk result (self.new ≡ put_first N entry weight self.old) }
+        ensures err { OnErr result (self.new ≡ self.old) }
+        ensures why { IfErr result (IsRefusal N entry weight self.old) }
+    {
+        self.look_for(&entry, weight)?;
+        self.put_new(entry, weight, End::First)
+    }
+
+    // Puts a copy of such an entry first.
+    pub(super) fn put_copy(&mut self, entry: &CacheEntryKey, weight: usize) -> Result<(), Refusal>
+        requires { weight_of entry.now (rows_of N entry.now self.old) ≡ None }
+        ensures ok { OnOk result (self.new ≡ put_first N entry.now weight self.old) }
+        ensures err { OnErr result (self.new ≡ self.old) }
+        ensures why { IfErr result (IsRefusal N entry.now weight self.old) }
+    {
+        let copy = self.copy_new(entry, weight)?;
+        self.put_new(copy, weight, End::First)
+    }
+}
+
+// Looks for room for one more row of that weight in a shard.
+fn look_for_room<const N: usize, S: BuildHasher>(
+    core: &LruCore<u64, N, S>,
+    shard: usize,
+    weight: usize,
+) -> Result<(), Refusal>
+    requires { shard < N }
+    ensures room { OnOk result (HasRoom N shard weight core.now) }
+    ensures why { IfErr result (IsRoomRefusal N shard weight core.now) }
+{
+    let most = usize::MAX / core.shards();
+    if weight > most || core.shard_weight(shard) > most - weight {
+        return Err(Refusal::Weight);
+    }
+    if core.shard_len(shard) >= most || core.len() >= MOST_ROWS {
+        return Err(Refusal::Length);
+    }
+    Ok(())
+}
