@@ -85,10 +85,14 @@ impl<K: Clone + Send + 'static> Crew<K> {
             evictors: Vec::new(alloc),
             callers: Vec::new(alloc),
         };
-        let mut started = start_actors(rt, actors, &mut crew.actors);
-        if started.is_ok() {
-            started = start_evictors(rt, evictors, &mut crew.evictors);
-        }
+        let started = match start_actors(rt, actors, &mut crew.actors) {
+            Ok(()) => start_evictors(rt, evictors, &mut crew.evictors),
+            Err(fault) => {
+                // They have senders to the actors, which end where no sender is left.
+                drop(evictors);
+                Err(fault)
+            }
+        };
         match started {
             Ok(()) => Ok((crew, dispatched)),
             Err(fault) => {
