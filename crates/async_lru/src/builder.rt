@@ -101,7 +101,7 @@ impl<
             return Err(BuildFault::Memory);
         };
         let counts = Counts::new(alloc, N, weight_limit, len_watermark)?;
-        let (mut crew, pairs) = Crew::start(
+        let (crew, pairs) = Crew::start(
             rt,
             alloc,
             N,
@@ -110,7 +110,7 @@ impl<
             eviction_workers,
             generators,
         )?;
-        match start_callers(rt, &pairs, &callback, callback_workers, &mut crew.callers) {
+        match start_callers(rt, &pairs, &callback, callback_workers, &crew.running) {
             Ok(()) => Ok(AsyncLru {
                 crew,
                 weight_limit,
