@@ -7,6 +7,7 @@ use crate::counts::Counts;
 use crate::fault::BuildFault;
 use crate::plan::Wires;
 use crate::start::{start_actors, start_evictors};
+use crate::threads::{Actor, Evictor};
 use crossbeam_channel::{Receiver, Sender, bounded};
 use rand_core::Rng;
 use std::alloc::Global;
@@ -81,8 +82,20 @@ impl<K: Clone + Send + 'static> Crew<K> {
             running,
             over,
         };
-        let started = match start_actors(rt, actors, &crew.running) {
-            Ok(()) => start_evictors(rt, evictors, &crew.running),
+        Ok((crew.run(rt, actors, evictors)?, dispatched))
+    }
+
+    // Starts the threads of these actors and eviction workers. If not all start, those that did end.
+    fn run<H: Threads + Wait + Copy + Send + 'static, G: Rng + Drop + Send + 'static>(
+        self,
+        rt: &H,
+        actors: Vec<Actor<K>>,
+        evictors: Vec<Evictor<K, G>>,
+    ) -> Result<Crew<K>, BuildFault>
+        ensures { IfOk result (λ crew. crew.shards ≡ self.shards) }
+    {
+        let started = match start_actors(rt, actors, &self.running) {
+            Ok(()) => start_evictors(rt, evictors, &self.running),
             Err(fault) => {
                 // They have senders to the actors, which end where no sender is left.
                 drop(evictors);
@@ -90,9 +103,9 @@ impl<K: Clone + Send + 'static> Crew<K> {
             }
         };
         match started {
-            Ok(()) => Ok((crew, dispatched)),
+            Ok(()) => Ok(self),
             Err(fault) => {
-                crew.shutdown(rt);
+                self.shutdown(rt);
                 Err(fault)
             }
         }

@@ -36,11 +36,7 @@ pub(crate) fn start_evictors<
     H: Threads + Wait + Copy + Send + 'static,
     K: Drop + Send + 'static,
     G: Rng + Drop + Send + 'static,
->(
-    rt: &H,
-    evictors: Vec<Evictor<K, G>>,
-    running: &Sender<()>,
-) -> Result<(), BuildFault> {
+>(rt: &H, evictors: Vec<Evictor<K, G>>, running: &Sender<()>) -> Result<(), BuildFault> {
     'evictors: for evictor in evictors {
         let handle = *rt;
         let last = running.clone()?;
