@@ -1,3 +1,4 @@
 pub mod Hashes
 pub mod Faults
 pub mod Picks
+pub mod FaultTexts

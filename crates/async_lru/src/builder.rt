@@ -24,9 +24,9 @@ pub struct AsyncLruBuilder<K, C, const N: usize> {
     pub len_watermark: Option<usize>,
     /// How many rows there is room for from the start. It is a hint.
     pub capacity: usize,
-    /// How many eviction workers there are at most. It is a hint.
+    /// How many eviction workers there are at most. At 0 nothing is ever evicted.
     pub eviction_workers: usize,
-    /// How many callback workers there are.
+    /// How many callback workers there are. At 0 nothing is called with an evicted pair.
     pub callback_workers: usize,
     /// What is called with each evicted pair.
     pub callback: C,
@@ -50,7 +50,7 @@ impl<K, C, const N: usize> AsyncLruBuilder<K, C, N> {
         self
     }
 
-    /// Sets how many eviction workers there are at most. It is a hint.
+    /// Sets how many eviction workers there are at most: with fewer generators there are fewer. At 0 nothing is ever evicted.
     pub fn num_eviction_workers(mut self, n: usize) -> Self
         ensures { result ≡ record self { eviction_workers = n } }
     {
@@ -58,7 +58,7 @@ impl<K, C, const N: usize> AsyncLruBuilder<K, C, N> {
         self
     }
 
-    /// Sets how many callback workers there are.
+    /// Sets how many callback workers there are. At 0 nothing is called with an evicted pair, and the pairs are dropped.
     pub fn num_callback_workers(mut self, n: usize) -> Self
         ensures { result ≡ record self { callback_workers = n } }
     {
@@ -73,7 +73,7 @@ impl<
     const N: usize,
 > AsyncLruBuilder<K, C, N> {
     /// Starts an actor for each of N shards, an eviction worker for each generator, up to the number that was set, and the callback
-    /// workers.
+    /// workers. Without a generator nothing is ever evicted, whatever the limits.
     ///
     /// # Errors
     ///
@@ -101,7 +101,7 @@ impl<
             return Err(BuildFault::Memory);
         };
         let counts = Counts::new(alloc, N, weight_limit, len_watermark)?;
-        let (mut crew, pairs) = Crew::start(
+        let (crew, pairs) = Crew::start(
             rt,
             alloc,
             N,
@@ -110,7 +110,7 @@ impl<
             eviction_workers,
             generators,
         )?;
-        match start_callers(rt, &pairs, &callback, callback_workers, &mut crew.callers) {
+        match start_callers(rt, &pairs, &callback, callback_workers, &crew.running) {
             Ok(()) => Ok(AsyncLru {
                 crew,
                 weight_limit,

@@ -1,4 +1,4 @@
-//! Threads that run, and what reaches them.
+//! What reaches the threads that run, and ends them.
 
 ghost use Rattle.std.specs.Prelude.{◌≡◌, ◌<◌, vec_len, IfOk};
 
@@ -7,50 +7,46 @@ use crate::counts::Counts;
 use crate::fault::BuildFault;
 use crate::plan::Wires;
 use crate::start::{start_actors, start_evictors};
-use crossbeam_channel::{Receiver, Sender};
+use crate::threads::{Actor, Evictor};
+use crossbeam_channel::{Receiver, Sender, bounded};
 use rand_core::Rng;
 use std::alloc::Global;
 use std::sync::atomic::Ordering;
 use std::sync::{Arc, Wait};
-use std::thread::{JoinHandle, Threads};
+use std::thread::Threads;
 
-// The threads of N shards, with the senders to the actors. Its users are generic in N; it isn't, since the proofs of threads that
-// start don't pass through functions that are.
+// The senders to the actors of N shards, and what ends all threads. Its users are generic in N; it isn't, since the proofs of
+// threads that start don't pass through functions that are. No thread's handle is kept, so that callers in several threads share it.
 pub(crate) struct Crew<K> {
     pub(crate) shards: Vec<Sender<Command<K>>>,
     pub(crate) counts: Arc<Counts>,
     pub(crate) wake: Sender<()>,
-    pub(crate) actors: Vec<JoinHandle<()>>,
-    pub(crate) evictors: Vec<JoinHandle<()>>,
-    pub(crate) callers: Vec<JoinHandle<()>>,
+    // How many eviction workers there are at most.
+    evictors: usize,
+    // Each thread has a clone until its work is over. Nothing is sent.
+    pub(crate) running: Sender<()>,
+    over: Receiver<()>,
 }
 
 impl<K: Drop> Crew<K> {
-    // Ends all threads and waits for them. An eviction worker ends once it is woken, and then gives back its senders to the
-    // actors, which end where no sender is left. With the eviction workers go the senders to the callback workers.
-    pub(crate) fn shutdown<H: Threads + Wait>(self, rt: &H) {
+    // Ends all threads, and waits until the work of each is over. An eviction worker ends once it is woken, and then drops its
+    // senders to the actors, which end where no sender is left. With the eviction workers go the senders to the callback workers.
+    pub(crate) fn shutdown<H: Wait>(self, rt: &H) {
         let Crew {
             shards,
             counts,
             wake,
-            actors,
             evictors,
-            callers,
+            running,
+            over,
         } = self;
         counts.closing.store(true, Ordering::SeqCst);
-        'woken: for _ in 0..evictors.len() {
+        'woken: for _ in 0..evictors {
             let _ended = wake.send(rt, ());
         }
-        join_all(rt, evictors);
         drop(shards);
-        join_all(rt, actors);
-        join_all(rt, callers);
-    }
-}
-
-fn join_all<H: Threads>(rt: &H, threads: Vec<JoinHandle<()>>) {
-    for thread in threads {
-        thread.join(rt);
+        drop(running);
+        let _disconnected = over.recv(rt);
     }
 }
 
@@ -71,28 +67,45 @@ impl<K: Clone + Send + 'static> Crew<K> {
         let wires = Wires::new(alloc, counts, workers.min(generators.len()))?;
         let (senders, actors) = wires.actors(alloc, shards, capacity)?;
         let evictors = wires.evictors(alloc, &senders, generators, workers)?;
+        let (running, over) = bounded(alloc, 1)?;
         let Wires {
             counts,
             wake,
             dispatched,
             ..
         } = wires;
-        let mut crew = Crew {
+        let crew = Crew {
             shards: senders,
             counts,
             wake,
-            actors: Vec::new(alloc),
-            evictors: Vec::new(alloc),
-            callers: Vec::new(alloc),
+            evictors: evictors.len(),
+            running,
+            over,
         };
-        let mut started = start_actors(rt, actors, &mut crew.actors);
-        if started.is_ok() {
-            started = start_evictors(rt, evictors, &mut crew.evictors);
-        }
-        match started {
-            Ok(()) => Ok((crew, dispatched)),
+        Ok((crew.run(rt, actors, evictors)?, dispatched))
+    }
+
+    // Starts the threads of these actors and eviction workers. If not all start, those that did end.
+    fn run<H: Threads + Wait + Copy + Send + 'static, G: Rng + Drop + Send + 'static>(
+        self,
+        rt: &H,
+        actors: Vec<Actor<K>>,
+        evictors: Vec<Evictor<K, G>>,
+    ) -> Result<Crew<K>, BuildFault>
+        ensures { IfOk result (λ crew. crew.shards ≡ self.shards) }
+    {
+        let started = match start_actors(rt, actors, &self.running) {
+            Ok(()) => start_evictors(rt, evictors, &self.running),
             Err(fault) => {
-                crew.shutdown(rt);
+                // They have senders to the actors, which end where no sender is left.
+                drop(evictors);
+                Err(fault)
+            }
+        };
+        match started {
+            Ok(()) => Ok(self),
+            Err(fault) => {
+                self.shutdown(rt);
                 Err(fault)
             }
         }

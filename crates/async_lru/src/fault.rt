@@ -1,6 +1,11 @@
 //! Why a call doesn't reach its actor, and why nothing is built.
 
+ghost use Rattle.std.specs.Prelude.{◌≡◌, Some};
+ghost use Rattle.async_lru.specs.FaultTexts.{send_fault_text, build_fault_text};
+
 use std::alloc::AllocError;
+use std::error::Error;
+use std::fmt;
 
 /// Why a call was refused, with what it was to send. It changes nothing.
 #[derive(Debug, PartialEq, Eq, Drop)]
@@ -14,7 +19,7 @@ pub enum SendFault<T> {
 /// Why no threads run. Those that were started have ended.
 #[derive(Debug, PartialEq, Eq, Drop)]
 pub enum BuildFault {
-    /// There is no memory for the shards, the channels or the threads' handles.
+    /// There is no memory for the shards or the channels.
     Memory,
     /// The system makes no more threads.
     NoThread,
@@ -31,3 +36,29 @@ impl From<AllocError> for SendFault<()> {
         SendFault::Memory(())
     }
 }
+
+impl<T> fmt::Display for SendFault<T> {
+    ghost output = { λ fault. Some (send_fault_text fault) };
+
+    fn fmt<W: fmt::Write>(&self, f: &mut fmt::Formatter<W>) -> fmt::Result {
+        f.write_str(match self {
+            SendFault::Memory(_) => "out of memory for a message",
+            SendFault::Closed(_) => "the shard's actor has ended",
+        })
+    }
+}
+
+impl<T: fmt::Debug + Drop> Error for SendFault<T> {}
+
+impl fmt::Display for BuildFault {
+    ghost output = { λ fault. Some (build_fault_text fault) };
+
+    fn fmt<W: fmt::Write>(&self, f: &mut fmt::Formatter<W>) -> fmt::Result {
+        f.write_str(match self {
+            BuildFault::Memory => "out of memory",
+            BuildFault::NoThread => "the system makes no more threads",
+        })
+    }
+}
+
+impl Error for BuildFault {}

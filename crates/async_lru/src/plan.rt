@@ -117,6 +117,7 @@ impl<K: Drop> Wires<K> {
             reply,
             replies,
             dispatch: self.dispatch.clone()?,
+            pending: None,
         })
     }
 }

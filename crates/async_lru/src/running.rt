@@ -11,16 +11,16 @@ use std::alloc::Global;
 use std::marker::PhantomData;
 use std::sync::Wait;
 use std::sync::atomic::Ordering;
-use std::thread::Threads;
 
 /// N shards of rows that are keyed by the hashes of their keys, each most recent first: hash h is in shard h modulo N. Each
 /// shard has an actor, a thread of its own that applies the messages sent to it in their order, so a call that changes a shard
 /// takes effect later. Eviction workers evict while a limit is passed, and callback workers call back with each evicted pair.
 ///
-/// The threads end by `shutdown`, so each value must be given to it.
+/// Callers in several threads may share one by reference. The threads end by `shutdown`, so each value must be given to it.
 ///
 /// Nothing is claimed of what the counters show, nor that a message arrives. A message that its shard refuses, for memory,
-/// weight or length, is dropped with its key.
+/// weight or length, is dropped with its key. An evicted pair that can't be dispatched, for want of memory, waits at its eviction
+/// worker, which evicts nothing until it is; one for which there is no memory at the shutdown either is dropped.
 pub struct AsyncLru<K, const N: usize> {
     pub(crate) crew: Crew<K>,
     pub(crate) weight_limit: usize,
@@ -46,9 +46,10 @@ impl<K: Drop, const N: usize> AsyncLru<K, N> {
         }
     }
 
-    /// Ends all threads and waits for them: the eviction workers at once, whether or not a limit is passed still, the actors once
-    /// they have applied all messages, the callback workers once they have called back with all pairs.
-    pub fn shutdown<H: Threads + Wait>(self, rt: &H) {
+    /// Ends all threads: the eviction workers after the step that they are in, whether or not a limit is passed still, the actors once
+    /// they have applied all messages, the callback workers once they have called back with all pairs. Returns once the work of each
+    /// is over and what it had is dropped.
+    pub fn shutdown<H: Wait>(self, rt: &H) {
         let AsyncLru {
             crew,
             weight_limit: _,

@@ -1,29 +1,32 @@
-//! Threads that start.
+//! Threads that start. Each drops its clone of the sender `running` last, after all that its work had.
 
 ghost use Rattle.std.specs.Arc.{arc_value};
 
 use crate::callback::AsyncEvictionCallback;
 use crate::fault::BuildFault;
 use crate::threads::{Actor, Evictor, call_back};
-use crossbeam_channel::Receiver;
+use crossbeam_channel::{Receiver, Sender};
 use rand_core::Rng;
 use std::sync::{Arc, Wait};
 use std::thread;
-use std::thread::{JoinHandle, Threads};
+use std::thread::Threads;
 
 // Starts a thread for each actor.
 pub(crate) fn start_actors<H: Threads + Wait + Copy + Send + 'static, K: Clone + Send + 'static>(
     rt: &H,
     actors: Vec<Actor<K>>,
-    threads: &mut Vec<JoinHandle<()>>,
+    running: &Sender<()>,
 ) -> Result<(), BuildFault> {
     'actors: for actor in actors {
-        threads.reserve(1)?;
         let handle = *rt;
-        let Ok(thread) = thread::spawn(rt, move || actor.run(&handle)) else {
-            return Err(BuildFault::NoThread);
+        let last = running.clone()?;
+        let work = move || {
+            actor.run(&handle);
+            drop(last);
         };
-        threads.push_reserved(thread);
+        if thread::spawn(rt, work).is_err() {
+            return Err(BuildFault::NoThread);
+        }
     }
     Ok(())
 }
@@ -33,18 +36,17 @@ pub(crate) fn start_evictors<
     H: Threads + Wait + Copy + Send + 'static,
     K: Drop + Send + 'static,
     G: Rng + Drop + Send + 'static,
->(
-    rt: &H,
-    evictors: Vec<Evictor<K, G>>,
-    threads: &mut Vec<JoinHandle<()>>,
-) -> Result<(), BuildFault> {
+>(rt: &H, evictors: Vec<Evictor<K, G>>, running: &Sender<()>) -> Result<(), BuildFault> {
     'evictors: for evictor in evictors {
-        threads.reserve(1)?;
         let handle = *rt;
-        let Ok(thread) = thread::spawn(rt, move || evictor.run(&handle)) else {
-            return Err(BuildFault::NoThread);
+        let last = running.clone()?;
+        let work = move || {
+            evictor.run(&handle);
+            drop(last);
         };
-        threads.push_reserved(thread);
+        if thread::spawn(rt, work).is_err() {
+            return Err(BuildFault::NoThread);
+        }
     }
     Ok(())
 }
@@ -59,19 +61,22 @@ pub(crate) fn start_callers<
     pairs: &Receiver<(K, usize)>,
     callback: &Arc<C>,
     workers: usize,
-    threads: &mut Vec<JoinHandle<()>>,
+    running: &Sender<()>,
 ) -> Result<(), BuildFault>
     requires { C.ready (arc_value callback.now) }
 {
     'workers: for _ in 0..workers {
-        threads.reserve(1)?;
         let handle = *rt;
         let theirs = pairs.clone()?;
         let mine = Arc::try_clone(callback)?;
-        let Ok(thread) = thread::spawn(rt, move || call_back(&handle, theirs, mine)) else {
-            return Err(BuildFault::NoThread);
+        let last = running.clone()?;
+        let work = move || {
+            call_back(&handle, theirs, mine);
+            drop(last);
         };
-        threads.push_reserved(thread);
+        if thread::spawn(rt, work).is_err() {
+            return Err(BuildFault::NoThread);
+        }
     }
     Ok(())
 }

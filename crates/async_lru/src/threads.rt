@@ -7,7 +7,7 @@ use crate::callback::AsyncEvictionCallback;
 use crate::command::Command;
 use crate::counts::{Counts, Sums};
 use crate::pick::pick;
-use crossbeam_channel::{Receiver, Sender};
+use crossbeam_channel::{Receiver, SendError, Sender};
 use rand_core::Rng;
 use shard_actors::{Message, ShardActor};
 use std::sync::atomic::Ordering;
@@ -93,26 +93,34 @@ pub(crate) struct Evictor<K, G> {
     pub(crate) reply: Sender<Option<(K, usize)>>,
     pub(crate) replies: Receiver<Option<(K, usize)>>,
     pub(crate) dispatch: Sender<(K, usize)>,
+    // An evicted pair that is still to be dispatched.
+    pub(crate) pending: Option<(K, usize)>,
 }
 
 impl<K: Drop, G: Rng + Drop> Evictor<K, G> {
     // Evicts each time that it is woken, until the threads are to end.
     pub(crate) fn run<R: Wait>(mut self, rt: &R) {
         for _ in rt.forever() {
-            if self.woken.recv(rt).is_err() || self.counts.closing.load(Ordering::SeqCst) {
+            if self.woken.recv(rt).is_err() || self.is_to_end() {
                 break;
             }
             for _ in rt.forever() {
-                if !self.step(rt) {
+                if self.is_to_end() || !self.step(rt) {
                     break;
                 }
             }
         }
+        let _sent = self.dispatch_pending(rt);
     }
 
-    // One step of eviction, by two draws, if a limit is passed. A pair that the dispatch channel refuses counts as evicted too.
+    fn is_to_end(&self) -> bool {
+        self.counts.closing.load(Ordering::SeqCst)
+    }
+
+    // One step of eviction, by two draws, if a limit is passed. The pair of the step before goes out first: without memory for that
+    // nothing is evicted.
     fn step<R: Wait>(&mut self, rt: &R) -> bool {
-        if !self.counts.is_over() {
+        if !self.dispatch_pending(rt) || !self.counts.is_over() {
             return false;
         }
         self.counts.read_lens(&mut self.lens);
@@ -124,10 +132,23 @@ impl<K: Drop, G: Rng + Drop> Evictor<K, G> {
         let Some(taken) = self.take(rt, shard) else {
             return false;
         };
-        if let Some(pair) = taken {
-            let _refused = self.dispatch.send(rt, pair);
-        }
+        self.pending = taken;
         true
+    }
+
+    // Sends the pair that is pending, if there is one, and returns whether none is any more. Without memory it stays pending. Where
+    // no receiver is left, it is dropped.
+    fn dispatch_pending<R: Wait>(&mut self, rt: &R) -> bool {
+        let Some(pair) = self.pending.take() else {
+            return true;
+        };
+        match self.dispatch.send(rt, pair) {
+            Err(SendError::OutOfMemory(pair)) => {
+                self.pending = Some(pair);
+                false
+            }
+            Ok(()) | Err(SendError::Disconnected(_)) => true,
+        }
     }
 
     // Has a shard take its last row out. Nothing comes back where the actor can't be asked.

@@ -38,7 +38,7 @@ impl<C, const N: usize> ManagerBuilder<C, N> {
         }
     }
 
-    /// Sets how many eviction workers there are at most. It is a hint.
+    /// Sets how many eviction workers there are at most: with fewer generators there are fewer. At 0 nothing is ever evicted.
     pub fn num_eviction_workers(self, n: usize) -> Self
         ensures { result.lists ≡ record self.lists { eviction_workers = n } }
     {
@@ -48,7 +48,7 @@ impl<C, const N: usize> ManagerBuilder<C, N> {
         }
     }
 
-    /// Sets how many callback workers there are.
+    /// Sets how many callback workers there are. At 0 nothing is called with an evicted entry.
     pub fn num_callback_workers(self, n: usize) -> Self
         ensures { result.lists ≡ record self.lists { callback_workers = n } }
     {
@@ -64,7 +64,7 @@ impl<
     const N: usize,
 > ManagerBuilder<C, N> {
     /// Starts the threads of N shards: an actor for each, an eviction worker for each generator, up to the number that was set, and
-    /// the callback workers.
+    /// the callback workers. Without a generator nothing is ever evicted, whatever the limits.
     ///
     /// # Errors
     ///

@@ -18,13 +18,14 @@ use cache_words::pack::PackWriteFault;
 use cache_words::time::Moment;
 use std::alloc::Global;
 use std::sync::Wait;
-use std::thread::Threads;
 
 /// Entries in N shards, each most recent first, under a limit on their weight and perhaps on their number. An entry is in the
 /// shard of its hash modulo N.
 ///
 /// Calls that change a shard are messages to its actor and take effect later; nothing is claimed of when, nor of what the counters
-/// show. Evicted entries go to the callback. The threads end by `shutdown`, so each value must be given to it.
+/// show. A message that its shard refuses, for memory, weight or length, is dropped and changes nothing: an entry that was not
+/// tracked stays untracked, so it is never evicted, and no answer tells. Evicted entries go to the callback. Callers in several
+/// threads may share a manager by reference. The threads end by `shutdown`, so each value must be given to it.
 ///
 /// Rows are named by the entries' 64-bit hashes, which start at a fixed place: two entries of one hash share a row. The one that
 /// was put last has it, a call on either finds it, and the other is no longer tracked, so it is never evicted. That serves an owner
@@ -52,8 +53,8 @@ impl<const N: usize> Manager<N> {
         }
     }
 
-    /// Ends all threads and waits for them, as `AsyncLru::shutdown` does.
-    pub fn shutdown<H: Threads + Wait>(self, rt: &H) {
+    /// Ends all threads and waits until their work is over, as `AsyncLru::shutdown` does.
+    pub fn shutdown<H: Wait>(self, rt: &H) {
         let Manager { lru } = self;
         lru.shutdown(rt);
     }

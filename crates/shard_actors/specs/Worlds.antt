@@ -1,6 +1,6 @@
 -- Actors of shards: what a history of steps leaves of the shards' lists, of their queues of messages, and of the list of evicted
 -- pairs that wait for their callbacks.
-use Rattle.std.specs.Prelude.{◌≡◌, ℕ, ◌==◌, ◌%◌, ◌<◌, false, List, [], ◌∷◌, ◌++◌, filter, slice_index_or, Result, Ok, Err}
+use Rattle.std.specs.Prelude.{◌≡◌, ℕ, ◌==◌, ◌%◌, ◌<◌, true, false, List, [], ◌∷◌, ◌++◌, filter, slice_index_or, Result, Ok, Err}
 use Rattle.lru_core.specs.Cores.{Core, shard_of, with_shard, shard_bound, is_over, IsStep}
 use Rattle.pingora_lru.specs.Calls.{lost}
 use Rattle.shard_actors.specs.declared.message.Message.{Message}
@@ -99,7 +99,7 @@ Tells n old (Act i) (Err (Refused fault)) t =
     let m = lost fault in (hash_of m % n ≡ i) × (t ≡ refuses m) × IsReason m (shard_bound n) (shard_of n old.core (hash_of m)) fault
 Tells n old (Act i) (Ok Nothing) t = (queue_of old i ≡ []) × (t ≡ rests)
 Tells {K} n old (Evict a b) (Ok Evicted) t = (pair : K × ℕ) × (t ≡ evicts a b pair)
-Tells n old (Evict a b) (Err NoRoom) t = t ≡ rests
+Tells n old (Evict a b) (Err NoRoom) t = (is_over old.core ≡ true) × (t ≡ rests)
 Tells n old (Evict a b) (Ok Nothing) t = (is_over old.core ≡ false) × (t ≡ rests)
 Tells n old CallBack (Ok (Called k w)) t = t ≡ calls (k, w)
 Tells n old CallBack (Ok Nothing) t = (old.dispatch ≡ []) × (t ≡ rests)

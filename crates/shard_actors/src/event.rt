@@ -1,7 +1,12 @@
 //! Steps of a world of actors, and what they answer.
 
+ghost use Rattle.std.specs.Prelude.{◌≡◌, Some};
+ghost use Rattle.shard_actors.specs.FaultTexts.{step_fault_text};
+
 use crate::message::Message;
 use lru_core::lru_unit::LruFault;
+use std::error::Error;
+use std::fmt;
 
 /// A step of a world of actors.
 #[derive(Debug, Drop)]
@@ -42,3 +47,17 @@ pub enum StepFault<K> {
     /// There is no memory for one more evicted pair. Nothing changes.
     NoRoom,
 }
+
+impl<K> fmt::Display for StepFault<K> {
+    ghost output = { λ fault. Some (step_fault_text fault) };
+
+    fn fmt<W: fmt::Write>(&self, f: &mut fmt::Formatter<W>) -> fmt::Result {
+        match self {
+            StepFault::Unsent(_) => f.write_str("out of memory for a message"),
+            StepFault::Refused(fault) => fmt::Display::fmt(fault, f),
+            StepFault::NoRoom => f.write_str("out of memory for an evicted pair"),
+        }
+    }
+}
+
+impl<K: fmt::Debug + Drop> Error for StepFault<K> {}

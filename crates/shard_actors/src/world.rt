@@ -139,7 +139,7 @@ impl<K: Drop, const N: usize> World<K, N> {
     fn evict(&mut self, a: u64, b: u64) -> Result<bool, AllocError>
         ensures some { result ≡ Ok true → (pair : K × ℕ) × IsStep N self.old.core a b pair self.new.core × (self.new.dispatch ≡ self.old.dispatch ++ pair ∷ []) × (self.new.queues ≡ self.old.queues) }
         ensures none { result ≡ Ok false → (is_over self.old.core ≡ false) × (self.new ≡ self.old) }
-        ensures err { OnErr result (self.new ≡ self.old) }
+        ensures err { OnErr result ((is_over self.old.core ≡ true) × (self.new ≡ self.old)) }
     {
         if !self.core.is_over() {
             return Ok(false);
@@ -149,6 +149,7 @@ impl<K: Drop, const N: usize> World<K, N> {
         self.dispatch.push_back_reserved(pair);
         Ok(true)
     }
+
     // Takes the first pair that waits for its callback.
     fn call_back(&mut self) -> Option<(K, usize)>
         ensures some { IfSome result (λ pair. (self.old.dispatch ≡ pair ∷ self.new.dispatch) × (self.new.core ≡ self.old.core) × (self.new.queues ≡ self.old.queues)) }
