@@ -4,8 +4,12 @@
 #[cfg(test)]
 mod callbacks;
 #[cfg(test)]
+mod endings;
+#[cfg(test)]
 mod managers;
 #[cfg(test)]
 mod running;
+#[cfg(test)]
+mod shards;
 #[cfg(test)]
 mod worlds;

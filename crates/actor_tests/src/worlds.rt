@@ -1,5 +1,7 @@
 //! Steps of a world of actors, and what they leave.
 
+ghost use Rattle.std.specs.Prelude.{◌<◌};
+
 use async_lru::{Event, Message, Outcome, World};
 use std::alloc::Global;
 
@@ -22,6 +24,8 @@ enum Step {
     CallBack(u32, usize),
     /// No pair waits.
     NoCallBack,
+    /// The rows of that shard, most recent first.
+    Rows(usize, &'static [(u32, usize)]),
 }
 
 /// Steps from no rows, and what they leave: the pairs that wait for their callbacks, and the rows of shard 0.
@@ -102,6 +106,46 @@ const TIGHT: &[Row] = &[
     },
 ];
 
+/// Two shards and a limit of 1.
+const TWO: &[Row] = &[
+    Row {
+        steps: &[
+            A,
+            Step::Admit(1, 1, 1),
+            Step::Admit(3, 1, 1),
+            Step::Act(1, true),
+            Step::Rows(1, &[(1, 1)]),
+            ACT,
+            Step::Act(0, false),
+            Step::Act(1, true),
+            Step::Rows(1, &[(3, 1), (1, 1)]),
+            Step::Evict(0, 1, true),
+            Step::Rows(1, &[(3, 1)]),
+            Step::Evict(1, 0, true),
+            Step::Rows(1, &[]),
+            Step::Evict(1, 0, false),
+        ],
+        dispatch: &[(1, 1), (3, 1)],
+        rows: &[(0, 1)],
+    },
+    Row {
+        steps: &[
+            A,
+            Step::Admit(1, 1, 1),
+            ACT,
+            Step::Act(1, true),
+            Step::Evict(2, 3, true),
+            Step::CallBack(0, 1),
+            Step::Rows(1, &[(1, 1)]),
+            Step::Promote(1),
+            Step::Act(0, false),
+            Step::Act(1, true),
+        ],
+        dispatch: &[],
+        rows: &[],
+    },
+];
+
 /// Whether a world does a step as it must.
 fn does<const N: usize>(world: &mut World<u32, N>, step: Step) -> bool {
     match step {
@@ -127,6 +171,7 @@ fn does<const N: usize>(world: &mut World<u32, N>, step: Step) -> bool {
             _ => false,
         },
         Step::NoCallBack => matches!(world.step(Event::CallBack), Ok(Outcome::Nothing)),
+        Step::Rows(shard, rows) => has_rows(world, shard, rows),
     }
 }
 
@@ -134,20 +179,26 @@ fn sends<const N: usize>(world: &mut World<u32, N>, message: Message<u32>) -> bo
     matches!(world.step(Event::Send(message)), Ok(Outcome::Sent(_)))
 }
 
-/// Whether the world has these rows in shard 0, and these pairs wait for their callbacks.
-fn shows<const N: usize>(world: &World<u32, N>, row: &Row) -> bool {
+/// Whether a shard of the world has these rows.
+fn has_rows<const N: usize>(world: &World<u32, N>, shard: usize, rows: &[(u32, usize)]) -> bool {
     let core = world.core();
-    if core.shards() == 0 || world.dispatch().len() != row.dispatch.len() {
+    if shard >= core.shards() {
         return false;
     }
-    let mut rows = core.iter(0);
-    for pair in row.rows {
-        match rows.next() {
+    let mut there = core.iter(shard);
+    for pair in rows {
+        match there.next() {
             Some((key, weight)) if *key == pair.0 && weight == pair.1 => {}
             _ => return false,
         }
     }
-    rows.next().is_none()
+    there.next().is_none()
+}
+
+/// Whether the world has these rows in shard 0, and these pairs wait for their callbacks.
+fn shows<const N: usize>(world: &World<u32, N>, row: &Row) -> bool {
+    has_rows(world, 0, row.rows)
+        && world.dispatch().len() == row.dispatch.len()
         && world
             .dispatch()
             .iter()
@@ -155,9 +206,11 @@ fn shows<const N: usize>(world: &World<u32, N>, row: &Row) -> bool {
             .all(|(waits, pair)| waits == pair)
 }
 
-/// Whether a world of one shard does the steps of a row and shows what they leave.
-fn goes(alloc: Global, row: &Row) -> Option<bool> {
-    let mut world: World<u32, 1> = World::new(alloc, 1, None).ok()?;
+/// Whether a world of N shards does the steps of a row and shows what they leave.
+fn goes<const N: usize>(alloc: Global, row: &Row) -> Option<bool>
+    requires { 0 < N }
+{
+    let mut world: World<u32, N> = World::new(alloc, 1, None).ok()?;
     for &step in row.steps {
         if !does(&mut world, step) {
             return Some(false);
@@ -169,6 +222,13 @@ fn goes(alloc: Global, row: &Row) -> Option<bool> {
 #[test]
 fn a_tight_world_evicts_the_last(rt: HostRuntime) {
     for row in TIGHT {
-        assert_eq!(rt; goes(rt.alloc(), row), Some(true));
+        assert_eq!(rt; goes::<1>(rt.alloc(), row), Some(true));
+    }
+}
+
+#[test]
+fn two_words_pick_the_shard(rt: HostRuntime) {
+    for row in TWO {
+        assert_eq!(rt; goes::<2>(rt.alloc(), row), Some(true));
     }
 }
