@@ -144,7 +144,7 @@ impl<const N: usize, S: BuildHasher> Numbers<N, S> {
     }
 
     /// Gives an entry that has none a number: the first free one of the hash, the hash + N and so on below 2^64, then of the
-    /// hash modulo N, that + N and so on below the hash.
+    /// hash modulo N, that + N and so on below the hash. It costs one look-up for each taken number on the way.
     ///
     /// # Errors
     ///

@@ -6,6 +6,7 @@ use crate::names::{A, B, C, Name, entry};
 use cache_entries::entry::CacheEntryKeyRef;
 use cache_evict::numbers::{Numbers, NumbersFault};
 use std::alloc::Global;
+use std::hash::BuildHasherDefault;
 use std::test::*;
 
 /// A call, with what it must return.
@@ -17,6 +18,7 @@ enum Step {
     NumberOf(Name, Option<u64>),
     EntryOf(u64, Option<Name>),
     Len(usize),
+    Empty(bool),
 }
 
 fn is_done<const N: usize>(alloc: Global, numbers: &mut Numbers<N>, step: Step) -> Option<bool> {
@@ -49,6 +51,7 @@ fn is_done<const N: usize>(alloc: Global, numbers: &mut Numbers<N>, step: Step) 
             _ => Some(false),
         },
         Step::Len(count) => Some(numbers.len() == count),
+        Step::Empty(empty) => Some(numbers.is_empty() == empty),
     }
 }
 
@@ -56,7 +59,7 @@ fn is_done<const N: usize>(alloc: Global, numbers: &mut Numbers<N>, step: Step) 
 fn steps_done<const N: usize>(alloc: Global, steps: &[Step]) -> usize
     requires { 0 < N }
 {
-    let mut numbers: Numbers<N> = Numbers::new(alloc);
+    let mut numbers: Numbers<N> = Numbers::with_hasher(alloc, BuildHasherDefault::new());
     for (number, step) in steps.iter().enumerate() {
         if is_done(alloc, &mut numbers, *step) != Some(true) {
             return number;
@@ -80,9 +83,12 @@ const FOUR_APART: &[&[Step]] = &[
         Step::Give(B, u64::MAX, Some(3)),
     ],
     &[
+        Step::Empty(true),
         Step::Give(A, 5, Some(5)),
+        Step::Empty(false),
         Step::GiveBack(5, Some(A)),
         Step::GiveBack(5, None),
+        Step::Empty(true),
         Step::NumberOf(A, None),
         Step::EntryOf(5, None),
         Step::Give(B, 5, Some(5)),

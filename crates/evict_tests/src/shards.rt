@@ -2,7 +2,7 @@
 
 ghost use Rattle.std.specs.Prelude.{◌<◌};
 
-use crate::names::{A, Name, entry};
+use crate::names::{A, B, E, Name, entry};
 use crate::steps::{Step, is_done};
 use cache_evict::lru;
 use rand_core::SeedableRng;
@@ -102,11 +102,28 @@ const FOUR: &[Look] = &[
     Look::Any(Step::Holds(4, 2)),
 ];
 
+const LAST_GOES: &[Look] = &[
+    // By the hashes of their texts all three are in shard 2, so the draws don't count.
+    Look::ShardOf(A, 2),
+    Look::ShardOf(B, 2),
+    Look::ShardOf(E, 2),
+    Look::Any(Step::Admit(A, 4, &[])),
+    Look::Any(Step::Admit(B, 5, &[])),
+    Look::Any(Step::Admit(E, 3, &[A])),
+    Look::Holds(2, 8, 2),
+    Look::Last(2, Some(B)),
+    Look::Any(Step::Evicted(4, 1)),
+];
+
 const SIXTEEN: &[Look] = &[Look::ShardOf(AA, 12)];
 
 #[test]
 fn shards_are_shown(rt: HostRuntime) {
     assert_eq!(rt; looks_done::<4>(rt.alloc(), 8, FOUR), Some(FOUR.len()));
+    assert_eq!(rt;
+        looks_done::<4>(rt.alloc(), 0, LAST_GOES),
+        Some(LAST_GOES.len())
+    );
     assert_eq!(rt;
         looks_done::<16>(rt.alloc(), 0, SIXTEEN),
         Some(SIXTEEN.len())

@@ -200,6 +200,18 @@ const CASES: &[Case] = &[
             Step::Holds(3, 3),
         ],
     ),
+    // The evicted weight stays at the greatest number.
+    (
+        0,
+        None,
+        &[
+            Step::Admit(A, usize::MAX, &[A]),
+            Step::Evicted(usize::MAX, 1),
+            Step::Admit(B, usize::MAX, &[B]),
+            Step::Evicted(usize::MAX, 2),
+            Step::Holds(0, 0),
+        ],
+    ),
 ];
 
 /// Calls that only one list counts so: an entry weighs what it is put with.
@@ -217,7 +229,7 @@ const RAISED: &[Step] = &[
 ];
 
 fn done_by_list(alloc: Global, case: Case) -> Option<usize> {
-    let mut list: simple_lru::Manager = simple_lru::OneList::new_with_watermark(
+    let mut list: simple_lru::Manager = simple_lru::Manager::new_with_watermark(
         alloc, case.0, case.1,
     ).ok()?;
     Some(steps_done(alloc, &mut list, case.2))

@@ -16,7 +16,7 @@ const KEY: &[u8] =
 const AA: Name = (b"aa", None);
 
 /// A text: its head, and what stands after the key in each row.
-type Text = (&'static [u8], &'static [&'static [u8]]);
+pub type Text = (&'static [u8], &'static [&'static [u8]]);
 
 fn put_rows(bytes: &mut Vec<u8>, weights: &[&[u8]]) -> Result<(), AllocError> {
     for weight in weights {
@@ -27,7 +27,7 @@ fn put_rows(bytes: &mut Vec<u8>, weights: &[&[u8]]) -> Result<(), AllocError> {
     Ok(())
 }
 
-fn bytes_of(alloc: Global, text: Text) -> Option<Vec<u8>> {
+pub fn bytes_of(alloc: Global, text: Text) -> Option<Vec<u8>> {
     let mut bytes = Vec::from_slice(alloc, text.0).ok()?;
     match put_rows(&mut bytes, text.1) {
         Ok(()) => Some(bytes),
@@ -60,7 +60,7 @@ fn loaded_by_list(
     bytes: &[u8],
     steps: &[Step],
 ) -> Option<(Loaded, usize)> {
-    let mut list: simple_lru::Manager = simple_lru::OneList::new(alloc, limit).ok()?;
+    let mut list: simple_lru::Manager = simple_lru::Manager::new(alloc, limit).ok()?;
     let loaded = list.deserialize(alloc, bytes);
     let sums = (loaded, list.total_size(), list.total_items());
     Some((sums, steps_done(alloc, &mut list, steps)))
@@ -160,7 +160,7 @@ fn saved_by_shard(alloc: Global, limit: usize, steps: &[Step]) -> Option<Vec<u8>
 }
 
 fn saved_by_list(alloc: Global, limit: usize, steps: &[Step]) -> Option<Vec<u8>> {
-    let mut list: simple_lru::Manager = simple_lru::OneList::new(alloc, limit).ok()?;
+    let mut list: simple_lru::Manager = simple_lru::Manager::new(alloc, limit).ok()?;
     if steps_done(alloc, &mut list, steps) == steps.len() {
         list.serialize(alloc).ok()
     } else {
