@@ -4,6 +4,7 @@ ghost use Rattle.std.specs.Prelude.{◌≡◌, None, IfOk, IfErr, OnOk, OnErr};
 ghost use Rattle.cache_entries.specs.BorrowedEntry.{borrowed_entry};
 ghost use Rattle.cache_entries.specs.BorrowedRow.{borrowed_row};
 ghost use Rattle.cache_entries.specs.RowText.{recency_at};
+ghost use Rattle.cache_entries.specs.EntryText.{entry_hash};
 ghost use Rattle.cache_entries.specs.Rows.{weight_of};
 ghost use Rattle.cache_evict.specs.Loads.{loaded, IsLoadRefusal, Loads};
 ghost use Rattle.cache_evict.specs.Managed.{rows_of, put_last, HasNoOtherReason};
@@ -63,20 +64,32 @@ impl<const N: usize, S: BuildHasher> Tracker<N, S> {
         }
     }
 
-    // A copy of an entry that isn't tracked and whose tag is borrowed, once there is room for it with that weight.
+    // Looks for room for an entry that isn't tracked and whose tag is borrowed, and returns its hash.
+    fn look_for_borrowed(&self, entry: BorrowedEntry<'_>, weight: usize) -> Result<u64, Refusal>
+        requires { weight_of (borrowed_entry entry) (rows_of N (borrowed_entry entry) self.now) ≡ None }
+        ensures hash { IfOk result (λ hash. hash ≡ entry_hash (borrowed_entry entry.entry)) }
+        ensures room { OnOk result (HasNoOtherReason N (borrowed_entry entry.entry) weight self.now) }
+        ensures why { IfErr result (IsRefusal N (borrowed_entry entry.entry) weight self.now) }
+    {
+        self.look_for_room(borrowed_hash(entry), weight)
+    }
+
+    // A copy of an entry that isn't tracked and whose tag is borrowed, with its hash, once there is room for it with that weight.
     fn owned_new(
         &self,
         alloc: Global,
         entry: BorrowedEntry<'_>,
         weight: usize,
-    ) -> Result<CacheEntryKey, Refusal>
+    ) -> Result<(CacheEntryKey, u64), Refusal>
         requires { weight_of (borrowed_entry entry) (rows_of N (borrowed_entry entry) self.now) ≡ None }
-        ensures copy { IfOk result (λ copy. copy ≡ borrowed_entry entry.entry) }
+        ensures copy { IfOk result (λ new. new.0 ≡ borrowed_entry entry.entry) }
+        ensures hash { IfOk result (λ new. new.1 ≡ entry_hash (borrowed_entry entry.entry)) }
         ensures room { OnOk result (HasNoOtherReason N (borrowed_entry entry.entry) weight self.now) }
         ensures why { IfErr result (IsRefusal N (borrowed_entry entry.entry) weight self.now) }
     {
-        self.look_for_room(borrowed_hash(entry), weight)?;
-        owned(alloc, entry)
+        let hash = self.look_for_borrowed(entry, weight)?;
+        let copy = owned(alloc, entry)?;
+        Ok((copy, hash))
     }
 
     // Puts a copy of such an entry last.
@@ -91,8 +104,8 @@ impl<const N: usize, S: BuildHasher> Tracker<N, S> {
         ensures err { OnErr result (self.new ≡ self.old) }
         ensures why { IfErr result (IsRefusal N (borrowed_entry entry.entry) weight self.old) }
     {
-        let copy = self.owned_new(alloc, entry, weight)?;
-        self.put_new(copy, weight, End::Last)
+        let (copy, hash) = self.owned_new(alloc, entry, weight)?;
+        self.put_new(copy, hash, weight, End::Last)
     }
 }
 

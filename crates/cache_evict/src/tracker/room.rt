@@ -15,33 +15,42 @@ use lru_core::{LruCore, MOST_ROWS};
 use std::hash::BuildHasher;
 
 impl<const N: usize, S: BuildHasher> Tracker<N, S> {
-    // Looks for room for an entry of that hash that isn't tracked, with that weight, before anything grows for it.
-    pub(super) fn look_for_room(&self, hash: u64, weight: usize) -> Result<(), Refusal>
+    // Looks for room for an entry of that hash that isn't tracked, with that weight, before anything grows for it, and returns
+    // the hash.
+    pub(super) fn look_for_room(&self, hash: u64, weight: usize) -> Result<u64, Refusal>
+        ensures hash { IfOk result (λ same. same ≡ hash) }
         ensures room { (e : CacheEntryKey) → hash ≡ entry_hash e → weight_of e (rows_of N e self.now) ≡ None → OnOk result (HasNoOtherReason N e weight self.now) }
         ensures why { (e : CacheEntryKey) → hash ≡ entry_hash e → weight_of e (rows_of N e self.now) ≡ None → IfErr result (IsRefusal N e weight self.now) }
     {
         let shard = hash as usize % self.core.shards();
-        look_for_room(&self.core, shard, weight)
+        look_for_room(&self.core, shard, hash, weight)
     }
 
-    // The same by the entry itself.
-    fn look_for(&self, entry: &CacheEntryKey, weight: usize) -> Result<(), Refusal>
+    // The same by the entry itself, whose hash it returns.
+    fn look_for(&self, entry: &CacheEntryKey, weight: usize) -> Result<u64, Refusal>
         requires { weight_of entry.now (rows_of N entry.now self.now) ≡ None }
+        ensures hash { IfOk result (λ hash. hash ≡ entry_hash entry.now) }
         ensures room { OnOk result (HasNoOtherReason N entry.now weight self.now) }
         ensures why { IfErr result (IsRefusal N entry.now weight self.now) }
     {
         self.look_for_room(entry_hash(CacheEntryKeyRef::from(entry)), weight)
     }
 
-    // A copy of an entry that isn't tracked, once there is room for it with that weight.
-    fn copy_new(&self, entry: &CacheEntryKey, weight: usize) -> Result<CacheEntryKey, Refusal>
+    // A copy of an entry that isn't tracked, with its hash, once there is room for it with that weight.
+    fn copy_new(
+        &self,
+        entry: &CacheEntryKey,
+        weight: usize,
+    ) -> Result<(CacheEntryKey, u64), Refusal>
         requires { weight_of entry.now (rows_of N entry.now self.now) ≡ None }
-        ensures copy { IfOk result (λ copy. copy ≡ entry.now) }
+        ensures copy { IfOk result (λ new. new.0 ≡ entry.now) }
+        ensures hash { IfOk result (λ new. new.1 ≡ entry_hash entry.now) }
         ensures room { OnOk result (HasNoOtherReason N entry.now weight self.now) }
         ensures why { IfErr result (IsRefusal N entry.now weight self.now) }
     {
-        self.look_for(entry, weight)?;
-        copy_of(entry)
+        let hash = self.look_for(entry, weight)?;
+        let copy = copy_of(entry)?;
+        Ok((copy, hash))
     }
 
     // Puts an entry that isn't tracked first, once there is room for it with that weight.
@@ -51,8 +60,8 @@ impl<const N: usize, S: BuildHasher> Tracker<N, S> {
         ensures err { OnErr result (self.new ≡ self.old) }
         ensures why { IfErr result (IsRefusal N entry weight self.old) }
     {
-        self.look_for(&entry, weight)?;
-        self.put_new(entry, weight, End::First)
+        let hash = self.look_for(&entry, weight)?;
+        self.put_new(entry, hash, weight, End::First)
     }
 
     // Puts a copy of such an entry first.
@@ -62,18 +71,20 @@ impl<const N: usize, S: BuildHasher> Tracker<N, S> {
         ensures err { OnErr result (self.new ≡ self.old) }
         ensures why { IfErr result (IsRefusal N entry.now weight self.old) }
     {
-        let copy = self.copy_new(entry, weight)?;
-        self.put_new(copy, weight, End::First)
+        let (copy, hash) = self.copy_new(entry, weight)?;
+        self.put_new(copy, hash, weight, End::First)
     }
 }
 
-// Looks for room for one more row of that weight in a shard.
+// Looks for room for one more row of that weight in a shard, for an entry of that hash, and returns the hash.
 fn look_for_room<const N: usize, S: BuildHasher>(
     core: &LruCore<u64, N, S>,
     shard: usize,
+    hash: u64,
     weight: usize,
-) -> Result<(), Refusal>
+) -> Result<u64, Refusal>
     requires { shard < N }
+    ensures hash { IfOk result (λ same. same ≡ hash) }
     ensures room { OnOk result (HasRoom N shard weight core.now) }
     ensures why { IfErr result (IsRoomRefusal N shard weight core.now) }
 {
@@ -84,5 +95,5 @@ fn look_for_room<const N: usize, S: BuildHasher>(
     if core.shard_len(shard) >= most || core.len() >= MOST_ROWS {
         return Err(Refusal::Length);
     }
-    Ok(())
+    Ok(hash)
 }

@@ -11,8 +11,7 @@ ghost use Rattle.cache_evict.specs.Numbered.{HasOwnRow, placed};
 ghost use Rattle.cache_evict.specs.Refusals.{IsRowRefusal, IsNewRefusal, refusal_of, row_refusal};
 
 use super::Refusal;
-use cache_entries::entry::{CacheEntryKey, CacheEntryKeyRef};
-use cache_entries::pack::entry_hash;
+use cache_entries::entry::CacheEntryKey;
 use entry_numbers::{Numbers, NumbersFault};
 use lru_core::LruCore;
 use lru_core::lru_unit::LruFault;
@@ -130,16 +129,18 @@ pub(super) fn weight_of_new(delta: usize, cap: Option<usize>) -> usize
     }
 }
 
-// Gives an entry a number, and puts the number's row at that end of its shard, with that weight.
+// Gives an entry of that hash a number, and puts the number's row at that end of its shard, with that weight.
 pub(super) fn put_new<const N: usize, S: BuildHasher>(
     numbers: &mut Numbers<N, S>,
     core: &mut LruCore<u64, N, S>,
     entry: CacheEntryKey,
+    hash: u64,
     weight: usize,
     end: End,
 ) -> Result<(), Refusal>
     requires new { HasNoNumber (name_at numbers.old) entry }
     requires free { (k : ℕ) → name_at numbers.old k ≡ None → (k % N < length core.old.shards) × (only k (shard_of N core.old k) ≡ []) }
+    requires hash { hash ≡ entry_hash entry }
     ensures ok { OnOk result ((k : ℕ) × IsFirstFree N (name_at numbers.old) (entry_hash entry) k
         × ((i : ℕ) → name_at numbers.new i ≡ with_name (name_at numbers.old) k entry i)
         × (core.new ≡ with_shard N core.old k (placed end (a_row k k weight) (others k (shard_of N core.old k))))) }
@@ -147,7 +148,6 @@ pub(super) fn put_new<const N: usize, S: BuildHasher>(
     ensures core { OnErr result (core.new ≡ core.old) }
     ensures why { IfErr result (IsNewRefusal N (name_at numbers.old) (entry_hash entry) weight core.old) }
 {
-    let hash = entry_hash(CacheEntryKeyRef::from(&entry));
     match numbers.give(entry, hash) {
         Ok(number) => match put_free(core, number, weight, end) {
             Ok(()) => Ok(()),

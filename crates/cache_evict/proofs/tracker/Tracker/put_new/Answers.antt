@@ -7,20 +7,20 @@ use Rattle.cache_evict.proofs.tracker.Tracker.put_new.Goals as goal
 
 pub put_new-requires : goal.put_new-requires
 put_new-requires g c =
-    let room : HasNoOtherReason g.row.N c.args.entry c.args.weight (managed_in (name_at c.self.inside.numbers) c.self.inside.core c.self.inside.evicted_size c.self.inside.evicted_items) = rw (← c.self.view_is) at c.requires in (
+    let room : HasNoOtherReason g.row.N c.args.entry c.args.weight (managed_in (name_at c.self.inside.numbers) c.self.inside.core c.self.inside.evicted_size c.self.inside.evicted_items) = rw (← c.self.view_is) at c.requires.room in (
       search rules,
       (
         search rules,
         (
           unnumbered_entry g.row.N (name_at c.self.inside.numbers) c.self.inside.core c.args.entry c.self.invariant room.0,
-          has_free g.row.N (name_at c.self.inside.numbers) c.self.inside.core c.self.invariant,
+          (has_free g.row.N (name_at c.self.inside.numbers) c.self.inside.core c.self.invariant, c.requires.hash),
         ),
       ),
     )
 
 pub invariant_of-self : goal.invariant_of-self
 invariant_of-self g c =
-    let room : HasNoOtherReason g.row.N c.args.entry c.args.weight (managed_in (name_at c.self.inside.numbers) c.self.inside.core c.self.inside.evicted_size c.self.inside.evicted_items) = rw (← c.self.view_is) at c.requires in
+    let room : HasNoOtherReason g.row.N c.args.entry c.args.weight (managed_in (name_at c.self.inside.numbers) c.self.inside.core c.self.inside.evicted_size c.self.inside.evicted_items) = rw (← c.self.view_is) at c.requires.room in
     let none = unnumbered_entry g.row.N (name_at c.self.inside.numbers) c.self.inside.core c.args.entry c.self.invariant room.0 in
     either_way c.put_new.result _ _ _
     (IsNumbered-given g.row.N (name_at c.self.inside.numbers) (name_at c.put_new.new.numbers) c.self.inside.core c.put_new.new.core c.args.entry c.args.weight 0 0 c.self.invariant none c.args.end)
@@ -29,7 +29,7 @@ invariant_of-self g c =
 
 pub returns-clause-ok : goal.returns-clause-ok
 returns-clause-ok g c =
-    let room : HasNoOtherReason g.row.N c.args.entry c.args.weight (managed_in (name_at c.self.inside.numbers) c.self.inside.core c.self.inside.evicted_size c.self.inside.evicted_items) = rw (← c.self.view_is) at c.requires in
+    let room : HasNoOtherReason g.row.N c.args.entry c.args.weight (managed_in (name_at c.self.inside.numbers) c.self.inside.core c.self.inside.evicted_size c.self.inside.evicted_items) = rw (← c.self.view_is) at c.requires.room in
     let none = unnumbered_entry g.row.N (name_at c.self.inside.numbers) c.self.inside.core c.args.entry c.self.invariant room.0 in
     rw (← c.self.view_is) (ok_then c.put_new.result _ _ (managed-given g.row.N (name_at c.self.inside.numbers) (name_at c.put_new.new.numbers) c.self.inside.core c.put_new.new.core c.args.entry c.args.weight c.self.inside.evicted_size c.self.inside.evicted_items c.self.invariant none c.args.end) c.put_new.ensures.ok)
 
@@ -40,6 +40,6 @@ returns-clause-err g c =
 
 pub returns-clause-why : goal.returns-clause-why
 returns-clause-why g c =
-    let room : HasNoOtherReason g.row.N c.args.entry c.args.weight (managed_in (name_at c.self.inside.numbers) c.self.inside.core c.self.inside.evicted_size c.self.inside.evicted_items) = rw (← c.self.view_is) at c.requires in
+    let room : HasNoOtherReason g.row.N c.args.entry c.args.weight (managed_in (name_at c.self.inside.numbers) c.self.inside.core c.self.inside.evicted_size c.self.inside.evicted_items) = rw (← c.self.view_is) at c.requires.room in
     let none = unnumbered_entry g.row.N (name_at c.self.inside.numbers) c.self.inside.core c.args.entry c.self.invariant room.0 in
     rw (← c.self.view_is) (err_then c.put_new.result _ _ (refused-new g.row.N (name_at c.self.inside.numbers) (name_at c.put_new.new.numbers) c.self.inside.core c.put_new.new.core c.args.entry c.args.weight c.self.inside.evicted_size c.self.inside.evicted_items c.self.invariant none room) c.put_new.ensures.why)
