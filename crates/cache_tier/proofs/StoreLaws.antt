@@ -155,10 +155,10 @@ module _ (n w : ℕ) (s : State) (b : FinishedBody) (k : IsSharded n s.managed) 
   refused_by : (m : Managed) (cause : EvictFault) (fault : PutFault) (f : TierFault) (new : State) (st rest : Stream) → IsPutRefused n (alone b.entry) w s.managed cause → evicted_of cause ≡ [] → m ≡ s.managed → rest ≡ st
       → Tells cause m fault f → new ≡ cleared [] m → IsRefusedPut s b f new st rest
   refused_by m (evict.Memory v) fault f new st rest p none same drawn t r =
-      let absent : weight_of (alone b.entry) (rows_of n (alone b.entry) m) ≡ None = ap (λ (x : Managed). weight_of (alone b.entry) (rows_of n (alone b.entry) x)) same ∙ p in
+      let absent : weight_of (alone b.entry) (rows_of n (alone b.entry) m) ≡ None = ap (λ (x : Managed). weight_of (alone b.entry) (rows_of n (alone b.entry) x)) same ∙ p.0 in
       let told : f ≡ Memory stored_alone = told-memory (was_admitted n (alone b.entry) (evict.Memory v) m) v fault f t.0 t.1
       ∙ (λ i. Memory (record { stored = true; admitted = untouched v.items (weight_of (alone b.entry) (rows_of n (alone b.entry) m)) none absent i; evicted = none i })) in
-      kept_out m f (Memory stored_alone) new st rest same drawn told (refl, heavy_here (λ x v. weight_of (alone b.entry) (rows_of x (alone b.entry) s.managed) ≡ None) p) refl refl r
+      kept_out m f (Memory stored_alone) new st rest same drawn told (refl, heavy_here (λ x v. weight_of (alone b.entry) (rows_of x (alone b.entry) s.managed) ≡ None) p.0) refl refl r
   refused_by m (evict.Weight v) fault f new st rest p none same drawn t r =
       kept_out m f (TooHeavy stored_alone) new st rest same drawn (told-heavy false v fault f t.0 t.1 ∙ (λ i. TooHeavy (record { stored = true; admitted = false; evicted = none i })))
       (refl, heavy_here (λ x v. IsHeavy x (alone b.entry) v s.managed) p) refl refl r
