@@ -63,20 +63,23 @@ fn fault_of<M: EvictionManager, R: Rng>(
     }
 }
 
-/// Whether a call that stops does so for want of memory, and leaves all as before, or else a limit passed.
+/// Whether a call stopped, if it did, for want of memory, with all as before or else a limit passed.
+fn is_right(fault: &Option<EvictFault>, is_same: bool, is_over: bool) -> bool {
+    match fault {
+        None => true,
+        Some(EvictFault::Memory(gone)) => gone.is_empty() && is_same || is_over,
+        Some(_) => false,
+    }
+}
+
+/// Whether each call that stops does so for want of memory, and leaves all as before, or else a limit passed.
 fn stops_for_memory<M: EvictionManager>(alloc: Global, manager: &mut M, call: Call) -> bool {
     let mut rng = Pcg64::seed_from_u64(1);
     for &name in NAMES {
         let (size, items) = (manager.total_size(), manager.total_items());
-        let is_right = match fault_of(alloc, manager, &mut rng, call, name) {
-            None => true,
-            Some(EvictFault::Memory(gone)) => {
-                gone.is_empty() && (manager.total_size(), manager.total_items()) == (size, items)
-                    || manager.total_size() > 2
-            }
-            Some(_) => false,
-        };
-        if !is_right {
+        let fault = fault_of(alloc, manager, &mut rng, call, name);
+        let is_same = manager.total_size() == size && manager.total_items() == items;
+        if !is_right(&fault, is_same, manager.total_size() > 2) {
             return false;
         }
     }
