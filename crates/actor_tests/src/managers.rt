@@ -10,6 +10,7 @@ use cache_words::text::Text;
 use cache_words::time::Moment;
 use rand_core::SeedableRng;
 use rand_pcg::Pcg64;
+use secret_hasher::SecretHasher;
 use std::alloc::Global;
 use std::sync::Wait;
 use std::thread::Threads;
@@ -145,6 +146,18 @@ fn built_answers<R: Threads + Wait + Copy + Send + 'static>(rt: &R, alloc: Globa
     Some(answers(rt, alloc, manager))
 }
 
+/// Whether a manager does whose tables have a start of the caller's.
+fn own_start_answers<R: Threads + Wait + Copy + Send + 'static>(
+    rt: &R,
+    alloc: Global,
+) -> Option<bool> {
+    let manager = Manager::builder(100, |_: CacheEntryKey, _: usize| {})
+        .with_hasher(SecretHasher { word: 7 })
+        .build(rt, alloc, generators(alloc)?)
+        .ok()?;
+    Some(answers(rt, alloc, manager))
+}
+
 /// Whether a manager of lists that run does.
 fn lists_answer<R: Threads + Wait + Copy + Send + 'static>(rt: &R, alloc: Global) -> Option<bool> {
     let lists = AsyncLru::builder(100, |_: CacheEntryKey, _: usize| {})
@@ -156,5 +169,6 @@ fn lists_answer<R: Threads + Wait + Copy + Send + 'static>(rt: &R, alloc: Global
 #[test]
 fn entries_are_tracked(rt: HostRuntime) {
     assert_eq!(rt; built_answers(&rt, rt.alloc()), Some(true));
+    assert_eq!(rt; own_start_answers(&rt, rt.alloc()), Some(true));
     assert_eq!(rt; lists_answer(&rt, rt.alloc()), Some(true));
 }

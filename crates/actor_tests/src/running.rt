@@ -4,6 +4,7 @@ use async_lru::{AsyncLru, Event, Message, World, hash_key};
 use crossbeam_channel::Receiver;
 use rand_core::SeedableRng;
 use rand_pcg::Pcg64;
+use secret_hasher::SecretHasher;
 use std::alloc::Global;
 use std::sync::Wait;
 use std::thread;
@@ -60,19 +61,27 @@ const CALLS: &[Step] = &[
     Step::Rows(&[(1, 1)]),
 ];
 
-/// Returns a list without callbacks, and the receiver of its evicted pairs.
+/// Returns a list without callbacks, whose tables may have a start of the caller's, and the receiver of its evicted pairs.
 fn built<R: Threads + Wait + Copy + Send + 'static>(
     rt: &R,
     alloc: Global,
     limit: usize,
+    own: Option<u64>,
 ) -> Option<(List, Receiver<(u32, usize)>)> {
     let mut generators = Vec::new(alloc);
     generators.push(Pcg64::seed_from_u64(0)).ok()?;
-    AsyncLru::builder(limit, |_: u32, _: usize| {})
+    let builder = AsyncLru::builder(limit, |_: u32, _: usize| {})
         .capacity(4)
-        .num_eviction_workers(1)
-        .build_with_eviction_receiver(rt, alloc, generators)
-        .ok()
+        .num_eviction_workers(1);
+    let built = match own {
+        Some(word) => {
+            builder
+                .with_hasher(SecretHasher { word })
+                .build_with_eviction_receiver(rt, alloc, generators)
+        }
+        None => builder.build_with_eviction_receiver(rt, alloc, generators),
+    };
+    built.ok()
 }
 
 /// Whether a call answers what it must.
@@ -155,9 +164,26 @@ fn holds<F: Fn() -> bool>(condition: F) -> bool
     false
 }
 
+/// Whether a list, whose tables may have a start of the caller's, answers its calls as it must.
+fn answers<R: Threads + Wait + Copy + Send + 'static>(
+    rt: &R,
+    alloc: Global,
+    own: Option<u64>,
+) -> Option<bool> {
+    let (list, _pairs) = built(rt, alloc, 100, own)?;
+    let mut all = all_do(rt, &list, CALLS);
+    list.trigger_eviction(rt);
+    all = all && holds(|| list.weight() == 1 && list.len() == 1 && list.shard_len(0) == 1);
+    all = all && !list.is_empty() && !list.over_limit();
+    all = all && (list.shards(), list.weight_limit()) == (1, 100);
+    all = all && (list.evicted_len(), list.evicted_weight()) == (0, 0);
+    list.shutdown(rt);
+    Some(all)
+}
+
 #[test]
 fn async_ignores_messages(rt: HostRuntime) {
-    let built = built(&rt, rt.alloc(), 100);
+    let built = built(&rt, rt.alloc(), 100, None);
     assert!(rt; built.is_some());
     if let Some((list, _pairs)) = built {
         assert_eq!(rt;
@@ -171,23 +197,14 @@ fn async_ignores_messages(rt: HostRuntime) {
 
 #[test]
 fn calls_answer(rt: HostRuntime) {
-    let built = built(&rt, rt.alloc(), 100);
-    assert!(rt; built.is_some());
-    if let Some((list, _pairs)) = built {
-        assert!(rt; all_do(&rt, &list, CALLS));
-        list.trigger_eviction(&rt);
-        assert!(rt; holds(|| list.weight() == 1 && list.len() == 1 && list.shard_len(0) == 1));
-        assert!(rt; !list.is_empty() && !list.over_limit());
-        assert_eq!(rt; (list.shards(), list.weight_limit()), (1, 100));
-        assert_eq!(rt; (list.evicted_len(), list.evicted_weight()), (0, 0));
-        list.shutdown(&rt);
-    }
+    assert_eq!(rt; answers(&rt, rt.alloc(), None), Some(true));
+    assert_eq!(rt; answers(&rt, rt.alloc(), Some(7)), Some(true));
 }
 
 /// The rows past a limit are evicted in order, and those that the closed channel refuses count too.
 #[test]
 fn evicted_pairs_come_in_order(rt: HostRuntime) {
-    let built = built(&rt, rt.alloc(), 2);
+    let built = built(&rt, rt.alloc(), 2, Some(7));
     assert!(rt; built.is_some());
     if let Some((list, pairs)) = built {
         assert!(rt;

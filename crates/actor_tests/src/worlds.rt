@@ -3,7 +3,9 @@
 ghost use Rattle.std.specs.Prelude.{◌<◌};
 
 use async_lru::{Event, Message, Outcome, World};
+use secret_hasher::SecretHasher;
 use std::alloc::Global;
+use std::hash::BuildHasher;
 
 /// A step, and what it must answer.
 #[derive(Clone, Copy)]
@@ -40,6 +42,9 @@ const A: Step = Step::Admit(0, 1, 0);
 const B: Step = Step::Admit(2, 1, 0);
 
 const ACT: Step = Step::Act(0, true);
+
+/// A start of the caller's.
+const OWN: SecretHasher = SecretHasher { word: 7 };
 
 /// One shard and a limit of 1.
 const TIGHT: &[Row] = &[
@@ -147,7 +152,7 @@ const TWO: &[Row] = &[
 ];
 
 /// Whether a world does a step as it must.
-fn does<const N: usize>(world: &mut World<u32, N>, step: Step) -> bool {
+fn does<const N: usize, S: BuildHasher>(world: &mut World<u32, N, S>, step: Step) -> bool {
     match step {
         Step::Admit(key, weight, to) => matches!(
             world.step(Event::Send(Message::Admit(key as u64, key, weight))),
@@ -175,12 +180,19 @@ fn does<const N: usize>(world: &mut World<u32, N>, step: Step) -> bool {
     }
 }
 
-fn sends<const N: usize>(world: &mut World<u32, N>, message: Message<u32>) -> bool {
+fn sends<const N: usize, S: BuildHasher>(
+    world: &mut World<u32, N, S>,
+    message: Message<u32>,
+) -> bool {
     matches!(world.step(Event::Send(message)), Ok(Outcome::Sent(_)))
 }
 
 /// Whether a shard of the world has these rows.
-fn has_rows<const N: usize>(world: &World<u32, N>, shard: usize, rows: &[(u32, usize)]) -> bool {
+fn has_rows<const N: usize, S: BuildHasher>(
+    world: &World<u32, N, S>,
+    shard: usize,
+    rows: &[(u32, usize)],
+) -> bool {
     let core = world.core();
     if shard >= core.shards() {
         return false;
@@ -196,7 +208,7 @@ fn has_rows<const N: usize>(world: &World<u32, N>, shard: usize, rows: &[(u32, u
 }
 
 /// Whether the world has these rows in shard 0, and these pairs wait for their callbacks.
-fn shows<const N: usize>(world: &World<u32, N>, row: &Row) -> bool {
+fn shows<const N: usize, S: BuildHasher>(world: &World<u32, N, S>, row: &Row) -> bool {
     has_rows(world, 0, row.rows)
         && world.dispatch().len() == row.dispatch.len()
         && world
@@ -206,29 +218,35 @@ fn shows<const N: usize>(world: &World<u32, N>, row: &Row) -> bool {
             .all(|(waits, pair)| waits == pair)
 }
 
-/// Whether a world of N shards does the steps of a row and shows what they leave.
-fn goes<const N: usize>(alloc: Global, row: &Row) -> Option<bool>
-    requires { 0 < N }
-{
-    let mut world: World<u32, N> = World::new(alloc, 1, None).ok()?;
+/// Whether a world does the steps of a row and shows what they leave.
+fn goes<const N: usize, S: BuildHasher + Drop>(mut world: World<u32, N, S>, row: &Row) -> bool {
     for &step in row.steps {
         if !does(&mut world, step) {
-            return Some(false);
+            return false;
         }
     }
-    Some(shows(&world, row))
+    shows(&world, row)
+}
+
+/// Whether a world of N shards of limit 1 does, under hashes with a fixed start and with one of the caller's.
+fn both_go<const N: usize>(alloc: Global, row: &Row) -> Option<bool>
+    requires { 0 < N }
+{
+    let fixed: World<u32, N> = World::new(alloc, 1, None).ok()?;
+    let own: World<u32, N, SecretHasher> = World::with_hasher(alloc, OWN, 1, None).ok()?;
+    Some(goes(fixed, row) && goes(own, row))
 }
 
 #[test]
 fn a_tight_world_evicts_the_last(rt: HostRuntime) {
     for row in TIGHT {
-        assert_eq!(rt; goes::<1>(rt.alloc(), row), Some(true));
+        assert_eq!(rt; both_go::<1>(rt.alloc(), row), Some(true));
     }
 }
 
 #[test]
 fn two_words_pick_the_shard(rt: HostRuntime) {
     for row in TWO {
-        assert_eq!(rt; goes::<2>(rt.alloc(), row), Some(true));
+        assert_eq!(rt; both_go::<2>(rt.alloc(), row), Some(true));
     }
 }

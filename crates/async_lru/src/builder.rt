@@ -10,6 +10,7 @@ use crate::running::AsyncLru;
 use crate::start::start_callers;
 use crossbeam_channel::Receiver;
 use rand_core::Rng;
+use secret_hasher::SecretHasher;
 use std::alloc::Global;
 use std::marker::PhantomData;
 use std::sync::{Arc, Wait};
@@ -30,6 +31,8 @@ pub struct AsyncLruBuilder<K, C, const N: usize> {
     pub callback_workers: usize,
     /// What is called with each evicted pair.
     pub callback: C,
+    /// The start of the hashes by which each shard's table finds its rows.
+    pub hasher: SecretHasher,
     pub(crate) keys: PhantomData<K>,
 }
 
@@ -65,6 +68,16 @@ impl<K, C, const N: usize> AsyncLruBuilder<K, C, N> {
         self.callback_workers = n;
         self
     }
+
+    /// Sets the start of the hashes by which each shard's table finds its rows, for keys that strangers choose: who doesn't know the
+    /// start can't choose keys that slow look-ups down. `hash_key`, which names rows and shards, keeps its fixed start, so two keys
+    /// of one hash share a row all the same.
+    pub fn with_hasher(mut self, hasher: SecretHasher) -> Self
+        ensures { result ≡ record self { hasher = hasher } }
+    {
+        self.hasher = hasher;
+        self
+    }
 }
 
 impl<
@@ -95,6 +108,7 @@ impl<
             eviction_workers,
             callback_workers,
             callback,
+            hasher,
             ..
         } = self;
         let Ok(callback) = Arc::new(alloc, callback) else {
@@ -104,6 +118,7 @@ impl<
         let (crew, pairs) = Crew::start(
             rt,
             alloc,
+            hasher,
             N,
             counts,
             capacity,
@@ -143,7 +158,16 @@ impl<
         let weight_limit = self.weight_limit;
         let counts = Counts::new(alloc, N, weight_limit, self.len_watermark)?;
         let workers = self.eviction_workers;
-        let (crew, pairs) = Crew::start(rt, alloc, N, counts, self.capacity, workers, generators)?;
+        let (crew, pairs) = Crew::start(
+            rt,
+            alloc,
+            self.hasher,
+            N,
+            counts,
+            self.capacity,
+            workers,
+            generators,
+        )?;
         let lru = AsyncLru {
             crew,
             weight_limit,

@@ -2,6 +2,7 @@
 
 use lru_core::lru_unit::LruUnit;
 use std::alloc::{AllocError, Global};
+use std::hash::BuildHasher;
 use std::sync::atomic::{AtomicBool, AtomicUsize, Ordering};
 
 // How many rows all shards have and their weight, and the same of the evicted rows, which wrap; how many rows each shard has; the
@@ -26,7 +27,7 @@ pub(crate) struct Sums {
 }
 
 impl Sums {
-    pub(crate) fn of<K>(unit: &LruUnit<K>) -> Sums {
+    pub(crate) fn of<K, S: BuildHasher>(unit: &LruUnit<K, S>) -> Sums {
         Sums {
             len: unit.len(),
             weight: unit.weight(),
@@ -84,7 +85,12 @@ impl Counts {
     }
 
     // Counts a shard again that had the sums `before`.
-    pub(crate) fn recount<K>(&self, shard: usize, unit: &LruUnit<K>, before: Sums) {
+    pub(crate) fn recount<K, S: BuildHasher>(
+        &self,
+        shard: usize,
+        unit: &LruUnit<K, S>,
+        before: Sums,
+    ) {
         let after = Sums::of(unit);
         if let Some(len) = self.shard_lens.get(shard) {
             len.store(after.len, Ordering::SeqCst);

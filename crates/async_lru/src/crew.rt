@@ -10,6 +10,7 @@ use crate::start::{start_actors, start_evictors};
 use crate::threads::{Actor, Evictor};
 use crossbeam_channel::{Receiver, Sender, bounded};
 use rand_core::Rng;
+use secret_hasher::SecretHasher;
 use std::alloc::Global;
 use std::sync::atomic::Ordering;
 use std::sync::{Arc, Wait};
@@ -55,6 +56,7 @@ impl<K: Clone + Send + 'static> Crew<K> {
     pub(crate) fn start<H: Threads + Wait + Copy + Send + 'static, G: Rng + Drop + Send + 'static>(
         rt: &H,
         alloc: Global,
+        hasher: SecretHasher,
         shards: usize,
         counts: Counts,
         capacity: usize,
@@ -65,7 +67,7 @@ impl<K: Clone + Send + 'static> Crew<K> {
         ensures { IfOk result (λ r. vec_len r.0.shards ≡ shards) }
     {
         let wires = Wires::new(alloc, counts, workers.min(generators.len()))?;
-        let (senders, actors) = wires.actors(alloc, shards, capacity)?;
+        let (senders, actors) = wires.actors(alloc, hasher, shards, capacity)?;
         let evictors = wires.evictors(alloc, &senders, generators, workers)?;
         let (running, over) = bounded(alloc, 1)?;
         let Wires {

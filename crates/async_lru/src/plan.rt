@@ -6,6 +6,7 @@ use crate::command::Command;
 use crate::counts::Counts;
 use crate::threads::{Actor, Evictor};
 use crossbeam_channel::{Receiver, Sender, bounded, unbounded};
+use secret_hasher::SecretHasher;
 use shard_actors::ShardActor;
 use std::alloc::{AllocError, Global};
 use std::sync::Arc;
@@ -38,10 +39,11 @@ impl<K: Drop> Wires<K> {
         })
     }
 
-    // Returns an actor of a shard without rows, and the sender of its commands.
+    // Returns an actor of a shard without rows, under hashes with that start, and the sender of its commands.
     fn actor(
         &self,
         alloc: Global,
+        hasher: SecretHasher,
         shard: usize,
         capacity: usize,
         bound: usize,
@@ -49,7 +51,7 @@ impl<K: Drop> Wires<K> {
         let (to, commands) = unbounded(alloc)?;
         let actor = Actor {
             shard,
-            actor: ShardActor::with_capacity(alloc, capacity, bound)?,
+            actor: ShardActor::with_hasher(alloc, hasher, capacity, bound)?,
             commands,
             counts: Arc::try_clone(&self.counts)?,
             wake: self.wake.clone()?,
@@ -57,10 +59,11 @@ impl<K: Drop> Wires<K> {
         Ok((to, actor))
     }
 
-    // Returns an actor for each shard, and the senders of their commands.
+    // Returns an actor for each shard, under hashes with that start, and the senders of their commands.
     pub(crate) fn actors(
         &self,
         alloc: Global,
+        hasher: SecretHasher,
         shards: usize,
         capacity: usize,
     ) -> Result<(Vec<Sender<Command<K>>>, Vec<Actor<K>>), AllocError>
@@ -70,7 +73,8 @@ impl<K: Drop> Wires<K> {
         let mut senders = Vec::with_capacity(alloc, shards)?;
         let mut actors = Vec::with_capacity(alloc, shards)?;
         'shards: for shard in 0..shards {
-            let (to, actor) = self.actor(alloc, shard, capacity / shards, usize::MAX / shards)?;
+            let room = capacity / shards;
+            let (to, actor) = self.actor(alloc, hasher, shard, room, usize::MAX / shards)?;
             senders.push(to)?;
             actors.push(actor)?;
         }

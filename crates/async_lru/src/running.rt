@@ -7,6 +7,7 @@ mod sends;
 
 use crate::builder::AsyncLruBuilder;
 use crate::crew::Crew;
+use secret_hasher::SecretHasher;
 use std::alloc::Global;
 use std::marker::PhantomData;
 use std::sync::Wait;
@@ -30,7 +31,8 @@ pub struct AsyncLru<K, const N: usize> {
 }
 
 impl<K: Drop, const N: usize> AsyncLru<K, N> {
-    /// Returns a builder of lists under that limit, without a watermark, with N eviction workers and one callback worker.
+    /// Returns a builder of lists under that limit, without a watermark, with N eviction workers and one callback worker, and
+    /// with tables whose hashes start at a fixed place.
     pub fn builder<C>(weight_limit: usize, callback: C) -> AsyncLruBuilder<K, C, N>
         ensures limits { (result.weight_limit ≡ weight_limit) × (result.len_watermark ≡ None) × (result.capacity ≡ 0) }
         ensures workers { (result.eviction_workers ≡ N) × (result.callback_workers ≡ 1) × (result.callback ≡ callback) }
@@ -42,6 +44,7 @@ impl<K: Drop, const N: usize> AsyncLru<K, N> {
             eviction_workers: N,
             callback_workers: 1,
             callback,
+            hasher: SecretHasher { word: 0 },
             keys: PhantomData,
         }
     }

@@ -9,6 +9,7 @@ use crate::counts::{Counts, Sums};
 use crate::pick::pick;
 use crossbeam_channel::{Receiver, SendError, Sender};
 use rand_core::Rng;
+use secret_hasher::SecretHasher;
 use shard_actors::{Message, ShardActor};
 use std::sync::atomic::Ordering;
 use std::sync::{Arc, Wait};
@@ -17,7 +18,7 @@ use std::sync::{Arc, Wait};
 #[derive(Drop)]
 pub(crate) struct Actor<K> {
     pub(crate) shard: usize,
-    pub(crate) actor: ShardActor<K>,
+    pub(crate) actor: ShardActor<K, SecretHasher>,
     pub(crate) commands: Receiver<Command<K>>,
     pub(crate) counts: Arc<Counts>,
     pub(crate) wake: Sender<()>,
@@ -39,7 +40,7 @@ impl<K: Clone> Actor<K> {
         match command {
             Command::Apply(message) => self.apply(rt, message),
             Command::Promote(hash, to) => {
-                let _unread = to.send(rt, self.actor.unit.access(hash));
+                let _unread = to.send(rt, self.actor.promote(hash));
             }
             Command::PeekWeight(hash, to) => {
                 let _unread = to.send(rt, self.actor.unit.peek_weight(hash));

@@ -6,6 +6,7 @@ use crate::manager::Manager;
 use async_lru::{AsyncEvictionCallback, AsyncLruBuilder, BuildFault};
 use cache_entries::entry::CacheEntryKey;
 use rand_core::Rng;
+use secret_hasher::SecretHasher;
 use std::alloc::Global;
 use std::sync::Wait;
 use std::thread::Threads;
@@ -55,6 +56,18 @@ impl<C, const N: usize> ManagerBuilder<C, N> {
         let ManagerBuilder { lists } = self;
         ManagerBuilder {
             lists: lists.num_callback_workers(n),
+        }
+    }
+
+    /// Sets the start of the hashes by which each shard's table finds its rows, for entries that strangers choose: who doesn't know
+    /// the start can't choose entries that slow look-ups down. The hashes that name rows and shards keep their fixed start, so two
+    /// entries of one hash share a row all the same.
+    pub fn with_hasher(self, hasher: SecretHasher) -> Self
+        ensures { result.lists ≡ record self.lists { hasher = hasher } }
+    {
+        let ManagerBuilder { lists } = self;
+        ManagerBuilder {
+            lists: lists.with_hasher(hasher),
         }
     }
 }

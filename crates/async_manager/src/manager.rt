@@ -6,15 +6,15 @@ ghost use Rattle.async_lru.specs.Hashes.{key_hash};
 ghost use Rattle.cache_entries.specs.Entry.{entry_writes};
 ghost use Rattle.cache_entries.specs.RowText.{recency_text};
 ghost use Rattle.cache_entries.specs.declared.rows.Tracked.{Tracked};
+ghost use Rattle.cache_evict.specs.Loads.{CantBeWritten};
 ghost use Rattle.cache_evict.specs.Parts.{entry_with_parts};
 
 use crate::builder::ManagerBuilder;
 use crate::fault::TextFault;
-use crate::texts::text_of;
+use crate::texts::text_of_snapshot;
 use async_lru::{AsyncLru, SendFault, hash_key};
 use cache_entries::entry::{CacheEntryId, CacheEntryKey, CacheEntryKeyRef};
 use cache_evict::KeyParts;
-use cache_words::pack::PackWriteFault;
 use cache_words::time::Moment;
 use std::alloc::Global;
 use std::sync::Wait;
@@ -240,18 +240,9 @@ impl<const N: usize> Manager<N> {
         shard: usize,
     ) -> Result<Vec<u8>, TextFault>
         requires { shard < N }
-        ensures { IfOk result (λ v. (rows : List Tracked) × (v.items ≡ recency_text rows)) }
+        ensures text { IfOk result (λ v. (rows : List Tracked) × (v.items ≡ recency_text rows) × (CantBeWritten rows → ⊥)) }
     {
-        let pairs = match self.lru.snapshot_shard(rt, shard) {
-            Ok(pairs) => pairs,
-            Err(SendFault::Memory(())) => return Err(TextFault::Memory),
-            Err(SendFault::Closed(())) => return Err(TextFault::Closed),
-        };
-        match text_of(alloc, pairs.as_slice()) {
-            Ok(text) => Ok(text),
-            Err(PackWriteFault::Memory) => Err(TextFault::Memory),
-            Err(PackWriteFault::TooLong) => Err(TextFault::TooLong),
-        }
+        text_of_snapshot(alloc, self.lru.snapshot_shard(rt, shard))
     }
 }
 

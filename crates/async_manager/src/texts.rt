@@ -1,10 +1,14 @@
 //! Texts of entries with their weights.
 
-ghost use Rattle.std.specs.Prelude.{◌≡◌, ◌++◌, ◌≤◌, ◌^◌, length, map, flat_map, IfOk, OnOk, IsErrOf};
+ghost use Rattle.std.specs.Prelude.{◌≡◌, ◌++◌, ◌≤◌, ◌^◌, List, length, map, flat_map, Err, IfOk, IfErr, OnOk, IsErrOf};
 ghost use Rattle.cache_entries.specs.RowText.{row_text, recency_text};
+ghost use Rattle.cache_entries.specs.declared.rows.Tracked.{Tracked};
 ghost use Rattle.cache_evict.specs.Loads.{CantBeWritten, HasLongTag};
+ghost use Rattle.async_manager.specs.Faults.{unasked};
 ghost use Rattle.async_manager.specs.Texts.{row_of_pair};
 
+use crate::fault::TextFault;
+use async_lru::SendFault;
 use cache_entries::entry::{CacheEntryKey, CacheEntryKeyRef};
 use cache_entries::pack::put_row;
 use cache_words::pack::{PackWriteFault, writing};
@@ -31,6 +35,31 @@ pub fn text_of(alloc: Global, pairs: &[(CacheEntryKey, usize)]) -> Result<Vec<u8
     match put_rows(&mut out, pairs) {
         Ok(()) => Ok(out),
         Err(fault) => Err(fault),
+    }
+}
+
+// Returns the text of a snapshot, or why there is none: the question was refused, or the rows were not written.
+pub(crate) fn text_of_snapshot(
+    alloc: Global,
+    snapshot: Result<Vec<(CacheEntryKey, usize)>, SendFault<()>>,
+) -> Result<Vec<u8>, TextFault>
+    ensures unasked { IfErr snapshot (λ fault. result ≡ Err (unasked fault)) }
+    ensures ok { IfOk snapshot (λ pairs. IfOk result (λ v. v.items ≡ recency_text (map row_of_pair pairs.items))) }
+    ensures fits { IfOk snapshot (λ pairs. OnOk result (CantBeWritten (map row_of_pair pairs.items) → ⊥)) }
+    ensures long { IfOk snapshot (λ pairs. IsErrOf result TextFault.TooLong → CantBeWritten (map row_of_pair pairs.items)) }
+    ensures many { IfOk snapshot (λ pairs. 2 ^ 32 ≤ length pairs.items → IsErrOf result TextFault.TooLong) }
+    ensures asked { IfOk snapshot (λ pairs. IsErrOf result TextFault.Closed → ⊥) }
+    ensures some_text { IfOk result (λ v. (rows : List Tracked) × (v.items ≡ recency_text rows) × (CantBeWritten rows → ⊥)) }
+{
+    let pairs = match snapshot {
+        Ok(pairs) => pairs,
+        Err(SendFault::Memory(())) => return Err(TextFault::Memory),
+        Err(SendFault::Closed(())) => return Err(TextFault::Closed),
+    };
+    match text_of(alloc, pairs.as_slice()) {
+        Ok(text) => Ok(text),
+        Err(PackWriteFault::Memory) => Err(TextFault::Memory),
+        Err(PackWriteFault::TooLong) => Err(TextFault::TooLong),
     }
 }
 

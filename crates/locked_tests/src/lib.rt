@@ -1,8 +1,10 @@
-//! Tests of locked lists and recorded shards, as tables of calls, and of two threads at one list.
+//! Tests of locked lists and recorded shards, as tables of calls, of two threads at one list, and of what else is shown.
 #![tactic(auto)]
 
 #[cfg(test)]
 mod edits;
+#[cfg(test)]
+mod faces;
 #[cfg(test)]
 mod lists;
 #[cfg(test)]

@@ -24,7 +24,12 @@ pub(crate) const ROWS: &[(&[&str], &str, &str)] = &[
         "BadHead BadHead ",
         "bad head",
     ),
-    (&["HTP/1.1 200 OK\r\n"], "Head ", "bad head"),
+    (&["HTP/1.1 200 OK\r\n"], "BadHead ", "bad head"),
+    (
+        &["H", "TP/1.1 200 OK\r\n", "\r\n"],
+        "Head Head BadHead ",
+        "bad head",
+    ),
     (
         &["HTTP/1.1 200 OK\r\nContent-Length: 6\r\n\r\nabc", "def"],
         "Body(3) Done(6) ",

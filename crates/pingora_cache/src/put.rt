@@ -59,7 +59,7 @@ pub trait CachePut {
     ) -> Result<RespCacheable, AllocError>
         ensures { IfOk result (λ v. v ≡ verdict self.now moment response) };
 
-    /// Returns the defaults for what a response does not say.
+    /// Returns the defaults for what a response does not say. They are for the implementor's own `cacheable`: a put asks for none.
     fn cache_defaults() -> CacheMetaDefaults<Self::Lifetimes>
         ensures { result ≡ defaults };
 
@@ -124,10 +124,10 @@ impl<C: CachePut> CachePutCtx<C> {
     ///
     /// # Errors
     ///
-    /// The first that holds of `BadHead`, `ResponseTooLarge`, `Incomplete` and, after an uncacheable response's reason,
+    /// The first that holds of `BadHead`, `Incomplete`, `ResponseTooLarge` and, after an uncacheable response's reason,
     /// `WriteNumbersSpent` and `MetaMoment`: the store and the order of use are as before. `Weight`, `Length`, `NumbersSpent` and
     /// `Memory` where the entry isn't admitted or memory runs out in the evictions: what was stored is removed again with its
-    /// entry, and the evictions that are told are done. `Memory` too before anything is stored.
+    /// entry, and the evictions that are told are done. `Memory` too before anything is stored, when a write may have used a number.
     pub fn cache_put<S: Storage, E: EvictionManager, P, L, R: Rng>(
         &mut self,
         alloc: Global,

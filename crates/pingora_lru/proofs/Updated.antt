@@ -7,7 +7,8 @@ use Rattle.lru_core.specs.Rows.{only, admitted, promoted, reweighed, row_of, a_r
 use Rattle.pingora_lru.specs.declared.call.Call.TheVariants.{IncrementWeight, UpdateOrAdmit}
 use Rattle.pingora_lru.specs.declared.call.Reply.TheVariants.{Incremented, Updated}
 use Rattle.pingora_lru.specs.declared.call.Kept.{Kept}
-use Rattle.pingora_lru.specs.Calls.{weighing, weight_of}
+use Rattle.pingora_lru.specs.Calls.{weight_of}
+use Rattle.shard_actors.specs.Messages.{weighing}
 use Rattle.pingora_lru.specs.Records.{bare, IsRecord}
 use Rattle.lru_core.proofs.Filters.{others_all}
 use Rattle.pingora_lru.proofs.Bare.{recorded_more}

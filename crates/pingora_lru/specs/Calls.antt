@@ -4,8 +4,7 @@ use Rattle.std.specs.Option.{option_map}
 use Rattle.lru_core.specs.declared.rows.Row.{Row}
 use Rattle.lru_core.specs.Rows.{only, others, promoted, reweighed, admitted, row_of, a_row, pair_of, incremented, total_weight}
 use Rattle.lru_core.specs.Orders.{with_last}
-use Rattle.lru_core.specs.declared.lru_unit.fault.LruFault.{LruFault}
-use Rattle.lru_core.specs.declared.lru_unit.fault.LruFault.TheVariants.{Memory, Weight, Length}
+use Rattle.shard_actors.specs.Messages.{weighing}
 use Rattle.pingora_lru.specs.declared.call.Call.{Call}
 use Rattle.pingora_lru.specs.declared.call.Call.TheVariants.{Admit, InsertTail, IncrementWeight, UpdateOrAdmit, SetWeight, Promote, PromoteTopN, Evict, Remove}
 use Rattle.pingora_lru.specs.declared.call.Reply.{Reply}
@@ -14,10 +13,6 @@ use Rattle.pingora_lru.specs.declared.call.Reply.TheVariants.{Admitted, Inserted
 -- the weight of key k, if it is there
 abbrev pub weight_of : {T : Type 0} → ℕ → List (Row T) → Option ℕ
 weight_of k rows = option_map (λ r. r.weight) (row_of k rows)
-
--- the rows with weight w for key k, at the front, with its own data, or with d if it is new
-abbrev pub weighing : {T : Type 0} → ℕ → T → ℕ → List (Row T) → List (Row T)
-weighing k d w rows = if is_some (row_of k rows) then promoted k (reweighed k w rows) else a_row k d w ∷ rows
 
 -- the rows after a call
 abbrev pub after : {T : Type 0} → Call T → List (Row T) → List (Row T)
@@ -64,12 +59,6 @@ bare_reply (Updated v w) = Updated v w
 bare_reply (WeightSet v) = WeightSet v
 bare_reply (Promoted b) = Promoted b
 bare_reply (Taken o) = Taken (option_map (λ p. (tt, p.1)) o)
-
--- what a refusal hands back
-abbrev pub lost : {D : Type 0} → LruFault D → D
-lost (Memory back) = back
-lost (Weight back) = back
-lost (Length back) = back
 
 -- the data of a call, if it has any
 abbrev pub item_of : {T : Type 0} → Call T → Option T

@@ -3,7 +3,8 @@
 ghost use Rattle.std.specs.Prelude.{◌≡◌, ◌-◌, length, slice_get, is_some, IfOk, IfErr, OnOk, OnErr};
 ghost use Rattle.std.specs.Option.{option_map};
 ghost use Rattle.lru_core.specs.Rows.{row_of, pair_of};
-ghost use Rattle.pingora_lru.specs.Calls.{after, reply_of, lost};
+ghost use Rattle.pingora_lru.specs.Calls.{after, reply_of};
+ghost use Rattle.shard_actors.specs.Messages.{lost};
 ghost use Rattle.pingora_lru.specs.Refusals.{IsReason};
 
 use crate::call::{Call, Reply};

@@ -1,10 +1,13 @@
 //! Weighted lists for threads: each shard under a lock of its own, and shards that keep a record of their calls.
 //!
-//! The lists of one thread are shown again: `linked_list`, `lru_unit` and `LruCore`.
+//! Shown again are the lists of one thread, `linked_list`, `lru_unit` and `LruCore`, the lists whose changes are messages, `async_lru`,
+//! and saves of lists to files, `persistence`.
 #![tactic(auto)]
 
+pub use async_lru;
 pub use locked::Lru;
 pub use lru_core::{LruCore, MOST_ROWS, linked_list, lru_unit};
+pub use lru_files::persistence;
 pub use recorded::RecordedUnit;
 pub use recorded_lru::RecordedLru;
 

@@ -1,13 +1,13 @@
 -- The lines of a map, and what heads within the bounds give.
-use Rattle.std.proofs.Common.{◌≡◌, ℕ, ◌+◌, ◌≤◌, ◌<◌, true, false, List, [], ◌∷◌, ◌++◌, length, map, take, drop, refl, ap, sym, ◌∙◌, subst, arith, inl, inr, append_assoc, append-nil, All, length-append, length-take, get_or, rules}
+use Rattle.std.proofs.Common.{◌≡◌, ℕ, ◌+◌, ◌-◌, ◌≤◌, ◌<◌, true, false, List, [], ◌∷◌, ◌++◌, length, map, take, drop, refl, ap, sym, ◌∙◌, subst, arith, inl, inr, append_assoc, append-nil, All, length-append, length-take, length-drop, get_or}
 use Rattle.std.specs.Prelude.{◌≢◌, bytes_eq, codes, ◌&&◌, ◌⊎◌, Bool, nat_le}
 use Rattle.std.specs.List.{list_all}
 use Rattle.std.proofs.lemmas.Bool.Decides.{nat_tests}
 use Rattle.std.proofs.lemmas.List.Folds.{list_all-append, list_all-map}
 use Rattle.std.proofs.lemmas.Bool.{cases_Bool}
 use Rattle.std.proofs.lemmas.Slice.Eq.{bytes_eq-Decides}
-use Rattle.std.proofs.lemmas.List.{map-append, take_more, get_or-map, length-map}
-use Rattle.std.proofs.lemmas.List.Elements.{All-map, All-tail}
+use Rattle.std.proofs.lemmas.List.{map-append, take_more, drop_more, get_or-map, length-map, length-take-le, take-append-le, take_all}
+use Rattle.std.proofs.lemmas.List.Elements.{All-map}
 use Rattle.std.proofs.lemmas.List.Sums.{sum_by-cons, AllPass-from_list_all}
 use Rattle.cache_headers.specs.declared.header.ResponseHeader.{ResponseHeader}
 use Rattle.http.specs.StatusCode.{IsStatusCode}
@@ -19,7 +19,6 @@ use Rattle.http_header.proofs.HeaderMapLemmas.{get_all-append_same, get_all-appe
 use Rattle.httparse.specs.Grammar.{ResponseHead, ReadsResponse, HasNoResponse, NeverHasResponse, Field, IsField, is_value_byte, is_token_byte, status_code}
 use Rattle.httparse.specs.declared.spans.HeaderSpan.{HeaderSpan}
 use Rattle.httparse.specs.declared.spans.ResponseSpans.{ResponseSpans}
-use Rattle.bytes.proofs.Ranges.{slice_range_front}
 use Rattle.httparse.specs.declared.spans.Span.{Span}
 use Rattle.httparse.specs.Spans.{span_bytes, header_bytes, name_and_value, AreFieldsAt, IsWithin, IsHeaderWithin, IsResponseAt, ResponseOverflows}
 use Rattle.httparse.proofs.TrimLemmas.{AllPass-trim_ows}
@@ -30,7 +29,7 @@ use Rattle.response_parse.specs.declared.front.Front.{Front}
 use Rattle.response_parse.specs.declared.front.Front.TheVariants.{Found, Begun, Refused}
 use Rattle.response_parse.specs.Response.{values_of, body_length, parsed_by_lines, has_short_name, is_within_bounds, whole_head, begun_head, no_head, Gives}
 use Rattle.response_parse.specs.Parse.{values_under, announced, IsHeaderOf, IsHeaderFor, IsBad}
-use Rattle.response_parse.specs.Heads.{parsed_by_header, IsFrontOf, IsHeadAt, IsHeadOf, IsOutOfBounds, IsSomeHead, AreShortLines}
+use Rattle.response_parse.specs.Heads.{parsed_by_header, values_at, IsFrontOf, IsHeadAt, IsHeadOf, IsOutOfBounds, IsSomeHead, AreShortLines}
 use Rattle.response_parse.proofs.ReadingLaws.{reads-more, reading-whole, reading-begun, reading-long, reading-lenient, reading-refused, overflows-more}
 
 -- a further line adds one value, and one name at most
@@ -245,14 +244,29 @@ some-head bytes len status code all l is same lines = record { len = l; lines = 
     high : 100 ≤ code → nat_le 100 code ≡ true
     high l = grind (arith, nat_tests)
 
-span-front : (bytes front : List ℕ) (n : ℕ) (s : Span) → take n bytes ≡ front → IsWithin n s → span_bytes front s ≡ span_bytes bytes s
-span-front bytes front n s e within = slice_range_front front bytes s.start s.end n e within.1
+span-length : (bytes : List ℕ) (s : Span) → IsWithin (length bytes) s → length (span_bytes bytes s) ≡ s.end - s.start
+span-length bytes s within = length-take-le (s.end - s.start) (drop s.start bytes) (omega (arith, within.0, within.1, length-drop s.start bytes))
 
-header-front : (bytes front : List ℕ) (n : ℕ) (line : HeaderSpan) → take n bytes ≡ front → IsHeaderWithin n line → header_bytes front line ≡ header_bytes bytes line
-header-front bytes front n line e within = rw (span-front bytes front n line.name e within.0, span-front bytes front n line.value e within.1) refl
+-- the values from a line on are that line's, and then the others
+pub value-here : (bytes : List ℕ) (lines : List HeaderSpan) (i : ℕ) (d : HeaderSpan) (value : List ℕ) → i < length lines → All (IsHeaderWithin (length bytes)) lines
+    → value ≡ take ((get_or lines i d).value.end - (get_or lines i d).value.start) (values_at bytes (drop i lines)) → value ≡ span_bytes bytes (get_or lines i d).value
+value-here bytes lines i d value l within e =
+    let line : HeaderSpan = get_or lines i d in
+    let long : length (span_bytes bytes line.value) ≡ line.value.end - line.value.start = span-length bytes line.value (within i d l).1 in
+    let rest : List ℕ = values_at bytes (drop (i + 1) lines) in
+    e ∙ rw (drop_more lines i d l) (take-append-le (line.value.end - line.value.start) (span_bytes bytes line.value) rest (omega (arith, long)) ∙ take_all (line.value.end - line.value.start) (span_bytes bytes line.value) (omega (arith, long)))
 
--- lines that lie in a front are that front's
-pub lines-front : (bytes front : List ℕ) (n : ℕ) (lines : List HeaderSpan) → take n bytes ≡ front → All (IsHeaderWithin n) lines → map (header_bytes front) lines ≡ map (header_bytes bytes) lines
-lines-front bytes front n [] e within = refl
-lines-front bytes front n (line ∷ lines) e within =
-    rw (header-front bytes front n line e (within 0 line (search rules)), lines-front bytes front n lines e (All-tail (IsHeaderWithin n) line lines within)) refl
+pub values-after : (bytes : List ℕ) (lines : List HeaderSpan) (i : ℕ) (d : HeaderSpan) (values : List ℕ) → i < length lines → All (IsHeaderWithin (length bytes)) lines
+    → values ≡ drop ((get_or lines i d).value.end - (get_or lines i d).value.start) (values_at bytes (drop i lines)) → values ≡ values_at bytes (drop (i + 1) lines)
+values-after bytes lines i d values l within e =
+    let line : HeaderSpan = get_or lines i d in
+    let long : length (span_bytes bytes line.value) ≡ line.value.end - line.value.start = span-length bytes line.value (within i d l).1 in
+    let rest : List ℕ = values_at bytes (drop (i + 1) lines) in
+    e ∙ rw (drop_more lines i d l) (drop-front (line.value.end - line.value.start) (span_bytes bytes line.value) rest (sym long))
+  where
+    drop-whole : (xs ys : List ℕ) → drop (length xs) (xs ++ ys) ≡ ys
+    drop-whole [] ys = refl
+    drop-whole (x ∷ xs) ys = drop-whole xs ys
+
+    drop-front : (n : ℕ) (xs ys : List ℕ) → n ≡ length xs → drop n (xs ++ ys) ≡ ys
+    drop-front n xs ys e = ap (λ (k : ℕ). drop k (xs ++ ys)) e ∙ drop-whole xs ys

@@ -110,6 +110,10 @@ Holds-found bytes piece front n head is found = (
   refl,
 )
 
+-- the first piece, read where it is
+pub Holds-first-refused : (bytes piece front : List ℕ) → front ≡ [] → front ≡ bytes → IsBad piece → Holds (bytes ++ piece) at_bad_head
+Holds-first-refused bytes piece front none is bad = subst (λ (x : List ℕ). Holds (x ++ piece) at_bad_head) (sym none ∙ is) bad
+
 -- how far it has come
 bad-progress : (r : Reading) → parsed.BadHead ≡ parsed_of r → BadHead ≡ progress_of r
 unfolding parsed_by_lines progress_by_lines

@@ -1,18 +1,23 @@
 -- Heads as the code holds them: a map of the lines, and a length.
-use Rattle.std.specs.Prelude.{◌≡◌, ℕ, ◌≤◌, true, false, List, length, drop, map}
+use Rattle.std.specs.Prelude.{◌≡◌, ℕ, ◌≤◌, true, false, List, length, drop, map, flat_map}
 use Rattle.std.specs.List.{list_all}
 use Rattle.http_header.specs.HeaderMap.{Entries}
 use Rattle.http_header.specs.FieldValue.{FieldValue}
 use Rattle.cache_headers.specs.Lines.{Line, map_of}
 use Rattle.cache_headers.specs.declared.header.ResponseHeader.{ResponseHeader}
 use Rattle.httparse.specs.Grammar.{ResponseHead, ReadsResponse, HasNoResponse, status_code}
-use Rattle.httparse.specs.Spans.{name_and_value}
+use Rattle.httparse.specs.declared.spans.HeaderSpan.{HeaderSpan}
+use Rattle.httparse.specs.Spans.{name_and_value, span_bytes}
 use Rattle.response_parse.specs.declared.response.Parsed.{Parsed}
 use Rattle.response_parse.specs.declared.head.Head.{Head}
 use Rattle.response_parse.specs.declared.front.Front.{Front}
 use Rattle.response_parse.specs.declared.front.Front.TheVariants.{Found, Begun, Refused}
 use Rattle.response_parse.specs.Response.{body_within, has_short_name, is_within_bounds, parsed_by_body}
 use Rattle.response_parse.specs.Parse.{announced, IsHeaderOf, IsHeaderFor, IsBad}
+
+-- the values of lines, one after another
+abbrev pub values_at : List ℕ → List HeaderSpan → List ℕ
+values_at bytes lines = flat_map (λ line. span_bytes bytes line.value) lines
 
 -- what a head gives, with the bytes after it
 abbrev pub parsed_by_header : ResponseHeader → List ℕ → Parsed

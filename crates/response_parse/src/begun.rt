@@ -1,5 +1,5 @@
 //! A head that goes on.
-ghost use Rattle.std.specs.Prelude.{◌≡◌, ◌≢◌, ◌<◌, ◌≤◌, ◌++◌, ℕ, [], List, length, take, drop, IfOk, OnErr};
+ghost use Rattle.std.specs.Prelude.{◌≡◌, ◌≢◌, ◌<◌, ◌≤◌, ◌++◌, ℕ, [], List, length, take, drop, true, IfOk, OnErr};
 ghost use Rattle.httparse.specs.Grammar.{HasNoResponse};
 ghost use Rattle.response_parse.specs.Heads.{IsToldFront};
 
@@ -37,6 +37,13 @@ impl BegunHead {
             bytes: Vec::new(alloc),
             position: Position::BeforeText,
         }
+    }
+
+    // Whether no byte came.
+    pub(crate) fn is_empty(&self) -> bool
+        ensures { result ≡ true → self.now ≡ [] }
+    {
+        self.bytes.is_empty()
     }
 
     // Returns the bytes.

@@ -9,7 +9,7 @@ ghost use Rattle.httparse.specs.Grammar.{HasNoResponse, NeverHasResponse};
 ghost use Rattle.httparse.specs.Spans.{IsHeaderWithin, header_bytes, ResponseOverflows};
 ghost use Rattle.response_parse.specs.Response.{has_short_name};
 ghost use Rattle.cache_headers.specs.Lines.{map_of, IsLine};
-ghost use Rattle.response_parse.specs.Heads.{IsHeadOf, IsOutOfBounds, IsSomeHead, AreShortLines};
+ghost use Rattle.response_parse.specs.Heads.{values_at, IsHeadOf, IsOutOfBounds, IsSomeHead, AreShortLines};
 
 use bytes::Bytes;
 use cache_headers::ResponseHeader;
@@ -88,33 +88,31 @@ fn room_for(alloc: Global, count: usize) -> Result<HeaderMap, AllocError>
     HeaderMap::with_capacity(alloc, count).map_err(|_| AllocError)
 }
 
-// The map of header lines of a head, whose bytes the values share.
-fn collect_shared(alloc: Global, head: &Bytes, lines: &[HeaderSpan]) -> Result<HeaderMap, HeadFault>
-    requires within { All (IsHeaderWithin (length head.now)) lines.now }
-    requires few { length lines.now ≤ 256 }
-    ensures value { IfOk result (λ all. all ≡ map_of (map (header_bytes head.now) lines.now)) }
-    ensures short { OnOk result (list_all has_short_name (map (header_bytes head.now) lines.now) ≡ true) }
-    ensures bounds { result ≡ Err HeadFault.Bounds → ¬ (All IsLine (map (header_bytes head.now) lines.now)) }
-    ensures read { result ≢ Err HeadFault.Refused }
-    ensures room { result ≢ Err HeadFault.TooLong }
-{
-    let mut all = room_for(alloc, lines.len())?;
+// How many bytes the values of these lines have together.
+fn room_of(lines: &[HeaderSpan]) -> usize {
+    let mut room = 0usize;
     for line in lines {
-        let value = head.slice(line.value.start..line.value.end)?;
-        add(alloc, &mut all, line.name.of(head.as_slice()), value)?;
+        room = room.saturating_add(line.value.end.saturating_sub(line.value.start));
     }
-    Ok(all)
+    room
 }
 
-// The map of the header lines of a head that long. The head is copied once, which takes less than a copy of each value.
-fn collect(
-    alloc: Global,
-    bytes: &[u8],
-    len: usize,
-    lines: &[HeaderSpan],
-) -> Result<HeaderMap, HeadFault>
-    requires fits { len ≤ length bytes.now }
-    requires within { All (IsHeaderWithin len) lines.now }
+// The values of these lines, one after another.
+fn joined_values(alloc: Global, bytes: &[u8], lines: &[HeaderSpan]) -> Result<Bytes, AllocError>
+    requires within { All (IsHeaderWithin (length bytes.now)) lines.now }
+    ensures { IfOk result (λ values. values ≡ values_at bytes.now lines.now) }
+{
+    let mut values = Vec::with_capacity(alloc, room_of(lines))?;
+    for line in lines {
+        values.extend_from_slice(line.value.of(bytes))?;
+    }
+    Ok(Bytes::from_vec(values)?)
+}
+
+// The map of these header lines. The values share one copy, which takes less than a copy of each, and keeps no other bytes of
+// the head.
+fn collect(alloc: Global, bytes: &[u8], lines: &[HeaderSpan]) -> Result<HeaderMap, HeadFault>
+    requires within { All (IsHeaderWithin (length bytes.now)) lines.now }
     requires few { length lines.now ≤ 256 }
     ensures value { IfOk result (λ all. all ≡ map_of (map (header_bytes bytes.now) lines.now)) }
     ensures short { OnOk result (list_all has_short_name (map (header_bytes bytes.now) lines.now) ≡ true) }
@@ -122,8 +120,13 @@ fn collect(
     ensures read { result ≢ Err HeadFault.Refused }
     ensures room { result ≢ Err HeadFault.TooLong }
 {
-    let head = Bytes::copy_from_slice(alloc, &bytes[..len])?;
-    collect_shared(alloc, &head, lines)
+    let mut all = room_for(alloc, lines.len())?;
+    let mut values = joined_values(alloc, bytes, lines)?;
+    for line in lines {
+        let value = values.split_to(line.value.end - line.value.start)?;
+        add(alloc, &mut all, line.name.of(bytes), value)?;
+    }
+    Ok(all)
 }
 
 // The head with these lines, whose status and length a parser read.
@@ -157,7 +160,7 @@ fn read_into(
 {
     match parse_response(bytes, lines) {
         Ok(Status::Complete(head)) => {
-            let headers = collect(alloc, bytes, head.len, &lines[..head.headers])?;
+            let headers = collect(alloc, bytes, &lines[..head.headers])?;
             Ok(Some(head_of(headers, &head)?))
         }
         Ok(Status::Partial) => Ok(None),

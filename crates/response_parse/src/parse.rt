@@ -1,12 +1,13 @@
 //! Responses whose bytes come in pieces.
-ghost use Rattle.std.specs.Prelude.{◌≡◌, ◌++◌, ℕ, [], List, IfOk, OnOk, OnErr};
+ghost use Rattle.std.specs.Prelude.{◌≡◌, ◌≤◌, ◌++◌, ℕ, [], List, length, drop, IfOk, OnOk, OnErr};
 ghost use Rattle.response_parse.specs.Response.{Gives};
-ghost use Rattle.response_parse.specs.Parse.{Holds, IsAt, held_progress};
+ghost use Rattle.response_parse.specs.Parse.{Holds, IsAt, held_progress, in_body, announced, limited};
 ghost use Rattle.response_parse.specs.Stages.{held_of, IsNext};
 
 use crate::begun::BegunHead;
 use crate::collected::Collected;
-use crate::front::Front;
+use crate::front::{Front, read_front};
+use crate::head::Head;
 use crate::read::read_response;
 use crate::response::{Parsed, Progress};
 use bytes::Bytes;
@@ -23,8 +24,8 @@ pub(crate) enum Stage {
 
 /// A response that is read as its bytes come, in pieces that are cut anywhere. What it gives is what the joined pieces give.
 ///
-/// The parser is asked where an empty line comes, and then what came after the head is shared and not copied, but for a body
-/// in more than one piece, whose bytes are copied once. So the cost is linear in the bytes.
+/// The parser is asked of the first piece, and then where an empty line comes. What comes after the head is shared and not copied,
+/// but for a body in more than one piece, whose bytes are copied once. So the cost is linear in the bytes.
 #[derive(Drop)]
 pub struct ResponseParse {
     alloc: Global,
@@ -42,8 +43,18 @@ impl Model for ResponseParse {
     ghost view = { λ p. held_of p.stage };
 }
 
-// The stage after one more piece of a head, where it is another.
-fn after_head(
+// The stage after a head that is whole in the first piece.
+fn found_in(alloc: Global, found: Head, piece: Bytes) -> Stage
+    requires { found.len ≤ length piece }
+    ensures { held_of result ≡ in_body found.header (limited (announced found.header) (drop found.len piece)) }
+{
+    let mut rest = piece;
+    rest.advance(found.len);
+    Stage::Body(Collected::new(found.header, Vec::new(alloc), rest))
+}
+
+// The stage after one more piece of a head of which bytes are kept, where it is another.
+fn after_more(
     alloc: Global,
     head: &mut BegunHead,
     piece: Bytes,
@@ -63,6 +74,27 @@ fn after_head(
             let body = Collected::new(found.header, first, rest);
             Ok(Some(Stage::Body(body)))
         }
+    }
+}
+
+// The stage after one more piece of a head, where it is another. A first piece is read where it is, so that the bytes of a head
+// that is whole in it are not kept.
+fn after_head(
+    alloc: Global,
+    head: &mut BegunHead,
+    piece: Bytes,
+) -> Result<Option<Stage>, AllocError>
+    ensures next { IfOk result (λ next. (bytes : List ℕ) → Holds bytes (held_of (Stage.Head head.old))
+        → IsNext (bytes ++ piece) head.new next) }
+    ensures err { OnErr result (head.new ≡ head.old) }
+{
+    if !head.is_empty() {
+        return after_more(alloc, head, piece);
+    }
+    match read_front(alloc, piece.as_slice())? {
+        Front::Begun => after_more(alloc, head, piece),
+        Front::Refused => Ok(Some(Stage::BadHead)),
+        Front::Found(found) => Ok(Some(found_in(alloc, found, piece))),
     }
 }
 
@@ -88,7 +120,8 @@ impl ResponseParse {
         }
     }
 
-    /// Takes the next piece, and returns how far the response has come. Bytes after the body are ignored.
+    /// Takes the next piece, and returns how far the response has come. Bytes after the body are ignored. A head is kept until it
+    /// ends, however long: a caller that reads from strangers bounds how many bytes come before its end.
     ///
     /// # Errors
     ///
@@ -117,7 +150,7 @@ impl ResponseParse {
     ///
     /// # Errors
     ///
-    /// `AllocError` where memory runs out.
+    /// `AllocError` where memory runs out: the parser is spent.
     pub fn finish(self) -> Result<Parsed, AllocError>
         ensures { IfOk result (λ parsed. (bytes : List ℕ) → Holds bytes self → Gives bytes parsed) }
     {

@@ -6,7 +6,7 @@ use Rattle.lru_core.specs.declared.rows.Row.{Row}
 use Rattle.lru_core.specs.Rows.{only, promoted, reweighed, a_row, total_weight, capped, raised, incremented}
 use Rattle.lru_core.specs.Orders.{with_last}
 use Rattle.lru_core.specs.Cores.{Core, shard_of, with_shard}
-use Rattle.pingora_lru.specs.Calls.{weighing}
+use Rattle.shard_actors.specs.Messages.{weighing}
 
 module _ {T : Type 0} where
   -- rows within something else, as in a shard or a core

@@ -1,11 +1,10 @@
 -- What each message leaves of its shard's rows, and why a shard refuses it. Rows are keyed by hash.
-use Rattle.std.specs.Prelude.{◌≡◌, ℕ, max, List, [], Option, Some, None, MatchOption}
+use Rattle.std.specs.Prelude.{◌≡◌, ℕ, max, List, [], ◌∷◌, Option, Some, None, is_some, MatchOption, if◌then◌else◌}
 use Rattle.lru_core.specs.declared.rows.Row.{Row}
-use Rattle.lru_core.specs.Rows.{only, others, promoted, admitted, a_row, incremented, IsHeavy, IsLong, HasPlace}
+use Rattle.lru_core.specs.Rows.{only, others, promoted, reweighed, admitted, row_of, a_row, incremented, IsHeavy, IsLong, HasPlace}
 use Rattle.lru_core.specs.Orders.{with_last}
 use Rattle.lru_core.specs.declared.lru_unit.fault.LruFault.{LruFault}
 use Rattle.lru_core.specs.declared.lru_unit.fault.LruFault.TheVariants.{Memory, Weight, Length}
-use Rattle.pingora_lru.specs.Calls.{weighing}
 use Rattle.shard_actors.specs.declared.message.Message.{Message}
 use Rattle.shard_actors.specs.declared.message.Message.TheVariants.{Admit, InsertTail, Promote, Remove, IncrementWeight}
 
@@ -16,6 +15,16 @@ hash_of (InsertTail h k w) = h
 hash_of (Promote h) = h
 hash_of (Remove h) = h
 hash_of (IncrementWeight h k delta cap) = h
+
+-- what a refusal hands back
+abbrev pub lost : {D : Type 0} → LruFault D → D
+lost (Memory back) = back
+lost (Weight back) = back
+lost (Length back) = back
+
+-- the rows with weight w for key k, at the front, with its own data, or with d if it is new
+abbrev pub weighing : {T : Type 0} → ℕ → T → ℕ → List (Row T) → List (Row T)
+weighing k d w rows = if is_some (row_of k rows) then promoted k (reweighed k w rows) else a_row k d w ∷ rows
 
 -- the rows after a message
 abbrev pub after : {K : Type 0} → Message K → List (Row K) → List (Row K)

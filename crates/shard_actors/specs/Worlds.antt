@@ -2,7 +2,6 @@
 -- pairs that wait for their callbacks.
 use Rattle.std.specs.Prelude.{◌≡◌, ℕ, ◌==◌, ◌%◌, ◌<◌, true, false, List, [], ◌∷◌, ◌++◌, filter, slice_index_or, Result, Ok, Err}
 use Rattle.lru_core.specs.Cores.{Core, shard_of, with_shard, shard_bound, is_over, IsStep}
-use Rattle.pingora_lru.specs.Calls.{lost}
 use Rattle.shard_actors.specs.declared.message.Message.{Message}
 use Rattle.shard_actors.specs.declared.event.Event.{Event}
 use Rattle.shard_actors.specs.declared.event.Event.TheVariants.{Send, Act, Evict, CallBack}
@@ -10,7 +9,7 @@ use Rattle.shard_actors.specs.declared.event.Outcome.{Outcome}
 use Rattle.shard_actors.specs.declared.event.Outcome.TheVariants.{Sent, Applied, Evicted, Called, Nothing}
 use Rattle.shard_actors.specs.declared.event.StepFault.{StepFault}
 use Rattle.shard_actors.specs.declared.event.StepFault.TheVariants.{Unsent, Refused, NoRoom}
-use Rattle.shard_actors.specs.Messages.{hash_of, after, IsReason}
+use Rattle.shard_actors.specs.Messages.{hash_of, lost, after, IsReason}
 
 -- what one step did
 pub data Turn (K : Type 0) : Type 0 where

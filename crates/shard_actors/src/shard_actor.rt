@@ -1,36 +1,65 @@
 //! The actor of one shard.
 
-ghost use Rattle.std.specs.Prelude.{◌≡◌, [], IfOk, IfErr, OnOk, OnErr, MatchOption};
+ghost use Rattle.std.specs.Prelude.{◌≡◌, [], is_some, IfOk, IfErr, OnOk, OnErr, MatchOption};
 ghost use Rattle.std.specs.List.{AllZip};
-ghost use Rattle.lru_core.specs.Rows.{pairs_of};
-ghost use Rattle.pingora_lru.specs.Calls.{lost};
+ghost use Rattle.lru_core.specs.Rows.{pairs_of, row_of};
 ghost use Rattle.shard_actors.specs.Looks.{IsCopy, IsLastCopy};
-ghost use Rattle.shard_actors.specs.Messages.{after, IsReason};
+ghost use Rattle.shard_actors.specs.Messages.{after, lost, IsReason};
 
 use crate::message::Message;
 use lru_core::lru_unit::{LruFault, LruUnit};
 use std::alloc::{AllocError, Global};
+use std::hash::{BuildHasher, BuildHasherDefault, FoldHasher};
 
 /// A shard's list, as its actor keeps it.
+///
+/// Rows are found by the hashes of their keys' hashes. `with_capacity` hashes with a fixed start, for keys that the caller chooses
+/// itself; `with_hasher` takes a start of the caller's, for keys that strangers choose, who then can't slow look-ups down.
 #[derive(Drop)]
-pub struct ShardActor<K> {
+pub struct ShardActor<K, S: BuildHasher = BuildHasherDefault<FoldHasher>> {
     /// The rows, keyed by hash, most recent first.
-    pub unit: LruUnit<K>,
+    pub unit: LruUnit<K, S>,
     alloc: Global,
 }
 
-impl<K: Drop> ShardActor<K> {
-    /// Returns an actor whose shard has no rows. Neither their number nor their weight will pass `bound`. `capacity` is a hint for the
-    /// room of its rows.
+impl<K: Drop> ShardActor<K, BuildHasherDefault<FoldHasher>> {
+    /// Returns an actor whose shard has no rows, under hashes with a fixed start. Neither their number nor their weight will pass
+    /// `bound`. `capacity` is a hint for the room of its rows.
     pub fn with_capacity(alloc: Global, capacity: usize, bound: usize) -> Result<Self, AllocError>
         ensures { IfOk result (λ a. (a.unit.rows ≡ []) × (a.unit.bound ≡ bound)) }
     {
+        ShardActor::with_hasher(alloc, BuildHasherDefault::new(), capacity, bound)
+    }
+}
+
+impl<K: Drop, S: BuildHasher + Copy> ShardActor<K, S> {
+    /// The same, with hashes of that start.
+    pub fn with_hasher(
+        alloc: Global,
+        hasher: S,
+        capacity: usize,
+        bound: usize,
+    ) -> Result<Self, AllocError>
+        ensures { IfOk result (λ a. (a.unit.rows ≡ []) × (a.unit.bound ≡ bound)) }
+    {
         Ok(ShardActor {
-            unit: LruUnit::with_capacity(alloc, capacity, bound)?,
+            unit: LruUnit::with_hasher(alloc, hasher, capacity, bound)?,
             alloc,
         })
     }
+}
 
+impl<K, S: BuildHasher> ShardActor<K, S> {
+    /// Moves the row of a hash to the front, and returns whether there is one.
+    pub fn promote(&mut self, hash: u64) -> bool
+        ensures found { result ≡ is_some (row_of hash self.old.unit.rows) }
+        ensures after { self.new ≡ record self.old { unit = record self.old.unit { rows = after (Message.Promote hash) self.old.unit.rows } } }
+    {
+        self.unit.access(hash)
+    }
+}
+
+impl<K: Drop, S: BuildHasher> ShardActor<K, S> {
     /// Applies a message.
     ///
     /// # Errors
@@ -49,7 +78,7 @@ impl<K: Drop> ShardActor<K> {
                 insert_tail(&mut self.unit, hash, key, weight)
             }
             Message::Promote(hash) => {
-                let _found = self.unit.access(hash);
+                let _found = self.promote(hash);
                 Ok(())
             }
             Message::Remove(hash) => {
@@ -63,8 +92,8 @@ impl<K: Drop> ShardActor<K> {
     }
 }
 
-fn admit<K: Drop>(
-    unit: &mut LruUnit<K>,
+fn admit<K: Drop, S: BuildHasher>(
+    unit: &mut LruUnit<K, S>,
     hash: u64,
     key: K,
     weight: usize,
@@ -82,8 +111,8 @@ fn admit<K: Drop>(
     }
 }
 
-fn insert_tail<K: Drop>(
-    unit: &mut LruUnit<K>,
+fn insert_tail<K: Drop, S: BuildHasher>(
+    unit: &mut LruUnit<K, S>,
     hash: u64,
     key: K,
     weight: usize,
@@ -101,8 +130,8 @@ fn insert_tail<K: Drop>(
     }
 }
 
-fn increment_weight<K: Drop>(
-    unit: &mut LruUnit<K>,
+fn increment_weight<K: Drop, S: BuildHasher>(
+    unit: &mut LruUnit<K, S>,
     hash: u64,
     key: K,
     delta: usize,
@@ -130,7 +159,7 @@ fn increment_weight<K: Drop>(
     }
 }
 
-impl<K: Clone> ShardActor<K> {
+impl<K: Clone, S: BuildHasher> ShardActor<K, S> {
     /// Returns a clone of the key of the last row, and its weight. The order stays.
     pub fn peek_lru(&self) -> Result<Option<(K, usize)>, AllocError>
         ensures { IfOk result (λ o. MatchOption o (self.now.unit.rows ≡ []) (IsLastCopy K.is_clone self.now.unit.rows)) }

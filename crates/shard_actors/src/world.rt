@@ -2,8 +2,7 @@
 
 ghost use Rattle.std.specs.Prelude.{◌≡◌, ◌%◌, ◌<◌, ◌∷◌, ◌++◌, ℕ, [], length, true, false, replicate, None, Ok, IfSome, IfNone, IfOk, IfErr, OnOk, OnErr};
 ghost use Rattle.lru_core.specs.Cores.{Core, is_over, shard_of, shard_bound, IsStep};
-ghost use Rattle.pingora_lru.specs.Calls.{lost};
-ghost use Rattle.shard_actors.specs.Messages.{hash_of, IsReason};
+ghost use Rattle.shard_actors.specs.Messages.{hash_of, lost, IsReason};
 ghost use Rattle.shard_actors.specs.Steps.{applied, IsSent, IsTaken};
 ghost use Rattle.shard_actors.specs.Worlds.{Turn, History, State, IsWorld, Tells, queue_of};
 
@@ -17,17 +16,21 @@ use lru_core::LruCore;
 use lru_core::lru_unit::LruFault;
 use std::alloc::{AllocError, Global};
 use std::collections::VecDeque;
+use std::hash::{BuildHasher, BuildHasherDefault, FoldHasher};
 use std::marker::Model;
 
 /// N shards with their queues of messages, and the evicted pairs that wait for their callbacks.
+///
+/// Rows are found by the hashes of their keys' hashes. `new` hashes with a fixed start, for keys that the caller chooses itself;
+/// `with_hasher` takes a start of the caller's, for keys that strangers choose, who then can't slow look-ups down.
 #[derive(Drop)]
-pub struct World<K, const N: usize> {
-    core: LruCore<K, N>,
+pub struct World<K, const N: usize, S: BuildHasher = BuildHasherDefault<FoldHasher>> {
+    core: LruCore<K, N, S>,
     queues: Vec<Queue<Message<K>>>,
     dispatch: VecDeque<(K, usize)>,
 }
 
-impl<K, const N: usize> Model for World<K, N> {
+impl<K, const N: usize, S: BuildHasher> Model for World<K, N, S> {
     ghost use Rattle.shard_actors.specs.Worlds.{State};
 
     ghost Value = { State K };
@@ -39,10 +42,32 @@ impl<K, const N: usize> Model for World<K, N> {
     ghost invariant = { λ w. length w.queues.items ≡ N };
 }
 
-impl<K: Drop, const N: usize> World<K, N> {
-    /// Returns shards without rows, with no messages. Past `weight_limit`, or past that number of rows, an eviction step evicts.
+impl<K: Drop, const N: usize> World<K, N, BuildHasherDefault<FoldHasher>> {
+    /// Returns shards without rows, under hashes with a fixed start, with no messages. Past `weight_limit`, or past that number of
+    /// rows, an eviction step evicts.
     pub fn new(
         alloc: Global,
+        weight_limit: usize,
+        len_watermark: Option<usize>,
+    ) -> Result<Self, AllocError>
+        requires { 0 < N }
+        ensures lists { IfOk result (λ w. w.core ≡ record { shards = replicate N []; limit = weight_limit; watermark = len_watermark; evicted_weight = 0; evicted_len = 0 }) }
+        ensures begun { IfOk result (λ w. IsWorld N w.core [] w) }
+    {
+        World::with_hasher(
+            alloc,
+            BuildHasherDefault::new(),
+            weight_limit,
+            len_watermark,
+        )
+    }
+}
+
+impl<K: Drop, const N: usize, S: BuildHasher + Copy> World<K, N, S> {
+    /// The same, with hashes of that start.
+    pub fn with_hasher(
+        alloc: Global,
+        hasher: S,
         weight_limit: usize,
         len_watermark: Option<usize>,
     ) -> Result<Self, AllocError>
@@ -55,12 +80,14 @@ impl<K: Drop, const N: usize> World<K, N> {
             queues.push(Queue::new(alloc))?;
         }
         Ok(World {
-            core: LruCore::with_capacity_and_watermark(alloc, weight_limit, 0, len_watermark)?,
+            core: LruCore::with_hasher(alloc, hasher, weight_limit, 0, len_watermark)?,
             queues,
             dispatch: VecDeque::new(alloc),
         })
     }
+}
 
+impl<K: Drop, const N: usize, S: BuildHasher> World<K, N, S> {
     /// Does one step. Each history that the world may have come from has one turn more then, of which the answer tells.
     ///
     /// # Errors
@@ -92,7 +119,7 @@ impl<K: Drop, const N: usize> World<K, N> {
     }
 }
 
-impl<K: Drop, const N: usize> World<K, N> {
+impl<K: Drop, const N: usize, S: BuildHasher> World<K, N, S> {
     // Puts a message into the queue of its shard, which is returned.
     fn send(&mut self, message: Message<K>) -> Result<usize, Message<K>>
         ensures ok { IfOk result (λ i. (i ≡ hash_of message % N) × (i < N) × IsSent self.old i message self.new) }
@@ -159,9 +186,9 @@ impl<K: Drop, const N: usize> World<K, N> {
     }
 }
 
-impl<K, const N: usize> World<K, N> {
+impl<K, const N: usize, S: BuildHasher> World<K, N, S> {
     /// Returns the lists of the shards, for looks.
-    pub fn core(&self) -> &LruCore<K, N>
+    pub fn core(&self) -> &LruCore<K, N, S>
         ensures { result.now ≡ self.now.core }
     {
         &self.core

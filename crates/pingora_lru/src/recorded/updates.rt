@@ -4,7 +4,8 @@ ghost use Rattle.std.specs.Prelude.{◌≡◌, ◌≢◌, ℕ, ◌++◌, ◌∷�
 ghost use Rattle.lru_core.specs.Rows.{only, admitted, row_of, incremented, total_weight, a_row, IsHeavy, IsLong};
 ghost use Rattle.lru_core.specs.Updates.{IsUpdated, IsUpdateRefused};
 ghost use Rattle.pingora_lru.specs.Closures.{WasAdmitted, WasRefused};
-ghost use Rattle.pingora_lru.specs.Calls.{lost, weighing, weight_of};
+ghost use Rattle.pingora_lru.specs.Calls.{weight_of};
+ghost use Rattle.shard_actors.specs.Messages.{lost, weighing};
 ghost use Rattle.pingora_lru.specs.Records.{bare};
 
 use super::RecordedUnit;

@@ -2,17 +2,17 @@
 
 ghost use Rattle.std.specs.Prelude.{◌≡◌, ◌%◌, IfErr, OnOk, OnErr};
 ghost use Rattle.lru_core.specs.Cores.{shard_of, shard_bound};
-ghost use Rattle.pingora_lru.specs.Calls.{lost};
-ghost use Rattle.shard_actors.specs.Messages.{hash_of, IsReason};
+ghost use Rattle.shard_actors.specs.Messages.{hash_of, lost, IsReason};
 ghost use Rattle.shard_actors.specs.Steps.{applied};
 
 use crate::message::Message;
 use lru_core::LruCore;
 use lru_core::lru_unit::LruFault;
+use std::hash::BuildHasher;
 
 // Applies a message to the shard of its hash. A refusal changes nothing, and hands the message back.
-pub(super) fn apply<K: Drop, const N: usize>(
-    core: &mut LruCore<K, N>,
+pub(super) fn apply<K: Drop, const N: usize, S: BuildHasher>(
+    core: &mut LruCore<K, N, S>,
     message: Message<K>,
 ) -> Result<(), LruFault<Message<K>>>
     ensures after { OnOk result (core.new ≡ applied N core.old message) }
@@ -37,8 +37,8 @@ pub(super) fn apply<K: Drop, const N: usize>(
     }
 }
 
-fn admit<K: Drop, const N: usize>(
-    core: &mut LruCore<K, N>,
+fn admit<K: Drop, const N: usize, S: BuildHasher>(
+    core: &mut LruCore<K, N, S>,
     hash: u64,
     key: K,
     weight: usize,
@@ -56,8 +56,8 @@ fn admit<K: Drop, const N: usize>(
     }
 }
 
-fn insert_tail<K: Drop, const N: usize>(
-    core: &mut LruCore<K, N>,
+fn insert_tail<K: Drop, const N: usize, S: BuildHasher>(
+    core: &mut LruCore<K, N, S>,
     hash: u64,
     key: K,
     weight: usize,
@@ -76,8 +76,8 @@ fn insert_tail<K: Drop, const N: usize>(
     }
 }
 
-fn increment_weight<K: Drop, const N: usize>(
-    core: &mut LruCore<K, N>,
+fn increment_weight<K: Drop, const N: usize, S: BuildHasher>(
+    core: &mut LruCore<K, N, S>,
     hash: u64,
     key: K,
     delta: usize,

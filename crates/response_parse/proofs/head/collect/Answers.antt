@@ -1,18 +1,25 @@
-use Rattle.std.proofs.Common.{◌≡◌, rules, take}
-use Rattle.response_parse.proofs.HeadLaws.{lines-front}
+use Rattle.std.proofs.Common.{◌≡◌, Err, rules, sym, ◌∙◌}
+use Rattle.response_parse.specs.declared.head.HeadFault.TheVariants.{Bounds}
+use Rattle.http_header.specs.Token.{lowercase}
+use Rattle.http_header.specs.FieldValue.{plain_value}
+use Rattle.response_parse.proofs.HeadLaws.{names-more, values-more, map_of-more, line_at, short-more, value-here, values-after}
 use Rattle.response_parse.proofs.head.collect.Goals as goal
 
-pub returns-clause-value : goal.returns-clause-value
-returns-clause-value c =
-    let front : take c.args.len c.args.bytes.now ≡ c.in_ok-head.head = search rules in
-    rw (lines-front c.args.bytes.now c.in_ok-head.head c.args.len c.args.lines.now front c.requires.within) at c.collect_shared.ensures.value
+pub returns-in_err-add-clause-bounds : goal.returns-in_err-add-clause-bounds
+returns-in_err-add-clause-bounds c e all =
+    let was : c.add.result ≡ Err Bounds = search rules in
+    let value = value-here c.args.bytes.now c.args.lines.now c.loop-line.line-index _ c.in_ok-value.value c.loop-line-test.true c.requires.within (rw c.loop-line.invariant.rest at c.in_ok-value.ensures.front) in
+    c.add.ensures.bounds was (rw (c.of.ensures, value) (line_at c.args.bytes.now c.args.lines.now c.loop-line.line-index _ all c.loop-line-test.true))
 
-pub returns-clause-short : goal.returns-clause-short
-returns-clause-short c =
-    let front : take c.args.len c.args.bytes.now ≡ c.in_ok-head.head = search rules in
-    rw (lines-front c.args.bytes.now c.in_ok-head.head c.args.len c.args.lines.now front c.requires.within) at c.collect_shared.ensures.short
-
-pub returns-clause-bounds : goal.returns-clause-bounds
-returns-clause-bounds c =
-    let front : take c.args.len c.args.bytes.now ≡ c.in_ok-head.head = search rules in
-    rw (lines-front c.args.bytes.now c.in_ok-head.head c.args.len c.args.lines.now front c.requires.within) at c.collect_shared.ensures.bounds
+pub loop-line-preserved : goal.loop-line-preserved
+loop-line-preserved c =
+    let value = value-here c.args.bytes.now c.args.lines.now c.loop-line.line-index _ c.in_ok-value.value c.loop-line-test.true c.requires.within (rw c.loop-line.invariant.rest at c.in_ok-value.ensures.front) in record {
+      value =
+          c.in_ok-add.ensures.ok
+          ∙ rw (c.loop-line.invariant.value, c.of.ensures, value) (sym (map_of-more c.args.bytes.now c.args.lines.now c.loop-line.line-index _ c.loop-line-test.true));
+      rest = values-after c.args.bytes.now c.args.lines.now c.loop-line.line-index _ c.split_to.new.self c.loop-line-test.true c.requires.within (rw c.loop-line.invariant.rest at c.in_ok-value.ensures.rest);
+      short =
+          short-more c.args.bytes.now c.args.lines.now c.loop-line.line-index _ c.loop-line-test.true c.loop-line.invariant.short (rw c.of.ensures at c.in_ok-add.ensures.short);
+      names = names-more _ _ _ _ _ c.in_ok-add.ensures.ok c.loop-line.invariant.names;
+      values = values-more c.loop-line.all c.add.new.all (lowercase c.of.result.now) (plain_value c.in_ok-value.value) c.loop-line.line-index c.in_ok-add.ensures.ok c.loop-line.invariant.values;
+    }

@@ -1,6 +1,6 @@
 use Rattle.std.proofs.Common.{refl}
 use Rattle.shard_actors.specs.Worlds.{sends, consumes, refuses, evicts, calls}
-use Rattle.pingora_lru.specs.Calls.{lost}
+use Rattle.shard_actors.specs.Messages.{lost}
 use Rattle.shard_actors.proofs.Worlds.{world_sends, waits_there, world_consumes, world_refuses, world_evicts, world_calls}
 use Rattle.shard_actors.proofs.world.World.step.Goals as goal
 

@@ -1,6 +1,6 @@
 use Rattle.std.proofs.Common.{◌≡◌, [], replicate, ap, ◌∙◌, arith}
 use Rattle.shard_actors.proofs.Worlds.{world_begins}
-use Rattle.shard_actors.proofs.world.World.new.Goals as goal
+use Rattle.shard_actors.proofs.world.World.with_hasher.Goals as goal
 
 pub returns-clause-begun : goal.returns-clause-begun
 returns-clause-begun g c =
