@@ -13,14 +13,16 @@ use Rattle.cache_heads.specs.Meta.{new_meta}
 use Rattle.cache_heads.specs.Stale.{revalidate_window, error_window}
 use Rattle.cache_heads.specs.declared.meta.CacheMeta.{CacheMeta}
 use Rattle.cache_heads.specs.declared.reason.NoCacheReason.TheVariants.{OriginNotCache, StorageError, ResponseTooLarge}
+use Rattle.cache_heads.specs.declared.reason.RespCacheable.{RespCacheable}
 use Rattle.cache_heads.specs.declared.reason.RespCacheable.TheVariants as verdict
 use Rattle.cache_evict.specs.declared.fault.EvictFault.{EvictFault}
 use Rattle.cache_evict.specs.declared.fault.EvictFault.TheVariants as evict
 use Rattle.response_parse.specs.declared.response.Parsed.{Parsed}
 use Rattle.response_parse.specs.declared.response.Parsed.TheVariants as parsed
+use Rattle.response_parse.specs.Parse.{content_length}
 use Rattle.pingora_cache.specs.Put.{IsTold}
 use Rattle.pingora_cache.specs.Response as cache
-use Rattle.pingora_cache.specs.Response.{judged}
+use Rattle.pingora_cache.specs.Response.{judged, judged_short}
 use Rattle.pingora_cache.specs.declared.put.whole.Whole.{Whole as Given}
 use Rattle.pingora_cache.specs.declared.put.whole.Whole.TheVariants as given
 use Rattle.pingora_cache.specs.declared.put.outcome.PutFault.{PutFault}
@@ -53,7 +55,12 @@ unlimited None = refl
 unlimited (Some length) = refl
 
 judged-kept : (meta : CacheMeta) (body : List ℕ) → judged None (verdict.Cacheable meta) body ≡ given.Cacheable meta body
-judged-kept meta body = ap (λ (v : Bool). cond v (given.Uncacheable ResponseTooLarge) (given.Cacheable meta body)) (unlimited (cache.content_length meta.header))
+judged-kept meta body = ap (λ (v : Bool). cond v (given.Uncacheable ResponseTooLarge) (given.Cacheable meta body)) (unlimited (content_length meta.header))
+
+-- without a size limit what ends too early is incomplete
+short-kept : (entry : Entry) (v : RespCacheable) (len : ℕ) → IsWholeFor entry (judged_short None v len) whole.Incomplete
+short-kept entry (verdict.Uncacheable reason) len = refl
+short-kept entry (verdict.Cacheable meta) len = refl
 
 module _ (t : MomentValue) (entry : Entry) where
   by_until : (until : Option MomentValue) (ds : Option (List Written)) (header : ResponseHeader) (body : List ℕ)
@@ -75,7 +82,8 @@ module _ (t : MomentValue) (entry : Entry) where
   whole-for (parsed.Complete response) =
       let lines = lines_under (codes "cache-control") response.header.headers in
       by_until (fresh_until_by t (named lines) (lines_under (codes "expires") response.header.headers) false None) (named lines) response.header response.body
-  whole-for parsed.Incomplete = refl
+  whole-for (parsed.Incomplete None) = refl
+  whole-for (parsed.Incomplete (Some short)) = short-kept entry (kept_by t short.header) short.len
   whole-for parsed.BadHead = refl
 
 -- a fault of the order of use is never a size limit or a moment

@@ -10,7 +10,7 @@ use Rattle.cache_changes.specs.Changes.{stored_key}
 use Rattle.cache_evict.specs.declared.fault.EvictFault.{EvictFault}
 use Rattle.cache_evict.specs.declared.fault.EvictFault.TheVariants as evict
 use Rattle.cache_evict.specs.Faults.{evicted_of, IsPutRefused, StopsAt, IsMemory}
-use Rattle.cache_evict.specs.Managed.{Managed, Evicts, rows_of, put_first, taken_out, pick_by_draws, is_over, total_size, IsHeavy, IsLong, IsFull, IsSharded}
+use Rattle.cache_evict.specs.Managed.{Managed, Evicts, rows_of, put_first, taken_out, pick_by_draws, is_over, total_size, IsHeavy, IsLong, IsFull, HasNoOtherReason, IsSharded}
 use Rattle.pingora_cache.specs.declared.put.outcome.Done.{Done as PutDone}
 use Rattle.pingora_cache.specs.declared.put.outcome.PutFault.{PutFault}
 use Rattle.pingora_cache.specs.declared.put.outcome.PutFault.TheVariants as put
@@ -158,7 +158,7 @@ module _ (n w : ℕ) (s : State) (b : FinishedBody) (k : IsSharded n s.managed) 
       let absent : weight_of (alone b.entry) (rows_of n (alone b.entry) m) ≡ None = ap (λ (x : Managed). weight_of (alone b.entry) (rows_of n (alone b.entry) x)) same ∙ p.0 in
       let told : f ≡ Memory stored_alone = told-memory (was_admitted n (alone b.entry) (evict.Memory v) m) v fault f t.0 t.1
       ∙ (λ i. Memory (record { stored = true; admitted = untouched v.items (weight_of (alone b.entry) (rows_of n (alone b.entry) m)) none absent i; evicted = none i })) in
-      kept_out m f (Memory stored_alone) new st rest same drawn told (refl, heavy_here (λ x v. weight_of (alone b.entry) (rows_of x (alone b.entry) s.managed) ≡ None) p.0) refl refl r
+      kept_out m f (Memory stored_alone) new st rest same drawn told (refl, heavy_here (λ x v. HasNoOtherReason x (alone b.entry) v s.managed) p) refl refl r
   refused_by m (evict.Weight v) fault f new st rest p none same drawn t r =
       kept_out m f (TooHeavy stored_alone) new st rest same drawn (told-heavy false v fault f t.0 t.1 ∙ (λ i. TooHeavy (record { stored = true; admitted = false; evicted = none i })))
       (refl, heavy_here (λ x v. IsHeavy x (alone b.entry) v s.managed) p) refl refl r

@@ -13,7 +13,11 @@ pub(crate) fn show(text: &mut String, parsed: &Parsed) -> Result<(), AllocError>
             let fields = response.header.headers.len();
             write!(text, "{status} {fields} {:?}", response.body.as_slice())
         }
-        Parsed::Incomplete => text.push_str("incomplete"),
+        Parsed::Incomplete(Some(short)) => {
+            let status = short.header.status.as_u16();
+            write!(text, "incomplete, {status} and {} bytes", short.len)
+        }
+        Parsed::Incomplete(None) => text.push_str("incomplete"),
         Parsed::BadHead => text.push_str("bad head"),
     }
 }

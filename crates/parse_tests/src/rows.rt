@@ -38,7 +38,12 @@ pub(crate) const ROWS: &[(&[&str], &str, &str)] = &[
     (
         &["HTTP/1.1 200 OK\r\nContent-Length: 6\r\n\r\nabc"],
         "Body(3) ",
-        "incomplete",
+        "incomplete, 200 and 3 bytes",
+    ),
+    (
+        &["HTTP/1.1 200 OK\r\nContent-Length: 6\r\n\r\nabc", "de"],
+        "Body(3) Body(5) ",
+        "incomplete, 200 and 5 bytes",
     ),
     (
         &["HTTP/1.1 200 OK\r\nContent-Length: 2\r\n\r\nabc", "d"],

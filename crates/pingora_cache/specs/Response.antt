@@ -1,5 +1,5 @@
 -- What the response of a put gives, as far as a cache may keep it.
-use Rattle.std.specs.Prelude.{◌≡◌, ℕ, Bool, false, nat_lt, List, length, Option, Some, None, codes, if◌then◌else◌}
+use Rattle.std.specs.Prelude.{◌≡◌, ℕ, Bool, false, not, ◌&&◌, nat_lt, List, length, Option, Some, None, codes, if◌then◌else◌}
 use Rattle.std.specs.List.{flat_map}
 use Rattle.cache_headers.specs.declared.header.ResponseHeader.{ResponseHeader}
 use Rattle.cache_words.specs.Time.{MomentValue, DurationValue}
@@ -9,8 +9,8 @@ use Rattle.cache_heads.specs.declared.defaults.CacheMetaDefaults.{CacheMetaDefau
 use Rattle.cache_heads.specs.declared.reason.NoCacheReason.TheVariants.{ResponseTooLarge}
 use Rattle.cache_heads.specs.declared.reason.RespCacheable.{RespCacheable}
 use Rattle.cache_heads.specs.declared.reason.RespCacheable.TheVariants as verdict
-use Rattle.response_parse.specs.Response.{Reading, IsReading, parsed_of, first_length}
-use Rattle.response_parse.specs.Parse.{values_under}
+use Rattle.response_parse.specs.Response.{Reading, IsReading, parsed_of}
+use Rattle.response_parse.specs.Parse.{content_length}
 use Rattle.response_parse.specs.declared.response.Parsed.{Parsed}
 use Rattle.response_parse.specs.declared.response.Parsed.TheVariants as parsed
 use Rattle.pingora_cache.specs.declared.put.whole.Whole.{Whole}
@@ -34,10 +34,6 @@ abbrev pub announces_past : Option ℕ → Option ℕ → Bool
 announces_past limit None = false
 announces_past limit (Some length) = is_past limit length
 
--- the length that a header's first Content-Length says, if it can be read
-abbrev pub content_length : ResponseHeader → Option ℕ
-content_length header = first_length (values_under (codes "content-length") header.headers)
-
 -- what a body gives that comes with a verdict on its header. The length is looked for in the header that is kept
 abbrev pub judged : Option ℕ → RespCacheable → List ℕ → Whole
 judged limit (verdict.Uncacheable reason) body = Uncacheable reason
@@ -46,10 +42,19 @@ judged limit (verdict.Cacheable meta) body =
     then Uncacheable ResponseTooLarge
     else (if is_past limit (length body) then TooLarge else Cacheable meta body)
 
+-- the same of a body that ends too early, after so many bytes: they may have been written past the limit by then
+abbrev pub judged_short : Option ℕ → RespCacheable → ℕ → Whole
+judged_short limit (verdict.Uncacheable reason) len = Incomplete
+judged_short limit (verdict.Cacheable meta) len =
+    if is_past limit len && not (announces_past limit (content_length meta.header))
+    then TooLarge
+    else Incomplete
+
 -- what a response gives, by the verdicts on headers
 abbrev pub whole_by : Option ℕ → (ResponseHeader → RespCacheable) → Parsed → Whole
 whole_by limit verdict_on (parsed.Complete response) = judged limit (verdict_on response.header) response.body
-whole_by limit verdict_on parsed.Incomplete = Incomplete
+whole_by limit verdict_on (parsed.Incomplete (Some short)) = judged_short limit (verdict_on short.header) short.len
+whole_by limit verdict_on (parsed.Incomplete None) = Incomplete
 whole_by limit verdict_on parsed.BadHead = BadHead
 
 -- that is what the bytes give, by one of their readings

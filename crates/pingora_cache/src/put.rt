@@ -63,7 +63,7 @@ pub trait CachePut {
     fn cache_defaults() -> CacheMetaDefaults<Self::Lifetimes>
         ensures { result ≡ defaults };
 
-    /// Notes the header of a whole response.
+    /// Notes the header of a response, once for each whose head is whole.
     fn trace_header(&mut self, _response: &ResponseHeader)
         ensures { verdict self.new ≡ verdict self.old }
     {}
@@ -124,7 +124,7 @@ impl<C: CachePut> CachePutCtx<C> {
     ///
     /// # Errors
     ///
-    /// The first that holds of `BadHead`, `Incomplete`, `ResponseTooLarge` and, after an uncacheable response's reason,
+    /// The first that holds of `BadHead`, `ResponseTooLarge`, `Incomplete` and, after an uncacheable response's reason,
     /// `WriteNumbersSpent` and `MetaMoment`: the store and the order of use are as before. `Weight`, `Length`, `NumbersSpent` and
     /// `Memory` where the entry isn't admitted or memory runs out in the evictions: what was stored is removed again with its
     /// entry, and the evictions that are told are done. `Memory` too before anything is stored, when a write may have used a number.

@@ -1,6 +1,6 @@
 -- The lines of a map, and what heads within the bounds give.
 use Rattle.std.proofs.Common.{◌≡◌, ℕ, ◌+◌, ◌-◌, ◌≤◌, ◌<◌, true, false, List, [], ◌∷◌, ◌++◌, length, map, take, drop, refl, ap, sym, ◌∙◌, subst, arith, inl, inr, append_assoc, append-nil, All, length-append, length-take, length-drop, get_or}
-use Rattle.std.specs.Prelude.{◌≢◌, bytes_eq, codes, ◌&&◌, ◌⊎◌, Bool, nat_le}
+use Rattle.std.specs.Prelude.{◌≢◌, bytes_eq, codes, ◌&&◌, ◌⊎◌, Bool, nat_le, None}
 use Rattle.std.specs.List.{list_all}
 use Rattle.std.proofs.lemmas.Bool.Decides.{nat_tests}
 use Rattle.std.proofs.lemmas.List.Folds.{list_all-append, list_all-map}
@@ -222,7 +222,7 @@ Gives-header bytes header rest is = (
   parsed_by_header-is header rest is.0 is.1,
 )
 
-pub Gives-begun : (bytes : List ℕ) → HasNoResponse bytes → Gives bytes Incomplete
+pub Gives-begun : (bytes : List ℕ) → HasNoResponse bytes → Gives bytes (Incomplete None)
 Gives-begun bytes nothing = (begun_head, reading-begun bytes nothing, refl)
 
 pub Gives-bad : (bytes : List ℕ) → IsBad bytes → Gives bytes BadHead

@@ -12,10 +12,10 @@ use Rattle.response_parse.specs.declared.response.Progress.TheVariants.{BadHead}
 use Rattle.response_parse.specs.declared.front.Front.{Front}
 use Rattle.response_parse.specs.declared.front.Front.TheVariants.{Found, Begun, Refused}
 use Rattle.response_parse.specs.declared.head.Head.{Head as FoundHead}
-use Rattle.response_parse.specs.Response.{body_within, is_within_bounds, parsed_by_body, parsed_by_lines, parsed_of, Reading, whole_head, begun_head, no_head, Gives}
+use Rattle.response_parse.specs.Response.{is_within_bounds, parsed_by_body, parsed_by_lines, parsed_of, Reading, whole_head, begun_head, no_head, Gives}
 use Rattle.response_parse.specs.Parse.{progress_by_length, progress_by_lines, progress_of, IsAt, Held, in_head, in_body, at_bad_head, announced, limited, limited_after, IsHeaderOf, IsHeaderFor, IsBad, Holds, held_progress}
 use Rattle.response_parse.specs.Heads.{parsed_by_header, IsFrontOf, IsToldFront}
-use Rattle.response_parse.proofs.ReadingLaws.{reading-begun, parsed_by_body-read}
+use Rattle.response_parse.proofs.ReadingLaws.{reading-begun, parsed_by_lines-read}
 use Rattle.response_parse.proofs.HeadLaws.{announced-is, Gives-header}
 
 -- what came of a body, and more
@@ -57,11 +57,11 @@ limited-more (Some k) rest piece =
           ∙ take-take k k rest (omega arith) ∙ sym (take-append-le k rest piece (omega (arith, l)))
     ]
 
-within-limited : (n : Option ℕ) (rest : List ℕ) → body_within n (limited n rest) ≡ body_within n rest
-within-limited None rest = refl
-within-limited (Some k) rest =
+by_body-limited : (header : ResponseHeader) (n : Option ℕ) (rest : List ℕ) → parsed_by_body header n (limited n rest) ≡ parsed_by_body header n rest
+by_body-limited header None rest = refl
+by_body-limited header (Some k) rest =
     elim (cases_lt k (length rest)) [
-      | inr l ↦ ap (body_within (Some k)) (take_all k rest l)
+      | inr l ↦ ap (parsed_by_body header (Some k)) (take_all k rest l)
       | inl l ↦
           let here : nat_le k (length rest) ≡ true = le-leb k (length rest) (omega (arith, l)) in
           let there : nat_le k (length (take k rest)) ≡ true = le-leb k (length (take k rest)) (omega (arith, length-take-le k rest (omega (arith, l)))) in
@@ -120,7 +120,7 @@ unfolding parsed_by_lines progress_by_lines
 bad-progress (whole_head status lines rest) e =
     elim (cases_Bool (is_within_bounds status lines)) [
       | inr f ↦ rw f refl
-      | inl t ↦ absurd (parsed_by_body-read _ _ (sym (rw t at e)))
+      | inl t ↦ absurd (parsed_by_lines-read status lines rest t (sym e))
     ]
 bad-progress begun_head e = cc
 bad-progress no_head e = refl
@@ -144,7 +144,7 @@ Holds-progress bytes at_bad_head holds =
 -- what it gives at the end
 pub Gives-body : (bytes : List ℕ) (header : ResponseHeader) (body : List ℕ) → Holds bytes (in_body header body) → Gives bytes (parsed_by_header header body)
 Gives-body bytes header body holds =
-    subst (Gives bytes) (sym (ap (λ (x : List ℕ). parsed_by_header header x) holds.2 ∙ ap (parsed_by_body header) (within-limited (announced header) holds.0))) (Gives-header bytes header holds.0 holds.1)
+    subst (Gives bytes) (sym (ap (λ (x : List ℕ). parsed_by_header header x) holds.2 ∙ by_body-limited header (announced header) holds.0)) (Gives-header bytes header holds.0 holds.1)
 
 -- what is told of a front that was read
 pub told-front : (bytes : List ℕ) (front : Front) → IsFrontOf bytes front → IsToldFront bytes front

@@ -1,7 +1,7 @@
 -- Readings of responses: a head that the parser's default options read or begin to read has one; what is read whatever more comes.
 use Rattle.std.proofs.Common.{◌≡◌, ℕ, ◌≤◌, ◌<◌, true, List, [], ◌++◌, length, map, take, drop, refl, ap, ap₂, sym, ◌∙◌, subst, cond, arith, length-append, append_assoc, append-nil, inl, inr}
-use Rattle.std.specs.Prelude.{◌≢◌, Bool, Option, Some, None}
-use Rattle.std.proofs.lemmas.Bool.{cases_lt}
+use Rattle.std.specs.Prelude.{◌≢◌, Bool, nat_le, Option, Some, None}
+use Rattle.std.proofs.lemmas.Bool.{cases_lt, cases_Bool}
 use Rattle.std.proofs.lemmas.List.{take-append-le, take-append-drop}
 use Rattle.std.proofs.Math.Seq.{take-append_seam}
 use Rattle.cache_headers.specs.Lines.{Line, map_of}
@@ -10,7 +10,7 @@ use Rattle.httparse.specs.Grammar.{ResponseHead, ReadsResponse, HasNoResponse, N
 use Rattle.httparse.specs.Spans.{name_and_value, ResponseOverflows}
 use Rattle.httparse.proofs.GrammarLemmas.{response_unique, response_prefix_free}
 use Rattle.response_parse.specs.declared.response.Parsed.TheVariants.{Incomplete, BadHead}
-use Rattle.response_parse.specs.Response.{IsPlain, IsWellFormed, is_within_bounds, body_within, body_length, parsed_by_body, parsed_by_lines, Reading, whole_head, begun_head, no_head, IsReading, parsed_of}
+use Rattle.response_parse.specs.Response.{IsPlain, IsWellFormed, is_within_bounds, body_length, parsed_by_body, parsed_by_lines, Reading, whole_head, begun_head, no_head, IsReading, parsed_of}
 
 -- a head that stands whole in the first part of some bytes is read there
 pub read_front : (bytes more : List ℕ) (h : ResponseHead) (rest : List ℕ) → ReadsResponse (bytes ++ more) h rest → length (print_response h) ≤ length bytes → ReadsResponse bytes h (drop (length (print_response h)) bytes)
@@ -39,15 +39,19 @@ IsReading-one bytes p q plain x y =
     ]
 
 -- what a head within bounds gives is no bad head
-pub parsed_by_body-read : (header : ResponseHeader) (body : Option (List ℕ)) → parsed_by_body header body ≢ BadHead
-parsed_by_body-read header None e = cc
-parsed_by_body-read header (Some body) e = cc
+parsed_by_body-read : (header : ResponseHeader) (n : Option ℕ) (rest : List ℕ) → parsed_by_body header n rest ≢ BadHead
+parsed_by_body-read header None rest e = cc
+parsed_by_body-read header (Some n) rest e =
+    elim (cases_Bool (nat_le n (length rest))) [
+      | inl t ↦ absurd (cc)
+      | inr f ↦ absurd (cc)
+    ]
 
-parsed_by_lines-read : (status : ℕ) (lines : List Line) (rest : List ℕ) → is_within_bounds status lines ≡ true → parsed_by_lines status lines rest ≢ BadHead
+pub parsed_by_lines-read : (status : ℕ) (lines : List Line) (rest : List ℕ) → is_within_bounds status lines ≡ true → parsed_by_lines status lines rest ≢ BadHead
 unfolding parsed_by_lines
 parsed_by_lines-read status lines rest bounds e =
     let header : ResponseHeader = record { status = status; headers = map_of lines } in
-    parsed_by_body-read header (body_within (body_length status lines) rest) (subst (λ (v : Bool). cond v (parsed_by_body header (body_within (body_length status lines) rest)) BadHead ≡ BadHead) bounds e)
+    parsed_by_body-read header (body_length status lines) rest (subst (λ (v : Bool). cond v (parsed_by_body header (body_length status lines) rest) BadHead ≡ BadHead) bounds e)
 
 pub parsed_of-read : (bytes : List ℕ) (r : Reading) → IsWellFormed bytes → IsReading bytes r → parsed_of r ≢ BadHead
 parsed_of-read bytes r well is bad =
@@ -57,7 +61,7 @@ parsed_of-read bytes r well is bad =
           parsed_by_lines-read (status_code h) (map name_and_value h.fields) (drop (length (print_response h)) bytes) well.5
           (ap parsed_of (sym (is.whole h (drop (length (print_response h)) bytes) (read_front bytes well.0 h well.2 well.3 l) well.4)) ∙ bad)
       | inl l ↦
-          let early : parsed_of r ≡ Incomplete = ap parsed_of (is.begins (read_none bytes well.0 h well.2 well.3 l) (well.0, h, well.2, well.3, well.4)) in
+          let early : parsed_of r ≡ Incomplete None = ap parsed_of (is.begins (read_none bytes well.0 h well.2 well.3 l) (well.0, h, well.2, well.3, well.4)) in
           cc
     ]
 

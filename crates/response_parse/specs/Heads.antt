@@ -12,7 +12,7 @@ use Rattle.response_parse.specs.declared.response.Parsed.{Parsed}
 use Rattle.response_parse.specs.declared.head.Head.{Head}
 use Rattle.response_parse.specs.declared.front.Front.{Front}
 use Rattle.response_parse.specs.declared.front.Front.TheVariants.{Found, Begun, Refused}
-use Rattle.response_parse.specs.Response.{body_within, has_short_name, is_within_bounds, parsed_by_body}
+use Rattle.response_parse.specs.Response.{has_short_name, is_within_bounds, parsed_by_body}
 use Rattle.response_parse.specs.Parse.{announced, IsHeaderOf, IsHeaderFor, IsBad}
 
 -- the values of lines, one after another
@@ -21,7 +21,7 @@ values_at bytes lines = flat_map (λ line. span_bytes bytes line.value) lines
 
 -- what a head gives, with the bytes after it
 abbrev pub parsed_by_header : ResponseHeader → List ℕ → Parsed
-parsed_by_header header rest = parsed_by_body header (body_within (announced header) rest)
+parsed_by_header header rest = parsed_by_body header (announced header) rest
 
 -- the bytes begin with a head of the parser's grammar, of at most 256 lines and within its bounds, and that is it
 pub record IsHeadAt (bytes : List ℕ) (head : Head) (h : ResponseHead) : Type 0 where

@@ -45,9 +45,13 @@ pub data Held : Type 0 where
 abbrev pub values_under : List ℕ → Entries FieldValue → List (List ℕ)
 values_under name headers = map (λ value. value.bytes) (get_all headers name)
 
+-- the length that a header's first Content-Length says, if it can be read
+abbrev pub content_length : ResponseHeader → Option ℕ
+content_length header = first_length (values_under (codes "content-length") header.headers)
+
 -- how many bytes of body a header announces
 abbrev pub announced : ResponseHeader → Option ℕ
-announced header = if header.status == 204 || header.status == 304 then Some 0 else first_length (values_under (codes "content-length") header.headers)
+announced header = if header.status == 204 || header.status == 304 then Some 0 else content_length header
 
 -- what came of a body of this length, of the bytes after its head
 abbrev pub limited : Option ℕ → List ℕ → List ℕ

@@ -35,11 +35,6 @@ first_length (value ∷ values) = length_in value
 abbrev pub body_length : ℕ → List Line → Option ℕ
 body_length status lines = if status == 204 || status == 304 then Some 0 else first_length (values_of (codes "content-length") lines)
 
--- the body among the bytes after the head: so many, or without a length all of them; none where fewer came
-abbrev pub body_within : Option ℕ → List ℕ → Option (List ℕ)
-body_within None rest = Some rest
-body_within (Some n) rest = if nat_le n (length rest) then Some (take n rest) else None
-
 abbrev pub has_short_name : Line → Bool
 has_short_name line = nat_le (length line.0) 65535
 
@@ -74,22 +69,26 @@ pub record IsReading (bytes : List ℕ) (r : Reading) : Type 0 where
   pub longer : (more : List ℕ) (h : ResponseHead) (rest : List ℕ) → ReadsResponse (bytes ++ more) h rest → 256 < length h.fields → (r ≡ no_head) ⊎ (r ≡ begun_head)
   pub within : (status : ℕ) (lines : List Line) (rest : List ℕ) → r ≡ whole_head status lines rest → (front : List ℕ) × (bytes ≡ front ++ rest)
 
--- a head, with its body if that is whole
-abbrev pub parsed_by_body : ResponseHeader → Option (List ℕ) → Parsed
-parsed_by_body header None = Incomplete
-parsed_by_body header (Some body) = Complete (record { header = header; body = body })
+-- what a head gives whose body has this length, with the bytes after it: the body is so many of them, or without a length all
+-- of them, and where fewer came, it is told how many
+abbrev pub parsed_by_body : ResponseHeader → Option ℕ → List ℕ → Parsed
+parsed_by_body header None rest = Complete (record { header = header; body = rest })
+parsed_by_body header (Some n) rest =
+    if nat_le n (length rest)
+    then Complete (record { header = header; body = take n rest })
+    else Incomplete (Some (record { header = header; len = length rest }))
 
 -- what a head of this status and these header lines gives, with the bytes after it
 unfoldable pub parsed_by_lines : ℕ → List Line → List ℕ → Parsed
 parsed_by_lines status lines rest =
     if is_within_bounds status lines
-    then parsed_by_body (record { status = status; headers = map_of lines }) (body_within (body_length status lines) rest)
+    then parsed_by_body (record { status = status; headers = map_of lines }) (body_length status lines) rest
     else BadHead
 
 -- what a reading gives
 abbrev pub parsed_of : Reading → Parsed
 parsed_of (whole_head status lines rest) = parsed_by_lines status lines rest
-parsed_of begun_head = Incomplete
+parsed_of begun_head = Incomplete None
 parsed_of no_head = BadHead
 
 -- that is what the bytes give by one of their readings

@@ -1,10 +1,10 @@
 //! The body that a head announces.
 ghost use Rattle.std.specs.Prelude.{◌≡◌};
-ghost use Rattle.response_parse.specs.Response.{length_in, body_within};
-ghost use Rattle.response_parse.specs.Parse.{announced};
+ghost use Rattle.response_parse.specs.Response.{length_in};
+ghost use Rattle.response_parse.specs.Parse.{announced, content_length};
 ghost use Rattle.response_parse.specs.Heads.{parsed_by_header};
 
-use crate::response::{Parsed, Response};
+use crate::response::{Parsed, Response, Short};
 use bytes::Bytes;
 use cache_headers::ResponseHeader;
 use http::StatusCode;
@@ -23,6 +23,15 @@ fn length_in(value: &HeaderValue) -> Option<usize>
     }
 }
 
+/// Returns the length in bytes that the first Content-Length says, whatever the status: an optional plus sign and digits alone,
+/// below 2^64 (RFC 9110, 8.6).
+pub fn content_length(header: &ResponseHeader) -> Option<usize>
+    ensures { result ≡ content_length header.now }
+{
+    let value = header.headers.get_all("content-length").iter().next()?;
+    length_in(value)
+}
+
 // How many bytes of body a head announces: none under 204 and 304, else what the first Content-Length says.
 pub(crate) fn announced(head: &ResponseHeader) -> Option<usize>
     ensures { result ≡ announced head.now }
@@ -30,30 +39,20 @@ pub(crate) fn announced(head: &ResponseHeader) -> Option<usize>
     if head.status == StatusCode::NO_CONTENT || head.status == StatusCode::NOT_MODIFIED {
         return Some(0);
     }
-    let value = head.headers.get_all("content-length").iter().next()?;
-    length_in(value)
-}
-
-// The body among the bytes after a head, if it is whole.
-fn body_within(length: Option<usize>, rest: Bytes) -> Option<Bytes>
-    ensures { result ≡ body_within length rest }
-{
-    let mut body = rest;
-    if let Some(length) = length {
-        if body.len() < length {
-            return None;
-        }
-        body.truncate(length);
-    }
-    Some(body)
+    content_length(head)
 }
 
 // What a head gives, with the bytes after it.
 pub(crate) fn parsed_by_header(header: ResponseHeader, rest: Bytes) -> Parsed
     ensures { result ≡ parsed_by_header header rest }
 {
-    match body_within(announced(&header), rest) {
-        Some(body) => Parsed::Complete(Response { header, body }),
-        None => Parsed::Incomplete,
+    let mut body = rest;
+    if let Some(length) = announced(&header) {
+        let len = body.len();
+        if len < length {
+            return Parsed::Incomplete(Some(Short { header, len }));
+        }
+        body.truncate(length);
     }
+    Parsed::Complete(Response { header, body })
 }

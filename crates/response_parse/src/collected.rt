@@ -4,7 +4,7 @@ ghost use Rattle.response_parse.specs.Parse.{announced, limited, limited_after, 
 ghost use Rattle.response_parse.specs.Heads.{parsed_by_header};
 
 use crate::body::announced;
-use crate::response::{Parsed, Progress, Response};
+use crate::response::{Parsed, Progress, Response, Short};
 use bytes::Bytes;
 use cache_headers::ResponseHeader;
 use std::alloc::AllocError;
@@ -109,17 +109,18 @@ impl Collected {
     pub(crate) fn finish(self) -> Result<Parsed, AllocError>
         ensures { IfOk result (λ parsed. parsed ≡ parsed_by_header self.0 self.1) }
     {
-        if let Progress::Body(_) = self.progress()
-            && self.length.is_some()
-        {
-            return Ok(Parsed::Incomplete);
-        }
+        let progress = self.progress();
         let Collected {
             header,
+            length,
             mut copied,
             last,
-            ..
         } = self;
+        if let Progress::Body(len) = progress
+            && length.is_some()
+        {
+            return Ok(Parsed::Incomplete(Some(Short { header, len })));
+        }
         if copied.is_empty() {
             return Ok(Parsed::Complete(Response { header, body: last }));
         }

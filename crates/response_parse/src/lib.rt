@@ -12,6 +12,7 @@ mod position;
 pub mod read;
 pub mod response;
 
+pub use body::content_length;
 pub use parse::ResponseParse;
 pub use read::read_response;
-pub use response::{Parsed, Progress, Response};
+pub use response::{Parsed, Progress, Response, Short};

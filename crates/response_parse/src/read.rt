@@ -25,7 +25,7 @@ pub fn read_response(alloc: Global, bytes: Bytes) -> Result<Parsed, AllocError>
             rest.advance(head.len);
             Ok(parsed_by_header(head.header, rest))
         }
-        Front::Begun => Ok(Parsed::Incomplete),
+        Front::Begun => Ok(Parsed::Incomplete(None)),
         Front::Refused => Ok(Parsed::BadHead),
     }
 }

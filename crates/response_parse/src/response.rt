@@ -11,13 +11,22 @@ pub struct Response {
     pub body: Bytes,
 }
 
+/// A response whose head is whole, and that ends before its body does.
+#[derive(Debug, Drop)]
+pub struct Short {
+    /// Its status and its fields.
+    pub header: ResponseHeader,
+    /// How many bytes of its body came: fewer than the header announces.
+    pub len: usize,
+}
+
 /// What the bytes of a response give.
 #[derive(Debug, Drop)]
 pub enum Parsed {
     /// A whole response.
     Complete(Response),
-    /// The response ends too early.
-    Incomplete,
+    /// The response ends too early: within its body, or, with nothing, within its head.
+    Incomplete(Option<Short>),
     /// The bytes are no head, or one that is out of bounds: of more than 256 lines, with a name of more than 65535 bytes or a
     /// status below 100.
     BadHead,

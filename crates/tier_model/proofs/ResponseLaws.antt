@@ -23,7 +23,7 @@ whole_until-read arrival entry body (Some until) e =
 
 whole_by-bad : (arrival : MomentValue) (entry : Entry) (p : Parsed) → whole_by arrival entry p ≡ BadHead → p ≡ parsed.BadHead
 whole_by-bad arrival entry (parsed.Complete response) e = absurd (whole_until-read arrival entry response.body (kept_until arrival response.header) e)
-whole_by-bad arrival entry parsed.Incomplete e = cc
+whole_by-bad arrival entry (parsed.Incomplete short) e = cc
 whole_by-bad arrival entry parsed.BadHead e = refl
 
 pub whole_of-read : (arrival : MomentValue) (entry : Entry) (bytes : List ℕ) (r : Reading) → IsWellFormed bytes → IsReading bytes r → whole_of arrival entry r ≢ BadHead
@@ -40,7 +40,7 @@ whole_until-entry arrival entry body (Some until) stored e =
 
 whole_by-entry : (arrival : MomentValue) (entry : Entry) (p : Parsed) (stored : FinishedBody) → whole_by arrival entry p ≡ Stored stored → stored.entry ≡ entry
 whole_by-entry arrival entry (parsed.Complete response) stored e = whole_until-entry arrival entry response.body (kept_until arrival response.header) stored e
-whole_by-entry arrival entry parsed.Incomplete stored e = cc
+whole_by-entry arrival entry (parsed.Incomplete short) stored e = cc
 whole_by-entry arrival entry parsed.BadHead stored e = cc
 
 pub whole_of-entry : (arrival : MomentValue) (entry : Entry) (r : Reading) (stored : FinishedBody) → Stored stored ≡ whole_of arrival entry r → stored.entry ≡ entry

@@ -39,7 +39,7 @@ whole_until arrival entry body (Some until) =
 -- what a response gives, coming for an entry at a moment
 abbrev pub whole_by : MomentValue → Entry → Parsed → Whole
 whole_by arrival entry (parsed.Complete response) = whole_until arrival entry response.body (kept_until arrival response.header)
-whole_by arrival entry parsed.Incomplete = Incomplete
+whole_by arrival entry (parsed.Incomplete short) = Incomplete
 whole_by arrival entry parsed.BadHead = BadHead
 
 -- what a reading of it gives

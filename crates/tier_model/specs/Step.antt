@@ -7,7 +7,7 @@ use Rattle.cache_entries.specs.declared.entry.CacheEntryKey.{CacheEntryKey}
 use Rattle.cache_entries.specs.Entry.{key_of}
 use Rattle.cache_entries.specs.Rows.{weight_of}
 use Rattle.cache_changes.specs.Changes.{stored_key}
-use Rattle.cache_evict.specs.Managed.{Managed, rows_of, put_first, use_first, taken_out, total_size, IsHeavy, IsLong, IsFull}
+use Rattle.cache_evict.specs.Managed.{Managed, rows_of, put_first, use_first, taken_out, total_size, IsHeavy, IsLong, IsFull, HasNoOtherReason}
 use Rattle.tier_model.specs.Keys.{Entry, entry_of, alone, stored_key_of}
 use Rattle.tier_model.specs.Evictions.{all_gone, GoInTurn}
 use Rattle.tier_model.specs.declared.state.Body.{Body}
@@ -111,9 +111,10 @@ used s e b = use_first (shards_of s) e (weight_for b.bytes) s.managed
 abbrev pub Fits : Managed → Type 0
 Fits m = total_size m < 2 ^ 64
 
--- why an entry of that weight is kept out of the order of use, and what was done until then; one that is tracked takes no memory
+-- why an entry of that weight is kept out of the order of use, and what was done until then; memory is told only of an entry that isn't
+-- tracked, where nothing else keeps it out
 abbrev pub IsKeptOut : State → CacheEntryKey → ℕ → Done → TierFault → Type 0
-IsKeptOut s e w done (Memory told) = (told ≡ done) × (weight_of e (rows_of (shards_of s) e s.managed) ≡ None)
+IsKeptOut s e w done (Memory told) = (told ≡ done) × HasNoOtherReason (shards_of s) e w s.managed
 IsKeptOut s e w done (TooHeavy told) = (told ≡ done) × IsHeavy (shards_of s) e w s.managed
 IsKeptOut s e w done (TooLong told) = (told ≡ done) × IsLong (shards_of s) e s.managed
 IsKeptOut s e w done (NumbersSpent told) = (told ≡ done) × IsFull (shards_of s) e s.managed

@@ -4,9 +4,10 @@ ghost use Rattle.std.specs.Prelude.{◌≡◌, ◌++◌, Option, ℕ, IfOk};
 ghost use Rattle.cache_words.specs.Time.{MomentValue};
 ghost use Rattle.cache_headers.specs.declared.header.ResponseHeader.{ResponseHeader as Header};
 ghost use Rattle.cache_heads.specs.declared.reason.RespCacheable.{RespCacheable as Verdict};
-ghost use Rattle.response_parse.specs.Response.{Gives as IsParsed, length_in};
-ghost use Rattle.response_parse.specs.declared.response.Parsed.TheVariants.{Complete};
-ghost use Rattle.pingora_cache.specs.Response.{joined, content_length, judged, whole_by, Gives};
+ghost use Rattle.response_parse.specs.Response.{Gives as IsParsed};
+ghost use Rattle.response_parse.specs.Parse.{content_length};
+ghost use Rattle.response_parse.specs.declared.response.Parsed.TheVariants.{Complete, Incomplete};
+ghost use Rattle.pingora_cache.specs.Response.{joined, announces_past, judged, judged_short, whole_by, Gives};
 
 use super::CachePut;
 use bytes::Bytes;
@@ -14,8 +15,7 @@ use cache_heads::meta::ResponseHeader;
 use cache_heads::{CacheMeta, NoCacheReason, RespCacheable};
 use cache_store::max_file_size::MaxFileSizeTracker;
 use cache_words::time::Moment;
-use http_header::HeaderValue;
-use response_parse::{Parsed, Response, ResponseParse};
+use response_parse::{Parsed, Response, ResponseParse, Short, content_length};
 use std::alloc::{AllocError, Global};
 
 /// What the bytes of a response give, as far as a cache may keep it.
@@ -50,25 +50,14 @@ fn parsed(alloc: Global, pieces: &[Bytes]) -> Result<Parsed, AllocError>
     parser.finish()
 }
 
-// The length that a Content-Length says, if it can be read.
-fn length_in(value: &HeaderValue) -> Option<usize>
-    ensures { result ≡ length_in value.now.bytes }
+// Whether a header announces a body past the limit.
+fn announces_past(limit: usize, header: &ResponseHeader) -> bool
+    ensures { result ≡ announces_past (Some limit) (content_length header.now) }
 {
-    let Ok(text) = value.to_str() else {
-        return None;
-    };
-    match text.parse::<usize>() {
-        Ok(length) => Some(length),
-        Err(_) => None,
+    match content_length(header) {
+        Some(announced) => announced > limit,
+        None => false,
     }
-}
-
-// The length that a header's first Content-Length says, if it can be read.
-fn content_length(header: &ResponseHeader) -> Option<usize>
-    ensures { result ≡ content_length header.now }
-{
-    let value = header.headers.get_all("content-length").iter().next()?;
-    length_in(value)
 }
 
 // What a body gives that comes with a verdict on its header.
@@ -82,9 +71,7 @@ fn judged(limit: Option<usize>, verdict: RespCacheable, body: Bytes) -> Whole
     let Some(limit) = limit else {
         return Whole::Cacheable { meta, body };
     };
-    if let Some(announced) = content_length(&meta.header)
-        && announced > limit
-    {
+    if announces_past(limit, &meta.header) {
         return Whole::Uncacheable(NoCacheReason::ResponseTooLarge);
     }
     let mut tracker = MaxFileSizeTracker::new(limit);
@@ -111,6 +98,35 @@ fn whole_by<C: CachePut>(
     Ok(judged(limit, verdict, body))
 }
 
+// What a response gives that ends too early. A verdict is asked for only where its body is past the limit.
+fn short_by<C: CachePut>(
+    alloc: Global,
+    cache_put: &mut C,
+    limit: Option<usize>,
+    moment: Moment,
+    short: Option<Short>,
+) -> Result<Whole, AllocError>
+    ensures whole { IfOk result (λ whole. whole ≡ whole_by limit (C.verdict cache_put.old moment) (Incomplete short)) }
+    ensures verdict { C.verdict cache_put.new ≡ C.verdict cache_put.old }
+{
+    let Some(Short { header, len }) = short else {
+        return Ok(Whole::Incomplete);
+    };
+    cache_put.trace_header(&header);
+    let Some(limit) = limit else {
+        return Ok(Whole::Incomplete);
+    };
+    if len <= limit {
+        return Ok(Whole::Incomplete);
+    }
+    match cache_put.cacheable(alloc, moment, header)? {
+        RespCacheable::Cacheable(meta) if !announces_past(limit, &meta.header) => {
+            Ok(Whole::TooLarge)
+        }
+        _ => Ok(Whole::Incomplete),
+    }
+}
+
 // What the pieces of a response give that come at a moment.
 pub(super) fn whole_of<C: CachePut>(
     alloc: Global,
@@ -124,7 +140,7 @@ pub(super) fn whole_of<C: CachePut>(
 {
     match parsed(alloc, pieces)? {
         Parsed::Complete(response) => whole_by(alloc, cache_put, limit, moment, response),
-        Parsed::Incomplete => Ok(Whole::Incomplete),
+        Parsed::Incomplete(short) => short_by(alloc, cache_put, limit, moment, short),
         Parsed::BadHead => Ok(Whole::BadHead),
     }
 }
