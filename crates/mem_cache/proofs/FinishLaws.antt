@@ -103,15 +103,15 @@ there-still n k flights e = by_option (tree.get nat_cmp flights n) e
     by_option (Some f) e = refl
 
 -- a write that was alive is finished: its bytes were shared, it was taken out, and its readers are left with its bytes
-pub finished-is : (a b : Alive) (n : ℕ) (key : StoredKey) (flights shared rest : BTreeMap ℕ Flight) (taken : Flight) (bytes : List ℕ) (size next : ℕ) (olds news : List (StoredKey × Body)) (rs after_rs : List Reading)
+pub finished-is : (a b : Alive) (n : ℕ) (key : StoredKey) (flights shared rest : BTreeMap ℕ Flight) (taken : Flight) (meta : CacheMeta) (bytes : List ℕ) (size next : ℕ) (olds news : List (StoredKey × Body)) (rs after_rs : List Reading)
     → tree.IsOrdered nat_cmp flights → alive_key (find (has_number n) (flights_of a flights.entries)) ≡ Some key → ChangesAt n (λ f. f) flights shared
-    → ((f : Flight) → tree.get nat_cmp flights n ≡ Some f → bytes ≡ bytes_in f.buffer) → tree.get nat_cmp shared n ≡ Some taken → rest.entries ≡ remove_entry (is_at (nat_cmp n)) shared.entries
+    → ((f : Flight) → tree.get nat_cmp flights n ≡ Some f → bytes ≡ bytes_in f.buffer) → tree.get nat_cmp shared n ≡ Some taken → meta ≡ taken.meta → rest.entries ≡ remove_entry (is_at (nat_cmp n)) shared.entries
     → ((j : StoredKey) (m : ℕ) → b j m ≡ (a j m && not (is_pair key n j m))) → after_rs ≡ left_with n (bytes_in taken.buffer) rs
-    → ((k : StoredKey) → lookup (pointwise nat_eq k) news ≡ cond (pointwise nat_eq key k) (Some (record { number = n; meta = taken.meta; bytes = bytes })) (lookup (pointwise nat_eq k) olds)) → size ≡ length bytes
+    → ((k : StoredKey) → lookup (pointwise nat_eq k) news ≡ cond (pointwise nat_eq key k) (Some (record { number = n; meta = meta; bytes = bytes })) (lookup (pointwise nat_eq k) olds)) → size ≡ length bytes
     → IsFinished n size (held (bodies_of olds) (flights_of a flights.entries) next rs) (held (bodies_of news) (flights_of b rest.entries) next after_rs)
-finished-is a b n key flights shared rest taken bytes size next olds news rs after_rs ordered alive kept value there removed gone leaving put sized = record {
+finished-is a b n key flights shared rest taken meta bytes size next olds news rs after_rs ordered alive kept value there same_meta removed gone leaving put sized = record {
   sized = λ f e. let one : Some f ≡ Some (seen a (n, taken)) = sym e ∙ flight in let same_f : f ≡ seen a (n, taken) = cc in sized ∙ ap length (bytes_are ∙ sym (ap (λ (x : Flying CacheMeta). x.stored.bytes) same_f));
-  store = finished-agree n key (record { number = n; meta = taken.meta; bytes = bytes }) olds news (flights_of a flights.entries) (flights_of b rest.entries) (seen a (n, taken)) flight stored put
+  store = finished-agree n key (record { number = n; meta = taken.meta; bytes = bytes }) olds news (flights_of a flights.entries) (flights_of b rest.entries) (seen a (n, taken)) flight stored put_taken
       (ap (flights_of b) removed ∙ seen-landed a b key n shared.entries gone (ascends shared.entries (subst (λ (ks : List ℕ). IsStrictlySortedBy nat_cmp ks) (sym kept.keys) ordered)) ∙ ap (landed n) unchanged);
   next = refl;
   readings = leaving ∙ ap (λ (o : Option (Flying CacheMeta)). left_behind n o rs) (sym flight);
@@ -134,6 +134,9 @@ finished-is a b n key flights shared rest taken bytes size next olds news rs aft
 
     key_is : taken.key ≡ key
     key_is = ap (λ (x : Flying CacheMeta). x.stored.write.key) same ∙ first.2
+
+    put_taken : (k : StoredKey) → lookup (pointwise nat_eq k) news ≡ cond (pointwise nat_eq key k) (Some (record { number = n; meta = taken.meta; bytes = bytes })) (lookup (pointwise nat_eq k) olds)
+    put_taken k = put k ∙ ap (λ (m : CacheMeta). cond (pointwise nat_eq key k) (Some (record { number = n; meta = m; bytes = bytes })) (lookup (pointwise nat_eq k) olds)) same_meta
 
     stored : (seen a (n, taken)).stored ≡ body_of (key, record { number = n; meta = taken.meta; bytes = bytes })
     stored = λ i. record { write = record { number = n; key = key_is i; meta = taken.meta }; meta = taken.meta; bytes = sym bytes_are i }

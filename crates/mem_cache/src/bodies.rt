@@ -6,19 +6,19 @@ ghost use Rattle.std.specs.List.{sum_by};
 ghost use Rattle.cache_store.specs.Renewals.{expired};
 ghost use Rattle.mem_cache.specs.Renewals.{body_with};
 
-use crate::flight::Body;
+use crate::flight::{Body, Kept};
 use crate::stored_key::StoredKey;
-use cache_heads::CacheMeta;
 use cache_words::key::HashBinary;
 use cache_words::time::Moment;
+use packed_meta::PackedMeta;
 use std::alloc::AllocError;
 use std::collections::HashMap;
 use std::hash::BuildHasher;
 
-pub(crate) type Bodies<S> = HashMap<StoredKey, Body, S>;
+pub(crate) type Bodies<S> = HashMap<StoredKey, Kept, S>;
 
 // Puts a body in the place of the one before it.
-pub(crate) fn put<S: BuildHasher>(bodies: &mut Bodies<S>, key: HashBinary, body: Body)
+pub(crate) fn put<S: BuildHasher>(bodies: &mut Bodies<S>, key: HashBinary, body: Kept)
     requires { 0 < spare bodies.old }
     ensures { (k : List ℕ) → get (pointwise nat_eq) bodies.new k ≡ cond (pointwise nat_eq key k) (Some body) (get (pointwise nat_eq) bodies.old k) }
 {
@@ -39,7 +39,7 @@ pub(crate) fn make_room<S: BuildHasher>(bodies: &mut Bodies<S>) -> Result<(), Al
 pub(crate) fn get<'a, S: BuildHasher>(bodies: &'a Bodies<S>, key: &HashBinary) -> Option<&'a Body>
     ensures { option_copied result ≡ get (pointwise nat_eq) bodies.now key.now }
 {
-    bodies.get(&StoredKey::new(*key))
+    Some(bodies.get(&StoredKey::new(*key))?.body())
 }
 
 // Returns whether a key has a body.
@@ -67,7 +67,7 @@ pub(crate) fn expire<S: BuildHasher>(
 {
     match bodies.get_mut(&StoredKey::new(*key)) {
         Some(body) => {
-            body.meta.expire_at(moment);
+            body.expire_at(moment);
             true
         }
         None => false,
@@ -78,14 +78,14 @@ pub(crate) fn expire<S: BuildHasher>(
 pub(crate) fn set_meta<S: BuildHasher>(
     bodies: &mut Bodies<S>,
     key: &HashBinary,
-    meta: CacheMeta,
+    meta: PackedMeta,
 ) -> bool
     ensures found { result ≡ is_some (get (pointwise nat_eq) bodies.old key.now) }
     ensures after { (k : List ℕ) → get (pointwise nat_eq) bodies.new k ≡ cond (pointwise nat_eq key.now k) (option_map (body_with (λ _. meta)) (get (pointwise nat_eq) bodies.old key.now)) (get (pointwise nat_eq) bodies.old k) }
 {
     match bodies.get_mut(&StoredKey::new(*key)) {
         Some(body) => {
-            body.meta = meta;
+            body.set_meta(meta);
             true
         }
         None => false,
@@ -98,7 +98,7 @@ pub(crate) fn bytes_of_all<S: BuildHasher>(bodies: &Bodies<S>) -> u64
 {
     let mut count: u64 = 0;
     for body in bodies.values() {
-        count = count.saturating_add(body.bytes.len() as u64);
+        count = count.saturating_add(body.body().bytes.len() as u64);
     }
     count
 }

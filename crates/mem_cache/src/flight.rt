@@ -1,7 +1,14 @@
 //! What is kept of writes.
+ghost use Rattle.std.specs.Prelude.{◌≡◌, IfOk};
+ghost use Rattle.cache_store.specs.Renewals.{expired};
+
 use bytes::Bytes;
 use cache_heads::CacheMeta;
 use cache_words::key::HashBinary;
+use cache_words::time::Moment;
+use packed_meta::PackedMeta;
+use std::alloc::{AllocError, Global};
+use std::marker::Model;
 
 mod bytes_in;
 
@@ -27,8 +34,56 @@ pub(crate) struct Flight {
 #[derive(Drop)]
 pub(crate) struct Body {
     pub(crate) number: u64,
-    pub(crate) meta: CacheMeta,
+    pub(crate) meta: PackedMeta,
     pub(crate) bytes: Bytes,
+}
+
+// A finished body as the table of bodies keeps it: apart, so that the table's own rows are short.
+#[derive(Drop)]
+pub(crate) struct Kept {
+    body: Box<Body>,
+}
+
+impl Model for Kept {
+    ghost use Rattle.mem_cache.specs.declared.flight.Body.{Body};
+    ghost use Rattle.mem_cache.specs.contracts.flight.Body.{the_row};
+
+    ghost Value = { Body };
+
+    ghost coded = { the_row.coded };
+
+    ghost view = { λ k. k.body.value };
+}
+
+impl Kept {
+    // Keeps a body.
+    pub(crate) fn new(alloc: Global, body: Body) -> Result<Kept, AllocError>
+        ensures { IfOk result (λ kept. kept ≡ body) }
+    {
+        let body = Box::new(alloc, body)?;
+        Ok(Kept { body })
+    }
+
+    // Lends the body.
+    pub(crate) fn body(&self) -> &Body
+        ensures { result.now ≡ self.now }
+    {
+        &self.body
+    }
+
+    // Gives the body another meta.
+    pub(crate) fn set_meta(&mut self, meta: PackedMeta)
+        ensures { self.new ≡ record self.old { meta = meta } }
+    {
+        self.body.meta = meta;
+    }
+
+    // Lets the body go stale at a moment.
+    pub(crate) fn expire_at(&mut self, moment: Moment)
+        ensures { self.new ≡ record self.old { meta = expired moment self.old.meta } }
+    {
+        self.body.meta.expire_at(moment);
+    }
 }
 
 // How many readers a write has, and what they are left with once it is in flight no more.

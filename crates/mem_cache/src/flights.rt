@@ -13,6 +13,7 @@ use crate::flight::Flight;
 use bytes::Bytes;
 use cache_store::storage::StoreFault;
 use cache_words::key::HashBinary;
+use packed_meta::PackedMeta;
 use std::alloc::{AllocError, Global};
 use std::collections::BTreeMap;
 
@@ -83,6 +84,19 @@ pub(crate) fn share(flights: &mut Flights, alloc: Global, number: u64) -> Result
 {
     let flight = flights.get_mut(&number).unwrap();
     flight.buffer.share(alloc)
+}
+
+// Packs the meta of a write.
+pub(crate) fn packed_meta(
+    flights: &Flights,
+    alloc: Global,
+    number: u64,
+) -> Result<PackedMeta, AllocError>
+    requires { is_some (get nat_cmp flights.now number) ≡ true }
+    ensures { IfOk result (λ meta. (f : FlightValue) → get nat_cmp flights.now number ≡ Some f → meta ≡ f.meta) }
+{
+    let flight = flights.get(&number).unwrap();
+    PackedMeta::pack(alloc, &flight.meta)
 }
 
 // Returns the key of a write.

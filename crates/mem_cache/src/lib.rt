@@ -15,3 +15,4 @@ mod storage;
 mod stored_key;
 
 pub use cache::MemCache;
+pub use packed_meta::PackedMeta;

@@ -9,10 +9,11 @@ ghost use Rattle.mem_cache.specs.Looks.{MemLookAnswer, MemStreamAnswer, tag_numb
 use crate::MemCache;
 use crate::flight::{Body, Shown};
 use crate::handlers::{CompleteHit, MemHitHandler, PartialHit};
-use crate::meta::copy_of;
+use crate::meta::{copy_of, unpacked};
 use cache_store::storage::streaming_write::U64WriteId;
 use cache_store::storage::{Found, StoreFault};
 use cache_words::key::HashBinary;
+use std::alloc::Global;
 use std::hash::BuildHasher;
 
 // Returns the number that a tag names.
@@ -26,10 +27,10 @@ pub(crate) fn number_of(tag: Option<&[u8]>) -> Option<u64>
 }
 
 // Returns what a look-up found where that is a body, which is shared.
-fn found_body(body: &Body) -> Result<Found<MemHitHandler>, StoreFault>
+fn found_body(alloc: Global, body: &Body) -> Result<Found<MemHitHandler>, StoreFault>
     ensures { MatchResult result (λ found. found ≡ Some (body.now.meta, Handler.Complete (unread body.now.bytes))) (λ f. f ≡ Fault.Memory) }
 {
-    let meta = copy_of(&body.meta)?;
+    let meta = unpacked(alloc, &body.meta)?;
     let shared: Result<_, _> = body.bytes.clone();
     match shared {
         Ok(bytes) => Ok(Some((meta, MemHitHandler::Complete(CompleteHit::new(bytes))))),
@@ -44,7 +45,7 @@ impl<S: BuildHasher> MemCache<S> {
     {
         let (meta, number) = match self.shown(key) {
             None => return Ok(None),
-            Some(Shown::Body(body)) => return found_body(body),
+            Some(Shown::Body(body)) => return found_body(self.alloc, body),
             Some(Shown::Flying(number, flight)) => match copy_of(&flight.meta) {
                 Ok(meta) => (meta, number),
                 Err(fault) => return Err(fault),

@@ -8,6 +8,8 @@ use cache_heads::CacheMeta;
 use cache_metas::versions::InternalMetaV2;
 use cache_store::storage::StoreFault;
 use cache_words::time::Moment;
+use packed_meta::PackedMeta;
+use std::alloc::Global;
 
 // Returns a copy of a meta, whose head shares its values.
 pub(crate) fn copy_of(meta: &CacheMeta) -> Result<CacheMeta, StoreFault>
@@ -53,5 +55,30 @@ pub(crate) fn written_copy(meta: &CacheMeta) -> Result<CacheMeta, StoreFault>
         copy_of(meta)
     } else {
         Err(StoreFault::MetaMoment)
+    }
+}
+
+// Returns a meta that can be written, packed.
+pub(crate) fn written_packed(alloc: Global, meta: &CacheMeta) -> Result<PackedMeta, StoreFault>
+    ensures value { IfOk result (λ packed. (packed ≡ meta.now) × IsWritable meta.now.internal) }
+    ensures fault { IfErr result (Refused meta.now) }
+{
+    if !is_writable(&meta.internal) {
+        return Err(StoreFault::MetaMoment);
+    }
+    match PackedMeta::pack(alloc, meta) {
+        Ok(packed) => Ok(packed),
+        Err(_) => Err(StoreFault::Memory),
+    }
+}
+
+// Returns a packed meta, with its head read.
+pub(crate) fn unpacked(alloc: Global, packed: &PackedMeta) -> Result<CacheMeta, StoreFault>
+    ensures value { IfOk result (λ meta. meta ≡ packed.now) }
+    ensures fault { IfErr result (λ f. f ≡ Fault.Memory) }
+{
+    match packed.unpack(alloc) {
+        Ok(meta) => Ok(meta),
+        Err(_) => Err(StoreFault::Memory),
     }
 }

@@ -82,7 +82,7 @@ fn step_is_done(store: &mut MemCache, alloc: Global, step: Step) -> Option<bool>
 fn is_kept(store: &MemCache, stored_key: &HashBinary, row: Row) -> bool {
     let body = match store.finished(stored_key) {
         Some((meta, bytes)) => {
-            (meta.internal.fresh_until == Moment::from_seconds(1300)).then_some(bytes.as_slice())
+            (meta.fresh_until() == Moment::from_seconds(1300)).then_some(bytes.as_slice())
         }
         None => None,
     };

@@ -10,6 +10,8 @@ mod memory;
 #[cfg(test)]
 mod nothing;
 #[cfg(test)]
+mod packed;
+#[cfg(test)]
 mod samples;
 #[cfg(test)]
 mod streaming;

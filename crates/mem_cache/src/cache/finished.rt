@@ -8,13 +8,13 @@ ghost use Rattle.cache_heads.specs.declared.meta.CacheMeta.{CacheMeta as Meta};
 use super::MemCache;
 use crate::bodies;
 use bytes::Bytes;
-use cache_heads::CacheMeta;
 use cache_words::key::HashBinary;
+use packed_meta::PackedMeta;
 use std::hash::BuildHasher;
 
 impl<S: BuildHasher> MemCache<S> {
     /// Lends the finished body of a stored key, with its meta. Writes in flight are not looked at, and no memory is taken.
-    pub fn finished(&self, key: &HashBinary) -> Option<(&CacheMeta, &Bytes)>
+    pub fn finished(&self, key: &HashBinary) -> Option<(&PackedMeta, &Bytes)>
         ensures { option_map {U = Meta × List ℕ} (λ f. (f.0.now, f.1.now)) result ≡ option_map (λ x. (x.meta, x.bytes)) (body_at key.now self.now.store) }
     {
         match bodies::get(&self.bodies, key) {

@@ -5,11 +5,12 @@ ghost use Rattle.cache_store.specs.Renewals.{expired, IsRenewed, UpdateAnswer};
 
 use super::MemCache;
 use crate::bodies;
-use crate::meta::written_copy;
+use crate::meta::written_packed;
 use cache_heads::CacheMeta;
 use cache_store::storage::StoreFault;
 use cache_words::key::HashBinary;
 use cache_words::time::Moment;
+use packed_meta::PackedMeta;
 use std::hash::BuildHasher;
 
 impl<S: BuildHasher> MemCache<S> {
@@ -22,7 +23,7 @@ impl<S: BuildHasher> MemCache<S> {
     }
 
     // Gives the body of a key another meta, and returns whether there is one.
-    fn set_meta(&mut self, key: &HashBinary, meta: CacheMeta) -> bool
+    fn set_meta(&mut self, key: &HashBinary, meta: PackedMeta) -> bool
         ensures found { result ≡ is_some (body_at key.now self.old.store) }
         ensures renewed { IsRenewed key.now (λ _. meta) self.old self.new }
     {
@@ -47,9 +48,9 @@ impl<S: BuildHasher> MemCache<S> {
         if !self.has_body(key) {
             return Err(StoreFault::NoMeta);
         }
-        match written_copy(meta) {
-            Ok(copy) => {
-                self.set_meta(key, copy);
+        match written_packed(self.alloc, meta) {
+            Ok(packed) => {
+                self.set_meta(key, packed);
                 Ok(())
             }
             Err(fault) => Err(fault),

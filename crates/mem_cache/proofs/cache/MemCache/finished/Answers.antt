@@ -1,4 +1,3 @@
-use Rattle.std.proofs.Common.{sym}
 use Rattle.std.specs.Prelude.{None, Some}
 use Rattle.mem_cache.proofs.FinishedLaws.{lent-kept}
 use Rattle.mem_cache.proofs.cache.MemCache.finished.Goals as goal

@@ -1,0 +1,13 @@
+use Rattle.std.proofs.Common.{◌≡◌, ◌++◌}
+use Rattle.std.specs.Prelude.{flat_map}
+use Rattle.std.specs.List.{AllByRecursion}
+use Rattle.http_header.specs.HeaderMap.{pairs}
+use Rattle.cache_metas.specs.Head.{line_of}
+use Rattle.packed_meta.specs.Packed.{IsPlainField}
+use Rattle.packed_meta.proofs.put_fields.Given as goal
+
+abbrev pub invariant-each : goal.invariant-each
+invariant-each l = record {
+  fields : AllByRecursion IsPlainField l.name-iterator → AllByRecursion IsPlainField (pairs l.headers);
+  text : l.out.items ++ flat_map line_of l.name-iterator ≡ l.fn.out.items ++ flat_map line_of (pairs l.headers);
+}
