@@ -9,7 +9,7 @@ top=$(cd "$(dirname "$0")/.." && pwd)
 work=$(mktemp -d)
 trap 'rm -rf "$work"' EXIT
 mkdir -p "$work/crates/calls/src"
-for name in cache_words cache_headers cache_directives cache_metas cache_heads cache_entries cache_changes cache_store mem_cache; do
+for name in cache_words cache_headers cache_directives cache_metas cache_heads cache_entries cache_changes cache_store packed_meta mem_cache; do
     cp -r --reflink=auto "$top/crates/$name" "$work/crates/"
     grep "^$name:" "$top/crates.txt" >> "$work/crates.txt"
 done

@@ -1,7 +1,7 @@
 //! Metas of responses, packed: a cache keeps many, and a head takes several times less memory as bytes than as a map of fields.
 #![tactic(auto)]
 
-ghost use Rattle.std.specs.Prelude.{◌≡◌, ◌++◌, true, flat_map, Ok, IfOk, IfSome, OnOk};
+ghost use Rattle.std.specs.Prelude.{◌≡◌, ◌++◌, true, flat_map, Ok, IsOk, IfOk, IfSome, OnOk};
 ghost use Rattle.std.specs.List.{AllByRecursion};
 ghost use Rattle.http_header.specs.HeaderMap.{pairs};
 ghost use Rattle.http.specs.StatusCode.{IsStatusCode};
@@ -22,8 +22,11 @@ use http_header::{HeaderMap, HeaderName, HeaderValue};
 use std::alloc::{AllocError, Global};
 use std::marker::Model;
 
-// The moments and numbers of a meta that was stored once: it was updated when it was created, from there its age counts, and it
-// varies by nothing.
+#[cfg(test)]
+mod tests;
+
+// The moments and numbers of a meta that was stored once: its update and its provenance are its creation, no other moment is its
+// epoch, and it varies by nothing.
 #[derive(Clone, Copy)]
 struct ShortInternal {
     fresh_until: Moment,
@@ -69,7 +72,8 @@ impl Model for PackedMeta {
 
 // Whether moments and numbers can be kept in short.
 fn is_short(internal: &InternalMetaV2) -> bool
-    ensures { result ≡ true → internal.now ≡ in_short internal.now }
+    ensures short { result ≡ true → internal.now ≡ in_short internal.now }
+    ensures whole { internal.now ≡ in_short internal.now → result ≡ true }
 {
     let was_created = match internal.provenance {
         Some(provenance) => provenance == internal.created,
@@ -84,7 +88,8 @@ fn is_short(internal: &InternalMetaV2) -> bool
 impl KeptInternal {
     // Keeps moments and numbers.
     fn of(alloc: Global, internal: &InternalMetaV2) -> Result<KeptInternal, AllocError>
-        ensures { IfOk result (λ kept. kept_internal kept ≡ internal.now) }
+        ensures kept { IfOk result (λ kept. kept_internal kept ≡ internal.now) }
+        ensures short { internal.now ≡ in_short internal.now → IsOk result }
     {
         if is_short(internal) {
             return Ok(KeptInternal::Short(ShortInternal {
@@ -189,10 +194,16 @@ fn room_for(headers: &HeaderMap) -> usize {
     room
 }
 
-// Writes a head, if it is read as the same head.
+// The most names of a head that is packed: each look-up reads it again, and names that collide are compared with one another.
+const MOST_NAMES: usize = 256;
+
+// Writes a head, if it is read as the same head. Nothing says when there is none, since memory may run out.
 fn packed(alloc: Global, header: &ResponseHeader) -> Option<Vec<u8>>
     ensures { IfSome result (λ text. value_of (head_at text.items) ≡ Ok header.now) }
 {
+    if header.headers.keys_len() > MOST_NAMES {
+        return None;
+    }
     let Ok(count) = u32::try_from(header.headers.len()) else {
         return None;
     };
@@ -237,7 +248,8 @@ impl KeptHead {
 }
 
 impl PackedMeta {
-    /// Packs a meta. A head that bytes would not give back is copied, as one in which a value is marked as sensitive.
+    /// Packs a meta. A head is cloned, so that it shares its values' buffers, where its bytes would not give it back or memory for
+    /// them runs out: where a value is marked as sensitive, or has 2^32 bytes. So is one of more than 256 names.
     ///
     /// # Errors
     ///

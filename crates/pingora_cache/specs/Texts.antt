@@ -4,7 +4,7 @@ use Rattle.pingora_cache.specs.declared.put.outcome.PutFault.{PutFault}
 use Rattle.pingora_cache.specs.declared.put.outcome.PutFault.TheVariants.{BadHead, ResponseTooLarge, Incomplete, MetaMoment, WriteNumbersSpent, Weight, Length, NumbersSpent, Memory}
 
 abbrev pub put_fault_text : PutFault → List ℕ
-put_fault_text BadHead = codes "the bytes are no head"
+put_fault_text BadHead = codes "the bytes are no head, or one out of bounds"
 put_fault_text ResponseTooLarge = codes "response too large"
 put_fault_text Incomplete = codes "the response ends too early"
 put_fault_text MetaMoment = codes "a moment of the meta can't be written"

@@ -111,7 +111,7 @@ impl<C: CachePut> CachePutCtx<C> {
         }
     }
 
-    /// Sets the most bytes that a body may have.
+    /// Sets the most bytes that a body may have. It bounds what is stored: a response is read whole all the same.
     pub fn set_max_file_size_bytes(&mut self, max_file_size_bytes: usize)
         ensures { self.new ≡ record self.old { max_file_size_bytes = Some max_file_size_bytes } }
     {
@@ -126,8 +126,8 @@ impl<C: CachePut> CachePutCtx<C> {
     ///
     /// The first that holds of `BadHead`, `ResponseTooLarge`, `Incomplete` and, after an uncacheable response's reason,
     /// `WriteNumbersSpent` and `MetaMoment`: the store and the order of use are as before. `Weight`, `Length`, `NumbersSpent` and
-    /// `Memory` where the entry isn't admitted or memory runs out in the evictions: what was stored is removed again with its
-    /// entry, and the evictions that are told are done. `Memory` too before anything is stored, when a write may have used a number.
+    /// `Memory` where the entry isn't admitted or memory runs out in the evictions: all that is stored under the key is removed with its
+    /// entry, an earlier body and other writes in flight too, and the evictions that are told are done. `Memory` too before anything is stored, when a write may have used a number.
     pub fn cache_put<S: Storage, E: EvictionManager, P, L, R: Rng>(
         &mut self,
         alloc: Global,

@@ -61,7 +61,7 @@ pub(crate) fn cache(alloc: Global, limit: usize) -> Option<Cache> {
     })
 }
 
-fn key(alloc: Global, name: u8) -> Option<CacheKey> {
+pub(crate) fn key(alloc: Global, name: u8) -> Option<CacheKey> {
     let primary = Vec::from_slice(alloc, &[name]).ok()?;
     Some(CacheKey::new(primary, String::from_str(alloc, "").ok()?))
 }

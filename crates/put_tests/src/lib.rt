@@ -7,3 +7,5 @@ mod bench;
 mod evictions;
 #[cfg(test)]
 mod responses;
+#[cfg(test)]
+mod traced;

@@ -37,24 +37,28 @@ impl Buffer {
         }
     }
 
-    // Shares all bytes, without a copy.
+    // Shares all bytes, without a copy and without room for more.
     pub(crate) fn share(&mut self, alloc: Global) -> Result<Bytes, AllocError>
         ensures value { IfOk result (λ bytes. bytes ≡ bytes_in self.old) }
         ensures kept { bytes_in self.new ≡ bytes_in self.old }
     {
         match self {
             Buffer::Shared(bytes) => bytes.clone(),
-            Buffer::Open(bytes) => match Bytes::from_vec(mem::replace(bytes, Vec::new(alloc))) {
-                Ok(shared) => {
-                    let copy: Result<_, _> = shared.clone();
-                    *self = Buffer::Shared(shared);
-                    copy
+            Buffer::Open(bytes) => {
+                let mut whole = mem::replace(bytes, Vec::new(alloc));
+                whole.shrink_to_fit();
+                match Bytes::from_vec(whole) {
+                    Ok(shared) => {
+                        let copy: Result<_, _> = shared.clone();
+                        *self = Buffer::Shared(shared);
+                        copy
+                    }
+                    Err(refused) => {
+                        *bytes = refused.value;
+                        Err(AllocError)
+                    }
                 }
-                Err(refused) => {
-                    *bytes = refused.value;
-                    Err(AllocError)
-                }
-            },
+            }
         }
     }
 

@@ -14,11 +14,11 @@ use std::fmt;
 /// What came of a put that was not refused.
 #[derive(Debug, Drop)]
 pub enum PutOutcome {
-    /// The body is stored.
+    /// The body was stored. Where it weighs more than the limit its own entry is among the evicted, and it is gone again.
     Stored {
         /// The body's length in bytes.
         size: usize,
-        /// The entries that were evicted, in order.
+        /// The entries that were evicted, in order, perhaps this one too.
         evicted: Vec<CacheEntryKey>,
     },
     /// The response is whole and not kept.
@@ -28,9 +28,9 @@ pub enum PutOutcome {
 /// What a put did before it was refused.
 #[derive(Debug, Drop)]
 pub struct Done {
-    /// The body was stored, and is removed again.
+    /// Whether the body was stored; it is then removed again.
     pub stored: bool,
-    /// Its entry was admitted to the order of use, and is removed again.
+    /// Whether its entry was admitted to the order of use; it is then removed again.
     pub admitted: bool,
     /// The entries evicted, in order.
     pub evicted: Vec<CacheEntryKey>,
@@ -78,7 +78,7 @@ impl fmt::Display for PutFault {
 
     fn fmt<W: fmt::Write>(&self, f: &mut fmt::Formatter<W>) -> fmt::Result {
         f.write_str(match self {
-            PutFault::BadHead => "the bytes are no head",
+            PutFault::BadHead => "the bytes are no head, or one out of bounds",
             PutFault::ResponseTooLarge => "response too large",
             PutFault::Incomplete => "the response ends too early",
             PutFault::MetaMoment => "a moment of the meta can't be written",
