@@ -11,9 +11,11 @@ use pingora_cache::{CacheKey, CacheMetaDefaults, MemCache, NoCacheReason, Parts,
 use rand_pcg::Pcg32;
 use std::alloc::{AllocError, Global};
 
-// Keeps what the lines of a header allow.
+// Keeps what the lines of a header allow, and counts the lines of the heads that it notes.
 #[derive(Drop)]
-struct ByLines;
+pub(crate) struct ByLines {
+    pub(crate) lines: usize,
+}
 
 impl CachePut for ByLines {
     type Lifetimes = NeverByStatus;
@@ -37,6 +39,10 @@ impl CachePut for ByLines {
             stale_while_revalidate_sec: 1,
             stale_if_error_sec: 1,
         }
+    }
+
+    fn trace_header(&mut self, response: &ResponseHeader) {
+        self.lines = self.lines.saturating_add(response.headers.len());
     }
 }
 
@@ -89,7 +95,7 @@ pub(crate) fn put_into(
     second: i64,
     pieces: &[Bytes],
 ) -> Option<Result<PutOutcome, PutFault>> {
-    let mut ctx = CachePutCtx::new(ByLines, key(alloc, name)?);
+    let mut ctx = CachePutCtx::new(ByLines { lines: 0 }, key(alloc, name)?);
     if let Some(limit) = limit {
         ctx.set_max_file_size_bytes(limit);
     }
