@@ -3,6 +3,7 @@ pub mod Matches
 pub mod OneReading
 pub mod SomeReading
 pub mod Texts
+pub mod Places
 pub mod Listing
 pub mod Keeping
 pub mod Lifetimes

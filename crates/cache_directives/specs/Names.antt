@@ -1,6 +1,6 @@
 -- The text of a directive's name, and the key that it has.
-use Rattle.std.specs.Prelude.{◌≡◌, List, [], ◌∷◌, ℕ, Bool, false, codes, string_bytes, nat_eq}
-use Rattle.std.specs.List.{list_any}
+use Rattle.std.specs.Prelude.{◌≡◌, List, [], ◌∷◌, ℕ, Bool, false, Option, codes, string_bytes, nat_eq}
+use Rattle.std.specs.List.{list_any, position}
 use Rattle.std.specs.Cmp.Lexicographic.{pointwise}
 use Rattle.cache_directives.specs.declared.key.DirectiveKey.{DirectiveKey}
 use Rattle.cache_directives.specs.declared.key.DirectiveKey.TheVariants.{MaxAge, SMaxAge, NoCache, NoStore, Private, Public, MustRevalidate, ProxyRevalidate, MustUnderstand, NoTransform, Immutable, StaleWhileRevalidate, StaleIfError, OnlyIfCached, Unknown}
@@ -40,6 +40,10 @@ own_names =
     ∷ codes "stale-if-error"
     ∷ codes "only-if-cached"
     ∷ []
+
+-- the place of a name among them
+abbrev pub place_of : List ℕ → Option ℕ
+place_of name = position (λ own. pointwise nat_eq name own) own_names
 
 unfoldable pub has_own_variant : List ℕ → Bool
 has_own_variant name = list_any (λ own. pointwise nat_eq name own) own_names

@@ -1,12 +1,12 @@
 //! Names of directives.
 ghost use Rattle.std.specs.Char.{to_ascii_lowercase};
-ghost use Rattle.std.specs.Prelude.{◌≡◌, ◌↔◌, map, IsTrue, IfOk, IfSome, IfNone, Some, false, nat_eq, string_bytes};
+ghost use Rattle.std.specs.Prelude.{◌≡◌, ◌↔◌, map, IsTrue, IfOk, IfSome, IfNone, Some, false, nat_eq, slice_get, string_bytes};
 ghost use Rattle.std.specs.Hash as fed;
 ghost use Rattle.std.specs.Cmp.{on_equiv, on_per, partial_equiv_from_equiv};
 ghost use Rattle.std.specs.Cmp.Lexicographic.{pointwise, nat_list_eq_equiv};
 ghost use Rattle.std.specs.Cmp.Rules.{hashing};
 ghost use Rattle.std.proofs.Common.{rules};
-ghost use Rattle.cache_directives.specs.Names.{name_of, has_own_variant, IsOwnKey};
+ghost use Rattle.cache_directives.specs.Names.{name_of, own_names, place_of, has_own_variant, IsOwnKey};
 
 use std::alloc::{AllocError, Global};
 use std::fmt;
@@ -34,6 +34,30 @@ pub enum DirectiveKey {
 }
 
 impl DirectiveKey {
+    // The place of its name among the names with a variant of their own, if it has such a variant.
+    fn place(&self) -> Option<u8>
+        ensures at { IfSome result (λ n. slice_get own_names n ≡ Some (name_of self.now)) }
+        ensures first { IfSome result (λ n. place_of (name_of self.now) ≡ Some n) }
+    {
+        match self {
+            DirectiveKey::MaxAge => Some(0),
+            DirectiveKey::SMaxAge => Some(1),
+            DirectiveKey::NoCache => Some(2),
+            DirectiveKey::NoStore => Some(3),
+            DirectiveKey::Private => Some(4),
+            DirectiveKey::Public => Some(5),
+            DirectiveKey::MustRevalidate => Some(6),
+            DirectiveKey::ProxyRevalidate => Some(7),
+            DirectiveKey::MustUnderstand => Some(8),
+            DirectiveKey::NoTransform => Some(9),
+            DirectiveKey::Immutable => Some(10),
+            DirectiveKey::StaleWhileRevalidate => Some(11),
+            DirectiveKey::StaleIfError => Some(12),
+            DirectiveKey::OnlyIfCached => Some(13),
+            DirectiveKey::Unknown(_) => None,
+        }
+    }
+
     /// The name as text.
     pub fn as_str(&self) -> &str
         ensures { result.now ≡ name_of self.now }
@@ -144,8 +168,12 @@ impl PartialEq for DirectiveKey {
 
     ghost laws = { on_per name_of (partial_equiv_from_equiv nat_list_eq_equiv) };
 
+    #[tactic(auto, using(crate::proofs::Places::same_place))]
     fn eq(&self, other: &DirectiveKey) -> bool {
-        self.as_str() == other.as_str()
+        match (self.place(), other.place()) {
+            (Some(place), Some(other_place)) => place == other_place,
+            _ => self.as_str() == other.as_str(),
+        }
     }
 }
 

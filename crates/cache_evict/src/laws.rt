@@ -18,7 +18,7 @@ type Shard = lru::Manager<1>;
 type Single = simple_lru::Manager;
 
 /// At one shard, from the same entries under the same limits, both managers evict the same entries at each call, and leave the
-/// same, whatever is drawn.
+/// same, whatever is drawn. The calls are admissions, accesses and removals: the law says nothing of `increment_weight`.
 pub fn both_evict_alike()
     ensures { (calls : List Call) (old new new' : Managed) (s rest s' rest' : Stream) (gone gone' : List (List CacheEntryKey)) → AreSized calls
         → Runs ⟦<Shard as EvictionManager>⟧.pick 1 ⟦<Shard as EvictionManager>⟧.weighed old s calls gone new rest

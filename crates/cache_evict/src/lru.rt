@@ -56,7 +56,7 @@ impl<const N: usize, S: BuildHasher> fmt::Debug for Manager<N, S> {
 
 impl<const N: usize> Manager<N, BuildHasherDefault<FoldHasher>> {
     /// Returns N shards without entries, which may weigh `limit` together, in the unit of the sizes, as bytes. Room for `capacity`
-    /// entries is reserved.
+    /// entries is reserved, of which no clause speaks.
     ///
     /// # Errors
     ///

@@ -1,11 +1,11 @@
 //! Each refused growth in turn.
-use crate::asks::{Ask, event, events, put_of, tier};
+use crate::asks::{Ask, HUNDRED, event, events, put_of, tier};
 use cache_store::storage::Storage;
 use cache_tier::tier::Tier;
 use cache_words::time::Moment;
 use rand_pcg::Pcg32;
 use std::alloc::Global;
-use tier_model::event::{Action, Answer, Event, TierFault};
+use tier_model::event::{Action, Answer, Done, Event, TierFault};
 
 const OPEN: Ask = Ask::Open(1, b'a', "");
 
@@ -16,14 +16,53 @@ fn look() -> Event {
     }
 }
 
-// Takes an event; `None` where it is refused.
-fn take(alloc: Global, tier: &mut Tier<1>, ask: Ask) -> Option<()> {
-    let mut rng = Pcg32::new(1, 1);
-    let event = event(alloc, 7, ask).ok()?;
-    match tier.step(&mut rng, &event) {
-        Ok(_) => Some(()),
-        Err(_) => None,
+// What came of an event, as a plain value.
+#[derive(Clone, Copy, PartialEq, Eq)]
+enum Outcome {
+    Opened,
+    Found,
+    Absent,
+    // Whether the bytes are those of a body that the fixture puts.
+    Read(bool),
+    // A body of so many bytes, with so many evictions.
+    Finished(usize, usize),
+    // Memory ran out before anything was done.
+    Refused,
+    // Memory ran out before the admission of a put, or before its first eviction, so that its body was taken back.
+    TakenBack,
+    NoRequest,
+    WrongPhase,
+    Else,
+}
+
+fn refusal(done: &Done) -> Outcome {
+    match (done.stored, done.admitted, done.evicted.as_slice().len()) {
+        (false, false, 0) => Outcome::Refused,
+        (true, _, 0) => Outcome::TakenBack,
+        _ => Outcome::Else,
     }
+}
+
+fn outcome_of(answer: &Result<Answer, TierFault>) -> Outcome {
+    match answer {
+        Ok(Answer::Opened) => Outcome::Opened,
+        Ok(Answer::Found { fresh, complete }) if *fresh && *complete => Outcome::Found,
+        Ok(Answer::Absent) => Outcome::Absent,
+        Ok(Answer::Bytes(bytes)) => Outcome::Read(bytes.as_slice() == b"xx".as_slice()),
+        Ok(Answer::Finished { length, evicted }) => {
+            Outcome::Finished(*length, evicted.as_slice().len())
+        }
+        Err(TierFault::Memory(done)) => refusal(done),
+        Err(TierFault::NoRequest) => Outcome::NoRequest,
+        Err(TierFault::WrongPhase) => Outcome::WrongPhase,
+        _ => Outcome::Else,
+    }
+}
+
+fn step(tier: &mut Tier<1>, event: &Event) -> Outcome {
+    let mut rng = Pcg32::new(1, 1);
+    let answer = tier.step(&mut rng, event);
+    outcome_of(&answer)
 }
 
 // A tier with a body of two bytes under each name, and request 1 open for a where that is asked, if no allocation failed on
@@ -31,120 +70,105 @@ fn take(alloc: Global, tier: &mut Tier<1>, ask: Ask) -> Option<()> {
 fn fixture(alloc: Global, limit: usize, names: &[u8], is_open: bool) -> Option<Tier<1>> {
     let mut tier = tier(alloc, limit, None).ok()?;
     for name in names {
-        take(alloc, &mut tier, put_of(*name, "", 2))?;
+        let put = event(alloc, 7, put_of(*name, "", 2)).ok()?;
+        if step(&mut tier, &put) != Outcome::Finished(2, 0) {
+            return None;
+        }
     }
     if is_open {
-        take(alloc, &mut tier, OPEN)?;
+        let open = event(alloc, 7, OPEN).ok()?;
+        if step(&mut tier, &open) != Outcome::Opened {
+            return None;
+        }
     }
     Some(tier)
 }
 
-fn is_memory(outcome: &Result<Answer, TierFault>) -> bool {
-    match outcome {
-        Err(TierFault::Memory(done)) => {
-            !done.stored && !done.admitted && done.evicted.as_slice().is_empty()
+// A call on a fixture.
+#[derive(Clone, Copy)]
+struct Row {
+    limit: usize,
+    names: &'static [u8],
+    is_open: bool,
+    ask: Ask,
+    // What comes of it where memory is there.
+    want: Outcome,
+    // What a look after it gives.
+    look: Outcome,
+    // What a look after its refusal gives.
+    look_after_refusal: Outcome,
+}
+
+const ROWS: [Row; 3] = [
+    Row {
+        limit: 4,
+        names: b"a",
+        is_open: true,
+        ask: Ask::Put(b'b', "", HUNDRED, b"xxxxx"),
+        want: Outcome::Finished(5, 2),
+        look: Outcome::Absent,
+        look_after_refusal: Outcome::Found,
+    },
+    Row {
+        limit: 4,
+        names: b"a",
+        is_open: false,
+        ask: OPEN,
+        want: Outcome::Opened,
+        look: Outcome::Found,
+        look_after_refusal: Outcome::NoRequest,
+    },
+    Row {
+        limit: 8,
+        names: b"abcd",
+        is_open: true,
+        ask: Ask::Look(1),
+        want: Outcome::Found,
+        look: Outcome::WrongPhase,
+        look_after_refusal: Outcome::Found,
+    },
+];
+
+// `None` where memory is refused before the call.
+fn row_holds(alloc: Global, row: Row) -> Option<bool> {
+    let event = event(alloc, 7, row.ask).ok()?;
+    let mut tier = fixture(alloc, row.limit, row.names, row.is_open)?;
+    let before = tier.report();
+    let first = step(&mut tier, &event);
+    let is_put = matches!(row.ask, Ask::Put(_, _, _, _));
+    if first == Outcome::Refused || is_put && first == Outcome::TakenBack {
+        return Some(tier.report() == before && step(&mut tier, &look()) == row.look_after_refusal);
+    }
+    Some(first == row.want && step(&mut tier, &look()) == row.look)
+}
+
+#[test]
+fn calls_without_memory_leave_all(rt: HostRuntime) {
+    let mut failed: Option<usize> = None;
+    for (i, &row) in ROWS.iter().enumerate() {
+        if row_holds(rt.alloc(), row) == Some(false) {
+            failed = Some(i);
         }
-        _ => false,
     }
+    assert_eq!(rt; failed, None);
 }
 
-// Whether memory ran out before the admission of a put, or before its first eviction, so that its body was taken back.
-fn is_taken_back(outcome: &Result<Answer, TierFault>) -> bool {
-    match outcome {
-        Err(TierFault::Memory(done)) => done.stored && done.evicted.as_slice().is_empty(),
-        _ => false,
-    }
-}
-
-fn is_found(outcome: &Result<Answer, TierFault>) -> bool {
-    match outcome {
-        Ok(Answer::Found { fresh, complete }) => *fresh && *complete,
-        _ => false,
-    }
-}
-
-fn is_finished(outcome: &Result<Answer, TierFault>, of: usize, evictions: usize) -> bool {
-    match outcome {
-        Ok(Answer::Finished { length, evicted }) => {
-            *length == of && evicted.as_slice().len() == evictions
-        }
-        _ => false,
-    }
-}
-
-// Each of these functions is `None` where memory is refused before the call that it is about.
-
-fn put_leaves_all(alloc: Global) -> Option<bool> {
-    let mut rng = Pcg32::new(1, 1);
-    let put = event(alloc, 7, put_of(b'b', "", 5)).ok()?;
+// A read takes no memory, whatever fails. `None` where memory is refused before it.
+fn read_comes(alloc: Global) -> Option<bool> {
     let mut tier = fixture(alloc, 4, b"a", true)?;
-    let before = tier.report();
-    let outcome = tier.step(&mut rng, &put);
-    if is_memory(&outcome) || is_taken_back(&outcome) {
-        return Some(tier.report() == before && is_found(&tier.step(&mut rng, &look())));
-    }
-    Some(is_finished(&outcome, 5, 2))
-}
-
-#[test]
-fn a_put_without_memory_leaves_all(rt: HostRuntime) {
-    assert_ne!(rt; put_leaves_all(rt.alloc()), Some(false));
-}
-
-fn open_leaves_all(alloc: Global) -> Option<bool> {
-    let mut rng = Pcg32::new(1, 1);
-    let open = event(alloc, 7, OPEN).ok()?;
-    let mut tier = fixture(alloc, 4, b"a", false)?;
-    let before = tier.report();
-    let outcome = tier.step(&mut rng, &open);
-    if is_memory(&outcome) {
-        let looked = tier.step(&mut rng, &look());
-        return Some(tier.report() == before && matches!(&looked, Err(TierFault::NoRequest)));
-    }
-    Some(outcome.is_ok() && is_found(&tier.step(&mut rng, &look())))
-}
-
-#[test]
-fn an_open_without_memory_leaves_all(rt: HostRuntime) {
-    assert_ne!(rt; open_leaves_all(rt.alloc()), Some(false));
-}
-
-fn look_leaves_all(alloc: Global) -> Option<bool> {
-    let mut rng = Pcg32::new(1, 1);
-    let mut tier = fixture(alloc, 8, b"abcd", true)?;
-    let before = tier.report();
-    let outcome = tier.step(&mut rng, &look());
-    if is_memory(&outcome) {
-        return Some(tier.report() == before && is_found(&tier.step(&mut rng, &look())));
-    }
-    Some(is_found(&outcome))
-}
-
-#[test]
-fn a_look_without_memory_leaves_all(rt: HostRuntime) {
-    assert_ne!(rt; look_leaves_all(rt.alloc()), Some(false));
-}
-
-// A read takes no memory, whatever fails.
-fn is_read(alloc: Global) -> Option<bool> {
-    let mut rng = Pcg32::new(1, 1);
-    let mut tier = fixture(alloc, 4, b"a", true)?;
-    if !is_found(&tier.step(&mut rng, &look())) {
+    if step(&mut tier, &look()) != Outcome::Found {
         return None;
     }
     let read = Event {
         moment: Moment::from_seconds(7),
         action: Action::Read { request: 1 },
     };
-    match tier.step(&mut rng, &read) {
-        Ok(Answer::Bytes(bytes)) => Some(bytes.as_slice() == b"xx".as_slice()),
-        _ => Some(false),
-    }
+    Some(step(&mut tier, &read) == Outcome::Read(true))
 }
 
 #[test]
 fn a_read_takes_no_memory(rt: HostRuntime) {
-    assert_ne!(rt; is_read(rt.alloc()), Some(false));
+    assert_ne!(rt; read_comes(rt.alloc()), Some(false));
 }
 
 fn run_leaves_all(alloc: Global) -> Option<bool> {
@@ -173,7 +197,7 @@ fn a_store_is_lent(rt: HostRuntime) {
     assert_ne!(rt; store_streams(rt.alloc()), Some(false));
 }
 
-// A put, an open, a look and a read, after more puts than any test above makes.
+// A put, an open, a look and a read, after as many puts as the largest fixture of a test above has.
 fn goes_through(alloc: Global) -> bool {
     let mut rng = Pcg32::new(1, 1);
     let Some(mut tier) = fixture(alloc, 8, b"abcd", true) else {
@@ -194,10 +218,10 @@ fn goes_through(alloc: Global) -> bool {
     }
 }
 
-// It takes more memory than each test of a refused growth, and fails where it meets a refusal: so a run with one allocation
-// failing in which it passes met none.
+// It takes more memory than each test of a refused growth, since each of its three tiers takes more calls than theirs, and fails
+// where it meets a refusal: so a run with one allocation failing in which it passes met none.
 #[test]
 fn ample_memory_meets_no_refusal(rt: HostRuntime) {
     let alloc = rt.alloc();
-    assert!(rt; goes_through(alloc) && goes_through(alloc));
+    assert!(rt; goes_through(alloc) && goes_through(alloc) && goes_through(alloc));
 }

@@ -1,6 +1,6 @@
-//! Bytes from hex texts.
-ghost use Rattle.std.specs.Prelude.{◌≡◌, ◌*◌, ◌<◌, ◌↔◌, length, option_map, Some, None, IfOk, if◌then◌else◌};
-ghost use Rattle.hex.specs.Hex.{hex_digit_value, decode_pairs};
+//! Bytes and their hex texts.
+ghost use Rattle.std.specs.Prelude.{◌≡◌, ◌+◌, ◌*◌, ◌<◌, ◌↔◌, ◌++◌, length, take, option_map, slice_index, Some, None, IfOk, if◌then◌else◌};
+ghost use Rattle.hex.specs.Hex.{hex_digit_value, decode_pairs, encode_lower, lower_digits};
 ghost use Rattle.trace_lines.specs.Lines.{hex_bytes};
 ghost use Rattle.trace_lines.specs.Digits.{IsValue, result_bytes};
 
@@ -61,4 +61,35 @@ fn digit(c: u8) -> u8
     } else {
         NO_DIGIT
     }
+}
+
+// The lower-case digit of a value. No table, so that many bytes are encoded at a time.
+fn lower_digit(value: u8) -> u8
+    requires { value < 16 }
+    ensures { result ≡ slice_index lower_digits value }
+{
+    if value < 10 {
+        value + b'0'
+    } else {
+        value - 10 + b'a'
+    }
+}
+
+// Puts two digits for each byte.
+fn encode_into(bytes: &[u8], digits: &mut [u8])
+    requires { length digits.old ≡ 2 * length bytes.now }
+    ensures { digits.new ≡ encode_lower bytes.now }
+{
+    'bytes: for i in 0..bytes.len() {
+        digits[2 * i] = lower_digit(bytes[i] / 16);
+        digits[2 * i + 1] = lower_digit(bytes[i] % 16);
+    }
+}
+
+// The same after the first bytes of a block.
+pub(crate) fn encode_after(bytes: &[u8], block: &mut [u8], start: usize)
+    requires { length block.old ≡ start + 2 * length bytes.now }
+    ensures { block.new ≡ take start block.old ++ encode_lower bytes.now }
+{
+    encode_into(bytes, &mut block[start..]);
 }

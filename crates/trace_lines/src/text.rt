@@ -1,90 +1,113 @@
-//! Writing a line. Each text lacks the line feed that ends it; the only error is out of memory.
-ghost use Rattle.std.specs.Prelude.{◌≡◌, [], IfOk, string_bytes};
-ghost use Rattle.trace_lines.specs.Texts.{fault_label, freshness_text, extent_text, bytes_text, purged_text, answer_text, outcome_text, field_text, reason_text, refusal_text, look_ups_text, bodies_text, entries_text, report_text};
+//! Writing a line. Each is added to what waits, with the line feed that ends it. The only error is out of memory, which leaves what waits
+//! as it was.
+ghost use Rattle.std.specs.Prelude.{◌≡◌, ◌++◌, ◌∷◌, [], codes, IfOk, OnOk, OnErr, string_bytes};
+ghost use Rattle.trace_lines.specs.Texts.{fault_label, bytes_text, answer_text, outcome_text, field_text, reason_text, refusal_text, look_ups_text, bodies_text, entries_text, report_text};
 
+use crate::hex_text;
 use crate::line::{FieldName, Refusal};
-use bytes::Bytes;
 use std::alloc::{AllocError, Global};
 use tier_model::event::{Answer, TierFault};
 use tier_model::report::Report;
 
-// Room for a usual line, with the line feed that is to end it.
+// Room for a usual text.
 const USUAL: usize = 64;
 
-// An empty line, which a usual text fits without another growth.
-fn empty_line(alloc: Global) -> Result<String, AllocError>
+// An empty text, which grows to a usual one without another allocation.
+fn empty_text(alloc: Global) -> Result<String, AllocError>
     ensures { IfOk result (λ text. string_bytes text ≡ []) }
 {
     String::with_capacity(alloc, USUAL)
 }
 
-// A line of that text.
-fn line_of(alloc: Global, text: &str) -> Result<String, AllocError>
-    ensures { IfOk result (λ line. string_bytes line ≡ text.now) }
+// Adds a text and a line feed.
+fn add_line(out: &mut Vec<u8>, text: &str) -> Result<(), AllocError>
+    ensures ok { OnOk result (out.new.items ≡ out.old.items ++ (text.now ++ 10 ∷ [])) }
+    ensures err { OnErr result (out.new.items ≡ out.old.items) }
 {
-    let mut line = empty_line(alloc)?;
-    line.push_str(text)?;
-    Ok(line)
+    out.reserve(text.len() + 1)?;
+    out.extend_from_slice(text.as_bytes())?;
+    out.push_reserved(b'\n');
+    Ok(())
 }
 
-/// Returns the line for the outcome of an event.
-pub fn outcome_line(
+/// Adds the line for the outcome of an event.
+pub fn add_outcome_line(
     alloc: Global,
+    out: &mut Vec<u8>,
     outcome: &Result<Answer, TierFault>,
-) -> Result<String, AllocError>
-    ensures { IfOk result (λ text. string_bytes text ≡ outcome_text outcome.now) }
+) -> Result<(), AllocError>
+    ensures ok { OnOk result (out.new.items ≡ out.old.items ++ (outcome_text outcome.now ++ 10 ∷ [])) }
+    ensures err { OnErr result (out.new.items ≡ out.old.items) }
 {
     match outcome {
-        Ok(answer) => answer_line(alloc, answer),
+        Ok(answer) => add_answer_line(alloc, out, answer),
         Err(fault) => {
             let (number, name) = fault_label(fault);
-            let mut text = empty_line(alloc)?;
+            let mut text = empty_text(alloc)?;
             write!(text, "fault {number} {name}")?;
-            Ok(text)
+            add_line(out, text.as_str())
         }
     }
 }
 
-fn answer_line(alloc: Global, answer: &Answer) -> Result<String, AllocError>
-    ensures { IfOk result (λ text. string_bytes text ≡ answer_text answer.now) }
+fn add_answer_line(alloc: Global, out: &mut Vec<u8>, answer: &Answer) -> Result<(), AllocError>
+    ensures ok { OnOk result (out.new.items ≡ out.old.items ++ (answer_text answer.now ++ 10 ∷ [])) }
+    ensures err { OnErr result (out.new.items ≡ out.old.items) }
 {
     match answer {
-        Answer::Opened => line_of(alloc, "opened"),
-        Answer::Found { fresh, complete } => {
-            let freshness = if *fresh { "fresh" } else { "stale" };
-            let extent = if *complete { "complete" } else { "partial" };
-            let mut text = empty_line(alloc)?;
-            write!(text, "found {freshness} {extent} lock=none")?;
-            Ok(text)
-        }
-        Answer::Absent => line_of(alloc, "absent lock=none"),
-        Answer::Bytes(bytes) => bytes_line(alloc, bytes),
-        Answer::End => line_of(alloc, "end"),
-        Answer::Dropped => line_of(alloc, "dropped"),
+        Answer::Opened => add_line(out, "opened"),
+        Answer::Found { fresh, complete } => add_line(out, found_text(*fresh, *complete)),
+        Answer::Absent => add_line(out, "absent lock=none"),
+        Answer::Bytes(bytes) => add_bytes_line(out, bytes.as_slice()),
+        Answer::End => add_line(out, "end"),
+        Answer::Dropped => add_line(out, "dropped"),
         Answer::Purged(was_stored) => {
-            line_of(alloc, if *was_stored { "purged" } else { "nothing" })
+            add_line(out, if *was_stored { "purged" } else { "nothing" })
         }
         Answer::Finished { length, evicted } => {
             let count = evicted.as_slice().len();
-            let mut text = empty_line(alloc)?;
+            let mut text = empty_text(alloc)?;
             write!(text, "finished {length} evicted={count}")?;
-            Ok(text)
+            add_line(out, text.as_str())
         }
         Answer::Uncacheable(reason) => {
             let reason = reason.as_str();
-            format!(in alloc; "uncacheable {reason}")
+            let mut text = empty_text(alloc)?;
+            write!(text, "uncacheable {reason}")?;
+            add_line(out, text.as_str())
         }
     }
 }
 
-fn bytes_line(alloc: Global, bytes: &Bytes) -> Result<String, AllocError>
-    ensures { IfOk result (λ text. string_bytes text ≡ answer_text (Answer.Bytes bytes.now)) }
+fn found_text(fresh: bool, complete: bool) -> &'static str
+    ensures { result.now ≡ answer_text (Answer.Found fresh complete) }
 {
-    if bytes.as_slice().is_empty() {
-        return String::from_str(alloc, "bytes -");
+    match (fresh, complete) {
+        (true, true) => "found fresh complete lock=none",
+        (true, false) => "found fresh partial lock=none",
+        (false, true) => "found stale complete lock=none",
+        (false, false) => "found stale partial lock=none",
     }
-    let text = hex::encode(alloc, bytes.as_slice())?;
-    format!(in alloc; "bytes {text}")
+}
+
+fn add_bytes_line(out: &mut Vec<u8>, bytes: &[u8]) -> Result<(), AllocError>
+    ensures ok { OnOk result (out.new.items ≡ out.old.items ++ ((codes "bytes " ++ bytes_text bytes.now) ++ 10 ∷ [])) }
+    ensures err { OnErr result (out.new.items ≡ out.old.items) }
+{
+    if bytes.is_empty() {
+        return add_line(out, "bytes -");
+    }
+    let digits = bytes.len() * 2;
+    let Some(room) = digits.checked_add(7) else {
+        return Err(AllocError);
+    };
+    out.reserve(room)?;
+    out.extend_from_slice(b"bytes ")?;
+    let start = out.len();
+    out.resize(start + digits, 0)?;
+    hex_text::encode_after(bytes, out.as_mut_slice(), start);
+    out.push_reserved(b'\n');
+    Ok(())
 }
 
 // A fault's number and name.
@@ -110,42 +133,42 @@ fn fault_label(fault: &TierFault) -> (u8, &'static str)
     }
 }
 
-/// Returns the line for a refused line.
-pub fn refusal_line(alloc: Global, refusal: &Refusal) -> Result<String, AllocError>
-    ensures { IfOk result (λ text. string_bytes text ≡ refusal_text refusal.now) }
+/// Adds the line for a refused line.
+pub fn add_refusal_line(out: &mut Vec<u8>, refusal: &Refusal) -> Result<(), AllocError>
+    ensures ok { OnOk result (out.new.items ≡ out.old.items ++ (refusal_text refusal.now ++ 10 ∷ [])) }
+    ensures err { OnErr result (out.new.items ≡ out.old.items) }
 {
     match refusal {
-        Refusal::NotJson => line_of(alloc, "refused NotJson"),
-        Refusal::NotObject => line_of(alloc, "refused NotObject"),
-        Refusal::Op => line_of(alloc, "refused Op"),
-        Refusal::Field(field) => {
-            let name = field_name(*field);
-            format!(in alloc; "refused Field {name}")
-        }
+        Refusal::NotJson => add_line(out, "refused NotJson"),
+        Refusal::NotObject => add_line(out, "refused NotObject"),
+        Refusal::Op => add_line(out, "refused Op"),
+        Refusal::Field(field) => add_line(out, field_refusal_text(*field)),
     }
 }
 
-fn field_name(field: FieldName) -> &'static str
-    ensures { result.now ≡ field_text field }
+fn field_refusal_text(field: FieldName) -> &'static str
+    ensures { result.now ≡ refusal_text (Refusal.Field field) }
 {
     match field {
-        FieldName::At => "at",
-        FieldName::Id => "id",
-        FieldName::Key => "key",
-        FieldName::Tag => "tag",
-        FieldName::Lock => "lock",
-        FieldName::Pieces => "pieces",
+        FieldName::At => "refused Field at",
+        FieldName::Id => "refused Field id",
+        FieldName::Key => "refused Field key",
+        FieldName::Tag => "refused Field tag",
+        FieldName::Lock => "refused Field lock",
+        FieldName::Pieces => "refused Field pieces",
     }
 }
 
-/// Returns the last line: what the tier did and holds.
-pub fn report_line(alloc: Global, report: &Report) -> Result<String, AllocError>
-    ensures { IfOk result (λ text. string_bytes text ≡ report_text report.now) }
+/// Adds the last line: what the tier did and holds.
+pub fn add_report_line(alloc: Global, out: &mut Vec<u8>, report: &Report) -> Result<(), AllocError>
+    ensures ok { OnOk result (out.new.items ≡ out.old.items ++ (report_text report.now ++ 10 ∷ [])) }
+    ensures err { OnErr result (out.new.items ≡ out.old.items) }
 {
     let look_ups = look_ups(alloc, report)?;
     let bodies = bodies(alloc, report)?;
     let entries = entries(alloc, report)?;
-    format!(in alloc; "report {look_ups} {bodies} {entries}")
+    let text = format!(in alloc; "report {look_ups} {bodies} {entries}")?;
+    add_line(out, text.as_str())
 }
 
 fn look_ups(alloc: Global, report: &Report) -> Result<String, AllocError>

@@ -1,5 +1,6 @@
 pub mod LineLemmas
 pub mod InputLemmas
+pub mod WindowLemmas
 pub mod OutputLemmas
 pub mod Progress
 pub mod OptionLemmas

@@ -8,7 +8,7 @@ use Rattle.tier_model.specs.Calls.{Call, History, Outcome, extended}
 use Rattle.tier_model.specs.Histories.{empty_opening}
 use Rattle.tier_model.specs.Past.{HasPast, AreTaken, CarriesHeadline}
 use Rattle.tier_model.specs.Reports.{report_of}
-use Rattle.tier_model.specs.State.{State, empty_state}
+use Rattle.tier_model.specs.State.{empty_state}
 use Rattle.tier_model.proofs.Carried.{empty-past, CarriesHeadline-taken}
 use Rattle.cache_tier.specs.Draws.{AreAllDrawn, Takes}
 use Rattle.cache_tier.proofs.RunLaws.{StepsBy-takes, taken-more, drawn-more}

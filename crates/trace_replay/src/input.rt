@@ -1,5 +1,5 @@
 //! Lines of a stream, found in what was read ahead of them.
-ghost use Rattle.std.specs.Prelude.{◌≡◌, ◌≢◌, ℕ, List, [], ◌++◌, ◌≤◌, ◌<◌, ◌+◌, All, take, drop, length, IfOk, OnOk, OnErr, IfSome};
+ghost use Rattle.std.specs.Prelude.{◌≡◌, ◌≢◌, ℕ, List, [], ◌++◌, ◌≤◌, ◌<◌, ◌+◌, ◌*◌, All, take, drop, length, IfOk, OnOk, OnErr, IfSome};
 ghost use Rattle.std.specs.Io.KnownBytes.{Consumes, Keeps, IsAtEnd, prepend_known};
 ghost use Rattle.trace_replay.specs.Inputs.{IsLineOf, IsLineBefore};
 
@@ -8,28 +8,29 @@ use std::alloc::{AllocError, Global};
 use std::io::{self, Read};
 use std::marker::Model;
 
-// The most bytes that one read asks for.
-const CHUNK: usize = 65536;
+// How many bytes the first block has room for.
+const BLOCK: usize = 65536;
+
+// After a longer line no room for such lines is kept.
+const MOST_KEPT: usize = 1 << 20;
 
 // What was read of a stream and not yet taken. A clause sees these bytes.
 #[derive(Drop)]
 pub(crate) struct Input {
-    held: Vec<u8>,
-    // How many of the held bytes are taken.
+    // The bytes lie at `start..end`.
+    block: Vec<u8>,
     start: usize,
-    // Takes the place of `held` where bytes are moved to the front.
-    spare: Vec<u8>,
-    chunk: Vec<u8>,
+    end: usize,
 }
 
 impl Model for Input {
-    ghost use Rattle.std.specs.Prelude.{ℕ, List, drop, ◌≤◌, ◌<◌, length};
+    ghost use Rattle.std.specs.Prelude.{ℕ, List, drop, take, ◌≤◌, ◌-◌, ◌<◌, length};
 
     ghost Value = { List ℕ };
 
-    ghost view = { λ i. drop i.start i.held.items };
+    ghost view = { λ i. take (i.end - i.start) (drop i.start i.block.items) };
 
-    ghost invariant = { λ i. (i.start ≤ length i.held.items) × (0 < length i.chunk.items) };
+    ghost invariant = { λ i. (i.start ≤ i.end) × (i.end ≤ length i.block.items) × (0 < length i.block.items) };
 }
 
 impl Input {
@@ -37,10 +38,9 @@ impl Input {
         ensures { IfOk result (λ input. input ≡ []) }
     {
         Ok(Input {
-            held: Vec::new(alloc),
+            block: vec![in alloc; 0u8; BLOCK]?,
             start: 0,
-            spare: Vec::new(alloc),
-            chunk: vec![in alloc; 0u8; CHUNK]?,
+            end: 0,
         })
     }
 
@@ -48,7 +48,7 @@ impl Input {
     fn bytes(&self) -> &[u8]
         ensures { result.now ≡ self.now }
     {
-        &self.held.as_slice()[self.start..]
+        &self.block.as_slice()[self.start..self.end]
     }
 
     // The length of the first line, with its line feed, if it is held whole. No line feed is among the first `searched`.
@@ -111,27 +111,61 @@ impl Input {
             × Consumes (R.remaining reader.old) (R.remaining reader.new) bytes) }
         ensures end { IfOk result (λ n. n ≡ 0 → IsAtEnd (R.remaining reader.new)) }
     {
-        self.move_to_front()?;
-        let count = read_some(reader, self.chunk.as_mut_slice())?;
-        self.held
-            .extend_from_slice(&self.chunk.as_slice()[..count])?;
+        self.move_to_front();
+        self.give_room_back();
+        make_room(&mut self.block, self.end)?;
+        let count = read_after(reader, self.block.as_mut_slice(), self.end)?;
+        self.end += count;
         Ok(count)
     }
 
-    // Gives the place of the bytes that are taken back.
-    fn move_to_front(&mut self) -> Result<(), AllocError>
-        ensures same { OnOk result (self.new ≡ self.old) }
+    // Moves the bytes to the start of the block.
+    fn move_to_front(&mut self)
+        ensures same { self.new ≡ self.old }
     {
-        if self.start == 0 {
-            return Ok(());
+        if self.start > 0 {
+            self.block.copy_within(self.start..self.end, 0);
+            self.end -= self.start;
+            self.start = 0;
         }
-        self.spare.clear();
-        self.spare
-            .extend_from_slice(&self.held.as_slice()[self.start..])?;
-        std::mem::swap(&mut self.held, &mut self.spare);
-        self.start = 0;
-        Ok(())
     }
+
+    // Takes the first block's place again after a long line.
+    fn give_room_back(&mut self)
+        ensures { self.new ≡ self.old }
+    {
+        if self.block.len() > MOST_KEPT && self.end <= BLOCK {
+            self.block.truncate(BLOCK);
+            self.block.shrink_to(BLOCK);
+        }
+    }
+}
+
+// Takes a larger block where a read would have too little room after `end`, so that few reads are made for a long line.
+fn make_room(block: &mut Vec<u8>, end: usize) -> Result<(), AllocError>
+    requires { (end ≤ length block.old.items) × (0 < length block.old.items) }
+    ensures room { OnOk result ((end < length block.new.items) × (take end block.new.items ≡ take end block.old.items)) }
+    ensures same { end + 32768 ≤ length block.old.items → block.new.items ≡ block.old.items }
+    ensures size { length block.new.items ≤ 2 * length block.old.items }
+    ensures err { OnErr result (block.new.items ≡ block.old.items) }
+{
+    let len = block.len();
+    if len - end < BLOCK / 2 {
+        block.resize(len * 2, 0)?;
+    }
+    Ok(())
+}
+
+// One read into the bytes after `end`. Where it succeeds, those before it stay.
+fn read_after<R: Read>(reader: &mut R, block: &mut [u8], end: usize) -> io::Result<usize>
+    requires { end < length block.old }
+    ensures within { IfOk result (λ n. end + n ≤ length block.new) }
+    ensures more { IfOk result (λ n. (bytes : List ℕ) × (take (end + n) block.new ≡ take end block.old ++ bytes) × (length bytes ≡ n)
+        × Consumes (R.remaining reader.old) (R.remaining reader.new) bytes) }
+    ensures end { IfOk result (λ n. n ≡ 0 → IsAtEnd (R.remaining reader.new)) }
+{
+    let count = read_some(reader, &mut block[end..])?;
+    Ok(count)
 }
 
 // One read, tried again where a signal interrupted it.

@@ -7,6 +7,9 @@ ghost use Rattle.trace_replay.specs.Errors.{IsOther};
 use crate::replay::ReplayError;
 use std::io::{self, Write};
 
+// After more bytes that waited no room for as many is kept.
+const MOST_KEPT: usize = 1 << 20;
+
 // Writes what is waiting, and hands it on.
 pub(crate) fn hand_on<W: Write>(waiting: &mut Vec<u8>, writer: &mut W) -> Result<(), ReplayError>
     ensures written { OnOk result (Appends (W.contents writer.old) (W.contents writer.new) waiting.old.items × (waiting.new.items ≡ [])) }
@@ -18,6 +21,7 @@ pub(crate) fn hand_on<W: Write>(waiting: &mut Vec<u8>, writer: &mut W) -> Result
     }
     write(writer, waiting.as_slice())?;
     waiting.clear();
+    waiting.shrink_to(MOST_KEPT);
     Ok(())
 }
 

@@ -14,7 +14,7 @@ ghost use Rattle.trace_replay.specs.Errors.{IsOther};
 ghost use Rattle.trace_replay.specs.Inputs.{IsLineBefore};
 ghost use Rattle.trace_replay.specs.Outputs.{Passes, HasBegun};
 ghost use Rattle.trace_replay.specs.declared.replay.ReplayError.TheVariants.{Memory};
-ghost use Rattle.trace_replay.specs.Steps.{Answers, Replies, RepliesTo};
+ghost use Rattle.trace_replay.specs.Steps.{Answers};
 
 use crate::input::Input;
 use crate::options::{ReplayOptions, ShardCount};
@@ -28,10 +28,9 @@ use std::alloc::{AllocError, AllocFailed, Global};
 use std::io;
 use std::io::{Read, Write};
 use thiserror::Error;
-use tier_model::event::Event;
 use trace_lines::line::Line;
 use trace_lines::read::LineReader;
-use trace_lines::text::{outcome_line, refusal_line, report_line};
+use trace_lines::text::{add_outcome_line, add_refusal_line, add_report_line};
 
 // The age of a permit, in seconds.
 const PERMIT_AGE: u64 = 10;
@@ -207,9 +206,7 @@ fn report<const N: usize>(
     ensures ok { OnOk result (waiting.new.items ≡ waiting.old.items ++ ended (report_text (report_of tier.now))) }
     ensures err { OnErr result (waiting.new.items ≡ waiting.old.items) }
 {
-    let mut text = report_line(alloc, &tier.report())?;
-    text.push('\n')?;
-    waiting.extend_from_slice(text.as_bytes())
+    add_report_line(alloc, waiting, &tier.report())
 }
 
 // A line without the line feed that ends it.
@@ -235,55 +232,12 @@ fn add_answer<G: Rng, const N: usize>(
     ensures err { OnErr result (waiting.new.items ≡ waiting.old.items) }
     ensures other { IfErr result IsOther }
 {
-    let text = answer(alloc, tier, lines, rng, line)?;
-    waiting.extend_from_slice(text.as_bytes())?;
-    Ok(())
-}
-
-// The line that answers a line, with its line feed.
-fn answer<G: Rng, const N: usize>(
-    alloc: Global,
-    tier: &mut Tier<N, SecretHasher>,
-    lines: &mut LineReader,
-    rng: &mut G,
-    line: &[u8],
-) -> Result<String, ReplayError>
-    ensures answered { IfOk result (λ text. Answers (record { state = tier.old; words = G.stream rng.old }) (record { state = tier.new; words = G.stream rng.new }) (line_of line.now) (string_bytes text)) }
-    ensures other { IfErr result IsOther }
-{
-    let mut text = reply(alloc, tier, lines, rng, line)?;
-    text.push('\n')?;
-    Ok(text)
-}
-
-// What answers a line.
-fn reply<G: Rng, const N: usize>(
-    alloc: Global,
-    tier: &mut Tier<N, SecretHasher>,
-    lines: &mut LineReader,
-    rng: &mut G,
-    line: &[u8],
-) -> Result<String, ReplayError>
-    ensures answered { IfOk result (λ text. Replies (record { state = tier.old; words = G.stream rng.old }) (record { state = tier.new; words = G.stream rng.new }) (line_of line.now) (string_bytes text)) }
-    ensures other { IfErr result IsOther }
-{
     match lines.read(alloc, line)? {
-        Line::Refused(refusal) => Ok(refusal_line(alloc, &refusal)?),
-        Line::Accepted(event) => reply_to(alloc, tier, rng, &event),
+        Line::Refused(refusal) => add_refusal_line(waiting, &refusal)?,
+        Line::Accepted(event) => {
+            let outcome = tier.step(rng, &event);
+            add_outcome_line(alloc, waiting, &outcome)?;
+        }
     }
-}
-
-// What the tier answers to an event.
-fn reply_to<G: Rng, const N: usize>(
-    alloc: Global,
-    tier: &mut Tier<N, SecretHasher>,
-    rng: &mut G,
-    event: &Event,
-) -> Result<String, ReplayError>
-    ensures answered { IfOk result (λ text. RepliesTo (record { state = tier.old; words = G.stream rng.old }) (record { state = tier.new; words = G.stream rng.new }) event.now (string_bytes text)) }
-    ensures other { IfErr result IsOther }
-{
-    let outcome = tier.step(rng, event);
-    let text = outcome_line(alloc, &outcome)?;
-    Ok(text)
+    Ok(())
 }

@@ -9,7 +9,7 @@ use tier_model::event::{Action, Answer, Done, Entries, TierFault};
 use tier_model::report::Report;
 use trace_lines::line::{Line, Refusal};
 use trace_lines::read::LineReader;
-use trace_lines::text::{outcome_line, refusal_line, report_line};
+use trace_lines::text::{add_outcome_line, add_refusal_line, add_report_line};
 
 // Whether the key is that of the lines below, with this tag.
 fn is_wanted(key: &CacheKey, tag: &str) -> bool {
@@ -24,15 +24,11 @@ fn entry(alloc: Global) -> CacheEntryKey {
     })
 }
 
-// The line that a refused line is answered with.
-fn refused(
-    lines: &mut LineReader,
-    alloc: Global,
-    line: &[u8],
-) -> Result<Option<String>, AllocError> {
-    match lines.read(alloc, line)? {
-        Line::Refused(refusal) => Ok(Some(refusal_line(alloc, &refusal)?)),
-        Line::Accepted(_) => Ok(None),
+// A line that was written, without its line feed.
+fn written(out: &[u8]) -> Option<&[u8]> {
+    match out.split_last() {
+        Some((b'\n', line)) => Some(line),
+        _ => None,
     }
 }
 
@@ -43,9 +39,16 @@ fn assert_refused(
     line: &[u8],
     want: &str,
 ) -> Result<(), Fail> {
-    let text = refused(lines, alloc, line)?;
-    let text = text.ok_or("it asks something")?;
-    assert_eq!(rt; text.as_str(), want, "at {line:?}");
+    let mut out = Vec::new(alloc);
+    match lines.read(alloc, line)? {
+        Line::Refused(refusal) => add_refusal_line(&mut out, &refusal)?,
+        Line::Accepted(_) => {}
+    }
+    assert_eq!(rt;
+        written(out.as_slice()),
+        Some(want.as_bytes()),
+        "at {line:?}"
+    );
     Ok(())
 }
 
@@ -204,8 +207,9 @@ fn assert_written(
     outcome: &Result<Answer, TierFault>,
     want: &str,
 ) -> Result<(), Fail> {
-    let text = outcome_line(alloc, outcome)?;
-    assert_eq!(rt; text.as_str(), want);
+    let mut out = Vec::new(alloc);
+    add_outcome_line(alloc, &mut out, outcome)?;
+    assert_eq!(rt; written(out.as_slice()), Some(want.as_bytes()));
     Ok(())
 }
 
@@ -225,7 +229,7 @@ fn answers_are_written(rt: HostRuntime) -> Result<(), Fail> {
         admitted: false,
         evicted: Entries::new(alloc),
     };
-    let table: [(Result<Answer, TierFault>, &str); 4] = [
+    let table: [(Result<Answer, TierFault>, &str); 5] = [
         (
             Ok(Answer::Found {
                 fresh: true,
@@ -234,6 +238,7 @@ fn answers_are_written(rt: HostRuntime) -> Result<(), Fail> {
             "found fresh complete lock=none",
         ),
         (Ok(Answer::Bytes(body(alloc)?)), "bytes 6162ff"),
+        (Ok(Answer::Bytes(Bytes::new())), "bytes -"),
         (
             Ok(Answer::Finished {
                 length: 3,
@@ -260,10 +265,11 @@ fn a_report_is_written(rt: HostRuntime) -> Result<(), Fail> {
         weight: 6,
         evicted: 0,
     };
-    let text = report_line(rt.alloc(), &report)?;
+    let mut out = Vec::new(rt.alloc());
+    add_report_line(rt.alloc(), &mut out, &report)?;
     assert_eq!(rt;
-        text.as_str(),
-        "report found=2 absent=18446744073709551615 bodies=4 bytes=3 tracked=5 weight=6 evicted=0"
+        out.as_slice(),
+        b"report found=2 absent=18446744073709551615 bodies=4 bytes=3 tracked=5 weight=6 evicted=0\n".as_slice()
     );
     Ok(())
 }
@@ -280,8 +286,9 @@ fn out_of_memory_gives_no_other_line(rt: HostRuntime) {
         Ok(Line::Refused(_)) => assert!(rt; false, "it is refused"),
         Err(AllocError) => {}
     }
-    match refusal_line(rt.alloc(), &Refusal::Op) {
-        Ok(text) => assert_eq!(rt; text.as_str(), "refused Op"),
-        Err(AllocError) => {}
+    let mut out = Vec::new(rt.alloc());
+    match add_refusal_line(&mut out, &Refusal::Op) {
+        Ok(()) => assert_eq!(rt; out.as_slice(), b"refused Op\n".as_slice()),
+        Err(AllocError) => assert!(rt; out.is_empty()),
     }
 }

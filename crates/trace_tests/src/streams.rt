@@ -2,6 +2,7 @@
 use crate::replays::FIRST_PUT;
 use secret_hasher::SecretHasher;
 use std::io::{self, Read, Write};
+use std::test::Fail;
 use trace_replay::options::{ReplayOptions, ShardCount};
 use trace_replay::replay::{ReplayError, run};
 use trace_replay::status::{Fault, status};
@@ -40,6 +41,32 @@ fn a_fault_of_the_reader_ends_the_run(rt: HostRuntime) {
         assert!(rt; matches!(&outcome, Err(Fault::Replay(ReplayError::Stream(_)))));
         assert_eq!(rt; status(&outcome), 1);
     }
+}
+
+// Lines longer than a read asks for, each before a short one.
+#[test]
+fn long_lines_are_read_whole(rt: HostRuntime) -> Result<(), Fail> {
+    let mut text = vec![in rt.alloc(); b' '; 100_000]?;
+    text.extend_from_slice(b"\n{}\n")?;
+    text.resize(1_500_000, b' ')?;
+    text.extend_from_slice(b"\n{}\n")?;
+    for at_once in [1_000, 65_536, 2_000_000] {
+        let mut reader = FailingReader(text.as_slice(), at_once);
+        let mut written = Vec::new(rt.alloc());
+        let options = ReplayOptions {
+            limit: 1,
+            watermark: None,
+            shards: ShardCount::One,
+            seed: 0,
+        };
+        let outcome = run(rt.alloc(), HASHER, &mut reader, &mut written, &options);
+        assert!(rt; outcome.is_err());
+        assert_eq!(rt;
+            written.as_slice(),
+            b"refused NotJson\nrefused Op\nrefused NotJson\nrefused Op\n".as_slice()
+        );
+    }
+    Ok(())
 }
 
 // Takes so many bytes, and then fails.

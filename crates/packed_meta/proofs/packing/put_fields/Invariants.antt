@@ -4,7 +4,7 @@ use Rattle.std.specs.List.{AllByRecursion}
 use Rattle.http_header.specs.HeaderMap.{pairs}
 use Rattle.cache_metas.specs.Head.{line_of}
 use Rattle.packed_meta.specs.Packed.{IsPlainField}
-use Rattle.packed_meta.proofs.put_fields.Given as goal
+use Rattle.packed_meta.proofs.packing.put_fields.Given as goal
 
 abbrev pub invariant-each : goal.invariant-each
 invariant-each l = record {
