@@ -9,7 +9,7 @@ use std::io::{self, Read};
 use std::marker::Model;
 
 // How many bytes the first block has room for.
-const BLOCK: usize = 65536;
+const BLOCK: usize = 32768;
 
 // After a longer line no room for such lines is kept.
 const MOST_KEPT: usize = 1 << 20;
@@ -145,7 +145,7 @@ impl Input {
 fn make_room(block: &mut Vec<u8>, end: usize) -> Result<(), AllocError>
     requires { (end ≤ length block.old.items) × (0 < length block.old.items) }
     ensures room { OnOk result ((end < length block.new.items) × (take end block.new.items ≡ take end block.old.items)) }
-    ensures same { end + 32768 ≤ length block.old.items → block.new.items ≡ block.old.items }
+    ensures same { end + 16384 ≤ length block.old.items → block.new.items ≡ block.old.items }
     ensures size { length block.new.items ≤ 2 * length block.old.items }
     ensures err { OnErr result (block.new.items ≡ block.old.items) }
 {
