@@ -107,7 +107,10 @@ impl<S: BuildHasher> MemCache<S> {
         ensures { option_map (shown_of key.now) result ≡ look_up key.now self.now.store }
     {
         match alive::first(&self.alive, key) {
-            Some(number) => Some(Shown::Flying(number, self.flights.get(&number).unwrap())),
+            Some(number) => Some(Shown::Flying(
+                number,
+                self.flights.get(&number).unwrap().flight(),
+            )),
             None => match bodies::get(&self.bodies, key) {
                 Some(body) => Some(Shown::Body(body)),
                 None => None,
@@ -120,7 +123,8 @@ impl<S: BuildHasher> MemCache<S> {
         ensures answer { ReadAnswer (readable number self.now) place result }
         ensures fits { FitsPast place result }
     {
-        if let Some(flight) = self.flights.get(&number) {
+        if let Some(kept) = self.flights.get(&number) {
+            let flight = kept.flight();
             return flight.buffer.read_from(self.alloc, place, flight.ended);
         }
         match readers::left_of(&self.readers, number) {
@@ -153,7 +157,7 @@ impl<S: BuildHasher> MemCache<S> {
         ensures { option_map (λ f. in_flight (stored_flight (number, f.now))) result ≡ streamed key.now number self.now.store }
     {
         if alive::is_alive(&self.alive, key, number) {
-            Some(self.flights.get(&number).unwrap())
+            Some(self.flights.get(&number).unwrap().flight())
         } else {
             None
         }

@@ -1,6 +1,7 @@
 //! What is kept of writes.
-ghost use Rattle.std.specs.Prelude.{◌≡◌, IfOk};
+ghost use Rattle.std.specs.Prelude.{◌≡◌, ◌++◌, IfOk, OnOk, OnErr};
 ghost use Rattle.cache_store.specs.Renewals.{expired};
+ghost use Rattle.mem_cache.specs.Kept.{bytes_in};
 
 use bytes::Bytes;
 use cache_heads::CacheMeta;
@@ -28,6 +29,65 @@ pub(crate) struct Flight {
     pub(crate) meta: CacheMeta,
     pub(crate) buffer: Buffer,
     pub(crate) ended: bool,
+}
+
+// A write in flight as the table of writes keeps it: in a box, so that the table moves a pointer with its rows and not a whole write.
+#[derive(Drop)]
+pub(crate) struct InFlight {
+    flight: Box<Flight>,
+}
+
+impl Model for InFlight {
+    ghost use Rattle.mem_cache.specs.declared.flight.Flight.{Flight};
+    ghost use Rattle.mem_cache.specs.contracts.flight.Flight.{the_row};
+
+    ghost Value = { Flight };
+
+    ghost coded = { the_row.coded };
+
+    ghost view = { λ f. f.flight.value };
+}
+
+impl InFlight {
+    // Keeps a write.
+    pub(crate) fn new(alloc: Global, flight: Flight) -> Result<InFlight, AllocError>
+        ensures { IfOk result (λ kept. kept ≡ flight) }
+    {
+        let flight = Box::new(alloc, flight)?;
+        Ok(InFlight { flight })
+    }
+
+    // Lends the write.
+    pub(crate) fn flight(&self) -> &Flight
+        ensures { result.now ≡ self.now }
+    {
+        &self.flight
+    }
+
+    // Returns the write.
+    pub(crate) fn into_flight(self) -> Flight
+        ensures { result ≡ self }
+    {
+        Box::into_inner(self.flight)
+    }
+
+    // Adds bytes, and marks the end where they are the last.
+    pub(crate) fn append(&mut self, alloc: Global, more: &[u8], eof: bool) -> Result<(), AllocError>
+        ensures ok { OnOk result ((self.new ≡ record self.old { buffer = self.new.buffer; ended = eof }) × (bytes_in self.new.buffer ≡ bytes_in self.old.buffer ++ more.now)) }
+        ensures err { OnErr result ((self.new ≡ record self.old { buffer = self.new.buffer }) × (bytes_in self.new.buffer ≡ bytes_in self.old.buffer)) }
+    {
+        self.flight.buffer.append(alloc, more)?;
+        self.flight.ended = eof;
+        Ok(())
+    }
+
+    // Shares the bytes.
+    pub(crate) fn share(&mut self, alloc: Global) -> Result<Bytes, AllocError>
+        ensures value { IfOk result (λ bytes. bytes ≡ bytes_in self.old.buffer) }
+        ensures kept { (self.new ≡ record self.old { buffer = self.new.buffer }) × (bytes_in self.new.buffer ≡ bytes_in self.old.buffer) }
+    {
+        self.flight.buffer.share(alloc)
+    }
 }
 
 // A finished body.

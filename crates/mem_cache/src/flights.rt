@@ -9,7 +9,7 @@ ghost use Rattle.mem_cache.specs.declared.flight.Flight.{Flight as FlightValue};
 ghost use Rattle.mem_cache.specs.Kept.{bytes_in, key_at, written, ChangesAt};
 ghost use Rattle.cache_store.specs.Answers.{WriteAnswer};
 
-use crate::flight::Flight;
+use crate::flight::{Flight, InFlight};
 use bytes::Bytes;
 use cache_store::storage::StoreFault;
 use cache_words::key::HashBinary;
@@ -17,16 +17,24 @@ use packed_meta::PackedMeta;
 use std::alloc::{AllocError, Global};
 use std::collections::BTreeMap;
 
-pub(crate) type Flights = BTreeMap<u64, Flight>;
+pub(crate) type Flights = BTreeMap<u64, InFlight>;
 
 // Puts a write after those that are there.
-pub(crate) fn put(flights: &mut Flights, number: u64, flight: Flight) -> Result<(), StoreFault>
+pub(crate) fn put(
+    flights: &mut Flights,
+    alloc: Global,
+    number: u64,
+    flight: Flight,
+) -> Result<(), StoreFault>
     requires { AllByRecursion (λ n. n < number) (keys flights.old) }
     ensures ok { OnOk result ((flights.new.entries ≡ flights.old.entries ++ (number, flight) ∷ []) × IsOrdered nat_cmp flights.new) }
     ensures err { OnErr result (flights.new.entries ≡ flights.old.entries) }
     ensures fault { IfErr result (λ f. f ≡ Fault.Memory) }
 {
-    match flights.insert(number, flight) {
+    let Ok(kept) = InFlight::new(alloc, flight) else {
+        return Err(StoreFault::Memory);
+    };
+    match flights.insert(number, kept) {
         Ok(_) => Ok(()),
         Err(_) => Err(StoreFault::Memory),
     }
@@ -46,7 +54,7 @@ pub(crate) fn append(
 {
     match flights.get(&number) {
         None => Err(StoreFault::WriteRemoved),
-        Some(flight) if flight.ended => Err(StoreFault::AfterEnd),
+        Some(kept) if kept.flight().ended => Err(StoreFault::AfterEnd),
         Some(_) => match add_bytes(flights, alloc, number, more, eof) {
             Ok(()) => Ok(()),
             Err(_) => Err(StoreFault::Memory),
@@ -66,14 +74,7 @@ fn add_bytes(
     ensures ok { OnOk result (ChangesAt number (written more.now eof) flights.old flights.new) }
     ensures err { OnErr result (ChangesAt number (λ f. f) flights.old flights.new) }
 {
-    let flight = flights.get_mut(&number).unwrap();
-    match flight.buffer.append(alloc, more) {
-        Ok(()) => {
-            flight.ended = eof;
-            Ok(())
-        }
-        Err(refused) => Err(refused),
-    }
+    flights.get_mut(&number).unwrap().append(alloc, more, eof)
 }
 
 // Shares the bytes of a write.
@@ -82,8 +83,7 @@ pub(crate) fn share(flights: &mut Flights, alloc: Global, number: u64) -> Result
     ensures value { IfOk result (λ bytes. (f : FlightValue) → get nat_cmp flights.old number ≡ Some f → bytes ≡ bytes_in f.buffer) }
     ensures kept { ChangesAt number (λ f. f) flights.old flights.new }
 {
-    let flight = flights.get_mut(&number).unwrap();
-    flight.buffer.share(alloc)
+    flights.get_mut(&number).unwrap().share(alloc)
 }
 
 // Packs the meta of a write.
@@ -95,15 +95,15 @@ pub(crate) fn packed_meta(
     requires { is_some (get nat_cmp flights.now number) ≡ true }
     ensures { IfOk result (λ meta. (f : FlightValue) → get nat_cmp flights.now number ≡ Some f → meta ≡ f.meta) }
 {
-    let flight = flights.get(&number).unwrap();
-    PackedMeta::pack(alloc, &flight.meta)
+    let kept = flights.get(&number).unwrap();
+    PackedMeta::pack(alloc, &kept.flight().meta)
 }
 
 // Returns the key of a write.
 pub(crate) fn key_of(flights: &Flights, number: u64) -> Option<HashBinary>
     ensures { result ≡ key_at flights.now number }
 {
-    Some(flights.get(&number)?.key)
+    Some(flights.get(&number)?.flight().key)
 }
 
 // Takes a write out.
@@ -113,5 +113,5 @@ pub(crate) fn take(flights: &mut Flights, number: u64) -> Flight
     ensures entries { flights.new.entries ≡ remove_entry (is_at (nat_cmp number)) flights.old.entries }
     ensures ordered { IsOrdered nat_cmp flights.new }
 {
-    flights.remove(&number).unwrap()
+    flights.remove(&number).unwrap().into_flight()
 }

@@ -41,7 +41,7 @@ impl<S: BuildHasher> MemCache<S> {
             buffer: Buffer::Open(Vec::new(self.alloc)),
             ended: false,
         };
-        if let Err(fault) = flights::put(&mut self.flights, number, flight) {
+        if let Err(fault) = flights::put(&mut self.flights, self.alloc, number, flight) {
             alive::take_out(&mut self.alive, &key, number);
             return Err(fault);
         }
@@ -106,10 +106,10 @@ impl<S: BuildHasher> MemCache<S> {
     pub(crate) fn leave(&mut self, number: u64)
         ensures { self.new ≡ left number self.old }
     {
-        let Some(flight) = self.flights.remove(&number) else {
+        let Some(kept) = self.flights.remove(&number) else {
             return;
         };
-        let Flight { key, buffer, .. } = flight;
+        let Flight { key, buffer, .. } = kept.into_flight();
         alive::take_out(&mut self.alive, &key, number);
         readers::leave_bytes(&mut self.readers, number, buffer);
     }

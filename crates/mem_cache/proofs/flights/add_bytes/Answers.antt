@@ -1,14 +1,22 @@
 use Rattle.std.proofs.Common.{rules, sym, ◌∙◌, ap}
 use Rattle.std.specs.Option.{option_copied_mut}
+use Rattle.std.specs.Map.{set_value}
+use Rattle.std.specs.BTreeMap.{is_at}
+use Rattle.std.specs.Ordering.{nat_cmp}
+use Rattle.std.proofs.lemmas.Result.{on_ok_weaker, on_err_weaker}
 use Rattle.mem_cache.proofs.FlightLaws.{rebuffered, appended}
 use Rattle.mem_cache.proofs.flights.add_bytes.Goals as goal
 
-pub returns-in-Err-clause-err : goal.returns-in-Err-clause-err
-returns-in-Err-clause-err c =
-    (rebuffered c.args.number c.args.flights.now (c.get_mut.follows.lender _) c.unwrap-flight.result.now c.append.new.self c.get_mut.ensures.ordered
-    (sym c.get_mut.ensures.value ∙ ap option_copied_mut c.unwrap-flight.ensures) (c.get_mut.follows.holds _).0 c.in-Err.ensures.err)
+pub returns-clause-err : goal.returns-clause-err
+returns-clause-err c = on_err_weaker c.append.result
+    (λ h. rebuffered c.args.number c.args.flights.now (c.get_mut.follows.lender _) c.unwrap.result.now c.append.new.self.buffer c.get_mut.ensures.ordered
+    (sym c.get_mut.ensures.value ∙ ap option_copied_mut c.unwrap.ensures)
+    ((c.get_mut.follows.holds _).0 ∙ ap (set_value (is_at (nat_cmp c.args.number)) c.args.flights.now.entries) h.0) h.1)
+    c.append.ensures.err
 
-pub returns-in-Ok-clause-ok : goal.returns-in-Ok-clause-ok
-returns-in-Ok-clause-ok c =
-    appended c.args.number c.args.more.now c.args.eof c.args.flights.now (c.get_mut.follows.lender _) c.unwrap-flight.result.now c.append.new.self c.get_mut.ensures.ordered
-    (sym c.get_mut.ensures.value ∙ ap option_copied_mut c.unwrap-flight.ensures) (search rules) (c.get_mut.follows.holds _).0 c.in-Ok.ensures.ok
+pub returns-clause-ok : goal.returns-clause-ok
+returns-clause-ok c = on_ok_weaker c.append.result
+    (λ h. appended c.args.number c.args.more.now c.args.eof c.args.flights.now (c.get_mut.follows.lender _) c.unwrap.result.now c.append.new.self.buffer c.get_mut.ensures.ordered
+    (sym c.get_mut.ensures.value ∙ ap option_copied_mut c.unwrap.ensures) (search rules)
+    ((c.get_mut.follows.holds _).0 ∙ ap (set_value (is_at (nat_cmp c.args.number)) c.args.flights.now.entries) h.0) h.1)
+    c.append.ensures.ok

@@ -1,6 +1,10 @@
-use Rattle.std.proofs.Common.{◌∙◌}
+use Rattle.std.proofs.Common.{◌∙◌, ap, [], ◌∷◌, ◌++◌}
 use Rattle.mem_cache.proofs.RowLaws.{insert_entry-last}
 use Rattle.mem_cache.proofs.flights.put.Goals as goal
 
-pub returns-in-Ok-clause-ok : goal.returns-in-Ok-clause-ok
-returns-in-Ok-clause-ok c = (c.in-Ok.ensures.entries ∙ insert_entry-last c.args.number c.args.flight c.args.flights.now.entries c.requires, c.in-Ok.ensures.ordered)
+pub returns-in-Ok-insert-clause-ok : goal.returns-in-Ok-insert-clause-ok
+returns-in-Ok-insert-clause-ok c = (
+  c.in-Ok-insert.ensures.entries ∙ insert_entry-last c.args.number c.in-Ok.kept c.args.flights.now.entries c.requires
+      ∙ ap (λ f. c.args.flights.now.entries ++ (c.args.number, f) ∷ []) c.in-Ok.ensures,
+  c.in-Ok-insert.ensures.ordered,
+)

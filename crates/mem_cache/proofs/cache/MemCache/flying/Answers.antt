@@ -1,4 +1,5 @@
 use Rattle.std.proofs.Common.{sym, ◌∙◌, ap}
+use Rattle.std.specs.Prelude.{Some}
 use Rattle.std.specs.Option.{option_copied}
 use Rattle.mem_cache.specs.Alive.{has}
 use Rattle.mem_cache.proofs.ShownLaws.{streamed-none, streamed-alive}
@@ -9,4 +10,4 @@ returns-else-is_alive g c = rw (← c.self.view_is) (streamed-none (has c.self.i
 
 pub returns-then-is_alive : goal.returns-then-is_alive
 returns-then-is_alive g c =
-    rw (← c.self.view_is) (streamed-alive (has c.self.inside.alive) c.self.inside.flights c.self.inside.next c.args.key.now c.args.number c.unwrap.result.now c.self.invariant (sym c.is_alive.ensures ∙ c.if-is_alive.true) (sym c.get.ensures.value ∙ ap option_copied c.unwrap.ensures))
+    rw (← c.self.view_is) (streamed-alive (has c.self.inside.alive) c.self.inside.flights c.self.inside.next c.args.key.now c.args.number c.flight.result.now c.self.invariant (sym c.is_alive.ensures ∙ c.if-is_alive.true) (sym c.get.ensures.value ∙ ap option_copied c.unwrap.ensures ∙ ap Some (sym c.flight.ensures)))

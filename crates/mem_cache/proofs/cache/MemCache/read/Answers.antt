@@ -1,4 +1,4 @@
-use Rattle.std.proofs.Common.{refl, sym}
+use Rattle.std.proofs.Common.{refl, sym, ◌∙◌, ap}
 use Rattle.std.specs.Prelude.{Some, None}
 use Rattle.mem_cache.specs.Alive.{has}
 use Rattle.cache_store.specs.Readers.{left_at}
@@ -8,7 +8,7 @@ use Rattle.mem_cache.proofs.cache.MemCache.read.Goals as goal
 
 pub returns-in-Some-clause-answer : goal.returns-in-Some-clause-answer
 returns-in-Some-clause-answer g c =
-    rw (← c.self.view_is, readable-flight (has c.self.inside.alive) c.args.number c.in-Some.flight.now c.self.inside.flights (left_at c.args.number (readings_of c.self.inside.readers.entries)) (sym c.in-Some.ensures.value)) c.read_from.ensures.answer
+    rw (← c.self.view_is, readable-flight (has c.self.inside.alive) c.args.number c.flight-flight.result.now c.self.inside.flights (left_at c.args.number (readings_of c.self.inside.readers.entries)) (sym c.in-Some.ensures.value ∙ ap Some (sym c.flight-flight.ensures))) c.read_from.ensures.answer
 
 pub returns-in-Some-left_of-clause-answer : goal.returns-in-Some-left_of-clause-answer
 returns-in-Some-left_of-clause-answer g c =

@@ -9,8 +9,8 @@ use Rattle.mem_cache.proofs.cache.MemCache.shown.Goals as goal
 
 pub returns-in-Some : goal.returns-in-Some
 returns-in-Some g c =
-    rw (← c.self.view_is) (shown-flight (has c.self.inside.alive) c.self.inside.flights c.self.inside.next c.args.key.now c.in-Some.number c.unwrap.result.now (find (is_of c.args.key.now) (bodies_of c.self.inside.bodies.entries)) c.self.invariant
-    c.in-Some.ensures.some.0 c.in-Some.ensures.some.1 (sym c.get.ensures.value ∙ ap option_copied c.unwrap.ensures))
+    rw (← c.self.view_is) (shown-flight (has c.self.inside.alive) c.self.inside.flights c.self.inside.next c.args.key.now c.in-Some.number c.flight.result.now (find (is_of c.args.key.now) (bodies_of c.self.inside.bodies.entries)) c.self.invariant
+    c.in-Some.ensures.some.0 c.in-Some.ensures.some.1 (sym c.get.ensures.value ∙ ap option_copied c.unwrap.ensures ∙ ap Some (sym c.flight.ensures)))
 
 pub returns-in-Some-get : goal.returns-in-Some-get
 returns-in-Some-get g c =
