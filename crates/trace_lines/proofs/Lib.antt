@@ -1,3 +1,4 @@
 pub mod HexLemmas
 mod TreeLemmas
 mod NumberLemmas
+mod DigitLemmas

@@ -48,14 +48,14 @@ fn higher(a: u8, b: u8) -> u8
     a.max(b)
 }
 
-// The value of a digit, in either case. No table and no early return, so that many bytes are decoded at a time.
+// The value of a digit, in either case: `| 32` makes a letter lower case, and turns no other byte into `a` to `f`. No table and no
+// early return, so that many bytes are decoded at a time.
 fn digit(c: u8) -> u8
     ensures { IsValue (hex_digit_value c) result }
 {
-    if (c >= b'A') & (c <= b'F') {
-        c - b'A' + 10
-    } else if (c >= b'a') & (c <= b'f') {
-        c - b'a' + 10
+    let lower = c | 32;
+    if (lower >= b'a') & (lower <= b'f') {
+        lower - b'a' + 10
     } else if (c >= b'0') & (c <= b'9') {
         c - b'0'
     } else {
