@@ -1,5 +1,5 @@
 //! Lines of a stream, found in what was read ahead of them.
-ghost use Rattle.std.specs.Prelude.{◌≡◌, ◌≢◌, ℕ, List, [], ◌++◌, ◌≤◌, ◌<◌, ◌+◌, ◌*◌, All, take, drop, length, IfOk, OnOk, OnErr, IfSome};
+ghost use Rattle.std.specs.Prelude.{◌≡◌, ◌≢◌, ℕ, List, [], ◌++◌, ◌≤◌, ◌<◌, ◌+◌, ◌-◌, ◌*◌, All, take, drop, length, IfOk, OnOk, OnErr, IfSome};
 ghost use Rattle.std.specs.Io.KnownBytes.{Consumes, Keeps, IsAtEnd, prepend_known};
 ghost use Rattle.trace_replay.specs.Inputs.{IsLineOf, IsLineBefore};
 
@@ -111,33 +111,42 @@ impl Input {
             × Consumes (R.remaining reader.old) (R.remaining reader.new) bytes) }
         ensures end { IfOk result (λ n. n ≡ 0 → IsAtEnd (R.remaining reader.new)) }
     {
-        self.move_to_front();
-        self.give_room_back();
+        self.end = move_to_front(self.block.as_mut_slice(), self.start, self.end);
+        self.start = 0;
+        give_room_back(&mut self.block, self.end);
         make_room(&mut self.block, self.end)?;
         let count = read_after(reader, self.block.as_mut_slice(), self.end)?;
         self.end += count;
         Ok(count)
     }
+}
 
-    // Moves the bytes to the start of the block.
-    fn move_to_front(&mut self)
-        ensures same { self.new ≡ self.old }
-    {
-        if self.start > 0 {
-            self.block.copy_within(self.start..self.end, 0);
-            self.end -= self.start;
-            self.start = 0;
-        }
+// Moves the bytes at `start..end` to the front, and returns where they end there.
+fn move_to_front(block: &mut [u8], start: usize, end: usize) -> usize
+    requires { (start ≤ end) × (end ≤ length block.old) }
+    ensures end { result ≡ end - start }
+    ensures len { length block.new ≡ length block.old }
+    ensures bytes { take (end - start) block.new ≡ take (end - start) (drop start block.old) }
+{
+    if start > 0 {
+        block.copy_within(start..end, 0);
     }
+    end - start
+}
 
-    // Takes the first block's place again after a long line.
-    fn give_room_back(&mut self)
-        ensures { self.new ≡ self.old }
-    {
-        if self.block.len() > MOST_KEPT && self.end <= BLOCK {
-            self.block.truncate(BLOCK);
-            self.block.shrink_to(BLOCK);
-        }
+// Gives back the room of a block past `MOST_KEPT`, once the bytes before `end` fit the first block. What std then keeps of it
+// no clause says.
+fn give_room_back(block: &mut Vec<u8>, end: usize)
+    requires { (end ≤ length block.old.items) × (0 < length block.old.items) }
+    ensures room { (end ≤ length block.new.items) × (0 < length block.new.items) }
+    ensures bytes { take end block.new.items ≡ take end block.old.items }
+    ensures kept { length block.old.items ≤ 1048576 → block.new.items ≡ block.old.items }
+    ensures long { 32768 < end → block.new.items ≡ block.old.items }
+    ensures cut { 1048576 < length block.old.items → end ≤ 32768 → block.new.items ≡ take 32768 block.old.items }
+{
+    if block.len() > MOST_KEPT && end <= BLOCK {
+        block.truncate(BLOCK);
+        block.shrink_to(BLOCK);
     }
 }
 
