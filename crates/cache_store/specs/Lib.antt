@@ -9,4 +9,5 @@ pub mod Purges
 pub mod Readers
 pub mod Renewals
 pub mod Storage
+pub mod Wholes
 pub mod WriteTag

@@ -22,7 +22,8 @@ use Rattle.cache_store.specs.declared.storage.PurgeOutcome.{PurgeOutcome}
 use Rattle.cache_store.specs.declared.storage.PurgeOutcome.TheVariants.{Purged, NotFound}
 use Rattle.cache_words.specs.Time.{MomentValue}
 use Rattle.mem_cache.specs.Misses.{are_numbers_spent}
-use Rattle.pingora_cache.specs.Stored.{Stores, GivenUp, Purged as ArePurged, with_whole}
+use Rattle.cache_store.specs.Wholes.{Stores, GivenUp, with_whole}
+use Rattle.pingora_cache.specs.Stored.{Purged as ArePurged}
 use Rattle.tier_model.specs.Calls.{History, writes_after}
 use Rattle.tier_model.specs.Histories.{Opening}
 use Rattle.tier_model.specs.Past.{HasPast}

@@ -18,7 +18,8 @@ use Rattle.cache_evict.specs.Managed.{Managed, IsSharded, pick_by_draws, taken_o
 use Rattle.cache_store.specs.Held.{Held}
 use Rattle.mem_cache.specs.Misses.{are_numbers_spent}
 use Rattle.response_parse.specs.Response.{parsed_of}
-use Rattle.pingora_cache.specs.Put.{Rules, Cache, rules_of, compact, IsGiven, IsOutOfMemory, IsDone, IsSame, RanOut, IsAdmitted, IsTakenBack, IsStoredThen, IsWriteRefused, IsPut, IsOutcome, Puts}
+use Rattle.cache_store.specs.Wholes.{IsGiven}
+use Rattle.pingora_cache.specs.Put.{Rules, Cache, rules_of, compact, IsOutOfMemory, IsDone, IsSame, RanOut, IsAdmitted, IsTakenBack, IsStoredThen, IsWriteRefused, IsPut, IsOutcome, Puts}
 use Rattle.pingora_cache.specs.Response as cache
 use Rattle.pingora_cache.specs.declared.put.whole.Whole.{Whole as Given}
 use Rattle.pingora_cache.specs.declared.put.whole.Whole.TheVariants as given

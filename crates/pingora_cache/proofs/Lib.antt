@@ -1,4 +1,3 @@
 mod PurgeLaws
 mod PutLaws
 mod ReadLaws
-mod StoredLaws

@@ -17,7 +17,7 @@ use Rattle.pingora_cache.specs.declared.put.whole.Whole.{Whole}
 use Rattle.pingora_cache.specs.declared.put.outcome.PutOutcome.{PutOutcome}
 use Rattle.pingora_cache.specs.declared.put.outcome.PutOutcome.TheVariants.{Stored}
 use Rattle.pingora_cache.specs.declared.put.outcome.PutFault.{PutFault}
-use Rattle.pingora_cache.specs.Stored.{Stores, IsWriteFault}
+use Rattle.cache_store.specs.Wholes.{Stores, IsWriteFault}
 use Rattle.pingora_cache.specs.Put.{Rules, Cache, cache_of, compact, IsStoreFaultTold, IsAdmitted, IsTakenBack, IsPut, IsOutcome, Puts}
 
 pub entry-of : (c : CompactCacheKey) (k : Key) (id : Option ℕ) (e : CacheEntryKey) → compact_view c ≡ k → e ≡ entry_with c id → e ≡ entry_with (compact k) id

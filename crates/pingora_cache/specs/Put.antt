@@ -25,11 +25,8 @@ use Rattle.pingora_cache.specs.declared.put.outcome.PutOutcome.{PutOutcome}
 use Rattle.pingora_cache.specs.declared.put.outcome.PutOutcome.TheVariants.{Stored, Uncacheable}
 use Rattle.pingora_cache.specs.declared.put.outcome.PutFault.{PutFault}
 use Rattle.pingora_cache.specs.declared.put.outcome.PutFault.TheVariants.{BadHead, ResponseTooLarge, Incomplete, MetaMoment, WriteNumbersSpent, Weight, Length, NumbersSpent, Memory}
-use Rattle.pingora_cache.specs.Stored.{Stores, GivenUp, Purged, Removed}
-
--- some writer of a store gives its body that id
-abbrev pub IsGiven : {H : Type 0} → (H → Option CacheEntryId) → Option CacheEntryId → Type 0
-IsGiven {H} id given = (h : H) × (id h ≡ given)
+use Rattle.cache_store.specs.Wholes.{Stores, GivenUp}
+use Rattle.pingora_cache.specs.Stored.{Purged, Removed}
 
 -- what is known of a store and of a manager of entries by their traits
 pub record Rules (S : Type 0) : Type 1 where

@@ -13,31 +13,6 @@ use Rattle.cache_store.specs.Agree.{Agree}
 use Rattle.cache_store.specs.Held.{Held, left_with}
 use Rattle.cache_store.specs.Purges.{PurgeAnswer, entry_key, id_at}
 
--- the body of k has that meta and those bytes; the other bodies and the writes in flight are as before
-abbrev pub with_whole : StoredKey → CacheMeta → List ℕ → Held → Store CacheMeta
-with_whole k meta bytes h =
-    record h.store { bodies = with_body (Some (record { write = record { number = h.next; key = k; meta = meta }; meta = meta; bytes = bytes })) h.store.bodies }
-
--- a body was stored whole, by a write that took the next number; `spent` tells whether none is left
-pub record Stores (spent : Bool) (k : StoredKey) (meta : CacheMeta) (bytes : List ℕ) (old new : Held) : Type 0 where
-  pub numbered : spent ≡ false
-  pub written : IsWritable meta.internal
-  pub store : Agree new.store (with_whole k meta bytes old)
-  pub next : new.next ≡ old.next + 1
-  pub readings : new.readings ≡ left_with old.next bytes old.readings
-
--- nothing was done, or a write began, for which a number was left, and was given up: the bodies and the other writes in flight are
--- as before
-abbrev pub GivenUp : Bool → Held → Held → Type 0
-GivenUp spent old new = (new ≡ old) ⊎ ((bytes : List ℕ) × (spent ≡ false) × (new ≡ record old { next = old.next + 1; readings = left_with old.next bytes old.readings }))
-
--- why a body isn't stored
-abbrev pub IsWriteFault : Bool → CacheMeta → StoreFault → Held → Held → Type 0
-IsWriteFault spent meta WriteNumbersSpent old new = (spent ≡ true) × (new ≡ old)
-IsWriteFault spent meta MetaMoment old new = (spent ≡ false) × (IsWritable meta.internal → ⊥) × (new ≡ old)
-IsWriteFault spent meta Memory old new = GivenUp spent old new
-IsWriteFault spent meta _ old new = ⊥
-
 -- the entries are purged from a store, in order
 abbrev pub Purged : {S : Type 0} → (S → Held) → (S → StoredKey → Option CacheEntryId) → List CacheEntryKey → S → S → Type 0
 Purged held ids [] old new = new ≡ old

@@ -7,7 +7,8 @@ ghost use Rattle.cache_headers.specs.declared.header.ResponseHeader.{ResponseHea
 ghost use Rattle.cache_heads.specs.declared.defaults.CacheMetaDefaults.{CacheMetaDefaults as Defaults};
 ghost use Rattle.cache_heads.specs.declared.reason.RespCacheable.{RespCacheable as Verdict};
 ghost use Rattle.pingora_cache.specs.Response.{joined, Gives, verdict_by_headers};
-ghost use Rattle.pingora_cache.specs.Put.{IsGiven, Puts, rules_of, cache_of};
+ghost use Rattle.cache_store.specs.Wholes.{IsGiven};
+ghost use Rattle.pingora_cache.specs.Put.{Puts, rules_of, cache_of};
 
 mod admit;
 mod outcome;

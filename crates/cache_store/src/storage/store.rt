@@ -1,5 +1,5 @@
 //! What a store does, and the handlers that it gives out.
-ghost use Rattle.std.specs.Prelude.{◌≡◌, ◌⊎◌, ℕ, Bool, List, Option, true, option_map, OnOk, OnErr, MatchResult};
+ghost use Rattle.std.specs.Prelude.{◌≡◌, ◌⊎◌, ℕ, Bool, List, Option, true, option_map, IfOk, OnOk, OnErr, MatchResult};
 ghost use Rattle.cache_words.specs.Key.{combined, key_of};
 ghost use Rattle.cache_changes.specs.Changes.{StoredKey};
 ghost use Rattle.cache_changes.specs.Store.{body_at, flying_at};
@@ -13,6 +13,7 @@ ghost use Rattle.cache_store.specs.Misses.{BeginAnswer, MissAnswer};
 ghost use Rattle.cache_store.specs.Purges.{PurgeAnswer, target_key, id_at};
 ghost use Rattle.cache_store.specs.Readers.{Reader, IsStep, IsSought, Parts, ahead};
 ghost use Rattle.cache_store.specs.Renewals.{StaleAnswer, UpdateAnswer};
+ghost use Rattle.cache_store.specs.Wholes.{IsGiven, Stores, IsWriteFault};
 
 use super::{MissFinishType, PurgeOutcome, PurgeTarget, PurgeType, ReadStep, StoreFault};
 use bytes::Bytes;
@@ -108,6 +109,43 @@ pub trait Storage: Contents {
         ensures { BeginAnswer Self.Miss.number (is_spent (Self.held self.old)) (combined (key_of key.now)) meta (Self.held self.old) result (Self.held self.new) }
     {
         self.get_miss_handler(key, &meta)
+    }
+
+    /// Stores a body that is there as a whole, and returns the id that the store gives it. `body` may be a small part of a buffer, as
+    /// of a whole response: a store that keeps it and doesn't copy its bytes keeps that buffer. By default it is a write with these
+    /// bytes; a store that shows no write before it ends may do less.
+    ///
+    /// # Errors
+    ///
+    /// Those of `get_miss_handler`; at `Memory` the write may have used a number. The bodies are as before.
+    fn store_whole(
+        &mut self,
+        key: &CacheKey,
+        meta: CacheMeta,
+        body: Bytes,
+    ) -> Result<Option<CacheEntryId>, StoreFault>
+        ensures id { IfOk result (IsGiven Self.Miss.id) }
+        ensures stored { let spent = is_spent (Self.held self.old) in
+            MatchResult result (λ _. Stores spent (combined (key_of key.now)) meta body (Self.held self.old) (Self.held self.new))
+            (λ fault. IsWriteFault spent meta fault (Self.held self.old) (Self.held self.new)) }
+    {
+        let mut miss = match self.get_miss_handler_owned(key, meta) {
+            Ok(miss) => miss,
+            Err(fault) => return Err(fault),
+        };
+        if let Err(fault) = miss.write_body(self, body, true) {
+            miss.leave(self);
+            return Err(fault);
+        }
+        let id = miss.entry_id();
+        match miss.finish(self) {
+            Ok(_) => Ok(id),
+            Err(MissFault::WriteRemoved) => unreachable!(),
+            Err(MissFault::Memory(miss)) => {
+                miss.leave(self);
+                Err(StoreFault::Memory)
+            }
+        }
     }
 
     /// Removes what is stored of the target. It takes no memory.

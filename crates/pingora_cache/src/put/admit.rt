@@ -7,10 +7,11 @@ ghost use Rattle.cache_evict.specs.Managed.{taken_out};
 ghost use Rattle.cache_evict.specs.Faults.{evicted_of};
 ghost use Rattle.cache_changes.specs.Changes.{stored_key};
 ghost use Rattle.pingora_cache.specs.Stored.{Purged, Removed};
-ghost use Rattle.pingora_cache.specs.Put.{IsGiven, IsDone, IsOutOfMemory, IsTold, IsWithoutFile, IsStoreFaultTold, IsAdmitted, IsTakenBack, IsPut, was_admitted, rules_of, cache_of, weight_for};
+ghost use Rattle.cache_store.specs.Wholes.{IsGiven};
+ghost use Rattle.pingora_cache.specs.Put.{IsDone, IsOutOfMemory, IsTold, IsWithoutFile, IsStoreFaultTold, IsAdmitted, IsTakenBack, IsPut, was_admitted, rules_of, cache_of, weight_for};
 
 use super::outcome::{Done, PutFault, PutOutcome};
-use super::store::{purge_all, store_whole};
+use super::store::purge_all;
 use crate::parts::Parts;
 use bytes::Bytes;
 use cache_evict::{CacheEntryKey, CacheEntryKeyRef, EvictFault, EvictionManager};
@@ -166,7 +167,7 @@ pub(super) fn put_body<S: Storage, E: EvictionManager, P, L, R: Rng>(
     };
     let size = body.len();
     let fresh_until = meta.fresh_until();
-    let id = match store_whole(&mut parts.store, key, meta, body) {
+    let id = match parts.store.store_whole(key, meta, body) {
         Ok(id) => id,
         Err(fault) => return Err(told_of_store(alloc, fault)),
     };

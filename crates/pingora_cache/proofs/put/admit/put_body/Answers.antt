@@ -1,5 +1,6 @@
 use Rattle.cache_words.specs.Key.{key_of}
-use Rattle.pingora_cache.specs.Put.{IsGiven, rules_of}
+use Rattle.cache_store.specs.Wholes.{IsGiven}
+use Rattle.pingora_cache.specs.Put.{rules_of}
 use Rattle.pingora_cache.proofs.PutLaws.{entry-of, refused, admitted, taken-back}
 use Rattle.pingora_cache.proofs.put.admit.put_body.Goals as goal
 

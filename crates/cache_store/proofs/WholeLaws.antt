@@ -13,7 +13,7 @@ use Rattle.cache_store.specs.Agree.{Agree}
 use Rattle.cache_store.specs.Answers.{WriteAnswer, after_write, alive_key, left, left_behind, IsFinished}
 use Rattle.cache_store.specs.Held.{Held, left_with}
 use Rattle.cache_store.specs.Misses.{IsBegun, BeginAnswer, MissAnswer}
-use Rattle.pingora_cache.specs.Stored.{Stores, GivenUp, IsWriteFault, with_whole}
+use Rattle.cache_store.specs.Wholes.{Stores, GivenUp, IsWriteFault, with_whole}
 
 own-number : (n : ℕ) → (n == n) ≡ true
 own-number n = grind (arith, nat_tests)

@@ -1,0 +1,40 @@
+-- What storing a body whole does.
+use Rattle.std.specs.Prelude.{◌≡◌, ℕ, ◌+◌, Bool, true, false, List, Option, Some, ◌⊎◌}
+use Rattle.cache_heads.specs.declared.meta.CacheMeta.{CacheMeta}
+use Rattle.cache_metas.specs.Internal.{IsWritable}
+use Rattle.cache_entries.specs.declared.entry.CacheEntryId.{CacheEntryId}
+use Rattle.cache_changes.specs.Changes.{StoredKey}
+use Rattle.cache_changes.specs.Store.{Store, with_body}
+use Rattle.cache_store.specs.declared.storage.StoreFault.{StoreFault}
+use Rattle.cache_store.specs.declared.storage.StoreFault.TheVariants.{Memory, WriteNumbersSpent, MetaMoment}
+use Rattle.cache_store.specs.Agree.{Agree}
+use Rattle.cache_store.specs.Held.{Held, left_with}
+
+-- some writer of a store gives its body that id
+abbrev pub IsGiven : {H : Type 0} → (H → Option CacheEntryId) → Option CacheEntryId → Type 0
+IsGiven {H} id given = (h : H) × (id h ≡ given)
+
+-- the body of k has that meta and those bytes; the other bodies and the writes in flight are as before
+abbrev pub with_whole : StoredKey → CacheMeta → List ℕ → Held → Store CacheMeta
+with_whole k meta bytes h =
+    record h.store { bodies = with_body (Some (record { write = record { number = h.next; key = k; meta = meta }; meta = meta; bytes = bytes })) h.store.bodies }
+
+-- a body was stored whole, by a write that took the next number; `spent` tells whether none is left
+pub record Stores (spent : Bool) (k : StoredKey) (meta : CacheMeta) (bytes : List ℕ) (old new : Held) : Type 0 where
+  pub numbered : spent ≡ false
+  pub written : IsWritable meta.internal
+  pub store : Agree new.store (with_whole k meta bytes old)
+  pub next : new.next ≡ old.next + 1
+  pub readings : new.readings ≡ left_with old.next bytes old.readings
+
+-- nothing was done, or a write began, for which a number was left, and was given up: the bodies and the other writes in flight are
+-- as before
+abbrev pub GivenUp : Bool → Held → Held → Type 0
+GivenUp spent old new = (new ≡ old) ⊎ ((bytes : List ℕ) × (spent ≡ false) × (new ≡ record old { next = old.next + 1; readings = left_with old.next bytes old.readings }))
+
+-- why a body isn't stored
+abbrev pub IsWriteFault : Bool → CacheMeta → StoreFault → Held → Held → Type 0
+IsWriteFault spent meta WriteNumbersSpent old new = (spent ≡ true) × (new ≡ old)
+IsWriteFault spent meta MetaMoment old new = (spent ≡ false) × (IsWritable meta.internal → ⊥) × (new ≡ old)
+IsWriteFault spent meta Memory old new = GivenUp spent old new
+IsWriteFault spent meta _ old new = ⊥
