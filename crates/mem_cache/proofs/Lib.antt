@@ -13,3 +13,4 @@ mod SeenLaws
 mod ShownLaws
 mod SoundLaws
 mod StoreLaws
+mod WholeLaws

@@ -26,6 +26,7 @@ use std::marker::Model;
 
 mod finished;
 mod renewals;
+mod wholes;
 mod writes;
 
 /// Bodies and writes in flight, by stored key. A contract sees the plain state that changes leave, the number of the next

@@ -14,7 +14,8 @@ use crate::MemCache;
 use crate::handlers::{MemHitHandler, MemMissHandler};
 use crate::lookup::number_of;
 use crate::meta::written_copy;
-use cache_entries::entry::CacheEntryKey;
+use bytes::Bytes;
+use cache_entries::entry::{CacheEntryId, CacheEntryKey};
 use cache_heads::CacheMeta;
 use cache_store::storage::{
     Contents, Found, PurgeOutcome, PurgeTarget, PurgeType, Storage, StoreFault,
@@ -76,6 +77,19 @@ impl<S: BuildHasher> Storage for MemCache<S> {
         meta: CacheMeta,
     ) -> Result<MemMissHandler, StoreFault> {
         self.begin_write(key.combined_bin(), meta)
+    }
+
+    // No look-up can come before the body is there, so no write in flight is kept.
+    fn store_whole(
+        &mut self,
+        key: &CacheKey,
+        meta: CacheMeta,
+        body: Bytes,
+    ) -> Result<Option<CacheEntryId>, StoreFault> {
+        match self.put_whole(key.combined_bin(), &meta, body.as_slice()) {
+            Ok(()) => Ok(None),
+            Err(fault) => Err(fault),
+        }
     }
 
     fn purge(&mut self, target: PurgeTarget<'_>, _purge_type: PurgeType) -> PurgeOutcome {

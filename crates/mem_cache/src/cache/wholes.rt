@@ -1,0 +1,74 @@
+//! Bodies that are there as a whole.
+ghost use Rattle.std.specs.Prelude.{◌≡◌, false, IfErr, OnOk, OnErr, MatchResult};
+ghost use Rattle.cache_metas.specs.Internal.{IsWritable};
+ghost use Rattle.cache_store.specs.declared.storage.StoreFault.{StoreFault as Fault};
+ghost use Rattle.cache_store.specs.Wholes.{Stores, IsWriteFault};
+ghost use Rattle.mem_cache.specs.Misses.{are_numbers_spent};
+
+use super::MemCache;
+use crate::flight::{Body, Buffer, Kept};
+use crate::meta::written_packed;
+use crate::{bodies, readers};
+use bytes::Bytes;
+use cache_heads::CacheMeta;
+use cache_store::storage::StoreFault;
+use cache_words::key::HashBinary;
+use std::hash::BuildHasher;
+
+impl<S: BuildHasher> MemCache<S> {
+    // Stores a copy of a body, so that no larger buffer is kept, under the next number.
+    pub(crate) fn put_whole(
+        &mut self,
+        key: HashBinary,
+        meta: &CacheMeta,
+        bytes: &[u8],
+    ) -> Result<(), StoreFault>
+        ensures { let spent = are_numbers_spent self.old in
+            MatchResult result (λ _. Stores spent key meta.now bytes.now self.old self.new) (λ fault. IsWriteFault spent meta.now fault self.old self.new) }
+    {
+        let number = self.next;
+        if number == u64::MAX {
+            return Err(StoreFault::WriteNumbersSpent);
+        }
+        let meta = match written_packed(self.alloc, meta) {
+            Ok(meta) => meta,
+            Err(fault) => return Err(fault),
+        };
+        let Ok(bytes) = Bytes::copy_from_slice(self.alloc, bytes) else {
+            return Err(StoreFault::Memory);
+        };
+        self.put_body(
+            key,
+            Body {
+                number,
+                meta,
+                bytes,
+            },
+        )
+    }
+
+    // Stores a body under the next number.
+    fn put_body(&mut self, key: HashBinary, body: Body) -> Result<(), StoreFault>
+        requires number { body.number ≡ self.old.next }
+        requires left { are_numbers_spent self.old ≡ false }
+        requires written { IsWritable body.meta.internal }
+        ensures ok { OnOk result (Stores false key body.meta body.bytes self.old self.new) }
+        ensures err { OnErr result (self.new ≡ self.old) }
+        ensures fault { IfErr result (λ f. f ≡ Fault.Memory) }
+    {
+        let number = body.number;
+        let Ok(left) = body.bytes.clone() else {
+            return Err(StoreFault::Memory);
+        };
+        let Ok(kept) = Kept::new(self.alloc, body) else {
+            return Err(StoreFault::Memory);
+        };
+        let Ok(()) = bodies::make_room(&mut self.bodies) else {
+            return Err(StoreFault::Memory);
+        };
+        self.next = number + 1;
+        readers::leave_bytes(&mut self.readers, number, Buffer::Shared(left));
+        bodies::put(&mut self.bodies, key, kept);
+        Ok(())
+    }
+}
