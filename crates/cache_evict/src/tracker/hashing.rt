@@ -16,8 +16,8 @@ use cache_words::pack::{BorrowedKey, writing};
 
 // A hash that leads to the shard of an entry, and with which the search for its number starts. With one shard each hash leads
 // to it, so an entry of a primary hash alone takes the front of that, which is a digest already, and nothing is hashed. One with
-// a variance or a tag keeps the digest of all its parts: the entries of one primary hash would otherwise start at one number,
-// and strangers, who can choose variances, could make each search long.
+// an id, a variance or a tag keeps the digest of all its parts: the entries of one primary hash would otherwise start at one
+// number, and strangers, who can choose variances, could make each search long.
 pub(super) fn number_hash<const N: usize>(entry: &CacheEntryKey) -> u64
     ensures { LeadsHome N entry.now result }
 {
