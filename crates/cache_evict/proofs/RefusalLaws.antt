@@ -19,7 +19,7 @@ use Rattle.cache_evict.specs.declared.tracker.refusal.Refusal.TheVariants.{Memor
 use Rattle.entry_numbers.specs.Names.{IsOneToOne, HasNoNumber, with_name, without_name, IsFirstFree, IsSpent}
 use Rattle.cache_evict.specs.declared.tracker.rows.End.{End}
 use Rattle.cache_evict.specs.Managed.{Managed, shard_of, rows_of, put_at, put_first, added, weight_after, IsFull, HasNoOtherReason}
-use Rattle.cache_evict.specs.Numbered.{tracked_row, tracked, managed_in, IsNumbered, placed, HasOwnRow}
+use Rattle.cache_evict.specs.Numbered.{tracked_row, tracked, managed_in, IsNumbered, placed, HasOwnRow, LeadsHome}
 use Rattle.cache_evict.specs.Refusals.{IsRefusal, IsRowRefusal, IsNewRefusal}
 use Rattle.cache_evict.proofs.CountLaws.{counts, counted}
 use Rattle.entry_numbers.proofs.PlaceLaws.{none_some, some_of}
@@ -108,9 +108,9 @@ many n s (suc m) rows p h =
     let u = mul-le-mul_left n (let t : j + 1 ≤ m = omega arith in t) in let v = mul-add n j 1 in let o = mul-one n in omega (arith, a, u, v, o, p))) ∙ e)) in
     omega (arith, parts, own, ih)
 
-pub full_shard : (n : ℕ) (names : ℕ → Option CacheEntryKey) (core : Core ℕ) (e : CacheEntryKey) (size items : ℕ) → IsNumbered n names core.shards → HasNoNumber names e → IsSpent n names (entry_hash e)
+pub full_shard : (n : ℕ) (names : ℕ → Option CacheEntryKey) (core : Core ℕ) (e : CacheEntryKey) (hash size items : ℕ) → IsNumbered n names core.shards → HasNoNumber names e → LeadsHome n e hash → IsSpent n names hash
     → IsFull n e (managed_in names core size items)
-full_shard n names core e size items h none spent =
+full_shard n names core e hash size items h none leads spent =
     let s = shard_of n e in
     let in' : s < length core.shards = let m = mod_below (entry_hash e) n h.some in omega (arith, m, h.count) in
     let rows = rows_at core.shards s in
@@ -120,7 +120,7 @@ full_shard n names core e size items h none spent =
         | inl a ↦ absurd (let m = many n s (length rows + 1) rows h.some (λ j b z.
             let home : (s + n * j) % n ≡ s = add-mul-mod_self_left s n j ∙ mod-mod (entry_hash e) n in
             let fits : s + n * j < 2 ^ 64 = let u = mul-le-mul_left n (let t : j ≤ length rows = omega arith in t) in omega (arith, a, u) in
-            let named = some_of (names (s + n * j)) (spent (s + n * j) fits home) in
+            let named = some_of (names (s + n * j)) (spent (s + n * j) fits (home ∙ sym leads)) in
             let row = h.known (s + n * j) named.0 named.1 in
             no_row (s + n * j) row.0 (sym row.1 ∙ ap (λ (i : ℕ). only (s + n * j) (rows_at core.shards i)) home ∙ z)) in omega arith)
         | inr a ↦ subst (λ (m : ℕ). 2 ^ 64 ≤ s + n * m) (sym long) a
@@ -131,18 +131,18 @@ full_shard n names core e size items h none spent =
     no_row k w f = cc
 
 -- ---- an entry that gets a number
-module _ (n : ℕ) (names now : ℕ → Option CacheEntryKey) (core left : Core ℕ) (e : CacheEntryKey) (w size items : ℕ) (h : IsNumbered n names core.shards) (none : HasNoNumber names e) where
-  module _ (end : End) (g : (k : ℕ) × IsFirstFree n names (entry_hash e) k × ((i : ℕ) → now i ≡ with_name names k e i) × (left ≡ record core { shards = set core.shards (k % n) (placed end (a_row k k w) (others k (rows_at core.shards (k % n)))) })) where
+module _ (n : ℕ) (names now : ℕ → Option CacheEntryKey) (core left : Core ℕ) (e : CacheEntryKey) (hash w size items : ℕ) (h : IsNumbered n names core.shards) (none : HasNoNumber names e) (leads : LeadsHome n e hash) where
+  module _ (end : End) (g : (k : ℕ) × IsFirstFree n names hash k × ((i : ℕ) → now i ≡ with_name names k e i) × (left ≡ record core { shards = set core.shards (k % n) (placed end (a_row k k w) (others k (rows_at core.shards (k % n)))) })) where
     one : IsOneToOne now
     one = subst IsOneToOne (sym (same_names (with_name names g.0 e) now g.2)) (one-with names g.0 e h.one none)
 
     pub IsNumbered-given : IsNumbered n now left.shards
     IsNumbered-given =
-        IsNumbered-placed n names now core left g.0 e size items h (λ i m. g.2 i ∙ with-other names g.0 e i m) g.1.rest w one (g.2 g.0 ∙ with-here names g.0 e) (IsNumber-free names g.0 e g.1.free none) none end g.3
+        IsNumbered-placed n names now core left g.0 e size items h (λ i m. g.2 i ∙ with-other names g.0 e i m) (g.1.rest ∙ leads) w one (g.2 g.0 ∙ with-here names g.0 e) (IsNumber-free names g.0 e g.1.free none) none end g.3
 
     pub managed-given : managed_in now left size items ≡ put_at end n e w (managed_in names core size items)
     managed-given =
-        managed-placed n names now core left g.0 e size items h (λ i m. g.2 i ∙ with-other names g.0 e i m) g.1.rest w one (g.2 g.0 ∙ with-here names g.0 e) (IsNumber-free names g.0 e g.1.free none) none end g.3
+        managed-placed n names now core left g.0 e size items h (λ i m. g.2 i ∙ with-other names g.0 e i m) (g.1.rest ∙ leads) w one (g.2 g.0 ∙ with-here names g.0 e) (IsNumber-free names g.0 e g.1.free none) none end g.3
 
   has_row : (k : ℕ) → names k ≢ None → (k % n < length core.shards) × (only k (rows_at core.shards (k % n)) ≢ [])
   has_row k some =
@@ -150,14 +150,14 @@ module _ (n : ℕ) (names now : ℕ → Option CacheEntryKey) (core left : Core 
       let row = h.known k x.0 x.1 in
       (let m = mod_below k n h.some in omega (arith, m, h.count), λ z. let f : a_row k k row.0 ∷ [] ≡ [] = sym row.1 ∙ z in cc)
 
-  pub refused-new : HasNoOtherReason n e w (managed_in names core size items) → (r : Refusal) → IsNewRefusal n names (entry_hash e) w core r → IsRefusal n e w (managed_in names core size items) r
+  pub refused-new : HasNoOtherReason n e w (managed_in names core size items) → (r : Refusal) → IsNewRefusal n names hash w core r → IsRefusal n e w (managed_in names core size items) r
   refused-new room Memory p = room
-  refused-new room Weight p = refused n names core p.0 e w size items h (IsNumber-free names p.0 e p.1 none) p.2 (λ z. room) Weight p.3
+  refused-new room Weight p = refused n names core p.0 e w size items h (IsNumber-free names p.0 e p.1 none) (p.2 ∙ leads) (λ z. room) Weight p.3
   refused-new room Length p = elim p [
     | inl many ↦ (room.0, inr (let c = counted n many.0 names core.shards has_row many.2 in omega (arith, many.1, c, counts names core.shards)))
-    | inr q ↦ refused n names core q.0 e w size items h (IsNumber-free names q.0 e q.1 none) q.2 (λ z. room) Length q.3
+    | inr q ↦ refused n names core q.0 e w size items h (IsNumber-free names q.0 e q.1 none) (q.2 ∙ leads) (λ z. room) Length q.3
   ]
-  refused-new room Spent p = full_shard n names core e size items h none p
+  refused-new room Spent p = full_shard n names core e hash size items h none leads p
 
 -- names that are as they were
 pub IsNumbered-same : (n : ℕ) (names now : ℕ → Option CacheEntryKey) (core left : Core ℕ) → ((i : ℕ) → now i ≡ names i) → left ≡ core → IsNumbered n names core.shards → IsNumbered n now left.shards

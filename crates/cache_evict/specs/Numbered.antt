@@ -50,6 +50,10 @@ abbrev pub placed : End → Row ℕ → List (Row ℕ) → List (Row ℕ)
 placed First row rows = row ∷ rows
 placed Last row rows = rows ++ row ∷ []
 
+-- of n shards, the hash leads to the one of e
+abbrev pub LeadsHome : ℕ → CacheEntryKey → ℕ → Type 0
+LeadsHome n e hash = hash % n ≡ shard_of n e
+
 -- entries, numbers and rows are one to one, and each stands in its entry's shard
 pub record IsNumbered (n : ℕ) (names : ℕ → Option CacheEntryKey) (shards : List (List (Row ℕ))) : Type 0 where
   pub some : 0 < n

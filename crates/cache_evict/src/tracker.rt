@@ -1,10 +1,10 @@
 //! Entries in shards, each most recent first.
 
 ghost use Rattle.std.specs.Prelude.{◌≡◌, ◌≢◌, ℕ, None, true, false, is_some, IsOk, IfOk, IfErr, OnOk, OnErr};
-ghost use Rattle.cache_entries.specs.EntryText.{entry_hash};
 ghost use Rattle.cache_entries.specs.Entry.{owned_of};
 ghost use Rattle.cache_entries.specs.Rows.{weight_of};
 ghost use Rattle.cache_evict.specs.Managed.{rows_of, put_at, put_first, use_first, taken_out, weight_after, HasNoOtherReason};
+ghost use Rattle.cache_evict.specs.Numbered.{LeadsHome};
 ghost use Rattle.entry_numbers.specs.Parts.{entry_with_parts};
 ghost use Rattle.cache_evict.specs.Refusals.{IsRefusal};
 
@@ -124,8 +124,8 @@ impl<const N: usize, S: BuildHasher> Tracker<N, S> {
         }
     }
 
-    /// Puts an entry of that hash that isn't tracked at that end of its shard, with that weight, for which there is room. A
-    /// refusal changes nothing.
+    /// Puts an entry that isn't tracked at that end of its shard, to which the hash leads, with that weight, for which there
+    /// is room. A refusal changes nothing.
     pub fn put_new(
         &mut self,
         entry: CacheEntryKey,
@@ -134,7 +134,7 @@ impl<const N: usize, S: BuildHasher> Tracker<N, S> {
         end: End,
     ) -> Result<(), Refusal>
         requires room { HasNoOtherReason N entry weight self.old }
-        requires hash { hash ≡ entry_hash entry }
+        requires hash { LeadsHome N entry hash }
         ensures ok { OnOk result (self.new ≡ put_at end N entry weight self.old) }
         ensures err { OnErr result (self.new ≡ self.old) }
         ensures why { IfErr result (IsRefusal N entry weight self.old) }

@@ -1,4 +1,4 @@
-//! The hash of an entry whose tag is borrowed.
+//! Hashes that lead to the shards of entries.
 
 ghost use Rattle.std.specs.Prelude.{◌≡◌, ◌<◌, ◌^◌, ◌++◌, ℕ, List, length};
 ghost use Rattle.cache_words.specs.BorrowedKey.{borrowed_view};
@@ -6,10 +6,31 @@ ghost use Rattle.cache_words.specs.Hasher.{Holds};
 ghost use Rattle.cache_words.specs.Pack.{key_text_of};
 ghost use Rattle.cache_entries.specs.BorrowedEntry.{borrowed_entry};
 ghost use Rattle.cache_entries.specs.EntryText.{entry_hash, entry_text};
+ghost use Rattle.cache_evict.specs.Numbered.{LeadsHome};
 
-use cache_entries::pack::BorrowedEntry;
+use cache_entries::entry::{CacheEntryKey, CacheEntryKeyRef};
+use cache_entries::pack::{BorrowedEntry, entry_hash};
 use cache_words::blake::Blake2b128;
+use cache_words::key::CacheHashKey;
 use cache_words::pack::{BorrowedKey, writing};
+
+// A hash that leads to the shard of an entry, and with which the search for its number starts. With one shard each hash leads
+// to it, so an entry of a primary hash alone takes the front of that, which is a digest already, and nothing is hashed. One with
+// an id, a variance or a tag keeps the digest of all its parts: the entries of one primary hash would otherwise start at one
+// number, and strangers, who can choose variances, could make each search long.
+pub(super) fn number_hash<const N: usize>(entry: &CacheEntryKey) -> u64
+    ensures { LeadsHome N entry.now result }
+{
+    if N == 1
+        && let CacheEntryKey::KeyOnly(key) = entry
+        && key.variance_bin().is_none()
+        && key.user_tag().is_empty()
+    {
+        let [a, b, c, d, e, f, g, h, ..] = key.primary_bin();
+        return u64::from_be_bytes([a, b, c, d, e, f, g, h]);
+    }
+    entry_hash(CacheEntryKeyRef::from(entry))
+}
 
 // The hash of the entry that a borrowed one stands for. It takes no memory.
 pub(super) fn borrowed_hash(entry: BorrowedEntry<'_>) -> u64

@@ -4,10 +4,10 @@ ghost use Rattle.std.specs.Prelude.{◌≡◌, None, IfOk, IfErr, OnOk, OnErr};
 ghost use Rattle.cache_entries.specs.BorrowedEntry.{borrowed_entry};
 ghost use Rattle.cache_entries.specs.BorrowedRow.{borrowed_row};
 ghost use Rattle.cache_entries.specs.RowText.{recency_at};
-ghost use Rattle.cache_entries.specs.EntryText.{entry_hash};
 ghost use Rattle.cache_entries.specs.Rows.{weight_of};
 ghost use Rattle.cache_evict.specs.Loads.{loaded, IsLoadRefusal, Loads};
 ghost use Rattle.cache_evict.specs.Managed.{rows_of, put_last, HasNoOtherReason};
+ghost use Rattle.cache_evict.specs.Numbered.{LeadsHome};
 ghost use Rattle.cache_evict.specs.Refusals.{IsRefusal};
 
 use super::hashing::borrowed_hash;
@@ -67,7 +67,7 @@ impl<const N: usize, S: BuildHasher> Tracker<N, S> {
     // Looks for room for an entry that isn't tracked and whose tag is borrowed, and returns its hash.
     fn look_for_borrowed(&self, entry: BorrowedEntry<'_>, weight: usize) -> Result<u64, Refusal>
         requires { weight_of (borrowed_entry entry) (rows_of N (borrowed_entry entry) self.now) ≡ None }
-        ensures hash { IfOk result (λ hash. hash ≡ entry_hash (borrowed_entry entry.entry)) }
+        ensures hash { IfOk result (λ hash. LeadsHome N (borrowed_entry entry.entry) hash) }
         ensures room { OnOk result (HasNoOtherReason N (borrowed_entry entry.entry) weight self.now) }
         ensures why { IfErr result (IsRefusal N (borrowed_entry entry.entry) weight self.now) }
     {
@@ -83,7 +83,7 @@ impl<const N: usize, S: BuildHasher> Tracker<N, S> {
     ) -> Result<(CacheEntryKey, u64), Refusal>
         requires { weight_of (borrowed_entry entry) (rows_of N (borrowed_entry entry) self.now) ≡ None }
         ensures copy { IfOk result (λ new. new.0 ≡ borrowed_entry entry.entry) }
-        ensures hash { IfOk result (λ new. new.1 ≡ entry_hash (borrowed_entry entry.entry)) }
+        ensures hash { IfOk result (λ new. LeadsHome N (borrowed_entry entry.entry) new.1) }
         ensures room { OnOk result (HasNoOtherReason N (borrowed_entry entry.entry) weight self.now) }
         ensures why { IfErr result (IsRefusal N (borrowed_entry entry.entry) weight self.now) }
     {

@@ -2,41 +2,41 @@
 
 ghost use Rattle.std.specs.Prelude.{◌≡◌, ◌<◌, None, IfOk, IfErr, OnOk, OnErr};
 ghost use Rattle.cache_entries.specs.declared.entry.CacheEntryKey.{CacheEntryKey};
-ghost use Rattle.cache_entries.specs.EntryText.{entry_hash};
 ghost use Rattle.cache_entries.specs.Rows.{weight_of};
 ghost use Rattle.cache_evict.specs.Managed.{rows_of, put_first, HasNoOtherReason};
+ghost use Rattle.cache_evict.specs.Numbered.{LeadsHome};
 ghost use Rattle.cache_evict.specs.Refusals.{HasRoom, IsRoomRefusal, IsRefusal};
 
+use super::hashing::number_hash;
 use super::rows::{End, copy_of};
 use super::{Refusal, Tracker};
-use cache_entries::entry::{CacheEntryKey, CacheEntryKeyRef};
-use cache_entries::pack::entry_hash;
+use cache_entries::entry::CacheEntryKey;
 use lru_core::{LruCore, MOST_ROWS};
 use std::hash::BuildHasher;
 
 impl<const N: usize, S: BuildHasher> Tracker<N, S> {
-    // Looks for room for an entry of that hash that isn't tracked, with that weight, before anything grows for it, and returns
-    // the hash.
+    // Looks for room for an entry that isn't tracked, with that weight, in the shard to which the hash leads, before anything
+    // grows for it, and returns the hash.
     pub(super) fn look_for_room(&self, hash: u64, weight: usize) -> Result<u64, Refusal>
         ensures hash { IfOk result (λ same. same ≡ hash) }
-        ensures room { (e : CacheEntryKey) → hash ≡ entry_hash e → weight_of e (rows_of N e self.now) ≡ None → OnOk result (HasNoOtherReason N e weight self.now) }
-        ensures why { (e : CacheEntryKey) → hash ≡ entry_hash e → weight_of e (rows_of N e self.now) ≡ None → IfErr result (IsRefusal N e weight self.now) }
+        ensures room { (e : CacheEntryKey) → LeadsHome N e hash → weight_of e (rows_of N e self.now) ≡ None → OnOk result (HasNoOtherReason N e weight self.now) }
+        ensures why { (e : CacheEntryKey) → LeadsHome N e hash → weight_of e (rows_of N e self.now) ≡ None → IfErr result (IsRefusal N e weight self.now) }
     {
         let shard = hash as usize % self.core.shards();
         look_for_room(&self.core, shard, hash, weight)
     }
 
-    // The same by the entry itself, whose hash it returns.
+    // The same by the entry itself. It returns a hash that leads to its shard.
     fn look_for(&self, entry: &CacheEntryKey, weight: usize) -> Result<u64, Refusal>
         requires { weight_of entry.now (rows_of N entry.now self.now) ≡ None }
-        ensures hash { IfOk result (λ hash. hash ≡ entry_hash entry.now) }
+        ensures hash { IfOk result (λ hash. LeadsHome N entry.now hash) }
         ensures room { OnOk result (HasNoOtherReason N entry.now weight self.now) }
         ensures why { IfErr result (IsRefusal N entry.now weight self.now) }
     {
-        self.look_for_room(entry_hash(CacheEntryKeyRef::from(entry)), weight)
+        self.look_for_room(number_hash::<N>(entry), weight)
     }
 
-    // A copy of an entry that isn't tracked, with its hash, once there is room for it with that weight.
+    // A copy of an entry that isn't tracked, with a hash that leads to its shard, once there is room for it with that weight.
     fn copy_new(
         &self,
         entry: &CacheEntryKey,
@@ -44,7 +44,7 @@ impl<const N: usize, S: BuildHasher> Tracker<N, S> {
     ) -> Result<(CacheEntryKey, u64), Refusal>
         requires { weight_of entry.now (rows_of N entry.now self.now) ≡ None }
         ensures copy { IfOk result (λ new. new.0 ≡ entry.now) }
-        ensures hash { IfOk result (λ new. new.1 ≡ entry_hash entry.now) }
+        ensures hash { IfOk result (λ new. LeadsHome N entry.now new.1) }
         ensures room { OnOk result (HasNoOtherReason N entry.now weight self.now) }
         ensures why { IfErr result (IsRefusal N entry.now weight self.now) }
     {
@@ -76,7 +76,7 @@ impl<const N: usize, S: BuildHasher> Tracker<N, S> {
     }
 }
 
-// Looks for room for one more row of that weight in a shard, for an entry of that hash, and returns the hash.
+// Looks for room for one more row of that weight in a shard, to which the hash leads, and returns the hash.
 fn look_for_room<const N: usize, S: BuildHasher>(
     core: &LruCore<u64, N, S>,
     shard: usize,

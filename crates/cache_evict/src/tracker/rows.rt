@@ -1,7 +1,6 @@
 //! Rows of numbers in a core.
 
 ghost use Rattle.std.specs.Prelude.{◌≡◌, ℕ, ◌%◌, ◌<◌, ◌∷◌, List, [], length, None, IfOk, IfErr, OnOk, OnErr};
-ghost use Rattle.cache_entries.specs.EntryText.{entry_hash};
 ghost use Rattle.lru_core.specs.declared.rows.Row.{Row};
 ghost use Rattle.lru_core.specs.Rows.{only, others, promoted, raised, a_row};
 ghost use Rattle.lru_core.specs.Cores.{shard_of, with_shard};
@@ -129,7 +128,8 @@ pub(super) fn weight_of_new(delta: usize, cap: Option<usize>) -> usize
     }
 }
 
-// Gives an entry of that hash a number, and puts the number's row at that end of its shard, with that weight.
+// Gives an entry a number, the first free one from the hash on, and puts the number's row at that end of its shard, with that
+// weight.
 pub(super) fn put_new<const N: usize, S: BuildHasher>(
     numbers: &mut Numbers<N, S>,
     core: &mut LruCore<u64, N, S>,
@@ -140,13 +140,12 @@ pub(super) fn put_new<const N: usize, S: BuildHasher>(
 ) -> Result<(), Refusal>
     requires new { HasNoNumber (name_at numbers.old) entry }
     requires free { (k : ℕ) → name_at numbers.old k ≡ None → (k % N < length core.old.shards) × (only k (shard_of N core.old k) ≡ []) }
-    requires hash { hash ≡ entry_hash entry }
-    ensures ok { OnOk result ((k : ℕ) × IsFirstFree N (name_at numbers.old) (entry_hash entry) k
+    ensures ok { OnOk result ((k : ℕ) × IsFirstFree N (name_at numbers.old) hash k
         × ((i : ℕ) → name_at numbers.new i ≡ with_name (name_at numbers.old) k entry i)
         × (core.new ≡ with_shard N core.old k (placed end (a_row k k weight) (others k (shard_of N core.old k))))) }
     ensures numbers { OnErr result ((i : ℕ) → name_at numbers.new i ≡ name_at numbers.old i) }
     ensures core { OnErr result (core.new ≡ core.old) }
-    ensures why { IfErr result (IsNewRefusal N (name_at numbers.old) (entry_hash entry) weight core.old) }
+    ensures why { IfErr result (IsNewRefusal N (name_at numbers.old) hash weight core.old) }
 {
     match numbers.give(entry, hash) {
         Ok(number) => match put_free(core, number, weight, end) {

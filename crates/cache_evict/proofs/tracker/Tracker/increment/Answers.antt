@@ -1,6 +1,5 @@
 use Rattle.std.proofs.Common.{◌∙◌, ap, subst, refl, rules, ℕ}
 use Rattle.std.specs.Prelude.{◌≡◌, None}
-use Rattle.cache_entries.specs.declared.entry.CacheEntryKey.{CacheEntryKey}
 use Rattle.cache_entries.specs.Rows.{weight_of}
 use Rattle.lru_core.specs.Rows.{raised}
 use Rattle.entry_numbers.specs.Names.{name_at}

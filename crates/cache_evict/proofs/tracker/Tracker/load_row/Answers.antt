@@ -1,13 +1,11 @@
-use Rattle.std.proofs.Common.{◌∙◌, ap, subst, refl, rules}
+use Rattle.std.proofs.Common.{◌∙◌, refl, rules}
 use Rattle.std.specs.Prelude.{◌≡◌, None}
-use Rattle.cache_entries.specs.declared.entry.CacheEntryKey.{CacheEntryKey}
 use Rattle.cache_entries.specs.BorrowedEntry.{borrowed_entry}
 use Rattle.cache_entries.specs.BorrowedRow.{borrowed_row}
 use Rattle.cache_entries.specs.Rows.{weight_of}
 use Rattle.entry_numbers.specs.Names.{name_at}
 use Rattle.cache_evict.specs.Loads.{loaded}
 use Rattle.cache_evict.specs.Managed.{put_last, rows_of}
-use Rattle.cache_evict.specs.Refusals.{IsRefusal}
 use Rattle.cache_evict.proofs.BackLaws.{managed-kept}
 use Rattle.cache_evict.proofs.LoadLaws.{restored-first, loaded-last, tried}
 use Rattle.cache_evict.proofs.WrittenLaws.{weight_of-none}

@@ -5,13 +5,13 @@ use Rattle.cache_evict.proofs.RoomLaws.{roomy, roomless}
 use Rattle.cache_evict.proofs.tracker.Tracker.look_for_room.Goals as goal
 
 pub returns-clause-room : goal.returns-clause-room
-returns-clause-room g c e same none =
+returns-clause-room g c e leads none =
     rw (← c.self.view_is) (ok_then c.look_for_room.result _ _ (roomy g.row.N (name_at c.self.inside.numbers) c.self.inside.core e c.args.weight c.self.inside.evicted_size c.self.inside.evicted_items c.self.invariant (rw (← c.self.view_is) at none) _
-    (ap (λ (m : ℕ). c.args.hash % m) c.shards.ensures.value ∙ ap (λ (k : ℕ). k % g.row.N) same))
+    (ap (λ (m : ℕ). c.args.hash % m) c.shards.ensures.value ∙ leads))
     c.look_for_room.ensures.room)
 
 pub returns-clause-why : goal.returns-clause-why
-returns-clause-why g c e same none =
+returns-clause-why g c e leads none =
     rw (← c.self.view_is) (err_then c.look_for_room.result _ _ (roomless g.row.N (name_at c.self.inside.numbers) c.self.inside.core e c.args.weight c.self.inside.evicted_size c.self.inside.evicted_items c.self.invariant (rw (← c.self.view_is) at none) _
-    (ap (λ (m : ℕ). c.args.hash % m) c.shards.ensures.value ∙ ap (λ (k : ℕ). k % g.row.N) same))
+    (ap (λ (m : ℕ). c.args.hash % m) c.shards.ensures.value ∙ leads))
     c.look_for_room.ensures.why)
