@@ -11,11 +11,11 @@ use Rattle.cache_directives.specs.Written.{Written}
 use Rattle.cache_directives.specs.Walk.{directives}
 use Rattle.cache_directives.specs.Keeps.{keep, keep_all, keep_lines, kept, value_named, last_of}
 
-same : (a : List ℕ) → pointwise nat_eq a a ≡ true
+pub same : (a : List ℕ) → pointwise nat_eq a a ≡ true
 same [] = refl
 same (x ∷ a) = rw (eq-eqb x x refl, same a) refl
 
-equal : (a b : List ℕ) → pointwise nat_eq a b ≡ true → a ≡ b
+pub equal : (a b : List ℕ) → pointwise nat_eq a b ≡ true → a ≡ b
 equal [] [] h = refl
 equal [] (y ∷ b) h = cc
 equal (x ∷ a) [] h = cc
@@ -54,7 +54,7 @@ after_insert name (e ∷ es) key value = go (pointwise nat_eq key e.0) refl (aft
         apart : name ≡ e.0 → name ≡ key → ⊥
         apart s t = differ (sym k ∙ ap (λ l. pointwise nat_eq key l) (sym s ∙ t) ∙ same key)
 
-after_keep : (name : List ℕ) (es : List Written) (d : Written) → value_named name (keep es d) ≡ cond (is_utf8 d.0 && pointwise nat_eq name (map to_ascii_lowercase d.0)) (Some d.1) (value_named name es)
+pub after_keep : (name : List ℕ) (es : List Written) (d : Written) → value_named name (keep es d) ≡ cond (is_utf8 d.0 && pointwise nat_eq name (map to_ascii_lowercase d.0)) (Some d.1) (value_named name es)
 after_keep name es d = go (is_utf8 d.0)
   where
     go : (t : Bool) → value_named name (cond t (insert_entry (pointwise nat_eq) es (map to_ascii_lowercase d.0) d.1) es) ≡ cond (t && pointwise nat_eq name (map to_ascii_lowercase d.0)) (Some d.1) (value_named name es)

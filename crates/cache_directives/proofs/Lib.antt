@@ -4,7 +4,9 @@ pub mod OneReading
 pub mod SomeReading
 pub mod Texts
 pub mod Places
+pub mod Digits
 pub mod Listing
 pub mod Keeping
 pub mod Lifetimes
 pub mod LastValue
+pub mod Knowing

@@ -1,14 +1,15 @@
 -- Texts and the maps of directives.
-use Rattle.std.proofs.Common.{◌≡◌, ℕ, Bool, true, false, List, [], ◌∷◌, refl, ◌∙◌, ap, cond}
+use Rattle.std.proofs.Common.{◌≡◌, ℕ, Bool, true, false, List, [], ◌∷◌, refl, sym, ◌∙◌, ap, cond, rules}
 use Rattle.std.specs.Prelude.{Option, Some, option_map, nat_eq}
 use Rattle.std.specs.Str.{IsUtf8, is_utf8}
 use Rattle.std.specs.Map.{lookup}
 use Rattle.std.proofs.lemmas.Str.{IsUtf8-from_is_utf8, is_utf8-from_IsUtf8}
 use Rattle.std.specs.Cmp.Lexicographic.{pointwise}
 use Rattle.indexmap.specs.IndexMap.{insert_entry}
-use Rattle.cache_directives.specs.Names.{name_of, IsOwnKey}
+use Rattle.cache_directives.specs.Names.{name_of, is_unknown, IsOwnKey}
 use Rattle.cache_directives.specs.Entries.{value_bytes, entry_of, entries_of, HasOwnKeys}
 use Rattle.cache_directives.specs.declared.key.DirectiveKey.{DirectiveKey}
+use Rattle.cache_directives.specs.declared.key.DirectiveKey.TheVariants.{MaxAge, SMaxAge, NoCache, NoStore, Private, Public, MustRevalidate, ProxyRevalidate, MustUnderstand, NoTransform, Immutable, StaleWhileRevalidate, StaleIfError, OnlyIfCached, Unknown}
 use Rattle.cache_directives.specs.declared.value.DirectiveValue.{DirectiveValue}
 
 pub is_text : (bytes : List ℕ) → IsUtf8 bytes → is_utf8 bytes ≡ true
@@ -20,6 +21,27 @@ no_text bytes h = go (is_utf8 bytes) refl
     go : (t : Bool) → is_utf8 bytes ≡ t → t ≡ false
     go false e = refl
     go true e = absurd (h (IsUtf8-from_is_utf8 bytes e))
+
+-- the name of a variant of its own is text
+variant_text : (k : DirectiveKey) → is_unknown k ≡ false → is_utf8 (name_of k) ≡ true
+variant_text MaxAge h = is_text _ (search rules)
+variant_text SMaxAge h = is_text _ (search rules)
+variant_text NoCache h = is_text _ (search rules)
+variant_text NoStore h = is_text _ (search rules)
+variant_text Private h = is_text _ (search rules)
+variant_text Public h = is_text _ (search rules)
+variant_text MustRevalidate h = is_text _ (search rules)
+variant_text ProxyRevalidate h = is_text _ (search rules)
+variant_text MustUnderstand h = is_text _ (search rules)
+variant_text NoTransform h = is_text _ (search rules)
+variant_text Immutable h = is_text _ (search rules)
+variant_text StaleWhileRevalidate h = is_text _ (search rules)
+variant_text StaleIfError h = is_text _ (search rules)
+variant_text OnlyIfCached h = is_text _ (search rules)
+variant_text (Unknown text) h = cc
+
+pub known_text : (k : DirectiveKey) (name : List ℕ) → is_unknown k ≡ false → name_of k ≡ name → is_utf8 name ≡ true
+known_text k name h e = ap is_utf8 (sym e) ∙ variant_text k h
 
 -- two keys are the same by their names
 abbrev pub same_key : DirectiveKey → DirectiveKey → Bool

@@ -12,3 +12,4 @@ pub mod Entries
 pub mod Control
 pub mod Lifetime
 pub mod Cacheable
+pub mod Known

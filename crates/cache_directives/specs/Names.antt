@@ -1,5 +1,5 @@
 -- The text of a directive's name, and the key that it has.
-use Rattle.std.specs.Prelude.{◌≡◌, List, [], ◌∷◌, ℕ, Bool, false, Option, codes, string_bytes, nat_eq}
+use Rattle.std.specs.Prelude.{◌≡◌, List, [], ◌∷◌, ℕ, Bool, true, false, Option, codes, string_bytes, nat_eq}
 use Rattle.std.specs.List.{list_any, position}
 use Rattle.std.specs.Cmp.Lexicographic.{pointwise}
 use Rattle.cache_directives.specs.declared.key.DirectiveKey.{DirectiveKey}
@@ -52,3 +52,8 @@ has_own_variant name = list_any (λ own. pointwise nat_eq name own) own_names
 abbrev pub IsOwnKey : DirectiveKey → Type 0
 IsOwnKey (Unknown text) = has_own_variant (string_bytes text) ≡ false
 IsOwnKey known = Unit {0}
+
+-- it has no variant of its own
+abbrev pub is_unknown : DirectiveKey → Bool
+is_unknown (Unknown text) = true
+is_unknown known = false

@@ -27,8 +27,33 @@ pub struct CacheControl {
 const FEW: usize = 8;
 
 impl CacheControl {
+    // The value under a key, found without a comparison of texts. `None` where a name without a place
+    // comes before it. No name is there twice, so those with a place are few.
+    #[tactic(auto, using(crate::proofs::Places::same_place))]
+    fn by_place(&self, key: &DirectiveKey) -> Option<Option<Option<&DirectiveValue>>>
+        ensures { IfSome result (λ found. option_map (λ o. option_map (λ v. v.now.0.items) o) found ≡ value_named (name_of key.now) (directives_of self.now)) }
+    {
+        let place = key.place()?;
+        for (name, value) in self.directives.iter() {
+            if name.place()? == place {
+                return Some(Some(value.as_ref()));
+            }
+        }
+        Some(None)
+    }
+
     // The value under a key.
     fn lookup(&self, key: &DirectiveKey) -> Option<Option<&DirectiveValue>>
+        ensures { option_map (λ o. option_map (λ v. v.now.0.items) o) result ≡ value_named (name_of key.now) (directives_of self.now) }
+    {
+        match self.by_place(key) {
+            Some(found) => found,
+            None => self.by_text(key),
+        }
+    }
+
+    // The value under a key of any kind, among names of any kind.
+    fn by_text(&self, key: &DirectiveKey) -> Option<Option<&DirectiveValue>>
         ensures { option_map (λ o. option_map (λ v. v.now.0.items) o) result ≡ value_named (name_of key.now) (directives_of self.now) }
     {
         if self.directives.len() <= FEW {
@@ -98,7 +123,7 @@ impl CacheControl {
     pub fn has_key(&self, key: &str) -> bool
         ensures { result ≡ has key.now (directives_of self.now) }
     {
-        match DirectiveKey::known(key) {
+        match DirectiveKey::known(key.as_bytes()) {
             Some(known) => self.has_directive(&known),
             None => self.has_unknown(key),
         }
@@ -108,7 +133,10 @@ impl CacheControl {
     pub fn has_directive(&self, key: &DirectiveKey) -> bool
         ensures { result ≡ has (name_of key.now) (directives_of self.now) }
     {
-        self.lookup(key).is_some()
+        match self.by_place(key) {
+            Some(found) => found.is_some(),
+            None => self.by_text(key).is_some(),
+        }
     }
 
     /// Whether `public` is there (RFC 9111, 5.2.2.9).

@@ -1,16 +1,17 @@
 //! Names of directives.
 ghost use Rattle.std.specs.Char.{to_ascii_lowercase};
-ghost use Rattle.std.specs.Prelude.{◌≡◌, ◌↔◌, map, IsTrue, IfOk, IfSome, IfNone, Some, false, nat_eq, slice_get, string_bytes};
+ghost use Rattle.std.specs.Prelude.{◌≡◌, ◌↔◌, map, IsTrue, IfOk, IfSome, IfNone, Some, false, is_some, nat_eq, slice_get, string_bytes};
+ghost use Rattle.std.specs.Str.{is_utf8};
 ghost use Rattle.std.specs.Hash as fed;
 ghost use Rattle.std.specs.Cmp.{on_equiv, on_per, partial_equiv_from_equiv};
 ghost use Rattle.std.specs.Cmp.Lexicographic.{pointwise, nat_list_eq_equiv};
 ghost use Rattle.std.specs.Cmp.Rules.{hashing};
 ghost use Rattle.std.proofs.Common.{rules};
-ghost use Rattle.cache_directives.specs.Names.{name_of, own_names, place_of, has_own_variant, IsOwnKey};
+ghost use Rattle.cache_directives.specs.Names.{name_of, own_names, place_of, has_own_variant, is_unknown, IsOwnKey};
 
 use std::alloc::{AllocError, Global};
-use std::fmt;
 use std::hash::{Hash, Hasher};
+use std::{fmt, str};
 
 /// A directive's name, in lower case.
 #[derive(Clone, Debug, Drop)]
@@ -35,7 +36,7 @@ pub enum DirectiveKey {
 
 impl DirectiveKey {
     // The place of its name among the names with a variant of their own, if it has such a variant.
-    fn place(&self) -> Option<u8>
+    pub(crate) fn place(&self) -> Option<u8>
         ensures at { IfSome result (λ n. slice_get own_names n ≡ Some (name_of self.now)) }
         ensures first { IfSome result (λ n. place_of (name_of self.now) ≡ Some n) }
     {
@@ -81,29 +82,32 @@ impl DirectiveKey {
         }
     }
 
-    // One of the names with a variant of its own, which are in lower case.
+    // One of the names with a variant of its own, which are in lower case. At most three are as long.
     #[tactic(auto, unfolding(crate::specs::Names::has_own_variant))]
-    pub(crate) fn known(name: &str) -> Option<Self>
+    pub(crate) fn known(name: &[u8]) -> Option<Self>
         ensures name { IfSome result (λ key. name_of key ≡ name.now) }
         ensures lower { IfSome result (λ key. name_of key ≡ map to_ascii_lowercase name.now) }
         ensures own { IfSome result IsOwnKey }
+        ensures variant { IfSome result (λ key. is_unknown key ≡ false) }
         ensures none { IfNone result (has_own_variant name.now ≡ false) }
     {
-        match name {
-            "max-age" => Some(DirectiveKey::MaxAge),
-            "s-maxage" => Some(DirectiveKey::SMaxAge),
-            "no-cache" => Some(DirectiveKey::NoCache),
-            "no-store" => Some(DirectiveKey::NoStore),
-            "private" => Some(DirectiveKey::Private),
-            "public" => Some(DirectiveKey::Public),
-            "must-revalidate" => Some(DirectiveKey::MustRevalidate),
-            "proxy-revalidate" => Some(DirectiveKey::ProxyRevalidate),
-            "must-understand" => Some(DirectiveKey::MustUnderstand),
-            "no-transform" => Some(DirectiveKey::NoTransform),
-            "immutable" => Some(DirectiveKey::Immutable),
-            "stale-while-revalidate" => Some(DirectiveKey::StaleWhileRevalidate),
-            "stale-if-error" => Some(DirectiveKey::StaleIfError),
-            "only-if-cached" => Some(DirectiveKey::OnlyIfCached),
+        match name.len() {
+            6 => (name == b"public".as_slice()).then_some(DirectiveKey::Public),
+            7 if name == b"max-age".as_slice() => Some(DirectiveKey::MaxAge),
+            7 => (name == b"private".as_slice()).then_some(DirectiveKey::Private),
+            8 if name == b"s-maxage".as_slice() => Some(DirectiveKey::SMaxAge),
+            8 if name == b"no-cache".as_slice() => Some(DirectiveKey::NoCache),
+            8 => (name == b"no-store".as_slice()).then_some(DirectiveKey::NoStore),
+            9 => (name == b"immutable".as_slice()).then_some(DirectiveKey::Immutable),
+            12 => (name == b"no-transform".as_slice()).then_some(DirectiveKey::NoTransform),
+            14 if name == b"stale-if-error".as_slice() => Some(DirectiveKey::StaleIfError),
+            14 => (name == b"only-if-cached".as_slice()).then_some(DirectiveKey::OnlyIfCached),
+            15 if name == b"must-revalidate".as_slice() => Some(DirectiveKey::MustRevalidate),
+            15 => (name == b"must-understand".as_slice()).then_some(DirectiveKey::MustUnderstand),
+            16 => (name == b"proxy-revalidate".as_slice()).then_some(DirectiveKey::ProxyRevalidate),
+            22 => (name == b"stale-while-revalidate".as_slice()).then_some(
+                DirectiveKey::StaleWhileRevalidate,
+            ),
             _ => None,
         }
     }
@@ -117,7 +121,7 @@ impl DirectiveKey {
         ensures name { IfOk result (λ key. name_of key ≡ name.now) }
         ensures own { IfOk result IsOwnKey }
     {
-        match DirectiveKey::known(name) {
+        match DirectiveKey::known(name.as_bytes()) {
             Some(key) => Ok(key),
             None => Ok(DirectiveKey::Unknown(String::from_str(alloc, name)?)),
         }
@@ -128,23 +132,29 @@ impl DirectiveKey {
         ensures name { name_of result ≡ string_bytes name }
         ensures own { IsOwnKey result }
     {
-        match DirectiveKey::known(name.as_str()) {
+        match DirectiveKey::known(name.as_bytes()) {
             Some(key) => key,
             None => DirectiveKey::Unknown(name),
         }
     }
 
-    // The key of a name in any case. One of the names above takes no memory where it is in lower case.
-    pub(crate) fn from_any_case(alloc: Global, name: &str) -> Result<Self, AllocError>
-        ensures name { IfOk result (λ key. name_of key ≡ map to_ascii_lowercase name.now) }
-        ensures own { IfOk result IsOwnKey }
+    // The key of a name in any case; `None` where it is no text. One of the names above takes no memory
+    // where it is in lower case.
+    #[tactic(auto, using(crate::proofs::Texts::is_text, crate::proofs::Texts::no_text))]
+    pub(crate) fn from_any_case(alloc: Global, name: &[u8]) -> Result<Option<Self>, AllocError>
+        ensures text { IfOk result (λ key. is_some key ≡ is_utf8 name.now) }
+        ensures name { IfOk result (λ key. IfSome key (λ key. name_of key ≡ map to_ascii_lowercase name.now)) }
+        ensures own { IfOk result (λ key. IfSome key IsOwnKey) }
     {
         if let Some(key) = DirectiveKey::known(name) {
-            return Ok(key);
+            return Ok(Some(key));
         }
+        let Ok(name) = str::from_utf8(name) else {
+            return Ok(None);
+        };
         let mut name = String::from_str(alloc, name)?;
         name.make_ascii_lowercase();
-        Ok(DirectiveKey::from_lowercase_owned(name))
+        Ok(Some(DirectiveKey::from_lowercase_owned(name)))
     }
 
     /// Whether the name is this text.

@@ -5,6 +5,7 @@
 mod control;
 mod interpret;
 mod key;
+mod known;
 pub mod laws;
 mod line;
 mod listed_names;
@@ -17,6 +18,7 @@ pub use cache_words::time::DELTA_SECONDS_OVERFLOW_DURATION;
 pub use control::CacheControl;
 pub use interpret::{Cacheable, InterpretCacheControl};
 pub use key::DirectiveKey;
+pub use known::KnownDirectives;
 pub use listed_names::ListValueIter;
 pub use map::{BuildDirectiveHasher, DirectiveMap};
 pub use value::DirectiveValue;

@@ -4,6 +4,8 @@ ghost use Rattle.std.specs.List.{prefix_len};
 ghost use Rattle.cache_directives.specs.Kinds.{is_space, is_separator, is_token};
 ghost use Rattle.cache_directives.specs.Walk.{close, value_after, value_len, written_at, written_len};
 
+use http_header::is_token_char;
+
 fn space(b: u8) -> bool
     ensures { result ≡ is_space b }
 {
@@ -16,31 +18,12 @@ fn separator(b: u8) -> bool
     b == b',' || b == b';'
 }
 
-#[tactic(auto, unfolding(crate::specs::Kinds::is_token))]
+// A byte of a header's name, or past ASCII.
+#[tactic(auto, unfolding(crate::specs::Kinds::is_token, http_header::specs::Token::is_token_byte))]
 fn token(b: u8) -> bool
     ensures { result ≡ is_token b }
 {
-    !(b < 33
-        || b == 127
-        || matches!(
-            b,
-            b'(' | b')'
-                | b'<'
-                | b'>'
-                | b'@'
-                | b','
-                | b';'
-                | b':'
-                | b'\\'
-                | b'"'
-                | b'/'
-                | b'['
-                | b']'
-                | b'?'
-                | b'='
-                | b'{'
-                | b'}'
-        ))
+    is_token_char(b) || b > 127
 }
 
 // How many token bytes there are at the front.

@@ -2,7 +2,7 @@
 ghost use Rattle.std.specs.Prelude.{◌≡◌, map, codes, IfOk, IfSome, OnOk, option_map};
 ghost use Rattle.cache_directives.specs.Found.{written};
 ghost use Rattle.cache_directives.specs.Entries.{entries_of, HasOwnKeys};
-ghost use Rattle.cache_directives.specs.Keeps.{keep, keep_line, kept, IsKept};
+ghost use Rattle.cache_directives.specs.Keeps.{keep, keep_line, keep_lines, kept, IsKept};
 ghost use Rattle.cache_directives.specs.Control.{directives_of, lines_under, named, HasOwnVariants};
 
 use crate::control::CacheControl;
@@ -13,7 +13,6 @@ use crate::value::DirectiveValue;
 use cache_headers::{RequestHeader, ResponseHeader};
 use http_header::{GetAll, HeaderMap, HeaderValue};
 use std::alloc::{AllocError, Global};
-use std::str;
 
 impl CacheControl {
     /// The directives of all lines under a name, whatever its case; `None` without such a line.
@@ -32,12 +31,14 @@ impl CacheControl {
         ensures own { IfOk result (λ o. IfSome o HasOwnVariants) }
     {
         let lines = headers.get_all(header_name);
-        match lines.iter().next() {
-            None => Ok(None),
-            Some(_) => Ok(Some(CacheControl {
-                directives: from_lines(alloc, &lines)?,
-            })),
+        if lines.iter().next().is_none() {
+            return Ok(None);
         }
+        let mut control = CacheControl {
+            directives: DirectiveMap::with_hasher(alloc, BuildDirectiveHasher::of_lines(&lines)),
+        };
+        add_lines(alloc, &mut control.directives, &lines)?;
+        Ok(Some(control))
     }
 
     /// The directives of a request's lines under a name, whatever its case; `None` without such a
@@ -111,10 +112,9 @@ fn insert(alloc: Global, all: &mut DirectiveMap, found: RawDirective<'_>) -> Res
     ensures read { OnOk result (entries_of all.new.entries ≡ keep (entries_of all.old.entries) (written found.entry)) }
     ensures own { OnOk result (HasOwnKeys all.old.entries → HasOwnKeys all.new.entries) }
 {
-    let Ok(name) = str::from_utf8(found.name) else {
+    let Some(key) = DirectiveKey::from_any_case(alloc, found.name)? else {
         return Ok(());
     };
-    let key = DirectiveKey::from_any_case(alloc, name)?;
     let value = match found.value {
         Some(bytes) => Some(DirectiveValue(bytes.to_vec(alloc)?)),
         None => None,
@@ -134,14 +134,17 @@ fn add_line(alloc: Global, all: &mut DirectiveMap, line: &[u8]) -> Result<(), Al
     Ok(())
 }
 
-// The directives of all these lines.
-fn from_lines(alloc: Global, lines: &GetAll<'_, HeaderValue>) -> Result<DirectiveMap, AllocError>
-    ensures read { IfOk result (λ all. entries_of all.entries ≡ kept (map (λ line. line.bytes) lines.now)) }
-    ensures own { IfOk result (λ all. HasOwnKeys all.entries) }
+// Adds the directives of all these lines.
+fn add_lines(
+    alloc: Global,
+    all: &mut DirectiveMap,
+    lines: &GetAll<'_, HeaderValue>,
+) -> Result<(), AllocError>
+    ensures read { OnOk result (entries_of all.new.entries ≡ keep_lines (entries_of all.old.entries) (map (λ line. line.bytes) lines.now)) }
+    ensures own { OnOk result (HasOwnKeys all.old.entries → HasOwnKeys all.new.entries) }
 {
-    let mut all = DirectiveMap::with_hasher(alloc, BuildDirectiveHasher::of_lines(lines));
     for line in lines.iter() {
-        add_line(alloc, &mut all, line.as_bytes())?;
+        add_line(alloc, all, line.as_bytes())?;
     }
-    Ok(all)
+    Ok(())
 }

@@ -33,6 +33,16 @@ fn number(text: &[u8]) -> Option<u32>
     Some(n)
 }
 
+// The number that digits say after a `+`, which may be left out.
+fn signed(text: &[u8]) -> Option<u32>
+    ensures { result ≡ seconds_of text.now }
+{
+    match text.split_first() {
+        Some((b'+', digits)) => number(digits),
+        _ => number(text),
+    }
+}
+
 impl DirectiveValue {
     /// The value as it is written.
     pub fn as_ref(&self) -> &[u8]
@@ -45,12 +55,7 @@ impl DirectiveValue {
     pub fn parse_as_bytes(&self) -> &[u8]
         ensures { result.now ≡ unquoted self.now.0.items }
     {
-        let value = self.as_ref();
-        if value.len() >= 2 && value[0] == b'"' && value[value.len() - 1] == b'"' {
-            &value[1..value.len() - 1]
-        } else {
-            value
-        }
+        unquoted(self.as_ref())
     }
 
     /// The value without its quotes, as text.
@@ -62,13 +67,9 @@ impl DirectiveValue {
         ensures value { let value = unquoted self.now.0.items in MatchResult result (λ text. (text.now ≡ value) × IsUtf8 value) (λ e. ¬ (IsUtf8 value)) }
         ensures kind { IfErr result (λ e. e.etype ≡ ErrorType.InternalError) }
     {
-        match str::from_utf8(self.parse_as_bytes()) {
-            Ok(text) => Ok(text),
-            Err(_) => Err(unreadable()),
-        }
+        text(self.as_ref())
     }
 
-    #[tactic(auto, using(crate::proofs::Texts::is_text, crate::proofs::Texts::no_text))]
     /// The seconds that the value says (RFC 9111, 1.2.2).
     ///
     /// # Errors
@@ -78,12 +79,48 @@ impl DirectiveValue {
         ensures value { result_ok result ≡ delta_seconds self.now.0.items }
         ensures kind { IfErr result (λ e. e.etype ≡ ErrorType.InternalError) }
     {
-        let text = self.parse_as_str()?.as_bytes();
-        let read = match text.split_first() {
-            Some((b'+', digits)) => number(digits),
-            _ => number(text),
-        };
-        read.ok_or(unreadable())
+        delta_seconds(self.as_ref())
+    }
+}
+
+// A value without one pair of enclosing quotes.
+fn unquoted(value: &[u8]) -> &[u8]
+    ensures { result.now ≡ unquoted value.now }
+{
+    if value.len() >= 2 && value[0] == b'"' && value[value.len() - 1] == b'"' {
+        &value[1..value.len() - 1]
+    } else {
+        value
+    }
+}
+
+// A value without its quotes, as text.
+fn text(value: &[u8]) -> Result<&str, Error>
+    ensures value { let value = unquoted value.now in MatchResult result (λ text. (text.now ≡ value) × IsUtf8 value) (λ e. ¬ (IsUtf8 value)) }
+    ensures kind { IfErr result (λ e. e.etype ≡ ErrorType.InternalError) }
+{
+    match str::from_utf8(unquoted(value)) {
+        Ok(text) => Ok(text),
+        Err(_) => Err(unreadable()),
+    }
+}
+
+// The seconds that a value says.
+#[tactic(auto, using(crate::proofs::Digits::read_text, crate::proofs::Texts::is_text, crate::proofs::Texts::no_text))]
+pub(crate) fn delta_seconds(value: &[u8]) -> Result<u32, Error>
+    ensures value { result_ok result ≡ delta_seconds value.now }
+    ensures kind { IfErr result (λ e. e.etype ≡ ErrorType.InternalError) }
+{
+    let Some(seconds) = signed(unquoted(value)) else {
+        return Err(unreadable());
+    };
+    if seconds != DELTA_SECONDS_OVERFLOW_VALUE {
+        return Ok(seconds);
+    }
+    // What follows a number past 32 bits was not read, so it may be no text.
+    match text(value) {
+        Ok(_) => Ok(seconds),
+        Err(error) => Err(error),
     }
 }
 

@@ -9,11 +9,13 @@ ghost use Rattle.cache_heads.specs.FreshUntil.{lasts_to, by_directives, by_expir
 ghost use Rattle.cache_heads.specs.Stale.{in_range, window, revalidate_window, error_window};
 ghost use Rattle.cache_heads.specs.Verdict.{verdict_by, kept_header};
 
+mod by_lines;
 pub mod upstream;
 
 use crate::defaults::{CacheMetaDefaults, FreshDurationByStatusFn};
 use crate::meta::CacheMeta;
 use crate::reason::{NoCacheReason, RespCacheable};
+pub use by_lines::resp_cacheable_by_lines;
 use cache_directives::{
     CacheControl, Cacheable, DELTA_SECONDS_OVERFLOW_VALUE, InterpretCacheControl,
 };

@@ -1,3 +1,4 @@
+pub mod Hashed
 pub mod Names
 pub mod Parts
 pub mod Places

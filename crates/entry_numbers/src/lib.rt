@@ -10,3 +10,4 @@ mod fault;
 mod numbers;
 mod parts;
 mod query;
+mod table_key;

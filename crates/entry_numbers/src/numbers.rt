@@ -13,6 +13,7 @@ mod table;
 use crate::fault::NumbersFault;
 use crate::parts::KeyParts;
 use crate::query::Query;
+use crate::table_key::TableKey;
 use cache_entries::entry::{CacheEntryKey, CacheEntryKeyRef};
 use cache_entries::pack::BorrowedEntry;
 use indexmap::IndexMap;
@@ -20,7 +21,7 @@ use lru_core::MOST_ROWS;
 use search::first_free;
 use std::alloc::{AllocError, Global};
 use std::collections::HashMap;
-use std::hash::{BuildHasher, BuildHasherDefault, FoldHasher};
+use std::hash::{BuildHasher, BuildHasherDefault, FoldHasher, Hash, Hasher};
 use std::marker::Model;
 use table::{move_place, put_entry, put_place, room_for, take_place};
 
@@ -31,7 +32,7 @@ use table::{move_place, put_entry, put_place, room_for, take_place};
 /// `with_hasher` takes a start of the caller's, for entries that strangers choose, who then can't slow look-ups down.
 #[derive(Drop)]
 pub struct Numbers<const N: usize, S: BuildHasher = BuildHasherDefault<FoldHasher>> {
-    entries: IndexMap<CacheEntryKey, u64, S>,
+    entries: IndexMap<TableKey, u64, S>,
     // The index of each number's entry.
     places: HashMap<u64, usize, S>,
 }
@@ -115,7 +116,15 @@ impl<const N: usize, S: BuildHasher> Numbers<N, S> {
         ensures some { IfSome result (λ k. name_at self.now k ≡ Some (owned_of entry.entry)) }
         ensures none { IfNone result (HasNoNumber (name_at self.now) (owned_of entry.entry)) }
     {
-        self.entries.get(entry).copied()
+        self.entries.get(Query::of(entry)).copied()
+    }
+
+    /// Returns a hash of an entry that starts as the tables' hashes do. No clause says which: it is where the search for a free
+    /// number may begin.
+    pub fn hash_of(&self, entry: &CacheEntryKey) -> u64 {
+        let mut state = self.entries.hasher().build_hasher();
+        Query::of(CacheEntryKeyRef::from(entry)).hash(&mut state);
+        state.finish()
     }
 
     /// Returns the number of the entry of a key alone, by the key's parts.
@@ -140,7 +149,7 @@ impl<const N: usize, S: BuildHasher> Numbers<N, S> {
     {
         let i = *self.places.get(&number)?;
         let (entry, _number) = self.entries.get_index(i)?;
-        Some(entry)
+        Some(entry.entry())
     }
 
     /// Gives an entry that has none a number: the first free one of the hash, the hash + N and so on below 2^64, then of the
@@ -187,6 +196,6 @@ impl<const N: usize, S: BuildHasher> Numbers<N, S> {
         if let Some((_entry, moved)) = self.entries.get_index(place) {
             move_place(&mut self.places, *moved, place);
         }
-        Some(entry)
+        Some(entry.into_entry())
     }
 }

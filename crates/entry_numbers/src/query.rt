@@ -1,16 +1,19 @@
 //! Look-ups by an entry whose tag is borrowed.
 
-ghost use Rattle.std.specs.Prelude.{◌≡◌};
+ghost use Rattle.std.specs.Prelude.{◌≡◌, option_map};
+ghost use Rattle.std.specs.List.{fold};
 ghost use Rattle.cache_words.specs.BorrowedKey.{borrowed_view};
 ghost use Rattle.cache_entries.specs.BorrowedEntry.{borrowed_entry};
-ghost use Rattle.cache_entries.specs.Entry.{same_entry, entry_writes};
+ghost use Rattle.cache_entries.specs.Entry.{owned_of, number_of, same_entry};
 ghost use Rattle.cache_entries.specs.EntryText.{kept_key};
 ghost use Rattle.cache_entries.specs.Keys.{same_key};
 ghost use Rattle.cache_entries.specs.SameEntry.{entries_equivalence, same-hashed, same_entry-tells};
+ghost use Rattle.entry_numbers.specs.Hashed.{halves, halves_if_any, id_writes, table_writes};
 
-use cache_entries::entry::CacheEntryKey;
+use crate::table_key::TableKey;
+use cache_entries::entry::{CacheEntryId, CacheEntryKey, CacheEntryKeyRef};
 use cache_entries::pack::BorrowedEntry;
-use cache_words::key::CompactCacheKey;
+use cache_words::key::{CompactCacheKey, HashBinary};
 use cache_words::pack::BorrowedKey;
 use indexmap::Equivalent;
 use std::hash::{Hash, Hasher};
@@ -19,6 +22,25 @@ use std::hash::{Hash, Hasher};
 #[derive(Clone, Copy)]
 pub(crate) struct Query<'a> {
     pub(crate) entry: BorrowedEntry<'a>,
+}
+
+impl<'a> Query<'a> {
+    // The same entry, whose tag is borrowed.
+    pub(crate) fn of(entry: CacheEntryKeyRef<'a>) -> Query<'a>
+        ensures { borrowed_entry result.entry ≡ owned_of entry.entry }
+    {
+        let key = entry.key();
+        Query {
+            entry: BorrowedEntry {
+                key: BorrowedKey {
+                    primary: key.primary,
+                    variance: key.variance,
+                    user_tag: key.user_tag.as_str(),
+                },
+                id: entry.entry_id(),
+            },
+        }
+    }
 }
 
 impl<'a> PartialEq for Query<'a> {
@@ -46,31 +68,56 @@ impl<'a> Eq for Query<'a> {
     ghost laws = { on_equiv (λ q. borrowed_entry q.entry) entries_equivalence };
 }
 
-impl<'a> Hash for Query<'a> {
-    ghost hash_input = { λ query. entry_writes (borrowed_entry query.entry) };
+// Hashes sixteen bytes in two writes. In one write of them std's hasher multiplies one half by the other, so that whoever
+// chooses a half can make the product 0, whatever the start.
+fn hash_halves<H: Hasher>(bytes: &HashBinary, state: &mut H)
+    ensures { state.new ≡ fold H.write state.old (halves bytes.now) }
+{
+    let (front, back) = bytes.split_at(8);
+    state.write(front);
+    state.write(back);
+}
 
-    ghost respects_eq = { λ a b. same-hashed same_entry same_entry-tells entry_writes (borrowed_entry a.entry) (borrowed_entry b.entry) };
-
-    fn hash<H: Hasher>(&self, state: &mut H) {
-        self.entry.key.primary.hash(state);
-        self.entry.key.variance.hash(state);
-        self.entry.key.user_tag.hash(state);
-        match self.entry.id {
-            None => None::<u64>.hash(state),
-            Some(id) => Some(id.get()).hash(state),
-        }
+// Hashes what a response varies by.
+fn hash_variance<H: Hasher>(variance: &Option<HashBinary>, state: &mut H)
+    ensures { state.new ≡ fold H.write state.old (halves_if_any variance.now) }
+{
+    if let Some(bytes) = variance {
+        hash_halves(bytes, state);
     }
 }
 
-impl<'a> Equivalent<CacheEntryKey> for Query<'a> {
+// Hashes an id.
+fn hash_id<H: Hasher>(id: Option<CacheEntryId>, state: &mut H)
+    ensures { state.new ≡ fold H.write state.old (id_writes (option_map number_of id)) }
+{
+    if let Some(id) = id {
+        state.write_u64(id.get());
+    }
+}
+
+impl<'a> Hash for Query<'a> {
+    ghost hash_input = { λ query. table_writes (borrowed_entry query.entry) };
+
+    ghost respects_eq = { λ a b. same-hashed same_entry same_entry-tells table_writes (borrowed_entry a.entry) (borrowed_entry b.entry) };
+
+    fn hash<H: Hasher>(&self, state: &mut H) {
+        hash_halves(&self.entry.key.primary, state);
+        hash_variance(&self.entry.key.variance, state);
+        state.write(self.entry.key.user_tag.as_bytes());
+        hash_id(self.entry.id, state);
+    }
+}
+
+impl<'a> Equivalent<TableKey> for Query<'a> {
     ghost equivalent = { λ query entry. same_entry (borrowed_entry query.entry) entry };
 
-    ghost respects_hash = { λ query entry. same-hashed same_entry same_entry-tells entry_writes (borrowed_entry query.entry) entry };
+    ghost respects_hash = { λ query entry. same-hashed same_entry same_entry-tells table_writes (borrowed_entry query.entry) entry };
 
     ghost respects_eq = { λ query a b. entries_equivalence.congr (borrowed_entry query.entry) a b };
 
-    fn equivalent(&self, entry: &CacheEntryKey) -> bool {
-        match (self.entry.id, entry) {
+    fn equivalent(&self, other: &TableKey) -> bool {
+        match (self.entry.id, other.entry()) {
             (None, CacheEntryKey::KeyOnly(key)) => is_of(self.entry.key, key),
             (Some(wanted), CacheEntryKey::Identified { key, id }) => {
                 is_of(self.entry.key, key) && wanted.get() == id.get()

@@ -1,6 +1,7 @@
 //! Directives of Cache-Control, by tables.
 mod heads;
 mod hostile;
+mod known;
 mod lines;
 mod questions;
 mod values;

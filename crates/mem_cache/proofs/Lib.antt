@@ -5,6 +5,7 @@ mod FinishLaws
 mod FinishedLaws
 mod FirstLaws
 mod FlightLaws
+mod FoundLaws
 mod HeldLaws
 mod ReadLaws
 mod ReaderLaws

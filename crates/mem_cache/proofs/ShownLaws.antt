@@ -19,7 +19,7 @@ use Rattle.mem_cache.proofs.RowLaws.{ascends}
 use Rattle.mem_cache.proofs.SeenLaws.{Alive}
 use Rattle.mem_cache.proofs.FirstLaws.{flying-seen, first-seen, none-seen, body-found}
 
-key-is : (f : Flight) (k : StoredKey) (o : Option Flight) → o ≡ Some f → option_map (λ g. g.key) o ≡ Some k → f.key ≡ k
+pub key-is : (f : Flight) (k : StoredKey) (o : Option Flight) → o ≡ Some f → option_map (λ g. g.key) o ≡ Some k → f.key ≡ k
 key-is f k o e h = let found : Some f.key ≡ Some k = sym (ap (option_map (λ (g : Flight). g.key)) e) ∙ h in cc
 
 pub shown-flight : (alive : Alive) (flights : BTreeMap ℕ Flight) (next : ℕ) (k : StoredKey) (n : ℕ) (f : Flight) (body : Option (Stored CacheMeta)) → IsSound alive flights next → alive k n ≡ true

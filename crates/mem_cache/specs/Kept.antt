@@ -1,5 +1,5 @@
 -- What is kept of bodies, of writes in flight and of their readers, as a plain state.
-use Rattle.std.specs.Prelude.{◌≡◌, ℕ, ◌<◌, Bool, true, not, cond, ◌+◌, ◌-◌, nat_lt, List, Option, Some, None, option_map, map}
+use Rattle.std.specs.Prelude.{◌≡◌, ℕ, ◌<◌, Bool, true, false, not, cond, ◌+◌, ◌-◌, nat_lt, List, Option, Some, None, option_map, map}
 use Rattle.std.specs.List.{AllByRecursion}
 use Rattle.std.specs.Ordering.{nat_cmp}
 use Rattle.std.specs.BTreeMap as tree
@@ -75,3 +75,8 @@ joined (Some r) = counted (r.count + 1) r
 abbrev pub parted : Option Readers → Option Readers
 parted None = None
 parted (Some r) = cond (nat_lt 1 r.count) (Some (counted (r.count - 1) r)) None
+
+-- what readers are to be left with, where there are some
+abbrev pub IsShare : Option (List ℕ) → Bool → List ℕ → Type 0
+IsShare None there bytes = there ≡ false
+IsShare (Some share) there bytes = share ≡ bytes

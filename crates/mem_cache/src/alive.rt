@@ -59,11 +59,16 @@ fn take_one<S: BuildHasher>(alive: &mut Alive<S>, key: &HashBinary, number: u64)
     }
 }
 
-// Takes all numbers of a key out.
-pub(crate) fn take_all<S: BuildHasher>(alive: &mut Alive<S>, key: &HashBinary)
-    ensures { (k : List ℕ) (n : ℕ) → has alive.new k n ≡ (has alive.old k n && not (pointwise nat_eq key.now k)) }
+// Takes all numbers of a key out, and returns the least. Mostly no write is in flight, and no key is hashed.
+pub(crate) fn take_all<S: BuildHasher>(alive: &mut Alive<S>, key: &HashBinary) -> Option<u64>
+    ensures after { (k : List ℕ) (n : ℕ) → has alive.new k n ≡ (has alive.old k n && not (pointwise nat_eq key.now k)) }
+    ensures some { IfSome result (λ n. (has alive.old key.now n ≡ true) × ((m : ℕ) → has alive.old key.now m ≡ true → n ≤ m)) }
+    ensures none { IfNone result ((m : ℕ) → has alive.old key.now m ≡ false) }
 {
-    alive.remove(&StoredKey::new(*key));
+    if alive.is_empty() {
+        return None;
+    }
+    alive.remove(&StoredKey::new(*key))?.first()
 }
 
 // Returns whether a key has a number.

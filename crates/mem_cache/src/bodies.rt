@@ -49,11 +49,12 @@ pub(crate) fn has<S: BuildHasher>(bodies: &Bodies<S>, key: &HashBinary) -> bool
     bodies.contains_key(&StoredKey::new(*key))
 }
 
-// Removes the body of a key.
-pub(crate) fn remove<S: BuildHasher>(bodies: &mut Bodies<S>, key: &HashBinary)
-    ensures { (k : List ℕ) → get (pointwise nat_eq) bodies.new k ≡ cond (pointwise nat_eq key.now k) None (get (pointwise nat_eq) bodies.old k) }
+// Removes the body of a key, and returns whether there was one.
+pub(crate) fn remove<S: BuildHasher>(bodies: &mut Bodies<S>, key: &HashBinary) -> bool
+    ensures found { result ≡ is_some (get (pointwise nat_eq) bodies.old key.now) }
+    ensures after { (k : List ℕ) → get (pointwise nat_eq) bodies.new k ≡ cond (pointwise nat_eq key.now k) None (get (pointwise nat_eq) bodies.old k) }
 {
-    bodies.remove(&StoredKey::new(*key));
+    bodies.remove(&StoredKey::new(*key)).is_some()
 }
 
 // Lets the body of a key go stale at a moment, and returns whether there is one.

@@ -90,17 +90,9 @@ impl<S: BuildHasher> MemCache<S> {
         ensures store { Agree self.new.store (after (removes key.now) self.old.store) }
         ensures others { (self.new.next ≡ self.old.next) × (self.new.readings ≡ self.old.readings) }
     {
-        let found = self.has(key);
-        bodies::remove(&mut self.bodies, key);
-        alive::take_all(&mut self.alive, key);
-        found
-    }
-
-    // Returns whether a look-up of a key shows anything.
-    fn has(&self, key: &HashBinary) -> bool
-        ensures { result ≡ is_found_at key.now self.now.store }
-    {
-        self.shown(key).is_some()
+        let stored = bodies::remove(&mut self.bodies, key);
+        let flying = alive::take_all(&mut self.alive, key);
+        stored || flying.is_some()
     }
 
     // Returns what a look-up of a key shows.

@@ -1,14 +1,16 @@
 //! The writes that have readers.
-ghost use Rattle.std.specs.Prelude.{◌≡◌, ℕ, ◌==◌, is_some, true, cond, option_map, Some, IfErr, OnOk, OnErr};
+ghost use Rattle.std.specs.Prelude.{◌≡◌, ℕ, List, ◌==◌, is_some, true, cond, option_map, Some, IfOk, IfErr, OnOk, OnErr};
 ghost use Rattle.std.specs.Ordering.{nat_cmp};
 ghost use Rattle.std.specs.BTreeMap.{get};
 ghost use Rattle.cache_store.specs.declared.storage.StoreFault.{StoreFault as Fault};
 ghost use Rattle.cache_store.specs.Held.{left_with};
 ghost use Rattle.cache_store.specs.Readers.{left_at};
-ghost use Rattle.mem_cache.specs.Kept.{bytes_in, readings_of, counted, joined, parted};
+ghost use Rattle.mem_cache.specs.Kept.{bytes_in, readings_of, IsShare, counted, joined, parted};
 
 use crate::flight::{Buffer, Readers};
+use bytes::Bytes;
 use cache_store::storage::StoreFault;
+use std::alloc::AllocError;
 use std::collections::BTreeMap;
 
 pub(crate) type AllReaders = BTreeMap<u64, Readers>;
@@ -29,6 +31,31 @@ fn put_bytes(readers: &mut AllReaders, number: u64, buffer: Buffer)
 {
     let reading = readers.get_mut(&number).unwrap();
     reading.left = Some(buffer);
+}
+
+// Shares bytes with the readers of a write, if it has some.
+pub(crate) fn share_for(
+    readers: &AllReaders,
+    number: u64,
+    bytes: &Bytes,
+) -> Result<Option<Bytes>, AllocError>
+    ensures { IfOk result (λ share. IsShare share (is_some (get nat_cmp readers.now number)) bytes.now) }
+{
+    if !readers.contains_key(&number) {
+        return Ok(None);
+    }
+    let share = bytes.clone()?;
+    Ok(Some(share))
+}
+
+// Leaves the readers of a write what was shared with them.
+pub(crate) fn leave_share(readers: &mut AllReaders, number: u64, share: Option<Bytes>)
+    ensures { (bytes : List ℕ) → IsShare share (is_some (get nat_cmp readers.old number)) bytes → readings_of readers.new.entries ≡ left_with number bytes (readings_of readers.old.entries) }
+{
+    let Some(bytes) = share else {
+        return;
+    };
+    leave_bytes(readers, number, Buffer::Shared(bytes));
 }
 
 // Returns the bytes that readers of a write were left with.

@@ -1,5 +1,5 @@
 //! Heads as MessagePack: written where what is written is read as the same head.
-ghost use Rattle.std.specs.Prelude.{◌≡◌, ◌++◌, true, flat_map, Ok, IfSome, OnOk};
+ghost use Rattle.std.specs.Prelude.{◌≡◌, ◌++◌, ℕ, List, [], true, flat_map, Ok, IfSome, OnOk};
 ghost use Rattle.std.specs.List.{AllByRecursion};
 ghost use Rattle.http_header.specs.HeaderMap.{pairs};
 ghost use Rattle.http.specs.StatusCode.{IsStatusCode};
@@ -10,17 +10,39 @@ ghost use Rattle.cache_metas.specs.InternalReading.{value_of};
 ghost use Rattle.packed_meta.specs.Packed.{IsPlainField};
 
 use cache_headers::ResponseHeader;
-use cache_words::pack::writing;
+use cache_words::pack::{Sink, writing};
 use http_header::{HeaderMap, HeaderName, HeaderValue};
+use page::Page;
 use std::alloc::{AllocError, Global};
+
+mod page;
 
 // The most names of a head that is packed: each look-up reads it again, and names that collide are compared with one another.
 pub(crate) const MOST_NAMES: usize = 256;
 
+// What a head is written into.
+trait Text: Sink {
+    ghost text: { Self → List ℕ };
+
+    ghost follows: { (a b : Self) (x : List ℕ) → Self.adds a x b → text b ≡ text a ++ x };
+}
+
+impl Text for Vec<u8> {
+    ghost text = { λ v. v.items };
+
+    ghost follows = { λ a b x e. e };
+}
+
+impl Text for Page {
+    ghost text = { λ p. p };
+
+    ghost follows = { λ a b x e. e };
+}
+
 // Writes a field, and returns whether it is read as the same field; where it returns false it may have written a part.
-fn put_field(out: &mut Vec<u8>, name: &HeaderName, value: &HeaderValue) -> bool
+fn put_field<T: Text>(out: &mut T, name: &HeaderName, value: &HeaderValue) -> bool
     ensures field { result ≡ true → IsPlainField (name.now, value.now) }
-    ensures text { result ≡ true → out.new.items ≡ out.old.items ++ line_of (name.now, value.now) }
+    ensures text { result ≡ true → T.text out.new ≡ T.text out.old ++ line_of (name.now, value.now) }
 {
     if value.is_sensitive() {
         return false;
@@ -31,9 +53,9 @@ fn put_field(out: &mut Vec<u8>, name: &HeaderName, value: &HeaderValue) -> bool
 }
 
 // Writes all fields, and returns whether they are read as the same fields.
-fn put_fields(out: &mut Vec<u8>, headers: &HeaderMap) -> bool
+fn put_fields<T: Text>(out: &mut T, headers: &HeaderMap) -> bool
     ensures fields { result ≡ true → AllByRecursion IsPlainField (pairs headers.now) }
-    ensures text { result ≡ true → out.new.items ≡ out.old.items ++ flat_map line_of (pairs headers.now) }
+    ensures text { result ≡ true → T.text out.new ≡ T.text out.old ++ flat_map line_of (pairs headers.now) }
 {
     'each: for (name, value) in headers.iter() {
         if !put_field(out, name, value) {
@@ -44,14 +66,28 @@ fn put_fields(out: &mut Vec<u8>, headers: &HeaderMap) -> bool
 }
 
 // Writes what comes before the fields of a head that has so many.
-fn put_start(out: &mut Vec<u8>, header: &ResponseHeader, count: u32) -> Result<(), AllocError>
-    ensures text { OnOk result (out.new.items ≡ out.old.items ++ (shortest arrays 2 ++ (shortest numbers header.now.status ++ shortest arrays count))) }
+fn put_start<T: Text>(out: &mut T, header: &ResponseHeader, count: u32) -> Result<(), AllocError>
+    ensures text { OnOk result (T.text out.new ≡ T.text out.old ++ (shortest arrays 2 ++ (shortest numbers header.now.status ++ shortest arrays count))) }
     ensures status { IsStatusCode header.now.status }
 {
     let status = header.status.as_u16();
     writing::put_array(out, 2)?;
     writing::put_number(out, status as u64)?;
     writing::put_array(out, count)
+}
+
+// Writes a head, and returns whether it is read as the same head.
+fn put_head<T: Text>(out: &mut T, header: &ResponseHeader) -> bool
+    requires { T.text out.old ≡ [] }
+    ensures { result ≡ true → value_of (head_at (T.text out.new)) ≡ Ok header.now }
+{
+    let Ok(count) = u32::try_from(header.headers.len()) else {
+        return false;
+    };
+    let Ok(()) = put_start(out, header, count) else {
+        return false;
+    };
+    put_fields(out, &header.headers)
 }
 
 // How many bytes a head of such fields takes at most. No form counts more: the room is a hint.
@@ -75,16 +111,14 @@ pub(crate) fn packed(alloc: Global, header: &ResponseHeader) -> Option<Vec<u8>>
     if header.headers.keys_len() > MOST_NAMES {
         return None;
     }
-    let Ok(count) = u32::try_from(header.headers.len()) else {
-        return None;
-    };
+    let mut page = Page::new();
+    if put_head(&mut page, header) {
+        return Vec::from_slice(alloc, page.as_slice()).ok();
+    }
     let Ok(mut out) = Vec::with_capacity(alloc, room_for(&header.headers)) else {
         return None;
     };
-    let Ok(()) = put_start(&mut out, header, count) else {
-        return None;
-    };
-    if !put_fields(&mut out, &header.headers) {
+    if !put_head(&mut out, header) {
         return None;
     }
     Some(out)

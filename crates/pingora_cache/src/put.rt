@@ -19,8 +19,7 @@ use crate::parts::Parts;
 use admit::{out_of_memory, put_body};
 use bytes::Bytes;
 use cache_evict::EvictionManager;
-use cache_heads::cache_control::CacheControl;
-use cache_heads::filters::resp_cacheable;
+use cache_heads::filters::resp_cacheable_by_lines;
 use cache_heads::meta::{FreshDurationByStatusFn, ResponseHeader};
 use cache_heads::{CacheMetaDefaults, ErrorType, RespCacheable};
 use cache_store::storage::Storage;
@@ -84,9 +83,7 @@ pub fn cacheable_by_headers<F: FreshDurationByStatusFn>(
 ) -> Result<RespCacheable, AllocError>
     ensures { IfOk result (λ v. v ≡ verdict_by_headers moment response F.duration defaults.now) }
 {
-    let control = CacheControl::from_resp_headers(alloc, &response)?;
-    let verdict = resp_cacheable(moment, control.as_ref(), response, false, defaults);
-    Ok(verdict)
+    resp_cacheable_by_lines(alloc, moment, response, defaults)
 }
 
 /// A put under a key.

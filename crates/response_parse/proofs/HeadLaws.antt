@@ -29,7 +29,7 @@ use Rattle.response_parse.specs.declared.front.Front.{Front}
 use Rattle.response_parse.specs.declared.front.Front.TheVariants.{Found, Begun, Refused}
 use Rattle.response_parse.specs.Response.{values_of, body_length, parsed_by_lines, has_short_name, is_within_bounds, whole_head, begun_head, no_head, Gives}
 use Rattle.response_parse.specs.Parse.{values_under, announced, IsHeaderOf, IsHeaderFor, IsBad}
-use Rattle.response_parse.specs.Heads.{parsed_by_header, values_at, IsFrontOf, IsHeadAt, IsHeadOf, IsOutOfBounds, IsSomeHead, AreShortLines}
+use Rattle.response_parse.specs.Heads.{parsed_by_header, values_at, IsFrontOf, IsHeadAt, IsHeadOf, IsOutOfBounds, IsSomeHead, AreShortLines, HasFieldValue}
 use Rattle.response_parse.proofs.ReadingLaws.{reads-more, reading-whole, reading-begun, reading-long, reading-lenient, reading-refused, overflows-more}
 
 -- a further line adds one value, and one name at most
@@ -92,6 +92,18 @@ map_of-more bytes lines i d l =
 pub line_at : (bytes : List ℕ) (lines : List HeaderSpan) (i : ℕ) (d : HeaderSpan) → All IsLine (map (header_bytes bytes) lines) → i < length lines → IsLine (header_bytes bytes (get_or lines i d))
 line_at bytes lines i d all l = subst IsLine (get_or-map (header_bytes bytes) lines i d (header_bytes bytes d) l) (all i (header_bytes bytes d) (rw length-map l))
 
+-- and so for values alone
+pub value_at : (bytes : List ℕ) (lines : List HeaderSpan) (i : ℕ) (d : HeaderSpan) → All HasFieldValue (map (header_bytes bytes) lines) → i < length lines → HasFieldValue (header_bytes bytes (get_or lines i d))
+value_at bytes lines i d all l = subst HasFieldValue (get_or-map (header_bytes bytes) lines i d (header_bytes bytes d) l) (all i (header_bytes bytes d) (rw length-map l))
+
+-- the values of a grammar's fields are those that a map takes
+pub values-valid : (fields : List Field) → All IsField fields → All HasFieldValue (map name_and_value fields)
+values-valid fields valid =
+    All-map HasFieldValue name_and_value fields (λ k d l. AllPass-trim_ows is_value_byte (get_or fields k d).raw (valid k d l).raw)
+
+has-short : (line : Line) → length line.0 ≤ 65535 → has_short_name line ≡ true
+has-short line short = grind (arith, nat_tests)
+
 same_tokens : (b : ℕ) → is_token_byte b ≡ token.is_token_byte b
 unfolding is_token_byte token.is_token_byte
 same_tokens b = refl
@@ -102,9 +114,10 @@ IsLine-field f valid short =
 
 -- one more short name
 pub short-more : (bytes : List ℕ) (lines : List HeaderSpan) (i : ℕ) (d : HeaderSpan) → i < length lines → list_all has_short_name (map (header_bytes bytes) (take i lines)) ≡ true
-    → has_short_name (header_bytes bytes (get_or lines i d)) ≡ true → list_all has_short_name (map (header_bytes bytes) (take (i + 1) lines)) ≡ true
+    → length (header_bytes bytes (get_or lines i d)).0 ≤ 65535 → list_all has_short_name (map (header_bytes bytes) (take (i + 1) lines)) ≡ true
 short-more bytes lines i d l before this =
-    rw (take_more lines i d l, map-append (header_bytes bytes) (take i lines) (get_or lines i d ∷ []), list_all-append has_short_name (map (header_bytes bytes) (take i lines)) (header_bytes bytes (get_or lines i d) ∷ []), before, this) refl
+    let short : has_short_name (header_bytes bytes (get_or lines i d)) ≡ true = has-short (header_bytes bytes (get_or lines i d)) this in
+    rw (take_more lines i d l, map-append (header_bytes bytes) (take i lines) (get_or lines i d ∷ []), list_all-append has_short_name (map (header_bytes bytes) (take i lines)) (header_bytes bytes (get_or lines i d) ∷ []), before, short) refl
 
 short-at : (f : Field) → has_short_name (name_and_value f) ≡ true → length f.name ≤ 65535
 short-at f t = grind (arith, nat_tests)
@@ -229,11 +242,11 @@ pub Gives-bad : (bytes : List ℕ) → IsBad bytes → Gives bytes BadHead
 Gives-bad bytes bad = rw (append-nil bytes) at (bad [])
 
 -- one more line of a map
-pub AreShortLines-more : (all next : Entries FieldValue) (name value : List ℕ) → AreShortLines all → next ≡ append all (lowercase name) (plain_value value) → has_short_name (name, value) ≡ true → AreShortLines next
+pub AreShortLines-more : (all next : Entries FieldValue) (name value : List ℕ) → AreShortLines all → next ≡ append all (lowercase name) (plain_value value) → length name ≤ 65535 → AreShortLines next
 AreShortLines-more all next name value before e short = (
   before.0 ++ (name, value) ∷ [],
   e ∙ ap (λ (m : Entries FieldValue). append m (lowercase name) (plain_value value)) before.1 ∙ sym (append_all-more [] before.0 (name, value)),
-  rw (list_all-append has_short_name before.0 ((name, value) ∷ []), before.2, short) refl,
+  rw (list_all-append has_short_name before.0 ((name, value) ∷ []), before.2, has-short (name, value) short) refl,
 )
 
 -- a map of such lines, with a status, is within bounds

@@ -2,7 +2,7 @@
 use Rattle.std.specs.Prelude.{◌≡◌, ℕ, ◌≤◌, true, false, List, length, drop, map, flat_map}
 use Rattle.std.specs.List.{list_all}
 use Rattle.http_header.specs.HeaderMap.{Entries}
-use Rattle.http_header.specs.FieldValue.{FieldValue}
+use Rattle.http_header.specs.FieldValue.{FieldValue, IsFieldValue}
 use Rattle.cache_headers.specs.Lines.{Line, map_of}
 use Rattle.cache_headers.specs.declared.header.ResponseHeader.{ResponseHeader}
 use Rattle.httparse.specs.Grammar.{ResponseHead, ReadsResponse, HasNoResponse, status_code}
@@ -18,6 +18,10 @@ use Rattle.response_parse.specs.Parse.{announced, IsHeaderOf, IsHeaderFor, IsBad
 -- the values of lines, one after another
 abbrev pub values_at : List ℕ → List HeaderSpan → List ℕ
 values_at bytes lines = flat_map (λ line. span_bytes bytes line.value) lines
+
+-- a line whose value a map takes
+abbrev pub HasFieldValue : Line → Type 0
+HasFieldValue line = IsFieldValue line.1
 
 -- what a head gives, with the bytes after it
 abbrev pub parsed_by_header : ResponseHeader → List ℕ → Parsed

@@ -8,7 +8,7 @@ use crate::response::{Parsed, Response, Short};
 use bytes::Bytes;
 use cache_headers::ResponseHeader;
 use http::StatusCode;
-use http_header::HeaderValue;
+use http_header::{CONTENT_LENGTH, HeaderValue};
 
 // The length that a Content-Length says, if it can be read.
 fn length_in(value: &HeaderValue) -> Option<usize>
@@ -28,7 +28,7 @@ fn length_in(value: &HeaderValue) -> Option<usize>
 pub fn content_length(header: &ResponseHeader) -> Option<usize>
     ensures { result ≡ content_length header.now }
 {
-    let value = header.headers.get_all("content-length").iter().next()?;
+    let value = header.headers.get_all(&CONTENT_LENGTH).iter().next()?;
     length_in(value)
 }
 

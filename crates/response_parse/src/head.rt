@@ -2,19 +2,20 @@
 ghost use Rattle.std.specs.Prelude.{◌≡◌, ◌≢◌, ◌<◌, ◌≤◌, [], length, map, IfOk, IfErr, IfSome, IfNone, OnOk, All, true};
 ghost use Rattle.std.specs.List.{list_all};
 ghost use Rattle.http_header.specs.HeaderMap.{append, value_count};
-ghost use Rattle.http_header.specs.FieldValue.{plain_value};
+ghost use Rattle.http_header.specs.FieldName.{IsFieldName};
 ghost use Rattle.http_header.specs.Token.{lowercase};
 ghost use Rattle.http.specs.StatusCode.{IsStatusCode};
 ghost use Rattle.httparse.specs.Grammar.{HasNoResponse, NeverHasResponse};
 ghost use Rattle.httparse.specs.Spans.{IsHeaderWithin, header_bytes, ResponseOverflows};
 ghost use Rattle.response_parse.specs.Response.{has_short_name};
 ghost use Rattle.cache_headers.specs.Lines.{map_of, IsLine};
-ghost use Rattle.response_parse.specs.Heads.{values_at, IsHeadOf, IsOutOfBounds, IsSomeHead, AreShortLines};
+ghost use Rattle.response_parse.specs.Heads.{values_at, IsHeadOf, IsOutOfBounds, IsSomeHead, AreShortLines, HasFieldValue};
 
+use crate::names::name_of;
 use bytes::Bytes;
 use cache_headers::ResponseHeader;
 use http::StatusCode;
-use http_header::{HeaderMap, HeaderMapError, HeaderName, HeaderNameError, HeaderValue};
+use http_header::{HeaderMap, HeaderMapError, HeaderValue};
 use httparse::spans::{EMPTY_HEADER_SPAN, HeaderSpan, ResponseSpans, parse_response};
 use httparse::{Error, ParserConfig, Status};
 use std::alloc::{AllocError, Global};
@@ -23,7 +24,7 @@ use std::alloc::{AllocError, Global};
 const MOST_LINES: usize = 256;
 
 // As many header lines as nearly every head has at most: room for the most is cleared only for a head that has more.
-const FEW_LINES: usize = 64;
+const FEW_LINES: usize = 32;
 
 // Why no head is read.
 #[derive(Clone, Copy, PartialEq, Eq)]
@@ -57,23 +58,16 @@ impl From<AllocError> for HeadFault {
 }
 
 // One more line of a head.
-fn add(alloc: Global, all: &mut HeaderMap, name: &[u8], value: Bytes) -> Result<(), HeadFault>
+fn add(alloc: Global, all: &mut HeaderMap, name: &[u8], value: HeaderValue) -> Result<(), HeadFault>
     requires names { length all.old < 256 }
     requires values { value_count all.old < 256 }
-    ensures ok { OnOk result (all.new ≡ append all.old (lowercase name.now) (plain_value value)) }
-    ensures short { OnOk result (has_short_name (name.now, value) ≡ true) }
-    ensures bounds { result ≡ Err HeadFault.Bounds → ¬ (IsLine (name.now, value)) }
+    ensures ok { OnOk result (all.new ≡ append all.old (lowercase name.now) value) }
+    ensures short { OnOk result (length name.now ≤ 65535) }
+    ensures bounds { result ≡ Err HeadFault.Bounds → ¬ (IsFieldName name.now) }
     ensures read { result ≢ Err HeadFault.Refused }
     ensures room { result ≢ Err HeadFault.TooLong }
 {
-    let name = match HeaderName::from_bytes(alloc, name) {
-        Ok(name) => name,
-        Err(HeaderNameError::Invalid) => return Err(HeadFault::Bounds),
-        Err(HeaderNameError::OutOfMemory) => return Err(HeadFault::Memory),
-    };
-    let Ok(value) = HeaderValue::from_shared(value) else {
-        return Err(HeadFault::Bounds);
-    };
+    let name = name_of(alloc, name)?;
     match all.append(name, value) {
         Ok(_) => Ok(()),
         Err(HeaderMapError::MaxSizeReached) => Err(HeadFault::Bounds),
@@ -81,11 +75,11 @@ fn add(alloc: Global, all: &mut HeaderMap, name: &[u8], value: Bytes) -> Result<
     }
 }
 
-// An empty map with room for so many names.
-fn room_for(alloc: Global, count: usize) -> Result<HeaderMap, AllocError>
-    ensures { IfOk result (λ all. all ≡ []) }
+// Makes room for so many names in a map.
+fn make_room(all: &mut HeaderMap, count: usize) -> Result<(), AllocError>
+    ensures { all.new ≡ all.old }
 {
-    HeaderMap::with_capacity(alloc, count).map_err(|_| AllocError)
+    all.reserve(count).map_err(|_| AllocError)
 }
 
 // How many bytes the values of these lines have together.
@@ -109,37 +103,42 @@ fn joined_values(alloc: Global, bytes: &[u8], lines: &[HeaderSpan]) -> Result<By
     Ok(Bytes::from_vec(values)?)
 }
 
-// The map of these header lines. The values share one copy, which takes less than a copy of each, and keeps no other bytes of
-// the head.
-fn collect(alloc: Global, bytes: &[u8], lines: &[HeaderSpan]) -> Result<HeaderMap, HeadFault>
+// Fills an empty map with these header lines, whose values the parser has checked. They share one copy, which takes less than
+// a copy of each, and keeps no other bytes of the head.
+fn collect(
+    alloc: Global,
+    bytes: &[u8],
+    lines: &[HeaderSpan],
+    all: &mut HeaderMap,
+) -> Result<(), HeadFault>
     requires within { All (IsHeaderWithin (length bytes.now)) lines.now }
     requires few { length lines.now ≤ 256 }
-    ensures value { IfOk result (λ all. all ≡ map_of (map (header_bytes bytes.now) lines.now)) }
+    requires valid { All HasFieldValue (map (header_bytes bytes.now) lines.now) }
+    requires empty { all.old ≡ [] }
+    ensures value { OnOk result (all.new ≡ map_of (map (header_bytes bytes.now) lines.now)) }
     ensures short { OnOk result (list_all has_short_name (map (header_bytes bytes.now) lines.now) ≡ true) }
     ensures bounds { result ≡ Err HeadFault.Bounds → ¬ (All IsLine (map (header_bytes bytes.now) lines.now)) }
     ensures read { result ≢ Err HeadFault.Refused }
     ensures room { result ≢ Err HeadFault.TooLong }
 {
-    let mut all = room_for(alloc, lines.len())?;
+    make_room(all, lines.len())?;
     let mut values = joined_values(alloc, bytes, lines)?;
     for line in lines {
-        let value = values.split_to(line.value.end - line.value.start)?;
-        add(alloc, &mut all, line.name.of(bytes), value)?;
+        let shared = values.split_to(line.value.end - line.value.start)?;
+        let value = HeaderValue::from_known_valid(shared);
+        add(alloc, all, line.name.of(bytes), value)?;
     }
-    Ok(all)
+    Ok(())
 }
 
-// The head with these lines, whose status and length a parser read.
-fn head_of(headers: HeaderMap, read: &ResponseSpans) -> Result<Head, HeadFault>
-    ensures head { IfOk result (λ head. head ≡ record { header = record { status = read.now.code; headers = headers }; len = read.now.len }) }
+// The status that a parser read.
+fn status_of(read: &ResponseSpans) -> Result<StatusCode, HeadFault>
+    ensures code { IfOk result (λ status. status ≡ read.now.code) }
     ensures status { OnOk result (IsStatusCode read.now.code) }
     ensures err { IfErr result (λ fault. (fault ≡ HeadFault.Bounds) × ¬ (IsStatusCode read.now.code)) }
 {
     match StatusCode::from_u16(read.code) {
-        Ok(status) => Ok(Head {
-            header: ResponseHeader { status, headers },
-            len: read.len,
-        }),
+        Ok(status) => Ok(status),
         Err(_) => Err(HeadFault::Bounds),
     }
 }
@@ -159,9 +158,13 @@ fn read_into(
     ensures refused { result ≡ Err HeadFault.Refused → NeverHasResponse bytes.now }
 {
     match parse_response(bytes, lines) {
-        Ok(Status::Complete(head)) => {
-            let headers = collect(alloc, bytes, &lines[..head.headers])?;
-            Ok(Some(head_of(headers, &head)?))
+        Ok(Status::Complete(read)) => {
+            let status = status_of(&read)?;
+            let mut headers = HeaderMap::new(alloc);
+            collect(alloc, bytes, &lines[..read.headers], &mut headers)?;
+            let header = ResponseHeader { status, headers };
+            let len = read.len;
+            Ok(Some(Head { header, len }))
         }
         Ok(Status::Partial) => Ok(None),
         Err(Error::TooManyHeaders) => Err(HeadFault::TooLong),
@@ -222,7 +225,10 @@ fn collect_unfolded(
 {
     let mut all = HeaderMap::new(alloc);
     for line in lines {
-        let value = unfolded(alloc, line.value.of(bytes))?;
+        let line_value = unfolded(alloc, line.value.of(bytes))?;
+        let Ok(value) = HeaderValue::from_shared(line_value) else {
+            return Err(HeadFault::Bounds);
+        };
         add(alloc, &mut all, line.name.of(bytes), value)?;
     }
     Ok(all)
@@ -237,9 +243,12 @@ pub(crate) fn read_leniently(alloc: Global, bytes: &[u8]) -> Result<Option<Head>
     config.allow_obsolete_multiline_headers_in_responses(true);
     let mut lines = [EMPTY_HEADER_SPAN; MOST_LINES];
     match config.parse_response_spans(bytes, &mut lines) {
-        Ok(Status::Complete(head)) => {
-            let headers = collect_unfolded(alloc, bytes, &lines[..head.headers])?;
-            Ok(Some(head_of(headers, &head)?))
+        Ok(Status::Complete(read)) => {
+            let status = status_of(&read)?;
+            let headers = collect_unfolded(alloc, bytes, &lines[..read.headers])?;
+            let header = ResponseHeader { status, headers };
+            let len = read.len;
+            Ok(Some(Head { header, len }))
         }
         Ok(Status::Partial) => Ok(None),
         Err(_) => Err(HeadFault::Refused),

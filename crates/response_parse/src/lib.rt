@@ -7,6 +7,7 @@ mod collected;
 mod front;
 mod head;
 pub mod laws;
+mod names;
 pub mod parse;
 mod position;
 pub mod read;

@@ -1,29 +1,31 @@
--- A digit's value, with the letters of both cases as one range.
-use Rattle.std.proofs.Common.{◌≡◌, ℕ, zero, suc, ◌+◌, ◌-◌, ◌<◌, ◌==◌, nat_le, Bool, true, false, ◌&&◌, true≢false, if◌then◌else◌, refl, sym, ap, arith, inl, inr}
-use Rattle.std.specs.Prelude.{Option, Some, None, bit_or}
+-- A digit's value with its mark, with the letters of both cases as one range.
+use Rattle.std.proofs.Common.{◌≡◌, ℕ, zero, suc, ◌+◌, ◌-◌, ◌<◌, ◌%◌, ◌==◌, nat_lt, Bool, true, ◌&&◌, refl, arith, inl, inr, ltb-true}
+use Rattle.std.specs.Prelude.{Option, Some, None, bit_or, max}
 use Rattle.std.proofs.lemmas.Bool.{and_parts, cases_lt, eqb-true}
 use Rattle.hex.specs.Hex.{hex_digit_value}
+use Rattle.trace_lines.specs.Digits.{IsMarked}
 
-abbrev pub value : ℕ → Option ℕ
-value c =
-    if nat_le 97 (bit_or c 32) && nat_le (bit_or c 32) 102 then Some (bit_or c 32 - 97 + 10)
-    else if nat_le 48 c && nat_le c 57 then Some (c - 48)
-    else None
+abbrev pub digit : ℕ → ℕ
+digit c = (c + 198) % 256 - 6
 
-abbrev same : Option ℕ → Option ℕ → Bool
-same (Some a) (Some b) = a == b
-same (Some a) None = false
-same None (Some b) = false
-same None None = true
+abbrev pub letter : ℕ → ℕ
+letter c = (bit_or ((c + 255) % 256) 32 + 154) % 256
 
-is_same : (a b : Option ℕ) → same a b ≡ true → a ≡ b
-is_same (Some a) (Some b) h = ap Some (eqb-true a b h)
-is_same (Some a) None h = absurd (true≢false (sym h))
-is_same None (Some b) h = absurd (true≢false (sym h))
-is_same None None h = refl
+abbrev pub marked : ℕ → ℕ
+marked c = max (digit c) (letter c)
+
+abbrev is_marked : Option ℕ → ℕ → Bool
+is_marked (Some v) n = (n == 240 + v) && nat_lt v 16
+is_marked None n = nat_lt n 240
+
+passed : (o : Option ℕ) (n : ℕ) → is_marked o n ≡ true → IsMarked o n
+passed (Some v) n h =
+    let parts = and_parts (n == 240 + v) (nat_lt v 16) h in
+    (eqb-true n (240 + v) parts.0, ltb-true v 16 parts.1)
+passed None n h = ltb-true n 240 h
 
 abbrev agrees : ℕ → Bool
-agrees c = same (hex_digit_value c) (value c)
+agrees c = is_marked (hex_digit_value c) (marked c)
 
 abbrev all_below : (ℕ → Bool) → ℕ → Bool
 all_below p zero = true
@@ -41,5 +43,5 @@ all_below_at p (suc n) k h lt =
     ]
 
 -- each of the 256 bytes is tried
-pub value_is : (c : ℕ) → c < 256 → hex_digit_value c ≡ value c
-value_is c byte = is_same (hex_digit_value c) (value c) (all_below_at agrees 256 c refl byte)
+pub marked_is : (c : ℕ) → c < 256 → IsMarked (hex_digit_value c) (marked c)
+marked_is c byte = passed (hex_digit_value c) (marked c) (all_below_at agrees 256 c refl byte)

@@ -26,16 +26,17 @@ pub(crate) fn operation(value: &Value<'_>) -> Result<Operation, Refusal>
         .ok_or(Refusal::Op)
 }
 
+// The most frequent name comes first.
 fn operation_named(name: &str) -> Option<Operation>
     ensures { result ≡ operation_named name.now }
 {
     match name {
+        "put" => Some(Operation::Put),
         "open" => Some(Operation::Open),
         "look" => Some(Operation::LookUp),
         "read" => Some(Operation::Read),
         "drop" => Some(Operation::Drop),
         "purge" => Some(Operation::Purge),
-        "put" => Some(Operation::Put),
         _ => None,
     }
 }

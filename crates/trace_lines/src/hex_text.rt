@@ -1,13 +1,13 @@
 //! Bytes and their hex texts.
-ghost use Rattle.std.specs.Prelude.{◌≡◌, ◌+◌, ◌*◌, ◌<◌, ◌↔◌, ◌++◌, length, take, option_map, slice_index, Some, None, IfOk, if◌then◌else◌};
+ghost use Rattle.std.specs.Prelude.{◌≡◌, ◌+◌, ◌*◌, ◌<◌, ◌≤◌, ◌↔◌, ◌++◌, length, take, option_map, slice_index, Some, None, IfOk, if◌then◌else◌};
 ghost use Rattle.hex.specs.Hex.{hex_digit_value, decode_pairs, encode_lower, lower_digits};
 ghost use Rattle.trace_lines.specs.Lines.{hex_bytes};
-ghost use Rattle.trace_lines.specs.Digits.{IsValue, result_bytes};
+ghost use Rattle.trace_lines.specs.Digits.{IsMarked, result_bytes};
 
 use std::alloc::{AllocError, Global};
 
-// In place of the value of a byte that is no digit.
-const NO_DIGIT: u8 = 255;
+// What is added to the value of a digit.
+const MARK: u8 = 240;
 
 // The bytes that pairs of hex digits of either case spell, if the text is such pairs.
 pub(crate) fn decode(alloc: Global, text: &str) -> Result<Option<Vec<u8>>, AllocError>
@@ -17,50 +17,38 @@ pub(crate) fn decode(alloc: Global, text: &str) -> Result<Option<Vec<u8>>, Alloc
     if digits.len() % 2 != 0 {
         return Ok(None);
     }
-    let mut bytes = vec![in alloc; 0u8; digits.len() / 2]?;
-    if !decode_into(digits, bytes.as_mut_slice()) {
+    let mut bytes = Vec::with_capacity(alloc, digits.len() / 2)?;
+    let mut lowest = u8::MAX;
+    let mut rest = digits;
+    'pairs: for _ in 0..digits.len() / 2 {
+        let (pair, after) = rest.split_at(2);
+        let high = marked(pair[0]);
+        let low = marked(pair[1]);
+        lowest = lower(lowest, lower(high, low));
+        bytes.push_reserved(high.wrapping_mul(16).wrapping_add(low.wrapping_sub(MARK)));
+        rest = after;
+    }
+    if lowest < MARK {
         return Ok(None);
     }
     Ok(Some(bytes))
 }
 
-// Whether all are digits; then the bytes are what they spell.
-fn decode_into(digits: &[u8], bytes: &mut [u8]) -> bool
-    requires { length digits.now ≡ 2 * length bytes.old }
-    ensures { result_bytes (decode_pairs 0 digits.now) ≡ (if result then Some bytes.new else None) }
+fn lower(a: u8, b: u8) -> u8
+    ensures { (MARK ≤ result) ↔ ((MARK ≤ a) × (MARK ≤ b)) }
 {
-    let mut highest = 0;
-    let mut rest = digits;
-    'bytes: for byte in bytes.iter_mut() {
-        let (pair, after) = rest.split_at(2);
-        let high = digit(pair[0]);
-        let low = digit(pair[1]);
-        highest = higher(highest, higher(high, low));
-        *byte = high.wrapping_mul(16).wrapping_add(low);
-        rest = after;
-    }
-    highest < 16
+    a.min(b)
 }
 
-fn higher(a: u8, b: u8) -> u8
-    ensures { (result < 16) ↔ ((a < 16) × (b < 16)) }
+// The value of a digit, in either case, plus `MARK`; for another byte a number below `MARK`. Only `0` to `9` come to the ten
+// highest bytes at first, and only letters of a digit to the six highest, as `| 32` joins both cases and takes no byte
+// to the 16 below them. No table and no branch, so that many bytes are decoded at a time.
+fn marked(c: u8) -> u8
+    ensures { IsMarked (hex_digit_value c) result }
 {
-    a.max(b)
-}
-
-// The value of a digit, in either case: `| 32` makes a letter lower case, and turns no other byte into `a` to `f`. No table and no
-// early return, so that many bytes are decoded at a time.
-fn digit(c: u8) -> u8
-    ensures { IsValue (hex_digit_value c) result }
-{
-    let lower = c | 32;
-    if (lower >= b'a') & (lower <= b'f') {
-        lower - b'a' + 10
-    } else if (c >= b'0') & (c <= b'9') {
-        c - b'0'
-    } else {
-        NO_DIGIT
-    }
+    let digit = c.wrapping_sub(b'9' + 1).saturating_sub(6);
+    let letter = (c.wrapping_sub(1) | 32).wrapping_sub(b'f');
+    digit.max(letter)
 }
 
 // The lower-case digit of a value. No table, so that many bytes are encoded at a time.

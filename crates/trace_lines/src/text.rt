@@ -1,10 +1,11 @@
 //! Writing a line. Each is added to what waits, with the line feed that ends it. The only error is out of memory, which leaves what waits
 //! as it was.
-ghost use Rattle.std.specs.Prelude.{◌≡◌, ◌++◌, ◌∷◌, [], codes, IfOk, OnOk, OnErr, string_bytes};
+ghost use Rattle.std.specs.Prelude.{◌≡◌, ◌++◌, ◌∷◌, ◌+◌, ◌≤◌, [], codes, decimal, IfOk, OnOk, OnErr, IsOk, string_bytes, vec_len, vec_capacity};
 ghost use Rattle.trace_lines.specs.Texts.{fault_label, bytes_text, answer_text, outcome_text, field_text, reason_text, refusal_text, look_ups_text, bodies_text, entries_text, report_text};
 
 use crate::hex_text;
 use crate::line::{FieldName, Refusal};
+use itoa::Buffer;
 use std::alloc::{AllocError, Global};
 use tier_model::event::{Answer, TierFault};
 use tier_model::report::Report;
@@ -65,10 +66,7 @@ fn add_answer_line(alloc: Global, out: &mut Vec<u8>, answer: &Answer) -> Result<
             add_line(out, if *was_stored { "purged" } else { "nothing" })
         }
         Answer::Finished { length, evicted } => {
-            let count = evicted.as_slice().len();
-            let mut text = empty_text(alloc)?;
-            write!(text, "finished {length} evicted={count}")?;
-            add_line(out, text.as_str())
+            add_finished_line(out, *length, evicted.as_slice().len())
         }
         Answer::Uncacheable(reason) => {
             let reason = reason.as_str();
@@ -77,6 +75,31 @@ fn add_answer_line(alloc: Global, out: &mut Vec<u8>, answer: &Answer) -> Result<
             add_line(out, text.as_str())
         }
     }
+}
+
+// The numbers are written where they wait, with no text in between, as this answers each body that is stored.
+fn add_finished_line(out: &mut Vec<u8>, length: usize, count: usize) -> Result<(), AllocError>
+    ensures ok { OnOk result (out.new.items ≡ out.old.items ++ ((codes "finished " ++ (decimal length ++ (codes " evicted=" ++ decimal count))) ++ 10 ∷ [])) }
+    ensures err { OnErr result (out.new.items ≡ out.old.items) }
+{
+    out.reserve(USUAL)?;
+    out.extend_from_slice(b"finished ")?;
+    add_number(out, length)?;
+    out.extend_from_slice(b" evicted=")?;
+    add_number(out, count)?;
+    out.push_reserved(b'\n');
+    Ok(())
+}
+
+// Adds the digits of a number, at most 20. It succeeds where there is room for so many.
+fn add_number(out: &mut Vec<u8>, number: usize) -> Result<(), AllocError>
+    ensures ok { OnOk result (out.new.items ≡ out.old.items ++ decimal number) }
+    ensures len { vec_len out.new ≤ vec_len out.old + 20 }
+    ensures capacity { vec_capacity out.old ≤ vec_capacity out.new }
+    ensures succeeds { vec_len out.old + 20 ≤ vec_capacity out.old → IsOk result }
+{
+    let mut buffer = Buffer::new();
+    out.extend_from_slice(buffer.format(number).as_bytes())
 }
 
 fn found_text(fresh: bool, complete: bool) -> &'static str

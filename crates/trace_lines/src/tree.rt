@@ -1,5 +1,7 @@
 //! The JSON value of a line, as a tree over its text.
 ghost use Rattle.std.specs.Prelude.{◌≡◌, ◌≢◌, Some, None, Err, IfOk, is_some, option_map, option_and_then};
+ghost use Rattle.std.specs.Str.{bytes_eq};
+ghost use Rattle.json.specs.Find.{get_member};
 ghost use Rattle.json.specs.Value.{value_view, items_view, members_view};
 ghost use Rattle.serde_json.specs.Find.{get, as_array, as_bool, as_number, as_object, as_str, as_u64};
 ghost use Rattle.trace_lines.specs.Lines.{json_of, IsReadAs};
@@ -99,7 +101,32 @@ pub(crate) fn is_object(value: &Value<'_>) -> bool
 pub(crate) fn member<'v, 'a>(value: &'v Value<'a>, name: &str) -> Option<&'v Value<'a>>
     ensures { option_map (λ v. seen v.now) result ≡ get name.now (seen value.now) }
 {
-    value.get(name)
+    if let Value::Object(members) = value {
+        last_named(members, name)
+    } else {
+        None
+    }
+}
+
+fn last_named<'v, 'a>(members: &'v Vec<(&'a str, Value<'a>)>, name: &str) -> Option<&'v Value<'a>>
+    ensures { option_map (λ v. value_view v.now) result ≡ get_member name.now (members_view members.now.items) }
+{
+    let mut left = members.len();
+    while left > 0 {
+        left -= 1;
+        let member = &members[left];
+        if is_name(member.0, name) {
+            return Some(&member.1);
+        }
+    }
+    None
+}
+
+// Most names differ in their length, so it is compared first.
+fn is_name(text: &str, name: &str) -> bool
+    ensures { result ≡ bytes_eq text.now name.now }
+{
+    text.len() == name.len() && text == name
 }
 
 pub(crate) fn text<'a>(value: &Value<'a>) -> Option<&'a str>

@@ -11,23 +11,21 @@ ghost use Rattle.cache_evict.specs.Numbered.{LeadsHome};
 use cache_entries::entry::{CacheEntryKey, CacheEntryKeyRef};
 use cache_entries::pack::{BorrowedEntry, entry_hash};
 use cache_words::blake::Blake2b128;
-use cache_words::key::CacheHashKey;
 use cache_words::pack::{BorrowedKey, writing};
+use entry_numbers::Numbers;
+use std::hash::BuildHasher;
 
 // A hash that leads to the shard of an entry, and with which the search for its number starts. With one shard each hash leads
-// to it, so an entry of a primary hash alone takes the front of that, which is a digest already, and nothing is hashed. One with
-// an id, a variance or a tag keeps the digest of all its parts: the entries of one primary hash would otherwise start at one
-// number, and strangers, who can choose variances, could make each search long.
-pub(super) fn number_hash<const N: usize>(entry: &CacheEntryKey) -> u64
+// to it, so that of the tables serves and no digest is taken: strangers don't know its start, so they can't choose entries whose
+// numbers are searched for from one place.
+pub(super) fn number_hash<const N: usize, S: BuildHasher>(
+    numbers: &Numbers<N, S>,
+    entry: &CacheEntryKey,
+) -> u64
     ensures { LeadsHome N entry.now result }
 {
-    if N == 1
-        && let CacheEntryKey::KeyOnly(key) = entry
-        && key.variance_bin().is_none()
-        && key.user_tag().is_empty()
-    {
-        let [a, b, c, d, e, f, g, h, ..] = key.primary_bin();
-        return u64::from_be_bytes([a, b, c, d, e, f, g, h]);
+    if N == 1 {
+        return numbers.hash_of(entry);
     }
     entry_hash(CacheEntryKeyRef::from(entry))
 }

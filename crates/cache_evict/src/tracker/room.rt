@@ -33,7 +33,7 @@ impl<const N: usize, S: BuildHasher> Tracker<N, S> {
         ensures room { OnOk result (HasNoOtherReason N entry.now weight self.now) }
         ensures why { IfErr result (IsRefusal N entry.now weight self.now) }
     {
-        self.look_for_room(number_hash::<N>(entry), weight)
+        self.look_for_room(number_hash(&self.numbers, entry), weight)
     }
 
     // A copy of an entry that isn't tracked, with a hash that leads to its shard, once there is room for it with that weight.

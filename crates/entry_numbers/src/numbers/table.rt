@@ -4,6 +4,7 @@ ghost use Rattle.std.specs.Prelude.{◌≡◌, ℕ, ◌<◌, ◌≤◌, ◌++◌
 ghost use Rattle.std.specs.HashMap.{get, spare, IsUnchanged};
 ghost use Rattle.cache_entries.specs.Entry.{same_entry};
 
+use crate::table_key::TableKey;
 use cache_entries::entry::CacheEntryKey;
 use indexmap::IndexMap;
 use std::alloc::AllocError;
@@ -49,7 +50,7 @@ pub(super) fn put_place<S: BuildHasher>(
 
 // Puts a new entry last.
 pub(super) fn put_entry<S: BuildHasher>(
-    entries: &mut IndexMap<CacheEntryKey, u64, S>,
+    entries: &mut IndexMap<TableKey, u64, S>,
     entry: CacheEntryKey,
     number: u64,
 )
@@ -57,13 +58,13 @@ pub(super) fn put_entry<S: BuildHasher>(
     requires new { get same_entry entries.old entry ≡ None }
     ensures { entries.new.entries ≡ entries.old.entries ++ (entry, number) ∷ [] }
 {
-    let inserted: Result<_, _> = entries.insert(entry, number);
+    let inserted: Result<_, _> = entries.insert(TableKey::new(entry), number);
     let _old = inserted.unwrap();
 }
 
 // Reserves room for so many more numbers.
 pub(super) fn room_for<S: BuildHasher>(
-    entries: &mut IndexMap<CacheEntryKey, u64, S>,
+    entries: &mut IndexMap<TableKey, u64, S>,
     places: &mut HashMap<u64, usize, S>,
     more: usize,
 ) -> Result<(), AllocError>

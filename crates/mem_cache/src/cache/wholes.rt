@@ -6,7 +6,7 @@ ghost use Rattle.cache_store.specs.Wholes.{Stores, IsWriteFault};
 ghost use Rattle.mem_cache.specs.Misses.{are_numbers_spent};
 
 use super::MemCache;
-use crate::flight::{Body, Buffer, Kept};
+use crate::flight::{Body, Kept};
 use crate::meta::written_packed;
 use crate::{bodies, readers};
 use bytes::Bytes;
@@ -57,7 +57,7 @@ impl<S: BuildHasher> MemCache<S> {
         ensures fault { IfErr result (λ f. f ≡ Fault.Memory) }
     {
         let number = body.number;
-        let Ok(left) = body.bytes.clone() else {
+        let Ok(share) = readers::share_for(&self.readers, number, &body.bytes) else {
             return Err(StoreFault::Memory);
         };
         let Ok(kept) = Kept::new(self.alloc, body) else {
@@ -67,7 +67,7 @@ impl<S: BuildHasher> MemCache<S> {
             return Err(StoreFault::Memory);
         };
         self.next = number + 1;
-        readers::leave_bytes(&mut self.readers, number, Buffer::Shared(left));
+        readers::leave_share(&mut self.readers, number, share);
         bodies::put(&mut self.bodies, key, kept);
         Ok(())
     }

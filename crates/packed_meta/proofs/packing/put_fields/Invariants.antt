@@ -7,7 +7,7 @@ use Rattle.packed_meta.specs.Packed.{IsPlainField}
 use Rattle.packed_meta.proofs.packing.put_fields.Given as goal
 
 abbrev pub invariant-each : goal.invariant-each
-invariant-each l = record {
+invariant-each g l = record {
   fields : AllByRecursion IsPlainField l.name-iterator → AllByRecursion IsPlainField (pairs l.headers);
-  text : l.out.items ++ flat_map line_of l.name-iterator ≡ l.fn.out.items ++ flat_map line_of (pairs l.headers);
+  text : g.T.Text.text l.out ++ flat_map line_of l.name-iterator ≡ g.T.Text.text l.fn.out ++ flat_map line_of (pairs l.headers);
 }

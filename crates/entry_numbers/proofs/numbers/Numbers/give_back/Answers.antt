@@ -1,5 +1,6 @@
-use Rattle.std.proofs.Common.{◌∙◌, nat_eq, sym}
+use Rattle.std.proofs.Common.{◌∙◌, ap, Some, nat_eq, sym}
 use Rattle.std.specs.HashMap.{get}
+use Rattle.cache_entries.specs.declared.entry.CacheEntryKey.{CacheEntryKey}
 use Rattle.entry_numbers.specs.Names.{name_at}
 use Rattle.entry_numbers.proofs.PlaceLaws.{no_name, names_unused}
 use Rattle.entry_numbers.proofs.SwapLaws.{may_move, IsPlaced-moved, names-moved, IsPlaced-popped, names-popped, entry_taken}
@@ -34,7 +35,7 @@ invariant_of-self-in_default g c = (
 
 pub returns-clause-value : goal.returns-clause-value
 returns-clause-value g c =
-    rw (← c.self.view_is) (sym (entry_taken (get nat_eq c.self.inside.places) (get nat_eq c.take_place.new.places) c.self.inside.entries.entries c.swap_remove_index.new.self.entries c.args.number c.in_ok-place.place c.unwrap-entry.result c.self.invariant.1 (sym c.in_ok-place.ensures.value) (sym c.swap_remove_index.ensures.entry ∙ c.unwrap-entry.ensures) (rw c.unwrap-entry.ensures at c.swap_remove_index.ensures.entries) c.take_place.ensures.after))
+    rw (← c.self.view_is) (ap (λ (e : CacheEntryKey). Some e) c.into_entry.ensures ∙ sym (entry_taken (get nat_eq c.self.inside.places) (get nat_eq c.take_place.new.places) c.self.inside.entries.entries c.swap_remove_index.new.self.entries c.args.number c.in_ok-place.place c.unwrap-entry.result c.self.invariant.1 (sym c.in_ok-place.ensures.value) (sym c.swap_remove_index.ensures.entry ∙ c.unwrap-entry.ensures) (rw c.unwrap-entry.ensures at c.swap_remove_index.ensures.entries) c.take_place.ensures.after))
 
 pub returns-clause-after : goal.returns-clause-after
 returns-clause-after g c =

@@ -1,8 +1,7 @@
 use Rattle.std.proofs.Common.{◌∙◌, ap, nat_eq, cond}
-use Rattle.std.specs.Prelude.{Some, List, ℕ}
+use Rattle.std.specs.Prelude.{Some}
 use Rattle.std.specs.Cmp.Lexicographic.{pointwise}
 use Rattle.std.specs.HashMap as hash
-use Rattle.cache_store.specs.Held.{left_with}
 use Rattle.mem_cache.specs.Alive.{has}
 use Rattle.mem_cache.specs.Kept.{flights_of, readings_of}
 use Rattle.mem_cache.specs.declared.flight.Body.{Body}
@@ -12,6 +11,6 @@ use Rattle.mem_cache.proofs.cache.MemCache.put_body.Goals as goal
 pub returns-clause-ok : goal.returns-clause-ok
 returns-clause-ok g c =
     rw (← c.self.view_is) (stored-whole c.args.key c.args.body c.self.inside.bodies.entries c.put.new.bodies.entries (flights_of (has c.self.inside.alive) c.self.inside.flights.entries) c.self.inside.next
-    (readings_of c.self.inside.readers.entries) (readings_of c.leave_bytes.new.readers.entries) (rw (← c.self.view_is) at c.requires.number) c.requires.written
+    (readings_of c.self.inside.readers.entries) (readings_of c.leave_share.new.readers.entries) (rw (← c.self.view_is) at c.requires.number) c.requires.written
     (λ k. c.put.ensures k ∙ ap (λ (x : Body). cond (pointwise nat_eq c.args.key k) (Some x) (hash.get (pointwise nat_eq) c.make_room.new.bodies k)) c.in-Ok-new.ensures ∙ ap (cond (pointwise nat_eq c.args.key k) (Some c.args.body)) (c.make_room.ensures.same k))
-    (c.leave_bytes.ensures ∙ ap (λ (bytes : List ℕ). left_with c.args.body.number bytes (readings_of c.self.inside.readers.entries)) c.in-Ok.ensures.cases))
+    (c.leave_share.ensures c.args.body.bytes c.in-Ok.ensures))
