@@ -113,6 +113,12 @@ pub(crate) const ROWS: &[(&[&str], &str, &str)] = &[
         "200 2 [102]",
     ),
     (
+        &["HTTP/1.1 404 Not Found\r\nA : b\r\n\r\nc"],
+        "Body(1) ",
+        "404 1 [99]",
+    ),
+    (&["HTTP/2.0 200 OK\r\nA : b\r\n"], "BadHead ", "bad head"),
+    (
         &["HTTP/1.1 200 OK\r\nContent-Length: +2\r\ncontent-length: 1\r\n\r\nab"],
         "Done(2) ",
         "200 2 [97, 98]",
