@@ -1,54 +1,56 @@
 #!/bin/sh
-# Prints the ten dearest functions of each crate that the arguments name, in processor seconds of their proofs:
+# Prints the ten dearest functions of each crate that the arguments name, in processor seconds of their own proofs:
 #
-#     sh scripts/dearest.sh NAME..
+#     sh scripts/dearest.sh CRATE..
 #
-# Each crate is checked from nothing by one job, on a copy; its dependencies must have been built. The first function's time
-# includes reading the libraries.
+# A function's proof is checked by itself, as `rt check --only` does, over kept work of all else, and what an empty --only takes is
+# taken off. It works on a copy of what the crate's own checks kept; the libraries below must have been built. A crate takes some
+# five seconds a function and its proofs once more.
 set -eu
 top=$(cd "$(dirname "$0")/.." && pwd)
 exec python3 - "$top" "$@" <<'PYTHON'
-import os, shutil, subprocess, sys, tempfile
+import glob, os, re, shutil, sys, tempfile
 
 top, names = sys.argv[1], sys.argv[2:]
-tick = os.sysconf("SC_CLK_TCK")
+sys.dont_write_bytecode = True
+sys.path.insert(0, os.path.join(top, "scripts", "judge"))
+import kit
 
 
-def ticks_of(folder):
-    """The processor ticks of the checks that run in the folder."""
-    total = 0
-    for process in filter(str.isdigit, os.listdir("/proc")):
-        try:
-            if os.readlink(f"/proc/{process}/cwd") != folder:
-                continue
-            fields = open(f"/proc/{process}/stat").read().rsplit(")", 1)[1].split()
-            total += int(fields[11]) + int(fields[12])
-        except OSError:
-            pass
-    return total
+def seconds(crate, kept, *more):
+    """The processor seconds of a check, its exit status and what it said."""
+    crate.seconds = 0
+    status, said = kit.check(crate, {}, kept, *more)
+    return crate.seconds, status, said
 
 
+def forget(crate, kept, function):
+    """Removes what is kept of a function's proof."""
+    module = "-".join(["Rattle", crate.name, "proofs"]) + "." + ".".join(function.split("::")[1:]) + "."
+    for path in glob.glob(os.path.join(glob.escape(kept), "*", glob.escape(module) + "*")):
+        os.remove(path)
+
+
+crates = kit.crates_of(top)
 for name in names:
-    work = tempfile.mkdtemp()
-    try:
-        for file in ("crates.txt", "HANDLES"):
-            shutil.copy(os.path.join(top, file), work)
-        subprocess.run(["cp", "-r", "--reflink=auto", f"{top}/crates", f"{work}/crates"], check=True)
-        subprocess.run(["git", "init", "-q", work], check=True)
-        folder = os.path.realpath(f"{work}/crates/{name}")
-        shutil.rmtree(f"{folder}/out", ignore_errors=True)
-        run = subprocess.Popen(["rt", "check", "--jobs", "1", "--progress"], cwd=folder, stdout=subprocess.PIPE, stderr=subprocess.STDOUT, text=True)
-        before, costs = 0, []
-        for line in run.stdout:
-            if line.startswith("checked "):
-                now = ticks_of(folder)
-                costs.append(((now - before) / tick, line.split()[1].rstrip(",").removeprefix(f"{name}::")))
-                before = now
-        if run.wait():
-            sys.exit(f"{name} is not proved")
-        first = costs[0] if costs else (0, "")
-        dearest = sorted(costs[1:], reverse=True)[:10]
-        print(f"{name}: " + ", ".join(f"`{function}` {seconds:.1f}" for seconds, function in dearest) + f" (the first line, {first[1]}, {first[0]:.1f})", flush=True)
-    finally:
-        shutil.rmtree(work, ignore_errors=True)
+    crate = crates.get(name) or sys.exit(f"there is no crate {name}")
+    with tempfile.TemporaryDirectory() as room:
+        kept = os.path.join(room, "incremental")
+        if os.path.isdir(kit.kept_work(crate)):
+            shutil.copytree(kit.kept_work(crate), kept)
+        else:
+            os.mkdir(kept)
+        _, status, said = seconds(crate, kept)
+        if status:
+            sys.exit(f"{name} is not proved: {said.splitlines()[-1]}")
+        empty = seconds(crate, kept, "--only", "")[0]
+        costs = []
+        for function in re.findall(r"^fn (\S+): proved", said, re.M):
+            forget(crate, kept, function)
+            taken, status, _ = seconds(crate, kept, "--only", function)
+            # (drops and the like, which the prover writes, have no name for it)
+            if not status:
+                costs.append((taken - empty, function.partition("::")[2]))
+        dearest = sorted(costs, reverse=True)[:10]
+        print(f"{name}: " + ", ".join(f"`{function}` {taken:.1f}" for taken, function in dearest) + f" ({len(costs)} functions; an empty check {empty:.1f})", flush=True)
 PYTHON

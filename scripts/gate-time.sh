@@ -4,13 +4,28 @@
 #     sh scripts/gate-time.sh [LOG]
 #
 # What the gate itself prints goes to LOG (gate.log without one). Times are processor minutes, read from the processes of
-# the run five times a second; the last lines give the wall time and the sums. Nothing else may run beside it.
+# the run five times a second; the last lines give the wall time, the sums, the date, and the speed of the host: what Python's
+# BLAKE2b takes for 256 MiB, the best of five. Nothing else may run beside it.
 top=$(cd "$(dirname "$0")/.." && pwd)
 cd "$top" || exit 1
 exec python3 - "${1:-gate.log}" <<'PYTHON'
-import os, re, subprocess, sys, threading, time
+import hashlib, os, re, subprocess, sys, threading, time
+
+
+def unit():
+    """The seconds that BLAKE2b takes for 256 MiB."""
+    data, best = bytes(1 << 20), None
+    for _ in range(5):
+        made, before = hashlib.blake2b(), time.process_time()
+        for _ in range(256):
+            made.update(data)
+        taken = time.process_time() - before
+        best = taken if best is None else min(best, taken)
+    return best
+
 
 log = sys.argv[1]
+speed = unit()
 tick = os.sysconf("SC_CLK_TCK")
 begun = time.time()
 gate = subprocess.Popen(["rt", "ci"], stdin=subprocess.DEVNULL, stdout=subprocess.PIPE, stderr=subprocess.STDOUT, text=True, errors="replace")
@@ -107,6 +122,7 @@ print(f"| all | {sum(functions.values())} | {sum(edits.values())} | " + " | ".jo
 total = sum(whole.values())
 print(f"\nTotal: {wall:.0f} min on {os.cpu_count()} cores\n")
 print(f"{total:.0f} processor minutes, {total / max(1, sum(functions.values())):.2f} a function, {1000 * total / max(1, lines):.1f} for each thousand lines of source.")
+print(f"On {time.strftime('%Y-%m-%d')}; BLAKE2b over 256 MiB took {speed:.2f} s, the best of five; the run is {60 * total / speed:.0f} times that.")
 print(f"The gate's last line: {last}")
 sys.exit(status)
 PYTHON

@@ -1,0 +1,208 @@
+#!/usr/bin/env python3
+"""Tries must-fail edits, many by one check, and records which the prover refused.
+
+usage: scripts/edits.py [CRATE..] [--all] [--jobs N] [--log FOLDER]
+
+Without names it tries the edits whose line of edits/RECORD is missing or old, since the edit or its crate's src or specs
+changed; with names all edits of those crates; with --all those of all crates. Those of the gate, in crates/NAME/must-fail, and those
+beside it, in edits/NAME, are tried alike. Before any check each edit of each crate is applied to the texts: one that names a text
+that isn't there, or stands there twice, fails the run at once.
+
+--jobs says how many crates are tried side by side; the default goes by cores and memory, at 3 GB each. --log names a folder
+that gets all that the checks said. What an earlier `rt check` kept in a crate's out/ is copied and used; where nothing is kept, the
+unchanged crate is checked first. The libraries below a crate are built where they aren't.
+
+An edit must come out as REFUSED: its own function isn't proved at a goal of its own. NOT REFUSED, REFUSED ONLY BY NAMES (a proof
+names something that the edit took away) and BAD EDIT (it doesn't compile) are failures. Edits with known verdicts, canaries, are
+tried first at each run. The exit status is 0 where all that was tried was refused, and without names the record is then complete.
+"""
+import argparse
+import contextlib
+import os
+import shutil
+import sys
+import tempfile
+import threading
+import time
+from concurrent.futures import ThreadPoolExecutor, as_completed
+
+sys.dont_write_bytecode = True
+TOP = os.path.dirname(os.path.dirname(os.path.realpath(__file__)))
+sys.path.insert(0, os.path.join(TOP, "scripts", "judge"))
+
+import canaries  # noqa: E402
+import kit  # noqa: E402
+import record  # noqa: E402
+import rounds  # noqa: E402
+import sources  # noqa: E402
+from verdicts import REFUSED  # noqa: E402
+
+PRINTING = threading.Lock()
+
+
+def say(text):
+    """Prints a line, whichever thread says it."""
+    with PRINTING:
+        print(f"edits: {text}", flush=True)
+
+
+def misfits(crate, entries):
+    """What can't be applied of a crate's edits, in words."""
+    texts, found = sources.texts_of(crate.folder), []
+    for entry in entries.values():
+        try:
+            sources.applied(sources.pairs_of(entry.text), texts)
+        except sources.BadEdit as why:
+            found.append(f"{entry.crate}/{entry.name}: BAD EDIT: {why}")
+    return found
+
+
+def wanted(arguments, entries, crates, held):
+    """The names of the edits to be tried by crate."""
+    chosen = {}
+    for name in crates:
+        if arguments.all or name in arguments.crates:
+            chosen[name] = sorted(entries[name])
+        elif not arguments.crates:
+            chosen[name] = sorted(it.name for it in entries[name].values() if not held.holds(it))
+    return {name: found for name, found in chosen.items() if found}
+
+
+def build_below(crates, chosen):
+    """Builds the libraries below the crates to be tried, lowest first; returns by crate the library that isn't proved."""
+    below = [it for it in crates.values() if any(it in crates[name].below() for name in chosen)]
+    lacking = []
+    if kit.left_by_gate(below):
+        return {}
+    for crate in below:
+        if any(it in lacking for it in crate.below()):
+            lacking.append(crate)
+            continue
+        if not crate.is_built():
+            say(f"building the library {crate.name}")
+        with tempfile.TemporaryFile("w+") as crate.out:
+            if crate.build_rlib(["--jobs", "1"], anew=False):
+                crate.out.seek(0)
+                say(f"{crate.name} is not proved: {' / '.join(crate.out.read().splitlines()[-3:])[:500]}")
+                lacking.append(crate)
+    return {name: low.name for name in chosen for low in crates[name].below() if low in lacking}
+
+
+def try_crate(crate, entries, names, log):
+    """Tries edits of a crate over a copy of what its own checks kept, and says what came out."""
+    started = time.time()
+    with tempfile.TemporaryDirectory(prefix="edits-kept-") as room, contextlib.ExitStack() as stack:
+        tell = logger(log, crate.name, stack)
+        kept = os.path.join(room, "incremental")
+        if os.path.isdir(kit.kept_work(crate)):
+            shutil.copytree(kit.kept_work(crate), kept)
+        else:
+            os.mkdir(kept)
+            say(f"{crate.name}: nothing is kept of it, so the unchanged crate is checked first")
+            if kit.check(crate, {}, kept)[0]:
+                return rounds.Outcome({}, [], "the unchanged crate is not proved")
+        pairs = {name: sources.pairs_of(entries[name].text) for name in names}
+        outcome = rounds.try_crate(crate, pairs, kept, tell)
+    now = record.entries_of(TOP, crate)
+    if any(now.get(name) != entries[name] for name in names):
+        return rounds.Outcome({}, outcome.rounds, "the crate or its edits changed since the run began")
+    refused = sum(verdict == REFUSED for verdict, _ in outcome.verdicts.values())
+    took = f"{crate.seconds:.0f} processor seconds, {time.time() - started:.0f} s"
+    say(f"{crate.name}: {refused} of {len(names)} edits refused, by rounds of {', '.join(map(str, outcome.rounds))}; {took}")
+    return outcome
+
+
+def logger(folder, name, stack):
+    """A function that writes what it is told to a file of the folder, if there is one."""
+    if not folder:
+        return lambda text: None
+    os.makedirs(folder, exist_ok=True)
+    file = stack.enter_context(open(os.path.join(folder, name + ".log"), "w", encoding="utf-8"))
+    return lambda text: print(text, file=file, flush=True)
+
+
+def try_all(crates, chosen, entries, held, arguments):
+    """Tries the chosen edits, crates side by side, and records what came out; returns how many were refused, and how many not."""
+    passed = failed = 0
+    lacking = build_below(crates, chosen)
+    everything = [it for found in entries.values() for it in found.values()]
+
+    def work(name):
+        if name in lacking:
+            return rounds.Outcome({}, [], f"its library {lacking[name]} is not proved")
+        return try_crate(crates[name], entries[name], chosen[name], arguments.log)
+
+    # those with the most edits first
+    order = sorted(chosen, key=lambda name: -len(chosen[name]))
+    with ThreadPoolExecutor(arguments.jobs or kit.work_side_by_side()) as pool:
+        running = {pool.submit(work, name): name for name in order}
+        for done in as_completed(running):
+            name, outcome = running[done], done.result()
+            if outcome.failure:
+                say(f"{name}: NOT JUDGED: {outcome.failure}")
+            for edit, (verdict, reason) in sorted(outcome.verdicts.items()):
+                if verdict != REFUSED:
+                    say(f"{name}/{edit}: {verdict}: {reason[:300]}")
+            refused = sum(verdict == REFUSED for verdict, _ in outcome.verdicts.values())
+            passed, failed = passed + refused, failed + len(chosen[name]) - refused
+            held.note(entries[name], outcome.verdicts)
+            held.write(everything)
+    return passed, failed
+
+
+def arguments_of(words):
+    """The command line."""
+    parser = argparse.ArgumentParser(description=__doc__, formatter_class=argparse.RawDescriptionHelpFormatter, usage=argparse.SUPPRESS)
+    parser.add_argument("crates", nargs="*", metavar="CRATE")
+    parser.add_argument("--all", action="store_true")
+    parser.add_argument("--jobs", type=int)
+    parser.add_argument("--log")
+    return parser.parse_args(words)
+
+
+def main(words):
+    """Runs the command line, and returns the exit status."""
+    arguments = arguments_of(words)
+    crates = kit.crates_of(TOP)
+    unknown = [it for it in arguments.crates if it not in crates]
+    if unknown:
+        sys.exit(f"edits: there is no crate {unknown[0]}")
+    entries = {name: record.entries_of(TOP, crate) for name, crate in crates.items()}
+    bad = record.strays(TOP, crates) + [line for name, crate in crates.items() for line in misfits(crate, entries[name])]
+    for line in bad:
+        say(line)
+    if bad:
+        print(f"0 passed, {len(bad)} failed")
+        return 1
+    with tempfile.TemporaryDirectory(prefix="edits-canaries-") as room, contextlib.ExitStack() as stack:
+        passed, wrong = canaries.fly(room, logger(arguments.log, "canaries", stack))
+    for line in wrong:
+        say(line)
+    if wrong:
+        print(f"{passed} passed, {len(wrong)} failed")
+        return 1
+    return judge(arguments, crates, entries, passed)
+
+
+def judge(arguments, crates, entries, canaries_passed):
+    """Tries what is to be tried once the canaries came out right, and returns the exit status."""
+    held = record.Record(TOP)
+    chosen = wanted(arguments, entries, crates, held)
+    passed = failed = 0
+    if chosen:
+        needed = [it for it in crates.values() if it.name in chosen or any(it in crates[name].below() for name in chosen)]
+        locks = kit.library().lock(needed)
+        passed, failed = try_all(crates, chosen, entries, held, arguments)
+        for it in locks:
+            os.close(it)
+    everything = [it for found in entries.values() for it in found.values()]
+    held.write(everything)
+    good = sum(held.holds(it) for it in everything)
+    tried = f"{passed + failed} edits tried, {passed} refused" if chosen else "no edit was to be tried"
+    say(f"{tried}; {canaries_passed} canaries came out as they must; the record holds {good} of {len(everything)} edits as refused")
+    print(f"{passed + canaries_passed} passed, {failed} failed")
+    return 1 if failed else 0
+
+
+if __name__ == "__main__":
+    sys.exit(main(sys.argv[1:]))

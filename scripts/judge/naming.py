@@ -1,0 +1,86 @@
+"""The prover's names of a crate's functions.
+
+A free function is `crate::module::name`, a method of an impl of a type is `crate::MODULE::Type::name` by the module that
+declares the type (`crate::module::Type+Args::name` where an argument is no parameter), one of an impl of a trait is
+`crate::module::TypeTrait::name`, and a closure has the name of its function after a `fn`.
+"""
+import re
+
+from sources import functions, module_of
+
+DECLARED = re.compile(r"^(?:pub(?:\([\w ]+\))? )?(?:struct|enum|union) (\w+)", re.M)
+
+
+class Names:
+    """How the prover names the functions of a crate's texts."""
+
+    def __init__(self, crate, texts):
+        self.crate, self.modules = crate, {}
+        for path, text in texts.items():
+            for kind in DECLARED.findall(text):
+                self.modules.setdefault(kind, set()).add(module_of(path))
+
+    def of(self, path, function, known):
+        """Of the known names, those of a function and of its closures; none where they may be several functions'."""
+        module, owner = module_of(path), function.owner
+        if owner is None:
+            found = [self.joined(module, function.name)]
+        elif owner.trait or not owner.words:
+            found = self.of_trait(module, function, known)
+        else:
+            found = self.of_type(module, function, known)
+        if function.cycle:
+            found = found[:1] + [self.joined(module, "+" + function.cycle)]
+        elif len(found) > 1:
+            return set()
+        inner = tuple(closures_of(it, bool(owner)) for it in found)
+        return {it for it in known if it in found or it.startswith(inner)} if found else set()
+
+    def joined(self, module, *names):
+        """A name from its parts."""
+        return "::".join([self.crate, *module, *names])
+
+    def of_type(self, module, function, known):
+        """The names of a method of a type's own impl."""
+        kind, name = function.owner.words[0], function.name
+        homes = self.modules.get(kind, {module})
+        if len(homes) > 1:
+            homes = {it for it in homes if it == module[: len(it)]}
+        whole = self.joined(module, "+".join(function.owner.words), name)
+        found = [it for it in [*(self.joined(home, kind, name) for home in homes), whole] if it in known]
+        return found if whole not in found else [whole]
+
+    def of_trait(self, module, function, known):
+        """The names of a method of an impl of a trait, or of a trait's own."""
+        owner = function.owner
+        words = (owner.kind,) if not owner.trait else tuple(spelled(kind, owner.parameters) + spelled(trait, owner.parameters) for kind in (owner.kind, plain(owner.kind)) for trait in (owner.trait, plain(owner.trait)))
+        exact = [it for it in dict.fromkeys(self.joined(module, word, function.name) for word in words) if it in known]
+        if exact or not owner.trait:
+            return exact
+        begins, trait = self.joined(module, ""), spelled(plain(owner.trait), ())
+        return [it for it in known if it.startswith(begins) and it.count("::") == begins.count("::") + 1 and it.split("::")[-1] == function.name and trait in it.split("::")[-2]]
+
+
+def closures_of(name, has_owner):
+    """How the names of a function's closures begin."""
+    parts = name.split("::")
+    at = len(parts) - 1 - has_owner
+    return "::".join([*parts[:at], "fn", *parts[at:], ""])
+
+
+def plain(text):
+    """A type without its arguments."""
+    return re.sub(r"<.*", "", text)
+
+
+def spelled(text, parameters):
+    """The last names of the paths of a type, each with a capital, without parameters and lifetimes."""
+    found = ""
+    for word in re.findall(r"&|\[[^\[\]]*;|\[|\w+", re.sub(r"'\w+|\bmut\b|\bdyn\b|\w+::", "", text)):
+        if word == "&":
+            found += "Ref"
+        elif word[0] == "[":
+            found += "Array" + spelled(word[1:-1], parameters) if word.endswith(";") else "Slice"
+        elif word not in parameters and not word.isdigit():
+            found += word[0].upper() + word[1:]
+    return found
