@@ -1,4 +1,4 @@
-//! Tests of the tier and its definitions by tables of what is asked and what is returned.
+//! Tests of the tier and its definitions by tables of what is asked and what is returned, of trace lines and of the program that replays them.
 #![tactic(auto)]
 
 #[cfg(test)]
@@ -15,3 +15,5 @@ mod refusals;
 mod runs;
 #[cfg(test)]
 mod show;
+#[cfg(test)]
+mod traces;

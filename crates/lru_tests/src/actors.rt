@@ -1,0 +1,7 @@
+//! Actors: a world of their steps, and threads that run.
+mod callbacks;
+mod endings;
+mod managers;
+mod running;
+mod shards;
+mod worlds;
