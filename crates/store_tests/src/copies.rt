@@ -19,7 +19,7 @@ struct Row {
     own: bool,
 }
 
-const ROWS: [Row; 6] = [
+const ROWS: &[Row] = &[
     Row {
         names: 0,
         sensitive: false,
