@@ -1,7 +1,5 @@
 //! Trace lines and the program that replays them.
-mod evictions;
 mod lines;
 mod lockstep;
 mod options;
-mod replays;
 mod streams;

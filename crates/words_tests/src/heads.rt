@@ -1,8 +1,8 @@
 //! Heads and metas: that calls succeed, and examples from outside.
-mod bytes;
 mod filters;
 mod metas;
 mod refused;
+mod texts;
 
 use cache_heads::meta::{CacheMeta, ResponseHeader};
 use cache_words::time::Moment;

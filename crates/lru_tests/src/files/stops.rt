@@ -95,12 +95,20 @@ fn a_write_that_is_stopped_leaves_some_of_its_bytes(rt: HostRuntime) {
     }
 }
 
-const PATHS: [&str; 4] = [
+const PATHS: &[&str] = &[
     "dir/lru.data.0",
     "dir/lru.data.1",
     "dir/lru.data.2",
     "dir/lru.data.3",
 ];
+
+// How many shards have this text.
+fn shards_with(folder: &MemFolder, bytes: &[u8]) -> usize {
+    PATHS
+        .iter()
+        .filter(|path| holds(folder, path, bytes))
+        .count()
+}
 
 // How many shards have the new text, the first ones first; none where one has neither text.
 fn new_shards(folder: &MemFolder) -> Option<usize> {
@@ -177,17 +185,13 @@ fn failing(alloc: Global, shards: usize, call: usize) -> (Answer, usize)
     let mut failing = TestFolder::fails_once(folder, call);
     let answer = answer_of(&save(alloc, &mut failing, shards, b"new"));
     let folder = failing.into_inner();
-    let old = PATHS
-        .iter()
-        .filter(|path| holds(&folder, path, b"old"))
-        .count();
-    (answer, old)
+    (answer, shards_with(&folder, b"old"))
 }
 
 const NO_FOLDER: Answer = Answer::Setup(ShardSaveSetupError::CreateDir);
 
 // The calls on one shard's files, in their order.
-const KINDS: [ShardFileError; 4] = [
+const KINDS: &[ShardFileError] = &[
     ShardFileError::Create,
     ShardFileError::Write,
     ShardFileError::Flush,
@@ -198,7 +202,7 @@ const KINDS: [ShardFileError; 4] = [
 fn one_failing_call_of_one_shard_is_told(rt: HostRuntime) {
     assert_eq!(rt; failing(rt.alloc(), 1, 1), (NO_FOLDER, 1));
     let mut call = 2usize;
-    for kind in KINDS {
+    for &kind in KINDS {
         let wanted = Answer::AllFailed(1, Some((0, kind)));
         assert_eq!(rt; failing(rt.alloc(), 1, call), (wanted, 1), "call {call}");
         call = call.saturating_add(1);
@@ -211,7 +215,7 @@ fn one_failing_call_of_four_shards_fails_its_shard_alone(rt: HostRuntime) {
     assert_eq!(rt; failing(rt.alloc(), 4, 1), (NO_FOLDER, 4));
     let mut call = 2usize;
     for shard in 0..4usize {
-        for kind in KINDS {
+        for &kind in KINDS {
             let wanted = Answer::Report(3, 1, Some((shard, kind)));
             assert_eq!(rt; failing(rt.alloc(), 4, call), (wanted, 1), "call {call}");
             call = call.saturating_add(1);
@@ -231,11 +235,7 @@ fn a_list_that_fails_fails_its_shard_alone(rt: HostRuntime) {
         b"new".to_vec(alloc)
     });
     assert_eq!(rt; answer_of(&saved), Answer::Report(3, 1, None));
-    let kept = PATHS
-        .iter()
-        .filter(|path| holds(&folder, path, b"new"))
-        .count();
-    assert_eq!(rt; kept, 3);
+    assert_eq!(rt; shards_with(&folder, b"new"), 3);
     assert_eq!(rt; folder.failures(), 0);
 }
 

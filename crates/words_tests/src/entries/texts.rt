@@ -40,7 +40,7 @@ fn bytes_of(alloc: Global, text: Text) -> Option<Vec<u8>> {
 // An id, and how many bytes are left after the entry.
 type Read = Result<(Option<u64>, usize), PackFault>;
 
-const READ: [(Text, Read); 12] = [
+const READ: &[(Text, Read)] = &[
     ((b"", Key::Short, b""), Ok((None, 0))),
     ((b"", Key::Short, b"\xc0\x07"), Ok((None, 2))),
     ((b"", Key::Wide, b""), Ok((None, 0))),
@@ -61,7 +61,7 @@ const READ: [(Text, Read); 12] = [
     ),
 ];
 
-const FAULTS: [(Text, PackFault); 15] = [
+const FAULTS: &[(Text, PackFault)] = &[
     ((b"", Key::No, b""), PackFault::Short),
     ((b"\x92", Key::No, b""), PackFault::Short),
     ((b"\x92", Key::Short, b""), PackFault::Short),
@@ -109,17 +109,17 @@ fn read(alloc: Global, text: Text) -> Option<Read> {
 
 #[test]
 fn entries_are_read(rt: HostRuntime) {
-    for (text, want) in READ {
+    for &(text, want) in READ {
         assert_eq!(rt; read(rt.alloc(), text), Some(want), "{text:?}");
     }
-    for (text, fault) in FAULTS {
+    for &(text, fault) in FAULTS {
         assert_eq!(rt; read(rt.alloc(), text), Some(Err(fault)), "{text:?}");
     }
 }
 
 // An id of an entry of `aa`, the bytes around the key where it is written, and its hash. The hashes are Python's, by
 // `hashlib.blake2b(digest_size=16)` over the bytes.
-const WRITTEN: [(Option<u64>, Text, u64); 4] = [
+const WRITTEN: &[(Option<u64>, Text, u64)] = &[
     (None, (b"", Key::Short, b""), 0xea9a2ac3dcd6c63c),
     (Some(7), (b"\x92", Key::Short, b"\x07"), 0x8a4f21e9564af8f5),
     (
@@ -148,7 +148,7 @@ fn is_written(alloc: Global, id: Option<u64>, text: Text, hash: u64) -> Option<b
 fn entries_are_written_and_hashed(rt: HostRuntime) {
     laws::written_is_spelled();
     laws::one_spelling();
-    for (id, text, hash) in WRITTEN {
+    for &(id, text, hash) in WRITTEN {
         assert_eq!(rt;
             is_written(rt.alloc(), id, text, hash),
             Some(true),
@@ -184,7 +184,7 @@ fn rows(alloc: Global, text: Text) -> Option<(usize, usize, Option<PackFault>)> 
     Some((weight, found, None))
 }
 
-const ROWS: [(Text, usize, usize, Option<PackFault>); 13] = [
+const ROWS: &[(Text, usize, usize, Option<PackFault>)] = &[
     ((b"\x90", Key::No, b""), 0, 0, None),
     ((b"\x91\x92", Key::Short, b"\x01"), 1, 1, None),
     (
@@ -247,7 +247,7 @@ const ROWS: [(Text, usize, usize, Option<PackFault>); 13] = [
 #[test]
 fn rows_are_read(rt: HostRuntime) {
     laws::rows_are_spelled();
-    for (text, weight, count, fault) in ROWS {
+    for &(text, weight, count, fault) in ROWS {
         let found = rows(rt.alloc(), text);
         assert_eq!(rt; found, Some((weight, count, fault)), "{text:?}");
     }
@@ -262,7 +262,7 @@ fn written(alloc: Global, id: Option<u64>, weight: usize) -> Option<Vec<u8>> {
     Some(out)
 }
 
-const WRITTEN_ROWS: [(Option<u64>, usize, Text); 2] = [
+const WRITTEN_ROWS: &[(Option<u64>, usize, Text)] = &[
     (None, 1, (b"\x91\x92", Key::Short, b"\x01")),
     (
         Some(7),
@@ -273,7 +273,7 @@ const WRITTEN_ROWS: [(Option<u64>, usize, Text); 2] = [
 
 #[test]
 fn rows_are_written(rt: HostRuntime) {
-    for (id, weight, text) in WRITTEN_ROWS {
+    for &(id, weight, text) in WRITTEN_ROWS {
         let out = written(rt.alloc(), id, weight);
         assert!(rt; out.is_some() && out == bytes_of(rt.alloc(), text));
     }

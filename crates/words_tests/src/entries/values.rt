@@ -32,7 +32,7 @@ fn hash_of<T: Hash>(value: &T) -> u64 {
 type Name = (&'static [u8], Option<u64>);
 
 // Two entries, and how the first compares with the second where that doesn't rest on a digest.
-const PAIRS: [(Name, Name, Ordering); 6] = [
+const PAIRS: &[(Name, Name, Ordering)] = &[
     ((b"aa", None), (b"aa", None), Ordering::Equal),
     ((b"aa", Some(7)), (b"aa", Some(7)), Ordering::Equal),
     ((b"aa", None), (b"aa", Some(0)), Ordering::Less),
@@ -62,14 +62,14 @@ fn entries_compare_and_hash(rt: HostRuntime) {
     laws::same_is_equal();
     laws::borrowed_is_owned();
     laws::ids_tell_entries_apart();
-    for (first, second, order) in PAIRS {
+    for &(first, second, order) in PAIRS {
         let found = compared(rt.alloc(), first, second);
         assert_eq!(rt; found, Some((order, true)), "{first:?} {second:?}");
     }
 }
 
 // The id of an entry of `aa`, and what follows the key where it is shown.
-const SHOWN: [(Option<u64>, &str); 4] = [
+const SHOWN: &[(Option<u64>, &str)] = &[
     (None, "ac10f2aef117729f8dad056b3059eb7e, user_tag: 1"),
     (
         Some(7),
@@ -85,15 +85,20 @@ const SHOWN: [(Option<u64>, &str); 4] = [
     ),
 ];
 
+// Whether an entry of `aa` is shown so, owned and borrowed.
+fn is_shown(alloc: Global, id: Option<u64>, text: &str) -> Option<bool> {
+    let owned = entry(alloc, b"aa", id).ok()?;
+    let borrowed = CacheEntryKeyRef::from(&owned);
+    let of_owned = format!(in alloc; "{owned}").ok()?;
+    let of_borrowed = format!(in alloc; "{borrowed}").ok()?;
+    Some(of_owned.as_str() == text && of_borrowed.as_str() == text)
+}
+
 #[test]
-fn entries_are_shown(rt: HostRuntime) -> Result<(), Fail> {
-    for (id, text) in SHOWN {
-        let owned = entry(rt.alloc(), b"aa", id)?;
-        let borrowed = CacheEntryKeyRef::from(&owned);
-        assert_eq!(rt; format!(in rt.alloc(); "{owned}")?.as_str(), text);
-        assert_eq!(rt; format!(in rt.alloc(); "{borrowed}")?.as_str(), text);
+fn entries_are_shown(rt: HostRuntime) {
+    for &(id, text) in SHOWN {
+        assert_eq!(rt; is_shown(rt.alloc(), id, text), Some(true), "{id:?}");
     }
-    Ok(())
 }
 
 // Whether an entry of `aa` has its key and this id, owned, borrowed and copied.
@@ -118,35 +123,44 @@ fn parts_of_entries(rt: HostRuntime) {
     assert_eq!(rt; CacheEntryId::new(3).get(), 3);
 }
 
-#[test]
-fn entries_are_made(rt: HostRuntime) -> Result<(), Fail> {
-    let alone = CacheEntryKey::key_only(kept(rt.alloc(), b"aa")?);
-    let with_id = CacheEntryKey::identified(kept(rt.alloc(), b"aa")?, CacheEntryId::new(3));
-    assert!(rt; alone == entry(rt.alloc(), b"aa", None)?);
-    assert!(rt; with_id == entry(rt.alloc(), b"aa", Some(3))?);
-    let empty = CacheEntryKey::empty(rt.alloc());
-    let shown = format!(in rt.alloc(); "{empty}")?;
-    assert_eq!(rt;
-        shown.as_str(),
-        "00000000000000000000000000000000, user_tag: "
-    );
-    assert_eq!(rt; empty.entry_id(), None);
-    Ok(())
+// Whether an entry of a key, one of a key and an id, and the empty one are as they are spelled.
+fn are_made(alloc: Global) -> Option<[bool; 3]> {
+    let alone = CacheEntryKey::key_only(kept(alloc, b"aa").ok()?);
+    let with_id = CacheEntryKey::identified(kept(alloc, b"aa").ok()?, CacheEntryId::new(3));
+    let empty = CacheEntryKey::empty(alloc);
+    let shown = format!(in alloc; "{empty}").ok()?;
+    let is_empty = shown.as_str() == "00000000000000000000000000000000, user_tag: ";
+    Some([
+        alone == entry(alloc, b"aa", None).ok()?,
+        with_id == entry(alloc, b"aa", Some(3)).ok()?,
+        is_empty && empty.entry_id().is_none(),
+    ])
 }
 
 #[test]
-fn a_map_is_searched_by_borrowed_entries(rt: HostRuntime) -> Result<(), Fail> {
-    let mut map: IndexMap<CacheEntryKey, u64> = IndexMap::new(rt.alloc());
-    map.insert(entry(rt.alloc(), b"aa", None)?, 1)
-        .ok()
-        .ok_or("memory")?;
-    map.insert(entry(rt.alloc(), b"aa", Some(7))?, 2)
-        .ok()
-        .ok_or("memory")?;
-    let key = kept(rt.alloc(), b"aa")?;
+fn entries_are_made(rt: HostRuntime) {
+    assert_eq!(rt; are_made(rt.alloc()), Some([true, true, true]));
+}
+
+// A map of two entries of `aa` to numbers.
+fn map(alloc: Global) -> Option<IndexMap<CacheEntryKey, u64>> {
+    let mut map = IndexMap::new(alloc);
+    map.insert(entry(alloc, b"aa", None).ok()?, 1).ok()?;
+    map.insert(entry(alloc, b"aa", Some(7)).ok()?, 2).ok()?;
+    Some(map)
+}
+
+// What it finds by a borrowed entry of `aa`.
+fn found(alloc: Global, id: Option<CacheEntryId>) -> Option<Option<u64>> {
+    let map = map(alloc)?;
+    let key = kept(alloc, b"aa").ok()?;
+    Some(map.get(CacheEntryKeyRef::from_entry_id(&key, id)).copied())
+}
+
+#[test]
+fn a_map_is_searched_by_borrowed_entries(rt: HostRuntime) {
     for (id, want) in [(None, Some(1)), (Some(7), Some(2)), (Some(8), None)] {
-        let query = CacheEntryKeyRef::from_entry_id(&key, id.map(CacheEntryId::new));
-        assert_eq!(rt; map.get(query).copied(), want);
+        let id = id.map(CacheEntryId::new);
+        assert_eq!(rt; found(rt.alloc(), id), Some(want), "{id:?}");
     }
-    Ok(())
 }

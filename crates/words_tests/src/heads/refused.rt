@@ -1,7 +1,7 @@
 //! Calls that take memory. Nothing here makes an allocation fail: a run that makes the n-th one
 //! fail shows the other arm.
-use super::bytes::{HEADER, INTERNAL};
 use super::meta;
+use super::texts::{HEADER, INTERNAL};
 use cache_heads::meta::{CacheMeta, MetaFault, MetaReadFault};
 
 #[test]

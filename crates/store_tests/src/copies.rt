@@ -1,21 +1,11 @@
-//! How heads are kept, and that one of at most 256 names shares no buffer with the meta that came; of neither a clause speaks.
-use super::{Kept, KeptHead, PackedMeta};
+//! Which heads are packed, and that one of at most 256 names shares no buffer with the meta that came; of neither a clause speaks.
 use cache_headers::ResponseHeader;
 use cache_heads::CacheMeta;
 use cache_words::time::Moment;
 use http::StatusCode;
 use http_header::{HeaderMap, HeaderName, HeaderValue};
+use packed_meta::PackedMeta;
 use std::alloc::Global;
-
-// How a meta is kept.
-#[derive(Clone, Copy, PartialEq, Eq)]
-enum Form {
-    Short,
-    // Not in short, with a packed head.
-    Packed,
-    // With its head as fields.
-    Whole,
-}
 
 // A head of so many names, each with one value, which is marked as sensitive or not, in a meta that was renewed or not.
 #[derive(Clone, Copy)]
@@ -23,52 +13,53 @@ struct Row {
     names: u16,
     sensitive: bool,
     renewed: bool,
-    form: Form,
+    // Whether its head is packed, if it has a value to tell it by.
+    packed: Option<bool>,
     // Whether it shares no buffer.
     own: bool,
 }
 
-const ROWS: [Row; 6] = [
+const ROWS: &[Row] = &[
     Row {
         names: 0,
         sensitive: false,
         renewed: false,
-        form: Form::Short,
+        packed: None,
         own: true,
     },
     Row {
         names: 7,
         sensitive: false,
         renewed: false,
-        form: Form::Short,
+        packed: Some(true),
         own: true,
     },
     Row {
         names: 256,
         sensitive: false,
         renewed: false,
-        form: Form::Short,
+        packed: Some(true),
         own: true,
     },
     Row {
         names: 7,
         sensitive: false,
         renewed: true,
-        form: Form::Packed,
+        packed: Some(true),
         own: true,
     },
     Row {
         names: 7,
         sensitive: true,
         renewed: false,
-        form: Form::Whole,
+        packed: Some(false),
         own: true,
     },
     Row {
         names: 257,
         sensitive: false,
         renewed: false,
-        form: Form::Whole,
+        packed: Some(false),
         own: false,
     },
 ];
@@ -112,20 +103,16 @@ fn meta(alloc: Global, row: Row, shared: &Shared) -> Option<CacheMeta> {
     Some(meta)
 }
 
-// Its form. A packed head has hardly more room than bytes.
-fn form_of(packed: &PackedMeta) -> Option<Form> {
-    let (form, head) = match &packed.kept {
-        Kept::Short(short) => (Form::Short, &short.head),
-        Kept::Any(any) => match &any.head {
-            KeptHead::Packed(text) => (Form::Packed, text),
-            KeptHead::Whole(_) => return Some(Form::Whole),
-        },
-    };
-    if head.capacity().saturating_sub(head.len()) < 16 {
-        Some(form)
-    } else {
-        None
-    }
+// The first value of the head that is read.
+fn first_value(alloc: Global, packed: &PackedMeta) -> Option<Option<HeaderValue>> {
+    let mut read = packed.unpack(alloc).ok()?;
+    Some(read.header.headers.remove("x-name"))
+}
+
+// Whether its head is packed, if it has a value: no value that is read then shares its buffer with one that is kept.
+fn is_packed(alloc: Global, packed: &PackedMeta) -> Option<Option<bool>> {
+    let value = first_value(alloc, packed)?;
+    Some(value.map(|value| value.as_shared().is_unique()))
 }
 
 fn row_holds(alloc: Global, row: Row) -> Option<bool> {
@@ -134,10 +121,10 @@ fn row_holds(alloc: Global, row: Row) -> Option<bool> {
         value: HeaderValue::from_bytes(alloc, b"a value").ok()?,
     };
     let packed = PackedMeta::pack(alloc, &meta(alloc, row, &shared)?).ok()?;
-    let form = form_of(&packed)?;
+    let is_packed = is_packed(alloc, &packed)?;
     let value_is_own = shared.value.as_shared().is_unique();
     let name_is_own = HeaderValue::from_name(shared.name).as_shared().is_unique();
-    Some(form == row.form && value_is_own == row.own && name_is_own == row.own)
+    Some(is_packed == row.packed && value_is_own == row.own && name_is_own == row.own)
 }
 
 #[test]
