@@ -10,6 +10,7 @@ const HEADS: &[(&str, Option<(u16, usize)>)] = &[
         "HTTP/1.1 404 Not Found\r\nA : b\r\nC: d\r\n e\r\n\r\n",
         Some((404, 2)),
     ),
+    ("\r\n\nHTTP/1.1 206 Partial\nA : b\n\n", Some((206, 1))),
     ("HTTP/1.1 200 OK\r\n\r\na", None),
     ("HTTP/1.1 200 OK\r\nA : b\r\n\r\n\r\n", None),
     ("HTTP/1.1 200 OK\r\n", None),
