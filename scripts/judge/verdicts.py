@@ -12,7 +12,7 @@ OF_FUNCTION = re.compile(r"^fn (\S+): (proved|not proved|no proof)\b(?:: |; )?(.
 OF_SOURCE = re.compile(r"^(?:note: )?(?:\./)?(src/\S+\.rt):(\d+):\d+: (.*)$", re.M)
 OF_PROOF = re.compile(r"^(?:\./)?proofs/(\S+)/(Answers|Proof|Invariants)\.antt:\d+:\d+: (error.*)$", re.M)
 # of the reasons that a function isn't proved, those that are another function's
-ANOTHERS = re.compile(r"it calls .*|it waits for .*|it stands on .*|it uses .*|and \d+ more")
+ANOTHERS = re.compile(r"it .*, which (?:is|are) not proved|it waits for .*|it stands on .*")
 # of an error of a proof, that it names something which the edit took away, and that it only follows from another of the proof
 NAMES = re.compile(r"has no field|is not in scope|has no `|was not admitted|is no name")
 FOLLOWS = re.compile(r"which w(?:as|ere) rejected, w(?:as|ere) not checked")
