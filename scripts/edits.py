@@ -201,7 +201,8 @@ def judge(arguments, crates, entries, canaries_passed):
     tried = f"{passed + failed} edits tried, {passed} refused" if chosen else "no edit was to be tried"
     say(f"{tried}; {canaries_passed} canaries came out as they must; the record holds {good} of {len(everything)} edits as refused")
     print(f"{passed + canaries_passed} passed, {failed} failed")
-    return 1 if failed else 0
+    is_lacking = not arguments.crates and good < len(everything)
+    return 1 if failed or is_lacking else 0
 
 
 if __name__ == "__main__":

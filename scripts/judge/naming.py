@@ -51,14 +51,17 @@ class Names:
         return found if whole not in found else [whole]
 
     def of_trait(self, module, function, known):
-        """The names of a method of an impl of a trait, or of a trait's own."""
-        owner = function.owner
-        words = (owner.kind,) if not owner.trait else tuple(spelled(kind, owner.parameters) + spelled(trait, owner.parameters) for kind in (owner.kind, plain(owner.kind)) for trait in (owner.trait, plain(owner.trait)))
+        """The names of a method of an impl of a trait, or of a trait's own: with arguments or without, as the prover tells impls apart."""
+        kind, trait, _, parameters = function.owner
+        if not trait:
+            return [it for it in [self.joined(module, kind, function.name)] if it in known]
+        words = [spelled(one, parameters) + spelled(other, parameters) for one in (kind, plain(kind)) for other in (trait, plain(trait))]
         exact = [it for it in dict.fromkeys(self.joined(module, word, function.name) for word in words) if it in known]
-        if exact or not owner.trait:
+        if exact:
             return exact
-        begins, trait = self.joined(module, ""), spelled(plain(owner.trait), ())
-        return [it for it in known if it.startswith(begins) and it.count("::") == begins.count("::") + 1 and it.split("::")[-1] == function.name and trait in it.split("::")[-2]]
+        # a type that is spelled otherwise: the one impl of such a trait in the module
+        like = re.compile(re.escape(self.joined(module, "")) + r"[^:]*" + re.escape(spelled(plain(trait), ())) + r"[^:]*::" + re.escape(function.name))
+        return [it for it in known if like.fullmatch(it)]
 
 
 def closures_of(name, has_owner):

@@ -33,8 +33,11 @@ class Edit:
         before, after = [shape(texts, path) for path, _ in self.sites], [shape(now, path) for path, _ in self.sites]
         self.is_outside = self.is_outside or [[it[:2] for it in one] for one in before] != [[it[:2] for it in one] for one in after]
         # what a head says, others may rest on; and what a const function gives may stand in a type or a constant
-        if self.is_outside or before != after or any(sources.functions(texts[path])[at].is_const for path, at in self.sites):
+        changed = [] if self.is_outside else [(path, at, sources.functions(texts[path])[at]) for path, at in self.sites]
+        if self.is_outside or before != after or any(it.is_const for _, _, it in changed):
             self.stage = ALONE
+        # the functions of a cycle of calls have one proof
+        self.proofs = {(path, it.cycle or at) for path, at, it in changed}
 
 
 def shape(texts, path):
@@ -86,12 +89,13 @@ def next_round(left, calls):
     stage = min(it.stage for it in left)
     ready = [it for it in left if it.stage == stage]
     ready.sort(key=lambda it: (max(len(calls.reach(site)) for site in it.sites), it.name))
-    taken, used = [], set()
+    taken, used, proofs = [], set(), set()
     for edit in ready[:1] if stage == ALONE else ready:
         is_near = stage == APART and any(calls.are_near(one, other) for one in edit.sites for other in used)
-        if not is_near and not used.intersection(edit.sites):
+        if not is_near and not proofs & edit.proofs:
             taken.append(edit)
             used.update(edit.sites)
+            proofs |= edit.proofs
     return taken
 
 

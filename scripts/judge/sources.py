@@ -114,7 +114,7 @@ def owners_of(lines):
         told = OWNER.match(lines[at])
         if told:
             opens = next((n for n in range(at, len(lines)) if lines[n].rstrip().endswith(("{", "{}"))), at)
-            closes = next((n for n in range(opens, len(lines)) if lines[n] in (told[1] + "}", told[1] + "{}")), opens)
+            closes = opens if lines[opens].endswith("{}") else next((n for n in range(opens, len(lines)) if lines[n] == told[1] + "}"), opens)
             head = " ".join(lines[at : opens + 1])
             owners[at : closes + 1] = [owner_of(head[head.index(told[2]) + len(told[2]) :], told[2] == "trait")] * (closes + 1 - at)
             at = closes

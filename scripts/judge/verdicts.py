@@ -12,9 +12,10 @@ OF_FUNCTION = re.compile(r"^fn (\S+): (proved|not proved|no proof)\b(?:: |; )?(.
 OF_SOURCE = re.compile(r"^(?:note: )?(?:\./)?(src/\S+\.rt):(\d+):\d+: (.*)$", re.M)
 OF_PROOF = re.compile(r"^(?:\./)?proofs/(\S+)/(Answers|Proof|Invariants)\.antt:\d+:\d+: (error.*)$", re.M)
 # of the reasons that a function isn't proved, those that are another function's
-ANOTHERS = re.compile(r"it calls .*|it waits for .*|it stands on .*|it uses .*|and \d+ more")
-# of an error of a proof, that it names something which the edit took away
+ANOTHERS = re.compile(r"it .*, which (?:is|are) not proved|it waits for .*|it stands on .*")
+# of an error of a proof, that it names something which the edit took away, and that it only follows from another of the proof
 NAMES = re.compile(r"has no field|is not in scope|has no `|was not admitted|is no name")
+FOLLOWS = re.compile(r"which w(?:as|ere) rejected, w(?:as|ere) not checked")
 
 
 class Report:
@@ -71,7 +72,7 @@ def judged(edit, report, texts, names, is_alone):
         return (BAD, errors[0]) if errors else None
     own = set().union(*(names.of(path, function, report.known) for path, function in changed))
     goals = [it for path, function in changed for it in report.open_goals(path, function)]
-    errors = [it for name in sorted(own) for it in report.of_proofs.get(name, [])]
+    errors = [it for name in sorted(own) for it in report.of_proofs.get(name, []) if not FOLLOWS.search(it)]
     meant = [it for it in errors if not NAMES.search(it)]
     reasons = [report.own[it] for it in sorted(own) if it in report.own]
     if goals or meant or reasons and not errors:
