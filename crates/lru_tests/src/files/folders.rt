@@ -1,7 +1,9 @@
 // The folder of the system, in folders of the tests' own.
-use lru_files::persistence::{Folder, HostFolder, load_shards, replace, save_shards_async};
+use lru_files::persistence::{
+    Folder, HostFolder, ShardFileError, ShardLoadFailure, load_shards, replace, save_shards_async,
+};
 use std::alloc::{AllocError, Global};
-use std::fs;
+use std::{fs, os};
 
 const DIR: &str = "files_tests_folder";
 
@@ -65,14 +67,8 @@ const PATH: &str = "files_tests_replaced/simple_lru.data";
 
 const TEMP: &str = "files_tests_replaced/simple_lru.data.12ab34cd.tmp";
 
-// (the file before, the temporary file before; none where empty)
-const BEFORE: [(&str, &str); 5] = [
-    ("", ""),
-    ("old", ""),
-    ("older and longer", ""),
-    ("", "left by a save that was stopped"),
-    ("old", "n"),
-];
+// The file before; none where empty.
+const BEFORE: [&str; 3] = ["", "old", "older and longer"];
 
 // Puts the text at the path, or no file where it is empty.
 fn put(rt: &HostRuntime, path: &str, text: &str) -> bool {
@@ -102,20 +98,134 @@ fn failures(rt: &HostRuntime) -> Option<u64> {
 fn a_file_of_the_system_is_replaced_whole(rt: HostRuntime) {
     let _ = fs::remove_dir_all(&rt, "files_tests_replaced");
     assert!(rt; fs::create_dir_all(&rt, "files_tests_replaced").is_ok());
-    for (file, temp) in BEFORE {
-        assert!(rt; put(&rt, PATH, file) && put(&rt, TEMP, temp));
-        assert_eq!(rt; failures(&rt), Some(1), "over {file} and {temp}");
-        assert!(rt; holds(&rt, PATH, b"new text"), "over {file} and {temp}");
-        assert!(rt; fs::read(&rt, TEMP).is_err(), "over {file} and {temp}");
+    for file in BEFORE {
+        assert!(rt; put(&rt, PATH, file));
+        assert_eq!(rt; failures(&rt), Some(1), "over {file}");
+        assert!(rt; holds(&rt, PATH, b"new text"), "over {file}");
+        assert!(rt; fs::read(&rt, TEMP).is_err(), "over {file}");
     }
     let _ = fs::remove_dir_all(&rt, "files_tests_replaced");
 }
 
+// What is at the temporary path before: a file of another saver's, or a link to a file elsewhere or to nothing.
+const TAKEN: [(&str, Option<&str>); 3] = [
+    ("file", None),
+    ("link to a file", Some("elsewhere")),
+    ("link to nothing", Some("nowhere")),
+];
+
+// Puts what is taken at the temporary path in `dir`, and returns what a replacement then fails with, and the failures counted.
+fn taken(rt: &HostRuntime, link: Option<&str>) -> Option<(Option<ShardFileError>, u64)> {
+    let temp = "files_tests_taken/lru.data.0.00000007.tmp";
+    let done = match link {
+        None => fs::write(rt, temp, "another's").is_ok(),
+        Some(to) => os::unix::fs::symlink(rt, to, temp).is_ok(),
+    };
+    let mut folder = HostFolder::new(rt.clone().ok()?);
+    let replaced = replace(&mut folder, temp, "files_tests_taken/lru.data.0", b"new");
+    let kept = link.is_some() || holds(rt, temp, b"another's");
+    let _ = fs::remove_file(rt, temp);
+    if done && kept {
+        Some((replaced.err(), folder.failures()))
+    } else {
+        None
+    }
+}
+
+#[test]
+fn a_taken_temporary_name_is_not_written(rt: HostRuntime) {
+    let _ = fs::remove_dir_all(&rt, "files_tests_taken");
+    assert!(rt; fs::create_dir_all(&rt, "files_tests_taken").is_ok());
+    assert!(rt; fs::write(&rt, "files_tests_taken/elsewhere", "kept").is_ok());
+    assert!(rt; fs::write(&rt, "files_tests_taken/lru.data.0", "old").is_ok());
+    let refused = Some((Some(ShardFileError::Create), 1));
+    for (name, link) in TAKEN {
+        assert_eq!(rt; taken(&rt, link), refused, "{name}");
+        assert!(rt;
+            holds(&rt, "files_tests_taken/lru.data.0", b"old"),
+            "{name}"
+        );
+        assert!(rt;
+            holds(&rt, "files_tests_taken/elsewhere", b"kept"),
+            "{name}"
+        );
+        assert!(rt;
+            fs::read(&rt, "files_tests_taken/nowhere").is_err(),
+            "{name}"
+        );
+    }
+    let _ = fs::remove_dir_all(&rt, "files_tests_taken");
+}
+
+// Two savers under equal words, in turn: the second creates nothing, and the first goes on.
+fn two_savers(rt: &HostRuntime) -> Option<[bool; 4]> {
+    let temp = "files_tests_savers/lru.data.0.00000007.tmp";
+    let path = "files_tests_savers/lru.data.0";
+    let mut first = HostFolder::new(rt.clone().ok()?);
+    let mut second = HostFolder::new(rt.clone().ok()?);
+    first.make("files_tests_savers").ok()?;
+    first.create(temp).ok()?;
+    first.write(b"the first ").ok()?;
+    let refused = replace(&mut second, temp, path, b"of the second saver");
+    first.write(b"saver's").ok()?;
+    first.flush().ok()?;
+    first.rename(temp, path).ok()?;
+    let whole = holds(rt, path, b"the first saver's");
+    let next = replace(&mut second, temp, path, b"of the second saver");
+    let both = holds(rt, path, b"of the second saver");
+    Some([
+        refused == Err(ShardFileError::Create),
+        whole,
+        next.is_ok(),
+        both,
+    ])
+}
+
+#[test]
+fn a_second_saver_is_refused(rt: HostRuntime) {
+    let _ = fs::remove_dir_all(&rt, "files_tests_savers");
+    assert_eq!(rt; two_savers(&rt), Some([true; 4]));
+    let _ = fs::remove_dir_all(&rt, "files_tests_savers");
+}
+
+// Of three shards, one is a folder, one a link to a file that never ends, and one a file: how many were loaded, and which failed.
+fn odd_shards(rt: &HostRuntime, alloc: Global) -> Option<(usize, [Option<usize>; 2])> {
+    let mut folder = HostFolder::new(rt.clone().ok()?);
+    let report = load_shards(
+        alloc,
+        &mut folder,
+        "files_tests_odd",
+        "lru.data",
+        3,
+        &mut |_: usize, _: Vec<u8>| -> Result<(), AllocError> { Ok(()) },
+    );
+    let report = report.ok()?;
+    let failed = |i: usize| match report.errored.get(i)? {
+        (shard, ShardLoadFailure::Io(ShardFileError::Open)) => Some(*shard),
+        _ => None,
+    };
+    Some((report.loaded, [failed(0), failed(1)]))
+}
+
+#[test]
+fn what_is_no_file_fails_its_shard_alone(rt: HostRuntime) {
+    let _ = fs::remove_dir_all(&rt, "files_tests_odd");
+    assert!(rt; fs::create_dir_all(&rt, "files_tests_odd/lru.data.0").is_ok());
+    assert!(rt; os::unix::fs::symlink(&rt, "/dev/zero", "files_tests_odd/lru.data.1").is_ok());
+    assert!(rt; fs::write(&rt, "files_tests_odd/lru.data.2", "two").is_ok());
+    let failed = Some((1, [Some(0), Some(1)]));
+    assert_eq!(rt; odd_shards(&rt, rt.alloc()), failed);
+    let _ = fs::remove_dir_all(&rt, "files_tests_odd");
+}
+
 // (the path, what `open` tells: none for a fault; how many failures are counted)
-const OPENED: [(&str, Option<bool>, u64); 4] = [
+const OPENED: [(&str, Option<bool>, u64); 7] = [
     ("files_tests_opened/file", Some(true), 0),
     ("files_tests_opened/absent", Some(false), 0),
     ("files_tests_opened/folder", None, 1),
+    ("files_tests_opened/link", None, 1),
+    ("files_tests_opened/dangling", None, 1),
+    ("/dev/zero", None, 1),
     ("files_tests_opened/file/below", None, 1),
 ];
 
@@ -130,6 +240,8 @@ fn a_path_of_the_system_is_opened_only_as_a_file(rt: HostRuntime) {
     let _ = fs::remove_dir_all(&rt, "files_tests_opened");
     assert!(rt; fs::create_dir_all(&rt, "files_tests_opened/folder").is_ok());
     assert!(rt; fs::write(&rt, "files_tests_opened/file", "text").is_ok());
+    assert!(rt; os::unix::fs::symlink(&rt, "file", "files_tests_opened/link").is_ok());
+    assert!(rt; os::unix::fs::symlink(&rt, "absent", "files_tests_opened/dangling").is_ok());
     for (path, found, failed) in OPENED {
         assert_eq!(rt; opened(&rt, path), Some((found, failed)), "{path}");
     }

@@ -123,6 +123,15 @@ fn a_load_removes_temporary_files_and_reads_each_shard(rt: HostRuntime) {
 }
 
 #[test]
+fn a_file_that_is_there_is_not_created(rt: HostRuntime) {
+    let mut folder = MemFolder::new(rt.alloc());
+    assert!(rt; folder.put("dir/a", b"old").is_ok());
+    assert!(rt; folder.create("dir/a").is_err());
+    assert!(rt; holds(&folder, "dir/a", b"old"));
+    assert_eq!(rt; folder.failures(), 1);
+}
+
+#[test]
 fn a_write_brings_no_removed_file_back(rt: HostRuntime) {
     let mut folder = MemFolder::new(rt.alloc());
     assert!(rt; folder.create("dir/a").is_ok());
