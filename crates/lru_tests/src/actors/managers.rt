@@ -19,6 +19,8 @@ use std::thread::Threads;
 #[derive(Clone, Copy)]
 enum Step {
     Admit(usize),
+    /// At the back; whether it is newly tracked.
+    InsertTail(usize, bool),
     /// Weight is added, up to a cap.
     Increment(usize, usize),
     Remove,
@@ -51,6 +53,7 @@ const CALLS: &[Row] = &[
     (3, None, Step::Access(4, false)),
     (2, None, Step::Access(9, true)),
     (2, None, Step::Weighs(12, 3)),
+    (2, None, Step::InsertTail(9, false)),
     (2, None, Step::Text(75, 12)),
     (1, Some(5), Step::Last),
     (1, Some(5), Step::Remove),
@@ -58,6 +61,9 @@ const CALLS: &[Row] = &[
     (3, None, Step::Last),
     (2, None, Step::RemoveParts),
     (2, None, Step::Peek(false)),
+    (4, None, Step::InsertTail(0, true)),
+    (4, None, Step::Last),
+    (4, None, Step::Remove),
     (3, None, Step::Weighs(4, 1)),
 ];
 
@@ -88,6 +94,9 @@ fn does<R: Wait>(rt: &R, alloc: Global, manager: &Manager<1>, row: Row) -> bool 
     let item = entry(alloc, row.0, row.1);
     match row.2 {
         Step::Admit(size) => manager.admit(rt, item, size, moment) == Ok(0),
+        Step::InsertTail(size, is_new) => {
+            manager.insert_tail(rt, item, size).ok() == Some(is_new)
+        }
         Step::Increment(delta, cap) => {
             manager.increment_weight(rt, &item, delta, Some(cap)) == Ok(())
         }

@@ -17,6 +17,8 @@ type List = AsyncLru<u32, 1>;
 enum Step {
     Admit(u32, usize),
     InsertTail(u32, usize),
+    /// The same, with whether its hash was new.
+    InsertChecked(u32, usize, bool),
     Increment(u32, usize, usize),
     Remove(u32),
     RemoveByHash(u32),
@@ -44,6 +46,7 @@ const CALLS: &[Step] = &[
     Step::Admit(1, 0),
     Step::InsertTail(2, 0),
     Step::InsertTail(1, 9),
+    Step::InsertChecked(1, 9, false),
     Step::Rows(&[(1, 1), (2, 0)]),
     Step::PeekLru(Some((2, 0))),
     Step::Increment(2, 7, 5),
@@ -59,6 +62,9 @@ const CALLS: &[Step] = &[
     Step::Remove(3),
     Step::PeekWeight(3, None),
     Step::Rows(&[(1, 1)]),
+    Step::InsertChecked(5, 3, true),
+    Step::Rows(&[(1, 1), (5, 3)]),
+    Step::Remove(5),
 ];
 
 /// Returns a list without callbacks, whose tables may have a start of the caller's, and the receiver of its evicted pairs.
@@ -89,6 +95,9 @@ fn does<R: Wait>(rt: &R, list: &List, step: Step) -> bool {
     match step {
         Step::Admit(key, weight) => list.admit(rt, key, weight) == Ok(0),
         Step::InsertTail(key, weight) => list.insert_tail(rt, key, weight) == Ok(0),
+        Step::InsertChecked(key, weight, is_new) => {
+            list.insert_tail_checked(rt, key, weight).ok() == Some(is_new)
+        }
         Step::Increment(key, delta, cap) => {
             list.increment_weight(rt, &key, delta, Some(cap)) == Ok(())
         }

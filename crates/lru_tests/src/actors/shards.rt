@@ -2,8 +2,9 @@
 
 ghost use Rattle.std.specs.Prelude.{◌<◌};
 
-use async_lru::AsyncLru;
+use async_lru::{AsyncLru, TailFault};
 use crossbeam_channel::Receiver;
+use lru_core::lru_unit::LruFault;
 use rand_core::SeedableRng;
 use rand_pcg::Pcg64;
 use std::alloc::Global;
@@ -18,6 +19,8 @@ type List = AsyncLru<u32, 4>;
 enum Step {
     /// A key of that weight is admitted; its shard.
     Admit(u32, usize, usize),
+    /// A key of that weight is refused at the back, for its weight, and comes back.
+    TooHeavy(u32, usize),
     Promote(u32, bool),
     PeekWeight(u32, Option<usize>),
     /// The last row of a shard.
@@ -67,6 +70,8 @@ const HEAVY: &[Step] = &[
     Step::Admit(7, 1, 0),
     Step::Admit(8, usize::MAX / 4 + 1, 1),
     Step::Admit(12, 1, 1),
+    Step::TooHeavy(7, 1),
+    Step::TooHeavy(0, usize::MAX / 4 + 1),
     Step::PeekWeight(7, None),
     Step::PeekWeight(8, None),
     Step::Weighs(0, usize::MAX / 4, 1),
@@ -152,6 +157,10 @@ fn called<R: Threads + Wait + Copy + Send + 'static>(
 fn does<R: Wait>(rt: &R, list: &List, step: Step) -> bool {
     match step {
         Step::Admit(key, weight, shard) => list.admit(rt, key, weight) == Ok(shard),
+        Step::TooHeavy(key, weight) => match list.insert_tail_checked(rt, key, weight) {
+            Err(TailFault::Refused(LruFault::Weight(back))) => back == key,
+            _ => false,
+        },
         Step::Promote(key, found) => list.promote(rt, &key) == Ok(found),
         Step::PeekWeight(key, weight) => list.peek_weight(rt, &key) == Ok(weight),
         Step::Last(shard, last) => shard < 4 && list.peek_lru(rt, shard) == Ok(last),
