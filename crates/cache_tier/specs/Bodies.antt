@@ -10,8 +10,7 @@ use Rattle.cache_store.specs.declared.storage.PurgeOutcome.{PurgeOutcome}
 use Rattle.cache_store.specs.declared.storage.PurgeOutcome.TheVariants.{Purged}
 use Rattle.tier_model.specs.declared.state.Body.{Body}
 use Rattle.tier_model.specs.Calls.{History}
-use Rattle.tier_model.specs.Histories.{Kept, Opening, changes_of}
-use Rattle.tier_model.specs.Reports.{writes_begun}
+use Rattle.tier_model.specs.Histories.{Kept, Opening, writes_begun, changes_of}
 use Rattle.tier_model.specs.Rows.{Bodies}
 
 -- what a look-up finds of a body
@@ -49,4 +48,4 @@ pub record ShowsBodies (h : Held) (start : Opening) (past : History) : Type 0 wh
   pub bodies : (k : StoredKey) (w : Write Kept) → IsBody k w (changes_of start past)
       → option_map found_in (body_at k h.store) ≡ Some (record { bytes = bytes_of w.number (changes_of start past); fresh_until = (meta_of w (changes_of start past)).fresh_until })
   pub others : (k : StoredKey) (x : Stored CacheMeta) → body_at k h.store ≡ Some x → (w : Write Kept) × IsBody k w (changes_of start past)
-  pub writes : h.next ≡ writes_begun past
+  pub writes : h.next ≡ writes_begun start past

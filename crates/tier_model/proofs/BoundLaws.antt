@@ -1,5 +1,5 @@
 -- The bodies keep both limits: after a put since they are tracked and the rows keep them, and no other call makes more.
-use Rattle.std.proofs.Common.{◌≡◌, ℕ, ◌+◌, ◌≤◌, suc, refl, ap, sym, ◌∙◌, true, false, subst, cond, [], ◌∷◌, ◌++◌, length}
+use Rattle.std.proofs.Common.{◌≡◌, ℕ, ◌+◌, ◌≤◌, refl, ap, sym, ◌∙◌, true, false, subst, cond, [], ◌∷◌, ◌++◌, length}
 use Rattle.std.specs.Prelude.{Bool, List, Option, Some, None, ◌==◌}
 use Rattle.std.specs.List.{AllByRecursion, sum_by}
 use Rattle.std.proofs.lemmas.List.Sums.{sum_by-cons}
@@ -94,11 +94,11 @@ module _ (N n : ℕ) (bodies : Bodies) (m : Managed) (changes : Changes Kept) (l
 
   -- a body that is stored, and those that went to make room for it
   pub leaves-room : (b : FinishedBody) (over : Bool) (es : List CacheEntryKey) → GoInTurn N over es (admitted b)
-      → Leaves N (suc n) (without_bodies es (with_body b bodies)) (all_gone N es (admitted b)) (extended changes (stores n b es))
-  leaves-room b over es h = leaves-gone N (suc n) over es (with_body b bodies) (admitted b) (extended changes (stores n b [])) h (leaves-stored N n b bodies m changes l.leaves)
+      → Leaves N (n + 1) (without_bodies es (with_body b bodies)) (all_gone N es (admitted b)) (extended changes (stores n b es))
+  leaves-room b over es h = leaves-gone N (n + 1) over es (with_body b bodies) (admitted b) (extended changes (stores n b [])) h (leaves-stored N n b bodies m changes l.leaves)
 
   pub keeps-stored : (b : FinishedBody) (es : List CacheEntryKey) → GoInTurn N false es (admitted b)
-      → Keeps N (suc n) (without_bodies es (with_body b bodies)) (all_gone N es (admitted b)) (extended changes (stores n b es))
+      → Keeps N (n + 1) (without_bodies es (with_body b bodies)) (all_gone N es (admitted b)) (extended changes (stores n b es))
   keeps-stored b es h =
       let left : Managed = all_gone N es (admitted b) in
       let now : Changes Kept = extended changes (stores n b es) in
@@ -124,7 +124,7 @@ module _ (N n : ℕ) (bodies : Bodies) (m : Managed) (changes : Changes Kept) (l
           (there, stored.1 ∙ ap (λ v. cond v (bytes_of w.number changes ++ b.bytes) (bytes_of w.number changes)) other)
 
   pub keeps-back : (b : FinishedBody) (over : Bool) (es : List CacheEntryKey) → GoInTurn N over es (admitted b)
-      → Keeps N (suc n) (without_body (stored_key b.entry) (without_bodies es bodies)) (taken_out N (alone b.entry) (all_gone N es (admitted b))) (extended (extended changes (stores n b es)) (clears b.entry))
+      → Keeps N (n + 1) (without_body (stored_key b.entry) (without_bodies es bodies)) (taken_out N (alone b.entry) (all_gone N es (admitted b))) (extended (extended changes (stores n b es)) (clears b.entry))
   keeps-back b over es h =
       let now : Changes Kept = extended (extended changes (stores n b es)) (clears b.entry) in
       let after = leaves-back N n b es bodies (all_gone N es (admitted b)) changes (leaves-room b over es h) in

@@ -1,5 +1,5 @@
 -- What changes leave is what a tier's state holds: change by change.
-use Rattle.std.proofs.Common.{◌≡◌, ℕ, ◌≤◌, ◌<◌, suc, refl, ap, sym, ◌∙◌, true, false, subst, cond, [], ◌∷◌, length, arith}
+use Rattle.std.proofs.Common.{◌≡◌, ℕ, ◌+◌, ◌≤◌, ◌<◌, refl, ap, sym, ◌∙◌, true, false, subst, cond, [], ◌∷◌, length, arith}
 use Rattle.std.specs.Prelude.{Bool, List, Option, Some, None, option_map, is_some, map, find}
 use Rattle.std.specs.List.{AllByRecursion}
 use Rattle.std.proofs.Math.Nat.{le-max_right}
@@ -28,7 +28,7 @@ use Rattle.tier_model.specs.Rows.{Bodies, body_of, found_of, with_body as put_bo
 use Rattle.tier_model.proofs.BodyLaws.{has_key, body_of-without, body_of-without_key, body_of-with, body_of-without_all, body_at-without, body_at-with, view, AreSame, both_gone, both_there}
 use Rattle.tier_model.proofs.RowSteps.{over-rows, last-rows}
 
--- after n calls the changes leave these bodies, with none in flight, and these N shards; what went went lawfully
+-- after n writes the changes leave these bodies, with none in flight, and these N shards; what went went lawfully
 pub record Leaves (N n : ℕ) (held : Bodies) (m : Managed) (changes : Changes Kept) : Type 0 where
   pub orderly : IsOrderly changes
   pub below : AllByRecursion (BeginsBelow n) changes
@@ -164,7 +164,7 @@ module _ (N : ℕ) where
 
   -- a body is written whole and its entry admitted
   pub leaves-stored : (n : ℕ) (b : FinishedBody) (bodies : Bodies) (m : Managed) (changes : Changes Kept)
-      → Leaves N n bodies m changes → Leaves N (suc n) (put_body b bodies) (put_first N (alone b.entry) (weight_for b.bytes) m) (extended changes (stores n b []))
+      → Leaves N n bodies m changes → Leaves N (n + 1) (put_body b bodies) (put_first N (alone b.entry) (weight_for b.bytes) m) (extended changes (stores n b []))
   leaves-stored n b bodies m changes l =
       let w : Write Kept = write_of n b in
       let x : Stored Kept = record { write = w; meta = kept_of b; bytes = b.bytes } in
@@ -182,7 +182,7 @@ module _ (N : ℕ) where
       subst (λ (y : Stored Kept). length y.bytes ≤ weight_for b.bytes) same (le-max_right 1 (length b.bytes)) in
       record {
         orderly = (tt, orderly);
-        below = (tt, (tt, (tt, (omega arith, all_begin_less n (suc n) changes (omega arith) l.below))));
+        below = (tt, (tt, (tt, (omega arith, all_begin_less n (n + 1) changes (omega arith) l.below))));
         landed = ap (λ (s : Store Kept). s.flying) left;
         bodies = λ k. ap (option_map held_of) (body_of-with k b bodies)
             ∙ both_there (same_bytes (stored_key b.entry) k) (found_of b) x (body_of k bodies) (body_at k (store_of changes)) refl (l.bodies k)
@@ -196,12 +196,12 @@ module _ (N : ℕ) where
 
   -- a body that is stored and taken back leaves what was there, without what went
   pub leaves-back : (n : ℕ) (b : FinishedBody) (es : List CacheEntryKey) (bodies : Bodies) (m : Managed) (changes : Changes Kept)
-      → Leaves N (suc n) (without_bodies es (put_body b bodies)) m (extended changes (stores n b es))
-      → Leaves N (suc n) (without_body (stored_key b.entry) (without_bodies es bodies)) (taken_out N (alone b.entry) m) (extended (extended changes (stores n b es)) (clears b.entry))
+      → Leaves N (n + 1) (without_bodies es (put_body b bodies)) m (extended changes (stores n b es))
+      → Leaves N (n + 1) (without_body (stored_key b.entry) (without_bodies es bodies)) (taken_out N (alone b.entry) m) (extended (extended changes (stores n b es)) (clears b.entry))
   leaves-back n b es bodies m changes l =
-      leaves-same (suc n) (without_body (stored_key b.entry) (without_bodies es (put_body b bodies))) (without_body (stored_key b.entry) (without_bodies es bodies))
+      leaves-same (n + 1) (without_body (stored_key b.entry) (without_bodies es (put_body b bodies))) (without_body (stored_key b.entry) (without_bodies es bodies))
       (taken_out N (alone b.entry) m) (extended (extended changes (stores n b es)) (clears b.entry)) same
-      (leaves-cleared (suc n) b.entry (without_bodies es (put_body b bodies)) m (extended changes (stores n b es)) l)
+      (leaves-cleared (n + 1) b.entry (without_bodies es (put_body b bodies)) m (extended changes (stores n b es)) l)
     where
       none : (v w : Bool) (o p : Option Body) → cond v None (cond w None o) ≡ cond v None (cond w None (cond v p o))
       none true w o p = refl

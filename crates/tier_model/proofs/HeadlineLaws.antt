@@ -24,7 +24,7 @@ use Rattle.tier_model.specs.declared.event.TierFault.TheVariants.{IdInUse, Wrong
 use Rattle.tier_model.specs.declared.event.Done.{Done}
 use Rattle.cache_words.specs.Key.{CacheKeyValue}
 use Rattle.tier_model.specs.Calls.{Call, History, Outcome, read_by, opened_for, nothing_done}
-use Rattle.tier_model.specs.Histories.{Kept, Opening, changes_of}
+use Rattle.tier_model.specs.Histories.{Kept, Opening, writes_begun, changes_of}
 use Rattle.tier_model.specs.Headline.{LooksRight, PurgesRight, PutsRight, IsRight}
 use Rattle.tier_model.specs.Rows.{body_of, weight_for}
 use Rattle.tier_model.specs.State.{State, shards_of}
@@ -45,10 +45,10 @@ module _ (start : Opening) where
       by_body : (b : Option Body) → body_for q s.bodies ≡ b → a ≡ look_answer t b → LooksRight i t a h (changes_of start h)
       by_body None be ae =
           subst (λ (x : Answer). LooksRight i t x h (changes_of start h)) (sym ae)
-          (key_of q.entry, (of_request start s h fits i q e).0.0, not_found (shards_of s) (length h) s.bodies s.managed (changes_of start h) fits.holds.leaves (stored_key (key_of q.entry)) be)
+          (key_of q.entry, (of_request start s h fits i q e).0.0, not_found (shards_of s) (writes_begun start h) s.bodies s.managed (changes_of start h) fits.holds.leaves (stored_key (key_of q.entry)) be)
       by_body (Some b) be ae =
-          let x = shows (shards_of s) (length h) s.bodies s.managed (changes_of start h) fits.holds.leaves (stored_key (key_of q.entry)) b be in
-          let none = none_in_flight (shards_of s) (length h) s.bodies s.managed (changes_of start h) fits.holds.leaves (stored_key (key_of q.entry)) in
+          let x = shows (shards_of s) (writes_begun start h) s.bodies s.managed (changes_of start h) fits.holds.leaves (stored_key (key_of q.entry)) b be in
+          let none = none_in_flight (shards_of s) (writes_begun start h) s.bodies s.managed (changes_of start h) fits.holds.leaves (stored_key (key_of q.entry)) in
           subst (λ (y : Answer). LooksRight i t y h (changes_of start h)) (sym ae)
           (key_of q.entry, x.write, (of_request start s h fits i q e).0.0, x.shown, ap (λ (p : MomentValue × List ℕ). at_most t p.0) (sym x.tells), (λ c. none, λ n. refl))
 
@@ -83,8 +83,8 @@ module _ (start : Opening) where
     where
       by_body : (o : Option Body) → body_of k s.bodies ≡ o → (is_some o ≡ true) ↔ IsFound k (changes_of start h)
       by_body None e =
-          (λ t. absurd cc, λ found. absurd (not_found (shards_of s) (length h) s.bodies s.managed (changes_of start h) fits.holds.leaves k e found))
-      by_body (Some b) e = (λ t. found (shards_of s) (length h) s.bodies s.managed (changes_of start h) fits.holds.leaves k b e, λ f. refl)
+          (λ t. absurd cc, λ found. absurd (not_found (shards_of s) (writes_begun start h) s.bodies s.managed (changes_of start h) fits.holds.leaves k e found))
+      by_body (Some b) e = (λ t. found (shards_of s) (writes_begun start h) s.bodies s.managed (changes_of start h) fits.holds.leaves k b e, λ f. refl)
 
   -- a put that is answered has what its response gave
   put_right : (s : State) (n : ℕ) (changes : Changes Kept) → IsMade start.settings s.managed → Keeps (shards_of s) n s.bodies s.managed changes
@@ -127,7 +127,7 @@ module _ (start : Opening) where
   answer_right s t g (Read i) a h made fits n p = read_right s t g i a h (get s.requests i) fits refl n p
   answer_right s t g (Drop i) a h made fits n p = p
   answer_right s t g (Purge key) a h made fits n p = subst (λ (x : Answer). PurgesRight (stored_key_of key) x (changes_of start h)) (sym p) (purge_right s (stored_key_of key) h fits)
-  answer_right s t g (Put key pieces) a h made fits n p = put_right s (length h) (changes_of start h) made fits.holds g a p
+  answer_right s t g (Put key pieces) a h made fits n p = put_right s (writes_begun start h) (changes_of start h) made fits.holds g a p
 
   fault_right : (s : State) (t : MomentValue) (g : Option Whole) (action : Action) (f : TierFault) (h : History) → IsMade start.settings s.managed → Fits start s h
       → AllowsBy (refusal s action) s t action g (Err f) → IsRight start t action g (Err f) h
@@ -137,8 +137,8 @@ module _ (start : Opening) where
   fault_right s t g (Drop i) f h made fits p = did_nothing s t g (Drop i) f p refl
   fault_right s t g (Purge key) f h made fits p = did_nothing s t g (Purge key) f p refl
   fault_right s t g (Put key pieces) f h made fits p = elim p [
-    | inl memory ↦ subst (λ (x : TierFault). PutsRight start.settings (length h) g (Err x) (changes_of start h)) (sym memory.0) (refl, refl)
-    | inr late ↦ put_fault_right s (length h) (changes_of start h) made fits.holds g f late
+    | inl memory ↦ subst (λ (x : TierFault). PutsRight start.settings (writes_begun start h) g (Err x) (changes_of start h)) (sym memory.0) (refl, refl)
+    | inr late ↦ put_fault_right s (writes_begun start h) (changes_of start h) made fits.holds g f late
   ]
 
   pub IsRight-allowed : (s : State) (c : Call) (h : History) → IsMade start.settings s.managed → Fits start s h → Allows s c → IsRight start c.event.moment c.event.action (read_by c) c.outcome h

@@ -25,7 +25,7 @@ use Rattle.tier_model.specs.declared.event.Answer.TheVariants.{Opened, Found, Ab
 use Rattle.tier_model.specs.declared.event.TierFault.{TierFault}
 use Rattle.tier_model.specs.declared.event.TierFault.TheVariants.{WrongPhase}
 use Rattle.tier_model.specs.Calls.{Call, History, Outcome, read_by, opened_for, entry_after, ends_reader, bytes_given, bytes_read, bytes_answered, done_of}
-use Rattle.tier_model.specs.Histories.{Kept, Opening, changes_of, HasHit}
+use Rattle.tier_model.specs.Histories.{Kept, Opening, writes_begun, changes_of, HasHit}
 use Rattle.tier_model.specs.Requests.{phase_after, phase_of, reader_after, reader_of, HasFound, IsRequestOf}
 use Rattle.tier_model.specs.Rows.{body_of}
 use Rattle.tier_model.specs.State.{State, shards_of}
@@ -167,7 +167,7 @@ module _ (start : Opening) where
           subst (λ (x : Answer). RequestFits id (get (after_look_up s t i q (Some w)).requests id) (call_at t (LookUp i) read (Ok x) ∷ h)) (sym ae)
           (placed s.requests i (looked t q (Some w)) id (call_at t (LookUp i) read (Ok (Found fresh true))) h (
             open_key,
-            found_reader t read i q w fresh h open_key.0 (shows (shards_of s) (length h) s.bodies s.managed (changes_of start h) fits.holds.leaves (stored_key (key_of q.entry)) w be),
+            found_reader t read i q w fresh h open_key.0 (shows (shards_of s) (writes_begun start h) s.bodies s.managed (changes_of start h) fits.holds.leaves (stored_key (key_of q.entry)) w be),
             sym (ap (λ v. cond v (cond fresh Hit Stale) (phase_of i h)) (itself i)),
             (w.bytes, sym (ap (λ v. cond v (Unread w.bytes) (reader_of i w.bytes h)) (itself i))),
           )
@@ -262,8 +262,8 @@ module _ (start : Opening) where
       shards : shards_of (after s c) ≡ shards_of s
       shards = (made-after s c (record { shards = shards_of s; limit = s.managed.limit; watermark = s.managed.watermark; age = s.age; wait = s.wait }) (record { shards = refl; limit = refl; watermark = refl })).shards
 
-      kept : (n : ℕ) → n ≡ shards_of s → Keeps (shards_of s) (length (c ∷ h)) (after s c).bodies (after s c).managed (changes_of start (c ∷ h)) → Keeps n (length (c ∷ h)) (after s c).bodies (after s c).managed (changes_of start (c ∷ h))
-      kept n e l = subst (λ (x : ℕ). Keeps x (length (c ∷ h)) (after s c).bodies (after s c).managed (changes_of start (c ∷ h))) (sym e) l
+      kept : (n : ℕ) → n ≡ shards_of s → Keeps (shards_of s) (writes_begun start (c ∷ h)) (after s c).bodies (after s c).managed (changes_of start (c ∷ h)) → Keeps n (writes_begun start (c ∷ h)) (after s c).bodies (after s c).managed (changes_of start (c ∷ h))
+      kept n e l = subst (λ (x : ℕ). Keeps x (writes_begun start (c ∷ h)) (after s c).bodies (after s c).managed (changes_of start (c ∷ h))) (sym e) l
 
       by_outcome : (o : Outcome) → AllowsBy (refusal s c.event.action) s c.event.moment c.event.action (read_by c) o → (id : ℕ) → RequestFits id (get (after s (record c { outcome = o })).requests id) (record c { outcome = o } ∷ h)
       by_outcome (Ok a) p = answer_fits s c.event.moment (c.reading, c.began) (read_by c) c.event.action a h fits

@@ -79,6 +79,10 @@ has_stored (Ok (Finished length evicted)) = true
 has_stored (Ok _) = false
 has_stored (Err fault) = (done_of fault).stored
 
+-- a body that a call's response gave, and that was stored, was written by a write that began in the call
+abbrev pub CountsItsWrite : Call → Type 0
+CountsItsWrite c = (b : FinishedBody) → stored_in (read_by c) ≡ Some b → has_stored c.outcome ≡ true → c.began ≡ true
+
 -- how many writes began, after a call
 abbrev pub writes_after : ℕ → Bool → ℕ
 writes_after n false = n

@@ -20,8 +20,8 @@ use Rattle.tier_model.specs.declared.event.Answer.TheVariants as answer
 use Rattle.tier_model.specs.declared.event.TierFault.TheVariants as fault
 use Rattle.tier_model.specs.Keys.{Entry, stored_key_of}
 use Rattle.tier_model.specs.Response.{IsRead}
-use Rattle.tier_model.specs.Calls.{History, Outcome, extended, nothing_done, done_of, read_by, opened_for, bytes_read}
-use Rattle.tier_model.specs.Histories.{Kept, Opening, stores, changes_of, HasHit}
+use Rattle.tier_model.specs.Calls.{History, Outcome, CountsItsWrite, extended, nothing_done, done_of, read_by, opened_for, bytes_read}
+use Rattle.tier_model.specs.Histories.{Kept, Opening, writes_begun, stores, changes_of, HasHit}
 use Rattle.tier_model.specs.State.{Settings}
 
 -- a look-up at t is answered found exactly where a write of its key is alive; then it shows one, fresh exactly up to its
@@ -72,7 +72,7 @@ PutsRight settings n w (Err f) before = WasStored settings (done_of f).stored (d
 
 -- what the calls before say of one call, and of a put what its response gave; any other call that is refused had done nothing
 abbrev pub IsRight : Opening → MomentValue → Action → Option Whole → Outcome → History → Type 0
-IsRight start t (Put key pieces) w outcome h = PutsRight start.settings (length h) w outcome (changes_of start h)
+IsRight start t (Put key pieces) w outcome h = PutsRight start.settings (writes_begun start h) w outcome (changes_of start h)
 IsRight start t (Open id key) w (Err f) h = (done_of f ≡ nothing_done) × ((f ≡ fault.IdInUse) ↔ (opened_for id h ≢ None))
 IsRight start t action w (Err f) h = done_of f ≡ nothing_done
 IsRight start t (Open id key) w (Ok answer) h = (answer ≡ Opened) × (opened_for id h ≡ None)
@@ -88,10 +88,12 @@ abbrev pub Headline : Opening → History → Type 0
 Headline start [] = Unit {0}
 Headline start (c ∷ h) = IsRight start c.event.moment c.event.action (read_by c) c.outcome h × Headline start h
 
--- the headline of a tier that began so: what was read of each put is a reading of its own bytes, the answers are right, finished
--- bodies keep both limits, each body's entry is tracked with at least its length, and what went to make room went lawfully
+-- the headline of a tier that began so: what was read of each put is a reading of its own bytes, each body that was stored has a write
+-- of its own, the answers are right, finished bodies keep both limits, each body's entry is tracked with at least its length, and what
+-- went to make room went lawfully
 pub record HoldsHeadline (start : Opening) (h : History) : Type 0 where
   pub readings : AllByRecursion (λ c. IsRead c.event.action c.reading) h
+  pub numbers : AllByRecursion CountsItsWrite h
   pub answers : Headline start h
   pub within : AreWithin start.settings.limit start.settings.watermark (changes_of start h)
   pub tracked : (w : Write Kept) → IsBody w.key w (changes_of start h) → IsTrackedBody w (changes_of start h)

@@ -13,7 +13,7 @@ use Rattle.tier_model.specs.declared.event.Action.TheVariants.{LookUp, Purge, Pu
 use Rattle.tier_model.specs.declared.event.Answer.TheVariants.{Found, Purged, Finished}
 use Rattle.tier_model.specs.declared.event.Done.{Done}
 use Rattle.tier_model.specs.Keys.{Entry, entry_of, alone}
-use Rattle.tier_model.specs.Calls.{Call, History, Outcome, extended, done_of, read_by, stored_in, opened_for, hits, ends_reader}
+use Rattle.tier_model.specs.Calls.{Call, History, Outcome, extended, done_of, read_by, stored_in, writes_after, opened_for, hits, ends_reader}
 use Rattle.tier_model.specs.Rows.{weight_for}
 use Rattle.tier_model.specs.State.{Settings}
 
@@ -22,19 +22,26 @@ pub record Kept : Type 0 where
   pub entry : CacheEntryKey
   pub fresh_until : MomentValue
 
--- how a tier began: what it was made with, and the order of use that it loaded. No body was stored
+-- how a tier began: what it was made with, the number of its first write, which is how many began before, and the order of use that
+-- it loaded. No body was stored
 pub record Opening : Type 0 where
   pub settings : Settings
+  pub first : ℕ
   pub loaded : List Tracked
 
--- nothing was loaded
+-- nothing was loaded, and no write began
 abbrev pub empty_opening : Settings → Opening
-empty_opening settings = record { settings = settings; loaded = [] }
+empty_opening settings = record { settings = settings; first = 0; loaded = [] }
+
+-- how many writes began: the number of the next
+abbrev pub writes_begun : Opening → History → ℕ
+writes_begun start [] = start.first
+writes_begun start (c ∷ h) = writes_after (writes_begun start h) c.began
 
 abbrev pub kept_of : FinishedBody → Kept
 kept_of b = record { entry = alone b.entry; fresh_until = b.fresh_until }
 
--- the write of a body by the call that came after n others
+-- the write of a body before which n others began
 abbrev pub write_of : ℕ → FinishedBody → Write Kept
 write_of n b = record { number = n; key = stored_key b.entry; meta = kept_of b }
 
@@ -70,20 +77,20 @@ abbrev pub look_changes : Option Entry → Changes Kept → List (Change Kept)
 look_changes None before = []
 look_changes (Some e) before = hit_changes e (body_now (stored_key e) before) before
 
-abbrev pub changes_in : Action → Outcome → Option FinishedBody → History → Changes Kept → List (Change Kept)
-changes_in (LookUp id) (Ok (Found fresh true)) body h before = look_changes (opened_for id h) before
-changes_in (Purge key) (Ok (Purged true)) body h before = clears (entry_of key)
-changes_in (Put key pieces) outcome body h before = put_changes (length h) body outcome
-changes_in _ _ body h before = []
+abbrev pub changes_in : ℕ → Action → Outcome → Option FinishedBody → History → Changes Kept → List (Change Kept)
+changes_in n (LookUp id) (Ok (Found fresh true)) body h before = look_changes (opened_for id h) before
+changes_in n (Purge key) (Ok (Purged true)) body h before = clears (entry_of key)
+changes_in n (Put key pieces) outcome body h before = put_changes n body outcome
+changes_in n _ _ body h before = []
 
 -- what a call changes, in the order in which it happens; h are the calls before it, and `before` what those changed
-abbrev pub changes_by : Call → History → Changes Kept → List (Change Kept)
-changes_by c h before = changes_in c.event.action c.outcome (stored_in (read_by c)) h before
+abbrev pub changes_by : Opening → Call → History → Changes Kept → List (Change Kept)
+changes_by start c h before = changes_in (writes_begun start h) c.event.action c.outcome (stored_in (read_by c)) h before
 
 -- what a history changed, the latest change first. What was loaded was admitted before any call
 abbrev pub changes_of : Opening → History → Changes Kept
 changes_of start [] = admissions start.loaded
-changes_of start (c ∷ h) = extended (changes_of start h) (changes_by c h (changes_of start h))
+changes_of start (c ∷ h) = extended (changes_of start h) (changes_by start c h (changes_of start h))
 
 -- the request's last look-up found all of w; since are the calls after it
 pub record HasHit (start : Opening) (id : ℕ) (w : Write Kept) (since h : History) : Type 0 where

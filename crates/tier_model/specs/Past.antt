@@ -11,10 +11,10 @@ use Rattle.cache_evict.specs.Managed.{Managed, fresh}
 use Rattle.cache_words.specs.Time.{MomentValue}
 use Rattle.tier_model.specs.declared.state.Body.{Body}
 use Rattle.tier_model.specs.Calls.{Call, History, extended}
-use Rattle.tier_model.specs.Histories.{Kept, Opening, changes_of}
+use Rattle.tier_model.specs.Histories.{Kept, Opening, writes_begun, changes_of}
 use Rattle.tier_model.specs.Headline.{HoldsHeadline}
 use Rattle.tier_model.specs.Requests.{AreRequests}
-use Rattle.tier_model.specs.Reports.{AreAllBodies, shown, found_answers, absent_answers, evictions, writes_begun}
+use Rattle.tier_model.specs.Reports.{AreAllBodies, shown, found_answers, absent_answers, evictions}
 use Rattle.tier_model.specs.State.{State, empty_state}
 use Rattle.tier_model.specs.Step.{Allows, after}
 
@@ -28,7 +28,7 @@ loaded_of start = record (fresh start.settings.shards start.settings.limit start
 
 -- the state of a tier after a history
 abbrev pub state_of : Opening → History → State
-state_of start [] = record (empty_state start.settings) { managed = loaded_of start }
+state_of start [] = record (empty_state start.settings) { managed = loaded_of start; writes = start.first }
 state_of start (c ∷ h) = after (state_of start h) c
 
 -- each outcome is one that the state before it allows; there is a shard, and no entry was loaded twice
@@ -69,7 +69,7 @@ pub record MatchesHistory (s : State) (start : Opening) (h : History) : Type 0 w
   pub found : s.found ≡ shown (found_answers h)
   pub absent : s.absent ≡ shown (absent_answers h)
   pub evicted : s.managed.evicted_items ≡ shown (evictions h)
-  pub writes : s.writes ≡ writes_begun h
+  pub writes : s.writes ≡ writes_begun start h
 
 -- the state may come after that history; the headline holds of it, and the state is what it says
 pub record HasPast (start : Opening) (s : State) (h : History) : Type 0 where

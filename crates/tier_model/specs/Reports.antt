@@ -12,7 +12,7 @@ use Rattle.cache_changes.specs.Uses.{IsOrderOfUse}
 use Rattle.cache_changes.specs.Bound.{HasDistinctKeys}
 use Rattle.tier_model.specs.declared.event.Answer.TheVariants.{Found, Absent}
 use Rattle.tier_model.specs.declared.report.Report.{Report}
-use Rattle.tier_model.specs.Calls.{History, Outcome, evicted_by, writes_after}
+use Rattle.tier_model.specs.Calls.{History, Outcome, evicted_by}
 use Rattle.tier_model.specs.Histories.{Kept, Opening, changes_of}
 use Rattle.tier_model.specs.State.{State}
 use Rattle.tier_model.specs.Step.{counted}
@@ -51,11 +51,6 @@ absent_answers (c ∷ h) = if is_absent c.outcome then absent_answers h + 1 else
 abbrev pub evictions : History → ℕ
 evictions [] = 0
 evictions (c ∷ h) = evictions h + length (evicted_by c.outcome)
-
--- how many writes began
-abbrev pub writes_begun : History → ℕ
-writes_begun [] = 0
-writes_begun (c ∷ h) = writes_after (writes_begun h) c.began
 
 -- a count as 64 bits show it
 abbrev pub shown : ℕ → ℕ
