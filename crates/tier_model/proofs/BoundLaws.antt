@@ -14,12 +14,11 @@ use Rattle.cache_entries.specs.declared.entry.CacheEntryKey.{CacheEntryKey}
 use Rattle.cache_changes.specs.Uses.{rows_of}
 use Rattle.cache_changes.proofs.UseLaws.{IsOrderOfUse-rows_of}
 use Rattle.cache_evict.specs.Managed.{Managed, is_over, put_first, use_first, taken_out}
-use Rattle.tier_model.specs.declared.state.FinishedBody.{FinishedBody}
 use Rattle.tier_model.specs.Keys.{Entry, alone}
 use Rattle.tier_model.specs.Calls.{extended}
 use Rattle.tier_model.specs.Evictions.{gone, all_gone, GoInTurn}
 use Rattle.tier_model.specs.Histories.{Kept, write_of, goes, stores, clears}
-use Rattle.tier_model.specs.Rows.{Bodies, with_body, without_body, without_bodies, weight_for}
+use Rattle.tier_model.specs.Rows.{Bodies, FinishedBody, with_body, without_body, without_bodies, weight_for}
 use Rattle.tier_model.proofs.RowSteps.{over-rows}
 use Rattle.tier_model.proofs.ChangeLaws.{Leaves, leaves-later, leaves-used, leaves-cleared, leaves-gone, leaves-stored, leaves-back}
 
@@ -90,7 +89,7 @@ module _ (N n : ℕ) (bodies : Bodies) (m : Managed) (changes : Changes Kept) (l
       }
 
   abbrev admitted : FinishedBody → Managed
-  admitted b = put_first N (alone b.entry) (weight_for b.bytes) m
+  admitted b = put_first N (alone b.entry) (weight_for b.body) m
 
   -- a body that is stored, and those that went to make room for it
   pub leaves-room : (b : FinishedBody) (over : Bool) (es : List CacheEntryKey) → GoInTurn N over es (admitted b)
@@ -121,7 +120,7 @@ module _ (N n : ℕ) (bodies : Bodies) (m : Managed) (changes : Changes Kept) (l
           let there : body_now k changes ≡ Some w = ap (λ v. body_chosen false (cond v (Some (write_of n b)) None) (body_now k changes)) (sym t) ∙ stored.0 in
           let body = body_now-is k changes w l.leaves.orderly there in
           let other : (n == w.number) ≡ false = above_apart w.number n (began_below n w changes l.leaves.below (alive_began w changes body.alive)) in
-          (there, stored.1 ∙ ap (λ v. cond v (bytes_of w.number changes ++ b.bytes) (bytes_of w.number changes)) other)
+          (there, stored.1 ∙ ap (λ v. cond v (bytes_of w.number changes ++ b.body.bytes) (bytes_of w.number changes)) other)
 
   pub keeps-back : (b : FinishedBody) (over : Bool) (es : List CacheEntryKey) → GoInTurn N over es (admitted b)
       → Keeps N (n + 1) (without_body (stored_key b.entry) (without_bodies es bodies)) (taken_out N (alone b.entry) (all_gone N es (admitted b))) (extended (extended changes (stores n b es)) (clears b.entry))

@@ -1,6 +1,6 @@
 -- Lawful histories hold the headline, and runs carry it on.
 use Rattle.std.proofs.Common.{◌≡◌, ℕ, ◌<◌, refl, ap, sym, ◌∙◌, true, false, subst, [], ◌∷◌, arith}
-use Rattle.std.specs.Prelude.{◌≤◌, Bool, List, Option, Some, None, IfSome, replicate, option_map}
+use Rattle.std.specs.Prelude.{◌≤◌, Bool, List, Option, Some, None, IfSome, replicate}
 use Rattle.std.proofs.lemmas.List.{ext_get_or}
 use Rattle.std.specs.List.{AllByRecursion}
 use Rattle.std.specs.FinMap.{get, get-empty, empty, entries, len-entries}
@@ -19,19 +19,15 @@ use Rattle.cache_changes.proofs.UseLaws.{rows_of-admissions}
 use Rattle.cache_evict.specs.Managed.{Managed, fresh}
 use Rattle.tier_model.specs.declared.state.Body.{Body}
 use Rattle.tier_model.specs.declared.state.Request.{Request}
-use Rattle.tier_model.specs.declared.state.FinishedBody.{FinishedBody}
-use Rattle.tier_model.specs.declared.whole.Whole.{Whole}
-use Rattle.tier_model.specs.declared.whole.Whole.TheVariants.{Stored}
-use Rattle.tier_model.specs.declared.whole.Whole.TheVariants as whole
-use Rattle.tier_model.specs.Calls.{Call, History, Outcome, CountsItsWrite, read_by, stored_in, has_stored, writes_after}
+use Rattle.tier_model.specs.Calls.{Call, History, Outcome, CountsItsWrite, finished_by, has_stored, writes_after}
 use Rattle.tier_model.specs.Response.{IsRead}
-use Rattle.tier_model.specs.Histories.{Kept, Opening, empty_opening, writes_begun, changes_of}
+use Rattle.tier_model.specs.Histories.{Kept, Opening, empty_opening, told_of, writes_begun, changes_of}
 use Rattle.tier_model.specs.Headline.{Headline, HoldsHeadline}
-use Rattle.tier_model.specs.Rows.{body_of}
+use Rattle.tier_model.specs.Rows.{FinishedBody, body_of}
 use Rattle.tier_model.specs.Reports.{IsReport, report_of}
 use Rattle.tier_model.specs.State.{Settings, State, shards_of, empty_state}
 use Rattle.tier_model.specs.Step.{Allows, Begins, after}
-use Rattle.tier_model.specs.Past.{in_shards, held_of, told_of, loaded_of, state_of, IsLawful, MatchesHistory, HasPast, AreTaken, CarriesHeadline}
+use Rattle.tier_model.specs.Past.{in_shards, loaded_of, state_of, IsLawful, MatchesHistory, HasPast, AreTaken, CarriesHeadline}
 use Rattle.tier_model.proofs.RowSteps.{IsMade, in_shards-are}
 use Rattle.tier_model.proofs.ChangeLaws.{Leaves, leaves-later, unbound, is_held, shows}
 use Rattle.tier_model.proofs.StepLaws.{made-after}
@@ -67,7 +63,7 @@ in_shards_of N m rows = record m { shards = in_shards N rows }
 
 loaded : (N : ℕ) (m : Managed) (rows : List Tracked) → 0 < N → AreDistinct rows → Leaves N 0 empty (in_shards_of N m rows) (admissions rows)
 loaded N m [] pos d =
-    record { orderly = tt; below = tt; landed = refl; bodies = λ k. ap (option_map held_of) (get-empty (slice_cmp nat_cmp) k); some = pos; rows = in_shards-are N []; lawful = tt; tracks = tt; settled = refl }
+    record { orderly = tt; below = tt; landed = refl; bodies = λ k. get-empty (slice_cmp nat_cmp) k; some = pos; rows = in_shards-are N []; lawful = tt; tracks = tt; settled = refl }
 loaded N m (r ∷ rows) pos d =
     let l : Leaves N 0 empty (in_shards_of N m rows) (admissions rows) = loaded N m rows pos d.1 in
     record {
@@ -134,18 +130,14 @@ readings-lawful start [] l = tt
 readings-lawful start (c ∷ h) l = (l.0.0, readings-lawful start h l.1)
 
 -- a write began in each call that stored a body
-counted : (s : State) (w : Option Whole) (o : Outcome) (began : Bool) → Begins s w o began → (b : FinishedBody) → stored_in w ≡ Some b → has_stored o ≡ true → began ≡ true
-counted s (Some (Stored b)) o true x body e stored = refl
-counted s (Some (Stored b)) o false x body e stored = cc
-counted s (Some whole.Incomplete) o began x body e stored = absurd cc
-counted s (Some whole.BadHead) o began x body e stored = absurd cc
-counted s (Some whole.BeforeEpoch) o began x body e stored = absurd cc
-counted s (Some (whole.Uncacheable reason)) o began x body e stored = absurd cc
-counted s None o began x body e stored = absurd cc
+counted : (s : State) (finished : Option FinishedBody) (o : Outcome) (began : Bool) → Begins s finished o began → (b : FinishedBody) → finished ≡ Some b → has_stored o ≡ true → began ≡ true
+counted s (Some x) o true begins b e stored = refl
+counted s (Some x) o false begins b e stored = cc
+counted s None o began begins b e stored = absurd cc
 
 numbers-lawful : (start : Opening) (h : History) → IsLawful start h → AllByRecursion CountsItsWrite h
 numbers-lawful start [] l = tt
-numbers-lawful start (c ∷ h) l = (counted (state_of start h) (read_by c) c.outcome c.began l.0.2, numbers-lawful start h l.1)
+numbers-lawful start (c ∷ h) l = (counted (state_of start h) (finished_by c) c.outcome c.began l.0.2, numbers-lawful start h l.1)
 
 -- lawful histories hold the headline
 pub HoldsHeadline-lawful : (start : Opening) (h : History) → IsLawful start h → HoldsHeadline start h
@@ -236,9 +228,9 @@ IsReport-matches s start h m =
 stands-past : (start : Opening) (s : State) (h : History) → HasPast start s h → Stands start s h
 stands-past start s h p = subst (λ (x : State). Stands start x h) (sym p.state) (Stands-lawful start h p.lawful)
 
--- each body of a past is held, with its bytes and its moment
+-- each body of a past is held, with its bytes and its meta
 pub held-past : (start : Opening) (s : State) (h : History) → HasPast start s h → (k : StoredKey) (w : Write Kept) → IsBody k w (changes_of start h)
-    → (b : Body) × (body_of k s.bodies ≡ Some b) × (held_of b ≡ told_of (changes_of start h) w)
+    → (b : Body) × (body_of k s.bodies ≡ Some b) × (b ≡ told_of (changes_of start h) w)
 held-past start s h p k w i = is_held (shards_of s) (writes_begun start h) s.bodies s.managed (changes_of start h) (stands-past start s h p).fits.holds.leaves k w i
 
 -- and what is held is one

@@ -5,13 +5,11 @@ use Rattle.std.specs.FinMap.{entries}
 use Rattle.cache_entries.specs.declared.rows.Tracked.{Tracked}
 use Rattle.cache_entries.specs.Rows.{AreDistinct}
 use Rattle.cache_changes.specs.Changes.{StoredKey, Write, Changes}
-use Rattle.cache_changes.specs.Writes.{bytes_of, meta_of}
 use Rattle.cache_changes.specs.Uses.{IsOrderOfUse, in_shard, AreShardsOf}
 use Rattle.cache_evict.specs.Managed.{Managed, fresh}
-use Rattle.cache_words.specs.Time.{MomentValue}
 use Rattle.tier_model.specs.declared.state.Body.{Body}
 use Rattle.tier_model.specs.Calls.{Call, History, extended}
-use Rattle.tier_model.specs.Histories.{Kept, Opening, writes_begun, changes_of}
+use Rattle.tier_model.specs.Histories.{Kept, Opening, told_of, writes_begun, changes_of}
 use Rattle.tier_model.specs.Headline.{HoldsHeadline}
 use Rattle.tier_model.specs.Requests.{AreRequests}
 use Rattle.tier_model.specs.Reports.{AreAllBodies, shown, found_answers, absent_answers, evictions}
@@ -36,25 +34,15 @@ abbrev pub IsLawful : Opening → History → Type 0
 IsLawful start [] = (0 < start.settings.shards) × AreDistinct start.loaded
 IsLawful start (c ∷ h) = Allows (state_of start h) c × IsLawful start h
 
--- what a look-up finds of a body, and what changes say of a write: the last moment at which it is fresh, and the bytes
-abbrev pub held_of : Body → MomentValue × List ℕ
-held_of b = (b.fresh_until, b.bytes)
-
-abbrev pub told_of : Changes Kept → Write Kept → MomentValue × List ℕ
-told_of changes w = ((meta_of w changes).fresh_until, bytes_of w.number changes)
-
--- the same of a body that is held under a key, and of a write with its key
-abbrev pub held_at : StoredKey × Body → StoredKey × (MomentValue × List ℕ)
-held_at e = (e.0, held_of e.1)
-
-abbrev pub told_at : Changes Kept → Write Kept → StoredKey × (MomentValue × List ℕ)
+-- the body that changes say of a write, with its key
+abbrev pub told_at : Changes Kept → Write Kept → StoredKey × Body
 told_at changes w = (w.key, told_of changes w)
 
--- the state's bodies are all that the history has, one a key, each under its key with its bytes and its moment
+-- the state's bodies are all that the history has, one a key, each under its key with its bytes and its meta
 abbrev pub HoldsBodies : State → Opening → History → Type 0
 HoldsBodies s start h =
     (writes : List (Write Kept)) × AreAllBodies writes (changes_of start h)
-    × (map held_at (entries s.bodies) ≡ map (told_at (changes_of start h)) writes)
+    × (entries s.bodies ≡ map (told_at (changes_of start h)) writes)
 
 -- the shards hold the entries that a history leaves tracked, in the order of use, with what each weighs
 abbrev pub HoldsOrder : Managed → Opening → History → Type 0

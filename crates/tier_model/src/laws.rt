@@ -7,7 +7,6 @@ ghost use Rattle.cache_changes.specs.Writes.{IsOrderly};
 ghost use Rattle.std.specs.Prelude.{◌≡◌, ◌≢◌, ℕ, List};
 ghost use Rattle.tier_model.specs.declared.whole.Whole.TheVariants.{BadHead};
 ghost use Rattle.cache_words.specs.Time.{MomentValue};
-ghost use Rattle.tier_model.specs.Keys.{Entry};
 ghost use Rattle.response_parse.specs.Response.{IsWellFormed, Reading, IsReading};
 ghost use Rattle.tier_model.specs.Response.{whole_of};
 ghost use Rattle.tier_model.specs.State.{State};
@@ -38,5 +37,5 @@ pub fn reports_tell_the_history()
 
 /// A response whose head the parser's default options read or begin to read, within bounds, is never a bad head.
 pub fn well_formed_responses_are_read()
-    ensures { (arrival : MomentValue) (entry : Entry) (bytes : List ℕ) (r : Reading) → IsWellFormed bytes → IsReading bytes r → whole_of arrival entry r ≢ BadHead }
+    ensures { (arrival : MomentValue) (bytes : List ℕ) (r : Reading) → IsWellFormed bytes → IsReading bytes r → whole_of arrival r ≢ BadHead }
 {}
