@@ -18,11 +18,12 @@ use Rattle.tier_model.specs.Calls.{Call, Outcome, AreCallsOf, finished_in, finis
 use Rattle.tier_model.specs.Response.{IsRead, whole_of, whole_in, joined}
 use Rattle.tier_model.specs.State.{State}
 use Rattle.tier_model.specs.Rows.{FinishedBody, body_of}
-use Rattle.tier_model.specs.Step.{AllowsBy, Allows, Begins, IsFault, refusal, undone, on_request, body_for, after_look_up, after_read, after_purge, after_outcome, after}
+use Rattle.tier_model.specs.Step.{AllowsBy, Allows, BeginsWrite, IsFault, refusal, undone, on_request, body_for, after_look_up, after_read, after_purge, after_outcome, after}
 use Rattle.tier_model.specs.Past.{AreTaken, CarriesHeadline}
 use Rattle.tier_model.proofs.Carried.{CarriesHeadline-taken}
 use Rattle.rand_core.specs.Stream.{Stream}
-use Rattle.cache_tier.specs.Draws.{AreDrawn, AreAllDrawn, Takes}
+use Rattle.cache_tier.specs.Draws.{AreDrawn, AreAllDrawn}
+use Rattle.cache_tier.specs.Takes.{Takes}
 use Rattle.cache_tier.specs.Acts.{AllowsUnrefused, after_action, counting, TakesBy, StepsBy}
 use Rattle.cache_tier.proofs.StoreLaws.{StoresBy}
 
@@ -32,7 +33,7 @@ Gives arrival bytes whole = (r : Reading) × IsReading bytes r × (whole ≡ who
 
 -- a put was taken, by what its response gave
 Takes-given : (old : State) (s : Stream) (t : MomentValue) (key : CacheKeyValue) (pieces : List (List ℕ)) (g : Whole) (o : Outcome) (new : State) (rest : Stream) (began : Bool)
-    → Gives t (joined pieces) g → AllowsBy None old t (Put key pieces) (Some g) o → Begins old (finished_in (Put key pieces) (Some g)) o began → new ≡ counting began old (after_outcome old t (Put key pieces) (Some g) o)
+    → Gives t (joined pieces) g → AllowsBy None old t (Put key pieces) (Some g) o → BeginsWrite old (finished_in (Put key pieces) (Some g)) o began → new ≡ counting began old (after_outcome old t (Put key pieces) (Some g) o)
     → AreDrawn old (finished_in (Put key pieces) (Some g)) o s rest → TakesBy old s t (Put key pieces) o new rest
 Takes-given old s t key pieces g o new rest began gives allowed begins is drawn =
     let same : Some g ≡ Some (whole_of t gives.0) = ap (λ (x : Whole). Some x) gives.2 in (
@@ -40,14 +41,14 @@ Takes-given old s t key pieces g o new rest began gives allowed begins is drawn 
       began,
       gives.1,
       subst (λ (x : Option Whole). AllowsBy None old t (Put key pieces) x o) same allowed,
-      subst (λ (x : Option Whole). Begins old (finished_in (Put key pieces) x) o began) same begins,
+      subst (λ (x : Option Whole). BeginsWrite old (finished_in (Put key pieces) x) o began) same begins,
       is ∙ ap (λ (x : Option Whole). counting began old (after_outcome old t (Put key pieces) x o)) same,
       subst (λ (x : Option Whole). AreDrawn old (finished_in (Put key pieces) x) o s rest) same drawn,
     )
 
 -- no write began
 pub Takes-put : (old : State) (s : Stream) (t : MomentValue) (key : CacheKeyValue) (pieces : List (List ℕ)) (g : Whole) (o : Outcome)
-    → Gives t (joined pieces) g → AllowsBy None old t (Put key pieces) (Some g) o → Begins old (finished_in (Put key pieces) (Some g)) o false → after_outcome old t (Put key pieces) (Some g) o ≡ old
+    → Gives t (joined pieces) g → AllowsBy None old t (Put key pieces) (Some g) o → BeginsWrite old (finished_in (Put key pieces) (Some g)) o false → after_outcome old t (Put key pieces) (Some g) o ≡ old
     → AreDrawn old (finished_in (Put key pieces) (Some g)) o s s → TakesBy old s t (Put key pieces) o old s
 Takes-put old s t key pieces g o gives allowed begins is drawn =
     Takes-given old s t key pieces g o old s false gives allowed begins (sym (ap (counting false old) is)) drawn
@@ -71,8 +72,8 @@ finished-none t (Drop id) = refl
 finished-none t (Purge key) = refl
 finished-none t (Put key pieces) = refl
 
-begins-none : (s : State) (t : MomentValue) (action : Action) (o : Outcome) → Begins s (finished_in action (whole_in t action None)) o false
-begins-none s t action o = subst (λ (b : Option FinishedBody). Begins s b o false) (sym (finished-none t action)) refl
+begins-none : (s : State) (t : MomentValue) (action : Action) (o : Outcome) → BeginsWrite s (finished_in action (whole_in t action None)) o false
+begins-none s t action o = subst (λ (b : Option FinishedBody). BeginsWrite s b o false) (sym (finished-none t action)) refl
 
 undone_writes : (s : State) (action : Action) (f : TierFault) → (undone s (finished_in action None) (done_of f)).writes ≡ s.writes
 undone_writes s (Open id key) f = refl

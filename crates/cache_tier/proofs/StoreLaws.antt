@@ -24,7 +24,7 @@ use Rattle.tier_model.specs.Calls.{Outcome, nothing_done, done_of, evicted_befor
 use Rattle.tier_model.specs.Evictions.{all_gone, GoInTurn}
 use Rattle.tier_model.specs.Rows.{Bodies, FinishedBody, body_of, with_body, without_body, without_bodies, weight_for}
 use Rattle.tier_model.specs.State.{State, shards_of}
-use Rattle.tier_model.specs.Step.{Begins, Fits, HasNoNumber, IsPutAnswer, until, admitted, after_put, IsKeptOut, IsStoreFault, taken_back, stored_alone, all_done}
+use Rattle.tier_model.specs.Step.{BeginsWrite, Fits, HasNoNumber, IsPutAnswer, until, admitted, after_put, IsKeptOut, IsStoreFault, taken_back, stored_alone, all_done}
 use Rattle.tier_model.proofs.BodyLaws.{has_key, body_of-with, body_of-without, body_of-without_all}
 use Rattle.tier_model.proofs.StepLaws.{kept_out-done}
 use Rattle.cache_tier.specs.Acts.{counting}
@@ -49,7 +49,7 @@ DrawsFor old b outcome s rest = (left : Managed) × Evicts (pick_by_draws (shard
 pub record StoresBy (old : State) (s : Stream) (b : FinishedBody) (outcome : Outcome) (new : State) (rest : Stream) : Type 0 where
   pub allowed : MatchResult outcome (IsPutAnswer old (Some b) (Some (Stored b.body))) (IsRefusal old b)
   pub began : Bool
-  pub begins : Begins old (Some b) outcome began
+  pub begins : BeginsWrite old (Some b) outcome began
   pub after : new ≡ counting began old (after_store old b outcome)
   pub drawn : DrawsFor old b outcome s rest
 
@@ -251,6 +251,6 @@ stores-nothing s b st f new rest began none refusal number after same = record {
     nobody : evicted_by (Err f) ≡ []
     nobody = ap evicted_before none
 
-    begins : (v : Bool) → CanBegin s.writes v → Begins s (Some b) (Err f) v
+    begins : (v : Bool) → CanBegin s.writes v → BeginsWrite s (Some b) (Err f) v
     begins true number = number
     begins false number = stored

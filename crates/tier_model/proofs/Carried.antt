@@ -22,11 +22,11 @@ use Rattle.tier_model.specs.declared.state.Request.{Request}
 use Rattle.tier_model.specs.Calls.{Call, History, Outcome, CountsItsWrite, finished_by, has_stored, writes_after}
 use Rattle.tier_model.specs.Response.{IsRead}
 use Rattle.tier_model.specs.Histories.{Kept, Opening, empty_opening, told_of, writes_begun, changes_of}
-use Rattle.tier_model.specs.Headline.{Headline, HoldsHeadline}
+use Rattle.tier_model.specs.Headline.{AreRight, Headline}
 use Rattle.tier_model.specs.Rows.{FinishedBody, body_of}
 use Rattle.tier_model.specs.Reports.{IsReport, report_of}
 use Rattle.tier_model.specs.State.{Settings, State, shards_of, empty_state}
-use Rattle.tier_model.specs.Step.{Allows, Begins, after}
+use Rattle.tier_model.specs.Step.{Allows, BeginsWrite, after}
 use Rattle.tier_model.specs.Past.{in_shards, loaded_of, state_of, IsLawful, MatchesHistory, HasPast, AreTaken, CarriesHeadline}
 use Rattle.tier_model.proofs.RowSteps.{IsMade, in_shards-are}
 use Rattle.tier_model.proofs.ChangeLaws.{Leaves, leaves-later, unbound, is_held, shows}
@@ -119,18 +119,18 @@ IsOrderly-lawful start h l = (Stands-lawful start h l).fits.holds.leaves.orderly
 pub TracksBodies-lawful : (start : Opening) (h : History) → IsLawful start h → TracksBodies (changes_of start h)
 TracksBodies-lawful start h l = (Stands-lawful start h l).fits.holds.leaves.tracks
 
-Headline-lawful : (start : Opening) (h : History) → IsLawful start h → Headline start h
-Headline-lawful start [] l = tt
-Headline-lawful start (c ∷ h) l =
+AreRight-lawful : (start : Opening) (h : History) → IsLawful start h → AreRight start h
+AreRight-lawful start [] l = tt
+AreRight-lawful start (c ∷ h) l =
     let past : Stands start (state_of start h) h = Stands-lawful start h l.1 in
-    (IsRight-allowed start (state_of start h) c h past.made past.fits l.0, Headline-lawful start h l.1)
+    (IsRight-allowed start (state_of start h) c h past.made past.fits l.0, AreRight-lawful start h l.1)
 
 readings-lawful : (start : Opening) (h : History) → IsLawful start h → AllByRecursion (λ c. IsRead c.event.action c.reading) h
 readings-lawful start [] l = tt
 readings-lawful start (c ∷ h) l = (l.0.0, readings-lawful start h l.1)
 
 -- a write began in each call that stored a body
-counted : (s : State) (finished : Option FinishedBody) (o : Outcome) (began : Bool) → Begins s finished o began → (b : FinishedBody) → finished ≡ Some b → has_stored o ≡ true → began ≡ true
+counted : (s : State) (finished : Option FinishedBody) (o : Outcome) (began : Bool) → BeginsWrite s finished o began → (b : FinishedBody) → finished ≡ Some b → has_stored o ≡ true → began ≡ true
 counted s (Some x) o true begins b e stored = refl
 counted s (Some x) o false begins b e stored = cc
 counted s None o began begins b e stored = absurd cc
@@ -140,13 +140,13 @@ numbers-lawful start [] l = tt
 numbers-lawful start (c ∷ h) l = (counted (state_of start h) (finished_by c) c.outcome c.began l.0.2, numbers-lawful start h l.1)
 
 -- lawful histories hold the headline
-pub HoldsHeadline-lawful : (start : Opening) (h : History) → IsLawful start h → HoldsHeadline start h
-HoldsHeadline-lawful start h l =
+pub Headline-lawful : (start : Opening) (h : History) → IsLawful start h → Headline start h
+Headline-lawful start h l =
     let past : Stands start (state_of start h) h = Stands-lawful start h l in
     record {
       readings = readings-lawful start h l;
       numbers = numbers-lawful start h l;
-      answers = Headline-lawful start h l;
+      answers = AreRight-lawful start h l;
       within = subst (λ (x : ℕ). AreWithin x start.settings.watermark (changes_of start h)) past.made.limit
           (subst (λ (x : Option ℕ). AreWithin (state_of start h).managed.limit x (changes_of start h)) past.made.watermark past.fits.holds.within);
       tracked = bodies-tracked (changes_of start h) past.fits.holds.leaves.orderly past.fits.holds.leaves.tracks past.fits.holds.leaves.settled;
@@ -182,7 +182,7 @@ HasPast-lawful start s h l e =
     record {
       lawful = l;
       state = e;
-      headline = HoldsHeadline-lawful start h l;
+      headline = Headline-lawful start h l;
       matches = subst (λ (x : State). MatchesHistory x start h) (sym e) (MatchesHistory-lawful start (state_of start h) h past);
     }
 

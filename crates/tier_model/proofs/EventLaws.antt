@@ -30,7 +30,7 @@ use Rattle.tier_model.specs.Histories.{Kept, Opening, writes_begun, stores, clea
 use Rattle.tier_model.specs.Headline.{EndsOver}
 use Rattle.tier_model.specs.Rows.{Bodies, FinishedBody, body_of, weight_for}
 use Rattle.tier_model.specs.State.{Settings, State, shards_of}
-use Rattle.tier_model.specs.Step.{refusal, AllowsBy, Begins, Allows, IsAnswer, IsPutAnswer, IsPutFault, after, answered, undone, on_request, look_answer, after_look_up, after_read, after_purge, after_put, UseFits, admitted, body_for, stored_alone, all_done}
+use Rattle.tier_model.specs.Step.{refusal, AllowsBy, BeginsWrite, Allows, IsAnswer, IsPutAnswer, IsPutFault, after, answered, undone, on_request, look_answer, after_look_up, after_read, after_purge, after_put, UseFits, admitted, body_for, stored_alone, all_done}
 use Rattle.tier_model.proofs.StepLaws.{Inside, call_at, answer_allowed, kept_out-done}
 use Rattle.tier_model.proofs.RowSteps.{IsMade, over-rows}
 use Rattle.tier_model.proofs.ChangeLaws.{Shows, shows}
@@ -49,7 +49,7 @@ no-fewer n true = omega arith
 no-fewer n false = omega arith
 
 -- a write began of what was stored
-began-stored : (s : State) (b : FinishedBody) (o : Outcome) (v : Bool) → Begins s (Some b) o v → has_stored o ≡ true → v ≡ true
+began-stored : (s : State) (b : FinishedBody) (o : Outcome) (v : Bool) → BeginsWrite s (Some b) o v → has_stored o ≡ true → v ≡ true
 began-stored s b o true x e = refl
 began-stored s b o false x e = cc
 
@@ -77,11 +77,11 @@ module _ (s : State) (n : ℕ) (changes : Changes Kept) (l : Keeps (shards_of s)
       }
 
   -- the number of a body that was stored is used up
-  module _ (b : FinishedBody) (o : Outcome) (began : Bool) (begins : Begins s (Some b) o began) (stored : has_stored o ≡ true) where
+  module _ (b : FinishedBody) (o : Outcome) (began : Bool) (begins : BeginsWrite s (Some b) o began) (stored : has_stored o ≡ true) where
     numbered : (bodies : Bodies) (m : Managed) (now : Changes Kept) → HoldsNext s n true bodies m now → HoldsNext s n began bodies m now
     numbered bodies m now l = subst (λ (v : Bool). HoldsNext s n v bodies m now) (sym (began-stored s b o began begins stored)) l
 
-  put_holds : (g : Option FinishedBody) (w : Option Whole) (a : Answer) (began : Bool) → IsPutAnswer s g w a → Begins s g (Ok a) began
+  put_holds : (g : Option FinishedBody) (w : Option Whole) (a : Answer) (began : Bool) → IsPutAnswer s g w a → BeginsWrite s g (Ok a) began
       → HoldsNext s n began (after_put s g a).bodies (after_put s g a).managed (extended changes (put_changes n g (Ok a)))
   put_holds (Some b) w (Finished m es) began p x =
       numbered b (Ok (Finished m es)) began x refl (after_put s (Some b) (Finished m es)).bodies (after_put s (Some b) (Finished m es)).managed (extended changes (stores n b es))
@@ -100,13 +100,13 @@ module _ (s : State) (n : ℕ) (changes : Changes Kept) (l : Keeps (shards_of s)
   alone_holds : (b : FinishedBody) (f : TierFault) (began : Bool) → done_of f ≡ stored_alone → BackHolds (Some b) f began
   alone_holds b f began d = rw d (keeps-cleared (shards_of s) (writes_after n began) s.bodies s.managed changes (idle began) b.entry)
 
-  cut_holds : (b : FinishedBody) (f : TierFault) (es : List CacheEntryKey) (began : Bool) → done_of f ≡ all_done es → GoInTurn (shards_of s) true es (admitted s b) → Begins s (Some b) (Err f) began
+  cut_holds : (b : FinishedBody) (f : TierFault) (es : List CacheEntryKey) (began : Bool) → done_of f ≡ all_done es → GoInTurn (shards_of s) true es (admitted s b) → BeginsWrite s (Some b) (Err f) began
       → BackHolds (Some b) f began
   cut_holds b f es began d h x =
       numbered b (Err f) began x (ap (λ (done : Done). done.stored) d) (undone s (Some b) (done_of f)).bodies (undone s (Some b) (done_of f)).managed (extended changes (put_changes n (Some b) (Err f)))
       (rw (d, extended-append changes (stores n b es) (clears b.entry)) (keeps-back (shards_of s) n s.bodies s.managed changes l b true es h))
 
-  put_fault_holds : (g : Option FinishedBody) (w : Option Whole) (f : TierFault) (began : Bool) → IsPutFault s g w f → Begins s g (Err f) began → BackHolds g f began
+  put_fault_holds : (g : Option FinishedBody) (w : Option Whole) (f : TierFault) (began : Bool) → IsPutFault s g w f → BeginsWrite s g (Err f) began → BackHolds g f began
   put_fault_holds (Some b) w f began p x = elim p [
     | inl spent ↦ quiet_holds (Some b) f began (ap done_of spent.0)
     | inr late ↦ elim late [
@@ -157,7 +157,7 @@ module _ (start : Opening) (s : State) (h : History) (l : Holds start s h) (open
   purged t read key true = keeps-cleared (shards_of s) (writes_after (writes_begun start h) read.1) s.bodies s.managed (changes_of start h) (still read.1) (entry_of key)
   purged t read key false = still read.1
 
-  answer_holds : (t : MomentValue) (read : Inside) (action : Action) (a : Answer) → IsAnswer s t action (whole_in t action read.0) a → Begins s (finished_in action (whole_in t action read.0)) (Ok a) read.1
+  answer_holds : (t : MomentValue) (read : Inside) (action : Action) (a : Answer) → IsAnswer s t action (whole_in t action read.0) a → BeginsWrite s (finished_in action (whole_in t action read.0)) (Ok a) read.1
       → Next (answered s t action (whole_in t action read.0) a) (call_at t action read (Ok a))
   answer_holds t read (Open i key) a p x = still read.1
   answer_holds t read (LookUp i) a p x = request_holds t read i a (get s.requests i) refl p
@@ -167,7 +167,7 @@ module _ (start : Opening) (s : State) (h : History) (l : Holds start s h) (open
       subst (λ (x : Answer). Next (answered s t (Purge key) None x) (call_at t (Purge key) read (Ok x))) (sym p) (purged t read key (is_some (body_of (stored_key_of key) s.bodies)))
   answer_holds t read (Put key pieces) a p x = put_holds s (writes_begun start h) (changes_of start h) l (finished_in (Put key pieces) (whole_in t (Put key pieces) read.0)) (whole_in t (Put key pieces) read.0) a read.1 p x
 
-  fault_holds : (t : MomentValue) (read : Inside) (action : Action) (f : TierFault) → AllowsBy (refusal s action) s t action (whole_in t action read.0) (Err f) → Begins s (finished_in action (whole_in t action read.0)) (Err f) read.1
+  fault_holds : (t : MomentValue) (read : Inside) (action : Action) (f : TierFault) → AllowsBy (refusal s action) s t action (whole_in t action read.0) (Err f) → BeginsWrite s (finished_in action (whole_in t action read.0)) (Err f) read.1
       → Next (undone s (finished_in action (whole_in t action read.0)) (done_of f)) (call_at t action read (Err f))
   fault_holds t read (Open i key) f p x = still read.1
   fault_holds t read (LookUp i) f p x = still read.1
@@ -183,6 +183,6 @@ module _ (start : Opening) (s : State) (h : History) (l : Holds start s h) (open
   pub Holds-after : (c : Call) → Allows s c → Next (after s c) c
   Holds-after c p = by_outcome c.outcome p.1 p.2
     where
-      by_outcome : (o : Outcome) → AllowsBy (refusal s c.event.action) s c.event.moment c.event.action (read_by c) o → Begins s (finished_by c) o c.began → Next (after s (record c { outcome = o })) (record c { outcome = o })
+      by_outcome : (o : Outcome) → AllowsBy (refusal s c.event.action) s c.event.moment c.event.action (read_by c) o → BeginsWrite s (finished_by c) o c.began → Next (after s (record c { outcome = o })) (record c { outcome = o })
       by_outcome (Ok a) p x = answer_holds c.event.moment (c.reading, c.began) c.event.action a (answer_allowed (refusal s c.event.action) s c.event.moment (read_by c) c.event.action a p) x
       by_outcome (Err f) p x = fault_holds c.event.moment (c.reading, c.began) c.event.action f p x

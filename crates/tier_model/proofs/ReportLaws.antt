@@ -19,7 +19,8 @@ use Rattle.tier_model.specs.declared.event.Done.{Done}
 use Rattle.tier_model.specs.declared.event.TierFault.{TierFault}
 use Rattle.tier_model.specs.Keys.{alone, stored_key_of}
 use Rattle.tier_model.specs.Calls.{Call, History, Outcome, read_by, finished_in, evicted_by, nothing_done, done_of}
-use Rattle.tier_model.specs.Reports.{found_answers, absent_answers, evictions, is_found, is_absent, shown}
+use Rattle.cache_evict.specs.Managed.{saturated}
+use Rattle.tier_model.specs.Reports.{found_answers, absent_answers, evictions, is_found, is_absent}
 use Rattle.tier_model.specs.Rows.{FinishedBody, body_of, weight_for}
 use Rattle.tier_model.specs.State.{State, shards_of}
 use Rattle.tier_model.specs.Step.{refusal, AllowsBy, Allows, IsAnswer, IsPutAnswer, after, after_outcome, answered, undone, taken_back, on_request, look_answer, after_look_up, read_answer, after_read, after_purge, after_put, UseFits, body_for, counted, admitted, until, stored_alone, IsPutFault}
@@ -28,20 +29,20 @@ use Rattle.tier_model.proofs.StepLaws.{Inside, call_at, answer_allowed, did_noth
 
 -- the counts of a state are those of its history
 pub record Tallies (s : State) (h : History) : Type 0 where
-  pub found : s.found ≡ shown (found_answers h)
-  pub absent : s.absent ≡ shown (absent_answers h)
-  pub evicted : s.managed.evicted_items ≡ shown (evictions h)
+  pub found : s.found ≡ saturated (found_answers h)
+  pub absent : s.absent ≡ saturated (absent_answers h)
+  pub evicted : s.managed.evicted_items ≡ saturated (evictions h)
 
-more_shown : (n m k : ℕ) → n ≡ shown m → counted n k ≡ shown (m + k)
+more_shown : (n m k : ℕ) → n ≡ saturated m → counted n k ≡ saturated (m + k)
 more_shown n m k e = rw e (omega arith)
 
 -- a call that counts nothing
 uncounted : (s new : State) (c : Call) (h : History) → new.found ≡ s.found → new.absent ≡ s.absent → new.managed.evicted_items ≡ s.managed.evicted_items
     → is_found c.outcome ≡ false → is_absent c.outcome ≡ false → evicted_by c.outcome ≡ [] → Tallies s h → Tallies new (c ∷ h)
 uncounted s new c h f a e nf na ne t = record {
-  found = f ∙ t.found ∙ ap (λ v. shown (cond v (found_answers h + 1) (found_answers h))) (sym nf);
-  absent = a ∙ t.absent ∙ ap (λ v. shown (cond v (absent_answers h + 1) (absent_answers h))) (sym na);
-  evicted = e ∙ t.evicted ∙ ap shown (omega (arith, ap length ne));
+  found = f ∙ t.found ∙ ap (λ v. saturated (cond v (found_answers h + 1) (found_answers h))) (sym nf);
+  absent = a ∙ t.absent ∙ ap (λ v. saturated (cond v (absent_answers h + 1) (absent_answers h))) (sym na);
+  evicted = e ∙ t.evicted ∙ ap saturated (omega (arith, ap length ne));
 }
 
 look_tally : (s : State) (t : MomentValue) (read : Inside) (i : ℕ) (q : Request) (b : Option Body) (a : Answer) (h : History) → a ≡ look_answer t b → Tallies s h
@@ -49,12 +50,12 @@ look_tally : (s : State) (t : MomentValue) (read : Inside) (i : ℕ) (q : Reques
 look_tally s t read i q None a h e tally = subst (λ (y : Answer). Tallies (after_look_up s t i q None) (call_at t (LookUp i) read (Ok y) ∷ h)) (sym e) (record {
   found = tally.found;
   absent = more_shown s.absent (absent_answers h) 1 tally.absent;
-  evicted = tally.evicted ∙ ap shown (omega arith);
+  evicted = tally.evicted ∙ ap saturated (omega arith);
 })
 look_tally s t read i q (Some b) a h e tally = subst (λ (y : Answer). Tallies (after_look_up s t i q (Some b)) (call_at t (LookUp i) read (Ok y) ∷ h)) (sym e) (record {
   found = more_shown s.found (found_answers h) 1 tally.found;
   absent = tally.absent;
-  evicted = tally.evicted ∙ ap shown (omega arith);
+  evicted = tally.evicted ∙ ap saturated (omega arith);
 })
 
 request_tally : (s : State) (t : MomentValue) (read : Inside) (i : ℕ) (a : Answer) (h : History) (o : Option Request)
@@ -137,7 +138,7 @@ back_tally s t read b action f h stored tally =
       found = tally.found;
       absent = tally.absent;
       evicted = gone-count (shards_of s) (evictions h) (done_of f).evicted (until (done_of f).admitted s b) (until_count (done_of f).admitted s b ∙ tally.evicted)
-          ∙ ap (λ (v : Bool). shown (evictions h + length (cond v (done_of f).evicted []))) (sym stored);
+          ∙ ap (λ (v : Bool). saturated (evictions h + length (cond v (done_of f).evicted []))) (sym stored);
     })
 
 put_fault_tally : (s : State) (t : MomentValue) (read : Inside) (g : Option FinishedBody) (w : Option Whole) (action : Action) (f : TierFault) (h : History) → IsPutFault s g w f → Tallies s h

@@ -84,17 +84,17 @@ IsRight start t (Drop id) w (Ok answer) h = answer ≡ Dropped
 IsRight start t (Purge key) w (Ok answer) h = PurgesRight (stored_key_of key) answer (changes_of start h)
 
 -- each call is right in the light of the calls before it
-abbrev pub Headline : Opening → History → Type 0
-Headline start [] = Unit {0}
-Headline start (c ∷ h) = IsRight start c.event.moment c.event.action (read_by c) c.outcome h × Headline start h
+abbrev pub AreRight : Opening → History → Type 0
+AreRight start [] = Unit {0}
+AreRight start (c ∷ h) = IsRight start c.event.moment c.event.action (read_by c) c.outcome h × AreRight start h
 
 -- the headline of a tier that began so: what was read of each put is a reading of its own bytes, each body that was stored has a write
 -- of its own, the answers are right, finished bodies keep both limits, each body's entry is tracked with at least its length, and what
 -- went to make room went lawfully
-pub record HoldsHeadline (start : Opening) (h : History) : Type 0 where
+pub record Headline (start : Opening) (h : History) : Type 0 where
   pub readings : AllByRecursion (λ c. IsRead c.event.action c.reading) h
   pub numbers : AllByRecursion CountsItsWrite h
-  pub answers : Headline start h
+  pub answers : AreRight start h
   pub within : AreWithin start.settings.limit start.settings.watermark (changes_of start h)
   pub tracked : (w : Write Kept) → IsBody w.key w (changes_of start h) → IsTrackedBody w (changes_of start h)
   pub evictions : EvictsLawfully start.settings.shards start.settings.limit start.settings.watermark (changes_of start h)

@@ -6,13 +6,13 @@ use Rattle.cache_entries.specs.declared.rows.Tracked.{Tracked}
 use Rattle.cache_entries.specs.Rows.{AreDistinct}
 use Rattle.cache_changes.specs.Changes.{StoredKey, Write, Changes}
 use Rattle.cache_changes.specs.Uses.{IsOrderOfUse, in_shard, AreShardsOf}
-use Rattle.cache_evict.specs.Managed.{Managed, fresh}
+use Rattle.cache_evict.specs.Managed.{Managed, fresh, saturated}
 use Rattle.tier_model.specs.declared.state.Body.{Body}
 use Rattle.tier_model.specs.Calls.{Call, History, extended}
 use Rattle.tier_model.specs.Histories.{Kept, Opening, told_of, writes_begun, changes_of}
-use Rattle.tier_model.specs.Headline.{HoldsHeadline}
+use Rattle.tier_model.specs.Headline.{Headline}
 use Rattle.tier_model.specs.Requests.{AreRequests}
-use Rattle.tier_model.specs.Reports.{AreAllBodies, shown, found_answers, absent_answers, evictions}
+use Rattle.tier_model.specs.Reports.{AreAllBodies, found_answers, absent_answers, evictions}
 use Rattle.tier_model.specs.State.{State, empty_state}
 use Rattle.tier_model.specs.Step.{Allows, after}
 
@@ -54,16 +54,16 @@ pub record MatchesHistory (s : State) (start : Opening) (h : History) : Type 0 w
   pub bodies : HoldsBodies s start h
   pub order : HoldsOrder s.managed start h
   pub requests : AreRequests start s.requests h
-  pub found : s.found ≡ shown (found_answers h)
-  pub absent : s.absent ≡ shown (absent_answers h)
-  pub evicted : s.managed.evicted_items ≡ shown (evictions h)
+  pub found : s.found ≡ saturated (found_answers h)
+  pub absent : s.absent ≡ saturated (absent_answers h)
+  pub evicted : s.managed.evicted_items ≡ saturated (evictions h)
   pub writes : s.writes ≡ writes_begun start h
 
 -- the state may come after that history; the headline holds of it, and the state is what it says
 pub record HasPast (start : Opening) (s : State) (h : History) : Type 0 where
   pub lawful : IsLawful start h
   pub state : s ≡ state_of start h
-  pub headline : HoldsHeadline start h
+  pub headline : Headline start h
   pub matches : MatchesHistory s start h
 
 -- the calls were taken in order, each one that the state before it allows, and led from the old state to the new one

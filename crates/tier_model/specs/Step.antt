@@ -1,5 +1,5 @@
 -- One event: the first refusal, the answers and faults that a state allows, and the state after them.
-use Rattle.std.specs.Prelude.{◌≡◌, ◌≢◌, ◌<◌, ℕ, ◌+◌, ◌-◌, ◌^◌, min, Bool, true, false, List, [], length, if◌then◌else◌, Option, Some, None, is_some, Ok, Err, MatchResult, MatchOption, ◌⊎◌}
+use Rattle.std.specs.Prelude.{◌≡◌, ◌≢◌, ◌<◌, ℕ, ◌+◌, ◌-◌, ◌^◌, Bool, true, false, List, [], length, if◌then◌else◌, Option, Some, None, is_some, Ok, Err, MatchResult, MatchOption, ◌⊎◌}
 use Rattle.std.specs.FinMap.{get, insert, remove}
 use Rattle.cache_words.specs.Time.{MomentValue, at_most}
 use Rattle.cache_words.specs.Key.{CacheKeyValue}
@@ -7,7 +7,7 @@ use Rattle.cache_entries.specs.declared.entry.CacheEntryKey.{CacheEntryKey}
 use Rattle.cache_entries.specs.Entry.{key_of}
 use Rattle.cache_entries.specs.Rows.{weight_of}
 use Rattle.cache_changes.specs.Changes.{stored_key}
-use Rattle.cache_evict.specs.Managed.{Managed, rows_of, put_first, use_first, taken_out, total_size, IsHeavy, IsLong, IsFull, HasNoOtherReason}
+use Rattle.cache_evict.specs.Managed.{Managed, saturated, rows_of, put_first, use_first, taken_out, total_size, IsHeavy, IsLong, IsFull, HasNoOtherReason}
 use Rattle.tier_model.specs.Keys.{Entry, entry_of, alone, stored_key_of}
 use Rattle.tier_model.specs.Evictions.{all_gone, GoInTurn}
 use Rattle.tier_model.specs.declared.state.Body.{Body}
@@ -187,20 +187,20 @@ AllowsBy (Some f) s t action w outcome = outcome ≡ Err f
 AllowsBy None s t action w outcome = MatchResult outcome (IsAnswer s t action w) (IsFault s action w)
 
 -- whether a write began: only of a body to finish, where a number is left, and always of one that was stored
-abbrev pub Begins : State → Option FinishedBody → Outcome → Bool → Type 0
-Begins s (Some b) outcome true = s.writes ≢ 2 ^ 64 - 1
-Begins s (Some b) outcome false = has_stored outcome ≡ false
-Begins s None outcome began = began ≡ false
+abbrev pub BeginsWrite : State → Option FinishedBody → Outcome → Bool → Type 0
+BeginsWrite s (Some b) outcome true = s.writes ≢ 2 ^ 64 - 1
+BeginsWrite s (Some b) outcome false = has_stored outcome ≡ false
+BeginsWrite s None outcome began = began ≡ false
 
 -- what a state allows for a call
 abbrev pub Allows : State → Call → Type 0
 Allows s c =
     IsRead c.event.action c.reading × AllowsBy (refusal s c.event.action) s c.event.moment c.event.action (read_by c) c.outcome
-    × Begins s (finished_by c) c.outcome c.began
+    × BeginsWrite s (finished_by c) c.outcome c.began
 
 -- a count that stops at 2^64 - 1
 abbrev pub counted : ℕ → ℕ → ℕ
-counted n more = min (n + more) (2 ^ 64 - 1)
+counted n more = saturated (n + more)
 
 -- the state after a look-up of request q, named id, that found this
 abbrev pub after_look_up : State → MomentValue → ℕ → Request → Option Body → State
@@ -208,16 +208,24 @@ after_look_up s t id q None = record s { requests = insert s.requests id (looked
 after_look_up s t id q (Some b) =
     record s { requests = insert s.requests id (looked t q (Some b)); managed = used s q.entry b; found = counted s.found 1 }
 
+-- these are evicted, of n shards, and their bodies go along
+abbrev pub emptied : ℕ → List CacheEntryKey → State → State
+emptied n es s = record s { bodies = without_bodies es s.bodies; managed = all_gone n es s.managed }
+
+-- what an entry's key has is removed, and the entry departs
+abbrev pub cleared : ℕ → Entry → State → State
+cleared n e s = record s { bodies = without_body (stored_key e) s.bodies; managed = taken_out n (alone e) s.managed }
+
 -- the state after a put of a body with these evictions
 abbrev pub after_put : State → Option FinishedBody → Answer → State
 after_put s (Some b) (Finished n evicted) =
-    record s { bodies = without_bodies evicted (with_body b s.bodies); managed = all_gone (shards_of s) evicted (admitted s b) }
+    emptied (shards_of s) evicted (record s { bodies = with_body b s.bodies; managed = admitted s b })
 after_put s _ _ = s
 
 -- the state after a purge that found something, or nothing
 abbrev pub after_purge : State → CacheKeyValue → Bool → State
 after_purge s key false = s
-after_purge s key true = record s { bodies = without_body (stored_key_of key) s.bodies; managed = taken_out (shards_of s) (alone (entry_of key)) s.managed }
+after_purge s key true = cleared (shards_of s) (entry_of key) s
 
 -- the state after an answer
 abbrev pub answered : State → MomentValue → Action → Option Whole → Answer → State
@@ -236,11 +244,7 @@ until true s b = admitted s b
 -- after a refusal that had stored a body: that body is gone with its entry, and the evictions are done
 abbrev pub taken_back : Bool → State → FinishedBody → Done → State
 taken_back false s b done = s
-taken_back true s b done =
-    record s {
-      bodies = without_body (stored_key b.entry) (without_bodies done.evicted s.bodies);
-      managed = taken_out (shards_of s) (alone b.entry) (all_gone (shards_of s) done.evicted (until done.admitted s b));
-    }
+taken_back true s b done = cleared (shards_of s) b.entry (emptied (shards_of s) done.evicted (record s { managed = until done.admitted s b }))
 
 abbrev pub undone : State → Option FinishedBody → Done → State
 undone s (Some b) done = taken_back done.stored s b done

@@ -1,6 +1,6 @@
 //! Laws over definitions alone. The functions do nothing: their contracts are the laws.
 ghost use Rattle.tier_model.specs.Calls.{History};
-ghost use Rattle.tier_model.specs.Headline.{HoldsHeadline};
+ghost use Rattle.tier_model.specs.Headline.{Headline};
 ghost use Rattle.tier_model.specs.Histories.{Opening, changes_of};
 ghost use Rattle.cache_changes.specs.Bound.{TracksBodies};
 ghost use Rattle.cache_changes.specs.Writes.{IsOrderly};
@@ -15,7 +15,7 @@ ghost use Rattle.tier_model.specs.Reports.{IsReport, report_of};
 
 /// Whatever a tier's state allows, call by call from its opening, the headline holds of the whole history.
 pub fn lawful_histories_hold_the_headline()
-    ensures { (start : Opening) (h : History) → IsLawful start h → HoldsHeadline start h }
+    ensures { (start : Opening) (h : History) → IsLawful start h → Headline start h }
 {}
 
 /// The changes of such a history are orderly: writes begin, get bytes and finish in order, with a number each. And they keep
