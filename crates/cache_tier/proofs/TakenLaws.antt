@@ -34,12 +34,11 @@ use Rattle.tier_model.specs.declared.event.Answer.TheVariants as answer
 use Rattle.tier_model.specs.declared.event.Done.{Done}
 use Rattle.tier_model.specs.declared.event.TierFault.{TierFault}
 use Rattle.tier_model.specs.declared.event.TierFault.TheVariants as tier
-use Rattle.tier_model.specs.declared.state.FinishedBody.{FinishedBody}
 use Rattle.tier_model.specs.declared.whole.Whole.{Whole}
 use Rattle.tier_model.specs.declared.whole.Whole.TheVariants as whole
 use Rattle.tier_model.specs.Calls.{Outcome, nothing_done}
 use Rattle.tier_model.specs.Response.{joined, whole_of}
-use Rattle.tier_model.specs.Rows.{without_body, without_bodies, with_body, weight_for}
+use Rattle.tier_model.specs.Rows.{FinishedBody, without_body, without_bodies, with_body, weight_for}
 use Rattle.tier_model.specs.State.{State}
 use Rattle.cache_tier.specs.Acts.{TakesBy}
 use Rattle.cache_tier.specs.Bodies.{IsIdle, Shelf, shelf_of, bodies_in}
@@ -103,48 +102,48 @@ module _ (n : ℕ) (s : State) (t : MomentValue) (key : CacheKeyValue) (pieces :
 
   -- ---- no body is stored
 
-  not_kept : (reason : NoCacheReason) (g : Whole) → Gives t (entry_of key) (joined pieces) g → IsWholeFor (entry_of key) (given.Uncacheable reason) g → IsTaken (Ok (Uncacheable reason)) c0
+  not_kept : (reason : NoCacheReason) (g : Whole) → Gives t (joined pieces) g → IsWholeFor (given.Uncacheable reason) g → IsTaken (Ok (Uncacheable reason)) c0
   not_kept reason g gives is = record {
     is_idle = idle;
     sharded = kept;
     tellable = tt;
     takes = λ o told. elim is [
       | inl origin ↦
-          let gives_so : Gives t (entry_of key) (joined pieces) (whole.Uncacheable OriginNotCache) = subst (Gives t (entry_of key) (joined pieces)) origin.1 gives in
+          let gives_so : Gives t (joined pieces) (whole.Uncacheable OriginNotCache) = subst (Gives t (joined pieces)) origin.1 gives in
           subst (λ (x : Outcome). TakesBy old c0.words t (Put key pieces) x old c0.words) (sym (told ∙ ap (λ (x : NoCacheReason). answer_as (Uncacheable x)) origin.0))
           (Takes-put old c0.words t key pieces (whole.Uncacheable OriginNotCache) (Ok (answer.Uncacheable OriginNotCache)) gives_so refl refl refl refl)
       | inr epoch ↦
-          let gives_so : Gives t (entry_of key) (joined pieces) whole.BeforeEpoch = subst (Gives t (entry_of key) (joined pieces)) epoch.1 gives in
+          let gives_so : Gives t (joined pieces) whole.BeforeEpoch = subst (Gives t (joined pieces)) epoch.1 gives in
           subst (λ (x : Outcome). TakesBy old c0.words t (Put key pieces) x old c0.words) (sym (told ∙ ap (λ (x : NoCacheReason). answer_as (Uncacheable x)) epoch.0))
           (Takes-put old c0.words t key pieces whole.BeforeEpoch (Err tier.BeforeEpoch) gives_so (inr refl) refl refl refl)
     ];
   }
 
-  incomplete : (g : Whole) → Gives t (entry_of key) (joined pieces) g → g ≡ whole.Incomplete → IsTaken (Err put.Incomplete) c0
+  incomplete : (g : Whole) → Gives t (joined pieces) g → g ≡ whole.Incomplete → IsTaken (Err put.Incomplete) c0
   incomplete g gives is = record {
     is_idle = idle;
     sharded = kept;
     tellable = tt;
     takes = told-one put.Incomplete tier.Incomplete c0 (λ f e. e)
-        (Takes-put old c0.words t key pieces whole.Incomplete (Err tier.Incomplete) (subst (Gives t (entry_of key) (joined pieces)) is gives) (inr refl) refl refl refl);
+        (Takes-put old c0.words t key pieces whole.Incomplete (Err tier.Incomplete) (subst (Gives t (joined pieces)) is gives) (inr refl) refl refl refl);
   }
 
-  bad_head : (g : Whole) → Gives t (entry_of key) (joined pieces) g → g ≡ whole.BadHead → IsTaken (Err put.BadHead) c0
+  bad_head : (g : Whole) → Gives t (joined pieces) g → g ≡ whole.BadHead → IsTaken (Err put.BadHead) c0
   bad_head g gives is = record {
     is_idle = idle;
     sharded = kept;
     tellable = tt;
     takes = told-one put.BadHead tier.BadHead c0 (λ f e. e)
-        (Takes-put old c0.words t key pieces whole.BadHead (Err tier.BadHead) (subst (Gives t (entry_of key) (joined pieces)) is gives) (inr refl) refl refl refl);
+        (Takes-put old c0.words t key pieces whole.BadHead (Err tier.BadHead) (subst (Gives t (joined pieces)) is gives) (inr refl) refl refl refl);
   }
 
   -- ---- a body that may be kept
 
   module _ (meta : CacheMeta) (body : List ℕ) where
     abbrev b : FinishedBody
-    b = record { entry = entry_of key; bytes = body; fresh_until = meta.internal.fresh_until }
+    b = record { entry = entry_of key; body = record { bytes = body; meta = meta } }
 
-    module _ (gives : Gives t (entry_of key) (joined pieces) (whole.Stored b)) where
+    module _ (gives : Gives t (joined pieces) (whole.Stored b.body)) where
       -- memory ran out before it was stored
       ran_out : (fault : PutFault) (c : Cache Held) → RanOut (rules n) fault c0 c → IsTaken (Err fault) c
       ran_out fault c out =
@@ -156,7 +155,7 @@ module _ (n : ℕ) (s : State) (t : MomentValue) (key : CacheKeyValue) (pieces :
             sharded = subst (λ (m : Managed). IsSharded n m) (sym out.managed) kept;
             tellable = told.0;
             takes = told-one fault (tier.Memory nothing_done) c told.1
-                (Takes-stored old c0.words t key pieces b (Err (tier.Memory nothing_done)) (with_cache s c) c.words gives
+                (Takes-stored old c0.words t key pieces b.body (Err (tier.Memory nothing_done)) (with_cache s c) c.words gives
                 (stores-nothing old b c0.words (tier.Memory nothing_done) (with_cache s c) c.words sp.began refl (inl refl) sp.can (after ∙ ap (λ (x : Shelf). record old { writes = x.writes }) sp.shelf) out.words));
           }
 
@@ -168,7 +167,7 @@ module _ (n : ℕ) (s : State) (t : MomentValue) (key : CacheKeyValue) (pieces :
             sharded = kept;
             tellable = tt;
             takes = told-one put.WriteNumbersSpent (tier.NumbersSpent nothing_done) c0 (λ f e. e)
-                (Takes-stored old c0.words t key pieces b (Err (tier.NumbersSpent nothing_done)) old c0.words gives
+                (Takes-stored old c0.words t key pieces b.body (Err (tier.NumbersSpent nothing_done)) old c0.words gives
                 (stores-nothing old b c0.words (tier.NumbersSpent nothing_done) old c0.words false refl (inr (inl (refl, eqb-true c0.store.next (2 ^ 64 - 1) p.0))) tt refl refl));
           })
       refused put.MetaMoment c written p = absurd (p.1 written)
@@ -191,7 +190,7 @@ module _ (n : ℕ) (s : State) (t : MomentValue) (key : CacheKeyValue) (pieces :
               sharded = h.kept;
               tellable = tt;
               takes = λ o told. subst (λ (x : Outcome). TakesBy old c0.words t (Put key pieces) x (with_cache s c) c.words) (sym told)
-                  (Takes-stored old c0.words t key pieces b (Ok (answer.Finished size es)) (with_cache s c) c.words gives (record {
+                  (Takes-stored old c0.words t key pieces b.body (Ok (answer.Finished size es)) (with_cache s c) c.words gives (record {
                     allowed = (sized, h.fits, h.turns);
                     began = true;
                     begins = number;
@@ -215,7 +214,7 @@ module _ (n : ℕ) (s : State) (t : MomentValue) (key : CacheKeyValue) (pieces :
               sharded = subst (λ (m : Managed). IsSharded n m) (sym k.managed) (kept-stopped n w old b kept weighs k.left k.cause c0.words c.words k.stops);
               tellable = told-tellable _ k.cause fault k.told;
               takes = λ o told. subst (λ (x : Outcome). TakesBy old c0.words t (Put key pieces) x (with_cache s c) c.words) (sym told.1)
-                  (Takes-stored old c0.words t key pieces b (Err told.0) (with_cache s c) c.words gives
+                  (Takes-stored old c0.words t key pieces b.body (Err told.0) (with_cache s c) c.words gives
                   (stores-refused old b c0.words number told.0 (with_cache s c) c.words
                   (refused-put n w (put_in old b c0.words number) b kept weighs k.left k.cause fault told.0 (with_cache s c) c0.words c.words k.stops (k.told, told.2) after)));
             }
@@ -240,8 +239,8 @@ module _ (n : ℕ) (s : State) (t : MomentValue) (key : CacheKeyValue) (pieces :
 
   -- ---- all of them
 
-  by_whole : (w : Given) (g : Whole) → IsWholeFor (entry_of key) w g → Gives t (entry_of key) (joined pieces) g → (r : Result PutOutcome PutFault) (c : Cache Held) → IsOutcome (rules n) (key_of key) w r c0 c → IsTaken r c
-  by_whole (given.Cacheable meta body) g is gives r c p = put-kept meta body (subst (Gives t (entry_of key) (joined pieces)) is.0 gives) r c is.1 p
+  by_whole : (w : Given) (g : Whole) → IsWholeFor w g → Gives t (joined pieces) g → (r : Result PutOutcome PutFault) (c : Cache Held) → IsOutcome (rules n) (key_of key) w r c0 c → IsTaken r c
+  by_whole (given.Cacheable meta body) g is gives r c p = put-kept meta body (subst (Gives t (joined pieces)) is.0 gives) r c is.1 p
   by_whole (given.Uncacheable reason) g is gives r c p = subst (λ (x : Result PutOutcome PutFault). IsTaken x c) (sym p.0) (left_so (Ok (Uncacheable reason)) c p.1 (not_kept reason g gives is))
   by_whole given.TooLarge g is gives r c p = absurd is
   by_whole given.Incomplete g is gives r c p = subst (λ (x : Result PutOutcome PutFault). IsTaken x c) (sym p.0) (left_so (Err put.Incomplete) c p.1 (incomplete g gives is))
@@ -252,6 +251,6 @@ module _ (n : ℕ) (s : State) (t : MomentValue) (key : CacheKeyValue) (pieces :
     | inl early ↦ subst (λ (x : Result PutOutcome PutFault). IsTaken x c) (sym early.1) (left_so (Err early.0) c early.3 (unread early.0 early.2))
     | inr known ↦
         let rd = known.1.0 in
-        by_whole known.0 (whole_of t (entry_of key) rd) (subst (λ (w : Given). IsWholeFor (entry_of key) w (whole_of t (entry_of key) rd)) (sym known.1.2) (whole-for t (entry_of key) (parsed_of rd)))
+        by_whole known.0 (whole_of t rd) (subst (λ (w : Given). IsWholeFor w (whole_of t rd)) (sym known.1.2) (whole-for t (parsed_of rd)))
         (rd, known.1.1, refl) r c known.2
   ]
