@@ -1,12 +1,14 @@
 #!/usr/bin/env python3
 """Tries must-fail edits, many by one check, and records which the prover refused.
 
-usage: scripts/edits.py [CRATE..] [--all] [--jobs N] [--log FOLDER]
+usage: scripts/edits.py [CRATE..] [--all] [--apply] [--jobs N] [--log FOLDER]
 
 Without names it tries the edits whose line of edits/RECORD is missing or old, since the edit or its crate's src or specs
 changed; with names all edits of those crates; with --all those of all crates. Those of the gate, in crates/NAME/must-fail, and those
 beside it, in edits/NAME, are tried alike. Before any check each edit of each crate is applied to the texts: one that names a text
 that isn't there, or stands there twice, fails the run at once.
+
+--apply tries the canaries alone, once every edit of every crate was applied to the texts, and says of how many edits the record holds a verdict.
 
 --jobs says how many crates are tried side by side; the default goes by cores and memory, at 3 GB each. --log names a folder
 that gets all that the checks said. What an earlier `rt check` kept in a crate's out/ is copied and used; where nothing is kept, the
@@ -155,6 +157,7 @@ def arguments_of(words):
     parser = argparse.ArgumentParser(description=__doc__, formatter_class=argparse.RawDescriptionHelpFormatter, usage=argparse.SUPPRESS)
     parser.add_argument("crates", nargs="*", metavar="CRATE")
     parser.add_argument("--all", action="store_true")
+    parser.add_argument("--apply", action="store_true")
     parser.add_argument("--jobs", type=int)
     parser.add_argument("--log")
     return parser.parse_args(words)
@@ -181,6 +184,13 @@ def main(words):
     if wrong:
         print(f"{passed} passed, {len(wrong)} failed")
         return 1
+    if arguments.apply:
+        held = record.Record(TOP)
+        everything = [it for found in entries.values() for it in found.values()]
+        good = sum(held.holds(it) for it in everything)
+        say(f"{len(everything)} edits apply; {passed} canaries came out as they must; the record holds {good} of the edits as refused")
+        print(f"{passed + len(everything)} passed, 0 failed")
+        return 0
     return judge(arguments, crates, entries, passed)
 
 
