@@ -1,10 +1,9 @@
 //! Statuses by number and name, cores, and what waits end with.
 use cache_heads::NoCacheReason;
 use cache_lock::{
-    CacheKeyLock, CacheLock, LockCore, LockStatus, LockWaitOutcome, Locked, ReadLock, UnusableFill,
+    CacheKeyLock, CacheLock, LockCore, LockStatus, LockWaitOutcome, Locked, UnusableFill,
     UnusableFills, WritePermit,
 };
-use cache_store::trace::Span;
 use cache_words::time::{Duration, Moment};
 use std::alloc::Global;
 use std::hash::{BuildHasherDefault, FoldHasher};
@@ -99,20 +98,13 @@ fn the_first_fill_that_is_published(rt: HostRuntime) {
     assert_eq!(rt; first_of(alloc, &[]), Some(None));
 }
 
-/// A wait is traced by nothing, and a custom reason gives up.
+/// A custom reason gives up.
 #[test]
 fn what_a_lock_tells_by_default(rt: HostRuntime) {
     let start: BuildHasherDefault<FoldHasher> = BuildHasherDefault::new();
-    let lock = CacheLock::with_hasher(rt.alloc(), Duration::from_seconds(2), start);
-    let read = ReadLock { number: 0 };
-    lock.trace_lock_wait(&Span::inactive(), &read, LockStatus::Done);
-    let ReadLock { number: _read } = read;
+    let mut lock = CacheLock::with_hasher(rt.alloc(), Duration::from_seconds(2), start);
     assert_eq!(rt; lock.custom_lock_status("any"), LockStatus::GiveUp);
     let locked = Locked::Write(WritePermit::new(0));
     assert!(rt; locked.is_write());
-    let number = match locked {
-        Locked::Write(WritePermit { number }) => number,
-        Locked::Read(ReadLock { number }) => number,
-    };
-    assert_eq!(rt; number, 0);
+    lock.leave(locked);
 }

@@ -1,49 +1,15 @@
 //! Permits and read locks of keys.
+use super::permit_rows::{FILL, Given, LATE, ROWS, Step};
 use cache_lock::{
     CacheKeyLock, CacheKeyLockImpl, CacheLock, LockStatus, LockStub, Locked, ReadLock,
-    UnusableFill, UnusableFills, WaitOutcome, WritePermit,
+    UnusableFills, WaitOutcome, WritePermit,
 };
+use cache_store::trace::Span;
 use cache_words::key::CacheKey;
 use cache_words::time::{Duration, Moment};
 use std::alloc::Global;
 use std::process::Abort;
 use std::test::*;
-
-/// What a lock must give, by the core's number.
-#[derive(Clone, Copy, PartialEq, Eq, Debug)]
-enum Given {
-    Write(u64),
-    Read(u64),
-}
-
-/// A call, with what it must return. Permits and read locks are named by their core's number.
-#[derive(Clone, Copy, Debug)]
-enum Step {
-    /// At a second, a key of one byte; key 2 has a stale response.
-    Lock(i64, u8, Given),
-    Release(u8, u64, LockStatus),
-    Unlock(u64, LockStatus),
-    DropPermit(u64),
-    LeaveRead(u64),
-    Publish(u64, u64),
-    /// At a second, by a reader that can't use fill 7.
-    Poll(i64, u64, Option<WaitOutcome>),
-    /// At a second, the status that a reader is told.
-    Status(i64, u64, LockStatus),
-    /// Whether the permit has not ended.
-    Locked(u64, bool),
-    /// At a second, whether the permit is past its age.
-    Expired(i64, u64, bool),
-    /// The permit's status, and whether a stale response was there.
-    Permit(u64, LockStatus, bool),
-    /// Whether the lock has the core.
-    Has(u64, bool),
-}
-
-const FILL: UnusableFill = UnusableFill {
-    token: 7,
-    reason: "old",
-};
 
 fn key_of(alloc: Global, byte: u8) -> Option<CacheKey> {
     let mut primary = Vec::new(alloc);
@@ -57,42 +23,66 @@ fn fills(alloc: Global) -> Option<UnusableFills> {
     Some(UnusableFills::new(list))
 }
 
-fn is_given(locked: Locked, wanted: Given) -> bool {
+fn new_lock(alloc: Global) -> CacheLock {
+    CacheLock::new(alloc, Duration::from_seconds(2))
+}
+
+/// Spends a read lock at a lock without cores, where nothing counts it.
+fn forget(alloc: Global, read: ReadLock) {
+    new_lock(alloc).leave(Locked::Read(read));
+}
+
+fn is_given(alloc: Global, locked: Locked, wanted: Given) -> bool {
     match locked {
         Locked::Write(WritePermit { number }) => wanted == Given::Write(number),
-        Locked::Read(ReadLock { number }) => wanted == Given::Read(number),
+        Locked::Read(read) => {
+            let number = read.number();
+            forget(alloc, read);
+            wanted == Given::Read(number)
+        }
     }
 }
 
-fn poll(
+/// A read lock of that number, below 10, which a lock of ten keys gives.
+fn read_of(alloc: Global, number: u64) -> Option<ReadLock> {
+    let mut other = new_lock(alloc);
+    for byte in 0..10 {
+        let key = key_of(alloc, byte)?;
+        let locked = other.lock(&key, false, Moment::from_seconds(10)).ok()?;
+        is_given(alloc, locked, Given::Write(u64::from(byte)));
+    }
+    LockStub { number }.read_lock(&mut other)
+}
+
+fn poll<L: CacheKeyLock>(
     alloc: Global,
-    lock: &mut CacheLock,
+    lock: &mut L,
     second: i64,
     number: u64,
 ) -> Option<Option<WaitOutcome>> {
-    let fills = fills(alloc)?;
-    let read = LockStub { number }.read_lock();
+    let fills = fills(alloc)?.clone().ok()?;
+    let read = read_of(alloc, number)?;
     let outcome = lock.poll_wait(&read, &fills, Moment::from_seconds(second));
-    let ReadLock { number: _read } = read;
+    forget(alloc, read);
     Some(outcome)
 }
 
-fn ends(alloc: Global, lock: &mut CacheLock, step: Step) -> Option<bool> {
+fn ends<L: CacheKeyLock>(alloc: Global, lock: &mut L, step: Step) -> Option<bool> {
     match step {
         Step::Release(byte, number, reason) => {
-            if reason == LockStatus::WaitTimeout {
+            if !reason.is_end() {
                 return None;
             }
             lock.release(&key_of(alloc, byte)?, WritePermit::new(number), reason);
         }
         Step::Unlock(number, reason) => {
-            if reason == LockStatus::WaitTimeout {
+            if !reason.is_end() {
                 return None;
             }
             WritePermit::new(number).unlock(lock, reason);
         }
         Step::DropPermit(number) => lock.leave(Locked::Write(WritePermit::new(number))),
-        Step::LeaveRead(number) => lock.leave(Locked::Read(LockStub { number }.read_lock())),
+        Step::LeaveRead(number) => lock.leave(Locked::Read(read_of(alloc, number)?)),
         Step::Publish(number, token) => {
             let permit = WritePermit::new(number);
             let published = permit.publish(alloc, lock, &[token]);
@@ -104,158 +94,79 @@ fn ends(alloc: Global, lock: &mut CacheLock, step: Step) -> Option<bool> {
     Some(true)
 }
 
-fn is_done(alloc: Global, lock: &mut CacheLock, step: Step) -> Option<bool> {
-    match step {
-        Step::Lock(second, byte, wanted) => {
-            let key = key_of(alloc, byte)?;
-            let moment = Moment::from_seconds(second);
-            let locked = lock.lock(&key, byte == 2, moment).ok()?;
-            Some(is_given(locked, wanted))
+fn is_lent<L: CacheKeyLock>(alloc: Global, lock: &mut L, number: u64) -> bool {
+    match (LockStub { number }).read_lock(lock) {
+        Some(read) => {
+            forget(alloc, read);
+            true
         }
-        Step::Poll(second, number, wanted) => Some(poll(alloc, lock, second, number)? == wanted),
+        None => false,
+    }
+}
+
+fn is_told<L: CacheKeyLock>(alloc: Global, lock: &L, step: Step) -> Option<bool> {
+    Some(match step {
         Step::Status(second, number, wanted) => {
-            let read = LockStub { number }.read_lock();
+            let read = read_of(alloc, number)?;
             let status = read.lock_status(lock, Moment::from_seconds(second));
-            let ReadLock { number: _read } = read;
-            Some(status == wanted)
+            lock.trace_lock_wait(&Span::inactive(), &read, status);
+            forget(alloc, read);
+            status == wanted
         }
         Step::Locked(number, wanted) => {
-            let read = LockStub { number }.read_lock();
+            let read = read_of(alloc, number)?;
             let locked = read.locked(lock);
-            let ReadLock { number: _read } = read;
-            Some(locked == wanted)
+            forget(alloc, read);
+            locked == wanted
         }
         Step::Expired(second, number, wanted) => {
-            let read = LockStub { number }.read_lock();
+            let read = read_of(alloc, number)?;
             let expired = read.expired(lock, Moment::from_seconds(second));
-            let ReadLock { number: _read } = read;
-            Some(expired == wanted)
+            forget(alloc, read);
+            expired == wanted
         }
         Step::Permit(number, status, stale) => {
             let permit = WritePermit::new(number);
             let found = (permit.lock_status(lock), permit.stale_writer(lock));
             let WritePermit { number: _permit } = permit;
-            Some(found == (status, stale))
+            found == (status, stale)
         }
-        Step::Has(number, wanted) => Some(lock.core(number).is_some() == wanted),
-        _ => ends(alloc, lock, step),
+        Step::Has(number, wanted) => lock.core(number).is_some() == wanted,
+        _ => return None,
+    })
+}
+
+fn is_done<L: CacheKeyLock>(alloc: Global, lock: &mut L, step: Step) -> Option<bool> {
+    match step {
+        Step::Lock(second, byte, wanted) => {
+            let key = key_of(alloc, byte)?;
+            let moment = Moment::from_seconds(second);
+            let locked = lock.lock(&key, byte == 2, moment).ok()?;
+            Some(is_given(alloc, locked, wanted))
+        }
+        Step::Poll(second, number, wanted) => Some(poll(alloc, lock, second, number)? == wanted),
+        Step::Stub(number, wanted) => Some(is_lent(alloc, lock, number) == wanted),
+        Step::Release(..)
+        | Step::Unlock(..)
+        | Step::DropPermit(..)
+        | Step::LeaveRead(..)
+        | Step::Publish(..) => ends(alloc, lock, step),
+        _ => is_told(alloc, lock, step),
     }
 }
 
-fn check(rt: &impl Abort, alloc: Global, lock: &mut CacheLock, steps: &[Step]) {
+fn check<L: CacheKeyLock>(rt: &impl Abort, alloc: Global, lock: &mut L, steps: &[Step]) {
     for (number, step) in steps.iter().enumerate() {
         let done = is_done(alloc, lock, *step);
         assert_eq!(rt; done, Some(true), "step {number}: {step:?}");
     }
 }
 
-const RELEASED: Option<WaitOutcome> = Some(WaitOutcome::Released);
-
-const AGED: Option<WaitOutcome> = Some(WaitOutcome::AgeTimeout);
-
-/// One permit a key; a reader is told once the permit is released.
-const GET_RELEASE: &[Step] = &[
-    Step::Lock(10, 1, Given::Write(0)),
-    Step::Lock(10, 1, Given::Read(0)),
-    Step::Lock(10, 2, Given::Write(1)),
-    Step::Locked(0, true),
-    Step::Permit(0, LockStatus::Waiting, false),
-    Step::Permit(1, LockStatus::Waiting, true),
-    Step::Poll(10, 0, None),
-    Step::Release(1, 0, LockStatus::Done),
-    Step::Locked(0, false),
-    Step::Poll(10, 0, RELEASED),
-    Step::Status(10, 0, LockStatus::Done),
-    Step::Lock(10, 1, Given::Write(2)),
-    Step::Has(0, true),
-    Step::LeaveRead(0),
-    Step::Has(0, false),
-];
-
-/// A dropped permit lets the next have one.
-const DANGLING: &[Step] = &[
-    Step::Lock(10, 1, Given::Write(0)),
-    Step::Lock(10, 1, Given::Read(0)),
-    Step::DropPermit(0),
-    Step::Poll(10, 0, RELEASED),
-    Step::Status(10, 0, LockStatus::Dangling),
-    Step::Lock(10, 1, Given::Write(1)),
-    Step::Lock(10, 1, Given::Read(1)),
-];
-
-/// Past its age a permit doesn't wait; its late release leaves the new permit.
-const LATE: &[Step] = &[
-    Step::Lock(10, 1, Given::Write(0)),
-    Step::Lock(11, 1, Given::Read(0)),
-    Step::Poll(11, 0, None),
-    Step::Lock(13, 1, Given::Read(0)),
-    Step::Status(12, 0, LockStatus::AgeTimeout),
-    Step::Locked(0, true),
-    Step::Expired(11, 0, false),
-    Step::Expired(12, 0, true),
-    Step::Poll(12, 0, AGED),
-    Step::Locked(0, false),
-    Step::Lock(12, 1, Given::Write(1)),
-    Step::Release(1, 0, LockStatus::Done),
-    Step::Status(12, 0, LockStatus::AgeTimeout),
-    Step::Lock(12, 1, Given::Read(1)),
-    Step::Release(1, 1, LockStatus::GiveUp),
-    Step::Status(12, 1, LockStatus::GiveUp),
-    Step::Lock(12, 1, Given::Write(2)),
-];
-
-/// A permit that is dropped late leaves the new one; its readers find it dropped.
-const LATE_DROP: &[Step] = &[
-    Step::Lock(10, 1, Given::Write(0)),
-    Step::Lock(11, 1, Given::Read(0)),
-    Step::Lock(11, 1, Given::Read(0)),
-    Step::Poll(11, 0, None),
-    Step::Poll(12, 0, AGED),
-    Step::LeaveRead(0),
-    Step::Lock(12, 1, Given::Write(1)),
-    Step::DropPermit(0),
-    Step::Lock(12, 1, Given::Read(1)),
-    Step::Poll(12, 0, RELEASED),
-    Step::Status(12, 0, LockStatus::Dangling),
-];
-
-/// A release comes before the age, the age before a published fill; moments may go back.
-const ORDER: &[Step] = &[
-    Step::Lock(10, 1, Given::Write(0)),
-    Step::Lock(10, 1, Given::Read(0)),
-    Step::Publish(0, 6),
-    Step::Poll(5, 0, None),
-    Step::Publish(0, 7),
-    Step::Poll(5, 0, Some(WaitOutcome::Abandoned(FILL))),
-    Step::Poll(12, 0, AGED),
-    Step::Poll(10, 0, RELEASED),
-    Step::DropPermit(0),
-    Step::Status(10, 0, LockStatus::Dangling),
-];
-
-/// A permit that is unlocked leaves its core to the key, and a permit of no core here changes nothing.
-const OTHERS: &[Step] = &[
-    Step::Lock(10, 1, Given::Write(0)),
-    Step::Lock(10, 1, Given::Read(0)),
-    Step::Unlock(0, LockStatus::Done),
-    Step::Lock(10, 1, Given::Read(0)),
-    Step::DropPermit(9),
-    Step::Publish(9, 7),
-    Step::Poll(10, 9, RELEASED),
-    Step::Status(10, 9, LockStatus::Dangling),
-    Step::Expired(10, 9, true),
-    Step::Permit(9, LockStatus::Dangling, false),
-    Step::LeaveRead(0),
-    Step::LeaveRead(0),
-    Step::Has(0, false),
-    Step::Lock(10, 1, Given::Write(1)),
-];
-
 #[test]
 fn permits_of_keys(rt: HostRuntime) {
     let alloc = rt.alloc();
-    for &steps in [GET_RELEASE, DANGLING, LATE, LATE_DROP, ORDER, OTHERS].as_slice() {
-        let mut lock = CacheLock::new(alloc, Duration::from_seconds(2));
+    for &steps in ROWS {
+        let mut lock = new_lock(alloc);
         check(&rt, alloc, &mut lock, steps);
     }
 }
@@ -270,15 +181,17 @@ fn permits_of_a_boxed_lock(rt: HostRuntime) {
     }
 }
 
-fn first_of_any_lock(alloc: Global) -> Option<bool> {
-    let lock = CacheLock::new(alloc, Duration::from_seconds(2));
-    let mut boxed: CacheKeyLockImpl = Box::new(alloc, lock).ok()?;
-    let key = key_of(alloc, 1)?;
-    let locked = boxed.lock(&key, false, Moment::from_seconds(10)).ok()?;
-    Some(is_given(locked, Given::Write(0)))
-}
-
+/// A lock of any kind, in a box, is a lock too.
 #[test]
-fn a_permit_of_any_lock(rt: HostRuntime) {
-    assert_eq!(rt; first_of_any_lock(rt.alloc()), Some(true));
+fn permits_of_any_lock(rt: HostRuntime) {
+    let alloc = rt.alloc();
+    for &steps in ROWS {
+        let boxed = Box::new(alloc, new_lock(alloc)).ok();
+        assert!(rt; boxed.is_some());
+        if let Some(lock) = boxed {
+            let mut lock: CacheKeyLockImpl = lock;
+            check(&rt, alloc, &mut lock, steps);
+            assert_eq!(rt; lock.custom_lock_status("any"), LockStatus::GiveUp);
+        }
+    }
 }
