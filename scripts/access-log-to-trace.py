@@ -12,10 +12,15 @@ look-ups found are those of such a cache. What this changes is freshness, which 
 With --drive the program is run, and a put is sent only where its answer was 'absent' or 'stale', as a cache does; the
 hit ratios are printed in place of a trace.
 
+A line with status 304 or 206, or of a HEAD request, doesn't tell how long the whole body is. It is a request for its key like any
+other, with the length of the key's last whole response before it; without one, of the next after it. Such lines are counted on
+standard error too.
+
 Lines that are passed over are counted, by reason, on standard error; none stops the run.
 """
 import argparse
 import calendar
+import collections
 import json
 import re
 import shlex
@@ -35,6 +40,13 @@ class PassedOver(Exception):
     """A line that is no request of the trace; the text says why."""
 
 
+class Request:
+    """A request of the log: its moment, its key, its body's length, and, where its line doesn't tell the length, what it is."""
+
+    def __init__(self, moment, key, length, partial):
+        self.moment, self.key, self.length, self.partial = moment, key, length, partial
+
+
 def seconds_of(text):
     found = TIME.match(text)
     if not found or found[2] not in MONTHS:
@@ -44,11 +56,18 @@ def seconds_of(text):
     return calendar.timegm((*day, *(int(found[it]) for it in (4, 5, 6)))) - offset
 
 
+def partial_of(method, status):
+    """Returns what a line is that doesn't tell the length of the whole body, or None."""
+    if status in ("304", "206"):
+        return f"status {status}"
+    return "method HEAD" if method == "HEAD" else None
+
+
 def request_of(line, options):
-    """Returns the moment, the key and the body's length of a line."""
+    """Returns the request of a line."""
     plain = PLAIN.match(line)
     if plain:
-        return int(plain["time"]), plain["key"], int(plain["bytes"])
+        return Request(int(plain["time"]), plain["key"], int(plain["bytes"]), None)
     found = LOGGED.match(line)
     if not found:
         raise PassedOver("not a log line")
@@ -59,26 +78,59 @@ def request_of(line, options):
         raise PassedOver(f"method {words[0][:16]}")
     if found["status"] not in options.statuses:
         raise PassedOver(f"status {found['status']}")
-    if found["bytes"] == "-":
+    partial = partial_of(words[0], found["status"])
+    if not partial and found["bytes"] == "-":
         raise PassedOver("no length")
     key = words[1].split("?")[0] if options.no_query else words[1]
-    return seconds_of(found["time"]), key, int(found["bytes"])
+    return Request(seconds_of(found["time"]), key, None if partial else int(found["bytes"]), partial)
 
 
-def requests(lines, options, passed):
+def read_requests(lines, options, passed):
+    """Yields the request of each line that is one, and counts the others by reason."""
     for line in lines:
         line = line.rstrip("\r\n")
         if not line:
             continue
         try:
-            moment, key, length = request_of(line, options)
-            if not 0 <= moment < 2**63:
+            request = request_of(line, options)
+            if not 0 <= request.moment < 2**63:
                 raise PassedOver("time out of range")
         except PassedOver as why:
-            passed[str(why)] = passed.get(str(why), 0) + 1
+            passed[str(why)] += 1
             continue
-        size = length if options.scale == 1 or length == 0 else max(1, round(length / options.scale))
-        yield moment, key.encode("utf-8", "surrogateescape").hex(), size
+        yield request
+
+
+def with_lengths(asked, passed):
+    """Yields the requests in their order, each with a length. One whose line tells none has the length of the key's last whole
+    response, or waits, and all after it, for the next; what never gets a length is counted and left out."""
+    last, waiting, queue = {}, {}, collections.deque()
+    for request in asked:
+        if request.length is not None:
+            last[request.key] = request.length
+            for earlier in waiting.pop(request.key, ()):
+                earlier.length = request.length
+        elif request.key in last:
+            request.length = last[request.key]
+        else:
+            waiting.setdefault(request.key, []).append(request)
+        queue.append(request)
+        while queue and queue[0].length is not None:
+            yield queue.popleft()
+    yield from (it for it in queue if it.length is not None)
+    for request in queue:
+        if request.length is None:
+            passed[f"{request.partial} without a length"] += 1
+
+
+def requests(lines, options, passed, taken):
+    """Yields the moment, the key in hex and the scaled length of each request, in order."""
+    for request in with_lengths(read_requests(lines, options, passed), passed):
+        if request.partial:
+            taken[request.partial] += 1
+        whole = options.scale == 1 or request.length == 0
+        size = request.length if whole else max(1, round(request.length / options.scale))
+        yield request.moment, request.key.encode("utf-8", "surrogateescape").hex(), size
 
 
 def put_of(moment, key, size, options):
@@ -132,12 +184,16 @@ def drive(asked, options):
     print(report)
 
 
+def counted(counts):
+    return ", ".join(f"{count} {what}" for what, count in counts.most_common()) or "none"
+
+
 def main():
     parser = argparse.ArgumentParser(description=__doc__, formatter_class=argparse.RawDescriptionHelpFormatter)
     parser.add_argument("--scale", type=float, default=1, help="divide each body's length by this, to keep the trace small (default 1)")
     parser.add_argument("--lifetime", type=int, default=3600, help="how long a response is fresh, in seconds (default 3600)")
-    parser.add_argument("--methods", default="GET", help="the request methods to take, with commas (default GET)")
-    parser.add_argument("--statuses", default="200", help="the statuses to take, with commas (default 200)")
+    parser.add_argument("--methods", default="GET,HEAD", help="the request methods to take, with commas (default GET,HEAD)")
+    parser.add_argument("--statuses", default="200,206,304", help="the statuses to take, with commas (default 200,206,304)")
     parser.add_argument("--no-query", action="store_true", help="leave the query out of the key")
     parser.add_argument("--drive", metavar="COMMAND", help="run this tier-replay command over the requests, and print hit ratios")
     options = parser.parse_args()
@@ -149,11 +205,11 @@ def main():
     if not options.drive:
         # ends quietly where the reader of a pipe has enough
         signal.signal(signal.SIGPIPE, signal.SIG_DFL)
-    passed = {}
-    asked = requests(sys.stdin, options, passed)
+    passed, taken = collections.Counter(), collections.Counter()
+    asked = requests(sys.stdin, options, passed, taken)
     drive(asked, options) if options.drive else write_trace(asked, options)
-    told = ", ".join(f"{count} {why}" for why, count in sorted(passed.items(), key=lambda it: -it[1])) or "none"
-    print(f"lines passed over: {told}", file=sys.stderr)
+    print(f"lengths taken from another line: {counted(taken)}", file=sys.stderr)
+    print(f"lines passed over: {counted(passed)}", file=sys.stderr)
 
 
 if __name__ == "__main__":
