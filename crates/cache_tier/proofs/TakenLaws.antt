@@ -18,7 +18,7 @@ use Rattle.cache_evict.specs.Managed.{Managed, IsSharded, pick_by_draws, taken_o
 use Rattle.cache_store.specs.Held.{Held}
 use Rattle.mem_cache.specs.Misses.{are_numbers_spent}
 use Rattle.response_parse.specs.Response.{parsed_of}
-use Rattle.cache_store.specs.Wholes.{IsGiven}
+use Rattle.cache_store.specs.declared.storage.MissFinishType.TheVariants.{Created}
 use Rattle.pingora_cache.specs.Put.{Rules, Cache, rules_of, compact, IsOutOfMemory, IsDone, IsSame, RanOut, IsAdmitted, IsTakenBack, IsStoredThen, IsWriteRefused, IsPut, IsOutcome, Puts}
 use Rattle.pingora_cache.specs.Response as cache
 use Rattle.pingora_cache.specs.declared.put.whole.Whole.{Whole as Given}
@@ -50,7 +50,7 @@ use Rattle.cache_tier.proofs.StoreLaws.{StoresBy, HasEvicted, has_evicted, clear
 
 -- what is known of the tier's store and of its order of use, of n shards
 abbrev pub rules : ℕ → Rules Held
-rules n = rules_of (λ h. h) (λ h k. None) are_numbers_spent (IsGiven {H = ℕ} (λ m. None)) n (λ size. max size 1) (pick_by_draws n)
+rules n = rules_of (λ h. h) (λ h k. None) are_numbers_spent (λ x. Created (length x.bytes)) n (λ size. max size 1) (pick_by_draws n)
 
 -- a state with what a cache holds
 abbrev pub with_cache : State → Cache Held → State
@@ -174,16 +174,13 @@ module _ (n : ℕ) (s : State) (t : MomentValue) (key : CacheKeyValue) (pieces :
       refused _ c written p = absurd p
 
       -- it is stored, under its entry
-      module _ (id : Option CacheEntryId) (mid : Held) (gave : IsGiven {H = ℕ} (λ m. None) id) (shelved : IsShelved (combined (key_of key)) meta body c0.store idle mid) where
-        alone_is : entry_with (compact (key_of key)) (option_map number_of id) ≡ alone (entry_of key)
-        alone_is = ap (λ (i : Option CacheEntryId). entry_with (compact (key_of key)) (option_map number_of i)) (sym gave.1)
-
+      module _ (mid : Held) (shelved : IsShelved (combined (key_of key)) meta body c0.store idle mid) where
         stored : (number : c0.store.next ≢ 2 ^ 64 - 1) (size : ℕ) (evicted : Vec CacheEntryKey) (c : Cache Held) → size ≡ length body
-            → IsAdmitted (rules n) (alone (entry_of key)) size evicted.items (record c0 { store = mid }) c → IsTaken (Ok (Stored size evicted)) c
+            → IsAdmitted (rules n) (Created (length body)) (alone (entry_of key)) evicted.items (record c0 { store = mid }) c → IsTaken (Ok (Stored size evicted)) c
         stored number size evicted c sized a =
             let es = evicted.items in
             let gone = purged-all es mid c.store shelved.is_idle a.purged in
-            let h : HasEvicted n old b false es c.managed c0.words c.words = has_evicted n (max (max 1 size) 1) old b false es c.managed c0.words c.words kept (weighed size (length body) sized) a.fits a.evicts a.within in
+            let h : HasEvicted n old b false es c.managed c0.words c.words = has_evicted n (max (max 1 (length body)) 1) old b false es c.managed c0.words c.words kept (weighed (length body) (length body) refl) a.fits a.evicts a.within in
             let shelf = gone.shelf ∙ ap (λ (x : Shelf). record { bodies = without_bodies es x.bodies; writes = x.writes }) shelved.shelf in
             record {
               is_idle = gone.idle;
@@ -199,7 +196,7 @@ module _ (n : ℕ) (s : State) (t : MomentValue) (key : CacheKeyValue) (pieces :
                   }));
             }
 
-        taken_back : (number : c0.store.next ≢ 2 ^ 64 - 1) (fault : PutFault) (c : Cache Held) → IsTakenBack (rules n) (alone (entry_of key)) (length body) fault (record c0 { store = mid }) c → IsTaken (Err fault) c
+        taken_back : (number : c0.store.next ≢ 2 ^ 64 - 1) (fault : PutFault) (c : Cache Held) → IsTakenBack (rules n) (Created (length body)) (alone (entry_of key)) fault (record c0 { store = mid }) c → IsTaken (Err fault) c
         taken_back number fault c k =
             let w = max (max 1 (length body)) 1 in
             let es = evicted_of k.cause in
@@ -222,18 +219,16 @@ module _ (n : ℕ) (s : State) (t : MomentValue) (key : CacheKeyValue) (pieces :
       put-kept : (r : Result PutOutcome PutFault) (c : Cache Held) → IsWritable meta.internal → IsPut (rules n) (key_of key) meta body r c0 c → IsTaken r c
       put-kept (Ok (Stored size evicted)) c written p =
           let kept_so = p.1 in
-          let shelved = put-whole (combined (key_of key)) meta body c0.store idle (are_numbers_spent c0.store) kept_so.1 kept_so.3 in
-          stored kept_so.0 kept_so.1 kept_so.2 shelved (some-left c0.store.next kept_so.3.numbered) size evicted c p.0
-          (subst (λ (e : CacheEntryKey). IsAdmitted (rules n) e size evicted.items (record c0 { store = kept_so.1 }) c) (alone_is kept_so.0 kept_so.1 kept_so.2 shelved) kept_so.4)
+          let shelved = put-whole (combined (key_of key)) meta body c0.store idle (are_numbers_spent c0.store) kept_so.0 kept_so.2 in
+          stored kept_so.0 shelved (some-left c0.store.next kept_so.2.numbered) size evicted c p.0 kept_so.3
       put-kept (Ok (Uncacheable reason)) c written p = absurd p
       put-kept (Err fault) c written p = elim p [
         | inl out ↦ ran_out fault c out
         | inr late ↦ elim late [
           | inl spent ↦ refused fault c written spent
           | inr back ↦
-              let shelved = put-whole (combined (key_of key)) meta body c0.store idle (are_numbers_spent c0.store) back.1 back.3 in
-              taken_back back.0 back.1 back.2 shelved (some-left c0.store.next back.3.numbered) fault c
-              (subst (λ (e : CacheEntryKey). IsTakenBack (rules n) e (length body) fault (record c0 { store = back.1 }) c) (alone_is back.0 back.1 back.2 shelved) back.4)
+              let shelved = put-whole (combined (key_of key)) meta body c0.store idle (are_numbers_spent c0.store) back.0 back.2 in
+              taken_back back.0 shelved (some-left c0.store.next back.2.numbered) fault c back.3
         ]
       ]
 
