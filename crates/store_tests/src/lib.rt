@@ -2,8 +2,6 @@
 #![tactic(auto)]
 
 #[cfg(test)]
-mod chosen;
-#[cfg(test)]
 mod decisions;
 #[cfg(test)]
 mod evictions;
