@@ -2,8 +2,6 @@
 #![tactic(auto)]
 
 #[cfg(test)]
-mod chosen;
-#[cfg(test)]
 mod copies;
 #[cfg(test)]
 mod decisions;
