@@ -112,18 +112,30 @@ def applied(edits, texts):
     return taken, made
 
 
+def only(edits, texts, names, known):
+    """The words by which a check looks at the functions of the edits alone, and so not at those above them; none where one has no name of its own."""
+    words = []
+    for edit in edits:
+        own = [set()] if edit.is_outside else [names.of(path, sources.functions(texts[path])[at], known) for path, at in edit.sites]
+        if any(len(it) != 1 for it in own):
+            return []
+        words += [word for it in own for name in it for word in ("--only", name)]
+    return words
+
+
 def try_crate(crate, edits, kept, say, check=kit.check):
     """Tries the edits (their pairs by name) over kept work, and tells what came out."""
     texts = sources.texts_of(crate.folder)
     left, verdicts, rounds, halves = [Edit(name, pairs, texts) for name, pairs in sorted(edits.items())], {}, [], []
-    calls, names = Calls(texts), Names(crate.name, texts)
+    calls, names, known = Calls(texts), Names(crate.name, texts), set()
     while left:
         now, made = applied(halves.pop() if halves else next_round(left, calls), texts)
-        status, said = check(crate, {path: text for path, text in made.items() if text != texts[path]}, kept)
+        status, said = check(crate, {path: text for path, text in made.items() if text != texts[path]}, kept, *only(now, texts, names, known))
         say(f"== round of {', '.join(it.name for it in now)}\n{said}")
         report = Report(crate.name, status, said)
         if report.failure:
             return Outcome({}, rounds, report.failure)
+        known |= report.known
         halves += decide(now, report, made, names, verdicts)
         rounds.append(len(now))
         left = [it for it in left if it.name not in verdicts]

@@ -24,7 +24,7 @@ class Report:
     def __init__(self, crate, status, said):
         last = said.rstrip("\n").split("\n")[-1]
         self.crate, self.last = crate, last
-        self.reached_prover = status in (0, 1) and last.startswith("logic=")
+        self.reached_prover = status in (0, 1) and last.startswith(("logic=", "only="))
         self.is_proved = status == 0 and last.startswith("logic=proved")
         self.failure = f"a check was ended by signal {-status}" if status < 0 else None
         self.proved, self.own, self.known = set(), {}, set()
