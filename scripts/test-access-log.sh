@@ -37,4 +37,15 @@ expect() { [ "$(lengths)" = "$1" ] && grep -qx "$2" "$room/told"; }
 # what never gets a length is left out, and holds nothing else back
 { line 1 GET a '304 0'; line 2 GET b '200 7'; line 3 HEAD c '200 0'; line 4 GET d '206 9'; line 5 GET b '206 1'; } |
     expect "2:7 5:7" "lines passed over: 1 status 304 without a length, 1 method HEAD without a length, 1 status 206 without a length"
-echo "access-log-to-trace.py: as expected"
+# a response as curl prints it: the last of several heads, with a status line of HTTP/1.1
+printf 'HTTP/1.1 301 Moved\r\nLocation: /b\r\n\r\nHTTP/2 200 \r\ncache-control: max-age=5\r\n\r\nabc' |
+    python3 scripts/response-to-trace.py --at 1000 --look 6 /a 2> "$room/told" > "$room/trace"
+head=$(printf 'HTTP/1.1 200\r\ncache-control: max-age=5\r\n\r\nabc' | od -An -v -tx1 | tr -d ' \n')
+{
+    echo "{\"op\":\"put\",\"at\":1000,\"key\":\"2f61\",\"pieces\":[\"$head\"]}"
+    echo '{"op":"open","at":1006,"id":0,"key":"2f61"}'
+    echo '{"op":"look","at":1006,"id":0}'
+    echo '{"op":"drop","at":1006,"id":0}'
+} | diff - "$room/trace"
+printf '1 earlier heads left out\nthe status line of HTTP/2 is written as HTTP/1.1\n' | diff - "$room/told"
+echo "access-log-to-trace.py, response-to-trace.py: as expected"
