@@ -11,7 +11,6 @@ pub mod ShardLaws
 pub mod FaultLaws
 pub mod LoadLaws
 pub mod InverseLaws
-pub mod ReloadLaws
 pub mod TextLaws
 pub mod OneLaws
 pub mod AlikeLaws

@@ -1,2 +1,1 @@
 pub mod MetaLaws
-pub mod Refusals

@@ -2,4 +2,3 @@ pub mod Tables
 pub mod BelowLaws
 pub mod ChangeLaws
 pub mod WaitLaws
-pub mod GivenBack

@@ -1,27 +1,26 @@
 //! Permits and read locks: numbers of cores, which must be spent.
-ghost use Rattle.std.specs.Prelude.{◌≡◌, true, OnOk, OnErr};
+ghost use Rattle.std.specs.Prelude.{◌≡◌, ◌≢◌, OnOk, OnErr};
 ghost use Rattle.std.specs.FinMap as finite;
 ghost use Rattle.cache_lock.specs.Changes.{publishes};
 ghost use Rattle.cache_lock.specs.Tokens.{is_permit};
-ghost use Rattle.cache_lock.specs.Status.{is_waiting, is_end};
+ghost use Rattle.cache_lock.specs.Status.{is_waiting};
 ghost use Rattle.cache_lock.specs.State.{after, after_all, status_of};
-ghost use Rattle.cache_lock.specs.Answers.{is_stale, is_expired, status_at_moment, read_lock_of, lend_changes, unlock_changes};
+ghost use Rattle.cache_lock.specs.Answers.{is_stale, is_expired, status_at_moment, unlock_changes};
 
 use crate::key_lock::CacheKeyLock;
 use crate::status::LockStatus;
 use cache_words::time::Moment;
 use std::alloc::{AllocError, Global};
 
-/// The right to fill a key. It is spent by `release`, `unlock` or `leave`.
-#[derive(Debug, PartialEq, Eq)]
+/// The right to fill a key. It is spent by `release` or `leave`.
+#[derive(Debug)]
 pub struct WritePermit {
     /// The number of the core.
     pub number: u64,
 }
 
 impl WritePermit {
-    /// Returns a permit that names that core, for locks that are made of others. `CacheKeyLock` says what holds of a permit that no
-    /// lock gave.
+    /// Returns a permit that names that core.
     pub fn new(number: u64) -> WritePermit
         ensures { result.number ≡ number }
     {
@@ -48,9 +47,9 @@ impl WritePermit {
         }
     }
 
-    /// Spends the permit, and stores how it ended. Its key keeps the core while read locks name it.
+    /// Spends the permit, and stores how it ended; its key keeps its core. `WaitTimeout` is a reader's own, and is not stored.
     pub fn unlock<L: CacheKeyLock>(self, lock: &mut L, reason: LockStatus)
-        requires { is_end reason ≡ true }
+        requires { reason ≢ LockStatus.WaitTimeout }
         ensures { L.state lock.new ≡ after_all (unlock_changes self.number reason) (L.state lock.old) }
     {
         lock.unlock(self, reason);
@@ -74,21 +73,14 @@ impl WritePermit {
     }
 }
 
-/// A wait for the permit of a key: a name of its core, which the lock counts. It is spent by `leave`.
-#[derive(Debug, PartialEq, Eq)]
+/// A wait for the permit of a key. It is spent by `leave`.
+#[derive(Debug)]
 pub struct ReadLock {
-    pub(crate) number: u64,
+    /// The number of the core.
+    pub number: u64,
 }
 
 impl ReadLock {
-    /// Returns the number of the core.
-    pub fn number(&self) -> u64
-        ensures { result ≡ self.now.number }
-    {
-        let ReadLock { number } = self;
-        *number
-    }
-
     /// Whether the permit has not ended.
     pub fn locked<L: CacheKeyLock>(&self, lock: &L) -> bool
         ensures { result ≡ is_waiting (status_of self.now.number (L.state lock.now)) }
@@ -122,31 +114,25 @@ impl ReadLock {
 }
 
 /// The number of a core, of which read locks are made.
-#[derive(Clone, Copy, Debug, PartialEq, Eq)]
+#[derive(Debug, Drop)]
 pub struct LockStub {
     /// The number of the core.
     pub number: u64,
 }
 
 impl LockStub {
-    /// Returns a read lock of that core, which the lock counts. Returns `None`, and nothing changes, where the core isn't there, or is
-    /// named 2^64 - 1 times.
-    pub fn read_lock<L: CacheKeyLock>(&self, lock: &mut L) -> Option<ReadLock>
-        ensures answer { result ≡ read_lock_of self.now.number (finite.get (L.state lock.old).cores self.now.number) }
-        ensures change { L.state lock.new ≡ after_all (lend_changes self.now.number (finite.get (L.state lock.old).cores self.now.number)) (L.state lock.old) }
+    /// Returns a read lock that names that core.
+    pub fn read_lock(&self) -> ReadLock
+        ensures { result.number ≡ self.now.number }
     {
-        if lock.lend(self.number) {
-            Some(ReadLock {
-                number: self.number,
-            })
-        } else {
-            None
+        ReadLock {
+            number: self.number,
         }
     }
 }
 
 /// What a lock gives.
-#[derive(Debug, PartialEq, Eq)]
+#[derive(Debug)]
 pub enum Locked {
     /// The permit: nobody else fills the key.
     Write(WritePermit),

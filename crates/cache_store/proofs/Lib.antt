@@ -2,5 +2,4 @@ mod AgreeLaws
 pub mod BodyLaws
 pub mod LeftLaws
 mod LookLaws
-mod SameLaws
 mod WholeLaws

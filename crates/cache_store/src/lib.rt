@@ -7,5 +7,3 @@ pub mod laws;
 pub mod max_file_size;
 pub mod storage;
 pub mod trace;
-
-pub use storage::{HitHandler, MissHandler};

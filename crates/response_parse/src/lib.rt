@@ -1,4 +1,4 @@
-//! Responses read from their bytes, whole or in pieces: a head, by httparse, and the body that it announces; and heads alone.
+//! Responses read from their bytes, whole or in pieces: a head, by httparse, and the body that it announces.
 #![tactic(auto)]
 
 mod begun;
@@ -7,7 +7,6 @@ mod collected;
 mod front;
 mod head;
 pub mod laws;
-mod lenient;
 mod names;
 pub mod parse;
 mod position;
@@ -16,5 +15,5 @@ pub mod response;
 
 pub use body::content_length;
 pub use parse::ResponseParse;
-pub use read::{ReadHeadFault, read_head, read_response};
+pub use read::read_response;
 pub use response::{Parsed, Progress, Response, Short};

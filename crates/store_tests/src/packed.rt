@@ -14,7 +14,7 @@ struct Row {
     varies: bool,
 }
 
-const ROWS: &[Row] = &[
+const ROWS: [Row; 5] = [
     Row {
         sensitive: false,
         renewed: false,

@@ -7,8 +7,7 @@ use mem_cache::handlers::MemMissHandler;
 use std::alloc::Global;
 use std::test::*;
 
-// A look-up of a key by a tag, and what a reader of the found write reads; nothing where none is found. A tag that names no number
-// asks for the key.
+// A look-up of a key by a tag, and what a reader of the found write reads; nothing where none is found.
 #[derive(Clone, Copy)]
 struct Row {
     primary: &'static [u8],
@@ -35,15 +34,10 @@ const ROWS: &[Row] = &[
     Row {
         primary: b"aa",
         tag: Some(&[0]),
-        bytes: Some(b"first"),
+        bytes: None,
     },
     Row {
         primary: b"aa",
-        tag: None,
-        bytes: Some(b"first"),
-    },
-    Row {
-        primary: b"bb",
         tag: None,
         bytes: None,
     },
@@ -88,7 +82,7 @@ fn row_holds(store: &mut MemCache, alloc: Global, row: Row) -> Option<bool> {
                 _ => Some(false),
             }
         }
-        Ok(None) => Some(row.tag.is_none() && row.bytes.is_none()),
+        Ok(None) => Some(false),
         Err(fault) => Some(fault == StoreFault::WriteRemoved && row.bytes.is_none()),
     }
 }

@@ -1,12 +1,12 @@
 //! What a whole response gives.
-use crate::state::Body;
+use crate::state::FinishedBody;
 use cache_heads::NoCacheReason;
 
 /// What the bytes of a whole response give at the moment at which they come.
 #[derive(Debug, Drop)]
 pub enum Whole {
     /// A body to store.
-    Stored(Body),
+    Stored(FinishedBody),
     /// A whole response that may not be kept, and why.
     Uncacheable(NoCacheReason),
     /// The response ends too early.

@@ -9,7 +9,7 @@ use std::hash::BuildHasher;
 use std::marker::Model;
 
 // Values by numbers: a finite map.
-#[derive(Debug, Drop)]
+#[derive(Drop)]
 pub struct ByNumber<V: Drop, S: BuildHasher> {
     table: HashMap<u64, V, S>,
 }

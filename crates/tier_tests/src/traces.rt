@@ -1,5 +1,0 @@
-//! Trace lines and the program that replays them.
-mod lines;
-mod lockstep;
-mod options;
-mod streams;

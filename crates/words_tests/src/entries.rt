@@ -1,4 +1,0 @@
-//! Entries and their texts.
-mod refused;
-mod texts;
-mod values;
