@@ -13,7 +13,7 @@ use Rattle.cache_evict.specs.Faults.{IsPutRefused}
 use Rattle.cache_evict.specs.Managed.{Managed, rows_of, use_first, taken_out, total_size, IsHeavy, IsLong, IsFull, IsSharded}
 use Rattle.tier_model.specs.Keys.{entry_of, alone, stored_key_of}
 use Rattle.tier_model.specs.declared.event.Action.TheVariants.{LookUp}
-use Rattle.tier_model.specs.declared.event.Answer.TheVariants.{Found}
+use Rattle.tier_model.specs.declared.event.Answer.TheVariants.{Found, Absent}
 use Rattle.tier_model.specs.declared.state.Phase.TheVariants.{Hit, Stale}
 use Rattle.tier_model.specs.declared.state.Reader.TheVariants.{Unread}
 use Rattle.tier_model.specs.declared.event.TierFault.{TierFault}
@@ -91,6 +91,11 @@ module _ (s : State) (t : MomentValue) (i : ℕ) (q : Request) (there : Some q �
 
   pub look-absent : (new : State) → None ≡ body_for q s.bodies → new ≡ record s { requests = insert s.requests i (looked t q None); absent = counted s.absent 1 } → new ≡ on_request s (get s.requests i) (λ q. after_look_up s t i q (body_for q s.bodies))
   look-absent new found is = look-after new None found is
+
+  pub look-none : None ≡ body_for q s.bodies → AllowsUnrefused s t (LookUp i) (Ok Absent)
+  look-none none =
+      subst (λ (o : Option Request). MatchOption o ⊥ (λ q. (Absent ≡ look_answer t (body_for q s.bodies)) × UseFits s q)) there
+      (subst (λ (o : Option Body). (Absent ≡ look_answer t o) × MatchOption o (Unit {0}) (λ b. Fits (used s q.entry b))) none (refl, tt))
 
   module _ (n w : ℕ) (b : Body) (seen : Seen) (saw : seen ≡ seen_of b) (k : IsSharded n s.managed) (weighs : w ≡ weight_for b) (found : Some b ≡ body_for q s.bodies) where
     here : (P : Managed → Type 0) → P (use_first n q.entry w s.managed) → P (used s q.entry b)

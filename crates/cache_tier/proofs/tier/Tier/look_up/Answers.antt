@@ -8,7 +8,7 @@ use Rattle.cache_tier.proofs.ShardLaws.{kept-use}
 use Rattle.cache_tier.specs.Bodies.{bodies_in, seen_of}
 use Rattle.cache_tier.specs.declared.bodies.Seen.{Seen}
 use Rattle.tier_model.specs.declared.state.Body.{Body}
-use Rattle.cache_tier.proofs.UseLaws.{max_twice, unseen, is-seen, look-absent, look-found, look-allowed, look-refused, no_weight}
+use Rattle.cache_tier.proofs.UseLaws.{max_twice, unseen, is-seen, look-absent, look-none, look-found, look-allowed, look-refused, no_weight}
 use Rattle.cache_tier.proofs.tier.Tier.look_up.Goals as goal
 
 pub returns-in_default-found-clause-after : goal.returns-in_default-found-clause-after
@@ -18,6 +18,17 @@ returns-in_default-found-clause-after g c =
     let none : None ≡ body_of (stored_key (key_of q.entry)) (bodies_in c.self.inside.parts.store.store.bodies) = unseen _ (sym c.in_default-found.is ∙ looked) in
     let handed = (c.update-old.ensures.some q (sym c.in-Some.ensures)).1 in
     rw (← c.self.view_is) (look-absent _ c.args.moment c.args.id q c.in-Some.ensures _ none (rw (handed, c.saturating_add-self-inside.ensures) refl))
+
+pub returns-in_default-found-clause-allowed : goal.returns-in_default-found-clause-allowed
+returns-in_default-found-clause-allowed g c =
+    let q = c.in-Some.request.now in
+    let s : State = record { managed = c.self.inside.parts.manager; age = c.self.inside.age; wait = c.self.inside.wait; bodies = bodies_in c.self.inside.parts.store.store.bodies; requests = c.self.inside.requests; found = c.self.inside.found; absent = c.self.inside.absent; writes = c.self.inside.parts.store.next } in
+    let looked : c.in-Ok.found ≡ option_map seen_of (body_of (stored_key (key_of q.entry)) (bodies_in c.self.inside.parts.store.store.bodies)) = rw (c.stored_key.ensures, c.key.ensures) at c.in-Ok.ensures.found in
+    let none : None ≡ body_of (stored_key (key_of q.entry)) (bodies_in c.self.inside.parts.store.store.bodies) = unseen _ (sym c.in_default-found.is ∙ looked) in
+    rw (← c.self.view_is) (look-none s c.args.moment c.args.id q c.in-Some.ensures none)
+
+pub invariant_of-self-in-Err : goal.invariant_of-self-in-Err
+invariant_of-self-in-Err g c = (rw c.in-Err.ensures.err c.self.invariant.0, c.self.invariant.1)
 
 pub invariant_of-self-2 : goal.invariant_of-self-2
 invariant_of-self-2 g c = (rw c.in_default-access.ensures.ok (kept-use g.row.N c.self.inside.parts.manager c.self.invariant.0 _ _), c.self.invariant.1)
