@@ -1,6 +1,7 @@
 //! What travels to an actor.
 
 use crossbeam_channel::Sender;
+use lru_core::lru_unit::LruFault;
 use shard_actors::Message;
 use std::alloc::AllocError;
 
@@ -9,6 +10,8 @@ use std::alloc::AllocError;
 pub(crate) enum Command<K> {
     // Apply the message.
     Apply(Message<K>),
+    // Put the key under a new hash at the back, and tell whether it was new, or why it was refused.
+    InsertTail(u64, K, usize, Sender<Result<bool, LruFault<K>>>),
     // Move the hash to the front, and tell whether it was there.
     Promote(u64, Sender<bool>),
     // Tell the weight of the hash.
@@ -19,6 +22,6 @@ pub(crate) enum Command<K> {
     Snapshot(Sender<Result<Vec<(K, usize)>, AllocError>>),
     // Tell the weight of all rows.
     Weigh(Sender<usize>),
-    // Take the last row out, if a limit is passed.
-    Evict(Sender<Option<(K, usize)>>),
+    // Take last rows out while a limit is passed, into the room that is handed over.
+    Evict(Vec<(K, usize)>, Sender<Vec<(K, usize)>>),
 }

@@ -1,12 +1,14 @@
 //! Counters of all rows and of the evicted ones, and the limits that they are held against.
 
+use crate::gate::Gate;
 use lru_core::lru_unit::LruUnit;
 use std::alloc::{AllocError, Global};
 use std::hash::BuildHasher;
+use std::sync::Wait;
 use std::sync::atomic::{AtomicBool, AtomicUsize, Ordering};
 
 // How many rows all shards have and their weight, and the same of the evicted rows, which wrap; how many rows each shard has; the
-// limits; and whether the threads are to end.
+// limits; how far callers are ahead; and whether the threads are to end.
 #[derive(Drop)]
 pub(crate) struct Counts {
     pub(crate) len: AtomicUsize,
@@ -14,6 +16,7 @@ pub(crate) struct Counts {
     pub(crate) evicted_len: AtomicUsize,
     pub(crate) evicted_weight: AtomicUsize,
     pub(crate) shard_lens: Vec<AtomicUsize>,
+    pub(crate) gate: Gate,
     pub(crate) closing: AtomicBool,
     weight_limit: usize,
     len_watermark: Option<usize>,
@@ -52,6 +55,7 @@ impl Counts {
             evicted_len: AtomicUsize::new(0),
             evicted_weight: AtomicUsize::new(0),
             shard_lens,
+            gate: Gate::new(),
             closing: AtomicBool::new(false),
             weight_limit,
             len_watermark,
@@ -67,6 +71,17 @@ impl Counts {
             Some(mark) => self.len.load(Ordering::SeqCst) > mark,
             None => false,
         }
+    }
+
+    // Whether no limit is passed. The messages that were applied before are no longer ahead then.
+    pub(crate) fn settle<R: Wait>(&self, rt: &R) -> bool {
+        let applied = self.gate.take_applied();
+        if self.is_over() {
+            self.gate.put_back(applied);
+            return false;
+        }
+        self.gate.leave(rt, applied);
+        true
     }
 
     // How many rows a shard has.

@@ -4,10 +4,11 @@ ghost use Rattle.std.specs.Prelude.{◌≡◌, ◌<◌, vec_len, IfOk};
 
 use crate::command::Command;
 use crate::counts::Counts;
+use crate::evictor::Evictor;
 use crate::fault::BuildFault;
 use crate::plan::Wires;
 use crate::start::{start_actors, start_evictors};
-use crate::threads::{Actor, Evictor};
+use crate::threads::Actor;
 use crossbeam_channel::{Receiver, Sender, bounded};
 use rand_core::Rng;
 use secret_hasher::SecretHasher;

@@ -6,7 +6,7 @@
 
 pub use builder::AsyncLruBuilder;
 pub use callback::AsyncEvictionCallback;
-pub use fault::{BuildFault, SendFault};
+pub use fault::{BuildFault, SendFault, TailFault};
 pub use hash::hash_key;
 pub use running::AsyncLru;
 pub use shard_actors::{Event, Message, Outcome, ShardActor, StepFault, World};
@@ -16,7 +16,9 @@ mod callback;
 mod command;
 mod counts;
 mod crew;
+mod evictor;
 mod fault;
+mod gate;
 mod hash;
 mod pick;
 mod plan;

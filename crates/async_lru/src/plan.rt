@@ -4,7 +4,8 @@ ghost use Rattle.std.specs.Prelude.{◌≡◌, ◌<◌, vec_len, IfOk};
 
 use crate::command::Command;
 use crate::counts::Counts;
-use crate::threads::{Actor, Evictor};
+use crate::evictor::{Evictor, MOST_AT_ONCE};
+use crate::threads::Actor;
 use crossbeam_channel::{Receiver, Sender, bounded, unbounded};
 use secret_hasher::SecretHasher;
 use shard_actors::ShardActor;
@@ -19,6 +20,8 @@ pub(crate) struct Wires<K> {
     pub(crate) woken: Receiver<()>,
     pub(crate) dispatch: Sender<(K, usize)>,
     pub(crate) dispatched: Receiver<(K, usize)>,
+    // Whether there are eviction workers.
+    evicts: bool,
 }
 
 impl<K: Drop> Wires<K> {
@@ -36,6 +39,7 @@ impl<K: Drop> Wires<K> {
             woken,
             dispatch,
             dispatched,
+            evicts: workers > 0,
         })
     }
 
@@ -55,6 +59,7 @@ impl<K: Drop> Wires<K> {
             commands,
             counts: Arc::try_clone(&self.counts)?,
             wake: self.wake.clone()?,
+            evicts: self.evicts,
         };
         Ok((to, actor))
     }
@@ -121,7 +126,7 @@ impl<K: Drop> Wires<K> {
             reply,
             replies,
             dispatch: self.dispatch.clone()?,
-            pending: None,
+            pending: Some(Vec::with_capacity(alloc, MOST_AT_ONCE)?),
         })
     }
 }

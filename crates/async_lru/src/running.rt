@@ -19,9 +19,13 @@ use std::sync::atomic::Ordering;
 ///
 /// Callers in several threads may share one by reference. The threads end by `shutdown`, so each value must be given to it.
 ///
+/// Callers that change rows wait where 256 messages are ahead, over all shards: messages that no actor has applied, and those applied
+/// while a limit was passed, until an eviction worker finds the limits kept. So no more rows are past a limit than 256 and one a caller,
+/// as far as there are eviction workers with memory for what they evict.
+///
 /// Nothing is claimed of what the counters show, nor that a message arrives. A message that its shard refuses, for memory,
-/// weight or length, is dropped with its key. An evicted pair that can't be dispatched, for want of memory, waits at its eviction
-/// worker, which evicts nothing until it is; one for which there is no memory at the shutdown either is dropped.
+/// weight or length, is dropped with its key. Evicted pairs that can't be dispatched, for want of memory, wait at their eviction
+/// worker, which evicts nothing until they are; those for which there is no memory at the shutdown either are dropped.
 pub struct AsyncLru<K, const N: usize> {
     pub(crate) crew: Crew<K>,
     pub(crate) weight_limit: usize,

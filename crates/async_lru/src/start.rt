@@ -3,8 +3,9 @@
 ghost use Rattle.std.specs.Arc.{arc_value};
 
 use crate::callback::AsyncEvictionCallback;
+use crate::evictor::Evictor;
 use crate::fault::BuildFault;
-use crate::threads::{Actor, Evictor, call_back};
+use crate::threads::{Actor, call_back};
 use crossbeam_channel::{Receiver, Sender};
 use rand_core::Rng;
 use std::sync::{Arc, Wait};

@@ -1,7 +1,7 @@
 //! Entries in N shards, each with an actor.
 
 ghost use Rattle.std.specs.Prelude.{◌≡◌, ◌%◌, ◌<◌, List, None, IfOk, IfErr};
-ghost use Rattle.async_lru.specs.Faults.{unsent};
+ghost use Rattle.async_lru.specs.Faults.{ComesBackUnsent, unsent};
 ghost use Rattle.async_lru.specs.Hashes.{key_hash};
 ghost use Rattle.cache_entries.specs.Entry.{entry_writes};
 ghost use Rattle.cache_entries.specs.RowText.{recency_text};
@@ -12,7 +12,7 @@ ghost use Rattle.cache_evict.specs.Parts.{entry_with_parts};
 use crate::builder::ManagerBuilder;
 use crate::fault::TextFault;
 use crate::texts::text_of_snapshot;
-use async_lru::{AsyncLru, SendFault, hash_key};
+use async_lru::{AsyncLru, SendFault, TailFault, hash_key};
 use cache_entries::entry::{CacheEntryId, CacheEntryKey, CacheEntryKeyRef};
 use cache_evict::KeyParts;
 use cache_words::time::Moment;
@@ -24,7 +24,7 @@ use std::sync::Wait;
 ///
 /// Calls that change a shard are messages to its actor and take effect later; nothing is claimed of when, nor of what the counters
 /// show. A message that its shard refuses, for memory, weight or length, is dropped and changes nothing: an entry that was not
-/// tracked stays untracked, so it is never evicted, and no answer tells. Evicted entries go to the callback. Callers in several
+/// tracked stays untracked, so it is never evicted, and of all calls only `insert_tail` tells. Evicted entries go to the callback. Callers in several
 /// threads may share a manager by reference. The threads end by `shutdown`, so each value must be given to it.
 ///
 /// Rows are named by the entries' 64-bit hashes, which start at a fixed place: two entries of one hash share a row. The one that
@@ -117,6 +117,24 @@ impl<const N: usize> Manager<N> {
         ensures back { IfErr result (λ fault. unsent fault ≡ item) }
     {
         self.lru.admit(rt, item, size)
+    }
+
+    /// Puts an entry at the back of its shard, with its weight as it is, and waits until that is done: returns whether it is newly
+    /// tracked. Nothing changes if its hash is tracked. So a load that inserts the rows of a text in order can count what was refused.
+    ///
+    /// # Errors
+    ///
+    /// The entry was not sent, and comes back; or its shard has no memory or no room for one more, or its weight would pass its
+    /// bound, which is `Refused`.
+    pub fn insert_tail<R: Wait>(
+        &self,
+        rt: &R,
+        item: CacheEntryKey,
+        size: usize,
+    ) -> Result<bool, TailFault<CacheEntryKey>>
+        ensures back { IfErr result (ComesBackUnsent item) }
+    {
+        self.lru.insert_tail_checked(rt, item, size)
     }
 
     /// Adds `delta` to the weight of an entry, up to `max_weight` but never down, and moves the entry to the front of its shard;

@@ -1,6 +1,6 @@
 -- What directives say to a shared cache (RFC 9111, 3, 3.5, 4.2.1, 4.2.4 and 5.2.2; RFC 5861). A list of directives has
 -- each name once.
-use Rattle.std.specs.Prelude.{ℕ, Bool, ◌||◌, if◌then◌else◌, List, [], Option, Some, None, option_map, unwrap_or, codes, fold}
+use Rattle.std.specs.Prelude.{ℕ, Bool, ◌||◌, if◌then◌else◌, List, [], Option, Some, None, option_map, unwrap_or, is_some, codes, fold}
 use Rattle.http_header.specs.HeaderMap.{Entries, remove}
 use Rattle.http_header.specs.Token.{lowercase}
 use Rattle.cache_directives.specs.Written.{Written}
@@ -53,6 +53,10 @@ forbids_stale ds = has (codes "must-revalidate") ds || has (codes "proxy-revalid
 -- the seconds for which a stale response may be served under a name, where the directives say
 abbrev pub stale_window : List ℕ → List Written → Option ℕ
 stale_window name ds = if forbids_stale ds then Some 0 else seconds_under name ds
+
+-- `private` or `no-cache` has a value, which lists fields
+abbrev pub lists_fields : List Written → Bool
+lists_fields ds = is_some (value_under (codes "private") ds) || is_some (value_under (codes "no-cache") ds)
 
 -- the head without the fields of these names
 abbrev pub without : {X : Type 0} → Entries X → List (List ℕ) → Entries X

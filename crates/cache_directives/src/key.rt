@@ -1,6 +1,6 @@
 //! Names of directives.
 ghost use Rattle.std.specs.Char.{to_ascii_lowercase};
-ghost use Rattle.std.specs.Prelude.{◌≡◌, ◌↔◌, map, IsTrue, IfOk, IfSome, IfNone, Some, false, is_some, nat_eq, slice_get, string_bytes};
+ghost use Rattle.std.specs.Prelude.{◌≡◌, ◌↔◌, map, IsTrue, IfOk, OnErr, IfSome, IfNone, Some, false, is_some, nat_eq, slice_get, string_bytes};
 ghost use Rattle.std.specs.Str.{is_utf8};
 ghost use Rattle.std.specs.Hash as fed;
 ghost use Rattle.std.specs.Cmp.{on_equiv, on_per, partial_equiv_from_equiv};
@@ -120,6 +120,7 @@ impl DirectiveKey {
     pub fn from_lowercase(alloc: Global, name: &str) -> Result<Self, AllocError>
         ensures name { IfOk result (λ key. name_of key ≡ name.now) }
         ensures own { IfOk result IsOwnKey }
+        ensures memory { OnErr result (has_own_variant name.now ≡ false) }
     {
         match DirectiveKey::known(name.as_bytes()) {
             Some(key) => Ok(key),

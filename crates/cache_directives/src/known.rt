@@ -10,7 +10,7 @@ ghost use Rattle.cache_directives.specs.Names.{place_of};
 ghost use Rattle.cache_directives.specs.Keeps.{keep, keep_line, value_named, value_under, has, is_alone};
 ghost use Rattle.cache_directives.specs.Control.{lines_under, named};
 ghost use Rattle.cache_directives.specs.Seconds.{delta_seconds};
-ghost use Rattle.cache_directives.specs.Lifetime.{forbids_storing, lifetime, forbids_stale, stale_window, stripped};
+ghost use Rattle.cache_directives.specs.Lifetime.{forbids_storing, lifetime, forbids_stale, stale_window, lists_fields, stripped};
 ghost use Rattle.cache_directives.specs.Known.{said_in, Knows};
 
 use crate::line::{RawDirective, Scan};
@@ -215,7 +215,8 @@ impl<'a> KnownDirectives<'a> {
 
     /// Returns whether `private` or `no-cache` lists fields, which are removed from what is kept (RFC 9111, 5.2.2.4 and 5.2.2.7).
     pub fn lists_fields(&self) -> bool
-        ensures { result ≡ false → (ds : List Written) → Knows self.now ds → (head : Entries FieldValue) → stripped head ds ≡ head }
+        ensures exact { (ds : List Written) → Knows self.now ds → result ≡ lists_fields ds }
+        ensures none { result ≡ false → (ds : List Written) → Knows self.now ds → (head : Entries FieldValue) → stripped head ds ≡ head }
     {
         self.value(PRIVATE).is_some() || self.value(NO_CACHE).is_some()
     }

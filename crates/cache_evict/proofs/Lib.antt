@@ -11,6 +11,7 @@ pub mod ShardLaws
 pub mod FaultLaws
 pub mod LoadLaws
 pub mod InverseLaws
+pub mod ReloadLaws
 pub mod TextLaws
 pub mod OneLaws
 pub mod AlikeLaws

@@ -3,7 +3,7 @@ use Rattle.std.specs.Prelude.{◌≡◌, ℕ, ◌^◌, ◌≤◌, ◌⊎◌, Lis
 use Rattle.cache_entries.specs.declared.entry.CacheEntryKey.{CacheEntryKey}
 use Rattle.cache_entries.specs.declared.rows.Tracked.{Tracked}
 use Rattle.cache_entries.specs.Entry.{key_of}
-use Rattle.cache_entries.specs.RowText.{RowsRead, SpellsRecency}
+use Rattle.cache_entries.specs.RowText.{RowsRead, SpellsRecency, recency_at}
 use Rattle.cache_entries.specs.Rows.{row_of, weight_of, admitted}
 use Rattle.cache_words.specs.declared.pack.fault.PackFault.{PackFault}
 use Rattle.cache_evict.specs.declared.load_fault.LoadFault.{LoadFault}
@@ -70,3 +70,15 @@ HasLongTag (r ∷ rows) = (2 ^ 32 ≤ length (key_of r.entry).user_tag) ⊎ HasL
 -- no form counts the rows, or the bytes of some tag
 abbrev pub CantBeWritten : List Tracked → Type 0
 CantBeWritten rows = (2 ^ 32 ≤ length rows) ⊎ HasLongTag rows
+
+-- each text is a spelling of the rows of its shard, and none is left over
+abbrev pub SpellEach : List (List Tracked) → List (List ℕ) → Type 0
+SpellEach [] [] = Unit {0}
+SpellEach [] (text ∷ texts) = ⊥
+SpellEach (rows ∷ shards) [] = ⊥
+SpellEach (rows ∷ shards) (text ∷ texts) = SpellsRecency rows text × SpellEach shards texts
+
+-- of n shards, the texts are loaded in turn, and none is refused
+abbrev pub LoadsInTurn : ℕ → List (List ℕ) → Managed → Managed → Type 0
+LoadsInTurn n [] old new = new ≡ old
+LoadsInTurn n (text ∷ texts) old new = (mid : Managed) × Loads PassedOver n (recency_at text) old mid (Ok (tt {0})) × LoadsInTurn n texts mid new

@@ -1,13 +1,13 @@
 //! Laws of managers. Each is the contract of a function with an empty body.
 
-ghost use Rattle.std.specs.Prelude.{◌≡◌, ◌<◌, ℕ, List, [], length, slice_set};
+ghost use Rattle.std.specs.Prelude.{◌≡◌, ◌<◌, ℕ, List, [], length, slice_set, Option};
 ghost use Rattle.std.specs.List.{AllByRecursion};
 ghost use Rattle.cache_entries.specs.Rows.{AreDistinct};
 ghost use Rattle.cache_entries.specs.declared.rows.Tracked.{Tracked};
-ghost use Rattle.cache_evict.specs.Loads.{appended, restored, all_put};
+ghost use Rattle.cache_evict.specs.Loads.{appended, restored, all_put, SpellEach, LoadsInTurn};
 ghost use Rattle.rand_core.specs.Stream.{Stream};
 ghost use Rattle.cache_entries.specs.declared.entry.CacheEntryKey.{CacheEntryKey};
-ghost use Rattle.cache_evict.specs.Managed.{Managed, rows_at, shard_of};
+ghost use Rattle.cache_evict.specs.Managed.{Managed, IsSharded, fresh, rows_at, shard_of};
 ghost use Rattle.cache_evict.specs.Runs.{Call, AreSized, Runs};
 
 use crate::manager::EvictionManager;
@@ -33,4 +33,10 @@ pub fn written_rows_are_read()
         → all_put (appended n) rows m ≡ record m { shards = slice_set m.shards s rows } }
     ensures restored { (n s : ℕ) (m : Managed) → s < length m.shards → (rows : List Tracked) → rows_at m.shards s ≡ [] → AreDistinct rows → AllByRecursion (λ r. shard_of n r.entry ≡ s) rows
         → all_put (restored n) rows m ≡ record m { shards = slice_set m.shards s rows } }
+{}
+
+/// The texts of all shards, loaded in turn into as many fresh shards, give the same shards, whatever the limits are.
+pub fn saved_shards_are_loaded()
+    ensures { (n limit : ℕ) (watermark : Option ℕ) (m new : Managed) (texts : List (List ℕ)) → IsSharded n m → SpellEach m.shards texts
+        → LoadsInTurn n texts (fresh n limit watermark) new → new.shards ≡ m.shards }
 {}

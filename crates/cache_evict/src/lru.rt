@@ -28,8 +28,8 @@ use std::marker::Model;
 /// Entries in N shards, each most recent first, under a limit on their weight and perhaps on their number. An entry is in the
 /// shard of its hash modulo N.
 ///
-/// With the default hasher it is for entries that the caller chooses itself; with one whose start the caller takes at random,
-/// strangers can't choose entries that slow look-ups down, neither of their numbers nor of the numbers' rows.
+/// With the default hasher it is for entries that the caller chooses itself. For entries that strangers choose the start is to be
+/// random and secret, as a `SecretHasher`: no choice of keys, tags and ids takes it out of the hashes of entries and numbers.
 #[derive(Drop)]
 pub struct Manager<const N: usize, S: BuildHasher = BuildHasherDefault<FoldHasher>> {
     tracker: Tracker<N, S>,

@@ -25,8 +25,8 @@ use std::marker::Model;
 /// Entries in one list, most recent first, under a limit on their weight and perhaps on their number. Where a limit is passed
 /// the last entry goes, so nothing is drawn.
 ///
-/// With the default hasher it is for entries that the caller chooses itself; with one whose start the caller takes at random,
-/// strangers can't choose entries that slow look-ups down, neither of their numbers nor of the numbers' rows.
+/// With the default hasher it is for entries that the caller chooses itself. For entries that strangers choose the start is to be
+/// random and secret, as a `SecretHasher`: no choice of keys, tags and ids takes it out of the hashes of entries and numbers.
 pub type Manager<S = BuildHasherDefault<FoldHasher>> = OneList<1, S>;
 
 /// A `Manager`, whose N is 1.

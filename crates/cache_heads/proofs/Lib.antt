@@ -1,1 +1,2 @@
 pub mod MetaLaws
+pub mod Refusals

@@ -21,20 +21,20 @@ use Rattle.cache_lock.proofs.Tables.{keys_tie}
 -- ---- look-ups after a change
 
 module _ {X : Type 0} (m : FinMap nat_cmp X) (k q : ℕ) where
-  get-put : (v : X) → get (insert m k v) q ≡ cond (q == k) (Some v) (get m q)
+  pub get-put : (v : X) → get (insert m k v) q ≡ cond (q == k) (Some v) (get m q)
   get-put v = get-insert nat_cmp_total m k v q ∙ ap (λ (t : Bool). cond t (Some v) (get m q)) (unsigned_tied q k)
 
-  get-out : get (remove m k) q ≡ cond (q == k) None (get m q)
+  pub get-out : get (remove m k) q ≡ cond (q == k) None (get m q)
   get-out = get-remove nat_cmp_total m k q ∙ ap (λ (t : Bool). cond t None (get m q)) (unsigned_tied q k)
 
 module _ (m : FinMap (slice_cmp nat_cmp) ℕ) (k q : List ℕ) where
-  key-put : (v : ℕ) → get (insert m k v) q ≡ cond (same_key q k) (Some v) (get m q)
+  pub key-put : (v : ℕ) → get (insert m k v) q ≡ cond (same_key q k) (Some v) (get m q)
   key-put v = get-insert nat_list_cmp_total m k v q ∙ ap (λ (t : Bool). cond t (Some v) (get m q)) (sym (keys_tie q k))
 
-  key-out : get (remove m k) q ≡ cond (same_key q k) None (get m q)
+  pub key-out : get (remove m k) q ≡ cond (same_key q k) None (get m q)
   key-out = get-remove nat_list_cmp_total m k q ∙ ap (λ (t : Bool). cond t None (get m q)) (sym (keys_tie q k))
 
-number : (a b : ℕ) → (a == b) ≡ true → a ≡ b
+pub number : (a b : ℕ) → (a == b) ≡ true → a ≡ b
 number a b e = eqb-true a b e
 
 key : (a b : List ℕ) → same_key a b ≡ true → a ≡ b

@@ -2,3 +2,4 @@ pub mod Tables
 pub mod BelowLaws
 pub mod ChangeLaws
 pub mod WaitLaws
+pub mod GivenBack

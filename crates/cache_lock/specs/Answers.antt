@@ -1,11 +1,12 @@
 -- What a lock answers in a state, and what each answer changes.
-use Rattle.std.specs.Prelude.{◌≡◌, ℕ, ◌-◌, ◌^◌, Bool, true, false, ◌&&◌, List, [], ◌∷◌, Option, Some, None, option_map, if◌then◌else◌}
+use Rattle.std.specs.Prelude.{◌≡◌, ℕ, ◌-◌, ◌^◌, ◌==◌, not, Bool, true, false, ◌&&◌, List, [], ◌∷◌, Option, Some, None, option_map, if◌then◌else◌}
 use Rattle.std.specs.FinMap.{get}
 use Rattle.cache_words.specs.Time.{MomentValue, elapsed, at_least}
 use Rattle.cache_lock.specs.declared.lock_core.HeldCore.{HeldCore}
 use Rattle.cache_lock.specs.declared.lock_core.LockCore.{LockCore}
 use Rattle.cache_lock.specs.declared.status.LockStatus.{LockStatus}
 use Rattle.cache_lock.specs.declared.status.LockStatus.TheVariants.{Dangling, AgeTimeout}
+use Rattle.cache_lock.specs.declared.tokens.ReadLock.{ReadLock}
 use Rattle.cache_lock.specs.declared.tokens.Locked.{Locked}
 use Rattle.cache_lock.specs.declared.tokens.Locked.TheVariants.{Write, Read}
 use Rattle.cache_lock.specs.declared.fault.LockFault.{LockFault}
@@ -16,7 +17,7 @@ use Rattle.cache_lock.specs.declared.fills.WaitOutcome.TheVariants.{Released, Ag
 use Rattle.cache_lock.specs.Status.{is_waiting, is_aged, is_replaced}
 use Rattle.cache_lock.specs.Fills.{fill_among}
 use Rattle.cache_lock.specs.Changes.{Change, gives, lends, stores, takes_out, spends}
-use Rattle.cache_lock.specs.State.{LockState, status_of, tokens_of}
+use Rattle.cache_lock.specs.State.{LockState, after, after_all, status_of, tokens_of}
 
 -- the core that who asks for a key is to wait for: the key's, unless its status is Dangling or AgeTimeout
 abbrev pub waited_for : LockState → Option ℕ → Option ℕ
@@ -46,6 +47,18 @@ IsRefused s o CoreNumbersSpent = IsSpent s o
 IsRefused s None Memory = IsSpent s None → ⊥
 IsRefused s (Some n) Memory = ⊥
 
+-- the core is there, and can be named once more
+abbrev pub is_lendable : Option HeldCore → Bool
+is_lendable None = false
+is_lendable (Some c) = not (c.names == 2 ^ 64 - 1)
+
+-- a read lock that is asked for by the core's number
+abbrev pub read_lock_of : ℕ → Option HeldCore → Option ReadLock
+read_lock_of n o = if is_lendable o then Some (record { number = n }) else None
+
+abbrev pub lend_changes : ℕ → Option HeldCore → List Change
+lend_changes n o = if is_lendable o then lends n ∷ [] else []
+
 -- what a release stores: its reason, where the key has a core
 abbrev pub reason_stored : LockStatus → Option ℕ → LockStatus
 reason_stored reason None = Dangling
@@ -66,6 +79,10 @@ abbrev pub leave_changes : Locked → List Change
 leave_changes (Write permit) = spends permit.number ∷ stores permit.number Dangling ∷ []
 leave_changes (Read reader) = spends reader.number ∷ []
 
+-- what a lock of a key that is given and left at once leaves of a state
+abbrev pub given_back : List ℕ → Bool → MomentValue → LockState → LockState
+given_back key stale moment s = after_all (leave_changes (locked_by s (to_wait_for key s))) (after (lock_change key stale moment s (to_wait_for key s)) s)
+
 -- the permit is at least as old as its age
 abbrev pub is_over_age : LockCore → MomentValue → Bool
 is_over_age core moment = at_least (elapsed core.lock_start moment) core.age_timeout
@@ -84,6 +101,15 @@ wait_outcome n fills moment s = outcome (get s.cores n) (tokens_of n s) fills mo
 abbrev pub poll_changes : ℕ → Option WaitOutcome → List Change
 poll_changes n (Some Aged) = stores n AgeTimeout ∷ []
 poll_changes n _ = []
+
+-- nobody who asks for a lock or waits can tell the states apart: each core is the same, each key has the same core to wait for, and
+-- each wait ends the same way. The next number may be another, and a core that nobody is to wait for may have left its key
+pub record IsAsBefore (new old : LockState) : Type 0 where
+  pub cores : new.cores ≡ old.cores
+  pub age : new.age ≡ old.age
+  pub current : (key : List ℕ) (n : ℕ) → get new.current key ≡ Some n → get old.current key ≡ Some n
+  pub asked : (key : List ℕ) → to_wait_for key new ≡ to_wait_for key old
+  pub outcomes : (n : ℕ) (fills : List UnusableFill) (moment : MomentValue) → wait_outcome n fills moment new ≡ wait_outcome n fills moment old
 
 -- what a permit and a read lock tell of their core
 abbrev pub is_stale : Option HeldCore → Bool

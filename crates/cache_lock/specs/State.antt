@@ -93,9 +93,13 @@ abbrev pub after_all : List Change → LockState → LockState
 after_all [] s = s
 after_all (c ∷ before) s = after c (after_all before s)
 
--- each core's number is below a bound
-abbrev pub HasNumbersBelow : ℕ → FinMap nat_cmp HeldCore → Type 0
-HasNumbersBelow bound cores = (n : ℕ) (c : HeldCore) → get cores n ≡ Some c → n < bound
+-- each core's number is below a bound, and a permit or read lock names it
+abbrev pub AreNamedBelow : ℕ → FinMap nat_cmp HeldCore → Type 0
+AreNamedBelow bound cores = (n : ℕ) (c : HeldCore) → get cores n ≡ Some c → (n < bound) × (0 < c.names)
+
+-- of each lock: cores are those that are named, and none has a number that is still to come
+abbrev pub IsSound : LockState → Type 0
+IsSound s = AreNamedBelow s.next s.cores
 
 -- without permits
 abbrev pub empty_lock : DurationValue → LockState

@@ -32,6 +32,12 @@ status_name Dangling = codes "Dangling"
 status_name WaitTimeout = codes "WaitTimeout"
 status_name AgeTimeout = codes "AgeTimeout"
 
+-- a permit may end with it: it is neither Waiting nor a reader's own WaitTimeout
+abbrev pub is_end : LockStatus → Bool
+is_end Waiting = false
+is_end WaitTimeout = false
+is_end _ = true
+
 -- the permit is held, and no poll has found it past its age
 abbrev pub is_waiting : LockStatus → Bool
 is_waiting Waiting = true

@@ -16,8 +16,8 @@ pub struct UnusableFill {
     pub reason: &'static str,
 }
 
-/// The fills that a reader can't use, those first that are to be told first.
-#[derive(Debug, Drop)]
+/// The fills that a reader can't use. Where several of them are published, the reader is told of the one that comes first.
+#[derive(Clone, Debug, PartialEq, Eq, Drop)]
 pub struct UnusableFills {
     fills: Vec<UnusableFill>,
 }
@@ -111,7 +111,7 @@ impl LockWaitOutcome {
 }
 
 // The tokens that a writer published last.
-#[derive(Drop)]
+#[derive(Debug, Drop)]
 pub(crate) struct PublishedTokens {
     tokens: Vec<u64>,
 }

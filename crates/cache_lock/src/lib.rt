@@ -1,6 +1,7 @@
 //! One writer a key: who asks while a permit waits, waits; and nobody waits for ever.
 #![tactic(auto)]
 
+mod boxed;
 mod fault;
 mod fills;
 mod key_lock;

@@ -23,7 +23,7 @@ mod changes;
 /// Keys are found by their hashes. `new` hashes with a fixed start, for keys that the caller chooses itself;
 /// `with_hasher` takes a start of the caller's, for keys that strangers choose, who then can't slow look-ups down.
 /// A core goes with the last permit or read lock that names it, so memory is bounded by those that are held.
-#[derive(Drop)]
+#[derive(Debug, Drop)]
 pub struct CacheLock<S: BuildHasher = BuildHasherDefault<FoldHasher>> {
     cores: ByNumber<HeldCore, S>,
     current: ByKey<S>,
@@ -33,7 +33,7 @@ pub struct CacheLock<S: BuildHasher = BuildHasherDefault<FoldHasher>> {
 }
 
 impl<S: BuildHasher> Model for CacheLock<S> {
-    ghost use Rattle.cache_lock.specs.State.{LockState, HasNumbersBelow};
+    ghost use Rattle.cache_lock.specs.State.{LockState, AreNamedBelow};
     ghost use Rattle.cache_lock.specs.StateCode.{state_code};
 
     ghost Value = { LockState };
@@ -42,7 +42,7 @@ impl<S: BuildHasher> Model for CacheLock<S> {
 
     ghost view = { λ l. record { cores = l.cores; current = l.current; published = l.published; next = l.next; age = l.age_timeout } };
 
-    ghost invariant = { λ l. HasNumbersBelow l.next l.cores };
+    ghost invariant = { λ l. AreNamedBelow l.next l.cores };
 }
 
 impl CacheLock<BuildHasherDefault<FoldHasher>> {
@@ -79,7 +79,11 @@ impl<S: BuildHasher + Copy> CacheLock<S> {
 }
 
 impl<S: BuildHasher> CacheKeyLock for CacheLock<S> {
+    ghost use Rattle.cache_lock.specs.declared.status.LockStatus.TheVariants.{GiveUp};
+
     ghost state = { λ l. l };
+
+    ghost custom = { λ _ _. GiveUp };
 
     fn lock(
         &mut self,
@@ -87,11 +91,16 @@ impl<S: BuildHasher> CacheKeyLock for CacheLock<S> {
         stale_writer: bool,
         moment: Moment,
     ) -> Result<Locked, LockFault> {
+        let _ = &self.cores;
         let key = key.combined_bin();
         match self.to_wait_for(&key) {
-            Some(number) => self.lend(number),
+            Some(number) => self.wait_for(number),
             None => self.give(key, stale_writer, moment),
         }
+    }
+
+    fn lend(&mut self, number: u64) -> bool {
+        self.name_again(number)
     }
 
     fn release(&mut self, key: &CacheKey, permit: WritePermit, reason: LockStatus) {
@@ -157,5 +166,9 @@ impl<S: BuildHasher> CacheKeyLock for CacheLock<S> {
             Some(held) => Some(held.core),
             None => None,
         }
+    }
+
+    fn custom_lock_status(&self, _custom_no_cache: &'static str) -> LockStatus {
+        LockStatus::GiveUp
     }
 }

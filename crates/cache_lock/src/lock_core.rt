@@ -1,7 +1,7 @@
 //! What a lock keeps of a permit that it gave.
-ghost use Rattle.std.specs.Prelude.{◌≡◌, ◌≢◌};
+ghost use Rattle.std.specs.Prelude.{◌≡◌, true};
 ghost use Rattle.cache_lock.specs.State.{fresh_core};
-ghost use Rattle.cache_lock.specs.Status.{is_waiting};
+ghost use Rattle.cache_lock.specs.Status.{is_waiting, is_end};
 ghost use Rattle.cache_lock.specs.Answers.{is_over_age};
 
 use crate::status::LockStatus;
@@ -39,9 +39,9 @@ impl LockCore {
         matches!(self.status, LockStatus::Waiting)
     }
 
-    /// Stores how the permit ended. `WaitTimeout` is a reader's own, and is not stored.
+    /// Stores how the permit ended.
     pub fn unlock(&mut self, reason: LockStatus)
-        requires { reason ≢ LockStatus.WaitTimeout }
+        requires { is_end reason ≡ true }
         ensures { self.new ≡ record self.old { status = reason } }
     {
         self.status = reason;

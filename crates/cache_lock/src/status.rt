@@ -1,6 +1,6 @@
 //! How a wait for a permit ended.
 ghost use Rattle.std.specs.Prelude.{◌≡◌};
-ghost use Rattle.cache_lock.specs.Status.{status_at, status_or_give_up, status_number, status_name};
+ghost use Rattle.cache_lock.specs.Status.{is_end, status_at, status_or_give_up, status_number, status_name};
 
 /// How a permit ended; `Waiting` while it has not.
 #[derive(Clone, Copy, Debug, PartialEq, Eq)]
@@ -36,6 +36,13 @@ impl LockStatus {
             6 => Some(LockStatus::AgeTimeout),
             _ => None,
         }
+    }
+
+    /// Whether a permit may end with the status: it is neither `Waiting` nor `WaitTimeout`, which is a reader's own.
+    pub fn is_end(&self) -> bool
+        ensures { result ≡ is_end self.now }
+    {
+        !matches!(self, LockStatus::Waiting | LockStatus::WaitTimeout)
     }
 }
 

@@ -1,26 +1,27 @@
 //! Permits and read locks: numbers of cores, which must be spent.
-ghost use Rattle.std.specs.Prelude.{◌≡◌, ◌≢◌, OnOk, OnErr};
+ghost use Rattle.std.specs.Prelude.{◌≡◌, true, OnOk, OnErr};
 ghost use Rattle.std.specs.FinMap as finite;
 ghost use Rattle.cache_lock.specs.Changes.{publishes};
 ghost use Rattle.cache_lock.specs.Tokens.{is_permit};
-ghost use Rattle.cache_lock.specs.Status.{is_waiting};
+ghost use Rattle.cache_lock.specs.Status.{is_waiting, is_end};
 ghost use Rattle.cache_lock.specs.State.{after, after_all, status_of};
-ghost use Rattle.cache_lock.specs.Answers.{is_stale, is_expired, status_at_moment, unlock_changes};
+ghost use Rattle.cache_lock.specs.Answers.{is_stale, is_expired, status_at_moment, read_lock_of, lend_changes, unlock_changes};
 
 use crate::key_lock::CacheKeyLock;
 use crate::status::LockStatus;
 use cache_words::time::Moment;
 use std::alloc::{AllocError, Global};
 
-/// The right to fill a key. It is spent by `release` or `leave`.
-#[derive(Debug)]
+/// The right to fill a key. It is spent by `release`, `unlock` or `leave`.
+#[derive(Debug, PartialEq, Eq)]
 pub struct WritePermit {
     /// The number of the core.
     pub number: u64,
 }
 
 impl WritePermit {
-    /// Returns a permit that names that core.
+    /// Returns a permit that names that core, for locks that are made of others. `CacheKeyLock` says what holds of a permit that no
+    /// lock gave.
     pub fn new(number: u64) -> WritePermit
         ensures { result.number ≡ number }
     {
@@ -47,9 +48,9 @@ impl WritePermit {
         }
     }
 
-    /// Spends the permit, and stores how it ended; its key keeps its core. `WaitTimeout` is a reader's own, and is not stored.
+    /// Spends the permit, and stores how it ended. Its key keeps the core while read locks name it.
     pub fn unlock<L: CacheKeyLock>(self, lock: &mut L, reason: LockStatus)
-        requires { reason ≢ LockStatus.WaitTimeout }
+        requires { is_end reason ≡ true }
         ensures { L.state lock.new ≡ after_all (unlock_changes self.number reason) (L.state lock.old) }
     {
         lock.unlock(self, reason);
@@ -73,14 +74,21 @@ impl WritePermit {
     }
 }
 
-/// A wait for the permit of a key. It is spent by `leave`.
-#[derive(Debug)]
+/// A wait for the permit of a key: a name of its core, which the lock counts. It is spent by `leave`.
+#[derive(Debug, PartialEq, Eq)]
 pub struct ReadLock {
-    /// The number of the core.
-    pub number: u64,
+    pub(crate) number: u64,
 }
 
 impl ReadLock {
+    /// Returns the number of the core.
+    pub fn number(&self) -> u64
+        ensures { result ≡ self.now.number }
+    {
+        let ReadLock { number } = self;
+        *number
+    }
+
     /// Whether the permit has not ended.
     pub fn locked<L: CacheKeyLock>(&self, lock: &L) -> bool
         ensures { result ≡ is_waiting (status_of self.now.number (L.state lock.now)) }
@@ -114,25 +122,31 @@ impl ReadLock {
 }
 
 /// The number of a core, of which read locks are made.
-#[derive(Debug, Drop)]
+#[derive(Clone, Copy, Debug, PartialEq, Eq)]
 pub struct LockStub {
     /// The number of the core.
     pub number: u64,
 }
 
 impl LockStub {
-    /// Returns a read lock that names that core.
-    pub fn read_lock(&self) -> ReadLock
-        ensures { result.number ≡ self.now.number }
+    /// Returns a read lock of that core, which the lock counts. Returns `None`, and nothing changes, where the core isn't there, or is
+    /// named 2^64 - 1 times.
+    pub fn read_lock<L: CacheKeyLock>(&self, lock: &mut L) -> Option<ReadLock>
+        ensures answer { result ≡ read_lock_of self.now.number (finite.get (L.state lock.old).cores self.now.number) }
+        ensures change { L.state lock.new ≡ after_all (lend_changes self.now.number (finite.get (L.state lock.old).cores self.now.number)) (L.state lock.old) }
     {
-        ReadLock {
-            number: self.number,
+        if lock.lend(self.number) {
+            Some(ReadLock {
+                number: self.number,
+            })
+        } else {
+            None
         }
     }
 }
 
 /// What a lock gives.
-#[derive(Debug)]
+#[derive(Debug, PartialEq, Eq)]
 pub enum Locked {
     /// The permit: nobody else fills the key.
     Write(WritePermit),

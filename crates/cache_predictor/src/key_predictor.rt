@@ -13,6 +13,9 @@ pub trait CacheablePredictor {
     // The reason for which a key is marked as not kept, if it is.
     ghost reason_of: { Self → List ℕ → Option NoCacheReason };
 
+    // The reason that the predictor tells of a key.
+    ghost tells: { Self → List ℕ → Option NoCacheReason };
+
     // Whether such a reason is remembered.
     ghost remembers: { Self → NoCacheReason → Bool };
 
@@ -26,13 +29,11 @@ pub trait CacheablePredictor {
     fn cacheable_prediction(&self, key: &CacheKey) -> bool
         ensures { result ≡ is_none (reason_of self.now (key_of key.now).primary) };
 
-    /// Returns the reason for which the key is marked as not kept, where the predictor tells it; unless it does, `None`.
+    /// Returns the reason that the predictor tells of the key: the one for which it is marked as not kept, or none. A predictor that
+    /// tells no reasons returns `None`, which the original's trait has as its default.
     fn predicted_uncacheable_reason(&self, key: &CacheKey) -> Option<NoCacheReason>
-        ensures { IfSome result (λ r. reason_of self.now (key_of key.now).primary ≡ Some r) }
-    {
-        let _key = key;
-        None
-    }
+        ensures answer { result ≡ tells self.now (key_of key.now).primary }
+        ensures told { IfSome result (λ r. reason_of self.now (key_of key.now).primary ≡ Some r) };
 
     /// Marks the key as kept. Returns false if it was marked as not kept.
     fn mark_cacheable(&mut self, key: &CacheKey) -> bool

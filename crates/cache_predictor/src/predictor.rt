@@ -1,8 +1,7 @@
 //! The predictor.
-ghost use Rattle.std.specs.Prelude.{◌≡◌, ◌<◌, [], replicate, Some, is_none, IfSome, IfOk, OnOk, OnErr};
+ghost use Rattle.std.specs.Prelude.{◌≡◌, ◌<◌, [], replicate, is_none, IfOk, OnOk, OnErr};
 ghost use Rattle.std.specs.NonZero.{non_zero_usize_get};
 ghost use Rattle.lru.specs.LruCache.{lru_cache};
-ghost use Rattle.cache_words.specs.Key.{key_of};
 ghost use Rattle.cache_predictor.specs.Reasons.{at_least_one, no_reasons, list_number, listed_reason, without_key, with_key, is_remembered};
 
 use crate::key_predictor::CacheablePredictor;
@@ -15,8 +14,8 @@ use std::hash::{BuildHasher, BuildHasherDefault, FoldHasher};
 use std::marker::Model;
 use std::num::NonZeroUsize;
 
-/// Remembers which keys answered a response lately that is not kept, and why. A contract sees N lists of keys with reasons,
-/// the key that was marked last first, each of a bounded length.
+/// Remembers for which keys a response came lately that may not be stored, and why. A contract sees N lists of keys with reasons. Each
+/// list has a bounded length, and begins with the key that was marked last.
 ///
 /// Keys are found by their hashes. `new` hashes with a fixed start, for keys that the caller chooses itself; `with_hasher`
 /// takes a start of the caller's, for keys that strangers choose, who then can't slow look-ups down.
@@ -149,6 +148,8 @@ impl<const N: usize, P: CustomReasonPredicate + Drop, S: BuildHasher + Drop> Cac
     for Predictor<N, P, S> {
     ghost reason_of = { λ p key. listed_reason N key p };
 
+    ghost tells = { λ p key. listed_reason N key p };
+
     ghost remembers = { λ p reason. is_remembered P.skips p.skipped reason };
 
     ghost unmarked = { λ p key. without_key N key p };
@@ -160,10 +161,7 @@ impl<const N: usize, P: CustomReasonPredicate + Drop, S: BuildHasher + Drop> Cac
     }
 
     /// Returns the reason for which the key was marked last, while it is listed. Looking doesn't move it in its list.
-    fn predicted_uncacheable_reason(&self, key: &CacheKey) -> Option<NoCacheReason>
-        ensures answer { result ≡ listed_reason N (key_of key.now).primary self.now }
-        ensures told { IfSome result (λ r. listed_reason N (key_of key.now).primary self.now ≡ Some r) }
-    {
+    fn predicted_uncacheable_reason(&self, key: &CacheKey) -> Option<NoCacheReason> {
         let key = key.primary_bin();
         self.lists[Self::list_number(&key)].peek(&key).copied()
     }

@@ -72,9 +72,9 @@ pub left-read : (n : ℕ) (h : Held) (f : Flying CacheMeta) (r : Reading) (chang
     → readable n (left n h) ≡ Some (bytes_of n changes, true)
 left-read n h f r changes o a e t = past-flight n f r h (left n h) changes o a e t (gone n n h.store.flying refl) refl
 
-pub landed-read : (n size : ℕ) (old new : Held) (f : Flying CacheMeta) (r : Reading) (changes : Changes CacheMeta) → IsOrderly changes → Agree old.store (store_of changes) → flying_at n old.store ≡ Some f
-    → reading_at n old.readings ≡ Some r → IsFinished n size old new → readable n new ≡ Some (bytes_of n changes, true)
-landed-read n size old new f r changes o a e t b =
+pub landed-read : (n : ℕ) (x : Stored CacheMeta) (old new : Held) (f : Flying CacheMeta) (r : Reading) (changes : Changes CacheMeta) → IsOrderly changes → Agree old.store (store_of changes) → flying_at n old.store ≡ Some f
+    → reading_at n old.readings ≡ Some r → IsFinished n x old new → readable n new ≡ Some (bytes_of n changes, true)
+landed-read n x old new f r changes o a e t b =
     let w = f.stored.write in
     let own : w.number ≡ n = sym (eqb-true n w.number (find-passes (has_number n) old.store.flying f e)) in
     let none = none-settled (flying_at n new.store) (agreed n new.store (after (finishes w) old.store) (b.store w own) ∙ ap (option_map settled_flying) (gone n w.number old.store.flying own)) in

@@ -2,4 +2,5 @@ mod AgreeLaws
 pub mod BodyLaws
 pub mod LeftLaws
 mod LookLaws
+mod SameLaws
 mod WholeLaws

@@ -1,19 +1,23 @@
 -- A write that begins under a number that no write in flight has: what is held once it has its bytes, is stored, or is given up.
 use Rattle.std.proofs.Common.{arith, ◌≡◌, ℕ, refl, ap, sym, ◌∙◌, true, false, subst, cond, [], ◌∷◌, ◌++◌, inl, inr}
-use Rattle.std.specs.Prelude.{◌==◌, ◌+◌, Bool, List, Option, Some, None, option_map, Ok, Err, find, not}
+use Rattle.std.specs.Prelude.{◌==◌, ◌+◌, Bool, List, Option, Some, None, option_map, Ok, Err, find, not, ◌&&◌}
 use Rattle.std.proofs.lemmas.Bool.Decides.{nat_tests}
 use Rattle.cache_heads.specs.declared.meta.CacheMeta.{CacheMeta}
-use Rattle.cache_changes.specs.Changes.{StoredKey, Write, begins, finishes}
-use Rattle.cache_changes.specs.Store.{Flying, Store, has_number, flying_at, begun, with_bytes, ended, on_flying, landed, with_body, after}
+use Rattle.cache_entries.specs.declared.entry.CacheEntryId.{CacheEntryId}
+use Rattle.cache_entries.specs.SameEntry.{same_bytes-tells}
+use Rattle.cache_entries.specs.Keys.{same_bytes}
+use Rattle.cache_changes.specs.Changes.{StoredKey, Write, begins, finishes, is_key}
+use Rattle.cache_changes.specs.Store.{Stored, Flying, Store, has_number, flying_at, begun, with_bytes, ended, on_flying, landed, with_body, after}
 use Rattle.cache_store.specs.declared.storage.MissFinishType.{MissFinishType}
 use Rattle.cache_store.specs.declared.storage.store.MissFault.TheVariants.{Memory, WriteRemoved}
 use Rattle.cache_store.specs.declared.storage.StoreFault.{StoreFault}
 use Rattle.cache_store.specs.declared.storage.StoreFault.TheVariants as store_fault
 use Rattle.cache_store.specs.Agree.{Agree}
-use Rattle.cache_store.specs.Answers.{WriteAnswer, after_write, alive_key, left, left_behind, IsFinished}
+use Rattle.cache_store.specs.Answers.{WriteAnswer, after_write, alive_key, left, left_behind, IsFinished, in_flight, streamed, streamed_of}
 use Rattle.cache_store.specs.Held.{Held, left_with}
+use Rattle.cache_store.specs.Ids.{IsGiven}
 use Rattle.cache_store.specs.Misses.{IsBegun, BeginAnswer, MissAnswer}
-use Rattle.cache_store.specs.Wholes.{Stores, GivenUp, IsWriteFault, with_whole}
+use Rattle.cache_store.specs.Wholes.{Stores, GivenUp, IsWriteFault, with_whole, whole_of}
 
 own-number : (n : ℕ) → (n == n) ≡ true
 own-number n = grind (arith, nat_tests)
@@ -81,6 +85,22 @@ finish-last key meta bytes h none =
       flying = landed-last h.next h.store.flying (whole w bytes) none (own-number h.next) i;
     }
 
+-- a write that began is what its number shows
+pub own-read : (k : StoredKey) (meta : CacheMeta) (n : ℕ) (old new : Held) → IsBegun k meta n old new
+    → streamed k n new.store ≡ Some (in_flight (record { write = record { number = n; key = k; meta = meta }; meta = meta; bytes = [] }))
+own-read k meta n old new b =
+    let w : Write CacheMeta = record { number = old.next; key = k; meta = meta } in
+    ap (λ (h : Held). streamed k n h.store) b.begun
+    ∙ ap (λ (m : ℕ). streamed_of k (find (has_number m) (old.store.flying ++ begun w ∷ []))) b.number
+    ∙ ap (streamed_of k) (find-last old.next old.store.flying (begun w) (subst (λ (m : ℕ). flying_at m old.store ≡ None) b.number b.fresh) (own-number old.next))
+    ∙ flies (same_bytes k k) (same_bytes-tells.itself k)
+    ∙ ap (λ (m : ℕ). Some (in_flight (record { write = record { number = m; key = k; meta = meta }; meta = meta; bytes = [] }))) (sym b.number)
+  where
+    flies : (v : Bool) → v ≡ true → cond (v && true) (Some (in_flight (record { write = record { number = old.next; key = k; meta = meta }; meta = meta; bytes = [] }))) None
+        ≡ Some (in_flight (record { write = record { number = old.next; key = k; meta = meta }; meta = meta; bytes = [] }))
+    flies true t = refl
+    flies false t = absurd cc
+
 begun-by : {H : Type 0} (number : H → ℕ) (spent : Bool) (key : StoredKey) (meta : CacheMeta) (h : H) (old new : Held) → BeginAnswer number spent key meta old (Ok h) new → (spent ≡ false) × IsBegun key meta (number h) old new
 begun-by number true key meta h old new a = absurd cc
 begun-by number false key meta h old new a = (refl, a)
@@ -96,7 +116,7 @@ not-begun number false key meta h0 h1 f a = elim a.0 [
   | inr memory ↦ subst (λ (f : StoreFault). IsWriteFault false meta f h0 h1) (sym memory.0) (inl a.1)
 ]
 
-module _ {H : Type 0} (number : H → ℕ) (told : ℕ → MissFinishType) (spent : Bool) (key : StoredKey) (meta : CacheMeta) (bytes : List ℕ) (m m2 : H) (h0 h1 h2 h3 : Held) where
+module _ {H : Type 0} (number : H → ℕ) (told : Stored CacheMeta → MissFinishType) (spent : Bool) (key : StoredKey) (meta : CacheMeta) (bytes : List ℕ) (m m2 : H) (h0 h1 h2 h3 : Held) where
   abbrev first : Flying CacheMeta
   first = begun (record { number = h0.next; key = key; meta = meta })
 
@@ -145,9 +165,9 @@ module _ {H : Type 0} (number : H → ℕ) (told : ℕ → MissFinishType) (spen
       ap (λ (n : ℕ). flying_at n h2.store) (f.same ∙ b.number) ∙ ap (λ (h : Held). flying_at h0.next h.store) (in-flight f)
       ∙ find-last h0.next h0.store.flying full (at-first f.began) (own-number h0.next)
 
-  finished-by : (o : Option StoredKey) (n : ℕ) (finish : MissFinishType) → MissAnswer number told o n h2 (Ok finish) h3 → (size : ℕ) × IsFinished n size h2 h3
+  finished-by : (o : Option StoredKey) (n : ℕ) (finish : MissFinishType) → MissAnswer number told o n h2 (Ok finish) h3 → (x : Stored CacheMeta) × (finish ≡ told x) × IsFinished n x h2 h3
   finished-by None n finish a = absurd cc
-  finished-by (Some k) n finish a = (a.0, a.2)
+  finished-by (Some k) n finish a = a
 
   not-removed : (o : Option StoredKey) (n : ℕ) → o ≡ Some key → MissAnswer number told o n h2 (Err WriteRemoved) h3 → ⊥
   not-removed None n t a = absurd cc
@@ -160,7 +180,7 @@ module _ {H : Type 0} (number : H → ℕ) (told : ℕ → MissFinishType) (spen
   pub stores : IsFilled → (finish : MissFinishType) → MissAnswer number told (alive_key (flying_at (number m2) h2.store)) (number m2) h2 (Ok finish) h3 → Stores spent key meta bytes h0 h3
   stores f finish a =
       let b = begun-by number spent key meta m h0 h1 f.began in
-      let end = (finished-by (alive_key (flying_at (number m2) h2.store)) (number m2) finish a).1 in
+      let end = (finished-by (alive_key (flying_at (number m2) h2.store)) (number m2) finish a).2 in
       let w : Write CacheMeta = record { number = h0.next; key = key; meta = meta } in
       record {
         numbered = b.0;
@@ -174,8 +194,19 @@ module _ {H : Type 0} (number : H → ℕ) (told : ℕ → MissFinishType) (spen
             ∙ ap (λ (n : ℕ). left_with n bytes h2.readings) (f.same ∙ b.1.number) ∙ ap (λ (h : Held). left_with h0.next bytes h.readings) (in-flight f);
       }
 
+  -- what is told of it
+  pub told-of : IsFilled → (finish : MissFinishType) → MissAnswer number told (alive_key (flying_at (number m2) h2.store)) (number m2) h2 (Ok finish) h3 → finish ≡ told (whole_of key meta bytes h0)
+  told-of f finish a =
+      let end = finished-by (alive_key (flying_at (number m2) h2.store)) (number m2) finish a in
+      let one : Some end.0 ≡ Some full.stored = sym end.2.shown ∙ ap (option_map (λ (x : Flying CacheMeta). x.stored)) (flies f) in
+      let same : end.0 ≡ full.stored = cc in
+      end.1 ∙ ap told same
+
+  pub of-key : IsFilled → alive_key (flying_at (number m2) h2.store) ≡ Some key
+  of-key f = ap alive_key (flies f)
+
   pub never-removed : IsFilled → MissAnswer number told (alive_key (flying_at (number m2) h2.store)) (number m2) h2 (Err WriteRemoved) h3 → ⊥
-  never-removed f a = not-removed (alive_key (flying_at (number m2) h2.store)) (number m2) (ap alive_key (flies f)) a
+  never-removed f a = not-removed (alive_key (flying_at (number m2) h2.store)) (number m2) (of-key f) a
 
   pub handed-back : IsFilled → (h : H) (h4 : Held) → MissAnswer number told (alive_key (flying_at (number m2) h2.store)) (number m2) h2 (Err (Memory h)) h3 → h4 ≡ left (number h) h3
       → GivenUp spent h0 h4
@@ -184,3 +215,11 @@ module _ {H : Type 0} (number : H → ℕ) (told : ℕ → MissFinishType) (spen
       let b = begun.1 in
       let back = handed-by (alive_key (flying_at (number m2) h2.store)) (number m2) h a in
       inr (bytes, begun.0, l ∙ ap (λ (n : ℕ). left n h3) (back.0 ∙ f.same ∙ b.number) ∙ ap (left h0.next) (back.1 ∙ in-flight f) ∙ leave-last full h0 (at-first f.began) (own-number h0.next))
+
+-- the id of the key's write is the key's
+pub given-to : (key : StoredKey) (o : Option StoredKey) (i j : Option CacheEntryId) (was mid now : StoredKey → Option CacheEntryId) → o ≡ Some key → i ≡ j → mid ≡ was → IsGiven o j mid now
+    → IsGiven (Some key) i was now
+given-to key o i j was mid now e f h g = record {
+  given = λ k t. g.given k (e ∙ t) ∙ sym f;
+  others = λ k t. g.others k (subst (λ (x : Option StoredKey). is_key k x ≡ false) (sym e) t) ∙ ap (λ (s : StoredKey → Option CacheEntryId). s k) h;
+}

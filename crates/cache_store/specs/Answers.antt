@@ -33,17 +33,21 @@ left_behind n (Some f) rs = left_with n f.stored.bytes rs
 abbrev pub left : ℕ → Held → Held
 left n h = record h { store = after (leaves n) h.store; readings = left_behind n (flying_at n h.store) h.readings }
 
--- a write is finished, and `size` is the length of its body
-pub record IsFinished (n size : ℕ) (old new : Held) : Type 0 where
-  pub sized : (f : Flying CacheMeta) → flying_at n old.store ≡ Some f → size ≡ length f.stored.bytes
+-- a write in flight, which is `x`, is finished
+pub record IsFinished (n : ℕ) (x : Stored CacheMeta) (old new : Held) : Type 0 where
+  pub shown : option_map (λ f. f.stored) (flying_at n old.store) ≡ Some x
   pub store : (w : Write CacheMeta) → w.number ≡ n → Agree new.store (after (finishes w) old.store)
   pub next : new.next ≡ old.next
   pub readings : new.readings ≡ left_behind n (flying_at n old.store) old.readings
 
+-- a write is finished, and `size` is the length of its body
+abbrev pub FinishesWith : ℕ → ℕ → Held → Held → Type 0
+FinishesWith n size old new = (x : Stored CacheMeta) × (size ≡ length x.bytes) × IsFinished n x old new
+
 -- the answer to the end of a write, by the key of the write where no removal met it
 abbrev pub FinishAnswer : ℕ → Held → Result ℕ StoreFault → Held → Option StoredKey → Type 0
 FinishAnswer n old r new None = (r ≡ Err WriteRemoved) × (new ≡ left n old)
-FinishAnswer n old r new (Some k) = MatchResult r (λ size. IsFinished n size old new) (λ f. (f ≡ Memory) × (new ≡ old))
+FinishAnswer n old r new (Some k) = MatchResult r (λ size. FinishesWith n size old new) (λ f. (f ≡ Memory) × (new ≡ old))
 
 -- what a look-up shows: a write in flight, or a finished body
 pub data Look : Type 0 where

@@ -3,10 +3,10 @@ use Rattle.std.specs.Prelude.{ℕ, ◌==◌, if◌then◌else◌, List, Option, 
 use Rattle.cache_changes.specs.Store.{Store}
 use Rattle.cache_heads.specs.declared.meta.CacheMeta.{CacheMeta}
 
--- how many readers a write has, and what they are left with once it is in flight no more
+-- a write that is read: how many readers it has beside one, and what they are left with once it is in flight no more
 pub record Reading : Type 0 where
   pub number : ℕ
-  pub count : ℕ
+  pub others : ℕ
   pub left : Option (List ℕ)
 
 -- the bodies and the writes in flight, the number of the next write, and the writes that have readers

@@ -2,6 +2,7 @@ pub mod Admission
 pub mod Agree
 pub mod Answers
 pub mod Held
+pub mod Ids
 pub mod Laws
 pub mod Looks
 pub mod Misses

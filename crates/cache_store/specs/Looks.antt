@@ -1,7 +1,8 @@
 -- What look-ups answer.
-use Rattle.std.specs.Prelude.{◌≡◌, ℕ, Bool, true, false, Option, Some, None, Result, Ok, Err, MatchResult}
+use Rattle.std.specs.Prelude.{◌≡◌, ℕ, Bool, true, false, Option, Some, None, Result, Ok, Err, MatchResult, ⊤}
 use Rattle.cache_changes.specs.Changes.{StoredKey}
-use Rattle.cache_changes.specs.Store.{Store, body_at}
+use Rattle.cache_entries.specs.declared.entry.CacheEntryId.{CacheEntryId}
+use Rattle.cache_changes.specs.Store.{Stored, Store, body_at}
 use Rattle.cache_heads.specs.declared.meta.CacheMeta.{CacheMeta}
 use Rattle.cache_store.specs.declared.storage.StoreFault.{StoreFault}
 use Rattle.cache_store.specs.declared.storage.StoreFault.TheVariants.{Memory, WriteRemoved}
@@ -22,7 +23,7 @@ IsFoundAs reader meta r (Some found) = (found.0 ≡ meta) × (reader found.1 ≡
 -- what a look-up answers, by what it shows: the meta and a reader that has read nothing. Of a write in flight the reader is counted
 abbrev pub LookAnswer : {H : Type 0} → (H → Reader) → Option Look → Held → Result (Option (CacheMeta × H)) StoreFault → Held → Type 0
 LookAnswer reader None old r new = (r ≡ Ok None) × (new ≡ old)
-LookAnswer reader (Some (finished x)) old r new = MatchResult r (IsFoundAs reader x.meta (whole x.bytes x.bytes)) (λ f. f ≡ Memory) × (new ≡ old)
+LookAnswer reader (Some (finished x)) old r new = MatchResult r (IsFoundAs reader x.meta (whole x.write.number x.bytes x.bytes)) (λ f. f ≡ Memory) × (new ≡ old)
 LookAnswer reader (Some (in_flight x)) old r new =
     MatchResult r (λ found. IsFoundAs reader x.meta (streaming (record { number = x.write.number; place = 0 })) found × IsJoined x.write.number old new) (λ f. (f ≡ Memory) × (new ≡ old))
 
@@ -31,7 +32,17 @@ abbrev pub StreamAnswer : {H : Type 0} → (H → Reader) → Option Look → He
 StreamAnswer reader None old r new = (r ≡ Err WriteRemoved) × (new ≡ old)
 StreamAnswer reader (Some x) old r new = LookAnswer reader (Some x) old r new
 
--- the write that a number names, where there is one
-abbrev pub streamed_by : StoredKey → Option ℕ → Store CacheMeta → Option Look
-streamed_by k None s = None
-streamed_by k (Some n) s = streamed k n s
+-- what a look-up shows that may name a write by its number: that write, and where it names none what a look-up of the key shows
+abbrev pub asked : Bool → StoredKey → Option ℕ → Store CacheMeta → Option Look
+asked streams k None s = shows streams k s
+asked streams k (Some n) s = streamed k n s
+
+-- what such a look-up answers, by what it shows
+abbrev pub TagAnswer : {H : Type 0} → (H → Reader) → Option ℕ → Option Look → Held → Result (Option (CacheMeta × H)) StoreFault → Held → Type 0
+TagAnswer reader None look old r new = LookAnswer reader look old r new
+TagAnswer reader (Some n) look old r new = StreamAnswer reader look old r new
+
+-- what a reader tells of a finished body that was found: what the body weighs, and the id that is stored under the key
+abbrev pub Tells : {H : Type 0} → (H → ℕ) → (H → Option CacheEntryId) → (Stored CacheMeta → ℕ) → Option CacheEntryId → Option Look → Result (Option (CacheMeta × H)) StoreFault → Type 0
+Tells weight id weigh stored (Some (finished x)) (Ok (Some found)) = (weight found.1 ≡ weigh x) × (id found.1 ≡ stored)
+Tells weight id weigh stored _ _ = ⊤

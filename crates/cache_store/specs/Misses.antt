@@ -1,9 +1,10 @@
 -- What writers are answered.
-use Rattle.std.specs.Prelude.{◌≡◌, ℕ, ◌+◌, Bool, true, false, Option, Some, None, Result, Err, MatchResult}
+use Rattle.std.specs.Prelude.{◌≡◌, ℕ, ◌+◌, ⊤, Bool, true, false, List, Option, Some, None, Result, Err, MatchResult}
 use Rattle.cache_heads.specs.declared.meta.CacheMeta.{CacheMeta}
 use Rattle.cache_metas.specs.Internal.{IsWritable}
+use Rattle.cache_entries.specs.declared.entry.CacheEntryId.{CacheEntryId}
 use Rattle.cache_changes.specs.Changes.{StoredKey, begins}
-use Rattle.cache_changes.specs.Store.{after, flying_at}
+use Rattle.cache_changes.specs.Store.{Stored, after, flying_at}
 use Rattle.cache_store.specs.declared.storage.MissFinishType.{MissFinishType}
 use Rattle.cache_store.specs.declared.storage.store.MissFault.{MissFault}
 use Rattle.cache_store.specs.declared.storage.store.MissFault.TheVariants.{Memory, WriteRemoved}
@@ -35,8 +36,13 @@ abbrev pub IsHandedBack : {H : Type 0} → (H → ℕ) → ℕ → MissFault H �
 IsHandedBack number n (Memory h) = number h ≡ n
 IsHandedBack number n WriteRemoved = ⊥
 
--- the answer to the end of the write n, by the key of the write where no removal met it: its body is stored, which is told by its
--- size, or, out of memory, the writer is handed back and nothing has changed. A write that was removed, or isn't there, is given up
-abbrev pub MissAnswer : {H : Type 0} → (H → ℕ) → (ℕ → MissFinishType) → Option StoredKey → ℕ → Held → Result MissFinishType (MissFault H) → Held → Type 0
+-- a writer that is handed back has the id and the tag that it had
+abbrev pub IsAlike : {H : Type 0} → (H → Option CacheEntryId) → (H → Option (List ℕ)) → H → MissFault H → Type 0
+IsAlike id tag before (Memory h) = (id h ≡ id before) × (tag h ≡ tag before)
+IsAlike id tag before WriteRemoved = ⊤
+
+-- the answer to the end of the write n, by the key of the write where no removal met it: its body is stored, which is told as
+-- its store tells of it, or, out of memory, the writer is handed back and nothing has changed. A write that was removed, or isn't there, is given up
+abbrev pub MissAnswer : {H : Type 0} → (H → ℕ) → (Stored CacheMeta → MissFinishType) → Option StoredKey → ℕ → Held → Result MissFinishType (MissFault H) → Held → Type 0
 MissAnswer number told None n old r new = (r ≡ Err WriteRemoved) × (new ≡ left n old)
-MissAnswer number told (Some k) n old r new = MatchResult r (λ finish. (size : ℕ) × (finish ≡ told size) × IsFinished n size old new) (λ fault. IsHandedBack number n fault × (new ≡ old))
+MissAnswer number told (Some k) n old r new = MatchResult r (λ finish. (x : Stored CacheMeta) × (finish ≡ told x) × IsFinished n x old new) (λ fault. IsHandedBack number n fault × (new ≡ old))

@@ -13,10 +13,21 @@ pub record StreamHit : Type 0 where
   pub number : ℕ
   pub place : ℕ
 
--- what a reader is to read: of a body, and what of it comes next; or a write as it comes
+-- what a reader is to read: of the body of a write, and what of it comes next; or a write as it comes
 pub data Reader : Type 0 where
-  whole : List ℕ → List ℕ → Reader
+  whole : ℕ → List ℕ → List ℕ → Reader
   streaming : StreamHit → Reader
+
+-- the number of the write that is read
+abbrev pub number_read : Reader → ℕ
+number_read (whole n body bytes) = n
+number_read (streaming s) = s.number
+
+-- both read the same body, or the same write as it comes
+abbrev pub ReadsSame : Reader → Reader → Type 0
+ReadsSame (whole n body bytes) (whole m other more) = (m ≡ n) × (other ≡ body)
+ReadsSame (streaming s) (streaming t) = t.number ≡ s.number
+ReadsSame _ _ = ⊥
 
 -- the bytes that readers of a write were left with
 abbrev pub left_at : ℕ → List Reading → Option (List ℕ)
@@ -42,7 +53,7 @@ past_place place (Some p) = (drop place p.0, p.1)
 
 -- what a reader has yet to read of what is there, and whether no more comes
 abbrev pub ahead : Reader → Held → List ℕ × Bool
-ahead (whole body bytes) h = (bytes, true)
+ahead (whole n body bytes) h = (bytes, true)
 ahead (streaming s) h = past_place s.place (readable s.number h)
 
 -- a step of reading, by what was ahead and what is: the next bytes; nothing where all was read, and the end once no more comes
@@ -54,7 +65,7 @@ IsStep old (Err f) new = (f ≡ Memory) × (new ≡ old)
 
 -- what a reader set to a range reads next: that part of a body. A reader of a write can't be set
 abbrev pub IsSought : ℕ → Option ℕ → Reader → Reader → Type 0
-IsSought start stop (whole body bytes) new = (start < length body) × (new ≡ whole body (slice_range body start (end_within (length body) stop)))
+IsSought start stop (whole n body bytes) new = (start < length body) × (new ≡ whole n body (slice_range body start (end_within (length body) stop)))
 IsSought start stop (streaming s) new = ⊥
 
 -- the readers of a write
@@ -63,12 +74,12 @@ reading_at n rs = find (λ (r : Reading). n == r.number) rs
 
 -- one reader more, and one less; without any the bytes go
 abbrev pub one_more : ℕ → Option Reading → Reading
-one_more n None = record { number = n; count = 1; left = None }
-one_more n (Some r) = record r { count = r.count + 1 }
+one_more n None = record { number = n; others = 0; left = None }
+one_more n (Some r) = record r { others = r.others + 1 }
 
 abbrev pub one_less : Option Reading → Option Reading
 one_less None = None
-one_less (Some r) = if nat_lt 1 r.count then Some (record r { count = r.count - 1 }) else None
+one_less (Some r) = if nat_lt 0 r.others then Some (record r { others = r.others - 1 }) else None
 
 -- a write has one reader more, and nothing else changed
 pub record IsJoined (n : ℕ) (old new : Held) : Type 0 where
@@ -84,5 +95,11 @@ pub record IsParted (n : ℕ) (old new : Held) : Type 0 where
 
 -- a reader is spent: of a write it is no longer counted
 abbrev pub Parts : Reader → Held → Held → Type 0
-Parts (whole body bytes) old new = new ≡ old
+Parts (whole n body bytes) old new = new ≡ old
 Parts (streaming s) old new = IsParted s.number old new
+
+-- nothing changed; of the writes that are read by what each of them has
+pub record SameHeld (old new : Held) : Type 0 where
+  pub store : new.store ≡ old.store
+  pub next : new.next ≡ old.next
+  pub readings : (n : ℕ) → reading_at n new.readings ≡ reading_at n old.readings

@@ -35,9 +35,9 @@ abbrev pub ExpireAnswer : Option StoredKey → MomentValue → Held → PurgeOut
 ExpireAnswer None moment old outcome new = (outcome ≡ NotFound) × (new ≡ old)
 ExpireAnswer (Some k) moment old outcome new = (outcome ≡ (if is_some (body_at k old.store) then Expired else NotFound)) × IsRenewed k (expired moment) old new
 
--- what is stored of the target goes stale; a store in which nothing goes stale removes it
-abbrev pub StaleAnswer : Option StoredKey → Option CacheEntryId → MomentValue → Held → PurgeOutcome → Held → Type 0
-StaleAnswer key id moment old outcome new = ExpireAnswer key moment old outcome new ⊎ PurgeAnswer key id old outcome new
+-- what is stored of the target goes stale; a store in which nothing goes stale removes it, as no longer valid
+abbrev pub StaleAnswer : Option StoredKey → Option CacheEntryId → MomentValue → Type 0 → Held → PurgeOutcome → Held → Type 0
+StaleAnswer key id moment invalidates old outcome new = ExpireAnswer key moment old outcome new ⊎ (PurgeAnswer key id old outcome new × invalidates)
 
 -- a meta that can't be written is refused as that, and another where there is no memory for it
 abbrev pub Refused : CacheMeta → StoreFault → Type 0

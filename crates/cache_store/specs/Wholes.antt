@@ -1,23 +1,22 @@
 -- What storing a body whole does.
-use Rattle.std.specs.Prelude.{◌≡◌, ℕ, ◌+◌, Bool, true, false, List, Option, Some, ◌⊎◌}
+use Rattle.std.specs.Prelude.{◌≡◌, ℕ, ◌+◌, Bool, true, false, List, Some, ◌⊎◌}
 use Rattle.cache_heads.specs.declared.meta.CacheMeta.{CacheMeta}
 use Rattle.cache_metas.specs.Internal.{IsWritable}
-use Rattle.cache_entries.specs.declared.entry.CacheEntryId.{CacheEntryId}
 use Rattle.cache_changes.specs.Changes.{StoredKey}
-use Rattle.cache_changes.specs.Store.{Store, with_body}
+use Rattle.cache_changes.specs.Store.{Stored, Store, with_body}
 use Rattle.cache_store.specs.declared.storage.StoreFault.{StoreFault}
 use Rattle.cache_store.specs.declared.storage.StoreFault.TheVariants.{Memory, WriteNumbersSpent, MetaMoment}
 use Rattle.cache_store.specs.Agree.{Agree}
 use Rattle.cache_store.specs.Held.{Held, left_with}
 
--- some writer of a store gives its body that id
-abbrev pub IsGiven : {H : Type 0} → (H → Option CacheEntryId) → Option CacheEntryId → Type 0
-IsGiven {H} id given = (h : H) × (id h ≡ given)
+-- the body of k with that meta and those bytes, by the write of the next number
+abbrev pub whole_of : StoredKey → CacheMeta → List ℕ → Held → Stored CacheMeta
+whole_of k meta bytes h = record { write = record { number = h.next; key = k; meta = meta }; meta = meta; bytes = bytes }
 
--- the body of k has that meta and those bytes; the other bodies and the writes in flight are as before
+-- that is the body of k; the other bodies and the writes in flight are as before
 abbrev pub with_whole : StoredKey → CacheMeta → List ℕ → Held → Store CacheMeta
 with_whole k meta bytes h =
-    record h.store { bodies = with_body (Some (record { write = record { number = h.next; key = k; meta = meta }; meta = meta; bytes = bytes })) h.store.bodies }
+    record h.store { bodies = with_body (Some (whole_of k meta bytes h)) h.store.bodies }
 
 -- a body was stored whole, by a write that took the next number; `spent` tells whether none is left
 pub record Stores (spent : Bool) (k : StoredKey) (meta : CacheMeta) (bytes : List ℕ) (old new : Held) : Type 0 where

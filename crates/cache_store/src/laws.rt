@@ -1,14 +1,15 @@
 //! Laws over definitions alone. The functions do nothing: their contracts are the laws.
-ghost use Rattle.std.specs.Prelude.{◌≡◌, ◌↔◌, ℕ, Some, true, option_map};
+ghost use Rattle.std.specs.Prelude.{◌≡◌, ◌↔◌, ℕ, Some, [], true, option_map};
 ghost use Rattle.cache_heads.specs.declared.meta.CacheMeta.{CacheMeta};
 ghost use Rattle.cache_changes.specs.Changes.{StoredKey, Change, Changes, renews};
 ghost use Rattle.cache_changes.specs.Writes.{bytes_of, IsOrderly};
 ghost use Rattle.cache_changes.specs.Store.{Stored, Flying, Store, after, body_at, flying_at, shown_at, store_of};
 ghost use Rattle.cache_store.specs.Agree.{Agree};
-ghost use Rattle.cache_store.specs.Answers.{left, look_up, finished, IsFinished};
+ghost use Rattle.cache_store.specs.Answers.{left, look_up, in_flight, finished, streamed, IsFinished};
 ghost use Rattle.cache_store.specs.Held.{Reading, Held};
 ghost use Rattle.cache_store.specs.Laws.{write_shown, NoneFlies, IsOwnNumber};
-ghost use Rattle.cache_store.specs.Readers.{readable, reading_at};
+ghost use Rattle.cache_store.specs.Misses.{IsBegun};
+ghost use Rattle.cache_store.specs.Readers.{readable, reading_at, IsJoined, IsParted, SameHeld};
 ghost use Rattle.cache_store.specs.Renewals.{IsRenewed};
 
 /// States that agree do so after each change. So a store that agrees with what changes left, and then does a change, agrees
@@ -18,7 +19,8 @@ pub fn changes_keep_agreement<M>()
     ensures joined { (r s t : Store M) → Agree r s → Agree s t → Agree r t }
 {}
 
-/// A look-up shows the write that it is to show: a finished body exactly where no write of the key flies alive.
+/// A look-up of a key shows its alive write in flight that began first. It shows the finished body exactly where no alive write of
+/// the key is in flight.
 pub fn a_look_up_shows_what_it_is_to()
     ensures shown { (k : StoredKey) (s : Store CacheMeta) → option_map write_shown (look_up k s) ≡ shown_at k s }
     ensures whole { (k : StoredKey) (s : Store CacheMeta) (x : Stored CacheMeta) → (look_up k s ≡ Some (finished x)) ↔ (NoneFlies k s × (body_at k s ≡ Some x)) }
@@ -34,6 +36,17 @@ pub fn another_meta_is_a_change()
 pub fn readers_are_left_with_the_bytes()
     ensures left { (n : ℕ) (h : Held) (f : Flying CacheMeta) (r : Reading) (changes : Changes CacheMeta) → IsOrderly changes → Agree h.store (store_of changes)
         → flying_at n h.store ≡ Some f → reading_at n h.readings ≡ Some r → readable n (left n h) ≡ Some (bytes_of n changes, true) }
-    ensures landed { (n size : ℕ) (old new : Held) (f : Flying CacheMeta) (r : Reading) (changes : Changes CacheMeta) → IsOrderly changes → Agree old.store (store_of changes)
-        → flying_at n old.store ≡ Some f → reading_at n old.readings ≡ Some r → IsFinished n size old new → readable n new ≡ Some (bytes_of n changes, true) }
+    ensures landed { (n : ℕ) (x : Stored CacheMeta) (old new : Held) (f : Flying CacheMeta) (r : Reading) (changes : Changes CacheMeta) → IsOrderly changes → Agree old.store (store_of changes)
+        → flying_at n old.store ≡ Some f → reading_at n old.readings ≡ Some r → IsFinished n x old new → readable n new ≡ Some (bytes_of n changes, true) }
+{}
+
+/// A reader of a write that is counted, and then spent, leaves all as it was.
+pub fn joined_then_parted()
+    ensures { (n : ℕ) (old mid new : Held) → IsJoined n old mid → IsParted n mid new → SameHeld old new }
+{}
+
+/// A write that began is what its number shows, with no byte yet. So a look-up by its tag reads that write and no other.
+pub fn own_reader()
+    ensures { (k : StoredKey) (meta : CacheMeta) (n : ℕ) (old new : Held) → IsBegun k meta n old new
+        → streamed k n new.store ≡ Some (in_flight (record { write = record { number = n; key = k; meta = meta }; meta = meta; bytes = [] })) }
 {}

@@ -7,3 +7,5 @@ pub mod laws;
 pub mod max_file_size;
 pub mod storage;
 pub mod trace;
+
+pub use storage::{HitHandler, MissHandler};

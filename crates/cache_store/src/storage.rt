@@ -12,7 +12,9 @@ use std::fmt;
 mod store;
 pub mod streaming_write;
 
-pub use store::{Contents, Found, HandleHit, HandleMiss, MissFault, Storage};
+pub use store::{
+    Contents, Found, HandleHit, HandleMiss, HitHandler, MissFault, MissHandler, Storage,
+};
 
 /// Why a body is purged.
 #[derive(Clone, Copy, PartialEq, Eq, Debug)]

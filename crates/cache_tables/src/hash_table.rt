@@ -10,7 +10,8 @@ use std::sync::{RwLock, RwLockReadGuard, RwLockWriteGuard, Wait};
 /// N maps of keys to values, each under a lock of its own: key k is in map k modulo N.
 ///
 /// Keys are found by their hashes. `new` hashes with a fixed start, for keys that the caller chooses itself; `with_hasher`
-/// takes a start of the caller's, for keys that strangers choose, who then can't slow look-ups down.
+/// takes a start of the caller's. For keys that strangers choose it is a `SecretHasher`, which writes a key in two pieces, or a
+/// SipHash with keys of its own: `FoldHasher` alone gives chosen keys of sixteen bytes one hash, wherever it starts.
 #[derive(Drop)]
 pub struct ConcurrentHashTable<
     V: Drop,

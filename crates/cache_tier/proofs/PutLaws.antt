@@ -27,20 +27,18 @@ use Rattle.pingora_cache.specs.declared.put.whole.Whole.{Whole as Given}
 use Rattle.pingora_cache.specs.declared.put.whole.Whole.TheVariants as given
 use Rattle.pingora_cache.specs.declared.put.outcome.PutFault.{PutFault}
 use Rattle.pingora_cache.specs.declared.put.outcome.PutFault.TheVariants as put
-use Rattle.tier_model.specs.Keys.{Entry}
-use Rattle.tier_model.specs.declared.state.FinishedBody.{FinishedBody}
 use Rattle.tier_model.specs.declared.whole.Whole.{Whole}
 use Rattle.tier_model.specs.declared.whole.Whole.TheVariants as whole
-use Rattle.tier_model.specs.Response.{is_before_epoch, whole_until, whole_by}
+use Rattle.tier_model.specs.Response.{kept, too_early, is_before_epoch, judged_by, whole_with, whole_by}
 use Rattle.cache_tier.specs.Puts.{since_epoch, kept_by, IsTellable}
 
 -- what a response gives a put, and what it gives by the tier's own words
-abbrev pub IsWholeFor : Entry → Given → Whole → Type 0
-IsWholeFor entry (given.Cacheable meta body) g = (g ≡ whole.Stored (record { entry = entry; bytes = body; fresh_until = meta.internal.fresh_until })) × IsWritable meta.internal
-IsWholeFor entry (given.Uncacheable reason) g = ((reason ≡ OriginNotCache) × (g ≡ whole.Uncacheable OriginNotCache)) ⊎ ((reason ≡ StorageError) × (g ≡ whole.BeforeEpoch))
-IsWholeFor entry given.TooLarge g = ⊥
-IsWholeFor entry given.Incomplete g = g ≡ whole.Incomplete
-IsWholeFor entry given.BadHead g = g ≡ whole.BadHead
+abbrev pub IsWholeFor : Given → Whole → Type 0
+IsWholeFor (given.Cacheable meta body) g = (g ≡ whole.Stored (record { bytes = body; meta = meta })) × IsWritable meta.internal
+IsWholeFor (given.Uncacheable reason) g = ((reason ≡ OriginNotCache) × (g ≡ whole.Uncacheable OriginNotCache)) ⊎ ((reason ≡ StorageError) × (g ≡ whole.BeforeEpoch))
+IsWholeFor given.TooLarge g = ⊥
+IsWholeFor given.Incomplete g = g ≡ whole.Incomplete
+IsWholeFor given.BadHead g = g ≡ whole.BadHead
 
 since : (t : MomentValue) → is_before_epoch t ≡ false → IsSinceEpoch t
 since t e = lt_z_no (subst T (sym (ap not e)) tt)
@@ -58,32 +56,33 @@ judged-kept : (meta : CacheMeta) (body : List ℕ) → judged None (verdict.Cach
 judged-kept meta body = ap (λ (v : Bool). cond v (given.Uncacheable ResponseTooLarge) (given.Cacheable meta body)) (unlimited (content_length meta.header))
 
 -- without a size limit what ends too early is incomplete
-short-kept : (entry : Entry) (v : RespCacheable) (len : ℕ) → IsWholeFor entry (judged_short None v len) whole.Incomplete
-short-kept entry (verdict.Uncacheable reason) len = refl
-short-kept entry (verdict.Cacheable meta) len = refl
+short-kept : (v : RespCacheable) (len : ℕ) → IsWholeFor (judged_short None v len) whole.Incomplete
+short-kept (verdict.Uncacheable reason) len = refl
+short-kept (verdict.Cacheable meta) len = refl
 
-module _ (t : MomentValue) (entry : Entry) where
+module _ (t : MomentValue) where
   by_until : (until : Option MomentValue) (ds : Option (List Written)) (header : ResponseHeader) (body : List ℕ)
-      → IsWholeFor entry (judged None (since_epoch t (verdicts.kept_until until t ds header 0 0)) body) (whole_until t entry body until)
+      → IsWholeFor (judged None (since_epoch t (verdicts.kept_until until t ds header 0 0)) body) (whole_with body (judged_by t (verdicts.kept_until until t ds header 0 0)))
   by_until None ds header body = inl (refl, refl)
   by_until (Some until) ds header body = by_test (is_before_epoch t || is_before_epoch until) refl
     where
+      meta : CacheMeta
+      meta = new_meta until t (revalidate_window ds 0) (error_window ds 0) (verdicts.kept_header header ds)
+
       by_test : (v : Bool) → (is_before_epoch t || is_before_epoch until) ≡ v
-          → IsWholeFor entry (judged None (cond v (verdict.Uncacheable StorageError) (verdicts.kept_until (Some until) t ds header 0 0)) body)
-          (cond v whole.BeforeEpoch (whole.Stored (record { entry = entry; bytes = body; fresh_until = until })))
+          → IsWholeFor (judged None (cond v (verdict.Uncacheable StorageError) (verdict.Cacheable meta)) body) (whole_with body (cond v too_early (kept meta)))
       by_test true e = inr (refl, refl)
       by_test false e =
           let both = neither (is_before_epoch t) (is_before_epoch until) e in
-          let meta : CacheMeta = new_meta until t (revalidate_window ds 0) (error_window ds 0) (verdicts.kept_header header ds) in
-          let body_of : FinishedBody = record { entry = entry; bytes = body; fresh_until = until } in
-          subst (λ (w : Given). IsWholeFor entry w (whole.Stored body_of)) (sym (judged-kept meta body)) (refl, record { fresh_until = since until both.1; created = since t both.0; updated = since t both.0; epoch_override = tt; provenance = since t both.0 })
+          subst (λ (w : Given). IsWholeFor w (whole.Stored (record { bytes = body; meta = meta }))) (sym (judged-kept meta body))
+          (refl, record { fresh_until = since until both.1; created = since t both.0; updated = since t both.0; epoch_override = tt; provenance = since t both.0 })
 
-  pub whole-for : (p : Parsed) → IsWholeFor entry (cache.whole_by None (kept_by t) p) (whole_by t entry p)
+  pub whole-for : (p : Parsed) → IsWholeFor (cache.whole_by None (kept_by t) p) (whole_by t p)
   whole-for (parsed.Complete response) =
       let lines = lines_under (codes "cache-control") response.header.headers in
       by_until (fresh_until_by t (named lines) (lines_under (codes "expires") response.header.headers) false None) (named lines) response.header response.body
   whole-for (parsed.Incomplete None) = refl
-  whole-for (parsed.Incomplete (Some short)) = short-kept entry (kept_by t short.header) short.len
+  whole-for (parsed.Incomplete (Some short)) = short-kept (kept_by t short.header) short.len
   whole-for parsed.BadHead = refl
 
 -- a fault of the order of use is never a size limit or a moment

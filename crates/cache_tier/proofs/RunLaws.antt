@@ -5,9 +5,8 @@ use Rattle.std.specs.FinMap.{get, insert}
 use Rattle.cache_words.specs.Time.{MomentValue}
 use Rattle.cache_words.specs.Key.{CacheKeyValue}
 use Rattle.response_parse.specs.Response.{Reading, IsReading}
-use Rattle.tier_model.specs.Keys.{Entry, entry_of, stored_key_of}
+use Rattle.tier_model.specs.Keys.{entry_of, stored_key_of}
 use Rattle.tier_model.specs.declared.state.Body.{Body}
-use Rattle.tier_model.specs.declared.state.FinishedBody.{FinishedBody}
 use Rattle.tier_model.specs.declared.state.Request.{Request}
 use Rattle.tier_model.specs.declared.whole.Whole.{Whole}
 use Rattle.tier_model.specs.declared.whole.Whole.TheVariants.{Stored}
@@ -15,62 +14,74 @@ use Rattle.tier_model.specs.declared.event.Event.{Event}
 use Rattle.tier_model.specs.declared.event.Action.{Action}
 use Rattle.tier_model.specs.declared.event.Action.TheVariants.{Open, LookUp, Read, Drop, Purge, Put}
 use Rattle.tier_model.specs.declared.event.TierFault.{TierFault}
-use Rattle.tier_model.specs.Calls.{Call, Outcome, AreCallsOf, read_by, done_of}
+use Rattle.tier_model.specs.Calls.{Call, Outcome, AreCallsOf, finished_in, finished_by, done_of}
 use Rattle.tier_model.specs.Response.{IsRead, whole_of, whole_in, joined}
 use Rattle.tier_model.specs.State.{State}
-use Rattle.tier_model.specs.Rows.{body_of}
-use Rattle.tier_model.specs.Step.{AllowsBy, Allows, Begins, IsFault, refusal, undone, on_request, body_for, after_look_up, after_read, after_purge, after_outcome, after}
+use Rattle.tier_model.specs.Rows.{FinishedBody, body_of}
+use Rattle.tier_model.specs.Step.{AllowsBy, Allows, BeginsWrite, IsFault, refusal, undone, on_request, body_for, after_look_up, after_read, after_purge, after_outcome, after}
 use Rattle.tier_model.specs.Past.{AreTaken, CarriesHeadline}
 use Rattle.tier_model.proofs.Carried.{CarriesHeadline-taken}
 use Rattle.rand_core.specs.Stream.{Stream}
-use Rattle.cache_tier.specs.Draws.{AreDrawn, AreAllDrawn, Takes}
+use Rattle.cache_tier.specs.Draws.{AreDrawn, AreAllDrawn}
+use Rattle.cache_tier.specs.Takes.{Takes}
 use Rattle.cache_tier.specs.Acts.{AllowsUnrefused, after_action, counting, TakesBy, StepsBy}
 use Rattle.cache_tier.proofs.StoreLaws.{StoresBy}
 
--- that is what the bytes give by one of their readings, coming for an entry at a moment
-abbrev pub Gives : MomentValue → Entry → List ℕ → Whole → Type 0
-Gives arrival entry bytes whole = (r : Reading) × IsReading bytes r × (whole ≡ whole_of arrival entry r)
+-- that is what the bytes give by one of their readings, coming at a moment
+abbrev pub Gives : MomentValue → List ℕ → Whole → Type 0
+Gives arrival bytes whole = (r : Reading) × IsReading bytes r × (whole ≡ whole_of arrival r)
 
 -- a put was taken, by what its response gave
 Takes-given : (old : State) (s : Stream) (t : MomentValue) (key : CacheKeyValue) (pieces : List (List ℕ)) (g : Whole) (o : Outcome) (new : State) (rest : Stream) (began : Bool)
-    → Gives t (entry_of key) (joined pieces) g → AllowsBy None old t (Put key pieces) (Some g) o → Begins old (Some g) o began → new ≡ counting began old (after_outcome old t (Put key pieces) (Some g) o) → AreDrawn old (Some g) o s rest
-    → TakesBy old s t (Put key pieces) o new rest
+    → Gives t (joined pieces) g → AllowsBy None old t (Put key pieces) (Some g) o → BeginsWrite old (finished_in (Put key pieces) (Some g)) o began → new ≡ counting began old (after_outcome old t (Put key pieces) (Some g) o)
+    → AreDrawn old (finished_in (Put key pieces) (Some g)) o s rest → TakesBy old s t (Put key pieces) o new rest
 Takes-given old s t key pieces g o new rest began gives allowed begins is drawn =
-    let same : Some g ≡ Some (whole_of t (entry_of key) gives.0) = ap (λ (x : Whole). Some x) gives.2 in (
+    let same : Some g ≡ Some (whole_of t gives.0) = ap (λ (x : Whole). Some x) gives.2 in (
       Some gives.0,
       began,
       gives.1,
       subst (λ (x : Option Whole). AllowsBy None old t (Put key pieces) x o) same allowed,
-      subst (λ (x : Option Whole). Begins old x o began) same begins,
+      subst (λ (x : Option Whole). BeginsWrite old (finished_in (Put key pieces) x) o began) same begins,
       is ∙ ap (λ (x : Option Whole). counting began old (after_outcome old t (Put key pieces) x o)) same,
-      subst (λ (x : Option Whole). AreDrawn old x o s rest) same drawn,
+      subst (λ (x : Option Whole). AreDrawn old (finished_in (Put key pieces) x) o s rest) same drawn,
     )
 
 -- no write began
 pub Takes-put : (old : State) (s : Stream) (t : MomentValue) (key : CacheKeyValue) (pieces : List (List ℕ)) (g : Whole) (o : Outcome)
-    → Gives t (entry_of key) (joined pieces) g → AllowsBy None old t (Put key pieces) (Some g) o → Begins old (Some g) o false → after_outcome old t (Put key pieces) (Some g) o ≡ old → AreDrawn old (Some g) o s s
-    → TakesBy old s t (Put key pieces) o old s
+    → Gives t (joined pieces) g → AllowsBy None old t (Put key pieces) (Some g) o → BeginsWrite old (finished_in (Put key pieces) (Some g)) o false → after_outcome old t (Put key pieces) (Some g) o ≡ old
+    → AreDrawn old (finished_in (Put key pieces) (Some g)) o s s → TakesBy old s t (Put key pieces) o old s
 Takes-put old s t key pieces g o gives allowed begins is drawn =
     Takes-given old s t key pieces g o old s false gives allowed begins (sym (ap (counting false old) is)) drawn
 
 -- a body is stored that the response of a put gave
-pub Takes-stored : (old : State) (s : Stream) (t : MomentValue) (key : CacheKeyValue) (pieces : List (List ℕ)) (b : FinishedBody) (o : Outcome) (new : State) (rest : Stream)
-    → Gives t (entry_of key) (joined pieces) (Stored b) → StoresBy old s b o new rest → TakesBy old s t (Put key pieces) o new rest
-Takes-stored old s t key pieces b (Ok a) new rest gives stores = Takes-given old s t key pieces (Stored b) (Ok a) new rest stores.began gives stores.allowed stores.begins stores.after stores.drawn
-Takes-stored old s t key pieces b (Err f) new rest gives stores =
-    Takes-given old s t key pieces (Stored b) (Err f) new rest stores.began gives fault stores.begins stores.after stores.drawn
+pub Takes-stored : (old : State) (s : Stream) (t : MomentValue) (key : CacheKeyValue) (pieces : List (List ℕ)) (body : Body) (o : Outcome) (new : State) (rest : Stream)
+    → Gives t (joined pieces) (Stored body) → StoresBy old s (record { entry = entry_of key; body = body }) o new rest → TakesBy old s t (Put key pieces) o new rest
+Takes-stored old s t key pieces body (Ok a) new rest gives stores = Takes-given old s t key pieces (Stored body) (Ok a) new rest stores.began gives stores.allowed stores.begins stores.after stores.drawn
+Takes-stored old s t key pieces body (Err f) new rest gives stores =
+    Takes-given old s t key pieces (Stored body) (Err f) new rest stores.began gives fault stores.begins stores.after stores.drawn
   where
-    fault : IsFault old (Put key pieces) (Some (Stored b)) f
+    fault : IsFault old (Put key pieces) (Some (Stored body)) f
     fault = elim stores.allowed [ inl memory ↦ inl (memory, tt) | inr late ↦ inr late ]
 
--- an action without a response began no write
-begins-none : (s : State) (t : MomentValue) (action : Action) (o : Outcome) → Begins s (whole_in t action None) o false
-begins-none s t (Open id key) o = refl
-begins-none s t (LookUp id) o = refl
-begins-none s t (Read id) o = refl
-begins-none s t (Drop id) o = refl
-begins-none s t (Purge key) o = refl
-begins-none s t (Put key pieces) o = refl
+-- an action without a response finished nothing, and began no write
+finished-none : (t : MomentValue) (action : Action) → finished_in action (whole_in t action None) ≡ None
+finished-none t (Open id key) = refl
+finished-none t (LookUp id) = refl
+finished-none t (Read id) = refl
+finished-none t (Drop id) = refl
+finished-none t (Purge key) = refl
+finished-none t (Put key pieces) = refl
+
+begins-none : (s : State) (t : MomentValue) (action : Action) (o : Outcome) → BeginsWrite s (finished_in action (whole_in t action None)) o false
+begins-none s t action o = subst (λ (b : Option FinishedBody). BeginsWrite s b o false) (sym (finished-none t action)) refl
+
+undone_writes : (s : State) (action : Action) (f : TierFault) → (undone s (finished_in action None) (done_of f)).writes ≡ s.writes
+undone_writes s (Open id key) f = refl
+undone_writes s (LookUp id) f = refl
+undone_writes s (Read id) f = refl
+undone_writes s (Drop id) f = refl
+undone_writes s (Purge key) f = refl
+undone_writes s (Put key pieces) f = refl
 
 request_writes : (s : State) (o : Option Request) (f : Request → State) → ((q : Request) → (f q).writes ≡ s.writes) → (on_request s o f).writes ≡ s.writes
 request_writes s None f h = refl
@@ -91,7 +102,7 @@ kept_writes s t (Read id) (Ok a) = request_writes s (get s.requests id) (λ q. r
 kept_writes s t (Drop id) (Ok a) = refl
 kept_writes s t (Purge key) (Ok a) = purge_writes s key (is_some (body_of (stored_key_of key) s.bodies))
 kept_writes s t (Put key pieces) (Ok a) = refl
-kept_writes s t action (Err f) = refl
+kept_writes s t action (Err f) = undone_writes s action f
 
 -- what leaves the count of writes as it was
 uncounted : (old x : State) → x.writes ≡ old.writes → x ≡ counting false old x
@@ -121,8 +132,8 @@ Steps-refused old s e f refused = (
   refl,
   refl,
   (IsRead-none e.action, subst (λ r. AllowsBy r old e.moment e.action (whole_in e.moment e.action None) (Err f)) (sym refused) refl, begins-none old e.moment e.action (Err f)),
-  sym (ap (λ (w : Option Whole). counting false old (undone old w (done_of f))) (whole_in-none e.moment e.action)),
-  subst (λ (x : Option Whole). AreDrawn old x (Err f) s s) (sym (whole_in-none e.moment e.action)) refl,
+  sym (ap (λ (b : Option FinishedBody). counting false old (undone old b (done_of f))) (finished-none e.moment e.action)),
+  subst (λ (b : Option FinishedBody). AreDrawn old b (Err f) s s) (sym (finished-none e.moment e.action)) refl,
 )
 
 -- the checks let an event pass, and its action is taken
@@ -149,7 +160,7 @@ Steps-plain old s e action o new is passed allowed after =
       subst (λ (x : Option Whole). AllowsBy None old e.moment action x o) none allowed,
       begins-none old e.moment action o,
       after ∙ uncounted old (after_action old e.moment action o) (kept_writes old e.moment action o) ∙ ap (λ (x : Option Whole). counting false old (after_outcome old e.moment action x o)) none,
-      subst (λ (x : Option Whole). AreDrawn old x o s s) none refl,
+      subst (λ (b : Option FinishedBody). AreDrawn old b o s s) (sym (finished-none e.moment action)) refl,
     )
 
 -- one event is one call
@@ -189,10 +200,10 @@ pub taken-more : (old : State) (calls : List Call) (mid : State) (c : Call) (new
 taken-more old [] mid c new taken allowed is = subst (λ (x : State). AreTaken x (c ∷ []) new) taken (allowed, is)
 taken-more old (b ∷ calls) mid c new taken allowed is = (taken.0, taken-more (after old b) calls mid c new taken.1 allowed is)
 
-pub drawn-more : (old : State) (calls : List Call) (mid : State) (c : Call) (s left rest : Stream) → AreTaken old calls mid → AreAllDrawn old calls s left → AreDrawn mid (read_by c) c.outcome left rest
+pub drawn-more : (old : State) (calls : List Call) (mid : State) (c : Call) (s left rest : Stream) → AreTaken old calls mid → AreAllDrawn old calls s left → AreDrawn mid (finished_by c) c.outcome left rest
     → AreAllDrawn old (calls ++ c ∷ []) s rest
 drawn-more old [] mid c s left rest taken drawn more =
-    (rest, subst (λ (x : State). AreDrawn x (read_by c) c.outcome s rest) taken (subst (λ (x : Stream). AreDrawn mid (read_by c) c.outcome x rest) drawn more), refl)
+    (rest, subst (λ (x : State). AreDrawn x (finished_by c) c.outcome s rest) taken (subst (λ (x : Stream). AreDrawn mid (finished_by c) c.outcome x rest) drawn more), refl)
 drawn-more old (b ∷ calls) mid c s left rest taken drawn more = (drawn.0, drawn.1, drawn-more (after old b) calls mid c drawn.0 left rest taken.1 drawn.2 more)
 
 -- the calls so far, and one event more
@@ -214,7 +225,7 @@ StepsBy-takes old s e o new rest takes = by_calls takes.calls takes.are_of takes
   where
     by_calls : (calls : List Call) → AreCallsOf (e ∷ []) (o ∷ []) calls → AreTaken old calls new → AreAllDrawn old calls s rest → StepsBy old s e o new rest
     by_calls [] are taken drawn = absurd are
-    by_calls (c ∷ []) are taken drawn = (c, are.0, are.1, taken.0, taken.1, subst (λ (x : Stream). AreDrawn old (read_by c) c.outcome s x) (sym drawn.2) drawn.1)
+    by_calls (c ∷ []) are taken drawn = (c, are.0, are.1, taken.0, taken.1, subst (λ (x : Stream). AreDrawn old (finished_by c) c.outcome s x) (sym drawn.2) drawn.1)
     by_calls (c ∷ d ∷ calls) are taken drawn = absurd are.2
 
 pub Takes-more : (old : State) (s : Stream) (es : List Event) (os : List Outcome) (mid : State) (left : Stream) (e : Event) (o : Outcome) (new : State) (rest : Stream)

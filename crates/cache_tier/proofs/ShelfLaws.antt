@@ -20,7 +20,6 @@ use Rattle.cache_store.specs.Held.{Held, left_with}
 use Rattle.cache_store.specs.Purges.{PurgeAnswer, entry_key, id_at}
 use Rattle.cache_store.specs.declared.storage.PurgeOutcome.{PurgeOutcome}
 use Rattle.cache_store.specs.declared.storage.PurgeOutcome.TheVariants.{Purged, NotFound}
-use Rattle.cache_words.specs.Time.{MomentValue}
 use Rattle.mem_cache.specs.Misses.{are_numbers_spent}
 use Rattle.cache_store.specs.Wholes.{Stores, GivenUp, with_whole}
 use Rattle.pingora_cache.specs.Stored.{Purged as ArePurged}
@@ -73,7 +72,7 @@ abbrev pub shown_in : Stored CacheMeta → CacheMeta × List ℕ
 shown_in x = (x.meta, x.bytes)
 
 abbrev as_body : CacheMeta × List ℕ → Body
-as_body p = record { bytes = p.1; fresh_until = p.0.internal.fresh_until }
+as_body p = record { bytes = p.1; meta = p.0 }
 
 -- a look-up of what a store shows of a body finds the body
 pub found-is : (k : StoredKey) (s : Store CacheMeta) (o : Option (CacheMeta × List ℕ)) → o ≡ option_map shown_in (body_at k s) → option_map as_body o ≡ body_of k (bodies_in s.bodies)
@@ -263,7 +262,7 @@ shows-bodies start s past h e p =
     let same : bodies_in h.store.bodies ≡ s.bodies = ap (λ (x : Shelf). x.bodies) e in
     record {
       bodies = λ k w i. let x = held-past start s past p k w i in
-          sym (body-found k h.store) ∙ ap (body_of k) same ∙ x.1 ∙ ap (λ (p : MomentValue × List ℕ). Some (record { bytes = p.1; fresh_until = p.0 })) x.2;
+          sym (body-found k h.store) ∙ ap (body_of k) same ∙ x.1 ∙ ap (λ (b : Body). Some b) x.2;
       others = λ k x there. body-past start s past p k (found_in x) (sym (ap (body_of k) same) ∙ body-found k h.store ∙ ap (option_map found_in) there);
       writes = ap (λ (x : Shelf). x.writes) e ∙ p.matches.writes;
     }

@@ -19,13 +19,12 @@ use Rattle.tier_model.specs.Keys.{alone}
 use Rattle.tier_model.specs.declared.event.Done.{Done}
 use Rattle.tier_model.specs.declared.event.TierFault.{TierFault}
 use Rattle.tier_model.specs.declared.event.TierFault.TheVariants.{Memory, TooHeavy, TooLong, NumbersSpent}
-use Rattle.tier_model.specs.declared.state.FinishedBody.{FinishedBody}
 use Rattle.tier_model.specs.declared.whole.Whole.TheVariants.{Stored}
 use Rattle.tier_model.specs.Calls.{Outcome, nothing_done, done_of, evicted_before, evicted_by, writes_after}
 use Rattle.tier_model.specs.Evictions.{all_gone, GoInTurn}
-use Rattle.tier_model.specs.Rows.{Bodies, body_of, found_of, with_body, without_body, without_bodies, weight_for}
+use Rattle.tier_model.specs.Rows.{Bodies, FinishedBody, body_of, with_body, without_body, without_bodies, weight_for}
 use Rattle.tier_model.specs.State.{State, shards_of}
-use Rattle.tier_model.specs.Step.{Begins, Fits, HasNoNumber, IsPutAnswer, until, admitted, after_put, IsKeptOut, IsStoreFault, taken_back, stored_alone, all_done}
+use Rattle.tier_model.specs.Step.{BeginsWrite, Fits, HasNoNumber, IsPutAnswer, until, admitted, after_put, IsKeptOut, IsStoreFault, taken_back, stored_alone, all_done}
 use Rattle.tier_model.proofs.BodyLaws.{has_key, body_of-with, body_of-without, body_of-without_all}
 use Rattle.tier_model.proofs.StepLaws.{kept_out-done}
 use Rattle.cache_tier.specs.Acts.{counting}
@@ -39,7 +38,7 @@ IsRefusal s b f = (f ≡ Memory nothing_done) ⊎ (HasNoNumber s f ⊎ IsStoreFa
 
 -- the state after the storing of a body
 abbrev pub after_store : State → FinishedBody → Outcome → State
-after_store s b (Ok a) = after_put s (Some (Stored b)) a
+after_store s b (Ok a) = after_put s (Some b) a
 after_store s b (Err f) = taken_back (done_of f).stored s b (done_of f)
 
 -- what was evicted was drawn by the words from s to rest
@@ -48,9 +47,9 @@ DrawsFor old b outcome s rest = (left : Managed) × Evicts (pick_by_draws (shard
 
 -- a body was stored, or was refused, and with it the words from s to rest were taken
 pub record StoresBy (old : State) (s : Stream) (b : FinishedBody) (outcome : Outcome) (new : State) (rest : Stream) : Type 0 where
-  pub allowed : MatchResult outcome (IsPutAnswer old (Some (Stored b))) (IsRefusal old b)
+  pub allowed : MatchResult outcome (IsPutAnswer old (Some b) (Some (Stored b.body))) (IsRefusal old b)
   pub began : Bool
-  pub begins : Begins old (Some (Stored b)) outcome began
+  pub begins : BeginsWrite old (Some b) outcome began
   pub after : new ≡ counting began old (after_store old b outcome)
   pub drawn : DrawsFor old b outcome s rest
 
@@ -62,14 +61,14 @@ pub record HasEvicted (n : ℕ) (s : State) (b : FinishedBody) (over : Bool) (es
   pub drawn : Evicts (pick_by_draws (shards_of s)) (admitted s b) es st m rest
   pub kept : IsSharded n m
 
-pub has_evicted : (n w : ℕ) (s : State) (b : FinishedBody) (over : Bool) (es : List CacheEntryKey) (m : Managed) (st rest : Stream) → IsSharded n s.managed → w ≡ weight_for b.bytes
+pub has_evicted : (n w : ℕ) (s : State) (b : FinishedBody) (over : Bool) (es : List CacheEntryKey) (m : Managed) (st rest : Stream) → IsSharded n s.managed → w ≡ weight_for b.body
     → total_size (put_first n (alone b.entry) w s.managed) < 2 ^ 64 → Evicts (pick_by_draws n) (put_first n (alone b.entry) w s.managed) es st m rest → is_over m ≡ over → HasEvicted n s b over es m st rest
 has_evicted n w s b over es m st rest k weighs fits went ends =
     let N = shards_of s in
     let turn : (x v : ℕ) → Type 0 = λ x v. (total_size (put_first x (alone b.entry) v s.managed) < 2 ^ 64) × Evicts (pick_by_draws x) (put_first x (alone b.entry) v s.managed) es st m rest in
-    let here : turn N (weight_for b.bytes) = subst (λ (v : ℕ). turn N v) weighs (subst (λ (x : ℕ). turn x w) (sym k.count) (fits, went)) in
+    let here : turn N (weight_for b.body) = subst (λ (v : ℕ). turn N v) weighs (subst (λ (x : ℕ). turn x w) (sym k.count) (fits, went)) in
     let kept : IsSharded N s.managed = subst (λ (x : ℕ). IsSharded x s.managed) (sym k.count) k in
-    let all : Went N over es (admitted s b) m = evicts-went (pick_by_draws N) N over es (admitted s b) m st rest (kept-put N s.managed kept (alone b.entry) (weight_for b.bytes)) here.1 ends in
+    let all : Went N over es (admitted s b) m = evicts-went (pick_by_draws N) N over es (admitted s b) m st rest (kept-put N s.managed kept (alone b.entry) (weight_for b.body)) here.1 ends in
     record { fits = here.0; turns = all.turns; left = all.left; drawn = here.1; kept = subst (λ (x : ℕ). IsSharded x m) k.count all.kept }
 
 -- ---- what is told of a fault of the order of use
@@ -116,7 +115,7 @@ pub record IsRefusedPut (s : State) (b : FinishedBody) (f : TierFault) (new : St
   pub after : new ≡ taken_back true s b (done_of f)
   pub drawn : (left : Managed) × Evicts (pick_by_draws (shards_of s)) (admitted s b) (evicted_by (Err f)) st left rest
 
-module _ (n w : ℕ) (s : State) (b : FinishedBody) (k : IsSharded n s.managed) (weighs : w ≡ weight_for b.bytes) where
+module _ (n w : ℕ) (s : State) (b : FinishedBody) (k : IsSharded n s.managed) (weighs : w ≡ weight_for b.body) where
   -- the body is gone with its entry, and those of the entries that were evicted until that order of use
   abbrev pub cleared : List CacheEntryKey → Managed → State
   cleared es m = record s { bodies = without_body (stored_key b.entry) (without_bodies es s.bodies); managed = taken_out n (alone b.entry) m }
@@ -127,7 +126,7 @@ module _ (n w : ℕ) (s : State) (b : FinishedBody) (k : IsSharded n s.managed) 
       ∙ ap (λ (x : ℕ). record s { bodies = without_body (stored_key b.entry) (without_bodies es s.bodies); managed = taken_out x (alone b.entry) (all_gone (shards_of s) es (admitted s b)) }) (sym k.count) in
       subst (λ (x : TierFault). IsRefusedPut s b x new st rest) (sym told) (record { allowed = inr (es, refl, h.fits, h.turns); after = is; drawn = (m, h.drawn) })
 
-  kept_out : (m : Managed) (f g : TierFault) (new : State) (st rest : Stream) → m ≡ s.managed → rest ≡ st → f ≡ g → IsKeptOut s (alone b.entry) (weight_for b.bytes) stored_alone g → evicted_by (Err g) ≡ [] → done_of g ≡ stored_alone
+  kept_out : (m : Managed) (f g : TierFault) (new : State) (st rest : Stream) → m ≡ s.managed → rest ≡ st → f ≡ g → IsKeptOut s (alone b.entry) (weight_for b.body) stored_alone g → evicted_by (Err g) ≡ [] → done_of g ≡ stored_alone
       → new ≡ cleared [] m → IsRefusedPut s b f new st rest
   kept_out m f g new st rest same none told out nobody alone_stored r =
       let is : new ≡ taken_back true s b stored_alone = r ∙ ap (cleared []) same
@@ -145,7 +144,7 @@ module _ (n w : ℕ) (s : State) (b : FinishedBody) (k : IsSharded n s.managed) 
       absurd cc
   there m (x ∷ es) st rest h e none = absurd cc
 
-  heavy_here : (fault : ℕ → ℕ → Type 0) → fault n w → fault (shards_of s) (weight_for b.bytes)
+  heavy_here : (fault : ℕ → ℕ → Type 0) → fault n w → fault (shards_of s) (weight_for b.body)
   heavy_here fault p = subst (λ (v : ℕ). fault (shards_of s) v) weighs (subst (λ (x : ℕ). fault x w) (sym k.count) p)
 
   -- a fault of the order of use, of which the put told, and the tier after it
@@ -207,7 +206,7 @@ back-same b es bodies =
     same-bodies (without_body (stored_key b.entry) (without_bodies es (with_body b bodies))) (without_body (stored_key b.entry) (without_bodies es bodies))
     (λ k. body_of-without k (stored_key b.entry) (without_bodies es (with_body b bodies))
     ∙ ap (cond (same_bytes (stored_key b.entry) k) None) (body_of-without_all k es (with_body b bodies) ∙ ap (cond (has_key k es) None) (body_of-with k b bodies))
-    ∙ both_gone (same_bytes (stored_key b.entry) k) (has_key k es) (body_of k bodies) (Some (found_of b))
+    ∙ both_gone (same_bytes (stored_key b.entry) k) (has_key k es) (body_of k bodies) (Some b.body)
     ∙ sym (body_of-without k (stored_key b.entry) (without_bodies es bodies) ∙ ap (cond (same_bytes (stored_key b.entry) k) None) (body_of-without_all k es bodies)))
 
 module _ (s : State) (b : FinishedBody) (st : Stream) (number : s.writes ≢ 2 ^ 64 - 1) where
@@ -216,7 +215,7 @@ module _ (s : State) (b : FinishedBody) (st : Stream) (number : s.writes ≢ 2 ^
   put_in = record s { bodies = with_body b s.bodies; writes = s.writes + 1 }
 
   stored_by : (f : TierFault) → IsStoreFault s b f → (done_of f).stored ≡ true
-  stored_by f p = elim p [ inl out ↦ ap (λ (d : Done). d.stored) (kept_out-done s (alone b.entry) (weight_for b.bytes) stored_alone f out) | inr cut ↦ ap (λ (x : TierFault). (done_of x).stored) cut.1 ]
+  stored_by f p = elim p [ inl out ↦ ap (λ (d : Done). d.stored) (kept_out-done s (alone b.entry) (weight_for b.body) stored_alone f out) | inr cut ↦ ap (λ (x : TierFault). (done_of x).stored) cut.1 ]
 
   until_same : (v : Bool) → until v put_in b ≡ until v s b
   until_same true = refl
@@ -252,6 +251,6 @@ stores-nothing s b st f new rest began none refusal number after same = record {
     nobody : evicted_by (Err f) ≡ []
     nobody = ap evicted_before none
 
-    begins : (v : Bool) → CanBegin s.writes v → Begins s (Some (Stored b)) (Err f) v
+    begins : (v : Bool) → CanBegin s.writes v → BeginsWrite s (Some b) (Err f) v
     begins true number = number
     begins false number = stored

@@ -18,7 +18,7 @@ use Rattle.cache_evict.specs.Managed.{Managed, IsSharded, pick_by_draws, taken_o
 use Rattle.cache_store.specs.Held.{Held}
 use Rattle.mem_cache.specs.Misses.{are_numbers_spent}
 use Rattle.response_parse.specs.Response.{parsed_of}
-use Rattle.cache_store.specs.Wholes.{IsGiven}
+use Rattle.cache_store.specs.declared.storage.MissFinishType.TheVariants.{Created}
 use Rattle.pingora_cache.specs.Put.{Rules, Cache, rules_of, compact, IsOutOfMemory, IsDone, IsSame, RanOut, IsAdmitted, IsTakenBack, IsStoredThen, IsWriteRefused, IsPut, IsOutcome, Puts}
 use Rattle.pingora_cache.specs.Response as cache
 use Rattle.pingora_cache.specs.declared.put.whole.Whole.{Whole as Given}
@@ -34,12 +34,11 @@ use Rattle.tier_model.specs.declared.event.Answer.TheVariants as answer
 use Rattle.tier_model.specs.declared.event.Done.{Done}
 use Rattle.tier_model.specs.declared.event.TierFault.{TierFault}
 use Rattle.tier_model.specs.declared.event.TierFault.TheVariants as tier
-use Rattle.tier_model.specs.declared.state.FinishedBody.{FinishedBody}
 use Rattle.tier_model.specs.declared.whole.Whole.{Whole}
 use Rattle.tier_model.specs.declared.whole.Whole.TheVariants as whole
 use Rattle.tier_model.specs.Calls.{Outcome, nothing_done}
 use Rattle.tier_model.specs.Response.{joined, whole_of}
-use Rattle.tier_model.specs.Rows.{without_body, without_bodies, with_body, weight_for}
+use Rattle.tier_model.specs.Rows.{FinishedBody, without_body, without_bodies, with_body, weight_for}
 use Rattle.tier_model.specs.State.{State}
 use Rattle.cache_tier.specs.Acts.{TakesBy}
 use Rattle.cache_tier.specs.Bodies.{IsIdle, Shelf, shelf_of, bodies_in}
@@ -51,7 +50,7 @@ use Rattle.cache_tier.proofs.StoreLaws.{StoresBy, HasEvicted, has_evicted, clear
 
 -- what is known of the tier's store and of its order of use, of n shards
 abbrev pub rules : ℕ → Rules Held
-rules n = rules_of (λ h. h) (λ h k. None) are_numbers_spent (IsGiven {H = ℕ} (λ m. None)) n (λ size. max size 1) (pick_by_draws n)
+rules n = rules_of (λ h. h) (λ h k. None) are_numbers_spent (λ x. Created (length x.bytes)) n (λ size. max size 1) (pick_by_draws n)
 
 -- a state with what a cache holds
 abbrev pub with_cache : State → Cache Held → State
@@ -103,48 +102,48 @@ module _ (n : ℕ) (s : State) (t : MomentValue) (key : CacheKeyValue) (pieces :
 
   -- ---- no body is stored
 
-  not_kept : (reason : NoCacheReason) (g : Whole) → Gives t (entry_of key) (joined pieces) g → IsWholeFor (entry_of key) (given.Uncacheable reason) g → IsTaken (Ok (Uncacheable reason)) c0
+  not_kept : (reason : NoCacheReason) (g : Whole) → Gives t (joined pieces) g → IsWholeFor (given.Uncacheable reason) g → IsTaken (Ok (Uncacheable reason)) c0
   not_kept reason g gives is = record {
     is_idle = idle;
     sharded = kept;
     tellable = tt;
     takes = λ o told. elim is [
       | inl origin ↦
-          let gives_so : Gives t (entry_of key) (joined pieces) (whole.Uncacheable OriginNotCache) = subst (Gives t (entry_of key) (joined pieces)) origin.1 gives in
+          let gives_so : Gives t (joined pieces) (whole.Uncacheable OriginNotCache) = subst (Gives t (joined pieces)) origin.1 gives in
           subst (λ (x : Outcome). TakesBy old c0.words t (Put key pieces) x old c0.words) (sym (told ∙ ap (λ (x : NoCacheReason). answer_as (Uncacheable x)) origin.0))
           (Takes-put old c0.words t key pieces (whole.Uncacheable OriginNotCache) (Ok (answer.Uncacheable OriginNotCache)) gives_so refl refl refl refl)
       | inr epoch ↦
-          let gives_so : Gives t (entry_of key) (joined pieces) whole.BeforeEpoch = subst (Gives t (entry_of key) (joined pieces)) epoch.1 gives in
+          let gives_so : Gives t (joined pieces) whole.BeforeEpoch = subst (Gives t (joined pieces)) epoch.1 gives in
           subst (λ (x : Outcome). TakesBy old c0.words t (Put key pieces) x old c0.words) (sym (told ∙ ap (λ (x : NoCacheReason). answer_as (Uncacheable x)) epoch.0))
           (Takes-put old c0.words t key pieces whole.BeforeEpoch (Err tier.BeforeEpoch) gives_so (inr refl) refl refl refl)
     ];
   }
 
-  incomplete : (g : Whole) → Gives t (entry_of key) (joined pieces) g → g ≡ whole.Incomplete → IsTaken (Err put.Incomplete) c0
+  incomplete : (g : Whole) → Gives t (joined pieces) g → g ≡ whole.Incomplete → IsTaken (Err put.Incomplete) c0
   incomplete g gives is = record {
     is_idle = idle;
     sharded = kept;
     tellable = tt;
     takes = told-one put.Incomplete tier.Incomplete c0 (λ f e. e)
-        (Takes-put old c0.words t key pieces whole.Incomplete (Err tier.Incomplete) (subst (Gives t (entry_of key) (joined pieces)) is gives) (inr refl) refl refl refl);
+        (Takes-put old c0.words t key pieces whole.Incomplete (Err tier.Incomplete) (subst (Gives t (joined pieces)) is gives) (inr refl) refl refl refl);
   }
 
-  bad_head : (g : Whole) → Gives t (entry_of key) (joined pieces) g → g ≡ whole.BadHead → IsTaken (Err put.BadHead) c0
+  bad_head : (g : Whole) → Gives t (joined pieces) g → g ≡ whole.BadHead → IsTaken (Err put.BadHead) c0
   bad_head g gives is = record {
     is_idle = idle;
     sharded = kept;
     tellable = tt;
     takes = told-one put.BadHead tier.BadHead c0 (λ f e. e)
-        (Takes-put old c0.words t key pieces whole.BadHead (Err tier.BadHead) (subst (Gives t (entry_of key) (joined pieces)) is gives) (inr refl) refl refl refl);
+        (Takes-put old c0.words t key pieces whole.BadHead (Err tier.BadHead) (subst (Gives t (joined pieces)) is gives) (inr refl) refl refl refl);
   }
 
   -- ---- a body that may be kept
 
   module _ (meta : CacheMeta) (body : List ℕ) where
     abbrev b : FinishedBody
-    b = record { entry = entry_of key; bytes = body; fresh_until = meta.internal.fresh_until }
+    b = record { entry = entry_of key; body = record { bytes = body; meta = meta } }
 
-    module _ (gives : Gives t (entry_of key) (joined pieces) (whole.Stored b)) where
+    module _ (gives : Gives t (joined pieces) (whole.Stored b.body)) where
       -- memory ran out before it was stored
       ran_out : (fault : PutFault) (c : Cache Held) → RanOut (rules n) fault c0 c → IsTaken (Err fault) c
       ran_out fault c out =
@@ -156,7 +155,7 @@ module _ (n : ℕ) (s : State) (t : MomentValue) (key : CacheKeyValue) (pieces :
             sharded = subst (λ (m : Managed). IsSharded n m) (sym out.managed) kept;
             tellable = told.0;
             takes = told-one fault (tier.Memory nothing_done) c told.1
-                (Takes-stored old c0.words t key pieces b (Err (tier.Memory nothing_done)) (with_cache s c) c.words gives
+                (Takes-stored old c0.words t key pieces b.body (Err (tier.Memory nothing_done)) (with_cache s c) c.words gives
                 (stores-nothing old b c0.words (tier.Memory nothing_done) (with_cache s c) c.words sp.began refl (inl refl) sp.can (after ∙ ap (λ (x : Shelf). record old { writes = x.writes }) sp.shelf) out.words));
           }
 
@@ -168,30 +167,27 @@ module _ (n : ℕ) (s : State) (t : MomentValue) (key : CacheKeyValue) (pieces :
             sharded = kept;
             tellable = tt;
             takes = told-one put.WriteNumbersSpent (tier.NumbersSpent nothing_done) c0 (λ f e. e)
-                (Takes-stored old c0.words t key pieces b (Err (tier.NumbersSpent nothing_done)) old c0.words gives
+                (Takes-stored old c0.words t key pieces b.body (Err (tier.NumbersSpent nothing_done)) old c0.words gives
                 (stores-nothing old b c0.words (tier.NumbersSpent nothing_done) old c0.words false refl (inr (inl (refl, eqb-true c0.store.next (2 ^ 64 - 1) p.0))) tt refl refl));
           })
       refused put.MetaMoment c written p = absurd (p.1 written)
       refused _ c written p = absurd p
 
       -- it is stored, under its entry
-      module _ (id : Option CacheEntryId) (mid : Held) (gave : IsGiven {H = ℕ} (λ m. None) id) (shelved : IsShelved (combined (key_of key)) meta body c0.store idle mid) where
-        alone_is : entry_with (compact (key_of key)) (option_map number_of id) ≡ alone (entry_of key)
-        alone_is = ap (λ (i : Option CacheEntryId). entry_with (compact (key_of key)) (option_map number_of i)) (sym gave.1)
-
+      module _ (mid : Held) (shelved : IsShelved (combined (key_of key)) meta body c0.store idle mid) where
         stored : (number : c0.store.next ≢ 2 ^ 64 - 1) (size : ℕ) (evicted : Vec CacheEntryKey) (c : Cache Held) → size ≡ length body
-            → IsAdmitted (rules n) (alone (entry_of key)) size evicted.items (record c0 { store = mid }) c → IsTaken (Ok (Stored size evicted)) c
+            → IsAdmitted (rules n) (Created (length body)) (alone (entry_of key)) evicted.items (record c0 { store = mid }) c → IsTaken (Ok (Stored size evicted)) c
         stored number size evicted c sized a =
             let es = evicted.items in
             let gone = purged-all es mid c.store shelved.is_idle a.purged in
-            let h : HasEvicted n old b false es c.managed c0.words c.words = has_evicted n (max (max 1 size) 1) old b false es c.managed c0.words c.words kept (weighed size (length body) sized) a.fits a.evicts a.within in
+            let h : HasEvicted n old b false es c.managed c0.words c.words = has_evicted n (max (max 1 (length body)) 1) old b false es c.managed c0.words c.words kept (weighed (length body) (length body) refl) a.fits a.evicts a.within in
             let shelf = gone.shelf ∙ ap (λ (x : Shelf). record { bodies = without_bodies es x.bodies; writes = x.writes }) shelved.shelf in
             record {
               is_idle = gone.idle;
               sharded = h.kept;
               tellable = tt;
               takes = λ o told. subst (λ (x : Outcome). TakesBy old c0.words t (Put key pieces) x (with_cache s c) c.words) (sym told)
-                  (Takes-stored old c0.words t key pieces b (Ok (answer.Finished size es)) (with_cache s c) c.words gives (record {
+                  (Takes-stored old c0.words t key pieces b.body (Ok (answer.Finished size es)) (with_cache s c) c.words gives (record {
                     allowed = (sized, h.fits, h.turns);
                     began = true;
                     begins = number;
@@ -200,7 +196,7 @@ module _ (n : ℕ) (s : State) (t : MomentValue) (key : CacheKeyValue) (pieces :
                   }));
             }
 
-        taken_back : (number : c0.store.next ≢ 2 ^ 64 - 1) (fault : PutFault) (c : Cache Held) → IsTakenBack (rules n) (alone (entry_of key)) (length body) fault (record c0 { store = mid }) c → IsTaken (Err fault) c
+        taken_back : (number : c0.store.next ≢ 2 ^ 64 - 1) (fault : PutFault) (c : Cache Held) → IsTakenBack (rules n) (Created (length body)) (alone (entry_of key)) fault (record c0 { store = mid }) c → IsTaken (Err fault) c
         taken_back number fault c k =
             let w = max (max 1 (length body)) 1 in
             let es = evicted_of k.cause in
@@ -215,7 +211,7 @@ module _ (n : ℕ) (s : State) (t : MomentValue) (key : CacheKeyValue) (pieces :
               sharded = subst (λ (m : Managed). IsSharded n m) (sym k.managed) (kept-stopped n w old b kept weighs k.left k.cause c0.words c.words k.stops);
               tellable = told-tellable _ k.cause fault k.told;
               takes = λ o told. subst (λ (x : Outcome). TakesBy old c0.words t (Put key pieces) x (with_cache s c) c.words) (sym told.1)
-                  (Takes-stored old c0.words t key pieces b (Err told.0) (with_cache s c) c.words gives
+                  (Takes-stored old c0.words t key pieces b.body (Err told.0) (with_cache s c) c.words gives
                   (stores-refused old b c0.words number told.0 (with_cache s c) c.words
                   (refused-put n w (put_in old b c0.words number) b kept weighs k.left k.cause fault told.0 (with_cache s c) c0.words c.words k.stops (k.told, told.2) after)));
             }
@@ -223,25 +219,23 @@ module _ (n : ℕ) (s : State) (t : MomentValue) (key : CacheKeyValue) (pieces :
       put-kept : (r : Result PutOutcome PutFault) (c : Cache Held) → IsWritable meta.internal → IsPut (rules n) (key_of key) meta body r c0 c → IsTaken r c
       put-kept (Ok (Stored size evicted)) c written p =
           let kept_so = p.1 in
-          let shelved = put-whole (combined (key_of key)) meta body c0.store idle (are_numbers_spent c0.store) kept_so.1 kept_so.3 in
-          stored kept_so.0 kept_so.1 kept_so.2 shelved (some-left c0.store.next kept_so.3.numbered) size evicted c p.0
-          (subst (λ (e : CacheEntryKey). IsAdmitted (rules n) e size evicted.items (record c0 { store = kept_so.1 }) c) (alone_is kept_so.0 kept_so.1 kept_so.2 shelved) kept_so.4)
+          let shelved = put-whole (combined (key_of key)) meta body c0.store idle (are_numbers_spent c0.store) kept_so.0 kept_so.2 in
+          stored kept_so.0 shelved (some-left c0.store.next kept_so.2.numbered) size evicted c p.0 kept_so.3
       put-kept (Ok (Uncacheable reason)) c written p = absurd p
       put-kept (Err fault) c written p = elim p [
         | inl out ↦ ran_out fault c out
         | inr late ↦ elim late [
           | inl spent ↦ refused fault c written spent
           | inr back ↦
-              let shelved = put-whole (combined (key_of key)) meta body c0.store idle (are_numbers_spent c0.store) back.1 back.3 in
-              taken_back back.0 back.1 back.2 shelved (some-left c0.store.next back.3.numbered) fault c
-              (subst (λ (e : CacheEntryKey). IsTakenBack (rules n) e (length body) fault (record c0 { store = back.1 }) c) (alone_is back.0 back.1 back.2 shelved) back.4)
+              let shelved = put-whole (combined (key_of key)) meta body c0.store idle (are_numbers_spent c0.store) back.0 back.2 in
+              taken_back back.0 shelved (some-left c0.store.next back.2.numbered) fault c back.3
         ]
       ]
 
   -- ---- all of them
 
-  by_whole : (w : Given) (g : Whole) → IsWholeFor (entry_of key) w g → Gives t (entry_of key) (joined pieces) g → (r : Result PutOutcome PutFault) (c : Cache Held) → IsOutcome (rules n) (key_of key) w r c0 c → IsTaken r c
-  by_whole (given.Cacheable meta body) g is gives r c p = put-kept meta body (subst (Gives t (entry_of key) (joined pieces)) is.0 gives) r c is.1 p
+  by_whole : (w : Given) (g : Whole) → IsWholeFor w g → Gives t (joined pieces) g → (r : Result PutOutcome PutFault) (c : Cache Held) → IsOutcome (rules n) (key_of key) w r c0 c → IsTaken r c
+  by_whole (given.Cacheable meta body) g is gives r c p = put-kept meta body (subst (Gives t (joined pieces)) is.0 gives) r c is.1 p
   by_whole (given.Uncacheable reason) g is gives r c p = subst (λ (x : Result PutOutcome PutFault). IsTaken x c) (sym p.0) (left_so (Ok (Uncacheable reason)) c p.1 (not_kept reason g gives is))
   by_whole given.TooLarge g is gives r c p = absurd is
   by_whole given.Incomplete g is gives r c p = subst (λ (x : Result PutOutcome PutFault). IsTaken x c) (sym p.0) (left_so (Err put.Incomplete) c p.1 (incomplete g gives is))
@@ -252,6 +246,6 @@ module _ (n : ℕ) (s : State) (t : MomentValue) (key : CacheKeyValue) (pieces :
     | inl early ↦ subst (λ (x : Result PutOutcome PutFault). IsTaken x c) (sym early.1) (left_so (Err early.0) c early.3 (unread early.0 early.2))
     | inr known ↦
         let rd = known.1.0 in
-        by_whole known.0 (whole_of t (entry_of key) rd) (subst (λ (w : Given). IsWholeFor (entry_of key) w (whole_of t (entry_of key) rd)) (sym known.1.2) (whole-for t (entry_of key) (parsed_of rd)))
+        by_whole known.0 (whole_of t rd) (subst (λ (w : Given). IsWholeFor w (whole_of t rd)) (sym known.1.2) (whole-for t (parsed_of rd)))
         (rd, known.1.1, refl) r c known.2
   ]

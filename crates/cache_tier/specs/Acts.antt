@@ -10,9 +10,9 @@ use Rattle.tier_model.specs.declared.event.Done.{Done}
 use Rattle.tier_model.specs.declared.event.Event.{Event}
 use Rattle.tier_model.specs.declared.event.TierFault.{TierFault}
 use Rattle.tier_model.specs.declared.event.TierFault.TheVariants.{Memory, TooHeavy, TooLong, NumbersSpent, Folder}
-use Rattle.tier_model.specs.Calls.{Call, Outcome, read_by, writes_after}
+use Rattle.tier_model.specs.Calls.{Call, Outcome, finished_in, finished_by, writes_after}
 use Rattle.tier_model.specs.State.{State}
-use Rattle.tier_model.specs.Step.{AllowsBy, Allows, Begins, after_outcome, after}
+use Rattle.tier_model.specs.Step.{AllowsBy, Allows, BeginsWrite, after_outcome, after}
 use Rattle.tier_model.specs.Response.{IsRead, whole_in}
 use Rattle.cache_tier.specs.Draws.{AreDrawn}
 
@@ -39,9 +39,9 @@ fault_for (evict.File v) done = Folder
 abbrev pub TakesBy : State → Stream → MomentValue → Action → Outcome → State → Stream → Type 0
 TakesBy old s t action outcome new rest =
     (reading : Option Reading) × (began : Bool) × IsRead action reading × AllowsBy None old t action (whole_in t action reading) outcome
-    × Begins old (whole_in t action reading) outcome began
-    × (new ≡ counting began old (after_outcome old t action (whole_in t action reading) outcome)) × AreDrawn old (whole_in t action reading) outcome s rest
+    × BeginsWrite old (finished_in action (whole_in t action reading)) outcome began
+    × (new ≡ counting began old (after_outcome old t action (whole_in t action reading) outcome)) × AreDrawn old (finished_in action (whole_in t action reading)) outcome s rest
 
 -- one event was taken, with its outcome, and with it the words from s to rest: its call
 abbrev pub StepsBy : State → Stream → Event → Outcome → State → Stream → Type 0
-StepsBy old s e o new rest = (c : Call) × (c.event ≡ e) × (c.outcome ≡ o) × Allows old c × (new ≡ after old c) × AreDrawn old (read_by c) c.outcome s rest
+StepsBy old s e o new rest = (c : Call) × (c.event ≡ e) × (c.outcome ≡ o) × Allows old c × (new ≡ after old c) × AreDrawn old (finished_by c) c.outcome s rest

@@ -4,19 +4,23 @@ use Rattle.std.specs.FinMap.{from_entries}
 use Rattle.cache_heads.specs.declared.meta.CacheMeta.{CacheMeta}
 use Rattle.cache_changes.specs.Changes.{StoredKey, Write}
 use Rattle.cache_changes.specs.Store.{Stored, body_at}
-use Rattle.cache_changes.specs.Writes.{IsBody, bytes_of, meta_of}
+use Rattle.cache_changes.specs.Writes.{IsBody}
 use Rattle.cache_store.specs.Held.{Held}
 use Rattle.cache_store.specs.declared.storage.PurgeOutcome.{PurgeOutcome}
 use Rattle.cache_store.specs.declared.storage.PurgeOutcome.TheVariants.{Purged}
 use Rattle.tier_model.specs.declared.state.Body.{Body}
 use Rattle.tier_model.specs.Calls.{History}
-use Rattle.tier_model.specs.Histories.{Kept, Opening, changes_of}
-use Rattle.tier_model.specs.Reports.{writes_begun}
+use Rattle.tier_model.specs.Histories.{Kept, Opening, told_of, writes_begun, changes_of}
 use Rattle.tier_model.specs.Rows.{Bodies}
+use Rattle.cache_tier.specs.declared.bodies.Seen.{Seen}
 
--- what a look-up finds of a body
+-- the body that a store has
 abbrev pub found_in : Stored CacheMeta → Body
-found_in x = record { bytes = x.bytes; fresh_until = x.meta.internal.fresh_until }
+found_in x = record { bytes = x.bytes; meta = x.meta }
+
+-- what a look-up sees of a body
+abbrev pub seen_of : Body → Seen
+seen_of b = record { bytes = b.bytes; fresh_until = b.meta.internal.fresh_until }
 
 abbrev pub row_of : Stored CacheMeta → StoredKey × Body
 row_of x = (x.write.key, found_in x)
@@ -43,10 +47,10 @@ abbrev pub is_purged : PurgeOutcome → Bool
 is_purged (Purged id) = true
 is_purged _ = false
 
--- the store shows the bodies that a history has, one a key: each under its key with its bytes and its moment. As many writes
+-- the store shows the bodies that a history has, one a key: each under its key with its bytes and the meta that was stored. As many writes
 -- began as the history says
 pub record ShowsBodies (h : Held) (start : Opening) (past : History) : Type 0 where
   pub bodies : (k : StoredKey) (w : Write Kept) → IsBody k w (changes_of start past)
-      → option_map found_in (body_at k h.store) ≡ Some (record { bytes = bytes_of w.number (changes_of start past); fresh_until = (meta_of w (changes_of start past)).fresh_until })
+      → option_map found_in (body_at k h.store) ≡ Some (told_of (changes_of start past) w)
   pub others : (k : StoredKey) (x : Stored CacheMeta) → body_at k h.store ≡ Some x → (w : Write Kept) × IsBody k w (changes_of start past)
-  pub writes : h.next ≡ writes_begun past
+  pub writes : h.next ≡ writes_begun start past

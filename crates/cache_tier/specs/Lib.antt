@@ -3,3 +3,4 @@ pub mod Puts
 pub mod Codes
 pub mod Acts
 pub mod Draws
+pub mod Takes

@@ -1,33 +1,40 @@
 //! Finished bodies in a store in which no write is left in flight and no reader.
-ghost use Rattle.std.specs.Prelude.{◌≡◌, true, is_some, length, OnErr, IfOk};
+ghost use Rattle.std.specs.Prelude.{◌≡◌, true, is_some, length, option_map, max, OnErr, IfOk};
 ghost use Rattle.std.specs.List.{sum_by};
 ghost use Rattle.std.specs.FinMap.{len, values};
-ghost use Rattle.tier_model.specs.Rows.{body_of, without_body, weight_for};
+ghost use Rattle.tier_model.specs.Rows.{body_of, without_body};
 ghost use Rattle.tier_model.specs.Step.{counted};
-ghost use Rattle.cache_tier.specs.Bodies.{IsIdle, bodies_in, shelf_of, is_purged};
+ghost use Rattle.cache_tier.specs.Bodies.{IsIdle, bodies_in, seen_of, shelf_of, is_purged};
 
 use crate::keys::named_by;
 use bytes::Bytes;
 use cache_store::storage::{PurgeOutcome, PurgeTarget, PurgeType, Storage};
 use cache_words::key::HashBinary;
+use cache_words::time::Moment;
 use mem_cache::MemCache;
 use std::alloc::{AllocError, Global};
 use std::hash::BuildHasher;
-use tier_model::state::Body;
+
+// What a look-up sees of a body.
+#[derive(Drop)]
+pub(crate) struct Seen {
+    pub(crate) bytes: Bytes,
+    pub(crate) fresh_until: Moment,
+}
 
 // Looks the body of a key up, and shares its bytes. It is refused for lack of memory, and only where there is one.
 pub(crate) fn look<S: BuildHasher>(
     store: &MemCache<S>,
     key: &HashBinary,
-) -> Result<Option<Body>, AllocError>
-    ensures found { IfOk result (λ found. found ≡ body_of key.now (bodies_in store.now.store.bodies)) }
+) -> Result<Option<Seen>, AllocError>
+    ensures found { IfOk result (λ found. found ≡ option_map seen_of (body_of key.now (bodies_in store.now.store.bodies))) }
     ensures refused { OnErr result (is_some (body_of key.now (bodies_in store.now.store.bodies)) ≡ true) }
 {
     let Some((meta, bytes)) = store.finished(key) else {
         return Ok(None);
     };
     let bytes = bytes.clone()?;
-    Ok(Some(Body {
+    Ok(Some(Seen {
         bytes,
         fresh_until: meta.fresh_until(),
     }))
@@ -74,7 +81,7 @@ pub(crate) fn all_bytes<S: BuildHasher>(store: &MemCache<S>) -> u64
 
 // What a body of that length weighs.
 pub(crate) fn weight_for(bytes: &Bytes) -> usize
-    ensures { result ≡ weight_for bytes.now }
+    ensures { result ≡ max 1 (length bytes.now) }
 {
     bytes.len().max(1)
 }

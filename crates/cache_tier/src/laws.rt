@@ -5,7 +5,7 @@ ghost use Rattle.tier_model.specs.declared.event.Event.{Event};
 ghost use Rattle.tier_model.specs.Calls.{Call, Outcome};
 ghost use Rattle.tier_model.specs.State.{State};
 ghost use Rattle.tier_model.specs.Past.{CarriesHeadline};
-ghost use Rattle.cache_tier.specs.Draws.{Takes};
+ghost use Rattle.cache_tier.specs.Takes.{Takes};
 
 /// What `Tier::step` takes is one call, which carries the headline.
 pub fn headline()

@@ -5,7 +5,7 @@ ghost use Rattle.tier_model.specs.Calls.{History, nothing_done};
 ghost use Rattle.tier_model.specs.Histories.{Opening, empty_opening};
 ghost use Rattle.tier_model.specs.Past.{HasPast, HoldsOrder};
 ghost use Rattle.tier_model.specs.Reports.{report_of};
-ghost use Rattle.cache_tier.specs.Draws.{Takes};
+ghost use Rattle.cache_tier.specs.Takes.{Takes};
 ghost use Rattle.cache_tier.specs.Acts.{StepsBy};
 ghost use Rattle.cache_tier.specs.Bodies.{IsIdle, shelf_of, ShowsBodies};
 

@@ -64,6 +64,10 @@ less seconds later earlier =
     then record { seconds = seconds - 1; nanoseconds = later + second - earlier }
     else record { seconds = seconds; nanoseconds = later - earlier }
 
+-- the greatest time that a `Duration` holds
+abbrev pub greatest : DurationValue
+greatest = record { seconds = 2 ^ 64 - 1; nanoseconds = second - 1 }
+
 -- the time from the first to the second; nothing where the second is before the first
 abbrev pub elapsed : MomentValue → MomentValue → DurationValue
 elapsed a b =

@@ -1,6 +1,6 @@
 //! Points in time and lengths of time, to the nanosecond. No call reads a clock: moments are handed in.
-ghost use Rattle.std.specs.Prelude.{◌≡◌, ◌<◌, ℤ, pos, ◌<ℤ◌, ◌↔◌, IsTrue, Option, Some, None, if◌then◌else◌, nat_lt};
-ghost use Rattle.cache_words.specs.Time.{MomentValue, DurationValue, at_most, at_least, later_by, earlier_by, elapsed, sum_of, difference, from_seconds, span_of, instant, second};
+ghost use Rattle.std.specs.Prelude.{◌≡◌, ◌<◌, ℤ, pos, ◌<ℤ◌, ◌↔◌, IsTrue, Option, Some, None, if◌then◌else◌, nat_lt, unwrap_or};
+ghost use Rattle.cache_words.specs.Time.{MomentValue, DurationValue, at_most, at_least, later_by, earlier_by, elapsed, sum_of, greatest, difference, from_seconds, span_of, instant, second};
 
 use std::marker::Model;
 
@@ -235,6 +235,19 @@ impl Duration {
                 seconds: seconds as u64,
                 nanoseconds: nanoseconds % NANOSECONDS_PER_SECOND,
             })
+        }
+    }
+
+    /// Both times, one after the other; from 2^64 seconds on the greatest time.
+    pub fn saturating_add(&self, other: Duration) -> Duration
+        ensures { result ≡ unwrap_or (sum_of self.now other) greatest }
+    {
+        match self.checked_add(other) {
+            Some(sum) => sum,
+            None => Duration {
+                seconds: u64::MAX,
+                nanoseconds: NANOSECONDS_PER_SECOND - 1,
+            },
         }
     }
 

@@ -3,6 +3,7 @@ use Rattle.std.specs.Prelude.{ℕ, List, [], ◌∷◌, ◌++◌, take, drop, Op
 use Rattle.std.specs.Hash as fed
 use Rattle.cache_entries.specs.declared.entry.CacheEntryKey.{CacheEntryKey}
 use Rattle.cache_entries.specs.Entry.{key_of, id_of}
+use Rattle.secret_hasher.specs.Pieces.{pieces}
 
 -- sixteen bytes in two writes
 abbrev pub halves : List ℕ → fed.HashWrites
@@ -17,6 +18,6 @@ abbrev pub id_writes : Option ℕ → fed.HashWrites
 id_writes None = []
 id_writes (Some id) = fed.u64 id
 
--- what is written of each part that is there
+-- what is written of each part that is there, eight bytes at most in a write
 abbrev pub table_writes : CacheEntryKey → fed.HashWrites
-table_writes e = halves (key_of e).primary ++ (halves_if_any (key_of e).variance ++ ((key_of e).user_tag ∷ id_writes (id_of e)))
+table_writes e = halves (key_of e).primary ++ (halves_if_any (key_of e).variance ++ (pieces (key_of e).user_tag ++ id_writes (id_of e)))

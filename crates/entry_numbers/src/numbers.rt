@@ -1,8 +1,10 @@
 //! Entries and their numbers.
 
 ghost use Rattle.std.specs.Prelude.{◌≡◌, ℕ, ◌==◌, ◌<◌, ◌+◌, [], length, Some, IfSome, IfNone, IfOk, OnOk, OnErr, option_copied};
+ghost use Rattle.std.specs.List.{fold};
 ghost use Rattle.cache_entries.specs.Entry.{owned_of};
 ghost use Rattle.cache_entries.specs.BorrowedEntry.{borrowed_entry};
+ghost use Rattle.entry_numbers.specs.Hashed.{table_writes};
 ghost use Rattle.entry_numbers.specs.Parts.{entry_with_parts};
 ghost use Rattle.entry_numbers.specs.Names.{name_at, IsOneToOne, HasNoNumber, with_name, without_name, IsFirstFree, IsSpent, HasMany};
 ghost use Rattle.lru_core.specs.declared.rows.TheConstants.{MOST_ROWS};
@@ -29,7 +31,8 @@ use table::{move_place, put_entry, put_place, room_for, take_place};
 /// number.
 ///
 /// Both are found by their hashes. `new` hashes with a fixed start, for entries that the caller chooses itself;
-/// `with_hasher` takes a start of the caller's, for entries that strangers choose, who then can't slow look-ups down.
+/// `with_hasher` takes a start of the caller's: `SecretHasher` or std's `RandomState`, for entries that strangers choose. No part
+/// of an entry is hashed in a write of more than eight bytes, so no choice of parts takes the start out of the hash.
 #[derive(Drop)]
 pub struct Numbers<const N: usize, S: BuildHasher = BuildHasherDefault<FoldHasher>> {
     entries: IndexMap<TableKey, u64, S>,
@@ -119,9 +122,11 @@ impl<const N: usize, S: BuildHasher> Numbers<N, S> {
         self.entries.get(Query::of(entry)).copied()
     }
 
-    /// Returns a hash of an entry that starts as the tables' hashes do. No clause says which: it is where the search for a free
-    /// number may begin.
-    pub fn hash_of(&self, entry: &CacheEntryKey) -> u64 {
+    /// Returns the hash of an entry by the tables' hasher: it is where the search for a free number may begin. A clause sees that
+    /// the entry's parts are hashed from some start.
+    pub fn hash_of(&self, entry: &CacheEntryKey) -> u64
+        ensures { (start : S) × (result ≡ S.Hasher.finish (fold S.Hasher.write (S.build_hasher start) (table_writes entry.now))) }
+    {
         let mut state = self.entries.hasher().build_hasher();
         Query::of(CacheEntryKeyRef::from(entry)).hash(&mut state);
         state.finish()

@@ -16,6 +16,7 @@ use cache_entries::pack::BorrowedEntry;
 use cache_words::key::{CompactCacheKey, HashBinary};
 use cache_words::pack::BorrowedKey;
 use indexmap::Equivalent;
+use secret_hasher::write_pieces;
 use std::hash::{Hash, Hasher};
 
 // An entry whose tag is borrowed, which is compared and hashed as the entry that it stands for.
@@ -68,8 +69,7 @@ impl<'a> Eq for Query<'a> {
     ghost laws = { on_equiv (λ q. borrowed_entry q.entry) entries_equivalence };
 }
 
-// Hashes sixteen bytes in two writes. In one write of them std's hasher multiplies one half by the other, so that whoever
-// chooses a half can make the product 0, whatever the start.
+// Hashes sixteen bytes in two writes, as `write_pieces` would.
 fn hash_halves<H: Hasher>(bytes: &HashBinary, state: &mut H)
     ensures { state.new ≡ fold H.write state.old (halves bytes.now) }
 {
@@ -101,10 +101,11 @@ impl<'a> Hash for Query<'a> {
 
     ghost respects_eq = { λ a b. same-hashed same_entry same_entry-tells table_writes (borrowed_entry a.entry) (borrowed_entry b.entry) };
 
+    // No write has more than eight bytes, since strangers choose the tag: `write_pieces` says what they could do to a longer one.
     fn hash<H: Hasher>(&self, state: &mut H) {
         hash_halves(&self.entry.key.primary, state);
         hash_variance(&self.entry.key.variance, state);
-        state.write(self.entry.key.user_tag.as_bytes());
+        write_pieces(self.entry.key.user_tag.as_bytes(), state);
         hash_id(self.entry.id, state);
     }
 }

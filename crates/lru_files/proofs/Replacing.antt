@@ -1,8 +1,8 @@
 -- A file that is replaced by way of a temporary one: what each call leaves, and a stop in it.
-use Rattle.std.proofs.Common.{◌≡◌, ◌≢◌, inl, inr, ℕ, List, [], take, Option, Some, sym, ◌∙◌, refl, subst}
+use Rattle.std.proofs.Common.{◌≡◌, ◌≢◌, inl, inr, ℕ, List, [], take, Option, Some, None, sym, ◌∙◌, refl, subst}
 use Rattle.lru_files.specs.Folder.{Files, Call, Outcome, IsSame, IsPut, IsMoved, IsGrown, Refuses, Writes, StoppedIn, StopsLeave}
 use Rattle.lru_files.specs.Folder.Call.{Create, Write, Flush, Rename}
-use Rattle.lru_files.specs.Save.{IsOldOrNew, IsReplaced}
+use Rattle.lru_files.specs.Save.{IsAdded, IsOldOrNew, IsReplaced}
 use Rattle.lru_files.proofs.Runs.{stops_begin, stops_more}
 
 -- no path but the temporary one changed
@@ -54,21 +54,30 @@ put-same {temp} left put same = record {
 }
 
 -- the temporary file has a beginning
-pub put-refused : {old created written : Files} {temp : List ℕ} {opened : Option (List ℕ)} (bytes : List ℕ)
+put-refused : {old created written : Files} {temp : List ℕ} {opened : Option (List ℕ)} (bytes : List ℕ)
     → opened ≡ Some temp → IsPut old created temp [] → Refuses (Write bytes) opened created written → (n : ℕ) × IsPut old written temp (take n bytes)
 put-refused {written = written} bytes is_open put (inl same) = (0, put-same written put same)
 put-refused bytes is_open put (inr part) = (part.0, put-writes (take part.0 bytes) is_open put part.1)
 
-pub replaced-moved : {old written new : Files} {temp at bytes : List ℕ} → temp ≢ at → IsPut old written temp bytes → IsMoved written new temp at
+-- a new temporary file has a beginning
+pub added-refused : {old created written : Files} {temp : List ℕ} {opened : Option (List ℕ)} (bytes : List ℕ)
+    → old temp ≡ None → opened ≡ Some temp → IsPut old created temp [] → Refuses (Write bytes) opened created written → (n : ℕ) × IsAdded old written temp (take n bytes)
+added-refused bytes absent is_open put refused = let part = put-refused bytes is_open put refused in (part.0, record { was = absent; put = part.1 })
+
+pub replaced-moved : {old written new : Files} {temp at bytes : List ℕ} → old temp ≡ None → temp ≢ at → IsPut old written temp bytes → IsMoved written new temp at
     → IsReplaced old new temp at bytes
-replaced-moved apart put moved = record {
+replaced-moved absent apart put moved = record {
+  was = absent;
   there = moved.there ∙ put.there;
   gone = moved.gone apart;
   others = λ path away_from_at away. moved.others path away away_from_at ∙ put.others path away;
 }
 
-pub old_or_new-replaced : {old new : Files} {temp at bytes : List ℕ} → IsReplaced old new temp at bytes → IsOldOrNew old temp at bytes new
-old_or_new-replaced replaced = record { file = inr replaced.there; others = replaced.others }
+pub old_or_new-moved : {old written new : Files} {temp at bytes : List ℕ} → IsPut old written temp bytes → IsMoved written new temp at → IsOldOrNew old temp at bytes new
+old_or_new-moved put moved = record {
+  file = inr (moved.there ∙ put.there);
+  others = λ path away_from_at away. moved.others path away away_from_at ∙ put.others path away;
+}
 
 -- a stop in each of the calls of one replacement
 module _ {old : Files} {temp at bytes : List ℕ} (apart : temp ≢ at) where
@@ -93,7 +102,7 @@ module _ {old : Files} {temp at bytes : List ℕ} (apart : temp ≢ at) where
   rename_stop : (before left : Files) (was_open : Option (List ℕ)) → IsPut old before temp bytes → StoppedIn (Rename temp at) was_open before left
       → IsOldOrNew old temp at bytes left
   rename_stop before left was_open put (inl same) = old_from_aside at bytes apart (aside-same left (aside_from_put before put) same)
-  rename_stop before left was_open put (inr moved) = old_or_new-replaced (replaced-moved apart put moved)
+  rename_stop before left was_open put (inr moved) = old_or_new-moved put moved
 
 -- the calls of one replacement, one after the other
 module _ {D : Type 0} {did : D → Call → Outcome → D → Type 0} {opened : D → Option (List ℕ)} {files : D → Files} {old : D} {temp at bytes : List ℕ} (apart : temp ≢ at) where

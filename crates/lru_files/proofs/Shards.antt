@@ -11,7 +11,7 @@ module _ {E : Type 0} {serialized : Result (Vec ℕ Global) E → Type 0} {temp 
   pub one_left-replaced : (given : Vec ℕ Global) → serialized (Ok given) → IsReplaced old new temp at given.items
       → OneLeft serialized temp at old new (Ok tt)
   one_left-replaced given gave replaced = record {
-    shard = (given.items, (given, gave, refl), replaced.there, replaced.gone);
+    shard = (given.items, (given, gave, refl), replaced.was, replaced.there, replaced.gone);
     others = replaced.others;
   }
 
@@ -28,9 +28,9 @@ module _ {E : Type 0} {serialized : Result (Vec ℕ Global) E → Type 0} {temp 
     shard = (given.items, (given, gave, refl), same at, same temp);
     others = λ path away_from_at away. same path;
   }
-  one_left-failed given Write gave apart part = put_left given Write (take part.0 given.items) gave apart part.1 (part.0, part.1.there)
-  one_left-failed given Flush gave apart put = put_left given Flush given.items gave apart put put.there
-  one_left-failed given Rename gave apart put = put_left given Rename given.items gave apart put put.there
+  one_left-failed given Write gave apart part = put_left given Write (take part.0 given.items) gave apart part.1.put (part.1.was, (part.0, part.1.put.there))
+  one_left-failed given Flush gave apart added = put_left given Flush given.items gave apart added.put (added.was, added.put.there)
+  one_left-failed given Rename gave apart added = put_left given Rename given.items gave apart added.put (added.was, added.put.there)
   one_left-failed given Open gave apart never = absurd never
   one_left-failed given Read gave apart never = absurd never
   one_left-failed given ReadDir gave apart never = absurd never

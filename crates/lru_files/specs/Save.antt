@@ -20,19 +20,25 @@ pub record IsOldOrNew (old : Files) (temp at bytes : List ℕ) (new : Files) : T
   pub file : (new at ≡ old at) ⊎ (new at ≡ Some bytes)
   pub others : (path : List ℕ) → path ≢ at → path ≢ temp → new path ≡ old path
 
--- the shard's bytes are at its path, its temporary path has no file, and no other path changed
+-- the shard's bytes are at its path, its temporary path had no file and has none, and no other path changed
 pub record IsReplaced (old new : Files) (temp at bytes : List ℕ) : Type 0 where
+  pub was : old temp ≡ None
   pub there : new at ≡ Some bytes
   pub gone : new temp ≡ None
   pub others : (path : List ℕ) → path ≢ at → path ≢ temp → new path ≡ old path
 
--- what writing these bytes by way of the temporary path leaves
+-- a new file with these bytes is at the temporary path, and no other path changed
+pub record IsAdded (old new : Files) (temp bytes : List ℕ) : Type 0 where
+  pub was : old temp ≡ None
+  pub put : IsPut old new temp bytes
+
+-- What writing these bytes by way of the temporary path leaves. Where that path has a file, nothing changes, and the writing fails.
 abbrev pub LeftByWriting : Files → Files → List ℕ → List ℕ → List ℕ → Result (Unit {0}) ShardFileError → Type 0
 LeftByWriting old new temp at bytes (Ok done) = IsReplaced old new temp at bytes
 LeftByWriting old new temp at bytes (Err Create) = IsSame old new
-LeftByWriting old new temp at bytes (Err Write) = (n : ℕ) × IsPut old new temp (take n bytes)
-LeftByWriting old new temp at bytes (Err Flush) = IsPut old new temp bytes
-LeftByWriting old new temp at bytes (Err Rename) = IsPut old new temp bytes
+LeftByWriting old new temp at bytes (Err Write) = (n : ℕ) × IsAdded old new temp (take n bytes)
+LeftByWriting old new temp at bytes (Err Flush) = IsAdded old new temp bytes
+LeftByWriting old new temp at bytes (Err Rename) = IsAdded old new temp bytes
 LeftByWriting old new temp at bytes (Err Open) = ⊥
 LeftByWriting old new temp at bytes (Err Read) = ⊥
 LeftByWriting old new temp at bytes (Err ReadDir) = ⊥
@@ -44,12 +50,12 @@ abbrev pub error_in : Result (Unit {0}) ShardFileError → List ShardFileError
 error_in (Ok done) = []
 error_in (Err call) = call ∷ []
 
--- what a failed call leaves at the temporary path: a beginning of the bytes, or all of them
+-- what a failed call leaves at the temporary path: what was there where it isn't created; else a beginning of the bytes, or all of them, where there was no file
 abbrev pub TempLeft : List ℕ → (temp new_temp : Option (List ℕ)) → ShardFileError → Type 0
 TempLeft bytes temp new_temp Create = new_temp ≡ temp
-TempLeft bytes temp new_temp Write = (n : ℕ) × (new_temp ≡ Some (take n bytes))
-TempLeft bytes temp new_temp Flush = new_temp ≡ Some bytes
-TempLeft bytes temp new_temp Rename = new_temp ≡ Some bytes
+TempLeft bytes temp new_temp Write = (temp ≡ None) × ((n : ℕ) × (new_temp ≡ Some (take n bytes)))
+TempLeft bytes temp new_temp Flush = (temp ≡ None) × (new_temp ≡ Some bytes)
+TempLeft bytes temp new_temp Rename = (temp ≡ None) × (new_temp ≡ Some bytes)
 TempLeft bytes temp new_temp Open = ⊥
 TempLeft bytes temp new_temp Read = ⊥
 TempLeft bytes temp new_temp ReadDir = ⊥
@@ -77,9 +83,9 @@ module _ {E : Type 0} where
   abbrev pub Gives : (Result (Vec ℕ Global) E → Type 0) → List ℕ → Type 0
   Gives serialized bytes = (given : Vec ℕ Global) × serialized (Ok given) × (given.items ≡ bytes)
 
-  -- what is at a shard's path and at its temporary path, before and after, by the shard's outcome
+  -- What is at a shard's path and at its temporary path, before and after, by the shard's outcome. A shard is saved only where its temporary path has no file.
   abbrev pub ShardLeft : (Result (Vec ℕ Global) E → Type 0) → (file temp new_file new_temp : Option (List ℕ)) → Result (Unit {0}) (ShardSaveFailure E) → Type 0
-  ShardLeft serialized file temp new_file new_temp (Ok done) = (bytes : List ℕ) × Gives serialized bytes × (new_file ≡ Some bytes) × (new_temp ≡ None)
+  ShardLeft serialized file temp new_file new_temp (Ok done) = (bytes : List ℕ) × Gives serialized bytes × (temp ≡ None) × (new_file ≡ Some bytes) × (new_temp ≡ None)
   ShardLeft serialized file temp new_file new_temp (Err (Serialize e)) = serialized (Err e) × (new_file ≡ file) × (new_temp ≡ temp)
   ShardLeft serialized file temp new_file new_temp (Err Memory) = (new_file ≡ file) × (new_temp ≡ temp)
   ShardLeft serialized file temp new_file new_temp (Err (Io call)) = (bytes : List ℕ) × Gives serialized bytes × (new_file ≡ file) × TempLeft bytes temp new_temp call

@@ -24,7 +24,7 @@ pub enum ShardSaveSetupError {
 }
 
 /// Why one shard was not saved.
-#[derive(Debug, Drop)]
+#[derive(Debug, PartialEq, Eq, Drop)]
 pub enum ShardSaveFailure<E> {
     /// The caller's `serialize` failed.
     Serialize(E),
@@ -35,14 +35,14 @@ pub enum ShardSaveFailure<E> {
 }
 
 /// How many shards were saved, and the others by number, in order.
-#[derive(Debug, Drop)]
+#[derive(Debug, PartialEq, Eq, Drop)]
 pub struct ShardSaveReport<E> {
     pub saved: usize,
     pub failed: Vec<(usize, ShardSaveFailure<E>)>,
 }
 
 /// Why a save failed as a whole.
-#[derive(Debug, Drop)]
+#[derive(Debug, PartialEq, Eq, Drop)]
 pub enum ShardSaveError<E> {
     /// No shard was tried.
     Setup(ShardSaveSetupError),
@@ -51,7 +51,7 @@ pub enum ShardSaveError<E> {
 }
 
 /// Why one shard was not loaded.
-#[derive(Debug, Drop)]
+#[derive(Debug, PartialEq, Eq, Drop)]
 pub enum ShardLoadFailure<E> {
     /// A call on the shard's file failed.
     Io(ShardFileError),
@@ -62,14 +62,14 @@ pub enum ShardLoadFailure<E> {
 }
 
 /// How many temporary files of earlier saves were removed, and what failed in that.
-#[derive(Debug, Drop)]
+#[derive(Debug, PartialEq, Eq, Drop)]
 pub struct TempFileCleanupReport {
     pub removed: usize,
     pub failed: Vec<ShardFileError>,
 }
 
 /// How many shards were loaded, how many had no file, the others by number, in order, and the removal of temporary files before.
-#[derive(Debug, Drop)]
+#[derive(Debug, PartialEq, Eq, Drop)]
 pub struct ShardLoadReport<E> {
     pub loaded: usize,
     pub missing: usize,

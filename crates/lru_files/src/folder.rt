@@ -42,9 +42,10 @@ pub trait Folder {
         ensures files { keeps → IsSame (files self.old) (files self.new) }
         ensures counted { Counts result (failures_of self.old) (failures_of self.new) };
 
-    /// Creates the file, without bytes, or empties it; it is then the open one.
+    /// Creates the file, without bytes; it is then the open one. Fails where the path has a file.
     fn create(&mut self, path: &str) -> Result<(), FolderFault>
         ensures did { did self.old (Create path.now) (outcome_of result) self.new }
+        ensures absent { keeps → OnOk result (files self.old path.now ≡ Option.None) }
         ensures ok { keeps → OnOk result (Does (Create path.now) (opened self.old) (files self.old) (files self.new)) }
         ensures opened { keeps → OnOk result (opened self.new ≡ Option.Some path.now) }
         ensures err { keeps → OnErr result (IsSame (files self.old) (files self.new)) }
@@ -71,7 +72,7 @@ pub trait Folder {
         ensures err { keeps → OnErr result (IsSame (files self.old) (files self.new)) }
         ensures counted { Counts result (failures_of self.old) (failures_of self.new) };
 
-    /// Opens the file to be read; false if there is none.
+    /// Opens the file to be read; false if there is none. Fails where the path has anything else.
     fn open(&mut self, path: &str) -> Result<bool, FolderFault>
         ensures did { did self.old (Open path.now) (outcome_of result) self.new }
         ensures ok { keeps → IfOk result (λ found. OpensFile path.now (files self.old) found (opened self.new)) }

@@ -1,13 +1,34 @@
 // A folder of the system.
-ghost use Rattle.std.specs.Prelude.{◌≡◌, ◌↔◌, None, IsOk, IsTrue};
+ghost use Rattle.std.specs.Prelude.{◌≡◌, ◌↔◌, None, IsOk, IsTrue, true};
+ghost use Rattle.std.specs.Fs.{new_options, with_write, with_create_new, file_type, IsFile};
 ghost use Rattle.lru_files.specs.Told.{Counts};
 
 use crate::folder::{Folder, FolderFault, ListFault};
+use std::fs::{Metadata, OpenOptions};
 use std::io::{Read, Write};
 use std::rt::Files;
 use std::{fs, io};
 
+// How a file is created: only where its path has nothing, so that no link is followed and no file of another's is written.
+fn new_file() -> OpenOptions
+    ensures { result ≡ with_create_new (with_write new_options true) true }
+{
+    let mut options = OpenOptions::new();
+    options.write(true).create_new(true);
+    options
+}
+
+// Whether it is a regular file. A folder, a pipe, a device or a link isn't.
+fn is_regular(found: &Metadata) -> bool
+    ensures { IsTrue result ↔ IsFile (file_type found.now) }
+{
+    found.is_file()
+}
+
 /// A folder of the system's files. No clause says what they hold: that is left to tests.
+///
+/// `create` follows no link and takes no name that is there; `open` opens regular files alone. Another process that puts something
+/// else in a file's place between the look at its name and its opening isn't told.
 #[derive(Drop)]
 pub struct HostFolder<R: Files + AllocGlobal + Clone + Drop> {
     rt: R,
@@ -79,7 +100,7 @@ impl<R: Files + AllocGlobal + Clone + Drop> Folder for HostFolder<R> {
     }
 
     fn create(&mut self, path: &str) -> Result<(), FolderFault> {
-        self.file = fs::create(&self.rt, path).ok();
+        self.file = new_file().open(&self.rt, path).ok();
         let done = self.file.is_some();
         self.counted(done)
     }
@@ -107,11 +128,18 @@ impl<R: Files + AllocGlobal + Clone + Drop> Folder for HostFolder<R> {
     }
 
     fn open(&mut self, path: &str) -> Result<bool, FolderFault> {
-        match fs::open(&self.rt, path) {
+        self.file = None;
+        // The name is looked at first: opening a pipe waits for a writer.
+        let opened = match fs::symlink_metadata(&self.rt, path) {
+            Ok(found) if !is_regular(&found) => {
+                self.counted(false)?;
+                return Ok(false);
+            }
+            Ok(_) => fs::open(&self.rt, path),
+            Err(e) => Err(e),
+        };
+        match opened {
             Ok(file) => {
-                // The system opens a directory too, and only its reading fails.
-                let is_file = fs::metadata(&self.rt, path).is_ok_and(|found| !found.is_dir());
-                self.counted(is_file)?;
                 self.file = Some(file);
                 Ok(true)
             }

@@ -199,6 +199,10 @@ impl Folder for MemFolder {
     }
 
     fn create(&mut self, path: &str) -> Result<(), FolderFault> {
+        if self.bytes(path).is_some() {
+            self.fail();
+            return Err(FolderFault);
+        }
         let Ok(()) = self.set_open(path) else {
             self.fail();
             return Err(FolderFault);

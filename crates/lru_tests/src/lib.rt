@@ -1,10 +1,16 @@
-//! Tests of the linked list, of shards and of cores, as tables of calls.
+//! Tests of lists, shards and cores, plain, under locks and under actors, and of their files.
 #![tactic(auto)]
 
 #[cfg(test)]
+mod actors;
+#[cfg(test)]
 mod cores;
 #[cfg(test)]
+mod files;
+#[cfg(test)]
 mod lists;
+#[cfg(test)]
+mod locked;
 #[cfg(test)]
 mod refused;
 #[cfg(test)]

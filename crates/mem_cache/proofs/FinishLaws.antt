@@ -14,7 +14,7 @@ use Rattle.mem_cache.specs.declared.flight.Body.{Body}
 use Rattle.mem_cache.specs.declared.flight.Flight.{Flight}
 use Rattle.cache_store.specs.Agree.{Agree}
 use Rattle.cache_store.specs.Held.{Reading, Held, left_with}
-use Rattle.cache_store.specs.Answers.{alive_key, left_behind, left, IsFinished}
+use Rattle.cache_store.specs.Answers.{alive_key, left_behind, left, FinishesWith}
 use Rattle.mem_cache.specs.Alive.{is_pair}
 use Rattle.mem_cache.specs.Kept.{bytes_in, seen, flights_of, body_of, bodies_of, key_at, ChangesAt}
 use Rattle.mem_cache.proofs.HeldLaws.{held}
@@ -108,14 +108,18 @@ pub finished-is : (a b : Alive) (n : ℕ) (key : StoredKey) (flights shared rest
     → ((f : Flight) → tree.get nat_cmp flights n ≡ Some f → bytes ≡ bytes_in f.buffer) → tree.get nat_cmp shared n ≡ Some taken → meta ≡ taken.meta → rest.entries ≡ remove_entry (is_at (nat_cmp n)) shared.entries
     → ((j : StoredKey) (m : ℕ) → b j m ≡ (a j m && not (is_pair key n j m))) → after_rs ≡ left_with n (bytes_in taken.buffer) rs
     → ((k : StoredKey) → lookup (pointwise nat_eq k) news ≡ cond (pointwise nat_eq key k) (Some (record { number = n; meta = meta; bytes = bytes })) (lookup (pointwise nat_eq k) olds)) → size ≡ length bytes
-    → IsFinished n size (held (bodies_of olds) (flights_of a flights.entries) next rs) (held (bodies_of news) (flights_of b rest.entries) next after_rs)
-finished-is a b n key flights shared rest taken meta bytes size next olds news rs after_rs ordered alive kept value there same_meta removed gone leaving put sized = record {
-  sized = λ f e. let one : Some f ≡ Some (seen a (n, taken)) = sym e ∙ flight in let same_f : f ≡ seen a (n, taken) = cc in sized ∙ ap length (bytes_are ∙ sym (ap (λ (x : Flying CacheMeta). x.stored.bytes) same_f));
-  store = finished-agree n key (record { number = n; meta = taken.meta; bytes = bytes }) olds news (flights_of a flights.entries) (flights_of b rest.entries) (seen a (n, taken)) flight stored put_taken
-      (ap (flights_of b) removed ∙ seen-landed a b key n shared.entries gone (ascends shared.entries (subst (λ (ks : List ℕ). IsStrictlySortedBy nat_cmp ks) (sym kept.keys) ordered)) ∙ ap (landed n) unchanged);
-  next = refl;
-  readings = leaving ∙ ap (λ (o : Option (Flying CacheMeta)). left_behind n o rs) (sym flight);
-}
+    → FinishesWith n size (held (bodies_of olds) (flights_of a flights.entries) next rs) (held (bodies_of news) (flights_of b rest.entries) next after_rs)
+finished-is a b n key flights shared rest taken meta bytes size next olds news rs after_rs ordered alive kept value there same_meta removed gone leaving put sized = (
+  (seen a (n, taken)).stored,
+  sized ∙ ap length bytes_are,
+  record {
+    shown = ap (option_map (λ (f : Flying CacheMeta). f.stored)) flight;
+    store = finished-agree n key (record { number = n; meta = taken.meta; bytes = bytes }) olds news (flights_of a flights.entries) (flights_of b rest.entries) (seen a (n, taken)) flight stored put_taken
+        (ap (flights_of b) removed ∙ seen-landed a b key n shared.entries gone (ascends shared.entries (subst (λ (ks : List ℕ). IsStrictlySortedBy nat_cmp ks) (sym kept.keys) ordered)) ∙ ap (landed n) unchanged);
+    next = refl;
+    readings = leaving ∙ ap (λ (o : Option (Flying CacheMeta)). left_behind n o rs) (sym flight);
+  },
+)
   where
     unchanged : flights_of a shared.entries ≡ flights_of a flights.entries
     unchanged = seen-unchanged n flights shared kept a

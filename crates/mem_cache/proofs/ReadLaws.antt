@@ -47,9 +47,9 @@ joined-one n (Some r) = refl
 
 parted-one : (n : ℕ) (o : Option Readers) → option_map (λ r. reading_of (n, r)) (parted o) ≡ one_less (option_map (λ r. reading_of (n, r)) o)
 parted-one n None = refl
-parted-one n (Some r) = by_test (nat_lt 1 r.count)
+parted-one n (Some r) = by_test (nat_lt 0 r.others)
   where
-    by_test : (v : Bool) → option_map (λ x. reading_of (n, x)) (cond v (Some (counted (r.count - 1) r)) None) ≡ cond v (Some (record (reading_of (n, r)) { count = r.count - 1 })) None
+    by_test : (v : Bool) → option_map (λ x. reading_of (n, x)) (cond v (Some (counted (r.others - 1) r)) None) ≡ cond v (Some (record (reading_of (n, r)) { others = r.others - 1 })) None
     by_test true = refl
     by_test false = refl
 

@@ -6,8 +6,9 @@ use Rattle.cache_store.specs.declared.storage.StoreFault.{StoreFault}
 use Rattle.cache_store.specs.declared.storage.StoreFault.TheVariants.{Memory, SeekRange}
 use Rattle.cache_store.specs.Readers.{StreamHit}
 
--- a reader of a whole body: what of it comes next, unless that was read
+-- a reader of the whole body of a write: what of it comes next, unless that was read
 pub record WholeHit : Type 0 where
+  pub number : ℕ
   pub body : List ℕ
   pub start : ℕ
   pub stop : ℕ
@@ -23,9 +24,9 @@ abbrev pub ReadAnswer : Option (List ℕ × Bool) → ℕ → Result ReadStep St
 ReadAnswer None place r = r ≡ Ok End
 ReadAnswer (Some p) place r = StepAnswer (nat_lt place (length p.0)) p.0 p.1 place r
 
--- the reader of a body that has read nothing
-abbrev pub unread : List ℕ → WholeHit
-unread body = record { body = body; start = 0; stop = length body; done = false }
+-- the reader of the body of a write that has read nothing
+abbrev pub unread : ℕ → List ℕ → WholeHit
+unread n body = record { number = n; body = body; start = 0; stop = length body; done = false }
 
 -- what such a reader reads next
 abbrev pub next_bytes : WholeHit → List ℕ

@@ -39,7 +39,7 @@ abbrev pub bodies_of : List (StoredKey × Body) → List (Stored CacheMeta)
 bodies_of es = map body_of es
 
 abbrev pub reading_of : ℕ × Readers → Reading
-reading_of e = record { number = e.0; count = e.1.count; left = option_map bytes_in e.1.left }
+reading_of e = record { number = e.0; others = e.1.others; left = option_map bytes_in e.1.left }
 
 abbrev pub readings_of : List (ℕ × Readers) → List Reading
 readings_of es = map reading_of es
@@ -64,17 +64,17 @@ pub record IsSound (alive : StoredKey → ℕ → Bool) (flights : BTreeMap ℕ 
   pub below : AllByRecursion (λ n. n < next) (tree.keys flights)
   pub known : (k : StoredKey) (n : ℕ) → alive k n ≡ true → key_at flights n ≡ Some k
 
--- the readers of a write, counted anew, with one more, and with one less
+-- the readers of a write, the others counted anew, with one more, and with one less
 abbrev pub counted : ℕ → Readers → Readers
-counted n r = record r { count = n }
+counted n r = record r { others = n }
 
 abbrev pub joined : Option Readers → Readers
-joined None = record { count = 1; left = None }
-joined (Some r) = counted (r.count + 1) r
+joined None = record { others = 0; left = None }
+joined (Some r) = counted (r.others + 1) r
 
 abbrev pub parted : Option Readers → Option Readers
 parted None = None
-parted (Some r) = cond (nat_lt 1 r.count) (Some (counted (r.count - 1) r)) None
+parted (Some r) = cond (nat_lt 0 r.others) (Some (counted (r.others - 1) r)) None
 
 -- what readers are to be left with, where there are some
 abbrev pub IsShare : Option (List ℕ) → Bool → List ℕ → Type 0

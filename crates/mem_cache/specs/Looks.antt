@@ -14,7 +14,7 @@ use Rattle.mem_cache.specs.Hits.{unread}
 -- what a look-up answers, by what it shows: the meta and a reader that has read nothing. Of a write in flight the reader is counted
 abbrev pub MemLookAnswer : Option Look → Held → Result (Option (CacheMeta × MemHitHandler)) StoreFault → Held → Type 0
 MemLookAnswer None old r new = (r ≡ Ok None) × (new ≡ old)
-MemLookAnswer (Some (finished x)) old r new = MatchResult r (λ found. found ≡ Some (x.meta, Complete (unread x.bytes))) (λ f. f ≡ Memory) × (new ≡ old)
+MemLookAnswer (Some (finished x)) old r new = MatchResult r (λ found. found ≡ Some (x.meta, Complete (unread x.write.number x.bytes))) (λ f. f ≡ Memory) × (new ≡ old)
 MemLookAnswer (Some (in_flight x)) old r new =
     MatchResult r (λ found. (found ≡ Some (x.meta, Partial (record { number = x.write.number; place = 0 }))) × IsJoined x.write.number old new) (λ f. (f ≡ Memory) × (new ≡ old))
 
@@ -22,6 +22,11 @@ MemLookAnswer (Some (in_flight x)) old r new =
 abbrev pub MemStreamAnswer : Option Look → Held → Result (Option (CacheMeta × MemHitHandler)) StoreFault → Held → Type 0
 MemStreamAnswer None old r new = (r ≡ Err WriteRemoved) × (new ≡ old)
 MemStreamAnswer (Some x) old r new = MemLookAnswer (Some x) old r new
+
+-- what a look-up answers that may name a write by its number
+abbrev pub MemTagAnswer : Option ℕ → Option Look → Held → Result (Option (CacheMeta × MemHitHandler)) StoreFault → Held → Type 0
+MemTagAnswer None look old r new = MemLookAnswer look old r new
+MemTagAnswer (Some n) look old r new = MemStreamAnswer look old r new
 
 -- the number that a tag names
 abbrev pub tag_number : Option (List ℕ) → Option ℕ

@@ -20,7 +20,7 @@ weight_of (Partial h) = 0
 
 -- what a reader is to read
 abbrev pub reader_of : MemHitHandler → Reader
-reader_of (Complete h) = whole h.body (next_bytes h)
+reader_of (Complete h) = whole h.number h.body (next_bytes h)
 reader_of (Partial h) = streaming h
 
 -- a step of reading

@@ -146,10 +146,10 @@ impl Kept {
     }
 }
 
-// How many readers a write has, and what they are left with once it is in flight no more.
+// How many readers a write has beside one, and what they are left with once it is in flight no more.
 #[derive(Drop)]
 pub(crate) struct Readers {
-    pub(crate) count: u64,
+    pub(crate) others: u64,
     pub(crate) left: Option<Buffer>,
 }
 

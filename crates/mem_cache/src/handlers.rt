@@ -24,6 +24,7 @@ pub enum MemHitHandler {
 /// A reader of a finished body, which it keeps whatever becomes of the key.
 #[derive(Drop)]
 pub struct CompleteHit {
+    number: u64,
     body: Bytes,
     start: usize,
     stop: usize,
@@ -36,23 +37,31 @@ impl Model for CompleteHit {
 
     ghost Value = { WholeHit };
 
-    ghost view = { λ h. record { body = h.body; start = h.start; stop = h.stop; done = h.done } };
+    ghost view = { λ h. record { number = h.number; body = h.body; start = h.start; stop = h.stop; done = h.done } };
 
     ghost invariant = { λ h. (h.start ≤ h.stop) × (h.stop ≤ length h.body) };
 }
 
 impl CompleteHit {
-    // Returns a reader that has read nothing.
-    pub(crate) fn new(body: Bytes) -> CompleteHit
-        ensures { result ≡ unread body }
+    // Returns a reader of the body of that write that has read nothing.
+    pub(crate) fn new(number: u64, body: Bytes) -> CompleteHit
+        ensures { result ≡ unread number body }
     {
         let stop = body.len();
         CompleteHit {
+            number,
             body,
             start: 0,
             stop,
             done: false,
         }
+    }
+
+    // Returns the number of the write whose body it is.
+    pub(crate) fn number(&self) -> u64
+        ensures { result ≡ self.now.number }
+    {
+        self.number
     }
 
     /// Returns how many bytes the body has.

@@ -28,12 +28,15 @@ pub(crate) fn number_of(tag: Option<&[u8]>) -> Option<u64>
 
 // Returns what a look-up found where that is a body, which is shared.
 fn found_body(alloc: Global, body: &Body) -> Result<Found<MemHitHandler>, StoreFault>
-    ensures { MatchResult result (λ found. found ≡ Some (body.now.meta, Handler.Complete (unread body.now.bytes))) (λ f. f ≡ Fault.Memory) }
+    ensures { MatchResult result (λ found. found ≡ Some (body.now.meta, Handler.Complete (unread body.now.number body.now.bytes))) (λ f. f ≡ Fault.Memory) }
 {
     let meta = unpacked(alloc, &body.meta)?;
     let shared: Result<_, _> = body.bytes.clone();
     match shared {
-        Ok(bytes) => Ok(Some((meta, MemHitHandler::Complete(CompleteHit::new(bytes))))),
+        Ok(bytes) => {
+            let hit = CompleteHit::new(body.number, bytes);
+            Ok(Some((meta, MemHitHandler::Complete(hit))))
+        }
         Err(_) => Err(StoreFault::Memory),
     }
 }

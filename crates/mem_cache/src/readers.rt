@@ -68,20 +68,20 @@ pub(crate) fn left_of(readers: &AllReaders, number: u64) -> Option<&Buffer>
     }
 }
 
-// Returns how many readers a write has, if it has any.
-fn count_of(readers: &AllReaders, number: u64) -> Option<u64>
-    ensures { result ≡ option_map (λ r. r.count) (get nat_cmp readers.now number) }
+// Returns how many readers a write has beside one, if it has any.
+fn others_of(readers: &AllReaders, number: u64) -> Option<u64>
+    ensures { result ≡ option_map (λ r. r.others) (get nat_cmp readers.now number) }
 {
-    Some(readers.get(&number)?.count)
+    Some(readers.get(&number)?.others)
 }
 
-// Sets how many readers a write has.
-fn set_count(readers: &mut AllReaders, number: u64, count: u64)
+// Sets how many readers a write has beside one.
+fn set_others(readers: &mut AllReaders, number: u64, others: u64)
     requires { is_some (get nat_cmp readers.old number) ≡ true }
-    ensures { (m : ℕ) → get nat_cmp readers.new m ≡ cond (number == m) (option_map (counted count) (get nat_cmp readers.old number)) (get nat_cmp readers.old m) }
+    ensures { (m : ℕ) → get nat_cmp readers.new m ≡ cond (number == m) (option_map (counted others) (get nat_cmp readers.old number)) (get nat_cmp readers.old m) }
 {
     let reading = readers.get_mut(&number).unwrap();
-    reading.count = count;
+    reading.others = others;
 }
 
 // Counts one more reader of a write.
@@ -90,11 +90,11 @@ pub(crate) fn attach(readers: &mut AllReaders, number: u64) -> Result<(), StoreF
     ensures ok { OnOk result ((m : ℕ) → get nat_cmp readers.new m ≡ cond (number == m) (Some (joined (get nat_cmp readers.old number))) (get nat_cmp readers.old m)) }
     ensures err { OnErr result (readers.new.entries ≡ readers.old.entries) }
 {
-    match count_of(readers, number) {
+    match others_of(readers, number) {
         None => match readers.insert(
             number,
             Readers {
-                count: 1,
+                others: 0,
                 left: None,
             },
         ) {
@@ -103,8 +103,8 @@ pub(crate) fn attach(readers: &mut AllReaders, number: u64) -> Result<(), StoreF
         },
         Some(before) => match before.checked_add(1) {
             None => Err(StoreFault::Memory),
-            Some(count) => {
-                set_count(readers, number, count);
+            Some(others) => {
+                set_others(readers, number, others);
                 Ok(())
             }
         },
@@ -115,11 +115,11 @@ pub(crate) fn attach(readers: &mut AllReaders, number: u64) -> Result<(), StoreF
 pub(crate) fn detach(readers: &mut AllReaders, number: u64)
     ensures { (m : ℕ) → get nat_cmp readers.new m ≡ cond (number == m) (parted (get nat_cmp readers.old number)) (get nat_cmp readers.old m) }
 {
-    match count_of(readers, number) {
+    match others_of(readers, number) {
         None => {}
-        Some(count) => {
-            if count > 1 {
-                set_count(readers, number, count - 1);
+        Some(others) => {
+            if others > 0 {
+                set_others(readers, number, others - 1);
             } else {
                 readers.remove(&number);
             }

@@ -1,14 +1,15 @@
 //! The store, as what a cache asks of one.
-ghost use Rattle.std.specs.Prelude.{◌≡◌, ◌⊎◌, true, None, option_map, IfOk, IsOk, MatchResult};
+ghost use Rattle.std.specs.Prelude.{◌≡◌, ⊤, true, None, length, option_map, IfOk, IsOk, MatchResult};
 ghost use Rattle.cache_words.specs.Key.{combined, key_of};
 ghost use Rattle.cache_store.specs.Answers.{look_up};
-ghost use Rattle.cache_store.specs.Looks.{LookAnswer, StreamAnswer, shows, streamed_by};
+ghost use Rattle.cache_store.specs.Ids.{SameBut};
+ghost use Rattle.cache_store.specs.Looks.{LookAnswer, TagAnswer, Tells, asked, shows};
 ghost use Rattle.cache_store.specs.Purges.{target_key, id_at};
 ghost use Rattle.cache_store.specs.Renewals.{ExpireAnswer, StaleAnswer};
 ghost use Rattle.cache_store.specs.declared.storage.StoreFault.{StoreFault as Fault};
-ghost use Rattle.mem_cache.specs.Looks.{MemLookAnswer, MemStreamAnswer, tag_number};
+ghost use Rattle.mem_cache.specs.Looks.{MemLookAnswer, MemTagAnswer, tag_number};
 ghost use Rattle.mem_cache.specs.Misses.{are_numbers_spent};
-ghost use Rattle.mem_cache.specs.Readings.{reader_of};
+ghost use Rattle.mem_cache.specs.Readings.{reader_of, weight_of};
 
 use crate::MemCache;
 use crate::handlers::{MemHitHandler, MemMissHandler};
@@ -18,7 +19,7 @@ use bytes::Bytes;
 use cache_entries::entry::{CacheEntryId, CacheEntryKey};
 use cache_heads::CacheMeta;
 use cache_store::storage::{
-    Contents, Found, PurgeOutcome, PurgeTarget, PurgeType, Storage, StoreFault,
+    Contents, Found, MissFinishType, PurgeOutcome, PurgeTarget, PurgeType, Storage, StoreFault,
 };
 use cache_words::key::{CacheHashKey, CacheKey};
 use cache_words::time::Moment;
@@ -26,6 +27,12 @@ use std::hash::BuildHasher;
 
 impl<S: BuildHasher> Contents for MemCache<S> {
     ghost held = { λ c. c };
+
+    ghost ids = { λ _ _. None };
+
+    ghost weigh = { λ x. length x.bytes };
+
+    ghost tagged = { tag_number };
 }
 
 impl<S: BuildHasher> Storage for MemCache<S> {
@@ -35,15 +42,14 @@ impl<S: BuildHasher> Storage for MemCache<S> {
 
     ghost is_spent = { are_numbers_spent };
 
-    ghost ids = { λ _ _. None };
-
     ghost streams = { true };
 
-    ghost tagged = { tag_number };
+    ghost purged_as = { λ _ _ _. ⊤ };
 
     fn lookup(&mut self, key: &CacheKey) -> Result<Found<MemHitHandler>, StoreFault>
         ensures answer { MemLookAnswer (look_up (combined (key_of key.now)) self.old.store) self.old result self.new }
         ensures look { LookAnswer reader_of (shows true (combined (key_of key.now)) self.old.store) self.old result self.new }
+        ensures tells { Tells weight_of (λ _. None) (λ x. length x.bytes) None (shows true (combined (key_of key.now)) self.old.store) result }
     {
         self.look(&key.combined_bin())
     }
@@ -53,13 +59,17 @@ impl<S: BuildHasher> Storage for MemCache<S> {
         key: &CacheKey,
         tag: Option<&[u8]>,
     ) -> Result<Found<MemHitHandler>, StoreFault>
-        ensures answer { MemStreamAnswer (streamed_by (combined (key_of key.now)) (tag_number (option_map (λ t. t.now) tag.entry)) self.old.store) self.old result self.new }
-        ensures stream { LookAnswer reader_of (shows true (combined (key_of key.now)) self.old.store) self.old result self.new
-            ⊎ StreamAnswer reader_of (streamed_by (combined (key_of key.now)) (tag_number (option_map (λ t. t.now) tag.entry)) self.old.store) self.old result self.new }
+        ensures answer { let named = tag_number (option_map (λ t. t.now) tag.entry) in
+            MemTagAnswer named (asked true (combined (key_of key.now)) named self.old.store) self.old result self.new }
+        ensures stream { let named = tag_number (option_map (λ t. t.now) tag.entry) in
+            TagAnswer reader_of named (asked true (combined (key_of key.now)) named self.old.store) self.old result self.new }
+        ensures tells { let named = tag_number (option_map (λ t. t.now) tag.entry) in
+            Tells weight_of (λ _. None) (λ x. length x.bytes) None (asked true (combined (key_of key.now)) named self.old.store) result }
     {
+        let key = key.combined_bin();
         match number_of(tag) {
-            Some(number) => self.look_at(&key.combined_bin(), number),
-            None => Err(StoreFault::WriteRemoved),
+            Some(number) => self.look_at(&key, number),
+            None => self.look(&key),
         }
     }
 
@@ -85,9 +95,10 @@ impl<S: BuildHasher> Storage for MemCache<S> {
         key: &CacheKey,
         meta: CacheMeta,
         body: Bytes,
-    ) -> Result<Option<CacheEntryId>, StoreFault> {
-        match self.put_whole(key.combined_bin(), &meta, body.as_slice()) {
-            Ok(()) => Ok(None),
+    ) -> Result<(MissFinishType, Option<CacheEntryId>), StoreFault> {
+        let len = body.len();
+        match self.put_whole(key.combined_bin(), &meta, body) {
+            Ok(()) => Ok((MissFinishType::Created(len), None)),
             Err(fault) => Err(fault),
         }
     }
@@ -111,7 +122,7 @@ impl<S: BuildHasher> Storage for MemCache<S> {
     ) -> Result<PurgeOutcome, StoreFault>
         ensures answer { IfOk result (λ outcome. ExpireAnswer (target_key (λ _. None) target.entry) moment self.old outcome self.new) × IsOk result }
         ensures stale { let k = target_key (λ _. None) target.entry in
-            MatchResult result (λ outcome. StaleAnswer k (id_at (λ _. None) k) moment self.old outcome self.new) (λ f. (f ≡ Fault.Memory) × (self.new ≡ self.old)) }
+            MatchResult result (λ outcome. StaleAnswer k (id_at (λ _. None) k) moment ⊤ self.old outcome self.new) (λ f. (f ≡ Fault.Memory) × (self.new ≡ self.old)) }
     {
         if matches!(target, PurgeTarget::Exact(CacheEntryKey::Identified { .. })) {
             return Ok(PurgeOutcome::NotFound);
@@ -127,10 +138,7 @@ impl<S: BuildHasher> Storage for MemCache<S> {
         self.replace_meta(&key.combined_bin(), meta)
     }
 
-    fn support_streaming_partial_write(&self) -> bool
-        ensures answer { result ≡ true }
-        ensures streams { result ≡ true → true ≡ true }
-    {
+    fn support_streaming_partial_write(&self) -> bool {
         true
     }
 }

@@ -15,8 +15,6 @@ use std::marker::Model;
 
 mod copying;
 mod packing;
-#[cfg(test)]
-mod tests;
 
 // A meta that was stored once: its update and its provenance are its creation, no other moment is its epoch, and it varies by
 // nothing. Its head is packed.

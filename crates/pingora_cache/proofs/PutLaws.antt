@@ -1,6 +1,6 @@
 -- What comes of a put, by what its steps gave.
 use Rattle.std.proofs.Common.{◌≡◌, ℕ, refl, ap, sym, ◌∙◌, subst, inl, inr, length, List}
-use Rattle.std.specs.Prelude.{Option, option_map, Result, Ok, Err}
+use Rattle.std.specs.Prelude.{Option, Some, option_map, Result, Ok, Err}
 use Rattle.std.specs.Global.{Vec}
 use Rattle.rand_core.specs.Stream.{Stream}
 use Rattle.cache_words.specs.Key.{Key, combined}
@@ -17,7 +17,9 @@ use Rattle.pingora_cache.specs.declared.put.whole.Whole.{Whole}
 use Rattle.pingora_cache.specs.declared.put.outcome.PutOutcome.{PutOutcome}
 use Rattle.pingora_cache.specs.declared.put.outcome.PutOutcome.TheVariants.{Stored}
 use Rattle.pingora_cache.specs.declared.put.outcome.PutFault.{PutFault}
-use Rattle.cache_store.specs.Wholes.{Stores, IsWriteFault}
+use Rattle.cache_store.specs.declared.storage.MissFinishType.{MissFinishType}
+use Rattle.cache_store.specs.Ids.{IsGiven}
+use Rattle.cache_store.specs.Wholes.{Stores, IsWriteFault, whole_of}
 use Rattle.pingora_cache.specs.Put.{Rules, Cache, cache_of, compact, IsStoreFaultTold, IsAdmitted, IsTakenBack, IsPut, IsOutcome, Puts}
 
 pub entry-of : (c : CompactCacheKey) (k : Key) (id : Option ℕ) (e : CacheEntryKey) → compact_view c ≡ k → e ≡ entry_with c id → e ≡ entry_with (compact k) id
@@ -44,23 +46,25 @@ module _ {S : Type 0} (rules : Rules S) (key : Key) where
     refused store_fault.SeekRange told p t = absurd p
     refused store_fault.NoMeta told p t = absurd p
 
-    module _ (id : Option CacheEntryId) (e : CacheEntryKey) (size : ℕ) (s2 : S) (m2 : Managed) (w2 : Stream) where
+    module _ (id : Option CacheEntryId) (finish : MissFinishType) (e : CacheEntryKey) (size : ℕ) (s2 : S) (m2 : Managed) (w2 : Stream) where
+      abbrev Given : Type 0
+      Given = IsGiven (Some (combined key)) id (rules.ids s0) (rules.ids s1) × (finish ≡ rules.told (whole_of (combined key) meta body (rules.held s0)))
+
+      -- what comes of the entry comes of the one with the id that is stored
+      of-entry : (P : MissFinishType → CacheEntryKey → Cache S → Type 0) → Given → e ≡ entry_with (compact key) (option_map number_of id) → P finish e (cache_of s1 m0 w0)
+          → P (rules.told (whole_of (combined key) meta body (rules.held s0))) (entry_with (compact key) (option_map number_of (rules.ids s1 (combined key)))) (cache_of s1 m0 w0)
+      of-entry P given same p =
+          let now : e ≡ entry_with (compact key) (option_map number_of (rules.ids s1 (combined key))) = same ∙ ap (λ (i : Option CacheEntryId). entry_with (compact key) (option_map number_of i)) (sym (given.0.given (combined key) refl)) in
+          subst (λ (f : MissFinishType). P f (entry_with (compact key) (option_map number_of (rules.ids s1 (combined key)))) (cache_of s1 m0 w0)) given.1 (subst (λ (x : CacheEntryKey). P finish x (cache_of s1 m0 w0)) now p)
+
       -- the entry was admitted
-      pub admitted : (v : Vec CacheEntryKey) → rules.gives id → Stores (rules.is_spent (rules.held s0)) (combined key) meta body (rules.held s0) (rules.held s1) → e ≡ entry_with (compact key) (option_map number_of id) → size ≡ length body
-          → IsAdmitted rules e size v.items (cache_of s1 m0 w0) (cache_of s2 m2 w2)
+      pub admitted : (v : Vec CacheEntryKey) → Given → Stores (rules.is_spent (rules.held s0)) (combined key) meta body (rules.held s0) (rules.held s1) → e ≡ entry_with (compact key) (option_map number_of id) → size ≡ length body
+          → IsAdmitted rules finish e v.items (cache_of s1 m0 w0) (cache_of s2 m2 w2)
           → IsPut rules key meta body (Ok (Stored size v)) (cache_of s0 m0 w0) (cache_of s2 m2 w2)
-      admitted v given s same sized a = (sized, (id, s1, given, s, subst (λ (e : CacheEntryKey). IsAdmitted rules e size v.items (cache_of s1 m0 w0) (cache_of s2 m2 w2)) same a))
+      admitted v given s same sized a = (sized, (s1, given.0.others, s, of-entry (λ f x c. IsAdmitted rules f x v.items c (cache_of s2 m2 w2)) given same a))
 
       -- it was not, and the body is gone with it
-      pub taken-back : (fault : PutFault) → rules.gives id → Stores (rules.is_spent (rules.held s0)) (combined key) meta body (rules.held s0) (rules.held s1) → e ≡ entry_with (compact key) (option_map number_of id) → size ≡ length body
-          → IsTakenBack rules e size fault (cache_of s1 m0 w0) (cache_of s2 m2 w2)
+      pub taken-back : (fault : PutFault) → Given → Stores (rules.is_spent (rules.held s0)) (combined key) meta body (rules.held s0) (rules.held s1) → e ≡ entry_with (compact key) (option_map number_of id)
+          → IsTakenBack rules finish e fault (cache_of s1 m0 w0) (cache_of s2 m2 w2)
           → IsPut rules key meta body (Err fault) (cache_of s0 m0 w0) (cache_of s2 m2 w2)
-      taken-back fault given s same sized t =
-          inr (inr (
-            id,
-            s1,
-            given,
-            s,
-            subst (λ (n : ℕ). IsTakenBack rules (entry_with (compact key) (option_map number_of id)) n fault (cache_of s1 m0 w0) (cache_of s2 m2 w2)) sized
-                (subst (λ (e : CacheEntryKey). IsTakenBack rules e size fault (cache_of s1 m0 w0) (cache_of s2 m2 w2)) same t),
-          ))
+      taken-back fault given s same t = inr (inr (s1, given.0.others, s, of-entry (λ f x c. IsTakenBack rules f x fault c (cache_of s2 m2 w2)) given same t))

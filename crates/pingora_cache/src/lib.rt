@@ -4,7 +4,11 @@
 pub use cache_evict as eviction;
 pub use cache_evict::{CacheEntryId, CacheEntryKey, CacheEntryKeyRef};
 pub use cache_heads::{
-    CacheMeta, CacheMetaDefaults, NoCacheReason, RespCacheable, cache_control, filters, meta,
+    CacheMeta, CacheMetaDefaults, Error, ErrorType, NoCacheReason, RespCacheable, cache_control,
+    filters, meta,
+};
+pub use cache_store::storage::{
+    HitHandler, MissHandler, PurgeAction, PurgeOutcome, PurgeTarget, PurgeType, Storage,
 };
 pub use cache_store::{admission, max_file_size, storage, trace};
 pub use cache_words::key::CacheKey;

@@ -1,7 +1,7 @@
 //! What the calls of a cache are lent.
 
 /// What a cache consists of. It is owned by whoever calls, and lent to each call.
-#[derive(Drop)]
+#[derive(Debug, Drop)]
 pub struct Parts<S, E, P, L> {
     /// The store of the bodies.
     pub store: S,

@@ -7,7 +7,6 @@ ghost use Rattle.cache_headers.specs.declared.header.ResponseHeader.{ResponseHea
 ghost use Rattle.cache_heads.specs.declared.defaults.CacheMetaDefaults.{CacheMetaDefaults as Defaults};
 ghost use Rattle.cache_heads.specs.declared.reason.RespCacheable.{RespCacheable as Verdict};
 ghost use Rattle.pingora_cache.specs.Response.{joined, Gives, verdict_by_headers};
-ghost use Rattle.cache_store.specs.Wholes.{IsGiven};
 ghost use Rattle.pingora_cache.specs.Put.{Puts, rules_of, cache_of};
 
 mod admit;
@@ -27,7 +26,7 @@ use cache_words::key::CacheKey;
 use cache_words::time::Moment;
 pub use outcome::{Done, PutFault, PutOutcome};
 use rand_core::Rng;
-pub use response_parse::ResponseParse;
+pub use response_parse::{Parsed, Progress, Response, ResponseParse, Short};
 use std::alloc::{AllocError, Global};
 pub use whole::Whole;
 use whole::whole_of;
@@ -116,8 +115,9 @@ impl<C: CachePut> CachePutCtx<C> {
         self.max_file_size_bytes = Some(max_file_size_bytes);
     }
 
-    /// Stores the response that the pieces are, one after another, coming at `moment`; admits its entry with the weight
-    /// `max(1, size)`, and purges what that evicts. The pieces may be cut anywhere, and all are read, also of a response that is
+    /// Stores the response that the pieces are, one after another, coming at `moment`; tells the order of use of its entry what
+    /// the store tells of the body, and purges what that evicts: where the store created a body of a weight, the entry is admitted with
+    /// `max(1, weight)`, and where it added to one, the entry's weight grows by that. The pieces may be cut anywhere, and all are read, also of a response that is
     /// not kept, so that one that ends too early is told.
     ///
     /// # Errors
@@ -134,7 +134,7 @@ impl<C: CachePut> CachePutCtx<C> {
         pieces: &[Bytes],
         moment: Moment,
     ) -> Result<PutOutcome, PutFault>
-        ensures put { Puts (rules_of S.held S.ids S.is_spent (IsGiven S.Miss.id) E.shard_count E.weighed E.pick) (key_of self.old.key)
+        ensures put { Puts (rules_of S.held S.ids S.is_spent S.Miss.told E.shard_count E.weighed E.pick) (key_of self.old.key)
             (Gives self.old.max_file_size_bytes (C.verdict self.old.cache_put moment) (joined pieces.now)) result
             (cache_of parts.old.store (E.managed parts.old.manager) (R.stream rng.old)) (cache_of parts.new.store (E.managed parts.new.manager) (R.stream rng.new)) }
         ensures parts { parts.new ≡ record parts.old { store = parts.new.store; manager = parts.new.manager } }

@@ -1,12 +1,13 @@
 -- The lines of a map, and what heads within the bounds give.
 use Rattle.std.proofs.Common.{◌≡◌, ℕ, ◌+◌, ◌-◌, ◌≤◌, ◌<◌, true, false, List, [], ◌∷◌, ◌++◌, length, map, take, drop, refl, ap, sym, ◌∙◌, subst, arith, inl, inr, append_assoc, append-nil, All, length-append, length-take, length-drop, get_or}
-use Rattle.std.specs.Prelude.{◌≢◌, bytes_eq, codes, ◌&&◌, ◌⊎◌, Bool, nat_le, None}
+use Rattle.std.specs.Prelude.{◌≢◌, bytes_eq, codes, ◌&&◌, ◌⊎◌, Bool, nat_le, Some, None}
 use Rattle.std.specs.List.{list_all}
 use Rattle.std.proofs.lemmas.Bool.Decides.{nat_tests}
 use Rattle.std.proofs.lemmas.List.Folds.{list_all-append, list_all-map}
 use Rattle.std.proofs.lemmas.Bool.{cases_Bool}
 use Rattle.std.proofs.lemmas.Slice.Eq.{bytes_eq-Decides}
-use Rattle.std.proofs.lemmas.List.{map-append, take_more, drop_more, get_or-map, length-map, length-take-le, take-append-le, take_all}
+use Rattle.std.proofs.lemmas.List.{map-append, take_more, drop_more, get_or-map, length-map, length-take-le, take-append-le, take-append-drop, take_all}
+use Rattle.std.proofs.Math.Seq.{take-add}
 use Rattle.std.proofs.lemmas.List.Elements.{All-map}
 use Rattle.std.proofs.lemmas.List.Sums.{sum_by-cons, AllPass-from_list_all}
 use Rattle.cache_headers.specs.declared.header.ResponseHeader.{ResponseHeader}
@@ -16,21 +17,21 @@ use Rattle.http_header.specs.FieldValue.{FieldValue, plain_value}
 use Rattle.http_header.specs.Token.{lowercase}
 use Rattle.http_header.specs.Token as token
 use Rattle.http_header.proofs.HeaderMapLemmas.{get_all-append_same, get_all-append_other}
-use Rattle.httparse.specs.Grammar.{ResponseHead, ReadsResponse, HasNoResponse, NeverHasResponse, Field, IsField, is_value_byte, is_token_byte, status_code}
+use Rattle.httparse.specs.Grammar.{ResponseHead, ReadsResponse, NeverHasResponse, Field, IsField, is_value_byte, is_token_byte, status_code}
 use Rattle.httparse.specs.declared.spans.HeaderSpan.{HeaderSpan}
 use Rattle.httparse.specs.declared.spans.ResponseSpans.{ResponseSpans}
 use Rattle.httparse.specs.declared.spans.Span.{Span}
-use Rattle.httparse.specs.Spans.{span_bytes, header_bytes, name_and_value, AreFieldsAt, IsWithin, IsHeaderWithin, IsResponseAt, ResponseOverflows}
+use Rattle.httparse.specs.Spans.{span_bytes, header_bytes, name_and_value, AreFieldsAt, IsWithin, IsHeaderWithin, IsSectionWithin, IsResponseAt, ResponseOverflows}
 use Rattle.httparse.proofs.TrimLemmas.{AllPass-trim_ows}
 use Rattle.cache_headers.specs.Lines.{Line, pair_of, map_of, IsLine}
 use Rattle.response_parse.specs.declared.response.Parsed.TheVariants.{Incomplete, BadHead}
 use Rattle.response_parse.specs.declared.head.Head.{Head}
 use Rattle.response_parse.specs.declared.front.Front.{Front}
 use Rattle.response_parse.specs.declared.front.Front.TheVariants.{Found, Begun, Refused}
-use Rattle.response_parse.specs.Response.{values_of, body_length, parsed_by_lines, has_short_name, is_within_bounds, whole_head, begun_head, no_head, Gives}
+use Rattle.response_parse.specs.Response.{values_of, body_length, parsed_by_lines, has_short_name, is_within_bounds, HasStatus, StandsIn, IsLineIn, Reading, whole_head, begun_head, no_head, IsReading, head_of, parsed_of, Gives}
 use Rattle.response_parse.specs.Parse.{values_under, announced, IsHeaderOf, IsHeaderFor, IsBad}
-use Rattle.response_parse.specs.Heads.{parsed_by_header, values_at, IsFrontOf, IsHeadAt, IsHeadOf, IsOutOfBounds, IsSomeHead, AreShortLines, HasFieldValue}
-use Rattle.response_parse.proofs.ReadingLaws.{reads-more, reading-whole, reading-begun, reading-long, reading-lenient, reading-refused, overflows-more}
+use Rattle.response_parse.specs.Heads.{parsed_by_header, values_at, unfolded_line, IsBegun, IsFrontOf, IsHeadAt, IsHeadOf, IsOutOfBounds, IsSomeHead, HasFieldValue}
+use Rattle.response_parse.proofs.ReadingLaws.{parsed_by_lines-read, reads-more, reading-whole, reading-begun, reading-long, reading-lenient, reading-refused, overflows-more}
 
 -- a further line adds one value, and one name at most
 value_count-append : (m : Entries FieldValue) (name : List ℕ) (value : FieldValue) → value_count (append m name value) ≡ value_count m + 1
@@ -84,10 +85,10 @@ append_all-more : (m : Entries FieldValue) (lines : List Line) (line : List ℕ 
 append_all-more m [] line = refl
 append_all-more m (l ∷ ls) line = append_all-more (append m (lowercase l.0) (plain_value l.1)) ls line
 
-pub map_of-more : (bytes : List ℕ) (lines : List HeaderSpan) (i : ℕ) (d : HeaderSpan) → i < length lines
-    → map_of (map (header_bytes bytes) (take (i + 1) lines)) ≡ append (map_of (map (header_bytes bytes) (take i lines))) (lowercase (header_bytes bytes (get_or lines i d)).0) (plain_value (header_bytes bytes (get_or lines i d)).1)
-map_of-more bytes lines i d l =
-    rw (take_more lines i d l, map-append (header_bytes bytes) (take i lines) (get_or lines i d ∷ [])) (append_all-more [] (map (header_bytes bytes) (take i lines)) (header_bytes bytes (get_or lines i d)))
+pub map_of-more : (read : HeaderSpan → Line) (lines : List HeaderSpan) (i : ℕ) (d : HeaderSpan) → i < length lines
+    → map_of (map read (take (i + 1) lines)) ≡ append (map_of (map read (take i lines))) (lowercase (read (get_or lines i d)).0) (plain_value (read (get_or lines i d)).1)
+map_of-more read lines i d l =
+    rw (take_more lines i d l, map-append read (take i lines) (get_or lines i d ∷ [])) (append_all-more [] (map read (take i lines)) (read (get_or lines i d)))
 
 pub line_at : (bytes : List ℕ) (lines : List HeaderSpan) (i : ℕ) (d : HeaderSpan) → All IsLine (map (header_bytes bytes) lines) → i < length lines → IsLine (header_bytes bytes (get_or lines i d))
 line_at bytes lines i d all l = subst IsLine (get_or-map (header_bytes bytes) lines i d (header_bytes bytes d) l) (all i (header_bytes bytes d) (rw length-map l))
@@ -113,11 +114,11 @@ IsLine-field f valid short =
     (((valid.name.0, λ k d l. rw (← same_tokens) (valid.name.1 k d l)), short), AllPass-trim_ows is_value_byte f.raw valid.raw)
 
 -- one more short name
-pub short-more : (bytes : List ℕ) (lines : List HeaderSpan) (i : ℕ) (d : HeaderSpan) → i < length lines → list_all has_short_name (map (header_bytes bytes) (take i lines)) ≡ true
-    → length (header_bytes bytes (get_or lines i d)).0 ≤ 65535 → list_all has_short_name (map (header_bytes bytes) (take (i + 1) lines)) ≡ true
-short-more bytes lines i d l before this =
-    let short : has_short_name (header_bytes bytes (get_or lines i d)) ≡ true = has-short (header_bytes bytes (get_or lines i d)) this in
-    rw (take_more lines i d l, map-append (header_bytes bytes) (take i lines) (get_or lines i d ∷ []), list_all-append has_short_name (map (header_bytes bytes) (take i lines)) (header_bytes bytes (get_or lines i d) ∷ []), before, short) refl
+pub short-more : (read : HeaderSpan → Line) (lines : List HeaderSpan) (i : ℕ) (d : HeaderSpan) → i < length lines → list_all has_short_name (map read (take i lines)) ≡ true
+    → length (read (get_or lines i d)).0 ≤ 65535 → list_all has_short_name (map read (take (i + 1) lines)) ≡ true
+short-more read lines i d l before this =
+    let short : has_short_name (read (get_or lines i d)) ≡ true = has-short (read (get_or lines i d)) this in
+    rw (take_more lines i d l, map-append read (take i lines) (get_or lines i d ∷ []), list_all-append has_short_name (map read (take i lines)) (read (get_or lines i d) ∷ []), before, short) refl
 
 short-at : (f : Field) → has_short_name (name_and_value f) ≡ true → length f.name ≤ 65535
 short-at f t = grind (arith, nat_tests)
@@ -214,7 +215,7 @@ front-out bytes out more = (
 bad-long : (bytes : List ℕ) → ResponseOverflows 256 bytes → IsBad bytes
 bad-long bytes over more = (no_head, reading-long (bytes ++ more) (overflows-more bytes more over), refl)
 
-pub front-long : (bytes : List ℕ) (front : Front) → ResponseOverflows 256 bytes → (front ≡ Refused) ⊎ ((front ≡ Begun) × HasNoResponse bytes) → IsFrontOf bytes front
+pub front-long : (bytes : List ℕ) (front : Front) → ResponseOverflows 256 bytes → (front ≡ Refused) ⊎ ((front ≡ Begun) × IsBegun bytes) → IsFrontOf bytes front
 front-long bytes front over is = elim is [ inl e ↦ rw e (bad-long bytes over) | inr e ↦ rw e.0 e.1 ]
 
 -- where the default options refuse
@@ -224,7 +225,7 @@ front-refused bytes never more = (no_head, reading-refused bytes more never, ref
 pub front-lenient : (bytes : List ℕ) (front : Head) → NeverHasResponse bytes → IsSomeHead bytes front → IsFrontOf bytes (Found front)
 front-lenient bytes front never is = (
   is.len,
-  (is.lines.0, is.lines.1, λ more. reading-lenient bytes more front.header.status is.lines.0 front.len never),
+  (is.lines.0, is.lines.1, λ more. reading-lenient bytes more front.header.status is.lines.0 front.len never is.lines.2),
 )
 
 -- what the bytes give by a head at their front
@@ -235,27 +236,87 @@ Gives-header bytes header rest is = (
   parsed_by_header-is header rest is.0 is.1,
 )
 
-pub Gives-begun : (bytes : List ℕ) → HasNoResponse bytes → Gives bytes (Incomplete None)
-Gives-begun bytes nothing = (begun_head, reading-begun bytes nothing, refl)
+pub Gives-begun : (bytes : List ℕ) → IsBegun bytes → Gives bytes (Incomplete None)
+Gives-begun bytes begun = (begun_head, reading-begun bytes begun.0 begun.1, refl)
 
 pub Gives-bad : (bytes : List ℕ) → IsBad bytes → Gives bytes BadHead
 Gives-bad bytes bad = rw (append-nil bytes) at (bad [])
 
--- one more line of a map
-pub AreShortLines-more : (all next : Entries FieldValue) (name value : List ℕ) → AreShortLines all → next ≡ append all (lowercase name) (plain_value value) → length name ≤ 65535 → AreShortLines next
-AreShortLines-more all next name value before e short = (
-  before.0 ++ (name, value) ∷ [],
-  e ∙ ap (λ (m : Entries FieldValue). append m (lowercase name) (plain_value value)) before.1 ∙ sym (append_all-more [] before.0 (name, value)),
-  rw (list_all-append has_short_name before.0 ((name, value) ∷ []), before.2, has-short (name, value) short) refl,
-)
+-- what a span covers stands in the bytes
+span-stands : (bytes : List ℕ) (len : ℕ) (s : Span) → IsWithin len s → StandsIn (span_bytes bytes s) (take len bytes)
+span-stands bytes len s within =
+    let size : ℕ = s.end - s.start in
+    let after : ℕ = len - s.end in
+    let parts : len ≡ s.start + (size + after) = omega (arith, within.0, within.1) in (
+      take s.start bytes,
+      take after (drop size (drop s.start bytes)),
+      ap (λ (n : ℕ). take n bytes) parts ∙ take-add s.start (size + after) bytes ∙ ap (λ (x : List ℕ). take s.start bytes ++ x) (take-add size after (drop s.start bytes))
+          ∙ sym (append_assoc (take s.start bytes) (span_bytes bytes s) (take after (drop size (drop s.start bytes)))),
+    )
 
--- a map of such lines, with a status, is within bounds
-pub some-head : (bytes : List ℕ) (len status code : ℕ) (all : Entries FieldValue) → len ≤ length bytes → IsStatusCode code → status ≡ code → AreShortLines all
+lines-stand : (bytes : List ℕ) (len : ℕ) (lines : List HeaderSpan) → All (IsHeaderWithin len) lines → All (IsLineIn (take len bytes)) (map (unfolded_line bytes) lines)
+lines-stand bytes len lines within =
+    All-map (IsLineIn (take len bytes)) (unfolded_line bytes) lines (λ k d l.
+    let line : HeaderSpan = get_or lines k d in
+    let at = within k d l in
+    (span-stands bytes len line.name at.0, (span_bytes bytes line.value, span-stands bytes len line.value at.1, refl)))
+
+-- a map of such lines, with a status, is a head
+pub some-head : (bytes : List ℕ) (headers : List HeaderSpan) (count len status code : ℕ) (all : Entries FieldValue) → IsSectionWithin bytes headers len count → length headers ≤ 256
+    → HasStatus bytes code → IsStatusCode code → status ≡ code → all ≡ map_of (map (unfolded_line bytes) (take count headers)) → list_all has_short_name (map (unfolded_line bytes) (take count headers)) ≡ true
     → IsSomeHead bytes (record { header = record { status = status; headers = all }; len = len })
-some-head bytes len status code all l is same lines = record { len = l; lines = (lines.0, (lines.1, rw (lines.2, same, high is.0) refl)) }
+some-head bytes headers count len status code all within room has is same value short =
+    let lines : List Line = map (unfolded_line bytes) (take count headers) in record {
+      len = within.len_fits;
+      lines = (
+        lines,
+        (value, rw (short, same, high is.0) refl),
+        record {
+          status = rw same has;
+          few = omega (arith, room, length-take count headers, length-map (take count headers) (unfolded_line bytes));
+          come = (take len bytes, sym (take-append-drop len bytes), lines-stand bytes len (take count headers) within.headers_fit);
+        },
+      );
+    }
   where
     high : 100 ≤ code → nat_le 100 code ≡ true
     high l = grind (arith, nat_tests)
+
+-- bytes that are exactly one head
+pub exact-head : (bytes : List ℕ) (header : ResponseHeader) (rest : List ℕ) → length rest ≡ 0 → IsHeaderFor bytes header rest → (r : Reading) × IsReading bytes r × (head_of r ≡ Some header)
+exact-head bytes header [] none is = (
+  whole_head header.status is.0 [],
+  rw (append-nil bytes) at (is.2 []),
+  rw (is.1.1, ← is.1.0) refl,
+)
+exact-head bytes header (b ∷ rest) none is = cc
+
+-- and those with more after it
+pub longer-head : (bytes : List ℕ) (header : ResponseHeader) (rest : List ℕ) → 0 < length rest → IsHeaderFor bytes header rest → (r : Reading) × IsReading bytes r × (head_of r ≡ None)
+longer-head bytes header [] more is = absurd (omega (arith, more))
+longer-head bytes header (b ∷ rest) more is = (
+  whole_head header.status is.0 (b ∷ rest),
+  rw (append-nil bytes, append-nil (b ∷ rest)) at (is.2 []),
+  refl,
+)
+
+pub begun-head : (bytes : List ℕ) → IsBegun bytes → (r : Reading) × IsReading bytes r × (head_of r ≡ None)
+begun-head bytes begun = (begun_head, reading-begun bytes begun.0 begun.1, refl)
+
+-- a bad head is none
+not-head : (r : Reading) → BadHead ≡ parsed_of r → head_of r ≡ None
+not-head (whole_head status [] []) e =
+    elim (cases_Bool (is_within_bounds status [])) [ inl t ↦ absurd (parsed_by_lines-read status [] [] t (sym e)) | inr f ↦ rw f refl ]
+not-head (whole_head status (line ∷ lines) []) e =
+    elim (cases_Bool (is_within_bounds status (line ∷ lines))) [ inl t ↦ absurd (parsed_by_lines-read status (line ∷ lines) [] t (sym e)) | inr f ↦ rw f refl ]
+not-head (whole_head status lines (b ∷ rest)) e = refl
+not-head begun_head e = refl
+not-head no_head e = refl
+
+pub bad-head : (bytes : List ℕ) → IsBad bytes → (r : Reading) × IsReading bytes r × (head_of r ≡ None)
+bad-head bytes bad =
+    let gives : Gives bytes BadHead = rw (append-nil bytes) at (bad []) in
+    (gives.0, gives.1, not-head gives.0 gives.2)
 
 span-length : (bytes : List ℕ) (s : Span) → IsWithin (length bytes) s → length (span_bytes bytes s) ≡ s.end - s.start
 span-length bytes s within = length-take-le (s.end - s.start) (drop s.start bytes) (omega (arith, within.0, within.1, length-drop s.start bytes))

@@ -15,7 +15,7 @@ use Rattle.response_parse.specs.declared.head.Head.{Head as FoundHead}
 use Rattle.response_parse.specs.Response.{is_within_bounds, parsed_by_body, parsed_by_lines, parsed_of, Reading, whole_head, begun_head, no_head, Gives}
 use Rattle.response_parse.specs.Parse.{progress_by_length, progress_by_lines, progress_of, IsAt, Held, in_head, in_body, at_bad_head, announced, limited, limited_after, IsHeaderOf, IsHeaderFor, IsBad, Holds, held_progress}
 use Rattle.response_parse.specs.Heads.{parsed_by_header, IsFrontOf, IsToldFront}
-use Rattle.response_parse.proofs.ReadingLaws.{reading-begun, parsed_by_lines-read}
+use Rattle.response_parse.proofs.ReadingLaws.{parsed_by_lines-read}
 use Rattle.response_parse.proofs.HeadLaws.{announced-is, Gives-header}
 
 -- what came of a body, and more
@@ -130,16 +130,16 @@ unfolding progress_by_lines
 body-progress header lines rest is = rw (is.1, announced-is header lines is) refl
 
 pub Holds-progress : (bytes : List ℕ) (held : Held) → Holds bytes held → IsAt bytes (held_progress held)
-Holds-progress bytes (in_head front) holds = (begun_head, reading-begun bytes holds.1, refl)
+Holds-progress bytes (in_head front) holds = inr (holds.1, refl)
 Holds-progress bytes (in_body header body) holds =
-    let is : IsHeaderFor bytes header holds.0 = holds.1 in (
+    let is : IsHeaderFor bytes header holds.0 = holds.1 in inl (
       whole_head header.status is.0 holds.0,
       rw (append-nil bytes, append-nil holds.0) at (is.2 []),
       rw holds.2 (progress-limited (announced header) holds.0) ∙ body-progress header is.0 holds.0 is.1,
     )
 Holds-progress bytes at_bad_head holds =
     let gives : Gives bytes parsed.BadHead = rw (append-nil bytes) at (holds []) in
-    (gives.0, gives.1, bad-progress gives.0 gives.2)
+    inl (gives.0, gives.1, bad-progress gives.0 gives.2)
 
 -- what it gives at the end
 pub Gives-body : (bytes : List ℕ) (header : ResponseHeader) (body : List ℕ) → Holds bytes (in_body header body) → Gives bytes (parsed_by_header header body)
@@ -153,4 +153,4 @@ told-front bytes Begun is = tt
 told-front bytes Refused is = is
 
 pub none-begun : (bytes : List ℕ) (front : Front) → IsFrontOf bytes front → front ≡ Begun → HasNoResponse bytes
-none-begun bytes front is e = rw e at is
+none-begun bytes front is e = (rw e at is).0

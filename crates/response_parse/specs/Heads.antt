@@ -1,8 +1,6 @@
 -- Heads as the code holds them: a map of the lines, and a length.
 use Rattle.std.specs.Prelude.{◌≡◌, ℕ, ◌≤◌, true, false, List, length, drop, map, flat_map}
-use Rattle.std.specs.List.{list_all}
-use Rattle.http_header.specs.HeaderMap.{Entries}
-use Rattle.http_header.specs.FieldValue.{FieldValue, IsFieldValue}
+use Rattle.http_header.specs.FieldValue.{IsFieldValue}
 use Rattle.cache_headers.specs.Lines.{Line, map_of}
 use Rattle.cache_headers.specs.declared.header.ResponseHeader.{ResponseHeader}
 use Rattle.httparse.specs.Grammar.{ResponseHead, ReadsResponse, HasNoResponse, status_code}
@@ -12,7 +10,7 @@ use Rattle.response_parse.specs.declared.response.Parsed.{Parsed}
 use Rattle.response_parse.specs.declared.head.Head.{Head}
 use Rattle.response_parse.specs.declared.front.Front.{Front}
 use Rattle.response_parse.specs.declared.front.Front.TheVariants.{Found, Begun, Refused}
-use Rattle.response_parse.specs.Response.{has_short_name, is_within_bounds, parsed_by_body}
+use Rattle.response_parse.specs.Response.{is_within_bounds, parsed_by_body, unfolded, IsLenientHead, BeginsNoHead}
 use Rattle.response_parse.specs.Parse.{announced, IsHeaderOf, IsHeaderFor, IsBad}
 
 -- the values of lines, one after another
@@ -38,14 +36,18 @@ pub record IsHeadAt (bytes : List ℕ) (head : Head) (h : ResponseHead) : Type 0
 abbrev pub IsHeadOf : List ℕ → Head → Type 0
 IsHeadOf bytes head = (h : ResponseHead) × IsHeadAt bytes head h
 
--- a head that was read in some way, within its bounds
+-- a head that the lenient options read, within its bounds
 pub record IsSomeHead (bytes : List ℕ) (head : Head) : Type 0 where
   pub len : head.len ≤ length bytes
-  pub lines : (lines : List Line) × IsHeaderOf head.header lines
+  pub lines : (lines : List Line) × IsHeaderOf head.header lines × IsLenientHead bytes head.header.status lines (drop head.len bytes)
 
--- the map is that of some lines with short names
-abbrev pub AreShortLines : Entries FieldValue → Type 0
-AreShortLines all = (lines : List Line) × (all ≡ map_of lines) × (list_all has_short_name lines ≡ true)
+-- the name and the value that a header's spans cover, with the value on one line
+abbrev pub unfolded_line : List ℕ → HeaderSpan → Line
+unfolded_line bytes line = (span_bytes bytes line.name, unfolded (span_bytes bytes line.value))
+
+-- no head is there, but their first line begins one
+abbrev pub IsBegun : List ℕ → Type 0
+IsBegun bytes = HasNoResponse bytes × ¬ (BeginsNoHead bytes)
 
 -- the bytes begin with such a head that is out of its bounds
 abbrev pub IsOutOfBounds : List ℕ → Type 0
@@ -56,7 +58,7 @@ IsOutOfBounds bytes =
 -- what the front of some bytes is read as
 abbrev pub IsFrontOf : List ℕ → Front → Type 0
 IsFrontOf bytes (Found head) = (head.len ≤ length bytes) × IsHeaderFor bytes head.header (drop head.len bytes)
-IsFrontOf bytes Begun = HasNoResponse bytes
+IsFrontOf bytes Begun = IsBegun bytes
 IsFrontOf bytes Refused = IsBad bytes
 
 -- what is told of a front; where a head goes on, nothing is

@@ -31,9 +31,10 @@ progress_of (whole_head status lines rest) = progress_by_lines status lines rest
 progress_of begun_head = Head
 progress_of no_head = BadHead
 
--- that is how far the bytes have come by one of their readings
+-- that is how far the bytes have come by one of their readings; or their head is waited for, which may be refused only once an
+-- empty line has come
 abbrev pub IsAt : List ℕ → Progress → Type 0
-IsAt bytes progress = (r : Reading) × IsReading bytes r × (progress ≡ progress_of r)
+IsAt bytes progress = ((r : Reading) × IsReading bytes r × (progress ≡ progress_of r)) ⊎ (HasNoResponse bytes × (progress ≡ Head))
 
 -- what a parser holds: the bytes of a head that isn't whole; a header, and what came of its body; or, after a bad head, nothing
 pub data Held : Type 0 where

@@ -1,12 +1,12 @@
 -- What the bytes of a response are read as (RFC 9112), and what that gives: a head, and the body that it announces.
-use Rattle.std.specs.Prelude.{◌≡◌, ℕ, ◌^◌, ◌<◌, ◌≤◌, ◌==◌, nat_le, nat_lt, ◌&&◌, ◌||◌, Bool, true, List, [], ◌∷◌, ◌++◌, length, take, codes, map, filter, if◌then◌else◌, Option, Some, None, bytes_eq, ◌⊎◌}
+use Rattle.std.specs.Prelude.{◌≡◌, ℕ, ◌^◌, ◌<◌, ◌≤◌, ◌==◌, nat_le, nat_lt, ◌&&◌, ◌||◌, not, Bool, true, false, All, List, [], ◌∷◌, ◌++◌, length, take, codes, map, filter, if◌then◌else◌, Option, Some, None, bytes_eq, ◌⊎◌}
 use Rattle.std.specs.Char.{is_ascii_digit}
 use Rattle.std.specs.List.{list_all}
 use Rattle.std.specs.Str.Parse.{digits_value}
 use Rattle.cache_headers.specs.Lines.{Line, map_of}
 use Rattle.cache_headers.specs.declared.header.ResponseHeader.{ResponseHeader}
 use Rattle.http_header.specs.Token.{lowercase}
-use Rattle.httparse.specs.Grammar.{ResponseHead, ReadsResponse, HasNoResponse, status_code}
+use Rattle.httparse.specs.Grammar.{ResponseHead, ReadsResponse, HasNoResponse, NeverHasResponse, status_code}
 use Rattle.httparse.specs.Spans.{name_and_value}
 use Rattle.response_parse.specs.declared.response.Parsed.{Parsed}
 use Rattle.response_parse.specs.declared.response.Parsed.TheVariants.{Complete, Incomplete, BadHead}
@@ -52,6 +52,44 @@ IsWellFormed bytes =
     (more : List ℕ) × (h : ResponseHead) × (rest : List ℕ) × ReadsResponse (bytes ++ more) h rest × (length h.fields ≤ 256)
     × (is_within_bounds (status_code h) (map name_and_value h.fields) ≡ true)
 
+-- the bytes up to the end of their first line that isn't empty, or all of them; text came before them or not
+abbrev pub line_from : Bool → List ℕ → List ℕ
+line_from text [] = []
+line_from text (b ∷ bytes) =
+    if text && b == 10
+    then b ∷ []
+    else b ∷ line_from (text || not (b == 10 || b == 13)) bytes
+
+abbrev pub first_line : List ℕ → List ℕ
+first_line bytes = line_from false bytes
+
+-- no head begins with the bytes' first line: it is no status line, nor the beginning of one
+abbrev pub BeginsNoHead : List ℕ → Type 0
+BeginsNoHead bytes = NeverHasResponse (first_line bytes)
+
+-- the bytes' first line is a status line of this status: with an empty line after it, it is a head
+abbrev pub HasStatus : List ℕ → ℕ → Type 0
+HasStatus bytes status = (h : ResponseHead) × (rest : List ℕ) × ReadsResponse (first_line bytes ++ 10 ∷ []) h rest × (status ≡ status_code h)
+
+-- the part stands in the bytes
+abbrev pub StandsIn : List ℕ → List ℕ → Type 0
+StandsIn part bytes = (before : List ℕ) × (after : List ℕ) × (bytes ≡ before ++ part ++ after)
+
+-- a value on one line: each CR and LF is a space (RFC 9112, 5.2)
+abbrev pub unfolded : List ℕ → List ℕ
+unfolded value = map (λ b. if b == 13 || b == 10 then 32 else b) value
+
+-- the line's name stands in the bytes, and so does its value, which may be folded there
+abbrev pub IsLineIn : List ℕ → Line → Type 0
+IsLineIn bytes line = StandsIn line.0 bytes × ((value : List ℕ) × StandsIn value bytes × (line.1 ≡ unfolded value))
+
+-- what is known of a head that the default options refuse and the lenient ones read: its status is that of the first line, and
+-- its lines, at most 256, stand in the bytes before the rest
+pub record IsLenientHead (bytes : List ℕ) (code : ℕ) (lines : List Line) (rest : List ℕ) : Type 0 where
+  pub status : HasStatus bytes code
+  pub few : length lines ≤ 256
+  pub come : (front : List ℕ) × (bytes ≡ front ++ rest) × All (IsLineIn front) lines
+
 -- what the parser made of a response's bytes: a whole head, by its status and its lines, with the bytes after it; the beginning
 -- of a head; or no head
 pub data Reading : Type 0 where
@@ -59,15 +97,23 @@ pub data Reading : Type 0 where
   begun_head : Reading
   no_head : Reading
 
+-- and of what the parser made of bytes that the default options refuse
+abbrev pub IsLenientReading : List ℕ → Reading → Type 0
+IsLenientReading bytes (whole_head status lines rest) = IsLenientHead bytes status lines rest
+IsLenientReading bytes begun_head = Unit {0}
+IsLenientReading bytes no_head = Unit {0}
+
 -- r is a reading of the bytes. By the parser's default options it is the head at their front, or the beginning of one; a head of
--- more than 256 lines is none, and the beginning of one is none or a beginning. What the lenient options make of other bytes is
--- left open, but for what comes after a head
+-- more than 256 lines is none, and the beginning of one is none or a beginning. Other bytes have no head where their first line
+-- begins none; else it is left open whether the lenient options read a head, one that the bytes have, or the beginning of one
 pub record IsReading (bytes : List ℕ) (r : Reading) : Type 0 where
   pub whole : (h : ResponseHead) (rest : List ℕ) → ReadsResponse bytes h rest → length h.fields ≤ 256 → r ≡ whole_head (status_code h) (map name_and_value h.fields) rest
   pub begins : HasNoResponse bytes → IsPlain bytes → r ≡ begun_head
   pub long : (h : ResponseHead) (rest : List ℕ) → ReadsResponse bytes h rest → 256 < length h.fields → r ≡ no_head
   pub longer : (more : List ℕ) (h : ResponseHead) (rest : List ℕ) → ReadsResponse (bytes ++ more) h rest → 256 < length h.fields → (r ≡ no_head) ⊎ (r ≡ begun_head)
   pub within : (status : ℕ) (lines : List Line) (rest : List ℕ) → r ≡ whole_head status lines rest → (front : List ℕ) × (bytes ≡ front ++ rest)
+  pub lenient : NeverHasResponse bytes → IsLenientReading bytes r
+  pub refused : BeginsNoHead bytes → r ≡ no_head
 
 -- what a head gives whose body has this length, with the bytes after it: the body is so many of them, or without a length all
 -- of them, and where fewer came, it is told how many
@@ -90,6 +136,13 @@ abbrev pub parsed_of : Reading → Parsed
 parsed_of (whole_head status lines rest) = parsed_by_lines status lines rest
 parsed_of begun_head = Incomplete None
 parsed_of no_head = BadHead
+
+-- the head that a reading is, where it is whole and within bounds and nothing comes after it
+abbrev pub head_of : Reading → Option ResponseHeader
+head_of (whole_head status lines []) = if is_within_bounds status lines then Some (record { status = status; headers = map_of lines }) else None
+head_of (whole_head status lines (b ∷ rest)) = None
+head_of begun_head = None
+head_of no_head = None
 
 -- that is what the bytes give by one of their readings
 abbrev pub Gives : List ℕ → Parsed → Type 0

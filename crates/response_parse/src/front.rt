@@ -1,9 +1,10 @@
 //! What the front of some bytes is read as.
 ghost use Rattle.std.specs.Prelude.{◌≡◌, ◌⊎◌, IfOk};
-ghost use Rattle.httparse.specs.Grammar.{HasNoResponse, NeverHasResponse};
-ghost use Rattle.response_parse.specs.Heads.{IsFrontOf};
+ghost use Rattle.httparse.specs.Grammar.{NeverHasResponse};
+ghost use Rattle.response_parse.specs.Heads.{IsBegun, IsFrontOf};
 
-use crate::head::{Head, HeadFault, read_head, read_leniently, waits_with_a_line_more};
+use crate::head::{Head, HeadFault, read_plainly, waits_with_a_line_more};
+use crate::lenient::read_leniently;
 use std::alloc::{AllocError, Global};
 
 // What the front of some bytes is.
@@ -20,7 +21,7 @@ pub(crate) enum Front {
 // The front of bytes whose head has too many lines. The lenient options are asked only where no head is whole even with
 // a line more: they may still wait for a folded value to go on.
 fn front_too_long(alloc: Global, bytes: &[u8]) -> Result<Front, AllocError>
-    ensures { IfOk result (λ front. (front ≡ Front.Refused) ⊎ ((front ≡ Front.Begun) × HasNoResponse bytes.now)) }
+    ensures { IfOk result (λ front. (front ≡ Front.Refused) ⊎ ((front ≡ Front.Begun) × IsBegun bytes.now)) }
 {
     if !waits_with_a_line_more(bytes) {
         return Ok(Front::Refused);
@@ -49,7 +50,7 @@ fn front_leniently(alloc: Global, bytes: &[u8]) -> Result<Front, AllocError>
 pub(crate) fn read_front(alloc: Global, bytes: &[u8]) -> Result<Front, AllocError>
     ensures { IfOk result (IsFrontOf bytes.now) }
 {
-    match read_head(alloc, bytes) {
+    match read_plainly(alloc, bytes) {
         Ok(Some(head)) => Ok(Front::Found(head)),
         Ok(None) => Ok(Front::Begun),
         Err(HeadFault::Memory) => Err(AllocError),

@@ -5,23 +5,23 @@ ghost use Rattle.http_header.specs.HeaderMap.{append, value_count};
 ghost use Rattle.http_header.specs.FieldName.{IsFieldName};
 ghost use Rattle.http_header.specs.Token.{lowercase};
 ghost use Rattle.http.specs.StatusCode.{IsStatusCode};
-ghost use Rattle.httparse.specs.Grammar.{HasNoResponse, NeverHasResponse};
+ghost use Rattle.httparse.specs.Grammar.{NeverHasResponse};
 ghost use Rattle.httparse.specs.Spans.{IsHeaderWithin, header_bytes, ResponseOverflows};
 ghost use Rattle.response_parse.specs.Response.{has_short_name};
 ghost use Rattle.cache_headers.specs.Lines.{map_of, IsLine};
-ghost use Rattle.response_parse.specs.Heads.{values_at, IsHeadOf, IsOutOfBounds, IsSomeHead, AreShortLines, HasFieldValue};
+ghost use Rattle.response_parse.specs.Heads.{values_at, IsHeadOf, IsOutOfBounds, IsBegun, HasFieldValue};
 
 use crate::names::name_of;
 use bytes::Bytes;
 use cache_headers::ResponseHeader;
 use http::StatusCode;
 use http_header::{HeaderMap, HeaderMapError, HeaderValue};
-use httparse::spans::{EMPTY_HEADER_SPAN, HeaderSpan, ResponseSpans, parse_response};
-use httparse::{Error, ParserConfig, Status};
+use httparse::spans::{EMPTY_HEADER_SPAN, HeaderSpan, parse_response};
+use httparse::{Error, Status};
 use std::alloc::{AllocError, Global};
 
 // The most header lines of a head.
-const MOST_LINES: usize = 256;
+pub(crate) const MOST_LINES: usize = 256;
 
 // As many header lines as nearly every head has at most: room for the most is cleared only for a head that has more.
 const FEW_LINES: usize = 32;
@@ -58,7 +58,12 @@ impl From<AllocError> for HeadFault {
 }
 
 // One more line of a head.
-fn add(alloc: Global, all: &mut HeaderMap, name: &[u8], value: HeaderValue) -> Result<(), HeadFault>
+pub(crate) fn add(
+    alloc: Global,
+    all: &mut HeaderMap,
+    name: &[u8],
+    value: HeaderValue,
+) -> Result<(), HeadFault>
     requires names { length all.old < 256 }
     requires values { value_count all.old < 256 }
     ensures ok { OnOk result (all.new ≡ append all.old (lowercase name.now) value) }
@@ -131,13 +136,13 @@ fn collect(
     Ok(())
 }
 
-// The status that a parser read.
-fn status_of(read: &ResponseSpans) -> Result<StatusCode, HeadFault>
-    ensures code { IfOk result (λ status. status ≡ read.now.code) }
-    ensures status { OnOk result (IsStatusCode read.now.code) }
-    ensures err { IfErr result (λ fault. (fault ≡ HeadFault.Bounds) × ¬ (IsStatusCode read.now.code)) }
+// The status of this number.
+pub(crate) fn status_of(code: u16) -> Result<StatusCode, HeadFault>
+    ensures code { IfOk result (λ status. status ≡ code) }
+    ensures status { OnOk result (IsStatusCode code) }
+    ensures err { IfErr result (λ fault. (fault ≡ HeadFault.Bounds) × ¬ (IsStatusCode code)) }
 {
-    match StatusCode::from_u16(read.code) {
+    match StatusCode::from_u16(code) {
         Ok(status) => Ok(status),
         Err(_) => Err(HeadFault::Bounds),
     }
@@ -152,14 +157,14 @@ fn read_into(
     requires few { length lines.old ≤ 256 }
     ensures within { IfOk result (λ o. IfSome o (λ head. head.len ≤ length bytes.now)) }
     ensures whole { IfOk result (λ o. IfSome o (IsHeadOf bytes.now)) }
-    ensures begun { IfOk result (λ o. IfNone o (HasNoResponse bytes.now)) }
+    ensures begun { IfOk result (λ o. IfNone o (IsBegun bytes.now)) }
     ensures bounds { result ≡ Err HeadFault.Bounds → IsOutOfBounds bytes.now }
     ensures long { result ≡ Err HeadFault.TooLong → ResponseOverflows (length lines.old) bytes.now }
     ensures refused { result ≡ Err HeadFault.Refused → NeverHasResponse bytes.now }
 {
     match parse_response(bytes, lines) {
         Ok(Status::Complete(read)) => {
-            let status = status_of(&read)?;
+            let status = status_of(read.code)?;
             let mut headers = HeaderMap::new(alloc);
             collect(alloc, bytes, &lines[..read.headers], &mut headers)?;
             let header = ResponseHeader { status, headers };
@@ -173,10 +178,10 @@ fn read_into(
 }
 
 // The head at the front, as the parser's default options read it; none where it hasn't come whole.
-pub(crate) fn read_head(alloc: Global, bytes: &[u8]) -> Result<Option<Head>, HeadFault>
+pub(crate) fn read_plainly(alloc: Global, bytes: &[u8]) -> Result<Option<Head>, HeadFault>
     ensures within { IfOk result (λ o. IfSome o (λ head. head.len ≤ length bytes.now)) }
     ensures whole { IfOk result (λ o. IfSome o (IsHeadOf bytes.now)) }
-    ensures begun { IfOk result (λ o. IfNone o (HasNoResponse bytes.now)) }
+    ensures begun { IfOk result (λ o. IfNone o (IsBegun bytes.now)) }
     ensures bounds { result ≡ Err HeadFault.Bounds → IsOutOfBounds bytes.now }
     ensures long { result ≡ Err HeadFault.TooLong → ResponseOverflows 256 bytes.now }
     ensures refused { result ≡ Err HeadFault.Refused → NeverHasResponse bytes.now }
@@ -193,64 +198,11 @@ pub(crate) fn read_head(alloc: Global, bytes: &[u8]) -> Result<Option<Head>, Hea
 
 // Whether the parser's default options, with room for one line more than a head may have, read the beginning of a head.
 pub(crate) fn waits_with_a_line_more(bytes: &[u8]) -> bool
-    ensures { result ≡ true → HasNoResponse bytes.now }
+    ensures { result ≡ true → IsBegun bytes.now }
 {
     let mut lines = [EMPTY_HEADER_SPAN; MOST_LINES + 1];
     match parse_response(bytes, &mut lines) {
         Ok(Status::Partial) => true,
         Ok(Status::Complete(_)) | Err(_) => false,
-    }
-}
-
-// A folded value on one line: each CR and LF is a space (RFC 9112, 5.2).
-fn unfolded(alloc: Global, value: &[u8]) -> Result<Bytes, AllocError> {
-    let mut line = Vec::from_slice(alloc, value)?;
-    for b in line.iter_mut() {
-        if *b == b'\r' || *b == b'\n' {
-            *b = b' ';
-        }
-    }
-    Ok(Bytes::from_vec(line)?)
-}
-
-// The map of header lines whose values may be folded.
-fn collect_unfolded(
-    alloc: Global,
-    bytes: &[u8],
-    lines: &[HeaderSpan],
-) -> Result<HeaderMap, HeadFault>
-    requires within { All (IsHeaderWithin (length bytes.now)) lines.now }
-    requires few { length lines.now ≤ 256 }
-    ensures { IfOk result AreShortLines }
-{
-    let mut all = HeaderMap::new(alloc);
-    for line in lines {
-        let line_value = unfolded(alloc, line.value.of(bytes))?;
-        let Ok(value) = HeaderValue::from_shared(line_value) else {
-            return Err(HeadFault::Bounds);
-        };
-        add(alloc, &mut all, line.name.of(bytes), value)?;
-    }
-    Ok(all)
-}
-
-// The head at the front, where spaces may come after a name and values may be folded.
-pub(crate) fn read_leniently(alloc: Global, bytes: &[u8]) -> Result<Option<Head>, HeadFault>
-    ensures { IfOk result (λ o. IfSome o (IsSomeHead bytes.now)) }
-{
-    let mut config = ParserConfig::default();
-    config.allow_spaces_after_header_name_in_responses(true);
-    config.allow_obsolete_multiline_headers_in_responses(true);
-    let mut lines = [EMPTY_HEADER_SPAN; MOST_LINES];
-    match config.parse_response_spans(bytes, &mut lines) {
-        Ok(Status::Complete(read)) => {
-            let status = status_of(&read)?;
-            let headers = collect_unfolded(alloc, bytes, &lines[..read.headers])?;
-            let header = ResponseHeader { status, headers };
-            let len = read.len;
-            Ok(Some(Head { header, len }))
-        }
-        Ok(Status::Partial) => Ok(None),
-        Err(_) => Err(HeadFault::Refused),
     }
 }

@@ -1,4 +1,4 @@
-//! Responses read from their bytes, whole or in pieces: a head, by httparse, and the body that it announces.
+//! Responses read from their bytes, whole or in pieces: a head, by httparse, and the body that it announces; and heads alone.
 #![tactic(auto)]
 
 mod begun;
@@ -7,6 +7,7 @@ mod collected;
 mod front;
 mod head;
 pub mod laws;
+mod lenient;
 mod names;
 pub mod parse;
 mod position;
@@ -15,5 +16,5 @@ pub mod response;
 
 pub use body::content_length;
 pub use parse::ResponseParse;
-pub use read::read_response;
+pub use read::{ReadHeadFault, read_head, read_response};
 pub use response::{Parsed, Progress, Response, Short};

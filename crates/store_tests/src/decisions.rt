@@ -3,6 +3,7 @@ use cache_heads::ErrorType;
 use cache_store::admission::{AdmissionPolicy, Decision};
 use cache_store::max_file_size::{ERR_RESPONSE_TOO_LARGE, MaxFileSizeTracker};
 use cache_words::key::CacheKey;
+use std::alloc::Global;
 use std::test::*;
 
 // Admits keys of at least so many bytes.
@@ -26,18 +27,21 @@ fn observed(policy: &dyn AdmissionPolicy, key: &CacheKey) -> (u32, bool) {
     (decision.observed(), decision.is_deferred())
 }
 
+// What such a policy decides on a key of two bytes.
+fn decided(alloc: Global, least: usize) -> Option<(u32, bool)> {
+    let primary = Vec::from_slice(alloc, b"aa").ok()?;
+    let key = CacheKey::new(primary, String::new(alloc));
+    Some(observed(&LongKeys { least }, &key))
+}
+
 #[test]
-fn policies_decide(rt: HostRuntime) -> Result<(), Fail> {
-    let primary = Vec::from_slice(rt.alloc(), b"aa")?;
-    let key = CacheKey::new(primary, String::new(rt.alloc()));
-    for (least, want) in [(2, (4, false)), (3, (3, true))] {
-        assert_eq!(rt; observed(&LongKeys { least }, &key), want);
-    }
-    Ok(())
+fn policies_decide(rt: HostRuntime) {
+    assert_eq!(rt; decided(rt.alloc(), 2), Some((4, false)));
+    assert_eq!(rt; decided(rt.alloc(), 3), Some((3, true)));
 }
 
 // A limit, bytes that are added twice, and whether they are within the limit each time.
-const SIZES: [(usize, usize, bool, bool); 6] = [
+const SIZES: &[(usize, usize, bool, bool)] = &[
     (0, 0, true, true),
     (0, 1, false, false),
     (5, 3, true, false),
@@ -48,7 +52,7 @@ const SIZES: [(usize, usize, bool, bool); 6] = [
 
 #[test]
 fn sizes_are_counted(rt: HostRuntime) {
-    for (limit, bytes, first, second) in SIZES {
+    for &(limit, bytes, first, second) in SIZES {
         let mut tracker = MaxFileSizeTracker::new(limit);
         assert!(rt; tracker.allow_caching());
         assert_eq!(rt; tracker.add_body_bytes(bytes), first, "{limit} {bytes}");

@@ -1,16 +1,24 @@
-//! Tests of what a cache's store and its users share.
+//! Tests of stores, of puts into them, of managers and of locks.
 #![tactic(auto)]
 
 #[cfg(test)]
+mod copies;
+#[cfg(test)]
 mod decisions;
 #[cfg(test)]
+mod evictions;
+#[cfg(test)]
 mod finished;
+#[cfg(test)]
+mod locks;
 #[cfg(test)]
 mod memory;
 #[cfg(test)]
 mod nothing;
 #[cfg(test)]
 mod packed;
+#[cfg(test)]
+mod puts;
 #[cfg(test)]
 mod samples;
 #[cfg(test)]

@@ -1,5 +1,5 @@
-//! A store that stores nothing, and takes what it can from the traits: what their default bodies answer.
-ghost use Rattle.std.specs.Prelude.{true, false, None, [], ℕ};
+//! A store that stores nothing: it takes what it can from the traits, and answers the rest as most stores without tags and ids do.
+ghost use Rattle.std.specs.Prelude.{⊤, true, false, None, [], ℕ};
 ghost use Rattle.cache_changes.specs.Store.{empty_store};
 ghost use Rattle.cache_store.specs.Readers.{whole};
 ghost use Rattle.cache_store.specs.declared.storage.MissFinishType.TheVariants.{Created};
@@ -26,6 +26,12 @@ struct Nobody;
 
 impl Contents for Nothing {
     ghost held = { λ _. record { store = empty_store; next = 0; readings = [] } };
+
+    ghost ids = { λ _ _. None };
+
+    ghost weigh = { λ _. 0 };
+
+    ghost tagged = { λ _. None };
 }
 
 impl Storage for Nothing {
@@ -35,14 +41,20 @@ impl Storage for Nothing {
 
     ghost is_spent = { λ _. true };
 
-    ghost ids = { λ _ _. None };
-
     ghost streams = { false };
 
-    ghost tagged = { λ _. None };
+    ghost purged_as = { λ _ _ _. ⊤ };
 
     fn lookup(&mut self, _key: &CacheKey) -> Result<Found<Nobody>, StoreFault> {
         Ok(None)
+    }
+
+    fn lookup_streaming_write(
+        &mut self,
+        key: &CacheKey,
+        _tag: Option<&[u8]>,
+    ) -> Result<Found<Nobody>, StoreFault> {
+        self.lookup(key)
     }
 
     fn get_miss_handler(
@@ -60,24 +72,54 @@ impl Storage for Nothing {
     fn update_meta(&mut self, _key: &CacheKey, _meta: &CacheMeta) -> Result<(), StoreFault> {
         Err(StoreFault::NoMeta)
     }
+
+    fn support_streaming_partial_write(&self) -> bool {
+        false
+    }
 }
 
 impl HandleHit<Nothing> for Nobody {
-    ghost reader = { λ _. whole [] [] };
+    ghost reader = { λ _. whole 0 [] [] };
+
+    ghost counts = { λ _. true };
+
+    ghost weight = { λ _. 0 };
+
+    ghost id = { λ _. None };
+
+    ghost seekable = { λ _. false };
 
     fn read_body(&mut self, _store: &mut Nothing) -> Result<ReadStep, StoreFault> {
         Ok(ReadStep::End)
     }
 
     fn finish(self, _store: &mut Nothing) {}
+
+    fn can_seek(&self) -> bool {
+        false
+    }
+
+    fn should_count_access(&self) -> bool {
+        true
+    }
+
+    fn get_eviction_weight(&self) -> usize {
+        0
+    }
+
+    fn entry_id(&self) -> Option<CacheEntryId> {
+        None
+    }
 }
 
 impl HandleMiss<Nothing> for Nobody {
     ghost number = { λ _. 0 };
 
+    ghost tag = { λ _. None };
+
     ghost id = { λ _. None };
 
-    ghost told = { Created };
+    ghost told = { λ _. Created 0 };
 
     fn write_body(
         &mut self,
@@ -93,6 +135,10 @@ impl HandleMiss<Nothing> for Nobody {
     }
 
     fn leave(self, _store: &mut Nothing) {}
+
+    fn streaming_write_tag(&self) -> Option<&[u8]> {
+        None
+    }
 
     fn entry_id(&self) -> Option<CacheEntryId> {
         None

@@ -14,7 +14,7 @@ struct Row {
     varies: bool,
 }
 
-const ROWS: [Row; 5] = [
+const ROWS: &[Row] = &[
     Row {
         sensitive: false,
         renewed: false,

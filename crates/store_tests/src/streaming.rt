@@ -7,7 +7,8 @@ use mem_cache::handlers::MemMissHandler;
 use std::alloc::Global;
 use std::test::*;
 
-// A look-up of a key by a tag, and what a reader of the found write reads; nothing where none is found.
+// A look-up of a key by a tag, and what a reader of the found write reads; nothing where none is found. A tag that names no number
+// asks for the key.
 #[derive(Clone, Copy)]
 struct Row {
     primary: &'static [u8],
@@ -34,10 +35,15 @@ const ROWS: &[Row] = &[
     Row {
         primary: b"aa",
         tag: Some(&[0]),
-        bytes: None,
+        bytes: Some(b"first"),
     },
     Row {
         primary: b"aa",
+        tag: None,
+        bytes: Some(b"first"),
+    },
+    Row {
+        primary: b"bb",
         tag: None,
         bytes: None,
     },
@@ -82,7 +88,7 @@ fn row_holds(store: &mut MemCache, alloc: Global, row: Row) -> Option<bool> {
                 _ => Some(false),
             }
         }
-        Ok(None) => Some(false),
+        Ok(None) => Some(row.tag.is_none() && row.bytes.is_none()),
         Err(fault) => Some(fault == StoreFault::WriteRemoved && row.bytes.is_none()),
     }
 }

@@ -4,7 +4,6 @@ use Rattle.std.specs.Prelude.{Bool, List, Option, Some, None, option_map, not, f
 use Rattle.std.specs.Ordering.{nat_cmp, eq_by_cmp}
 use Rattle.std.specs.Cmp.Lexicographic.{slice_cmp, texts_ties, nat_list_cmp_total}
 use Rattle.std.specs.FinMap.{get-insert, get-remove}
-use Rattle.cache_words.specs.Time.{MomentValue}
 use Rattle.cache_entries.specs.Keys.{same_bytes}
 use Rattle.cache_changes.specs.Changes.{StoredKey, stored_key, key_alone, is_key}
 use Rattle.cache_changes.specs.Store.{Stored, is_of}
@@ -12,10 +11,9 @@ use Rattle.cache_changes.proofs.RowLaws.{not_true, not_false, find-kept, find-go
 use Rattle.cache_entries.specs.declared.entry.CacheEntryKey.{CacheEntryKey}
 use Rattle.cache_entries.specs.SameEntry.{same_bytes-tells, same-sym}
 use Rattle.tier_model.specs.declared.state.Body.{Body}
-use Rattle.tier_model.specs.declared.state.FinishedBody.{FinishedBody}
 use Rattle.tier_model.specs.Histories.{Kept}
-use Rattle.tier_model.specs.Past.{held_of}
-use Rattle.tier_model.specs.Rows.{Bodies, body_of, found_of, with_body, without_body, without_key, without_bodies}
+use Rattle.tier_model.specs.Rows.{FinishedBody}
+use Rattle.tier_model.specs.Rows.{Bodies, body_of, with_body, without_body, without_key, without_bodies}
 
 -- keys that tie in the order of their bytes are the same
 pub ties-same : (k j : StoredKey) → eq_by_cmp (slice_cmp nat_cmp) k j ≡ same_bytes j k
@@ -25,8 +23,8 @@ ties-same k j = sym (texts_ties k j) ∙ same-sym same_bytes same_bytes-tells k 
 pub body_of-without : (k j : StoredKey) (bodies : Bodies) → body_of k (without_body j bodies) ≡ cond (same_bytes j k) None (body_of k bodies)
 body_of-without k j bodies = get-remove nat_list_cmp_total bodies j k ∙ ap (λ v. cond v None (body_of k bodies)) (ties-same k j)
 
-pub body_of-with : (k : StoredKey) (b : FinishedBody) (bodies : Bodies) → body_of k (with_body b bodies) ≡ cond (same_bytes (stored_key b.entry) k) (Some (found_of b)) (body_of k bodies)
-body_of-with k b bodies = get-insert nat_list_cmp_total bodies (stored_key b.entry) (found_of b) k ∙ ap (λ v. cond v (Some (found_of b)) (body_of k bodies)) (ties-same k (stored_key b.entry))
+pub body_of-with : (k : StoredKey) (b : FinishedBody) (bodies : Bodies) → body_of k (with_body b bodies) ≡ cond (same_bytes (stored_key b.entry) k) (Some b.body) (body_of k bodies)
+body_of-with k b bodies = get-insert nat_list_cmp_total bodies (stored_key b.entry) b.body k ∙ ap (λ v. cond v (Some b.body) (body_of k bodies)) (ties-same k (stored_key b.entry))
 
 either_none : {X : Type 0} (x y : Bool) (o : Option X) → cond y None (cond x None o) ≡ cond (x || y) None o
 either_none true true o = refl
@@ -70,17 +68,17 @@ body_at-with {M = M} k x xs = by_test (is_of k x) refl
     by_test true e = refl
     by_test false e = find-kept (is_of k) (λ y. not (is_of x.write.key y)) xs (λ y t. not_false (is_of x.write.key y) (other e y t))
 
--- what is held of a body, and of what changes leave
-abbrev pub view : Stored Kept → MomentValue × List ℕ
-view x = (x.meta.fresh_until, x.bytes)
+-- the body that changes leave
+abbrev pub view : Stored Kept → Body
+view x = record { bytes = x.bytes; meta = x.meta.meta }
 
 abbrev pub AreSame : Option Body → Option (Stored Kept) → Type 0
-AreSame o x = option_map held_of o ≡ option_map view x
+AreSame o x = o ≡ option_map view x
 
 pub both_gone : (v : Bool) (o : Option Body) (x : Option (Stored Kept)) → AreSame o x → AreSame (cond v None o) (cond v None x)
 both_gone true o x e = refl
 both_gone false o x e = e
 
-pub both_there : (v : Bool) (b : Body) (y : Stored Kept) (o : Option Body) (x : Option (Stored Kept)) → held_of b ≡ view y → AreSame o x → AreSame (cond v (Some b) o) (cond v (Some y) x)
-both_there true b y o x f e = ap (λ (p : MomentValue × List ℕ). Some p) f
+pub both_there : (v : Bool) (b : Body) (y : Stored Kept) (o : Option Body) (x : Option (Stored Kept)) → b ≡ view y → AreSame o x → AreSame (cond v (Some b) o) (cond v (Some y) x)
+both_there true b y o x f e = ap (λ (p : Body). Some p) f
 both_there false b y o x f e = e

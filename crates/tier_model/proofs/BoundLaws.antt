@@ -1,5 +1,5 @@
 -- The bodies keep both limits: after a put since they are tracked and the rows keep them, and no other call makes more.
-use Rattle.std.proofs.Common.{◌≡◌, ℕ, ◌+◌, ◌≤◌, suc, refl, ap, sym, ◌∙◌, true, false, subst, cond, [], ◌∷◌, ◌++◌, length}
+use Rattle.std.proofs.Common.{◌≡◌, ℕ, ◌+◌, ◌≤◌, refl, ap, sym, ◌∙◌, true, false, subst, cond, [], ◌∷◌, ◌++◌, length}
 use Rattle.std.specs.Prelude.{Bool, List, Option, Some, None, ◌==◌}
 use Rattle.std.specs.List.{AllByRecursion, sum_by}
 use Rattle.std.proofs.lemmas.List.Sums.{sum_by-cons}
@@ -14,12 +14,11 @@ use Rattle.cache_entries.specs.declared.entry.CacheEntryKey.{CacheEntryKey}
 use Rattle.cache_changes.specs.Uses.{rows_of}
 use Rattle.cache_changes.proofs.UseLaws.{IsOrderOfUse-rows_of}
 use Rattle.cache_evict.specs.Managed.{Managed, is_over, put_first, use_first, taken_out}
-use Rattle.tier_model.specs.declared.state.FinishedBody.{FinishedBody}
 use Rattle.tier_model.specs.Keys.{Entry, alone}
 use Rattle.tier_model.specs.Calls.{extended}
 use Rattle.tier_model.specs.Evictions.{gone, all_gone, GoInTurn}
 use Rattle.tier_model.specs.Histories.{Kept, write_of, goes, stores, clears}
-use Rattle.tier_model.specs.Rows.{Bodies, with_body, without_body, without_bodies, weight_for}
+use Rattle.tier_model.specs.Rows.{Bodies, FinishedBody, with_body, without_body, without_bodies, weight_for}
 use Rattle.tier_model.proofs.RowSteps.{over-rows}
 use Rattle.tier_model.proofs.ChangeLaws.{Leaves, leaves-later, leaves-used, leaves-cleared, leaves-gone, leaves-stored, leaves-back}
 
@@ -90,15 +89,15 @@ module _ (N n : ℕ) (bodies : Bodies) (m : Managed) (changes : Changes Kept) (l
       }
 
   abbrev admitted : FinishedBody → Managed
-  admitted b = put_first N (alone b.entry) (weight_for b.bytes) m
+  admitted b = put_first N (alone b.entry) (weight_for b.body) m
 
   -- a body that is stored, and those that went to make room for it
   pub leaves-room : (b : FinishedBody) (over : Bool) (es : List CacheEntryKey) → GoInTurn N over es (admitted b)
-      → Leaves N (suc n) (without_bodies es (with_body b bodies)) (all_gone N es (admitted b)) (extended changes (stores n b es))
-  leaves-room b over es h = leaves-gone N (suc n) over es (with_body b bodies) (admitted b) (extended changes (stores n b [])) h (leaves-stored N n b bodies m changes l.leaves)
+      → Leaves N (n + 1) (without_bodies es (with_body b bodies)) (all_gone N es (admitted b)) (extended changes (stores n b es))
+  leaves-room b over es h = leaves-gone N (n + 1) over es (with_body b bodies) (admitted b) (extended changes (stores n b [])) h (leaves-stored N n b bodies m changes l.leaves)
 
   pub keeps-stored : (b : FinishedBody) (es : List CacheEntryKey) → GoInTurn N false es (admitted b)
-      → Keeps N (suc n) (without_bodies es (with_body b bodies)) (all_gone N es (admitted b)) (extended changes (stores n b es))
+      → Keeps N (n + 1) (without_bodies es (with_body b bodies)) (all_gone N es (admitted b)) (extended changes (stores n b es))
   keeps-stored b es h =
       let left : Managed = all_gone N es (admitted b) in
       let now : Changes Kept = extended changes (stores n b es) in
@@ -121,10 +120,10 @@ module _ (N n : ℕ) (bodies : Bodies) (m : Managed) (changes : Changes Kept) (l
           let there : body_now k changes ≡ Some w = ap (λ v. body_chosen false (cond v (Some (write_of n b)) None) (body_now k changes)) (sym t) ∙ stored.0 in
           let body = body_now-is k changes w l.leaves.orderly there in
           let other : (n == w.number) ≡ false = above_apart w.number n (began_below n w changes l.leaves.below (alive_began w changes body.alive)) in
-          (there, stored.1 ∙ ap (λ v. cond v (bytes_of w.number changes ++ b.bytes) (bytes_of w.number changes)) other)
+          (there, stored.1 ∙ ap (λ v. cond v (bytes_of w.number changes ++ b.body.bytes) (bytes_of w.number changes)) other)
 
   pub keeps-back : (b : FinishedBody) (over : Bool) (es : List CacheEntryKey) → GoInTurn N over es (admitted b)
-      → Keeps N (suc n) (without_body (stored_key b.entry) (without_bodies es bodies)) (taken_out N (alone b.entry) (all_gone N es (admitted b))) (extended (extended changes (stores n b es)) (clears b.entry))
+      → Keeps N (n + 1) (without_body (stored_key b.entry) (without_bodies es bodies)) (taken_out N (alone b.entry) (all_gone N es (admitted b))) (extended (extended changes (stores n b es)) (clears b.entry))
   keeps-back b over es h =
       let now : Changes Kept = extended (extended changes (stores n b es)) (clears b.entry) in
       let after = leaves-back N n b es bodies (all_gone N es (admitted b)) changes (leaves-room b over es h) in

@@ -1,6 +1,6 @@
 -- Lawful histories hold the headline, and runs carry it on.
-use Rattle.std.proofs.Common.{◌≡◌, ℕ, ◌<◌, length, refl, ap, sym, ◌∙◌, subst, [], ◌∷◌, arith}
-use Rattle.std.specs.Prelude.{◌≤◌, List, Option, Some, None, IfSome, replicate, option_map}
+use Rattle.std.proofs.Common.{◌≡◌, ℕ, ◌<◌, refl, ap, sym, ◌∙◌, true, false, subst, [], ◌∷◌, arith}
+use Rattle.std.specs.Prelude.{◌≤◌, Bool, List, Option, Some, None, IfSome, replicate}
 use Rattle.std.proofs.lemmas.List.{ext_get_or}
 use Rattle.std.specs.List.{AllByRecursion}
 use Rattle.std.specs.FinMap.{get, get-empty, empty, entries, len-entries}
@@ -19,17 +19,17 @@ use Rattle.cache_changes.proofs.UseLaws.{rows_of-admissions}
 use Rattle.cache_evict.specs.Managed.{Managed, fresh}
 use Rattle.tier_model.specs.declared.state.Body.{Body}
 use Rattle.tier_model.specs.declared.state.Request.{Request}
-use Rattle.tier_model.specs.Calls.{Call, History, writes_after}
+use Rattle.tier_model.specs.Calls.{Call, History, Outcome, CountsItsWrite, finished_by, has_stored, writes_after}
 use Rattle.tier_model.specs.Response.{IsRead}
-use Rattle.tier_model.specs.Histories.{Kept, Opening, empty_opening, changes_of}
-use Rattle.tier_model.specs.Headline.{Headline, HoldsHeadline}
-use Rattle.tier_model.specs.Rows.{body_of}
-use Rattle.tier_model.specs.Reports.{IsReport, report_of, writes_begun}
+use Rattle.tier_model.specs.Histories.{Kept, Opening, empty_opening, told_of, writes_begun, changes_of}
+use Rattle.tier_model.specs.Headline.{AreRight, Headline}
+use Rattle.tier_model.specs.Rows.{FinishedBody, body_of}
+use Rattle.tier_model.specs.Reports.{IsReport, report_of}
 use Rattle.tier_model.specs.State.{Settings, State, shards_of, empty_state}
-use Rattle.tier_model.specs.Step.{Allows, after}
-use Rattle.tier_model.specs.Past.{in_shards, held_of, told_of, loaded_of, state_of, IsLawful, MatchesHistory, HasPast, AreTaken, CarriesHeadline}
+use Rattle.tier_model.specs.Step.{Allows, BeginsWrite, after}
+use Rattle.tier_model.specs.Past.{in_shards, loaded_of, state_of, IsLawful, MatchesHistory, HasPast, AreTaken, CarriesHeadline}
 use Rattle.tier_model.proofs.RowSteps.{IsMade, in_shards-are}
-use Rattle.tier_model.proofs.ChangeLaws.{Leaves, unbound, is_held, shows}
+use Rattle.tier_model.proofs.ChangeLaws.{Leaves, leaves-later, unbound, is_held, shows}
 use Rattle.tier_model.proofs.StepLaws.{made-after}
 use Rattle.tier_model.proofs.BoundLaws.{Keeps}
 use Rattle.tier_model.proofs.EventLaws.{Holds}
@@ -63,7 +63,7 @@ in_shards_of N m rows = record m { shards = in_shards N rows }
 
 loaded : (N : ℕ) (m : Managed) (rows : List Tracked) → 0 < N → AreDistinct rows → Leaves N 0 empty (in_shards_of N m rows) (admissions rows)
 loaded N m [] pos d =
-    record { orderly = tt; below = tt; landed = refl; bodies = λ k. ap (option_map held_of) (get-empty (slice_cmp nat_cmp) k); some = pos; rows = in_shards-are N []; lawful = tt; tracks = tt; settled = refl }
+    record { orderly = tt; below = tt; landed = refl; bodies = λ k. get-empty (slice_cmp nat_cmp) k; some = pos; rows = in_shards-are N []; lawful = tt; tracks = tt; settled = refl }
 loaded N m (r ∷ rows) pos d =
     let l : Leaves N 0 empty (in_shards_of N m rows) (admissions rows) = loaded N m rows pos d.1 in
     record {
@@ -84,16 +84,17 @@ made-loaded start = record { shards = (in_shards-are start.settings.shards start
 opened : (start : Opening) → 0 < start.settings.shards → AreDistinct start.loaded → Holds start (state_of start []) []
 opened start pos d =
     let N : ℕ = start.settings.shards in
-    let l : Leaves N 0 empty (loaded_of start) (admissions start.loaded) = loaded N (fresh N start.settings.limit start.settings.watermark) start.loaded pos d in
-    subst (λ (n : ℕ). Keeps n 0 empty (loaded_of start) (admissions start.loaded)) (sym (made-loaded start).shards)
-    (record { leaves = l; within = none_within N 0 (loaded_of start) (admissions start.loaded) l })
+    let none : Leaves N 0 empty (loaded_of start) (admissions start.loaded) = loaded N (fresh N start.settings.limit start.settings.watermark) start.loaded pos d in
+    let l : Leaves N start.first empty (loaded_of start) (admissions start.loaded) = leaves-later N 0 start.first empty (loaded_of start) (admissions start.loaded) (omega arith) none in
+    subst (λ (n : ℕ). Keeps n start.first empty (loaded_of start) (admissions start.loaded)) (sym (made-loaded start).shards)
+    (record { leaves = l; within = none_within N start.first (loaded_of start) (admissions start.loaded) l })
 
 -- what a state is to the history after it
 pub record Stands (start : Opening) (s : State) (h : History) : Type 0 where
   pub made : IsMade start.settings s.managed
   pub fits : Fits start s h
   pub tallies : Tallies s h
-  pub writes : s.writes ≡ writes_begun h
+  pub writes : s.writes ≡ writes_begun start h
 
 -- the state after a lawful history stands for it
 pub Stands-lawful : (start : Opening) (h : History) → IsLawful start h → Stands start (state_of start h) h
@@ -118,23 +119,34 @@ IsOrderly-lawful start h l = (Stands-lawful start h l).fits.holds.leaves.orderly
 pub TracksBodies-lawful : (start : Opening) (h : History) → IsLawful start h → TracksBodies (changes_of start h)
 TracksBodies-lawful start h l = (Stands-lawful start h l).fits.holds.leaves.tracks
 
-Headline-lawful : (start : Opening) (h : History) → IsLawful start h → Headline start h
-Headline-lawful start [] l = tt
-Headline-lawful start (c ∷ h) l =
+AreRight-lawful : (start : Opening) (h : History) → IsLawful start h → AreRight start h
+AreRight-lawful start [] l = tt
+AreRight-lawful start (c ∷ h) l =
     let past : Stands start (state_of start h) h = Stands-lawful start h l.1 in
-    (IsRight-allowed start (state_of start h) c h past.made past.fits l.0, Headline-lawful start h l.1)
+    (IsRight-allowed start (state_of start h) c h past.made past.fits l.0, AreRight-lawful start h l.1)
 
 readings-lawful : (start : Opening) (h : History) → IsLawful start h → AllByRecursion (λ c. IsRead c.event.action c.reading) h
 readings-lawful start [] l = tt
 readings-lawful start (c ∷ h) l = (l.0.0, readings-lawful start h l.1)
 
+-- a write began in each call that stored a body
+counted : (s : State) (finished : Option FinishedBody) (o : Outcome) (began : Bool) → BeginsWrite s finished o began → (b : FinishedBody) → finished ≡ Some b → has_stored o ≡ true → began ≡ true
+counted s (Some x) o true begins b e stored = refl
+counted s (Some x) o false begins b e stored = cc
+counted s None o began begins b e stored = absurd cc
+
+numbers-lawful : (start : Opening) (h : History) → IsLawful start h → AllByRecursion CountsItsWrite h
+numbers-lawful start [] l = tt
+numbers-lawful start (c ∷ h) l = (counted (state_of start h) (finished_by c) c.outcome c.began l.0.2, numbers-lawful start h l.1)
+
 -- lawful histories hold the headline
-pub HoldsHeadline-lawful : (start : Opening) (h : History) → IsLawful start h → HoldsHeadline start h
-HoldsHeadline-lawful start h l =
+pub Headline-lawful : (start : Opening) (h : History) → IsLawful start h → Headline start h
+Headline-lawful start h l =
     let past : Stands start (state_of start h) h = Stands-lawful start h l in
     record {
       readings = readings-lawful start h l;
-      answers = Headline-lawful start h l;
+      numbers = numbers-lawful start h l;
+      answers = AreRight-lawful start h l;
       within = subst (λ (x : ℕ). AreWithin x start.settings.watermark (changes_of start h)) past.made.limit
           (subst (λ (x : Option ℕ). AreWithin (state_of start h).managed.limit x (changes_of start h)) past.made.watermark past.fits.holds.within);
       tracked = bodies-tracked (changes_of start h) past.fits.holds.leaves.orderly past.fits.holds.leaves.tracks past.fits.holds.leaves.settled;
@@ -154,7 +166,7 @@ start-some start h s past = subst (λ (n : ℕ). 0 < n) past.made.shards past.fi
 -- the state after a lawful history is what it says
 MatchesHistory-lawful : (start : Opening) (s : State) (h : History) → Stands start s h → MatchesHistory s start h
 MatchesHistory-lawful start s h past = record {
-  bodies = all-held (shards_of s) (length h) s.bodies s.managed (changes_of start h) past.fits.holds.leaves;
+  bodies = all-held (shards_of s) (writes_begun start h) s.bodies s.managed (changes_of start h) past.fits.holds.leaves;
   order = (start-some start h s past, (rows_of (changes_of start h), IsOrderOfUse-rows_of (changes_of start h), subst (λ (n : ℕ). AreShardsOf n s.managed.shards (rows_of (changes_of start h))) past.made.shards past.fits.holds.leaves.rows));
   requests = λ id. IsRequestOf-fits start id (get s.requests id) h (past.fits.requests id);
   found = past.tallies.found;
@@ -170,7 +182,7 @@ HasPast-lawful start s h l e =
     record {
       lawful = l;
       state = e;
-      headline = HoldsHeadline-lawful start h l;
+      headline = Headline-lawful start h l;
       matches = subst (λ (x : State). MatchesHistory x start h) (sym e) (MatchesHistory-lawful start (state_of start h) h past);
     }
 
@@ -216,13 +228,13 @@ IsReport-matches s start h m =
 stands-past : (start : Opening) (s : State) (h : History) → HasPast start s h → Stands start s h
 stands-past start s h p = subst (λ (x : State). Stands start x h) (sym p.state) (Stands-lawful start h p.lawful)
 
--- each body of a past is held, with its bytes and its moment
+-- each body of a past is held, with its bytes and its meta
 pub held-past : (start : Opening) (s : State) (h : History) → HasPast start s h → (k : StoredKey) (w : Write Kept) → IsBody k w (changes_of start h)
-    → (b : Body) × (body_of k s.bodies ≡ Some b) × (held_of b ≡ told_of (changes_of start h) w)
-held-past start s h p k w i = is_held (shards_of s) (length h) s.bodies s.managed (changes_of start h) (stands-past start s h p).fits.holds.leaves k w i
+    → (b : Body) × (body_of k s.bodies ≡ Some b) × (b ≡ told_of (changes_of start h) w)
+held-past start s h p k w i = is_held (shards_of s) (writes_begun start h) s.bodies s.managed (changes_of start h) (stands-past start s h p).fits.holds.leaves k w i
 
 -- and what is held is one
 pub body-past : (start : Opening) (s : State) (h : History) → HasPast start s h → (k : StoredKey) (b : Body) → body_of k s.bodies ≡ Some b → (w : Write Kept) × IsBody k w (changes_of start h)
 body-past start s h p k b e =
-    let x = shows (shards_of s) (length h) s.bodies s.managed (changes_of start h) (stands-past start s h p).fits.holds.leaves k b e in
+    let x = shows (shards_of s) (writes_begun start h) s.bodies s.managed (changes_of start h) (stands-past start s h p).fits.holds.leaves k b e in
     (x.write, x.body)

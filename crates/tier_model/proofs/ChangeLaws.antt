@@ -1,5 +1,5 @@
 -- What changes leave is what a tier's state holds: change by change.
-use Rattle.std.proofs.Common.{◌≡◌, ℕ, ◌≤◌, ◌<◌, suc, refl, ap, sym, ◌∙◌, true, false, subst, cond, [], ◌∷◌, length, arith}
+use Rattle.std.proofs.Common.{◌≡◌, ℕ, ◌+◌, ◌≤◌, ◌<◌, refl, ap, sym, ◌∙◌, true, false, subst, cond, [], ◌∷◌, length, arith}
 use Rattle.std.specs.Prelude.{Bool, List, Option, Some, None, option_map, is_some, map, find}
 use Rattle.std.specs.List.{AllByRecursion}
 use Rattle.std.proofs.Math.Nat.{le-max_right}
@@ -18,17 +18,15 @@ use Rattle.cache_changes.proofs.WriteLaws.{same_number, fresh_end, all_begin_les
 use Rattle.cache_evict.specs.Managed.{Managed, is_over, put_first, use_first, taken_out}
 use Rattle.cache_evict.specs.Managed as managed
 use Rattle.tier_model.specs.declared.state.Body.{Body}
-use Rattle.tier_model.specs.declared.state.FinishedBody.{FinishedBody}
 use Rattle.tier_model.specs.Keys.{Entry, alone}
 use Rattle.tier_model.specs.Calls.{extended}
 use Rattle.tier_model.specs.Evictions.{gone, all_gone, GoInTurn}
-use Rattle.tier_model.specs.Histories.{Kept, kept_of, write_of, goes, stores, clears}
-use Rattle.tier_model.specs.Past.{held_of, told_of}
-use Rattle.tier_model.specs.Rows.{Bodies, body_of, found_of, with_body as put_body, without_body, without_key, without_bodies, weight_for}
+use Rattle.tier_model.specs.Histories.{Kept, kept_of, told_of, write_of, goes, stores, clears}
+use Rattle.tier_model.specs.Rows.{Bodies, FinishedBody, body_of, with_body as put_body, without_body, without_key, without_bodies, weight_for}
 use Rattle.tier_model.proofs.BodyLaws.{has_key, body_of-without, body_of-without_key, body_of-with, body_of-without_all, body_at-without, body_at-with, view, AreSame, both_gone, both_there}
 use Rattle.tier_model.proofs.RowSteps.{over-rows, last-rows}
 
--- after n calls the changes leave these bodies, with none in flight, and these N shards; what went went lawfully
+-- after n writes the changes leave these bodies, with none in flight, and these N shards; what went went lawfully
 pub record Leaves (N n : ℕ) (held : Bodies) (m : Managed) (changes : Changes Kept) : Type 0 where
   pub orderly : IsOrderly changes
   pub below : AllByRecursion (BeginsBelow n) changes
@@ -82,7 +80,7 @@ module _ (N : ℕ) where
     orderly = l.orderly;
     below = l.below;
     landed = l.landed;
-    bodies = λ k. ap (option_map held_of) (f k) ∙ l.bodies k;
+    bodies = λ k. f k ∙ l.bodies k;
     some = l.some;
     rows = l.rows;
     lawful = l.lawful;
@@ -93,7 +91,7 @@ module _ (N : ℕ) where
   without_same : (j : Option StoredKey) (bodies : Bodies) (s : Store Kept) → ((k : StoredKey) → AreSame (body_of k bodies) (body_at k s))
       → (k : StoredKey) → AreSame (body_of k (without_key j bodies)) (body_at k (removed_from j s))
   without_same j bodies s f k =
-      ap (option_map held_of) (body_of-without_key k j bodies) ∙ both_gone (is_key k j) (body_of k bodies) (body_at k s) (f k) ∙ sym (ap (option_map view) (body_at-without k j s.bodies))
+      body_of-without_key k j bodies ∙ both_gone (is_key k j) (body_of k bodies) (body_at k s) (f k) ∙ sym (ap (option_map view) (body_at-without k j s.bodies))
 
   pub leaves-removed : (n : ℕ) (j : StoredKey) (bodies : Bodies) (m : Managed) (changes : Changes Kept)
       → Leaves N n bodies m changes → Leaves N n (without_body j bodies) m (removes j ∷ changes)
@@ -164,31 +162,31 @@ module _ (N : ℕ) where
 
   -- a body is written whole and its entry admitted
   pub leaves-stored : (n : ℕ) (b : FinishedBody) (bodies : Bodies) (m : Managed) (changes : Changes Kept)
-      → Leaves N n bodies m changes → Leaves N (suc n) (put_body b bodies) (put_first N (alone b.entry) (weight_for b.bytes) m) (extended changes (stores n b []))
+      → Leaves N n bodies m changes → Leaves N (n + 1) (put_body b bodies) (put_first N (alone b.entry) (weight_for b.body) m) (extended changes (stores n b []))
   leaves-stored n b bodies m changes l =
       let w : Write Kept = write_of n b in
-      let x : Stored Kept = record { write = w; meta = kept_of b; bytes = b.bytes } in
-      let left = stored_whole w b.bytes (store_of changes) l.landed in
-      let written : Changes Kept = appends n b.bytes ∷ begins w ∷ changes in
-      let flies : IsInFlight w written = record { since = appends n b.bytes ∷ []; before = changes; split = refl; flies = (refl, tt) } in
-      let alive : IsAlive w written = record { since = appends n b.bytes ∷ []; before = changes; split = refl; kept = (refl, tt); held = (refl, tt) } in
+      let x : Stored Kept = record { write = w; meta = kept_of b; bytes = b.body.bytes } in
+      let left = stored_whole w b.body.bytes (store_of changes) l.landed in
+      let written : Changes Kept = appends n b.body.bytes ∷ begins w ∷ changes in
+      let flies : IsInFlight w written = record { since = appends n b.body.bytes ∷ []; before = changes; split = refl; flies = (refl, tt) } in
+      let alive : IsAlive w written = record { since = appends n b.body.bytes ∷ []; before = changes; split = refl; kept = (refl, tt); held = (refl, tt) } in
       let finished : Changes Kept = finishes w ∷ written in
       let orderly : IsOrderly finished = ((flies, alive), (((w, refl, just_began w changes), fresh_end n changes l.below l.orderly), (l.below, l.orderly))) in
-      let enough : (v : Write Kept) → same_bytes (stored_key b.entry) v.key ≡ true → IsBody v.key v finished → length (bytes_of v.number finished) ≤ weight_for b.bytes =
+      let enough : (v : Write Kept) → same_bytes (stored_key b.entry) v.key ≡ true → IsBody v.key v finished → length (bytes_of v.number finished) ≤ weight_for b.body =
       λ v t i.
       let there : body_at v.key (store_of finished) ≡ Some (stored_of v finished) = ((store_of-is finished orderly).bodies v.key (stored_of v finished)).1 (i, refl) in
       let here : body_at v.key (store_of finished) ≡ Some x = ap (body_at v.key) left ∙ body_at-with v.key x (store_of changes).bodies ∙ ap (λ t. cond t (Some x) (body_at v.key (store_of changes))) t in
       let same : x ≡ stored_of v finished = cc in
-      subst (λ (y : Stored Kept). length y.bytes ≤ weight_for b.bytes) same (le-max_right 1 (length b.bytes)) in
+      subst (λ (y : Stored Kept). length y.bytes ≤ weight_for b.body) same (le-max_right 1 (length b.body.bytes)) in
       record {
         orderly = (tt, orderly);
-        below = (tt, (tt, (tt, (omega arith, all_begin_less n (suc n) changes (omega arith) l.below))));
+        below = (tt, (tt, (tt, (omega arith, all_begin_less n (n + 1) changes (omega arith) l.below))));
         landed = ap (λ (s : Store Kept). s.flying) left;
-        bodies = λ k. ap (option_map held_of) (body_of-with k b bodies)
-            ∙ both_there (same_bytes (stored_key b.entry) k) (found_of b) x (body_of k bodies) (body_at k (store_of changes)) refl (l.bodies k)
+        bodies = λ k. body_of-with k b bodies
+            ∙ both_there (same_bytes (stored_key b.entry) k) b.body x (body_of k bodies) (body_at k (store_of changes)) refl (l.bodies k)
             ∙ sym (ap (option_map view) (ap (body_at k) left ∙ body_at-with k x (store_of changes).bodies));
         some = l.some;
-        rows = AreShardsOf-after {M = Kept} N (admits (alone b.entry) (weight_for b.bytes)) (alone b.entry) m.shards (rows_of changes) l.some refl l.rows;
+        rows = AreShardsOf-after {M = Kept} N (admits (alone b.entry) (weight_for b.body)) (alone b.entry) m.shards (rows_of changes) l.some refl l.rows;
         lawful = l.lawful;
         tracks = (same_bytes-tells.itself (stored_key b.entry), enough, (tt, tt, (tt, tt, (unbound (begins w) changes l.settled, tt, l.tracks))));
         settled = refl;
@@ -196,12 +194,12 @@ module _ (N : ℕ) where
 
   -- a body that is stored and taken back leaves what was there, without what went
   pub leaves-back : (n : ℕ) (b : FinishedBody) (es : List CacheEntryKey) (bodies : Bodies) (m : Managed) (changes : Changes Kept)
-      → Leaves N (suc n) (without_bodies es (put_body b bodies)) m (extended changes (stores n b es))
-      → Leaves N (suc n) (without_body (stored_key b.entry) (without_bodies es bodies)) (taken_out N (alone b.entry) m) (extended (extended changes (stores n b es)) (clears b.entry))
+      → Leaves N (n + 1) (without_bodies es (put_body b bodies)) m (extended changes (stores n b es))
+      → Leaves N (n + 1) (without_body (stored_key b.entry) (without_bodies es bodies)) (taken_out N (alone b.entry) m) (extended (extended changes (stores n b es)) (clears b.entry))
   leaves-back n b es bodies m changes l =
-      leaves-same (suc n) (without_body (stored_key b.entry) (without_bodies es (put_body b bodies))) (without_body (stored_key b.entry) (without_bodies es bodies))
+      leaves-same (n + 1) (without_body (stored_key b.entry) (without_bodies es (put_body b bodies))) (without_body (stored_key b.entry) (without_bodies es bodies))
       (taken_out N (alone b.entry) m) (extended (extended changes (stores n b es)) (clears b.entry)) same
-      (leaves-cleared (suc n) b.entry (without_bodies es (put_body b bodies)) m (extended changes (stores n b es)) l)
+      (leaves-cleared (n + 1) b.entry (without_bodies es (put_body b bodies)) m (extended changes (stores n b es)) l)
     where
       none : (v w : Bool) (o p : Option Body) → cond v None (cond w None o) ≡ cond v None (cond w None (cond v p o))
       none true w o p = refl
@@ -210,7 +208,7 @@ module _ (N : ℕ) where
       same : (k : StoredKey) → body_of k (without_body (stored_key b.entry) (without_bodies es bodies)) ≡ body_of k (without_body (stored_key b.entry) (without_bodies es (put_body b bodies)))
       same k =
           body_of-without k (stored_key b.entry) (without_bodies es bodies) ∙ ap (cond (same_bytes (stored_key b.entry) k) None) (body_of-without_all k es bodies)
-          ∙ none (same_bytes (stored_key b.entry) k) (has_key k es) (body_of k bodies) (Some (found_of b))
+          ∙ none (same_bytes (stored_key b.entry) k) (has_key k es) (body_of k bodies) (Some b.body)
           ∙ sym (body_of-without k (stored_key b.entry) (without_bodies es (put_body b bodies)) ∙ ap (cond (same_bytes (stored_key b.entry) k) None) (body_of-without_all k es (put_body b bodies)
           ∙ ap (cond (has_key k es) None) (body_of-with k b bodies)))
 
@@ -228,26 +226,26 @@ none_flies k v changes o e f =
 pub shown_body : (k : StoredKey) (changes : Changes Kept) → (store_of changes).flying ≡ [] → shown_at k (store_of changes) ≡ body_at k (store_of changes)
 shown_body k changes e = rw e refl
 
-held_there : (o : Option Body) (b : Body) (x : Option (Stored Kept)) → o ≡ Some b → AreSame o x → (y : Stored Kept) × (x ≡ Some y) × (view y ≡ held_of b)
+held_there : (o : Option Body) (b : Body) (x : Option (Stored Kept)) → o ≡ Some b → AreSame o x → (y : Stored Kept) × (x ≡ Some y) × (view y ≡ b)
 held_there None b x there e = absurd cc
 held_there (Some c) b None there e = absurd cc
 held_there (Some c) b (Some y) there e =
     let same : c ≡ b = cc in
-    let pair : held_of c ≡ view y = cc in
-    (y, refl, sym pair ∙ ap held_of same)
+    let pair : c ≡ view y = cc in
+    (y, refl, sym pair ∙ same)
 
 held_none : (o : Option Body) (x : Option (Stored Kept)) → o ≡ None → AreSame o x → x ≡ None
 held_none None None there e = refl
 held_none None (Some y) there e = absurd cc
 held_none (Some c) x there e = absurd cc
 
-held_back : (o : Option Body) (x : Option (Stored Kept)) (y : Stored Kept) → x ≡ Some y → AreSame o x → (b : Body) × (o ≡ Some b) × (held_of b ≡ view y)
+held_back : (o : Option Body) (x : Option (Stored Kept)) (y : Stored Kept) → x ≡ Some y → AreSame o x → (b : Body) × (o ≡ Some b) × (b ≡ view y)
 held_back None (Some z) y there e = absurd cc
 held_back None None y there e = absurd cc
 held_back (Some b) None y there e = absurd cc
 held_back (Some b) (Some z) y there e =
     let same : z ≡ y = cc in
-    let pair : held_of b ≡ view z = cc in
+    let pair : b ≡ view z = cc in
     (b, refl, pair ∙ ap view same)
 
 -- the write of a body that is held
@@ -256,7 +254,7 @@ pub record Shows (k : StoredKey) (b : Body) (changes : Changes Kept) : Type 0 wh
   pub shown : IsShown k write changes
   pub body : IsBody k write changes
   pub at : body_at k (store_of changes) ≡ Some (stored_of write changes)
-  pub tells : told_of changes write ≡ held_of b
+  pub tells : told_of changes write ≡ b
 
 module _ (N n : ℕ) (bodies : Bodies) (m : Managed) (changes : Changes Kept) (l : Leaves N n bodies m changes) where
   pub none_in_flight : (k : StoredKey) (v : Write Kept) → IsFlying k v changes → ⊥
@@ -289,7 +287,7 @@ module _ (N n : ℕ) (bodies : Bodies) (m : Managed) (changes : Changes Kept) (l
       absurd cc
 
   -- the body of a write is held
-  pub is_held : (k : StoredKey) (w : Write Kept) → IsBody k w changes → (b : Body) × (body_of k bodies ≡ Some b) × (held_of b ≡ told_of changes w)
+  pub is_held : (k : StoredKey) (w : Write Kept) → IsBody k w changes → (b : Body) × (body_of k bodies ≡ Some b) × (b ≡ told_of changes w)
   is_held k w i =
       let at = ((store_of-is changes l.orderly).bodies k (stored_of w changes)).1 (i, refl) in
       held_back (body_of k bodies) (body_at k (store_of changes)) (stored_of w changes) at (l.bodies k)

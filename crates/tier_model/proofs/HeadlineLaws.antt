@@ -10,7 +10,6 @@ use Rattle.tier_model.specs.Keys.{alone, stored_key_of}
 use Rattle.tier_model.specs.declared.whole.Whole.{Whole}
 use Rattle.tier_model.specs.declared.whole.Whole.TheVariants as whole
 use Rattle.tier_model.specs.declared.state.Body.{Body}
-use Rattle.tier_model.specs.declared.state.FinishedBody.{FinishedBody}
 use Rattle.tier_model.specs.declared.state.Request.{Request}
 use Rattle.tier_model.specs.declared.state.Reader.{Reader}
 use Rattle.tier_model.specs.declared.state.Reader.TheVariants.{Closed, Unread, Spent}
@@ -23,17 +22,17 @@ use Rattle.tier_model.specs.declared.event.TierFault.{TierFault}
 use Rattle.tier_model.specs.declared.event.TierFault.TheVariants.{IdInUse, WrongPhase, TooHeavy, TooLong, NumbersSpent, Memory}
 use Rattle.tier_model.specs.declared.event.Done.{Done}
 use Rattle.cache_words.specs.Key.{CacheKeyValue}
-use Rattle.tier_model.specs.Calls.{Call, History, Outcome, read_by, opened_for, nothing_done}
-use Rattle.tier_model.specs.Histories.{Kept, Opening, changes_of}
+use Rattle.tier_model.specs.Calls.{Call, History, Outcome, read_by, finished_in, opened_for, nothing_done}
+use Rattle.tier_model.specs.Histories.{Kept, Opening, writes_begun, changes_of}
 use Rattle.tier_model.specs.Headline.{LooksRight, PurgesRight, PutsRight, IsRight}
-use Rattle.tier_model.specs.Rows.{body_of, weight_for}
+use Rattle.tier_model.specs.Rows.{FinishedBody, body_of, weight_for}
 use Rattle.tier_model.specs.State.{State, shards_of}
 use Rattle.tier_model.specs.Step.{refusal, AllowsBy, unless_open, has_reader, Allows, IsAnswer, IsPutAnswer, IsPutFault, look_answer, read_answer, UseFits, IsKeptOut, stored_alone, body_for}
 use Rattle.tier_model.proofs.RowSteps.{IsMade}
 use Rattle.tier_model.proofs.ChangeLaws.{shows, found, not_found, none_in_flight}
 use Rattle.tier_model.proofs.BoundLaws.{Keeps}
 use Rattle.tier_model.proofs.StepLaws.{answer_allowed, did_nothing}
-use Rattle.tier_model.proofs.EventLaws.{makes_room}
+use Rattle.tier_model.proofs.EventLaws.{ends_over}
 use Rattle.tier_model.proofs.RequestLaws.{Fits, RequestFits, ReaderFits, of_request, reader_there, unrefused, append_nothing}
 
 module _ (start : Opening) where
@@ -45,12 +44,12 @@ module _ (start : Opening) where
       by_body : (b : Option Body) → body_for q s.bodies ≡ b → a ≡ look_answer t b → LooksRight i t a h (changes_of start h)
       by_body None be ae =
           subst (λ (x : Answer). LooksRight i t x h (changes_of start h)) (sym ae)
-          (key_of q.entry, (of_request start s h fits i q e).0.0, not_found (shards_of s) (length h) s.bodies s.managed (changes_of start h) fits.holds.leaves (stored_key (key_of q.entry)) be)
+          (key_of q.entry, (of_request start s h fits i q e).0.0, not_found (shards_of s) (writes_begun start h) s.bodies s.managed (changes_of start h) fits.holds.leaves (stored_key (key_of q.entry)) be)
       by_body (Some b) be ae =
-          let x = shows (shards_of s) (length h) s.bodies s.managed (changes_of start h) fits.holds.leaves (stored_key (key_of q.entry)) b be in
-          let none = none_in_flight (shards_of s) (length h) s.bodies s.managed (changes_of start h) fits.holds.leaves (stored_key (key_of q.entry)) in
+          let x = shows (shards_of s) (writes_begun start h) s.bodies s.managed (changes_of start h) fits.holds.leaves (stored_key (key_of q.entry)) b be in
+          let none = none_in_flight (shards_of s) (writes_begun start h) s.bodies s.managed (changes_of start h) fits.holds.leaves (stored_key (key_of q.entry)) in
           subst (λ (y : Answer). LooksRight i t y h (changes_of start h)) (sym ae)
-          (key_of q.entry, x.write, (of_request start s h fits i q e).0.0, x.shown, ap (λ (p : MomentValue × List ℕ). at_most t p.0) (sym x.tells), (λ c. none, λ n. refl))
+          (key_of q.entry, x.write, (of_request start s h fits i q e).0.0, x.shown, ap (λ (p : Body). at_most t p.meta.internal.fresh_until) (sym x.tells), (λ c. none, λ n. refl))
 
   reader_right : (t : MomentValue) (g : Option Whole) (i : ℕ) (r : Reader) (h : History) → has_reader r ≡ true → ReaderFits start i r h → IsRight start t (Read i) g (Ok (read_answer r)) h
   reader_right t g i Closed h e fits = cc
@@ -83,43 +82,45 @@ module _ (start : Opening) where
     where
       by_body : (o : Option Body) → body_of k s.bodies ≡ o → (is_some o ≡ true) ↔ IsFound k (changes_of start h)
       by_body None e =
-          (λ t. absurd cc, λ found. absurd (not_found (shards_of s) (length h) s.bodies s.managed (changes_of start h) fits.holds.leaves k e found))
-      by_body (Some b) e = (λ t. found (shards_of s) (length h) s.bodies s.managed (changes_of start h) fits.holds.leaves k b e, λ f. refl)
+          (λ t. absurd cc, λ found. absurd (not_found (shards_of s) (writes_begun start h) s.bodies s.managed (changes_of start h) fits.holds.leaves k e found))
+      by_body (Some b) e = (λ t. found (shards_of s) (writes_begun start h) s.bodies s.managed (changes_of start h) fits.holds.leaves k b e, λ f. refl)
 
   -- a put that is answered has what its response gave
   put_right : (s : State) (n : ℕ) (changes : Changes Kept) → IsMade start.settings s.managed → Keeps (shards_of s) n s.bodies s.managed changes
-      → (g : Option Whole) (a : Answer) → IsPutAnswer s g a → PutsRight start.settings n g (Ok a) changes
-  put_right s n changes made l (Some (whole.Stored b)) (Finished m es) p = (b, refl, p.0, makes_room s n changes l start.settings false b es made p.2)
-  put_right s n changes made l (Some (whole.Uncacheable reason)) (answer.Uncacheable shown) p = ap (λ r. Some (whole.Uncacheable r)) (sym p)
-  put_right s n changes made l (Some (whole.Stored b)) _ p = absurd p
-  put_right s n changes made l (Some (whole.Uncacheable reason)) _ p = absurd p
-  put_right s n changes made l (Some whole.Incomplete) a p = absurd p
-  put_right s n changes made l (Some whole.BadHead) a p = absurd p
-  put_right s n changes made l (Some whole.BeforeEpoch) a p = absurd p
-  put_right s n changes made l None a p = absurd p
+      → (g : Option FinishedBody) (w : Option Whole) (a : Answer) → IsPutAnswer s g w a → PutsRight start.settings n g w (Ok a) changes
+  put_right s n changes made l (Some b) w (Finished m es) p = (b, refl, p.0, ends_over s n changes l start.settings false b es made p.2)
+  put_right s n changes made l (Some b) w _ p = absurd p
+  put_right s n changes made l None (Some (whole.Uncacheable reason)) (answer.Uncacheable shown) p = ap (λ r. Some (whole.Uncacheable r)) (sym p)
+  put_right s n changes made l None (Some (whole.Uncacheable reason)) _ p = absurd p
+  put_right s n changes made l None (Some (whole.Stored body)) a p = absurd p
+  put_right s n changes made l None (Some whole.Incomplete) a p = absurd p
+  put_right s n changes made l None (Some whole.BadHead) a p = absurd p
+  put_right s n changes made l None (Some whole.BeforeEpoch) a p = absurd p
+  put_right s n changes made l None None a p = absurd p
 
   -- and so has one that is refused for it
-  kept_out_right : (s : State) (n : ℕ) (changes : Changes Kept) (b : FinishedBody) (f : TierFault) → IsKeptOut s (alone b.entry) (weight_for b.bytes) stored_alone f → PutsRight start.settings n (Some (whole.Stored b)) (Err f) changes
-  kept_out_right s n changes b (TooHeavy d) p = subst (λ (x : Done). PutsRight start.settings n (Some (whole.Stored b)) (Err (TooHeavy x)) changes) (sym p.0) (b, refl, refl)
-  kept_out_right s n changes b (TooLong d) p = subst (λ (x : Done). PutsRight start.settings n (Some (whole.Stored b)) (Err (TooLong x)) changes) (sym p.0) (b, refl, refl)
-  kept_out_right s n changes b (NumbersSpent d) p = subst (λ (x : Done). PutsRight start.settings n (Some (whole.Stored b)) (Err (NumbersSpent x)) changes) (sym p.0) (b, refl, refl)
-  kept_out_right s n changes b (Memory d) p = subst (λ (x : Done). PutsRight start.settings n (Some (whole.Stored b)) (Err (Memory x)) changes) (sym p.0) (b, refl, refl)
-  kept_out_right s n changes b _ p = absurd p
+  kept_out_right : (s : State) (n : ℕ) (changes : Changes Kept) (b : FinishedBody) (w : Option Whole) (f : TierFault) → IsKeptOut s (alone b.entry) (weight_for b.body) stored_alone f → PutsRight start.settings n (Some b) w (Err f) changes
+  kept_out_right s n changes b w (TooHeavy d) p = subst (λ (x : Done). PutsRight start.settings n (Some b) w (Err (TooHeavy x)) changes) (sym p.0) (b, refl, refl)
+  kept_out_right s n changes b w (TooLong d) p = subst (λ (x : Done). PutsRight start.settings n (Some b) w (Err (TooLong x)) changes) (sym p.0) (b, refl, refl)
+  kept_out_right s n changes b w (NumbersSpent d) p = subst (λ (x : Done). PutsRight start.settings n (Some b) w (Err (NumbersSpent x)) changes) (sym p.0) (b, refl, refl)
+  kept_out_right s n changes b w (Memory d) p = subst (λ (x : Done). PutsRight start.settings n (Some b) w (Err (Memory x)) changes) (sym p.0) (b, refl, refl)
+  kept_out_right s n changes b w _ p = absurd p
 
   put_fault_right : (s : State) (n : ℕ) (changes : Changes Kept) → IsMade start.settings s.managed → Keeps (shards_of s) n s.bodies s.managed changes
-      → (g : Option Whole) (f : TierFault) → IsPutFault s g f → PutsRight start.settings n g (Err f) changes
-  put_fault_right s n changes made l (Some (whole.Stored b)) f p = elim p [
-    | inl spent ↦ subst (λ (x : TierFault). PutsRight start.settings n (Some (whole.Stored b)) (Err x) changes) (sym spent.0) (refl, refl)
+      → (g : Option FinishedBody) (w : Option Whole) (f : TierFault) → IsPutFault s g w f → PutsRight start.settings n g w (Err f) changes
+  put_fault_right s n changes made l (Some b) w f p = elim p [
+    | inl spent ↦ subst (λ (x : TierFault). PutsRight start.settings n (Some b) w (Err x) changes) (sym spent.0) (refl, refl)
     | inr late ↦ elim late [
-      | inl out ↦ kept_out_right s n changes b f out
-      | inr cut ↦ subst (λ (x : TierFault). PutsRight start.settings n (Some (whole.Stored b)) (Err x) changes) (sym cut.1) (b, refl, makes_room s n changes l start.settings true b cut.0 made cut.3)
+      | inl out ↦ kept_out_right s n changes b w f out
+      | inr cut ↦ subst (λ (x : TierFault). PutsRight start.settings n (Some b) w (Err x) changes) (sym cut.1) (b, refl, ends_over s n changes l start.settings true b cut.0 made cut.3)
     ]
   ]
-  put_fault_right s n changes made l (Some whole.Incomplete) f p = subst (λ (x : TierFault). PutsRight start.settings n (Some whole.Incomplete) (Err x) changes) (sym p) refl
-  put_fault_right s n changes made l (Some whole.BadHead) f p = subst (λ (x : TierFault). PutsRight start.settings n (Some whole.BadHead) (Err x) changes) (sym p) refl
-  put_fault_right s n changes made l (Some whole.BeforeEpoch) f p = subst (λ (x : TierFault). PutsRight start.settings n (Some whole.BeforeEpoch) (Err x) changes) (sym p) refl
-  put_fault_right s n changes made l (Some (whole.Uncacheable reason)) f p = absurd p
-  put_fault_right s n changes made l None f p = absurd p
+  put_fault_right s n changes made l None (Some whole.Incomplete) f p = subst (λ (x : TierFault). PutsRight start.settings n None (Some whole.Incomplete) (Err x) changes) (sym p) refl
+  put_fault_right s n changes made l None (Some whole.BadHead) f p = subst (λ (x : TierFault). PutsRight start.settings n None (Some whole.BadHead) (Err x) changes) (sym p) refl
+  put_fault_right s n changes made l None (Some whole.BeforeEpoch) f p = subst (λ (x : TierFault). PutsRight start.settings n None (Some whole.BeforeEpoch) (Err x) changes) (sym p) refl
+  put_fault_right s n changes made l None (Some (whole.Uncacheable reason)) f p = absurd p
+  put_fault_right s n changes made l None (Some (whole.Stored body)) f p = absurd p
+  put_fault_right s n changes made l None None f p = absurd p
 
   answer_right : (s : State) (t : MomentValue) (g : Option Whole) (action : Action) (a : Answer) (h : History) → IsMade start.settings s.managed → Fits start s h → refusal s action ≡ None → IsAnswer s t action g a → IsRight start t action g (Ok a) h
   answer_right s t g (Open i key) a h made fits n p = (p, open_right i h (get s.requests i) (fits.requests i) n)
@@ -127,7 +128,7 @@ module _ (start : Opening) where
   answer_right s t g (Read i) a h made fits n p = read_right s t g i a h (get s.requests i) fits refl n p
   answer_right s t g (Drop i) a h made fits n p = p
   answer_right s t g (Purge key) a h made fits n p = subst (λ (x : Answer). PurgesRight (stored_key_of key) x (changes_of start h)) (sym p) (purge_right s (stored_key_of key) h fits)
-  answer_right s t g (Put key pieces) a h made fits n p = put_right s (length h) (changes_of start h) made fits.holds g a p
+  answer_right s t g (Put key pieces) a h made fits n p = put_right s (writes_begun start h) (changes_of start h) made fits.holds (finished_in (Put key pieces) g) g a p
 
   fault_right : (s : State) (t : MomentValue) (g : Option Whole) (action : Action) (f : TierFault) (h : History) → IsMade start.settings s.managed → Fits start s h
       → AllowsBy (refusal s action) s t action g (Err f) → IsRight start t action g (Err f) h
@@ -137,8 +138,8 @@ module _ (start : Opening) where
   fault_right s t g (Drop i) f h made fits p = did_nothing s t g (Drop i) f p refl
   fault_right s t g (Purge key) f h made fits p = did_nothing s t g (Purge key) f p refl
   fault_right s t g (Put key pieces) f h made fits p = elim p [
-    | inl memory ↦ subst (λ (x : TierFault). PutsRight start.settings (length h) g (Err x) (changes_of start h)) (sym memory.0) (refl, refl)
-    | inr late ↦ put_fault_right s (length h) (changes_of start h) made fits.holds g f late
+    | inl memory ↦ subst (λ (x : TierFault). PutsRight start.settings (writes_begun start h) (finished_in (Put key pieces) g) g (Err x) (changes_of start h)) (sym memory.0) (refl, refl)
+    | inr late ↦ put_fault_right s (writes_begun start h) (changes_of start h) made fits.holds (finished_in (Put key pieces) g) g f late
   ]
 
   pub IsRight-allowed : (s : State) (c : Call) (h : History) → IsMade start.settings s.managed → Fits start s h → Allows s c → IsRight start c.event.moment c.event.action (read_by c) c.outcome h

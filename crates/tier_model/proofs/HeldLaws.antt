@@ -8,7 +8,6 @@ use Rattle.std.specs.FinMap.{entries, entries_sorted, get-entries, is_sorted}
 use Rattle.std.specs.FinMap.Entries.{below_all}
 use Rattle.std.specs.FinMap as finite
 use Rattle.std.proofs.lemmas.List.Sums.{sum_by-cons}
-use Rattle.cache_words.specs.Time.{MomentValue}
 use Rattle.cache_entries.specs.Keys.{same_bytes}
 use Rattle.cache_changes.specs.Changes.{StoredKey, Write, Changes}
 use Rattle.cache_changes.specs.Writes.{bytes_of, IsBody}
@@ -16,9 +15,9 @@ use Rattle.cache_changes.specs.Bound as writes
 use Rattle.cache_entries.specs.SameEntry.{same_bytes-tells, same-sym}
 use Rattle.cache_evict.specs.Managed.{Managed}
 use Rattle.tier_model.specs.declared.state.Body.{Body}
-use Rattle.tier_model.specs.Histories.{Kept}
+use Rattle.tier_model.specs.Histories.{Kept, told_of}
 use Rattle.tier_model.specs.Reports.{AreAllBodies}
-use Rattle.tier_model.specs.Past.{held_of, told_of, held_at, told_at}
+use Rattle.tier_model.specs.Past.{told_at}
 use Rattle.tier_model.specs.Rows.{Bodies}
 use Rattle.tier_model.proofs.BodyLaws.{ties-same}
 use Rattle.tier_model.proofs.ChangeLaws.{Leaves, shows, is_held}
@@ -28,15 +27,15 @@ abbrev Rows : Type 0
 Rows = List (StoredKey × Body)
 
 -- sums over them
-pub sums : (changes : Changes Kept) (ys : Rows) (ws : List (Write Kept)) → map held_at ys ≡ map (told_at changes) ws
+pub sums : (changes : Changes Kept) (ys : Rows) (ws : List (Write Kept)) → ys ≡ map (told_at changes) ws
     → (sum_by (λ b. length b.bytes) (map (λ e. e.1) ys) ≡ sum_by (λ w. length (bytes_of w.number changes)) ws) × (length ys ≡ length ws)
 sums changes [] [] e = (refl, refl)
 sums changes (b ∷ bs) (w ∷ ws) e =
-    let one : held_at b ≡ told_at changes w = cc in
-    let more : map held_at bs ≡ map (told_at changes) ws = cc in
+    let one : b ≡ told_at changes w = cc in
+    let more : bs ≡ map (told_at changes) ws = cc in
     let rest = sums changes bs ws more in (
       sum_by-cons (λ (x : Body). length x.bytes) b.1 (map (λ e. e.1) bs) ∙ ap (λ m. length b.1.bytes + m) rest.0
-          ∙ ap (λ (x : StoredKey × (MomentValue × List ℕ)). length x.1.1 + sum_by (λ w. length (bytes_of w.number changes)) ws) one
+          ∙ ap (λ (x : StoredKey × Body). length x.1.bytes + sum_by (λ w. length (bytes_of w.number changes)) ws) one
           ∙ sym (sum_by-cons (λ (x : Write Kept). length (bytes_of x.number changes)) w ws),
       omega (arith, rest.1),
     )
@@ -89,7 +88,7 @@ module _ (N n : ℕ) (bodies : Bodies) (m : Managed) (changes : Changes Kept) (l
   -- each body with its write
   abbrev ArePairs : Rows → List (Write Kept) → Type 0
   ArePairs [] [] = Unit {0}
-  ArePairs (b ∷ bs) (w ∷ ws) = IsBody b.0 w changes × (held_of b.1 ≡ told_of changes w) × ArePairs bs ws
+  ArePairs (b ∷ bs) (w ∷ ws) = IsBody b.0 w changes × (b.1 ≡ told_of changes w) × ArePairs bs ws
   ArePairs _ _ = ⊥
 
   one_key : (k : StoredKey) (w : Write Kept) → IsBody k w changes → w.key ≡ k
@@ -116,11 +115,11 @@ module _ (N n : ℕ) (bodies : Bodies) (m : Managed) (changes : Changes Kept) (l
   distinct_writes (b ∷ bs) [] p d = absurd p
 
   -- what is told of them
-  all_told : (ys : Rows) (ws : List (Write Kept)) → ArePairs ys ws → map held_at ys ≡ map (told_at changes) ws
+  all_told : (ys : Rows) (ws : List (Write Kept)) → ArePairs ys ws → ys ≡ map (told_at changes) ws
   all_told [] [] p = refl
   all_told (b ∷ bs) (w ∷ ws) p =
-      ap (λ (x : MomentValue × List ℕ). (b.0, x) ∷ map held_at bs) p.1 ∙ ap (λ (k : StoredKey). (k, told_of changes w) ∷ map held_at bs) (sym (one_key b.0 w p.0))
-      ∙ ap (λ (xs : List (StoredKey × (MomentValue × List ℕ))). told_at changes w ∷ xs) (all_told bs ws p.2)
+      ap (λ (x : Body). (b.0, x) ∷ bs) p.1 ∙ ap (λ (k : StoredKey). (k, told_of changes w) ∷ bs) (sym (one_key b.0 w p.0))
+      ∙ ap (λ (xs : Rows). told_at changes w ∷ xs) (all_told bs ws p.2)
   all_told [] (w ∷ ws) p = absurd p
   all_told (b ∷ bs) [] p = absurd p
 
@@ -147,7 +146,7 @@ module _ (N n : ℕ) (bodies : Bodies) (m : Managed) (changes : Changes Kept) (l
   found_in k w b [] (v ∷ ws) p i e = absurd p
   found_in k w b (y ∷ ys) [] p i e = absurd p
 
-  pub all-held : (ws : List (Write Kept)) × AreAllBodies ws changes × (map held_at (entries bodies) ≡ map (told_at changes) ws)
+  pub all-held : (ws : List (Write Kept)) × AreAllBodies ws changes × (entries bodies ≡ map (told_at changes) ws)
   all-held =
       let d = sorted_distinct (entries bodies) (entries_sorted bodies) in
       let pairs = with_writes (entries bodies) (found_each (entries bodies) d) in

@@ -24,8 +24,8 @@ use Rattle.tier_model.specs.declared.event.Answer.{Answer}
 use Rattle.tier_model.specs.declared.event.Answer.TheVariants.{Opened, Found, Absent, Bytes, End, Dropped}
 use Rattle.tier_model.specs.declared.event.TierFault.{TierFault}
 use Rattle.tier_model.specs.declared.event.TierFault.TheVariants.{WrongPhase}
-use Rattle.tier_model.specs.Calls.{Call, History, Outcome, read_by, opened_for, entry_after, ends_reader, bytes_given, bytes_read, bytes_answered, done_of}
-use Rattle.tier_model.specs.Histories.{Kept, Opening, changes_of, HasHit}
+use Rattle.tier_model.specs.Calls.{Call, History, Outcome, read_by, finished_in, finished_by, opened_for, entry_after, ends_reader, bytes_given, bytes_read, bytes_answered, done_of}
+use Rattle.tier_model.specs.Histories.{Kept, Opening, writes_begun, changes_of, HasHit}
 use Rattle.tier_model.specs.Requests.{phase_after, phase_of, reader_after, reader_of, HasFound, IsRequestOf}
 use Rattle.tier_model.specs.Rows.{body_of}
 use Rattle.tier_model.specs.State.{State, shards_of}
@@ -144,7 +144,7 @@ module _ (start : Opening) where
     [],
     record { call = call_at t (LookUp i) read (Ok (Found fresh true)); before = h; entry = key_of q.entry; split = refl; hit = ap (λ v. v && true) (itself i); of_entry = key; shows = x.shown; last = tt },
     refl,
-    sym (ap (λ (p : MomentValue × List ℕ). p.1) x.tells),
+    sym (ap (λ (p : Body). p.bytes) x.tells),
   )
 
   look_fits : (s : State) (t : MomentValue) (read : Inside) (i : ℕ) (a : Answer) (h : History) (o : Option Request) → Fits s h → get s.requests i ≡ o
@@ -163,11 +163,11 @@ module _ (start : Opening) where
           (open_key, tt, sym (ap (λ v. cond v Miss (phase_of i h)) (itself i)), ([], sym (ap (λ v. cond v Closed (reader_of i [] h)) (itself i))))
           (λ n. record { key = refl; reader = n; bytes = refl; phase = λ p. ap (λ v. cond v Miss p) n; left = λ bytes r. ap (λ v. cond v Closed r) n }) (fits.requests id))
       by_body (Some w) be ae =
-          let fresh : Bool = at_most t w.fresh_until in
+          let fresh : Bool = at_most t w.meta.internal.fresh_until in
           subst (λ (x : Answer). RequestFits id (get (after_look_up s t i q (Some w)).requests id) (call_at t (LookUp i) read (Ok x) ∷ h)) (sym ae)
           (placed s.requests i (looked t q (Some w)) id (call_at t (LookUp i) read (Ok (Found fresh true))) h (
             open_key,
-            found_reader t read i q w fresh h open_key.0 (shows (shards_of s) (length h) s.bodies s.managed (changes_of start h) fits.holds.leaves (stored_key (key_of q.entry)) w be),
+            found_reader t read i q w fresh h open_key.0 (shows (shards_of s) (writes_begun start h) s.bodies s.managed (changes_of start h) fits.holds.leaves (stored_key (key_of q.entry)) w be),
             sym (ap (λ v. cond v (cond fresh Hit Stale) (phase_of i h)) (itself i)),
             (w.bytes, sym (ap (λ v. cond v (Unread w.bytes) (reader_of i w.bytes h)) (itself i))),
           )
@@ -240,7 +240,7 @@ module _ (start : Opening) where
   answer_fits s t read g (Purge key) a h fits n p id =
       unmoved s (after_purge s key (is_some (body_of (stored_key_of key) s.bodies))) (call_at t (Purge key) read (Ok a)) h fits (KeepsRequests-purge s key (is_some (body_of (stored_key_of key) s.bodies))).requests (λ i. record { key = refl; reader = refl; bytes = refl; phase = λ p. refl; left = λ bytes r. refl }) id
   answer_fits s t read g (Put key pieces) a h fits n p id =
-      unmoved s (after_put s g a) (call_at t (Put key pieces) read (Ok a)) h fits (KeepsRequests-put s g a).requests (λ i. record { key = refl; reader = refl; bytes = refl; phase = λ p. refl; left = λ bytes r. refl }) id
+      unmoved s (after_put s (finished_in (Put key pieces) g) a) (call_at t (Put key pieces) read (Ok a)) h fits (KeepsRequests-put s (finished_in (Put key pieces) g) a).requests (λ i. record { key = refl; reader = refl; bytes = refl; phase = λ p. refl; left = λ bytes r. refl }) id
 
   fault_other : (t : MomentValue) (read : Inside) (action : Action) (f : TierFault) (h : History) (id : ℕ) → IsOther id (call_at t action read (Err f)) h
   fault_other t read (Open i key) f h id = record { key = refl; reader = refl; bytes = refl; phase = λ p. refl; left = λ bytes r. refl }
@@ -262,10 +262,10 @@ module _ (start : Opening) where
       shards : shards_of (after s c) ≡ shards_of s
       shards = (made-after s c (record { shards = shards_of s; limit = s.managed.limit; watermark = s.managed.watermark; age = s.age; wait = s.wait }) (record { shards = refl; limit = refl; watermark = refl })).shards
 
-      kept : (n : ℕ) → n ≡ shards_of s → Keeps (shards_of s) (length (c ∷ h)) (after s c).bodies (after s c).managed (changes_of start (c ∷ h)) → Keeps n (length (c ∷ h)) (after s c).bodies (after s c).managed (changes_of start (c ∷ h))
-      kept n e l = subst (λ (x : ℕ). Keeps x (length (c ∷ h)) (after s c).bodies (after s c).managed (changes_of start (c ∷ h))) (sym e) l
+      kept : (n : ℕ) → n ≡ shards_of s → Keeps (shards_of s) (writes_begun start (c ∷ h)) (after s c).bodies (after s c).managed (changes_of start (c ∷ h)) → Keeps n (writes_begun start (c ∷ h)) (after s c).bodies (after s c).managed (changes_of start (c ∷ h))
+      kept n e l = subst (λ (x : ℕ). Keeps x (writes_begun start (c ∷ h)) (after s c).bodies (after s c).managed (changes_of start (c ∷ h))) (sym e) l
 
       by_outcome : (o : Outcome) → AllowsBy (refusal s c.event.action) s c.event.moment c.event.action (read_by c) o → (id : ℕ) → RequestFits id (get (after s (record c { outcome = o })).requests id) (record c { outcome = o } ∷ h)
       by_outcome (Ok a) p = answer_fits s c.event.moment (c.reading, c.began) (read_by c) c.event.action a h fits
           (unrefused (refusal s c.event.action) s c.event.moment (read_by c) c.event.action a refl p) (answer_allowed (refusal s c.event.action) s c.event.moment (read_by c) c.event.action a p)
-      by_outcome (Err f) p = unmoved s (undone s (read_by c) (done_of f)) (call_at c.event.moment c.event.action (c.reading, c.began) (Err f)) h fits (KeepsRequests-undone s (read_by c) f).requests (fault_other c.event.moment (c.reading, c.began) c.event.action f h)
+      by_outcome (Err f) p = unmoved s (undone s (finished_by c) (done_of f)) (call_at c.event.moment c.event.action (c.reading, c.began) (Err f)) h fits (KeepsRequests-undone s (finished_by c) f).requests (fault_other c.event.moment (c.reading, c.began) c.event.action f h)

@@ -5,10 +5,7 @@ use Rattle.std.specs.FinMap.{get, insert}
 use Rattle.cache_words.specs.Time.{MomentValue}
 use Rattle.cache_words.specs.Key.{CacheKeyValue}
 use Rattle.tier_model.specs.declared.whole.Whole.{Whole}
-use Rattle.tier_model.specs.declared.whole.Whole.TheVariants.{Stored}
-use Rattle.tier_model.specs.declared.whole.Whole.TheVariants as whole
 use Rattle.tier_model.specs.declared.state.Body.{Body}
-use Rattle.tier_model.specs.declared.state.FinishedBody.{FinishedBody}
 use Rattle.tier_model.specs.declared.state.Request.{Request}
 use Rattle.tier_model.specs.declared.event.Action.{Action}
 use Rattle.tier_model.specs.declared.event.Action.TheVariants.{Open, LookUp, Read, Drop, Purge, Put}
@@ -23,8 +20,8 @@ use Rattle.cache_evict.specs.Managed.{rows_of}
 use Rattle.tier_model.specs.Keys.{entry_of, alone, stored_key_of}
 use Rattle.tier_model.specs.Evictions.{all_gone}
 use Rattle.response_parse.specs.Response.{Reading}
-use Rattle.tier_model.specs.Calls.{Call, Outcome, read_by, nothing_done, done_of}
-use Rattle.tier_model.specs.Rows.{body_of, weight_for}
+use Rattle.tier_model.specs.Calls.{Call, Outcome, read_by, finished_in, finished_by, nothing_done, done_of}
+use Rattle.tier_model.specs.Rows.{FinishedBody, body_of, weight_for}
 use Rattle.tier_model.specs.State.{Settings, State, shards_of}
 use Rattle.tier_model.specs.Step.{answered, refusal, unless_open, can_look_up, has_reader, AllowsBy, after, undone, taken_back, after_read, body_for, IsUseFault, IsKeptOut, admitted, until, on_request, IsAnswer, IsFault, after_put, after_purge, after_look_up}
 use Rattle.tier_model.proofs.RowSteps.{IsMade, made-put, made-used, made-out, made-gone}
@@ -38,19 +35,15 @@ pub KeepsRequests-purge : (s : State) (key : CacheKeyValue) (v : Bool) → Keeps
 KeepsRequests-purge s key false = record { made = λ x h. h; requests = refl }
 KeepsRequests-purge s key true = record { made = λ x h. made-out x (shards_of s) (alone (entry_of key)) s.managed h; requests = refl }
 
-pub KeepsRequests-put : (s : State) (g : Option Whole) (a : Answer) → KeepsRequests s (after_put s g a)
-KeepsRequests-put s (Some (Stored b)) (Finished n es) =
-    record { made = λ x h. made-gone x (shards_of s) es (admitted s b) (made-put x (shards_of s) (alone b.entry) (weight_for b.bytes) s.managed h); requests = refl }
-KeepsRequests-put s (Some (Stored b)) _ = record { made = λ x h. h; requests = refl }
-KeepsRequests-put s (Some whole.Incomplete) a = record { made = λ x h. h; requests = refl }
-KeepsRequests-put s (Some whole.BadHead) a = record { made = λ x h. h; requests = refl }
-KeepsRequests-put s (Some whole.BeforeEpoch) a = record { made = λ x h. h; requests = refl }
-KeepsRequests-put s (Some (whole.Uncacheable reason)) a = record { made = λ x h. h; requests = refl }
+pub KeepsRequests-put : (s : State) (f : Option FinishedBody) (a : Answer) → KeepsRequests s (after_put s f a)
+KeepsRequests-put s (Some b) (Finished n es) =
+    record { made = λ x h. made-gone x (shards_of s) es (admitted s b) (made-put x (shards_of s) (alone b.entry) (weight_for b.body) s.managed h); requests = refl }
+KeepsRequests-put s (Some b) _ = record { made = λ x h. h; requests = refl }
 KeepsRequests-put s None a = record { made = λ x h. h; requests = refl }
 
 made-until : (v : Bool) (s : State) (b : FinishedBody) (x : Settings) → IsMade x s.managed → IsMade x (until v s b)
 made-until false s b x h = h
-made-until true s b x h = made-put x (shards_of s) (alone b.entry) (weight_for b.bytes) s.managed h
+made-until true s b x h = made-put x (shards_of s) (alone b.entry) (weight_for b.body) s.managed h
 
 KeepsRequests-back : (v : Bool) (s : State) (b : FinishedBody) (done : Done) → KeepsRequests s (taken_back v s b done)
 KeepsRequests-back false s b done = record { made = λ x h. h; requests = refl }
@@ -59,12 +52,8 @@ KeepsRequests-back true s b done = record {
   requests = refl;
 }
 
-pub KeepsRequests-undone : (s : State) (g : Option Whole) (f : TierFault) → KeepsRequests s (undone s g (done_of f))
-KeepsRequests-undone s (Some (Stored b)) f = KeepsRequests-back (done_of f).stored s b (done_of f)
-KeepsRequests-undone s (Some whole.Incomplete) f = record { made = λ x h. h; requests = refl }
-KeepsRequests-undone s (Some whole.BadHead) f = record { made = λ x h. h; requests = refl }
-KeepsRequests-undone s (Some whole.BeforeEpoch) f = record { made = λ x h. h; requests = refl }
-KeepsRequests-undone s (Some (whole.Uncacheable reason)) f = record { made = λ x h. h; requests = refl }
+pub KeepsRequests-undone : (s : State) (b : Option FinishedBody) (f : TierFault) → KeepsRequests s (undone s b (done_of f))
+KeepsRequests-undone s (Some b) f = KeepsRequests-back (done_of f).stored s b (done_of f)
 KeepsRequests-undone s None f = record { made = λ x h. h; requests = refl }
 
 abbrev pub stores_nothing : Action → Bool
@@ -132,9 +121,9 @@ did_nothing s t g (LookUp id) f p e = elim (fault_allowed (refusal s (LookUp id)
     unused None x = absurd x
     unused (Some q) x = by_body (body_for q s.bodies) x
       where
-        by_body : (o : Option Body) → MatchOption o ⊥ (λ b. (weight_of q.entry (rows_of (shards_of s) q.entry s.managed) ≡ None) × IsKeptOut s q.entry (weight_for b.bytes) nothing_done f) → done_of f ≡ nothing_done
+        by_body : (o : Option Body) → MatchOption o ⊥ (λ b. (weight_of q.entry (rows_of (shards_of s) q.entry s.managed) ≡ None) × IsKeptOut s q.entry (weight_for b) nothing_done f) → done_of f ≡ nothing_done
         by_body None y = absurd y
-        by_body (Some b) y = kept_out-done s q.entry (weight_for b.bytes) nothing_done f y.1
+        by_body (Some b) y = kept_out-done s q.entry (weight_for b) nothing_done f y.1
 did_nothing s t g (Read id) f p e = elim (fault_allowed (refusal s (Read id)) s t g (Read id) f refl p) [ inl d ↦ d | inr q ↦ elim q [ inl m ↦ absurd m.1 | inr x ↦ absurd x ] ]
 did_nothing s t g (Drop id) f p e = elim (fault_allowed (refusal s (Drop id)) s t g (Drop id) f refl p) [ inl d ↦ d | inr q ↦ elim q [ inl m ↦ absurd m.1 | inr x ↦ absurd x ] ]
 did_nothing s t g (Purge key) f p e = elim p [ inl m ↦ absurd m.1 | inr x ↦ absurd x ]
@@ -146,7 +135,7 @@ request_made s x (Some q) f m h = h q
 
 look_made : (s : State) (x : Settings) (t : MomentValue) (i : ℕ) (q : Request) (b : Option Body) → IsMade x s.managed → IsMade x (after_look_up s t i q b).managed
 look_made s x t i q None m = m
-look_made s x t i q (Some b) m = made-used x (shards_of s) q.entry (weight_for b.bytes) s.managed m
+look_made s x t i q (Some b) m = made-used x (shards_of s) q.entry (weight_for b) s.managed m
 
 answer_made : (s : State) (x : Settings) (t : MomentValue) (g : Option Whole) (action : Action) (a : Answer) → IsMade x s.managed → IsMade x (answered s t action g a).managed
 answer_made s x t g (Open i key) a m = m
@@ -154,11 +143,11 @@ answer_made s x t g (LookUp i) a m = request_made s x (get s.requests i) (λ q. 
 answer_made s x t g (Read i) a m = request_made s x (get s.requests i) (λ q. record s { requests = insert s.requests i (after_read q) }) m (λ q. m)
 answer_made s x t g (Drop i) a m = m
 answer_made s x t g (Purge key) a m = (KeepsRequests-purge s key (is_some (body_of (stored_key_of key) s.bodies))).made x m
-answer_made s x t g (Put key pieces) a m = (KeepsRequests-put s g a).made x m
+answer_made s x t g (Put key pieces) a m = (KeepsRequests-put s (finished_in (Put key pieces) g) a).made x m
 
 pub made-after : (s : State) (c : Call) (x : Settings) → IsMade x s.managed → IsMade x (after s c).managed
 made-after s c x m = by_outcome c.outcome
   where
     by_outcome : (o : Outcome) → IsMade x (after s (record c { outcome = o })).managed
     by_outcome (Ok a) = answer_made s x c.event.moment (read_by c) c.event.action a m
-    by_outcome (Err f) = (KeepsRequests-undone s (read_by c) f).made x m
+    by_outcome (Err f) = (KeepsRequests-undone s (finished_by c) f).made x m

@@ -1,12 +1,12 @@
 -- Calls of a tier, and what one call tells: what it stored and evicted, and what a request read.
 use Rattle.std.specs.Prelude.{◌≡◌, ℕ, ◌+◌, ◌==◌, Bool, true, false, ◌&&◌, List, [], ◌∷◌, ◌++◌, if◌then◌else◌, Option, Some, None, Result, Ok, Err}
 use Rattle.cache_entries.specs.declared.entry.CacheEntryKey.{CacheEntryKey}
-use Rattle.tier_model.specs.declared.state.FinishedBody.{FinishedBody}
+use Rattle.tier_model.specs.Rows.{FinishedBody}
 use Rattle.tier_model.specs.declared.whole.Whole.{Whole}
 use Rattle.tier_model.specs.declared.whole.Whole.TheVariants.{Stored}
 use Rattle.tier_model.specs.declared.event.Event.{Event}
 use Rattle.tier_model.specs.declared.event.Action.{Action}
-use Rattle.tier_model.specs.declared.event.Action.TheVariants.{Open, LookUp, Read, Drop}
+use Rattle.tier_model.specs.declared.event.Action.TheVariants.{Open, LookUp, Read, Drop, Put}
 use Rattle.tier_model.specs.declared.event.Answer.{Answer}
 use Rattle.tier_model.specs.declared.event.Answer.TheVariants.{Opened, Found, Bytes, Dropped, Finished}
 use Rattle.tier_model.specs.declared.event.Done.{Done}
@@ -68,16 +68,23 @@ evicted_by (Err fault) = evicted_before (done_of fault)
 abbrev pub read_by : Call → Option Whole
 read_by c = whole_in c.event.moment c.event.action c.reading
 
--- the body that a response gave to store
-abbrev pub stored_in : Option Whole → Option FinishedBody
-stored_in (Some (Stored body)) = Some body
-stored_in _ = None
+-- what an event finishes, by what its response gave: a body under the entry of the event's key
+abbrev pub finished_in : Action → Option Whole → Option FinishedBody
+finished_in (Put key pieces) (Some (Stored body)) = Some (record { entry = entry_of key; body = body })
+finished_in _ _ = None
+
+abbrev pub finished_by : Call → Option FinishedBody
+finished_by c = finished_in c.event.action (read_by c)
 
 -- a body was stored, though it may have been removed again
 abbrev pub has_stored : Outcome → Bool
 has_stored (Ok (Finished length evicted)) = true
 has_stored (Ok _) = false
 has_stored (Err fault) = (done_of fault).stored
+
+-- a body that a call finished, and that was stored, was written by a write that began in the call
+abbrev pub CountsItsWrite : Call → Type 0
+CountsItsWrite c = (b : FinishedBody) → finished_by c ≡ Some b → has_stored c.outcome ≡ true → c.began ≡ true
 
 -- how many writes began, after a call
 abbrev pub writes_after : ℕ → Bool → ℕ

@@ -9,7 +9,7 @@ use Rattle.cache_changes.specs.Changes.{StoredKey, stored_key, Write, Changes}
 use Rattle.cache_changes.specs.Writes.{bytes_of, meta_of, IsFound, IsBody, IsFlying, IsShown}
 use Rattle.cache_changes.specs.Uses.{IsOrderOfUse, EvictsLawfully}
 use Rattle.cache_changes.specs.Bound.{IsTrackedBody, AreWithin}
-use Rattle.tier_model.specs.declared.state.FinishedBody.{FinishedBody}
+use Rattle.tier_model.specs.Rows.{FinishedBody}
 use Rattle.tier_model.specs.declared.event.Action.{Action}
 use Rattle.tier_model.specs.declared.whole.Whole.{Whole}
 use Rattle.tier_model.specs.declared.whole.Whole.TheVariants as whole
@@ -20,8 +20,8 @@ use Rattle.tier_model.specs.declared.event.Answer.TheVariants as answer
 use Rattle.tier_model.specs.declared.event.TierFault.TheVariants as fault
 use Rattle.tier_model.specs.Keys.{Entry, stored_key_of}
 use Rattle.tier_model.specs.Response.{IsRead}
-use Rattle.tier_model.specs.Calls.{History, Outcome, extended, nothing_done, done_of, read_by, opened_for, bytes_read}
-use Rattle.tier_model.specs.Histories.{Kept, Opening, stores, changes_of, HasHit}
+use Rattle.tier_model.specs.Calls.{History, Outcome, CountsItsWrite, extended, nothing_done, done_of, read_by, finished_in, opened_for, bytes_read}
+use Rattle.tier_model.specs.Histories.{Kept, Opening, writes_begun, stores, changes_of, HasHit}
 use Rattle.tier_model.specs.State.{Settings}
 
 -- a look-up at t is answered found exactly where a write of its key is alive; then it shows one, fresh exactly up to its
@@ -29,7 +29,7 @@ use Rattle.tier_model.specs.State.{Settings}
 abbrev pub LooksRight : ℕ → MomentValue → Answer → History → Changes Kept → Type 0
 LooksRight id t (Found fresh complete) h before =
     (e : Entry) × (w : Write Kept) × (opened_for id h ≡ Some e) × IsShown (stored_key e) w before
-    × (fresh ≡ at_most t (meta_of w before).fresh_until)
+    × (fresh ≡ at_most t (meta_of w before).meta.internal.fresh_until)
     × ((complete ≡ true) ↔ ((v : Write Kept) → IsFlying (stored_key e) v before → ⊥))
 LooksRight id t Absent h before = (e : Entry) × (opened_for id h ≡ Some e) × (¬ IsFound (stored_key e) before)
 LooksRight id t _ h before = ⊥
@@ -46,33 +46,33 @@ abbrev pub PurgesRight : StoredKey → Answer → Changes Kept → Type 0
 PurgesRight k (Purged was_there) before = (was_there ≡ true) ↔ IsFound k before
 PurgesRight k _ before = ⊥
 
--- after those that went after the storing of b a limit is passed still, or both are kept
-pub record MakesRoom (settings : Settings) (over : Bool) (n : ℕ) (b : FinishedBody) (evicted : List CacheEntryKey) (before : Changes Kept) : Type 0 where
+-- after these changes a limit is passed, or both are kept
+pub record EndsOver (settings : Settings) (over : Bool) (changes : Changes Kept) : Type 0 where
   pub rows : List Tracked
-  pub order : IsOrderOfUse rows (extended before (stores n b evicted))
+  pub order : IsOrderOfUse rows changes
   pub ends : is_over settings.limit settings.watermark rows ≡ over
 
--- by what was stored and admitted before a refusal: none went where nothing was admitted, and where it was, not enough
-abbrev pub WasStored : Settings → Bool → Bool → ℕ → Option Whole → List CacheEntryKey → Changes Kept → Type 0
-WasStored settings false admitted n w evicted before = (admitted ≡ false) × (evicted ≡ [])
-WasStored settings true false n w evicted before = (b : FinishedBody) × (w ≡ Some (whole.Stored b)) × (evicted ≡ [])
-WasStored settings true true n w evicted before = (b : FinishedBody) × (w ≡ Some (whole.Stored b)) × MakesRoom settings true n b evicted before
+-- what a refusal tells, by whether a body was stored and its entry admitted: none went where it wasn't admitted, and where it was, not enough
+abbrev pub TellsDone : Settings → Bool → Bool → ℕ → Option FinishedBody → List CacheEntryKey → Changes Kept → Type 0
+TellsDone settings false admitted n finished evicted before = (admitted ≡ false) × (evicted ≡ [])
+TellsDone settings true false n finished evicted before = (b : FinishedBody) × (finished ≡ Some b) × (evicted ≡ [])
+TellsDone settings true true n finished evicted before = (b : FinishedBody) × (finished ≡ Some b) × EndsOver settings true (extended before (stores n b evicted))
 
 -- a put is answered with what its response gave: a body that finished has the length of the body that it gave, and what
 -- went to make room for it was enough
-abbrev pub PutsRight : Settings → ℕ → Option Whole → Outcome → Changes Kept → Type 0
-PutsRight settings n w (Ok (Finished length_told evicted)) before =
-    (b : FinishedBody) × (w ≡ Some (whole.Stored b)) × (length_told ≡ length b.bytes) × MakesRoom settings false n b evicted before
-PutsRight settings n w (Ok (answer.Uncacheable reason)) before = w ≡ Some (whole.Uncacheable reason)
-PutsRight settings n w (Ok _) before = ⊥
-PutsRight settings n w (Err fault.Incomplete) before = w ≡ Some whole.Incomplete
-PutsRight settings n w (Err fault.BadHead) before = w ≡ Some whole.BadHead
-PutsRight settings n w (Err fault.BeforeEpoch) before = w ≡ Some whole.BeforeEpoch
-PutsRight settings n w (Err f) before = WasStored settings (done_of f).stored (done_of f).admitted n w (done_of f).evicted before
+abbrev pub PutsRight : Settings → ℕ → Option FinishedBody → Option Whole → Outcome → Changes Kept → Type 0
+PutsRight settings n finished w (Ok (Finished length_told evicted)) before =
+    (b : FinishedBody) × (finished ≡ Some b) × (length_told ≡ length b.body.bytes) × EndsOver settings false (extended before (stores n b evicted))
+PutsRight settings n finished w (Ok (answer.Uncacheable reason)) before = w ≡ Some (whole.Uncacheable reason)
+PutsRight settings n finished w (Ok _) before = ⊥
+PutsRight settings n finished w (Err fault.Incomplete) before = w ≡ Some whole.Incomplete
+PutsRight settings n finished w (Err fault.BadHead) before = w ≡ Some whole.BadHead
+PutsRight settings n finished w (Err fault.BeforeEpoch) before = w ≡ Some whole.BeforeEpoch
+PutsRight settings n finished w (Err f) before = TellsDone settings (done_of f).stored (done_of f).admitted n finished (done_of f).evicted before
 
 -- what the calls before say of one call, and of a put what its response gave; any other call that is refused had done nothing
 abbrev pub IsRight : Opening → MomentValue → Action → Option Whole → Outcome → History → Type 0
-IsRight start t (Put key pieces) w outcome h = PutsRight start.settings (length h) w outcome (changes_of start h)
+IsRight start t (Put key pieces) w outcome h = PutsRight start.settings (writes_begun start h) (finished_in (Put key pieces) w) w outcome (changes_of start h)
 IsRight start t (Open id key) w (Err f) h = (done_of f ≡ nothing_done) × ((f ≡ fault.IdInUse) ↔ (opened_for id h ≢ None))
 IsRight start t action w (Err f) h = done_of f ≡ nothing_done
 IsRight start t (Open id key) w (Ok answer) h = (answer ≡ Opened) × (opened_for id h ≡ None)
@@ -84,15 +84,17 @@ IsRight start t (Drop id) w (Ok answer) h = answer ≡ Dropped
 IsRight start t (Purge key) w (Ok answer) h = PurgesRight (stored_key_of key) answer (changes_of start h)
 
 -- each call is right in the light of the calls before it
-abbrev pub Headline : Opening → History → Type 0
-Headline start [] = Unit {0}
-Headline start (c ∷ h) = IsRight start c.event.moment c.event.action (read_by c) c.outcome h × Headline start h
+abbrev pub AreRight : Opening → History → Type 0
+AreRight start [] = Unit {0}
+AreRight start (c ∷ h) = IsRight start c.event.moment c.event.action (read_by c) c.outcome h × AreRight start h
 
--- the headline of a tier that began so: what was read of each put is a reading of its own bytes, the answers are right, finished
--- bodies keep both limits, each body's entry is tracked with at least its length, and what went to make room went lawfully
-pub record HoldsHeadline (start : Opening) (h : History) : Type 0 where
+-- the headline of a tier that began so: what was read of each put is a reading of its own bytes, each body that was stored has a write
+-- of its own, the answers are right, finished bodies keep both limits, each body's entry is tracked with at least its length, and what
+-- went to make room went lawfully
+pub record Headline (start : Opening) (h : History) : Type 0 where
   pub readings : AllByRecursion (λ c. IsRead c.event.action c.reading) h
-  pub answers : Headline start h
+  pub numbers : AllByRecursion CountsItsWrite h
+  pub answers : AreRight start h
   pub within : AreWithin start.settings.limit start.settings.watermark (changes_of start h)
   pub tracked : (w : Write Kept) → IsBody w.key w (changes_of start h) → IsTrackedBody w (changes_of start h)
   pub evictions : EvictsLawfully start.settings.shards start.settings.limit start.settings.watermark (changes_of start h)

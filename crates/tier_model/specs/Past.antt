@@ -5,16 +5,14 @@ use Rattle.std.specs.FinMap.{entries}
 use Rattle.cache_entries.specs.declared.rows.Tracked.{Tracked}
 use Rattle.cache_entries.specs.Rows.{AreDistinct}
 use Rattle.cache_changes.specs.Changes.{StoredKey, Write, Changes}
-use Rattle.cache_changes.specs.Writes.{bytes_of, meta_of}
 use Rattle.cache_changes.specs.Uses.{IsOrderOfUse, in_shard, AreShardsOf}
-use Rattle.cache_evict.specs.Managed.{Managed, fresh}
-use Rattle.cache_words.specs.Time.{MomentValue}
+use Rattle.cache_evict.specs.Managed.{Managed, fresh, saturated}
 use Rattle.tier_model.specs.declared.state.Body.{Body}
 use Rattle.tier_model.specs.Calls.{Call, History, extended}
-use Rattle.tier_model.specs.Histories.{Kept, Opening, changes_of}
-use Rattle.tier_model.specs.Headline.{HoldsHeadline}
+use Rattle.tier_model.specs.Histories.{Kept, Opening, told_of, writes_begun, changes_of}
+use Rattle.tier_model.specs.Headline.{Headline}
 use Rattle.tier_model.specs.Requests.{AreRequests}
-use Rattle.tier_model.specs.Reports.{AreAllBodies, shown, found_answers, absent_answers, evictions, writes_begun}
+use Rattle.tier_model.specs.Reports.{AreAllBodies, found_answers, absent_answers, evictions}
 use Rattle.tier_model.specs.State.{State, empty_state}
 use Rattle.tier_model.specs.Step.{Allows, after}
 
@@ -28,7 +26,7 @@ loaded_of start = record (fresh start.settings.shards start.settings.limit start
 
 -- the state of a tier after a history
 abbrev pub state_of : Opening → History → State
-state_of start [] = record (empty_state start.settings) { managed = loaded_of start }
+state_of start [] = record (empty_state start.settings) { managed = loaded_of start; writes = start.first }
 state_of start (c ∷ h) = after (state_of start h) c
 
 -- each outcome is one that the state before it allows; there is a shard, and no entry was loaded twice
@@ -36,25 +34,15 @@ abbrev pub IsLawful : Opening → History → Type 0
 IsLawful start [] = (0 < start.settings.shards) × AreDistinct start.loaded
 IsLawful start (c ∷ h) = Allows (state_of start h) c × IsLawful start h
 
--- what a look-up finds of a body, and what changes say of a write: the last moment at which it is fresh, and the bytes
-abbrev pub held_of : Body → MomentValue × List ℕ
-held_of b = (b.fresh_until, b.bytes)
-
-abbrev pub told_of : Changes Kept → Write Kept → MomentValue × List ℕ
-told_of changes w = ((meta_of w changes).fresh_until, bytes_of w.number changes)
-
--- the same of a body that is held under a key, and of a write with its key
-abbrev pub held_at : StoredKey × Body → StoredKey × (MomentValue × List ℕ)
-held_at e = (e.0, held_of e.1)
-
-abbrev pub told_at : Changes Kept → Write Kept → StoredKey × (MomentValue × List ℕ)
+-- the body that changes say of a write, with its key
+abbrev pub told_at : Changes Kept → Write Kept → StoredKey × Body
 told_at changes w = (w.key, told_of changes w)
 
--- the state's bodies are all that the history has, one a key, each under its key with its bytes and its moment
+-- the state's bodies are all that the history has, one a key, each under its key with its bytes and its meta
 abbrev pub HoldsBodies : State → Opening → History → Type 0
 HoldsBodies s start h =
     (writes : List (Write Kept)) × AreAllBodies writes (changes_of start h)
-    × (map held_at (entries s.bodies) ≡ map (told_at (changes_of start h)) writes)
+    × (entries s.bodies ≡ map (told_at (changes_of start h)) writes)
 
 -- the shards hold the entries that a history leaves tracked, in the order of use, with what each weighs
 abbrev pub HoldsOrder : Managed → Opening → History → Type 0
@@ -66,16 +54,16 @@ pub record MatchesHistory (s : State) (start : Opening) (h : History) : Type 0 w
   pub bodies : HoldsBodies s start h
   pub order : HoldsOrder s.managed start h
   pub requests : AreRequests start s.requests h
-  pub found : s.found ≡ shown (found_answers h)
-  pub absent : s.absent ≡ shown (absent_answers h)
-  pub evicted : s.managed.evicted_items ≡ shown (evictions h)
-  pub writes : s.writes ≡ writes_begun h
+  pub found : s.found ≡ saturated (found_answers h)
+  pub absent : s.absent ≡ saturated (absent_answers h)
+  pub evicted : s.managed.evicted_items ≡ saturated (evictions h)
+  pub writes : s.writes ≡ writes_begun start h
 
 -- the state may come after that history; the headline holds of it, and the state is what it says
 pub record HasPast (start : Opening) (s : State) (h : History) : Type 0 where
   pub lawful : IsLawful start h
   pub state : s ≡ state_of start h
-  pub headline : HoldsHeadline start h
+  pub headline : Headline start h
   pub matches : MatchesHistory s start h
 
 -- the calls were taken in order, each one that the state before it allows, and led from the old state to the new one

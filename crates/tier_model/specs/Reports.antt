@@ -1,18 +1,18 @@
 -- The report of a tier: of a state, and of the history after it.
-use Rattle.std.specs.Prelude.{◌≡◌, ℕ, ◌+◌, ◌-◌, ◌^◌, min, Bool, true, false, List, [], ◌∷◌, length, find, if◌then◌else◌, Some, Ok}
+use Rattle.std.specs.Prelude.{◌≡◌, ℕ, ◌+◌, Bool, true, false, List, [], ◌∷◌, length, find, if◌then◌else◌, Some, Ok}
 use Rattle.std.specs.List.{sum_by, AllByRecursion}
 use Rattle.std.specs.FinMap.{len, values}
 use Rattle.cache_entries.specs.Keys.{same_bytes}
 use Rattle.cache_entries.specs.declared.rows.Tracked.{Tracked}
 use Rattle.cache_entries.specs.Rows.{all_weights}
-use Rattle.cache_evict.specs.Managed.{total_size, total_items}
+use Rattle.cache_evict.specs.Managed.{saturated, total_size, total_items}
 use Rattle.cache_changes.specs.Changes.{StoredKey, Write, Changes}
 use Rattle.cache_changes.specs.Writes.{bytes_of, IsBody}
 use Rattle.cache_changes.specs.Uses.{IsOrderOfUse}
 use Rattle.cache_changes.specs.Bound.{HasDistinctKeys}
 use Rattle.tier_model.specs.declared.event.Answer.TheVariants.{Found, Absent}
 use Rattle.tier_model.specs.declared.report.Report.{Report}
-use Rattle.tier_model.specs.Calls.{History, Outcome, evicted_by, writes_after}
+use Rattle.tier_model.specs.Calls.{History, Outcome, evicted_by}
 use Rattle.tier_model.specs.Histories.{Kept, Opening, changes_of}
 use Rattle.tier_model.specs.State.{State}
 use Rattle.tier_model.specs.Step.{counted}
@@ -52,15 +52,6 @@ abbrev pub evictions : History → ℕ
 evictions [] = 0
 evictions (c ∷ h) = evictions h + length (evicted_by c.outcome)
 
--- how many writes began
-abbrev pub writes_begun : History → ℕ
-writes_begun [] = 0
-writes_begun (c ∷ h) = writes_after (writes_begun h) c.began
-
--- a count as 64 bits show it
-abbrev pub shown : ℕ → ℕ
-shown n = min n (2 ^ 64 - 1)
-
 -- the writes are all that are bodies, each once
 pub record AreAllBodies (writes : List (Write Kept)) (changes : Changes Kept) : Type 0 where
   pub distinct : HasDistinctKeys writes
@@ -69,9 +60,9 @@ pub record AreAllBodies (writes : List (Write Kept)) (changes : Changes Kept) : 
 
 -- what the report tells of a history
 pub record IsReport (r : Report) (start : Opening) (h : History) : Type 0 where
-  pub found : r.found ≡ shown (found_answers h)
-  pub absent : r.absent ≡ shown (absent_answers h)
-  pub evicted : r.evicted ≡ shown (evictions h)
+  pub found : r.found ≡ saturated (found_answers h)
+  pub absent : r.absent ≡ saturated (absent_answers h)
+  pub evicted : r.evicted ≡ saturated (evictions h)
   pub bodies : (writes : List (Write Kept)) × AreAllBodies writes (changes_of start h) × (r.bodies ≡ length writes)
-      × (r.bytes ≡ shown (sum_by (λ w. length (bytes_of w.number (changes_of start h))) writes))
+      × (r.bytes ≡ saturated (sum_by (λ w. length (bytes_of w.number (changes_of start h))) writes))
   pub tracked : (rows : List Tracked) × IsOrderOfUse rows (changes_of start h) × (r.tracked ≡ length rows) × (r.weight ≡ all_weights rows)

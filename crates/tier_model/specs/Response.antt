@@ -1,15 +1,17 @@
 -- What the response of a put gives at the moment at which it comes.
-use Rattle.std.specs.Prelude.{ℕ, Bool, false, List, codes, if◌then◌else◌, ◌||◌, Option, Some, None, pos, int_lt}
+use Rattle.std.specs.Prelude.{ℕ, Bool, false, List, [], codes, if◌then◌else◌, ◌||◌, Option, Some, None, pos, int_lt}
 use Rattle.std.specs.List.{flat_map}
 use Rattle.cache_words.specs.Time.{MomentValue}
-use Rattle.cache_directives.specs.Control.{lines_under}
+use Rattle.cache_directives.specs.Control.{named, lines_under}
 use Rattle.cache_headers.specs.declared.header.ResponseHeader.{ResponseHeader}
-use Rattle.cache_heads.specs.FreshUntil.{fresh_until}
-use Rattle.cache_heads.specs.declared.reason.NoCacheReason.TheVariants.{OriginNotCache}
+use Rattle.cache_heads.specs.Verdict.{verdict}
+use Rattle.cache_heads.specs.declared.meta.CacheMeta.{CacheMeta}
+use Rattle.cache_heads.specs.declared.reason.NoCacheReason.{NoCacheReason}
+use Rattle.cache_heads.specs.declared.reason.RespCacheable.{RespCacheable}
+use Rattle.cache_heads.specs.declared.reason.RespCacheable.TheVariants as cacheable
 use Rattle.response_parse.specs.Response.{Reading, IsReading, parsed_of}
 use Rattle.response_parse.specs.declared.response.Parsed.{Parsed}
 use Rattle.response_parse.specs.declared.response.Parsed.TheVariants as parsed
-use Rattle.tier_model.specs.Keys.{Entry, entry_of}
 use Rattle.tier_model.specs.declared.event.Action.{Action}
 use Rattle.tier_model.specs.declared.event.Action.TheVariants.{Put}
 use Rattle.tier_model.specs.declared.whole.Whole.{Whole}
@@ -23,28 +25,45 @@ joined pieces = flat_map (λ piece. piece) pieces
 abbrev pub is_before_epoch : MomentValue → Bool
 is_before_epoch t = int_lt t.seconds (pos 0)
 
--- the last moment at which a response with this header is fresh, if it may be kept. The tier knows no default lifetimes, and
--- its requests have no Authorization
-abbrev pub kept_until : MomentValue → ResponseHeader → Option MomentValue
-kept_until arrival header = fresh_until arrival (lines_under (codes "cache-control") header.headers) (lines_under (codes "expires") header.headers) false None
+-- the verdict on the head of a response that comes at a moment. The tier knows no default lifetimes, and its requests have no
+-- Authorization
+abbrev pub verdict_on : MomentValue → ResponseHeader → RespCacheable
+verdict_on arrival header = verdict arrival (named (lines_under (codes "cache-control") header.headers)) header false None 0 0
 
--- a whole body, and the last moment at which it is fresh, if it may be kept
-abbrev pub whole_until : MomentValue → Entry → List ℕ → Option MomentValue → Whole
-whole_until arrival entry body None = Uncacheable OriginNotCache
-whole_until arrival entry body (Some until) =
-    if is_before_epoch arrival || is_before_epoch until
-    then BeforeEpoch
-    else Stored (record { entry = entry; bytes = body; fresh_until = until })
+-- what a head gives at the moment at which it comes
+pub data Judged : Type 0 where
+  -- it is kept, with this meta
+  kept : CacheMeta → Judged
+  -- it may not be kept
+  not_kept : NoCacheReason → Judged
+  -- it came, or is fresh, only before 1970
+  too_early : Judged
+  -- it is none
+  not_read : Judged
 
--- what a response gives, coming for an entry at a moment
-abbrev pub whole_by : MomentValue → Entry → Parsed → Whole
-whole_by arrival entry (parsed.Complete response) = whole_until arrival entry response.body (kept_until arrival response.header)
-whole_by arrival entry (parsed.Incomplete short) = Incomplete
-whole_by arrival entry parsed.BadHead = BadHead
+abbrev pub judged_by : MomentValue → RespCacheable → Judged
+judged_by arrival (cacheable.Uncacheable reason) = not_kept reason
+judged_by arrival (cacheable.Cacheable meta) = if is_before_epoch arrival || is_before_epoch meta.internal.fresh_until then too_early else kept meta
+
+abbrev pub judged : MomentValue → ResponseHeader → Judged
+judged arrival header = judged_by arrival (verdict_on arrival header)
+
+-- the same with its whole body
+abbrev pub whole_with : List ℕ → Judged → Whole
+whole_with bytes (kept meta) = Stored (record { bytes = bytes; meta = meta })
+whole_with bytes (not_kept reason) = Uncacheable reason
+whole_with bytes too_early = BeforeEpoch
+whole_with bytes not_read = BadHead
+
+-- what a response gives, coming at a moment
+abbrev pub whole_by : MomentValue → Parsed → Whole
+whole_by arrival (parsed.Complete response) = whole_with response.body (judged arrival response.header)
+whole_by arrival (parsed.Incomplete short) = Incomplete
+whole_by arrival parsed.BadHead = whole_with [] not_read
 
 -- what a reading of it gives
-abbrev pub whole_of : MomentValue → Entry → Reading → Whole
-whole_of arrival entry r = whole_by arrival entry (parsed_of r)
+abbrev pub whole_of : MomentValue → Reading → Whole
+whole_of arrival r = whole_by arrival (parsed_of r)
 
 -- the response of a put was read, as a reading of its pieces, or was not, where memory ran out first; nothing else is read
 abbrev pub IsRead : Action → Option Reading → Type 0
@@ -54,5 +73,5 @@ IsRead action (Some r) = ⊥
 
 -- what a put's response gives, where it was read
 abbrev pub whole_in : MomentValue → Action → Option Reading → Option Whole
-whole_in t (Put key pieces) (Some r) = Some (whole_of t (entry_of key) r)
+whole_in t (Put key pieces) (Some r) = Some (whole_of t r)
 whole_in t _ _ = None

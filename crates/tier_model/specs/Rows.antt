@@ -6,7 +6,7 @@ use Rattle.std.specs.FinMap.{FinMap, get, insert, remove}
 use Rattle.cache_entries.specs.declared.entry.CacheEntryKey.{CacheEntryKey}
 use Rattle.cache_changes.specs.Changes.{StoredKey, stored_key, key_alone}
 use Rattle.tier_model.specs.declared.state.Body.{Body}
-use Rattle.tier_model.specs.declared.state.FinishedBody.{FinishedBody}
+use Rattle.tier_model.specs.Keys.{Entry}
 
 -- finished bodies by their stored keys, which are in the order of their bytes
 abbrev pub Bodies : Type 0
@@ -29,14 +29,15 @@ abbrev pub without_bodies : List CacheEntryKey → Bodies → Bodies
 without_bodies [] bodies = bodies
 without_bodies (e ∷ es) bodies = without_bodies es (without_key (key_alone e) bodies)
 
--- what a look-up finds of a body that was stored
-abbrev pub found_of : FinishedBody → Body
-found_of b = record { bytes = b.bytes; fresh_until = b.fresh_until }
+-- a body that is finished under an entry
+pub record FinishedBody : Type 0 where
+  pub entry : Entry
+  pub body : Body
 
--- a body takes the place of the one before it
+-- it takes the place of the one before it
 abbrev pub with_body : FinishedBody → Bodies → Bodies
-with_body b bodies = insert bodies (stored_key b.entry) (found_of b)
+with_body b bodies = insert bodies (stored_key b.entry) b.body
 
--- what a body of these bytes weighs
-abbrev pub weight_for : List ℕ → ℕ
-weight_for bytes = max 1 (length bytes)
+-- what a body weighs
+abbrev pub weight_for : Body → ℕ
+weight_for b = max 1 (length b.bytes)

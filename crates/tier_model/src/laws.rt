@@ -1,13 +1,12 @@
 //! Laws over definitions alone. The functions do nothing: their contracts are the laws.
 ghost use Rattle.tier_model.specs.Calls.{History};
-ghost use Rattle.tier_model.specs.Headline.{HoldsHeadline};
+ghost use Rattle.tier_model.specs.Headline.{Headline};
 ghost use Rattle.tier_model.specs.Histories.{Opening, changes_of};
 ghost use Rattle.cache_changes.specs.Bound.{TracksBodies};
 ghost use Rattle.cache_changes.specs.Writes.{IsOrderly};
 ghost use Rattle.std.specs.Prelude.{◌≡◌, ◌≢◌, ℕ, List};
 ghost use Rattle.tier_model.specs.declared.whole.Whole.TheVariants.{BadHead};
 ghost use Rattle.cache_words.specs.Time.{MomentValue};
-ghost use Rattle.tier_model.specs.Keys.{Entry};
 ghost use Rattle.response_parse.specs.Response.{IsWellFormed, Reading, IsReading};
 ghost use Rattle.tier_model.specs.Response.{whole_of};
 ghost use Rattle.tier_model.specs.State.{State};
@@ -16,7 +15,7 @@ ghost use Rattle.tier_model.specs.Reports.{IsReport, report_of};
 
 /// Whatever a tier's state allows, call by call from its opening, the headline holds of the whole history.
 pub fn lawful_histories_hold_the_headline()
-    ensures { (start : Opening) (h : History) → IsLawful start h → HoldsHeadline start h }
+    ensures { (start : Opening) (h : History) → IsLawful start h → Headline start h }
 {}
 
 /// The changes of such a history are orderly: writes begin, get bytes and finish in order, with a number each. And they keep
@@ -38,5 +37,5 @@ pub fn reports_tell_the_history()
 
 /// A response whose head the parser's default options read or begin to read, within bounds, is never a bad head.
 pub fn well_formed_responses_are_read()
-    ensures { (arrival : MomentValue) (entry : Entry) (bytes : List ℕ) (r : Reading) → IsWellFormed bytes → IsReading bytes r → whole_of arrival entry r ≢ BadHead }
+    ensures { (arrival : MomentValue) (bytes : List ℕ) (r : Reading) → IsWellFormed bytes → IsReading bytes r → whole_of arrival r ≢ BadHead }
 {}

@@ -1,22 +1,13 @@
 //! What a tier holds: finished bodies and open requests.
 use bytes::Bytes;
 use cache_entries::entry::CacheEntryKey;
-use cache_words::key::CompactCacheKey;
-use cache_words::time::Moment;
+use cache_heads::CacheMeta;
 
-/// What a look-up finds: a body, and the last moment at which it is fresh.
+/// A finished body, and the meta that is stored with it: its head as it is kept, and its moments.
 #[derive(Debug, Drop)]
 pub struct Body {
     pub bytes: Bytes,
-    pub fresh_until: Moment,
-}
-
-/// A body to store under an entry, and the last moment at which it is fresh.
-#[derive(Debug, Drop)]
-pub struct FinishedBody {
-    pub entry: CompactCacheKey,
-    pub bytes: Bytes,
-    pub fresh_until: Moment,
+    pub meta: CacheMeta,
 }
 
 /// What a request may do next.

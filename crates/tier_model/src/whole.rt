@@ -1,12 +1,12 @@
 //! What a whole response gives.
-use crate::state::FinishedBody;
+use crate::state::Body;
 use cache_heads::NoCacheReason;
 
 /// What the bytes of a whole response give at the moment at which they come.
 #[derive(Debug, Drop)]
 pub enum Whole {
     /// A body to store.
-    Stored(FinishedBody),
+    Stored(Body),
     /// A whole response that may not be kept, and why.
     Uncacheable(NoCacheReason),
     /// The response ends too early.

@@ -1,137 +1,56 @@
-//! Events over keys of one byte.
+//! Events at second 7 over keys of one byte. Each function gives `None` where memory is refused.
 use bytes::Bytes;
-use cache_tier::tier::Tier;
 use cache_words::key::CacheKey;
-use cache_words::time::{Duration, Moment};
-use std::alloc::{AllocError, Global};
+use cache_words::time::Moment;
+use std::alloc::Global;
 use tier_model::event::{Action, Event, Pieces};
 
-// The key of one byte, under a tag.
-fn tagged(alloc: Global, name: u8, tag: &str) -> Result<CacheKey, AllocError> {
-    Ok(CacheKey::new(
-        Vec::from_slice(alloc, &[name])?,
-        String::from_str(alloc, tag)?,
-    ))
-}
+const HEAD: &[u8] = b"HTTP/1.1 200 OK\r\nCache-Control: max-age=100\r\n\r\n";
 
-// What a trace asks, of keys of one byte.
+// What is asked.
 #[derive(Clone, Copy)]
 pub(crate) enum Ask {
-    Open(u64, u8, &'static str),
+    Open(u64, u8),
     Look(u64),
     Read(u64),
-    Drop(u64),
-    Purge(u8),
-    Put(u8, &'static str, &'static [u8], &'static [u8]),
+    // A body that is fresh for 100 seconds.
+    Put(u8, &'static [u8]),
 }
 
-fn pieces(alloc: Global, head: &'static [u8], body: &'static [u8]) -> Result<Pieces, AllocError> {
-    Ok(Pieces::from_vec(vec![in alloc; Bytes::from_static(head), Bytes::from_static(body)]?))
+fn key(alloc: Global, name: u8) -> Option<CacheKey> {
+    let primary = Vec::from_slice(alloc, &[name]).ok()?;
+    Some(CacheKey::new(primary, String::new(alloc)))
 }
 
-fn put(
-    alloc: Global,
-    key: CacheKey,
-    head: &'static [u8],
-    body: &'static [u8],
-) -> Result<Action, AllocError> {
-    let pieces = pieces(alloc, head, body)?;
-    Ok(Action::Put { key, pieces })
+fn put(alloc: Global, name: u8, body: &'static [u8]) -> Option<Action> {
+    let key = key(alloc, name)?;
+    let pieces = vec![in alloc; Bytes::from_static(HEAD), Bytes::from_static(body)].ok()?;
+    let pieces = Pieces::from_vec(pieces);
+    Some(Action::Put { key, pieces })
 }
 
-fn action(alloc: Global, ask: Ask) -> Result<Action, AllocError> {
+fn action(alloc: Global, ask: Ask) -> Option<Action> {
     match ask {
-        Ask::Open(request, name, tag) => {
-            let key = tagged(alloc, name, tag)?;
-            Ok(Action::Open { request, key })
+        Ask::Open(request, name) => {
+            let key = key(alloc, name)?;
+            Some(Action::Open { request, key })
         }
-        Ask::Look(request) => Ok(Action::LookUp { request }),
-        Ask::Read(request) => Ok(Action::Read { request }),
-        Ask::Drop(request) => Ok(Action::Drop { request }),
-        Ask::Purge(name) => {
-            let key = tagged(alloc, name, "")?;
-            Ok(Action::Purge { key })
-        }
-        Ask::Put(name, tag, head, body) => put(alloc, tagged(alloc, name, tag)?, head, body),
+        Ask::Look(request) => Some(Action::LookUp { request }),
+        Ask::Read(request) => Some(Action::Read { request }),
+        Ask::Put(name, body) => put(alloc, name, body),
     }
 }
 
-pub(crate) fn event(alloc: Global, second: i64, ask: Ask) -> Result<Event, AllocError> {
-    let moment = Moment::from_seconds(second);
+pub(crate) fn event(alloc: Global, ask: Ask) -> Option<Event> {
+    let moment = Moment::from_seconds(7);
     let action = action(alloc, ask)?;
-    Ok(Event { moment, action })
+    Some(Event { moment, action })
 }
 
-pub(crate) fn events(alloc: Global, asks: &[(i64, Ask)]) -> Result<Vec<Event>, AllocError> {
+pub(crate) fn events(alloc: Global, asks: &[Ask]) -> Option<Vec<Event>> {
     let mut all = Vec::new(alloc);
-    for (second, ask) in asks {
-        all.push(event(alloc, *second, *ask)?)?;
+    for &ask in asks {
+        all.push(event(alloc, ask)?).ok()?;
     }
-    Ok(all)
+    Some(all)
 }
-
-pub(crate) const HUNDRED: &[u8] = b"HTTP/1.1 200 OK\r\nCache-Control: max-age=100\r\n\r\n";
-
-// A put of n bytes, fresh for 100 seconds, as the limits' rows have it.
-pub(crate) fn put_of(name: u8, tag: &'static str, n: usize) -> Ask {
-    let body: &'static [u8] = match n {
-        0 => b"",
-        1 => b"x",
-        2 => b"xx",
-        3 => b"xxx",
-        _ => b"xxxxx",
-    };
-    Ask::Put(name, tag, HUNDRED, body)
-}
-
-pub(crate) fn tier(
-    alloc: Global,
-    limit: usize,
-    watermark: Option<usize>,
-) -> Result<Tier<1>, AllocError> {
-    let age = Duration::from_seconds(1);
-    Tier::<1>::new(alloc, limit, watermark, age, None)
-}
-
-// Each event in a wrong place, and responses that aren't stored.
-pub(crate) const REFUSED: &[(i64, Ask)] = &[
-    (1, Ask::Look(9)),
-    (1, Ask::Drop(9)),
-    (1, Ask::Open(1, b'a', "")),
-    (1, Ask::Open(1, b'b', "")),
-    (1, Ask::Read(1)),
-    (7, Ask::Put(b'a', "", HUNDRED, b"")),
-    (1, Ask::Look(1)),
-    (1, Ask::Look(1)),
-    (1, Ask::Read(1)),
-    (1, Ask::Read(1)),
-    (1, Ask::Purge(b'a')),
-    (1, Ask::Purge(b'a')),
-    (
-        0,
-        Ask::Put(
-            b'a',
-            "",
-            b"HTTP/1.1 200 OK\r\nCache-Control: max-age=0\r\n\r\n",
-            b"",
-        ),
-    ),
-    (
-        1,
-        Ask::Put(
-            b'a',
-            "",
-            b"HTTP/1.1 200 OK\r\nCache-Control: no-store\r\n\r\n",
-            b"",
-        ),
-    ),
-    (
-        i64::MAX,
-        Ask::Put(
-            b'a',
-            "",
-            b"HTTP/1.1 200 OK\r\nCache-Control: max-age=1\r\n\r\n",
-            b"",
-        ),
-    ),
-];

@@ -1,17 +1,12 @@
-//! Tests of the tier and its definitions by tables of what is asked and what is returned.
+//! Tests of the tier without memory, of what its definitions stand on, and of trace lines and the program that replays them. What the tier answers
+//! with memory is in the traces of `trace_cases`.
 #![tactic(auto)]
 
 #[cfg(test)]
 mod asks;
 #[cfg(test)]
-mod head_rows;
-#[cfg(test)]
-mod heads;
-#[cfg(test)]
 mod model;
 #[cfg(test)]
 mod refusals;
 #[cfg(test)]
-mod runs;
-#[cfg(test)]
-mod show;
+mod traces;

@@ -1,13 +1,13 @@
 //! Each refused growth in turn.
-use crate::asks::{Ask, HUNDRED, event, events, put_of, tier};
+use crate::asks::{Ask, event, events};
 use cache_store::storage::Storage;
 use cache_tier::tier::Tier;
-use cache_words::time::Moment;
+use cache_words::time::{Duration, Moment};
 use rand_pcg::Pcg32;
 use std::alloc::Global;
 use tier_model::event::{Action, Answer, Done, Event, TierFault};
 
-const OPEN: Ask = Ask::Open(1, b'a', "");
+const OPEN: Ask = Ask::Open(1, b'a');
 
 fn look() -> Event {
     Event {
@@ -68,15 +68,15 @@ fn step(tier: &mut Tier<1>, event: &Event) -> Outcome {
 // A tier with a body of two bytes under each name, and request 1 open for a where that is asked, if no allocation failed on
 // the way.
 fn fixture(alloc: Global, limit: usize, names: &[u8], is_open: bool) -> Option<Tier<1>> {
-    let mut tier = tier(alloc, limit, None).ok()?;
-    for name in names {
-        let put = event(alloc, 7, put_of(*name, "", 2)).ok()?;
+    let mut tier = Tier::<1>::new(alloc, limit, None, Duration::from_seconds(1), None).ok()?;
+    for &name in names {
+        let put = event(alloc, Ask::Put(name, b"xx"))?;
         if step(&mut tier, &put) != Outcome::Finished(2, 0) {
             return None;
         }
     }
     if is_open {
-        let open = event(alloc, 7, OPEN).ok()?;
+        let open = event(alloc, OPEN)?;
         if step(&mut tier, &open) != Outcome::Opened {
             return None;
         }
@@ -99,12 +99,12 @@ struct Row {
     look_after_refusal: Outcome,
 }
 
-const ROWS: [Row; 3] = [
+const ROWS: &[Row] = &[
     Row {
         limit: 4,
         names: b"a",
         is_open: true,
-        ask: Ask::Put(b'b', "", HUNDRED, b"xxxxx"),
+        ask: Ask::Put(b'b', b"xxxxx"),
         want: Outcome::Finished(5, 2),
         look: Outcome::Absent,
         look_after_refusal: Outcome::Found,
@@ -131,11 +131,11 @@ const ROWS: [Row; 3] = [
 
 // `None` where memory is refused before the call.
 fn row_holds(alloc: Global, row: Row) -> Option<bool> {
-    let event = event(alloc, 7, row.ask).ok()?;
+    let event = event(alloc, row.ask)?;
     let mut tier = fixture(alloc, row.limit, row.names, row.is_open)?;
     let before = tier.report();
     let first = step(&mut tier, &event);
-    let is_put = matches!(row.ask, Ask::Put(_, _, _, _));
+    let is_put = matches!(row.ask, Ask::Put(_, _));
     if first == Outcome::Refused || is_put && first == Outcome::TakenBack {
         return Some(tier.report() == before && step(&mut tier, &look()) == row.look_after_refusal);
     }
@@ -159,10 +159,7 @@ fn read_comes(alloc: Global) -> Option<bool> {
     if step(&mut tier, &look()) != Outcome::Found {
         return None;
     }
-    let read = Event {
-        moment: Moment::from_seconds(7),
-        action: Action::Read { request: 1 },
-    };
+    let read = event(alloc, Ask::Read(1))?;
     Some(step(&mut tier, &read) == Outcome::Read(true))
 }
 
@@ -197,25 +194,37 @@ fn a_store_is_lent(rt: HostRuntime) {
     assert_ne!(rt; store_streams(rt.alloc()), Some(false));
 }
 
-// A put, an open, a look and a read, after as many puts as the largest fixture of a test above has.
-fn goes_through(alloc: Global) -> bool {
-    let mut rng = Pcg32::new(1, 1);
-    let Some(mut tier) = fixture(alloc, 8, b"abcd", true) else {
-        return false;
-    };
-    let asks = [
-        (7, put_of(b'e', "", 5)),
-        (7, Ask::Open(2, b'e', "")),
-        (7, Ask::Look(2)),
-        (7, Ask::Read(2)),
-    ];
-    let Ok(events) = events(alloc, &asks) else {
-        return false;
-    };
-    match tier.run(&mut rng, events.as_slice()) {
-        Ok(outcomes) => outcomes.iter().all(|outcome| outcome.is_ok()),
-        Err(_) => false,
+// What is asked of a fixture in one run, and what comes of each.
+const ASKS: &[Ask] = &[
+    Ask::Put(b'e', b"xxxxx"),
+    Ask::Open(2, b'e'),
+    Ask::Look(2),
+    Ask::Read(2),
+];
+
+const WANT: &[Outcome] = &[
+    Outcome::Finished(5, 3),
+    Outcome::Opened,
+    Outcome::Found,
+    Outcome::Read(false),
+];
+
+fn are_wanted(outcomes: &[Result<Answer, TierFault>]) -> bool {
+    for (outcome, want) in outcomes.iter().zip(WANT) {
+        if outcome_of(outcome) != *want {
+            return false;
+        }
     }
+    outcomes.len() == WANT.len()
+}
+
+// A run after as many puts as the largest fixture of a test above has; `None` where memory is refused on the way to it.
+fn goes_through(alloc: Global) -> Option<bool> {
+    let mut rng = Pcg32::new(1, 1);
+    let mut tier = fixture(alloc, 8, b"abcd", true)?;
+    let events = events(alloc, ASKS)?;
+    let outcomes = tier.run(&mut rng, events.as_slice()).ok()?;
+    Some(are_wanted(outcomes.as_slice()))
 }
 
 // It takes more memory than each test of a refused growth, since each of its three tiers takes more calls than theirs, and fails
@@ -223,5 +232,7 @@ fn goes_through(alloc: Global) -> bool {
 #[test]
 fn ample_memory_meets_no_refusal(rt: HostRuntime) {
     let alloc = rt.alloc();
-    assert!(rt; goes_through(alloc) && goes_through(alloc) && goes_through(alloc));
+    for _ in 0..3 {
+        assert_eq!(rt; goes_through(alloc), Some(true));
+    }
 }

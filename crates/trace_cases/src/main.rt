@@ -1,5 +1,6 @@
-//! Replays the traces that `index.txt` lists, and compares the output with what another program wrote for them. A line of the index is a
-//! trace's name and the words of its options; NAME.jsonl is the trace, and NAME.out the expected output. Traces that differ are shown.
+//! Replays the traces that `index.txt` lists, and compares the output with what is expected: what another program wrote for them, or what was
+//! worked by hand. A line of the index is a trace's name and the words of its options; NAME.jsonl is the trace, and NAME.out the expected
+//! output. Traces that differ are shown.
 #![tactic(auto)]
 
 use secret_hasher::SecretHasher;

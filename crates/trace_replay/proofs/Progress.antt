@@ -10,7 +10,8 @@ use Rattle.tier_model.specs.Past.{HasPast, AreTaken, CarriesHeadline}
 use Rattle.tier_model.specs.Reports.{report_of}
 use Rattle.tier_model.specs.State.{empty_state}
 use Rattle.tier_model.proofs.Carried.{empty-past, CarriesHeadline-taken}
-use Rattle.cache_tier.specs.Draws.{AreAllDrawn, Takes}
+use Rattle.cache_tier.specs.Draws.{AreAllDrawn}
+use Rattle.cache_tier.specs.Takes.{Takes}
 use Rattle.cache_tier.proofs.RunLaws.{StepsBy-takes, taken-more, drawn-more}
 use Rattle.trace_lines.specs.Lines.{line_of}
 use Rattle.trace_lines.specs.Texts.{outcome_text, refusal_text, report_text}

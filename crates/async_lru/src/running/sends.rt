@@ -1,15 +1,16 @@
 //! Calls that send a message.
 
 ghost use Rattle.std.specs.Prelude.{◌≡◌, ◌%◌, ◌<◌, IfOk, IfErr};
-ghost use Rattle.async_lru.specs.Faults.{unsent};
+ghost use Rattle.async_lru.specs.Faults.{ComesBackUnsent, unsent};
 ghost use Rattle.async_lru.specs.Hashes.{key_hash};
+ghost use Rattle.crossbeam_channel.specs.Err.{send_message};
 ghost use Rattle.shard_actors.specs.Messages.{hash_of};
 
 use super::AsyncLru;
 use crate::command::Command;
-use crate::fault::SendFault;
+use crate::fault::{SendFault, TailFault};
 use crate::hash::hash_key;
-use crossbeam_channel::SendError;
+use crossbeam_channel::{SendError, bounded};
 use shard_actors::Message;
 use std::hash::Hash;
 use std::sync::Wait;
@@ -46,6 +47,41 @@ impl<K: Hash + Clone, const N: usize> AsyncLru<K, N> {
             Err(SendFault::Memory(Message::InsertTail(_, key, _))) => Err(SendFault::Memory(key)),
             Err(SendFault::Closed(Message::InsertTail(_, key, _))) => Err(SendFault::Closed(key)),
             Err(_) => unreachable!(),
+        }
+    }
+
+    /// Does what `insert_tail` does, and waits until it is done: returns whether the key's hash was new.
+    ///
+    /// # Errors
+    ///
+    /// The key was not sent, and comes back; or its shard has no memory or no room for one more row, or its weight would pass its
+    /// bound, which is `Refused`.
+    pub fn insert_tail_checked<R: Wait>(
+        &self,
+        rt: &R,
+        key: K,
+        weight: usize,
+    ) -> Result<bool, TailFault<K>>
+        ensures back { IfErr result (ComesBackUnsent key) }
+    {
+        let hash = hash_key(&key);
+        let Ok((to, from)) = bounded(self.alloc, 1) else {
+            return Err(TailFault::Unsent(SendFault::Memory(key)));
+        };
+        match self.send_gated(rt, hash, Command::InsertTail(hash, key, weight, to)) {
+            Ok(_) => {}
+            Err(SendError::OutOfMemory(Command::InsertTail(_, key, _, _))) => {
+                return Err(TailFault::Unsent(SendFault::Memory(key)));
+            }
+            Err(SendError::Disconnected(Command::InsertTail(_, key, _, _))) => {
+                return Err(TailFault::Unsent(SendFault::Closed(key)));
+            }
+            Err(_) => unreachable!(),
+        }
+        match from.recv(rt) {
+            Ok(Ok(is_new)) => Ok(is_new),
+            Ok(Err(fault)) => Err(TailFault::Refused(fault)),
+            Err(_) => Err(TailFault::Unanswered),
         }
     }
 
@@ -108,14 +144,35 @@ impl<K: Hash + Clone, const N: usize> AsyncLru<K, N> {
         ensures shard { IfOk result (λ i. i ≡ hash_of message % N) }
         ensures back { IfErr result (λ fault. unsent fault ≡ message) }
     {
-        let shard = self.shard_of(message.hash());
-        match self.crew.shards[shard].send(rt, Command::Apply(message)) {
-            Ok(()) => Ok(shard),
+        match self.send_gated(rt, message.hash(), Command::Apply(message)) {
+            Ok(shard) => Ok(shard),
             Err(SendError::OutOfMemory(Command::Apply(message))) => Err(SendFault::Memory(message)),
             Err(SendError::Disconnected(Command::Apply(message))) => Err(SendFault::Closed(
                 message,
             )),
             Err(_) => unreachable!(),
+        }
+    }
+
+    // Sends a command that changes rows to the shard of a hash, which is returned, once it may be ahead.
+    fn send_gated<R: Wait>(
+        &self,
+        rt: &R,
+        hash: u64,
+        command: Command<K>,
+    ) -> Result<usize, SendError<Command<K>>>
+        ensures shard { IfOk result (λ i. i ≡ hash % N) }
+        ensures back { IfErr result (λ fault. send_message fault ≡ command) }
+    {
+        let shard = self.shard_of(hash);
+        let gate = &self.crew.counts.gate;
+        gate.enter(rt, &self.crew.wake);
+        match self.crew.shards[shard].send(rt, command) {
+            Ok(()) => Ok(shard),
+            Err(unsent) => {
+                gate.leave(rt, 1);
+                Err(unsent)
+            }
         }
     }
 }

@@ -1,8 +1,9 @@
 //! Verdicts by a response's own lines.
-ghost use Rattle.std.specs.Prelude.{◌≡◌, List, IfOk, Some, false, codes};
+ghost use Rattle.std.specs.Prelude.{◌≡◌, List, IfOk, OnErr, Some, true, false, codes};
 ghost use Rattle.cache_directives.specs.Written.{Written};
 ghost use Rattle.cache_directives.specs.Known.{Knows};
 ghost use Rattle.cache_directives.specs.Control.{named, lines_under};
+ghost use Rattle.cache_directives.specs.Lifetime.{lists_fields};
 ghost use Rattle.cache_heads.specs.Defaults.{status_lifetime};
 ghost use Rattle.cache_heads.specs.FreshUntil.{by_directives, fresh_until_of};
 ghost use Rattle.cache_heads.specs.Stale.{revalidate_window, error_window};
@@ -74,7 +75,8 @@ pub fn resp_cacheable_by_lines<F: FreshDurationByStatusFn>(
     resp_header: ResponseHeader,
     defaults: &CacheMetaDefaults<F>,
 ) -> Result<RespCacheable, AllocError>
-    ensures { IfOk result (λ v. v ≡ verdict_by now (named (lines_under (codes "cache-control") resp_header.headers)) resp_header false F.duration defaults.now) }
+    ensures verdict { IfOk result (λ v. v ≡ verdict_by now (named (lines_under (codes "cache-control") resp_header.headers)) resp_header false F.duration defaults.now) }
+    ensures memory { OnErr result ((ds : List Written) × (named (lines_under (codes "cache-control") resp_header.headers) ≡ Some ds) × (lists_fields ds ≡ true)) }
 {
     let Some(known) = KnownDirectives::from_resp_headers(&resp_header) else {
         return Ok(resp_cacheable(now, None, resp_header, false, defaults));

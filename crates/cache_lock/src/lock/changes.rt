@@ -1,9 +1,9 @@
 //! The changes of which the calls are made.
-ghost use Rattle.std.specs.Prelude.{◌≡◌, ◌∷◌, [], OnOk, OnErr, IfOk, IfErr, Some};
+ghost use Rattle.std.specs.Prelude.{◌≡◌, OnOk, OnErr, IfOk, IfErr, IfSome, IsSome, Some};
 ghost use Rattle.std.specs.FinMap as finite;
 ghost use Rattle.cache_lock.specs.Changes.{gives, lends, stores, takes_out, spends};
-ghost use Rattle.cache_lock.specs.State.{after, status_of, without_core};
-ghost use Rattle.cache_lock.specs.Answers.{to_wait_for, locked_by, IsRefused, wait_outcome};
+ghost use Rattle.cache_lock.specs.State.{after, after_all, status_of, without_core};
+ghost use Rattle.cache_lock.specs.Answers.{to_wait_for, locked_by, IsRefused, is_lendable, lend_changes, wait_outcome};
 
 use super::CacheLock;
 use crate::fault::LockFault;
@@ -29,30 +29,45 @@ impl<S: BuildHasher> CacheLock<S> {
 
     // The core that who asks for a key is to wait for.
     pub(super) fn to_wait_for(&self, key: &HashBinary) -> Option<u64>
-        ensures { result ≡ to_wait_for key.now self.now }
+        ensures number { result ≡ to_wait_for key.now self.now }
+        ensures there { IfSome result (λ n. IsSome (finite.get self.now.cores n)) }
     {
         let number = self.current.get(key)?;
-        match self.status_of(number) {
+        match self.cores.get(number)?.core.status {
             LockStatus::Dangling | LockStatus::AgeTimeout => None,
             _ => Some(number),
         }
     }
 
-    // Gives a read lock of a core.
-    pub(super) fn lend(&mut self, number: u64) -> Result<Locked, LockFault>
+    // Names a core once more. Returns false where it isn't there, or can't be named again.
+    pub(super) fn name_again(&mut self, number: u64) -> bool
+        ensures answer { result ≡ is_lendable (finite.get self.old.cores number) }
+        ensures change { self.new ≡ after_all (lend_changes number (finite.get self.old.cores number)) self.old }
+    {
+        let Some(&held) = self.cores.get(number) else {
+            return false;
+        };
+        if held.names == u64::MAX {
+            return false;
+        }
+        let names = held.names + 1;
+        self.cores.set(number, HeldCore { names, ..held });
+        true
+    }
+
+    // Gives a read lock of a core that is there.
+    pub(super) fn wait_for(&mut self, number: u64) -> Result<Locked, LockFault>
+        requires { IsSome (finite.get self.old.cores number) }
         ensures answer { IfOk result (λ l. l ≡ locked_by self.old (Some number)) }
         ensures change { OnOk result (self.new ≡ after (lends number) self.old) }
         ensures err { OnErr result (self.new ≡ self.old) }
         ensures refused { IfErr result (IsRefused self.old (Some number)) }
     {
-        if let Some(&held) = self.cores.get(number) {
-            if held.names == u64::MAX {
-                return Err(LockFault::CoreNumbersSpent);
-            }
-            let names = held.names + 1;
-            self.cores.set(number, HeldCore { names, ..held });
+        if self.name_again(number) {
+            Ok(Locked::Read(ReadLock { number }))
+        } else {
+            Err(LockFault::CoreNumbersSpent)
         }
-        Ok(Locked::Read(ReadLock { number }))
     }
 
     // Gives the permit of a key, under the next number.

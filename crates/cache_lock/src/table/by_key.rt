@@ -11,7 +11,7 @@ use std::hash::BuildHasher;
 use std::marker::Model;
 
 // Numbers by hashes of keys: a finite map.
-#[derive(Drop)]
+#[derive(Debug, Drop)]
 pub struct ByKey<S: BuildHasher> {
     table: HashMap<HashBinary, u64, S>,
 }

@@ -9,7 +9,7 @@ use std::hash::BuildHasher;
 use std::marker::Model;
 
 // Values by numbers: a finite map.
-#[derive(Drop)]
+#[derive(Debug, Drop)]
 pub struct ByNumber<V: Drop, S: BuildHasher> {
     table: HashMap<u64, V, S>,
 }

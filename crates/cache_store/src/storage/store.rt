@@ -1,19 +1,23 @@
 //! What a store does, and the handlers that it gives out.
-ghost use Rattle.std.specs.Prelude.{◌≡◌, ◌⊎◌, ℕ, Bool, List, Option, true, option_map, IfOk, OnOk, OnErr, MatchResult};
+ghost use Rattle.std.specs.Prelude.{◌≡◌, ℕ, Bool, List, Option, Some, true, option_map, IfOk, IfErr, IfSome, OnOk, OnErr, MatchResult};
 ghost use Rattle.cache_words.specs.Key.{combined, key_of};
 ghost use Rattle.cache_changes.specs.Changes.{StoredKey};
-ghost use Rattle.cache_changes.specs.Store.{body_at, flying_at};
+ghost use Rattle.cache_changes.specs.Store.{Stored, body_at, flying_at};
+ghost use Rattle.cache_heads.specs.declared.meta.CacheMeta.{CacheMeta as Meta};
 ghost use Rattle.cache_entries.specs.declared.entry.CacheEntryId.{CacheEntryId as Id};
 ghost use Rattle.cache_store.specs.declared.storage.MissFinishType.{MissFinishType as FinishType};
+ghost use Rattle.cache_store.specs.declared.storage.PurgeType.{PurgeType as Cause};
+ghost use Rattle.cache_store.specs.declared.storage.PurgeType.TheVariants.{Invalidation};
 ghost use Rattle.cache_store.specs.declared.storage.StoreFault.{StoreFault as Fault};
 ghost use Rattle.cache_store.specs.Answers.{WriteAnswer, after_write, alive_key, left};
 ghost use Rattle.cache_store.specs.Held.{Held};
-ghost use Rattle.cache_store.specs.Looks.{LookAnswer, StreamAnswer, shows, streamed_by};
-ghost use Rattle.cache_store.specs.Misses.{BeginAnswer, MissAnswer};
+ghost use Rattle.cache_store.specs.Ids.{IsGiven, SameBut};
+ghost use Rattle.cache_store.specs.Looks.{LookAnswer, TagAnswer, Tells, asked, shows};
+ghost use Rattle.cache_store.specs.Misses.{BeginAnswer, MissAnswer, IsAlike};
 ghost use Rattle.cache_store.specs.Purges.{PurgeAnswer, target_key, id_at};
-ghost use Rattle.cache_store.specs.Readers.{Reader, IsStep, IsSought, Parts, ahead};
+ghost use Rattle.cache_store.specs.Readers.{Reader, IsStep, IsSought, Parts, ReadsSame, ahead};
 ghost use Rattle.cache_store.specs.Renewals.{StaleAnswer, UpdateAnswer};
-ghost use Rattle.cache_store.specs.Wholes.{IsGiven, Stores, IsWriteFault};
+ghost use Rattle.cache_store.specs.Wholes.{Stores, IsWriteFault, whole_of};
 
 use super::{MissFinishType, PurgeOutcome, PurgeTarget, PurgeType, ReadStep, StoreFault};
 use bytes::Bytes;
@@ -21,6 +25,12 @@ use cache_entries::entry::CacheEntryId;
 use cache_heads::CacheMeta;
 use cache_words::key::CacheKey;
 use cache_words::time::Moment;
+
+/// What reads a body of a store.
+pub type HitHandler<S> = <S as Storage>::Hit;
+
+/// What writes a body to a store.
+pub type MissHandler<S> = <S as Storage>::Miss;
 
 /// What a look-up found: the meta, and a reader of the body.
 pub type Found<H> = Option<(CacheMeta, H)>;
@@ -35,15 +45,24 @@ pub enum MissFault<M> {
 }
 
 /// What a store holds, as contracts see it: bodies, writes in flight, the number of the next write, and the writes that have
-/// readers. A trait of its own, since the handlers' contracts speak of it too.
+/// readers; with the ids of what is stored. A trait of its own, since the handlers' contracts speak of it too.
 pub trait Contents {
     ghost held: { Self → Held };
+
+    // The id of what is stored under a key, in a store that gives ids.
+    ghost ids: { Self → StoredKey → Option Id };
+
+    // What a body weighs in the order of use.
+    ghost weigh: { Stored Meta → ℕ };
+
+    // The number of the write that a tag names, if it names any.
+    ghost tagged: { Option (List ℕ) → Option ℕ };
 }
 
 /// A store of bodies.
 ///
-/// What differs between stores are the members: whether no number is left for a write, the ids of what is stored, whether a
-/// look-up shows writes in flight, and which number a tag names.
+/// What differs between stores are the members: whether no number is left for a write, whether a look-up shows writes in flight,
+/// and what a purge of a type does beside what it removes, as a count of evictions.
 pub trait Storage: Contents {
     /// What reads a body. It is spent by its `finish`.
     type Hit: HandleHit<Self>;
@@ -53,11 +72,9 @@ pub trait Storage: Contents {
 
     ghost is_spent: { Held → Bool };
 
-    ghost ids: { Self → StoredKey → Option Id };
-
     ghost streams: { Bool };
 
-    ghost tagged: { Option (List ℕ) → Option ℕ };
+    ghost purged_as: { Self → Cause → Self → Type 0 };
 
     /// Looks a key up.
     ///
@@ -65,23 +82,26 @@ pub trait Storage: Contents {
     ///
     /// `Memory` when out of memory; nothing has changed.
     fn lookup(&mut self, key: &CacheKey) -> Result<Found<Self::Hit>, StoreFault>
-        ensures look { LookAnswer Self.Hit.reader (shows streams (combined (key_of key.now)) (Self.held self.old).store) (Self.held self.old) result (Self.held self.new) };
+        ensures look { LookAnswer Self.Hit.reader (shows streams (combined (key_of key.now)) (Self.held self.old).store) (Self.held self.old) result (Self.held self.new) }
+        ensures tells { let k = combined (key_of key.now) in Tells Self.Hit.weight Self.Hit.id Self.weigh (Self.ids self.old k) (shows streams k (Self.held self.old).store) result }
+        ensures ids { Self.ids self.new ≡ Self.ids self.old };
 
-    /// Looks up the write of a key with that tag, which its handler lends; in a store without tags, the key.
+    /// Looks up the write of a key with that tag, which its handler lends. A tag that names no write's number asks for the key, as
+    /// `lookup` does; in a store without tags that is each one, and the call is `lookup`.
     ///
     /// # Errors
     ///
-    /// `WriteRemoved` where the tag names no write of the key in flight; those of `lookup`.
+    /// `WriteRemoved` where the tag names a number that isn't that of an alive write of the key in flight; those of `lookup`.
     fn lookup_streaming_write(
         &mut self,
         key: &CacheKey,
-        _tag: Option<&[u8]>,
+        tag: Option<&[u8]>,
     ) -> Result<Found<Self::Hit>, StoreFault>
-        ensures stream { LookAnswer Self.Hit.reader (shows streams (combined (key_of key.now)) (Self.held self.old).store) (Self.held self.old) result (Self.held self.new)
-            ⊎ StreamAnswer Self.Hit.reader (streamed_by (combined (key_of key.now)) (tagged (option_map (λ t. t.now) _tag.entry)) (Self.held self.old).store) (Self.held self.old) result (Self.held self.new) }
-    {
-        self.lookup(key)
-    }
+        ensures stream { let named = Self.tagged (option_map (λ t. t.now) tag.entry) in
+            TagAnswer Self.Hit.reader named (asked streams (combined (key_of key.now)) named (Self.held self.old).store) (Self.held self.old) result (Self.held self.new) }
+        ensures tells { let k = combined (key_of key.now) in
+            Tells Self.Hit.weight Self.Hit.id Self.weigh (Self.ids self.old k) (asked streams k (Self.tagged (option_map (λ t. t.now) tag.entry)) (Self.held self.old).store) result }
+        ensures ids { Self.ids self.new ≡ Self.ids self.old };
 
     /// Begins a write.
     ///
@@ -94,7 +114,8 @@ pub trait Storage: Contents {
         key: &CacheKey,
         meta: &CacheMeta,
     ) -> Result<Self::Miss, StoreFault>
-        ensures { BeginAnswer Self.Miss.number (is_spent (Self.held self.old)) (combined (key_of key.now)) meta.now (Self.held self.old) result (Self.held self.new) };
+        ensures begun { BeginAnswer Self.Miss.number (is_spent (Self.held self.old)) (combined (key_of key.now)) meta.now (Self.held self.old) result (Self.held self.new) }
+        ensures ids { Self.ids self.new ≡ Self.ids self.old };
 
     /// Begins a write with a meta that is handed over: a store that keeps metas as they are needs no copy.
     ///
@@ -106,12 +127,13 @@ pub trait Storage: Contents {
         key: &CacheKey,
         meta: CacheMeta,
     ) -> Result<Self::Miss, StoreFault>
-        ensures { BeginAnswer Self.Miss.number (is_spent (Self.held self.old)) (combined (key_of key.now)) meta (Self.held self.old) result (Self.held self.new) }
+        ensures begun { BeginAnswer Self.Miss.number (is_spent (Self.held self.old)) (combined (key_of key.now)) meta (Self.held self.old) result (Self.held self.new) }
+        ensures ids { Self.ids self.new ≡ Self.ids self.old }
     {
         self.get_miss_handler(key, &meta)
     }
 
-    /// Stores a body that is there as a whole, and returns the id that the store gives it. `body` may be a small part of a buffer, as
+    /// Stores a body that is there as a whole, and returns what a finish would and the id that the store gives it. `body` may be a small part of a buffer, as
     /// of a whole response: a store that keeps it and doesn't copy its bytes keeps that buffer. By default it is a write with these
     /// bytes; a store that shows no write before it ends may do less.
     ///
@@ -123,8 +145,9 @@ pub trait Storage: Contents {
         key: &CacheKey,
         meta: CacheMeta,
         body: Bytes,
-    ) -> Result<Option<CacheEntryId>, StoreFault>
-        ensures id { IfOk result (IsGiven Self.Miss.id) }
+    ) -> Result<(MissFinishType, Option<CacheEntryId>), StoreFault>
+        ensures told { IfOk result (λ done. done.0 ≡ Self.Miss.told (whole_of (combined (key_of key.now)) meta body (Self.held self.old))) }
+        ensures ids { MatchResult result (λ done. IsGiven (Some (combined (key_of key.now))) done.1 (Self.ids self.old) (Self.ids self.new)) (λ _. Self.ids self.new ≡ Self.ids self.old) }
         ensures stored { let spent = is_spent (Self.held self.old) in
             MatchResult result (λ _. Stores spent (combined (key_of key.now)) meta body (Self.held self.old) (Self.held self.new))
             (λ fault. IsWriteFault spent meta fault (Self.held self.old) (Self.held self.new)) }
@@ -139,7 +162,7 @@ pub trait Storage: Contents {
         }
         let id = miss.entry_id();
         match miss.finish(self) {
-            Ok(_) => Ok(id),
+            Ok(finish) => Ok((finish, id)),
             Err(MissFault::WriteRemoved) => unreachable!(),
             Err(MissFault::Memory(miss)) => {
                 miss.leave(self);
@@ -150,9 +173,11 @@ pub trait Storage: Contents {
 
     /// Removes what is stored of the target. It takes no memory.
     fn purge(&mut self, target: PurgeTarget<'_>, purge_type: PurgeType) -> PurgeOutcome
-        ensures { let k = target_key (ids self.old) target.entry in PurgeAnswer k (id_at (ids self.old) k) (Self.held self.old) result (Self.held self.new) };
+        ensures purged { let k = target_key (Self.ids self.old) target.entry in PurgeAnswer k (id_at (Self.ids self.old) k) (Self.held self.old) result (Self.held self.new) }
+        ensures ids { SameBut (target_key (Self.ids self.old) target.entry) (Self.ids self.old) (Self.ids self.new) }
+        ensures cause { purged_as self.old purge_type self.new };
 
-    /// Lets what is stored of the target go stale at a moment.
+    /// Lets what is stored of the target go stale at a moment. By default it is removed, as no longer valid.
     ///
     /// # Errors
     ///
@@ -162,9 +187,10 @@ pub trait Storage: Contents {
         target: PurgeTarget<'_>,
         _moment: Moment,
     ) -> Result<PurgeOutcome, StoreFault>
-        ensures stale { let k = target_key (ids self.old) target.entry in
-            MatchResult result (λ outcome. StaleAnswer k (id_at (ids self.old) k) _moment (Self.held self.old) outcome (Self.held self.new))
+        ensures stale { let k = target_key (Self.ids self.old) target.entry in
+            MatchResult result (λ outcome. StaleAnswer k (id_at (Self.ids self.old) k) _moment (purged_as self.old Invalidation self.new) (Self.held self.old) outcome (Self.held self.new))
             (λ f. (f ≡ Fault.Memory) × (Self.held self.new ≡ Self.held self.old)) }
+        ensures ids { SameBut (target_key (Self.ids self.old) target.entry) (Self.ids self.old) (Self.ids self.new) }
     {
         Ok(self.purge(target, PurgeType::Invalidation))
     }
@@ -176,19 +202,26 @@ pub trait Storage: Contents {
     /// `NoMeta` where there is no body, and then `MetaMoment` where the meta can't be written; `Memory` when out of memory.
     /// Nothing has changed.
     fn update_meta(&mut self, key: &CacheKey, meta: &CacheMeta) -> Result<(), StoreFault>
-        ensures { let k = combined (key_of key.now) in UpdateAnswer (body_at k (Self.held self.old).store) k meta.now (Self.held self.old) result (Self.held self.new) };
+        ensures updated { let k = combined (key_of key.now) in UpdateAnswer (body_at k (Self.held self.old).store) k meta.now (Self.held self.old) result (Self.held self.new) }
+        ensures ids { Self.ids self.new ≡ Self.ids self.old };
 
-    /// Returns whether a write is read while it is written.
+    /// Returns whether a write is read while it is written. A store that shows no write in flight returns `false`.
     fn support_streaming_partial_write(&self) -> bool
-        ensures streams { result ≡ true → streams ≡ true }
-    {
-        false
-    }
+        ensures { result ≡ streams };
 }
 
-/// What reads a body from a store. A contract sees what it is to read.
+/// What reads a body from a store. A contract sees what it is to read, whether that is a use of the entry, the entry's weight and
+/// id, and whether a range can be set.
 pub trait HandleHit<S: Contents> {
     ghost reader: { Self → Reader };
+
+    ghost counts: { Self → Bool };
+
+    ghost weight: { Self → ℕ };
+
+    ghost id: { Self → Option Id };
+
+    ghost seekable: { Self → Bool };
 
     /// Does a step of reading.
     ///
@@ -197,19 +230,23 @@ pub trait HandleHit<S: Contents> {
     /// `Memory` when out of memory; then it may be read again.
     fn read_body(&mut self, store: &mut S) -> Result<ReadStep, StoreFault>
         ensures step { IsStep (ahead (reader self.old) (S.held store.old)) result (ahead (reader self.new) (S.held store.old)) }
-        ensures same { S.held store.new ≡ S.held store.old };
+        ensures reads { ReadsSame (reader self.old) (reader self.new) }
+        ensures same { S.held store.new ≡ S.held store.old }
+        ensures ids { S.ids store.new ≡ S.ids store.old };
 
     /// Ends the reading.
     fn finish(self, store: &mut S)
-        ensures parts { Parts (reader self) (S.held store.old) (S.held store.new) };
+        ensures parts { Parts (reader self) (S.held store.old) (S.held store.new) }
+        ensures ids { S.ids store.new ≡ S.ids store.old };
 
-    /// Returns whether `seek` can set a range.
-    fn can_seek(&self) -> bool {
-        false
-    }
+    /// Returns whether `seek` can set a range. A reader whose `seek` is always refused, as the default one is, returns `false`.
+    fn can_seek(&self) -> bool
+        ensures { result ≡ seekable self.now };
 
     /// Returns whether `seek_multipart` can set ranges.
-    fn can_seek_multipart(&self) -> bool {
+    fn can_seek_multipart(&self) -> bool
+        ensures { result ≡ seekable self.now }
+    {
         self.can_seek()
     }
 
@@ -220,6 +257,7 @@ pub trait HandleHit<S: Contents> {
     /// `SeekRange` where the reader can't be set, or the range isn't within the body; an earlier range stays.
     fn seek(&mut self, _start: usize, _end: Option<usize>) -> Result<(), StoreFault>
         ensures sought { MatchResult result (λ _. IsSought _start _end (reader self.old) (reader self.new)) (λ f. (f ≡ Fault.SeekRange) × (reader self.new ≡ reader self.old)) }
+        ensures seekable { OnOk result (seekable self.old ≡ true) }
     {
         Err(StoreFault::SeekRange)
     }
@@ -231,34 +269,34 @@ pub trait HandleHit<S: Contents> {
     /// Those of `seek`.
     fn seek_multipart(&mut self, start: usize, end: Option<usize>) -> Result<(), StoreFault>
         ensures sought { MatchResult result (λ _. IsSought start end (reader self.old) (reader self.new)) (λ f. (f ≡ Fault.SeekRange) × (reader self.new ≡ reader self.old)) }
+        ensures seekable { OnOk result (seekable self.old ≡ true) }
     {
         self.seek(start, end)
     }
 
-    /// Returns whether the reading is a use of the entry.
-    fn should_count_access(&self) -> bool {
-        true
-    }
+    /// Returns whether the reading is a use of the entry. Most readers return `true`.
+    fn should_count_access(&self) -> bool
+        ensures { result ≡ counts self.now };
 
-    /// Returns the weight of the entry.
-    fn get_eviction_weight(&self) -> usize {
-        0
-    }
+    /// Returns the weight of the entry. A reader of a store that weighs no body returns 0.
+    fn get_eviction_weight(&self) -> usize
+        ensures { result ≡ weight self.now };
 
-    /// Returns the id of the body, where the store gives ids.
-    fn entry_id(&self) -> Option<CacheEntryId> {
-        None
-    }
+    /// Returns the id of the body. A reader of a store that gives no ids returns `None`.
+    fn entry_id(&self) -> Option<CacheEntryId>
+        ensures { result ≡ id self.now };
 }
 
-/// What writes a body to a store. A contract sees the number of its write, the id that the store gives its body, if any, and what
-/// a finish answers for a body of a size.
+/// What writes a body to a store. A contract sees the number of its write and the tag by which that is looked up, if any; the id that the
+/// store gives its body, if any; and what a finish answers for a body.
 pub trait HandleMiss<S: Contents> {
     ghost number: { Self → ℕ };
 
+    ghost tag: { Self → Option (List ℕ) };
+
     ghost id: { Self → Option Id };
 
-    ghost told: { ℕ → FinishType };
+    ghost told: { Stored Meta → FinishType };
 
     /// Adds bytes, which are the last where `eof` says so. `more` may be a small part of a buffer, as of a whole response: a
     /// store that keeps it and doesn't copy its bytes keeps that buffer.
@@ -272,7 +310,9 @@ pub trait HandleMiss<S: Contents> {
         ensures ok { OnOk result (S.held store.new ≡ record (S.held store.old) { store = after_write (number self.old) more eof (S.held store.old).store }) }
         ensures err { OnErr result (S.held store.new ≡ S.held store.old) }
         ensures same { number self.new ≡ number self.old }
-        ensures same_id { id self.new ≡ id self.old };
+        ensures same_tag { tag self.new ≡ tag self.old }
+        ensures same_id { id self.new ≡ id self.old }
+        ensures ids { S.ids store.new ≡ S.ids store.old };
 
     /// Stores the body.
     ///
@@ -281,18 +321,21 @@ pub trait HandleMiss<S: Contents> {
     /// `WriteRemoved` exactly where a removal met the write, or the store doesn't have it, which is then given up; `Memory` when
     /// out of memory, with the handler, and nothing has changed.
     fn finish(self, store: &mut S) -> Result<MissFinishType, MissFault<Self>>
-        ensures { MissAnswer number told (alive_key (flying_at (number self) (S.held store.old).store)) (number self) (S.held store.old) result (S.held store.new) };
+        ensures finished { MissAnswer number told (alive_key (flying_at (number self) (S.held store.old).store)) (number self) (S.held store.old) result (S.held store.new) }
+        ensures ids { MatchResult result (λ _. IsGiven (alive_key (flying_at (number self) (S.held store.old).store)) (id self) (S.ids store.old) (S.ids store.new)) (λ _. S.ids store.new ≡ S.ids store.old) }
+        ensures again { IfErr result (IsAlike id tag self) };
 
     /// Gives the write up.
     fn leave(self, store: &mut S)
-        ensures { S.held store.new ≡ left (number self) (S.held store.old) };
+        ensures left { S.held store.new ≡ left (number self) (S.held store.old) }
+        ensures ids { S.ids store.new ≡ S.ids store.old };
 
-    /// Lends the tag by which the write is looked up, where there is one.
-    fn streaming_write_tag(&self) -> Option<&[u8]> {
-        None
-    }
+    /// Lends the tag by which the write is looked up. A writer of a store without tags returns `None`.
+    fn streaming_write_tag(&self) -> Option<&[u8]>
+        ensures tag { option_map (λ t. t.now) result ≡ tag self.now }
+        ensures named { IfSome (S.tagged (tag self.now)) (λ n. n ≡ number self.now) };
 
-    /// Returns the id of the body, where the store gives ids.
+    /// Returns the id of the body. A writer of a store that gives no ids returns `None`.
     fn entry_id(&self) -> Option<CacheEntryId>
         ensures { result ≡ id self.now };
 }

@@ -1,5 +1,5 @@
 //! Bodies that are there as a whole.
-ghost use Rattle.std.specs.Prelude.{◌≡◌, false, IfErr, OnOk, OnErr, MatchResult};
+ghost use Rattle.std.specs.Prelude.{◌≡◌, false, IfOk, IfErr, OnOk, OnErr, MatchResult};
 ghost use Rattle.cache_metas.specs.Internal.{IsWritable};
 ghost use Rattle.cache_store.specs.declared.storage.StoreFault.{StoreFault as Fault};
 ghost use Rattle.cache_store.specs.Wholes.{Stores, IsWriteFault};
@@ -13,18 +13,38 @@ use bytes::Bytes;
 use cache_heads::CacheMeta;
 use cache_store::storage::StoreFault;
 use cache_words::key::HashBinary;
+use std::alloc::{AllocError, Global};
 use std::hash::BuildHasher;
 
+// Returns the bytes in a buffer of their own that is no longer than they are: the one that they came in where nobody shares it, and
+// else a copy.
+fn owned(alloc: Global, body: Bytes) -> Result<Bytes, AllocError>
+    ensures { IfOk result (λ bytes. bytes ≡ body) }
+{
+    let whole = match body.try_into_mut() {
+        Ok(whole) => whole,
+        Err(shared) => return Bytes::copy_from_slice(alloc, shared.as_slice()),
+    };
+    let Ok(mut whole) = whole.into_vec() else {
+        return Err(AllocError);
+    };
+    whole.shrink_to_fit();
+    match Bytes::from_vec(whole) {
+        Ok(bytes) => Ok(bytes),
+        Err(_) => Err(AllocError),
+    }
+}
+
 impl<S: BuildHasher> MemCache<S> {
-    // Stores a copy of a body, so that no larger buffer is kept, under the next number.
+    // Stores a body, in a buffer of its own, under the next number.
     pub(crate) fn put_whole(
         &mut self,
         key: HashBinary,
         meta: &CacheMeta,
-        bytes: &[u8],
+        body: Bytes,
     ) -> Result<(), StoreFault>
         ensures { let spent = are_numbers_spent self.old in
-            MatchResult result (λ _. Stores spent key meta.now bytes.now self.old self.new) (λ fault. IsWriteFault spent meta.now fault self.old self.new) }
+            MatchResult result (λ _. Stores spent key meta.now body self.old self.new) (λ fault. IsWriteFault spent meta.now fault self.old self.new) }
     {
         let number = self.next;
         if number == u64::MAX {
@@ -34,7 +54,7 @@ impl<S: BuildHasher> MemCache<S> {
             Ok(meta) => meta,
             Err(fault) => return Err(fault),
         };
-        let Ok(bytes) = Bytes::copy_from_slice(self.alloc, bytes) else {
+        let Ok(bytes) = owned(self.alloc, body) else {
             return Err(StoreFault::Memory);
         };
         self.put_body(

@@ -3,7 +3,7 @@ ghost use Rattle.std.specs.Prelude.{◌≡◌, ◌+◌, false, Some, None, optio
 ghost use Rattle.cache_changes.specs.Changes.{begins};
 ghost use Rattle.cache_changes.specs.Store.{after, flying_at};
 ghost use Rattle.cache_store.specs.declared.storage.StoreFault.{StoreFault as Fault};
-ghost use Rattle.cache_store.specs.Answers.{WriteAnswer, after_write, alive_key, left, IsFinished, FinishAnswer};
+ghost use Rattle.cache_store.specs.Answers.{WriteAnswer, after_write, alive_key, left, FinishesWith, FinishAnswer};
 ghost use Rattle.cache_store.specs.Misses.{BeginAnswer};
 ghost use Rattle.mem_cache.specs.Misses.{are_numbers_spent};
 
@@ -133,7 +133,7 @@ impl<S: BuildHasher> MemCache<S> {
         requires { alive_key (flying_at number self.old.store) ≡ Some key }
         ensures fault { IfErr result (λ f. f ≡ Fault.Memory) }
         ensures err { OnErr result (self.new ≡ self.old) }
-        ensures ok { IfOk result (λ length. IsFinished number length self.old self.new) }
+        ensures ok { IfOk result (λ length. FinishesWith number length self.old self.new) }
     {
         let Ok(bytes) = flights::share(&mut self.flights, self.alloc, number) else {
             return Err(StoreFault::Memory);

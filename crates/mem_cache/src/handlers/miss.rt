@@ -1,5 +1,5 @@
 //! Writers.
-ghost use Rattle.std.specs.Prelude.{◌≡◌, Some, None, option_map};
+ghost use Rattle.std.specs.Prelude.{◌≡◌, Some, None, length};
 ghost use Rattle.std.specs.Int.{w64, to_be_bytes};
 ghost use Rattle.cache_store.specs.declared.storage.MissFinishType.TheVariants.{Created};
 
@@ -18,7 +18,7 @@ pub struct MemMissHandler {
 }
 
 impl Model for MemMissHandler {
-    ghost use Rattle.std.specs.Prelude.{◌≡◌, ℕ};
+    ghost use Rattle.std.specs.Prelude.{◌≡◌, ◌<◌, ◌^◌, ℕ};
     ghost use Rattle.std.specs.Int.{w64, to_be_bytes};
     ghost use Rattle.cache_store.specs.WriteTag.{bytes_of};
 
@@ -26,7 +26,7 @@ impl Model for MemMissHandler {
 
     ghost view = { λ h. h.number };
 
-    ghost invariant = { λ h. bytes_of h.tag ≡ to_be_bytes w64 h.number };
+    ghost invariant = { λ h. (bytes_of h.tag ≡ to_be_bytes w64 h.number) × (h.number < 2 ^ 64) };
 }
 
 impl MemMissHandler {
@@ -52,9 +52,11 @@ impl MemMissHandler {
 impl<S: BuildHasher> HandleMiss<MemCache<S>> for MemMissHandler {
     ghost number = { λ h. h };
 
+    ghost tag = { λ h. Some (to_be_bytes w64 h) };
+
     ghost id = { λ _. None };
 
-    ghost told = { Created };
+    ghost told = { λ x. Created (length x.bytes) };
 
     fn write_body(
         &mut self,
@@ -78,9 +80,7 @@ impl<S: BuildHasher> HandleMiss<MemCache<S>> for MemMissHandler {
         store.leave(self.spend());
     }
 
-    fn streaming_write_tag(&self) -> Option<&[u8]>
-        ensures { option_map (λ tag. tag.now) result ≡ Some (to_be_bytes w64 self.now) }
-    {
+    fn streaming_write_tag(&self) -> Option<&[u8]> {
         Some(self.tag.as_bytes())
     }
 

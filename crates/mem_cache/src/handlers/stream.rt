@@ -30,8 +30,15 @@ impl PartialHit {
         PartialHit { number, place: 0 }
     }
 
+    // Returns the number of its write.
+    pub(crate) fn number(&self) -> u64
+        ensures { result ≡ self.now.number }
+    {
+        self.number
+    }
+
     // Spends the reader, and returns the number of its write.
-    pub(crate) fn number(self) -> u64
+    pub(crate) fn spend(self) -> u64
         ensures { result ≡ self.number }
     {
         let PartialHit {

@@ -1,14 +1,13 @@
 //! A body is stored, its entry is admitted to the order of use, and what that evicts is purged.
 
-ghost use Rattle.std.specs.Prelude.{◌≡◌, true, MatchResult};
+ghost use Rattle.std.specs.Prelude.{◌≡◌, ◌<◌, ◌^◌, true, false, IfOk, IfErr, OnOk, MatchResult};
 ghost use Rattle.cache_words.specs.Key.{key_of};
 ghost use Rattle.cache_entries.specs.Entry.{key_of as key_of_entry};
-ghost use Rattle.cache_evict.specs.Managed.{taken_out};
-ghost use Rattle.cache_evict.specs.Faults.{evicted_of};
+ghost use Rattle.cache_evict.specs.Managed.{Evicts, put_first, taken_out, total_size, is_over};
+ghost use Rattle.cache_evict.specs.Faults.{StopsAt, evicted_of};
 ghost use Rattle.cache_changes.specs.Changes.{stored_key};
 ghost use Rattle.pingora_cache.specs.Stored.{Purged, Removed};
-ghost use Rattle.cache_store.specs.Wholes.{IsGiven};
-ghost use Rattle.pingora_cache.specs.Put.{IsDone, IsOutOfMemory, IsTold, IsWithoutFile, IsStoreFaultTold, IsAdmitted, IsTakenBack, IsPut, was_admitted, rules_of, cache_of, weight_for};
+ghost use Rattle.pingora_cache.specs.Put.{IsDone, IsOutOfMemory, IsTold, IsWithoutFile, IsStoreFaultTold, IsAdmitted, IsTakenBack, IsPut, was_admitted, rules_of, cache_of, weight_for, weight_then};
 
 use super::outcome::{Done, PutFault, PutOutcome};
 use super::store::purge_all;
@@ -16,7 +15,7 @@ use crate::parts::Parts;
 use bytes::Bytes;
 use cache_evict::{CacheEntryKey, CacheEntryKeyRef, EvictFault, EvictionManager};
 use cache_heads::CacheMeta;
-use cache_store::storage::{PurgeTarget, PurgeType, Storage, StoreFault};
+use cache_store::storage::{MissFinishType, PurgeTarget, PurgeType, Storage, StoreFault};
 use cache_words::key::CacheKey;
 use cache_words::time::Moment;
 use rand_core::Rng;
@@ -58,11 +57,11 @@ fn told(fault: EvictFault, admitted: bool) -> PutFault
     }
 }
 
-// What a body of that size weighs.
-fn weight_for(size: usize) -> usize
-    ensures { result ≡ weight_for size }
+// What an entry weighs whose body has that weight in its store.
+fn weight_for(weight: usize) -> usize
+    ensures { result ≡ weight_for weight }
 {
-    if size == 0 { 1 } else { size }
+    if weight == 0 { 1 } else { weight }
 }
 
 // Whether an entry was admitted before a fault.
@@ -108,24 +107,59 @@ fn take_back<S: Storage, E: EvictionManager, P, L>(
     told(fault, admitted)
 }
 
-// Admits the entry of a body that was stored, and purges what is evicted. `again` is the entry once more.
+// Tells the order of use of an entry as its finish says: with the weight of its body, or with what was added to that. `again` is the
+// entry once more.
+fn follow<E: EvictionManager, R: Rng>(
+    alloc: Global,
+    manager: &mut E,
+    rng: &mut R,
+    finish: MissFinishType,
+    entry: CacheEntryKey,
+    again: &CacheEntryKey,
+    fresh_until: Moment,
+) -> Result<Vec<CacheEntryKey>, EvictFault>
+    requires { again.now ≡ entry }
+    ensures ok { IfOk result (λ v. let m = E.managed manager.old in Evicts E.pick (put_first E.shard_count entry (weight_then E.shard_count E.weighed finish entry m) m) v.items (R.stream rng.old) (E.managed manager.new) (R.stream rng.new)) }
+    ensures within { OnOk result (is_over (E.managed manager.new) ≡ false) }
+    ensures fits { let m = E.managed manager.old in OnOk result (total_size (put_first E.shard_count entry (weight_then E.shard_count E.weighed finish entry m) m) < 2 ^ 64) }
+    ensures refused { let w = weight_then E.shard_count E.weighed finish entry (E.managed manager.old) in
+        IfErr result (λ fault. StopsAt E.pick E.shard_count entry w (E.managed manager.old) (R.stream rng.old) fault (E.managed manager.new) (R.stream rng.new)) }
+{
+    match finish {
+        MissFinishType::Created(weight) => {
+            manager.admit(alloc, entry, weight_for(weight), fresh_until, rng)
+        }
+        MissFinishType::Appended(delta, cap) => {
+            manager.increment_weight(alloc, again, delta, cap, rng)
+        }
+    }
+}
+
+// Admits the entry of a body that was stored as its finish says, and purges what is evicted. `again` is the entry once more.
 fn admit<S: Storage, E: EvictionManager, P, L, R: Rng>(
     alloc: Global,
     parts: &mut Parts<S, E, P, L>,
     rng: &mut R,
+    finish: MissFinishType,
     entry: CacheEntryKey,
     again: &CacheEntryKey,
-    size: usize,
     fresh_until: Moment,
 ) -> Result<Vec<CacheEntryKey>, PutFault>
     requires { again.now ≡ entry }
-    ensures admitted { let rules = rules_of S.held S.ids S.is_spent (IsGiven S.Miss.id) E.shard_count E.weighed E.pick in
+    ensures admitted { let rules = rules_of S.held S.ids S.is_spent S.Miss.told E.shard_count E.weighed E.pick in
         let old = cache_of parts.old.store (E.managed parts.old.manager) (R.stream rng.old) in let new = cache_of parts.new.store (E.managed parts.new.manager) (R.stream rng.new) in
-        MatchResult result (λ v. IsAdmitted rules entry size v.items old new) (λ fault. IsTakenBack rules entry size fault old new) }
+        MatchResult result (λ v. IsAdmitted rules finish entry v.items old new) (λ fault. IsTakenBack rules finish entry fault old new) }
     ensures parts { parts.new ≡ record parts.old { store = parts.new.store; manager = parts.new.manager } }
 {
-    let weight = weight_for(size);
-    match parts.manager.admit(alloc, entry, weight, fresh_until, rng) {
+    match follow(
+        alloc,
+        &mut parts.manager,
+        rng,
+        finish,
+        entry,
+        again,
+        fresh_until,
+    ) {
         Ok(evicted) => {
             purge_all(&mut parts.store, &evicted);
             Ok(evicted)
@@ -154,7 +188,7 @@ pub(super) fn put_body<S: Storage, E: EvictionManager, P, L, R: Rng>(
     meta: CacheMeta,
     body: Bytes,
 ) -> Result<PutOutcome, PutFault>
-    ensures put { let rules = rules_of S.held S.ids S.is_spent (IsGiven S.Miss.id) E.shard_count E.weighed E.pick in
+    ensures put { let rules = rules_of S.held S.ids S.is_spent S.Miss.told E.shard_count E.weighed E.pick in
         let old = cache_of parts.old.store (E.managed parts.old.manager) (R.stream rng.old) in let new = cache_of parts.new.store (E.managed parts.new.manager) (R.stream rng.new) in
         IsPut rules (key_of key.now) meta body result old new }
     ensures parts { parts.new ≡ record parts.old { store = parts.new.store; manager = parts.new.manager } }
@@ -167,13 +201,13 @@ pub(super) fn put_body<S: Storage, E: EvictionManager, P, L, R: Rng>(
     };
     let size = body.len();
     let fresh_until = meta.fresh_until();
-    let id = match parts.store.store_whole(key, meta, body) {
-        Ok(id) => id,
+    let (finish, id) = match parts.store.store_whole(key, meta, body) {
+        Ok(done) => done,
         Err(fault) => return Err(told_of_store(alloc, fault)),
     };
     let entry = CacheEntryKey::from_entry_id(compact, id);
     let again = CacheEntryKey::from_entry_id(again, id);
-    match admit(alloc, parts, rng, entry, &again, size, fresh_until) {
+    match admit(alloc, parts, rng, finish, entry, &again, fresh_until) {
         Ok(evicted) => Ok(PutOutcome::Stored { size, evicted }),
         Err(fault) => Err(fault),
     }

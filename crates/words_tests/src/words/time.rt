@@ -138,10 +138,16 @@ fn sum_and_rest(first: Length, second: Length) -> Option<(Option<Length>, Length
     ))
 }
 
+fn stopping_sum(first: Length, second: Length) -> Option<Length> {
+    Some(length_of(duration(first)?.saturating_add(duration(second)?)))
+}
+
 #[test]
 fn sums_and_differences_of_durations(rt: HostRuntime) {
+    let greatest = (u64::MAX, 999_999_999);
     for &(first, second, sum, rest) in LENGTHS {
         assert_eq!(rt; sum_and_rest(first, second), Some((sum, rest)));
+        assert_eq!(rt; stopping_sum(first, second), Some(sum.unwrap_or(greatest)));
     }
 }
 

@@ -1,4 +1,4 @@
-use Rattle.lru_files.proofs.Replacing.{old_from_aside, aside_begin, aside-same, aside-put, aside-refused, aside-writes, put-refused, put-writes, put-same, replaced-moved, old_or_new-replaced, created_run, written_run, flushed_run, renamed_run}
+use Rattle.lru_files.proofs.Replacing.{old_from_aside, aside_begin, aside-same, aside-put, aside-refused, aside-writes, added-refused, put-writes, put-same, replaced-moved, old_or_new-moved, created_run, written_run, flushed_run, renamed_run}
 use Rattle.lru_files.specs.Folder.Call.{Create, Write, Flush, Rename}
 use Rattle.lru_files.specs.Folder.Outcome.{Done, Failed}
 use Rattle.lru_files.proofs.Told.{tells_call, tells_then}
@@ -31,7 +31,7 @@ returns-in_default-clause-stops g c = λ kept.
 
 pub returns-in_default-write-clause-left : goal.returns-in_default-write-clause-left
 returns-in_default-write-clause-left g c = λ kept.
-    put-refused _ (c.in-Ok.ensures.opened kept) (c.in-Ok.ensures.ok kept) (c.in_default-write.ensures.err kept)
+    added-refused _ (c.in-Ok.ensures.absent kept) (c.in-Ok.ensures.opened kept) (c.in-Ok.ensures.ok kept) (c.in_default-write.ensures.err kept)
 
 pub returns-in_default-write-clause-stops : goal.returns-in_default-write-clause-stops
 returns-in_default-write-clause-stops g c = λ kept.
@@ -40,8 +40,10 @@ returns-in_default-write-clause-stops g c = λ kept.
     (aside-refused _ _ (c.in-Ok.ensures.opened kept) created (c.in_default-write.ensures.err kept))
 
 pub returns-in_default-flush-clause-left : goal.returns-in_default-flush-clause-left
-returns-in_default-flush-clause-left g c = λ kept.
-    put-same _ (put-writes _ (c.in-Ok.ensures.opened kept) (c.in-Ok.ensures.ok kept) (c.in-Ok-write.ensures.ok kept)) (c.flush.ensures.files kept)
+returns-in_default-flush-clause-left g c = λ kept. record {
+  was = c.in-Ok.ensures.absent kept;
+  put = put-same _ (put-writes _ (c.in-Ok.ensures.opened kept) (c.in-Ok.ensures.ok kept) (c.in-Ok-write.ensures.ok kept)) (c.flush.ensures.files kept);
+}
 
 pub returns-in_default-flush-clause-stops : goal.returns-in_default-flush-clause-stops
 returns-in_default-flush-clause-stops g c = λ kept.
@@ -53,7 +55,10 @@ returns-in_default-flush-clause-stops g c = λ kept.
 pub returns-in_default-rename-clause-left : goal.returns-in_default-rename-clause-left
 returns-in_default-rename-clause-left g c = λ kept.
     let put = put-writes _ (c.in-Ok.ensures.opened kept) (c.in-Ok.ensures.ok kept) (c.in-Ok-write.ensures.ok kept) in
-    put-same _ (put-same _ put (c.flush.ensures.files kept)) (c.in_default-rename.ensures.err kept)
+    record {
+      was = c.in-Ok.ensures.absent kept;
+      put = put-same _ (put-same _ put (c.flush.ensures.files kept)) (c.in_default-rename.ensures.err kept);
+    }
 
 pub returns-in_default-rename-clause-stops : goal.returns-in_default-rename-clause-stops
 returns-in_default-rename-clause-stops g c = λ kept.
@@ -68,7 +73,7 @@ returns-in_default-rename-clause-stops g c = λ kept.
 pub returns-clause-left : goal.returns-clause-left
 returns-clause-left g c = λ kept.
     let put = put-writes _ (c.in-Ok.ensures.opened kept) (c.in-Ok.ensures.ok kept) (c.in-Ok-write.ensures.ok kept) in
-    replaced-moved c.requires (put-same _ put (c.flush.ensures.files kept)) (c.in-Ok-rename.ensures.ok kept)
+    replaced-moved (c.in-Ok.ensures.absent kept) c.requires (put-same _ put (c.flush.ensures.files kept)) (c.in-Ok-rename.ensures.ok kept)
 
 pub returns-clause-stops : goal.returns-clause-stops
 returns-clause-stops g c = λ kept.
@@ -78,4 +83,4 @@ returns-clause-stops g c = λ kept.
     let put = put-same _ (put-writes _ (c.in-Ok.ensures.opened kept) (c.in-Ok.ensures.ok kept) (c.in-Ok-write.ensures.ok kept)) (c.flush.ensures.files kept) in
     let run = written_run c.requires _ (created_run c.requires _ c.create.ensures.did created) created (c.in-Ok.ensures.opened kept) c.write.ensures.did written in
     let run2 = flushed_run c.requires _ run written c.flush.ensures.did flushed in
-    renamed_run c.requires _ run2 put c.rename.ensures.did (old_or_new-replaced (replaced-moved c.requires put (c.in-Ok-rename.ensures.ok kept)))
+    renamed_run c.requires _ run2 put c.rename.ensures.did (old_or_new-moved put (c.in-Ok-rename.ensures.ok kept))

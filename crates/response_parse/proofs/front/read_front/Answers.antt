@@ -10,9 +10,9 @@ returns-in-Ok-Some c =
     rw c.in-Ok-Some.field-0-is (front-whole c.args.bytes.now c.in-Ok-Some.head within whole)
 
 pub returns-in-Err-Bounds : goal.returns-in-Err-Bounds
-returns-in-Err-Bounds c = front-out c.args.bytes.now (c.read_head.ensures.bounds (c.in-Err-Bounds.is ∙ ap (λ f. Err f) c.in-Err-Bounds.field-0-is))
+returns-in-Err-Bounds c = front-out c.args.bytes.now (c.read_plainly.ensures.bounds (c.in-Err-Bounds.is ∙ ap (λ f. Err f) c.in-Err-Bounds.field-0-is))
 
 pub returns-in-Err-TooLong : goal.returns-in-Err-TooLong
 returns-in-Err-TooLong c =
-    let over = c.read_head.ensures.long (c.in-Err-TooLong.is ∙ ap (λ f. Err f) c.in-Err-TooLong.field-0-is) in
+    let over = c.read_plainly.ensures.long (c.in-Err-TooLong.is ∙ ap (λ f. Err f) c.in-Err-TooLong.field-0-is) in
     IfOk-weaker c.front_too_long.result _ _ (λ front is. front-long c.args.bytes.now front over is) c.front_too_long.ensures

@@ -3,6 +3,7 @@ use Rattle.cache_headers.specs.Lines.{IsLine}
 use Rattle.response_parse.specs.Heads.{HasFieldValue}
 use Rattle.response_parse.specs.declared.head.HeadFault.TheVariants.{Bounds}
 use Rattle.response_parse.proofs.HeadLaws.{few-fields, values-valid, out-by-lines, out-by-status, whole-head}
+use Rattle.response_parse.proofs.ReadingLaws.{begins-more}
 use Rattle.response_parse.proofs.head.read_into.Goals as goal
 
 pub collect-requires-clause-valid : goal.collect-requires-clause-valid
@@ -26,3 +27,7 @@ pub returns-in_ok-collect-in-Ok-Complete-clause-whole : goal.returns-in_ok-colle
 returns-in_ok-collect-in-Ok-Complete-clause-whole c =
     let at = rw c.in-Ok-Complete.field-0-is at c.in-Ok-Complete.ensures.complete in
     whole-head c.args.bytes.now c.parse_response.new.headers c.in-Ok-Complete.read at.0 at.1 (search rules) c.in_ok-status-in-Ok-Complete.status c.collect.new.all c.in_ok-status-in-Ok-Complete.ensures.status c.in_ok-status-in-Ok-Complete.ensures.code c.in_ok-collect-in-Ok-Complete.ensures.value c.in_ok-collect-in-Ok-Complete.ensures.short
+
+pub returns-in-Ok-Partial-clause-begun : goal.returns-in-Ok-Partial-clause-begun
+returns-in-Ok-Partial-clause-begun c =
+    (rw c.in-Ok-Partial.field-0-is at c.in-Ok-Partial.ensures.partial, begins-more c.args.bytes.now (rw c.in-Ok-Partial.field-0-is at c.in-Ok-Partial.ensures.unfinished))

@@ -2,7 +2,7 @@ use Rattle.std.proofs.Common.{ap, ◌∙◌, subst, sym}
 use Rattle.std.specs.Prelude.{drop}
 use Rattle.response_parse.specs.Response.{Gives}
 use Rattle.response_parse.specs.Heads.{parsed_by_header}
-use Rattle.response_parse.proofs.HeadLaws.{Gives-header, Gives-bad}
+use Rattle.response_parse.proofs.HeadLaws.{Gives-header, Gives-begun, Gives-bad}
 use Rattle.response_parse.proofs.read.read_response.Goals as goal
 
 pub returns-in-Found : goal.returns-in-Found
@@ -15,3 +15,8 @@ pub returns-in-Refused : goal.returns-in-Refused
 returns-in-Refused c =
     let front = rw (c.in-Refused.is, c.as_slice.ensures) at c.in_ok-head.ensures in
     Gives-bad c.args.bytes front
+
+pub returns-in-Begun : goal.returns-in-Begun
+returns-in-Begun c =
+    let front = rw (c.in-Begun.is, c.as_slice.ensures) at c.in_ok-head.ensures in
+    Gives-begun c.args.bytes front

@@ -1,5 +1,5 @@
-use Rattle.tier_model.proofs.Carried.{HoldsHeadline-lawful}
+use Rattle.tier_model.proofs.Carried.{Headline-lawful}
 use Rattle.tier_model.proofs.laws.lawful_histories_hold_the_headline.Goals as goal
 
 pub returns : goal.returns
-returns c = HoldsHeadline-lawful
+returns c = Headline-lawful

@@ -1,5 +1,5 @@
 use Rattle.std.proofs.Common.{◌≡◌, take, vec_len, vec_capacity, length}
-use Rattle.cache_tier.specs.Draws.{Takes}
+use Rattle.cache_tier.specs.Takes.{Takes}
 use Rattle.cache_tier.proofs.tier.Tier.run.Given as goal
 
 abbrev pub invariant-loop-event : goal.invariant-loop-event

@@ -1,0 +1,7 @@
+-- What holds of a result whatever it is.
+use Rattle.std.specs.Prelude.{Result, Ok, Err, OnErr}
+
+-- what holds holds where there is an error
+pub on_err : {T E P : Type 0} (r : Result T E) → P → OnErr r P
+on_err (Ok x) p = tt
+on_err (Err e) p = p

@@ -1,0 +1,5 @@
+//! Trace lines and the program that replays them.
+mod lines;
+mod lockstep;
+mod options;
+mod streams;

@@ -1,0 +1,4 @@
+//! Entries and their texts.
+mod refused;
+mod texts;
+mod values;
