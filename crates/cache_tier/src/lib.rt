@@ -6,3 +6,7 @@ mod keys;
 pub mod laws;
 mod put;
 pub mod tier;
+
+pub use tier::Tier;
+pub use tier_model::event::{Action, Answer, Done, Entries, Event, TierFault};
+pub use tier_model::report::Report;

@@ -30,8 +30,8 @@ use tier_model::requests::Requests;
 
 /// A cache tier over N shards.
 ///
-/// With the default hasher it is for keys that the caller chooses itself; with one whose start the caller takes at random,
-/// strangers can't choose keys whose look-up among the tracked entries or the bodies is slow.
+/// With the default hasher it is for keys and request numbers that the caller chooses itself; with one whose start the caller takes
+/// at random, strangers can't choose some whose look-up among the tracked entries, the bodies or the open requests is slow.
 #[derive(Drop)]
 pub struct Tier<const N: usize, S: BuildHasher = BuildHasherDefault<FoldHasher>> {
     alloc: Global,
@@ -39,7 +39,7 @@ pub struct Tier<const N: usize, S: BuildHasher = BuildHasherDefault<FoldHasher>>
     wait: Option<Duration>,
     // The store of the bodies, in which no write is left in flight and no reader, and the order of use, with the limits.
     parts: Parts<MemCache<S>, Manager<N, S>, (), ()>,
-    requests: Requests,
+    requests: Requests<S>,
     found: u64,
     absent: u64,
 }
@@ -100,7 +100,7 @@ impl<const N: usize> Tier<N, BuildHasherDefault<FoldHasher>> {
 }
 
 impl<const N: usize, S: BuildHasher + Copy> Tier<N, S> {
-    /// The same, with hashes of that start in the tables of tracked entries and of bodies.
+    /// The same, with hashes of that start in the tables of tracked entries, of bodies and of open requests.
     pub fn with_hasher(
         alloc: Global,
         hasher: S,
@@ -127,7 +127,7 @@ impl<const N: usize, S: BuildHasher + Copy> Tier<N, S> {
             age,
             wait,
             parts,
-            requests: Requests::new(alloc),
+            requests: Requests::with_hasher(alloc, hasher),
             found: 0,
             absent: 0,
         })

@@ -34,7 +34,7 @@ pub enum Action {
 }
 
 /// What a tier answers to an event.
-#[derive(Debug, Drop)]
+#[derive(PartialEq, Eq, Debug, Drop)]
 pub enum Answer {
     Opened,
     /// Something is stored. Fresh: its moment isn't past. Complete: all of the body is there.
@@ -54,7 +54,7 @@ pub enum Answer {
 }
 
 /// What a call did before it was refused.
-#[derive(Debug, Drop)]
+#[derive(PartialEq, Eq, Debug, Drop)]
 pub struct Done {
     /// The body was stored, and is removed again.
     pub stored: bool,
@@ -65,7 +65,7 @@ pub struct Done {
 }
 
 /// Why an event was refused.
-#[derive(Debug, Drop)]
+#[derive(PartialEq, Eq, Debug, Drop)]
 pub enum TierFault {
     /// No request of that number is open.
     NoRequest,
@@ -130,7 +130,7 @@ impl Pieces {
 }
 
 /// Evicted entries, in order.
-#[derive(Debug, Drop)]
+#[derive(PartialEq, Eq, Debug, Drop)]
 pub struct Entries {
     items: Vec<CacheEntryKey>,
 }

@@ -7,16 +7,17 @@ ghost use Rattle.std.specs.Ordering.{nat_cmp};
 use crate::state::{Phase, Reader, Request};
 use std::alloc::{AllocError, Global};
 use std::collections::HashMap;
+use std::hash::{BuildHasher, BuildHasherDefault, FoldHasher};
 use std::marker::Model;
 use std::mem;
 
-/// The open requests by their numbers: a finite map.
+/// The open requests by their numbers: a finite map. Numbers are found by their hashes, from a start of the caller's.
 #[derive(Drop)]
-pub struct Requests {
-    table: HashMap<u64, Request>,
+pub struct Requests<S: BuildHasher = BuildHasherDefault<FoldHasher>> {
+    table: HashMap<u64, Request, S>,
 }
 
-impl Model for Requests {
+impl<S: BuildHasher> Model for Requests<S> {
     ghost use Rattle.std.specs.FinMap as finite;
     ghost use Rattle.std.specs.Ordering.{nat_cmp};
     ghost use Rattle.tier_model.specs.declared.state.Request.{Request};
@@ -30,13 +31,13 @@ impl Model for Requests {
     ghost view = { λ r. finite.from_entries r.table.entries };
 }
 
-impl Requests {
-    /// Makes an empty map. It takes no memory.
-    pub fn new(alloc: Global) -> Requests
+impl<S: BuildHasher> Requests<S> {
+    /// Makes an empty map, with hashes of that start. It takes no memory.
+    pub fn with_hasher(alloc: Global, hasher: S) -> Requests<S>
         ensures { result ≡ finite.empty }
     {
         Requests {
-            table: HashMap::new(alloc),
+            table: HashMap::with_hasher(alloc, hasher),
         }
     }
 

@@ -4,6 +4,7 @@ use cache_entries::entry::CacheEntryKey;
 use cache_words::key::CompactCacheKey;
 use cache_words::text::Text;
 use std::alloc::Global;
+use std::hash::{BuildHasherDefault, FoldHasher};
 use tier_model::event::{Entries, Pieces};
 use tier_model::requests::Requests;
 use tier_model::state::{Phase, Reader, Request};
@@ -62,7 +63,7 @@ fn phase_of(alloc: Global, requests: &Requests, number: u64, last: u8) -> Option
 }
 
 fn two_requests(alloc: Global) -> Option<Requests> {
-    let mut requests = Requests::new(alloc);
+    let mut requests = Requests::with_hasher(alloc, BuildHasherDefault::<FoldHasher>::new());
     if requests.get(7).is_some() {
         return None;
     }
