@@ -7,6 +7,9 @@ pub mod laws;
 mod put;
 pub mod tier;
 
+pub use bytes::Bytes;
+pub use cache_words::key::CacheKey;
+pub use cache_words::time::{Duration, Moment};
 pub use tier::Tier;
-pub use tier_model::event::{Action, Answer, Done, Entries, Event, TierFault};
+pub use tier_model::event::{Action, Answer, Done, Entries, Event, Pieces, TierFault};
 pub use tier_model::report::Report;

@@ -130,7 +130,7 @@ impl Pieces {
 }
 
 /// Evicted entries, in order.
-#[derive(PartialEq, Eq, Debug, Drop)]
+#[derive(Debug, Drop)]
 pub struct Entries {
     items: Vec<CacheEntryKey>,
 }
@@ -142,6 +142,28 @@ impl Model for Entries {
     ghost Value = { List CacheEntryKey };
 
     ghost view = { λ e. e.items.items };
+}
+
+impl PartialEq for Entries {
+    ghost use Rattle.std.specs.Cmp.Lexicographic.{pointwise, lists_equiv};
+    ghost use Rattle.std.specs.Cmp.{partial_equiv_from_equiv};
+    ghost use Rattle.cache_entries.specs.SameEntry.{entries_equivalence};
+    ghost use Rattle.cache_entries.specs.Entry.{same_entry};
+
+    ghost eq = { pointwise same_entry };
+
+    ghost laws = { partial_equiv_from_equiv (lists_equiv entries_equivalence) };
+
+    fn eq(&self, other: &Entries) -> bool {
+        self.as_slice() == other.as_slice()
+    }
+}
+
+impl Eq for Entries {
+    ghost use Rattle.std.specs.Cmp.Lexicographic.{lists_equiv};
+    ghost use Rattle.cache_entries.specs.SameEntry.{entries_equivalence};
+
+    ghost laws = { lists_equiv entries_equivalence };
 }
 
 impl Entries {
