@@ -1,0 +1,5 @@
+pub mod Steps
+pub mod Loads
+pub mod Finds
+pub mod Peaks
+pub mod Worked
