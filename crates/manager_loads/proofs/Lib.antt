@@ -1,0 +1,3 @@
+pub mod OneShard
+pub mod InTurn
+pub mod Picks
