@@ -1,5 +1,5 @@
 -- What a request holds of a lock, and what asking for it and leaving it change.
-use Rattle.std.specs.Prelude.{ℕ, Bool, true, false, List, [], Option, Some, None, is_some, option_map, if◌then◌else◌}
+use Rattle.std.specs.Prelude.{ℕ, Bool, true, false, List, Option, Some, None, is_some, option_map, if◌then◌else◌}
 use Rattle.cache_words.specs.Time.{DurationValue, MomentValue}
 use Rattle.cache_lock.specs.declared.tokens.Locked.{Locked}
 use Rattle.cache_lock.specs.declared.tokens.Locked.TheVariants.{Write, Read}
@@ -59,9 +59,17 @@ abbrev pub timeout_in : Option LockCtx → Option DurationValue
 timeout_in None = None
 timeout_in (Some c) = c.wait_timeout
 
+-- the longest time that the request waits in all; none where the lock is off
+abbrev pub timeout_of : RequestLock → Option DurationValue
+timeout_of r = timeout_in r.ctx
+
 abbrev pub retries_in : Option LockCtx → Option ℕ
 retries_in None = None
 retries_in (Some c) = c.max_retries
+
+-- how often the request asks again after a wait; none where the lock is off
+abbrev pub retries_of : RequestLock → Option ℕ
+retries_of r = retries_in r.ctx
 
 -- with that held where the lock is on, and not polled yet
 abbrev pub holding : Option Locked → RequestLock → RequestLock

@@ -6,17 +6,18 @@ use Rattle.cache_lock.specs.declared.status.LockStatus.{LockStatus}
 use Rattle.cache_lock.specs.declared.status.LockStatus.TheVariants as status
 use Rattle.cache_lock.specs.declared.tokens.Locked.{Locked}
 use Rattle.cache_lock.specs.declared.tokens.Locked.TheVariants.{Read}
+use Rattle.cache_lock.specs.declared.fills.UnusableFill.{UnusableFill}
 use Rattle.cache_lock.specs.declared.fills.WaitOutcome.{WaitOutcome}
 use Rattle.cache_lock.specs.declared.fills.WaitOutcome.TheVariants as poll
 use Rattle.cache_lock.specs.declared.fills.LockWaitOutcome.{LockWaitOutcome}
 use Rattle.cache_lock.specs.declared.fills.LockWaitOutcome.TheVariants.{Done, TransientError, Dangling, WaitTimeout, AgeTimeout, GiveUp, Abandoned}
-use Rattle.cache_lock.specs.State.{LockState, after_all}
-use Rattle.cache_lock.specs.Answers.{poll_changes}
+use Rattle.cache_lock.specs.State.{LockState, after_all, status_of}
+use Rattle.cache_lock.specs.Answers.{wait_outcome, poll_changes}
 use Rattle.cache_phases.specs.declared.digest.LockAbandon.{LockAbandon}
 use Rattle.cache_phases.specs.declared.digest.HttpCacheDigest.{HttpCacheDigest}
 use Rattle.cache_phases.specs.declared.request_lock.RequestLock.{RequestLock}
 use Rattle.cache_phases.specs.Digests.{added}
-use Rattle.cache_phases.specs.Locks.{held, timeout_in, let_go, lock_left}
+use Rattle.cache_phases.specs.Locks.{held, timeout_of, let_go, lock_left}
 
 -- the number of the core that is waited for
 abbrev pub number_in : Option Locked → ℕ
@@ -40,7 +41,7 @@ is_over_timeout None before waited = false
 is_over_timeout (Some longest) before waited = at_least waited (difference longest (unwrap_or before (span_of 0)))
 
 abbrev pub is_over : RequestLock → HttpCacheDigest → MomentValue → Bool
-is_over r d moment = is_over_timeout (timeout_in r.ctx) d.lock_duration (time_waited r moment)
+is_over r d moment = is_over_timeout (timeout_of r) d.lock_duration (time_waited r moment)
 
 -- what is told of a permit that has ended, by its status
 abbrev pub released_as : LockStatus → LockWaitOutcome
@@ -63,6 +64,14 @@ abbrev pub told : LockStatus → Bool → Option WaitOutcome → Option LockWait
 told status over (Some found) = Some (ended_as status found)
 told status true None = Some WaitTimeout
 told status false None = None
+
+-- what a poll finds of the core that is waited for
+abbrev pub found_by : RequestLock → List UnusableFill → MomentValue → LockState → Option WaitOutcome
+found_by r fills moment s = wait_outcome (waited_core r) fills moment s
+
+-- what the request is told
+abbrev pub wait_told : RequestLock → HttpCacheDigest → List UnusableFill → MomentValue → LockState → Option LockWaitOutcome
+wait_told r d fills moment s = told (status_of (waited_core r) s) (is_over r d moment) (found_by r fills moment s)
 
 -- the request after a poll: an outcome ends its wait, and else the first poll is kept
 abbrev pub request_polled : Option LockWaitOutcome → MomentValue → RequestLock → RequestLock

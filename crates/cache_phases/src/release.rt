@@ -78,7 +78,7 @@ impl RequestLock {
     )
         requires { is_releasable self.old reason ≡ true }
         ensures request { self.new ≡ let_go self.old }
-        ensures lock { L.state lock.new ≡ lock_released_for (key_in (option_copied key)) (status_for (L.custom lock.old) reason) self.old (L.state lock.old) }
+        ensures lock { L.state lock.new ≡ lock_released_for (key_in (option_copied key.entry)) (status_for (L.custom lock.old) reason) self.old (L.state lock.old) }
     {
         match (key, status_for(lock, reason)) {
             (Some(key), Some(status)) => self.release(lock, key, status),

@@ -111,7 +111,7 @@ impl RequestLock {
         moment: Moment,
     ) -> Result<(), LockFault>
         ensures request { OnOk result (self.new ≡ now_holding (given_by self.old (combined (key_of key.now)) (L.state lock.old)) self.old) }
-        ensures lock { OnOk result (L.state lock.new ≡ lock_held (given_by self.old (combined (key_of key.now)) (L.state lock.old)) self.old (asked self.old (combined (key_of key.now)) stale moment (L.state lock.old))) }
+        ensures lock { let k = combined (key_of key.now) in let s = L.state lock.old in OnOk result (L.state lock.new ≡ lock_held (given_by self.old k s) self.old (asked self.old k stale moment s)) }
         ensures same { OnErr result (self.new ≡ self.old) }
         ensures err { OnErr result (L.state lock.new ≡ L.state lock.old) }
         ensures refused_on { OnErr result (is_on self.old ≡ true) }

@@ -2,8 +2,8 @@
 ghost use Rattle.std.specs.Prelude.{◌≡◌, true, Some};
 ghost use Rattle.cache_lock.specs.State.{status_of, after_all};
 ghost use Rattle.cache_lock.specs.Answers.{wait_outcome, poll_changes};
-ghost use Rattle.cache_phases.specs.Locks.{waits, timeout_in};
-ghost use Rattle.cache_phases.specs.Waits.{waited_core, first_poll, time_waited, is_over_timeout, is_over, released_as, ended_as, told, request_polled, lock_polled, digest_polled};
+ghost use Rattle.cache_phases.specs.Locks.{waits, timeout_of};
+ghost use Rattle.cache_phases.specs.Waits.{first_poll, time_waited, is_over_timeout, released_as, ended_as, told, found_by, wait_told, request_polled, lock_polled, digest_polled};
 
 use crate::digest::{HttpCacheDigest, LockAbandon};
 use crate::request_lock::RequestLock;
@@ -95,7 +95,7 @@ impl RequestLock {
 
     // Whether a wait of that length is at least as long as the longest one, less what the request waited before.
     fn is_over(&self, before: Option<Duration>, waited: Duration) -> bool
-        ensures { result ≡ is_over_timeout (timeout_in self.now.ctx) before waited }
+        ensures { result ≡ is_over_timeout (timeout_of self.now) before waited }
     {
         match self.wait_timeout() {
             Some(longest) => {
@@ -119,9 +119,9 @@ impl RequestLock {
         moment: Moment,
     ) -> Option<LockWaitOutcome>
         requires { waits self.old ≡ true }
-        ensures outcome { let s = L.state lock.old in let n = waited_core self.old in result ≡ told (status_of n s) (is_over self.old digest.old moment) (wait_outcome n unusable.now.fills.items moment s) }
+        ensures outcome { result ≡ wait_told self.old digest.old unusable.now.fills.items moment (L.state lock.old) }
         ensures request { self.new ≡ request_polled result moment self.old }
-        ensures lock { let s = L.state lock.old in L.state lock.new ≡ lock_polled self.old (wait_outcome (waited_core self.old) unusable.now.fills.items moment s) result s }
+        ensures lock { let s = L.state lock.old in L.state lock.new ≡ lock_polled self.old (found_by self.old unusable.now.fills.items moment s) result s }
         ensures digest { digest.new ≡ digest_polled result (time_waited self.old moment) digest.old }
     {
         let first = self.first_poll(moment);

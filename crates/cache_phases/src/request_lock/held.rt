@@ -1,6 +1,6 @@
 //! What is held, seen and taken out.
 ghost use Rattle.std.specs.Prelude.{◌≡◌, Some, option_copied};
-ghost use Rattle.cache_phases.specs.Locks.{is_on, held, holds_permit, waits, timeout_in, retries_in, holding, let_go, spare_in};
+ghost use Rattle.cache_phases.specs.Locks.{is_on, held, holds_permit, waits, timeout_of, retries_of, holding, let_go, spare_in};
 
 use crate::lock_ctx::LockCtx;
 use crate::request_lock::RequestLock;
@@ -41,7 +41,7 @@ impl RequestLock {
 
     /// Returns the longest time that the request waits in all; none where the lock is off.
     pub fn wait_timeout(&self) -> Option<Duration>
-        ensures { result ≡ timeout_in self.now.ctx }
+        ensures { result ≡ timeout_of self.now }
     {
         match &self.ctx {
             Some(ctx) => ctx.wait_timeout,
@@ -51,7 +51,7 @@ impl RequestLock {
 
     /// Returns how often the request asks again after a wait; none where the lock is off.
     pub fn max_retries(&self) -> Option<usize>
-        ensures { result ≡ retries_in self.now.ctx }
+        ensures { result ≡ retries_of self.now }
     {
         match &self.ctx {
             Some(ctx) => ctx.max_retries,
