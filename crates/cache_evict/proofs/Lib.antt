@@ -15,3 +15,6 @@ pub mod ReloadLaws
 pub mod TextLaws
 pub mod OneLaws
 pub mod AlikeLaws
+pub mod SaveLaws
+pub mod FileLoadLaws
+pub mod RecoveryLaws

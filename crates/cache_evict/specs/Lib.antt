@@ -6,3 +6,6 @@ pub mod Refusals
 pub mod Faults
 pub mod Loads
 pub mod LoadTexts
+pub mod Stored
+pub mod Saves
+pub mod FileLoads

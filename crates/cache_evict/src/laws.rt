@@ -5,6 +5,8 @@ ghost use Rattle.std.specs.List.{AllByRecursion};
 ghost use Rattle.cache_entries.specs.Rows.{AreDistinct};
 ghost use Rattle.cache_entries.specs.declared.rows.Tracked.{Tracked};
 ghost use Rattle.cache_evict.specs.Loads.{appended, restored, all_put, SpellEach, LoadsInTurn};
+ghost use Rattle.cache_evict.specs.FileLoads.{HasRows, TakesShard};
+ghost use Rattle.lru_files.specs.Load as file;
 ghost use Rattle.rand_core.specs.Stream.{Stream};
 ghost use Rattle.cache_entries.specs.declared.entry.CacheEntryKey.{CacheEntryKey};
 ghost use Rattle.cache_evict.specs.Managed.{Managed, IsSharded, fresh, rows_at, shard_of};
@@ -12,6 +14,7 @@ ghost use Rattle.cache_evict.specs.Runs.{Call, AreSized, Runs};
 
 use crate::manager::EvictionManager;
 use crate::{lru, simple_lru};
+use lru_files::persistence::Folder;
 
 type Shard = lru::Manager<1>;
 
@@ -39,4 +42,12 @@ pub fn written_rows_are_read()
 pub fn saved_shards_are_loaded()
     ensures { (n limit : ℕ) (watermark : Option ℕ) (m new : Managed) (texts : List (List ℕ)) → IsSharded n m → SpellEach m.shards texts
         → LoadsInTurn n texts (fresh n limit watermark) new → new.shards ≡ m.shards }
+{}
+
+/// Files of the rows of shards, each file by itself, loaded in turn into as many fresh shards, give the same shards, whatever the
+/// limits are; a shard without rows may have no file.
+pub fn saved_files_are_loaded<F: Folder>()
+    ensures { (files : ℕ → Option (List ℕ)) (n limit : ℕ) (watermark : Option ℕ) (m new : Managed) (loaded absent : ℕ) → F.keeps → IsSharded n m
+        → ((i : ℕ) → i < n → HasRows (rows_at m.shards i) (files i))
+        → file.Loads F.keeps files (TakesShard n) n loaded absent [] (fresh n limit watermark) new → new.shards ≡ m.shards }
 {}

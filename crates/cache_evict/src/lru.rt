@@ -8,7 +8,10 @@ ghost use Rattle.cache_entries.specs.declared.rows.Tracked.{Tracked};
 ghost use Rattle.cache_evict.specs.Loads.{Loads, LoadsText, CantBeWritten};
 ghost use Rattle.cache_evict.specs.Managed.{Evicts, IsLast, IsSharded, fresh, rows_at, rows_of, shard_of, put_first, use_first, taken_out, weight_after, is_over, pick_by_draws, total_size, total_items};
 ghost use Rattle.cache_evict.specs.Faults.{evicted_of, IsPutRefused, StopsAt};
+ghost use Rattle.cache_evict.specs.Stored.{lru_stored};
 ghost use Rattle.entry_numbers.specs.Parts.{entry_with_parts};
+
+mod building;
 
 use crate::fault::EvictFault;
 use crate::load_fault::LoadFault;
@@ -19,6 +22,7 @@ use cache_entries::pack::entry_hash;
 use cache_words::pack::PackWriteFault;
 use cache_words::time::Moment;
 use entry_numbers::KeyParts;
+use lru_files::persistence::{Folder, ShardLoadReport, ShardSaveReport};
 use rand_core::Rng;
 use std::alloc::{AllocError, Global};
 use std::fmt;
@@ -51,38 +55,6 @@ impl<const N: usize, S: BuildHasher> fmt::Debug for Manager<N, S> {
             .field("total_size", &self.tracker.total_size())
             .field("total_items", &self.tracker.total_items())
             .finish_non_exhaustive()
-    }
-}
-
-impl<const N: usize> Manager<N, BuildHasherDefault<FoldHasher>> {
-    /// Returns N shards without entries, which may weigh `limit` together, in the unit of the sizes, as bytes. Room for `capacity`
-    /// entries is reserved, of which no clause speaks.
-    ///
-    /// # Errors
-    ///
-    /// No memory for the shards or that room.
-    pub fn with_capacity(alloc: Global, limit: usize, capacity: usize) -> Result<Self, AllocError>
-        requires { 0 < N }
-        ensures { IfOk result (λ m. m ≡ fresh N limit None) }
-    {
-        Manager::with_capacity_and_watermark(alloc, limit, capacity, None)
-    }
-
-    /// The same, with a number of entries past which an eviction also takes some.
-    ///
-    /// # Errors
-    ///
-    /// Those of `with_capacity`.
-    pub fn with_capacity_and_watermark(
-        alloc: Global,
-        limit: usize,
-        capacity: usize,
-        watermark: Option<usize>,
-    ) -> Result<Self, AllocError>
-        requires { 0 < N }
-        ensures { IfOk result (λ m. m ≡ fresh N limit watermark) }
-    {
-        Manager::with_hasher(alloc, BuildHasherDefault::new(), limit, capacity, watermark)
     }
 }
 
@@ -216,6 +188,8 @@ impl<const N: usize, S: BuildHasher> EvictionManager for Manager<N, S> {
 
     ghost pick = { pick_by_draws N };
 
+    ghost stored = { lru_stored };
+
     fn total_size(&self) -> usize {
         self.tracker.total_size()
     }
@@ -289,5 +263,24 @@ impl<const N: usize, S: BuildHasher> EvictionManager for Manager<N, S> {
 
     fn remove(&mut self, item: CacheEntryKeyRef<'_>) {
         self.tracker.remove(item);
+    }
+
+    fn save<F: Folder>(
+        &self,
+        alloc: Global,
+        folder: &mut F,
+        dir: &str,
+        words: &[u32],
+    ) -> Result<ShardSaveReport<PackWriteFault>, EvictFault> {
+        self.tracker.save_shards(alloc, folder, dir, words)
+    }
+
+    fn load<F: Folder>(
+        &mut self,
+        alloc: Global,
+        folder: &mut F,
+        dir: &str,
+    ) -> Result<ShardLoadReport<LoadFault>, EvictFault> {
+        self.tracker.load_shards(alloc, folder, dir)
     }
 }

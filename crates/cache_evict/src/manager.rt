@@ -1,23 +1,30 @@
 //! What every manager of entries does.
 
-ghost use Rattle.std.specs.Prelude.{◌≡◌, ◌≢◌, ◌<◌, ◌^◌, ℕ, List, [], None, false, is_some, IsOk, IfOk, IfErr, OnOk, OnErr};
+ghost use Rattle.std.specs.Prelude.{◌≡◌, ◌≢◌, ◌<◌, ◌^◌, ℕ, List, [], length, None, false, is_some, IsOk, IfOk, IfErr, OnOk, OnErr};
 ghost use Rattle.rand_core.specs.Stream.{Stream};
 ghost use Rattle.cache_entries.specs.declared.rows.Tracked.{Tracked};
 ghost use Rattle.cache_entries.specs.Entry.{owned_of};
 ghost use Rattle.cache_entries.specs.Rows.{weight_of};
 ghost use Rattle.cache_evict.specs.Faults.{evicted_of, IsPutRefused, StopsAt};
+ghost use Rattle.cache_evict.specs.FileLoads.{LoadsStored};
 ghost use Rattle.cache_evict.specs.Managed.{Managed, Evicts, IsSharded, rows_of, put_first, use_first, taken_out, weight_after, weighed_first, is_over, total_size, total_items};
+ghost use Rattle.cache_evict.specs.Saves.{AreOldOrWhole, Saves};
+ghost use Rattle.cache_evict.specs.Stored.{Stored, file_at, temp_at};
+ghost use Rattle.lru_files.specs.Folder.{StopsLeave};
 
 use crate::fault::EvictFault;
+use crate::load_fault::LoadFault;
 use cache_entries::entry::{CacheEntryKey, CacheEntryKeyRef};
+use cache_words::pack::PackWriteFault;
 use cache_words::time::Moment;
+use lru_files::persistence::{Folder, ShardLoadReport, ShardSaveReport};
 use rand_core::Rng;
 use std::alloc::Global;
 
 /// What tracks entries with their weights, in the order of their uses, and evicts some where a limit is passed.
 ///
-/// A contract sees what it holds, the number of its shards, what an entry weighs that is put with a weight, and how the shard
-/// is picked from which the next entry goes.
+/// A contract sees what it holds, the number of its shards, what an entry weighs that is put with a weight, how the shard
+/// is picked from which the next entry goes, and the files that its shards are stored in.
 pub trait EvictionManager {
     ghost managed: { Self → Managed };
 
@@ -26,6 +33,8 @@ pub trait EvictionManager {
     ghost weighed: { ℕ → ℕ };
 
     ghost pick: { List (List Tracked) → Stream → ℕ × Stream };
+
+    ghost stored: { Stored };
 
     /// Returns the weight of all entries, in the unit of their sizes, as bytes.
     fn total_size(&self) -> usize
@@ -114,4 +123,38 @@ pub trait EvictionManager {
     /// Takes an entry out.
     fn remove(&mut self, item: CacheEntryKeyRef<'_>)
         ensures { managed self.new ≡ taken_out shard_count (owned_of item.entry) (managed self.old) };
+
+    /// Saves the entries of each shard with their weights to a file in `dir`, which is made first. The texts are written under
+    /// temporary names, which the words tell apart; a word is for one save alone. Wherever the save is stopped, each shard's
+    /// file is as before or has the whole text. Those that failed are in the report.
+    ///
+    /// # Errors
+    ///
+    /// `File` where no shard was saved. `Memory` where there is no memory for the report: nothing was done.
+    fn save<F: Folder>(
+        &self,
+        alloc: Global,
+        folder: &mut F,
+        dir: &str,
+        words: &[u32],
+    ) -> Result<ShardSaveReport<PackWriteFault>, EvictFault>
+        requires words { length words.now ≡ shard_count }
+        ensures saved { Saves F.did F.failures_of F.keeps F.files (managed self.now) shard_count (file_at stored dir.now) (temp_at stored dir.now words.now) dir.now folder.old folder.new result }
+        ensures stops { F.keeps → StopsLeave F.did F.opened F.files
+            (AreOldOrWhole (managed self.now) shard_count (file_at stored dir.now) (temp_at stored dir.now words.now) (F.files folder.old)) folder.old folder.new };
+
+    /// Loads what was saved to `dir`: each row's entry goes into the shard of its own hash, with its weight as it stands. It
+    /// evicts nothing. Where a text is faulty, or a row can't be put, the rows before stay, and its shard counts as errored.
+    ///
+    /// # Errors
+    ///
+    /// `File` of a manager of one list alone: its file is absent, can't be read, or is faulty. `Memory` where there is no memory
+    /// for the report: nothing was done.
+    fn load<F: Folder>(
+        &mut self,
+        alloc: Global,
+        folder: &mut F,
+        dir: &str,
+    ) -> Result<ShardLoadReport<LoadFault>, EvictFault>
+        ensures { LoadsStored F.did F.failures_of F.keeps F.files shard_count stored dir.now (managed self.old) (managed self.new) folder.old folder.new result };
 }

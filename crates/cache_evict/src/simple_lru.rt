@@ -7,6 +7,7 @@ ghost use Rattle.cache_entries.specs.RowText.{SpellsRecency, recency_at, recency
 ghost use Rattle.cache_entries.specs.Rows.{weight_of};
 ghost use Rattle.cache_evict.specs.Faults.{evicted_of, IsPutRefused, StopsAt};
 ghost use Rattle.cache_evict.specs.Loads.{Loads, LoadsText, CantBeWritten};
+ghost use Rattle.cache_evict.specs.Stored.{simple_stored};
 ghost use Rattle.cache_evict.specs.Managed.{Evicts, fresh, rows_at, rows_of, put_first, use_first, taken_out, weight_after, is_over, pick_first, total_size, total_items};
 
 use crate::fault::EvictFault;
@@ -16,6 +17,7 @@ use crate::tracker::{Again, Tracker};
 use cache_entries::entry::{CacheEntryKey, CacheEntryKeyRef};
 use cache_words::pack::PackWriteFault;
 use cache_words::time::Moment;
+use lru_files::persistence::{Folder, ShardLoadReport, ShardSaveReport};
 use rand_core::Rng;
 use std::alloc::{AllocError, Global};
 use std::fmt;
@@ -146,6 +148,8 @@ impl<const N: usize, S: BuildHasher> EvictionManager for OneList<N, S> {
 
     ghost pick = { pick_first };
 
+    ghost stored = { simple_stored };
+
     fn total_size(&self) -> usize {
         self.tracker.total_size()
     }
@@ -215,5 +219,24 @@ impl<const N: usize, S: BuildHasher> EvictionManager for OneList<N, S> {
 
     fn remove(&mut self, item: CacheEntryKeyRef<'_>) {
         self.tracker.remove(item);
+    }
+
+    fn save<F: Folder>(
+        &self,
+        alloc: Global,
+        folder: &mut F,
+        dir: &str,
+        words: &[u32],
+    ) -> Result<ShardSaveReport<PackWriteFault>, EvictFault> {
+        self.tracker.save_file(alloc, folder, dir, words)
+    }
+
+    fn load<F: Folder>(
+        &mut self,
+        alloc: Global,
+        folder: &mut F,
+        dir: &str,
+    ) -> Result<ShardLoadReport<LoadFault>, EvictFault> {
+        self.tracker.load_file(alloc, folder, dir)
     }
 }

@@ -9,6 +9,7 @@ ghost use Rattle.entry_numbers.specs.Parts.{entry_with_parts};
 ghost use Rattle.cache_evict.specs.Refusals.{IsRefusal};
 
 mod eviction;
+mod files;
 mod hashing;
 mod loading;
 mod refusal;
