@@ -22,7 +22,7 @@ use Rattle.cache_store.specs.declared.storage.PurgeOutcome.{PurgeOutcome}
 use Rattle.cache_store.specs.declared.storage.PurgeOutcome.TheVariants.{Purged, NotFound}
 use Rattle.mem_cache.specs.Misses.{are_numbers_spent}
 use Rattle.cache_store.specs.Wholes.{Stores, GivenUp, with_whole}
-use Rattle.pingora_cache.specs.Stored.{Purged as ArePurged}
+use Rattle.cache_parts.specs.Stored.{Purged as ArePurged}
 use Rattle.tier_model.specs.Calls.{History, writes_after}
 use Rattle.tier_model.specs.Histories.{Opening}
 use Rattle.tier_model.specs.Past.{HasPast}

@@ -11,10 +11,11 @@ use Rattle.cache_evict.specs.declared.fault.EvictFault.{EvictFault}
 use Rattle.cache_evict.specs.declared.fault.EvictFault.TheVariants as evict
 use Rattle.cache_evict.specs.Faults.{evicted_of, IsPutRefused, StopsAt, IsMemory}
 use Rattle.cache_evict.specs.Managed.{Managed, Evicts, rows_of, put_first, taken_out, pick_by_draws, is_over, total_size, IsHeavy, IsLong, IsFull, HasNoOtherReason, IsSharded}
-use Rattle.pingora_cache.specs.declared.put.outcome.Done.{Done as PutDone}
+use Rattle.cache_parts.specs.declared.done.Done.{Done as PutDone}
 use Rattle.pingora_cache.specs.declared.put.outcome.PutFault.{PutFault}
 use Rattle.pingora_cache.specs.declared.put.outcome.PutFault.TheVariants as put
-use Rattle.pingora_cache.specs.Put.{IsDone, IsTold, was_admitted, is_empty}
+use Rattle.cache_parts.specs.Admissions.{IsDone, was_admitted, is_empty}
+use Rattle.pingora_cache.specs.Put.{IsTold}
 use Rattle.tier_model.specs.Keys.{alone}
 use Rattle.tier_model.specs.declared.event.Done.{Done}
 use Rattle.tier_model.specs.declared.event.TierFault.{TierFault}

@@ -19,11 +19,12 @@ use Rattle.cache_store.specs.Held.{Held}
 use Rattle.mem_cache.specs.Misses.{are_numbers_spent}
 use Rattle.response_parse.specs.Response.{parsed_of}
 use Rattle.cache_store.specs.declared.storage.MissFinishType.TheVariants.{Created}
-use Rattle.pingora_cache.specs.Put.{Rules, Cache, rules_of, compact, IsOutOfMemory, IsDone, IsSame, RanOut, IsAdmitted, IsTakenBack, IsStoredThen, IsWriteRefused, IsPut, IsOutcome, Puts}
+use Rattle.cache_parts.specs.Admissions.{Rules, Cache, rules_of, compact, IsDone, IsAdmitted}
+use Rattle.pingora_cache.specs.Put.{IsOutOfMemory, IsSame, RanOut, IsTakenBack, IsStoredThen, IsWriteRefused, IsPut, IsOutcome, Puts}
 use Rattle.pingora_cache.specs.Response as cache
 use Rattle.pingora_cache.specs.declared.put.whole.Whole.{Whole as Given}
 use Rattle.pingora_cache.specs.declared.put.whole.Whole.TheVariants as given
-use Rattle.pingora_cache.specs.declared.put.outcome.Done.{Done as PutDone}
+use Rattle.cache_parts.specs.declared.done.Done.{Done as PutDone}
 use Rattle.pingora_cache.specs.declared.put.outcome.PutOutcome.{PutOutcome}
 use Rattle.pingora_cache.specs.declared.put.outcome.PutOutcome.TheVariants.{Stored, Uncacheable}
 use Rattle.pingora_cache.specs.declared.put.outcome.PutFault.{PutFault}

@@ -8,7 +8,7 @@ use Rattle.cache_heads.specs.declared.reason.NoCacheReason.TheVariants.{OriginNo
 use Rattle.cache_heads.specs.declared.reason.RespCacheable.{RespCacheable}
 use Rattle.cache_heads.specs.declared.reason.RespCacheable.TheVariants as verdict
 use Rattle.pingora_cache.specs.Response.{verdict_by_headers}
-use Rattle.pingora_cache.specs.declared.put.outcome.Done.{Done as PutDone}
+use Rattle.cache_parts.specs.declared.done.Done.{Done as PutDone}
 use Rattle.pingora_cache.specs.declared.put.outcome.PutOutcome.{PutOutcome}
 use Rattle.pingora_cache.specs.declared.put.outcome.PutOutcome.TheVariants.{Stored, Uncacheable}
 use Rattle.pingora_cache.specs.declared.put.outcome.PutFault.{PutFault}

@@ -19,7 +19,7 @@ use cache_evict::lru::Manager;
 use cache_words::time::Duration;
 use faults::nothing_done;
 use mem_cache::MemCache;
-use pingora_cache::Parts;
+use pingora_cache::{NoPolicy, Parts};
 use rand_core::Rng;
 use std::alloc::{AllocError, Global};
 use std::hash::{BuildHasher, BuildHasherDefault, FoldHasher};
@@ -121,6 +121,7 @@ impl<const N: usize, S: BuildHasher + Copy> Tier<N, S> {
             manager,
             predictor: (),
             lock: (),
+            policy: NoPolicy,
         };
         Ok(Tier {
             alloc,

@@ -1,3 +1,2 @@
-mod PurgeLaws
 mod PutLaws
 mod ReadLaws

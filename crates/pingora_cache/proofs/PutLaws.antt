@@ -1,6 +1,6 @@
 -- What comes of a put, by what its steps gave.
 use Rattle.std.proofs.Common.{◌≡◌, ℕ, refl, ap, sym, ◌∙◌, subst, inl, inr, length, List}
-use Rattle.std.specs.Prelude.{Option, Some, option_map, Result, Ok, Err}
+use Rattle.std.specs.Prelude.{Bool, Option, Some, option_map, Result, Ok, Err}
 use Rattle.std.specs.Global.{Vec}
 use Rattle.rand_core.specs.Stream.{Stream}
 use Rattle.cache_words.specs.Key.{Key, combined}
@@ -20,10 +20,29 @@ use Rattle.pingora_cache.specs.declared.put.outcome.PutFault.{PutFault}
 use Rattle.cache_store.specs.declared.storage.MissFinishType.{MissFinishType}
 use Rattle.cache_store.specs.Ids.{IsGiven}
 use Rattle.cache_store.specs.Wholes.{Stores, IsWriteFault, whole_of}
-use Rattle.pingora_cache.specs.Put.{Rules, Cache, cache_of, compact, IsStoreFaultTold, IsAdmitted, IsTakenBack, IsPut, IsOutcome, Puts}
+use Rattle.cache_evict.specs.declared.fault.EvictFault.{EvictFault}
+use Rattle.cache_evict.specs.declared.fault.EvictFault.TheVariants as evict
+use Rattle.cache_parts.specs.declared.done.AdmitFault.{AdmitFault}
+use Rattle.cache_parts.specs.declared.done.AdmitFault.TheVariants as admit
+use Rattle.cache_parts.specs.Admissions.{Rules, Cache, cache_of, compact, IsAdmitted}
+use Rattle.cache_parts.specs.Admissions as admissions
+use Rattle.pingora_cache.specs.Put.{IsStoreFaultTold, IsTold, fault_of_admission, IsTakenBack, IsPut, IsOutcome, Puts}
 
 pub entry-of : (c : CompactCacheKey) (k : Key) (id : Option ℕ) (e : CacheEntryKey) → compact_view c ≡ k → e ≡ entry_with c id → e ≡ entry_with (compact k) id
 entry-of c k id e same made = made ∙ ap (λ (k : Key). entry_with (compact k) id) same
+
+-- a fault of the admission is told as one of the put
+told-as-put : (a : Bool) (cause : EvictFault) (fault : AdmitFault) → admissions.IsTold a cause fault → IsTold a cause (fault_of_admission fault)
+told-as-put a (evict.Memory v) (admit.Memory done) t = t
+told-as-put a (evict.Weight v) (admit.Weight done) t = t
+told-as-put a (evict.Length v) (admit.Length done) t = t
+told-as-put a (evict.NumbersSpent v) (admit.NumbersSpent done) t = t
+told-as-put a _ _ t = absurd t
+
+pub taken-back-as-put : {S : Type 0} (rules : Rules S) (finish : MissFinishType) (e : CacheEntryKey) (fault : AdmitFault) (old new : Cache S) → admissions.IsTakenBack rules admissions.IsTold finish e fault old new
+    → IsTakenBack rules finish e (fault_of_admission fault) old new
+taken-back-as-put rules finish e fault old new t =
+    record { cause = t.cause; left = t.left; purged = t.purged; stops = t.stops; purges = t.purges; removes = t.removes; managed = t.managed; told = told-as-put _ t.cause fault t.told }
 
 module _ {S : Type 0} (rules : Rules S) (key : Key) where
   pub puts-of : (gives : Whole → Type 0) (w : Whole) (r : Result PutOutcome PutFault) (old new : Cache S) → gives w → IsOutcome rules key w r old new

@@ -1,4 +1,3 @@
 pub mod Response
-pub mod Stored
 pub mod Put
 pub mod Texts

@@ -1,82 +1,28 @@
 -- What a put gives, and what it leaves.
-use Rattle.std.specs.Prelude.{◌≡◌, ℕ, ◌<◌, ◌^◌, max, Bool, true, false, not, ◌||◌, is_some, List, [], ◌∷◌, length, Option, Some, option_map, Result, Ok, Err, ◌⊎◌}
-use Rattle.rand_core.specs.Stream.{Stream}
+use Rattle.std.specs.Prelude.{◌≡◌, ℕ, Bool, true, false, List, [], length, Some, option_map, Result, Ok, Err, ◌⊎◌}
 use Rattle.cache_words.specs.Key.{Key, combined}
-use Rattle.cache_words.specs.declared.key.CompactCacheKey.{CompactCacheKey}
 use Rattle.cache_heads.specs.declared.meta.CacheMeta.{CacheMeta}
 use Rattle.cache_metas.specs.Internal.{IsWritable}
-use Rattle.cache_entries.specs.declared.entry.CacheEntryId.{CacheEntryId}
 use Rattle.cache_entries.specs.declared.entry.CacheEntryKey.{CacheEntryKey}
-use Rattle.cache_entries.specs.declared.rows.Tracked.{Tracked}
-use Rattle.cache_entries.specs.Entry.{entry_with, key_of, number_of}
-use Rattle.cache_entries.specs.Rows.{weight_of}
-use Rattle.cache_changes.specs.Changes.{StoredKey, stored_key}
-use Rattle.cache_changes.specs.Store as changes
+use Rattle.cache_entries.specs.Entry.{entry_with, number_of}
 use Rattle.cache_evict.specs.declared.fault.EvictFault.{EvictFault}
 use Rattle.cache_evict.specs.declared.fault.EvictFault.TheVariants as evict
-use Rattle.cache_evict.specs.Faults.{StopsAt, evicted_of}
-use Rattle.cache_evict.specs.Managed.{Managed, Evicts, put_first, weight_after, taken_out, rows_of, total_size, is_over}
 use Rattle.cache_store.specs.declared.storage.StoreFault.{StoreFault}
 use Rattle.cache_store.specs.declared.storage.StoreFault.TheVariants as store
 use Rattle.cache_store.specs.declared.storage.MissFinishType.{MissFinishType}
-use Rattle.cache_store.specs.declared.storage.MissFinishType.TheVariants.{Created, Appended}
-use Rattle.cache_store.specs.Held.{Held}
 use Rattle.cache_store.specs.Ids.{SameBut}
 use Rattle.pingora_cache.specs.declared.put.whole.Whole.{Whole}
 use Rattle.pingora_cache.specs.declared.put.whole.Whole.TheVariants as whole
-use Rattle.pingora_cache.specs.declared.put.outcome.Done.{Done}
+use Rattle.cache_parts.specs.declared.done.Done.{Done}
+use Rattle.cache_parts.specs.declared.done.AdmitFault.{AdmitFault}
+use Rattle.cache_parts.specs.declared.done.AdmitFault.TheVariants as admit
+use Rattle.cache_parts.specs.Admissions.{Rules, Cache, compact, IsDone, IsAdmitted}
+use Rattle.cache_parts.specs.Admissions as admissions
 use Rattle.pingora_cache.specs.declared.put.outcome.PutOutcome.{PutOutcome}
 use Rattle.pingora_cache.specs.declared.put.outcome.PutOutcome.TheVariants.{Stored, Uncacheable}
 use Rattle.pingora_cache.specs.declared.put.outcome.PutFault.{PutFault}
 use Rattle.pingora_cache.specs.declared.put.outcome.PutFault.TheVariants.{BadHead, ResponseTooLarge, Incomplete, MetaMoment, WriteNumbersSpent, Weight, Length, NumbersSpent, Memory}
 use Rattle.cache_store.specs.Wholes.{Stores, GivenUp, whole_of}
-use Rattle.pingora_cache.specs.Stored.{Purged, Removed}
-
--- what is known of a store and of a manager of entries by their traits
-pub record Rules (S : Type 0) : Type 1 where
-  pub held : S → Held
-  pub ids : S → StoredKey → Option CacheEntryId
-  pub is_spent : Held → Bool
-  pub told : changes.Stored CacheMeta → MissFinishType
-  pub shards : ℕ
-  pub weighed : ℕ → ℕ
-  pub pick : List (List Tracked) → Stream → ℕ × Stream
-
--- a store, the order of use, and the words that a generator has yet to give
-pub record Cache (S : Type 0) : Type 0 where
-  pub store : S
-  pub managed : Managed
-  pub words : Stream
-
-abbrev pub rules_of : {S : Type 0} → (S → Held) → (S → StoredKey → Option CacheEntryId) → (Held → Bool) → (changes.Stored CacheMeta → MissFinishType) → ℕ → (ℕ → ℕ) → (List (List Tracked) → Stream → ℕ × Stream) → Rules S
-rules_of held ids is_spent told shards weighed pick = record { held = held; ids = ids; is_spent = is_spent; told = told; shards = shards; weighed = weighed; pick = pick }
-
-abbrev pub cache_of : {S : Type 0} → S → Managed → Stream → Cache S
-cache_of store managed words = record { store = store; managed = managed; words = words }
-
--- a key as a cache keeps it
-abbrev pub compact : Key → CompactCacheKey
-compact k = record { primary = k.primary; variance = k.variance; user_tag = k.user_tag }
-
--- what an entry weighs in the order of use whose body has that weight in its store
-abbrev pub weight_for : ℕ → ℕ
-weight_for weight = max 1 weight
-
--- the weight of an entry in n shards once a finish is told of it: that of its body, or where something was added to the body that much
--- more than it weighed
-abbrev pub weight_then : ℕ → (ℕ → ℕ) → MissFinishType → CacheEntryKey → Managed → ℕ
-weight_then n weighed (Created weight) e m = weighed (weight_for weight)
-weight_then n weighed (Appended delta cap) e m = weight_after n e delta cap m
-
-abbrev pub is_empty : {A : Type 0} → List A → Bool
-is_empty [] = true
-is_empty (x ∷ xs) = false
-
--- what was done before a refusal
-pub record IsDone (is_stored is_admitted : Bool) (gone : List CacheEntryKey) (done : Done) : Type 0 where
-  pub stored : done.stored ≡ is_stored
-  pub admitted : done.admitted ≡ is_admitted
-  pub evicted : done.evicted.items ≡ gone
 
 -- memory ran out before anything was done
 abbrev pub IsOutOfMemory : PutFault → Type 0
@@ -96,15 +42,12 @@ IsTold admitted (evict.Length v) (Length done) = IsDone true admitted v.items do
 IsTold admitted (evict.NumbersSpent v) (NumbersSpent done) = IsDone true admitted v.items done
 IsTold admitted _ _ = ⊥
 
--- whether an entry was admitted before a fault that left this order of use, of n shards
-abbrev pub was_admitted : ℕ → CacheEntryKey → EvictFault → Managed → Bool
-was_admitted n e (evict.Memory v) m = not (is_empty v.items) || is_some (weight_of e (rows_of n e m))
-was_admitted n e _ m = false
-
--- no file is at fault
-abbrev pub IsWithoutFile : EvictFault → Type 0
-IsWithoutFile (evict.File v) = ⊥
-IsWithoutFile _ = Unit {0}
+-- a fault of the admission as one of a put
+abbrev pub fault_of_admission : AdmitFault → PutFault
+fault_of_admission (admit.Weight done) = Weight done
+fault_of_admission (admit.Length done) = Length done
+fault_of_admission (admit.NumbersSpent done) = NumbersSpent done
+fault_of_admission (admit.Memory done) = Memory done
 
 module _ {S : Type 0} (rules : Rules S) where
   -- nothing has changed
@@ -120,28 +63,10 @@ module _ {S : Type 0} (rules : Rules S) where
     pub managed : new.managed ≡ old.managed
     pub words : new.words ≡ old.words
 
-  -- the order of use with that entry first, as a finish tells of it
-  abbrev pub followed : MissFinishType → CacheEntryKey → Managed → Managed
-  followed finish e m = put_first rules.shards e (weight_then rules.shards rules.weighed finish e m) m
-
-  -- an entry was admitted as its finish tells, these were evicted, and what is stored of them was purged
-  pub record IsAdmitted (finish : MissFinishType) (e : CacheEntryKey) (evicted : List CacheEntryKey) (old new : Cache S) : Type 0 where
-    pub evicts : Evicts rules.pick (followed finish e old.managed) evicted old.words new.managed new.words
-    pub within : is_over new.managed ≡ false
-    pub fits : total_size (followed finish e old.managed) < 2 ^ 64
-    pub purged : Purged rules.held rules.ids evicted old.store new.store
-
   -- an entry was not admitted, or memory ran out in the evictions: what was evicted until then is purged, and then what is
   -- stored under the entry's key is removed with the entry
-  pub record IsTakenBack (finish : MissFinishType) (e : CacheEntryKey) (fault : PutFault) (old new : Cache S) : Type 0 where
-    pub cause : EvictFault
-    pub left : Managed
-    pub purged : S
-    pub stops : StopsAt rules.pick rules.shards e (weight_then rules.shards rules.weighed finish e old.managed) old.managed old.words cause left new.words
-    pub purges : Purged rules.held rules.ids (evicted_of cause) old.store purged
-    pub removes : Removed rules.held rules.ids (stored_key (key_of e)) purged new.store
-    pub managed : new.managed ≡ taken_out rules.shards e left
-    pub told : IsTold (was_admitted rules.shards e cause left) cause fault
+  abbrev pub IsTakenBack : MissFinishType → CacheEntryKey → PutFault → Cache S → Cache S → Type 0
+  IsTakenBack finish e fault old new = admissions.IsTakenBack rules IsTold finish e fault old new
 
   -- a body was stored, and then its entry was admitted as the store tells of the body, or both were taken back. The entry has the id
   -- that the store gave the body
@@ -159,7 +84,7 @@ module _ {S : Type 0} (rules : Rules S) where
 
   -- what comes of a body that may be kept
   abbrev pub IsPut : Key → CacheMeta → List ℕ → Result PutOutcome PutFault → Cache S → Cache S → Type 0
-  IsPut key meta body (Ok (Stored size evicted)) old new = (size ≡ length body) × IsStoredThen key meta body (λ finish e mid. IsAdmitted finish e evicted.items mid new) old
+  IsPut key meta body (Ok (Stored size evicted)) old new = (size ≡ length body) × IsStoredThen key meta body (λ finish e mid. IsAdmitted rules finish e evicted.items mid new) old
   IsPut key meta body (Ok (Uncacheable reason)) old new = ⊥
   IsPut key meta body (Err fault) old new =
       RanOut fault old new ⊎ (IsWriteRefused meta fault old new ⊎ IsStoredThen key meta body (λ finish e mid. IsTakenBack finish e fault mid new) old)

@@ -7,6 +7,7 @@ pub use cache_heads::{
     CacheMeta, CacheMetaDefaults, Error, ErrorType, NoCacheReason, RespCacheable, cache_control,
     filters, meta,
 };
+pub use cache_parts::{BoxedPolicy, NoPolicy, Parts};
 pub use cache_store::storage::{
     HitHandler, MissHandler, PurgeAction, PurgeOutcome, PurgeTarget, PurgeType, Storage,
 };
@@ -15,7 +16,5 @@ pub use cache_words::key::CacheKey;
 pub use cache_words::variance::VarianceBuilder;
 pub use cache_words::{key, time};
 pub use mem_cache::MemCache;
-pub use parts::Parts;
 
-mod parts;
 pub mod put;

@@ -7,20 +7,20 @@ ghost use Rattle.cache_headers.specs.declared.header.ResponseHeader.{ResponseHea
 ghost use Rattle.cache_heads.specs.declared.defaults.CacheMetaDefaults.{CacheMetaDefaults as Defaults};
 ghost use Rattle.cache_heads.specs.declared.reason.RespCacheable.{RespCacheable as Verdict};
 ghost use Rattle.pingora_cache.specs.Response.{joined, Gives, verdict_by_headers};
-ghost use Rattle.pingora_cache.specs.Put.{Puts, rules_of, cache_of};
+ghost use Rattle.cache_parts.specs.Admissions.{rules_of, cache_of};
+ghost use Rattle.pingora_cache.specs.Put.{Puts};
 
 mod admit;
 mod outcome;
-mod store;
 mod whole;
 
-use crate::parts::Parts;
 use admit::{out_of_memory, put_body};
 use bytes::Bytes;
 use cache_evict::EvictionManager;
 use cache_heads::filters::resp_cacheable_by_lines;
 use cache_heads::meta::{FreshDurationByStatusFn, ResponseHeader};
 use cache_heads::{CacheMetaDefaults, ErrorType, RespCacheable};
+use cache_parts::Parts;
 use cache_store::storage::Storage;
 use cache_words::key::CacheKey;
 use cache_words::time::Moment;
@@ -126,10 +126,10 @@ impl<C: CachePut> CachePutCtx<C> {
     /// `WriteNumbersSpent` and `MetaMoment`: the store and the order of use are as before. `Weight`, `Length`, `NumbersSpent` and
     /// `Memory` where the entry isn't admitted or memory runs out in the evictions: all that is stored under the key is removed with its
     /// entry, an earlier body and other writes in flight too, and the evictions that are told are done. `Memory` too before anything is stored, when a write may have used a number.
-    pub fn cache_put<S: Storage, E: EvictionManager, P, L, R: Rng>(
+    pub fn cache_put<S: Storage, E: EvictionManager, P, L, A, R: Rng>(
         &mut self,
         alloc: Global,
-        parts: &mut Parts<S, E, P, L>,
+        parts: &mut Parts<S, E, P, L, A>,
         rng: &mut R,
         pieces: &[Bytes],
         moment: Moment,

@@ -1,23 +1,17 @@
 //! A body is stored, its entry is admitted to the order of use, and what that evicts is purged.
 
-ghost use Rattle.std.specs.Prelude.{◌≡◌, ◌<◌, ◌^◌, true, false, IfOk, IfErr, OnOk, MatchResult};
+ghost use Rattle.std.specs.Prelude.{◌≡◌};
 ghost use Rattle.cache_words.specs.Key.{key_of};
-ghost use Rattle.cache_entries.specs.Entry.{key_of as key_of_entry};
-ghost use Rattle.cache_evict.specs.Managed.{Evicts, put_first, taken_out, total_size, is_over};
-ghost use Rattle.cache_evict.specs.Faults.{StopsAt, evicted_of};
-ghost use Rattle.cache_changes.specs.Changes.{stored_key};
-ghost use Rattle.pingora_cache.specs.Stored.{Purged, Removed};
-ghost use Rattle.pingora_cache.specs.Put.{IsDone, IsOutOfMemory, IsTold, IsWithoutFile, IsStoreFaultTold, IsAdmitted, IsTakenBack, IsPut, was_admitted, rules_of, cache_of, weight_for, weight_then};
+ghost use Rattle.cache_parts.specs.Admissions.{rules_of, cache_of};
+ghost use Rattle.pingora_cache.specs.Put.{IsOutOfMemory, IsStoreFaultTold, IsPut, fault_of_admission};
 
 use super::outcome::{Done, PutFault, PutOutcome};
-use super::store::purge_all;
-use crate::parts::Parts;
 use bytes::Bytes;
-use cache_evict::{CacheEntryKey, CacheEntryKeyRef, EvictFault, EvictionManager};
+use cache_evict::{CacheEntryKey, EvictionManager};
 use cache_heads::CacheMeta;
-use cache_store::storage::{MissFinishType, PurgeTarget, PurgeType, Storage, StoreFault};
+use cache_parts::{AdmitFault, Parts, admit};
+use cache_store::storage::{Storage, StoreFault};
 use cache_words::key::CacheKey;
-use cache_words::time::Moment;
 use rand_core::Rng;
 use std::alloc::Global;
 
@@ -32,142 +26,6 @@ pub(super) fn out_of_memory(alloc: Global) -> PutFault
     })
 }
 
-// What was done before a fault of the order of use, after the body was stored.
-fn done(admitted: bool, evicted: Vec<CacheEntryKey>) -> Done
-    ensures { IsDone true admitted evicted.items result }
-{
-    Done {
-        stored: true,
-        admitted,
-        evicted,
-    }
-}
-
-// A fault of the order of use, after the body was stored.
-fn told(fault: EvictFault, admitted: bool) -> PutFault
-    requires { IsWithoutFile fault }
-    ensures { IsTold admitted fault result }
-{
-    match fault {
-        EvictFault::Memory(evicted) => PutFault::Memory(done(admitted, evicted)),
-        EvictFault::Weight(evicted) => PutFault::Weight(done(admitted, evicted)),
-        EvictFault::Length(evicted) => PutFault::Length(done(admitted, evicted)),
-        EvictFault::NumbersSpent(evicted) => PutFault::NumbersSpent(done(admitted, evicted)),
-        EvictFault::File(_) => unreachable!(),
-    }
-}
-
-// What an entry weighs whose body has that weight in its store.
-fn weight_for(weight: usize) -> usize
-    ensures { result ≡ weight_for weight }
-{
-    if weight == 0 { 1 } else { weight }
-}
-
-// Whether an entry was admitted before a fault.
-fn was_admitted<E: EvictionManager>(manager: &E, entry: &CacheEntryKey, fault: &EvictFault) -> bool
-    ensures { result ≡ was_admitted E.shard_count entry.now fault.now (E.managed manager.now) }
-{
-    match fault {
-        EvictFault::Memory(evicted) => !evicted.is_empty() || manager.peek(entry),
-        _ => false,
-    }
-}
-
-// The entries that were evicted until a fault, in order.
-fn evicted_of(fault: &EvictFault) -> &[CacheEntryKey]
-    ensures { result.now ≡ evicted_of fault.now }
-{
-    match fault {
-        EvictFault::Memory(entries) => entries.as_slice(),
-        EvictFault::Weight(entries) => entries.as_slice(),
-        EvictFault::Length(entries) => entries.as_slice(),
-        EvictFault::NumbersSpent(entries) => entries.as_slice(),
-        EvictFault::File(entries) => entries.as_slice(),
-    }
-}
-
-// Purges what was evicted until a fault of an entry's admission, and removes what is stored under the entry's key with the entry.
-fn take_back<S: Storage, E: EvictionManager, P, L>(
-    parts: &mut Parts<S, E, P, L>,
-    entry: &CacheEntryKey,
-    fault: EvictFault,
-) -> PutFault
-    requires { IsWithoutFile fault }
-    ensures store { (purged : S) × Purged S.held S.ids (evicted_of fault) parts.old.store purged × Removed S.held S.ids (stored_key (key_of_entry entry.now)) purged parts.new.store }
-    ensures managed { E.managed parts.new.manager ≡ taken_out E.shard_count entry.now (E.managed parts.old.manager) }
-    ensures told { IsTold (was_admitted E.shard_count entry.now fault (E.managed parts.old.manager)) fault result }
-    ensures parts { parts.new ≡ record parts.old { store = parts.new.store; manager = parts.new.manager } }
-{
-    let admitted = was_admitted(&parts.manager, entry, &fault);
-    purge_all(&mut parts.store, evicted_of(&fault));
-    let target = PurgeTarget::Active(entry.key());
-    parts.store.purge(target, PurgeType::Invalidation);
-    parts.manager.remove(CacheEntryKeyRef::from(entry));
-    told(fault, admitted)
-}
-
-// Tells the order of use of an entry as its finish says: with the weight of its body, or with what was added to that. `again` is the
-// entry once more.
-fn follow<E: EvictionManager, R: Rng>(
-    alloc: Global,
-    manager: &mut E,
-    rng: &mut R,
-    finish: MissFinishType,
-    entry: CacheEntryKey,
-    again: &CacheEntryKey,
-    fresh_until: Moment,
-) -> Result<Vec<CacheEntryKey>, EvictFault>
-    requires { again.now ≡ entry }
-    ensures ok { IfOk result (λ v. let m = E.managed manager.old in Evicts E.pick (put_first E.shard_count entry (weight_then E.shard_count E.weighed finish entry m) m) v.items (R.stream rng.old) (E.managed manager.new) (R.stream rng.new)) }
-    ensures within { OnOk result (is_over (E.managed manager.new) ≡ false) }
-    ensures fits { let m = E.managed manager.old in OnOk result (total_size (put_first E.shard_count entry (weight_then E.shard_count E.weighed finish entry m) m) < 2 ^ 64) }
-    ensures refused { let w = weight_then E.shard_count E.weighed finish entry (E.managed manager.old) in
-        IfErr result (λ fault. StopsAt E.pick E.shard_count entry w (E.managed manager.old) (R.stream rng.old) fault (E.managed manager.new) (R.stream rng.new)) }
-{
-    match finish {
-        MissFinishType::Created(weight) => {
-            manager.admit(alloc, entry, weight_for(weight), fresh_until, rng)
-        }
-        MissFinishType::Appended(delta, cap) => {
-            manager.increment_weight(alloc, again, delta, cap, rng)
-        }
-    }
-}
-
-// Admits the entry of a body that was stored as its finish says, and purges what is evicted. `again` is the entry once more.
-fn admit<S: Storage, E: EvictionManager, P, L, R: Rng>(
-    alloc: Global,
-    parts: &mut Parts<S, E, P, L>,
-    rng: &mut R,
-    finish: MissFinishType,
-    entry: CacheEntryKey,
-    again: &CacheEntryKey,
-    fresh_until: Moment,
-) -> Result<Vec<CacheEntryKey>, PutFault>
-    requires { again.now ≡ entry }
-    ensures admitted { let rules = rules_of S.held S.ids S.is_spent S.Miss.told E.shard_count E.weighed E.pick in
-        let old = cache_of parts.old.store (E.managed parts.old.manager) (R.stream rng.old) in let new = cache_of parts.new.store (E.managed parts.new.manager) (R.stream rng.new) in
-        MatchResult result (λ v. IsAdmitted rules finish entry v.items old new) (λ fault. IsTakenBack rules finish entry fault old new) }
-    ensures parts { parts.new ≡ record parts.old { store = parts.new.store; manager = parts.new.manager } }
-{
-    match follow(
-        alloc,
-        &mut parts.manager,
-        rng,
-        finish,
-        entry,
-        again,
-        fresh_until,
-    ) {
-        Ok(evicted) => {
-            purge_all(&mut parts.store, &evicted);
-            Ok(evicted)
-        }
-        Err(fault) => Err(take_back(parts, again, fault)),
-    }
-}
-
 // Why a body was not stored.
 fn told_of_store(alloc: Global, fault: StoreFault) -> PutFault
     ensures { IsStoreFaultTold fault result }
@@ -179,11 +37,23 @@ fn told_of_store(alloc: Global, fault: StoreFault) -> PutFault
     }
 }
 
+// A fault of the admission as one of a put.
+fn told_of_admission(fault: AdmitFault) -> PutFault
+    ensures { result ≡ fault_of_admission fault }
+{
+    match fault {
+        AdmitFault::Weight(done) => PutFault::Weight(done),
+        AdmitFault::Length(done) => PutFault::Length(done),
+        AdmitFault::NumbersSpent(done) => PutFault::NumbersSpent(done),
+        AdmitFault::Memory(done) => PutFault::Memory(done),
+    }
+}
+
 // Stores a body under a key, admits its entry, and purges what that evicts.
-pub(super) fn put_body<S: Storage, E: EvictionManager, P, L, R: Rng>(
+pub(super) fn put_body<S: Storage, E: EvictionManager, P, L, A, R: Rng>(
     alloc: Global,
     key: &CacheKey,
-    parts: &mut Parts<S, E, P, L>,
+    parts: &mut Parts<S, E, P, L, A>,
     rng: &mut R,
     meta: CacheMeta,
     body: Bytes,
@@ -209,6 +79,6 @@ pub(super) fn put_body<S: Storage, E: EvictionManager, P, L, R: Rng>(
     let again = CacheEntryKey::from_entry_id(again, id);
     match admit(alloc, parts, rng, finish, entry, &again, fresh_until) {
         Ok(evicted) => Ok(PutOutcome::Stored { size, evicted }),
-        Err(fault) => Err(fault),
+        Err(fault) => Err(told_of_admission(fault)),
     }
 }

@@ -7,6 +7,7 @@ ghost use Rattle.pingora_cache.specs.Texts.{fault_type_name, put_fault_text};
 use super::INCOMPLETE_BODY;
 use cache_evict::CacheEntryKey;
 use cache_heads::{ErrorType, NoCacheReason};
+pub use cache_parts::Done;
 use cache_store::max_file_size::ERR_RESPONSE_TOO_LARGE;
 use std::error::Error;
 use std::fmt;
@@ -23,17 +24,6 @@ pub enum PutOutcome {
     },
     /// The response is whole and not kept.
     Uncacheable(NoCacheReason),
-}
-
-/// What a put did before it was refused.
-#[derive(Debug, Drop)]
-pub struct Done {
-    /// Whether the body was stored; it is then removed again.
-    pub stored: bool,
-    /// Whether its entry was admitted to the order of use; it is then removed again.
-    pub admitted: bool,
-    /// The entries evicted, in order.
-    pub evicted: Vec<CacheEntryKey>,
 }
 
 /// Why a put was refused.

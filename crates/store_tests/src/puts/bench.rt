@@ -7,7 +7,9 @@ use pingora_cache::eviction::lru::Manager;
 use pingora_cache::put::{CachePut, CachePutCtx, PutFault, PutOutcome, cacheable_by_headers};
 use pingora_cache::storage::{HandleHit, ReadStep, Storage};
 use pingora_cache::time::Moment;
-use pingora_cache::{CacheKey, CacheMetaDefaults, MemCache, NoCacheReason, Parts, RespCacheable};
+use pingora_cache::{
+    CacheKey, CacheMetaDefaults, MemCache, NoCacheReason, NoPolicy, Parts, RespCacheable,
+};
 use rand_pcg::Pcg32;
 use std::alloc::{AllocError, Global};
 
@@ -64,6 +66,7 @@ pub(crate) fn cache(alloc: Global, limit: usize) -> Option<Cache> {
         manager: Manager::<1>::with_capacity(alloc, limit, 0).ok()?,
         predictor: (),
         lock: (),
+        policy: NoPolicy,
     })
 }
 

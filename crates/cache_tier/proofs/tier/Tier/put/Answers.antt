@@ -1,4 +1,4 @@
-use Rattle.pingora_cache.specs.Put.{cache_of}
+use Rattle.cache_parts.specs.Admissions.{cache_of}
 use Rattle.tier_model.specs.State.{State}
 use Rattle.cache_tier.proofs.TakenLaws.{put-taken}
 use Rattle.cache_tier.proofs.tier.Tier.put.Goals as goal

@@ -1,5 +1,5 @@
 use Rattle.cache_words.specs.Key.{key_of}
-use Rattle.pingora_cache.specs.Put.{rules_of}
+use Rattle.cache_parts.specs.Admissions.{rules_of}
 use Rattle.pingora_cache.specs.Response.{joined, Gives}
 use Rattle.pingora_cache.specs.declared.put.whole.Whole.TheVariants.{Cacheable}
 use Rattle.pingora_cache.proofs.PutLaws.{puts-of}

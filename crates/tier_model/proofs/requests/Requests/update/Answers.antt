@@ -9,13 +9,13 @@ use Rattle.tier_model.proofs.Tables.{get-table, set-table}
 use Rattle.tier_model.proofs.requests.Requests.update.Goals as goal
 
 pub returns-in_err-request-clause-some : goal.returns-in_err-request-clause-some
-returns-in_err-request-clause-some c = λ q there.
+returns-in_err-request-clause-some g c = λ q there.
     let found : lookup (nat_eq c.args.id) c.self.inside.table.entries ≡ Some q = sym (get-table c.self.inside.table.entries c.args.id) ∙ rw (← c.self.view_is) at there in
     let none : lookup (nat_eq c.args.id) c.self.inside.table.entries ≡ None = sym c.in_err-request.ensures.value in
     absurd cc
 
 pub returns-clause-some : goal.returns-clause-some
-returns-clause-some c = λ q there.
+returns-clause-some g c = λ q there.
     let found : lookup (nat_eq c.args.id) c.self.inside.table.entries ≡ Some q = sym (get-table c.self.inside.table.entries c.args.id) ∙ rw (← c.self.view_is) at there in
     let here : lookup (nat_eq c.args.id) c.self.inside.table.entries ≡ Some c.in_ok-request.request.now = sym c.in_ok-request.ensures.value in
     let new : Request = record { entry = c.in_ok-request.request.now.entry; phase = c.args.phase; reader = c.replace.new.dest } in
@@ -29,7 +29,7 @@ returns-clause-some c = λ q there.
     )
 
 pub returns-clause-none : goal.returns-clause-none
-returns-clause-none c = λ there.
+returns-clause-none g c = λ there.
     let none : lookup (nat_eq c.args.id) c.self.inside.table.entries ≡ None = sym (get-table c.self.inside.table.entries c.args.id) ∙ rw (← c.self.view_is) at there in
     let here : lookup (nat_eq c.args.id) c.self.inside.table.entries ≡ Some c.in_ok-request.request.now = sym c.in_ok-request.ensures.value in
     absurd cc

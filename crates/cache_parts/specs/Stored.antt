@@ -1,16 +1,10 @@
--- What a put does in a store: a body is stored, entries are purged, and a body is taken back.
-use Rattle.std.specs.Prelude.{◌≡◌, ℕ, ◌+◌, Bool, true, false, List, [], ◌∷◌, Option, Some, ◌⊎◌}
-use Rattle.cache_heads.specs.declared.meta.CacheMeta.{CacheMeta}
-use Rattle.cache_metas.specs.Internal.{IsWritable}
+-- What is purged of a store: evicted entries, and what is stored under a key.
+use Rattle.std.specs.Prelude.{◌≡◌, List, [], ◌∷◌, Option, Some}
 use Rattle.cache_entries.specs.declared.entry.CacheEntryId.{CacheEntryId}
 use Rattle.cache_entries.specs.declared.entry.CacheEntryKey.{CacheEntryKey}
 use Rattle.cache_changes.specs.Changes.{StoredKey}
-use Rattle.cache_changes.specs.Store.{Store, with_body}
 use Rattle.cache_store.specs.declared.storage.PurgeOutcome.{PurgeOutcome}
-use Rattle.cache_store.specs.declared.storage.StoreFault.{StoreFault}
-use Rattle.cache_store.specs.declared.storage.StoreFault.TheVariants.{Memory, WriteNumbersSpent, MetaMoment}
-use Rattle.cache_store.specs.Agree.{Agree}
-use Rattle.cache_store.specs.Held.{Held, left_with}
+use Rattle.cache_store.specs.Held.{Held}
 use Rattle.cache_store.specs.Purges.{PurgeAnswer, entry_key, id_at}
 
 -- the entries are purged from a store, in order

@@ -1,4 +1,4 @@
-use Rattle.pingora_cache.proofs.put.admit.admit.Goals as goal
+use Rattle.cache_parts.proofs.admission.admit.Goals as goal
 
 pub returns-in-Err-clause-admitted : goal.returns-in-Err-clause-admitted
 returns-in-Err-clause-admitted g c = record {

@@ -1,6 +1,6 @@
 use Rattle.std.proofs.lemmas.List.{take_more}
-use Rattle.pingora_cache.proofs.PurgeLaws.{purged-more}
-use Rattle.pingora_cache.proofs.put.store.purge_all.Goals as goal
+use Rattle.cache_parts.proofs.PurgeLaws.{purged-more}
+use Rattle.cache_parts.proofs.purges.purge_all.Goals as goal
 
 pub loop-entry-preserved : goal.loop-entry-preserved
 loop-entry-preserved g c =

@@ -7,7 +7,7 @@ use Rattle.cache_changes.specs.Changes.{StoredKey}
 use Rattle.cache_store.specs.declared.storage.PurgeOutcome.{PurgeOutcome}
 use Rattle.cache_store.specs.Held.{Held}
 use Rattle.cache_store.specs.Purges.{PurgeAnswer, entry_key, id_at}
-use Rattle.pingora_cache.specs.Stored.{Purged}
+use Rattle.cache_parts.specs.Stored.{Purged}
 
 module _ {S : Type 0} (held : S → Held) (ids : S → StoredKey → Option CacheEntryId) where
   -- one entry more

@@ -1,12 +1,12 @@
 //! What an eviction does in a store.
 
-ghost use Rattle.pingora_cache.specs.Stored.{Purged};
+ghost use Rattle.cache_parts.specs.Stored.{Purged};
 
 use cache_evict::CacheEntryKey;
 use cache_store::storage::{PurgeTarget, PurgeType, Storage};
 
-// Purges what is stored of entries, in order. A purge that finds nothing is passed over.
-pub(super) fn purge_all<S: Storage>(store: &mut S, evicted: &[CacheEntryKey])
+/// Purges what is stored of entries, in order. A purge that finds nothing is passed over.
+pub fn purge_all<S: Storage>(store: &mut S, evicted: &[CacheEntryKey])
     ensures { Purged S.held S.ids evicted.now store.old store.new }
 {
     for entry in evicted {
