@@ -31,14 +31,14 @@ from_zero n = omega arith
 
 module _ (limit : ℕ) (watermark : Option ℕ) where
   -- the manager is over its limits where the rows are
-  one-over : (rows : List Tracked) (m : Managed) → IsOne limit watermark rows m → managed.is_over m ≡ is_over limit watermark rows
+  pub one-over : (rows : List Tracked) (m : Managed) → IsOne limit watermark rows m → managed.is_over m ≡ is_over limit watermark rows
   one-over rows m o =
       let size : sum_by all_weights m.shards ≡ all_weights rows = ap (sum_by all_weights) o.shards ∙ from_zero (all_weights rows) in
       let items : sum_by length m.shards ≡ length rows = ap (sum_by length) o.shards ∙ from_zero (length rows) in
       (λ i. ltb (o.limit_is i) (size i) || cores.passes (o.watermark_is i) (items i)) ∙ ap (λ (b : Bool). ltb limit (all_weights rows) || b) (passes-same watermark (length rows))
 
   -- a change of the rows of the shard
-  changed : (f : List Tracked → List Tracked) (e : CacheEntryKey) (rows : List Tracked) (m : Managed) → IsOne limit watermark rows m → IsOne limit watermark (f rows) (with_rows 1 e (f (rows_of 1 e m)) m)
+  pub changed : (f : List Tracked → List Tracked) (e : CacheEntryKey) (rows : List Tracked) (m : Managed) → IsOne limit watermark rows m → IsOne limit watermark (f rows) (with_rows 1 e (f (rows_of 1 e m)) m)
   changed f e rows m o =
       let first : shard_of 1 e ≡ 0 = modulo_one _ in
       record { shards = λ i. set (o.shards i) (first i) (f (get_or (o.shards i) (first i) [])); limit_is = o.limit_is; watermark_is = o.watermark_is }
