@@ -1,0 +1,3 @@
+pub mod CellLaws
+pub mod Heights
+pub mod Numbers

@@ -1,0 +1,12 @@
+use Rattle.load_heights.proofs.Heights.{high-peak}
+use Rattle.load_heights.proofs.Numbers.{high-number, held-kept}
+use Rattle.load_heights.proofs.laws.heights_are_peaks.Goals as goal
+
+pub returns-clause-weights : goal.returns-clause-weights
+returns-clause-weights c = λ weight e steps. high-peak weight e steps
+
+pub returns-clause-numbers : goal.returns-clause-numbers
+returns-clause-numbers c = λ weight e steps. high-number weight e steps
+
+pub returns-clause-held : goal.returns-clause-held
+returns-clause-held c = λ weight limit watermark e steps. held-kept weight e limit watermark steps
