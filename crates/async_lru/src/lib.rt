@@ -9,6 +9,7 @@ pub use callback::AsyncEvictionCallback;
 pub use fault::{BuildFault, SendFault, TailFault};
 pub use hash::hash_key;
 pub use running::AsyncLru;
+pub use running::saving::ShardData;
 pub use shard_actors::{Event, Message, Outcome, ShardActor, StepFault, World};
 
 mod builder;

@@ -3,6 +3,7 @@
 ghost use Rattle.std.specs.Prelude.{◌≡◌, ◌%◌, ◌<◌, vec_len, None};
 
 mod asks;
+pub mod saving;
 mod sends;
 
 use crate::builder::AsyncLruBuilder;
