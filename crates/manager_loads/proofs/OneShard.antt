@@ -2,6 +2,7 @@
 use Rattle.std.proofs.Common.{◌≡◌, ℕ, ◌+◌, ◌||◌, Bool, true, false, ltb, List, [], ◌∷◌, ◌++◌, length, set, get_or, Option, Some, None, refl, ap, sym, ◌∙◌, subst, arith}
 use Rattle.std.specs.Prelude.{unwrap_or}
 use Rattle.std.specs.List.{sum_by}
+use Rattle.std.proofs.lemmas.Bool.{false≢true}
 use Rattle.rand_core.specs.Stream.{Stream}
 use Rattle.cache_entries.specs.declared.entry.CacheEntryKey.{CacheEntryKey}
 use Rattle.cache_entries.specs.declared.rows.Tracked.{Tracked}
@@ -16,6 +17,7 @@ use Rattle.entry_loads.specs.Steps.{Step, asks, removes, passes, has_row, kept, 
 use Rattle.entry_loads.specs.Steps as steps
 use Rattle.entry_loads.specs.Loads.{AreWeighed}
 use Rattle.entry_loads.proofs.Entries.{same-is}
+use Rattle.entry_loads.proofs.Rows.{has-further}
 use Rattle.entry_loads.proofs.Kept.{kept-all, kept-push}
 use Rattle.entry_loads.proofs.Present.{weighed-held, held-stay}
 use Rattle.manager_loads.specs.Calls.{step_of, IsUniform, IsOfHeld, IsOne}
@@ -28,6 +30,15 @@ passes-same (Some mark) n = refl
 
 from_zero : (n : ℕ) → 0 + n ≡ n
 from_zero n = omega arith
+
+-- what is held weighs what its entry weighs
+pub weight_of-held : (weight : CacheEntryKey → ℕ) (e : CacheEntryKey) (rows : List Tracked) (w : ℕ) → AreWeighed weight rows → has_row e rows ≡ true → unwrap_or (weight_of e rows) w ≡ weight e
+weight_of-held weight e [] w a h = absurd (false≢true h)
+weight_of-held weight e (r ∷ rows) w a h = by_test (same_entry r.entry e) refl (weight_of-held weight e rows w a.1)
+  where
+    by_test : (t : Bool) → same_entry r.entry e ≡ t → (has_row e rows ≡ true → unwrap_or (weight_of e rows) w ≡ weight e) → unwrap_or (weight_of e (r ∷ rows)) w ≡ weight e
+    by_test true t ih = rw t (a.0 ∙ ap weight (same-is r.entry e t))
+    by_test false t ih = rw t (ih (sym (has-further e r rows t) ∙ h))
 
 module _ (limit : ℕ) (watermark : Option ℕ) where
   -- the manager is over its limits where the rows are
@@ -76,14 +87,6 @@ module _ (limit : ℕ) (watermark : Option ℕ) where
     -- ---- one call
 
     module _ (weight : CacheEntryKey → ℕ) (weighed : ℕ → ℕ) where
-      weight_of-weighed : (e : CacheEntryKey) (rows : List Tracked) (w : ℕ) → AreWeighed weight rows → w ≡ weight e → unwrap_or (weight_of e rows) w ≡ weight e
-      weight_of-weighed e [] w a h = h
-      weight_of-weighed e (r ∷ rows) w a h = by_test (same_entry r.entry e) refl (weight_of-weighed e rows w a.1 h)
-        where
-          by_test : (t : Bool) → same_entry r.entry e ≡ t → unwrap_or (weight_of e rows) w ≡ weight e → unwrap_or (weight_of e (r ∷ rows)) w ≡ weight e
-          by_test true t ih = rw t (a.0 ∙ ap weight (same-is r.entry e t))
-          by_test false t ih = rw t ih
-
       pub one_call : (call : Call) (old new : Managed) (gone : List CacheEntryKey) (s rest : Stream) (before : List Step) → IsUniform weight weighed call → IsOfHeld weight limit watermark call before
           → IsOne limit watermark (held weight limit watermark before) old → Does pick 1 weighed old s call gone new rest
           → IsOne limit watermark (held weight limit watermark (step_of call ∷ before)) new
@@ -95,7 +98,7 @@ module _ (limit : ℕ) (watermark : Option ℕ) where
       one_call (Access e size) old new gone s rest before u h o d =
           let rows : List Tracked = held weight limit watermark before in
           let use' : IsOne limit watermark (used e (weighed size) rows) (use_first 1 e (weighed size) old) = changed (used e (weighed size)) e rows old o in
-          let w : unwrap_or (weight_of e rows) (weighed size) ≡ weight e = weight_of-weighed e rows (weighed size) (weighed-held weight limit watermark before) u in
+          let w : unwrap_or (weight_of e rows) (weighed size) ≡ weight e = weight_of-held weight e rows (weighed size) (weighed-held weight limit watermark before) h in
           let same : used e (weighed size) rows ≡ held weight limit watermark (asks e ∷ before) = ap (λ (v : ℕ). admitted e v rows) w ∙ sym (held-stay weight limit watermark e before h) in
           subst (λ (m : Managed). IsOne limit watermark (held weight limit watermark (asks e ∷ before)) m) (sym d.1) (subst (λ (l : List Tracked). IsOne limit watermark l (use_first 1 e (weighed size) old)) same use')
       one_call (Remove e) old new gone s rest before u h o d =

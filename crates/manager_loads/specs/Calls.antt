@@ -17,10 +17,10 @@ abbrev pub after_calls : List Call → List Step → List Step
 after_calls [] before = before
 after_calls (call ∷ calls) before = after_calls calls (step_of call ∷ before)
 
--- a size weighs what its entry weighs, where `weighed` tells what a size weighs
+-- the size of an admission weighs what its entry weighs, where `weighed` tells what a size weighs; an access of what is held changes no weight
 abbrev pub IsUniform : (CacheEntryKey → ℕ) → (ℕ → ℕ) → Call → Type 0
 IsUniform weight weighed (Admit e size) = weighed size ≡ weight e
-IsUniform weight weighed (Access e size) = weighed size ≡ weight e
+IsUniform weight weighed (Access e size) = Unit {0}
 IsUniform weight weighed (Remove e) = Unit {0}
 
 abbrev pub AreUniform : (CacheEntryKey → ℕ) → (ℕ → ℕ) → List Call → Type 0
@@ -44,8 +44,8 @@ pub record IsOne (limit : ℕ) (watermark : Option ℕ) (rows : List Tracked) (m
   pub limit_is : m.limit ≡ limit
   pub watermark_is : m.watermark ≡ watermark
 
--- A run of a manager of one shard, from empty: calls that are those steps, each entry with one weight and each access of an entry
--- that is held then, leave m. None is refused. `pick` and `weighed` are the manager's.
+-- A run of a manager of one shard, from empty: calls that are those steps, each entry admitted with one weight and each access of
+-- an entry that is held then, leave m. None is refused. `pick` and `weighed` are the manager's.
 pub record IsRun (pick : List (List Tracked) → Stream → ℕ × Stream) (weighed : ℕ → ℕ) (weight : CacheEntryKey → ℕ) (limit : ℕ) (watermark : Option ℕ) (steps : List Step) (m : Managed) : Type 0 where
   pub calls : List Call
   pub gone : List (List CacheEntryKey)

@@ -1,22 +1,17 @@
 -- What is held after one request.
-use Rattle.std.proofs.Common.{◌≡◌, ℕ, Bool, true, false, List, [], ◌∷◌, Option, Some, None, refl, ap, sym, ◌∙◌, subst, inl, inr}
-use Rattle.std.specs.Prelude.{is_some, unwrap_or, MatchOption}
-use Rattle.std.proofs.lemmas.Bool.{false≢true}
+use Rattle.std.proofs.Common.{◌≡◌, ℕ, Bool, true, false, List, ◌∷◌, Option, Some, None, refl, ap, sym, ◌∙◌, subst, inl, inr}
+use Rattle.std.specs.Prelude.{is_some, MatchOption}
 use Rattle.cache_entries.specs.declared.entry.CacheEntryKey.{CacheEntryKey}
 use Rattle.cache_entries.specs.declared.rows.Tracked.{Tracked}
-use Rattle.cache_entries.specs.Entry.{same_entry}
-use Rattle.cache_entries.specs.Rows.{weight_of, without_row, admitted, used}
+use Rattle.cache_entries.specs.Rows.{without_row, admitted, used}
 use Rattle.cache_changes.specs.Changes.{stored_key}
 use Rattle.cache_evict.specs.Managed.{Managed, put_first, use_first, taken_out}
 use Rattle.entry_loads.specs.Steps.{Step, has_row, held}
 use Rattle.entry_loads.specs.Steps as steps
-use Rattle.entry_loads.specs.Loads.{AreWeighed}
-use Rattle.entry_loads.proofs.Entries.{same-is}
-use Rattle.entry_loads.proofs.Rows.{has-further}
 use Rattle.entry_loads.proofs.Present.{weighed-held, held-stay}
 use Rattle.entry_loads.proofs.Twice.{held-twice}
 use Rattle.manager_loads.specs.Calls.{IsOne}
-use Rattle.manager_loads.proofs.OneShard.{changed}
+use Rattle.manager_loads.proofs.OneShard.{changed, weight_of-held}
 use Rattle.tier_model.specs.declared.state.Body.{Body}
 use Rattle.tier_model.specs.Keys.{Entry, alone}
 use Rattle.tier_model.specs.Rows.{Bodies, FinishedBody, body_of, with_body, without_body, without_bodies, weight_for}
@@ -27,15 +22,6 @@ use Rattle.tier_loads.specs.Uniform.{IsWeighed}
 use Rattle.tier_loads.proofs.Distinct.{without-absent, distinct-put, distinct-held}
 use Rattle.tier_loads.proofs.Agreeing.{agrees-put, agrees-use, agrees-remove}
 use Rattle.tier_loads.proofs.Turns.{turns-kept}
-
--- what is held weighs what its entry weighs
-weight_of-held : (weight : CacheEntryKey → ℕ) (e : CacheEntryKey) (rows : List Tracked) (w : ℕ) → AreWeighed weight rows → has_row e rows ≡ true → unwrap_or (weight_of e rows) w ≡ weight e
-weight_of-held weight e [] w a h = absurd (false≢true h)
-weight_of-held weight e (r ∷ rows) w a h = by_test (same_entry r.entry e) refl (weight_of-held weight e rows w a.1)
-  where
-    by_test : (t : Bool) → same_entry r.entry e ≡ t → (has_row e rows ≡ true → unwrap_or (weight_of e rows) w ≡ weight e) → unwrap_or (weight_of e (r ∷ rows)) w ≡ weight e
-    by_test true t ih = rw t (a.0 ∙ ap weight (same-is r.entry e t))
-    by_test false t ih = rw t (ih (sym (has-further e r rows t) ∙ h))
 
 module _ (in_use : Entry → Bool) (apart : AreApart in_use) (weight : CacheEntryKey → ℕ) (limit : ℕ) (watermark : Option ℕ) where
   abbrev list : List Step → List Tracked
