@@ -1,8 +1,11 @@
-//! Why there is no text of a shard.
+//! Why there is no text of a shard, and why the rows of one aren't put.
 
 ghost use Rattle.std.specs.Prelude.{◌≡◌, Some};
-ghost use Rattle.async_manager.specs.FaultTexts.{text_fault_text};
+ghost use Rattle.async_manager.specs.FaultTexts.{rows_fault_text, text_fault_text};
 
+use async_lru::TailFault;
+use cache_entries::entry::CacheEntryKey;
+use cache_words::pack::PackFault;
 use std::error::Error;
 use std::fmt;
 
@@ -30,3 +33,28 @@ impl fmt::Display for TextFault {
 }
 
 impl Error for TextFault {}
+
+/// Why the rows of a text of a shard weren't all put.
+#[derive(Debug, Drop)]
+pub enum RowsFault {
+    /// The text can't be read, so none was put.
+    Text(PackFault),
+    /// There is no memory for one more entry. The rows before it stay.
+    Memory,
+    /// A row was refused. The rows before it stay.
+    Put(TailFault<CacheEntryKey>),
+}
+
+impl fmt::Display for RowsFault {
+    ghost output = { λ fault. Some (rows_fault_text fault) };
+
+    fn fmt<W: fmt::Write>(&self, f: &mut fmt::Formatter<W>) -> fmt::Result {
+        match self {
+            RowsFault::Text(fault) => fmt::Display::fmt(fault, f),
+            RowsFault::Memory => f.write_str("out of memory"),
+            RowsFault::Put(fault) => fmt::Display::fmt(fault, f),
+        }
+    }
+}
+
+impl Error for RowsFault {}

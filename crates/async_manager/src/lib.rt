@@ -3,11 +3,12 @@
 #![tactic(auto)]
 
 pub use builder::ManagerBuilder;
-pub use fault::TextFault;
+pub use fault::{RowsFault, TextFault};
 pub use manager::Manager;
 pub use texts::text_of;
 
 mod builder;
 mod fault;
+mod files;
 mod manager;
 mod texts;
