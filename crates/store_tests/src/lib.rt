@@ -2,6 +2,8 @@
 #![tactic(auto)]
 
 #[cfg(test)]
+mod chosen;
+#[cfg(test)]
 mod copies;
 #[cfg(test)]
 mod decisions;

@@ -13,8 +13,7 @@ use trace_replay::replay::{ReplayError, run};
 use trace_replay::status::{Fault, status};
 
 fn main(rt: HostRuntime) -> ExitCode {
-    let outcome = replay_input(&rt);
-    show(&rt, &outcome);
+    let outcome = shown(&rt, replay_input(&rt));
     ExitCode::from(status(&outcome))
 }
 
@@ -38,10 +37,13 @@ fn replay_input<R: Env + Input + Print + AllocGlobal + RandomSource>(rt: &R) -> 
     run(alloc, hasher, &mut reader, &mut writer, &options).map_err(Fault::Replay)
 }
 
-// Shows a fault on standard error, and a text that was requested on standard output.
-fn show<R: Log + Print + Eprint>(rt: &R, outcome: &Result<(), Fault>) {
-    match outcome {
+// Shows a fault on standard error, and a text that was requested on standard output: where that can't be written, this is the outcome.
+fn shown<R: Log + Print + Eprint>(rt: &R, outcome: Result<(), Fault>) -> Result<(), Fault> {
+    match &outcome {
         Ok(()) => {}
+        Err(Fault::Options(OptionsError::CommandLine(error))) if !error.use_stderr() => {
+            error.print(rt)?;
+        }
         Err(
             Fault::Options(
                 OptionsError::CommandLine(error)
@@ -53,4 +55,5 @@ fn show<R: Log + Print + Eprint>(rt: &R, outcome: &Result<(), Fault>) {
         }
         Err(fault) => warn!(rt; "{fault}"),
     }
+    outcome
 }

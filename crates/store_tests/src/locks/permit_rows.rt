@@ -125,7 +125,7 @@ const ORDER: &[Step] = &[
 ];
 
 /// A permit that is unlocked leaves its core to the key, and a permit of no core here changes nothing.
-const OTHERS: &[Step] = &[
+pub(super) const OTHERS: &[Step] = &[
     Step::Lock(10, 1, Given::Write(0)),
     Step::Lock(10, 1, Given::Read(0)),
     Step::Unlock(0, LockStatus::Done),

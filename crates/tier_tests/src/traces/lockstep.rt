@@ -31,10 +31,12 @@ impl Read for Questions<'_> {
     }
 }
 
-// Keeps what is written, and counts its lines.
+// Keeps what is written, and counts the lines that were flushed.
 #[derive(Drop)]
 struct Answers<'a> {
     text: Vec<u8>,
+    // The lines that wait for a flush.
+    held: usize,
     answered: &'a Cell<usize>,
 }
 
@@ -42,11 +44,14 @@ impl Write for Answers<'_> {
     fn write(&mut self, buf: &[u8]) -> io::Result<usize> {
         self.text.extend_from_slice(buf)?;
         let lines = buf.iter().filter(|b| **b == b'\n').count();
-        self.answered.set(self.answered.get().wrapping_add(lines));
+        self.held = self.held.wrapping_add(lines);
         Ok(buf.len())
     }
 
     fn flush(&mut self) -> io::Result<()> {
+        self.answered
+            .set(self.answered.get().wrapping_add(self.held));
+        self.held = 0;
         Ok(())
     }
 }
@@ -61,6 +66,7 @@ fn conversation(alloc: Global, lines: &[&[u8]]) -> Result<Vec<u8>, Fail> {
     };
     let mut writer = Answers {
         text: Vec::new(alloc),
+        held: 0,
         answered: &answered,
     };
     let options = ReplayOptions {

@@ -68,40 +68,52 @@ fn long_lines_are_read_whole(rt: HostRuntime) -> Result<(), Fail> {
     Ok(())
 }
 
-// Takes so many bytes, and then fails.
+// Takes so many bytes, and then fails; a flush fails where that is said.
 #[derive(Drop)]
-struct FullWriter(usize);
+struct FailingWriter {
+    room: usize,
+    flushes: bool,
+}
 
-impl Write for FullWriter {
+impl Write for FailingWriter {
     fn write(&mut self, buf: &[u8]) -> io::Result<usize> {
-        if self.0 == 0 {
+        if self.room == 0 {
             return Err(io::Error::from(io::ErrorKind::StorageFull));
         }
-        let taken = buf.len().min(self.0);
-        self.0 -= taken;
+        let taken = buf.len().min(self.room);
+        self.room -= taken;
         Ok(taken)
     }
 
     fn flush(&mut self) -> io::Result<()> {
-        Ok(())
+        if self.flushes {
+            Ok(())
+        } else {
+            Err(io::Error::from(io::ErrorKind::StorageFull))
+        }
     }
 }
 
+// Room for a line and a half without a fault of the flush, and more than enough with one.
 #[test]
 fn a_fault_of_the_writer_ends_the_run(rt: HostRuntime) {
-    let mut reader = b"{}\n{}\n".as_slice();
-    let mut writer = FullWriter(15);
-    let options = ReplayOptions {
-        limit: 1,
-        watermark: None,
-        shards: ShardCount::One,
-        seed: 0,
-    };
-    let outcome = run(rt.alloc(), HASHER, &mut reader, &mut writer, &options).map_err(
-        Fault::Replay,
-    );
-    assert!(rt; matches!(&outcome, Err(Fault::Replay(ReplayError::Stream(_)))));
-    assert_eq!(rt; status(&outcome), 1);
+    for (room, flushes) in [(15, true), (1000, false)] {
+        let mut reader = b"{}\n{}\n".as_slice();
+        let mut writer = FailingWriter { room, flushes };
+        let options = ReplayOptions {
+            limit: 1,
+            watermark: None,
+            shards: ShardCount::One,
+            seed: 0,
+        };
+        let outcome = run(rt.alloc(), HASHER, &mut reader, &mut writer, &options).map_err(
+            Fault::Replay,
+        );
+        assert!(rt; matches!(&outcome, Err(Fault::Replay(ReplayError::Stream(_)))));
+        assert_eq!(rt; status(&outcome), 1);
+        // The report isn't written after a flush that failed.
+        assert!(rt; flushes || writer.room == 1000 - 22);
+    }
 }
 
 // What was written before the first refusal by the tier for lack of memory, or all of it.

@@ -1,0 +1,167 @@
+//! Keys, tags and ids that are chosen so that std's hasher multiplies by 0, or nearly so, where it hashes them in one write: 64 such values then have one
+//! place or two of 64. The hashes start with a known word, so that each run gives the same.
+use cache_entries::entry::{CacheEntryId, CacheEntryKey};
+use cache_tables::{ConcurrentHashTable, ConcurrentLruCache};
+use cache_words::key::CacheKey;
+use entry_numbers::Numbers;
+use secret_hasher::SecretHasher;
+use std::alloc::Global;
+use std::hash::{BuildHasher, Hasher};
+use std::sync::Wait;
+use std::test::*;
+
+const HASHER: SecretHasher = SecretHasher {
+    word: 0x1357_9bdf_0246_8ace,
+};
+
+/// With what the second half of a block of sixteen bytes is joined.
+const MULTIPLIER: u64 = 0x9e37_79b9_7f4a_7c15;
+
+/// How many values are hashed, to as many places.
+const PLACES: u64 = 64;
+
+/// At random 40 places get a value, and fewer than this practically never.
+const FEWEST: u32 = 30;
+
+/// What is hashed, by a number each.
+#[derive(Clone, Copy, Debug)]
+enum Chosen {
+    /// An entry whose tag has eight digits and this end.
+    Tag(&'static str),
+    /// An entry of this tag, whose id is the number joined with these bits.
+    Id(&'static str, u64),
+    /// Twenty bytes in one write, of which these are the middle eight.
+    Long(u64),
+    /// Sixteen bytes, of which these are the last eight.
+    Wide(u64),
+}
+
+/// This end leaves nearly nothing of the eight bytes before it.
+const END: &str = "\u{15}\u{7c}\u{4a}\u{7f}\u{39}\u{79}\u{37}\u{1e}";
+
+/// The chosen ones, and an ordinary one of each kind.
+const ROWS: &[Chosen] = &[
+    Chosen::Tag(END),
+    Chosen::Tag("/picture"),
+    Chosen::Id(END, MULTIPLIER),
+    Chosen::Id("", 0),
+    Chosen::Long(MULTIPLIER),
+    Chosen::Long(0),
+    Chosen::Wide(MULTIPLIER),
+    Chosen::Wide(0),
+];
+
+fn hash_of_entry(alloc: Global, tag: String, id: Option<CacheEntryId>) -> Option<u64> {
+    let primary = Vec::from_slice(alloc, b"k").ok()?;
+    let key = CacheKey::new(primary, tag).to_compact().ok()?;
+    let numbers: Numbers<1, SecretHasher> = Numbers::with_hasher(alloc, HASHER);
+    Some(numbers.hash_of(&CacheEntryKey::from_entry_id(key, id)))
+}
+
+fn hash_of_twenty(number: u64, middle: u64) -> u64 {
+    let mut bytes = [0u8; 20];
+    bytes[..8].copy_from_slice(&number.to_le_bytes());
+    bytes[8..16].copy_from_slice(&middle.to_le_bytes());
+    let mut state = HASHER.build_hasher();
+    state.write(&bytes);
+    state.finish()
+}
+
+/// A key with the number in its first eight bytes.
+fn wide(last: u64, number: u64) -> u128 {
+    (last as u128) << 64 | number as u128
+}
+
+fn hash_of(alloc: Global, chosen: Chosen, number: u64) -> Option<u64> {
+    match chosen {
+        Chosen::Tag(end) => {
+            let tag = format!(in alloc; "{number:08}{end}").ok()?;
+            hash_of_entry(alloc, tag, None)
+        }
+        Chosen::Id(tag, bits) => {
+            let tag = String::from_str(alloc, tag).ok()?;
+            hash_of_entry(alloc, tag, Some(CacheEntryId::new(bits ^ number)))
+        }
+        Chosen::Long(middle) => Some(hash_of_twenty(number, middle)),
+        Chosen::Wide(last) => Some(HASHER.hash_one(wide(last, number))),
+    }
+}
+
+/// How many places the hashes have, by their low bits or by their high ones, whichever are fewer.
+fn places(alloc: Global, chosen: Chosen) -> Option<u32> {
+    let mut low = 0u64;
+    let mut high = 0u64;
+    for number in 0..PLACES {
+        let hash = hash_of(alloc, chosen, number)?;
+        low |= 1 << (hash % PLACES);
+        high |= 1 << (hash >> 58) % PLACES;
+    }
+    Some(low.count_ones().min(high.count_ones()))
+}
+
+#[test]
+fn chosen_values_hash_apart(rt: HostRuntime) {
+    for &chosen in ROWS {
+        let places = places(rt.alloc(), chosen);
+        assert!(rt; places >= Some(FEWEST), "{chosen:?}: {places:?}");
+    }
+}
+
+/// How many chosen keys are put: were they hashed alike, the tests would take minutes.
+const KEYS: u64 = 30_000;
+
+fn fill_map<R: Wait>(rt: &R, map: &ConcurrentHashTable<u64, 4, SecretHasher>) -> Option<()> {
+    for number in 0..KEYS {
+        let key = wide(MULTIPLIER, number);
+        map.write(rt, key).insert(key, number).ok()?;
+    }
+    Some(())
+}
+
+fn found_in_map<R: Wait>(rt: &R, map: &ConcurrentHashTable<u64, 4, SecretHasher>) -> u64 {
+    let mut found: u64 = 0;
+    for number in 0..KEYS {
+        let key = wide(MULTIPLIER, number);
+        if map.read(rt, key).get(&key) == Some(&number) {
+            found = found.wrapping_add(1);
+        }
+    }
+    found
+}
+
+#[test]
+fn maps_hold_chosen_keys(rt: HostRuntime) {
+    let map = ConcurrentHashTable::with_hasher(rt.alloc(), HASHER).ok();
+    let filled = map.as_ref().and_then(|map| fill_map(&rt, map));
+    assert_eq!(rt; filled, Some(()));
+    let found = map.as_ref().map(|map| found_in_map(&rt, map));
+    assert_eq!(rt; found, Some(KEYS));
+}
+
+fn fill_lists<R: Wait>(rt: &R, lists: &ConcurrentLruCache<u64, 4, SecretHasher>) -> Option<()> {
+    for number in 0..KEYS {
+        let key = wide(MULTIPLIER, number);
+        lists.write(rt, key).put(key, number).ok()?;
+    }
+    Some(())
+}
+
+fn found_in_lists<R: Wait>(rt: &R, lists: &ConcurrentLruCache<u64, 4, SecretHasher>) -> u64 {
+    let mut found: u64 = 0;
+    for number in 0..KEYS {
+        let key = wide(MULTIPLIER, number);
+        if lists.read(rt, key).peek(key) == Some(&number) {
+            found = found.wrapping_add(1);
+        }
+    }
+    found
+}
+
+#[test]
+fn lists_hold_chosen_keys(rt: HostRuntime) {
+    let lists = ConcurrentLruCache::with_hasher(rt.alloc(), 100_000, HASHER).ok();
+    let filled = lists.as_ref().and_then(|lists| fill_lists(&rt, lists));
+    assert_eq!(rt; filled, Some(()));
+    let found = lists.as_ref().map(|lists| found_in_lists(&rt, lists));
+    assert_eq!(rt; found, Some(KEYS));
+}
