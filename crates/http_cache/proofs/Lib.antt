@@ -1,0 +1,5 @@
+pub mod PhaseLaws
+pub mod LookLaws
+pub mod EndLaws
+pub mod WriteLaws
+pub mod FinishLaws

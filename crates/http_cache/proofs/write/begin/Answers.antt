@@ -1,0 +1,20 @@
+use Rattle.std.proofs.Common.{ℕ, List, Option, Some, Ok, sym, subst, ◌∙◌}
+use Rattle.cache_words.specs.Key.{key_of, combined}
+use Rattle.cache_store.specs.Looks.{TagAnswer, asked}
+use Rattle.http_cache.proofs.WriteLaws.{begun-plain, begun-streaming}
+use Rattle.http_cache.proofs.write.begin.Goals as goal
+
+pub returns-then-not-support_streaming_partial_write-clause-begun : goal.returns-then-not-support_streaming_partial_write-clause-begun
+returns-then-not-support_streaming_partial_write-clause-begun g c =
+    begun-plain g.S.Hit.HandleHit.reader g.S.Miss.HandleMiss.number (λ m. g.S.Contents.tagged (g.S.Miss.HandleMiss.tag m)) g.S.Storage.streams (g.S.Storage.is_spent (g.S.Contents.held c.args.store.now)) (combined (key_of c.args.key.now)) c.args.meta.now c.in-Ok.miss
+    (g.S.Contents.held c.args.store.now) (g.S.Contents.held c.get_miss_handler.new.self)
+    (sym c.support_streaming_partial_write.ensures ∙ c.if-not-support_streaming_partial_write.true) c.in-Ok.ensures.begun
+
+pub returns-in-Ok-Some-clause-begun : goal.returns-in-Ok-Some-clause-begun
+returns-in-Ok-Some-clause-begun g c =
+    begun-streaming g.S.Hit.HandleHit.reader g.S.Miss.HandleMiss.number (λ m. g.S.Contents.tagged (g.S.Miss.HandleMiss.tag m)) g.S.Storage.streams (g.S.Storage.is_spent (g.S.Contents.held c.args.store.now)) (combined (key_of c.args.key.now)) c.args.meta.now c.in-Ok.miss
+    (g.S.Contents.held c.args.store.now) (g.S.Contents.held c.get_miss_handler.new.self)
+    c.in-Ok-Some.field-0-0-0 c.in-Ok-Some.own (g.S.Contents.held c.lookup_streaming_write.new.self) (sym c.support_streaming_partial_write.ensures ∙ c.if-not-support_streaming_partial_write.false) c.in-Ok.ensures.begun
+    (subst (λ (t : Option (List ℕ)). TagAnswer g.S.Hit.HandleHit.reader (g.S.Contents.tagged t) (asked g.S.Storage.streams (combined (key_of c.args.key.now)) (g.S.Contents.tagged t) (g.S.Contents.held c.get_miss_handler.new.self).store)
+    (g.S.Contents.held c.get_miss_handler.new.self) (Ok (Some (c.in-Ok-Some.field-0-0-0, c.in-Ok-Some.own))) (g.S.Contents.held c.lookup_streaming_write.new.self))
+    c.streaming_write_tag.ensures.tag (rw c.in-Ok-Some.field-0-is at c.in-Ok-Some.ensures.stream))

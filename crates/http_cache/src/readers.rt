@@ -1,0 +1,74 @@
+//! The reader and the writer of a request.
+ghost use Rattle.std.specs.Prelude.{◌≡◌, Some, None, true, false, if◌then◌else◌};
+ghost use Rattle.cache_phases.specs.Phases.{is_disabled, can_finish_reader};
+ghost use Rattle.http_cache.specs.Spends.{Spends};
+
+use crate::ends::finish_reader;
+use crate::request::HttpCache;
+use cache_parts::Parts;
+use cache_store::storage::{HitHandler, MissHandler, Storage};
+
+impl<S: Storage> HttpCache<S> {
+    /// Takes the reader out, if there is one.
+    pub fn take_reader(&mut self) -> Option<HitHandler<S>>
+        ensures reader { result ≡ self.old.reader }
+        ensures request { self.new ≡ record self.old { reader = None } }
+    {
+        self.reader.take()
+    }
+
+    /// Puts a reader in, where there is none.
+    pub fn put_reader(&mut self, hit: HitHandler<S>)
+        requires enabled { is_disabled self.old.phase ≡ false }
+        requires none { self.old.reader ≡ None }
+        ensures { self.new ≡ record self.old { reader = Some hit } }
+    {
+        match self.reader.replace(hit) {
+            None => {}
+            Some(_) => unreachable!(),
+        }
+    }
+
+    /// Takes the writer out, if there is one.
+    pub fn take_writer(&mut self) -> Option<MissHandler<S>>
+        ensures writer { result ≡ self.old.writer }
+        ensures request { self.new ≡ record self.old { writer = None } }
+    {
+        self.writer.take()
+    }
+
+    /// Puts a writer in, where there is none.
+    pub fn put_writer(&mut self, miss: MissHandler<S>)
+        requires enabled { is_disabled self.old.phase ≡ false }
+        requires none { self.old.writer ≡ None }
+        ensures { self.new ≡ record self.old { writer = Some miss } }
+    {
+        match self.writer.replace(miss) {
+            None => {}
+            Some(_) => unreachable!(),
+        }
+    }
+
+    /// Spends the reader, if there is one.
+    pub fn finish_hit_handler<E, P, L, A>(&mut self, parts: &mut Parts<S, E, P, L, A>)
+        requires { can_finish_reader self.old.phase ≡ true }
+        ensures request { self.new ≡ record self.old { reader = None } }
+        ensures store { Spends S.Hit.reader self.old.reader (S.held parts.old.store) (S.held parts.new.store) }
+        ensures ids { S.ids parts.new.store ≡ S.ids parts.old.store }
+        ensures parts { parts.new ≡ record parts.old { store = parts.new.store } }
+    {
+        let reader = self.reader.take();
+        finish_reader(&mut parts.store, reader);
+    }
+
+    /// Returns whether what is written is read while it is written; `None` where the request uses no cache.
+    pub fn support_streaming_partial_write(&self, store: &S) -> Option<bool>
+        ensures { result ≡ (if is_disabled self.now.phase then None else Some S.streams) }
+    {
+        if self.phase.is_disabled() {
+            None
+        } else {
+            Some(store.support_streaming_partial_write())
+        }
+    }
+}
