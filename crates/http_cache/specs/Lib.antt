@@ -9,3 +9,4 @@ pub mod Purges
 pub mod Sizes
 pub mod Predictions
 pub mod Stale
+pub mod Revalidations

@@ -14,6 +14,7 @@ mod predict;
 mod purge;
 mod readers;
 mod request;
+mod revalidate;
 mod size;
 mod write;
 

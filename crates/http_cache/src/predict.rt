@@ -1,8 +1,8 @@
 //! What the predictor tells a request, and is told.
-ghost use Rattle.std.specs.Prelude.{◌≡◌, true};
+ghost use Rattle.std.specs.Prelude.{◌≡◌, true, false, is_some, OnOk, OnErr, if◌then◌else◌};
 ghost use Rattle.cache_phases.specs.declared.phase.CachePhase.TheVariants.{Bypass};
-ghost use Rattle.cache_phases.specs.Phases.{is_key_phase, can_set_policy};
-ghost use Rattle.http_cache.specs.Predictions.{told_by};
+ghost use Rattle.cache_phases.specs.Phases.{is_key_phase, can_set_policy, is_never_enabled};
+ghost use Rattle.http_cache.specs.Predictions.{told_by, is_predicted, told_of};
 
 use crate::request::HttpCache;
 use cache_heads::NoCacheReason;
@@ -10,6 +10,7 @@ use cache_parts::Parts;
 use cache_phases::CachePhase;
 use cache_predictor::CacheablePredictor;
 use cache_store::storage::Storage;
+use std::alloc::AllocError;
 
 impl<S: Storage> HttpCache<S> {
     /// Turns the policy of admission on or off.
@@ -37,5 +38,62 @@ impl<S: Storage> HttpCache<S> {
         ensures { result ≡ self.now.predicted }
     {
         self.predicted
+    }
+
+    /// Returns whether the response is predicted to be kept. Without a predictor it is.
+    pub fn cacheable_prediction<E, P: CacheablePredictor, L, A>(
+        &self,
+        parts: &Parts<S, E, P, L, A>,
+    ) -> bool
+        requires enabled { is_never_enabled self.now.phase ≡ false }
+        requires key { self.now.predicts ≡ true → is_some self.now.key ≡ true }
+        ensures { result ≡ is_predicted self.now.predicts (P.reason_of parts.now.predictor) self.now.key }
+    {
+        match &self.key {
+            Some(key) if self.predicts => parts.predictor.cacheable_prediction(key),
+            _ => true,
+        }
+    }
+
+    /// Tells the predictor, where it is on, that the response was kept.
+    pub fn response_became_cacheable<E, P: CacheablePredictor, L, A>(
+        &self,
+        parts: &mut Parts<S, E, P, L, A>,
+    )
+        requires enabled { is_never_enabled self.now.phase ≡ false }
+        requires key { self.now.predicts ≡ true → is_some self.now.key ≡ true }
+        ensures { parts.new ≡ record parts.old { predictor = told_of self.now.predicts (P.unmarked parts.old.predictor) self.now.key parts.old.predictor } }
+    {
+        match &self.key {
+            Some(key) if self.predicts => {
+                let _was_kept = parts.predictor.mark_cacheable(key);
+            }
+            _ => {}
+        }
+    }
+
+    /// Tells the predictor, where it is on, that the response was not kept, for that reason.
+    ///
+    /// # Errors
+    ///
+    /// Out of memory. Nothing has changed.
+    pub fn response_became_uncacheable<E, P: CacheablePredictor, L, A>(
+        &self,
+        parts: &mut Parts<S, E, P, L, A>,
+        reason: NoCacheReason,
+    ) -> Result<(), AllocError>
+        requires enabled { is_never_enabled self.now.phase ≡ false }
+        requires key { self.now.predicts ≡ true → is_some self.now.key ≡ true }
+        ensures ok { let p = parts.old.predictor in
+            OnOk result (parts.new ≡ record parts.old { predictor = told_of self.now.predicts (λ k. if P.remembers p reason then P.marked p k reason else p) self.now.key p }) }
+        ensures err { OnErr result (parts.new ≡ parts.old) }
+    {
+        match &self.key {
+            Some(key) if self.predicts => match parts.predictor.mark_uncacheable(key, reason) {
+                Ok(_) => Ok(()),
+                Err(fault) => Err(fault),
+            },
+            _ => Ok(()),
+        }
     }
 }
