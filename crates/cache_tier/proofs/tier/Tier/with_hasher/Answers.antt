@@ -7,4 +7,4 @@ pub invariant_of-result : goal.invariant_of-result
 invariant_of-result g c = (rw c.in_ok-manager.ensures (kept-fresh g.row.N c.args.limit c.args.watermark c.requires), rw c.with_hasher-2.ensures empty-idle)
 
 pub returns-clause-past : goal.returns-clause-past
-returns-clause-past g c = rw (c.with_hasher-2.ensures, c.in_ok-manager.ensures, c.new.ensures) (empty-past _ c.requires)
+returns-clause-past g c = rw (c.with_hasher-2.ensures, c.in_ok-manager.ensures, c.with_hasher-3.ensures) (empty-past _ c.requires)
