@@ -24,7 +24,7 @@ const STATUSES: &str =
 const A_NUMBER: &str = "a number from 0 to 18446744073709551615";
 
 /// How a trace is replayed.
-#[derive(Clone, Copy, PartialEq, Eq, Debug)]
+#[derive(Clone, PartialEq, Eq, Debug, Drop)]
 pub struct ReplayOptions {
     /// The weight limit of the tier, in bytes.
     pub limit: u64,
