@@ -138,10 +138,10 @@ turn s t (Read id) j (Ok a) o = option_map (read_turn a) o
 turn s t (Drop id) j (Ok a) o = None
 turn s t _ j _ o = o
 
-at-insert : (m : FinMap nat_cmp Request) (i : ℕ) (q : Request) (id : ℕ) → get (insert m i q) id ≡ cond (i == id) (Some q) (get m id)
+pub at-insert : {X : Type 0} (m : FinMap nat_cmp X) (i : ℕ) (q : X) (id : ℕ) → get (insert m i q) id ≡ cond (i == id) (Some q) (get m id)
 at-insert m i q id = get-insert nat_cmp_total m i q id ∙ ap (λ t. cond t (Some q) (get m id)) ((eq_by_cmp_equiv nat_cmp_total).symm id i ∙ unsigned_tied i id)
 
-at-remove : (m : FinMap nat_cmp Request) (i : ℕ) (id : ℕ) → get (remove m i) id ≡ cond (i == id) None (get m id)
+pub at-remove : {X : Type 0} (m : FinMap nat_cmp X) (i : ℕ) (id : ℕ) → get (remove m i) id ≡ cond (i == id) None (get m id)
 at-remove m i id = get-remove nat_cmp_total m i id ∙ ap (λ t. cond t None (get m id)) ((eq_by_cmp_equiv nat_cmp_total).symm id i ∙ unsigned_tied i id)
 
 -- what stores a body or takes it back leaves the requests alone

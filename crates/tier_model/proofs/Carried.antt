@@ -1,9 +1,9 @@
 -- Lawful histories hold the headline, and runs carry it on.
 use Rattle.std.proofs.Common.{◌≡◌, ℕ, ◌<◌, refl, ap, sym, ◌∙◌, true, false, subst, [], ◌∷◌, arith}
-use Rattle.std.specs.Prelude.{◌≤◌, Bool, List, Option, Some, None, Ok, Err, is_some, not, cond, MatchOption, IfSome, replicate}
+use Rattle.std.specs.Prelude.{◌≤◌, Bool, List, Option, Some, None, Ok, Err, is_some, not, cond, MatchOption, IfSome, replicate, map}
 use Rattle.std.proofs.lemmas.List.{ext_get_or}
 use Rattle.std.specs.List.{AllByRecursion}
-use Rattle.std.specs.FinMap.{get, get-empty, empty, entries, len-entries}
+use Rattle.std.specs.FinMap.{get, get-empty, empty, entries, len-entries, len-empty}
 use Rattle.std.specs.Cmp.Lexicographic.{slice_cmp}
 use Rattle.std.specs.Ordering.{nat_cmp}
 use Rattle.cache_words.specs.Time.{MomentValue}
@@ -36,11 +36,11 @@ use Rattle.tier_model.specs.Histories.{Kept, Opening, empty_opening, told_of, wr
 use Rattle.tier_model.specs.Rows.{FinishedBody, body_of}
 use Rattle.tier_model.specs.Reports.{IsReport, report_of}
 use Rattle.tier_model.specs.State.{Settings, Request, State, shards_of, empty_state}
-use Rattle.tier_model.specs.Shelf.{InFlight, empty_shelf}
+use Rattle.tier_model.specs.Shelf.{InFlight, Readers, empty_shelf}
 use Rattle.tier_model.specs.Checks.{refusal, unless}
 use Rattle.tier_model.specs.Step.{IsAnswer, AllowsBy, Allows, BeginsWrite, may_begin, tells_of_write}
 use Rattle.tier_model.specs.After.{after_outcome, after}
-use Rattle.tier_model.specs.Past.{in_shards, loaded_of, state_of, IsLawful, IsRequestOf, MatchesHistory, HasPast, AreTaken, CarriesHeadline}
+use Rattle.tier_model.specs.Past.{in_shards, loaded_of, state_of, IsLawful, count_of, streams, streamers, IsRequestOf, MatchesHistory, HasPast, AreTaken, CarriesHeadline}
 use Rattle.tier_model.proofs.RowSteps.{IsMade, in_shards-are}
 use Rattle.tier_model.proofs.ChangeLaws.{Leaves, leaves-later, unbound, is_held, shows}
 use Rattle.tier_model.proofs.StepLaws.{made-after}
@@ -50,6 +50,13 @@ use Rattle.tier_model.proofs.WriteLaws.{WritesFit, IsPlain, WritesFit-after, Hol
 use Rattle.tier_model.proofs.EventLaws.{Holds, IsOpen, HoldsNext, unrefused, begun-told, Holds-after}
 use Rattle.tier_model.proofs.OwnLaws.{OpenFits, OpenFits-after}
 use Rattle.tier_model.proofs.HeadlineLaws.{IsRight-allowed}
+use Rattle.tier_model.proofs.LockLaws.{lock-is}
+use Rattle.tier_model.proofs.ReaderLaws.{CountFits}
+use Rattle.tier_model.proofs.StreamLaws.{Counted, Counted-after}
+use Rattle.tier_model.proofs.ReadLaws.{ReadsFit, ReadsFit-after, ReadIsRight-allowed, readable_is}
+use Rattle.tier_model.specs.Reads.{AreReadRight}
+use Rattle.std.proofs.lemmas.List.{nil_from_length}
+use Rattle.std.specs.List.{sum_by}
 use Rattle.tier_model.proofs.ReportLaws.{Tallies, Tallies-after}
 use Rattle.tier_model.proofs.HeldLaws.{all-held, sums}
 
@@ -112,6 +119,8 @@ pub record Stands (start : Opening) (s : State) (h : History) : Type 0 where
   pub writes : WritesFit start h
   pub count : s.shelf.writes ≡ writes_begun start h
   pub tallies : Tallies s h
+  pub counted : Counted s (changes_of start h)
+  pub reads : (id : ℕ) → ReadsFit start id (get s.requests id) h
 
 module _ (start : Opening) (s : State) (h : History) (past : Stands start s h) where
   was_closed : (o : Option Request) → unless (not (is_some o)) IdInUse ≡ None → o ≡ None
@@ -154,6 +163,10 @@ module _ (start : Opening) (s : State) (h : History) (past : Stands start s h) w
           → Keeps n (writes_begun start (c ∷ h)) (after s c).shelf.bodies (after s c).shelf.flying (after s c).managed (changes_of start (c ∷ h))
       kept n e l = subst (λ (x : ℕ). Keeps x (writes_begun start (c ∷ h)) (after s c).shelf.bodies (after s c).shelf.flying (after s c).managed (changes_of start (c ∷ h))) (sym e) l
 
+-- nothing is streamed
+none_streams : (n : ℕ) → streamers n (empty {X = Request} {R = nat_cmp}) ≡ 0
+none_streams n = ap (λ (l : List (ℕ × Request)). sum_by (streams n) (map (λ e. e.1) l)) (nil_from_length (entries (empty {X = Request} {R = nat_cmp})) (sym (len-entries (empty {X = Request} {R = nat_cmp})) ∙ len-empty nat_cmp Request))
+
 -- the state after a lawful history stands for it
 pub Stands-lawful : (start : Opening) (h : History) → IsLawful start h → Stands start (state_of start h) h
 Stands-lawful start [] l = record {
@@ -163,6 +176,8 @@ Stands-lawful start [] l = record {
   writes = record { each = λ id w e. absurd cc; apart = λ i j v w e f same. absurd cc };
   count = refl;
   tallies = record { found = omega arith; absent = omega arith; evicted = omega arith };
+  counted = λ n. subst (λ (o : Option Readers). CountFits n o (streamers n (state_of start []).requests) (changes_of start [])) (sym (get-empty nat_cmp n)) (none_streams n);
+  reads = λ id. subst (λ (o : Option Request). ReadsFit start id o []) (sym (get-empty nat_cmp id)) tt;
 }
 Stands-lawful start (c ∷ h) l =
     let past : Stands start (state_of start h) h = Stands-lawful start h l.1 in
@@ -173,6 +188,8 @@ Stands-lawful start (c ∷ h) l =
       writes = WritesFit-after start c.event.moment (record { reading = c.reading; began = c.began; asked = c.asked }) h past.writes past.holds.leaves.below c.event.action c.outcome (is-plain start (state_of start h) h past c l.0);
       count = ap (λ (n : ℕ). writes_after n c.began) past.count;
       tallies = Tallies-after (state_of start h) c h l.0 past.tallies;
+      counted = Counted-after start (state_of start h) h past.holds (opened_request start (state_of start h) h past) past.writes past.counted past.count c l.0 (Holds-next start (state_of start h) h past c l.0).leaves.orderly;
+      reads = ReadsFit-after start (state_of start h) h past.holds past.count (opened_request start (state_of start h) h past) past.counted past.reads c l.0;
     }
 
 pub IsOrderly-lawful : (start : Opening) (h : History) → IsLawful start h → IsOrderly (changes_of start h)
@@ -190,6 +207,12 @@ AreRight-lawful start (c ∷ h) l =
 readings-lawful : (start : Opening) (h : History) → IsLawful start h → AllByRecursion (λ c. IsRead c.event.action c.reading) h
 readings-lawful start [] l = tt
 readings-lawful start (c ∷ h) l = (l.0.read, readings-lawful start h l.1)
+
+AreReadRight-lawful : (start : Opening) (h : History) → IsLawful start h → AreReadRight start h
+AreReadRight-lawful start [] l = tt
+AreReadRight-lawful start (c ∷ h) l =
+    let past : Stands start (state_of start h) h = Stands-lawful start h l.1 in
+    (ReadIsRight-allowed start (state_of start h) h past.holds past.count (opened_request start (state_of start h) h past) past.counted past.reads c l.0, AreReadRight-lawful start h l.1)
 
 -- a write began in each call that tells of one
 counted_put : (s : State) (may v : Bool) (b : Option FinishedBody) (o : Outcome) → BeginsWrite s may (cond (is_some b) (has_stored o) (is_begun o)) v → (x : FinishedBody) → b ≡ Some x → has_stored o ≡ true → v ≡ true
@@ -239,6 +262,7 @@ Headline-lawful start h l =
       readings = readings-lawful start h l;
       numbers = numbers-lawful start h l;
       answers = AreRight-lawful start h l;
+      reads = AreReadRight-lawful start h l;
       within = subst (λ (x : ℕ). AreWithin x start.settings.watermark (changes_of start h)) past.made.limit
           (subst (λ (x : Option ℕ). AreWithin (state_of start h).managed.limit x (changes_of start h)) past.made.watermark past.holds.within);
       tracked = bodies-tracked (changes_of start h) past.holds.leaves.orderly past.holds.leaves.tracks past.holds.leaves.settled;
@@ -256,17 +280,24 @@ start-some : (start : Opening) (h : History) (s : State) → Stands start s h �
 start-some start h s past = subst (λ (n : ℕ). 0 < n) past.made.shards past.holds.leaves.some
 
 -- the state after a lawful history is what it says
-IsRequestOf-fits : (start : Opening) (id : ℕ) (o : Option Request) (h : History) → OpenFits start id o h → MatchOption o (opened_for id h ≡ None) (λ q. IsRequestOf start id q h)
-IsRequestOf-fits start id None h fits = fits
-IsRequestOf-fits start id (Some q) h fits = record { key = fits.0.key; entry = fits.0.entry; own = fits.1; write = fits.0.write }
+IsRequestOf-fits : (start : Opening) (id : ℕ) (o : Option Request) (h : History) → OpenFits start id o h → ReadsFit start id o h → MatchOption o (opened_for id h ≡ None) (λ q. IsRequestOf start id q h)
+IsRequestOf-fits start id None h fits reads = fits
+IsRequestOf-fits start id (Some q) h fits reads = record { key = fits.0.key; entry = fits.0.entry; own = fits.1; write = fits.0.write; reader = reads }
 
-MatchesHistory-lawful : (start : Opening) (s : State) (h : History) → Stands start s h → MatchesHistory s start h
-MatchesHistory-lawful start s h past = record {
+count_is : (n : ℕ) (o : Option Readers) (k : ℕ) (changes : Changes Kept) → CountFits n o k changes → count_of o ≡ k
+count_is n None k changes fits = sym fits
+count_is n (Some r) k changes fits = fits.0
+
+MatchesHistory-lawful : (start : Opening) (s : State) (h : History) → s.lock ≡ (state_of start h).lock → Stands start s h → MatchesHistory s start h
+MatchesHistory-lawful start s h same past = record {
   bodies = all-held (shards_of s) (writes_begun start h) s.shelf.bodies s.shelf.flying s.managed (changes_of start h) past.holds.leaves;
   flights = past.holds.leaves.flights;
   order = (start-some start h s past, (rows_of (changes_of start h), IsOrderOfUse-rows_of (changes_of start h), subst (λ (n : ℕ). AreShardsOf n s.managed.shards (rows_of (changes_of start h))) past.made.shards past.holds.leaves.rows));
   held = HoldsWrites-fit start h past.writes;
-  requests = λ id. IsRequestOf-fits start id (get s.requests id) h (past.opens id);
+  requests = λ id. IsRequestOf-fits start id (get s.requests id) h (past.opens id) (past.reads id);
+  counted = λ n. count_is n (get s.shelf.readers n) (streamers n s.requests) (changes_of start h) (past.counted n);
+  reading = λ id n place q e is. readable_is start s h past.holds past.count (opened_request start s h past) past.counted id q n place e is;
+  lock = same ∙ lock-is start h;
   found = past.tallies.found;
   absent = past.tallies.absent;
   evicted = past.tallies.evicted;
@@ -281,7 +312,7 @@ HasPast-lawful start s h l e =
       lawful = l;
       state = e;
       headline = Headline-lawful start h l;
-      matches = subst (λ (x : State). MatchesHistory x start h) (sym e) (MatchesHistory-lawful start (state_of start h) h past);
+      matches = subst (λ (x : State). MatchesHistory x start h) (sym e) (MatchesHistory-lawful start (state_of start h) h refl past);
     }
 
 -- no rows in n shards

@@ -322,6 +322,15 @@ pub landing-stored : (f : TierFault) → (done_of f).stored ≡ true → is_land
 landing-stored WriteRemoved e = refl
 landing-stored f e = e
 
+-- what a check of a finish refuses ends no flight
+pub finish_check : (o : Option Request) (c : TierFault) → unless_open o (λ q. unless (is_some q.write) WrongPhase) ≡ Some c → is_landing (Err c) ≡ false
+finish_check None c e = let same : NoRequest ≡ c = cc in ap (λ (x : TierFault). is_landing (Err x)) (sym same)
+finish_check (Some q) c e = by_test (is_some q.write) e
+  where
+    by_test : (v : Bool) → unless v WrongPhase ≡ Some c → is_landing (Err c) ≡ false
+    by_test true e = absurd cc
+    by_test false e = let same : WrongPhase ≡ c = cc in ap (λ (x : TierFault). is_landing (Err x)) (sym same)
+
 -- ---- each event
 
 module _ (start : Opening) (s : State) (h : History) (l : Holds start s h) (count : s.shelf.writes ≡ writes_begun start h) (opened : (r : ℕ) (q : Request) → get s.requests r ≡ Some q → IsOpen start r q h) (fits : WritesFit start h) where
@@ -524,15 +533,7 @@ module _ (start : Opening) (s : State) (h : History) (l : Holds start s h) (coun
       ]
   finish_fault_holds t i r g (Some c) n p =
       let same : g ≡ c = cc in
-      quiet_finish_holds t i r g (rw same (refused_quiet (get s.requests r) c n))
-    where
-      refused_quiet : (o : Option Request) (c : TierFault) → unless_open o (λ q. unless (is_some q.write) WrongPhase) ≡ Some c → is_landing (Err c) ≡ false
-      refused_quiet None c e = let same : NoRequest ≡ c = cc in ap (λ (x : TierFault). is_landing (Err x)) (sym same)
-      refused_quiet (Some q) c e = by_test (is_some q.write) e
-        where
-          by_test : (v : Bool) → unless v WrongPhase ≡ Some c → is_landing (Err c) ≡ false
-          by_test true e = absurd cc
-          by_test false e = let same : WrongPhase ≡ c = cc in ap (λ (x : TierFault). is_landing (Err x)) (sym same)
+      quiet_finish_holds t i r g (rw same (finish_check (get s.requests r) c n))
 
   put_fault : (t : MomentValue) (i : Inside) (key : CacheKeyValue) (pieces : List (List ℕ)) (g : TierFault) → IsFault s t (Put key pieces) (call_at t (Put key pieces) i (Err g)) g
       → BeginsWrite s (may_begin s (call_at t (Put key pieces) i (Err g))) (tells_of_write (call_at t (Put key pieces) i (Err g))) i.began → Next (undone s (finished_by (call_at t (Put key pieces) i (Err g))) (done_of g)) (call_at t (Put key pieces) i (Err g))

@@ -11,6 +11,10 @@ pub mod EventLaws
 pub mod StepLaws
 pub mod OwnLaws
 pub mod HeldLaws
+pub mod ReaderLaws
+pub mod StreamLaws
+pub mod ReadLaws
+pub mod LockLaws
 pub mod HeadlineLaws
 pub mod Carried
 pub mod ReportLaws

@@ -109,7 +109,7 @@ lander _ _ = None
 
 module _ (start : Opening) where
   -- a call lands no write but that of its request
-  changes_spare : (n : ℕ) (action : Action) (o : Outcome) (c : Call) (h : History) → n < writes_begun start h → ((r : ℕ) → lander action o ≡ Some r → IsApart n (write_held start r h))
+  pub changes_spare : (n : ℕ) (action : Action) (o : Outcome) (c : Call) (h : History) → n < writes_begun start h → ((r : ℕ) → lander action o ≡ Some r → IsApart n (write_held start r h))
       → AllByRecursion (Spares n) (changes_in start action o c h (changes_of start h))
   changes_spare n (LookUp id) (Ok (Found fresh true given)) c h below apart = look_spare n (opened_for id h) (changes_of start h)
   changes_spare n (Begin id head) (Ok Begun) c h below apart = begin_spare n (begun_by start id c h)

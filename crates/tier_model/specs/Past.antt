@@ -1,7 +1,8 @@
 -- A state with the history that led to it.
-use Rattle.std.specs.Prelude.{◌≡◌, ◌↔◌, ◌<◌, ℕ, Bool, true, List, [], ◌∷◌, ◌++◌, length, map, Option, Some, None, option_map, MatchOption}
-use Rattle.std.specs.List.{range_with_len}
-use Rattle.std.specs.FinMap.{entries, get}
+use Rattle.std.specs.Prelude.{◌≡◌, ◌↔◌, ◌<◌, ℕ, Bool, true, List, [], ◌∷◌, ◌++◌, length, map, ◌==◌, if◌then◌else◌, Option, Some, None, option_map, MatchOption}
+use Rattle.std.specs.List.{range_with_len, sum_by}
+use Rattle.std.specs.FinMap.{FinMap, entries, get, values}
+use Rattle.std.specs.Ordering.{nat_cmp}
 use Rattle.cache_entries.specs.declared.rows.Tracked.{Tracked}
 use Rattle.cache_entries.specs.Entry.{key_of}
 use Rattle.cache_entries.specs.Rows.{AreDistinct}
@@ -18,10 +19,12 @@ use Rattle.tier_model.specs.Reads.{HasStream, IsOver}
 use Rattle.tier_model.specs.Headline.{Headline}
 use Rattle.tier_model.specs.Own.{own_of, own_in}
 use Rattle.tier_model.specs.Reports.{AreAllBodies, found_answers, absent_answers, evictions}
-use Rattle.tier_model.specs.Shelf.{InFlight, Shelf, empty_shelf, readable}
+use Rattle.tier_model.specs.Shelf.{InFlight, Readers, Shelf, empty_shelf, readable}
 use Rattle.tier_model.specs.State.{Reader, closed, unread, spent, streaming, Request, State, empty_state}
 use Rattle.tier_model.specs.Step.{Allows}
-use Rattle.tier_model.specs.After.{after}
+use Rattle.tier_model.specs.After.{lock_changes, after}
+use Rattle.cache_lock.specs.Changes.{Changes as LockChanges}
+use Rattle.cache_lock.specs.Waits.{state_of as lock_of}
 
 -- rows put into n shards
 abbrev pub in_shards : ℕ → List Tracked → List (List Tracked)
@@ -35,6 +38,11 @@ loaded_of start = record (fresh start.settings.shards start.settings.limit start
 abbrev pub state_of : Opening → History → State
 state_of start [] = record (empty_state start.settings) { managed = loaded_of start; shelf = empty_shelf start.first }
 state_of start (c ∷ h) = after (state_of start h) c
+
+-- what a history changed in the lock, the latest change first
+abbrev pub lock_changes_of : Opening → History → LockChanges
+lock_changes_of start [] = []
+lock_changes_of start (c ∷ h) = lock_changes (state_of start h) c ++ lock_changes_of start h
 
 -- each outcome is one that the state before it allows; there is a shard, and no entry was loaded twice
 abbrev pub IsLawful : Opening → History → Type 0
@@ -72,15 +80,31 @@ abbrev pub IsReadable : Shelf → ℕ → Changes Kept → Type 0
 IsReadable shelf n changes = (over : Bool) × (readable n shelf ≡ Some (bytes_of n changes, over)) × ((over ≡ true) ↔ IsOver n changes)
 
 -- a request has to read what its calls say: of a whole body nothing was read, or all; of a write as it comes all up to its place
-abbrev pub HasToRead : Opening → Shelf → ℕ → Reader → History → Type 0
-HasToRead start shelf id closed h = Unit {0}
-HasToRead start shelf id (unread bytes) h =
+abbrev pub HasToRead : Opening → ℕ → Reader → History → Type 0
+HasToRead start id closed h = Unit {0}
+HasToRead start id (unread bytes) h =
     (w : Write Kept) × (since : History) × (hit : HasHit start id w since h) × (bytes_read id since ≡ []) × (bytes ≡ bytes_of w.number (changes_of start hit.before))
-HasToRead start shelf id spent h =
+HasToRead start id spent h =
     (w : Write Kept) × (since : History) × (hit : HasHit start id w since h) × (bytes_read id since ≡ bytes_of w.number (changes_of start hit.before))
-HasToRead start shelf id (streaming n place) h =
+HasToRead start id (streaming n place) h =
     (w : Write Kept) × (since : History) × HasStream start id w since h × (w.number ≡ n) × (place ≡ length (bytes_read id since))
-    × ((more : List ℕ) × (bytes_of n (changes_of start h) ≡ bytes_read id since ++ more)) × IsReadable shelf n (changes_of start h)
+    × ((more : List ℕ) × (bytes_of n (changes_of start h) ≡ bytes_read id since ++ more))
+
+-- how many requests read the write of that number as it comes
+abbrev pub streams_by : ℕ → Reader → ℕ
+streams_by n (streaming m place) = if m == n then 1 else 0
+streams_by n _ = 0
+
+abbrev pub streams : ℕ → Request → ℕ
+streams n q = streams_by n q.reader
+
+abbrev pub streamers : ℕ → FinMap nat_cmp Request → ℕ
+streamers n requests = sum_by (streams n) (values requests)
+
+-- the readers of a write are as many as those requests, and where it has none nothing is kept of it
+abbrev pub count_of : Option Readers → ℕ
+count_of None = 0
+count_of (Some r) = r.count
 
 -- q is what the calls of the open request say
 pub record IsRequestOf (start : Opening) (id : ℕ) (q : Request) (h : History) : Type 0 where
@@ -88,19 +112,23 @@ pub record IsRequestOf (start : Opening) (id : ℕ) (q : Request) (h : History) 
   pub entry : q.entry ≡ alone (key_of q.entry)
   pub own : own_in q ≡ own_of id h
   pub write : q.write ≡ option_map (λ w. w.number) (write_held start id h)
+  pub reader : HasToRead start id q.reader h
 
 -- the requests are those that are open, each as its calls say
 abbrev pub AreRequests : Opening → State → History → Type 0
 AreRequests start s h = (id : ℕ) → MatchOption (get s.requests id) (opened_for id h ≡ None) (λ q. IsRequestOf start id q h)
 
--- the state is what the history says: its bodies and writes in flight, the order of use, the open requests with their writes, the counts, and how
--- many writes began
+-- the state is what the history says: its bodies and writes in flight, the order of use, the open requests with their writes and what they have to
+-- read, the readers of each write, what its lock was changed, the counts, and how many writes began
 pub record MatchesHistory (s : State) (start : Opening) (h : History) : Type 0 where
   pub bodies : HoldsBodies s start h
   pub flights : s.shelf.flying ≡ map plain (store_of (changes_of start h)).flying
   pub order : HoldsOrder s.managed start h
   pub held : HoldsWrites start h
   pub requests : AreRequests start s h
+  pub counted : (n : ℕ) → count_of (get s.shelf.readers n) ≡ streamers n s.requests
+  pub reading : (id n place : ℕ) (q : Request) → get s.requests id ≡ Some q → q.reader ≡ streaming n place → IsReadable s.shelf n (changes_of start h)
+  pub lock : s.lock ≡ lock_of start.settings.age (lock_changes_of start h)
   pub found : s.found ≡ saturated (found_answers h)
   pub absent : s.absent ≡ saturated (absent_answers h)
   pub evicted : s.managed.evicted_items ≡ saturated (evictions h)
