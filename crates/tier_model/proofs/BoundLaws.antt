@@ -21,7 +21,8 @@ use Rattle.tier_model.specs.Histories.{Kept, write_of, goes, settles, stores, cl
 use Rattle.tier_model.specs.Shelf.{InFlight, has_number, on_flying, marked, marked_all}
 use Rattle.tier_model.specs.Rows.{Bodies, FinishedBody, with_body, without_body, without_bodies, weight_for}
 use Rattle.tier_model.proofs.RowSteps.{over-rows}
-use Rattle.tier_model.proofs.ChangeLaws.{Leaves, more_bytes, no_more, leaves-later, leaves-used, leaves-cleared, leaves-gone, leaves-begun, leaves-appended, leaves-ended, leaves-left, leaves-withdrawn, leaves-back}
+use Rattle.tier_model.proofs.ChangeLaws.{Leaves, more_bytes, no_more, leaves-later, leaves-used, leaves-cleared, leaves-gone}
+use Rattle.tier_model.proofs.WrittenLaws.{leaves-begun, leaves-appended, leaves-ended, leaves-left, leaves-withdrawn, leaves-back}
 
 -- what the changes leave, with bodies that keep both limits
 pub record Keeps (N n : ℕ) (held : Bodies) (fs : List InFlight) (m : Managed) (changes : Changes Kept) : Type 0 where

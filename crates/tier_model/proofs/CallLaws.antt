@@ -1,6 +1,6 @@
 -- What a call does to open requests: to the one that it names, and nothing to the others.
-use Rattle.std.proofs.Common.{◌≡◌, ℕ, refl, ap, sym, ◌∙◌, true, false, subst, cond, [], ◌∷◌, ◌==◌}
-use Rattle.std.specs.Prelude.{Bool, List, Option, Some, None, option_map, is_some, Ok, Err, ◌&&◌}
+use Rattle.std.proofs.Common.{◌≡◌, ℕ, refl, ap, sym, ◌∙◌, true, false, cond, [], ◌==◌}
+use Rattle.std.specs.Prelude.{Bool, Option, Some, None, option_map, Ok, Err, ◌&&◌}
 use Rattle.std.specs.FinMap.{FinMap, get, insert, remove, get-insert, get-remove}
 use Rattle.std.specs.Ordering.{nat_cmp}
 use Rattle.std.specs.Cmp.{unsigned_tied}
@@ -17,15 +17,14 @@ use Rattle.tier_model.specs.declared.event.Answer.TheVariants.{Opened, Found, Ab
 use Rattle.tier_model.specs.declared.event.Answer.TheVariants as answer
 use Rattle.tier_model.specs.declared.event.Done.{Done}
 use Rattle.tier_model.specs.declared.event.TierFault.{TierFault}
-use Rattle.tier_model.specs.declared.event.TierFault.TheVariants.{WriteRemoved}
 use Rattle.tier_model.specs.Keys.{Entry, entry_of, stored_key_of}
 use Rattle.tier_model.specs.Shelf.{is_there, look}
-use Rattle.tier_model.specs.Calls.{Call, History, Outcome, done_of, judged_of, finished_by, entry_after, asks_after, ends_reader, is_end_of_reader, bytes_given, bytes_answered}
+use Rattle.tier_model.specs.Calls.{Call, Outcome, done_of, judged_of, finished_by, entry_after, asks_after, is_end_of_reader, bytes_given, bytes_answered}
 use Rattle.tier_model.specs.Histories.{Kept, is_landing, write_after}
 use Rattle.tier_model.specs.Response.{Judged, kept}
 use Rattle.tier_model.specs.Rows.{FinishedBody}
 use Rattle.tier_model.specs.Own.{Own, own_opened, own_looked, own_polled, own_begun, phase_found, phase_absent, reads_found, no_reader, as_it_comes, reads_on, own_after}
-use Rattle.tier_model.specs.State.{begun, disabled, nothing, closed, streaming, Request, State}
+use Rattle.tier_model.specs.State.{begun, disabled, nothing, closed, Request, State}
 use Rattle.tier_model.specs.Answers.{look_for, finishing}
 use Rattle.tier_model.specs.After.{by_request, on_request, with_request, opened_request, looked, after_look, after_wait, after_begin, writing, after_flight, on_write, pieced, after_put, after_finish, finished_state, taken_back, undone, after_purge, without_request, read_on, answered, refused, after_outcome, after}
 

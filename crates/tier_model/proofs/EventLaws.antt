@@ -1,335 +1,40 @@
--- What each lawful call changes leaves what the state after it holds, and what it listed as evicted went as it says.
-use Rattle.std.proofs.Common.{◌≡◌, ℕ, ◌+◌, ◌≤◌, refl, ap, sym, ◌∙◌, true, false, subst, cond, [], ◌∷◌, ◌++◌, length, arith, inl, inr}
-use Rattle.std.specs.Prelude.{Bool, List, Option, Some, None, option_map, is_some, Ok, Err, MatchOption, not, filter, find, map, ◌==◌, ◌↔◌, ◌⊎◌, ◌≢◌}
+-- What each lawful call changes leaves what the state after it holds.
+use Rattle.std.proofs.Common.{◌≡◌, ℕ, ◌+◌, refl, ap, sym, ◌∙◌, true, false, subst, cond, [], ◌∷◌, ◌++◌, inl, inr}
+use Rattle.std.specs.Prelude.{Bool, List, Option, Some, None, is_some, Ok, Err, MatchOption, not, find}
 use Rattle.std.specs.FinMap.{FinMap, get, insert}
 use Rattle.std.specs.Ordering.{nat_cmp}
 use Rattle.cache_words.specs.Time.{MomentValue}
 use Rattle.cache_words.specs.Key.{CacheKeyValue}
-use Rattle.cache_changes.specs.Changes.{StoredKey, stored_key, Write, Change, Changes, begins, appends, finishes, removes, departs, uses}
-use Rattle.cache_changes.specs.Writes.{bytes_of, has_ended, meta_of, IsOrderly, IsInFlight, IsAlive, body_now}
-use Rattle.cache_changes.specs.Store.{Flying, store_of, has_number as held_number}
-use Rattle.cache_changes.proofs.BodyLaws.{body_now-of}
-use Rattle.cache_changes.proofs.FlightLaws.{flight, flying_of, flying_at-is}
-use Rattle.cache_changes.proofs.StateLaws.{flying-tells}
-use Rattle.cache_changes.proofs.WriteLaws.{life-flies}
+use Rattle.cache_changes.specs.Changes.{StoredKey, stored_key, Write, Change, appends, finishes, uses}
+use Rattle.cache_changes.specs.Writes.{has_ended, IsInFlight}
 use Rattle.cache_entries.specs.declared.entry.CacheEntryKey.{CacheEntryKey}
 use Rattle.cache_entries.specs.Entry.{key_of}
-use Rattle.cache_entries.specs.Rows.{is_over}
-use Rattle.cache_changes.specs.Uses.{rows_of}
-use Rattle.cache_changes.proofs.UseLaws.{IsOrderOfUse-rows_of}
-use Rattle.cache_evict.specs.Managed.{Managed}
-use Rattle.tier_model.specs.declared.whole.Whole.{Whole}
-use Rattle.tier_model.specs.declared.state.Body.{Body}
 use Rattle.tier_model.specs.declared.event.Action.{Action}
 use Rattle.tier_model.specs.declared.event.Action.TheVariants.{Open, LookUp, Poll, Begin, Piece, Finish, Read, Drop, Purge, Put}
 use Rattle.tier_model.specs.declared.event.Answer.{Answer}
-use Rattle.tier_model.specs.declared.event.Answer.TheVariants.{Opened, Found, Absent, Waited, Begun, Dropped, Purged, Finished}
+use Rattle.tier_model.specs.declared.event.Answer.TheVariants.{Waited, Begun, Purged}
 use Rattle.tier_model.specs.declared.event.Answer.TheVariants as answer
-use Rattle.tier_model.specs.declared.event.Done.{Done}
 use Rattle.tier_model.specs.declared.event.TierFault.{TierFault}
-use Rattle.tier_model.specs.declared.event.TierFault.TheVariants.{NoRequest, WrongPhase, AfterEnd, WriteRemoved, TooHeavy, TooLong, NumbersSpent, Memory}
+use Rattle.tier_model.specs.declared.event.TierFault.TheVariants.{WrongPhase, AfterEnd, WriteRemoved}
 use Rattle.tier_model.specs.Keys.{Entry, entry_of, alone, stored_key_of}
-use Rattle.tier_model.specs.Evictions.{all_gone, GoInTurn}
 use Rattle.tier_model.specs.Response.{Judged, kept, not_kept}
-use Rattle.tier_model.specs.Calls.{Call, History, Outcome, extended, nothing_done, done_of, judged_of, read_by, finished_by, has_stored, is_begun, writes_after, opened_for}
-use Rattle.tier_model.specs.Histories.{Kept, Opening, told_of, writes_begun, goes, settles, stores, clears, put_changes, hit_changes, look_changes, begun_by, write_begun, is_landing, write_held, begin_changes, finished_of, settles_back, finish_changes, drop_changes, piece_changes, changes_of}
-use Rattle.tier_model.specs.Headline.{EndsOver}
-use Rattle.tier_model.specs.Rows.{Bodies, FinishedBody, body_of, with_body, weight_for}
-use Rattle.cache_heads.specs.declared.meta.CacheMeta.{CacheMeta}
+use Rattle.tier_model.specs.Calls.{Call, History, Outcome, extended, done_of, judged_of, read_by, finished_by, is_begun, writes_after}
+use Rattle.tier_model.specs.Histories.{Kept, Opening, writes_begun, look_changes, begun_by, write_begun, is_landing, write_held, begin_changes, finished_of, settles_back, finish_changes, piece_changes, changes_of}
+use Rattle.tier_model.specs.Rows.{FinishedBody, body_of, weight_for}
 use Rattle.tier_model.specs.declared.event.LockGiven.{LockGiven}
-use Rattle.tier_model.specs.Shelf.{InFlight, Shelf, has_number, flying_at, flies_for, Look, absent, in_flight, finished, look_by, look, is_there, landed, on_flying}
-use Rattle.tier_model.specs.State.{Settings, Request, State, shards_of}
-use Rattle.tier_model.specs.Past.{plain}
+use Rattle.tier_model.specs.Shelf.{InFlight, flying_at, flies_for, Look, absent, in_flight, finished, look, is_there, landed, on_flying}
+use Rattle.tier_model.specs.State.{Request, State, shards_of}
 use Rattle.tier_model.specs.Checks.{refusal, unless, unless_open, piece_refusal, has_ended as ended_at}
-use Rattle.tier_model.specs.Answers.{key_for, look_for, lock_given, look_answer, admitted, stored_alone, all_done, IsStored, IsPutAnswer, IsKeptOut, IsStoreFault, IsPutFault, IsBeginAnswer, IsFinishFault, body_under, flight_of, finishing}
-use Rattle.tier_model.specs.Step.{UseFits, OfRequest, IsAnswer, IsFault, AllowsBy, BeginsWrite, may_begin, tells_of_write, Allows}
-use Rattle.tier_model.specs.After.{by_request, on_request, with_request, on_write, pieced, read_on, after_wait, after_look, after_begin, after_flight, after_put, undone, after_finish, finished_state, after_purge, without_request, answered, refused, after_outcome, after}
+use Rattle.tier_model.specs.Answers.{key_for, look_for, lock_given, look_answer, IsStored, IsBeginAnswer, IsFinishFault, finishing}
+use Rattle.tier_model.specs.Step.{UseFits, IsAnswer, IsFault, AllowsBy, BeginsWrite, may_begin, tells_of_write, Allows}
+use Rattle.tier_model.specs.After.{by_request, on_request, with_request, on_write, pieced, read_on, after_wait, after_look, after_begin, after_flight, undone, after_finish, finished_state, after_purge, without_request, answered, refused, after_outcome}
 use Rattle.tier_model.proofs.CallLaws.{Inside, call_at}
-use Rattle.tier_model.proofs.WriteLaws.{WritesFit, flies-of, IsWriteOf, flies_on}
-use Rattle.tier_model.proofs.RowSteps.{IsMade, over-rows}
-use Rattle.tier_model.proofs.FlightLaws.{find-plain}
-use Rattle.tier_model.proofs.ChangeLaws.{Leaves, more_bytes, Shows, shows, leaves-stored, leaves-finished}
-use Rattle.tier_model.proofs.BoundLaws.{Keeps, ends-over, gone-limit, keeps-later, keeps-used, keeps-cleared, keeps-begun, keeps-appended, keeps-ended, keeps-left, leaves-room, keeps-room, keeps-back, keeps-withdrawn, put_changes_key, finish_changes_key}
-
--- what a state holds after a history
-abbrev pub Holds : Opening → State → History → Type 0
-Holds start s h = Keeps (shards_of s) (writes_begun start h) s.shelf.bodies s.shelf.flying s.managed (changes_of start h)
-
--- what is held after one call more, by whether a write began in it
-abbrev pub HoldsNext : State → ℕ → Bool → State → Changes Kept → Type 0
-HoldsNext s n began new changes = Keeps (shards_of s) (writes_after n began) new.shelf.bodies new.shelf.flying new.managed changes
-
-no-fewer : (n : ℕ) (began : Bool) → n ≤ writes_after n began
-no-fewer n true = omega arith
-no-fewer n false = omega arith
-
--- a write began of what is told
-pub begun-told : (s : State) (may told v : Bool) → BeginsWrite s may told v → told ≡ true → v ≡ true
-begun-told s may told true x e = refl
-begun-told s may told false x e = cc
-
-extended-append : (past : Changes Kept) (xs ys : List (Change Kept)) → extended past (xs ++ ys) ≡ extended (extended past xs) ys
-extended-append past [] ys = refl
-extended-append past (x ∷ xs) ys = extended-append (x ∷ past) xs ys
-
--- what was done before an entry was kept out
-pub kept_out-done : (s : State) (e : CacheEntryKey) (w : ℕ) (done : Done) (f : TierFault) → IsKeptOut s e w done f → done_of f ≡ done
-kept_out-done s e w done (TooHeavy told) p = p.0
-kept_out-done s e w done (TooLong told) p = p.0
-kept_out-done s e w done (NumbersSpent told) p = p.0
-kept_out-done s e w done (Memory told) p = p.0
-kept_out-done s e w done _ p = absurd p
-
--- ---- what is found
-
-pub look_finished : (o : Option InFlight) (p : Option Body) (b : Body) → look_by o p ≡ finished b → (o ≡ None) × (p ≡ Some b)
-look_finished (Some f) p b e = absurd cc
-look_finished None (Some c) b e = (refl, let same : c ≡ b = cc in ap (λ (x : Body). Some x) same)
-look_finished None None b e = absurd cc
-
-pub look_flight : (o : Option InFlight) (p : Option Body) (f : InFlight) → look_by o p ≡ in_flight f → o ≡ Some f
-look_flight (Some g) p f e = let same : g ≡ f = cc in ap (λ (x : InFlight). Some x) same
-look_flight None (Some c) f e = absurd cc
-look_flight None None f e = absurd cc
-
-pub look_absent : (o : Option InFlight) (p : Option Body) → look_by o p ≡ absent → (o ≡ None) × (p ≡ None)
-look_absent (Some f) p e = absurd cc
-look_absent None (Some c) e = absurd cc
-look_absent None None e = (refl, refl)
-
-abbrev use_of : Entry → Body → List (Change Kept)
-use_of e b = uses (alone e) (weight_for b) ∷ []
-
--- what a hit changes: its entry is used
-hit_uses : (e : Entry) (b : Body) (changes : Changes Kept) → IsOrderly changes → Shows (stored_key e) b changes → hit_changes e (body_now (stored_key e) changes) changes ≡ uses (alone e) (weight_for b) ∷ []
-hit_uses e b changes o x =
-    ap (λ (w : Option (Write Kept)). hit_changes e w changes) (body_now-of (stored_key e) changes x.write o x.body) ∙ ap (λ (p : Body). use_of e p) x.tells
-
--- ---- a write in flight in a state
-
-pub record FlightAt (w : Write Kept) (fs : List InFlight) (changes : Changes Kept) : Type 0 where
-  pub flight : InFlight
-  pub at : flying_at w.number fs ≡ Some flight
-  pub bytes : flight.bytes ≡ bytes_of w.number changes
-  pub meta : flight.meta ≡ (meta_of w changes).meta
-  pub ended : flight.ended ≡ has_ended w.number changes
-  pub alive : (flight.removed ≡ false) ↔ IsAlive w changes
-
-pub flight-at : (N n : ℕ) (bodies : Bodies) (fs : List InFlight) (m : Managed) (changes : Changes Kept) → Leaves N n bodies fs m changes → (w : Write Kept) → IsInFlight w changes → FlightAt w fs changes
-flight-at N n bodies fs m changes l w flies =
-    let known = life-flies w changes l.orderly flies in
-    let there = flying_at-is w.number changes l.orderly ∙ ap (flying_of changes) known.1 in
-    let tells = flying-tells w.number changes (flight w known.0 changes) l.orderly there in
-    record {
-      flight = plain (flight w known.0 changes);
-      at = ap (find (has_number w.number)) l.flights ∙ find-plain (held_number w.number) (has_number w.number) (store_of changes).flying (λ f. refl) ∙ ap (option_map plain) there;
-      bytes = refl;
-      meta = refl;
-      ended = refl;
-      alive = tells.1.alive;
-    }
-
--- ---- what a state says of an open request
-
-pub record IsOpen (start : Opening) (id : ℕ) (q : Request) (h : History) : Type 0 where
-  pub key : opened_for id h ≡ Some (key_of q.entry)
-  pub entry : q.entry ≡ alone (key_of q.entry)
-  pub write : q.write ≡ option_map (λ w. w.number) (write_held start id h)
-
--- the write of a request that has one
-pub record Written (start : Opening) (id : ℕ) (q : Request) (h : History) : Type 0 where
-  pub write : Write Kept
-  pub held : write_held start id h ≡ Some write
-  pub number : q.write ≡ Some write.number
-  pub flies : IsInFlight write (changes_of start h)
-  pub of_key : write.key ≡ stored_key (key_of q.entry)
-  pub of_entry : write.meta.entry ≡ q.entry
-
-number_some : (o : Option (Write Kept)) (n : ℕ) → option_map (λ w. w.number) o ≡ Some n → (w : Write Kept) × (o ≡ Some w)
-number_some None n e = absurd cc
-number_some (Some w) n e = (w, refl)
-
-number_none : (o : Option (Write Kept)) → option_map (λ w. w.number) o ≡ None → o ≡ None
-number_none None e = refl
-number_none (Some w) e = absurd cc
-
-pub the-write : (start : Opening) (id : ℕ) (q : Request) (h : History) → IsOpen start id q h → WritesFit start h → (n : ℕ) → q.write ≡ Some n → Written start id q h
-the-write start id q h opens fits n e =
-    let w = number_some (write_held start id h) n (sym opens.write ∙ e) in
-    let is : IsWriteOf start w.0 (Some (key_of q.entry)) (changes_of start h) = subst (λ (o : Option Entry). IsWriteOf start w.0 o (changes_of start h)) opens.key (fits.each id w.0 w.1) in
-    record { write = w.0; held = w.1; number = opens.write ∙ ap (option_map (λ v. v.number)) w.1; flies = is.0; of_key = is.1; of_entry = is.2 ∙ sym opens.entry }
-
-pub no-write : (start : Opening) (id : ℕ) (q : Request) (h : History) → IsOpen start id q h → q.write ≡ None → write_held start id h ≡ None
-no-write start id q h opens e = number_none (write_held start id h) (sym opens.write ∙ e)
-
--- the body that a finish finishes is that of its write, where it is alive
-pub finishing-is : (start : Opening) (id : ℕ) (q : Request) (h : History) (shelf : Shelf) (x : Written start id q h) (f : FlightAt x.write shelf.flying (changes_of start h))
-    → finishing q shelf ≡ cond f.flight.removed None (Some (finished_of (changes_of start h) x.write))
-finishing-is start id q h shelf x f =
-    ap (λ (n : Option ℕ). body_under q.entry (flight_of n shelf)) x.number ∙ ap (body_under q.entry) f.at
-    ∙ ap (λ (e : CacheEntryKey). cond f.flight.removed None (Some (record { entry = key_of e; body = record { bytes = f.flight.bytes; meta = f.flight.meta } }))) (sym x.of_entry)
-    ∙ ap (λ (bytes : List ℕ). cond f.flight.removed None (Some (record { entry = key_of x.write.meta.entry; body = record { bytes = bytes; meta = f.flight.meta } }))) f.bytes
-    ∙ ap (λ (meta : CacheMeta). cond f.flight.removed None (Some (record { entry = key_of x.write.meta.entry; body = record { bytes = bytes_of x.write.number (changes_of start h); meta = meta } }))) f.meta
-
--- an open request of a check that passed
-pub passed : (o : Option Request) (check : Request → Option TierFault) → unless_open o check ≡ None → (q : Request) × (o ≡ Some q) × (check q ≡ None)
-passed None check e = absurd cc
-passed (Some q) check e = (q, refl, e)
-
-pub test_passed : (v : Bool) (f : TierFault) → unless v f ≡ None → v ≡ true
-test_passed true f e = refl
-test_passed false f e = absurd cc
-
-pub not_false : (v : Bool) → not v ≡ true → v ≡ false
-not_false true e = absurd cc
-not_false false e = refl
-
--- no check failed where there is an answer
-pub unrefused : (s : State) (o : Option TierFault) (t : MomentValue) (action : Action) (c : Call) (a : Answer) → refusal s action ≡ o → AllowsBy o s t action c (Ok a) → (refusal s action ≡ None) × IsAnswer s t action c a
-unrefused s (Some g) t action c a e p = absurd cc
-unrefused s None t action c a e p = (e, p)
-
--- ---- a body that is stored, or taken back
-
-module _ (s : State) (n : ℕ) (changes : Changes Kept) (l : Keeps (shards_of s) n s.shelf.bodies s.shelf.flying s.managed changes) where
-  idle : (began : Bool) → HoldsNext s n began s changes
-  idle began = keeps-later (shards_of s) n s.shelf.bodies s.shelf.flying s.managed changes l (writes_after n began) (no-fewer n began)
-
-  -- after an admission
-  module _ (i : ℕ) (b : FinishedBody) (gs : List InFlight) (now : Changes Kept) (st : Leaves (shards_of s) i (with_body b s.shelf.bodies) gs (admitted s b) now) where
-    pub ends_over : (settings : Settings) (over : Bool) (es : List CacheEntryKey) → IsMade settings s.managed → GoInTurn (shards_of s) over es (admitted s b) → EndsOver settings over (extended now (goes es))
-    ends_over settings over es made h =
-        let N = shards_of s in
-        let left : Managed = all_gone N es (admitted s b) in
-        let last : Changes Kept = extended now (goes es) in
-        let after = leaves-room N n s.shelf.bodies s.shelf.flying s.managed changes l i b gs now st over es h in
-        let limits = gone-limit N es (admitted s b) in
-        record {
-          rows = rows_of last;
-          order = IsOrderOfUse-rows_of last;
-          ends = ap (λ (x : ℕ). is_over x settings.watermark (rows_of last)) (sym (limits.0 ∙ made.limit)) ∙ ap (λ (x : Option ℕ). is_over left.limit x (rows_of last)) (sym (limits.1 ∙ made.watermark))
-              ∙ over-rows N left (rows_of last) after.some after.rows ∙ ends-over N over es (admitted s b) h;
-        }
-
-  -- a put's
-  pub put_stored : (b : FinishedBody) → Leaves (shards_of s) (n + 1) (with_body b s.shelf.bodies) s.shelf.flying (admitted s b) (extended changes (stores n b []))
-  put_stored b = leaves-stored (shards_of s) n b s.shelf.bodies s.shelf.flying s.managed changes l.leaves
-
-  put_holds : (g : Option FinishedBody) (w : Option Whole) (a : Answer) (began may : Bool) → IsPutAnswer s g w a → BeginsWrite s may (cond (is_some g) (has_stored (Ok a)) (is_begun (Ok a))) began
-      → HoldsNext s n began (after_put s g a) (extended changes (put_changes n g (Ok a)))
-  put_holds (Some b) w (Finished m es) began may p x =
-      subst (λ (v : Bool). HoldsNext s n v (after_put s (Some b) (Finished m es)) (extended changes (stores n b es))) (sym (begun-told s may true began x refl))
-      (keeps-room (shards_of s) n s.shelf.bodies s.shelf.flying s.managed changes l (n + 1) b s.shelf.flying (extended changes (stores n b [])) (put_stored b) es p.2)
-  put_holds (Some b) w _ began may p x = absurd p
-  put_holds None w a began may p x = idle began
-
-  -- a refused put
-  abbrev BackHolds : Option FinishedBody → TierFault → Bool → Type 0
-  BackHolds g f began = HoldsNext s n began (undone s g (done_of f)) (extended changes (put_changes n g (Err f)))
-
-  quiet_holds : (g : Option FinishedBody) (f : TierFault) (began : Bool) → done_of f ≡ nothing_done → BackHolds g f began
-  quiet_holds (Some b) f began d = rw d (idle began)
-  quiet_holds None f began d = idle began
-
-  alone_holds : (b : FinishedBody) (f : TierFault) (began : Bool) → done_of f ≡ stored_alone → BackHolds (Some b) f began
-  alone_holds b f began d = rw d (keeps-cleared (shards_of s) (writes_after n began) s.shelf.bodies s.shelf.flying s.managed changes (idle began) b.entry)
-
-  cut_holds : (b : FinishedBody) (f : TierFault) (es : List CacheEntryKey) (began may : Bool) → done_of f ≡ all_done es → GoInTurn (shards_of s) true es (admitted s b)
-      → BeginsWrite s may (has_stored (Err f)) began → BackHolds (Some b) f began
-  cut_holds b f es began may d h x =
-      subst (λ (v : Bool). BackHolds (Some b) f v) (sym (begun-told s may (has_stored (Err f)) began x (ap (λ (done : Done). done.stored) d)))
-      (rw (d, extended-append changes (stores n b es) (clears b.entry))
-      (keeps-back (shards_of s) n s.shelf.bodies s.shelf.flying s.managed changes l (n + 1) b s.shelf.flying (extended changes (stores n b [])) (put_stored b)
-      (put_changes_key (shards_of s) n s.shelf.bodies s.shelf.flying s.managed changes l b) true es h))
-
-  put_fault_holds : (g : Option FinishedBody) (w : Option Whole) (f : TierFault) (began may : Bool) → IsPutFault s g w f → BeginsWrite s may (cond (is_some g) (has_stored (Err f)) (is_begun (Err f))) began → BackHolds g f began
-  put_fault_holds (Some b) w f began may p x = elim p [
-    | inl spent ↦ quiet_holds (Some b) f began (ap done_of spent.0)
-    | inr late ↦ elim late [
-      | inl out ↦ alone_holds b f began (kept_out-done s (alone b.entry) (weight_for b.body) stored_alone f out)
-      | inr cut ↦ cut_holds b f cut.0 began may (ap done_of cut.1) cut.3 x
-    ]
-  ]
-  put_fault_holds None w f began may p x = idle began
-
-  -- ---- a finish
-
-  module _ (w : Write Kept) (e : Entry) (flies : IsInFlight w changes) (of_key : w.key ≡ stored_key e) (of_entry : w.meta.entry ≡ alone e) where
-    under : w.key ≡ stored_key (key_of w.meta.entry)
-    under = of_key ∙ ap (λ (x : CacheEntryKey). stored_key (key_of x)) (sym of_entry)
-
-    abbrev the_body : FinishedBody
-    the_body = finished_of changes w
-
-    abbrev without_flight : List InFlight
-    without_flight = filter (λ f. not (has_number w.number f)) s.shelf.flying
-
-    pub finish_stored : IsAlive w changes → Leaves (shards_of s) n (with_body the_body s.shelf.bodies) without_flight (admitted s the_body) (extended changes (finishes w ∷ settles the_body []))
-    finish_stored alive = leaves-finished (shards_of s) n w s.shelf.bodies s.shelf.flying s.managed changes flies alive under l.leaves
-
-    abbrev landed_state : FinMap nat_cmp Request → State
-    landed_state rs = record s { shelf = landed w.number s.shelf; requests = rs }
-
-    finish_holds : (rs : FinMap nat_cmp Request) (a : Answer) (began : Bool) → IsAlive w changes → IsStored s the_body a
-        → HoldsNext s n began (after_put (landed_state rs) (Some the_body) a) (extended changes (finish_changes (Some w) (Ok a) changes))
-    finish_holds rs (Finished m es) began alive p =
-        later (keeps-room (shards_of s) n s.shelf.bodies s.shelf.flying s.managed changes l n the_body without_flight (extended changes (finishes w ∷ settles the_body [])) (finish_stored alive) es p.2)
-      where
-        later : HoldsNext s n false (after_put (landed_state rs) (Some the_body) (Finished m es)) (extended changes (finishes w ∷ settles the_body es))
-            → HoldsNext s n began (after_put (landed_state rs) (Some the_body) (Finished m es)) (extended changes (finishes w ∷ settles the_body es))
-        later k = keeps-later (shards_of s) n (after_put (landed_state rs) (Some the_body) (Finished m es)).shelf.bodies (after_put (landed_state rs) (Some the_body) (Finished m es)).shelf.flying
-            (after_put (landed_state rs) (Some the_body) (Finished m es)).managed (extended changes (finishes w ∷ settles the_body es)) k (writes_after n began) (no-fewer n began)
-    finish_holds rs _ began alive p = absurd p
-
-    -- it was removed
-    gone_holds : (began : Bool) (rs : FinMap nat_cmp Request) → HoldsNext s n began (landed_state rs) (extended changes (finish_changes (Some w) (Err WriteRemoved) changes))
-    gone_holds began rs = keeps-left (shards_of s) (writes_after n began) s.shelf.bodies s.shelf.flying s.managed changes (idle began) w flies
-
-    -- it was stored, and is taken back
-    back_changes : (f : TierFault) → (done_of f).stored ≡ true → finish_changes (Some w) (Err f) changes ≡ finishes w ∷ settles_back the_body (done_of f)
-    back_changes WriteRemoved e = absurd cc
-    back_changes f e = ap (λ v. cond v (finishes w ∷ settles_back the_body (done_of f)) []) e
-
-    withdrawn_holds : (f : TierFault) (began : Bool) (rs : FinMap nat_cmp Request) → IsAlive w changes → done_of f ≡ stored_alone
-        → HoldsNext s n began (undone (landed_state rs) (Some the_body) (done_of f)) (extended changes (finish_changes (Some w) (Err f) changes))
-    withdrawn_holds f began rs alive d =
-        rw (back_changes f (ap (λ (x : Done). x.stored) d), d) (keeps-withdrawn (shards_of s) (writes_after n began) s.shelf.bodies s.shelf.flying s.managed changes (idle began) w flies alive (key_of w.meta.entry) under)
-
-    cut_back_holds : (f : TierFault) (es : List CacheEntryKey) (began : Bool) (rs : FinMap nat_cmp Request) → IsAlive w changes → done_of f ≡ all_done es → GoInTurn (shards_of s) true es (admitted s the_body)
-        → HoldsNext s n began (undone (landed_state rs) (Some the_body) (done_of f)) (extended changes (finish_changes (Some w) (Err f) changes))
-    cut_back_holds f es began rs alive d h =
-        rw (back_changes f (ap (λ (x : Done). x.stored) d), d, extended-append (finishes w ∷ changes) (settles the_body es) (clears the_body.entry))
-        (keeps-later (shards_of s) n (undone (landed_state rs) (Some the_body) (all_done es)).shelf.bodies (undone (landed_state rs) (Some the_body) (all_done es)).shelf.flying
-        (undone (landed_state rs) (Some the_body) (all_done es)).managed (extended (extended changes (finishes w ∷ settles the_body es)) (clears the_body.entry))
-        (keeps-back (shards_of s) n s.shelf.bodies s.shelf.flying s.managed changes l n the_body without_flight (extended changes (finishes w ∷ settles the_body [])) (finish_stored alive)
-        (finish_changes_key (shards_of s) n s.shelf.bodies s.shelf.flying s.managed changes l w (key_of w.meta.entry) under the_body) true es h) (writes_after n began) (no-fewer n began))
-
-    back_holds : (f : TierFault) (began : Bool) (rs : FinMap nat_cmp Request) → IsAlive w changes → IsStoreFault s the_body f
-        → HoldsNext s n began (undone (landed_state rs) (Some the_body) (done_of f)) (extended changes (finish_changes (Some w) (Err f) changes))
-    back_holds f began rs alive late = elim late [
-      | inl out ↦ withdrawn_holds f began rs alive (kept_out-done s (alone the_body.entry) (weight_for the_body.body) stored_alone f out)
-      | inr cut ↦ cut_back_holds f cut.0 began rs alive (ap done_of cut.1) cut.3
-    ]
-
--- a store fault had stored a body
-pub fault-stored : (s : State) (b : FinishedBody) (f : TierFault) → IsStoreFault s b f → (done_of f).stored ≡ true
-fault-stored s b f late = elim late [
-  | inl out ↦ ap (λ (x : Done). x.stored) (kept_out-done s (alone b.entry) (weight_for b.body) stored_alone f out)
-  | inr cut ↦ ap (λ (x : TierFault). (done_of x).stored) cut.1
-]
-
-pub landing-stored : (f : TierFault) → (done_of f).stored ≡ true → is_landing (Err f) ≡ true
-landing-stored WriteRemoved e = refl
-landing-stored f e = e
-
--- what a check of a finish refuses ends no flight
-pub finish_check : (o : Option Request) (c : TierFault) → unless_open o (λ q. unless (is_some q.write) WrongPhase) ≡ Some c → is_landing (Err c) ≡ false
-finish_check None c e = let same : NoRequest ≡ c = cc in ap (λ (x : TierFault). is_landing (Err x)) (sym same)
-finish_check (Some q) c e = by_test (is_some q.write) e
-  where
-    by_test : (v : Bool) → unless v WrongPhase ≡ Some c → is_landing (Err c) ≡ false
-    by_test true e = absurd cc
-    by_test false e = let same : WrongPhase ≡ c = cc in ap (λ (x : TierFault). is_landing (Err x)) (sym same)
+use Rattle.tier_model.proofs.WriteLaws.{WritesFit, flies_on}
+use Rattle.tier_model.proofs.ChangeLaws.{more_bytes}
+use Rattle.tier_model.proofs.ShownLaws.{shows}
+use Rattle.tier_model.proofs.BoundLaws.{Keeps, keeps-used, keeps-cleared, keeps-begun, keeps-appended, keeps-ended, keeps-left}
+use Rattle.tier_model.proofs.OpenLaws.{Holds, HoldsNext, begun-told, look_finished, hit_uses, FlightAt, flight-at, IsOpen, Written, the-write, no-write, finishing-is, passed, test_passed, not_false, unrefused}
+use Rattle.tier_model.proofs.StoredLaws.{idle, put_holds, quiet_holds, put_fault_holds, finish_holds, gone_holds, back_holds, fault-stored, landing-stored, finish_check}
 
 -- ---- each event
 
@@ -373,7 +78,7 @@ module _ (start : Opening) (s : State) (h : History) (l : Holds start s h) (coun
       let w : Write Kept = record { number = n; key = k; meta = record { entry = alone (key_of q.entry); meta = meta } } in
       let new : InFlight = record { number = n; key = k; meta = meta; bytes = []; ended = false; removed = false } in
       let begins_it : begun_by start r (call_at t (Begin r head) i (Ok Begun)) h ≡ Some w =
-          ap (λ (o : Option Entry). write_begun n o (judged_of (call_at t (Begin r head) i (Ok Begun)))) opens.key ∙ ap (write_begun n (Some (key_of q.entry))) is in
+      ap (λ (o : Option Entry). write_begun n o (judged_of (call_at t (Begin r head) i (Ok Begun)))) opens.key ∙ ap (write_begun n (Some (key_of q.entry))) is in
       let began : i.began ≡ true = begun-told s may (is_begun (Ok a)) i.began x (ap (λ (y : Answer). is_begun (Ok y)) p) in
       let done = keeps-begun (shards_of s) n s.shelf.bodies s.shelf.flying s.managed (changes_of start h) l k (record { entry = alone (key_of q.entry); meta = meta }) in
       rw (p, began, count) (subst (λ (o : Option (Write Kept)). Keeps (shards_of s) (n + 1) s.shelf.bodies (s.shelf.flying ++ new ∷ []) s.managed (extended (changes_of start h) (begin_changes o))) (sym begins_it) done)

@@ -1,8 +1,7 @@
 -- Writes in flight as a state has them: what is done to them is what changes do.
-use Rattle.std.proofs.Common.{◌≡◌, ℕ, refl, ap, sym, ◌∙◌, true, false, cond, [], ◌∷◌, ◌++◌}
-use Rattle.std.specs.Prelude.{Bool, List, Option, Some, None, option_map, not, find, filter, map, ◌==◌}
-use Rattle.cache_entries.specs.declared.entry.CacheEntryKey.{CacheEntryKey}
-use Rattle.cache_changes.specs.Changes.{StoredKey, key_alone}
+use Rattle.std.proofs.Common.{◌≡◌, ℕ, refl, ap, ◌∙◌, true, false, cond, [], ◌∷◌, ◌++◌}
+use Rattle.std.specs.Prelude.{Bool, List, Option, Some, None, option_map, not, find, filter, map}
+use Rattle.cache_changes.specs.Changes.{StoredKey}
 use Rattle.cache_changes.specs.Store.{Flying}
 use Rattle.cache_changes.specs.Store as store
 use Rattle.tier_model.specs.Histories.{Kept}

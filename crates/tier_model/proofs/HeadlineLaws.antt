@@ -1,13 +1,13 @@
 -- Where a state stands for a history, each call that it allows is right in the light of that history.
-use Rattle.std.proofs.Common.{◌≡◌, refl, ap, sym, ◌∙◌, true, false, subst, cond, length, inl, inr, [], ◌∷◌}
-use Rattle.std.specs.Prelude.{◌≢◌, ◌↔◌, ◌⊎◌, ℕ, Bool, List, Option, Some, None, is_some, Ok, Err, not, MatchOption, find, filter, ◌+◌}
+use Rattle.std.proofs.Common.{◌≡◌, refl, ap, sym, ◌∙◌, true, false, subst, cond, inl, inr, [], ◌∷◌}
+use Rattle.std.specs.Prelude.{◌≢◌, ◌↔◌, ℕ, Bool, List, Option, Some, None, is_some, Ok, Err, not, MatchOption, find, filter, ◌+◌}
 use Rattle.std.specs.FinMap.{get}
 use Rattle.cache_words.specs.Time.{MomentValue, at_most}
 use Rattle.cache_words.specs.Key.{CacheKeyValue}
 use Rattle.cache_heads.specs.declared.meta.CacheMeta.{CacheMeta}
 use Rattle.cache_entries.specs.Entry.{key_of}
-use Rattle.cache_changes.specs.Changes.{StoredKey, stored_key, Write, Changes, finishes}
-use Rattle.cache_changes.specs.Writes.{bytes_of, has_ended, meta_of, IsAlive, IsFound, IsFlying}
+use Rattle.cache_changes.specs.Changes.{StoredKey, stored_key, Changes, finishes}
+use Rattle.cache_changes.specs.Writes.{IsAlive}
 use Rattle.tier_model.specs.Keys.{Entry, alone, stored_key_of}
 use Rattle.tier_model.specs.declared.whole.Whole.{Whole}
 use Rattle.tier_model.specs.declared.whole.Whole.TheVariants as whole
@@ -19,26 +19,27 @@ use Rattle.tier_model.specs.declared.event.Answer.TheVariants.{Waited, Begun, Pu
 use Rattle.tier_model.specs.declared.event.Answer.TheVariants as answer
 use Rattle.tier_model.specs.declared.event.LockGiven.{LockGiven}
 use Rattle.tier_model.specs.declared.event.TierFault.{TierFault}
-use Rattle.tier_model.specs.declared.event.TierFault.TheVariants.{NoRequest, IdInUse, WrongPhase, AfterEnd, BadHead, BeforeEpoch, WriteRemoved, TooHeavy, TooLong, NumbersSpent, Memory}
+use Rattle.tier_model.specs.declared.event.TierFault.TheVariants.{NoRequest, IdInUse, WrongPhase, AfterEnd, TooHeavy, TooLong, NumbersSpent, Memory}
 use Rattle.tier_model.specs.declared.event.Done.{Done}
 use Rattle.tier_model.specs.Evictions.{GoInTurn}
 use Rattle.tier_model.specs.Response.{Judged, kept, not_kept, too_early, not_read}
-use Rattle.tier_model.specs.Calls.{Call, History, Outcome, done_of, judged_of, read_by, finished_by, opened_for, nothing_done, extended}
-use Rattle.tier_model.specs.Histories.{Kept, Opening, told_of, writes_begun, stores, settles, finished_of, write_begun, begun_by, write_held, changes_of}
+use Rattle.tier_model.specs.Calls.{Call, History, Outcome, judged_of, read_by, finished_by, opened_for, nothing_done, extended}
+use Rattle.tier_model.specs.Histories.{Kept, Opening, writes_begun, stores, settles, finished_of, write_begun, write_held, changes_of}
 use Rattle.cache_entries.specs.declared.entry.CacheEntryKey.{CacheEntryKey}
 use Rattle.tier_model.specs.Headline.{EndsOver, LooksRight, PurgesRight, PutsRight, BeginsRight, PieceIsRight, FinishIsRight, IsRight}
 use Rattle.tier_model.specs.Rows.{FinishedBody, body_of, weight_for}
-use Rattle.tier_model.specs.Shelf.{Look, absent, in_flight, finished, look, look_by, flies_for, flying_at, has_number, is_there}
+use Rattle.tier_model.specs.Shelf.{Look, absent, in_flight, finished, look, flies_for, flying_at, has_number, is_there}
 use Rattle.tier_model.specs.State.{Request, State, shards_of}
 use Rattle.tier_model.specs.Checks.{refusal, unless, unless_open, piece_refusal, has_ended as ended_at}
-use Rattle.tier_model.specs.Answers.{key_for, look_for, is_fresh, lock_given, look_answer, polled, admitted, stored_alone, IsStored, IsPutAnswer, IsKeptOut, IsPutFault, IsStoreFault, IsBeginAnswer, IsBeginFault, IsFinishFault, finishing}
-use Rattle.tier_model.specs.Step.{UseFits, OfRequest, IsAnswer, IsFault, AllowsBy, Allows}
+use Rattle.tier_model.specs.Answers.{key_for, look_for, lock_given, look_answer, polled, admitted, stored_alone, IsStored, IsPutAnswer, IsKeptOut, IsPutFault, IsBeginAnswer, IsBeginFault, IsFinishFault, finishing}
+use Rattle.tier_model.specs.Step.{UseFits, IsAnswer, AllowsBy, Allows}
 use Rattle.tier_model.proofs.RowSteps.{IsMade}
-use Rattle.tier_model.proofs.ChangeLaws.{Shows, shows, ShowsFlight, shows_flight, none_in_flight, body_shown, not_found, shown_found}
-use Rattle.tier_model.proofs.BoundLaws.{Keeps}
+use Rattle.tier_model.proofs.ShownLaws.{shows, shows_flight, none_in_flight, body_shown, not_found}
 use Rattle.tier_model.proofs.CallLaws.{Inside, call_at}
 use Rattle.tier_model.proofs.WriteLaws.{WritesFit}
-use Rattle.tier_model.proofs.EventLaws.{Holds, IsOpen, Written, FlightAt, flight-at, finishing-is, the-piece, the-write, there_open, has_write, unrefused, ends_over, put_stored, finish_stored, look_finished, look_flight, look_absent, kept_out-done, test_passed, not_false}
+use Rattle.tier_model.proofs.OpenLaws.{Holds, IsOpen, Written, FlightAt, flight-at, finishing-is, unrefused, look_finished, look_flight, look_absent, test_passed, not_false}
+use Rattle.tier_model.proofs.EventLaws.{the-piece, there_open, has_write}
+use Rattle.tier_model.proofs.StoredLaws.{ends_over, put_stored, finish_stored}
 use Rattle.tier_model.proofs.OwnLaws.{OpenFits}
 use Rattle.tier_model.proofs.ReportLaws.{did_nothing}
 
@@ -66,8 +67,7 @@ module _ (start : Opening) (s : State) (h : History) (made : IsMade start.settin
       (key_of q.entry, x.write, opens.key, x.shown, ap (λ (m : CacheMeta). at_most t m.internal.fresh_until) x.meta, (λ c. absurd cc, λ none. absurd (none x.write x.flying)))
   look_right t r q given (finished b) opens e =
       let there = look_finished (find (flies_for (key_for q)) s.shelf.flying) (body_of (key_for q) s.shelf.bodies) b e in
-      let x = shows N n s.shelf.bodies s.shelf.flying s.managed changes l.leaves (key_for q) b there.1 in
-      (
+      let x = shows N n s.shelf.bodies s.shelf.flying s.managed changes l.leaves (key_for q) b there.1 in (
         key_of q.entry,
         x.write,
         opens.key,
@@ -135,9 +135,10 @@ module _ (start : Opening) (s : State) (h : History) (made : IsMade start.settin
 
   begin_right : (t : MomentValue) (i : Inside) (r : ℕ) (head : List ℕ) (q : Request) (a : Answer) (c : Call) (j : Option Judged) → IsOpen start r q h → judged_of c ≡ j → IsBeginAnswer j a → BeginsRight start r c (Ok a) h
   begin_right t i r head q a c (Some (kept meta)) opens is p =
-      subst (λ (y : Answer). BeginsRight start r c (Ok y) h) (sym p)
-      (record { number = n; key = stored_key (key_of q.entry); meta = record { entry = alone (key_of q.entry); meta = meta } },
-        ap (λ (o : Option Entry). write_begun n o (judged_of c)) opens.key ∙ ap (write_begun n (Some (key_of q.entry))) is)
+      subst (λ (y : Answer). BeginsRight start r c (Ok y) h) (sym p) (
+        record { number = n; key = stored_key (key_of q.entry); meta = record { entry = alone (key_of q.entry); meta = meta } },
+        ap (λ (o : Option Entry). write_begun n o (judged_of c)) opens.key ∙ ap (write_begun n (Some (key_of q.entry))) is,
+      )
   begin_right t i r head q a c (Some (not_kept reason)) opens is p = subst (λ (y : Answer). BeginsRight start r c (Ok y) h) (sym p) is
   begin_right t i r head q a c (Some too_early) opens is p = absurd p
   begin_right t i r head q a c (Some not_read) opens is p = absurd p

@@ -21,7 +21,8 @@ use Rattle.tier_model.specs.Past.{told_at}
 use Rattle.tier_model.specs.Rows.{Bodies}
 use Rattle.tier_model.specs.Shelf.{InFlight}
 use Rattle.tier_model.proofs.BodyLaws.{ties-same}
-use Rattle.tier_model.proofs.ChangeLaws.{Leaves, shows, is_held}
+use Rattle.tier_model.proofs.ChangeLaws.{Leaves}
+use Rattle.tier_model.proofs.ShownLaws.{shows, is_held}
 use Rattle.cache_changes.proofs.LaterLaws.{one_body}
 
 abbrev Rows : Type 0

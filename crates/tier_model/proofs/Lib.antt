@@ -4,11 +4,17 @@ pub mod BodyLaws
 pub mod RowSteps
 pub mod FlightLaws
 pub mod ChangeLaws
+pub mod WrittenLaws
+pub mod ShownLaws
 pub mod BoundLaws
 pub mod CallLaws
+pub mod LandLaws
 pub mod WriteLaws
+pub mod OpenLaws
+pub mod StoredLaws
 pub mod EventLaws
 pub mod StepLaws
+pub mod OwnSteps
 pub mod OwnLaws
 pub mod HeldLaws
 pub mod ReaderLaws
@@ -16,5 +22,7 @@ pub mod StreamLaws
 pub mod ReadLaws
 pub mod LockLaws
 pub mod HeadlineLaws
+pub mod StandLaws
 pub mod Carried
+pub mod CountLaws
 pub mod ReportLaws

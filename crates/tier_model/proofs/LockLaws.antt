@@ -1,11 +1,11 @@
 -- The lock of a state is what its changes leave, and a refused call leaves it as before to all who ask or wait.
-use Rattle.std.proofs.Common.{◌≡◌, ℕ, ◌<◌, ◌+◌, refl, ap, sym, ◌∙◌, true, false, subst, cond, [], ◌∷◌, ◌++◌, arith}
-use Rattle.std.specs.Prelude.{◌-◌, Bool, List, Option, Some, None, nat_le, Ok, Err}
-use Rattle.std.specs.FinMap.{get, insert, remove}
+use Rattle.std.proofs.Common.{◌≡◌, ℕ, ◌<◌, refl, ap, sym, ◌∙◌, true, false, subst, cond, [], ◌∷◌, ◌++◌, arith}
+use Rattle.std.specs.Prelude.{Bool, List, Option, Some, None, nat_le, Ok, Err}
+use Rattle.std.specs.FinMap.{get, insert}
 use Rattle.std.proofs.lemmas.Bool.{leb-false}
-use Rattle.cache_words.specs.Time.{MomentValue, DurationValue}
-use Rattle.cache_lock.specs.Changes.{Change, Changes, gives, lends, stores, takes_out, publishes, spends}
-use Rattle.cache_lock.specs.State.{LockState, IsSound, AreNamedBelow, with_core, named, unnamed, with_status, spent, told, without_core, status_of, after as changed, after_all, empty_lock}
+use Rattle.cache_words.specs.Time.{MomentValue}
+use Rattle.cache_lock.specs.Changes.{Change, gives, lends, stores, takes_out, publishes, spends}
+use Rattle.cache_lock.specs.State.{LockState, IsSound, with_core, named, unnamed, with_status, spent, told, without_core, status_of, after as changed, after_all, empty_lock}
 use Rattle.cache_lock.specs.Waits.{state_of as lock_of}
 use Rattle.cache_lock.specs.Answers.{to_wait_for, locked_by, lock_change, release_changes, leave_changes, poll_changes, wait_outcome, given_back, IsAsBefore, reason_stored}
 use Rattle.cache_lock.specs.Status.{is_aged}
@@ -20,17 +20,16 @@ use Rattle.cache_lock.proofs.BelowLaws.{below-empty, below-set, below-insert, be
 use Rattle.cache_lock.proofs.GivenBack.{unchanged, given_back_is}
 use Rattle.tier_model.specs.declared.event.Action.{Action}
 use Rattle.tier_model.specs.declared.event.Action.TheVariants.{Open, LookUp, Poll, Begin, Piece, Finish, Read, Drop, Purge, Put}
-use Rattle.tier_model.specs.declared.event.Answer.{Answer}
 use Rattle.tier_model.specs.declared.event.Answer.TheVariants.{Waited, Begun}
 use Rattle.tier_model.specs.declared.event.Answer.TheVariants as answer
 use Rattle.tier_model.specs.declared.event.TierFault.{TierFault}
-use Rattle.tier_model.specs.Calls.{Call, History, Outcome, done_of, finished_by}
+use Rattle.tier_model.specs.Calls.{Call, History, Outcome}
 use Rattle.tier_model.specs.Histories.{Opening}
 use Rattle.tier_model.specs.Shelf.{Look, is_there}
 use Rattle.tier_model.specs.State.{Held, nothing, permit, waits, Request, State}
 use Rattle.tier_model.specs.Answers.{key_for, look_for, asks_now}
-use Rattle.tier_model.specs.After.{by_request, given_changes, back_changes, release_of, leave_of, poll_of, of_open, lock_changes_in, lock_changes, after}
-use Rattle.tier_model.specs.Past.{state_of, lock_changes_of, IsLawful}
+use Rattle.tier_model.specs.After.{by_request, given_changes, back_changes, release_of, leave_of, poll_of, of_open, lock_changes_in, lock_changes}
+use Rattle.tier_model.specs.Past.{state_of, lock_changes_of}
 
 -- ---- the changes of the lock, one call after another
 

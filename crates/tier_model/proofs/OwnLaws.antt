@@ -1,80 +1,35 @@
 -- An open request is what its own calls say.
-use Rattle.std.proofs.Common.{◌≡◌, ℕ, refl, ap, sym, ◌∙◌, true, false, subst, cond, [], ◌∷◌, ◌==◌, inl, inr}
+use Rattle.std.proofs.Common.{◌≡◌, ℕ, refl, ap, sym, ◌∙◌, true, false, subst, cond, ◌∷◌}
 use Rattle.std.specs.Prelude.{Bool, List, Option, Some, None, option_map, is_some, Ok, Err, ◌&&◌, not, MatchOption}
 use Rattle.std.specs.FinMap.{get}
 use Rattle.std.proofs.lemmas.Bool.{eqb-true}
-use Rattle.cache_words.specs.Time.{MomentValue, DurationValue}
+use Rattle.cache_words.specs.Time.{MomentValue}
 use Rattle.cache_entries.specs.Entry.{key_of}
 use Rattle.cache_changes.specs.Changes.{Write}
-use Rattle.cache_lock.specs.Answers.{to_wait_for}
-use Rattle.cache_lock.specs.State.{LockState}
 use Rattle.cache_lock.specs.declared.status.LockStatus.{LockStatus}
 use Rattle.tier_model.specs.declared.event.Action.{Action}
 use Rattle.tier_model.specs.declared.event.Action.TheVariants.{Open, LookUp, Poll, Begin, Piece, Finish, Read, Drop, Purge, Put}
 use Rattle.tier_model.specs.declared.event.Answer.{Answer}
-use Rattle.tier_model.specs.declared.event.Answer.TheVariants.{Opened, Found, Absent, Waited, Begun, Written, Dropped}
-use Rattle.tier_model.specs.declared.event.Answer.TheVariants as answer
-use Rattle.tier_model.specs.declared.event.LockGiven.{LockGiven}
-use Rattle.tier_model.specs.declared.event.LockGiven.TheVariants as lock
+use Rattle.tier_model.specs.declared.event.Answer.TheVariants.{Opened, Waited, Begun}
 use Rattle.tier_model.specs.declared.event.TierFault.{TierFault}
 use Rattle.tier_model.specs.Keys.{Entry, entry_of, alone}
 use Rattle.tier_model.specs.Response.{Judged, kept, not_kept}
-use Rattle.tier_model.specs.Calls.{Call, History, Outcome, judged_of, opened_for, entry_after}
-use Rattle.tier_model.specs.Histories.{Kept, Opening, writes_begun, begun_by, write_begun, is_landing, write_after, write_held, changes_of}
-use Rattle.tier_model.specs.Locks.{is_wait}
+use Rattle.tier_model.specs.Calls.{Call, History, Outcome, judged_of, opened_for}
+use Rattle.tier_model.specs.Histories.{Kept, Opening, writes_begun, begun_by, write_begun, is_landing, write_held, changes_of}
 use Rattle.tier_model.specs.Shelf.{Look, absent, in_flight, finished}
-use Rattle.tier_model.specs.Own.{Hold, no_lock, a_permit, a_wait, Own, own_opened, own_looked, own_polled, own_begun, own_after, own_of, hold_given, phase_absent, phase_found, reads_found, Reads, no_reader, as_it_comes, reads_on, hold_in, reads_in, own_in}
-use Rattle.tier_model.specs.State.{Phase, begun, disabled, Held, nothing, permit, waits, Reader, closed, unread, spent, streaming, Request, State}
+use Rattle.tier_model.specs.Own.{Own, own_opened, own_looked, own_polled, own_begun, own_after, own_of, phase_absent, phase_found, no_reader, as_it_comes, reads_on, reads_in, own_in}
+use Rattle.tier_model.specs.State.{Phase, begun, disabled, Held, nothing, permit, waits, Request, State}
 use Rattle.tier_model.specs.Checks.{refusal, unless}
 use Rattle.cache_words.specs.Key.{CacheKeyValue}
 use Rattle.cache_entries.specs.declared.entry.CacheEntryKey.{CacheEntryKey}
 use Rattle.tier_model.specs.declared.event.TierFault.TheVariants.{IdInUse}
-use Rattle.tier_model.specs.Answers.{key_for, look_for, is_fresh, finds_fresh, asks_now, given_if, lock_given, look_answer, polled, IsBeginAnswer}
+use Rattle.tier_model.specs.Answers.{look_for, is_fresh, lock_given, look_answer, polled, IsBeginAnswer}
 use Rattle.tier_model.specs.Step.{UseFits, IsAnswer, AllowsBy, Allows}
-use Rattle.tier_model.specs.After.{held_of, phase_of, reader_of, looked, after_wait, read_on, writing, opened_request, after}
+use Rattle.tier_model.specs.After.{phase_of, reader_of, looked, after_wait, writing, opened_request, after}
 use Rattle.tier_model.proofs.CallLaws.{Inside, call_at, named_by, is_named, itself, IsOther, other-call, begin_turn, land_turn, read_turn, turn, requests-after}
 use Rattle.tier_model.proofs.WriteLaws.{WritesFit, IsWriteOf}
-use Rattle.tier_model.proofs.EventLaws.{IsOpen, unrefused}
-
--- what is held of the lock is what was given
-held_given : (asks : Bool) (core : Option ℕ) (locks : LockState) (old : Held) → hold_in (held_of (given_if asks core) core locks old) ≡ hold_given (given_if asks core) (hold_in old)
-held_given false core locks old = refl
-held_given true None locks old = refl
-held_given true (Some n) locks old = refl
-
-module _ (t : MomentValue) (q : Request) (locks : LockState) where
-  looked_phase : Look → Phase
-  looked_phase l = phase_of t (lock_given t q l locks) l q.phase
-
-  own_look : (l : Look) → own_in (looked t q l locks) ≡ own_looked (phase_of t (lock_given t q l locks) l q.phase) (reads_in (reader_of l)) (lock_given t q l locks) (own_in q)
-  own_look l = ap (λ (hold : Hold). record {
-    asks = q.asks;
-    phase = phase_of t (lock_given t q l locks) l q.phase;
-    hold = hold;
-    waited = q.waited;
-    gave_read = is_wait (lock_given t q l locks);
-    reads = reads_in (reader_of l);
-  }) (held_given (asks_now t q l) (to_wait_for (key_for q) locks) locks q.held)
-
-own_wait : (t : MomentValue) (outcome : Option LockStatus) (held : Held) (q : Request) → own_in (after_wait t outcome held q) ≡ own_polled t outcome (hold_in held) (own_in q)
-own_wait t None (waits n first) q = refl
-own_wait t None (permit n) q = refl
-own_wait t None nothing q = refl
-own_wait t (Some x) (waits n first) q = refl
-own_wait t (Some x) (permit n) q = refl
-own_wait t (Some x) nothing q = refl
-
-reads_after : (a : Answer) (r : Reader) → reads_in (read_on a r) ≡ reads_on (reads_in r)
-reads_after a closed = refl
-reads_after a (unread bytes) = refl
-reads_after a spent = refl
-reads_after a (streaming n place) = refl
-
-own_read : (a : Answer) (q : Request) → own_in (read_turn a q) ≡ record (own_in q) { reads = reads_on (own_in q).reads }
-own_read a q = ap (λ (x : Own). x) (by_reads (reads_after a q.reader))
-  where
-    by_reads : reads_in (read_on a q.reader) ≡ reads_on (reads_in q.reader) → own_in (read_turn a q) ≡ record (own_in q) { reads = reads_on (own_in q).reads }
-    by_reads e = ap (λ (r : Reads). record (own_in q) { reads = r }) e
+use Rattle.tier_model.proofs.OpenLaws.{IsOpen, unrefused}
+use Rattle.tier_model.proofs.OwnSteps.{own_look, own_wait, own_read}
 
 module _ (start : Opening) where
   abbrev pub OpenFits : ℕ → Option Request → History → Type 0
@@ -135,16 +90,25 @@ module _ (start : Opening) where
           phase = ap (λ (x : Own). x.phase) fits.1
 
           by_look : (k : Look) → l ≡ k → OpenFits r (Some (looked t q l s.lock)) (call_at t (LookUp r) i (Ok (look_answer t (lock_given t q l s.lock) l)) ∷ h)
-          by_look absent e = (opens _, own ∙ ap (λ (k : Look). own_looked (phase_of t (lock_given t q l s.lock) k q.phase) (reads_in (reader_of k)) (lock_given t q l s.lock) (own_of r h)) e
-            ∙ ap (λ (p : Phase). own_looked (phase_absent (lock_given t q l s.lock) p) no_reader (lock_given t q l s.lock) (own_of r h)) phase
-            ∙ sym (ap (λ v. cond v (own_looked (phase_absent (lock_given t q l s.lock) (own_of r h).phase) no_reader (lock_given t q l s.lock) (own_of r h)) (own_of r h)) (itself r))
-            ∙ sym (ap (λ (k : Look). own_after r t (LookUp r) (Ok (look_answer t (lock_given t q l s.lock) k)) (own_of r h)) e))
-          by_look (in_flight f) e = (opens _, own ∙ ap (λ (k : Look). own_looked (phase_of t (lock_given t q l s.lock) k q.phase) (reads_in (reader_of k)) (lock_given t q l s.lock) (own_of r h)) e
-            ∙ sym (ap (λ v. cond v (own_looked (phase_found (is_fresh t f.meta)) as_it_comes (lock_given t q l s.lock) (own_of r h)) (own_of r h)) (itself r))
-            ∙ sym (ap (λ (k : Look). own_after r t (LookUp r) (Ok (look_answer t (lock_given t q l s.lock) k)) (own_of r h)) e))
-          by_look (finished b) e = (opens _, own ∙ ap (λ (k : Look). own_looked (phase_of t (lock_given t q l s.lock) k q.phase) (reads_in (reader_of k)) (lock_given t q l s.lock) (own_of r h)) e
-            ∙ sym (ap (λ v. cond v (own_looked (phase_found (is_fresh t b.meta)) (reads_in (reader_of (finished b))) (lock_given t q l s.lock) (own_of r h)) (own_of r h)) (itself r))
-            ∙ sym (ap (λ (k : Look). own_after r t (LookUp r) (Ok (look_answer t (lock_given t q l s.lock) k)) (own_of r h)) e))
+          by_look absent e = (
+            opens _,
+            own ∙ ap (λ (k : Look). own_looked (phase_of t (lock_given t q l s.lock) k q.phase) (reads_in (reader_of k)) (lock_given t q l s.lock) (own_of r h)) e
+                ∙ ap (λ (p : Phase). own_looked (phase_absent (lock_given t q l s.lock) p) no_reader (lock_given t q l s.lock) (own_of r h)) phase
+                ∙ sym (ap (λ v. cond v (own_looked (phase_absent (lock_given t q l s.lock) (own_of r h).phase) no_reader (lock_given t q l s.lock) (own_of r h)) (own_of r h)) (itself r))
+                ∙ sym (ap (λ (k : Look). own_after r t (LookUp r) (Ok (look_answer t (lock_given t q l s.lock) k)) (own_of r h)) e),
+          )
+          by_look (in_flight f) e = (
+            opens _,
+            own ∙ ap (λ (k : Look). own_looked (phase_of t (lock_given t q l s.lock) k q.phase) (reads_in (reader_of k)) (lock_given t q l s.lock) (own_of r h)) e
+                ∙ sym (ap (λ v. cond v (own_looked (phase_found (is_fresh t f.meta)) as_it_comes (lock_given t q l s.lock) (own_of r h)) (own_of r h)) (itself r))
+                ∙ sym (ap (λ (k : Look). own_after r t (LookUp r) (Ok (look_answer t (lock_given t q l s.lock) k)) (own_of r h)) e),
+          )
+          by_look (finished b) e = (
+            opens _,
+            own ∙ ap (λ (k : Look). own_looked (phase_of t (lock_given t q l s.lock) k q.phase) (reads_in (reader_of k)) (lock_given t q l s.lock) (own_of r h)) e
+                ∙ sym (ap (λ v. cond v (own_looked (phase_found (is_fresh t b.meta)) (reads_in (reader_of (finished b))) (lock_given t q l s.lock) (own_of r h)) (own_of r h)) (itself r))
+                ∙ sym (ap (λ (k : Look). own_after r t (LookUp r) (Ok (look_answer t (lock_given t q l s.lock) k)) (own_of r h)) e),
+          )
 
       begin_fits : (r : ℕ) (head : List ℕ) (q : Request) (a : Answer) (j : Option Judged) → judged_of (call_at t (Begin r head) i (Ok a)) ≡ j → IsBeginAnswer j a → OpenFits r (Some q) h
           → OpenFits r (Some (begin_turn s j q)) (call_at t (Begin r head) i (Ok a) ∷ h)

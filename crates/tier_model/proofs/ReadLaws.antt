@@ -1,14 +1,12 @@
 -- What a request has to read is what its calls say, and each read gives it.
-use Rattle.std.proofs.Common.{◌≡◌, ℕ, ◌+◌, ◌<◌, ◌≤◌, refl, ap, sym, ◌∙◌, true, false, subst, cond, [], ◌∷◌, ◌++◌, ◌==◌, length, drop, arith, append_assoc, length-append, inl, inr}
-use Rattle.std.specs.Prelude.{◌&&◌, ◌↔◌, ◌⊎◌, Bool, List, Option, Some, None, option_map, is_some, not, find, Ok, Err, MatchOption}
-use Rattle.std.specs.FinMap.{get, values, remove}
-use Rattle.std.specs.List.{sum_by}
+use Rattle.std.proofs.Common.{◌≡◌, ℕ, ◌+◌, refl, ap, sym, ◌∙◌, true, false, subst, cond, [], ◌∷◌, ◌++◌, ◌==◌, length, drop, arith, append_assoc, length-append, inl, inr}
+use Rattle.std.specs.Prelude.{◌&&◌, Bool, List, Option, Some, None, option_map, find, Ok, Err, MatchOption}
+use Rattle.std.specs.FinMap.{get}
 use Rattle.std.proofs.lemmas.Bool.{eqb-true}
 use Rattle.cache_words.specs.Time.{MomentValue}
-use Rattle.cache_lock.specs.declared.status.LockStatus.{LockStatus}
-use Rattle.cache_changes.specs.Changes.{StoredKey, stored_key, Write, Change, Changes}
-use Rattle.cache_changes.specs.Writes.{bytes_of, has_ended, Flies, IsInFlight}
-use Rattle.cache_changes.specs.Store.{Flying, store_of, has_number as held_number}
+use Rattle.cache_changes.specs.Changes.{stored_key, Write, Change, Changes}
+use Rattle.cache_changes.specs.Writes.{bytes_of}
+use Rattle.cache_changes.specs.Store.{store_of, has_number as held_number}
 use Rattle.cache_changes.proofs.WriteLaws.{Life, life, life-tells, is_flight}
 use Rattle.cache_changes.proofs.BodyLaws.{flight_life}
 use Rattle.cache_changes.proofs.FlightLaws.{flying_of, flying_at-is}
@@ -18,28 +16,27 @@ use Rattle.tier_model.specs.declared.state.Body.{Body}
 use Rattle.tier_model.specs.declared.event.Action.{Action}
 use Rattle.tier_model.specs.declared.event.Action.TheVariants.{Open, LookUp, Poll, Begin, Piece, Finish, Read, Drop, Purge, Put}
 use Rattle.tier_model.specs.declared.event.Answer.{Answer}
-use Rattle.tier_model.specs.declared.event.Answer.TheVariants.{Opened, Found, Absent, Waited, Begun, Bytes, Pending, End, Dropped}
-use Rattle.tier_model.specs.declared.event.Answer.TheVariants as answer
+use Rattle.tier_model.specs.declared.event.Answer.TheVariants.{Waited, Begun, Bytes, End}
 use Rattle.tier_model.specs.declared.event.LockGiven.{LockGiven}
 use Rattle.tier_model.specs.declared.event.TierFault.{TierFault}
 use Rattle.tier_model.specs.declared.event.TierFault.TheVariants.{WrongPhase}
 use Rattle.tier_model.specs.Keys.{Entry, alone}
 use Rattle.tier_model.specs.Response.{Judged, kept, not_kept, too_early, not_read}
-use Rattle.tier_model.specs.Calls.{Call, History, Outcome, extended, judged_of, opened_for, ends_reader, is_end_of_reader, bytes_given, bytes_read, bytes_answered}
-use Rattle.tier_model.specs.Histories.{Kept, Opening, told_of, writes_begun, write_begun, begun_by, is_landing, changes_in, changes_of, HasHit}
-use Rattle.tier_model.specs.Reads.{ReadsWhole, HasStream, ReadsFront, IsOver, ReadsEnd, AwaitsMore, ReadIsRight}
+use Rattle.tier_model.specs.Calls.{Call, History, Outcome, extended, judged_of, ends_reader, bytes_given, bytes_read, bytes_answered}
+use Rattle.tier_model.specs.Histories.{Kept, Opening, writes_begun, write_begun, is_landing, changes_in, changes_of, HasHit}
+use Rattle.tier_model.specs.Reads.{HasStream, ReadsFront, IsOver, ReadIsRight}
 use Rattle.tier_model.specs.Rows.{body_of}
-use Rattle.tier_model.specs.Shelf.{InFlight, Readers, Shelf, has_number, flying_at, flies_for, Look, absent, in_flight, finished, readable, past_place}
-use Rattle.tier_model.specs.State.{Held, nothing, permit, waits, Reader, closed, unread, spent, streaming, Request, State, shards_of}
-use Rattle.tier_model.specs.Checks.{refusal, unless, unless_open, has_reader}
-use Rattle.tier_model.specs.Answers.{key_for, look_for, is_fresh, lock_given, look_answer, polled, next_by, next_of, read_answer, IsBeginAnswer}
+use Rattle.tier_model.specs.Shelf.{InFlight, Readers, has_number, flying_at, flies_for, Look, absent, in_flight, finished, readable, past_place}
+use Rattle.tier_model.specs.State.{Reader, closed, unread, spent, streaming, Request, State, shards_of}
+use Rattle.tier_model.specs.Checks.{refusal, unless, has_reader}
+use Rattle.tier_model.specs.Answers.{key_for, look_for, lock_given, look_answer, next_by, next_of, read_answer, IsBeginAnswer}
 use Rattle.tier_model.specs.Step.{UseFits, IsAnswer, AllowsBy, Allows}
 use Rattle.tier_model.specs.After.{reader_of, looked, after_wait, read_on, after}
 use Rattle.tier_model.specs.Past.{plain, streams_by, streams, streamers, IsReadable, HasToRead}
-use Rattle.tier_model.proofs.ChangeLaws.{Shows, shows, shows_flight, body_shown}
+use Rattle.tier_model.proofs.ShownLaws.{shows, shows_flight, body_shown}
 use Rattle.tier_model.proofs.FlightLaws.{find-plain}
-use Rattle.tier_model.proofs.CallLaws.{Inside, call_at, named_by, is_named, itself, IsOther, other-call, begin_turn, land_turn, read_turn, turn, requests-after}
-use Rattle.tier_model.proofs.EventLaws.{Holds, IsOpen, FlightAt, flight-at, look_finished, look_flight, passed, test_passed, unrefused}
+use Rattle.tier_model.proofs.CallLaws.{Inside, call_at, named_by, is_named, itself, other-call, begin_turn, land_turn, read_turn, turn, requests-after}
+use Rattle.tier_model.proofs.OpenLaws.{Holds, IsOpen, flight-at, look_finished, look_flight, passed, test_passed, unrefused}
 use Rattle.tier_model.specs.Shelf.{readable_of}
 use Rattle.tier_model.proofs.ReaderLaws.{sum-taken, CountFits, LeftBy}
 use Rattle.tier_model.proofs.StreamLaws.{Counted, wait_reader, land_reader}
@@ -85,8 +82,7 @@ module _ (start : Opening) where
   carry id spent c h e b fits = (fits.0, c ∷ fits.1, longer_hit id fits.0 fits.1 c h e fits.2, same_bytes_read id fits.1 c b ∙ fits.3)
   carry id (streaming n place) c h e b fits =
       let new = grown n (changes_in start c.event.action c.outcome c h (changes_of start h)) (changes_of start h) in
-      let same = same_bytes_read id fits.1 c b in
-      (
+      let same = same_bytes_read id fits.1 c b in (
         fits.0,
         c ∷ fits.1,
         longer_stream id fits.0 fits.1 c h e fits.2,
@@ -143,10 +139,13 @@ module _ (start : Opening) where
           true,
           ap (λ (o : Option InFlight). readable_of o (get s.shelf.readers n)) (landed_none n y known flies) ∙ ap (λ (o : Option Readers). readable_of None o) there
               ∙ ap (λ (o : Option (List ℕ)). option_map (λ bytes. (bytes, true)) o) left,
-          (λ over. inr (λ flying.
-            let known_again = flight_life n (changes_of start h) l.leaves.orderly flying in
-            let both : y.flies ≡ true = let same : Some y ≡ Some (record { write = known_again.0; flies = true; alive = known_again.1 }) = sym known ∙ known_again.2 in flag_of same in
-            absurd cc), λ over. refl),
+          (
+            λ over. inr (λ flying.
+                let known_again = flight_life n (changes_of start h) l.leaves.orderly flying in
+                let both : y.flies ≡ true = let same : Some y ≡ Some (record { write = known_again.0; flies = true; alive = known_again.1 }) = sym known ∙ known_again.2 in flag_of same in
+                absurd cc),
+            λ over. refl,
+          ),
         )
           where
             flag_of : {w : Write Kept} {a : Bool} → Some y ≡ Some (record { write = w; flies = true; alive = a }) → y.flies ≡ true
@@ -158,8 +157,7 @@ module _ (start : Opening) where
     looked_fits t i r q absent given opens e = tt
     looked_fits t i r q (in_flight f) given opens e =
         let x = shows_flight (shards_of s) (writes_begun start h) s.shelf.bodies s.shelf.flying s.managed (changes_of start h) l.leaves (key_for q) f
-            (look_flight (find (flies_for (key_for q)) s.shelf.flying) (body_of (key_for q) s.shelf.bodies) f e) in
-        (
+        (look_flight (find (flies_for (key_for q)) s.shelf.flying) (body_of (key_for q) s.shelf.bodies) f e) in (
           x.write,
           [],
           record { call = call_at t (LookUp r) i (Ok (look_answer t given (in_flight f))); before = h; split = refl; streams = inl (ap (λ v. v && true) (itself r), (key_of q.entry, opens.key, x.shown)); last = tt },
@@ -169,8 +167,7 @@ module _ (start : Opening) where
         )
     looked_fits t i r q (finished b) given opens e =
         let there = look_finished (find (flies_for (key_for q)) s.shelf.flying) (body_of (key_for q) s.shelf.bodies) b e in
-        let x = shows (shards_of s) (writes_begun start h) s.shelf.bodies s.shelf.flying s.managed (changes_of start h) l.leaves (key_for q) b there.1 in
-        (
+        let x = shows (shards_of s) (writes_begun start h) s.shelf.bodies s.shelf.flying s.managed (changes_of start h) l.leaves (key_for q) b there.1 in (
           x.write,
           [],
           record {
@@ -242,8 +239,7 @@ module _ (start : Opening) where
         let x = readable_is r q n place e is in
         let gave : bytes_answered a ≡ fits.5.0 = ap bytes_answered (p ∙ ap next_of (ahead r n place fits x)) ∙ next_bytes fits.5.0 x.0 in
         let read : bytes_read r (call_at t (Read r) i (Ok a) ∷ fits.1) ≡ bytes_read r fits.1 ++ fits.5.0 =
-        ap (λ v. bytes_read r fits.1 ++ cond v (bytes_answered a) []) (itself r) ∙ ap (λ (xs : List ℕ). bytes_read r fits.1 ++ xs) gave in
-        (
+        ap (λ v. bytes_read r fits.1 ++ cond v (bytes_answered a) []) (itself r) ∙ ap (λ (xs : List ℕ). bytes_read r fits.1 ++ xs) gave in (
           fits.0,
           call_at t (Read r) i (Ok a) ∷ fits.1,
           longer_stream r fits.0 fits.1 (call_at t (Read r) i (Ok a)) h refl fits.2,

@@ -1,28 +1,26 @@
 -- The readers of a write are the requests that stream it, and they are left with its bytes.
-use Rattle.std.proofs.Common.{◌≡◌, ℕ, ◌+◌, ◌<◌, ◌≤◌, refl, ap, sym, ◌∙◌, true, false, subst, cond, [], ◌∷◌, ◌++◌, ◌==◌, length, arith, append_assoc, inl, inr}
-use Rattle.std.specs.Prelude.{◌-◌, ◌&&◌, ◌↔◌, Bool, List, Option, Some, None, option_map, is_some, not, nat_le, map, Ok, Err, MatchOption}
+use Rattle.std.proofs.Common.{◌≡◌, ℕ, ◌+◌, ◌<◌, ◌≤◌, refl, ap, sym, ◌∙◌, true, false, subst, cond, [], ◌∷◌, ◌++◌, ◌==◌, arith}
+use Rattle.std.specs.Prelude.{◌-◌, ◌&&◌, Bool, List, Option, Some, None, option_map, not, nat_le, map}
 use Rattle.std.specs.List.{AllByRecursion, sum_by}
 use Rattle.std.specs.FinMap.{FinMap, entries, get, insert, remove, values, same_map, get-entries, entries-insert, nat_cmp-IsAntisymmetric}
-use Rattle.std.specs.FinMap as finite
 use Rattle.std.specs.Ordering.{nat_cmp}
 use Rattle.std.specs.Cmp.{unsigned_tied}
 use Rattle.std.specs.Prelude.{nat_eq}
 use Rattle.std.proofs.lemmas.Cmp.{nat_cmp_total}
 use Rattle.std.proofs.lemmas.Bool.{eqb-true, leb-true, leb-false}
-use Rattle.cache_words.specs.Time.{MomentValue}
-use Rattle.cache_changes.specs.Changes.{StoredKey, Write, Change, Changes, begins, appends, finishes, leaves}
-use Rattle.cache_changes.specs.Writes.{bytes_of, lands, MayCome, IsOrderly, IsInFlight, IsAlive}
-use Rattle.cache_changes.proofs.WriteLaws.{Life, life, life_by, lived, begun_by, begun_none, Lived, life-tells, life-flies}
+use Rattle.cache_changes.specs.Changes.{Write, Change, Changes, appends, leaves}
+use Rattle.cache_changes.specs.Writes.{bytes_of, lands, MayCome, IsOrderly}
+use Rattle.cache_changes.proofs.WriteLaws.{Life, life, life_by, lived, begun_by, begun_none, life-tells}
 use Rattle.cache_changes.proofs.BodyLaws.{no_leaving}
 use Rattle.tier_model.specs.Calls.{extended}
 use Rattle.tier_model.specs.Histories.{Kept}
-use Rattle.tier_model.specs.Shelf.{InFlight, Readers, one_more, joined, one_less, parted, left_with, readers_left}
-use Rattle.tier_model.specs.State.{Reader, closed, unread, spent, streaming, Request}
+use Rattle.tier_model.specs.Shelf.{InFlight, Readers, one_more, one_less, left_with, readers_left}
+use Rattle.tier_model.specs.State.{Reader, closed, unread, spent, streaming}
 use Rattle.tier_model.specs.After.{with_reader, without_reader}
-use Rattle.tier_model.specs.Past.{streams_by, streams, streamers}
+use Rattle.tier_model.specs.Past.{streams_by}
 use Rattle.tier_model.proofs.Tables.{sum-put}
 use Rattle.tier_model.proofs.CallLaws.{itself, at-insert, at-remove}
-use Rattle.tier_model.proofs.WriteLaws.{Spares}
+use Rattle.tier_model.proofs.LandLaws.{Spares}
 
 -- ---- sums over the requests
 

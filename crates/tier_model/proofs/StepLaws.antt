@@ -1,5 +1,5 @@
 -- What a call leaves of the order of use: its limits and the number of its shards.
-use Rattle.std.proofs.Common.{◌≡◌, ℕ, refl, true, false, cond}
+use Rattle.std.proofs.Common.{ℕ, true, false, cond}
 use Rattle.std.specs.Prelude.{Bool, Option, Some, None, Ok, Err}
 use Rattle.std.specs.FinMap.{get}
 use Rattle.cache_words.specs.Time.{MomentValue}
@@ -19,7 +19,7 @@ use Rattle.tier_model.specs.Rows.{FinishedBody, weight_for}
 use Rattle.tier_model.specs.Shelf.{Look, absent, in_flight, finished, look, is_there}
 use Rattle.tier_model.specs.State.{Settings, Request, State, shards_of}
 use Rattle.tier_model.specs.Answers.{look_for, admitted, finishing}
-use Rattle.tier_model.specs.After.{by_request, on_request, after_look, managed_after, after_begin, after_flight, after_put, until, taken_back, undone, after_finish, finished_state, after_purge, answered, refused, after_outcome, after}
+use Rattle.tier_model.specs.After.{by_request, after_look, managed_after, after_begin, after_flight, after_put, until, taken_back, undone, after_finish, finished_state, after_purge, answered, refused, after_outcome, after}
 use Rattle.tier_model.proofs.RowSteps.{IsMade, made-put, made-used, made-out, made-gone}
 
 module _ (x : Settings) where

@@ -1,24 +1,21 @@
 -- What requests read, and that the readers of a write are counted, after each call.
-use Rattle.std.proofs.Common.{◌≡◌, ℕ, ◌+◌, ◌<◌, refl, ap, sym, ◌∙◌, true, false, subst, cond, [], ◌∷◌, ◌++◌, ◌==◌, length, arith, append_assoc, inl, inr}
-use Rattle.std.specs.Prelude.{◌&&◌, ◌↔◌, ◌⊎◌, Bool, List, Option, Some, None, option_map, is_some, not, drop, find, Ok, Err, MatchOption}
-use Rattle.std.specs.List.{AllByRecursion}
-use Rattle.std.specs.FinMap.{FinMap, get, insert, remove, values, same_map, nat_cmp-IsAntisymmetric}
+use Rattle.std.proofs.Common.{◌≡◌, ℕ, ◌+◌, ◌<◌, refl, ap, sym, ◌∙◌, true, false, subst, cond, [], ◌∷◌, ◌==◌, arith, inl, inr}
+use Rattle.std.specs.Prelude.{Bool, List, Option, Some, None, option_map, is_some, not, find, Ok, Err, MatchOption}
+use Rattle.std.specs.FinMap.{FinMap, get, same_map, nat_cmp-IsAntisymmetric}
 use Rattle.std.specs.Ordering.{nat_cmp}
 use Rattle.std.proofs.lemmas.Cmp.{nat_cmp_total}
 use Rattle.std.proofs.lemmas.Bool.{eqb-true}
 use Rattle.cache_words.specs.Time.{MomentValue}
 use Rattle.cache_words.specs.Key.{CacheKeyValue}
 use Rattle.cache_lock.specs.declared.status.LockStatus.{LockStatus}
-use Rattle.cache_changes.specs.Changes.{StoredKey, stored_key, Write, Change, Changes, begins, finishes, leaves}
-use Rattle.cache_changes.specs.Writes.{bytes_of, lands, IsOrderly, IsInFlight}
+use Rattle.cache_changes.specs.Changes.{stored_key, Write, Change, Changes, begins, finishes, leaves}
+use Rattle.cache_changes.specs.Writes.{bytes_of, lands, IsOrderly}
 use Rattle.cache_changes.proofs.WriteLaws.{Life, life, life-tells, life-flies, life_by, began_below, same_number}
-use Rattle.cache_changes.proofs.LaterLaws.{bytes-later}
 use Rattle.cache_entries.specs.Entry.{key_of}
-use Rattle.tier_model.specs.declared.state.Body.{Body}
 use Rattle.tier_model.specs.declared.event.Action.{Action}
 use Rattle.tier_model.specs.declared.event.Action.TheVariants.{Open, LookUp, Poll, Begin, Piece, Finish, Read, Drop, Purge, Put}
 use Rattle.tier_model.specs.declared.event.Answer.{Answer}
-use Rattle.tier_model.specs.declared.event.Answer.TheVariants.{Opened, Waited, Begun, Dropped, Finished}
+use Rattle.tier_model.specs.declared.event.Answer.TheVariants.{Waited, Finished}
 use Rattle.tier_model.specs.declared.event.TierFault.{TierFault}
 use Rattle.tier_model.specs.declared.event.TierFault.TheVariants.{IdInUse, WriteRemoved}
 use Rattle.tier_model.specs.declared.event.Done.{Done}
@@ -26,19 +23,22 @@ use Rattle.tier_model.specs.Response.{Judged, kept, not_kept, too_early, not_rea
 use Rattle.tier_model.specs.Calls.{Call, History, Outcome, extended, done_of, judged_of, finished_by}
 use Rattle.tier_model.specs.Histories.{Kept, Opening, writes_begun, is_landing, write_held, write_begun, begun_by, begin_changes, finish_changes, drop_changes, settles, settles_back, finished_of, changes_in, changes_of}
 use Rattle.tier_model.specs.Rows.{FinishedBody, body_of}
-use Rattle.tier_model.specs.Shelf.{InFlight, Readers, Shelf, flying_at, flies_for, Look, absent, in_flight, finished, look, is_there, landed, readers_left}
+use Rattle.tier_model.specs.Shelf.{InFlight, Readers, flies_for, Look, absent, in_flight, finished, look, is_there, landed, readers_left}
 use Rattle.tier_model.specs.State.{Held, nothing, permit, waits, Reader, closed, unread, spent, streaming, Request, State, shards_of}
 use Rattle.tier_model.specs.Checks.{refusal, unless}
 use Rattle.tier_model.specs.Answers.{key_for, look_for, lock_given, look_answer, polled, finishing, IsStored, IsBeginAnswer, IsFinishFault}
 use Rattle.tier_model.specs.Step.{IsAnswer, AllowsBy, Allows}
 use Rattle.tier_model.specs.Keys.{Entry, alone, stored_key_of}
 use Rattle.tier_model.specs.declared.event.LockGiven.{LockGiven}
-use Rattle.tier_model.proofs.ChangeLaws.{shows_flight}
-use Rattle.tier_model.specs.After.{with_reader, without_reader, by_request, on_write, pieced, without_request, reader_of, after_wait, read_on, after_look, after_begin, after_flight, after_put, taken_back, undone, after_finish, finished_state, after_purge, answered, refused, after_outcome, after}
+use Rattle.tier_model.proofs.ShownLaws.{shows_flight}
+use Rattle.tier_model.specs.After.{with_reader, without_reader, by_request, on_write, pieced, without_request, reader_of, after_wait, read_on, after_look, after_begin, after_flight, after_put, taken_back, undone, after_finish, finished_state, after_purge, after_outcome, after}
 use Rattle.tier_model.specs.Past.{streams_by, streams, streamers}
-use Rattle.tier_model.proofs.CallLaws.{Inside, call_at, named_by, is_named, itself, begin_turn, land_turn, read_turn, turn, requests-after}
-use Rattle.tier_model.proofs.WriteLaws.{WritesFit, Spares, lander, changes_spare}
-use Rattle.tier_model.proofs.EventLaws.{Holds, IsOpen, Written, the-write, no-write, FlightAt, flight-at, look_flight, passed, there_open, has_write, fault-stored, landing-stored, finish_check, unrefused}
+use Rattle.tier_model.proofs.CallLaws.{Inside, call_at, named_by, is_named, begin_turn, land_turn, read_turn, turn, requests-after}
+use Rattle.tier_model.proofs.WriteLaws.{WritesFit, changes_spare}
+use Rattle.tier_model.proofs.LandLaws.{lander}
+use Rattle.tier_model.proofs.OpenLaws.{Holds, IsOpen, Written, the-write, no-write, FlightAt, flight-at, look_flight, passed, unrefused}
+use Rattle.tier_model.proofs.EventLaws.{there_open, has_write}
+use Rattle.tier_model.proofs.StoredLaws.{fault-stored, landing-stored, finish_check}
 use Rattle.tier_model.proofs.ReaderLaws.{share, sum-turned, CountFits, count_on, landed_on, left_entry, at_key, turned_fits, CanStream, at-left}
 
 -- the readers of each write are the requests that stream it
@@ -121,7 +121,7 @@ module _ (start : Opening) (s : State) (h : History) (l : Holds start s h) (open
   summed c r n named =
       sum-turned (streams n) s.requests (after s c).requests r (turn s c.event.moment c.event.action (judged_of c) c.outcome (get s.requests r))
       (λ q. requests-after s c q ∙ ap (λ (o : Option ℕ). cond (is_named q o) (turn s c.event.moment c.event.action (judged_of c) c.outcome (get s.requests q)) (get s.requests q)) named
-        ∙ sym (at_key s.requests r q (turn s c.event.moment c.event.action (judged_of c) c.outcome)))
+      ∙ sym (at_key s.requests r q (turn s c.event.moment c.event.action (judged_of c) c.outcome)))
 
   by_open : (c : Call) (r : ℕ) (n : ℕ) (x : Option Request) → named_by c.event.action ≡ Some r → get s.requests r ≡ x
       → streamers n (after s c).requests + share (streams n) x ≡ streamers n s.requests + share (streams n) (turn s c.event.moment c.event.action (judged_of c) c.outcome x)
@@ -166,9 +166,9 @@ module _ (start : Opening) (s : State) (h : History) (l : Holds start s h) (open
         by_number false e =
             count_on n (changes_in start c.event.action c.outcome c h (changes_of start h)) (changes_of start h) (get s.shelf.readers n) (streamers n s.requests) o
             (λ y known. changes_spare start n c.event.action c.outcome c h (known_below n y known)
-              (λ k lands_k v held. let one : k ≡ r = let both : Some k ≡ Some r = sym lands_k ∙ lander_is in cc in
-                let same_write : v ≡ x.write = let both : Some v ≡ Some x.write = sym held ∙ ap (λ (j : ℕ). write_held start j h) one ∙ x.held in cc in
-                ap (λ (w : Write Kept). w.number == n) same_write ∙ e)) (counts n)
+            (λ k lands_k v held. let one : k ≡ r = let both : Some k ≡ Some r = sym lands_k ∙ lander_is in cc in
+            let same_write : v ≡ x.write = let both : Some v ≡ Some x.write = sym held ∙ ap (λ (j : ℕ). write_held start j h) one ∙ x.held in cc in
+            ap (λ (w : Write Kept). w.number == n) same_write ∙ e)) (counts n)
 
   -- a finish: its state, by whether the write lands
   landed_readers : (r : ℕ) (q : Request) (o : Outcome) → (after_finish (after_flight s r q) (finishing q s.shelf) o).shelf.readers ≡ (on_write q.write landed s.shelf).readers
@@ -240,7 +240,7 @@ module _ (start : Opening) (s : State) (h : History) (l : Holds start s h) (open
   look_streams q (finished b) e n = tt
   look_streams q (in_flight f) e n = λ same.
       let x = shows_flight (shards_of s) (writes_begun start h) s.shelf.bodies s.shelf.flying s.managed (changes_of start h) l.leaves (key_for q) f
-          (look_flight (find (flies_for (key_for q)) s.shelf.flying) (body_of (key_for q) s.shelf.bodies) f e) in
+      (look_flight (find (flies_for (key_for q)) s.shelf.flying) (body_of (key_for q) s.shelf.bodies) f e) in
       let known = life-flies x.write (changes_of start h) l.leaves.orderly x.flying.flies in
       let one : x.write.number ≡ n = sym x.number ∙ eqb-true f.number n same in
       (record { write = x.write; flies = true; alive = known.0 }, ap (λ (m : ℕ). life m (changes_of start h)) (sym one) ∙ known.1, refl)

@@ -1,111 +1,22 @@
 -- The writes that open requests have are in flight, each under its request's key, and no two share a number.
-use Rattle.std.proofs.Common.{◌≡◌, ℕ, ◌+◌, ◌<◌, ◌≤◌, refl, ap, sym, ◌∙◌, true, false, subst, cond, [], ◌∷◌, ◌++◌, ◌==◌, arith, inl, inr}
-use Rattle.std.specs.Prelude.{Bool, List, Option, Some, None, option_map, is_some, Ok, Err, ◌&&◌, ◌⊎◌}
+use Rattle.std.proofs.Common.{◌≡◌, ℕ, ◌<◌, refl, ap, sym, ◌∙◌, true, false, subst, cond, [], ◌∷◌, ◌==◌, arith, inl, inr}
+use Rattle.std.specs.Prelude.{Bool, List, Option, Some, None, Ok, ◌&&◌, ◌⊎◌}
 use Rattle.std.specs.List.{AllByRecursion}
-use Rattle.std.specs.FinMap.{get}
-use Rattle.std.proofs.lemmas.Bool.{eqb-true, eq-eqb}
+use Rattle.std.proofs.lemmas.Bool.{eqb-true}
 use Rattle.cache_words.specs.Time.{MomentValue}
-use Rattle.cache_words.specs.Key.{CacheKeyValue}
-use Rattle.cache_entries.specs.declared.entry.CacheEntryKey.{CacheEntryKey}
-use Rattle.cache_entries.specs.Entry.{key_of}
-use Rattle.cache_changes.specs.Changes.{stored_key, Write, Change, Changes, begins, appends, ends, finishes, leaves}
-use Rattle.cache_changes.specs.Writes.{lands, BeginsBelow, IsInFlight, body_now}
-use Rattle.cache_changes.proofs.WriteLaws.{above_apart, below_apart, began_below}
+use Rattle.cache_changes.specs.Changes.{stored_key, Write, Change, Changes, begins}
+use Rattle.cache_changes.specs.Writes.{BeginsBelow, IsInFlight}
+use Rattle.cache_changes.proofs.WriteLaws.{above_apart, began_below}
 use Rattle.tier_model.specs.declared.event.Action.{Action}
-use Rattle.tier_model.specs.declared.event.Action.TheVariants.{Open, LookUp, Poll, Begin, Piece, Finish, Read, Drop, Purge, Put}
-use Rattle.tier_model.specs.declared.event.Answer.{Answer}
-use Rattle.tier_model.specs.declared.event.Answer.TheVariants.{Opened, Found, Absent, Waited, Begun, Written, Dropped, Purged, Finished}
-use Rattle.tier_model.specs.declared.event.Answer.TheVariants as answer
-use Rattle.tier_model.specs.declared.event.Done.{Done}
-use Rattle.tier_model.specs.declared.event.TierFault.{TierFault}
-use Rattle.tier_model.specs.declared.event.TierFault.TheVariants.{WriteRemoved}
+use Rattle.tier_model.specs.declared.event.Action.TheVariants.{Open, LookUp, Begin, Piece, Finish, Drop, Purge, Put}
+use Rattle.tier_model.specs.declared.event.Answer.TheVariants.{Opened, Found, Begun, Written, Dropped, Purged}
 use Rattle.tier_model.specs.Keys.{Entry, entry_of, alone}
-use Rattle.tier_model.specs.Response.{Judged, kept, not_kept, too_early, not_read}
-use Rattle.tier_model.specs.Calls.{Call, History, Outcome, extended, done_of, judged_of, finished_by, opened_for, entry_after, is_begin_of}
-use Rattle.tier_model.specs.Histories.{Kept, Opening, writes_begun, write_of, goes, settles, stores, clears, takes_back, put_changes, hit_changes, look_changes, write_begun, begun_by, is_landing, write_after, write_held, begin_changes, piece_changes, finished_of, settles_back, finish_changes, drop_changes, changes_in, changes_by, changes_of}
-use Rattle.tier_model.specs.Rows.{FinishedBody}
-use Rattle.tier_model.specs.State.{Request, State}
+use Rattle.tier_model.specs.Response.{Judged, kept}
+use Rattle.tier_model.specs.Calls.{Call, History, Outcome, extended, judged_of, finished_by, opened_for, entry_after, is_begin_of}
+use Rattle.tier_model.specs.Histories.{Kept, Opening, writes_begun, write_begun, begun_by, is_landing, write_after, write_held, begin_changes, changes_in, changes_of}
 use Rattle.tier_model.specs.Past.{HoldsWrites}
 use Rattle.tier_model.proofs.CallLaws.{Inside, call_at, itself}
-
--- ---- what lands
-
-append_all : {X : Type 0} (P : X → Type 0) (xs ys : List X) → AllByRecursion P xs → AllByRecursion P ys → AllByRecursion P (xs ++ ys)
-append_all P [] ys p q = q
-append_all P (x ∷ xs) ys p q = (p.0, append_all P xs ys p.1 q)
-
--- the change doesn't land the write of that number
-abbrev pub Spares : ℕ → Change Kept → Type 0
-Spares n c = lands n c ≡ false
-
-goes_spare : (n : ℕ) (es : List CacheEntryKey) → AllByRecursion (Spares n) (goes es)
-goes_spare n [] = tt
-goes_spare n (e ∷ es) = (refl, goes_spare n es)
-
-clears_spare : (n : ℕ) (e : Entry) → AllByRecursion (Spares n) (clears e)
-clears_spare n e = (refl, (refl, tt))
-
-settles_spare : (n : ℕ) (b : FinishedBody) (es : List CacheEntryKey) → AllByRecursion (Spares n) (settles b es)
-settles_spare n b es = (refl, goes_spare n es)
-
-stores_spare : (n m : ℕ) (b : FinishedBody) (es : List CacheEntryKey) → (m == n) ≡ false → AllByRecursion (Spares n) (stores m b es)
-stores_spare n m b es apart = (refl, (refl, (apart, settles_spare n b es)))
-
-if_spare : (n : ℕ) (v : Bool) (cs : List (Change Kept)) → AllByRecursion (Spares n) cs → AllByRecursion (Spares n) (cond v cs [])
-if_spare n true cs h = h
-if_spare n false cs h = tt
-
-look_spare : (n : ℕ) (e : Option Entry) (before : Changes Kept) → AllByRecursion (Spares n) (look_changes e before)
-look_spare n None before = tt
-look_spare n (Some e) before = by_body (body_now (stored_key e) before)
-  where
-    by_body : (w : Option (Write Kept)) → AllByRecursion (Spares n) (hit_changes e w before)
-    by_body None = tt
-    by_body (Some w) = (refl, tt)
-
-begin_spare : (n : ℕ) (w : Option (Write Kept)) → AllByRecursion (Spares n) (begin_changes w)
-begin_spare n None = tt
-begin_spare n (Some w) = (refl, tt)
-
-piece_spare : (n : ℕ) (w : Option (Write Kept)) (bytes : List ℕ) (last : Bool) → AllByRecursion (Spares n) (piece_changes w bytes last)
-piece_spare n None bytes last = tt
-piece_spare n (Some w) bytes last = (refl, if_spare n last (ends w.number ∷ []) (refl, tt))
-
--- another write is the one that lands, if any
-abbrev IsApart : ℕ → Option (Write Kept) → Type 0
-IsApart n o = (v : Write Kept) → o ≡ Some v → (v.number == n) ≡ false
-
-finish_spare : (n : ℕ) (o : Option (Write Kept)) (outcome : Outcome) (before : Changes Kept) → (is_landing outcome ≡ true → IsApart n o) → AllByRecursion (Spares n) (finish_changes o outcome before)
-finish_spare n None outcome before apart = tt
-finish_spare n (Some w) (Ok (Finished told es)) before apart = (apart refl w refl, settles_spare n (finished_of before w) es)
-finish_spare n (Some w) (Ok _) before apart = tt
-finish_spare n (Some w) (Err WriteRemoved) before apart = (apart refl w refl, tt)
-finish_spare n (Some w) (Err f) before apart = by_stored (done_of f).stored refl
-  where
-    b : FinishedBody
-    b = finished_of before w
-
-    by_stored : (v : Bool) → (done_of f).stored ≡ v → AllByRecursion (Spares n) (cond v (finishes w ∷ settles_back b (done_of f)) [])
-    by_stored false e = tt
-    by_stored true e =
-        (apart e w refl, append_all (Spares n) (cond (done_of f).admitted (settles b (done_of f).evicted) []) (clears b.entry) (if_spare n (done_of f).admitted (settles b (done_of f).evicted) (settles_spare n b (done_of f).evicted)) (clears_spare n b.entry))
-
-drop_spare : (n : ℕ) (o : Option (Write Kept)) → IsApart n o → AllByRecursion (Spares n) (drop_changes o)
-drop_spare n None apart = tt
-drop_spare n (Some w) apart = (apart w refl, tt)
-
-put_spare : (n m : ℕ) (b : Option FinishedBody) (o : Outcome) → (m == n) ≡ false → AllByRecursion (Spares n) (put_changes m b o)
-put_spare n m (Some b) (Ok (Finished told es)) apart = stores_spare n m b es apart
-put_spare n m (Some b) (Ok _) apart = tt
-put_spare n m (Some b) (Err f) apart = if_spare n (done_of f).stored (cond (done_of f).admitted (stores m b (done_of f).evicted) [] ++ clears b.entry)
-    (append_all (Spares n) (cond (done_of f).admitted (stores m b (done_of f).evicted) []) (clears b.entry) (if_spare n (done_of f).admitted (stores m b (done_of f).evicted) (stores_spare n m b (done_of f).evicted apart)) (clears_spare n b.entry))
-put_spare n m None o apart = tt
-
--- the request whose write a call lands
-abbrev pub lander : Action → Outcome → Option ℕ
-lander (Finish id) o = cond (is_landing o) (Some id) None
-lander (Drop id) (Ok a) = Some id
-lander _ _ = None
+use Rattle.tier_model.proofs.LandLaws.{Spares, clears_spare, look_spare, begin_spare, piece_spare, IsApart, finish_spare, drop_spare, put_spare, lander}
 
 module _ (start : Opening) where
   -- a call lands no write but that of its request
@@ -240,8 +151,8 @@ module _ (start : Opening) where
         apart : (r : ℕ) → lander action o ≡ Some r → IsApart w.number (write_held start r h)
         apart r l v held = apart_by v.number w.number
             (λ same. let one : r ≡ id = fits.apart r id v w held was same in
-              let other : (r == id) ≡ false = survivor id r (begun_by start id c h) action o (write_held start id h) w e l in
-              let is : (r == id) ≡ true = ap (λ (x : ℕ). x == id) one ∙ itself id in absurd cc)
+            let other : (r == id) ≡ false = survivor id r (begun_by start id c h) action o (write_held start id h) w e l in
+            let is : (r == id) ≡ true = ap (λ (x : ℕ). x == id) one ∙ itself id in absurd cc)
 
         on : IsInFlight w (changes_of start h) → IsInFlight w (changes_of start (c ∷ h))
         on f = flies_on w (changes_of start h) (changes_in start action o c h (changes_of start h)) (changes_spare w.number action o c h (held_below id w was) apart) f

@@ -31,7 +31,7 @@ use Rattle.tier_model.specs.Calls.{nothing_done}
 use Rattle.tier_model.specs.Rows.{FinishedBody, weight_for}
 use Rattle.tier_model.specs.Shelf.{InFlight, Shelf, flying_at, Look, absent, in_flight, finished, look, readable, past_place}
 use Rattle.tier_model.specs.Own.{time_waited}
-use Rattle.tier_model.specs.State.{Held, nothing, permit, waits, Reader, closed, unread, spent, streaming, Request, State, shards_of}
+use Rattle.tier_model.specs.State.{Held, waits, Reader, closed, unread, spent, streaming, Request, State, shards_of}
 
 -- ---- look-ups
 
@@ -202,4 +202,3 @@ finishing q shelf = body_under q.entry (flight_of q.write shelf)
 abbrev pub IsFinishFault : State → Option FinishedBody → TierFault → Type 0
 IsFinishFault s None f = f ≡ fault.WriteRemoved
 IsFinishFault s (Some b) f = (f ≡ Memory nothing_done) ⊎ IsStoreFault s b f
-

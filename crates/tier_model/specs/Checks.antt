@@ -1,11 +1,11 @@
 -- The checks of an event that come before anything else.
-use Rattle.std.specs.Prelude.{ℕ, ◌-◌, Bool, true, false, ◌&&◌, not, if◌then◌else◌, Option, Some, None, is_some}
+use Rattle.std.specs.Prelude.{ℕ, Bool, true, false, ◌&&◌, not, if◌then◌else◌, Option, Some, None, is_some}
 use Rattle.std.specs.FinMap.{get}
 use Rattle.tier_model.specs.declared.event.Action.{Action}
 use Rattle.tier_model.specs.declared.event.Action.TheVariants.{Open, LookUp, Poll, Begin, Piece, Finish, Read, Drop, Purge, Put}
 use Rattle.tier_model.specs.declared.event.TierFault.{TierFault}
 use Rattle.tier_model.specs.declared.event.TierFault.TheVariants.{NoRequest, IdInUse, WrongPhase, Waiting, AfterEnd}
-use Rattle.tier_model.specs.Shelf.{InFlight, Shelf, flying_at, look}
+use Rattle.tier_model.specs.Shelf.{InFlight, Shelf, flying_at}
 use Rattle.tier_model.specs.State.{Phase, cache_key, stale, miss, Held, permit, waits, Reader, closed, Request, State}
 
 -- the phases in which a request may look up
@@ -67,4 +67,3 @@ refusal s (Read id) = unless_open (get s.requests id) (λ q. unless (has_reader 
 refusal s (Drop id) = unless_open (get s.requests id) (λ q. None)
 refusal s (Purge key) = None
 refusal s (Put key pieces) = None
-

@@ -1,5 +1,5 @@
 -- The headline: what a history says of the answers in it. It names no state.
-use Rattle.std.specs.Prelude.{◌≡◌, ◌≢◌, ◌↔◌, ℕ, Bool, true, false, List, [], ◌∷◌, ◌++◌, ◌⊎◌, length, Option, Some, None, Ok, Err}
+use Rattle.std.specs.Prelude.{◌≡◌, ◌≢◌, ◌↔◌, ℕ, Bool, true, false, List, [], ◌∷◌, length, Option, Some, None, Ok, Err}
 use Rattle.std.specs.List.{AllByRecursion}
 use Rattle.cache_words.specs.Time.{MomentValue, at_most}
 use Rattle.cache_entries.specs.declared.rows.Tracked.{Tracked}
@@ -19,7 +19,7 @@ use Rattle.tier_model.specs.declared.event.Answer.TheVariants.{Opened, Found, Ab
 use Rattle.tier_model.specs.declared.event.Answer.TheVariants as answer
 use Rattle.tier_model.specs.declared.event.TierFault.TheVariants as fault
 use Rattle.tier_model.specs.Keys.{Entry, stored_key_of}
-use Rattle.tier_model.specs.Response.{Judged, not_kept, too_early, not_read, IsRead}
+use Rattle.tier_model.specs.Response.{not_kept, too_early, not_read, IsRead}
 use Rattle.tier_model.specs.Calls.{Call, History, Outcome, CountsItsWrite, extended, nothing_done, done_of, judged_of, read_by, finished_by, opened_for}
 use Rattle.tier_model.specs.Histories.{Kept, Opening, writes_begun, stores, changes_of, begun_by, write_held, finished_of, settles}
 use Rattle.tier_model.specs.Reads.{AreReadRight}

@@ -1,5 +1,5 @@
 -- What a request's own calls say of it.
-use Rattle.std.specs.Prelude.{◌≡◌, ℕ, ◌==◌, Bool, true, false, List, [], ◌∷◌, if◌then◌else◌, Option, Some, None, unwrap_or, Ok}
+use Rattle.std.specs.Prelude.{ℕ, ◌==◌, Bool, false, [], ◌∷◌, if◌then◌else◌, Option, Some, None, unwrap_or, Ok}
 use Rattle.cache_words.specs.Time.{MomentValue, DurationValue, span_of, greatest, elapsed, sum_of}
 use Rattle.cache_lock.specs.declared.status.LockStatus.{LockStatus}
 use Rattle.tier_model.specs.declared.event.Action.{Action}

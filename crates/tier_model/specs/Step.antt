@@ -17,7 +17,7 @@ use Rattle.tier_model.specs.Response.{Judged, kept, IsRead}
 use Rattle.tier_model.specs.Calls.{Call, Outcome, nothing_done, judged_of, read_by, finished_by, has_stored, is_begun}
 use Rattle.tier_model.specs.Rows.{weight_for}
 use Rattle.tier_model.specs.Shelf.{Shelf, Look, finished, look, is_there, readable, past_place}
-use Rattle.tier_model.specs.State.{nothing, permit, Reader, streaming, Request, State, shards_of}
+use Rattle.tier_model.specs.State.{Reader, streaming, Request, State, shards_of}
 use Rattle.tier_model.specs.Checks.{refusal}
 use Rattle.tier_model.specs.Answers.{key_for, look_for, asks_now, lock_given, look_answer, polled, read_answer, used, Fits, IsKeptOut, IsStored, IsPutAnswer, IsPutFault, IsBeginAnswer, IsBeginFault, finishing, IsFinishFault}
 

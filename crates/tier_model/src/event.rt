@@ -27,11 +27,18 @@ pub enum Action {
         lock: bool,
     },
     /// Looks up what is stored for the request's key.
-    LookUp { request: u64 },
+    LookUp {
+        request: u64,
+    },
     /// Asks how the wait for another's permit ended.
-    Poll { request: u64 },
+    Poll {
+        request: u64,
+    },
     /// Begins a write under the request's key, with the head of its response.
-    Begin { request: u64, head: Bytes },
+    Begin {
+        request: u64,
+        head: Bytes,
+    },
     /// Adds bytes to the request's write; `end`: they are its last.
     Piece {
         request: u64,
@@ -39,15 +46,26 @@ pub enum Action {
         end: bool,
     },
     /// Ends the request's write: its bytes are a body.
-    Finish { request: u64 },
+    Finish {
+        request: u64,
+    },
     /// Reads on in what the last look-up found, or in what the request writes.
-    Read { request: u64 },
+    Read {
+        request: u64,
+    },
     /// Ends the request.
-    Drop { request: u64 },
+    Drop {
+        request: u64,
+    },
     /// Removes what is stored for a key, under whatever tag.
-    Purge { key: CacheKey },
+    Purge {
+        key: CacheKey,
+    },
     /// Stores the body of a whole response, whose bytes come in pieces.
-    Put { key: CacheKey, pieces: Pieces },
+    Put {
+        key: CacheKey,
+        pieces: Pieces,
+    },
 }
 
 /// What a look-up got of the permit to write.
@@ -88,7 +106,10 @@ pub enum Answer {
     /// Whether something was stored.
     Purged(bool),
     /// The body's length in bytes, and the entries that went to make room, in order.
-    Finished { length: usize, evicted: Entries },
+    Finished {
+        length: usize,
+        evicted: Entries,
+    },
     /// The response is whole and may not be kept.
     Uncacheable(NoCacheReason),
 }
