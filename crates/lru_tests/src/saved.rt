@@ -100,7 +100,8 @@ fn evicts_next(alloc: Global) -> Option<Vec<CacheEntryKey>> {
     let mut new: List = simple_lru::Manager::new(alloc, 6).ok()?;
     let _report = new.load(alloc, &mut folder, "dir").ok()?;
     let mut rng = Pcg64::seed_from_u64(0);
-    new.admit(alloc, entry(alloc, 4), 2, Moment::from_seconds(0), &mut rng).ok()
+    new.admit(alloc, entry(alloc, 4), 2, Moment::from_seconds(0), &mut rng)
+        .ok()
 }
 
 #[test]
