@@ -110,7 +110,7 @@ fn asked_by(action: &Action) -> Option<Asked> {
     }
 }
 
-fn asked(alloc: Global, lines: &mut LineReader, line: &[u8]) -> Option<Asked> {
+fn ask_of(alloc: Global, lines: &mut LineReader, line: &[u8]) -> Option<Asked> {
     match lines.read(alloc, line).ok()? {
         Line::Accepted(event) => asked_by(&event.action),
         Line::Refused(_) => None,
@@ -121,7 +121,7 @@ fn asked(alloc: Global, lines: &mut LineReader, line: &[u8]) -> Option<Asked> {
 fn every_other_event_is_asked(rt: HostRuntime) {
     let mut lines = LineReader::new(rt.alloc());
     for &(line, want) in ASKED {
-        let asked = asked(rt.alloc(), &mut lines, line);
+        let asked = ask_of(rt.alloc(), &mut lines, line);
         assert_eq!(rt; asked, Some(want), "at {line:?}");
     }
 }
