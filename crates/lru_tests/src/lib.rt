@@ -14,8 +14,6 @@ mod locked;
 #[cfg(test)]
 mod refused;
 #[cfg(test)]
-mod saved;
-#[cfg(test)]
 mod secrets;
 #[cfg(test)]
 mod shards;
