@@ -18,3 +18,4 @@ pub mod AlikeLaws
 pub mod SaveLaws
 pub mod FileLoadLaws
 pub mod RecoveryLaws
+pub mod TurnLaws

@@ -1,16 +1,18 @@
 -- What a load of a manager's files does, and what it tells.
-use Rattle.std.specs.Prelude.{◌≡◌, ◌≢◌, ◌<◌, ◌+◌, ℕ, Bool, true, List, [], ◌++◌, length, Option, Some, None, Result, Ok, Err}
+use Rattle.std.specs.Prelude.{◌≡◌, ◌≢◌, ◌⊎◌, ◌<◌, ◌+◌, ℕ, Bool, true, List, [], ◌++◌, length, Option, Some, None, Result, Ok, Err}
 use Rattle.lru_files.specs.Folder.{Files, Call, Outcome, IsSame}
 use Rattle.lru_files.specs.Load.{CleansUp, LoadsOne, load_error, load_errors}
 use Rattle.lru_files.specs.Load as file
 use Rattle.lru_files.specs.Told.{Tells}
 use Rattle.lru_files.specs.declared.fault.ShardLoadFailure.{ShardLoadFailure}
+use Rattle.lru_files.specs.declared.fault.ShardLoadFailure.TheVariants.{Deserialize, Memory as Unnamed}
 use Rattle.lru_files.specs.declared.fault.ShardLoadReport.{ShardLoadReport}
 use Rattle.cache_entries.specs.declared.rows.Tracked.{Tracked}
 use Rattle.cache_entries.specs.RowText.{SpellsRecency, recency_at}
 use Rattle.cache_evict.specs.declared.fault.EvictFault.{EvictFault}
 use Rattle.cache_evict.specs.declared.fault.EvictFault.TheVariants.{Memory, Weight, Length, NumbersSpent, File}
 use Rattle.cache_evict.specs.declared.load_fault.LoadFault.{LoadFault}
+use Rattle.cache_evict.specs.declared.load_fault.LoadFault.TheVariants as load
 use Rattle.cache_evict.specs.declared.tracker.loading.Again.{Again}
 use Rattle.cache_evict.specs.declared.tracker.loading.Again.TheVariants.{PassedOver, MovedFirst}
 use Rattle.cache_evict.specs.Loads.{Loads}
@@ -31,6 +33,14 @@ TakesText again n old bytes result new = Loads again n (recency_at bytes) old ne
 abbrev pub TakesShard : ℕ → Managed → ℕ → List ℕ → Result (Unit {0}) LoadFault → Managed → Type 0
 TakesShard n old shard bytes result new = TakesText PassedOver n old bytes result new
 
+-- what the fault of a row or of its text is told as
+abbrev pub IsRowFault : LoadFault → EvictFault → Type 0
+IsRowFault fault (Memory v) = (v.items ≡ []) × (fault ≡ load.Memory)
+IsRowFault fault (File v) = (v.items ≡ []) × (fault ≢ load.Memory)
+IsRowFault fault (Weight v) = ⊥
+IsRowFault fault (Length v) = ⊥
+IsRowFault fault (NumbersSpent v) = ⊥
+
 module _ {D : Type 0} (did : D → Call → Outcome → D → Type 0) (failures : D → ℕ) (keeps : Type 0) (files : D → Files) (n : ℕ) where
   -- nothing was done, and no call failed
   pub record IsUntouched (m m' : Managed) (old new : D) : Type 0 where
@@ -46,8 +56,9 @@ module _ {D : Type 0} (did : D → Call → Outcome → D → Type 0) (failures 
     pub stay : keeps → (i : ℕ) → i < n → files new (file_at (Sharded file_name) dir i) ≡ files old (file_at (Sharded file_name) dir i)
     pub told : Tells did failures (report.cleanup.failed.items ++ load_errors report.errored.items) old new
 
-  -- the one file was loaded, with this outcome: true if its rows were taken, false if there is no file
+  -- the one file was opened and loaded, with this outcome: true if its rows were taken, false if there is no file
   pub record LoadsFile (at : List ℕ) (m m' : Managed) (old new : D) (outcome : Result Bool (ShardLoadFailure LoadFault)) : Type 0 where
+    pub named : outcome ≢ Err Unnamed
     pub loads : LoadsOne keeps (files old at) (TakesText MovedFirst n m) m m' outcome
     pub same : keeps → IsSame (files old) (files new)
     pub told : Tells did failures (load_error outcome) old new
@@ -60,14 +71,17 @@ module _ {D : Type 0} (did : D → Call → Outcome → D → Type 0) (failures 
     pub removed : report.cleanup.removed ≡ 0
     pub failed : report.cleanup.failed.items ≡ []
 
-  -- What a load does, by its result. Where one file is asked for, and it is absent or faulty, that is the fault of a file. Without memory for the report nothing was done.
+  -- What a load does, by its result. Where one file is asked for, and it is absent or faulty, that is the fault of a file; a row of it that is refused for memory is
+  -- told as that. Without memory for the report nothing was done.
   abbrev pub LoadsStored : Stored → List ℕ → Managed → Managed → D → D → Result (ShardLoadReport LoadFault) EvictFault → Type 0
   LoadsStored (Sharded file_name) dir m m' old new (Ok report) = LoadsEach file_name dir m m' old new report
   LoadsStored (Single file_name) dir m m' old new (Ok report) = IsOneLoaded report × LoadsFile (file_at (Single file_name) dir 0) m m' old new (Ok true)
   LoadsStored (Sharded file_name) dir m m' old new (Err (File v)) = ⊥
   LoadsStored (Single file_name) dir m m' old new (Err (File v)) =
-      (v.items ≡ []) × ((outcome : Result Bool (ShardLoadFailure LoadFault)) × (outcome ≢ Ok true) × LoadsFile (file_at (Single file_name) dir 0) m m' old new outcome)
-  LoadsStored stored dir m m' old new (Err (Memory v)) = (v.items ≡ []) × IsUntouched m m' old new
+      (v.items ≡ []) × ((outcome : Result Bool (ShardLoadFailure LoadFault)) × (outcome ≢ Ok true) × (outcome ≢ Err (Deserialize load.Memory)) × LoadsFile (file_at (Single file_name) dir 0) m m' old new outcome)
+  LoadsStored (Sharded file_name) dir m m' old new (Err (Memory v)) = (v.items ≡ []) × IsUntouched m m' old new
+  LoadsStored (Single file_name) dir m m' old new (Err (Memory v)) =
+      (v.items ≡ []) × (IsUntouched m m' old new ⊎ LoadsFile (file_at (Single file_name) dir 0) m m' old new (Err (Deserialize load.Memory)))
   LoadsStored stored dir m m' old new (Err (Weight v)) = ⊥
   LoadsStored stored dir m m' old new (Err (Length v)) = ⊥
   LoadsStored stored dir m m' old new (Err (NumbersSpent v)) = ⊥

@@ -9,3 +9,4 @@ pub mod LoadTexts
 pub mod Stored
 pub mod Saves
 pub mod FileLoads
+pub mod Turns

@@ -1,31 +1,36 @@
 -- What a save of a manager's shards leaves, and what it tells.
-use Rattle.std.specs.Prelude.{◌≡◌, ◌⊎◌, ◌<◌, ◌+◌, ℕ, List, [], length, Some, Result, Ok, Err}
+use Rattle.std.specs.Prelude.{◌≡◌, ◌⊎◌, ◌<◌, ◌+◌, ℕ, Bool, true, false, List, [], length, Some, Result, Ok, Err}
 use Rattle.lru_files.specs.Folder.{Files, Call, Outcome, IsSame}
 use Rattle.lru_files.specs.Folder.Call.{Make}
 use Rattle.lru_files.specs.Folder.Outcome.{Failed}
 use Rattle.lru_files.specs.Save.{AreNumbered, ShardLeft, file_errors, outcome_of}
 use Rattle.lru_files.specs.Told.{Tells, raised}
-use Rattle.lru_files.specs.declared.fault.ShardSaveFailure.{ShardSaveFailure}
 use Rattle.lru_files.specs.declared.fault.ShardSaveReport.{ShardSaveReport}
 use Rattle.cache_words.specs.declared.pack.fault.PackWriteFault.{PackWriteFault}
 use Rattle.cache_evict.specs.declared.fault.EvictFault.{EvictFault}
 use Rattle.cache_evict.specs.declared.fault.EvictFault.TheVariants.{Memory, Weight, Length, NumbersSpent, File}
+use Rattle.cache_entries.specs.declared.rows.Tracked.{Tracked}
+use Rattle.cache_evict.specs.Loads.{CantBeWritten}
 use Rattle.cache_evict.specs.Managed.{Managed, rows_at}
-use Rattle.cache_evict.specs.Stored.{IsText, OthersStay, Serializes}
+use Rattle.cache_evict.specs.Stored.{Failures, IsText, OthersStay, Serializes, are_for_memory}
 
 -- each shard's file is as before or has the whole text of the shard's rows, each by itself, and nothing but the save's temporary files is beside them
 pub record AreOldOrWhole (m : Managed) (n : ℕ) (at temp : ℕ → List ℕ) (old new : Files) : Type 0 where
   pub each : (i : ℕ) → i < n → (new (at i) ≡ old (at i)) ⊎ ((bytes : List ℕ) × IsText (rows_at m.shards i) bytes × (new (at i) ≡ Some bytes))
   pub others : OthersStay at temp n old new
 
--- the shards that failed
-abbrev pub Failures : Type 0
-Failures = List (ℕ × ShardSaveFailure PackWriteFault)
-
 -- each shard's file and temporary file are as its outcome says, and no other path changed
 pub record AreLeft (m : Managed) (n : ℕ) (at temp : ℕ → List ℕ) (old new : Files) (failed : Failures) : Type 0 where
   pub each : (i : ℕ) → i < n → ShardLeft (Serializes (rows_at m.shards i)) (old (at i)) (old (temp i)) (new (at i)) (new (temp i)) (outcome_of failed i)
   pub others : OthersStay at temp n old new
+
+-- what it is told as that there is no text of the rows, or no name for its file
+abbrev pub IsUnwritten : List Tracked → EvictFault → Type 0
+IsUnwritten rows (Memory v) = v.items ≡ []
+IsUnwritten rows (File v) = (v.items ≡ []) × CantBeWritten rows
+IsUnwritten rows (Weight v) = ⊥
+IsUnwritten rows (Length v) = ⊥
+IsUnwritten rows (NumbersSpent v) = ⊥
 
 module _ {D : Type 0} (did : D → Call → Outcome → D → Type 0) (failures : D → ℕ) (keeps : Type 0) (files : D → Files) (m : Managed) (n : ℕ) (at temp : ℕ → List ℕ) (dir : List ℕ) where
   -- each of n shards was tried; these failed, and the others are saved
@@ -40,11 +45,15 @@ module _ {D : Type 0} (did : D → Call → Outcome → D → Type 0) (failures 
     pub counted : failures new ≡ raised (failures old) 1
     pub same : keeps → IsSame (files old) (files new)
 
-  -- What a save does, by its result. One that saved no shard is the fault of a file; without memory for the report, nothing was done.
+  -- each of n shards was tried, and all failed: all for memory, or not
+  abbrev pub Fails : D → D → Bool → Type 0
+  Fails old new for_memory = (failed : Failures) × Tries old new failed × (length failed ≡ n) × (are_for_memory failed ≡ for_memory)
+
+  -- What a save does, by its result. One that saved no shard is the fault of a file, unless each failed for memory; without memory for the report, nothing was done.
   abbrev pub Saves : D → D → Result (ShardSaveReport PackWriteFault) EvictFault → Type 0
   Saves old new (Ok report) = Tries old new report.failed.items × (report.saved + length report.failed.items ≡ n) × (0 < report.saved)
-  Saves old new (Err (File v)) = (v.items ≡ []) × (IsUnmade old new ⊎ ((failed : Failures) × Tries old new failed × (length failed ≡ n)))
-  Saves old new (Err (Memory v)) = (v.items ≡ []) × (new ≡ old)
+  Saves old new (Err (File v)) = (v.items ≡ []) × (IsUnmade old new ⊎ Fails old new false)
+  Saves old new (Err (Memory v)) = (v.items ≡ []) × ((new ≡ old) ⊎ Fails old new true)
   Saves old new (Err (Weight v)) = ⊥
   Saves old new (Err (Length v)) = ⊥
   Saves old new (Err (NumbersSpent v)) = ⊥

@@ -1,11 +1,20 @@
 //! Laws of managers. Each is the contract of a function with an empty body.
 
-ghost use Rattle.std.specs.Prelude.{◌≡◌, ◌<◌, ℕ, List, [], length, slice_set, Option};
+ghost use Rattle.std.specs.Prelude.{◌≡◌, ◌⊎◌, ◌<◌, ℕ, List, [], length, slice_set, Option, Ok};
 ghost use Rattle.std.specs.List.{AllByRecursion};
 ghost use Rattle.cache_entries.specs.Rows.{AreDistinct};
 ghost use Rattle.cache_entries.specs.declared.rows.Tracked.{Tracked};
 ghost use Rattle.cache_evict.specs.Loads.{appended, restored, all_put, SpellEach, LoadsInTurn};
-ghost use Rattle.cache_evict.specs.FileLoads.{HasRows, TakesShard};
+ghost use Rattle.cache_evict.specs.FileLoads.{HasRows, LoadsStored, TakesShard};
+ghost use Rattle.cache_evict.specs.Saves.{Saves};
+ghost use Rattle.cache_evict.specs.Stored.{Stored, file_at, temp_at};
+ghost use Rattle.cache_evict.specs.Stored.Stored.{Sharded, Single as OneFile};
+ghost use Rattle.cache_evict.specs.Turns.{Turn, LeaveInTurn, IsOfOneSave};
+ghost use Rattle.cache_evict.specs.declared.load_fault.LoadFault.{LoadFault};
+ghost use Rattle.cache_words.specs.declared.pack.fault.PackWriteFault.{PackWriteFault};
+ghost use Rattle.lru_files.specs.Folder.{Files, IsSame};
+ghost use Rattle.lru_files.specs.declared.fault.ShardLoadReport.{ShardLoadReport};
+ghost use Rattle.lru_files.specs.declared.fault.ShardSaveReport.{ShardSaveReport};
 ghost use Rattle.lru_files.specs.Load as file;
 ghost use Rattle.rand_core.specs.Stream.{Stream};
 ghost use Rattle.cache_entries.specs.declared.entry.CacheEntryKey.{CacheEntryKey};
@@ -50,4 +59,28 @@ pub fn saved_files_are_loaded<F: Folder>()
     ensures { (files : ℕ → Option (List ℕ)) (n limit : ℕ) (watermark : Option ℕ) (m new : Managed) (loaded absent : ℕ) → F.keeps → IsSharded n m
         → ((i : ℕ) → i < n → HasRows (rows_at m.shards i) (files i))
         → file.Loads F.keeps files (TakesShard n) n loaded absent [] (fresh n limit watermark) new → new.shards ≡ m.shards }
+{}
+
+/// After any number of saves, stopped or not, and of loads between them, each shard's file is as before the first, or has the
+/// whole text that one of the saves had for that shard.
+pub fn each_file_is_of_one_save()
+    ensures { (n : ℕ) (at : ℕ → List ℕ) (turns : List Turn) (old new : Files) → LeaveInTurn n at turns old new
+        → (i : ℕ) → i < n → (new (at i) ≡ old (at i)) ⊎ IsOfOneSave n at turns i new }
+{}
+
+/// What was saved, no shard failing, and is then loaded from the same files, none faulty, is the same shards again, whatever
+/// the limits are; with each shard in a file of its own, and with one list in one file.
+pub fn what_was_saved_is_loaded<F: Folder>()
+    ensures shards { (name dir words : List ℕ) (n limit : ℕ) (watermark : Option ℕ) (m new : Managed) (old saved start end : F)
+        (report : ShardSaveReport PackWriteFault) (loads : ShardLoadReport LoadFault) → F.keeps → IsSharded n m
+        → Saves F.did F.failures_of F.keeps F.files m n (file_at (Sharded name) dir) (temp_at (Sharded name) dir words) dir old saved (Ok report) → report.failed.items ≡ []
+        → IsSame (F.files saved) (F.files start)
+        → LoadsStored F.did F.failures_of F.keeps F.files n (Sharded name) dir (fresh n limit watermark) new start end (Ok loads) → loads.errored.items ≡ []
+        → new.shards ≡ m.shards }
+    ensures one { (name dir words : List ℕ) (limit : ℕ) (watermark : Option ℕ) (m new : Managed) (old saved start end : F)
+        (report : ShardSaveReport PackWriteFault) (loads : ShardLoadReport LoadFault) → F.keeps → IsSharded 1 m
+        → Saves F.did F.failures_of F.keeps F.files m 1 (file_at (OneFile name) dir) (temp_at (OneFile name) dir words) dir old saved (Ok report)
+        → IsSame (F.files saved) (F.files start)
+        → LoadsStored F.did F.failures_of F.keeps F.files 1 (OneFile name) dir (fresh 1 limit watermark) new start end (Ok loads)
+        → new.shards ≡ m.shards }
 {}

@@ -190,6 +190,10 @@ impl<const N: usize, S: BuildHasher> EvictionManager for Manager<N, S> {
 
     ghost stored = { lru_stored };
 
+    fn shards(&self) -> usize {
+        self.tracker.core.shards()
+    }
+
     fn total_size(&self) -> usize {
         self.tracker.total_size()
     }

@@ -36,6 +36,10 @@ pub trait EvictionManager {
 
     ghost stored: { Stored };
 
+    /// Returns the number of shards: so many words a save takes.
+    fn shards(&self) -> usize
+        ensures { result ≡ shard_count };
+
     /// Returns the weight of all entries, in the unit of their sizes, as bytes.
     fn total_size(&self) -> usize
         ensures { result ≡ total_size (managed self.now) };
@@ -130,7 +134,8 @@ pub trait EvictionManager {
     ///
     /// # Errors
     ///
-    /// `File` where no shard was saved. `Memory` where there is no memory for the report: nothing was done.
+    /// `File` where no shard was saved, and not for want of memory alone. `Memory` where there is no memory for the report, and
+    /// then nothing was done, or for the text of any shard.
     fn save<F: Folder>(
         &self,
         alloc: Global,
@@ -149,7 +154,8 @@ pub trait EvictionManager {
     /// # Errors
     ///
     /// `File` of a manager of one list alone: its file is absent, can't be read, or is faulty. `Memory` where there is no memory
-    /// for the report: nothing was done.
+    /// for the report: nothing was done. A manager of one list answers it too for a row that was refused for memory: the rows
+    /// before stay.
     fn load<F: Folder>(
         &mut self,
         alloc: Global,

@@ -150,6 +150,10 @@ impl<const N: usize, S: BuildHasher> EvictionManager for OneList<N, S> {
 
     ghost stored = { simple_stored };
 
+    fn shards(&self) -> usize {
+        self.tracker.shards()
+    }
+
     fn total_size(&self) -> usize {
         self.tracker.total_size()
     }

@@ -1,13 +1,11 @@
 //! Shards in files.
 
-ghost use Rattle.std.specs.Prelude.{◌≡◌, ◌<◌, IfOk, length, codes, string_bytes};
+ghost use Rattle.std.specs.Prelude.{◌≡◌, ◌<◌, IfOk, IfErr, length, codes, string_bytes};
 ghost use Rattle.lru_files.specs.Folder.{StopsLeave, path_in};
-ghost use Rattle.lru_files.specs.Save.{IsOneOldOrNew, OneLeft, file_error};
-ghost use Rattle.lru_files.specs.Told.{Tells};
-ghost use Rattle.cache_evict.specs.FileLoads.{LoadsFile, LoadsStored, TakesText};
+ghost use Rattle.cache_evict.specs.FileLoads.{IsRowFault, LoadsFile, LoadsStored, TakesText};
 ghost use Rattle.cache_evict.specs.Managed.{rows_at};
-ghost use Rattle.cache_evict.specs.Saves.{AreOldOrWhole, Saves};
-ghost use Rattle.cache_evict.specs.Stored.{Answers, Serializes, file_at, temp_at, single_temp, lru_stored, simple_stored};
+ghost use Rattle.cache_evict.specs.Saves.{AreOldOrWhole, IsUnwritten, Saves};
+ghost use Rattle.cache_evict.specs.Stored.{Answers, IsText, Serializes, are_for_memory, is_for_memory, file_at, temp_at, single_temp, lru_stored, simple_stored};
 
 use super::{Again, Tracker};
 use crate::fault::EvictFault;
@@ -76,46 +74,42 @@ impl<const N: usize, S: BuildHasher> Tracker<N, S> {
         ensures stops { F.keeps → StopsLeave F.did F.opened F.files
             (AreOldOrWhole self.now N (file_at simple_stored dir.now) (temp_at simple_stored dir.now words.now) (F.files folder.old)) folder.old folder.new }
     {
+        let (temp, path, bytes) = self.to_write(alloc, dir, words[0])?;
         let Ok(()) = folder.make(dir) else {
             return Err(EvictFault::File(Vec::new(alloc)));
         };
-        match self.write_file(alloc, folder, dir, words[0]) {
+        match replace(folder, temp.as_str(), path.as_str(), bytes.as_slice()) {
             Ok(()) => Ok(ShardSaveReport {
                 saved: 1,
                 failed: Vec::new(alloc),
             }),
-            Err(_failure) => Err(EvictFault::File(Vec::new(alloc))),
+            Err(_call) => Err(EvictFault::File(Vec::new(alloc))),
         }
     }
 
-    // Writes the text of the first shard to its file.
-    fn write_file<F: Folder>(
+    // The temporary path and the path of the first shard's file, and its text.
+    fn to_write(
         &self,
         alloc: Global,
-        folder: &mut F,
         dir: &str,
         word: u32,
-    ) -> Result<(), ShardSaveFailure<PackWriteFault>>
+    ) -> Result<(String, String, Vec<u8>), EvictFault>
         requires { N ≡ 1 }
-        ensures left { F.keeps → OneLeft (Serializes (rows_at self.now.shards 0))
-            (path_in dir.now (single_temp (codes "simple_lru.data") word)) (file_at simple_stored dir.now 0) (F.files folder.old) (F.files folder.new) result }
-        ensures stops { F.keeps → StopsLeave F.did F.opened F.files (IsOneOldOrNew (Serializes (rows_at self.now.shards 0))
-            (path_in dir.now (single_temp (codes "simple_lru.data") word)) (file_at simple_stored dir.now 0) (F.files folder.old)) folder.old folder.new }
-        ensures told { Tells F.did F.failures_of (file_error result) folder.old folder.new }
+        ensures temp { IfOk result (λ r. string_bytes r.0 ≡ path_in dir.now (single_temp (codes "simple_lru.data") word)) }
+        ensures path { IfOk result (λ r. string_bytes r.1 ≡ file_at simple_stored dir.now 0) }
+        ensures text { IfOk result (λ r. IsText (rows_at self.now.shards 0) r.2.items) }
+        ensures refused { IfErr result (IsUnwritten (rows_at self.now.shards 0)) }
     {
         let Ok(temp) = temp_path(alloc, dir, "simple_lru.data", word) else {
-            return Err(ShardSaveFailure::Memory);
+            return Err(EvictFault::Memory(Vec::new(alloc)));
         };
         let Ok(path) = file_path(alloc, dir) else {
-            return Err(ShardSaveFailure::Memory);
+            return Err(EvictFault::Memory(Vec::new(alloc)));
         };
-        let bytes = match self.text_of(alloc, 0) {
-            Ok(bytes) => bytes,
-            Err(fault) => return Err(ShardSaveFailure::Serialize(fault)),
-        };
-        match replace(folder, temp.as_str(), path.as_str(), bytes.as_slice()) {
-            Ok(()) => Ok(()),
-            Err(call) => Err(ShardSaveFailure::Io(call)),
+        match self.text_of(alloc, 0) {
+            Ok(bytes) => Ok((temp, path, bytes)),
+            Err(PackWriteFault::Memory) => Err(EvictFault::Memory(Vec::new(alloc))),
+            Err(PackWriteFault::TooLong) => Err(EvictFault::File(Vec::new(alloc))),
         }
     }
 
@@ -142,7 +136,9 @@ impl<const N: usize, S: BuildHasher> Tracker<N, S> {
                 },
             }),
             Ok(false) => Err(EvictFault::File(Vec::new(alloc))),
-            Err(_fault) => Err(EvictFault::File(Vec::new(alloc))),
+            Err(ShardLoadFailure::Deserialize(fault)) => Err(row_fault(alloc, fault)),
+            Err(ShardLoadFailure::Io(_call)) => Err(EvictFault::File(Vec::new(alloc))),
+            Err(ShardLoadFailure::Memory) => Err(EvictFault::Memory(Vec::new(alloc))),
         }
     }
 
@@ -186,7 +182,40 @@ fn answered(
         Err(ShardSaveError::Setup(ShardSaveSetupError::CreateDir)) => {
             Err(EvictFault::File(Vec::new(alloc)))
         }
-        Err(ShardSaveError::AllShardsFailed(_failed)) => Err(EvictFault::File(Vec::new(alloc))),
+        Err(ShardSaveError::AllShardsFailed(failed)) => {
+            if are_for_memory(failed.as_slice()) {
+                return Err(EvictFault::Memory(Vec::new(alloc)));
+            }
+            Err(EvictFault::File(Vec::new(alloc)))
+        }
+    }
+}
+
+// Whether each of the shards failed for memory.
+fn are_for_memory(failed: &[(usize, ShardSaveFailure<PackWriteFault>)]) -> bool
+    ensures { result ≡ are_for_memory failed.now }
+{
+    failed.iter().all(|failed| is_for_memory(&failed.1))
+}
+
+fn is_for_memory(failure: &ShardSaveFailure<PackWriteFault>) -> bool
+    ensures { result ≡ is_for_memory failure.now }
+{
+    match failure {
+        ShardSaveFailure::Serialize(PackWriteFault::Memory) => true,
+        ShardSaveFailure::Serialize(PackWriteFault::TooLong) => false,
+        ShardSaveFailure::Io(_call) => false,
+        ShardSaveFailure::Memory => true,
+    }
+}
+
+// The fault of a text that wasn't loaded.
+fn row_fault(alloc: Global, fault: LoadFault) -> EvictFault
+    ensures { IsRowFault fault result }
+{
+    match fault {
+        LoadFault::Memory => EvictFault::Memory(Vec::new(alloc)),
+        _ => EvictFault::File(Vec::new(alloc)),
     }
 }
 

@@ -10,6 +10,7 @@ use Rattle.cache_evict.proofs.tracker.Tracker.take_file.Goals as goal
 
 pub returns-in_default : goal.returns-in_default
 returns-in_default g c = record {
+  named = λ e. cc;
   loads = (inl refl, refl);
   same = c.open.ensures.files;
   told = tells_call (Open c.args.path.now) Failed c.in_default.ensures.did c.in_default.ensures.counted;
@@ -17,6 +18,7 @@ returns-in_default g c = record {
 
 pub returns-then-not-found : goal.returns-then-not-found
 returns-then-not-found g c = record {
+  named = λ e. cc;
   loads = ((λ kept. subst (λ f. OpensFile c.args.path.now (g.F.Folder.files c.args.folder.now) f (g.F.Folder.opened c.open.new.self)) c.if-not-found.true (c.in-Ok.ensures.ok kept)), refl);
   same = c.open.ensures.files;
   told = tells_call (Open c.args.path.now) Done c.in-Ok.ensures.did c.in-Ok.ensures.counted;
@@ -24,6 +26,7 @@ returns-then-not-found g c = record {
 
 pub returns-in_default-read : goal.returns-in_default-read
 returns-in_default-read g c = record {
+  named = λ e. cc;
   loads = (inr refl, refl);
   same = λ kept path. c.read.ensures.files kept path ∙ c.open.ensures.files kept path;
   told = tells_then (tells_call (Open c.args.path.now) Done c.in-Ok.ensures.did c.in-Ok.ensures.counted)
@@ -32,6 +35,7 @@ returns-in_default-read g c = record {
 
 pub returns-in-Ok-load : goal.returns-in-Ok-load
 returns-in-Ok-load g c = record {
+  named = λ e. cc;
   loads = (
     c.in-Ok-read.bytes.items,
     (λ kept. read_whole (c.in-Ok.ensures.ok kept) c.if-not-found.false (c.open.ensures.files kept) (c.in-Ok-read.ensures.ok kept) refl),
@@ -44,6 +48,7 @@ returns-in-Ok-load g c = record {
 
 pub returns : goal.returns
 returns g c = record {
+  named = λ e. cc;
   loads = (
     c.in-Ok-read.bytes.items,
     (λ kept. read_whole (c.in-Ok.ensures.ok kept) c.if-not-found.false (c.open.ensures.files kept) (c.in-Ok-read.ensures.ok kept) refl),
