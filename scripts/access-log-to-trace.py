@@ -2,17 +2,17 @@
 """Turns a web server's access log into a trace for tier-replay.
 
     access-log-to-trace.py [options] < access.log > trace.jsonl
-    access-log-to-trace.py [options] --drive "tier_replay --limit 1000000" < access.log
+    access-log-to-trace.py [options] --drive "tier-replay --limit 1000000" < access.log
 
 It reads nginx's and Apache's combined and common log formats, and plain lines 'time key bytes' (time in seconds since
 1970). Each request becomes four events: open, look, put, drop. The put follows whether or not the body was found, since
 a trace can't know: so after each request its key is the one used last, as in a cache that fills what it lacks, and the
 look-ups found are those of such a cache. What this changes is freshness, which each put renews.
 
-With --drive the program is run, and a put is sent only where its answer was 'absent' or 'stale', as a cache does; the
-hit ratios are printed in place of a trace.
+With --drive tier-replay is run by that command, its path in the place of its name, and a put is sent only where its answer was
+'absent' or 'stale', as a cache does; the hit ratios are printed in place of a trace.
 
-A line with status 304 or 206, or of a HEAD request, doesn't tell how long the whole body is. It is a request for its key like any
+A line with status 304 or 206, or of a HEAD request, doesn't say how long the whole body is. It is a request for its key like any
 other, with the length of the key's last whole response before it; without one, of the next after it. Such lines are counted on
 standard error too.
 
@@ -41,7 +41,7 @@ class PassedOver(Exception):
 
 
 class Request:
-    """A request of the log: its moment, its key, its body's length, and, where its line doesn't tell the length, what it is."""
+    """A request of the log: its moment, its key, its body's length, and, where its line doesn't give the length, what it is."""
 
     def __init__(self, moment, key, length, partial):
         self.moment, self.key, self.length, self.partial = moment, key, length, partial
@@ -57,7 +57,7 @@ def seconds_of(text):
 
 
 def partial_of(method, status):
-    """Returns what a line is that doesn't tell the length of the whole body, or None."""
+    """Returns what a line is that doesn't give the length of the whole body, or None."""
     if status in ("304", "206"):
         return f"status {status}"
     return "method HEAD" if method == "HEAD" else None
@@ -102,7 +102,7 @@ def read_requests(lines, options, passed):
 
 
 def with_lengths(asked, passed):
-    """Yields the requests in their order, each with a length. One whose line tells none has the length of the key's last whole
+    """Yields the requests in their order, each with a length. One whose line gives none has the length of the key's last whole
     response, or waits, and all after it, for the next; what never gets a length is counted and left out."""
     last, waiting, queue = {}, {}, collections.deque()
     for request in asked:

@@ -1,10 +1,14 @@
 #!/usr/bin/env python3
-"""Counts the lines of definitions that the headline and `Tier::step` rest on, by crate.
+"""Lists what a reader must read to believe the headline, and counts the lines of definitions that it and `Tier::step` rest on.
+
+    scripts/definition-lines.py                       the lines by crate: the first table of docs/definitions.md
+    scripts/definition-lines.py --files               the files of the headline with their lines: its other tables
+    scripts/definition-lines.py --write, --check      puts the tables into docs/definitions.md; compares them with it
+    scripts/definition-lines.py CRATE MODULE NAME     the definitions on which another one rests
 
 A definition counts once, with its clauses, wherever it is cited; imports, comments and empty lines don't count. Types that the
-Rust code declares, and words of the libraries, are not in `crates/*/specs`, and aren't counted.
-
-Usage: scripts/definition-lines.py [CRATE MODULE NAME]   (without arguments the table of docs/definitions.md)
+code declares are listed with --files, with the types of their fields and with what contracts see of them; words of the libraries
+are not in `crates/*/specs`, and are named alone.
 """
 
 import os
@@ -12,14 +16,26 @@ import re
 import sys
 
 ROOT = os.path.dirname(os.path.dirname(os.path.abspath(__file__)))
+PAGE = os.path.join(ROOT, "docs", "definitions.md")
 
-# What is counted: a row of the table, the definition from which it starts, and the crates whose words it leaves out.
+# How `Tier::new` and `Tier::step` cite the headline. Of `HasPast` only the field `headline` is meant, so what these cite isn't followed.
+CITES = (
+    ("cache_tier", "Takes", "Takes"),
+    ("tier_model", "Calls", "AreCallsOf"),
+    ("tier_model", "Histories", "empty_opening"),
+    ("tier_model", "Past", "CarriesHeadline"),
+    ("tier_model", "Past", "HasPast"),
+)
+HEADLINE = ("tier_model", "Headline", "Headline")
+STEP = ("cache_tier", "Takes", "Takes")
+
+# What is counted: a row of the table, the definition from which it starts, those beside it, and the crates whose words it leaves out.
 GRAMMARS = ("cache_words", "cache_heads", "cache_directives", "cache_headers", "cache_metas")
 TABLE = (
-    ("the headline", ("tier_model", "Headline", "Headline"), GRAMMARS),
-    ("the headline, with time, hashes, freshness and directives", ("tier_model", "Headline", "Headline"), ()),
-    ("`Tier::step`", ("cache_tier", "Takes", "Takes"), GRAMMARS),
-    ("`Tier::step`, with all that it cites", ("cache_tier", "Takes", "Takes"), ()),
+    ("the headline", HEADLINE, CITES, GRAMMARS),
+    ("the headline, with time, hashes, freshness and directives", HEADLINE, CITES, ()),
+    ("`Tier::step`", STEP, (), GRAMMARS),
+    ("`Tier::step`, with all that it cites", STEP, (), ()),
 )
 
 # A word of antt: letters, digits and signs of names. A dot joins a module's name in this file to a word of it.
@@ -33,9 +49,9 @@ def uncommented(line):
 
 
 def imports_of(text):
-    """Returns what a file's `use` lines bring: names with the crate, module and name they stand for, and names of modules."""
+    """Returns what `use` lines bring: names with the crate, module and name they stand for, and names of modules."""
     names, modules = {}, {}
-    for crate, path, rest in re.findall(r"^use Rattle\.(\w+)\.specs\.([\w.]+?)(\.\{[^}]*\}| as \S+)$", text, re.M):
+    for crate, path, rest in re.findall(r"^\s*(?:ghost )?use Rattle\.(\w+)\.specs\.([\w.]+?)(\.\{[^}]*\}| as \S+);?$", text, re.M):
         if rest.startswith(" as "):
             modules[rest[4:]] = (crate, path)
             continue
@@ -60,6 +76,13 @@ def definitions_of(text):
     return found
 
 
+def read(path):
+    if not os.path.isfile(path):
+        return None
+    with open(path, encoding="utf-8") as it:
+        return it.read()
+
+
 class Definitions:
     """The definitions of all crates, read as they are asked for."""
 
@@ -70,13 +93,8 @@ class Definitions:
         """Returns the names, modules and definitions of a file, or none where it isn't one of the repository."""
         key = (crate, module)
         if key not in self.files:
-            path = os.path.join(ROOT, "crates", crate, "specs", module.replace(".", "/") + ".antt")
-            if os.path.isfile(path):
-                with open(path, encoding="utf-8") as it:
-                    text = it.read()
-                self.files[key] = (*imports_of(text), definitions_of(text))
-            else:
-                self.files[key] = None
+            text = read(os.path.join(ROOT, "crates", crate, "specs", module.replace(".", "/") + ".antt"))
+            self.files[key] = None if text is None else (*imports_of(text), definitions_of(text))
         return self.files[key]
 
     def place(self, crate, module, name):
@@ -91,25 +109,26 @@ class Definitions:
                 return (crate, module, other)
         return None
 
+    def named(self, text, names, modules):
+        """Yields the crate, module and name of each word of a text that a `use` line brings."""
+        for alias, place in modules.items():
+            for word in re.findall(rf"(?<![\w.]){re.escape(alias)}\.({WORD.pattern})", text):
+                yield (*place, word)
+        for word in set(WORD.findall(text)):
+            if word in names:
+                yield names[word]
+
     def cited(self, crate, module, name):
         """Returns the definitions that a definition cites."""
         names, modules, own = self.file(crate, module)
         text = "\n".join(own[name])
-        found = set()
-        for alias, place in modules.items():
-            for word in re.findall(rf"(?<![\w.]){re.escape(alias)}\.({WORD.pattern})", text):
-                found.add(self.place(*place, word))
-        for word in set(WORD.findall(text)):
-            if word in own:
-                found.add((crate, module, word))
-            elif word in names:
-                found.add(self.place(*names[word]))
-            else:
-                found.add(self.place(crate, module, word))
+        found = {self.place(*it) for it in self.named(text, names, modules)}
+        for word in set(WORD.findall(text)) - set(names):
+            found.add((crate, module, word) if word in own else self.place(crate, module, word))
         return found - {None, (crate, module, name)}
 
-    def reached(self, root, without):
-        """Returns all definitions on which one rests, but for those of some crates."""
+    def reached(self, root, without, beside=()):
+        """Returns all definitions on which one rests, but for those of some crates, with those beside it."""
         seen, open_ = set(), [root]
         while open_:
             it = open_.pop()
@@ -117,27 +136,143 @@ class Definitions:
                 continue
             seen.add(it)
             open_ += self.cited(*it)
-        return seen
+        return seen | set(beside)
 
     def lines(self, place):
         return len(self.file(*place[:2])[2][place[2]])
 
+    def outside(self, reached):
+        """Returns the types and constants of the code that definitions name, each with its crate, and the words of libraries, with
+        their modules too."""
+        types, words = set(), set()
+        for crate, module, name in reached:
+            names, modules, own = self.file(crate, module)
+            for place in self.named("\n".join(own[name]), names, modules):
+                if self.place(*place):
+                    continue
+                if place[1].startswith("declared."):
+                    where = place[1].split(".")[-2 if place[1].endswith(".TheVariants") else -1]
+                    types.add((place[0], place[2] if where == "TheConstants" else where))
+                else:
+                    words.add(place)
+        return types, words
 
-def table(definitions):
-    """Prints the table, and below it each row's lines by crate."""
-    print("| What is read | Lines | By crate |\n|---|---|---|")
-    for title, root, without in TABLE:
+
+class Types:
+    """The types and constants that the code declares: each with its lines, and what contracts see of it where it has a model."""
+
+    def __init__(self):
+        self.texts = {}
+
+    def sources(self, crate):
+        """Returns the files of a crate's code, by path."""
+        if crate not in self.texts:
+            self.texts[crate] = {}
+            for folder, _, files in sorted(os.walk(os.path.join(ROOT, "crates", crate, "src"))):
+                for name in sorted(files):
+                    if name.endswith(".rt"):
+                        path = os.path.join(folder, name)
+                        self.texts[crate][os.path.relpath(path, ROOT)] = read(path)
+        return self.texts[crate]
+
+    def declared(self, crate, name):
+        """Returns the file and the lines of a type or constant of a crate, with its model: none where it declares none of the name."""
+        for path, text in self.sources(crate).items():
+            found = re.search(rf"^pub (?:struct|enum|const) {name}\b[^;{{(]*(?:\{{.*?^\}}|\([^;]*\);|;)", text, re.M | re.S)
+            if found:
+                model = re.search(rf"^impl[^\n]* Model for {name}\b.*?^\}}", text, re.M | re.S)
+                block = found[0] + "\n" + (model[0] if model else "")
+                return path, [it for it in block.splitlines() if it.strip() and not re.match(r"\s*(//|#\[|ghost use)", it)]
+        return None
+
+    def reached(self, crates, types):
+        """Returns the types, and those of the repository that their fields have."""
+        seen, open_ = {}, sorted(types)
+        while open_:
+            crate, name = open_.pop()
+            found = self.declared(crate, name) if (crate, name) not in seen else None
+            if not found:
+                continue
+            seen[crate, name] = found
+            for word in set(re.findall(r"\b[A-Z]\w+", "\n".join(found[1]))):
+                own = self.declared(crate, word)
+                used = re.search(rf"\buse (\w+)(?:::\w+)*::(?:{word}\b|\{{[^}}]*\b{word}\b)", self.sources(crate)[found[0]])
+                owner = crate if own else used and used[1]
+                if owner in crates:
+                    open_.append((owner, word))
+        return seen
+
+
+def lines_table(definitions):
+    """Returns the table of lines, by crate."""
+    rows = ["| What is read | Lines | By crate |", "|---|---|---|"]
+    for title, root, beside, without in TABLE:
         by_crate = {}
-        for place in definitions.reached(root, without):
+        for place in definitions.reached(root, without, beside):
             by_crate[place[0]] = by_crate.get(place[0], 0) + definitions.lines(place)
         parts = ", ".join(f"`{crate}` {by_crate[crate]}" for crate in sorted(by_crate))
-        print(f"| {title} | {sum(by_crate.values())} | {parts} |")
+        rows.append(f"| {title} | {sum(by_crate.values())} | {parts} |")
+    return rows
+
+
+def files_tables(definitions):
+    """Returns the tables of files: definitions, types of the code, words of libraries."""
+    reached = definitions.reached(HEADLINE, (), CITES)
+    types, words = definitions.outside(reached)
+    files = {}
+    for place in reached:
+        files.setdefault(place[:2], []).append(definitions.lines(place))
+    rows = ["| File of definitions | Lines to read | Lines of definitions in it |", "|---|---|---|"]
+    for (crate, module), lines in sorted(files.items(), key=lambda it: (it[0][0] in GRAMMARS, it[0])):
+        whole = sum(map(len, definitions.file(crate, module)[2].values()))
+        rows.append(f"| `{crate}/specs/{module}.antt` | {sum(lines)} | {whole} |")
+    crates = set(os.listdir(os.path.join(ROOT, "crates")))
+    by_file = {}
+    for (_, name), (path, lines) in Types().reached(crates, types).items():
+        by_file.setdefault(path, []).append((name, len(lines)))
+    rows += ["", "| File of the code | Types and constants | Lines to read |", "|---|---|---|"]
+    for path, its in sorted(by_file.items()):
+        names = ", ".join(f"`{name}`" for name, _ in sorted(its))
+        rows.append(f"| `{path[len('crates/'):]}` | {names} | {sum(lines for _, lines in its)} |")
+    rows += ["", "| Library | Words, by module |", "|---|---|"]
+    for library in sorted({it[0] for it in words} - crates):
+        modules = {}
+        for crate, module, word in words:
+            if crate == library:
+                modules.setdefault(module, set()).add(word)
+        # std's words of lists, numbers and texts are many: its modules are enough
+        told = {it: "" if library == "std" else ": " + ", ".join(f"`{word}`" for word in sorted(modules[it])) for it in sorted(modules)}
+        rows.append(f"| `{library}` | {'; '.join(f'`{it}`{words}' for it, words in told.items())} |")
+    return rows
+
+
+def with_tables(page, tables):
+    """Returns the page with each table in its place, between a line `<!-- NAME -->` and a line `<!-- end -->`."""
+    for name, rows in tables.items():
+        pattern = rf"(?<=<!-- {name} -->\n).*?(?=\n<!-- end -->)"
+        if not re.search(pattern, page, re.S):
+            sys.exit(f"{PAGE} has no place for the table '{name}'")
+        page = re.sub(pattern, lambda _: "\n".join(["", *rows, ""]), page, count=1, flags=re.S)
+    return page
 
 
 def main(words):
     definitions = Definitions()
     if not words:
-        table(definitions)
+        print("\n".join(lines_table(definitions)))
+        return 0
+    if words == ["--files"]:
+        print("\n".join(files_tables(definitions)))
+        return 0
+    if words in (["--write"], ["--check"]):
+        old = read(PAGE)
+        new = with_tables(old, {"lines": lines_table(definitions), "files": files_tables(definitions)})
+        if words == ["--check"]:
+            same = "docs/definitions.md has these tables"
+            print(same if new == old else "docs/definitions.md has other tables: run scripts/definition-lines.py --write")
+            return int(new != old)
+        with open(PAGE, "w", encoding="utf-8") as it:
+            it.write(new)
         return 0
     if len(words) != 3 or definitions.place(*words) is None:
         print(__doc__.strip(), file=sys.stderr)

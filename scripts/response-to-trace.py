@@ -8,7 +8,7 @@ The first line is a put of the response under the key at the moment --at (now, i
 many seconds after it: three lines, open, look and drop.
 
 A status line of HTTP/2 or HTTP/3, which has no reason and no minor version, is written as HTTP/1.1, since the tier reads HTTP/1.x alone.
-Where curl printed several heads (100 Continue, redirects with -L, a proxy's), only the last response is taken. Both are told on
+Where curl printed several heads (100 Continue, redirects with -L, a proxy's), only the last response is taken. Both are reported on
 standard error. curl decodes a chunked body, but prints its Transfer-Encoding; the tier takes the bytes as they are here.
 """
 import argparse

@@ -19,7 +19,7 @@ grep -q '"op":"look","at":0,"id":0' "$room/trace"
 grep -q '"key":"2fff"' "$room/trace"
 grep -q "\"put\",\"at\":0.*$(printf 'max-age=9' | od -An -tx1 | tr -d ' \n').*\"7878\"\\]" "$room/trace"
 grep -q '"put","at":5,"key":"6b".*"78"\]' "$room/trace"
-# lines that don't tell the whole length: of each, the moment and the length that its put has must be these
+# lines that don't give the whole length: of each, the moment and the length that its put has must be these
 lengths() {
     python3 scripts/access-log-to-trace.py 2> "$room/told" | python3 -c '
 import json, sys
