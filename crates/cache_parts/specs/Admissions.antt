@@ -15,6 +15,7 @@ use Rattle.cache_evict.specs.declared.fault.EvictFault.{EvictFault}
 use Rattle.cache_evict.specs.declared.fault.EvictFault.TheVariants as evict
 use Rattle.cache_evict.specs.Faults.{StopsAt, evicted_of}
 use Rattle.cache_evict.specs.Managed.{Managed, Evicts, put_first, weight_after, taken_out, rows_of, total_size, is_over}
+use Rattle.cache_store.specs.declared.storage.PurgeType.{PurgeType}
 use Rattle.cache_store.specs.declared.storage.MissFinishType.{MissFinishType}
 use Rattle.cache_store.specs.declared.storage.MissFinishType.TheVariants.{Created, Appended}
 use Rattle.cache_store.specs.Held.{Held}
@@ -27,6 +28,7 @@ use Rattle.cache_parts.specs.Stored.{Purged, Removed}
 pub record Rules (S : Type 0) : Type 1 where
   pub held : S → Held
   pub ids : S → StoredKey → Option CacheEntryId
+  pub purged_as : S → PurgeType → S → Type 0
   pub is_spent : Held → Bool
   pub told : changes.Stored CacheMeta → MissFinishType
   pub shards : ℕ
@@ -39,8 +41,9 @@ pub record Cache (S : Type 0) : Type 0 where
   pub managed : Managed
   pub words : Stream
 
-abbrev pub rules_of : {S : Type 0} → (S → Held) → (S → StoredKey → Option CacheEntryId) → (Held → Bool) → (changes.Stored CacheMeta → MissFinishType) → ℕ → (ℕ → ℕ) → (List (List Tracked) → Stream → ℕ × Stream) → Rules S
-rules_of held ids is_spent told shards weighed pick = record { held = held; ids = ids; is_spent = is_spent; told = told; shards = shards; weighed = weighed; pick = pick }
+abbrev pub rules_of : {S : Type 0} → (S → Held) → (S → StoredKey → Option CacheEntryId) → (S → PurgeType → S → Type 0) → (Held → Bool) → (changes.Stored CacheMeta → MissFinishType) → ℕ → (ℕ → ℕ) → (List (List Tracked) → Stream → ℕ × Stream) → Rules S
+rules_of held ids purged_as is_spent told shards weighed pick =
+    record { held = held; ids = ids; purged_as = purged_as; is_spent = is_spent; told = told; shards = shards; weighed = weighed; pick = pick }
 
 abbrev pub cache_of : {S : Type 0} → S → Managed → Stream → Cache S
 cache_of store managed words = record { store = store; managed = managed; words = words }
@@ -97,7 +100,7 @@ module _ {S : Type 0} (rules : Rules S) where
     pub evicts : Evicts rules.pick (followed finish e old.managed) evicted old.words new.managed new.words
     pub within : is_over new.managed ≡ false
     pub fits : total_size (followed finish e old.managed) < 2 ^ 64
-    pub purged : Purged rules.held rules.ids evicted old.store new.store
+    pub purged : Purged rules.held rules.ids rules.purged_as evicted old.store new.store
 
   -- an entry was not admitted, or memory ran out in the evictions: what was evicted until then is purged, and then what is
   -- stored under the entry's key is removed with the entry. `tells` says how the fault is told
@@ -106,7 +109,7 @@ module _ {S : Type 0} (rules : Rules S) where
     pub left : Managed
     pub purged : S
     pub stops : StopsAt rules.pick rules.shards e (weight_then rules.shards rules.weighed finish e old.managed) old.managed old.words cause left new.words
-    pub purges : Purged rules.held rules.ids (evicted_of cause) old.store purged
-    pub removes : Removed rules.held rules.ids (stored_key (key_of e)) purged new.store
+    pub purges : Purged rules.held rules.ids rules.purged_as (evicted_of cause) old.store purged
+    pub removes : Removed rules.held rules.ids rules.purged_as (stored_key (key_of e)) purged new.store
     pub managed : new.managed ≡ taken_out rules.shards e left
     pub told : tells (was_admitted rules.shards e cause left) cause fault

@@ -79,7 +79,8 @@ fn take_back<S: Storage, E: EvictionManager, P, L, A>(
     fault: EvictFault,
 ) -> AdmitFault
     requires { IsWithoutFile fault }
-    ensures store { (purged : S) × Purged S.held S.ids (evicted_of fault) parts.old.store purged × Removed S.held S.ids (stored_key (key_of_entry entry.now)) purged parts.new.store }
+    ensures store { (purged : S) × Purged S.held S.ids S.purged_as (evicted_of fault) parts.old.store purged
+        × Removed S.held S.ids S.purged_as (stored_key (key_of_entry entry.now)) purged parts.new.store }
     ensures managed { E.managed parts.new.manager ≡ taken_out E.shard_count entry.now (E.managed parts.old.manager) }
     ensures told { IsTold (was_admitted E.shard_count entry.now fault (E.managed parts.old.manager)) fault result }
     ensures parts { parts.new ≡ record parts.old { store = parts.new.store; manager = parts.new.manager } }
@@ -104,7 +105,8 @@ fn follow<E: EvictionManager, R: Rng>(
     fresh_until: Moment,
 ) -> Result<Vec<CacheEntryKey>, EvictFault>
     requires { again.now ≡ entry }
-    ensures ok { IfOk result (λ v. let m = E.managed manager.old in Evicts E.pick (put_first E.shard_count entry (weight_then E.shard_count E.weighed finish entry m) m) v.items (R.stream rng.old) (E.managed manager.new) (R.stream rng.new)) }
+    ensures ok { let m = E.managed manager.old in
+        IfOk result (λ v. Evicts E.pick (put_first E.shard_count entry (weight_then E.shard_count E.weighed finish entry m) m) v.items (R.stream rng.old) (E.managed manager.new) (R.stream rng.new)) }
     ensures within { OnOk result (is_over (E.managed manager.new) ≡ false) }
     ensures fits { let m = E.managed manager.old in OnOk result (total_size (put_first E.shard_count entry (weight_then E.shard_count E.weighed finish entry m) m) < 2 ^ 64) }
     ensures refused { let w = weight_then E.shard_count E.weighed finish entry (E.managed manager.old) in
@@ -136,7 +138,7 @@ pub fn admit<S: Storage, E: EvictionManager, P, L, A, R: Rng>(
     fresh_until: Moment,
 ) -> Result<Vec<CacheEntryKey>, AdmitFault>
     requires { again.now ≡ entry }
-    ensures admitted { let rules = rules_of S.held S.ids S.is_spent S.Miss.told E.shard_count E.weighed E.pick in
+    ensures admitted { let rules = rules_of S.held S.ids S.purged_as S.is_spent S.Miss.told E.shard_count E.weighed E.pick in
         let old = cache_of parts.old.store (E.managed parts.old.manager) (R.stream rng.old) in let new = cache_of parts.new.store (E.managed parts.new.manager) (R.stream rng.new) in
         MatchResult result (λ v. IsAdmitted rules finish entry v.items old new) (λ fault. IsTakenBack rules IsTold finish entry fault old new) }
     ensures parts { parts.new ≡ record parts.old { store = parts.new.store; manager = parts.new.manager } }

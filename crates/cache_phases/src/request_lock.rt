@@ -159,6 +159,7 @@ impl RequestLock {
     ) -> Result<(), AllocError>
         ensures ok { OnOk result (L.state lock.new ≡ tokens_published (held self.now) tokens.now (L.state lock.old)) }
         ensures err { OnErr result (L.state lock.new ≡ L.state lock.old) }
+        ensures refused_held { OnErr result (holds_permit self.now ≡ true) }
     {
         match self.held() {
             Some(Locked::Write(permit)) => lock.publish(alloc, permit, tokens),

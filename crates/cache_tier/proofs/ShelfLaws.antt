@@ -1,6 +1,6 @@
 -- The bodies of a store, by their keys: found, counted, and after one is stored whole or removed.
 use Rattle.std.proofs.Common.{◌≡◌, ◌≢◌, ℕ, ◌+◌, ◌-◌, ◌^◌, refl, ap, sym, ◌∙◌, arith, true, false, subst, cond, inl, inr, [], ◌∷◌, length}
-use Rattle.std.specs.Prelude.{◌==◌, Bool, List, Option, Some, None, option_map, is_some, find, map, nat_eq}
+use Rattle.std.specs.Prelude.{◌==◌, ⊤, Bool, List, Option, Some, None, option_map, is_some, find, map, nat_eq}
 use Rattle.std.specs.List.{IsDistinct, sum_by}
 use Rattle.std.specs.Ordering.{nat_cmp}
 use Rattle.std.specs.Cmp.Lexicographic.{pointwise, slice_cmp, nat_list_cmp_total}
@@ -232,10 +232,10 @@ one-purged (Some k) outcome h0 h idle a =
     let r = removed k h0 h idle a.1 a.2 a.3 in
     (r.idle, r.shelf)
 
-pub purged-all : (es : List CacheEntryKey) (h0 h : Held) → IsIdle h0 → ArePurged (λ (h : Held). h) no_ids es h0 h → IsCleared es h0 h
+pub purged-all : (es : List CacheEntryKey) (h0 h : Held) → IsIdle h0 → ArePurged (λ (h : Held). h) no_ids (λ h cause h'. ⊤) es h0 h → IsCleared es h0 h
 purged-all [] h0 h idle p = record { idle = subst IsIdle (sym p) idle; shelf = ap shelf_of p }
 purged-all (e ∷ es) h0 h idle p =
-    let one = one-purged (key_alone e) p.1 h0 p.0 idle (subst (λ (o : Option StoredKey). PurgeAnswer o (id_at (λ k. None) o) h0 p.1 p.0) (named-alone e) p.2) in
+    let one = one-purged (key_alone e) p.1 h0 p.0 idle (subst (λ (o : Option StoredKey). PurgeAnswer o (id_at (λ k. None) o) h0 p.1 p.0) (named-alone e) p.2.answer) in
     let rest = purged-all es p.0 h one.0 p.3 in
     record { idle = rest.idle; shelf = rest.shelf ∙ ap (λ (s : Shelf). record { bodies = without_bodies es s.bodies; writes = s.writes }) one.1 }
 

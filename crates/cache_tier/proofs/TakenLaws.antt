@@ -1,6 +1,6 @@
 -- A put through the cache is one that the tier may take.
 use Rattle.std.proofs.Common.{◌≡◌, ◌≢◌, ℕ, ◌+◌, ◌-◌, ◌^◌, List, [], refl, ap, sym, ◌∙◌, arith, subst, Some, None, Option, true, false, inl, inr, max, length, Ok, Err}
-use Rattle.std.specs.Prelude.{Bool, ◌==◌, Result, option_map, IfErr}
+use Rattle.std.specs.Prelude.{Bool, ◌==◌, Result, option_map, IfErr, ⊤}
 use Rattle.std.specs.Global.{Vec}
 use Rattle.std.proofs.lemmas.Bool.{eqb-true}
 use Rattle.rand_core.specs.Stream.{Stream}
@@ -51,7 +51,7 @@ use Rattle.cache_tier.proofs.StoreLaws.{StoresBy, HasEvicted, has_evicted, clear
 
 -- what is known of the tier's store and of its order of use, of n shards
 abbrev pub rules : ℕ → Rules Held
-rules n = rules_of (λ h. h) (λ h k. None) are_numbers_spent (λ x. Created (length x.bytes)) n (λ size. max size 1) (pick_by_draws n)
+rules n = rules_of (λ h. h) (λ h k. None) (λ h cause h'. ⊤) are_numbers_spent (λ x. Created (length x.bytes)) n (λ size. max size 1) (pick_by_draws n)
 
 -- a state with what a cache holds
 abbrev pub with_cache : State → Cache Held → State
@@ -203,7 +203,7 @@ module _ (n : ℕ) (s : State) (t : MomentValue) (key : CacheKeyValue) (pieces :
             let es = evicted_of k.cause in
             let weighs = weighed (length body) (length body) refl in
             let gone = purged-all es mid k.purged shelved.is_idle k.purges in
-            let r = (purged-shelf (combined (key_of key)) (combined (key_of key)) None k.removes.0 k.purged c.store refl gone.idle k.removes.1).0 in
+            let r = (purged-shelf (combined (key_of key)) (combined (key_of key)) None k.removes.0 k.purged c.store refl gone.idle k.removes.1.answer).0 in
             let shelf = r.shelf ∙ ap (λ (x : Shelf). record { bodies = without_body (combined (key_of key)) x.bodies; writes = x.writes })
             (gone.shelf ∙ ap (λ (x : Shelf). record { bodies = without_bodies es x.bodies; writes = x.writes }) shelved.shelf) in
             let after : with_cache s c ≡ cleared n w (put_in old b c0.words number) b kept weighs es k.left = λ i. record s { managed = k.managed i; bodies = (shelf i).bodies; writes = (shelf i).writes } in

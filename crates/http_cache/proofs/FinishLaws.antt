@@ -1,4 +1,4 @@
--- How faults of an admission are told by a finish, and with which status a permit is released after it.
+-- With which status a permit is released after a finish.
 use Rattle.std.proofs.Common.{◌≡◌, refl, ap, ◌∙◌, sym, subst, true, false, inl}
 use Rattle.std.specs.Prelude.{Bool, ℕ, List, Option, Some, None, Result, Ok, Err, if◌then◌else◌}
 use Rattle.cache_entries.specs.declared.entry.CacheEntryId.{CacheEntryId}
@@ -6,31 +6,17 @@ use Rattle.cache_entries.specs.declared.entry.CacheEntryKey.{CacheEntryKey}
 use Rattle.cache_evict.specs.declared.fault.EvictFault.{EvictFault}
 use Rattle.cache_evict.specs.declared.fault.EvictFault.TheVariants as evict
 use Rattle.cache_lock.specs.declared.status.LockStatus.TheVariants as status
-use Rattle.cache_parts.specs.declared.done.AdmitFault.{AdmitFault}
-use Rattle.cache_parts.specs.declared.done.AdmitFault.TheVariants as admit
-use Rattle.cache_parts.specs.Admissions.{Rules, Cache, cache_of, IsTold, IsTakenBack}
+use Rattle.cache_parts.specs.Admissions.{Rules, Cache, cache_of}
 use Rattle.cache_words.specs.Key.{CacheKeyValue}
 use Rattle.cache_evict.specs.Managed.{Managed}
 use Rattle.rand_core.specs.Stream.{Stream}
 use Rattle.cache_store.specs.declared.storage.store.MissFault.TheVariants as miss
 use Rattle.cache_store.specs.declared.storage.MissFinishType.{MissFinishType}
-use Rattle.http_cache.specs.declared.faults.Finished.{Finished}
-use Rattle.http_cache.specs.declared.faults.FinishFault.{FinishFault}
-use Rattle.http_cache.specs.declared.faults.FinishFault.TheVariants.{Memory, Weight, Length, NumbersSpent}
-use Rattle.http_cache.specs.Finishes.{IsOutOfMemory, IsToldAs, fault_of_admission, finish_status, IsUnstored, OnlyHolds, NotStoredAnswer, AdmitAnswer, FinishAnswer}
-
-told-as : (a : Bool) (cause : EvictFault) (fault : AdmitFault) → IsTold a cause fault → IsToldAs a cause (fault_of_admission fault)
-told-as a (evict.Memory v) (admit.Memory done) t = t
-told-as a (evict.Weight v) (admit.Weight done) t = t
-told-as a (evict.Length v) (admit.Length done) t = t
-told-as a (evict.NumbersSpent v) (admit.NumbersSpent done) t = t
-told-as a _ _ t = absurd t
-
--- what is taken back is told by the finish
-pub taken-back-as : {S : Type 0} (rules : Rules S) (kind : MissFinishType) (e : CacheEntryKey) (fault : AdmitFault) (old new : Cache S) → IsTakenBack rules IsTold kind e fault old new
-    → IsTakenBack rules IsToldAs kind e (fault_of_admission fault) old new
-taken-back-as rules kind e fault old new t =
-    record { cause = t.cause; left = t.left; purged = t.purged; stops = t.stops; purges = t.purges; removes = t.removes; managed = t.managed; told = told-as _ t.cause fault t.told }
+use Rattle.request_store.specs.declared.faults.Finished.{Finished}
+use Rattle.request_store.specs.declared.faults.FinishFault.{FinishFault}
+use Rattle.request_store.specs.declared.faults.FinishFault.TheVariants.{Memory, Weight, Length, NumbersSpent}
+use Rattle.request_store.specs.Finishes.{IsOutOfMemory, IsToldAs, IsUnstored, OnlyHolds, NotStoredAnswer, AdmitAnswer, FinishAnswer}
+use Rattle.http_cache.specs.Finishes.{finish_status}
 
 -- a permit is released as done where a body was stored
 status-told : (a : Bool) (cause : EvictFault) (fault : FinishFault) → IsToldAs a cause fault → finish_status (Err fault) ≡ Some status.Done
@@ -53,10 +39,11 @@ pub status-unstored : (fault : FinishFault) → IsOutOfMemory fault → finish_s
 status-unstored fault out = ap (λ (f : FinishFault). finish_status (Err f)) out.1 ∙ ap (λ (b : Bool). if b then Some status.Done else None) out.2.stored
 
 -- memory ran out before a write was stored
-pub out-of-memory : {S M : Type 0} (rules : Rules S) (number : M → ℕ) (id : M → Option CacheEntryId) (tag : M → Option (List ℕ)) (m again : M) (w : Option M) (key : Option CacheKeyValue) (evicts : Bool) (fault : FinishFault) (s t : S) (managed : Managed) (words : Stream)
-    → w ≡ Some m → IsOutOfMemory fault → IsUnstored rules.held rules.ids number id tag m (miss.Memory again) s t → FinishAnswer rules number id w key evicts (Err fault) (cache_of s managed words) (cache_of t managed words)
+pub out-of-memory : {S M : Type 0} (rules : Rules S) (number : M → ℕ) (id : M → Option CacheEntryId) (tag : M → Option (List ℕ)) (m again : M) (w : Option M) (key : Option CacheKeyValue)
+    (evicts : Bool) (fault : FinishFault) (s t : S) (managed : Managed) (words : Stream)
+    → w ≡ Some m → IsOutOfMemory fault → IsUnstored rules.held rules.ids number id tag evicts m (miss.Memory again) s t → FinishAnswer rules number id w key evicts (Err fault) (cache_of s managed words) (cache_of t managed words)
 out-of-memory {S} {M} rules number id tag m again w key evicts fault s t managed words e out un =
-    let holds : OnlyHolds rules number id (rules.held s) (cache_of s managed words) (cache_of t managed words) = record { store = un.1; ids = un.2; managed = refl; words = refl } in
-    let not_stored : NotStoredAnswer rules number id m (Err fault) (cache_of s managed words) (cache_of t managed words) =
-    subst (λ (f : FinishFault). NotStoredAnswer rules number id m (Err f) (cache_of s managed words) (cache_of t managed words)) (sym out.1) ((out.0, refl, out.2), holds) in
+    let holds : OnlyHolds rules number id (rules.held s) (cache_of s managed words) (cache_of t managed words) = record { store = un.2; ids = un.3; managed = refl; words = refl } in
+    let not_stored : NotStoredAnswer rules number id m evicts (Err fault) (cache_of s managed words) (cache_of t managed words) =
+    subst (λ (f : FinishFault). NotStoredAnswer rules number id m evicts (Err f) (cache_of s managed words) (cache_of t managed words)) (sym out.1) ((out.0, refl, out.2), un.0, holds) in
     subst (λ (o : Option M). FinishAnswer rules number id o key evicts (Err fault) (cache_of s managed words) (cache_of t managed words)) (sym e) (inl not_stored)

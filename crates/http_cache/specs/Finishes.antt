@@ -1,58 +1,18 @@
--- What comes of the finish of a request's write.
-use Rattle.std.specs.Prelude.{◌≡◌, ℕ, Bool, true, false, List, [], Option, Some, None, Result, Ok, Err, if◌then◌else◌, ◌⊎◌, ⊤}
-use Rattle.cache_words.specs.Key.{CacheKeyValue}
+-- What the finish of a write leaves of its request and of the lock.
+use Rattle.std.specs.Prelude.{◌≡◌, ℕ, List, Option, Some, None, Result, Ok, Err, if◌then◌else◌}
 use Rattle.cache_changes.specs.Changes.{StoredKey}
-use Rattle.cache_changes.specs.Store.{Stored, flying_at}
-use Rattle.cache_heads.specs.declared.meta.CacheMeta.{CacheMeta}
 use Rattle.cache_entries.specs.declared.entry.CacheEntryId.{CacheEntryId}
-use Rattle.cache_entries.specs.declared.entry.CacheEntryKey.{CacheEntryKey}
-use Rattle.cache_evict.specs.declared.fault.EvictFault.{EvictFault}
-use Rattle.cache_evict.specs.declared.fault.EvictFault.TheVariants as evict
 use Rattle.cache_lock.specs.declared.status.LockStatus.{LockStatus}
 use Rattle.cache_lock.specs.declared.status.LockStatus.TheVariants as status
 use Rattle.cache_lock.specs.State.{LockState}
-use Rattle.cache_parts.specs.declared.done.Done.{Done}
-use Rattle.cache_parts.specs.declared.done.AdmitFault.{AdmitFault}
-use Rattle.cache_parts.specs.declared.done.AdmitFault.TheVariants as admit
-use Rattle.cache_parts.specs.Admissions.{Rules, Cache, IsDone, IsAdmitted, IsTakenBack}
-use Rattle.cache_store.specs.declared.storage.MissFinishType.{MissFinishType}
-use Rattle.cache_store.specs.declared.storage.store.MissFault.{MissFault}
-use Rattle.cache_store.specs.declared.storage.store.MissFault.TheVariants as miss
-use Rattle.cache_store.specs.Answers.{alive_key, left}
-use Rattle.cache_store.specs.Held.{Held}
-use Rattle.cache_store.specs.Ids.{IsGiven}
-use Rattle.cache_store.specs.Misses.{MissAnswer}
 use Rattle.cache_phases.specs.declared.request_lock.RequestLock.{RequestLock}
 use Rattle.cache_phases.specs.Locks.{let_go}
 use Rattle.cache_phases.specs.Releases.{lock_released}
-use Rattle.http_cache.specs.declared.faults.Finished.{Finished}
-use Rattle.http_cache.specs.declared.faults.FinishFault.{FinishFault}
-use Rattle.http_cache.specs.declared.faults.FinishFault.TheVariants.{Memory, WriteRemoved, Weight, Length, NumbersSpent}
+use Rattle.request_store.specs.declared.faults.Finished.{Finished}
+use Rattle.request_store.specs.declared.faults.FinishFault.{FinishFault}
+use Rattle.request_store.specs.declared.faults.FinishFault.TheVariants.{Memory, WriteRemoved}
+use Rattle.request_store.specs.Finishes.{SameWriter}
 use Rattle.http_cache.specs.Request.{Request}
-use Rattle.http_cache.specs.Founds.{entry_at}
-
--- ---- how faults are told
-
--- memory ran out before anything was done
-abbrev pub IsOutOfMemory : FinishFault → Type 0
-IsOutOfMemory fault = (done : Done) × (fault ≡ Memory done) × IsDone false false [] done
-
--- a fault of the order of use, which came after the body was stored, is told as this
-abbrev pub IsToldAs : Bool → EvictFault → FinishFault → Type 0
-IsToldAs admitted (evict.Memory v) (Memory done) = IsDone true admitted v.items done
-IsToldAs admitted (evict.Weight v) (Weight done) = IsDone true admitted v.items done
-IsToldAs admitted (evict.Length v) (Length done) = IsDone true admitted v.items done
-IsToldAs admitted (evict.NumbersSpent v) (NumbersSpent done) = IsDone true admitted v.items done
-IsToldAs admitted _ _ = ⊥
-
--- a fault of the admission as one of the finish
-abbrev pub fault_of_admission : AdmitFault → FinishFault
-fault_of_admission (admit.Weight done) = Weight done
-fault_of_admission (admit.Length done) = Length done
-fault_of_admission (admit.NumbersSpent done) = NumbersSpent done
-fault_of_admission (admit.Memory done) = Memory done
-
--- ---- what is left of the request and of the lock
 
 -- the status with which a permit is released after a finish, if it is: not where the write may be finished again
 abbrev pub finish_status : Result (Option Finished) FinishFault → Option LockStatus
@@ -62,12 +22,6 @@ finish_status (Err WriteRemoved) = Some status.TransientError
 finish_status (Err (Memory done)) = if done.stored then Some status.Done else None
 finish_status (Err _) = Some status.Done
 
--- a writer that is handed back names the same write
-abbrev pub SameWriter : {M : Type 0} → (M → ℕ) → (M → Option CacheEntryId) → (M → Option (List ℕ)) → Option M → Option M → Type 0
-SameWriter number id tag None None = ⊤
-SameWriter number id tag (Some old) (Some new) = (number new ≡ number old) × (id new ≡ id old) × (tag new ≡ tag old)
-SameWriter number id tag _ _ = ⊥
-
 -- the request once its write is finished; with no status it has its writer, as before
 abbrev pub IsLeftBy : {H M : Type 0} → (M → ℕ) → (M → Option CacheEntryId) → (M → Option (List ℕ)) → Option LockStatus → Request H M → Request H M → Type 0
 IsLeftBy number id tag None old new = (new ≡ record old { writer = new.writer }) × SameWriter number id tag old.writer new.writer
@@ -76,53 +30,3 @@ IsLeftBy number id tag (Some status) old new = new ≡ record old { writer = Non
 abbrev pub lock_finished : Option LockStatus → StoredKey → RequestLock → LockState → LockState
 lock_finished None key r s = s
 lock_finished (Some status) key r s = lock_released key status r s
-
--- ---- what is left of the store and of the order of use
-
-module _ {S M : Type 0} (held : S → Held) (ids : S → StoredKey → Option CacheEntryId) (number : M → ℕ) (id : M → Option CacheEntryId) where
-  -- the key of a write that no removal met
-  abbrev pub key_alive : M → S → Option StoredKey
-  key_alive m s = alive_key (flying_at (number m) (held s).store)
-
-  -- a write is stored, which the store tells as this
-  pub record IsStored (told : Stored CacheMeta → MissFinishType) (m : M) (kind : MissFinishType) (old new : S) : Type 0 where
-    pub answer : MissAnswer number told (key_alive m old) (number m) (held old) (Ok kind) (held new)
-    pub given : IsGiven (key_alive m old) (id m) (ids old) (ids new)
-
-  -- it isn't stored: out of memory the writer is handed back and nothing was done, or it was removed and is given up
-  abbrev pub IsUnstored : (M → Option (List ℕ)) → M → MissFault M → S → S → Type 0
-  IsUnstored tag m (miss.Memory again) old new = SameWriter number id tag (Some m) (Some again) × (held new ≡ held old) × (ids new ≡ ids old)
-  IsUnstored tag m miss.WriteRemoved old new = (key_alive m old ≡ None) × (held new ≡ left (number m) (held old)) × (ids new ≡ ids old)
-
-module _ {S M : Type 0} (rules : Rules S) (number : M → ℕ) (id : M → Option CacheEntryId) where
-  -- the store holds that, and all else is as before
-  pub record OnlyHolds (now : Held) (old new : Cache S) : Type 0 where
-    pub store : rules.held new.store ≡ now
-    pub ids : rules.ids new.store ≡ rules.ids old.store
-    pub managed : new.managed ≡ old.managed
-    pub words : new.words ≡ old.words
-
-  -- nothing is stored
-  abbrev pub NotStoredAnswer : M → Result (Option Finished) FinishFault → Cache S → Cache S → Type 0
-  NotStoredAnswer m (Ok finished) old new = ⊥
-  NotStoredAnswer m (Err WriteRemoved) old new = (key_alive rules.held rules.ids number id m old.store ≡ None) × OnlyHolds (left (number m) (rules.held old.store)) old new
-  NotStoredAnswer m (Err fault) old new = IsOutOfMemory fault × OnlyHolds (rules.held old.store) old new
-
-  -- a body that was stored is admitted, where the manager is on, or taken back
-  abbrev pub AdmitAnswer : Bool → MissFinishType → CacheEntryKey → Result (Option Finished) FinishFault → Cache S → Cache S → Type 0
-  AdmitAnswer true kind e (Ok (Some f)) old new = (f.kind ≡ kind) × IsAdmitted rules kind e f.evicted.items old new
-  AdmitAnswer false kind e (Ok (Some f)) old new = (f.kind ≡ kind) × (f.evicted.items ≡ []) × (new ≡ old)
-  AdmitAnswer evicts kind e (Ok None) old new = ⊥
-  AdmitAnswer true kind e (Err fault) old new = IsTakenBack rules IsToldAs kind e fault old new
-  AdmitAnswer false kind e (Err fault) old new = ⊥
-
-  -- the finish of a write under a key, by whether the manager is on: nothing is stored, or a body, which is admitted or taken back
-  abbrev pub Finishes : M → Option CacheKeyValue → Bool → Result (Option Finished) FinishFault → Cache S → Cache S → Type 0
-  Finishes m key evicts r old new =
-      NotStoredAnswer m r old new
-      ⊎ ((mid : S) × (kind : MissFinishType) × IsStored rules.held rules.ids number id rules.told m kind old.store mid × AdmitAnswer evicts kind (entry_at key (id m)) r (record old { store = mid }) new)
-
-  -- a request without a writer has nothing to finish
-  abbrev pub FinishAnswer : Option M → Option CacheKeyValue → Bool → Result (Option Finished) FinishFault → Cache S → Cache S → Type 0
-  FinishAnswer None key evicts r old new = (r ≡ Ok None) × (new ≡ old)
-  FinishAnswer (Some m) key evicts r old new = Finishes m key evicts r old new

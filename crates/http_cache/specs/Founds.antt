@@ -1,34 +1,26 @@
 -- What becomes of a response that was found.
-use Rattle.std.specs.Prelude.{◌≡◌, ℕ, Bool, true, not, ◌&&◌, [], Option, Some, None, option_map, Result, Ok, Err, if◌then◌else◌}
+use Rattle.std.specs.Prelude.{◌≡◌, ℕ, Bool, true, false, not, ◌&&◌, [], Option, Some, None, option_map, Result, Ok, Err, if◌then◌else◌}
 use Rattle.cache_words.specs.Time.{MomentValue}
-use Rattle.cache_words.specs.Key.{CacheKeyValue, key_of}
 use Rattle.cache_heads.specs.declared.meta.CacheMeta.{CacheMeta}
-use Rattle.cache_entries.specs.declared.entry.CacheEntryId.{CacheEntryId}
 use Rattle.cache_entries.specs.declared.entry.CacheEntryKey.{CacheEntryKey}
-use Rattle.cache_entries.specs.Entry.{entry_with, number_of}
 use Rattle.cache_evict.specs.Faults.{IsPutRefused, evicted_of}
 use Rattle.cache_evict.specs.declared.fault.EvictFault.{EvictFault}
 use Rattle.cache_evict.specs.Managed.{Managed, use_first}
 use Rattle.cache_lock.specs.declared.tokens.Locked.{Locked}
 use Rattle.cache_lock.specs.State.{LockState}
 use Rattle.cache_lock.specs.Answers.{to_wait_for, IsRefused, IsAsBefore}
-use Rattle.cache_parts.specs.Admissions.{compact}
 use Rattle.cache_store.specs.Held.{Held}
 use Rattle.cache_store.specs.Readers.{Reader, Parts}
 use Rattle.cache_phases.specs.declared.hit.HitStatus.{HitStatus}
 use Rattle.cache_phases.specs.HitStatuses.{is_fresh, is_treated_as_miss, found_phase}
 use Rattle.cache_phases.specs.Phases.{is_stale_phase}
-use Rattle.cache_phases.specs.Locks.{given_by, asked, now_holding, lock_held}
-use Rattle.http_cache.specs.declared.faults.FoundFault.{FoundFault}
-use Rattle.http_cache.specs.declared.faults.FoundFault.TheVariants.{Lock, Evict}
+use Rattle.cache_phases.specs.Locks.{is_on, given_by, asked, now_holding, lock_held}
+use Rattle.request_store.specs.declared.faults.FoundFault.{FoundFault}
+use Rattle.request_store.specs.declared.faults.FoundFault.TheVariants.{Memory, Lock, Evict}
 use Rattle.http_cache.specs.Request.{Request, stored_at}
-use Rattle.http_cache.specs.Spends.{Spends}
+use Rattle.request_store.specs.Spends.{Spends}
 use Rattle.http_cache.specs.Points.{Point}
-
--- the entry of a key, with the id of what is stored under it
-abbrev pub entry_at : Option CacheKeyValue → Option CacheEntryId → CacheEntryKey
-entry_at None id = entry_with (record { primary = []; variance = None; user_tag = [] }) (option_map number_of id)
-entry_at (Some key) id = entry_with (compact (key_of key)) (option_map number_of id)
+pub use Rattle.request_store.specs.Entries.{entry_at}
 
 -- what the lock gives, and leaves, for a response that was found: it is asked for one that isn't fresh
 abbrev pub found_given : {H M : Type 0} → HitStatus → Request H M → LockState → Option Locked
@@ -58,15 +50,17 @@ pub record IsTaken {H M : Type 0} (reader : H → Reader) (moment : MomentValue)
   pub lock : new.lock ≡ lock_held (found_given status old.request old.lock) old.request.lock (found_asked status moment old.request old.lock)
   pub store : FoundSpends reader hit status old.request.reader old.held new.held
 
--- a refusal spends what was found alone; a lock that was given is given back
-abbrev pub IsRefusedFor : {H M : Type 0} → FoundFault → Point H M → LockState → Type 0
-IsRefusedFor (Lock f) old s = IsRefused old.lock (to_wait_for (stored_at old.request.key) old.lock) f × (s ≡ old.lock)
-IsRefusedFor _ old s = IsAsBefore s old.lock
+-- a lock that is asked may refuse, and then is as before; where something else refuses, what it gave is given back
+abbrev pub IsRefusedFor : {H M : Type 0} → FoundFault → HitStatus → Point H M → LockState → Type 0
+IsRefusedFor (Lock f) status old s =
+    (is_fresh status ≡ false) × (is_on old.request.lock ≡ true) × IsRefused old.lock (to_wait_for (stored_at old.request.key) old.lock) f × (s ≡ old.lock)
+IsRefusedFor _ status old s = IsAsBefore s old.lock
 
-pub record IsGivenUp {H M : Type 0} (reader : H → Reader) (hit : H) (fault : FoundFault) (old new : Point H M) : Type 0 where
+-- a refusal spends what was found alone
+pub record IsGivenUp {H M : Type 0} (reader : H → Reader) (hit : H) (status : HitStatus) (fault : FoundFault) (old new : Point H M) : Type 0 where
   pub request : new.request ≡ old.request
   pub store : Parts (reader hit) old.held new.held
-  pub lock : IsRefusedFor fault old new.lock
+  pub lock : IsRefusedFor fault status old new.lock
 
 -- whether a use of the entry is counted
 abbrev pub is_counted : {H M : Type 0} → (H → Bool) → H → HitStatus → Request H M → Bool
@@ -76,10 +70,11 @@ is_counted counts hit status r = not (is_treated_as_miss status) && (r.evicts &&
 abbrev pub UseAnswer : ℕ → Bool → CacheEntryKey → ℕ → Managed → Result (Unit {0}) FoundFault → Managed → Type 0
 UseAnswer n counted e w old (Ok done) new = new ≡ (if counted then use_first n e w old else old)
 UseAnswer n counted e w old (Err (Evict f)) new = IsPutRefused n e w old f × (evicted_of f ≡ []) × (counted ≡ true) × (new ≡ old)
-UseAnswer n counted e w old (Err f) new = new ≡ old
+UseAnswer n counted e w old (Err Memory) new = (counted ≡ true) × (new ≡ old)
+UseAnswer n counted e w old (Err (Lock f)) new = new ≡ old
 
 -- the same of the count alone, which is refused where there is no memory for the entry
 abbrev pub CountAnswer : ℕ → Bool → CacheEntryKey → ℕ → Managed → Result (Unit {0}) (Option EvictFault) → Managed → Type 0
 CountAnswer n counted e w old (Ok done) new = new ≡ (if counted then use_first n e w old else old)
 CountAnswer n counted e w old (Err (Some f)) new = IsPutRefused n e w old f × (evicted_of f ≡ []) × (counted ≡ true) × (new ≡ old)
-CountAnswer n counted e w old (Err None) new = new ≡ old
+CountAnswer n counted e w old (Err None) new = (counted ≡ true) × (new ≡ old)

@@ -1,11 +1,9 @@
 pub mod Request
-pub mod Spends
 pub mod Points
 pub mod Lookups
 pub mod Founds
 pub mod Writes
 pub mod Finishes
-pub mod Purges
 pub mod Sizes
 pub mod Predictions
 pub mod Stale

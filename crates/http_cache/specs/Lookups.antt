@@ -1,6 +1,7 @@
 -- What a look-up gives a request.
-use Rattle.std.specs.Prelude.{◌≡◌, ℕ, Bool, true, false, not, ◌&&◌, List, Option, Some, None, is_some, is_none, Result, Ok, Err, if◌then◌else◌}
+use Rattle.std.specs.Prelude.{◌≡◌, ◌↔◌, ℕ, Bool, true, false, not, List, Option, Some, None, IsTrue, IfSome, is_some, is_none, Result, Ok, Err, if◌then◌else◌}
 use Rattle.cache_words.specs.Time.{MomentValue, at_most}
+use Rattle.cache_words.specs.Key.{Key, key_of}
 use Rattle.cache_heads.specs.declared.meta.CacheMeta.{CacheMeta}
 use Rattle.cache_heads.specs.declared.reason.NoCacheReason.TheVariants.{Deferred}
 use Rattle.cache_lock.specs.declared.fault.LockFault.{LockFault}
@@ -15,34 +16,19 @@ use Rattle.cache_store.specs.Held.{Held}
 use Rattle.cache_store.specs.Looks.{LookAnswer}
 use Rattle.cache_store.specs.Readers.{Reader, SameHeld}
 use Rattle.cache_phases.specs.Phases.{is_key_phase}
-use Rattle.cache_phases.specs.Locks.{given_by, asked, now_holding, lock_held}
-use Rattle.http_cache.specs.declared.faults.LookUpFault.{LookUpFault}
-use Rattle.http_cache.specs.declared.faults.LookUpFault.TheVariants as fault
+use Rattle.cache_phases.specs.Locks.{is_on, given_by, asked, now_holding, lock_held}
+use Rattle.request_store.specs.declared.faults.LookUpFault.{LookUpFault}
+use Rattle.request_store.specs.declared.faults.LookUpFault.TheVariants as fault
+use Rattle.request_store.specs.Looks.{valid_look, IsValidFound}
 use Rattle.http_cache.specs.Request.{Request, stored_at}
 use Rattle.http_cache.specs.Points.{Point, IsDisabledFor}
 
-abbrev pub meta_of : Look → CacheMeta
-meta_of (in_flight x) = x.meta
-meta_of (finished x) = x.meta
-
--- a response that was created before that moment isn't found
-abbrev pub is_hidden : Option MomentValue → CacheMeta → Bool
-is_hidden None meta = false
-is_hidden (Some since) meta = not (at_most since meta.internal.created)
-
--- what a request finds of what a look-up shows
-abbrev pub valid_look : Option MomentValue → Option Look → Option Look
-valid_look since None = None
-valid_look since (Some look) = if is_hidden since (meta_of look) then None else Some look
-
--- what a request that looks up finds in the store; where that is nothing, all is as before
-abbrev pub IsValidFound : {H : Type 0} → (H → Reader) → Option Look → Held → Option (CacheMeta × H) → Held → Type 0
-IsValidFound reader look old (Some found) new = LookAnswer reader look old (Ok (Some found)) new
-IsValidFound reader look old None new = (look ≡ None) × SameHeld old new
-
--- the policy of admission is asked where the store has nothing: before anything was found, and once
-abbrev pub asks_policy : {H M : Type 0} → Bool → Request H M → Bool
-asks_policy nothing r = nothing && (is_key_phase r.phase && (r.admits && is_none r.digest.admission))
+-- the policy of admission is asked where it is on and the store has nothing: before anything was found, and once
+pub record AsksPolicy {H M : Type 0} (nothing : Bool) (r : Request H M) : Type 0 where
+  pub absent : nothing ≡ true
+  pub unsought : is_key_phase r.phase ≡ true
+  pub on : r.admits ≡ true
+  pub first : r.digest.admission ≡ None
 
 abbrev pub defers : Option Decision → Bool
 defers (Some (Defer observed)) = true
@@ -57,18 +43,19 @@ decided (Some decision) r = record r { digest = record r.digest { admission = So
 abbrev pub LockAnswer : {H M : Type 0} → MomentValue → Request H M → LockState → Result (Unit {0}) LockFault → Request H M → LockState → Type 0
 LockAnswer moment r s (Ok done) r' s' =
     let k = stored_at r.key in let given = given_by r.lock k s in (r' ≡ record r { lock = now_holding given r.lock }) × (s' ≡ lock_held given r.lock (asked r.lock k false moment s))
-LockAnswer moment r s (Err f) r' s' = IsRefused s (to_wait_for (stored_at r.key) s) f × (r' ≡ r) × (s' ≡ s)
+LockAnswer moment r s (Err f) r' s' = (is_on r.lock ≡ true) × IsRefused s (to_wait_for (stored_at r.key) s) f × (r' ≡ r) × (s' ≡ s)
 
-module _ {H M : Type 0} (reader : H → Reader) (number : M → ℕ) (custom : List ℕ → LockStatus) (moment : MomentValue) where
+module _ {H M : Type 0} (reader : H → Reader) (number : M → ℕ) (custom : List ℕ → LockStatus) (decides : Key → Decision → Type 0) (moment : MomentValue) where
   -- a request that found nothing is disabled where it is deferred, and asks the lock otherwise
   abbrev pub MissAnswer : Bool → Point H M → Result (Unit {0}) LockFault → Point H M → Type 0
   MissAnswer true old r new = (r ≡ Ok tt) × IsDisabledFor reader number custom Deferred old new
   MissAnswer false old r new = LockAnswer moment old.request old.lock r new.request new.lock × (new.held ≡ old.held)
 
-  -- nothing was found; the policy was asked if it is to be
+  -- nothing was found; the policy was asked if it is to be, and decided so of the key
   pub record IsAbsent (nothing : Bool) (old : Point H M) (r : Result (Unit {0}) LockFault) (new : Point H M) : Type 0 where
     pub decision : Option Decision
-    pub asked : is_some decision ≡ asks_policy nothing old.request
+    pub asked : IsTrue (is_some decision) ↔ AsksPolicy nothing old.request
+    pub told : IfSome decision (λ d. IfSome old.request.key (λ k. decides (key_of k) d))
     pub missed : MissAnswer (defers decision) (record old { request = decided decision old.request }) r new
 
   -- nothing is found of what the store shows, which it has left as it was until then
@@ -81,5 +68,5 @@ module _ {H M : Type 0} (reader : H → Reader) (number : M → ℕ) (custom : L
   LookUpAnswer look old (Ok (Some found)) new =
       IsValidFound reader (valid_look old.request.valid_after look) old.held (Some found) new.held × (new.request ≡ old.request) × (new.lock ≡ old.lock)
   LookUpAnswer look old (Ok None) new = FindsNothing look old (Ok tt) new
-  LookUpAnswer look old (Err (fault.Store f)) new = (f ≡ Memory) × (new ≡ old)
+  LookUpAnswer look old (Err (fault.Store f)) new = (f ≡ Memory) × (is_some look ≡ true) × (new ≡ old)
   LookUpAnswer look old (Err (fault.Lock f)) new = FindsNothing look old (Err f) new

@@ -7,7 +7,7 @@ use Rattle.cache_store.specs.Held.{Held}
 use Rattle.cache_store.specs.Readers.{Reader}
 use Rattle.cache_phases.specs.Releases.{lock_released_for, status_for, key_in}
 use Rattle.http_cache.specs.Request.{Request, disabled_for}
-use Rattle.http_cache.specs.Spends.{Ends}
+use Rattle.request_store.specs.Spends.{Ends}
 
 pub record Point (H M : Type 0) : Type 0 where
   pub request : Request H M

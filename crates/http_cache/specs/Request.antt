@@ -1,11 +1,10 @@
 -- A request to a cache: its phase, and what it holds.
 use Rattle.std.specs.Prelude.{◌≡◌, ℕ, Bool, true, false, List, [], Option, Some, None, is_some, if◌then◌else◌}
 use Rattle.cache_words.specs.Time.{MomentValue}
-use Rattle.cache_words.specs.Key.{CacheKeyValue, key_of, combined}
+use Rattle.cache_words.specs.Key.{CacheKeyValue}
 use Rattle.cache_heads.specs.declared.meta.CacheMeta.{CacheMeta}
 use Rattle.cache_heads.specs.declared.reason.NoCacheReason.{NoCacheReason}
 use Rattle.cache_heads.specs.declared.reason.NoCacheReason.TheVariants.{NeverEnabled}
-use Rattle.cache_changes.specs.Changes.{StoredKey}
 use Rattle.cache_store.specs.declared.max_file_size.MaxFileSizeTracker.{MaxFileSizeTracker}
 use Rattle.cache_phases.specs.declared.phase.CachePhase.{CachePhase}
 use Rattle.cache_phases.specs.declared.phase.CachePhase.TheVariants.{Disabled, Uninit}
@@ -16,6 +15,7 @@ use Rattle.cache_phases.specs.Phases.{is_disabled, is_never_enabled, has_key_pha
 use Rattle.cache_phases.specs.Digests.{empty_digest}
 use Rattle.cache_phases.specs.Locks.{held, lock_off, lock_set}
 use Rattle.http_cache.specs.declared.request.Uses.{Uses}
+pub use Rattle.request_store.specs.Entries.{stored_at}
 
 -- a request with readers and writers of a store. A disable keeps the key, what follows it up to `predicted`, and the digest
 pub record Request (H M : Type 0) : Type 0 where
@@ -42,16 +42,11 @@ IsKeyed phase key = has_key_phase phase ≡ true → is_some key ≡ true
 pub record HoldsNothing {H M : Type 0} (r : Option H) (w : Option M) (l : RequestLock) : Type 0 where
   pub reader : r ≡ None
   pub writer : w ≡ None
-  pub lock : held l ≡ None
+  pub lock : l ≡ lock_off
 
 -- a Disabled request holds nothing that has to be spent
 abbrev pub IsIdleWhenDisabled : {H M : Type 0} → CachePhase → Option H → Option M → RequestLock → Type 0
 IsIdleWhenDisabled phase reader writer lock = is_disabled phase ≡ true → HoldsNothing reader writer lock
-
--- what is stored for a request is stored under the hash of its key; without a key under none
-abbrev pub stored_at : Option CacheKeyValue → StoredKey
-stored_at None = []
-stored_at (Some key) = combined (key_of key)
 
 -- ---- off and on
 
@@ -82,6 +77,10 @@ abbrev pub emptied : {H M : Type 0} → Request H M → Request H M
 emptied r = record r { evicts = false; admits = false; lock = lock_off; meta = None; valid_after = None; stale_variance = None; reader = None; writer = None }
 
 -- a request that was never enabled stays as it is, and one that is disabled takes the reason alone
+abbrev pub disabled_in : {H M : Type 0} → CachePhase → NoCacheReason → Request H M → Request H M
+disabled_in (Disabled NeverEnabled) reason r = r
+disabled_in (Disabled before) reason r = record r { phase = Disabled reason }
+disabled_in _ reason r = record (emptied r) { phase = Disabled reason }
+
 abbrev pub disabled_for : {H M : Type 0} → NoCacheReason → Request H M → Request H M
-disabled_for reason r =
-    if is_never_enabled r.phase then r else (if is_disabled r.phase then record r { phase = Disabled reason } else record (emptied r) { phase = Disabled reason })
+disabled_for reason r = disabled_in r.phase reason r

@@ -1,30 +1,21 @@
 -- How the write of a request begins.
-use Rattle.std.specs.Prelude.{◌≡◌, ℕ, Bool, true, false, List, Option, Some, None, Ok, Err, if◌then◌else◌, ◌⊎◌}
+use Rattle.std.specs.Prelude.{◌≡◌, ℕ, Bool, List, Option, Some, None, if◌then◌else◌}
 use Rattle.cache_heads.specs.declared.meta.CacheMeta.{CacheMeta}
-use Rattle.cache_heads.specs.Meta.{provenance_of}
-use Rattle.cache_changes.specs.Changes.{StoredKey}
 use Rattle.cache_lock.specs.declared.status.LockStatus.TheVariants.{Done}
 use Rattle.cache_lock.specs.State.{LockState}
 use Rattle.cache_store.specs.declared.storage.StoreFault.{StoreFault}
-use Rattle.cache_store.specs.Answers.{left}
 use Rattle.cache_store.specs.Held.{Held}
-use Rattle.cache_store.specs.Looks.{TagAnswer, asked}
-use Rattle.cache_store.specs.Misses.{BeginAnswer}
 use Rattle.cache_store.specs.Readers.{Reader}
 use Rattle.cache_phases.specs.declared.phase.CachePhase.TheVariants.{Expired}
 use Rattle.cache_phases.specs.Phases.{is_stale_phase}
 use Rattle.cache_phases.specs.Locks.{let_go}
 use Rattle.cache_phases.specs.Releases.{lock_released}
 use Rattle.http_cache.specs.Request.{Request, stored_at}
-use Rattle.http_cache.specs.Spends.{Spends}
+use Rattle.request_store.specs.Spends.{Spends}
+use Rattle.request_store.specs.Begins.{with_provenance_of, IsBegun, IsNotBegun}
 use Rattle.http_cache.specs.Points.{Point}
 
 -- ---- the meta of a response that is to be stored
-
--- the new meta has the provenance of the one before, where there is one
-abbrev pub with_provenance_of : Option CacheMeta → CacheMeta → CacheMeta
-with_provenance_of None meta = meta
-with_provenance_of (Some old) meta = record meta { internal = record meta.internal { provenance = Some (provenance_of old.internal) } }
 
 abbrev pub variance_in : Option CacheMeta → Option (List ℕ)
 variance_in None = None
@@ -42,30 +33,6 @@ with_meta meta r =
     else record r { meta = Some meta; stale_variance = None }
 
 -- ---- the write
-
-module _ {H M : Type 0} (reader : H → Reader) (number : M → ℕ) (tagged : M → Option ℕ) (streams is_spent : Bool) (key : StoredKey) (meta : CacheMeta) where
-  -- where the store streams, a look-up by the tag of the write that began gives its own reader
-  abbrev pub OwnReader : Bool → M → Held → Option H → Held → Type 0
-  OwnReader true miss mid own new =
-      (found : CacheMeta) × (hit : H) × (own ≡ Some hit) × TagAnswer reader (tagged miss) (asked streams key (tagged miss) mid.store) mid (Ok (Some (found, hit))) new
-  OwnReader false miss mid own new = (own ≡ None) × (new ≡ mid)
-
-  -- a write began
-  pub record IsBegun (miss : M) (own : Option H) (old new : Held) : Type 0 where
-    pub mid : Held
-    pub begun : BeginAnswer number is_spent key meta old (Ok miss) mid
-    pub read : OwnReader streams miss mid own new
-
-  -- no write began: the store refuses it, or its own reader is refused, and then the write is left
-  pub record IsLeftAgain (old new : Held) : Type 0 where
-    pub streamed : streams ≡ true
-    pub miss : M
-    pub mid : Held
-    pub begun : BeginAnswer number is_spent key meta old (Ok miss) mid
-    pub left : new ≡ left (number miss) mid
-
-  abbrev pub IsNotBegun : StoreFault → Held → Held → Type 0
-  IsNotBegun fault old new = BeginAnswer number is_spent key meta old (Err fault) new ⊎ IsLeftAgain old new
 
 -- the request with its write. With a reader of its own it has let go of the lock
 abbrev pub adopted : {H M : Type 0} → M → Option H → Request H M → Request H M

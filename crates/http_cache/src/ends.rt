@@ -4,43 +4,15 @@ ghost use Rattle.cache_phases.specs.Phases.{is_never_enabled};
 ghost use Rattle.cache_phases.specs.Locks.{lock_left};
 ghost use Rattle.cache_phases.specs.Releases.{is_releasable};
 ghost use Rattle.http_cache.specs.Points.{point, IsDisabledFor};
-ghost use Rattle.http_cache.specs.Spends.{Spends, Leaves, Ends};
+ghost use Rattle.request_store.specs.Spends.{Ends};
 
 use crate::request::HttpCache;
 use cache_heads::NoCacheReason;
 use cache_lock::CacheKeyLock;
 use cache_parts::Parts;
 use cache_phases::CachePhase;
-use cache_store::storage::{HandleHit, HandleMiss, Storage};
-
-// Spends a reader, if there is one.
-pub(crate) fn finish_reader<S: Storage>(store: &mut S, reader: Option<S::Hit>)
-    ensures spends { Spends S.Hit.reader reader (S.held store.old) (S.held store.new) }
-    ensures ids { S.ids store.new ≡ S.ids store.old }
-{
-    if let Some(reader) = reader {
-        reader.finish(store);
-    }
-}
-
-// Leaves a write, if there is one.
-fn leave_writer<S: Storage>(store: &mut S, writer: Option<S::Miss>)
-    ensures leaves { Leaves S.Miss.number writer (S.held store.old) (S.held store.new) }
-    ensures ids { S.ids store.new ≡ S.ids store.old }
-{
-    if let Some(writer) = writer {
-        writer.leave(store);
-    }
-}
-
-// Leaves a write and spends a reader, in this order.
-fn end_handlers<S: Storage>(store: &mut S, reader: Option<S::Hit>, writer: Option<S::Miss>)
-    ensures ends { Ends S.Hit.reader S.Miss.number reader writer (S.held store.old) (S.held store.new) }
-    ensures ids { S.ids store.new ≡ S.ids store.old }
-{
-    leave_writer(store, writer);
-    finish_reader(store, reader);
-}
+use cache_store::storage::Storage;
+use request_store::end_handlers;
 
 impl<S: Storage> HttpCache<S> {
     /// Ends the request: its write is left, its reader is spent, and a permit is dropped or a read lock left.

@@ -3,16 +3,14 @@ ghost use Rattle.std.specs.Prelude.{◌≡◌, true, false, is_some, Some, None,
 ghost use Rattle.cache_lock.specs.Answers.{to_wait_for, IsRefused, IsAsBefore};
 ghost use Rattle.cache_store.specs.Held.{Held};
 ghost use Rattle.cache_store.specs.Readers as Readers;
-ghost use Rattle.cache_phases.specs.HitStatuses.{found_phase};
+ghost use Rattle.cache_phases.specs.HitStatuses.{found_phase, is_fresh};
 ghost use Rattle.cache_phases.specs.Phases.{can_look_up, is_disabled, is_stale_phase};
-ghost use Rattle.cache_phases.specs.Locks.{holds_permit, given_by, asked, left_by};
+ghost use Rattle.cache_phases.specs.Locks.{is_on, holds_permit, given_by, asked, left_by};
 ghost use Rattle.http_cache.specs.Request.{stored_at};
-ghost use Rattle.http_cache.specs.Spends.{Spends};
+ghost use Rattle.request_store.specs.Spends.{Spends};
 ghost use Rattle.http_cache.specs.Points.{point};
 ghost use Rattle.http_cache.specs.Founds.{entry_at, found_given, found_asked, with_found, FoundSpends, IsTaken, IsGivenUp, is_counted, CountAnswer, UseAnswer};
 
-use crate::ends::finish_reader;
-use crate::faults::FoundFault;
 use crate::request::HttpCache;
 use cache_evict::{CacheEntryKey, EvictFault, EvictionManager};
 use cache_heads::CacheMeta;
@@ -21,6 +19,7 @@ use cache_parts::Parts;
 use cache_phases::{CachePhase, HitStatus, give_back};
 use cache_store::storage::{HandleHit, HitHandler, Storage};
 use cache_words::time::Moment;
+use request_store::{FoundFault, finish_reader};
 use std::alloc::Global;
 
 impl<S: Storage> HttpCache<S> {
@@ -42,6 +41,7 @@ impl<S: Storage> HttpCache<S> {
         ensures given { IfOk result (λ g. g ≡ given_by self.now.lock (stored_at self.now.key) (L.state lock.old)) }
         ensures lock { OnOk result (L.state lock.new ≡ asked self.now.lock (stored_at self.now.key) stale moment (L.state lock.old)) }
         ensures err { OnErr result (L.state lock.new ≡ L.state lock.old) }
+        ensures refused_on { OnErr result (is_on self.now.lock ≡ true) }
         ensures refused { IfErr result (λ fault. IsRefused (L.state lock.old) (to_wait_for (stored_at self.now.key) (L.state lock.old)) fault) }
         ensures given_back { IfOk result (λ g. IsAsBefore (left_by g (L.state lock.new)) (L.state lock.old)) }
     {
@@ -60,6 +60,8 @@ impl<S: Storage> HttpCache<S> {
         ensures given { IfOk result (λ g. g ≡ found_given status self.now (L.state lock.old)) }
         ensures lock { OnOk result (L.state lock.new ≡ found_asked status moment self.now (L.state lock.old)) }
         ensures err { OnErr result (L.state lock.new ≡ L.state lock.old) }
+        ensures refused_on { OnErr result (is_on self.now.lock ≡ true) }
+        ensures refused_stale { OnErr result (is_fresh status ≡ false) }
         ensures refused { IfErr result (λ fault. IsRefused (L.state lock.old) (to_wait_for (stored_at self.now.key) (L.state lock.old)) fault) }
         ensures given_back { IfOk result (λ g. IsAsBefore (left_by g (L.state lock.new)) (L.state lock.old)) }
     {
@@ -160,7 +162,7 @@ impl<S: Storage> HttpCache<S> {
         requires phase { can_look_up self.old.phase ≡ true }
         requires no_permit { holds_permit self.old.lock ≡ false }
         ensures found { let old = point self.old (S.held parts.old.store) (L.state parts.old.lock) in let new = point self.new (S.held parts.new.store) (L.state parts.new.lock) in
-            MatchResult result (λ _. IsTaken S.Hit.reader moment meta hit status old new) (λ fault. IsGivenUp S.Hit.reader hit fault old new) }
+            MatchResult result (λ _. IsTaken S.Hit.reader moment meta hit status old new) (λ fault. IsGivenUp S.Hit.reader hit status fault old new) }
         ensures used { UseAnswer E.shard_count (is_counted S.Hit.counts hit status self.old) (entry_at self.old.key (S.Hit.id hit)) (E.weighed (S.Hit.weight hit))
             (E.managed parts.old.manager) result (E.managed parts.new.manager) }
         ensures ids { S.ids parts.new.store ≡ S.ids parts.old.store }

@@ -3,7 +3,6 @@
 #![tactic(auto, using(crate::proofs::PhaseLaws::key_at_look_up, crate::proofs::PhaseLaws::key_at_miss, crate::proofs::PhaseLaws::key_at_begin, crate::proofs::PhaseLaws::key_at_write, crate::proofs::PhaseLaws::key_at_stale, crate::proofs::PhaseLaws::on_with_key, crate::proofs::PhaseLaws::on_when_found))]
 
 mod ends;
-mod faults;
 mod finish;
 mod found;
 mod key;
@@ -18,5 +17,5 @@ mod revalidate;
 mod size;
 mod write;
 
-pub use faults::{FinishFault, Finished, FoundFault, LookUpFault};
 pub use request::{HttpCache, Uses};
+pub use request_store::{FinishFault, Finished, FoundFault, LookUpFault};

@@ -1,6 +1,6 @@
 //! What a request does with the lock.
-ghost use Rattle.std.specs.Prelude.{◌≡◌, true, false, Some, None, OnOk, OnErr};
-ghost use Rattle.cache_phases.specs.Phases.{can_set_lock, is_disabled, is_never_enabled};
+ghost use Rattle.std.specs.Prelude.{◌≡◌, true, false, Some, None, is_some, OnOk, OnErr};
+ghost use Rattle.cache_phases.specs.Phases.{can_set_lock, is_never_enabled};
 ghost use Rattle.cache_phases.specs.Locks.{held, is_on, holds_permit, waits, retries_of, holding, let_go, lock_set, tokens_published};
 ghost use Rattle.cache_phases.specs.Releases.{is_releasable, lock_released_for, status_for, key_in};
 ghost use Rattle.cache_phases.specs.Waits.{time_waited, found_by, wait_told, request_polled, lock_polled, digest_polled};
@@ -22,6 +22,27 @@ impl<S: Storage> HttpCache<S> {
         ensures { self.new ≡ record self.old { lock = lock_set on overrides } }
     {
         self.lock.set(on, overrides);
+    }
+
+    /// Returns whether the request uses the lock.
+    pub fn is_cache_lock_on(&self) -> bool
+        ensures { result ≡ is_on self.now.lock }
+    {
+        self.lock.is_on()
+    }
+
+    /// Returns whether the request holds the permit, or waits for it.
+    pub fn holds_lock(&self) -> bool
+        ensures { result ≡ is_some (held self.now.lock) }
+    {
+        self.lock.held().is_some()
+    }
+
+    /// Returns whether what is held of the lock may be released for that reason.
+    pub fn is_releasable(&self, reason: NoCacheReason) -> bool
+        ensures { result ≡ is_releasable self.now.lock reason }
+    {
+        self.lock.is_releasable(reason)
     }
 
     /// Returns whether the request waits for a permit that another one holds.
@@ -59,7 +80,6 @@ impl<S: Storage> HttpCache<S> {
 
     /// Holds a permit that another request held.
     pub fn set_write_lock(&mut self, permit: WritePermit)
-        requires enabled { is_disabled self.old.phase ≡ false }
         requires on { is_on self.old.lock ≡ true }
         requires nothing_held { held self.old.lock ≡ None }
         ensures { self.new ≡ record self.old { lock = holding (Some (Locked.Write permit)) self.old.lock } }
@@ -86,7 +106,7 @@ impl<S: Storage> HttpCache<S> {
     ///
     /// # Errors
     ///
-    /// Out of memory. Nothing has changed.
+    /// Out of memory, where there is a permit. Nothing has changed.
     pub fn lock_publish_fill_tokens<E, P, L: CacheKeyLock, A>(
         &self,
         alloc: Global,
@@ -95,6 +115,7 @@ impl<S: Storage> HttpCache<S> {
     ) -> Result<(), AllocError>
         ensures ok { OnOk result (L.state parts.new.lock ≡ tokens_published (held self.now.lock) tokens.now (L.state parts.old.lock)) }
         ensures err { OnErr result (L.state parts.new.lock ≡ L.state parts.old.lock) }
+        ensures held { OnErr result (holds_permit self.now.lock ≡ true) }
         ensures parts { parts.new ≡ record parts.old { lock = parts.new.lock } }
     {
         self.lock.publish(alloc, &mut parts.lock, tokens)

@@ -1,34 +1,21 @@
 //! Look-ups.
-ghost use Rattle.std.specs.Prelude.{◌≡◌, Option, Some, None, true, false, is_none, is_some, option_map, IfOk, IfErr, Ok};
-ghost use Rattle.cache_words.specs.Key.{key_of, combined};
+ghost use Rattle.std.specs.Prelude.{◌≡◌, ◌↔◌, true, false, is_some, IsTrue, IfSome, IfOk, Ok};
+ghost use Rattle.cache_words.specs.Key.{key_of};
 ghost use Rattle.cache_store.specs.Looks.{Tells, shows};
-ghost use Rattle.cache_store.specs.declared.storage.StoreFault.{StoreFault as Fault};
 ghost use Rattle.cache_phases.specs.Phases.{can_look_up};
 ghost use Rattle.cache_phases.specs.Locks.{holds_permit};
 ghost use Rattle.http_cache.specs.Request.{stored_at};
 ghost use Rattle.http_cache.specs.Points.{point};
-ghost use Rattle.http_cache.specs.Lookups.{is_hidden, valid_look, IsValidFound, asks_policy, defers, decided, LockAnswer, IsAbsent, LookUpAnswer};
+ghost use Rattle.http_cache.specs.Lookups.{AsksPolicy, defers, decided, LockAnswer, IsAbsent, LookUpAnswer};
 
-use crate::faults::LookUpFault;
 use crate::request::HttpCache;
-use cache_heads::{CacheMeta, NoCacheReason};
+use cache_heads::NoCacheReason;
 use cache_lock::{CacheKeyLock, LockFault};
 use cache_parts::Parts;
 use cache_store::admission::{AdmissionPolicy, Decision};
-use cache_store::laws::joined_then_parted;
-use cache_store::storage::{Found, HandleHit, HitHandler, Storage, StoreFault};
-use cache_words::key::CacheKey;
+use cache_store::storage::{Found, HitHandler, Storage};
 use cache_words::time::Moment;
-
-// Whether a response was created before that moment.
-fn is_hidden(since: Option<Moment>, meta: &CacheMeta) -> bool
-    ensures { result ≡ is_hidden since meta.now }
-{
-    match since {
-        Some(since) => !since.is_at_most(&meta.created()),
-        None => false,
-    }
-}
+use request_store::{LookUpFault, look_valid};
 
 // Whether a decision is there and defers.
 fn defers(decision: Option<Decision>) -> bool
@@ -37,39 +24,12 @@ fn defers(decision: Option<Decision>) -> bool
     matches!(decision, Some(Decision::Defer { .. }))
 }
 
-// What a look-up of a key finds that is no older than a moment, and whether the store has nothing at all.
-fn look_valid<S: Storage>(
-    store: &mut S,
-    key: &CacheKey,
-    since: Option<Moment>,
-) -> Result<(Found<S::Hit>, bool), StoreFault>
-    ensures look { let shown = shows S.streams (combined (key_of key.now)) (S.held store.old).store in
-        IfOk result (λ found. IsValidFound S.Hit.reader (valid_look since shown) (S.held store.old) found.0 (S.held store.new)) }
-    ensures err { IfErr result (λ f. (f ≡ Fault.Memory) × (S.held store.new ≡ S.held store.old)) }
-    ensures none { let shown = shows S.streams (combined (key_of key.now)) (S.held store.old).store in IfOk result (λ found. found.1 ≡ is_none shown) }
-    ensures tells { let k = combined (key_of key.now) in IfOk result (λ found. Tells S.Hit.weight S.Hit.id S.weigh (S.ids store.old k) (shows S.streams k (S.held store.old).store) (Ok found.0)) }
-    ensures ids { S.ids store.new ≡ S.ids store.old }
-{
-    joined_then_parted();
-    match store.lookup(key) {
-        Ok(Some((meta, hit))) => {
-            if is_hidden(since, &meta) {
-                hit.finish(store);
-                Ok((None, false))
-            } else {
-                Ok((Some((meta, hit)), false))
-            }
-        }
-        Ok(None) => Ok((None, true)),
-        Err(fault) => Err(fault),
-    }
-}
-
 impl<S: Storage> HttpCache<S> {
     // Asks the policy, where it is to be asked, and returns what it decided. `nothing` tells whether the store has nothing.
     fn observe<A: AdmissionPolicy>(&mut self, policy: &A, nothing: bool) -> Option<Decision>
         requires { is_some self.old.key ≡ true }
-        ensures asked { is_some result ≡ asks_policy nothing self.old }
+        ensures asked { IsTrue (is_some result) ↔ AsksPolicy nothing self.old }
+        ensures told { IfSome result (λ d. IfSome self.old.key (λ k. A.decides policy.now (key_of k) d)) }
         ensures request { self.new ≡ decided result self.old }
     {
         let asks = nothing
@@ -110,7 +70,7 @@ impl<S: Storage> HttpCache<S> {
         requires phase { can_look_up self.old.phase ≡ true }
         requires key { is_some self.old.key ≡ true }
         requires no_permit { holds_permit self.old.lock ≡ false }
-        ensures missed { IsAbsent S.Hit.reader S.Miss.number (L.custom parts.old.lock) moment nothing
+        ensures missed { IsAbsent S.Hit.reader S.Miss.number (L.custom parts.old.lock) (A.decides parts.old.policy) moment nothing
             (point self.old (S.held parts.old.store) (L.state parts.old.lock)) result (point self.new (S.held parts.new.store) (L.state parts.new.lock)) }
         ensures ids { S.ids parts.new.store ≡ S.ids parts.old.store }
         ensures parts { parts.new ≡ record parts.old { store = parts.new.store; lock = parts.new.lock } }
@@ -139,7 +99,7 @@ impl<S: Storage> HttpCache<S> {
         requires phase { can_look_up self.old.phase ≡ true }
         requires no_permit { holds_permit self.old.lock ≡ false }
         ensures look { let look = shows S.streams (stored_at self.old.key) (S.held parts.old.store).store in
-            LookUpAnswer S.Hit.reader S.Miss.number (L.custom parts.old.lock) moment look
+            LookUpAnswer S.Hit.reader S.Miss.number (L.custom parts.old.lock) (A.decides parts.old.policy) moment look
             (point self.old (S.held parts.old.store) (L.state parts.old.lock)) result (point self.new (S.held parts.new.store) (L.state parts.new.lock)) }
         ensures tells { let k = stored_at self.old.key in
             IfOk result (λ found. Tells S.Hit.weight S.Hit.id S.weigh (S.ids parts.old.store k) (shows S.streams k (S.held parts.old.store).store) (Ok found)) }

@@ -76,7 +76,7 @@ impl<S: Storage> HttpCache<S> {
     ///
     /// # Errors
     ///
-    /// Out of memory. Nothing has changed.
+    /// Out of memory, where the predictor is on. Nothing has changed.
     pub fn response_became_uncacheable<E, P: CacheablePredictor, L, A>(
         &self,
         parts: &mut Parts<S, E, P, L, A>,
@@ -87,6 +87,7 @@ impl<S: Storage> HttpCache<S> {
         ensures ok { let p = parts.old.predictor in
             OnOk result (parts.new ≡ record parts.old { predictor = told_of self.now.predicts (λ k. if P.remembers p reason then P.marked p k reason else p) self.now.key p }) }
         ensures err { OnErr result (parts.new ≡ parts.old) }
+        ensures on { OnErr result (self.now.predicts ≡ true) }
     {
         match &self.key {
             Some(key) if self.predicts => match parts.predictor.mark_uncacheable(key, reason) {

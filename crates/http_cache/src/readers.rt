@@ -1,14 +1,28 @@
 //! The reader and the writer of a request.
-ghost use Rattle.std.specs.Prelude.{◌≡◌, Some, None, true, false, if◌then◌else◌};
+ghost use Rattle.std.specs.Prelude.{◌≡◌, Some, None, true, false, is_some, if◌then◌else◌};
 ghost use Rattle.cache_phases.specs.Phases.{is_disabled, can_finish_reader};
-ghost use Rattle.http_cache.specs.Spends.{Spends};
+ghost use Rattle.request_store.specs.Spends.{Spends};
 
-use crate::ends::finish_reader;
 use crate::request::HttpCache;
 use cache_parts::Parts;
 use cache_store::storage::{HitHandler, MissHandler, Storage};
+use request_store::finish_reader;
 
 impl<S: Storage> HttpCache<S> {
+    /// Returns whether there is a reader.
+    pub fn has_reader(&self) -> bool
+        ensures { result ≡ is_some self.now.reader }
+    {
+        self.reader.is_some()
+    }
+
+    /// Returns whether there is a writer.
+    pub fn has_writer(&self) -> bool
+        ensures { result ≡ is_some self.now.writer }
+    {
+        self.writer.is_some()
+    }
+
     /// Takes the reader out, if there is one.
     pub fn take_reader(&mut self) -> Option<HitHandler<S>>
         ensures reader { result ≡ self.old.reader }

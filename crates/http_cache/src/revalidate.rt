@@ -8,7 +8,8 @@ ghost use Rattle.cache_phases.specs.Phases.{is_stale_phase};
 ghost use Rattle.cache_phases.specs.Locks.{let_go};
 ghost use Rattle.cache_phases.specs.Releases.{is_releasable, lock_released, lock_released_for, status_for, key_in};
 ghost use Rattle.http_cache.specs.Request.{stored_at};
-ghost use Rattle.http_cache.specs.Revalidations.{renewed_from, with_head};
+ghost use Rattle.request_store.specs.Begins.{renewed_from};
+ghost use Rattle.http_cache.specs.Revalidations.{with_head};
 
 use crate::request::HttpCache;
 use cache_heads::meta::ResponseHeader;
@@ -17,17 +18,7 @@ use cache_lock::{CacheKeyLock, LockStatus};
 use cache_parts::Parts;
 use cache_phases::CachePhase;
 use cache_store::storage::{Storage, StoreFault};
-
-// A new meta with the moment of creation and the provenance of the one before.
-fn renewed_from(old: &Option<CacheMeta>, mut meta: CacheMeta) -> CacheMeta
-    ensures { result ≡ renewed_from old.now meta }
-{
-    if let Some(old) = old {
-        meta.internal.created = old.created();
-        meta.set_provenance(old.provenance());
-    }
-    meta
-}
+use request_store::renewed_from;
 
 impl<S: Storage> HttpCache<S> {
     /// Takes the meta of a response that confirms the stale one, whose moment of creation and provenance stay, and stores it in the place

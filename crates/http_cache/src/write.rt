@@ -1,63 +1,18 @@
 //! How the write of a response begins.
 ghost use Rattle.std.specs.Prelude.{◌≡◌, true, is_some, None, IfSome, MatchResult};
-ghost use Rattle.cache_words.specs.Key.{key_of, combined};
 ghost use Rattle.cache_phases.specs.Phases.{can_begin, is_write_phase};
-ghost use Rattle.http_cache.specs.Spends.{Spends};
+ghost use Rattle.request_store.specs.Spends.{Spends};
 ghost use Rattle.http_cache.specs.Points.{point};
-ghost use Rattle.http_cache.specs.Writes.{with_provenance_of, variance_in, meta_for, with_meta, IsBegun, IsNotBegun, adopted, earlier, lock_adopted, Begins, BeginsNot};
+ghost use Rattle.http_cache.specs.Writes.{variance_in, meta_for, with_meta, adopted, earlier, lock_adopted, Begins, BeginsNot};
 
-use crate::ends::finish_reader;
 use crate::request::HttpCache;
 use cache_heads::CacheMeta;
 use cache_lock::{CacheKeyLock, LockStatus};
 use cache_parts::Parts;
 use cache_phases::CachePhase;
-use cache_store::storage::{HandleMiss, Storage, StoreFault};
-use cache_words::key::{CacheKey, HashBinary};
-
-// A writer, and where the store streams the reader of what it writes.
-type Begun<H, M> = (M, Option<H>);
-
-// Begins a write, and where the store streams looks up its own reader.
-fn begin<S: Storage>(
-    store: &mut S,
-    key: &CacheKey,
-    meta: &CacheMeta,
-) -> Result<Begun<S::Hit, S::Miss>, StoreFault>
-    ensures begun { let k = combined (key_of key.now) in let spent = S.is_spent (S.held store.old) in
-        MatchResult result (λ b. IsBegun S.Hit.reader S.Miss.number (λ m. S.tagged (S.Miss.tag m)) S.streams spent k meta.now b.0 b.1 (S.held store.old) (S.held store.new))
-        (λ fault. IsNotBegun S.Hit.reader S.Miss.number (λ m. S.tagged (S.Miss.tag m)) S.streams spent k meta.now fault (S.held store.old) (S.held store.new)) }
-    ensures ids { S.ids store.new ≡ S.ids store.old }
-{
-    let miss = match store.get_miss_handler(key, meta) {
-        Ok(miss) => miss,
-        Err(fault) => return Err(fault),
-    };
-    if !store.support_streaming_partial_write() {
-        return Ok((miss, None));
-    }
-    match store.lookup_streaming_write(key, miss.streaming_write_tag()) {
-        Ok(Some((_, own))) => Ok((miss, Some(own))),
-        Ok(None) => {
-            miss.leave(store);
-            Err(StoreFault::WriteRemoved)
-        }
-        Err(fault) => {
-            miss.leave(store);
-            Err(fault)
-        }
-    }
-}
-
-// The meta of a new response, with the provenance of the one before, where there is one.
-fn with_provenance_of(old: &Option<CacheMeta>, mut meta: CacheMeta) -> CacheMeta
-    ensures { result ≡ with_provenance_of old.now meta }
-{
-    if let Some(old) = old {
-        meta.set_provenance(old.provenance());
-    }
-    meta
-}
+use cache_store::storage::{Storage, StoreFault};
+use cache_words::key::HashBinary;
+use request_store::{begin, finish_reader, with_provenance_of};
 
 impl<S: Storage> HttpCache<S> {
     // The meta that is to be stored: of a `Stale` request it keeps the provenance.
@@ -181,8 +136,10 @@ impl<S: Storage> HttpCache<S> {
         requires writer { self.old.writer ≡ None }
         ensures begun { let stored = meta_for meta self.old in let new = point self.new (S.held parts.new.store) (L.state parts.new.lock) in
             MatchResult result
-            (λ _. Begins S.Hit.reader S.Miss.number (λ m. S.tagged (S.Miss.tag m)) S.streams (S.is_spent (S.held parts.old.store)) stored (point (with_meta stored self.old) (S.held parts.old.store) (L.state parts.old.lock)) new)
-            (λ fault. BeginsNot S.Hit.reader S.Miss.number (λ m. S.tagged (S.Miss.tag m)) S.streams (S.is_spent (S.held parts.old.store)) stored fault (point self.old (S.held parts.old.store) (L.state parts.old.lock)) new) }
+            (λ _. Begins S.Hit.reader S.Miss.number (λ m. S.tagged (S.Miss.tag m)) S.streams (S.is_spent (S.held parts.old.store)) stored
+            (point (with_meta stored self.old) (S.held parts.old.store) (L.state parts.old.lock)) new)
+            (λ fault. BeginsNot S.Hit.reader S.Miss.number (λ m. S.tagged (S.Miss.tag m)) S.streams (S.is_spent (S.held parts.old.store)) stored fault
+            (point self.old (S.held parts.old.store) (L.state parts.old.lock)) new) }
         ensures ids { S.ids parts.new.store ≡ S.ids parts.old.store }
         ensures parts { parts.new ≡ record parts.old { store = parts.new.store; lock = parts.new.lock } }
     {

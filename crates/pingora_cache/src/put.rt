@@ -134,7 +134,7 @@ impl<C: CachePut> CachePutCtx<C> {
         pieces: &[Bytes],
         moment: Moment,
     ) -> Result<PutOutcome, PutFault>
-        ensures put { Puts (rules_of S.held S.ids S.is_spent S.Miss.told E.shard_count E.weighed E.pick) (key_of self.old.key)
+        ensures put { Puts (rules_of S.held S.ids S.purged_as S.is_spent S.Miss.told E.shard_count E.weighed E.pick) (key_of self.old.key)
             (Gives self.old.max_file_size_bytes (C.verdict self.old.cache_put moment) (joined pieces.now)) result
             (cache_of parts.old.store (E.managed parts.old.manager) (R.stream rng.old)) (cache_of parts.new.store (E.managed parts.new.manager) (R.stream rng.new)) }
         ensures parts { parts.new ≡ record parts.old { store = parts.new.store; manager = parts.new.manager } }

@@ -58,7 +58,7 @@ pub(super) fn put_body<S: Storage, E: EvictionManager, P, L, A, R: Rng>(
     meta: CacheMeta,
     body: Bytes,
 ) -> Result<PutOutcome, PutFault>
-    ensures put { let rules = rules_of S.held S.ids S.is_spent S.Miss.told E.shard_count E.weighed E.pick in
+    ensures put { let rules = rules_of S.held S.ids S.purged_as S.is_spent S.Miss.told E.shard_count E.weighed E.pick in
         let old = cache_of parts.old.store (E.managed parts.old.manager) (R.stream rng.old) in let new = cache_of parts.new.store (E.managed parts.new.manager) (R.stream rng.new) in
         IsPut rules (key_of key.now) meta body result old new }
     ensures parts { parts.new ≡ record parts.old { store = parts.new.store; manager = parts.new.manager } }

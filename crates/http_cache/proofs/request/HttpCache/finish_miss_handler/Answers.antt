@@ -1,4 +1,7 @@
-use Rattle.std.proofs.Common.{ap, sym, ◌∙◌}
+use Rattle.std.proofs.Common.{ap, sym, subst, ◌∙◌}
+use Rattle.std.specs.Prelude.{Bool}
+use Rattle.cache_store.specs.declared.storage.store.MissFault.TheVariants as miss
+use Rattle.request_store.specs.Finishes.{IsUnstored}
 use Rattle.cache_parts.specs.Admissions.{rules_of}
 use Rattle.http_cache.specs.Request.{Request}
 use Rattle.http_cache.proofs.FinishLaws.{out-of-memory}
@@ -6,8 +9,10 @@ use Rattle.http_cache.proofs.request.HttpCache.finish_miss_handler.Goals as goal
 
 pub returns-in-None-clause-finished : goal.returns-in-None-clause-finished
 returns-in-None-clause-finished g c =
-    out-of-memory (rules_of g.S.Contents.held g.S.Contents.ids g.S.Storage.is_spent g.S.Miss.HandleMiss.told g.E.EvictionManager.shard_count g.E.EvictionManager.weighed g.E.EvictionManager.pick)
+    out-of-memory (rules_of g.S.Contents.held g.S.Contents.ids g.S.Storage.purged_as g.S.Storage.is_spent g.S.Miss.HandleMiss.told g.E.EvictionManager.shard_count g.E.EvictionManager.weighed g.E.EvictionManager.pick)
     g.S.Miss.HandleMiss.number g.S.Miss.HandleMiss.id g.S.Miss.HandleMiss.tag c.in-Some-take.writer c.in-Err-Memory.writer c.args.self.now.writer c.args.self.now.key c.args.self.now.evicts c.out_of_memory.result
     c.args.parts.now.store c.store_body.new.store (g.E.EvictionManager.managed c.args.parts.now.manager) (g.R.Rng.stream c.args.rng.now)
     (ap (λ (r : Request g.row.S-Hit.Denot g.row.S-Miss.Denot). r.writer) (sym c.self.view_is) ∙ (let taken = c.take.ensures.value in let some = c.in-Some-take.is in cc))
-    c.out_of_memory.ensures (rw c.in-Err-Memory.field-0-is at c.in-Err-Memory.ensures)
+    c.out_of_memory.ensures
+    (subst (λ (b : Bool). IsUnstored g.S.Contents.held g.S.Contents.ids g.S.Miss.HandleMiss.number g.S.Miss.HandleMiss.id g.S.Miss.HandleMiss.tag b c.in-Some-take.writer (miss.Memory c.in-Err-Memory.writer)
+    c.args.parts.now.store c.store_body.new.store) (ap (λ (r : Request g.row.S-Hit.Denot g.row.S-Miss.Denot). r.evicts) c.self.view_is) (rw c.in-Err-Memory.field-0-is at c.in-Err-Memory.ensures))

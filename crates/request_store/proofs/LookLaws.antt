@@ -7,7 +7,7 @@ use Rattle.cache_store.specs.Answers.{Look, in_flight, finished}
 use Rattle.cache_store.specs.Held.{Held}
 use Rattle.cache_store.specs.Looks.{LookAnswer}
 use Rattle.cache_store.specs.Readers.{Reader, Parts, IsJoined, IsParted, SameHeld}
-use Rattle.http_cache.specs.Lookups.{is_hidden, valid_look, IsValidFound}
+use Rattle.request_store.specs.Looks.{is_hidden, valid_look, IsValidFound}
 
 module _ {H : Type 0} (reader : H → Reader) (since : Option MomentValue) (meta : CacheMeta) (hit : H) (old mid : Held) where
   hides : (look : Look) (shown : CacheMeta) → meta ≡ shown → is_hidden since meta ≡ true → (if is_hidden since shown then None else Some look) ≡ None

@@ -1,8 +1,8 @@
-use Rattle.std.proofs.Common.{ℕ, List, Option, Some, Ok, sym, subst, ◌∙◌}
+use Rattle.std.proofs.Common.{ℕ, List, Option, Some, None, Ok, sym, subst, ◌∙◌}
 use Rattle.cache_words.specs.Key.{key_of, combined}
 use Rattle.cache_store.specs.Looks.{TagAnswer, asked}
-use Rattle.http_cache.proofs.WriteLaws.{begun-plain, begun-streaming}
-use Rattle.http_cache.proofs.write.begin.Goals as goal
+use Rattle.request_store.proofs.BeginLaws.{begun-plain, begun-streaming, never-none, left-again}
+use Rattle.request_store.proofs.begins.begin.Goals as goal
 
 pub returns-then-not-support_streaming_partial_write-clause-begun : goal.returns-then-not-support_streaming_partial_write-clause-begun
 returns-then-not-support_streaming_partial_write-clause-begun g c =
@@ -18,3 +18,14 @@ returns-in-Ok-Some-clause-begun g c =
     (subst (λ (t : Option (List ℕ)). TagAnswer g.S.Hit.HandleHit.reader (g.S.Contents.tagged t) (asked g.S.Storage.streams (combined (key_of c.args.key.now)) (g.S.Contents.tagged t) (g.S.Contents.held c.get_miss_handler.new.self).store)
     (g.S.Contents.held c.get_miss_handler.new.self) (Ok (Some (c.in-Ok-Some.field-0-0-0, c.in-Ok-Some.own))) (g.S.Contents.held c.lookup_streaming_write.new.self))
     c.streaming_write_tag.ensures.tag (rw c.in-Ok-Some.field-0-is at c.in-Ok-Some.ensures.stream))
+
+-- the look-up of the write that began finds something
+pub unreachable-requires : goal.unreachable-requires
+unreachable-requires g c =
+    never-none g.S.Hit.HandleHit.reader g.S.Miss.HandleMiss.number (λ m. g.S.Contents.tagged (g.S.Miss.HandleMiss.tag m)) g.S.Storage.streams (g.S.Storage.is_spent (g.S.Contents.held c.args.store.now)) (combined (key_of c.args.key.now)) c.args.meta.now c.in-Ok.miss
+    (g.S.Contents.held c.args.store.now) (g.S.Contents.held c.get_miss_handler.new.self) (g.S.Contents.held c.lookup_streaming_write.new.self)
+    (sym c.support_streaming_partial_write.ensures ∙ c.if-not-support_streaming_partial_write.false) c.in-Ok.ensures.begun c.streaming_write_tag.ensures.named
+    (subst (λ (t : Option (List ℕ)). TagAnswer g.S.Hit.HandleHit.reader (g.S.Contents.tagged t) (asked g.S.Storage.streams (combined (key_of c.args.key.now)) (g.S.Contents.tagged t) (g.S.Contents.held c.get_miss_handler.new.self).store)
+    (g.S.Contents.held c.get_miss_handler.new.self) (Ok None) (g.S.Contents.held c.lookup_streaming_write.new.self))
+    c.streaming_write_tag.ensures.tag (rw c.in-Ok-None.field-0-is at c.in-Ok-None.ensures.stream))
+    c.own_reader.ensures.found

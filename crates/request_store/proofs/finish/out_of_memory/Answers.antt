@@ -1,5 +1,5 @@
 use Rattle.std.proofs.Common.{refl}
-use Rattle.http_cache.proofs.finish.out_of_memory.Goals as goal
+use Rattle.request_store.proofs.finish.out_of_memory.Goals as goal
 
 pub returns : goal.returns
 returns c = (_, refl, record { stored = refl; admitted = refl; evicted = c.new.ensures.items })

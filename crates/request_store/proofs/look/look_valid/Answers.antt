@@ -1,8 +1,8 @@
 use Rattle.std.proofs.Common.{sym, ◌∙◌}
 use Rattle.cache_words.specs.Key.{key_of, combined}
 use Rattle.cache_store.specs.Looks.{shows}
-use Rattle.http_cache.proofs.LookLaws.{hidden-found}
-use Rattle.http_cache.proofs.lookup.look_valid.Goals as goal
+use Rattle.request_store.proofs.LookLaws.{hidden-found}
+use Rattle.request_store.proofs.look.look_valid.Goals as goal
 
 pub returns-then-is_hidden-clause-look : goal.returns-then-is_hidden-clause-look
 returns-then-is_hidden-clause-look g c =

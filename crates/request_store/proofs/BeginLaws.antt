@@ -1,0 +1,80 @@
+-- How a write begins.
+use Rattle.std.proofs.Common.{◌≡◌, ℕ, refl, ap, sym, ◌∙◌, subst, Option, Some, None, true, false, inl, inr}
+use Rattle.std.specs.Prelude.{Bool, Ok, Err, is_some, IfSome}
+use Rattle.std.proofs.lemmas.Bool.{false≢true}
+use Rattle.cache_heads.specs.declared.meta.CacheMeta.{CacheMeta}
+use Rattle.cache_changes.specs.Changes.{StoredKey}
+use Rattle.cache_store.specs.declared.storage.StoreFault.{StoreFault}
+use Rattle.cache_store.specs.Answers.{Look, in_flight, finished, left}
+use Rattle.cache_store.specs.Held.{Held}
+use Rattle.cache_store.specs.Looks.{LookAnswer, TagAnswer, asked}
+use Rattle.cache_store.specs.Misses.{BeginAnswer, IsBegun as HasBegun}
+use Rattle.cache_store.specs.Readers.{Reader}
+use Rattle.request_store.specs.Begins.{OwnReader, IsBegun, IsLeftAgain, IsNotBegun}
+
+module _ {H M : Type 0} (reader : H → Reader) (number : M → ℕ) (tagged : M → Option ℕ) (streams is_spent : Bool) (key : StoredKey) (meta : CacheMeta) (miss : M) (old mid : Held) where
+  pub begun-plain : streams ≡ false → BeginAnswer number is_spent key meta old (Ok miss) mid → IsBegun reader number tagged streams is_spent key meta miss None old mid
+  begun-plain e b = record {
+    mid = mid;
+    begun = b;
+    read = subst (λ (s : Bool). OwnReader reader number tagged streams is_spent key meta s miss mid None mid) (sym e) (refl, refl);
+  }
+
+  pub begun-streaming : (found : CacheMeta) (hit : H) (new : Held) → streams ≡ true → BeginAnswer number is_spent key meta old (Ok miss) mid
+      → TagAnswer reader (tagged miss) (asked streams key (tagged miss) mid.store) mid (Ok (Some (found, hit))) new → IsBegun reader number tagged streams is_spent key meta miss (Some hit) old new
+  begun-streaming found hit new e b a = record {
+    mid = mid;
+    begun = b;
+    read = subst (λ (s : Bool). OwnReader reader number tagged streams is_spent key meta s miss mid (Some hit) new) (sym e) (found, hit, refl, a);
+  }
+
+-- a look-up that is refused changes nothing
+module _ {H : Type 0} (reader : H → Reader) (old new : Held) where
+  look-refused : (look : Option Look) (fault : StoreFault) → LookAnswer reader look old (Err fault) new → new ≡ old
+  look-refused None fault a = a.1
+  look-refused (Some (finished x)) fault a = a.1
+  look-refused (Some (in_flight x)) fault a = a.1
+
+  tag-refused : (named : Option ℕ) (look : Option Look) (fault : StoreFault) → TagAnswer reader named look old (Err fault) new → new ≡ old
+  tag-refused None look fault a = look-refused look fault a
+  tag-refused (Some n) None fault a = a.1
+  tag-refused (Some n) (Some look) fault a = look-refused (Some look) fault a
+
+  -- one that finds nothing shows nothing
+  look-none : (look : Option Look) → LookAnswer reader look old (Ok None) new → is_some look ≡ false
+  look-none None a = refl
+  look-none (Some (finished x)) a = absurd a.0
+  look-none (Some (in_flight x)) a = absurd a.0
+
+  tag-none : (named : Option ℕ) (look : Option Look) → TagAnswer reader named look old (Ok None) new → is_some look ≡ false
+  tag-none None look a = look-none look a
+  tag-none (Some n) None a = refl
+  tag-none (Some n) (Some look) a = look-none (Some look) a
+
+module _ {H M : Type 0} (reader : H → Reader) (number : M → ℕ) (tagged : M → Option ℕ) (streams is_spent : Bool) (key : StoredKey) (meta : CacheMeta) (miss : M) (old mid seen : Held) where
+  begun-by : (spent : Bool) → BeginAnswer number spent key meta old (Ok miss) mid → HasBegun key meta (number miss) old mid
+  begun-by true a = absurd (let e = a.0 in cc)
+  begun-by false a = a
+
+  -- the look-up of a write that began finds something
+  pub never-none : streams ≡ true → BeginAnswer number is_spent key meta old (Ok miss) mid → IfSome (tagged miss) (λ m. m ≡ number miss)
+      → TagAnswer reader (tagged miss) (asked streams key (tagged miss) mid.store) mid (Ok None) seen
+      → ((k : StoredKey) (meta : CacheMeta) (n : ℕ) (named : Option ℕ) (old new : Held) → HasBegun k meta n old new → IfSome named (λ m. m ≡ n) → is_some (asked true k named new.store) ≡ true) → ⊥
+  never-none e b named a law =
+      false≢true (sym (tag-none reader mid seen (tagged miss) (asked true key (tagged miss) mid.store) (subst (λ (s : Bool). TagAnswer reader (tagged miss) (asked s key (tagged miss) mid.store) mid (Ok None) seen) e a))
+      ∙ law key meta (number miss) (tagged miss) old mid (begun-by is_spent b) named)
+
+  -- where the own reader is refused, the write is left
+  pub left-again : (fault : StoreFault) (new : Held) → streams ≡ true → BeginAnswer number is_spent key meta old (Ok miss) mid
+      → TagAnswer reader (tagged miss) (asked streams key (tagged miss) mid.store) mid (Err fault) seen → new ≡ left (number miss) seen
+      → IsNotBegun reader number tagged streams is_spent key meta fault old new
+  left-again fault new e b a l =
+      let same = tag-refused reader mid seen (tagged miss) (asked streams key (tagged miss) mid.store) fault a in
+      inr (record {
+        streamed = e;
+        miss = miss;
+        mid = mid;
+        begun = b;
+        refused = subst (λ (h : Held). TagAnswer reader (tagged miss) (asked streams key (tagged miss) mid.store) mid (Err fault) h) same a;
+        left = l ∙ ap (left (number miss)) same;
+      })

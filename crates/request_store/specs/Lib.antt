@@ -1,0 +1,6 @@
+pub mod Spends
+pub mod Entries
+pub mod Looks
+pub mod Begins
+pub mod Finishes
+pub mod Purges
