@@ -15,3 +15,4 @@ mod ShownLaws
 mod SoundLaws
 mod StoreLaws
 mod WholeLaws
+mod FreshLaws

@@ -1,5 +1,8 @@
 //! Look-ups, with handlers.
-ghost use Rattle.std.specs.Prelude.{◌≡◌, Some, option_map, MatchResult};
+ghost use Rattle.std.specs.Prelude.{◌≡◌, Some, option_map, MatchResult, Option, Result};
+ghost use Rattle.cache_heads.specs.declared.meta.CacheMeta.{CacheMeta as Meta};
+ghost use Rattle.cache_store.specs.declared.storage.store.FoundAt.TheVariants.{Fresh as FreshAt};
+ghost use Rattle.cache_store.specs.Looks.{told_at, answer_at};
 ghost use Rattle.cache_store.specs.declared.storage.StoreFault.{StoreFault as Fault};
 ghost use Rattle.mem_cache.specs.declared.handlers.MemHitHandler.{MemHitHandler as Handler};
 ghost use Rattle.cache_store.specs.Answers.{look_up, streamed};
@@ -10,9 +13,11 @@ use crate::MemCache;
 use crate::flight::{Body, Shown};
 use crate::handlers::{CompleteHit, MemHitHandler, PartialHit};
 use crate::meta::{copy_of, unpacked};
+use cache_heads::CacheMeta;
 use cache_store::storage::streaming_write::U64WriteId;
-use cache_store::storage::{Found, StoreFault};
+use cache_store::storage::{Found, FoundAt, StoreFault};
 use cache_words::key::HashBinary;
+use cache_words::time::Moment;
 use std::alloc::Global;
 use std::hash::BuildHasher;
 
@@ -41,7 +46,53 @@ fn found_body(alloc: Global, body: &Body) -> Result<Found<MemHitHandler>, StoreF
     }
 }
 
+// Returns a body that is found, which is shared, with how long it is fresh.
+fn fresh_body(body: &Body) -> Result<Option<FoundAt<MemHitHandler>>, StoreFault>
+    ensures { MatchResult result (λ found. found ≡ Some (FreshAt body.now.meta.internal.fresh_until (Handler.Complete (unread body.now.number body.now.bytes)))) (λ f. f ≡ Fault.Memory) }
+{
+    let until = body.meta.fresh_until();
+    let shared: Result<_, _> = body.bytes.clone();
+    match shared {
+        Ok(bytes) => {
+            let hit = CompleteHit::new(body.number, bytes);
+            Ok(Some(FoundAt::Fresh(until, MemHitHandler::Complete(hit))))
+        }
+        Err(_) => Err(StoreFault::Memory),
+    }
+}
+
+// Returns what is found as it is told at a moment.
+fn told_at(moment: Moment, meta: CacheMeta, hit: MemHitHandler) -> FoundAt<MemHitHandler>
+    ensures { result ≡ told_at moment (meta, hit) }
+{
+    if meta.is_fresh(moment) {
+        FoundAt::Fresh(meta.fresh_until(), hit)
+    } else {
+        FoundAt::Stale(meta, hit)
+    }
+}
+
 impl<S: BuildHasher> MemCache<S> {
+    // Looks a key up for a body that is fresh at a moment, whose meta stays packed.
+    pub(crate) fn look_fresh(
+        &mut self,
+        key: &HashBinary,
+        moment: Moment,
+    ) -> Result<Option<FoundAt<MemHitHandler>>, StoreFault>
+        ensures { (found : Result (Option (Meta × Handler)) Fault) × MemLookAnswer (look_up key.now self.old.store) self.old found self.new × (result ≡ answer_at moment found) }
+    {
+        if let Some(Shown::Body(body)) = self.shown(key)
+            && moment.is_at_most(&body.meta.fresh_until())
+        {
+            return fresh_body(body);
+        }
+        match self.look(key) {
+            Ok(Some((meta, hit))) => Ok(Some(told_at(moment, meta, hit))),
+            Ok(None) => Ok(None),
+            Err(fault) => Err(fault),
+        }
+    }
+
     // Looks a key up.
     pub(crate) fn look(&mut self, key: &HashBinary) -> Result<Found<MemHitHandler>, StoreFault>
         ensures { MemLookAnswer (look_up key.now self.old.store) self.old result self.new }

@@ -2,7 +2,7 @@
 ghost use Rattle.std.specs.Prelude.{◌≡◌, ⊤, true, None, length, option_map, IfOk, IsOk, MatchResult};
 ghost use Rattle.cache_words.specs.Key.{combined, key_of};
 ghost use Rattle.cache_store.specs.Answers.{look_up};
-ghost use Rattle.cache_store.specs.Looks.{LookAnswer, TagAnswer, Tells, asked, shows};
+ghost use Rattle.cache_store.specs.Looks.{LookAnswer, LookAtAnswer, TagAnswer, Tells, asked, shows};
 ghost use Rattle.cache_store.specs.Purges.{target_key, id_at};
 ghost use Rattle.cache_store.specs.Renewals.{ExpireAnswer, StaleAnswer};
 ghost use Rattle.cache_store.specs.declared.storage.StoreFault.{StoreFault as Fault};
@@ -18,7 +18,8 @@ use bytes::Bytes;
 use cache_entries::entry::{CacheEntryId, CacheEntryKey};
 use cache_heads::CacheMeta;
 use cache_store::storage::{
-    Contents, Found, MissFinishType, PurgeOutcome, PurgeTarget, PurgeType, Storage, StoreFault,
+    Contents, Found, FoundAt, MissFinishType, PurgeOutcome, PurgeTarget, PurgeType, Storage,
+    StoreFault,
 };
 use cache_words::key::{CacheHashKey, CacheKey};
 use cache_words::time::Moment;
@@ -51,6 +52,17 @@ impl<S: BuildHasher> Storage for MemCache<S> {
         ensures tells { Tells weight_of (λ _. None) (λ x. length x.bytes) None (shows true (combined (key_of key.now)) self.old.store) result }
     {
         self.look(&key.combined_bin())
+    }
+
+    // The meta of a body that is fresh stays packed.
+    fn lookup_at(
+        &mut self,
+        key: &CacheKey,
+        moment: Moment,
+    ) -> Result<Option<FoundAt<MemHitHandler>>, StoreFault>
+        ensures look { LookAtAnswer reader_of weight_of (λ _. None) (λ x. length x.bytes) None moment (shows true (combined (key_of key.now)) self.old.store) self.old result self.new }
+    {
+        self.look_fresh(&key.combined_bin(), moment)
     }
 
     fn lookup_streaming_write(
