@@ -9,7 +9,8 @@ mod policy;
 mod purges;
 
 pub use admission::admit;
+pub use cache_store::admission::BoxedPolicy;
 pub use done::{AdmitFault, Done};
 pub use parts::Parts;
-pub use policy::{BoxedPolicy, NoPolicy};
+pub use policy::NoPolicy;
 pub use purges::purge_all;

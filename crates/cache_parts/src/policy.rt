@@ -1,4 +1,4 @@
-//! Policies of admission as a part of a cache.
+//! The policy of admission of a cache that has none.
 ghost use Rattle.std.specs.Prelude.{◌≡◌};
 ghost use Rattle.cache_store.specs.declared.admission.Decision.TheVariants.{Ready};
 
@@ -10,19 +10,9 @@ use cache_words::key::CacheKey;
 pub struct NoPolicy;
 
 impl AdmissionPolicy for NoPolicy {
-    fn observe(&self, _key: &CacheKey) -> Decision
-        ensures { result ≡ Ready 0 }
-    {
+    ghost decides = { λ _ _ decision. decision ≡ Ready 0 };
+
+    fn observe(&self, _key: &CacheKey) -> Decision {
         Decision::Ready { observed: 0 }
-    }
-}
-
-/// Any policy, in a box that its caller makes.
-#[derive(Drop)]
-pub struct BoxedPolicy(pub Box<dyn AdmissionPolicy + Drop>);
-
-impl AdmissionPolicy for BoxedPolicy {
-    fn observe(&self, key: &CacheKey) -> Decision {
-        self.0.observe(key)
     }
 }

@@ -1,21 +1,22 @@
 -- A write that begins under a number that no write in flight has: what is held once it has its bytes, is stored, or is given up.
 use Rattle.std.proofs.Common.{arith, ◌≡◌, ℕ, refl, ap, sym, ◌∙◌, true, false, subst, cond, [], ◌∷◌, ◌++◌, inl, inr}
-use Rattle.std.specs.Prelude.{◌==◌, ◌+◌, Bool, List, Option, Some, None, option_map, Ok, Err, find, not, ◌&&◌}
+use Rattle.std.specs.Prelude.{◌==◌, ◌+◌, Bool, List, Option, Some, None, option_map, is_some, IfSome, Ok, Err, find, not, ◌&&◌}
 use Rattle.std.proofs.lemmas.Bool.Decides.{nat_tests}
 use Rattle.cache_heads.specs.declared.meta.CacheMeta.{CacheMeta}
 use Rattle.cache_entries.specs.declared.entry.CacheEntryId.{CacheEntryId}
 use Rattle.cache_entries.specs.SameEntry.{same_bytes-tells}
 use Rattle.cache_entries.specs.Keys.{same_bytes}
 use Rattle.cache_changes.specs.Changes.{StoredKey, Write, begins, finishes, is_key}
-use Rattle.cache_changes.specs.Store.{Stored, Flying, Store, has_number, flying_at, begun, with_bytes, ended, on_flying, landed, with_body, after}
+use Rattle.cache_changes.specs.Store.{Stored, Flying, Store, has_number, flying_at, flies_for, body_at, begun, with_bytes, ended, on_flying, landed, with_body, after}
 use Rattle.cache_store.specs.declared.storage.MissFinishType.{MissFinishType}
 use Rattle.cache_store.specs.declared.storage.store.MissFault.TheVariants.{Memory, WriteRemoved}
 use Rattle.cache_store.specs.declared.storage.StoreFault.{StoreFault}
 use Rattle.cache_store.specs.declared.storage.StoreFault.TheVariants as store_fault
 use Rattle.cache_store.specs.Agree.{Agree}
-use Rattle.cache_store.specs.Answers.{WriteAnswer, after_write, alive_key, left, left_behind, IsFinished, in_flight, streamed, streamed_of}
+use Rattle.cache_store.specs.Answers.{WriteAnswer, after_write, alive_key, left, left_behind, IsFinished, Look, in_flight, look_of, look_up, streamed, streamed_of}
 use Rattle.cache_store.specs.Held.{Held, left_with}
 use Rattle.cache_store.specs.Ids.{IsGiven}
+use Rattle.cache_store.specs.Looks.{asked}
 use Rattle.cache_store.specs.Misses.{IsBegun, BeginAnswer, MissAnswer}
 use Rattle.cache_store.specs.Wholes.{Stores, GivenUp, IsWriteFault, with_whole, whole_of}
 
@@ -41,6 +42,15 @@ module _ {M : Type 0} where
           → cond v (Some x) (find (has_number n) (xs ++ f ∷ [])) ≡ Some f
       by_test true h ih = absurd cc
       by_test false h ih = ih h
+
+  -- one that has a property, or one before it that has it, is found
+  find-some : (p : Flying M → Bool) (fs : List (Flying M)) (f : Flying M) → p f ≡ true → is_some (find p (fs ++ f ∷ [])) ≡ true
+  find-some p [] f own = rw own refl
+  find-some p (x ∷ xs) f own = by_test (p x) (find-some p xs f own)
+    where
+      by_test : (v : Bool) → is_some (find p (xs ++ f ∷ [])) ≡ true → is_some (cond v (Some x) (find p (xs ++ f ∷ []))) ≡ true
+      by_test true h = refl
+      by_test false h = h
 
   landed-last : (n : ℕ) (fs : List (Flying M)) (f : Flying M) → find (has_number n) fs ≡ None → has_number n f ≡ true → landed n (fs ++ f ∷ []) ≡ fs
   landed-last n [] f none own = rw own refl
@@ -100,6 +110,23 @@ own-read k meta n old new b =
         ≡ Some (in_flight (record { write = record { number = old.next; key = k; meta = meta }; meta = meta; bytes = [] }))
     flies true t = refl
     flies false t = absurd cc
+
+shown-some : (o : Option (Flying CacheMeta)) (body : Option (Stored CacheMeta)) → is_some o ≡ true → is_some (look_of o body) ≡ true
+shown-some None body e = absurd cc
+shown-some (Some f) body e = refl
+
+-- a look-up that names it by its number, or names none, finds something
+pub own-asked : (k : StoredKey) (meta : CacheMeta) (n : ℕ) (named : Option ℕ) (old new : Held) → IsBegun k meta n old new → IfSome named (λ m. m ≡ n)
+    → is_some (asked true k named new.store) ≡ true
+own-asked k meta n None old new b e =
+    let w : Write CacheMeta = record { number = old.next; key = k; meta = meta } in
+    ap (λ (h : Held). is_some (look_up k h.store)) b.begun
+    ∙ shown-some (find (flies_for k) (old.store.flying ++ begun w ∷ [])) (body_at k old.store) (find-some (flies_for k) old.store.flying (begun w) (flies (same_bytes k k) (same_bytes-tells.itself k)))
+  where
+    flies : (v : Bool) → v ≡ true → (v && true) ≡ true
+    flies true t = refl
+    flies false t = absurd cc
+own-asked k meta n (Some m) old new b e = ap (λ (i : ℕ). is_some (streamed k i new.store)) e ∙ ap (λ (o : Option Look). is_some o) (own-read k meta n old new b)
 
 begun-by : {H : Type 0} (number : H → ℕ) (spent : Bool) (key : StoredKey) (meta : CacheMeta) (h : H) (old new : Held) → BeginAnswer number spent key meta old (Ok h) new → (spent ≡ false) × IsBegun key meta (number h) old new
 begun-by number true key meta h old new a = absurd cc

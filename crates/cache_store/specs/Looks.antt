@@ -1,9 +1,13 @@
 -- What look-ups answer.
-use Rattle.std.specs.Prelude.{◌≡◌, ℕ, Bool, true, false, Option, Some, None, Result, Ok, Err, MatchResult, ⊤}
+use Rattle.std.specs.Prelude.{◌≡◌, ℕ, Bool, true, false, Option, Some, None, option_map, Result, Ok, Err, MatchResult, ⊤, if◌then◌else◌}
+use Rattle.cache_words.specs.Time.{MomentValue}
 use Rattle.cache_changes.specs.Changes.{StoredKey}
 use Rattle.cache_entries.specs.declared.entry.CacheEntryId.{CacheEntryId}
 use Rattle.cache_changes.specs.Store.{Stored, Store, body_at}
+use Rattle.cache_heads.specs.Fresh.{is_fresh_at}
 use Rattle.cache_heads.specs.declared.meta.CacheMeta.{CacheMeta}
+use Rattle.cache_store.specs.declared.storage.store.FoundAt.{FoundAt}
+use Rattle.cache_store.specs.declared.storage.store.FoundAt.TheVariants.{Fresh, Stale}
 use Rattle.cache_store.specs.declared.storage.StoreFault.{StoreFault}
 use Rattle.cache_store.specs.declared.storage.StoreFault.TheVariants.{Memory, WriteRemoved}
 use Rattle.cache_store.specs.Answers.{Look, in_flight, finished, look_of, look_up, streamed}
@@ -46,3 +50,17 @@ TagAnswer reader (Some n) look old r new = StreamAnswer reader look old r new
 abbrev pub Tells : {H : Type 0} → (H → ℕ) → (H → Option CacheEntryId) → (Stored CacheMeta → ℕ) → Option CacheEntryId → Option Look → Result (Option (CacheMeta × H)) StoreFault → Type 0
 Tells weight id weigh stored (Some (finished x)) (Ok (Some found)) = (weight found.1 ≡ weigh x) × (id found.1 ≡ stored)
 Tells weight id weigh stored _ _ = ⊤
+
+-- what is found, as it is told at a moment: of a fresh response only how long it is fresh
+abbrev pub told_at : {H : Type 0} → MomentValue → CacheMeta × H → FoundAt H
+told_at moment found =
+    if is_fresh_at found.0.internal.fresh_until moment then Fresh found.0.internal.fresh_until found.1 else Stale found.0 found.1
+
+abbrev pub answer_at : {H : Type 0} → MomentValue → Result (Option (CacheMeta × H)) StoreFault → Result (Option (FoundAt H)) StoreFault
+answer_at moment (Ok found) = Ok (option_map (told_at moment) found)
+answer_at moment (Err f) = Err f
+
+-- what a look-up at a moment answers: what a look-up would, as that is told at the moment
+abbrev pub LookAtAnswer : {H : Type 0} → (H → Reader) → (H → ℕ) → (H → Option CacheEntryId) → (Stored CacheMeta → ℕ) → Option CacheEntryId → MomentValue → Option Look → Held → Result (Option (FoundAt H)) StoreFault → Held → Type 0
+LookAtAnswer {H} reader weight id weigh stored moment look old r new =
+    (found : Result (Option (CacheMeta × H)) StoreFault) × LookAnswer reader look old found new × Tells weight id weigh stored look found × (r ≡ answer_at moment found)

@@ -1,5 +1,5 @@
 //! Laws over definitions alone. The functions do nothing: their contracts are the laws.
-ghost use Rattle.std.specs.Prelude.{◌≡◌, ◌↔◌, ℕ, Some, [], true, option_map};
+ghost use Rattle.std.specs.Prelude.{◌≡◌, ◌↔◌, ℕ, Option, Some, [], true, option_map, is_some, IfSome};
 ghost use Rattle.cache_heads.specs.declared.meta.CacheMeta.{CacheMeta};
 ghost use Rattle.cache_changes.specs.Changes.{StoredKey, Change, Changes, renews};
 ghost use Rattle.cache_changes.specs.Writes.{bytes_of, IsOrderly};
@@ -8,6 +8,7 @@ ghost use Rattle.cache_store.specs.Agree.{Agree};
 ghost use Rattle.cache_store.specs.Answers.{left, look_up, in_flight, finished, streamed, IsFinished};
 ghost use Rattle.cache_store.specs.Held.{Reading, Held};
 ghost use Rattle.cache_store.specs.Laws.{write_shown, NoneFlies, IsOwnNumber};
+ghost use Rattle.cache_store.specs.Looks.{asked};
 ghost use Rattle.cache_store.specs.Misses.{IsBegun};
 ghost use Rattle.cache_store.specs.Readers.{readable, reading_at, IsJoined, IsParted, SameHeld};
 ghost use Rattle.cache_store.specs.Renewals.{IsRenewed};
@@ -45,8 +46,11 @@ pub fn joined_then_parted()
     ensures { (n : ℕ) (old mid new : Held) → IsJoined n old mid → IsParted n mid new → SameHeld old new }
 {}
 
-/// A write that began is what its number shows, with no byte yet. So a look-up by its tag reads that write and no other.
+/// A write that began is what its number shows, with no byte yet. So a look-up by its tag reads that write and no other. Where writes in
+/// flight are shown, a look-up by a tag that names no number finds something too.
 pub fn own_reader()
-    ensures { (k : StoredKey) (meta : CacheMeta) (n : ℕ) (old new : Held) → IsBegun k meta n old new
+    ensures own { (k : StoredKey) (meta : CacheMeta) (n : ℕ) (old new : Held) → IsBegun k meta n old new
         → streamed k n new.store ≡ Some (in_flight (record { write = record { number = n; key = k; meta = meta }; meta = meta; bytes = [] })) }
+    ensures found { (k : StoredKey) (meta : CacheMeta) (n : ℕ) (named : Option ℕ) (old new : Held) → IsBegun k meta n old new → IfSome named (λ m. m ≡ n)
+        → is_some (asked true k named new.store) ≡ true }
 {}

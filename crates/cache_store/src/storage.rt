@@ -13,7 +13,7 @@ mod store;
 pub mod streaming_write;
 
 pub use store::{
-    Contents, Found, HandleHit, HandleMiss, HitHandler, MissFault, MissHandler, Storage,
+    Contents, Found, FoundAt, HandleHit, HandleMiss, HitHandler, MissFault, MissHandler, Storage,
 };
 
 /// Why a body is purged.

@@ -2,7 +2,6 @@
 ghost use Rattle.std.specs.Prelude.{◌≡◌, ⊤, true, None, length, option_map, IfOk, IsOk, MatchResult};
 ghost use Rattle.cache_words.specs.Key.{combined, key_of};
 ghost use Rattle.cache_store.specs.Answers.{look_up};
-ghost use Rattle.cache_store.specs.Ids.{SameBut};
 ghost use Rattle.cache_store.specs.Looks.{LookAnswer, TagAnswer, Tells, asked, shows};
 ghost use Rattle.cache_store.specs.Purges.{target_key, id_at};
 ghost use Rattle.cache_store.specs.Renewals.{ExpireAnswer, StaleAnswer};

@@ -1,4 +1,6 @@
 //! Admission, and the limit on the size of a body.
+ghost use Rattle.std.specs.Prelude.{⊤};
+
 use cache_heads::ErrorType;
 use cache_store::admission::{AdmissionPolicy, Decision};
 use cache_store::max_file_size::{ERR_RESPONSE_TOO_LARGE, MaxFileSizeTracker};
@@ -13,6 +15,8 @@ struct LongKeys {
 }
 
 impl AdmissionPolicy for LongKeys {
+    ghost decides = { λ _ _ _. ⊤ };
+
     fn observe(&self, key: &CacheKey) -> Decision {
         if key.primary_key().len() < self.least {
             Decision::Defer { observed: 3 }

@@ -11,8 +11,8 @@ ghost use Rattle.cache_store.specs.declared.storage.PurgeType.TheVariants.{Inval
 ghost use Rattle.cache_store.specs.declared.storage.StoreFault.{StoreFault as Fault};
 ghost use Rattle.cache_store.specs.Answers.{WriteAnswer, after_write, alive_key, left};
 ghost use Rattle.cache_store.specs.Held.{Held};
-ghost use Rattle.cache_store.specs.Ids.{IsGiven, SameBut};
-ghost use Rattle.cache_store.specs.Looks.{LookAnswer, TagAnswer, Tells, asked, shows};
+ghost use Rattle.cache_store.specs.Ids.{IsGiven, IdsAfter};
+ghost use Rattle.cache_store.specs.Looks.{LookAnswer, LookAtAnswer, TagAnswer, Tells, asked, shows};
 ghost use Rattle.cache_store.specs.Misses.{BeginAnswer, MissAnswer, IsAlike};
 ghost use Rattle.cache_store.specs.Purges.{PurgeAnswer, target_key, id_at};
 ghost use Rattle.cache_store.specs.Readers.{Reader, IsStep, IsSought, Parts, ReadsSame, ahead};
@@ -34,6 +34,15 @@ pub type MissHandler<S> = <S as Storage>::Miss;
 
 /// What a look-up found: the meta, and a reader of the body.
 pub type Found<H> = Option<(CacheMeta, H)>;
+
+/// What a look-up at a moment found, with a reader of the body.
+#[derive(Debug, Drop)]
+pub enum FoundAt<H> {
+    /// A response that is fresh up to a moment, which is no earlier than the one asked for.
+    Fresh(Moment, H),
+    /// A response that is fresh no more, with its meta.
+    Stale(CacheMeta, H),
+}
 
 /// Why a write was not finished.
 #[derive(Debug, Drop)]
@@ -85,6 +94,34 @@ pub trait Storage: Contents {
         ensures look { LookAnswer Self.Hit.reader (shows streams (combined (key_of key.now)) (Self.held self.old).store) (Self.held self.old) result (Self.held self.new) }
         ensures tells { let k = combined (key_of key.now) in Tells Self.Hit.weight Self.Hit.id Self.weigh (Self.ids self.old k) (shows streams k (Self.held self.old).store) result }
         ensures ids { Self.ids self.new ≡ Self.ids self.old };
+
+    /// Looks a key up for a response that is fresh at a moment: of such a one the meta isn't given. By default it is `lookup`; a store that
+    /// keeps metas packed need not unpack one that is fresh.
+    ///
+    /// # Errors
+    ///
+    /// `Memory` when out of memory; nothing has changed.
+    fn lookup_at(
+        &mut self,
+        key: &CacheKey,
+        moment: Moment,
+    ) -> Result<Option<FoundAt<Self::Hit>>, StoreFault>
+        ensures look { let k = combined (key_of key.now) in
+            LookAtAnswer Self.Hit.reader Self.Hit.weight Self.Hit.id Self.weigh (Self.ids self.old k) moment (shows streams k (Self.held self.old).store) (Self.held self.old) result (Self.held self.new) }
+        ensures ids { Self.ids self.new ≡ Self.ids self.old }
+    {
+        match self.lookup(key) {
+            Ok(Some((meta, hit))) => {
+                if meta.is_fresh(moment) {
+                    Ok(Some(FoundAt::Fresh(meta.fresh_until(), hit)))
+                } else {
+                    Ok(Some(FoundAt::Stale(meta, hit)))
+                }
+            }
+            Ok(None) => Ok(None),
+            Err(fault) => Err(fault),
+        }
+    }
 
     /// Looks up the write of a key with that tag, which its handler lends. A tag that names no write's number asks for the key, as
     /// `lookup` does; in a store without tags that is each one, and the call is `lookup`.
@@ -174,7 +211,7 @@ pub trait Storage: Contents {
     /// Removes what is stored of the target. It takes no memory.
     fn purge(&mut self, target: PurgeTarget<'_>, purge_type: PurgeType) -> PurgeOutcome
         ensures purged { let k = target_key (Self.ids self.old) target.entry in PurgeAnswer k (id_at (Self.ids self.old) k) (Self.held self.old) result (Self.held self.new) }
-        ensures ids { SameBut (target_key (Self.ids self.old) target.entry) (Self.ids self.old) (Self.ids self.new) }
+        ensures ids { IdsAfter result (target_key (Self.ids self.old) target.entry) (Self.ids self.old) (Self.ids self.new) }
         ensures cause { purged_as self.old purge_type self.new };
 
     /// Lets what is stored of the target go stale at a moment. By default it is removed, as no longer valid.
@@ -190,7 +227,7 @@ pub trait Storage: Contents {
         ensures stale { let k = target_key (Self.ids self.old) target.entry in
             MatchResult result (λ outcome. StaleAnswer k (id_at (Self.ids self.old) k) _moment (purged_as self.old Invalidation self.new) (Self.held self.old) outcome (Self.held self.new))
             (λ f. (f ≡ Fault.Memory) × (Self.held self.new ≡ Self.held self.old)) }
-        ensures ids { SameBut (target_key (Self.ids self.old) target.entry) (Self.ids self.old) (Self.ids self.new) }
+        ensures ids { MatchResult result (λ outcome. IdsAfter outcome (target_key (Self.ids self.old) target.entry) (Self.ids self.old) (Self.ids self.new)) (λ _. Self.ids self.new ≡ Self.ids self.old) }
     {
         Ok(self.purge(target, PurgeType::Invalidation))
     }
