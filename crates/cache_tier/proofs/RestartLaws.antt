@@ -1,5 +1,5 @@
 -- A tier that starts from files is as an opening with what they have gives it.
-use Rattle.std.proofs.Common.{◌≡◌, ◌⊎◌, inl, inr, ℕ, List, [], Option, Result, Ok, Err, sym, refl, ap, ◌∙◌, subst}
+use Rattle.std.proofs.Common.{◌≡◌, inl, inr, ℕ, List, [], ◌∷◌, Option, Result, Ok, Err, sym, refl, ap, ◌∙◌, subst}
 use Rattle.std.specs.Prelude.{codes}
 use Rattle.lru_files.specs.Folder.{Files, Call, Outcome, IsSame}
 use Rattle.lru_files.specs.Load.{Loads}
@@ -88,7 +88,7 @@ module _ {D : Type 0} (did : D → Call → Outcome → D → Type 0) (failures 
 -- ---- what was saved is loaded
 
 told_ok : {X : Type 0} (came : Result X EvictFault) (x : X) → IsToldOfFiles came (Ok x) → came ≡ Ok x
-told_ok (Ok y) x e = sym e
+told_ok (Ok y) x e = let same : y ≡ x = cc in ap (λ z. Ok z) same
 told_ok (Err f) x e = absurd cc
 
 pub order_again : {D : Type 0} (did : D → Call → Outcome → D → Type 0) (failures : D → ℕ) (keeps : Type 0) (files : D → Files) → keeps

@@ -26,14 +26,15 @@ impl<const N: usize, S: BuildHasher> Tier<N, S> {
         ensures { IsTrue result ↔ IsNew self.now }
     {
         let bodies = count(&self.parts.store);
-        let evicted_size = self.parts.manager.evicted_size();
-        let evicted_items = self.parts.manager.evicted_items();
-        bodies == 0
-            && self.requests.is_empty()
-            && self.found == 0
-            && self.absent == 0
-            && evicted_size == 0
-            && evicted_items == 0
+        let size = self.parts.manager.evicted_size() as u64;
+        let items = self.parts.manager.evicted_items() as u64;
+        if !are_zero(bodies, self.found, self.absent) {
+            return false;
+        }
+        if !are_zero(size, items, 0) {
+            return false;
+        }
+        self.requests.is_empty()
     }
 
     /// Saves the order of use, each shard to a file in `dir`, which is made first. The texts are written under temporary names,
@@ -92,4 +93,10 @@ fn told_of_files<T>(alloc: Global, came: Result<T, EvictFault>) -> Result<T, Tie
         Ok(report) => Ok(report),
         Err(fault) => Err(fault_for(fault, nothing_done(alloc))),
     }
+}
+
+fn are_zero(a: u64, b: u64, c: u64) -> bool
+    ensures { IsTrue result ↔ ((a ≡ 0) × ((b ≡ 0) × (c ≡ 0))) }
+{
+    a == 0 && b == 0 && c == 0
 }
