@@ -5,3 +5,4 @@ pub mod ShelfLaws
 pub mod StoreLaws
 pub mod TakenLaws
 pub mod UseLaws
+pub mod RestartLaws

@@ -4,3 +4,4 @@ pub mod Codes
 pub mod Acts
 pub mod Draws
 pub mod Takes
+pub mod Restarts

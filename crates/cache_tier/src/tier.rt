@@ -11,6 +11,7 @@ ghost use Rattle.cache_tier.specs.Bodies.{IsIdle, shelf_of, ShowsBodies};
 
 mod faults;
 mod requests;
+mod restarts;
 mod store;
 
 use crate::bodies::{all_bytes, count};

@@ -11,3 +11,4 @@ pub mod HeadlineLaws
 pub mod ReportLaws
 pub mod HeldLaws
 pub mod Carried
+pub mod StartedLaws

@@ -10,3 +10,4 @@ pub mod State
 pub mod Step
 pub mod Reports
 pub mod Past
+pub mod Started

@@ -3,14 +3,17 @@ ghost use Rattle.tier_model.specs.Calls.{History};
 ghost use Rattle.tier_model.specs.Headline.{Headline};
 ghost use Rattle.tier_model.specs.Histories.{Opening, changes_of};
 ghost use Rattle.cache_changes.specs.Bound.{TracksBodies};
-ghost use Rattle.cache_changes.specs.Writes.{IsOrderly};
-ghost use Rattle.std.specs.Prelude.{◌≡◌, ◌≢◌, ℕ, List};
+ghost use Rattle.cache_changes.specs.Writes.{IsFound, IsOrderly};
+ghost use Rattle.std.specs.Prelude.{◌≡◌, ◌≢◌, ℕ, List, []};
 ghost use Rattle.tier_model.specs.declared.whole.Whole.TheVariants.{BadHead};
 ghost use Rattle.cache_words.specs.Time.{MomentValue};
 ghost use Rattle.response_parse.specs.Response.{IsWellFormed, Reading, IsReading};
 ghost use Rattle.tier_model.specs.Response.{whole_of};
-ghost use Rattle.tier_model.specs.State.{State};
-ghost use Rattle.tier_model.specs.Past.{IsLawful, MatchesHistory, state_of};
+ghost use Rattle.tier_model.specs.State.{State, shards_of};
+ghost use Rattle.tier_model.specs.Past.{HasPast, IsLawful, MatchesHistory, state_of};
+ghost use Rattle.tier_model.specs.Started.{IsNew, opening_of};
+ghost use Rattle.cache_changes.specs.Changes.{StoredKey};
+ghost use Rattle.cache_evict.specs.Managed.{IsSharded};
 ghost use Rattle.tier_model.specs.Reports.{IsReport, report_of};
 
 /// Whatever a tier's state allows, call by call from its opening, the headline holds of the whole history.
@@ -38,4 +41,11 @@ pub fn reports_tell_the_history()
 /// A response whose head the parser's default options read or begin to read, within bounds, is never a bad head.
 pub fn well_formed_responses_are_read()
     ensures { (arrival : MomentValue) (bytes : List ℕ) (r : Reading) → IsWellFormed bytes → IsReading bytes r → whole_of arrival r ≢ BadHead }
+{}
+
+/// A tier in which no event left a trace is what an opening with its rows gives, so the headline of that opening holds of it;
+/// and it finds no key.
+pub fn new_tiers_are_as_opened()
+    ensures past { (s : State) → IsNew s → IsSharded (shards_of s) s.managed → HasPast (opening_of s) s [] }
+    ensures nothing { (s : State) (k : StoredKey) → ¬ IsFound k (changes_of (opening_of s) []) }
 {}

@@ -1,5 +1,5 @@
 //! The open requests.
-ghost use Rattle.std.specs.Prelude.{◌≡◌, OnOk, OnErr, Some, None, option_copied};
+ghost use Rattle.std.specs.Prelude.{◌≡◌, ◌↔◌, IsTrue, OnOk, OnErr, Some, None, option_copied};
 ghost use Rattle.tier_model.specs.declared.state.Request.{Request};
 ghost use Rattle.std.specs.FinMap as finite;
 ghost use Rattle.std.specs.Ordering.{nat_cmp};
@@ -39,6 +39,13 @@ impl<S: BuildHasher> Requests<S> {
         Requests {
             table: HashMap::with_hasher(alloc, hasher),
         }
+    }
+
+    /// Returns whether no request is open.
+    pub fn is_empty(&self) -> bool
+        ensures { IsTrue result ↔ (finite.len self.now ≡ 0) }
+    {
+        self.table.is_empty()
     }
 
     /// Returns the request of that number, if it is open.
