@@ -279,7 +279,7 @@ fn is_read(row: &Row) -> bool {
 fn values_are_read(rt: HostRuntime) {
     for rows in [NUMBERS, TEXTS, HASHES, MOMENTS] {
         for (number, row) in rows.iter().enumerate() {
-            assert!(rt; is_read(row), "row {number}");
+            assert!(rt; is_read(row));
         }
     }
 }
