@@ -7,8 +7,6 @@ use cache_lock::{
 use cache_words::time::{Duration, Moment};
 use std::alloc::Global;
 use std::hash::{BuildHasherDefault, FoldHasher};
-use std::process::Abort;
-use std::test::*;
 
 const ROWS: &[(u8, LockStatus, &str)] = &[
     (0, LockStatus::Waiting, "Waiting"),

@@ -7,20 +7,22 @@ use cache_lock::{
 use cache_store::trace::Span;
 use cache_words::key::CacheKey;
 use cache_words::time::{Duration, Moment};
-use std::alloc::Global;
-use std::process::Abort;
-use std::test::*;
+use std::alloc::{AllocError, Global};
 
-fn key_of(alloc: Global, byte: u8) -> Option<CacheKey> {
-    let mut primary = Vec::new(alloc);
-    primary.push(byte).ok()?;
-    Some(CacheKey::new(primary, String::new(alloc)))
+/// The key of a byte, or of none when out of memory.
+fn key_of(alloc: Global, byte: u8) -> CacheKey {
+    match Vec::from_slice(alloc, &[byte]) {
+        Ok(primary) => CacheKey::new(primary, String::new(alloc)),
+        Err(AllocError) => CacheKey::new(Vec::new(alloc), String::new(alloc)),
+    }
 }
 
+/// A copy of fills.
 fn fills(alloc: Global) -> Option<UnusableFills> {
-    let mut list = Vec::new(alloc);
-    list.push(FILL).ok()?;
-    Some(UnusableFills::new(list))
+    match Vec::from_slice(alloc, &[FILL]) {
+        Ok(list) => UnusableFills::new(list).clone().ok(),
+        Err(AllocError) => None,
+    }
 }
 
 fn new_lock(alloc: Global) -> CacheLock {
@@ -43,55 +45,114 @@ fn is_given(alloc: Global, locked: Locked, wanted: Given) -> bool {
     }
 }
 
+/// Locks the keys of ten bytes, which gets a permit for each.
+fn lock_ten(alloc: Global, lock: &mut CacheLock) -> bool {
+    for byte in 0..10 {
+        match lock.lock(&key_of(alloc, byte), false, Moment::from_seconds(10)) {
+            Ok(locked) => {
+                is_given(alloc, locked, Given::Write(u64::from(byte)));
+            }
+            Err(_) => return false,
+        }
+    }
+    true
+}
+
 /// A read lock of that number, below 10, which a lock of ten keys gives.
 fn read_of(alloc: Global, number: u64) -> Option<ReadLock> {
     let mut other = new_lock(alloc);
-    for byte in 0..10 {
-        let key = key_of(alloc, byte)?;
-        let locked = other.lock(&key, false, Moment::from_seconds(10)).ok()?;
-        is_given(alloc, locked, Given::Write(u64::from(byte)));
+    if lock_ten(alloc, &mut other) {
+        LockStub { number }.read_lock(&mut other)
+    } else {
+        None
     }
-    LockStub { number }.read_lock(&mut other)
 }
 
-fn poll<L: CacheKeyLock>(
+/// Whether a read lock tells that, once it was polled with fills.
+fn is_polled_so<L: CacheKeyLock>(
     alloc: Global,
     lock: &mut L,
+    read: &ReadLock,
     second: i64,
-    number: u64,
-) -> Option<Option<WaitOutcome>> {
-    let fills = fills(alloc)?.clone().ok()?;
-    let read = read_of(alloc, number)?;
-    let outcome = lock.poll_wait(&read, &fills, Moment::from_seconds(second));
-    forget(alloc, read);
-    Some(outcome)
+    wanted: Option<WaitOutcome>,
+) -> bool {
+    match fills(alloc) {
+        Some(fills) => lock.poll_wait(read, &fills, Moment::from_seconds(second)) == wanted,
+        None => false,
+    }
 }
 
-fn ends<L: CacheKeyLock>(alloc: Global, lock: &mut L, step: Step) -> Option<bool> {
+/// Whether a read lock tells what it must.
+fn tells<L: CacheKeyLock>(alloc: Global, lock: &mut L, read: &ReadLock, step: Step) -> bool {
+    match step {
+        Step::Poll(second, _, wanted) => is_polled_so(alloc, lock, read, second, wanted),
+        Step::Status(second, _, wanted) => {
+            let status = read.lock_status(lock, Moment::from_seconds(second));
+            lock.trace_lock_wait(&Span::inactive(), read, status);
+            status == wanted
+        }
+        Step::Locked(_, wanted) => read.locked(lock) == wanted,
+        Step::Expired(second, _, wanted) => {
+            read.expired(lock, Moment::from_seconds(second)) == wanted
+        }
+        _ => false,
+    }
+}
+
+/// The same of a read lock of that number.
+fn is_told<L: CacheKeyLock>(alloc: Global, lock: &mut L, number: u64, step: Step) -> bool {
+    match read_of(alloc, number) {
+        Some(read) => {
+            let told = tells(alloc, lock, &read, step);
+            forget(alloc, read);
+            told
+        }
+        None => false,
+    }
+}
+
+fn is_left<L: CacheKeyLock>(alloc: Global, lock: &mut L, number: u64) -> bool {
+    match read_of(alloc, number) {
+        Some(read) => {
+            lock.leave(Locked::Read(read));
+            true
+        }
+        None => false,
+    }
+}
+
+fn is_published<L: CacheKeyLock>(alloc: Global, lock: &mut L, number: u64, token: u64) -> bool {
+    let permit = WritePermit::new(number);
+    let published = permit.publish(alloc, lock, &[token]);
+    let WritePermit { number: _permit } = permit;
+    published.is_ok()
+}
+
+/// Whether a permit or a read lock is ended so.
+fn is_ended<L: CacheKeyLock>(alloc: Global, lock: &mut L, step: Step) -> bool {
     match step {
         Step::Release(byte, number, reason) => {
             if !reason.is_end() {
-                return None;
+                return false;
             }
-            lock.release(&key_of(alloc, byte)?, WritePermit::new(number), reason);
+            lock.release(&key_of(alloc, byte), WritePermit::new(number), reason);
+            true
         }
         Step::Unlock(number, reason) => {
             if !reason.is_end() {
-                return None;
+                return false;
             }
             WritePermit::new(number).unlock(lock, reason);
+            true
         }
-        Step::DropPermit(number) => lock.leave(Locked::Write(WritePermit::new(number))),
-        Step::LeaveRead(number) => lock.leave(Locked::Read(read_of(alloc, number)?)),
-        Step::Publish(number, token) => {
-            let permit = WritePermit::new(number);
-            let published = permit.publish(alloc, lock, &[token]);
-            let WritePermit { number: _permit } = permit;
-            published.ok()?;
+        Step::DropPermit(number) => {
+            lock.leave(Locked::Write(WritePermit::new(number)));
+            true
         }
-        _ => return None,
+        Step::LeaveRead(number) => is_left(alloc, lock, number),
+        Step::Publish(number, token) => is_published(alloc, lock, number, token),
+        _ => false,
     }
-    Some(true)
 }
 
 fn is_lent<L: CacheKeyLock>(alloc: Global, lock: &mut L, number: u64) -> bool {
@@ -104,92 +165,79 @@ fn is_lent<L: CacheKeyLock>(alloc: Global, lock: &mut L, number: u64) -> bool {
     }
 }
 
-fn is_told<L: CacheKeyLock>(alloc: Global, lock: &L, step: Step) -> Option<bool> {
-    Some(match step {
-        Step::Status(second, number, wanted) => {
-            let read = read_of(alloc, number)?;
-            let status = read.lock_status(lock, Moment::from_seconds(second));
-            lock.trace_lock_wait(&Span::inactive(), &read, status);
-            forget(alloc, read);
-            status == wanted
-        }
-        Step::Locked(number, wanted) => {
-            let read = read_of(alloc, number)?;
-            let locked = read.locked(lock);
-            forget(alloc, read);
-            locked == wanted
-        }
-        Step::Expired(second, number, wanted) => {
-            let read = read_of(alloc, number)?;
-            let expired = read.expired(lock, Moment::from_seconds(second));
-            forget(alloc, read);
-            expired == wanted
-        }
-        Step::Permit(number, status, stale) => {
-            let permit = WritePermit::new(number);
-            let found = (permit.lock_status(lock), permit.stale_writer(lock));
-            let WritePermit { number: _permit } = permit;
-            found == (status, stale)
-        }
-        Step::Has(number, wanted) => lock.core(number).is_some() == wanted,
-        _ => return None,
-    })
+fn has_permit<L: CacheKeyLock>(lock: &L, number: u64, status: LockStatus, stale: bool) -> bool {
+    let permit = WritePermit::new(number);
+    let is_so = permit.lock_status(lock) == status && permit.stale_writer(lock) == stale;
+    let WritePermit { number: _permit } = permit;
+    is_so
 }
 
-fn is_done<L: CacheKeyLock>(alloc: Global, lock: &mut L, step: Step) -> Option<bool> {
+fn is_locked<L: CacheKeyLock>(
+    alloc: Global,
+    lock: &mut L,
+    second: i64,
+    byte: u8,
+    wanted: Given,
+) -> bool {
+    match lock.lock(
+        &key_of(alloc, byte),
+        byte == 2,
+        Moment::from_seconds(second),
+    ) {
+        Ok(locked) => is_given(alloc, locked, wanted),
+        Err(_) => false,
+    }
+}
+
+fn is_done<L: CacheKeyLock>(alloc: Global, lock: &mut L, step: Step) -> bool {
     match step {
-        Step::Lock(second, byte, wanted) => {
-            let key = key_of(alloc, byte)?;
-            let moment = Moment::from_seconds(second);
-            let locked = lock.lock(&key, byte == 2, moment).ok()?;
-            Some(is_given(alloc, locked, wanted))
-        }
-        Step::Poll(second, number, wanted) => Some(poll(alloc, lock, second, number)? == wanted),
-        Step::Stub(number, wanted) => Some(is_lent(alloc, lock, number) == wanted),
-        Step::Release(..)
-        | Step::Unlock(..)
-        | Step::DropPermit(..)
-        | Step::LeaveRead(..)
-        | Step::Publish(..) => ends(alloc, lock, step),
-        _ => is_told(alloc, lock, step),
+        Step::Lock(second, byte, wanted) => is_locked(alloc, lock, second, byte, wanted),
+        Step::Stub(number, wanted) => is_lent(alloc, lock, number) == wanted,
+        Step::Poll(_, number, _)
+        | Step::Status(_, number, _)
+        | Step::Locked(number, _)
+        | Step::Expired(_, number, _) => is_told(alloc, lock, number, step),
+        Step::Permit(number, status, stale) => has_permit(lock, number, status, stale),
+        Step::Has(number, wanted) => lock.core(number).is_some() == wanted,
+        _ => is_ended(alloc, lock, step),
     }
 }
 
-fn check<L: CacheKeyLock>(rt: &impl Abort, alloc: Global, lock: &mut L, steps: &[Step]) {
-    for (number, step) in steps.iter().enumerate() {
-        let done = is_done(alloc, lock, *step);
-        assert!(rt; done == Some(true));
+/// Whether all calls come true.
+fn all_done<L: CacheKeyLock>(alloc: Global, lock: &mut L, steps: &[Step]) -> bool {
+    for &step in steps {
+        if !is_done(alloc, lock, step) {
+            return false;
+        }
     }
+    true
 }
 
 #[test]
 fn permits_of_keys(rt: HostRuntime) {
-    let alloc = rt.alloc();
     for &steps in ROWS {
-        let mut lock = new_lock(alloc);
-        check(&rt, alloc, &mut lock, steps);
+        let mut lock = new_lock(rt.alloc());
+        assert!(rt; all_done(rt.alloc(), &mut lock, steps));
     }
 }
 
 #[test]
 fn permits_of_a_boxed_lock(rt: HostRuntime) {
-    let alloc = rt.alloc();
-    let boxed = CacheLock::new_boxed(alloc, Duration::from_seconds(2)).ok();
+    let boxed = CacheLock::new_boxed(rt.alloc(), Duration::from_seconds(2)).ok();
     assert!(rt; boxed.is_some());
     if let Some(mut lock) = boxed {
-        check(&rt, alloc, &mut *lock, LATE);
+        assert!(rt; all_done(rt.alloc(), &mut *lock, LATE));
     }
 }
 
 /// A lock of any kind, in a box, is a lock too.
 #[test]
 fn permits_of_any_lock(rt: HostRuntime) {
-    let alloc = rt.alloc();
-    let boxed = Box::new(alloc, new_lock(alloc)).ok();
+    let boxed = Box::new(rt.alloc(), new_lock(rt.alloc())).ok();
     assert!(rt; boxed.is_some());
     if let Some(lock) = boxed {
         let mut lock: CacheKeyLockImpl = lock;
-        check(&rt, alloc, &mut lock, OTHERS);
+        assert!(rt; all_done(rt.alloc(), &mut lock, OTHERS));
         assert!(rt; lock.custom_lock_status("any") == LockStatus::GiveUp);
     }
 }

@@ -5,9 +5,7 @@ ghost use Rattle.std.specs.Cmp.Lexicographic.{pointwise};
 use cache_heads::NoCacheReason;
 use cache_predictor::{CacheablePredictor, CustomReasonPredicate, NothingSkipped, Predictor};
 use cache_words::key::CacheKey;
-use std::alloc::Global;
-use std::process::Abort;
-use std::test::*;
+use std::alloc::{AllocError, Global};
 
 /// A call, with what it must return. A key is of one byte.
 #[derive(Clone, Copy)]
@@ -38,45 +36,53 @@ const OF_ORIGIN: NoCacheReason = NoCacheReason::OriginNotCache;
 
 const TOO_LARGE: NoCacheReason = NoCacheReason::ResponseTooLarge;
 
-fn key_of(alloc: Global, byte: u8) -> Option<CacheKey> {
-    let mut primary = Vec::new(alloc);
-    primary.push(byte).ok()?;
-    Some(CacheKey::new(primary, String::new(alloc)))
+/// The key of a byte, or of none when out of memory.
+fn key_of(alloc: Global, byte: u8) -> CacheKey {
+    match Vec::from_slice(alloc, &[byte]) {
+        Ok(primary) => CacheKey::new(primary, String::new(alloc)),
+        Err(AllocError) => CacheKey::new(Vec::new(alloc), String::new(alloc)),
+    }
 }
 
-fn is_done<P: CacheablePredictor>(alloc: Global, predictor: &mut P, step: Step) -> Option<bool> {
-    Some(match step {
+fn is_done<P: CacheablePredictor>(alloc: Global, predictor: &mut P, step: Step) -> bool {
+    match step {
         Step::Predict(byte, wanted) => {
-            predictor.cacheable_prediction(&key_of(alloc, byte)?) == wanted
+            predictor.cacheable_prediction(&key_of(alloc, byte)) == wanted
         }
         Step::Reason(byte, wanted) => {
-            predictor.predicted_uncacheable_reason(&key_of(alloc, byte)?) == wanted
+            predictor.predicted_uncacheable_reason(&key_of(alloc, byte)) == wanted
         }
-        Step::Keep(byte, wanted) => predictor.mark_cacheable(&key_of(alloc, byte)?) == wanted,
+        Step::Keep(byte, wanted) => predictor.mark_cacheable(&key_of(alloc, byte)) == wanted,
         Step::Mark(byte, reason, wanted) => {
-            let key = key_of(alloc, byte)?;
-            predictor.mark_uncacheable(&key, reason).ok()? == wanted
+            predictor
+                .mark_uncacheable(&key_of(alloc, byte), reason)
+                .ok()
+                == Some(wanted)
         }
-    })
+    }
 }
 
-fn check<const N: usize>(
-    rt: &impl Abort,
+fn all_done<P: CacheablePredictor>(alloc: Global, predictor: &mut P, steps: &[Step]) -> bool {
+    for &step in steps {
+        if !is_done(alloc, predictor, step) {
+            return false;
+        }
+    }
+    true
+}
+
+/// Whether all calls of a predictor of N shards come true; false when out of memory.
+fn does<const N: usize>(
     alloc: Global,
     capacity: usize,
     skipped: Option<OneSkipped>,
     steps: &[Step],
-)
+) -> bool
     requires { 0 < N }
 {
-    let made: Option<Predictor<N, OneSkipped>> = Predictor::new(alloc, capacity, skipped).ok();
-    let Some(mut predictor) = made else {
-        assert!(rt; false);
-        return;
-    };
-    for (number, step) in steps.iter().enumerate() {
-        let done = is_done(alloc, &mut predictor, *step);
-        assert!(rt; done == Some(true));
+    match Predictor::<N, OneSkipped>::new(alloc, capacity, skipped) {
+        Ok(mut predictor) => all_done(alloc, &mut predictor, steps),
+        Err(_) => false,
     }
 }
 
@@ -174,17 +180,15 @@ const TABLES: &[(usize, bool, &[Step])] = &[
 
 #[test]
 fn marks_are_remembered(rt: HostRuntime) {
-    let alloc = rt.alloc();
     for &(capacity, skips, steps) in TABLES {
         let skipped = if skips { Some(OneSkipped {}) } else { None };
-        check::<1>(&rt, alloc, capacity, skipped, steps);
+        assert!(rt; does::<1>(rt.alloc(), capacity, skipped, steps));
     }
 }
 
 /// There may be more than 32 lists.
 #[test]
 fn many_lists(rt: HostRuntime) {
-    check::<64>(&rt, rt.alloc(), 10, None, MARKS);
-    let skips = NothingSkipped {}.is_skipped("any");
-    assert!(rt; !skips);
+    assert!(rt; does::<64>(rt.alloc(), 10, None, MARKS));
+    assert!(rt; !NothingSkipped {}.is_skipped("any"));
 }

@@ -2,9 +2,7 @@
 use cache_tables::{ConcurrentHashTable, ConcurrentLruCache, LruShard};
 use std::alloc::Global;
 use std::hash::BuildHasherDefault;
-use std::process::Abort;
 use std::sync::Wait;
-use std::test::*;
 
 /// A call of a bounded list, with what it must return.
 #[derive(Clone, Copy)]
@@ -39,56 +37,69 @@ const ONE: &[Step] = &[
     Step::Peek(2, Some(20)),
 ];
 
-fn is_done(shard: &mut LruShard<u32>, step: Step) -> Option<bool> {
-    Some(match step {
-        Step::Put(key, value, wanted) => shard.put(key, value).ok()? == wanted,
+fn is_done(shard: &mut LruShard<u32>, step: Step) -> bool {
+    match step {
+        Step::Put(key, value, wanted) => shard.put(key, value).ok() == Some(wanted),
         Step::Peek(key, wanted) => shard.peek(key).copied() == wanted,
         Step::Contains(key, wanted) => shard.contains(key) == wanted,
         Step::Pop(key, wanted) => shard.pop(key) == wanted,
-    })
+    }
 }
 
-fn check(rt: &impl Abort, alloc: Global, capacity: usize, steps: &[Step]) {
-    let made: Option<LruShard<u32>> = LruShard::with_hasher(
-        alloc,
-        capacity,
-        BuildHasherDefault::new(),
-    ).ok();
-    let Some(mut shard) = made else {
-        assert!(rt; false);
-        return;
-    };
-    for (number, step) in steps.iter().enumerate() {
-        assert!(rt; is_done(&mut shard, *step) == Some(true));
+fn all_done(shard: &mut LruShard<u32>, steps: &[Step]) -> bool {
+    for &step in steps {
+        if !is_done(shard, step) {
+            return false;
+        }
+    }
+    true
+}
+
+fn does(alloc: Global, capacity: usize, steps: &[Step]) -> bool {
+    match LruShard::<u32>::with_hasher(alloc, capacity, BuildHasherDefault::new()) {
+        Ok(mut shard) => all_done(&mut shard, steps),
+        Err(_) => false,
     }
 }
 
 #[test]
 fn bounded_lists(rt: HostRuntime) {
-    check(&rt, rt.alloc(), 2, TWO);
-    check(&rt, rt.alloc(), 0, ONE);
+    assert!(rt; does(rt.alloc(), 2, TWO) && does(rt.alloc(), 0, ONE));
 }
 
 /// Keys, each with the number of its shard of three.
 const KEYS: &[(u128, usize)] = &[(0, 0), (1, 1), (5, 2), (7, 1), (u128::MAX, 0)];
 
-fn put_in_maps<R: Wait>(rt: &R, table: &ConcurrentHashTable<usize, 3>) -> Option<()> {
+fn put_in_maps<R: Wait>(rt: &R, table: &ConcurrentHashTable<usize, 3>) -> bool {
     for &(key, shard) in KEYS {
-        table.write(rt, key).insert(key, shard).ok()?;
+        if table.write(rt, key).insert(key, shard).is_err() {
+            return false;
+        }
     }
-    Some(())
+    true
+}
+
+fn is_there<R: Wait>(
+    rt: &R,
+    table: &ConcurrentHashTable<usize, 3>,
+    key: u128,
+    shard: usize,
+) -> bool {
+    let there = match table.get_shard_at_idx(shard) {
+        Some(map) => map.read(rt).contains_key(&key),
+        None => false,
+    };
+    there && table.read(rt, key).get(&key).copied() == Some(shard)
 }
 
 /// Whether each key is where it must be.
-fn is_in_its_map<R: Wait>(rt: &R, table: &ConcurrentHashTable<usize, 3>) -> Option<bool> {
+fn are_in_their_maps<R: Wait>(rt: &R, table: &ConcurrentHashTable<usize, 3>) -> bool {
     for &(key, shard) in KEYS {
-        let there = table.get_shard_at_idx(shard)?.read(rt).contains_key(&key);
-        let found = table.read(rt, key).get(&key).copied();
-        if !there || found != Some(shard) {
-            return Some(false);
+        if !is_there(rt, table, key, shard) {
+            return false;
         }
     }
-    Some(table.get_shard_at_idx(3).is_none())
+    table.get_shard_at_idx(3).is_none()
 }
 
 fn sum_of<R: Wait>(rt: &R, table: &ConcurrentHashTable<usize, 3>) -> usize {
@@ -97,30 +108,47 @@ fn sum_of<R: Wait>(rt: &R, table: &ConcurrentHashTable<usize, 3>) -> usize {
     sum
 }
 
-#[test]
-fn maps_of_keys(rt: HostRuntime) {
-    let table = ConcurrentHashTable::new(rt.alloc()).ok();
-    let put = table.as_ref().and_then(|table| put_in_maps(&rt, table));
-    assert!(rt; put == Some(()));
-    let there = table.as_ref().and_then(|table| is_in_its_map(&rt, table));
-    assert!(rt; there == Some(true));
-    assert!(rt; table.as_ref().map(|table| sum_of(&rt, table)) == Some(4));
+fn maps_have_keys<R: Wait>(rt: &R, table: &ConcurrentHashTable<usize, 3>) -> bool {
+    put_in_maps(rt, table) && are_in_their_maps(rt, table) && sum_of(rt, table) == 4
 }
 
-/// Puts three keys in lists of one, of which two share a list, and returns what is found.
-fn found_in_lists<R: Wait>(rt: &R, alloc: Global) -> Option<[Option<u32>; 3]> {
-    let cache: ConcurrentLruCache<u32, 2> = ConcurrentLruCache::new(alloc, 0).ok()?;
-    cache.write(rt, 1).put(1, 10).ok()?;
-    cache.write(rt, 2).put(2, 20).ok()?;
-    cache.get(3).write(rt).put(3, 30).ok()?;
-    let first = cache.read(rt, 1).peek(1).copied();
-    let second = cache.read(rt, 2).peek(2).copied();
-    let third = cache.read(rt, 3).peek(3).copied();
-    Some([first, second, third])
+#[test]
+fn maps_of_keys(rt: HostRuntime) {
+    let table = ConcurrentHashTable::new(rt.alloc());
+    assert!(rt; table.is_ok());
+    if let Ok(table) = table {
+        assert!(rt; maps_have_keys(&rt, &table));
+    }
+}
+
+fn put_in_lists<R: Wait>(rt: &R, cache: &ConcurrentLruCache<u32, 2>) -> bool {
+    cache.write(rt, 1).put(1, 10).is_ok()
+        && cache.write(rt, 2).put(2, 20).is_ok()
+        && cache.get(3).write(rt).put(3, 30).is_ok()
+}
+
+fn is_in_lists<R: Wait>(
+    rt: &R,
+    cache: &ConcurrentLruCache<u32, 2>,
+    key: u128,
+    wanted: Option<u32>,
+) -> bool {
+    cache.read(rt, key).peek(key).copied() == wanted
+}
+
+/// Whether of three keys in lists of one, of which two share a list, the first is gone.
+fn lists_have_keys<R: Wait>(rt: &R, cache: &ConcurrentLruCache<u32, 2>) -> bool {
+    put_in_lists(rt, cache)
+        && is_in_lists(rt, cache, 1, None)
+        && is_in_lists(rt, cache, 2, Some(20))
+        && is_in_lists(rt, cache, 3, Some(30))
 }
 
 #[test]
 fn lists_of_keys(rt: HostRuntime) {
-    let found = found_in_lists(&rt, rt.alloc());
-    assert!(rt; found == Some([None, Some(20), Some(30)]));
+    let cache = ConcurrentLruCache::new(rt.alloc(), 0);
+    assert!(rt; cache.is_ok());
+    if let Ok(cache) = cache {
+        assert!(rt; lists_have_keys(&rt, &cache));
+    }
 }

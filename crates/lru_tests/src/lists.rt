@@ -205,18 +205,16 @@ fn first_items_show(rt: HostRuntime) {
     assert!(rt; does(rt.alloc(), 2, FIRST_ITEMS));
 }
 
-/// Whether these are the neighbours of both sentinels.
-fn are_outer(list: &LinkedListU64) -> bool {
-    list.prev_index(0) == OUTSIDE
-        && list.next_index(0) == 1
-        && list.prev_index(1) == 0
-        && list.next_index(1) == OUTSIDE
-}
-
-/// The same of an empty list.
+/// Whether the sentinels of an empty list have no neighbours outside.
 fn has_outer_neighbours(alloc: Global) -> bool {
-    match LinkedList::with_capacity(alloc, 0) {
-        Ok(list) => are_outer(&list),
+    let made: Result<LinkedListU64, _> = LinkedList::with_capacity(alloc, 0);
+    match made {
+        Ok(list) => {
+            list.prev_index(0) == OUTSIDE
+                && list.next_index(0) == 1
+                && list.prev_index(1) == 0
+                && list.next_index(1) == OUTSIDE
+        }
         Err(_) => false,
     }
 }

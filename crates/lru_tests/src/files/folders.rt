@@ -99,25 +99,23 @@ fn holds(rt: &HostRuntime, path: &str, text: &[u8]) -> bool {
 }
 
 // Whether the file is replaced, and then closed: nothing more can be written, which counts as one failure.
-fn replaces(folder: &mut System) -> bool {
+fn replaces<F: Folder>(folder: &mut F) -> bool {
     replace(folder, TEMP, PATH, b"new text").is_ok()
         && folder.write(b"more").is_err()
         && folder.failures() == 1
 }
 
 // Whether a file is replaced whole over the one before.
-fn is_replaced(rt: &HostRuntime, folder: &mut System, before: &str) -> bool {
+fn is_replaced<F: Folder>(rt: &HostRuntime, folder: &mut F, before: &str) -> bool {
     put(rt, PATH, before)
         && replaces(folder)
         && holds(rt, PATH, b"new text")
         && fs::read(rt, TEMP).is_err()
 }
 
-fn is_replaced_anew(rt: &HostRuntime, before: &str) -> bool {
-    match system(rt) {
-        Some(mut folder) => is_replaced(rt, &mut folder, before),
-        None => false,
-    }
+fn is_replaced_anew(rt: &HostRuntime, before: &str) -> Option<bool> {
+    let mut folder = HostFolder::new(rt.clone().ok()?);
+    Some(is_replaced(rt, &mut folder, before))
 }
 
 #[test]
@@ -125,7 +123,7 @@ fn a_file_of_the_system_is_replaced_whole(rt: HostRuntime) {
     let _ = fs::remove_dir_all(&rt, "files_tests_replaced");
     assert!(rt; fs::create_dir_all(&rt, "files_tests_replaced").is_ok());
     for &before in BEFORE {
-        assert!(rt; is_replaced_anew(&rt, before));
+        assert!(rt; is_replaced_anew(&rt, before) == Some(true));
     }
     let _ = fs::remove_dir_all(&rt, "files_tests_replaced");
 }
@@ -148,22 +146,20 @@ fn take(rt: &HostRuntime, temp: &str, link: Option<&str>) -> bool {
 const TAKEN_PATH: &str = "files_tests_taken/lru.data.0.00000007.tmp";
 
 // Whether a replacement is then refused, which counts as one failure.
-fn is_refused(folder: &mut System) -> bool {
+fn is_refused<F: Folder>(folder: &mut F) -> bool {
     replace(folder, TAKEN_PATH, "files_tests_taken/lru.data.0", b"new")
         == Err(ShardFileError::Create)
         && folder.failures() == 1
 }
 
-fn is_refused_anew(rt: &HostRuntime) -> bool {
-    match system(rt) {
-        Some(mut folder) => is_refused(&mut folder),
-        None => false,
-    }
+fn is_refused_anew(rt: &HostRuntime) -> Option<bool> {
+    let mut folder = HostFolder::new(rt.clone().ok()?);
+    Some(is_refused(&mut folder))
 }
 
 // Whether what is taken stays where a replacement is refused.
 fn refuses(rt: &HostRuntime, link: Option<&str>) -> bool {
-    let refused = take(rt, TAKEN_PATH, link) && is_refused_anew(rt);
+    let refused = take(rt, TAKEN_PATH, link) && is_refused_anew(rt) == Some(true);
     let kept = link.is_some() || holds(rt, TAKEN_PATH, b"another's");
     let _ = fs::remove_file(rt, TAKEN_PATH);
     refused && kept
@@ -196,24 +192,24 @@ const SAVERS_TEMP: &str = "files_tests_savers/lru.data.0.00000007.tmp";
 
 const SAVERS_PATH: &str = "files_tests_savers/lru.data.0";
 
-fn begins(first: &mut System) -> bool {
+fn begins<F: Folder>(first: &mut F) -> bool {
     first.make("files_tests_savers").is_ok()
         && first.create(SAVERS_TEMP).is_ok()
         && first.write(b"the first ").is_ok()
 }
 
-fn ends(first: &mut System) -> bool {
+fn ends<F: Folder>(first: &mut F) -> bool {
     first.write(b"saver's").is_ok()
         && first.flush().is_ok()
         && first.rename(SAVERS_TEMP, SAVERS_PATH).is_ok()
 }
 
-fn second_saves(second: &mut System) -> Result<(), ShardFileError> {
+fn second_saves<F: Folder>(second: &mut F) -> Result<(), ShardFileError> {
     replace(second, SAVERS_TEMP, SAVERS_PATH, b"of the second saver")
 }
 
 // Two savers under equal words, in turn: the second creates nothing, and the first goes on.
-fn take_turns(rt: &HostRuntime, first: &mut System, second: &mut System) -> bool {
+fn take_turns<F: Folder>(rt: &HostRuntime, first: &mut F, second: &mut F) -> bool {
     begins(first)
         && second_saves(second) == Err(ShardFileError::Create)
         && ends(first)
@@ -222,14 +218,16 @@ fn take_turns(rt: &HostRuntime, first: &mut System, second: &mut System) -> bool
         && holds(rt, SAVERS_PATH, b"of the second saver")
 }
 
+fn two_savers(rt: &HostRuntime) -> Option<bool> {
+    let mut first = HostFolder::new(rt.clone().ok()?);
+    let mut second = HostFolder::new(rt.clone().ok()?);
+    Some(take_turns(rt, &mut first, &mut second))
+}
+
 #[test]
 fn a_second_saver_is_refused(rt: HostRuntime) {
     let _ = fs::remove_dir_all(&rt, "files_tests_savers");
-    let savers = (system(&rt), system(&rt));
-    assert!(rt; savers.0.is_some() && savers.1.is_some());
-    if let (Some(mut first), Some(mut second)) = savers {
-        assert!(rt; take_turns(&rt, &mut first, &mut second));
-    }
+    assert!(rt; two_savers(&rt) == Some(true));
     let _ = fs::remove_dir_all(&rt, "files_tests_savers");
 }
 
@@ -286,11 +284,9 @@ const OPENED: &[(&str, Option<bool>, u64)] = &[
     ("files_tests_opened/file/below", None, 1),
 ];
 
-fn opens(rt: &HostRuntime, path: &str, found: Option<bool>, failed: u64) -> bool {
-    match system(rt) {
-        Some(mut folder) => folder.open(path).ok() == found && folder.failures() == failed,
-        None => false,
-    }
+fn opens(rt: &HostRuntime, path: &str, found: Option<bool>, failed: u64) -> Option<bool> {
+    let mut folder = HostFolder::new(rt.clone().ok()?);
+    Some(folder.open(path).ok() == found && folder.failures() == failed)
 }
 
 fn opened_is_made(rt: &HostRuntime) -> bool {
@@ -305,7 +301,7 @@ fn a_path_of_the_system_is_opened_only_as_a_file(rt: HostRuntime) {
     let _ = fs::remove_dir_all(&rt, "files_tests_opened");
     assert!(rt; opened_is_made(&rt));
     for &(path, found, failed) in OPENED {
-        assert!(rt; opens(&rt, path, found, failed));
+        assert!(rt; opens(&rt, path, found, failed) == Some(true));
     }
     let _ = fs::remove_dir_all(&rt, "files_tests_opened");
 }
