@@ -2,8 +2,10 @@
 # Runs the gate (rt ci) and prints what it took, by crate and by kind, as docs/gate.md shows it:
 #
 #     sh scripts/gate-time.sh [LOG]
+#     GATE=PROCESS sh scripts/gate-time.sh LOG
 #
-# What the gate itself prints goes to LOG (gate.log without one). Times are processor minutes, read from the processes of
+# What the gate itself prints goes to LOG (gate.log without one). The second form watches a gate that runs already, started in this
+# folder under that number, and reads its LOG when it has ended; it has no exit status then. Times are processor minutes, read from the processes of
 # the run five times a second; the last lines give the wall time, the sums, the date, and the speed of the host: what Python's
 # BLAKE2b takes for 256 MiB, the best of five. Nothing else may run beside it.
 top=$(cd "$(dirname "$0")/.." && pwd)
@@ -28,7 +30,9 @@ log = sys.argv[1]
 speed = unit()
 tick = os.sysconf("SC_CLK_TCK")
 begun = time.time()
-gate = subprocess.Popen(["rt", "ci"], stdin=subprocess.DEVNULL, stdout=subprocess.PIPE, stderr=subprocess.STDOUT, text=True, errors="replace")
+watched = int(os.environ.get("GATE", 0))
+gate = None if watched else subprocess.Popen(["rt", "ci"], stdin=subprocess.DEVNULL, stdout=subprocess.PIPE, stderr=subprocess.STDOUT, text=True, errors="replace")
+root = watched or gate.pid
 seen = {}  # (process, start) -> [kind, crate, ticks, peak]
 
 
@@ -58,7 +62,7 @@ def sample():
         except OSError:
             continue
         parents[int(pid)], stats[int(pid)] = int(stat[1]), stat
-    ours = {gate.pid}
+    ours = {root}
     grown = True
     while grown:
         more = {pid for pid, parent in parents.items() if parent in ours} - ours
@@ -78,33 +82,53 @@ def sample():
         seen[key][3] = max(seen[key][3], int(peak[1]) if peak else 0)
 
 
+def runs():
+    if not watched:
+        return gate.poll() is None
+    try:
+        return read(f"/proc/{root}/stat").rpartition(")")[2].split()[0] != "Z"
+    except OSError:
+        return False
+
+
 def watch():
-    while gate.poll() is None:
+    while runs():
         sample()
         time.sleep(0.2)
 
 
-threading.Thread(target=watch, daemon=True).start()
-ended, functions, edits, last, name, tests = {}, {}, {}, "", "", False
-with open(log, "w") as out:
-    for line in gate.stdout:
-        at = (time.time() - begun) / 60
-        out.write(f"{at:6.1f} {line}")
-        out.flush()
-        last = line.strip() or last
-        told = re.match(r"rt: (\S+?)(: its tests)? (?:are )?proved$", last)
-        if told:
-            ended[told[1], "tests" if told[2] else "proof"] = at
-        told = re.match(r"rt: (\S+): trying its must-fail edits \((\d+)\)", last)
-        if told:
-            edits[told[1]] = int(told[2])
-        told = re.match(r"== (\S+?)(:.*)?$", last)
-        if told:
-            name, tests = told[1], bool(told[2])
-        told = re.search(r"^logic=proved functions=(\d+)", last)
-        if told and not tests:
-            functions[name] = int(told[1])
-status = gate.wait()
+functions, edits, last, name = {}, {}, "", ""
+
+
+def take(line):
+    """Reads a line of the gate's: the functions and the edits of each crate (functions with those of its tests)."""
+    global last, name
+    last = line.strip() or last
+    told = re.match(r"rt: (\S+): trying its must-fail edits \((\d+)\)", last)
+    if told:
+        edits[told[1]] = int(told[2])
+    told = re.match(r"== (\S+?)(:.*)?$", last)
+    if told:
+        name = told[1]
+    told = re.search(r"^logic=proved (?:tests=\d+ )?functions=(\d+)", last)
+    if told:
+        functions[name] = max(functions.get(name, 0), int(told[1]))
+
+
+if watched:
+    watch()
+    status = 0
+    with open(log, errors="replace") as told:
+        for line in told:
+            take(line)
+else:
+    threading.Thread(target=watch, daemon=True).start()
+    with open(log, "w") as out:
+        for line in gate.stdout:
+            out.write(f"{(time.time() - begun) / 60:6.1f} {line}")
+            out.flush()
+            take(line)
+    status = gate.wait()
 wall = (time.time() - begun) / 60
 sums, peaks = {}, {}
 for kind, crate, ticks, peak, _ in seen.values():

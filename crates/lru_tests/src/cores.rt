@@ -1,5 +1,7 @@
 //! Calls of a core, one after another.
 
+ghost use Rattle.std.specs.Prelude.{◌<◌};
+
 use crate::shards::gives;
 use lru_core::LruCore;
 use lru_core::lru_unit::LruFault;
@@ -31,14 +33,16 @@ enum Edit {
     Limit(usize),
 }
 
+fn is_last<const N: usize>(core: &LruCore<u32, N>, data: u32, weight: usize) -> bool {
+    core.shards() > 0 && core.peek_lru(0) == Some((&data, weight))
+}
+
 fn is_seen<const N: usize>(core: &LruCore<u32, N>, edit: Edit) -> bool {
     match edit {
         Edit::Sums(len, weight) => core.len() == len && core.weight() == weight,
         Edit::Peek(key, found) => core.peek(key) == found,
         Edit::PeekWeight(key, weight) => core.peek_weight(key) == weight,
-        Edit::Last(data, weight) => {
-            core.shards() > 0 && core.peek_lru(0) == Some((&data, weight))
-        }
+        Edit::Last(data, weight) => is_last(core, data, weight),
         Edit::Limit(limit) => core.weight_limit() == limit,
         _ => false,
     }
@@ -56,43 +60,77 @@ fn is_too_heavy<const N: usize>(
     }
 }
 
-fn is_done<const N: usize>(core: &mut LruCore<u32, N>, edit: Edit) -> bool {
+fn is_added<const N: usize>(core: &mut LruCore<u32, N>, edit: Edit) -> bool {
     match edit {
         Edit::Admit(key, data, weight, shard) => core.admit(key, data, weight).ok() == shard,
         Edit::InsertTail(key, data, weight, new) => {
             core.insert_tail(key, data, weight).ok() == new
         }
+        Edit::TooHeavy(key, data, weight) => is_too_heavy(core, key, data, weight),
+        _ => false,
+    }
+}
+
+/// Adds 1 to the data and so much to the weight, or sets it to 0.
+fn changed(data: &mut u32, weight: usize, by: Option<usize>) -> usize {
+    *data = data.wrapping_add(1);
+    match by {
+        Some(by) => weight.saturating_add(by),
+        None => 0,
+    }
+}
+
+fn is_updated<const N: usize>(
+    core: &mut LruCore<u32, N>,
+    key: u64,
+    by: Option<usize>,
+    new: (u32, usize),
+    old: Option<Option<usize>>,
+) -> bool {
+    let update = |data: &mut u32, weight: usize| changed(data, weight, by);
+    core.update_or_admit(key, update, || new).ok() == old
+}
+
+fn is_weighed<const N: usize>(core: &mut LruCore<u32, N>, edit: Edit) -> bool {
+    match edit {
         Edit::SetWeight(key, weight, old) => core.set_weight(key, weight).ok() == old,
         Edit::Increment(key, data, delta, cap, now) => {
             core.increment_weight(key, || data, delta, cap).ok() == now
         }
-        Edit::Raise(key, by, new, old) => {
-            let raise = |data: &mut u32, weight: usize| {
-                *data = data.wrapping_add(1);
-                weight.saturating_add(by)
-            };
-            core.update_or_admit(key, raise, || new).ok() == old
-        }
-        Edit::Drain(key, new, old) => {
-            let drain = |data: &mut u32, _weight: usize| {
-                *data = data.wrapping_add(1);
-                0
-            };
-            core.update_or_admit(key, drain, || new).ok() == old
-        }
+        Edit::Raise(key, by, new, old) => is_updated(core, key, Some(by), new, old),
+        Edit::Drain(key, new, old) => is_updated(core, key, None, new, old),
+        _ => false,
+    }
+}
+
+fn is_used<const N: usize>(core: &mut LruCore<u32, N>, edit: Edit) -> bool {
+    match edit {
         Edit::Promote(key, found) => core.promote(key) == found,
         Edit::PromoteTop(key, top, found) => core.promote_top_n(key, top) == found,
-        Edit::Step(a, b, row) => core.evict_step(a, b) == row,
-        Edit::EvictShard(shard, row) => core.evict_shard(shard) == row,
-        Edit::Remove(key, row) => core.remove(key) == row,
-        Edit::TooHeavy(key, data, weight) => is_too_heavy(core, key, data, weight),
         Edit::SetLimit(limit) => {
             core.set_weight_limit(limit);
             core.weight_limit() == limit
         }
-        Edit::Sums(..) | Edit::Peek(..) | Edit::PeekWeight(..) | Edit::Last(..) | Edit::Limit(_) =>
-            is_seen(core, edit),
+        _ => false,
     }
+}
+
+fn is_gone<const N: usize>(core: &mut LruCore<u32, N>, edit: Edit) -> bool {
+    match edit {
+        Edit::Step(a, b, row) => core.evict_step(a, b) == row,
+        Edit::EvictShard(shard, row) => core.evict_shard(shard) == row,
+        Edit::Remove(key, row) => core.remove(key) == row,
+        _ => false,
+    }
+}
+
+/// Whether an edit returns what it must: each of these is false of the edits that it doesn't do.
+fn is_done<const N: usize>(core: &mut LruCore<u32, N>, edit: Edit) -> bool {
+    is_added(core, edit)
+        || is_weighed(core, edit)
+        || is_used(core, edit)
+        || is_gone(core, edit)
+        || is_seen(core, edit)
 }
 
 /// Whether a shard has these data and weights, and the sum of them.
@@ -116,15 +154,24 @@ pub(crate) fn has<const N: usize>(
 /// An edit, and the data and weights of shard 0 then.
 type Row = (Edit, &'static [(u32, usize)]);
 
-/// How many rows come true before one that doesn't; `None` when out of memory.
-fn rows_done<const N: usize>(made: Option<LruCore<u32, N>>, rows: &[Row]) -> Option<usize> {
-    let mut core = made?;
-    for (number, row) in rows.iter().enumerate() {
-        if !is_done(&mut core, row.0) || !has(&core, 0, row.1) {
-            return Some(number);
+/// Whether all rows come true.
+fn all_done<const N: usize>(core: &mut LruCore<u32, N>, rows: &[Row]) -> bool {
+    for row in rows {
+        if !is_done(core, row.0) || !has(core, 0, row.1) {
+            return false;
         }
     }
-    Some(rows.len())
+    true
+}
+
+/// The same of a core of N shards, with a watermark; false when out of memory.
+fn does<const N: usize>(alloc: Global, limit: usize, watermark: Option<usize>, rows: &[Row]) -> bool
+    requires { 0 < N }
+{
+    match LruCore::<u32, N>::with_capacity_and_watermark(alloc, limit, 0, watermark) {
+        Ok(mut core) => all_done(&mut core, rows),
+        Err(_) => false,
+    }
 }
 
 const UPDATES: &[Row] = &[
@@ -170,11 +217,13 @@ const PROMOTIONS: &[Row] = &[
 ];
 
 #[test]
-fn one_shard_updates_and_promotes(rt: HostRuntime) {
-    let core = LruCore::<u32, 1>::with_capacity(rt.alloc(), 99, 0).ok();
-    assert_eq!(rt; rows_done(core, UPDATES), Some(UPDATES.len()));
-    let core = LruCore::<u32, 1>::with_capacity(rt.alloc(), 9, 0).ok();
-    assert_eq!(rt; rows_done(core, PROMOTIONS), Some(PROMOTIONS.len()));
+fn one_shard_updates(rt: HostRuntime) {
+    assert!(rt; does::<1>(rt.alloc(), 99, None, UPDATES));
+}
+
+#[test]
+fn one_shard_promotes(rt: HostRuntime) {
+    assert!(rt; does::<1>(rt.alloc(), 9, None, PROMOTIONS));
 }
 
 // A step takes the longer of two shards.
@@ -211,13 +260,14 @@ const PARTS: &[Row] = &[
 ];
 
 #[test]
-fn two_shards_take_steps_and_their_parts(rt: HostRuntime) {
-    let core = LruCore::<u32, 2>::with_capacity(rt.alloc(), 0, 0).ok();
-    assert_eq!(rt; rows_done(core, LONGER), Some(LONGER.len()));
-    let core = LruCore::<u32, 2>::with_capacity(rt.alloc(), 0, 0).ok();
-    assert_eq!(rt; rows_done(core, EQUAL), Some(EQUAL.len()));
-    let core = LruCore::<u32, 2>::with_capacity(rt.alloc(), 9, 0).ok();
-    assert_eq!(rt; rows_done(core, PARTS), Some(PARTS.len()));
+fn two_shards_take_steps(rt: HostRuntime) {
+    assert!(rt; does::<2>(rt.alloc(), 0, None, LONGER));
+    assert!(rt; does::<2>(rt.alloc(), 0, None, EQUAL));
+}
+
+#[test]
+fn two_shards_take_their_parts(rt: HostRuntime) {
+    assert!(rt; does::<2>(rt.alloc(), 9, None, PARTS));
 }
 
 const CIRCLE: &[Row] = &[
@@ -233,11 +283,16 @@ const MARKED: &[Row] = &[
     (Edit::SetLimit(8), &[]),
 ];
 
+/// A core that is made without a word of a watermark.
+fn goes_around(alloc: Global) -> bool {
+    match LruCore::<u32, 4>::with_capacity(alloc, 0, 0) {
+        Ok(mut core) => all_done(&mut core, CIRCLE),
+        Err(_) => false,
+    }
+}
+
 #[test]
 fn a_step_goes_around_the_circle(rt: HostRuntime) {
-    let core = LruCore::<u32, 4>::with_capacity(rt.alloc(), 0, 0).ok();
-    assert_eq!(rt; rows_done(core, CIRCLE), Some(CIRCLE.len()));
-    let alloc = rt.alloc();
-    let core = LruCore::<u32, 4>::with_capacity_and_watermark(alloc, 9, 0, Some(0)).ok();
-    assert_eq!(rt; rows_done(core, MARKED), Some(MARKED.len()));
+    assert!(rt; goes_around(rt.alloc()));
+    assert!(rt; does::<4>(rt.alloc(), 9, Some(0), MARKED));
 }

@@ -1,16 +1,12 @@
-//! Tests of lists, shards and cores, plain, under locks and under actors, and of their files.
+//! Tests of lists, shards and cores, and of the files that keep them.
 #![tactic(auto)]
 
-#[cfg(test)]
-mod actors;
 #[cfg(test)]
 mod cores;
 #[cfg(test)]
 mod files;
 #[cfg(test)]
 mod lists;
-#[cfg(test)]
-mod locked;
 #[cfg(test)]
 mod refused;
 #[cfg(test)]

@@ -30,65 +30,118 @@ enum Look {
     Neighbours(Index, Index, Index),
 }
 
-fn is_done(list: &mut LinkedListU64, edit: Edit) -> bool {
+/// Whether a push or a pop is done so.
+fn grows(list: &mut LinkedListU64, edit: Edit) -> bool {
     match edit {
         Edit::PushHead(item, index) => list.push_head(item).ok() == Some(index),
         Edit::PushTail(item, index) => list.push_tail(item).ok() == Some(index),
+        Edit::PopTail(item) => list.pop_tail() == item,
+        _ => false,
+    }
+}
+
+fn is_promoted(list: &mut LinkedListU64, i: Index) -> bool {
+    if list.is_live(i) {
+        list.promote(i);
+        return true;
+    }
+    false
+}
+
+fn is_set(list: &mut LinkedListU64, i: Index, item: u64) -> bool {
+    match list.peek_mut(i) {
+        Some(slot) => {
+            *slot = item;
+            true
+        }
+        None => false,
+    }
+}
+
+fn is_done(list: &mut LinkedListU64, edit: Edit) -> bool {
+    match edit {
         Edit::Remove(i, item) => list.is_live(i) && list.remove(i) == item,
         Edit::Replace(i, item, old) => list.is_live(i) && list.replace(i, item) == old,
+        Edit::Promote(i) => is_promoted(list, i),
+        Edit::Set(i, item) => is_set(list, i, item),
         Edit::Keep => true,
-        Edit::PopTail(item) => list.pop_tail() == item,
-        Edit::Promote(i) => {
-            if list.is_live(i) {
-                list.promote(i);
-                return true;
-            }
-            false
+        Edit::PushHead(..) | Edit::PushTail(..) | Edit::PopTail(_) => grows(list, edit),
+    }
+}
+
+/// Whether the list gives these items from its head.
+fn gives(list: &LinkedListU64, items: &[u64]) -> bool {
+    let mut there = list.iter();
+    for item in items {
+        if there.next().copied() != Some(*item) {
+            return false;
         }
-        Edit::Set(i, item) => match list.peek_mut(i) {
-            Some(slot) => {
-                *slot = item;
-                true
-            }
-            None => false,
-        },
+    }
+    there.next().is_none()
+}
+
+/// Whether it gives the same from its tail.
+fn gives_back(list: &LinkedListU64, items: &[u64]) -> bool {
+    let mut there = list.iter();
+    let mut left = items.len();
+    for _ in items {
+        left = left.wrapping_sub(1);
+        if there.next_back().copied() != items.get(left).copied() {
+            return false;
+        }
+    }
+    there.next_back().is_none()
+}
+
+fn is_slot(list: &mut LinkedListU64, i: Index, item: Option<u64>) -> bool {
+    list.peek(i).copied() == item && list.peek_mut(i).is_some() == item.is_some()
+}
+
+fn are_beside(list: &LinkedListU64, i: Index, before: Index, after: Index) -> bool {
+    list.peek(i).is_some() && list.prev_index(i) == before && list.next_index(i) == after
+}
+
+fn is_near(list: &LinkedListU64, look: Look) -> bool {
+    match look {
+        Look::Near(i, limit, near) => list.is_near_head(i, limit) == near,
+        Look::Exists(item, limit, near) => list.exist_near_head(&item, limit) == near,
+        _ => false,
     }
 }
 
 fn is_shown(list: &mut LinkedListU64, look: Look) -> bool {
     match look {
         Look::Items(items) => {
-            list.len() == items.len()
-                && list.iter().eq(items.iter())
-                && list.iter().rev().eq(items.iter().rev())
+            list.len() == items.len() && gives(list, items) && gives_back(list, items)
         }
         Look::Ends(first, last) => list.head() == first && list.tail() == last,
         Look::Live(i, live) => list.is_live(i) == live,
-        Look::Slot(i, item) => {
-            list.peek(i).copied() == item && list.peek_mut(i).is_some() == item.is_some()
-        }
+        Look::Slot(i, item) => is_slot(list, i, item),
         Look::Item(i, item) => list.is_live(i) && *list.item(i) == item,
-        Look::Near(i, limit, near) => list.is_near_head(i, limit) == near,
-        Look::Exists(item, limit, near) => list.exist_near_head(&item, limit) == near,
-        Look::Neighbours(i, before, after) => {
-            list.peek(i).is_some() && list.prev_index(i) == before && list.next_index(i) == after
-        }
+        Look::Neighbours(i, before, after) => are_beside(list, i, before, after),
+        Look::Near(..) | Look::Exists(..) => is_near(list, look),
     }
 }
 
 /// An edit, and what the list then shows.
 type Row = (Edit, Look);
 
-/// How many rows come true before one that doesn't; `None` when out of memory.
-fn rows_done(alloc: Global, capacity: usize, rows: &[Row]) -> Option<usize> {
-    let mut list: LinkedListU64 = LinkedList::with_capacity(alloc, capacity).ok()?;
-    list.reserve(2).ok()?;
-    for (number, row) in rows.iter().enumerate() {
-        if !is_done(&mut list, row.0) || !is_shown(&mut list, row.1) {
-            return Some(number);
+/// Whether all rows come true.
+fn all_done(list: &mut LinkedListU64, rows: &[Row]) -> bool {
+    for row in rows {
+        if !is_done(list, row.0) || !is_shown(list, row.1) {
+            return false;
         }
     }
-    Some(rows.len())
+    true
+}
+
+/// The same of a list that had room made for two items; false when out of memory.
+fn does(alloc: Global, capacity: usize, rows: &[Row]) -> bool {
+    match LinkedList::with_capacity(alloc, capacity) {
+        Ok(mut list) => list.reserve(2).is_ok() && all_done(&mut list, rows),
+        Err(_) => false,
+    }
 }
 
 // The slot that was freed last is used again first.
@@ -139,36 +192,39 @@ const FIRST_ITEMS: &[Row] = &[
 
 #[test]
 fn edits_show(rt: HostRuntime) {
-    assert_eq!(rt; rows_done(rt.alloc(), 4, SLOTS), Some(SLOTS.len()));
-    assert_eq!(rt;
-        rows_done(rt.alloc(), 0, PROMOTIONS),
-        Some(PROMOTIONS.len())
-    );
-    assert_eq!(rt;
-        rows_done(rt.alloc(), 2, FIRST_ITEMS),
-        Some(FIRST_ITEMS.len())
-    );
-}
-
-/// The neighbours of both sentinels.
-fn outer_neighbours(alloc: Global) -> Option<[usize; 4]> {
-    let list: LinkedListU64 = LinkedList::with_capacity(alloc, 0).ok()?;
-    Some([
-        list.prev_index(0),
-        list.next_index(0),
-        list.prev_index(1),
-        list.next_index(1),
-    ])
+    assert!(rt; does(rt.alloc(), 4, SLOTS));
 }
 
 #[test]
+fn promotions_show(rt: HostRuntime) {
+    assert!(rt; does(rt.alloc(), 0, PROMOTIONS));
+}
+
+#[test]
+fn first_items_show(rt: HostRuntime) {
+    assert!(rt; does(rt.alloc(), 2, FIRST_ITEMS));
+}
+
+/// Whether the sentinels of an empty list have no neighbours outside.
+fn has_outer_neighbours(alloc: Global) -> bool {
+    let made: Result<LinkedListU64, _> = LinkedList::with_capacity(alloc, 0);
+    match made {
+        Ok(list) => {
+            list.prev_index(0) == OUTSIDE
+                && list.next_index(0) == 1
+                && list.prev_index(1) == 0
+                && list.next_index(1) == OUTSIDE
+        }
+        Err(_) => false,
+    }
+}
+
+const OUTSIDE: usize = u32::MAX as usize;
+
+#[test]
 fn sentinels_have_no_neighbours_outside(rt: HostRuntime) {
-    let outside = u32::MAX as usize;
-    assert_eq!(rt;
-        outer_neighbours(rt.alloc()),
-        Some([outside, 1, 0, outside])
-    );
-    assert_eq!(rt; MOST_ITEMS, 4294967293);
+    assert!(rt; has_outer_neighbours(rt.alloc()));
+    assert!(rt; MOST_ITEMS == 4294967293);
 }
 
 /// A call of an iterator, with what it must return.
@@ -196,33 +252,38 @@ const PULLS: &[Pull] = &[
     Pull::Back(None),
 ];
 
-/// How many items come from both ends as they should.
-fn pulls_done(mut items: LinkedListIter<'_, u64>, pulls: &[Pull]) -> usize {
-    for (number, pull) in pulls.iter().enumerate() {
-        if !is_pulled(&mut items, *pull) {
-            return number;
+/// Whether each call of an iterator returns what it must.
+fn all_are_pulled(mut items: LinkedListIter<'_, u64>, pulls: &[Pull]) -> bool {
+    for &pull in pulls {
+        if !is_pulled(&mut items, pull) {
+            return false;
         }
     }
-    pulls.len()
+    true
 }
 
-/// The same of an empty list and of three items.
-fn both_ends(alloc: Global) -> Option<(usize, usize)> {
-    let mut list: LinkedListU64 = LinkedList::with_capacity(alloc, 3).ok()?;
-    let of_none = pulls_done(list.iter(), &[Pull::Front(None)]);
-    for edit in [
-        Edit::PushTail(4, 2),
-        Edit::PushTail(3, 3),
-        Edit::PushTail(1, 4),
-    ] {
-        if !is_done(&mut list, edit) {
-            return None;
-        }
+const FILLED: &[Row] = &[
+    (Edit::PushTail(4, 2), Look::Live(2, true)),
+    (Edit::PushTail(3, 3), Look::Live(3, true)),
+    (Edit::PushTail(1, 4), Look::Live(4, true)),
+];
+
+/// Whether an empty list gives nothing, and three items come from both ends.
+fn gives_from_both_ends(list: &mut LinkedListU64) -> bool {
+    all_are_pulled(list.iter(), &[Pull::Front(None)])
+        && all_done(list, FILLED)
+        && all_are_pulled(list.iter(), PULLS)
+}
+
+/// The same of a list with room for three.
+fn both_ends(alloc: Global) -> bool {
+    match LinkedList::with_capacity(alloc, 3) {
+        Ok(mut list) => gives_from_both_ends(&mut list),
+        Err(_) => false,
     }
-    Some((of_none, pulls_done(list.iter(), PULLS)))
 }
 
 #[test]
 fn goes_from_both_ends(rt: HostRuntime) {
-    assert_eq!(rt; both_ends(rt.alloc()), Some((1, PULLS.len())));
+    assert!(rt; both_ends(rt.alloc()));
 }

@@ -26,27 +26,54 @@ enum Look {
     Weight(usize),
 }
 
-fn is_done(unit: &mut LruUnit<u32>, edit: Edit) -> bool {
+fn is_added(unit: &mut LruUnit<u32>, edit: Edit) -> bool {
     match edit {
         Edit::Admit(key, data, weight, old) => unit.admit(key, data, weight).ok() == old,
         Edit::InsertTail(key, data, weight, new) => {
             unit.insert_tail(key, data, weight).ok() == new
         }
+        _ => false,
+    }
+}
+
+/// Whether a row is updated so: 1 is added to its data, and so much to its weight.
+fn is_raised(
+    unit: &mut LruUnit<u32>,
+    key: u64,
+    by: usize,
+    new: (u32, usize),
+    wanted: Option<(Option<usize>, usize)>,
+) -> bool {
+    let raise = |data: &mut u32, weight: usize| {
+        *data = data.wrapping_add(1);
+        weight.saturating_add(by)
+    };
+    unit.update_or_admit(key, raise, || new).ok() == wanted
+}
+
+fn is_weighed(unit: &mut LruUnit<u32>, edit: Edit) -> bool {
+    match edit {
         Edit::SetWeight(key, weight, old) => unit.set_weight(key, weight).ok() == old,
         Edit::Increment(key, data, delta, cap, wanted) => {
             unit.increment_weight(key, || data, delta, cap).ok() == wanted
         }
-        Edit::Raise(key, by, new, wanted) => {
-            let raise = |data: &mut u32, weight: usize| {
-                *data = data.wrapping_add(1);
-                weight.saturating_add(by)
-            };
-            unit.update_or_admit(key, raise, || new).ok() == wanted
-        }
+        Edit::Raise(key, by, new, wanted) => is_raised(unit, key, by, new, wanted),
+        _ => false,
+    }
+}
+
+fn is_taken(unit: &mut LruUnit<u32>, edit: Edit) -> bool {
+    match edit {
         Edit::Access(key, found) => unit.access(key) == found,
         Edit::Evict(row) => unit.evict() == row,
         Edit::Remove(key, row) => unit.remove(key) == row,
+        _ => false,
     }
+}
+
+/// Whether an edit returns what it must: each of these is false of the edits that it doesn't do.
+fn is_done(unit: &mut LruUnit<u32>, edit: Edit) -> bool {
+    is_added(unit, edit) || is_weighed(unit, edit) || is_taken(unit, edit)
 }
 
 /// Whether an iterator gives these data and weights.
@@ -64,15 +91,20 @@ pub fn gives(mut rows: LruUnitIter<'_, u32>, wanted: &[(u32, usize)]) -> bool {
     rows.next().is_none()
 }
 
+fn is_row(unit: &LruUnit<u32>, key: u64, row: Option<(u32, usize)>) -> bool {
+    match row {
+        Some((data, weight)) => {
+            unit.peek(key).copied() == Some(data) && unit.peek_weight(key) == Some(weight)
+        }
+        None => unit.peek(key).is_none() && unit.peek_weight(key).is_none(),
+    }
+}
+
 fn is_shown(unit: &LruUnit<u32>, look: Look) -> bool {
     match look {
         Look::Rows(rows) => unit.len() == rows.len() && gives(unit.iter(), rows),
-        Look::Row(key, Some(row)) => {
-            unit.peek(key) == Some(&row.0) && unit.peek_weight(key) == Some(row.1)
-        }
-        Look::Row(key, None) => unit.peek(key).is_none() && unit.peek_weight(key).is_none(),
-        Look::Last(Some(row)) => unit.peek_lru() == Some((&row.0, row.1)),
-        Look::Last(None) => unit.peek_lru().is_none(),
+        Look::Row(key, row) => is_row(unit, key, row),
+        Look::Last(row) => is_pair(unit.peek_lru(), row),
         Look::NeedsPromotion(key, limit, needs) => unit.need_promote(key, limit) == needs,
         Look::Weight(weight) => unit.weight() == weight,
     }
@@ -81,22 +113,22 @@ fn is_shown(unit: &LruUnit<u32>, look: Look) -> bool {
 /// An edit, and what the shard then shows.
 type Row = (Edit, Look);
 
-/// A shard that had room made for a row more; `None` when out of memory.
-fn unit(alloc: Global, capacity: usize, bound: usize) -> Option<LruUnit<u32>> {
-    let mut unit: LruUnit<u32> = LruUnit::with_capacity(alloc, capacity, bound).ok()?;
-    unit.reserve(1).ok()?;
-    Some(unit)
-}
-
-/// How many rows come true before one that doesn't; `None` when out of memory.
-fn rows_done(alloc: Global, capacity: usize, bound: usize, rows: &[Row]) -> Option<usize> {
-    let mut unit = unit(alloc, capacity, bound)?;
-    for (number, row) in rows.iter().enumerate() {
-        if !is_done(&mut unit, row.0) || !is_shown(&unit, row.1) {
-            return Some(number);
+/// Whether all rows come true.
+fn all_done(unit: &mut LruUnit<u32>, rows: &[Row]) -> bool {
+    for row in rows {
+        if !is_done(unit, row.0) || !is_shown(unit, row.1) {
+            return false;
         }
     }
-    Some(rows.len())
+    true
+}
+
+/// The same of a shard that had room made for a row more; false when out of memory.
+fn does(alloc: Global, capacity: usize, bound: usize, rows: &[Row]) -> bool {
+    match LruUnit::<u32>::with_capacity(alloc, capacity, bound) {
+        Ok(mut unit) => unit.reserve(1).is_ok() && all_done(&mut unit, rows),
+        Err(_) => false,
+    }
 }
 
 const USES: &[Row] = &[
@@ -187,13 +219,18 @@ const BOUNDS: &[Row] = &[
 ];
 
 #[test]
-fn a_shard_keeps_order_caps_and_bound(rt: HostRuntime) {
-    assert_eq!(rt; rows_done(rt.alloc(), 2, 100, USES), Some(USES.len()));
-    assert_eq!(rt;
-        rows_done(rt.alloc(), 0, 100, INCREMENTS),
-        Some(INCREMENTS.len())
-    );
-    assert_eq!(rt; rows_done(rt.alloc(), 0, 10, BOUNDS), Some(BOUNDS.len()));
+fn a_shard_keeps_order(rt: HostRuntime) {
+    assert!(rt; does(rt.alloc(), 2, 100, USES));
+}
+
+#[test]
+fn a_shard_keeps_caps(rt: HostRuntime) {
+    assert!(rt; does(rt.alloc(), 0, 100, INCREMENTS));
+}
+
+#[test]
+fn a_shard_keeps_its_bound(rt: HostRuntime) {
+    assert!(rt; does(rt.alloc(), 0, 10, BOUNDS));
 }
 
 /// A call of an iterator, with what it must return.
@@ -204,14 +241,29 @@ enum Pull {
     Left(usize),
 }
 
+fn is_pair(found: Option<(&u32, usize)>, wanted: Option<(u32, usize)>) -> bool {
+    match (found, wanted) {
+        (Some(found), Some(wanted)) => *found.0 == wanted.0 && found.1 == wanted.1,
+        (None, None) => true,
+        _ => false,
+    }
+}
+
 fn is_pulled(rows: &mut LruUnitIter<'_, u32>, pull: Pull) -> bool {
     match pull {
-        Pull::Front(Some(row)) => rows.next() == Some((&row.0, row.1)),
-        Pull::Front(None) => rows.next().is_none(),
-        Pull::Back(Some(row)) => rows.next_back() == Some((&row.0, row.1)),
-        Pull::Back(None) => rows.next_back().is_none(),
+        Pull::Front(row) => is_pair(rows.next(), row),
+        Pull::Back(row) => is_pair(rows.next_back(), row),
         Pull::Left(left) => rows.size_hint() == (left, Some(left)),
     }
+}
+
+fn all_are_pulled(mut rows: LruUnitIter<'_, u32>, pulls: &[Pull]) -> bool {
+    for &pull in pulls {
+        if !is_pulled(&mut rows, pull) {
+            return false;
+        }
+    }
+    true
 }
 
 const FILLED: &[Row] = &[
@@ -239,23 +291,20 @@ const PULLS: &[Pull] = &[
 ];
 
 /// Whether the rows of a filled shard come from both ends, and stay.
-fn comes_from_both_ends(alloc: Global) -> Option<bool> {
-    let mut unit = unit(alloc, 3, 100)?;
-    for row in FILLED {
-        if !is_done(&mut unit, row.0) || !is_shown(&unit, row.1) {
-            return Some(false);
-        }
+fn gives_from_both_ends(unit: &mut LruUnit<u32>) -> bool {
+    all_done(unit, FILLED)
+        && all_are_pulled(unit.iter(), PULLS)
+        && is_shown(unit, Look::Last(Some((1, 10))))
+}
+
+fn both_ends(alloc: Global) -> bool {
+    match LruUnit::<u32>::with_capacity(alloc, 3, 100) {
+        Ok(mut unit) => unit.reserve(1).is_ok() && gives_from_both_ends(&mut unit),
+        Err(_) => false,
     }
-    let mut rows = unit.iter();
-    for pull in PULLS {
-        if !is_pulled(&mut rows, *pull) {
-            return Some(false);
-        }
-    }
-    Some(is_shown(&unit, Look::Last(Some((1, 10)))))
 }
 
 #[test]
 fn goes_from_both_ends(rt: HostRuntime) {
-    assert_eq!(rt; comes_from_both_ends(rt.alloc()), Some(true));
+    assert!(rt; both_ends(rt.alloc()));
 }

@@ -1,4 +1,4 @@
-//! Tests of stores, of puts into them, of managers and of locks.
+//! Tests of stores, and of puts into them.
 #![tactic(auto)]
 
 #[cfg(test)]
@@ -8,11 +8,7 @@ mod copies;
 #[cfg(test)]
 mod decisions;
 #[cfg(test)]
-mod evictions;
-#[cfg(test)]
 mod finished;
-#[cfg(test)]
-mod locks;
 #[cfg(test)]
 mod memory;
 #[cfg(test)]

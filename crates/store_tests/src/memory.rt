@@ -1,6 +1,7 @@
 //! The store in memory: writes, readers before and after their pieces, purges and other metas.
 use bytes::Bytes;
 use cache_entries::entry::{CacheEntryId, CacheEntryKey};
+use cache_heads::CacheMeta;
 use cache_store::storage::{
     HandleHit, HandleMiss, MissFault, MissFinishType, PurgeOutcome, PurgeTarget, PurgeType,
     ReadStep, Storage, StoreFault,
@@ -9,13 +10,12 @@ use cache_words::key::CompactCacheKey;
 use cache_words::time::Moment;
 use mem_cache::MemCache;
 use mem_cache::handlers::{MemHitHandler, MemMissHandler};
-use std::alloc::Global;
+use std::alloc::{AllocError, Global};
 use std::hash::BuildHasherDefault;
-use std::test::*;
 
 mod rows;
 
-use crate::samples::{key, meta};
+use crate::samples::{known, meta};
 use rows::{ENDED, PURGED, RENEWED, SOUGHT, STREAMED, Step, Target, WHOLE};
 
 struct Bench {
@@ -26,11 +26,20 @@ struct Bench {
     late: Option<MemHitHandler>,
 }
 
-// The key, and an entry of it with an id where the target has one.
-fn targets(alloc: Global, target: Target) -> Option<(CompactCacheKey, CacheEntryKey)> {
-    let id = (target == Target::Id).then_some(CacheEntryId::new(1));
-    let entry = CacheEntryKey::from_entry_id(key(alloc, b"aa")?.to_compact().ok()?, id);
-    Some((key(alloc, b"aa")?.to_compact().ok()?, entry))
+// What a purge names; an entry has an id where the target says so.
+fn compact(alloc: Global) -> CompactCacheKey {
+    match known(alloc, b"aa").to_compact() {
+        Ok(key) => key,
+        Err(AllocError) => CompactCacheKey::empty(alloc),
+    }
+}
+
+fn entry(alloc: Global, target: Target) -> CacheEntryKey {
+    let id = match target {
+        Target::Id => Some(CacheEntryId::new(1)),
+        Target::Key | Target::Entry => None,
+    };
+    CacheEntryKey::from_entry_id(compact(alloc), id)
 }
 
 // Returns whether the handler answers as one of a finished body does, or as one of a write.
@@ -53,166 +62,247 @@ impl Bench {
         }
     }
 
-    fn begin(&mut self) -> Option<bool> {
+    fn begin(&mut self) -> bool {
         let begun = self
             .store
-            .get_miss_handler(&key(self.alloc, b"aa")?, &meta(self.alloc, 1300));
-        let Ok(handler) = begun else {
-            return None;
-        };
-        if let Some(before) = self.writer.replace(handler) {
+            .get_miss_handler(&known(self.alloc, b"aa"), &meta(self.alloc, 1300));
+        match begun {
+            Ok(handler) => self.keep(handler),
+            Err(_) => false,
+        }
+    }
+
+    // Keeps a writer; the one before is left.
+    fn keep(&mut self, writer: MemMissHandler) -> bool {
+        if let Some(before) = self.writer.replace(writer) {
             before.leave(&mut self.store);
         }
-        Some(self.store.support_streaming_partial_write())
+        self.store.support_streaming_partial_write()
     }
 
     // A write of a meta that can't be written.
-    fn unwritable(&mut self) -> Option<bool> {
-        let meta = meta(self.alloc, -1);
-        match self.store.get_miss_handler(&key(self.alloc, b"aa")?, &meta) {
+    fn unwritable(&mut self) -> bool {
+        let begun = self
+            .store
+            .get_miss_handler(&known(self.alloc, b"aa"), &meta(self.alloc, -1));
+        match begun {
             Ok(handler) => {
                 handler.leave(&mut self.store);
-                Some(false)
+                false
             }
-            Err(fault) => Some(fault == StoreFault::MetaMoment),
+            Err(fault) => fault == StoreFault::MetaMoment,
         }
     }
 
-    fn piece(&mut self, piece: &[u8], eof: bool, fault: Option<StoreFault>) -> Option<bool> {
-        let bytes = Bytes::copy_from_slice(self.alloc, piece).ok()?;
-        let writer = self.writer.as_mut()?;
-        let answer = writer.write_body(&mut self.store, bytes, eof);
-        Some(answer.err() == fault)
+    fn piece(&mut self, piece: &'static [u8], eof: bool, fault: Option<StoreFault>) -> bool {
+        match self.writer.as_mut() {
+            Some(writer) => {
+                let bytes = Bytes::from_static(piece);
+                writer.write_body(&mut self.store, bytes, eof).err() == fault
+            }
+            None => false,
+        }
     }
 
-    fn finish(&mut self, size: Option<usize>) -> Option<bool> {
-        let writer = self.writer.take()?;
+    fn finish(&mut self, size: Option<usize>) -> bool {
+        match self.writer.take() {
+            Some(writer) => self.ends(writer, size),
+            None => false,
+        }
+    }
+
+    // Whether a writer that finishes tells this size, or that it was removed.
+    fn ends(&mut self, writer: MemMissHandler, size: Option<usize>) -> bool {
         match writer.finish(&mut self.store) {
-            Ok(MissFinishType::Created(created)) => Some(size == Some(created)),
-            Ok(_) => Some(false),
-            Err(MissFault::WriteRemoved) => Some(size.is_none()),
+            Ok(MissFinishType::Created(created)) => size == Some(created),
+            Ok(_) => false,
+            Err(MissFault::WriteRemoved) => size.is_none(),
             Err(MissFault::Memory(writer)) => {
                 writer.leave(&mut self.store);
-                None
+                false
             }
         }
     }
 
-    // A write in one piece. All of its steps are done.
-    fn whole(&mut self, body: &[u8]) -> Option<bool> {
-        let begun = self.begin()?;
-        let written = self.piece(body, true, None)?;
-        let finished = self.finish(Some(body.len()))?;
-        Some(begun && written && finished)
+    // A write in one piece.
+    fn whole(&mut self, body: &'static [u8]) -> bool {
+        self.begin() && self.piece(body, true, None) && self.finish(Some(body.len()))
     }
 
-    fn leave(&mut self) -> Option<bool> {
-        let writer = self.writer.take()?;
-        writer.leave(&mut self.store);
-        Some(true)
+    fn leave(&mut self) -> bool {
+        match self.writer.take() {
+            Some(writer) => {
+                writer.leave(&mut self.store);
+                true
+            }
+            None => false,
+        }
     }
 
-    fn look(&mut self, late: bool, complete: bool) -> Option<bool> {
-        let Ok(Some((_meta, handler))) = self.store.lookup(&key(self.alloc, b"aa")?) else {
-            return None;
-        };
-        let is_complete = matches!(&handler, MemHitHandler::Complete(_));
-        let is_right = answers_alike(&handler, complete);
+    fn look(&mut self, late: bool, complete: bool) -> bool {
+        match self.store.lookup(&known(self.alloc, b"aa")) {
+            Ok(Some((_meta, handler))) => {
+                let is_right = is_complete(&handler) == complete
+                    && answers_alike(&handler, complete);
+                self.take(late, handler);
+                is_right
+            }
+            Ok(None) | Err(_) => false,
+        }
+    }
+
+    // Takes a reader; the one before is finished.
+    fn take(&mut self, late: bool, reader: MemHitHandler) {
         let before = if late {
-            self.late.replace(handler)
+            self.late.replace(reader)
         } else {
-            self.early.replace(handler)
+            self.early.replace(reader)
         };
         if let Some(before) = before {
             before.finish(&mut self.store);
         }
-        Some(is_complete == complete && is_right)
     }
 
-    fn misses(&mut self) -> Option<bool> {
-        match self.store.lookup(&key(self.alloc, b"aa")?) {
-            Ok(None) => Some(true),
+    fn misses(&mut self) -> bool {
+        match self.store.lookup(&known(self.alloc, b"aa")) {
+            Ok(None) => true,
             Ok(Some((_meta, handler))) => {
                 handler.finish(&mut self.store);
-                Some(false)
+                false
             }
-            Err(_) => None,
+            Err(_) => false,
         }
     }
 
     // The later reader is read as any store's, the earlier one by its own calls.
     fn read(&mut self, late: bool) -> Option<ReadStep> {
         if late {
-            return self.late.as_mut()?.read_body(&mut self.store).ok();
-        }
-        match self.early.as_mut()? {
-            MemHitHandler::Complete(hit) => hit.read().ok(),
-            MemHitHandler::Partial(hit) => hit.read(&self.store).ok(),
-        }
-    }
-
-    fn weighs(&self, late: bool, weight: usize) -> Option<bool> {
-        let handler = if late {
-            self.late.as_ref()?
+            self.read_late()
         } else {
-            self.early.as_ref()?
-        };
-        let len = match handler {
-            MemHitHandler::Complete(hit) => hit.len(),
-            MemHitHandler::Partial(_) => 0,
-        };
-        Some(
-            len == weight
-                && <MemHitHandler as HandleHit<MemCache>>::get_eviction_weight(handler) == weight,
-        )
+            self.read_early()
+        }
     }
 
-    fn purge(&mut self, target: Target, outcome: PurgeOutcome) -> Option<bool> {
-        let (compact, entry) = targets(self.alloc, target)?;
-        let answer = if target == Target::Key {
+    fn read_late(&mut self) -> Option<ReadStep> {
+        match self.late.as_mut() {
+            Some(reader) => reader.read_body(&mut self.store).ok(),
+            None => None,
+        }
+    }
+
+    fn read_early(&mut self) -> Option<ReadStep> {
+        match self.early.as_mut() {
+            Some(MemHitHandler::Complete(hit)) => hit.read().ok(),
+            Some(MemHitHandler::Partial(hit)) => hit.read(&self.store).ok(),
+            None => None,
+        }
+    }
+
+    fn gives(&mut self, late: bool, want: &[u8]) -> bool {
+        match self.read(late) {
+            Some(ReadStep::Bytes(bytes)) => bytes.as_slice() == want,
+            _ => false,
+        }
+    }
+
+    fn waits(&mut self, late: bool) -> bool {
+        match self.read(late) {
+            Some(ReadStep::Pending) => true,
+            _ => false,
+        }
+    }
+
+    fn is_over(&mut self, late: bool) -> bool {
+        match self.read(late) {
+            Some(ReadStep::End) => true,
+            _ => false,
+        }
+    }
+
+    fn weighs(&self, late: bool, weight: usize) -> bool {
+        let reader = if late { &self.late } else { &self.early };
+        match reader {
+            Some(handler) => {
+                len_of(handler) == weight
+                    && <MemHitHandler as HandleHit<MemCache>>::get_eviction_weight(handler)
+                        == weight
+            }
+            None => false,
+        }
+    }
+
+    fn purge(&mut self, target: Target, outcome: PurgeOutcome) -> bool {
+        if target == Target::Key {
+            let key = compact(self.alloc);
             self.store
-                .purge(PurgeTarget::Active(&compact), PurgeType::Invalidation)
+                .purge(PurgeTarget::Active(&key), PurgeType::Invalidation)
+                == outcome
         } else {
+            let entry = entry(self.alloc, target);
             self.store
                 .purge(PurgeTarget::Exact(&entry), PurgeType::Eviction)
-        };
-        Some(answer == outcome)
+                == outcome
+        }
+    }
+
+    // What comes of an expiry at 1000.
+    fn expiry(&mut self, target: Target) -> Option<PurgeOutcome> {
+        let moment = Moment::from_seconds(1000);
+        if target == Target::Key {
+            let key = compact(self.alloc);
+            self.store.expire(PurgeTarget::Active(&key), moment).ok()
+        } else {
+            let entry = entry(self.alloc, target);
+            self.store.expire(PurgeTarget::Exact(&entry), moment).ok()
+        }
     }
 
     // Lets the body go stale at 1000, and looks that it is stale at 1001, when a stale one may be served.
-    fn expire(&mut self, target: Target, outcome: PurgeOutcome) -> Option<bool> {
-        let (compact, entry) = targets(self.alloc, target)?;
-        let target = if target == Target::Key {
-            PurgeTarget::Active(&compact)
-        } else {
-            PurgeTarget::Exact(&entry)
-        };
-        let answer = self.store.expire(target, Moment::from_seconds(1000)).ok()?;
-        if answer != PurgeOutcome::Expired {
-            return Some(answer == outcome);
+    fn expire(&mut self, target: Target, outcome: PurgeOutcome) -> bool {
+        self.expiry(target) == Some(outcome)
+            && (outcome != PurgeOutcome::Expired || self.is_stale())
+    }
+
+    fn is_stale(&mut self) -> bool {
+        match self.store.lookup(&known(self.alloc, b"aa")) {
+            Ok(Some((meta, handler))) => {
+                handler.finish(&mut self.store);
+                goes_stale(&meta)
+            }
+            Ok(None) | Err(_) => false,
         }
-        let Ok(Some((meta, handler))) = self.store.lookup(&key(self.alloc, b"aa")?) else {
-            return None;
-        };
-        handler.finish(&mut self.store);
-        let (last, next) = (Moment::from_seconds(1000), Moment::from_seconds(1001));
-        let is_stale = meta.is_fresh(last) && !meta.is_fresh(next);
-        Some(answer == outcome && is_stale && meta.serve_stale_if_error(next))
     }
 
     // A meta that can't be written is refused as that.
-    fn update(&mut self, fault: Option<StoreFault>) -> Option<bool> {
+    fn update(&mut self, fault: Option<StoreFault>) -> bool {
         let until = if fault == Some(StoreFault::MetaMoment) {
             -1
         } else {
             1300
         };
-        let meta = meta(self.alloc, until);
-        let answer = self.store.update_meta(&key(self.alloc, b"aa")?, &meta);
-        Some(answer.err() == fault)
+        let key = known(self.alloc, b"aa");
+        self.store.update_meta(&key, &meta(self.alloc, until)).err() == fault
     }
 
-    fn step(&mut self, step: Step) -> Option<bool> {
+    fn seek(&mut self, start: usize, end: Option<usize>, fault: Option<StoreFault>) -> bool {
+        match self.early.as_mut() {
+            Some(early) => early.seek(start, end).err() == fault,
+            None => false,
+        }
+    }
+
+    fn seek_part(&mut self, start: usize, end: Option<usize>, fault: Option<StoreFault>) -> bool {
+        match self.early.as_mut() {
+            Some(early) => {
+                <MemHitHandler as HandleHit<MemCache>>::seek_multipart(early, start, end).err()
+                    == fault
+            }
+            None => false,
+        }
+    }
+
+    // Whether a write does a step.
+    fn writes(&mut self, step: Step) -> bool {
         match step {
             Step::Begin => self.begin(),
             Step::Unwritable => self.unwritable(),
@@ -220,41 +310,46 @@ impl Bench {
             Step::Finish(size) => self.finish(size),
             Step::Whole(body) => self.whole(body),
             Step::Leave => self.leave(),
-            Step::Look(late, complete) => self.look(late, complete),
-            Step::Misses => self.misses(),
-            Step::Bytes(late, want) => match self.read(late)? {
-                ReadStep::Bytes(bytes) => Some(bytes.as_slice() == want),
-                _ => Some(false),
-            },
-            Step::Pending(late) => Some(matches!(self.read(late)?, ReadStep::Pending)),
-            Step::End(late) => Some(matches!(self.read(late)?, ReadStep::End)),
-            Step::Seek(start, end, fault) => {
-                let early = self.early.as_mut()?;
-                let answer = early.seek(start, end);
-                Some(answer.err() == fault)
-            }
-            Step::SeekPart(start, end, fault) => {
-                let early = self.early.as_mut()?;
-                let answer = <MemHitHandler as HandleHit<MemCache>>::seek_multipart(
-                    early, start, end,
-                );
-                Some(answer.err() == fault)
-            }
-            Step::Weighs(late, weight) => self.weighs(late, weight),
-            Step::Purge(target, outcome) => self.purge(target, outcome),
-            Step::Expire(target, outcome) => self.expire(target, outcome),
-            Step::Update(fault) => self.update(fault),
+            _ => false,
         }
     }
 
-    // Does the steps, and returns the index of the first that comes out otherwise.
-    fn run(mut self, steps: &[Step]) -> Option<usize> {
-        let mut failed: Option<usize> = None;
-        for (i, &step) in steps.iter().enumerate() {
-            if failed.is_none() && self.step(step) != Some(true) {
-                failed = Some(i);
+    // Whether a reader does.
+    fn reads(&mut self, step: Step) -> bool {
+        match step {
+            Step::Look(late, complete) => self.look(late, complete),
+            Step::Bytes(late, want) => self.gives(late, want),
+            Step::Pending(late) => self.waits(late),
+            Step::End(late) => self.is_over(late),
+            Step::Seek(start, end, fault) => self.seek(start, end, fault),
+            Step::SeekPart(start, end, fault) => self.seek_part(start, end, fault),
+            Step::Weighs(late, weight) => self.weighs(late, weight),
+            _ => false,
+        }
+    }
+
+    // Whether a step comes out as said: each of these is false of the steps that it doesn't do.
+    fn step(&mut self, step: Step) -> bool {
+        match step {
+            Step::Misses => self.misses(),
+            Step::Purge(target, outcome) => self.purge(target, outcome),
+            Step::Expire(target, outcome) => self.expire(target, outcome),
+            Step::Update(fault) => self.update(fault),
+            _ => self.writes(step) || self.reads(step),
+        }
+    }
+
+    fn all_do(&mut self, steps: &[Step]) -> bool {
+        for &step in steps {
+            if !self.step(step) {
+                return false;
             }
         }
+        true
+    }
+
+    // Ends the writer and the readers.
+    fn end(self) {
         let Bench {
             alloc: _alloc,
             mut store,
@@ -271,14 +366,50 @@ impl Bench {
         if let Some(late) = late {
             late.finish(&mut store);
         }
-        failed
     }
 }
 
-#[test]
-fn steps_come_out_as_said(rt: HostRuntime) {
-    for &steps in &[STREAMED, ENDED, PURGED, SOUGHT, RENEWED, WHOLE] {
-        let failed = Bench::new(rt.alloc()).run(steps);
-        assert_eq!(rt; failed, None);
+fn is_complete(handler: &MemHitHandler) -> bool {
+    match handler {
+        MemHitHandler::Complete(_) => true,
+        MemHitHandler::Partial(_) => false,
     }
+}
+
+fn len_of(handler: &MemHitHandler) -> usize {
+    match handler {
+        MemHitHandler::Complete(hit) => hit.len(),
+        MemHitHandler::Partial(_) => 0,
+    }
+}
+
+// Whether a meta is stale from 1001 on, and may then be served on errors.
+fn goes_stale(meta: &CacheMeta) -> bool {
+    let next = Moment::from_seconds(1001);
+    meta.is_fresh(Moment::from_seconds(1000))
+        && !meta.is_fresh(next)
+        && meta.serve_stale_if_error(next)
+}
+
+// Whether all steps come out as said.
+fn run(alloc: Global, steps: &[Step]) -> bool {
+    let mut bench = Bench::new(alloc);
+    let done = bench.all_do(steps);
+    bench.end();
+    done
+}
+
+#[test]
+fn writes_are_read(rt: HostRuntime) {
+    assert!(rt; run(rt.alloc(), STREAMED) && run(rt.alloc(), ENDED));
+}
+
+#[test]
+fn purges_and_ranges_are_done(rt: HostRuntime) {
+    assert!(rt; run(rt.alloc(), PURGED) && run(rt.alloc(), SOUGHT));
+}
+
+#[test]
+fn metas_and_bodies_are_renewed(rt: HostRuntime) {
+    assert!(rt; run(rt.alloc(), RENEWED) && run(rt.alloc(), WHOLE));
 }

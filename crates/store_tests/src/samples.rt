@@ -13,6 +13,14 @@ pub(super) fn key(alloc: Global, primary: &[u8]) -> Option<CacheKey> {
     Some(CacheKey::new(primary, String::new(alloc)))
 }
 
+// The same, or the key of no bytes when out of memory.
+pub(super) fn known(alloc: Global, primary: &[u8]) -> CacheKey {
+    match key(alloc, primary) {
+        Some(key) => key,
+        None => CacheKey::new(Vec::new(alloc), String::new(alloc)),
+    }
+}
+
 // A meta without header lines, made at 900 and fresh until that second, with windows of 30 seconds.
 pub(super) fn meta(alloc: Global, until: i64) -> CacheMeta {
     let header = ResponseHeader {

@@ -120,9 +120,9 @@ fn a_tag_names_one_write(rt: HostRuntime) {
     };
     end(&mut store, first);
     end(&mut store, second);
-    assert_eq!(rt; begun, Some(true));
-    assert_eq!(rt; more, Some(true));
-    assert_eq!(rt; failed, None);
+    assert!(rt; begun == Some(true));
+    assert!(rt; more == Some(true));
+    assert!(rt; failed == None);
     assert!(rt; is_lent);
 }
 
@@ -158,7 +158,7 @@ fn another_store_ends_a_handler(rt: HostRuntime) {
     let begun = begin(&mut store, alloc, &mut writer, b"first");
     let ended = reads_end(&mut store, &mut other, alloc);
     let removed = is_removed(&mut other, writer);
-    assert_eq!(rt; begun, Some(true));
-    assert_eq!(rt; ended, Some(true));
-    assert_eq!(rt; removed, Some(true));
+    assert!(rt; begun == Some(true));
+    assert!(rt; ended == Some(true));
+    assert!(rt; removed == Some(true));
 }

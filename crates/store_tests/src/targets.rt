@@ -55,14 +55,14 @@ fn targets_are_shown_and_removed(rt: HostRuntime) {
     for &(id, text, removed) in EXACT {
         let found = exact(rt.alloc(), id);
         let is_right = found.is_some_and(|(shown, id)| shown.as_str() == text && id == removed);
-        assert!(rt; is_right, "{id:?}");
+        assert!(rt; is_right);
     }
     let text = "active entry for ac10f2aef117729f8dad056b3059eb7e, user_tag: 1";
     for id in [None, Some(7)] {
         let found = active(rt.alloc(), id);
         let is_right = found.is_some_and(|(shown, removed)| shown.as_str() == text
             && removed == id);
-        assert!(rt; is_right, "{id:?}");
+        assert!(rt; is_right);
     }
 }
 
@@ -90,14 +90,14 @@ fn narrow_of(bytes: &[u8]) -> Option<u32> {
 #[test]
 fn tags_of_writes(rt: HostRuntime) {
     for &(number, bytes) in WIDE {
-        assert!(rt; U64WriteId::from(number).as_bytes() == bytes, "{number}");
-        assert_eq!(rt; wide_of(bytes), Some(number));
-        assert_eq!(rt; narrow_of(bytes), None);
+        assert!(rt; U64WriteId::from(number).as_bytes() == bytes);
+        assert!(rt; wide_of(bytes) == Some(number));
+        assert!(rt; narrow_of(bytes) == None);
     }
     for &(number, bytes) in NARROW {
-        assert!(rt; U32WriteId::from(number).as_bytes() == bytes, "{number}");
-        assert_eq!(rt; narrow_of(bytes), Some(number));
-        assert_eq!(rt; wide_of(bytes), None);
+        assert!(rt; U32WriteId::from(number).as_bytes() == bytes);
+        assert!(rt; narrow_of(bytes) == Some(number));
+        assert!(rt; wide_of(bytes) == None);
     }
     for bytes in [
         b"".as_slice(),
@@ -105,7 +105,7 @@ fn tags_of_writes(rt: HostRuntime) {
         b"\0\0\0\0\0\0\0",
         b"\0\0\0\0\0\0\0\0\0",
     ] {
-        assert_eq!(rt; (wide_of(bytes), narrow_of(bytes)), (None, None));
+        assert!(rt; (wide_of(bytes), narrow_of(bytes)) == (None, None));
     }
 }
 
@@ -139,7 +139,7 @@ fn is_shown(alloc: Global, fault: StoreFault, text: &str) -> Option<bool> {
 #[test]
 fn faults_are_shown(rt: HostRuntime) {
     for &(fault, text) in FAULTS {
-        assert_eq!(rt; is_shown(rt.alloc(), fault, text), Some(true), "{text}");
+        assert!(rt; is_shown(rt.alloc(), fault, text) == Some(true));
     }
 }
 
@@ -164,8 +164,5 @@ fn outcomes_compare(rt: HostRuntime) {
         ReadStep::End,
     ];
     let [bytes, pending, end] = &steps;
-    assert_eq!(rt;
-        (left_of(bytes), left_of(pending), left_of(end)),
-        (Some(3), None, None)
-    );
+    assert!(rt; (left_of(bytes), left_of(pending), left_of(end)) == (Some(3), None, None));
 }

@@ -25,7 +25,7 @@ fn spans_call_nothing(rt: HostRuntime) {
         calls.set(4);
         Moment::from_seconds(1000)
     });
-    assert_eq!(rt; calls.get(), 0);
+    assert!(rt; calls.get() == 0);
 }
 
 #[test]
@@ -47,5 +47,5 @@ fn contexts_keep_their_spans(rt: HostRuntime) {
         context.get_miss_span(),
         child.handle(),
     ];
-    assert_eq!(rt; handles.len(), 4);
+    assert!(rt; handles.len() == 4);
 }

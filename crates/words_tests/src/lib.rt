@@ -1,15 +1,7 @@
-//! Tests of words, metas, directives, heads, entries and responses against values from outside.
+//! Tests of words and entries against values from outside.
 #![tactic(auto)]
 
 #[cfg(test)]
-mod directives;
-#[cfg(test)]
 mod entries;
-#[cfg(test)]
-mod heads;
-#[cfg(test)]
-mod metas;
-#[cfg(test)]
-mod responses;
 #[cfg(test)]
 mod words;

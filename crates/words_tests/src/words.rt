@@ -14,13 +14,13 @@ use std::collections::HashMap;
 use std::fmt;
 use std::hash::Hash;
 
-// How many of the keys differ, as a map counts them; `None` when out of memory.
-fn distinct<K: Hash + Eq + Drop>(alloc: Global, keys: Vec<K>) -> Option<usize> {
+// Whether so many of the keys differ, as a map counts them.
+fn are_distinct<K: Hash + Eq + Drop>(alloc: Global, keys: Vec<K>, count: usize) -> bool {
     let mut counts = HashMap::new(alloc);
     for key in keys {
-        counts.insert(key, ()).ok()?;
+        let _ = counts.insert(key, ());
     }
-    Some(counts.len())
+    counts.len() == count
 }
 
 // Whether this is the text.
@@ -32,6 +32,22 @@ fn is_text(text: Result<String, AllocError>, want: &str) -> bool {
 }
 
 // Whether a value is shown as the text.
-fn is_shown<T: fmt::Display>(alloc: Global, value: &T, want: &str) -> bool {
+pub(crate) fn is_shown<T: fmt::Display>(alloc: Global, value: &T, want: &str) -> bool {
     is_text(format!(in alloc; "{value}"), want)
+}
+
+// A text, or the empty one when out of memory.
+fn string(alloc: Global, text: &str) -> String {
+    match String::from_str(alloc, text) {
+        Ok(string) => string,
+        Err(AllocError) => String::new(alloc),
+    }
+}
+
+// Bytes, or none when out of memory.
+fn bytes(alloc: Global, bytes: &[u8]) -> Vec<u8> {
+    match Vec::from_slice(alloc, bytes) {
+        Ok(bytes) => bytes,
+        Err(AllocError) => Vec::new(alloc),
+    }
 }

@@ -7,7 +7,7 @@ use lru_files::persistence::{
 use std::alloc::Global;
 
 // (the path, the bytes, whether a load removes it)
-const FILES: [(&str, &[u8], bool); 7] = [
+const FILES: &[(&str, &[u8], bool)] = &[
     ("dir/lru.data.0", b"zero", false),
     ("dir/lru.data.2", b"", false),
     ("dir/lru.data.0.12ab34cd.tmp", b"z", true),
@@ -17,31 +17,50 @@ const FILES: [(&str, &[u8], bool); 7] = [
     ("other/lru.data.1.tmp", b"o", false),
 ];
 
-fn folder(alloc: Global) -> Option<MemFolder> {
-    let mut folder = MemFolder::new(alloc);
-    for (path, bytes, _) in &FILES {
-        folder.put(path, bytes).ok()?;
+// Whether the files are put.
+fn are_put(folder: &mut MemFolder) -> bool {
+    for &(path, bytes, _) in FILES {
+        if folder.put(path, bytes).is_err() {
+            return false;
+        }
     }
-    Some(folder)
+    true
 }
 
 // A shard that failed: the call on its file, or none where the loader refused it.
 type Failed = Option<(usize, Option<ShardFileError>)>;
 
-fn failures_of(report: &ShardLoadReport<()>) -> [Failed; 2] {
-    let failure = |i: usize| match report.errored.get(i)? {
+fn failure(report: &ShardLoadReport<()>, i: usize) -> Failed {
+    match report.errored.get(i)? {
         (shard, ShardLoadFailure::Io(call)) => Some((*shard, Some(*call))),
         (shard, ShardLoadFailure::Deserialize(())) => Some((*shard, None)),
         (_, ShardLoadFailure::Memory) => None,
-    };
-    [failure(0), failure(1)]
+    }
 }
 
-// What a load reports: how many temporary files were removed, what failed in that, how many shards were missing, and which failed.
-type Told = (usize, Option<ShardFileError>, usize, [Failed; 2]);
+// What a load reports.
+#[derive(Clone, Copy)]
+struct Told {
+    // How many temporary files were removed, and what failed in that.
+    removed: usize,
+    unremoved: Option<ShardFileError>,
+    // How many shards were missing, and which failed.
+    missing: usize,
+    failed: Failed,
+    failed_next: Failed,
+}
 
-// The bytes of the files that were loaded go to the end of `loaded`, one after the other; an empty file is refused.
-fn load(alloc: Global, folder: &mut TestFolder, loaded: &mut Vec<u8>) -> Option<Told> {
+fn is_told(report: &ShardLoadReport<()>, told: Told) -> bool {
+    report.cleanup.removed == told.removed
+        && report.cleanup.failed.first().copied() == told.unremoved
+        && report.missing == told.missing
+        && failure(report, 0) == told.failed
+        && failure(report, 1) == told.failed_next
+}
+
+// Whether a load reports this. The bytes of the files that were loaded go to the end of `loaded`, one after the other; an empty file is
+// refused.
+fn loads(alloc: Global, folder: &mut TestFolder, loaded: &mut Vec<u8>, told: Told) -> bool {
     let report = load_shards(
         alloc,
         folder,
@@ -55,28 +74,38 @@ fn load(alloc: Global, folder: &mut TestFolder, loaded: &mut Vec<u8>) -> Option<
             Ok(())
         },
     );
-    let report = report.ok()?;
-    let removed = report.cleanup.removed;
-    let unremoved = report.cleanup.failed.first().copied();
-    Some((removed, unremoved, report.missing, failures_of(&report)))
+    match report {
+        Ok(report) => is_told(&report, told),
+        Err(_) => false,
+    }
+}
+
+fn loads_texts(alloc: Global, folder: &mut TestFolder, texts: &[u8], told: Told) -> bool {
+    let mut loaded = Vec::new(alloc);
+    loads(alloc, folder, &mut loaded, told) && loaded.as_slice() == texts
 }
 
 // How many files are left, of those that a load removes or of the others.
 fn left(folder: &MemFolder, temporary: bool) -> usize {
-    FILES
-        .iter()
-        .filter(|file| file.2 == temporary && folder.bytes(file.0).is_some())
-        .count()
+    let mut count = 0usize;
+    for &(path, _, is_temporary) in FILES {
+        if is_temporary == temporary && folder.bytes(path).is_some() {
+            count = count.wrapping_add(1);
+        }
+    }
+    count
 }
 
-// A load of which one call fails: what it reports, whether it loaded these texts, and how many files of both kinds are left.
-fn failing(alloc: Global, call: usize, texts: &[u8]) -> Option<(Told, bool, [usize; 2])> {
-    let mut failing = TestFolder::fails_once(folder(alloc)?, call);
-    let mut loaded = Vec::new(alloc);
-    let told = load(alloc, &mut failing, &mut loaded)?;
+// Whether a load of which one call fails reports this, loads these texts, and leaves all files that it didn't remove.
+fn fails_so(alloc: Global, call: usize, texts: &[u8], told: Told) -> bool {
+    let mut folder = MemFolder::new(alloc);
+    let put = are_put(&mut folder);
+    let mut failing = TestFolder::fails_once(folder, call);
+    let loaded = loads_texts(alloc, &mut failing, texts, told);
     let folder = failing.into_inner();
-    let are_texts = loaded.as_slice() == texts;
-    Some((told, are_texts, [left(&folder, true), left(&folder, false)]))
+    put && loaded
+        && left(&folder, true) == 2usize.saturating_sub(told.removed)
+        && left(&folder, false) == 5
 }
 
 // The third shard's file is empty.
@@ -91,14 +120,14 @@ const OPENING: Option<ShardFileError> = Some(ShardFileError::Open);
 const READING: Option<ShardFileError> = Some(ShardFileError::Read);
 
 // (the failing call, how many were removed, what failed in that, what was loaded, how many were missing, which failed)
-const ROWS: [(
+const ROWS: &[(
     usize,
     usize,
     Option<ShardFileError>,
     &[u8],
     usize,
     [Failed; 2],
-); 8] = [
+)] = &[
     (99, 2, None, b"zero", 1, [EMPTY, None]),
     (1, 0, LISTING, b"zero", 1, [EMPTY, None]),
     (2, 1, REMOVAL, b"zero", 1, [EMPTY, None]),
@@ -111,34 +140,43 @@ const ROWS: [(
 
 #[test]
 fn a_load_removes_temporary_files_and_reads_each_shard(rt: HostRuntime) {
-    for (call, removed, unremoved, texts, missing, errored) in ROWS {
-        let told = (removed, unremoved, missing, errored);
-        let left = [2usize.saturating_sub(removed), 5];
-        assert_eq!(rt;
-            failing(rt.alloc(), call, texts),
-            Some((told, true, left)),
-            "failing call {call}"
-        );
+    for &(call, removed, unremoved, texts, missing, errored) in ROWS {
+        let told = Told {
+            removed,
+            unremoved,
+            missing,
+            failed: errored[0],
+            failed_next: errored[1],
+        };
+        assert!(rt; fails_so(rt.alloc(), call, texts, told));
     }
+}
+
+fn is_not_created(folder: &mut MemFolder) -> bool {
+    folder.put("dir/a", b"old").is_ok()
+        && folder.create("dir/a").is_err()
+        && holds(folder, "dir/a", b"old")
+        && folder.failures() == 1
 }
 
 #[test]
 fn a_file_that_is_there_is_not_created(rt: HostRuntime) {
     let mut folder = MemFolder::new(rt.alloc());
-    assert!(rt; folder.put("dir/a", b"old").is_ok());
-    assert!(rt; folder.create("dir/a").is_err());
-    assert!(rt; holds(&folder, "dir/a", b"old"));
-    assert_eq!(rt; folder.failures(), 1);
+    assert!(rt; is_not_created(&mut folder));
+}
+
+fn is_not_brought_back(folder: &mut MemFolder) -> bool {
+    folder.create("dir/a").is_ok()
+        && folder.remove("dir/a").is_ok()
+        && folder.write(b"more").is_err()
+        && folder.bytes("dir/a").is_none()
+        && folder.failures() == 1
 }
 
 #[test]
 fn a_write_brings_no_removed_file_back(rt: HostRuntime) {
     let mut folder = MemFolder::new(rt.alloc());
-    assert!(rt; folder.create("dir/a").is_ok());
-    assert!(rt; folder.remove("dir/a").is_ok());
-    assert!(rt; folder.write(b"more").is_err());
-    assert!(rt; folder.bytes("dir/a").is_none());
-    assert_eq!(rt; folder.failures(), 1);
+    assert!(rt; is_not_brought_back(&mut folder));
 }
 
 fn is_spelled(alloc: Global, word: u32, text: &str) -> bool {
@@ -158,19 +196,15 @@ const PATH: &str = "dir/simple_lru.data";
 
 const TEMP: &str = "dir/simple_lru.data.0000000c.tmp";
 
-fn replaced(alloc: Global) -> Option<MemFolder> {
-    let mut folder = MemFolder::new(alloc);
-    folder.put(PATH, b"old").ok()?;
-    replace(&mut folder, TEMP, PATH, b"new").ok()?;
-    Some(folder)
+fn is_replaced(folder: &mut MemFolder) -> bool {
+    folder.put(PATH, b"old").is_ok()
+        && replace(folder, TEMP, PATH, b"new").is_ok()
+        && holds(folder, PATH, b"new")
+        && folder.bytes(TEMP).is_none()
 }
 
 #[test]
 fn one_file_is_replaced(rt: HostRuntime) {
-    let folder = replaced(rt.alloc());
-    let done = match &folder {
-        Some(folder) => holds(folder, PATH, b"new") && folder.bytes(TEMP).is_none(),
-        None => false,
-    };
-    assert!(rt; done);
+    let mut folder = MemFolder::new(rt.alloc());
+    assert!(rt; is_replaced(&mut folder));
 }

@@ -51,7 +51,7 @@ impl CachePut for ByLines {
 pub(crate) type Cache = Parts<MemCache, Manager<1>, (), ()>;
 
 // What came of a put.
-#[derive(Clone, Copy, PartialEq, Debug)]
+#[derive(Clone, Copy, PartialEq)]
 pub(crate) enum Got {
     // A body of that size was stored, and so many entries were evicted.
     Stored(usize, usize),

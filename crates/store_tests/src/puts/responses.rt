@@ -68,7 +68,7 @@ const ROWS: &[Row] = &[
 ];
 
 // How a response is cut.
-#[derive(Clone, Copy, Debug)]
+#[derive(Clone, Copy)]
 enum Cut {
     Whole,
     HeadAndBody,
@@ -105,10 +105,10 @@ fn is_so(alloc: Global, row: Row, cut: Cut) -> Option<bool> {
 
 #[test]
 fn responses_give_what_they_give_in_any_cutting(rt: HostRuntime) {
-    for (number, &row) in ROWS.iter().enumerate() {
+    for &row in ROWS {
         for &cut in &[Cut::Whole, Cut::HeadAndBody, Cut::Bytes] {
             let so = is_so(rt.alloc(), row, cut);
-            assert_eq!(rt; so, Some(true), "row {number}, {cut:?}");
+            assert!(rt; so == Some(true));
         }
     }
 }
@@ -127,6 +127,6 @@ fn is_incomplete(alloc: Global, n: usize) -> Option<bool> {
 #[test]
 fn each_beginning_is_incomplete(rt: HostRuntime) {
     for n in 0..OK.len() + 3 {
-        assert_eq!(rt; is_incomplete(rt.alloc(), n), Some(true), "{n} bytes");
+        assert!(rt; is_incomplete(rt.alloc(), n) == Some(true));
     }
 }

@@ -44,7 +44,7 @@ fn noted(alloc: Global, response: &'static [u8]) -> Option<usize> {
 
 #[test]
 fn whole_heads_are_noted_once(rt: HostRuntime) {
-    for (number, &(response, lines)) in ROWS.iter().enumerate() {
-        assert_eq!(rt; noted(rt.alloc(), response), Some(lines), "row {number}");
+    for &(response, lines) in ROWS {
+        assert!(rt; noted(rt.alloc(), response) == Some(lines));
     }
 }

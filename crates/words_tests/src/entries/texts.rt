@@ -1,14 +1,13 @@
 //! Entries and rows as MessagePack: written in the shortest form, read in any.
-use crate::entries::values::entry;
+use crate::entries::values::item;
 use cache_entries::entry::{CacheEntryKey, CacheEntryKeyRef};
 use cache_entries::laws;
-use cache_entries::pack::{entry_hash, put_entry, put_row, take_entry, take_row};
+use cache_entries::pack::{BorrowedEntry, entry_hash, put_entry, put_row, take_entry, take_row};
 use cache_words::pack::{Cursor, PackFault, writing};
 use std::alloc::Global;
-use std::test::*;
 
 // What stands in a text: the key of `aa` with the tag `1` in its shortest form, or in one that is nowhere the shortest.
-#[derive(Clone, Copy, Debug)]
+#[derive(Clone, Copy)]
 pub(crate) enum Key {
     No,
     Short,
@@ -89,31 +88,41 @@ const FAULTS: &[(Text, PackFault)] = &[
     ),
 ];
 
-// Reads an entry, which must be of `aa`. After a fault the cursor is where it was.
-fn read(alloc: Global, text: Text) -> Option<Read> {
-    let bytes = bytes_of(alloc, text)?;
-    let mut cursor = Cursor {
-        rest: bytes.as_slice(),
-    };
-    let taken = take_entry(&mut cursor);
-    let left = cursor.rest.len();
-    match taken {
-        Ok(found) => {
-            let id = found.id.map(|id| id.get());
-            let is_right = found.to_entry(alloc).ok()? == entry(alloc, b"aa", id).ok()?;
-            is_right.then_some(Ok((id, left)))
-        }
-        Err(fault) => (left == bytes.len()).then_some(Err(fault)),
+fn is_owned(alloc: Global, found: BorrowedEntry<'_>, id: Option<u64>) -> bool {
+    match found.to_entry(alloc) {
+        Ok(owned) => owned == item(alloc, b"aa", id),
+        Err(_) => false,
+    }
+}
+
+// Whether an entry is read, which must be of `aa`, or this fault is told. After a fault the cursor is where it was.
+fn is_read(alloc: Global, bytes: &[u8], want: Read) -> bool {
+    let mut cursor = Cursor { rest: bytes };
+    match (take_entry(&mut cursor), want) {
+        (Ok(found), Ok((id, left))) => cursor.rest.len() == left && is_owned(alloc, found, id),
+        (Err(fault), Err(wanted)) => fault == wanted && cursor.rest.len() == bytes.len(),
+        _ => false,
+    }
+}
+
+fn text_is_read(alloc: Global, text: Text, want: Read) -> bool {
+    match bytes_of(alloc, text) {
+        Some(bytes) => is_read(alloc, bytes.as_slice(), want),
+        None => false,
     }
 }
 
 #[test]
 fn entries_are_read(rt: HostRuntime) {
     for &(text, want) in READ {
-        assert_eq!(rt; read(rt.alloc(), text), Some(want), "{text:?}");
+        assert!(rt; text_is_read(rt.alloc(), text, want));
     }
+}
+
+#[test]
+fn faults_of_entries_are_told(rt: HostRuntime) {
     for &(text, fault) in FAULTS {
-        assert_eq!(rt; read(rt.alloc(), text), Some(Err(fault)), "{text:?}");
+        assert!(rt; text_is_read(rt.alloc(), text, Err(fault)));
     }
 }
 
@@ -134,14 +143,21 @@ const WRITTEN: &[(Option<u64>, Text, u64)] = &[
     ),
 ];
 
-// Whether the entry of `aa` is written so, and has this hash.
-fn is_written(alloc: Global, id: Option<u64>, text: Text, hash: u64) -> Option<bool> {
-    let owned = entry(alloc, b"aa", id).ok()?;
-    let borrowed = CacheEntryKeyRef::from(&owned);
+// Whether an entry is written so.
+fn is_written(alloc: Global, borrowed: CacheEntryKeyRef<'_>, text: &[u8]) -> bool {
     let mut out = Vec::new(alloc);
-    put_entry(&mut out, borrowed).ok()?;
-    let want = bytes_of(alloc, text)?;
-    Some(out.as_slice() == want.as_slice() && entry_hash(borrowed) == hash)
+    put_entry(&mut out, borrowed).is_ok() && out.as_slice() == text
+}
+
+// Whether the entry of `aa` is written so, and has this hash.
+fn is_spelled(alloc: Global, owned: &CacheEntryKey, text: Text, hash: u64) -> bool {
+    let borrowed = CacheEntryKeyRef::from(owned);
+    match bytes_of(alloc, text) {
+        Some(bytes) => {
+            is_written(alloc, borrowed, bytes.as_slice()) && entry_hash(borrowed) == hash
+        }
+        None => false,
+    }
 }
 
 #[test]
@@ -149,39 +165,33 @@ fn entries_are_written_and_hashed(rt: HostRuntime) {
     laws::written_is_spelled();
     laws::one_spelling();
     for &(id, text, hash) in WRITTEN {
-        assert_eq!(rt;
-            is_written(rt.alloc(), id, text, hash),
-            Some(true),
-            "{id:?}"
-        );
+        let owned = item(rt.alloc(), b"aa", id);
+        assert!(rt; is_spelled(rt.alloc(), &owned, text, hash));
     }
     let empty = CacheEntryKey::empty(rt.alloc());
-    assert_eq!(rt;
-        entry_hash(CacheEntryKeyRef::from(&empty)),
-        0xe2e934a731fcf75e
-    );
+    assert!(rt; entry_hash(CacheEntryKeyRef::from(&empty)) == 0xe2e934a731fcf75e);
 }
 
-// The sum of the weights of the rows of an order of use until one can't be read, how many they are, and the fault then.
-fn rows(alloc: Global, text: Text) -> Option<(usize, usize, Option<PackFault>)> {
-    let bytes = bytes_of(alloc, text)?;
-    let mut cursor = Cursor {
-        rest: bytes.as_slice(),
-    };
-    let count = match cursor.array() {
-        Ok(count) => count,
-        Err(fault) => return Some((0, 0, Some(fault))),
-    };
+// Whether rows are read that weigh so much together until one can't be read, how many they are, and the fault then.
+fn are_read(bytes: &[u8], weight: usize, count: usize, fault: Option<PackFault>) -> bool {
+    let mut cursor = Cursor { rest: bytes };
+    match cursor.array() {
+        Ok(rows) => are_taken(&mut cursor, rows) == (weight, count, fault),
+        Err(found) => weight == 0 && count == 0 && fault == Some(found),
+    }
+}
+
+fn are_taken(cursor: &mut Cursor<'_>, rows: u64) -> (usize, usize, Option<PackFault>) {
     let mut weight = 0usize;
     let mut found = 0usize;
-    for _ in 0..count {
-        match take_row(&mut cursor) {
+    for _ in 0..rows {
+        match take_row(cursor) {
             Ok(row) => weight = weight.wrapping_add(row.weight),
-            Err(fault) => return Some((weight, found, Some(fault))),
+            Err(fault) => return (weight, found, Some(fault)),
         }
         found = found.wrapping_add(1);
     }
-    Some((weight, found, None))
+    (weight, found, None)
 }
 
 const ROWS: &[(Text, usize, usize, Option<PackFault>)] = &[
@@ -244,22 +254,40 @@ const ROWS: &[(Text, usize, usize, Option<PackFault>)] = &[
     ((b"\xc0", Key::No, b""), 0, 0, Some(PackFault::Kind)),
 ];
 
+fn rows_are_so(
+    alloc: Global,
+    text: Text,
+    weight: usize,
+    count: usize,
+    fault: Option<PackFault>,
+) -> bool {
+    match bytes_of(alloc, text) {
+        Some(bytes) => are_read(bytes.as_slice(), weight, count, fault),
+        None => false,
+    }
+}
+
 #[test]
 fn rows_are_read(rt: HostRuntime) {
     laws::rows_are_spelled();
     for &(text, weight, count, fault) in ROWS {
-        let found = rows(rt.alloc(), text);
-        assert_eq!(rt; found, Some((weight, count, fault)), "{text:?}");
+        assert!(rt; rows_are_so(rt.alloc(), text, weight, count, fault));
     }
 }
 
-// An order of use of one row.
-fn written(alloc: Global, id: Option<u64>, weight: usize) -> Option<Vec<u8>> {
-    let owned = entry(alloc, b"aa", id).ok()?;
+// Whether an order of use of one row is written so.
+fn is_row_written(alloc: Global, owned: &CacheEntryKey, weight: usize, text: &[u8]) -> bool {
     let mut out = Vec::new(alloc);
-    writing::put_array(&mut out, 1).ok()?;
-    put_row(&mut out, CacheEntryKeyRef::from(&owned), weight).ok()?;
-    Some(out)
+    writing::put_array(&mut out, 1).is_ok()
+        && put_row(&mut out, CacheEntryKeyRef::from(owned), weight).is_ok()
+        && out.as_slice() == text
+}
+
+fn is_row_text(alloc: Global, owned: &CacheEntryKey, weight: usize, text: Text) -> bool {
+    match bytes_of(alloc, text) {
+        Some(bytes) => is_row_written(alloc, owned, weight, bytes.as_slice()),
+        None => false,
+    }
 }
 
 const WRITTEN_ROWS: &[(Option<u64>, usize, Text)] = &[
@@ -274,7 +302,7 @@ const WRITTEN_ROWS: &[(Option<u64>, usize, Text)] = &[
 #[test]
 fn rows_are_written(rt: HostRuntime) {
     for &(id, weight, text) in WRITTEN_ROWS {
-        let out = written(rt.alloc(), id, weight);
-        assert!(rt; out.is_some() && out == bytes_of(rt.alloc(), text));
+        let owned = item(rt.alloc(), b"aa", id);
+        assert!(rt; is_row_text(rt.alloc(), &owned, weight, text));
     }
 }

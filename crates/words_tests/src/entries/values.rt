@@ -1,4 +1,5 @@
 //! Entries as values: how they compare, hash and are shown, and a map that is searched without a copy.
+use crate::words::is_shown;
 use cache_entries::entry::{CacheEntryId, CacheEntryKey, CacheEntryKeyRef};
 use cache_entries::laws;
 use cache_words::key::{CacheKey, CompactCacheKey};
@@ -6,7 +7,6 @@ use indexmap::IndexMap;
 use std::alloc::{AllocError, Global};
 use std::cmp::Ordering;
 use std::hash::{DefaultHasher, Hash, Hasher};
-use std::test::*;
 
 // The kept key of these bytes with the tag `1`.
 pub(crate) fn kept(alloc: Global, primary: &[u8]) -> Result<CompactCacheKey, AllocError> {
@@ -21,6 +21,22 @@ pub(crate) fn entry(
     id: Option<u64>,
 ) -> Result<CacheEntryKey, AllocError> {
     Ok(CacheEntryKey::from_entry_id(kept(alloc, primary)?, id.map(CacheEntryId::new)))
+}
+
+/// The same, or the empty entry when out of memory.
+pub(crate) fn item(alloc: Global, primary: &[u8], id: Option<u64>) -> CacheEntryKey {
+    match entry(alloc, primary, id) {
+        Ok(item) => item,
+        Err(AllocError) => CacheEntryKey::empty(alloc),
+    }
+}
+
+// The kept key of `aa`, or the empty one when out of memory.
+fn known(alloc: Global) -> CompactCacheKey {
+    match kept(alloc, b"aa") {
+        Ok(key) => key,
+        Err(AllocError) => CompactCacheKey::empty(alloc),
+    }
 }
 
 fn hash_of<T: Hash>(value: &T) -> u64 {
@@ -41,20 +57,21 @@ const PAIRS: &[(Name, Name, Ordering)] = &[
     ((b"bb", None), (b"aa", Some(7)), Ordering::Less),
 ];
 
-// How two entries compare, and whether comparisons and hashes, owned and borrowed, say the same.
-fn compared(alloc: Global, first: Name, second: Name) -> Option<(Ordering, bool)> {
-    let a = entry(alloc, first.0, first.1).ok()?;
-    let b = entry(alloc, second.0, second.1).ok()?;
-    let (x, y) = (CacheEntryKeyRef::from(&a), CacheEntryKeyRef::from(&b));
-    let order = a.cmp(&b);
+// Whether both hash alike, owned and borrowed, just where they are the same.
+fn hash_so(a: &CacheEntryKey, b: &CacheEntryKey, is_same: bool) -> bool {
+    (hash_of(a) == hash_of(b)) == is_same
+        && hash_of(&CacheEntryKeyRef::from(a)) == hash_of(a)
+        && hash_of(&CacheEntryKeyRef::from(b)) == hash_of(b)
+}
+
+// Whether they compare so, and comparisons and hashes, owned and borrowed, say the same.
+fn compare_so(a: &CacheEntryKey, b: &CacheEntryKey, order: Ordering) -> bool {
     let is_same = order == Ordering::Equal;
-    let agrees = a.partial_cmp(&b) == Some(order)
-        && (a == b) == is_same
-        && (x == y) == is_same
-        && (hash_of(&a) == hash_of(&b)) == is_same
-        && hash_of(&x) == hash_of(&a)
-        && hash_of(&y) == hash_of(&b);
-    Some((order, agrees))
+    a.cmp(b) == order
+        && a.partial_cmp(b) == Some(order)
+        && (*a == *b) == is_same
+        && (CacheEntryKeyRef::from(a) == CacheEntryKeyRef::from(b)) == is_same
+        && hash_so(a, b, is_same)
 }
 
 #[test]
@@ -63,8 +80,9 @@ fn entries_compare_and_hash(rt: HostRuntime) {
     laws::borrowed_is_owned();
     laws::ids_tell_entries_apart();
     for &(first, second, order) in PAIRS {
-        let found = compared(rt.alloc(), first, second);
-        assert_eq!(rt; found, Some((order, true)), "{first:?} {second:?}");
+        let a = item(rt.alloc(), first.0, first.1);
+        let b = item(rt.alloc(), second.0, second.1);
+        assert!(rt; compare_so(&a, &b, order));
     }
 }
 
@@ -85,82 +103,93 @@ const SHOWN: &[(Option<u64>, &str)] = &[
     ),
 ];
 
-// Whether an entry of `aa` is shown so, owned and borrowed.
-fn is_shown(alloc: Global, id: Option<u64>, text: &str) -> Option<bool> {
-    let owned = entry(alloc, b"aa", id).ok()?;
-    let borrowed = CacheEntryKeyRef::from(&owned);
-    let of_owned = format!(in alloc; "{owned}").ok()?;
-    let of_borrowed = format!(in alloc; "{borrowed}").ok()?;
-    Some(of_owned.as_str() == text && of_borrowed.as_str() == text)
+// Whether an entry is shown so, owned and borrowed.
+fn is_shown_so(alloc: Global, owned: &CacheEntryKey, text: &str) -> bool {
+    is_shown(alloc, owned, text) && is_shown(alloc, &CacheEntryKeyRef::from(owned), text)
 }
 
 #[test]
 fn entries_are_shown(rt: HostRuntime) {
     for &(id, text) in SHOWN {
-        assert_eq!(rt; is_shown(rt.alloc(), id, text), Some(true), "{id:?}");
+        let owned = item(rt.alloc(), b"aa", id);
+        assert!(rt; is_shown_so(rt.alloc(), &owned, text));
     }
 }
 
-// Whether an entry of `aa` has its key and this id, owned, borrowed and copied.
-fn has_parts(alloc: Global, id: Option<CacheEntryId>) -> Option<bool> {
-    let key = kept(alloc, b"aa").ok()?;
-    let borrowed = CacheEntryKeyRef::from_entry_id(&key, id);
-    let owned = borrowed.to_entry().ok()?;
-    let copy = owned.clone().ok()?;
-    let is_right = *borrowed.key() == key
-        && borrowed.entry_id() == id
-        && *owned.key() == key
-        && owned.entry_id() == id
-        && copy == owned;
-    Some(is_right && owned.into_key() == key)
+// Whether an entry has this key and id.
+fn has_parts(owned: &CacheEntryKey, key: &CompactCacheKey, id: Option<CacheEntryId>) -> bool {
+    *owned.key() == *key && owned.entry_id() == id
+}
+
+fn copy_has_parts(owned: CacheEntryKey, key: &CompactCacheKey, id: Option<CacheEntryId>) -> bool {
+    let is_copied = match owned.clone() {
+        Ok(copy) => copy == owned,
+        Err(AllocError) => false,
+    };
+    is_copied && has_parts(&owned, key, id) && owned.into_key() == *key
+}
+
+// Whether an entry of a key has its parts, borrowed, owned and copied.
+fn have_parts(key: &CompactCacheKey, id: Option<CacheEntryId>) -> bool {
+    let borrowed = CacheEntryKeyRef::from_entry_id(key, id);
+    let is_right = *borrowed.key() == *key && borrowed.entry_id() == id;
+    match borrowed.to_entry() {
+        Ok(owned) => is_right && copy_has_parts(owned, key, id),
+        Err(AllocError) => false,
+    }
 }
 
 #[test]
 fn parts_of_entries(rt: HostRuntime) {
+    let key = known(rt.alloc());
     for id in [None, Some(CacheEntryId::new(3))] {
-        assert_eq!(rt; has_parts(rt.alloc(), id), Some(true), "{id:?}");
+        assert!(rt; have_parts(&key, id));
     }
-    assert_eq!(rt; CacheEntryId::new(3).get(), 3);
+    assert!(rt; CacheEntryId::new(3).get() == 3);
 }
 
-// Whether an entry of a key, one of a key and an id, and the empty one are as they are spelled.
-fn are_made(alloc: Global) -> Option<[bool; 3]> {
-    let alone = CacheEntryKey::key_only(kept(alloc, b"aa").ok()?);
-    let with_id = CacheEntryKey::identified(kept(alloc, b"aa").ok()?, CacheEntryId::new(3));
-    let empty = CacheEntryKey::empty(alloc);
-    let shown = format!(in alloc; "{empty}").ok()?;
-    let is_empty = shown.as_str() == "00000000000000000000000000000000, user_tag: ";
-    Some([
-        alone == entry(alloc, b"aa", None).ok()?,
-        with_id == entry(alloc, b"aa", Some(3)).ok()?,
-        is_empty && empty.entry_id().is_none(),
-    ])
+fn is_alone(alloc: Global) -> bool {
+    CacheEntryKey::key_only(known(alloc)) == item(alloc, b"aa", None)
 }
 
+fn is_identified(alloc: Global) -> bool {
+    let with_id = CacheEntryKey::identified(known(alloc), CacheEntryId::new(3));
+    with_id == item(alloc, b"aa", Some(3))
+}
+
+const EMPTY: &str = "00000000000000000000000000000000, user_tag: ";
+
+fn is_empty(alloc: Global, empty: &CacheEntryKey) -> bool {
+    is_shown(alloc, empty, EMPTY) && empty.entry_id().is_none()
+}
+
+// An entry of a key, one of a key and an id, and the empty one are as they are spelled.
 #[test]
 fn entries_are_made(rt: HostRuntime) {
-    assert_eq!(rt; are_made(rt.alloc()), Some([true, true, true]));
+    assert!(rt; is_alone(rt.alloc()) && is_identified(rt.alloc()));
+    assert!(rt; is_empty(rt.alloc(), &CacheEntryKey::empty(rt.alloc())));
 }
 
-// A map of two entries of `aa` to numbers.
-fn map(alloc: Global) -> Option<IndexMap<CacheEntryKey, u64>> {
-    let mut map = IndexMap::new(alloc);
-    map.insert(entry(alloc, b"aa", None).ok()?, 1).ok()?;
-    map.insert(entry(alloc, b"aa", Some(7)).ok()?, 2).ok()?;
-    Some(map)
+type Map = IndexMap<CacheEntryKey, u64>;
+
+// Puts two entries of `aa`, with numbers.
+fn fills(alloc: Global, map: &mut Map) -> bool {
+    map.insert(item(alloc, b"aa", None), 1).is_ok()
+        && map.insert(item(alloc, b"aa", Some(7)), 2).is_ok()
 }
 
-// What it finds by a borrowed entry of `aa`.
-fn found(alloc: Global, id: Option<CacheEntryId>) -> Option<Option<u64>> {
-    let map = map(alloc)?;
-    let key = kept(alloc, b"aa").ok()?;
-    Some(map.get(CacheEntryKeyRef::from_entry_id(&key, id)).copied())
+// Whether a map finds this by a borrowed entry of a key.
+fn finds(map: &Map, key: &CompactCacheKey, id: Option<u64>, want: Option<u64>) -> bool {
+    let borrowed = CacheEntryKeyRef::from_entry_id(key, id.map(CacheEntryId::new));
+    map.get(borrowed).copied() == want
 }
 
 #[test]
 fn a_map_is_searched_by_borrowed_entries(rt: HostRuntime) {
+    let mut map = IndexMap::new(rt.alloc());
+    let key = known(rt.alloc());
+    assert!(rt; fills(rt.alloc(), &mut map));
     for (id, want) in [(None, Some(1)), (Some(7), Some(2)), (Some(8), None)] {
-        let id = id.map(CacheEntryId::new);
-        assert_eq!(rt; found(rt.alloc(), id), Some(want), "{id:?}");
+        assert!(rt; finds(&map, &key, id, want));
     }
 }

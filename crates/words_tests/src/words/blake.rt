@@ -40,7 +40,7 @@ fn digests_in_any_cut(rt: HostRuntime) {
         let digest = str2hex(digest);
         for piece_len in [1, 7, 63, 64, 127, 128, 129, 1000] {
             let found = digest_in_pieces(&bytes[..len.min(1000)], piece_len);
-            assert_eq!(rt; Some(found), digest);
+            assert!(rt; Some(found) == digest);
         }
     }
 }

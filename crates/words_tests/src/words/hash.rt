@@ -3,11 +3,8 @@ use cache_words::key::{HashBinary, hash_key, hash_u8, str2hex};
 
 #[test]
 fn hash_of_a_text(rt: HostRuntime) {
-    assert_eq!(rt;
-        Some(hash_key("tenant_a/path")),
-        str2hex("6c79e74e88bacb8eb370adb7617068c8")
-    );
-    assert_eq!(rt; hash_u8("tenant_a/path"), 0x6c);
+    assert!(rt; Some(hash_key("tenant_a/path")) == str2hex("6c79e74e88bacb8eb370adb7617068c8"));
+    assert!(rt; hash_u8("tenant_a/path") == 0x6c);
 }
 
 const HEX: &[(&str, Option<HashBinary>)] = &[
@@ -24,6 +21,6 @@ const HEX: &[(&str, Option<HashBinary>)] = &[
 #[test]
 fn hex_of_a_hash(rt: HostRuntime) {
     for &(text, hash) in HEX {
-        assert_eq!(rt; str2hex(text), hash);
+        assert!(rt; str2hex(text) == hash);
     }
 }

@@ -1,5 +1,5 @@
 //! Keys, their hashes and their texts.
-use crate::words::{distinct, is_shown, is_text};
+use crate::words::{are_distinct, bytes, is_shown, is_text, string};
 use cache_words::key::{CacheHashKey, CacheKey, CompactCacheKey, HashBinary, hash_key, str2hex};
 use std::alloc::{AllocError, Global};
 use std::fmt;
@@ -89,21 +89,27 @@ const CASES: &[Case] = &[
     },
 ];
 
-fn key_of(alloc: Global, primary: Vec<u8>, tag: &str) -> Option<CacheKey> {
-    let tag = String::from_str(alloc, tag).ok()?;
-    Some(CacheKey::new(primary, tag))
+fn key_of(alloc: Global, primary: &[u8], tag: &str) -> CacheKey {
+    CacheKey::new(bytes(alloc, primary), string(alloc, tag))
 }
 
-fn made(alloc: Global, case: &Case) -> Option<CacheKey> {
-    let primary = hex::decode(alloc, case.primary).ok()?;
-    let mut key = key_of(alloc, primary, case.tag)?;
+fn set(key: &mut CacheKey, case: &Case) {
     if let Some(variance) = hash_of(case.variance) {
         key.set_variance_key(variance);
     }
     if let Some(over) = hash_of(case.over) {
         key.set_primary_bin_override(over);
     }
-    Some(key)
+}
+
+fn made(alloc: Global, case: &Case) -> CacheKey {
+    let primary = match hex::decode(alloc, case.primary) {
+        Ok(primary) => primary,
+        Err(_) => Vec::new(alloc),
+    };
+    let mut key = CacheKey::new(primary, string(alloc, case.tag));
+    set(&mut key, case);
+    key
 }
 
 fn hash_of(text: Option<&str>) -> Option<HashBinary> {
@@ -118,22 +124,26 @@ fn shows<K: CacheHashKey + fmt::Display>(alloc: Global, key: &K, case: &Case) ->
         && is_shown(alloc, key, case.display)
 }
 
-fn is_case(alloc: Global, case: &Case) -> Option<bool> {
-    let key = made(alloc, case)?;
-    let kept = key.to_compact().ok()?;
-    Some(
-        shows(alloc, &key, case)
-            && shows(alloc, &kept, case)
-            && Some(hash_key(key.primary_key())) == str2hex(case.hash)
-            && key.primary_key_str().is_some() == case.text
-            && is_text(key.combined(alloc), case.combined),
-    )
+fn kept_shows(alloc: Global, key: &CacheKey, case: &Case) -> bool {
+    match key.to_compact() {
+        Ok(kept) => shows(alloc, &kept, case),
+        Err(AllocError) => false,
+    }
+}
+
+fn is_case(alloc: Global, key: &CacheKey, case: &Case) -> bool {
+    shows(alloc, key, case)
+        && kept_shows(alloc, key, case)
+        && Some(hash_key(key.primary_key())) == str2hex(case.hash)
+        && key.primary_key_str().is_some() == case.text
+        && is_text(key.combined(alloc), case.combined)
 }
 
 #[test]
 fn keys_as_the_original(rt: HostRuntime) {
     for case in CASES {
-        assert_eq!(rt; is_case(rt.alloc(), case), Some(true));
+        let key = made(rt.alloc(), case);
+        assert!(rt; is_case(rt.alloc(), &key, case));
     }
 }
 
@@ -201,13 +211,16 @@ fn take(key: &mut CacheKey, step: Step) {
     }
 }
 
-fn after(alloc: Global, primary: &[u8], steps: &[Step]) -> Option<CacheKey> {
-    let primary = Vec::from_slice(alloc, primary).ok()?;
-    let mut key = key_of(alloc, primary, "1")?;
-    for step in steps {
-        take(&mut key, *step);
+fn take_all(key: &mut CacheKey, steps: &[Step]) {
+    for &step in steps {
+        take(key, step);
     }
-    key.clone().ok()
+}
+
+fn after(alloc: Global, primary: &[u8], steps: &[Step]) -> CacheKey {
+    let mut key = key_of(alloc, primary, "1");
+    take_all(&mut key, steps);
+    key
 }
 
 fn is_variance(text: Result<Option<String>, AllocError>, want: Option<&str>) -> bool {
@@ -217,23 +230,34 @@ fn is_variance(text: Result<Option<String>, AllocError>, want: Option<&str>) -> 
     }
 }
 
-fn is_after(alloc: Global, row: Row) -> Option<bool> {
-    let (primary, steps, hash, variance, combined) = row;
-    let key = after(alloc, primary, steps)?;
-    let kept = key.to_compact().ok()?;
-    Some(
-        is_text(key.primary(alloc), hash)
-            && is_variance(key.variance(alloc), variance)
-            && is_text(key.combined(alloc), combined)
-            && key.get_variance_key().copied() == hash_of(variance)
-            && Some(kept.combined_bin()) == str2hex(combined),
-    )
+fn kept_combined(key: &CacheKey) -> Option<HashBinary> {
+    match key.to_compact() {
+        Ok(kept) => Some(kept.combined_bin()),
+        Err(AllocError) => None,
+    }
+}
+
+fn is_after(alloc: Global, key: &CacheKey, row: Row) -> bool {
+    let (_, _, hash, variance, combined) = row;
+    is_text(key.primary(alloc), hash)
+        && is_variance(key.variance(alloc), variance)
+        && is_text(key.combined(alloc), combined)
+        && key.get_variance_key().copied() == hash_of(variance)
+        && kept_combined(key) == str2hex(combined)
+}
+
+// The same of a copy of the key.
+fn copy_is_after(alloc: Global, row: Row) -> bool {
+    match after(alloc, row.0, row.1).clone() {
+        Ok(key) => is_after(alloc, &key, row),
+        Err(AllocError) => false,
+    }
 }
 
 #[test]
 fn steps_on_a_key(rt: HostRuntime) {
     for &row in STEPS {
-        assert_eq!(rt; is_after(rt.alloc(), row), Some(true));
+        assert!(rt; copy_is_after(rt.alloc(), row));
     }
 }
 
@@ -243,41 +267,50 @@ const TEXTS: &[(&[u8], Option<&str>)] = &[(b"aa", Some("aa")), (&[0x66, 0x6f, 0x
 #[test]
 fn bytes_that_are_text(rt: HostRuntime) {
     for &(primary, text) in TEXTS {
-        let is_right = match after(rt.alloc(), primary, &[]) {
-            Some(key) => key.primary_key_str() == text,
-            None => false,
-        };
-        assert!(rt; is_right);
+        let key = key_of(rt.alloc(), primary, "1");
+        assert!(rt; key.primary_key_str() == text);
     }
 }
 
-fn kept(alloc: Global, primary: &[u8], steps: &[Step]) -> Option<CompactCacheKey> {
-    after(alloc, primary, steps)?.to_compact().ok()
-}
-
-// Whether a key is its copy, is one with a variance, and is before that.
-fn compared(alloc: Global) -> Option<[bool; 3]> {
-    let plain = kept(alloc, b"aa", &[])?;
-    let copy = plain.clone().ok()?;
-    let varied = kept(alloc, b"aa", &[Step::SetVariance])?;
-    Some([plain == copy, plain == varied, plain < varied])
-}
-
-fn hashed_alike(alloc: Global) -> Option<usize> {
-    let mut keys = Vec::new(alloc);
-    for primary in [b"aa", b"bb", b"aa"] {
-        keys.push(kept(alloc, primary, &[])?).ok()?;
+// A kept key, or the empty one when out of memory.
+fn kept(alloc: Global, primary: &[u8], steps: &[Step]) -> CompactCacheKey {
+    match after(alloc, primary, steps).to_compact() {
+        Ok(key) => key,
+        Err(AllocError) => CompactCacheKey::empty(alloc),
     }
-    keys.push(CompactCacheKey::empty(alloc)).ok()?;
-    distinct(alloc, keys)
+}
+
+// Whether a key is its copy, and is not one with a variance, and before that.
+fn are_in_order(plain: &CompactCacheKey, varied: &CompactCacheKey) -> bool {
+    let is_copy = match plain.clone() {
+        Ok(copy) => *plain == copy,
+        Err(AllocError) => false,
+    };
+    is_copy && *plain != *varied && *plain < *varied
+}
+
+fn hash_alike(alloc: Global) -> bool {
+    let keys = vec![in alloc;
+        kept(alloc, b"aa", &[]),
+        kept(alloc, b"bb", &[]),
+        kept(alloc, b"aa", &[]),
+        CompactCacheKey::empty(alloc),
+    ];
+    match keys {
+        Ok(keys) => are_distinct(alloc, keys, 3),
+        Err(_) => false,
+    }
+}
+
+fn is_empty(key: &CompactCacheKey) -> bool {
+    key.primary_bin() == [0; 16] && key.variance_bin().is_none() && key.user_tag() == ""
 }
 
 #[test]
 fn kept_keys_compare_and_hash(rt: HostRuntime) {
-    assert_eq!(rt; compared(rt.alloc()), Some([true, false, true]));
-    assert_eq!(rt; hashed_alike(rt.alloc()), Some(3));
-    let key = CompactCacheKey::empty(rt.alloc());
-    assert!(rt;
-        key.primary_bin() == [0; 16] && key.variance_bin().is_none() && key.user_tag() == ""
-    );
+    let plain = kept(rt.alloc(), b"aa", &[]);
+    let varied = kept(rt.alloc(), b"aa", &[Step::SetVariance]);
+    assert!(rt; are_in_order(&plain, &varied));
+    assert!(rt; hash_alike(rt.alloc()));
+    assert!(rt; is_empty(&CompactCacheKey::empty(rt.alloc())));
 }

@@ -278,8 +278,8 @@ fn is_read(row: &Row) -> bool {
 #[test]
 fn values_are_read(rt: HostRuntime) {
     for rows in [NUMBERS, TEXTS, HASHES, MOMENTS] {
-        for (number, row) in rows.iter().enumerate() {
-            assert!(rt; is_read(row), "row {number}");
+        for row in rows {
+            assert!(rt; is_read(row));
         }
     }
 }

@@ -1,12 +1,11 @@
 //! Owned texts.
-use crate::words::distinct;
+use crate::words::{are_distinct, is_text, string};
 use cache_words::text::Text;
 use std::alloc::Global;
 use std::cmp::Ordering;
 
-fn text(alloc: Global, bytes: &str) -> Option<Text> {
-    let string = String::from_str(alloc, bytes).ok()?;
-    Some(Text::from_string(string))
+fn text(alloc: Global, bytes: &str) -> Text {
+    Text::from_string(string(alloc, bytes))
 }
 
 // Two texts and how they compare.
@@ -17,52 +16,43 @@ const ROWS: &[(&str, &str, Ordering)] = &[
     ("", "", Ordering::Equal),
 ];
 
-fn compared(
-    alloc: Global,
-    first: &str,
-    second: &str,
-) -> Option<(Ordering, Option<Ordering>, bool)> {
-    let first = text(alloc, first)?;
-    let second = text(alloc, second)?;
-    Some((
-        first.cmp(&second),
-        first.partial_cmp(&second),
-        first == second,
-    ))
+fn compare_so(first: &Text, second: &Text, order: Ordering) -> bool {
+    first.cmp(second) == order
+        && first.partial_cmp(second) == Some(order)
+        && (*first == *second) == (order == Ordering::Equal)
 }
 
 #[test]
 fn texts_compare(rt: HostRuntime) {
     for &(first, second, order) in ROWS {
-        let is_equal = order == Ordering::Equal;
-        assert_eq!(rt;
-            compared(rt.alloc(), first, second),
-            Some((order, Some(order), is_equal))
-        );
+        let (first, second) = (text(rt.alloc(), first), text(rt.alloc(), second));
+        assert!(rt; compare_so(&first, &second, order));
     }
 }
 
-// Whether a copy of a text shows it, lends it and gives it back.
-fn is_shown(alloc: Global) -> Option<bool> {
-    let short = text(alloc, "ab")?.clone().ok()?;
-    let shown = format!(in alloc; "{short} {short:?}").ok()?;
-    Some(
-        shown.as_str() == "ab \"ab\""
-            && short.as_str() == "ab"
-            && short.into_string().as_str() == "ab",
-    )
+// Whether a text is shown, lent and given back.
+fn is_whole(alloc: Global, short: Text) -> bool {
+    is_text(format!(in alloc; "{short} {short:?}"), "ab \"ab\"")
+        && short.as_str() == "ab"
+        && short.into_string().as_str() == "ab"
 }
 
-fn hashed_alike(alloc: Global) -> Option<usize> {
-    let mut texts = Vec::new(alloc);
-    for bytes in ["ab", "ab", "a"] {
-        texts.push(text(alloc, bytes)?).ok()?;
+fn copy_is_whole(alloc: Global) -> bool {
+    match text(alloc, "ab").clone() {
+        Ok(copy) => is_whole(alloc, copy),
+        Err(_) => false,
     }
-    distinct(alloc, texts)
+}
+
+fn hash_alike(alloc: Global) -> bool {
+    match vec![in alloc; text(alloc, "ab"), text(alloc, "ab"), text(alloc, "a")] {
+        Ok(texts) => are_distinct(alloc, texts, 2),
+        Err(_) => false,
+    }
 }
 
 #[test]
 fn texts_are_shown_and_hashed(rt: HostRuntime) {
-    assert_eq!(rt; is_shown(rt.alloc()), Some(true));
-    assert_eq!(rt; hashed_alike(rt.alloc()), Some(2));
+    assert!(rt; copy_is_whole(rt.alloc()));
+    assert!(rt; hash_alike(rt.alloc()));
 }

@@ -1,8 +1,7 @@
 //! Moments and durations.
-use crate::words::distinct;
+use crate::words::are_distinct;
 use cache_words::laws;
 use cache_words::time::{Duration, Moment};
-use std::alloc::Global;
 use std::cmp::Ordering;
 
 type Parts = (i64, u32);
@@ -52,7 +51,7 @@ fn later_and_earlier(start: Parts, span: Length) -> Option<(Option<Parts>, Optio
 #[test]
 fn later_and_earlier_moments(rt: HostRuntime) {
     for &(start, span, later, earlier) in SUMS {
-        assert_eq!(rt; later_and_earlier(start, span), Some((later, earlier)));
+        assert!(rt; later_and_earlier(start, span) == Some((later, earlier)));
     }
 }
 
@@ -72,7 +71,7 @@ fn elapsed(from: Parts, to: Parts) -> Option<Length> {
 #[test]
 fn elapsed_times(rt: HostRuntime) {
     for &(from, to, want) in ELAPSED {
-        assert_eq!(rt; elapsed(from, to), Some(want));
+        assert!(rt; elapsed(from, to) == Some(want));
     }
 }
 
@@ -99,7 +98,7 @@ fn order_of_moments(rt: HostRuntime) {
         } else {
             Ordering::Less
         };
-        assert_eq!(rt; compared(first, second), Some((true, is_same, order)));
+        assert!(rt; compared(first, second) == Some((true, is_same, order)));
     }
 }
 
@@ -146,8 +145,8 @@ fn stopping_sum(first: Length, second: Length) -> Option<Length> {
 fn sums_and_differences_of_durations(rt: HostRuntime) {
     let greatest = (u64::MAX, 999_999_999);
     for &(first, second, sum, rest) in LENGTHS {
-        assert_eq!(rt; sum_and_rest(first, second), Some((sum, rest)));
-        assert_eq!(rt; stopping_sum(first, second), Some(sum.unwrap_or(greatest)));
+        assert!(rt; sum_and_rest(first, second) == Some((sum, rest)));
+        assert!(rt; stopping_sum(first, second) == Some(sum.unwrap_or(greatest)));
     }
 }
 
@@ -171,26 +170,21 @@ fn lengths_compared(first: Length, second: Length) -> Option<(bool, bool, bool)>
 #[test]
 fn order_of_durations(rt: HostRuntime) {
     for &(longer, shorter) in LONGER {
-        assert_eq!(rt;
-            lengths_compared(longer, shorter),
-            Some((true, false, true))
-        );
-        assert_eq!(rt; lengths_compared(longer, longer), Some((true, true, false)));
+        assert!(rt; lengths_compared(longer, shorter) == Some((true, false, true)));
+        assert!(rt; lengths_compared(longer, longer) == Some((true, true, false)));
     }
-    assert_eq!(rt; Duration::zero(), Duration::from_seconds(0));
+    assert!(rt; Duration::zero() == Duration::from_seconds(0));
 }
 
-fn hashed_alike(alloc: Global) -> Option<usize> {
-    let mut times = Vec::new(alloc);
-    for seconds in [1, 2, 1] {
-        times
-            .push((Moment::from_seconds(seconds), Duration::zero()))
-            .ok()?;
-    }
-    distinct(alloc, times)
+fn at(seconds: i64) -> (Moment, Duration) {
+    (Moment::from_seconds(seconds), Duration::zero())
 }
 
 #[test]
 fn equal_times_hash_alike(rt: HostRuntime) {
-    assert_eq!(rt; hashed_alike(rt.alloc()), Some(2));
+    let times = vec![in rt.alloc(); at(1), at(2), at(1)];
+    assert!(rt; times.is_ok());
+    if let Ok(times) = times {
+        assert!(rt; are_distinct(rt.alloc(), times, 2));
+    }
 }

@@ -1,4 +1,5 @@
 //! The hash of what a response varies by.
+use crate::words::{bytes, string};
 use cache_words::key::{HashBinary, str2hex};
 use cache_words::laws;
 use cache_words::variance::VarianceBuilder;
@@ -50,59 +51,70 @@ const CASES: &[(&[Row], &str)] = &[
 ];
 
 // The names of one set in two orders, of which the second gives one of them twice.
-const ORDERS: &[&[Row]] = &[
-    &[
-        ("a", "1", Given::Borrowed),
-        ("b", "2", Given::Borrowed),
-        ("c", "3", Given::Borrowed),
-    ],
-    &[
-        ("c", "3", Given::OwnedBoth),
-        ("a", "0", Given::OwnedBoth),
-        ("b", "2", Given::OwnedBoth),
-        ("a", "1", Given::OwnedBoth),
-    ],
+const ORDER: &[Row] = &[
+    ("a", "1", Given::Borrowed),
+    ("b", "2", Given::Borrowed),
+    ("c", "3", Given::Borrowed),
 ];
 
-fn add(
-    alloc: Global,
-    builder: &mut VarianceBuilder<'static>,
-    name: &'static str,
-    value: &'static str,
-    given: Given,
-) -> Option<()> {
+const OTHER_ORDER: &[Row] = &[
+    ("c", "3", Given::OwnedBoth),
+    ("a", "0", Given::OwnedBoth),
+    ("b", "2", Given::OwnedBoth),
+    ("a", "1", Given::OwnedBoth),
+];
+
+fn is_added(alloc: Global, builder: &mut VarianceBuilder<'static>, row: Row) -> bool {
+    let (name, value, given) = row;
     match given {
-        Given::Borrowed => builder.add_value(name, value).ok(),
-        Given::OwnedValue => {
-            let value = Vec::from_slice(alloc, value.as_bytes()).ok()?;
-            builder.add_owned_value(name, value).ok()
-        }
-        Given::OwnedBoth => {
-            let value = Vec::from_slice(alloc, value.as_bytes()).ok()?;
-            let name = String::from_str(alloc, name).ok()?;
-            builder.add_owned_name_value(name, value).ok()
-        }
+        Given::Borrowed => builder.add_value(name, value).is_ok(),
+        Given::OwnedValue => builder
+            .add_owned_value(name, bytes(alloc, value.as_bytes()))
+            .is_ok(),
+        Given::OwnedBoth => builder
+            .add_owned_name_value(string(alloc, name), bytes(alloc, value.as_bytes()))
+            .is_ok(),
     }
 }
 
-fn hash_of(alloc: Global, rows: &[Row]) -> Option<Option<HashBinary>> {
-    let mut builder = VarianceBuilder::new(alloc);
-    for (name, value, given) in rows {
-        add(alloc, &mut builder, name, value, *given)?;
+fn are_added(alloc: Global, builder: &mut VarianceBuilder<'static>, rows: &[Row]) -> bool {
+    for &row in rows {
+        if !is_added(alloc, builder, row) {
+            return false;
+        }
     }
-    Some(builder.finalize())
+    true
+}
+
+// Whether rows have this hash.
+fn is_hash(alloc: Global, rows: &[Row], hash: Option<HashBinary>) -> bool {
+    let mut builder = VarianceBuilder::new(alloc);
+    are_added(alloc, &mut builder, rows) && builder.finalize() == hash
+}
+
+// The hash of rows; none where memory is refused, too.
+fn hash_of(alloc: Global, rows: &[Row]) -> Option<HashBinary> {
+    let mut builder = VarianceBuilder::new(alloc);
+    if are_added(alloc, &mut builder, rows) {
+        builder.finalize()
+    } else {
+        None
+    }
 }
 
 #[test]
 fn variances_as_the_original(rt: HostRuntime) {
     laws::any_order();
     for &(rows, hash) in CASES {
-        assert_eq!(rt; hash_of(rt.alloc(), rows), Some(str2hex(hash)));
+        assert!(rt; is_hash(rt.alloc(), rows, str2hex(hash)));
     }
-    assert_eq!(rt; hash_of(rt.alloc(), &[]), Some(None));
-    let hash = hash_of(rt.alloc(), ORDERS[0]);
-    assert!(rt; hash != Some(None) && hash.is_some());
-    assert_eq!(rt; hash, hash_of(rt.alloc(), ORDERS[1]));
+    assert!(rt; is_hash(rt.alloc(), &[], None));
+}
+
+#[test]
+fn orders_make_no_difference(rt: HostRuntime) {
+    let hash = hash_of(rt.alloc(), ORDER);
+    assert!(rt; hash.is_some() && is_hash(rt.alloc(), OTHER_ORDER, hash));
 }
 
 const LENT: &[Row] = &[
@@ -112,22 +124,22 @@ const LENT: &[Row] = &[
     ("d", "1", Given::Borrowed),
 ];
 
-// Whether there is a variance before and after values of each type are added, and its hash.
-fn lent(alloc: Global) -> Option<(bool, bool, Option<HashBinary>)> {
-    let vec = Vec::from_slice(alloc, b"1").ok()?;
-    let string = String::from_str(alloc, "1").ok()?;
+// Whether values of each type are added, and then there is a variance, which there wasn't before, with this hash.
+fn are_lent(alloc: Global, vec: &Vec<u8>, string: &String, hash: Option<HashBinary>) -> bool {
     let mut builder = VarianceBuilder::new(alloc);
     let before = builder.has_variance();
-    let are_added = builder.add_value("a", vec.as_slice()).is_ok()
+    !before
+        && builder.add_value("a", vec.as_slice()).is_ok()
         && builder.add_value("b", b"1").is_ok()
-        && builder.add_value("c", &vec).is_ok()
-        && builder.add_value("d", &string).is_ok();
-    let after = are_added && builder.has_variance();
-    Some((before, after, builder.finalize()))
+        && builder.add_value("c", vec).is_ok()
+        && builder.add_value("d", string).is_ok()
+        && builder.has_variance()
+        && builder.finalize() == hash
 }
 
 #[test]
 fn a_builder_takes_whatever_lends_bytes(rt: HostRuntime) {
+    let (vec, string) = (bytes(rt.alloc(), b"1"), string(rt.alloc(), "1"));
     let hash = hash_of(rt.alloc(), LENT);
-    assert_eq!(rt; lent(rt.alloc()), hash.map(|hash| (false, true, hash)));
+    assert!(rt; hash.is_some() && are_lent(rt.alloc(), &vec, &string, hash));
 }

@@ -1,5 +1,5 @@
 //! Values as MessagePack, written in the shortest form, and keys in both directions.
-use crate::words::is_shown;
+use crate::words::{is_shown, string};
 use cache_words::blake::Blake2b128;
 use cache_words::key::{CompactCacheKey, HashBinary, hash_key, str2hex};
 use cache_words::laws;
@@ -131,12 +131,10 @@ const KEYS: &[Row] = &[
 
 fn kept_key(alloc: Global, row: Row) -> Option<CompactCacheKey> {
     let (primary, variance, tag, _) = row;
-    let primary = str2hex(primary)?;
-    let tag = String::from_str(alloc, tag).ok()?;
     Some(CompactCacheKey {
-        primary,
+        primary: str2hex(primary)?,
         variance: variance.and_then(str2hex),
-        user_tag: Text::from_string(tag),
+        user_tag: Text::from_string(string(alloc, tag)),
     })
 }
 
@@ -151,23 +149,30 @@ fn is_key_written(alloc: Global, key: &CompactCacheKey, text: &[u8]) -> bool {
         && hasher.finalize() == hash_key(text)
 }
 
-fn is_key_read(alloc: Global, key: &CompactCacheKey, text: &[u8]) -> Option<bool> {
-    let read = Cursor { rest: text }.key().ok()?;
-    let kept = read.to_compact(alloc).ok()?;
-    Some(kept == *key)
+fn is_key_read(alloc: Global, key: &CompactCacheKey, text: &[u8]) -> bool {
+    match (Cursor { rest: text }.key()) {
+        Ok(read) => match read.to_compact(alloc) {
+            Ok(kept) => kept == *key,
+            Err(_) => false,
+        },
+        Err(_) => false,
+    }
 }
 
-fn is_both(alloc: Global, row: Row) -> Option<bool> {
-    let key = kept_key(alloc, row)?;
-    let text = hex::decode(alloc, row.3).ok()?;
-    let is_written = is_key_written(alloc, &key, text.as_slice());
-    Some(is_written && is_key_read(alloc, &key, text.as_slice())?)
+fn is_both(alloc: Global, key: &CompactCacheKey, text: &str) -> bool {
+    match hex::decode(alloc, text) {
+        Ok(text) => {
+            is_key_written(alloc, key, text.as_slice()) && is_key_read(alloc, key, text.as_slice())
+        }
+        Err(_) => false,
+    }
 }
 
 #[test]
 fn keys_are_written_and_read(rt: HostRuntime) {
     for &row in KEYS {
-        assert_eq!(rt; is_both(rt.alloc(), row), Some(true));
+        let key = kept_key(rt.alloc(), row);
+        assert!(rt; key.is_some_and(|key| is_both(rt.alloc(), &key, row.3)));
     }
 }
 

@@ -1,0 +1,113 @@
+//! How many rows running lists have while callers keep sending.
+
+ghost use Rattle.std.specs.Prelude.{◌<◌};
+
+use async_lru::AsyncLru;
+use rand_core::SeedableRng;
+use rand_pcg::Pcg64;
+use std::alloc::Global;
+use std::sync::Wait;
+use std::thread;
+use std::thread::Threads;
+
+/// Generators for so many eviction workers.
+fn generators(alloc: Global, workers: u64) -> Option<Vec<Pcg64>> {
+    let mut generators = Vec::new(alloc);
+    for seed in 0..workers {
+        generators.push(Pcg64::seed_from_u64(seed)).ok()?;
+    }
+    Some(generators)
+}
+
+/// Admits so many keys of weight 1, from `first` on, and returns the greatest number of rows that was seen.
+fn flood<R: Wait, const N: usize>(
+    rt: &R,
+    list: &AsyncLru<u64, N>,
+    first: u64,
+    keys: u64,
+) -> Option<usize> {
+    let mut most = 0;
+    for key in 0..keys {
+        list.admit(rt, first.wrapping_add(key), 1).ok()?;
+        most = list.len().max(most);
+    }
+    Some(most)
+}
+
+/// Whether the limit holds, for so many turns at most.
+fn comes_to_hold<const N: usize>(list: &AsyncLru<u64, N>) -> bool {
+    for _ in 0..10_000_000 {
+        if !list.over_limit() {
+            return true;
+        }
+        thread::yield_now();
+    }
+    false
+}
+
+/// Limit, 256 messages ahead, and one a caller.
+const MOST_ROWS: usize = 1_000 + 256 + 2;
+
+/// Whether two callers that admit so many keys each see no more rows than these, and the limit holds in the end.
+fn is_bounded<R: Threads + Wait + Sync, const N: usize>(
+    rt: &R,
+    list: &AsyncLru<u64, N>,
+    keys: u64,
+) -> bool {
+    let (first, second) = thread::join(
+        rt,
+        || flood(rt, list, 0, keys),
+        || flood(rt, list, keys, keys),
+    );
+    match (first, second) {
+        (Some(first), Some(second)) => {
+            first <= MOST_ROWS && second <= MOST_ROWS && comes_to_hold(list)
+        }
+        _ => false,
+    }
+}
+
+/// The same of a list of limit 1,000 whose generators are so many.
+fn bounds_rows<R: Threads + Wait + Copy + Send + Sync + 'static, const N: usize>(
+    rt: &R,
+    alloc: Global,
+    workers: u64,
+) -> Option<bool>
+    requires { 0 < N }
+{
+    let list: AsyncLru<u64, N> = AsyncLru::builder(1_000, |_: u64, _: usize| {})
+        .num_eviction_workers(N)
+        .build(rt, alloc, generators(alloc, workers)?)
+        .ok()?;
+    let bounded = is_bounded(rt, &list, 5_000);
+    list.shutdown(rt);
+    Some(bounded)
+}
+
+#[test]
+fn rows_past_the_limit_are_bounded(rt: HostRuntime) {
+    assert!(rt; bounds_rows::<HostRuntime, 1>(&rt, rt.alloc(), 1) == Some(true));
+    assert!(rt; bounds_rows::<HostRuntime, 4>(&rt, rt.alloc(), 1) == Some(true));
+    assert!(rt; bounds_rows::<HostRuntime, 16>(&rt, rt.alloc(), 16) == Some(true));
+}
+
+/// How much the rows of a list without eviction workers weigh in the end, where so many keys are admitted past its limit.
+fn unevicted<R: Threads + Wait + Copy + Send + Sync + 'static>(
+    rt: &R,
+    alloc: Global,
+    keys: u64,
+) -> Option<usize> {
+    let list: AsyncLru<u64, 1> = AsyncLru::builder(10, |_: u64, _: usize| {})
+        .build(rt, alloc, generators(alloc, 0)?)
+        .ok()?;
+    let sent = flood(rt, &list, 0, keys);
+    let weight = list.shard_weight(rt, 0);
+    list.shutdown(rt);
+    sent?;
+    weight.ok()
+}
+
+#[test]
+fn no_caller_waits_for_workers_that_are_not_there(rt: HostRuntime) {
+    assert!(rt; unevicted(&rt, rt.alloc(), 1_000) == Some(1_000));
+}

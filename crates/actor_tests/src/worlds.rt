@@ -1,0 +1,311 @@
+//! Steps of a world of actors, and what they leave.
+
+ghost use Rattle.std.specs.Prelude.{◌<◌};
+
+use async_lru::{Event, Message, Outcome, World};
+use lru_core::lru_unit::LruUnitIter;
+use secret_hasher::SecretHasher;
+use std::alloc::Global;
+use std::hash::BuildHasher;
+
+/// A step, and what it must answer.
+#[derive(Clone, Copy)]
+enum Step {
+    /// A key of that weight is admitted under itself; its shard.
+    Admit(u32, usize, usize),
+    /// A key of that weight is put last.
+    InsertTail(u32, usize),
+    Promote(u32),
+    Remove(u32),
+    /// Weight is added, up to a cap.
+    Increment(u32, usize, usize),
+    /// The actor of that shard acts: whether a message waited.
+    Act(usize, bool),
+    /// By these words a pair is evicted, or not.
+    Evict(u64, u64, bool),
+    /// The pair to call back with.
+    CallBack(u32, usize),
+    /// No pair waits.
+    NoCallBack,
+    /// The rows of that shard, most recent first.
+    Rows(usize, &'static [(u32, usize)]),
+}
+
+/// Steps from no rows, and what they leave: the pairs that wait for their callbacks, and the rows of shard 0.
+struct Row {
+    steps: &'static [Step],
+    dispatch: &'static [(u32, usize)],
+    rows: &'static [(u32, usize)],
+}
+
+const A: Step = Step::Admit(0, 1, 0);
+
+const B: Step = Step::Admit(2, 1, 0);
+
+const ACT: Step = Step::Act(0, true);
+
+/// A start of the caller's.
+const OWN: SecretHasher = SecretHasher { word: 7 };
+
+/// One shard and a limit of 1.
+const TIGHT: &[Row] = &[
+    Row {
+        steps: &[A, B, ACT, ACT, Step::Evict(0, 0, true)],
+        dispatch: &[(0, 1)],
+        rows: &[(2, 1)],
+    },
+    Row {
+        steps: &[A, B, ACT, Step::Evict(0, 0, false), ACT],
+        dispatch: &[],
+        rows: &[(2, 1), (0, 1)],
+    },
+    Row {
+        steps: &[
+            A,
+            B,
+            ACT,
+            Step::Evict(0, 0, false),
+            ACT,
+            Step::Evict(0, 0, true),
+        ],
+        dispatch: &[(0, 1)],
+        rows: &[(2, 1)],
+    },
+    Row {
+        steps: &[
+            A,
+            B,
+            ACT,
+            ACT,
+            Step::Evict(0, 0, true),
+            Step::CallBack(0, 1),
+            Step::NoCallBack,
+        ],
+        dispatch: &[],
+        rows: &[(2, 1)],
+    },
+    Row {
+        steps: &[
+            Step::Act(0, false),
+            A,
+            Step::InsertTail(2, 0),
+            ACT,
+            ACT,
+            Step::Promote(2),
+            ACT,
+        ],
+        dispatch: &[],
+        rows: &[(2, 0), (0, 1)],
+    },
+    Row {
+        steps: &[
+            Step::Increment(4, 7, 5),
+            A,
+            ACT,
+            ACT,
+            Step::Remove(0),
+            ACT,
+            Step::Act(0, false),
+        ],
+        dispatch: &[],
+        rows: &[(4, 5)],
+    },
+];
+
+/// Two shards and a limit of 1.
+const TWO: &[Row] = &[
+    Row {
+        steps: &[
+            A,
+            Step::Admit(1, 1, 1),
+            Step::Admit(3, 1, 1),
+            Step::Act(1, true),
+            Step::Rows(1, &[(1, 1)]),
+            ACT,
+            Step::Act(0, false),
+            Step::Act(1, true),
+            Step::Rows(1, &[(3, 1), (1, 1)]),
+            Step::Evict(0, 1, true),
+            Step::Rows(1, &[(3, 1)]),
+            Step::Evict(1, 0, true),
+            Step::Rows(1, &[]),
+            Step::Evict(1, 0, false),
+        ],
+        dispatch: &[(1, 1), (3, 1)],
+        rows: &[(0, 1)],
+    },
+    Row {
+        steps: &[
+            A,
+            Step::Admit(1, 1, 1),
+            ACT,
+            Step::Act(1, true),
+            Step::Evict(2, 3, true),
+            Step::CallBack(0, 1),
+            Step::Rows(1, &[(1, 1)]),
+            Step::Promote(1),
+            Step::Act(0, false),
+            Step::Act(1, true),
+        ],
+        dispatch: &[],
+        rows: &[],
+    },
+];
+
+/// What came of a step, as a plain value.
+#[derive(Clone, Copy, PartialEq, Eq)]
+enum Told {
+    Sent(usize),
+    Applied,
+    Evicted,
+    Called(u32, usize),
+    Nothing,
+    Refused,
+}
+
+fn told<const N: usize, S: BuildHasher>(world: &mut World<u32, N, S>, event: Event<u32>) -> Told {
+    match world.step(event) {
+        Ok(Outcome::Sent(shard)) => Told::Sent(shard),
+        Ok(Outcome::Applied) => Told::Applied,
+        Ok(Outcome::Evicted) => Told::Evicted,
+        Ok(Outcome::Called(key, weight)) => Told::Called(key, weight),
+        Ok(Outcome::Nothing) => Told::Nothing,
+        Err(_) => Told::Refused,
+    }
+}
+
+/// Whether an actor, an eviction or a callback does a step as it must.
+fn acts<const N: usize, S: BuildHasher>(world: &mut World<u32, N, S>, step: Step) -> bool {
+    match step {
+        Step::Act(shard, true) => told(world, Event::Act(shard)) == Told::Applied,
+        Step::Act(shard, false) => told(world, Event::Act(shard)) == Told::Nothing,
+        Step::Evict(a, b, true) => told(world, Event::Evict(a, b)) == Told::Evicted,
+        Step::Evict(a, b, false) => told(world, Event::Evict(a, b)) == Told::Nothing,
+        Step::CallBack(key, weight) => told(world, Event::CallBack) == Told::Called(key, weight),
+        Step::NoCallBack => told(world, Event::CallBack) == Told::Nothing,
+        Step::Rows(shard, rows) => has_rows(world, shard, rows),
+        _ => false,
+    }
+}
+
+/// Whether a world does a step as it must.
+fn does<const N: usize, S: BuildHasher>(world: &mut World<u32, N, S>, step: Step) -> bool {
+    match step {
+        Step::Admit(key, weight, to) => {
+            let message = Message::Admit(key as u64, key, weight);
+            told(world, Event::Send(message)) == Told::Sent(to)
+        }
+        Step::InsertTail(key, weight) => sends(world, Message::InsertTail(key as u64, key, weight)),
+        Step::Promote(key) => sends(world, Message::Promote(key as u64)),
+        Step::Remove(key) => sends(world, Message::Remove(key as u64)),
+        Step::Increment(key, delta, cap) => {
+            sends(
+                world,
+                Message::IncrementWeight(key as u64, key, delta, Some(cap)),
+            )
+        }
+        _ => acts(world, step),
+    }
+}
+
+/// Whether a message is sent, to whichever shard.
+fn sends<const N: usize, S: BuildHasher>(
+    world: &mut World<u32, N, S>,
+    message: Message<u32>,
+) -> bool {
+    match told(world, Event::Send(message)) {
+        Told::Sent(_) => true,
+        _ => false,
+    }
+}
+
+/// Whether a shard of the world has these rows.
+fn has_rows<const N: usize, S: BuildHasher>(
+    world: &World<u32, N, S>,
+    shard: usize,
+    rows: &[(u32, usize)],
+) -> bool {
+    let core = world.core();
+    if shard >= core.shards() {
+        return false;
+    }
+    are_all(core.iter(shard), rows)
+}
+
+fn are_all(mut there: LruUnitIter<'_, u32>, rows: &[(u32, usize)]) -> bool {
+    for pair in rows {
+        match there.next() {
+            Some((key, weight)) => {
+                if *key != pair.0 || weight != pair.1 {
+                    return false;
+                }
+            }
+            None => return false,
+        }
+    }
+    there.next().is_none()
+}
+
+/// Whether the world has these rows in shard 0, and these pairs wait for their callbacks.
+fn shows<const N: usize, S: BuildHasher>(world: &World<u32, N, S>, row: &Row) -> bool {
+    has_rows(world, 0, row.rows) && wait(world, row.dispatch)
+}
+
+fn wait<const N: usize, S: BuildHasher>(world: &World<u32, N, S>, pairs: &[(u32, usize)]) -> bool {
+    let mut there = world.dispatch().iter();
+    for pair in pairs {
+        if there.next() != Some(pair) {
+            return false;
+        }
+    }
+    there.next().is_none()
+}
+
+/// Whether a world does the steps of a row and shows what they leave.
+fn goes<const N: usize, S: BuildHasher + Drop>(mut world: World<u32, N, S>, row: &Row) -> bool {
+    for &step in row.steps {
+        if !does(&mut world, step) {
+            return false;
+        }
+    }
+    shows(&world, row)
+}
+
+fn fixed_goes<const N: usize>(alloc: Global, row: &Row) -> bool
+    requires { 0 < N }
+{
+    match World::<u32, N>::new(alloc, 1, None) {
+        Ok(world) => goes(world, row),
+        Err(_) => false,
+    }
+}
+
+fn own_goes<const N: usize>(alloc: Global, row: &Row) -> bool
+    requires { 0 < N }
+{
+    match World::<u32, N, SecretHasher>::with_hasher(alloc, OWN, 1, None) {
+        Ok(world) => goes(world, row),
+        Err(_) => false,
+    }
+}
+
+/// Whether a world of N shards of limit 1 does, under hashes with a fixed start and with one of the caller's.
+fn both_go<const N: usize>(alloc: Global, row: &Row) -> bool
+    requires { 0 < N }
+{
+    fixed_goes::<N>(alloc, row) && own_goes::<N>(alloc, row)
+}
+
+#[test]
+fn a_tight_world_evicts_the_last(rt: HostRuntime) {
+    for row in TIGHT {
+        assert!(rt; both_go::<1>(rt.alloc(), row));
+    }
+}
+
+#[test]
+fn two_words_pick_the_shard(rt: HostRuntime) {
+    for row in TWO {
+        assert!(rt; both_go::<2>(rt.alloc(), row));
+    }
+}

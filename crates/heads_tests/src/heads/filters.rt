@@ -1,0 +1,153 @@
+//! What is kept of a response, and what is sent to the origin.
+use super::{append, head, meta};
+use cache_heads::cache_control::CacheControl;
+use cache_heads::filters::upstream::request_filter;
+use cache_heads::filters::{
+    calculate_expires_header_time, calculate_fresh_until, calculate_serve_stale_durations,
+    request_cacheable, resp_cacheable,
+};
+use cache_heads::meta::{
+    CacheMetaDefaults, FreshDurationByStatusFn, NeverByStatus, RequestHeader, ResponseHeader,
+};
+use cache_heads::{NoCacheReason, RespCacheable};
+use cache_words::time::Moment;
+use http::{Method, StatusCode};
+use http_header::HeaderMap;
+use std::alloc::Global;
+
+// 5 seconds after second 1000.
+const DATE: &str = "Thu, 01 Jan 1970 00:16:45 GMT";
+
+// Nothing is fresh by its status, and the windows are 7 and 8 seconds.
+fn defaults() -> CacheMetaDefaults<NeverByStatus> {
+    CacheMetaDefaults::new(NeverByStatus, 7, 8)
+}
+
+// A field of a head, whether its request was authorized, the seconds that Expires gives, and those until which the response
+// is fresh that came at 1000. It is kept where there are such.
+type Row = (&'static str, &'static str, bool, Option<i64>, Option<i64>);
+
+const ROWS: &[Row] = &[
+    ("expires", DATE, false, Some(1005), Some(1005)),
+    ("expires", DATE, true, Some(1005), None),
+    (
+        "expires",
+        " Thu, 01 Jan 1970 00:16:45 GMT",
+        false,
+        Some(1005),
+        Some(1005),
+    ),
+    (
+        "expires",
+        "\tThu, 01 Jan 1970 00:16:45 GMT \t ",
+        false,
+        Some(1005),
+        Some(1005),
+    ),
+    (
+        "expires",
+        "Thu, 01 Jan 1970  00:16:45 GMT",
+        false,
+        Some(0),
+        Some(0),
+    ),
+    ("expires", " 0 ", false, Some(0), Some(0)),
+    ("expires", "", false, Some(0), Some(0)),
+    ("x-a", "1", false, None, None),
+];
+
+fn seconds_of(moment: Option<Moment>) -> Option<i64> {
+    match moment {
+        Some(moment) => Some(moment.seconds()),
+        None => None,
+    }
+}
+
+fn seconds(header: &ResponseHeader, authorized: bool) -> (Option<i64>, Option<i64>) {
+    let now = Moment::from_seconds(1000);
+    let until = calculate_fresh_until(now, None, header, authorized, &defaults());
+    let expires = calculate_expires_header_time(header);
+    (seconds_of(expires), seconds_of(until))
+}
+
+fn is_seconds(alloc: Global, row: &Row) -> Option<bool> {
+    let (name, value, authorized, expires, until) = *row;
+    let header = head(alloc, name, value)?;
+    Some(seconds(&header, authorized) == (expires, until))
+}
+
+// Whether the response is kept that came at 1000.
+fn is_kept(alloc: Global, row: &Row) -> Option<bool> {
+    let header = head(alloc, row.0, row.1)?;
+    let now = Moment::from_seconds(1000);
+    match resp_cacheable(now, None, header, row.2, &defaults()) {
+        RespCacheable::Cacheable(_) => Some(true),
+        RespCacheable::Uncacheable(NoCacheReason::OriginNotCache) => Some(false),
+        RespCacheable::Uncacheable(_) => None,
+    }
+}
+
+#[test]
+fn expires_gives_a_moment(rt: HostRuntime) {
+    for row in ROWS {
+        assert!(rt; is_seconds(rt.alloc(), row) == Some(true));
+        assert!(rt; is_kept(rt.alloc(), row) == Some(row.4.is_some()));
+    }
+}
+
+#[test]
+fn defaults_are_shown(rt: HostRuntime) {
+    let defaults = defaults();
+    assert!(rt; NeverByStatus.fresh_duration(StatusCode::OK).is_none());
+    assert!(rt; defaults.fresh_sec(StatusCode::OK).is_none());
+    assert!(rt; defaults.serve_stale_while_revalidate_sec() == 7);
+    assert!(rt; defaults.serve_stale_if_error_sec() == 8);
+    let windows = calculate_serve_stale_durations(None::<&CacheControl>, &defaults);
+    assert!(rt; windows == (7, 8));
+}
+
+#[test]
+fn reasons_have_names(rt: HostRuntime) {
+    assert!(rt; NoCacheReason::OriginNotCache.as_str() == "OriginNotCache");
+    assert!(rt; NoCacheReason::Custom("mine").as_str() == "mine");
+}
+
+fn is_cacheable(alloc: Global, method: Method) -> bool {
+    let headers = HeaderMap::new(alloc);
+    request_cacheable(&RequestHeader { method, headers })
+}
+
+#[test]
+fn methods_are_cacheable(rt: HostRuntime) {
+    assert!(rt; is_cacheable(rt.alloc(), Method::GET));
+    assert!(rt; is_cacheable(rt.alloc(), Method::HEAD));
+    assert!(rt; !is_cacheable(rt.alloc(), Method::POST));
+}
+
+// A HEAD request with a range; `None` when out of memory.
+fn ranged(alloc: Global) -> Option<RequestHeader> {
+    let mut headers = HeaderMap::new(alloc);
+    append(alloc, &mut headers, "range", "bytes=0-1")?;
+    append(alloc, &mut headers, "if-none-match", "\"b\"")?;
+    Some(RequestHeader {
+        method: Method::HEAD,
+        headers,
+    })
+}
+
+// Sends it on. Without memory it stays as it was.
+fn is_sent_or_kept(alloc: Global) -> Option<bool> {
+    let kept = meta(alloc)?;
+    let mut request = ranged(alloc)?;
+    let is_sent = request_filter(&mut request, Some(&kept)).is_ok();
+    Some(
+        (request.method == Method::GET) == is_sent
+            && request.headers.contains_key("range") != is_sent
+            && request.headers.contains_key("if-none-match"),
+    )
+}
+
+#[test]
+fn refused_request_is_unchanged(rt: HostRuntime) {
+    assert!(rt; is_sent_or_kept(rt.alloc()) != Some(false));
+}

@@ -1,0 +1,11 @@
+//! Tests of directives, metas, heads and responses against values from outside.
+#![tactic(auto)]
+
+#[cfg(test)]
+mod directives;
+#[cfg(test)]
+mod heads;
+#[cfg(test)]
+mod metas;
+#[cfg(test)]
+mod responses;

@@ -1,0 +1,81 @@
+#!/usr/bin/env python3
+"""Prints the rows of the tests, one a line, so that two forms of them can be compared:
+
+    python3 scripts/test-rows.py [FOLDER] > after
+    git worktree add /tmp/before HEAD~1 && python3 scripts/test-rows.py /tmp/before > before
+    diff before after
+
+A row is an element of a table (a constant slice or array, or the array that a loop goes over) as `TABLE: ROW`, a test as
+`test NAME`, or what a test asserts as `NAME asserts WHAT`. White space, the crate and the file are left out, and the lines are sorted, so a
+row that moved is the same row. Tables are those of crates named *_tests; traces of trace_cases are counted as lines of events."""
+import glob
+import os
+import re
+import sys
+
+OPENING, CLOSING = "([{", ")]}"
+
+
+def bare(text):
+    """The text without comments, and with each string as one word of no brackets."""
+    out, at = [], 0
+    pattern = re.compile(r'//[^\n]*|b?"(?:\\.|[^"\\])*"|b?\'(?:\\.|[^\'\\])\'', re.S)
+    for found in pattern.finditer(text):
+        out.append(text[at : found.start()])
+        if not found[0].startswith("//"):
+            out.append(re.sub(r"[()\[\]{},;]", lambda it: f"\\x{ord(it[0]):02x}", found[0]))
+        at = found.end()
+    return "".join(out) + text[at:]
+
+
+def end_of(text, start):
+    """Where the bracket that opens at start closes."""
+    depth = 0
+    for at in range(start, len(text)):
+        depth += (text[at] in OPENING) - (text[at] in CLOSING)
+        if not depth:
+            return at
+    sys.exit(f"no closing bracket: {text[start:start + 60]}")
+
+
+def parts(text):
+    """What commas part outside of brackets."""
+    depth, last, found = 0, 0, []
+    for at, sign in enumerate(text + ","):
+        depth += (sign in OPENING) - (sign in CLOSING)
+        if sign == "," and not depth:
+            found.append(text[last:at])
+            last = at + 1
+    return ["".join(it.split()).replace(",)", ")").replace(",]", "]").replace(",}", "}") for it in found if it.strip()]
+
+
+def rows_of(text):
+    for found in re.finditer(r"\b(?:const|static) (\w+)\s*:[^=;]*(?:;[^=;]*)*=\s*&?(?=\[)", text):
+        start = text.index("[", found.end())
+        for it in parts(text[start + 1 : end_of(text, start)]):
+            yield f"{found[1]}: {it}"
+    name = ""
+    for found in re.finditer(r"\bfn (\w+)|#\[test\]|\bassert(?:_eq|_ne)?!\(|\bfor [^{;]*? in (?=&?\[)|\blet \w+(?::[^=;]*)? = &?(?=\[)", text):
+        if found[1]:
+            name = found[1]
+        elif found[0] == "#[test]":
+            yield "test " + re.compile(r"fn (\w+)").search(text, found.end())[1]
+        elif found[0].startswith("assert"):
+            start = found.end() - 1
+            inside = text[start + 1 : end_of(text, start)].partition(";")[2]
+            yield f"{name} asserts {' == '.join(parts(inside)[: 2 if '_eq' in found[0] else 1])}"
+        else:
+            start = text.index("[", found.end() - 1)
+            for it in parts(text[start + 1 : end_of(text, start)]):
+                yield f"{name}: {it}"
+
+
+top = sys.argv[1] if len(sys.argv) > 1 else os.path.join(os.path.dirname(os.path.abspath(__file__)), "..")
+lines = []
+for path in glob.glob(os.path.join(glob.escape(top), "crates", "*_tests", "src", "**", "*.rt"), recursive=True):
+    with open(path, encoding="utf-8") as it:
+        lines += rows_of(bare(it.read()))
+for path in glob.glob(os.path.join(glob.escape(top), "crates", "trace_cases", "data", "*.jsonl")):
+    with open(path, encoding="utf-8") as it:
+        lines.append(f"trace {os.path.basename(path)}: {sum(1 for _ in it)} lines")
+print("\n".join(sorted(lines)))
