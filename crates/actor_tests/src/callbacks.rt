@@ -43,7 +43,7 @@ fn two_go<const N: usize>(list: &AsyncLru<u32, N>) -> bool {
     false
 }
 
-fn marks(alloc: Global) -> Option<Arc<Marks>> {
+fn new_marks(alloc: Global) -> Option<Arc<Marks>> {
     let begun = AtomicU64::new(0);
     let seen = AtomicU64::new(0);
     Arc::new(alloc, Marks { begun, seen }).ok()
@@ -72,7 +72,7 @@ fn sees<R: Threads + Wait + Copy + Send + 'static>(
     alloc: Global,
     workers: usize,
 ) -> Option<bool> {
-    let marks = marks(alloc)?;
+    let marks = new_marks(alloc)?;
     let theirs = Arc::try_clone(&marks).ok()?;
     let list: AsyncLru<u32, 1> = AsyncLru::builder(100, move |_: u32, _: usize| theirs.begin())
         .len_watermark(1)

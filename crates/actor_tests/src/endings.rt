@@ -73,7 +73,7 @@ impl<G: Rng> Rng for Shown<G> {
     }
 }
 
-fn signs(alloc: Global) -> Option<Arc<Signs>> {
+fn new_signs(alloc: Global) -> Option<Arc<Signs>> {
     let drawn = AtomicU64::new(0);
     let gone = AtomicU64::new(0);
     Arc::new(alloc, Signs { drawn, gone }).ok()
@@ -115,7 +115,7 @@ fn is_alone<R: Wait>(rt: &R, pairs: &Receiver<(u32, usize)>, wanted: (u32, usize
 /// Ends a list of limit 0 with two eviction workers while one of them is in a step of eviction, which goes on once the other has ended.
 /// Returns whether the pair that is evicted then is the only one.
 fn ends<R: Threads + Wait + Copy + Send + 'static>(rt: &R, alloc: Global) -> Option<bool> {
-    let signs = signs(alloc)?;
+    let signs = new_signs(alloc)?;
     let (list, pairs) = AsyncLru::builder(0, |_: u32, _: usize| {})
         .num_eviction_workers(2)
         .build_with_eviction_receiver(rt, alloc, generators(alloc, &signs)?)

@@ -163,7 +163,10 @@ enum Told {
     Refused,
 }
 
-fn told<const N: usize, S: BuildHasher>(world: &mut World<u32, N, S>, event: Event<u32>) -> Told {
+fn outcome_of<const N: usize, S: BuildHasher>(
+    world: &mut World<u32, N, S>,
+    event: Event<u32>,
+) -> Told {
     match world.step(event) {
         Ok(Outcome::Sent(shard)) => Told::Sent(shard),
         Ok(Outcome::Applied) => Told::Applied,
@@ -177,12 +180,13 @@ fn told<const N: usize, S: BuildHasher>(world: &mut World<u32, N, S>, event: Eve
 /// Whether an actor, an eviction or a callback does a step as it must.
 fn acts<const N: usize, S: BuildHasher>(world: &mut World<u32, N, S>, step: Step) -> bool {
     match step {
-        Step::Act(shard, true) => told(world, Event::Act(shard)) == Told::Applied,
-        Step::Act(shard, false) => told(world, Event::Act(shard)) == Told::Nothing,
-        Step::Evict(a, b, true) => told(world, Event::Evict(a, b)) == Told::Evicted,
-        Step::Evict(a, b, false) => told(world, Event::Evict(a, b)) == Told::Nothing,
-        Step::CallBack(key, weight) => told(world, Event::CallBack) == Told::Called(key, weight),
-        Step::NoCallBack => told(world, Event::CallBack) == Told::Nothing,
+        Step::Act(shard, true) => outcome_of(world, Event::Act(shard)) == Told::Applied,
+        Step::Act(shard, false) => outcome_of(world, Event::Act(shard)) == Told::Nothing,
+        Step::Evict(a, b, true) => outcome_of(world, Event::Evict(a, b)) == Told::Evicted,
+        Step::Evict(a, b, false) => outcome_of(world, Event::Evict(a, b)) == Told::Nothing,
+        Step::CallBack(key, weight) => outcome_of(world, Event::CallBack)
+            == Told::Called(key, weight),
+        Step::NoCallBack => outcome_of(world, Event::CallBack) == Told::Nothing,
         Step::Rows(shard, rows) => has_rows(world, shard, rows),
         _ => false,
     }
@@ -193,7 +197,7 @@ fn does<const N: usize, S: BuildHasher>(world: &mut World<u32, N, S>, step: Step
     match step {
         Step::Admit(key, weight, to) => {
             let message = Message::Admit(key as u64, key, weight);
-            told(world, Event::Send(message)) == Told::Sent(to)
+            outcome_of(world, Event::Send(message)) == Told::Sent(to)
         }
         Step::InsertTail(key, weight) => sends(world, Message::InsertTail(key as u64, key, weight)),
         Step::Promote(key) => sends(world, Message::Promote(key as u64)),
@@ -213,7 +217,7 @@ fn sends<const N: usize, S: BuildHasher>(
     world: &mut World<u32, N, S>,
     message: Message<u32>,
 ) -> bool {
-    match told(world, Event::Send(message)) {
+    match outcome_of(world, Event::Send(message)) {
         Told::Sent(_) => true,
         _ => false,
     }

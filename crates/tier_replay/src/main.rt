@@ -3,13 +3,15 @@
 #![tactic(auto)]
 
 use log::{Log, warn};
+use lru_files::persistence::HostFolder;
 use secret_hasher::SecretHasher;
 use std::io;
 use std::process::ExitCode;
 use std::random::RandomSource;
-use std::rt::Env;
+use std::rt::{Env, Files};
 use trace_replay::options::{OptionsError, options, words};
-use trace_replay::replay::{ReplayError, run};
+use trace_replay::replay::ReplayError;
+use trace_replay::restart::run_in;
 use trace_replay::status::{Fault, status};
 
 fn main(rt: HostRuntime) -> ExitCode {
@@ -27,14 +29,25 @@ fn random_start<R: RandomSource>(rt: &R) -> Result<SecretHasher, io::Error> {
 }
 
 // Replays standard input by the options of the command line.
-fn replay_input<R: Env + Input + Print + AllocGlobal + RandomSource>(rt: &R) -> Result<(), Fault> {
+fn replay_input<R: Env + Files + Input + Print + AllocGlobal + RandomSource + Clone + Drop>(
+    rt: &R,
+) -> Result<(), Fault> {
     let alloc = rt.alloc();
     let words = words(rt).map_err(Fault::Options)?;
     let options = options(alloc, words.as_slice()).map_err(Fault::Options)?;
     let hasher = random_start(rt).map_err(|error| Fault::Replay(ReplayError::from(error)))?;
     let mut reader = rt.reader();
     let mut writer = io::writer(rt);
-    run(alloc, hasher, &mut reader, &mut writer, &options).map_err(Fault::Replay)
+    let mut folder = HostFolder::new(rt.clone()?);
+    run_in(
+        alloc,
+        hasher,
+        &mut folder,
+        &mut reader,
+        &mut writer,
+        &options,
+    )
+    .map_err(Fault::Replay)
 }
 
 // Shows a fault on standard error, and a text that was requested on standard output: where that can't be written, this is the outcome.

@@ -4,3 +4,5 @@ pub mod WindowLemmas
 pub mod OutputLemmas
 pub mod Progress
 pub mod OptionLemmas
+pub mod DrawLaws
+pub mod RestartLaws

@@ -19,7 +19,7 @@ app_is_simple : is_simple app ≡ true
 unfolding clap_on_literals
 app_is_simple = refl
 
-first_value-words : (id : Text) (m : ArgMatches) (words : List Text) → HasMatchesOf app words m → first_value (found_of m) id ≡ value_of id words
+pub first_value-words : (id : Text) (m : ArgMatches) (words : List Text) → HasMatchesOf app words m → first_value (found_of m) id ≡ value_of id words
 first_value-words id m words h = first_value-rows (found_of m) id ∙ ap (first_of id) (h app_is_simple).0
 
 pub given_by_words : (id : Text) (m : ArgMatches) (words : List Text) (number : Option ℕ) → HasMatchesOf app words m

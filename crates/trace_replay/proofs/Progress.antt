@@ -5,11 +5,9 @@ use Rattle.std.specs.Io.KnownBytes.{Appends, Keeps, prepend_known}
 use Rattle.std.specs.Io.BufRead.{take_through, drop_through, strip_last}
 use Rattle.tier_model.specs.declared.event.Event.{Event}
 use Rattle.tier_model.specs.Calls.{Call, History, Outcome, extended}
-use Rattle.tier_model.specs.Histories.{empty_opening}
-use Rattle.tier_model.specs.Past.{HasPast, AreTaken, CarriesHeadline}
+use Rattle.tier_model.specs.Past.{HasPast, IsLawful, AreTaken, CarriesHeadline, state_of}
 use Rattle.tier_model.specs.Reports.{report_of}
-use Rattle.tier_model.specs.State.{empty_state}
-use Rattle.tier_model.proofs.Carried.{empty-past, CarriesHeadline-taken}
+use Rattle.tier_model.proofs.Carried.{HasPast-lawful, CarriesHeadline-taken}
 use Rattle.cache_tier.specs.Draws.{AreAllDrawn}
 use Rattle.cache_tier.specs.Takes.{Takes}
 use Rattle.cache_tier.proofs.RunLaws.{StepsBy-takes, taken-more, drawn-more}
@@ -19,7 +17,7 @@ use Rattle.trace_lines.specs.declared.line.Line.{Line}
 use Rattle.trace_lines.specs.declared.line.Line.TheVariants.{Refused, Accepted}
 use Rattle.trace_replay.specs.Inputs.{IsLineBefore}
 use Rattle.trace_replay.specs.Outputs.{Passes, HasBegun}
-use Rattle.trace_replay.specs.Replays.{requests_in, lines_in, ended, last_text, Start, AreFromWords, Replays, IsReplay, IsBegun}
+use Rattle.trace_replay.specs.Replays.{requests_in, lines_in, ended, last_text, Start, AreFromWords, Replays, EndsReplay, IsReplay, IsBegun}
 use Rattle.trace_replay.specs.Steps.{Place, Answers}
 use Rattle.std.proofs.BufReadLemmas.{take_through-nil}
 use Rattle.std.proofs.KnownBytes.{Appends-nil, Appends-trans}
@@ -41,8 +39,8 @@ replays_more (Accepted event ∷ lines) line past h new answers text before one 
 pub record HasTaken (start : Start) (history : History) (place : Place) : Type 0 where
   pub calls : List Call
   pub are : extended [] calls ≡ history
-  pub taken : AreTaken (empty_state start.settings) calls place.state
-  pub drawn : AreAllDrawn (empty_state start.settings) calls start.words place.words
+  pub taken : AreTaken (state_of start.opening []) calls place.state
+  pub drawn : AreAllDrawn (state_of start.opening []) calls start.words place.words
 
 extended-more : (past : History) (calls : List Call) (c : Call) → extended past (calls ++ c ∷ []) ≡ c ∷ extended past calls
 extended-more past [] c = refl
@@ -67,8 +65,8 @@ taken_more start history old new event outcome before takes =
       took = record {
         calls = before.calls ++ step.0 ∷ [];
         are = extended-more [] before.calls step.0 ∙ ap (λ (h : History). step.0 ∷ h) before.are;
-        taken = taken-more (empty_state start.settings) before.calls old.state step.0 new.state before.taken step.3 step.4;
-        drawn = drawn-more (empty_state start.settings) before.calls old.state step.0 start.words old.words new.words before.taken before.drawn step.5;
+        taken = taken-more (state_of start.opening []) before.calls old.state step.0 new.state before.taken step.3 step.4;
+        drawn = drawn-more (state_of start.opening []) before.calls old.state step.0 start.words old.words new.words before.taken before.drawn step.5;
       };
       carries = CarriesHeadline-taken old.state (step.0 ∷ []) new.state (step.3, step.4);
     }
@@ -79,7 +77,7 @@ pub record Answered (start : Start) (lines left : List Line) (answers : List ℕ
   pub history : History
   pub split : lines ≡ answered ++ left
   pub replays : Replays answered [] history answers
-  pub past : HasPast (empty_opening start.settings) place.state history
+  pub past : HasPast start.opening place.state history
   pub took : HasTaken start history place
 
 -- of the answers, `sent` are written and the others are waiting
@@ -95,7 +93,7 @@ pub record Progress (start : Start) (trace : List ℕ) (reads : ℕ) (rest held 
 abbrev pub Halfway : Start → ℕ → Option (List ℕ) → Option (List ℕ) → Option (List ℕ) → Option (List ℕ) → List ℕ → Place → Type 0
 Halfway start reads input rest held written waiting place = IfSome input (λ trace. Progress start trace reads rest held written waiting place)
 
-answered_none : (start : Start) (lines : List Line) (place : Place) → HasPast (empty_opening start.settings) place.state [] → HasTaken start [] place → Answered start lines lines [] place
+answered_none : (start : Start) (lines : List Line) (place : Place) → HasPast start.opening place.state [] → HasTaken start [] place → Answered start lines lines [] place
 answered_none start lines place past took = record {
   answered = [];
   history = [];
@@ -105,17 +103,17 @@ answered_none start lines place past took = record {
   took = took;
 }
 
-pub halfway_start : (start : Start) (input held : Option (List ℕ)) (place : Place) (front waiting : List ℕ) → HasPast (empty_opening start.settings) place.state [] → place.state ≡ empty_state start.settings
+pub halfway_start : (start : Start) (input held : Option (List ℕ)) (place : Place) (front waiting : List ℕ) → HasPast start.opening place.state []
     → place.words ≡ start.words → front ≡ [] → waiting ≡ [] → Halfway start 0 input (prepend_known front input) held held waiting place
-halfway_start start None held place front waiting past state words none empty = tt
-halfway_start start (Some trace) held place front waiting past state words none empty = record {
+halfway_start start None held place front waiting past words none empty = tt
+halfway_start start (Some trace) held place front waiting past words none empty = record {
   left = trace;
   sent = [];
   unread = ap (λ f. prepend_known f (Some trace)) none;
   counted = omega arith;
   appended = Appends-nil held;
   so_far = subst (λ w. Answered start (requests_in trace) (requests_in trace) w place) (sym empty)
-      (answered_none start (requests_in trace) place past (record { calls = []; are = refl; taken = state; drawn = words }));
+      (answered_none start (requests_in trace) place past (record { calls = []; are = refl; taken = past.state; drawn = words }));
 }
 
 answered_more : (start : Start) (old new : Place) (lines : List Line) (line : Line) (left : List Line) (answers text : List ℕ)
@@ -125,12 +123,12 @@ answered_more start old new lines (Refused refusal) left answers text so_far ans
   history = so_far.history;
   split = so_far.split ∙ sym (append_assoc so_far.answered (Refused refusal ∷ []) left);
   replays = replays_more so_far.answered (Refused refusal) [] so_far.history so_far.history answers text so_far.replays ([], answer.2 ∙ (ap ended answer.1.2 ∙ sym (append-nil (ended (refusal_text refusal)))), (refl, refl));
-  past = subst (λ s. HasPast (empty_opening start.settings) s so_far.history) (sym answer.1.0) so_far.past;
+  past = subst (λ s. HasPast start.opening s so_far.history) (sym answer.1.0) so_far.past;
   took = record {
     calls = so_far.took.calls;
     are = so_far.took.are;
-    taken = subst (λ s. AreTaken (empty_state start.settings) so_far.took.calls s) (sym answer.1.0) so_far.took.taken;
-    drawn = subst (λ s. AreAllDrawn (empty_state start.settings) so_far.took.calls start.words s) (sym answer.1.1) so_far.took.drawn;
+    taken = subst (λ s. AreTaken (state_of start.opening []) so_far.took.calls s) (sym answer.1.0) so_far.took.taken;
+    drawn = subst (λ s. AreAllDrawn (state_of start.opening []) so_far.took.calls start.words s) (sym answer.1.1) so_far.took.drawn;
   };
 }
 answered_more start old new lines (Accepted event) left answers text so_far answer =
@@ -142,7 +140,7 @@ answered_more start old new lines (Accepted event) left answers text so_far answ
       split = so_far.split ∙ sym (append_assoc so_far.answered (Accepted event ∷ []) left);
       replays = replays_more so_far.answered (Accepted event) [] so_far.history (call ∷ so_far.history) answers text so_far.replays
           (call, [], more.event_is, answer.2 ∙ (ap ended (answer.1.2 ∙ ap outcome_text (sym more.outcome_is)) ∙ sym (append-nil (ended (outcome_text call.outcome)))), (refl, refl));
-      past = more.carries (empty_opening start.settings) so_far.history so_far.past;
+      past = more.carries start.opening so_far.history so_far.past;
       took = more.took;
     }
 
@@ -221,9 +219,15 @@ halfway_more start reads n (Some trace) next held new old after front skipped wa
     (subst (λ l. Answers old after (line_of l) text) stripped answer) more_is
 
 -- what is written after the last line
-abbrev pub IsDone : Start → Option (List ℕ) → Option (List ℕ) → Option (List ℕ) → Type 0
-IsDone start input held new =
-    IfSome input (λ trace. (text : List ℕ) × Appends held new text × IsReplay start (requests_in trace) text)
+abbrev pub IsDone : Start → Option (List ℕ) → Option (List ℕ) → Option (List ℕ) → Place → Type 0
+IsDone start input held new place =
+    IfSome input (λ trace. (text : List ℕ) × Appends held new text × EndsReplay start (requests_in trace) text place.state place.words)
+
+-- whatever is left then
+pub done_is_replay : (start : Start) (input held new : Option (List ℕ)) (place : Place) → IsDone start input held new place
+    → IfSome input (λ trace. (text : List ℕ) × Appends held new text × IsReplay start (requests_in trace) text)
+done_is_replay start None held new place done = tt
+done_is_replay start (Some trace) held new place done = (done.0, done.1, record { state = place.state; words = place.words; ends = done.2 })
 
 -- what is written at an early end
 abbrev pub IsCutShort : Start → Option (List ℕ) → Option (List ℕ) → Option (List ℕ) → Type 0
@@ -243,17 +247,17 @@ nothing_left start reads n trace next held new front waiting place half first ze
     no_line front known.0 half.left n zero (subst (λ o. IfSome o (λ rest. IsLineBefore n front rest)) known.1 first) known.2
 
 -- the words are those of the calls
-from_words : (start : Start) (history : History) (place : Place) → HasTaken start history place → AreFromWords start history
-from_words start history place took = (took.calls, took.are, (place.words, took.drawn))
+from_words : (start : Start) (history : History) (place : Place) → HasTaken start history place → AreFromWords start history place.words
+from_words start history place took = (took.calls, took.are, took.drawn)
 
 all_answered : (start : Start) (lines : List Line) (answers : List ℕ) (place : Place) → Answered start lines [] answers place
-    → (history : History) × Replays lines [] history answers × HasPast (empty_opening start.settings) place.state history × AreFromWords start history
+    → (history : History) × Replays lines [] history answers × HasPast start.opening place.state history × AreFromWords start history place.words
 all_answered start lines answers place so_far =
     (so_far.history, subst (λ l. Replays l [] so_far.history answers) (sym (so_far.split ∙ append-nil so_far.answered)) so_far.replays, so_far.past, from_words start so_far.history place so_far.took)
 
 pub halfway_done : (start : Start) (reads n : ℕ) (input next held written new : Option (List ℕ)) (front waiting : List ℕ) (place : Place)
     → Halfway start reads input (prepend_known front next) held written waiting place → IfSome next (λ rest. IsLineBefore n front rest) → n ≡ 0
-    → Appends written new (waiting ++ ended (report_text (report_of place.state))) → IsDone start input held new
+    → Appends written new (waiting ++ ended (report_text (report_of place.state))) → IsDone start input held new place
 halfway_done start reads n None next held written new front waiting place half first zero writes = tt
 halfway_done start reads n (Some trace) next held written new front waiting place half first zero writes =
     let report : List ℕ = ended (report_text (report_of place.state)) in
@@ -265,7 +269,6 @@ halfway_done start reads n (Some trace) next held written new front waiting plac
       record {
         history = all.0;
         answers = half.sent ++ waiting;
-        state = place.state;
         replays = all.1;
         past = all.2;
         drawn = all.3;
@@ -290,7 +293,7 @@ cut_short start trace reads rest held written new waiting later place half last 
     split = half.so_far.split;
     replays = half.so_far.replays;
     past = half.so_far.past;
-    drawn = from_words start half.so_far.history place half.so_far.took;
+    drawn = (place.words, from_words start half.so_far.history place half.so_far.took);
     begins = ap (λ l. (half.sent ++ waiting) ++ l) last ∙ (append_assoc half.sent waiting later ∙ (ap (λ l. half.sent ++ l) begun.1.1 ∙ sym (append_assoc half.sent begun.1.0 begun.0)));
   },
 )
@@ -314,9 +317,9 @@ halfway_cut_last start reads n (Some trace) next held written new front waiting 
     (ap (λ l. last_text (requests_in l) place.state) none) begun
 
 -- an early end before the first line
-pub cut_at_start : (start : Start) (input held : Option (List ℕ)) → 0 < start.settings.shards → IsCutShort start input held held
-cut_at_start start None held pos = tt
-cut_at_start start (Some trace) held pos = (
+pub cut_at_start : (start : Start) (input held : Option (List ℕ)) → IsLawful start.opening [] → IsCutShort start input held held
+cut_at_start start None held lawful = tt
+cut_at_start start (Some trace) held lawful = (
   [],
   Appends-nil held,
   record {
@@ -324,12 +327,12 @@ cut_at_start start (Some trace) held pos = (
     left = requests_in trace;
     history = [];
     answers = [];
-    state = empty_state start.settings;
-    rest = last_text (requests_in trace) (empty_state start.settings);
+    state = state_of start.opening [];
+    rest = last_text (requests_in trace) (state_of start.opening []);
     split = refl;
     replays = (refl, refl);
-    past = empty-past start.settings pos;
-    drawn = ([], refl, (start.words, refl));
+    past = HasPast-lawful start.opening (state_of start.opening []) [] lawful refl;
+    drawn = (start.words, ([], refl, refl));
     begins = refl;
   },
 )

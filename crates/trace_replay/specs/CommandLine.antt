@@ -1,5 +1,6 @@
 -- What the words of a command line give.
-use Rattle.std.specs.Prelude.{◌≡◌, ℕ, Bool, true, false, ◌<◌, ◌^◌, bytes_eq, if◌then◌else◌, List, codes, Option, Some, None, Result, Ok, Err, ⊤, []}
+use Rattle.std.specs.Prelude.{◌≡◌, ℕ, Bool, true, false, ◌<◌, ◌^◌, bytes_eq, if◌then◌else◌, List, codes, Option, Some, None, option_map, String, string_bytes, Result, Ok, Err, ⊤, []}
+use Rattle.std.specs.declared.alloc.Global.{Global}
 use Rattle.std.specs.Str.Parse.{IsNumeral, digits_value, without_leading_plus}
 use Rattle.clap.specs.Values.{kind_of}
 use Rattle.clap.specs.declared.error.kind.ErrorKind.TheVariants.{InvalidValue, ValueValidation}
@@ -8,6 +9,7 @@ use Rattle.clap.specs.Simple.{App, new_rule, new_app, on_top, with_rule, matches
 use Rattle.clap.specs.Faults.{fault_of}
 use Rattle.clap.specs.Kinds.{IsAmong}
 use Rattle.cache_words.specs.Time.{span_of}
+use Rattle.tier_model.specs.Histories.{empty_opening}
 use Rattle.tier_model.specs.State.{Settings}
 use Rattle.trace_replay.specs.declared.options.OptionName.{OptionName}
 use Rattle.trace_replay.specs.declared.options.OptionName.TheVariants.{Limit, Watermark, Shards, Seed}
@@ -31,9 +33,9 @@ named_app = on_top (λ shape. record shape { has_version = true }) (new_app (cod
 abbrev pub limited_app : App
 limited_app = with_rule (with_rule named_app (option_rule (codes "limit") true)) (option_rule (codes "watermark") false)
 
--- the same with `[--shards COUNT] [--seed SEED]`
+-- the same with `[--shards COUNT] [--seed SEED] [--recency DIR]`
 abbrev pub app : App
-app = with_rule (with_rule limited_app (option_rule (codes "shards") false)) (option_rule (codes "seed") false)
+app = with_rule (with_rule (with_rule limited_app (option_rule (codes "shards") false)) (option_rule (codes "seed") false)) (option_rule (codes "recency") false)
 
 -- the text that the words give an option
 abbrev pub value_of : Text → List Text → Option Text
@@ -115,13 +117,19 @@ IsReadShards value (Err Memory) = Unit {0}
 IsReadShards value (Err (WrongValue shown error)) = (shown ≡ Shards) × (kind_of error ≡ ValueValidation) × (shards_in value ≡ None)
 IsReadShards value (Err _) = ⊥
 
+-- what the text of an option was read as
+abbrev pub IsReadText : Option Text → Result (Option (String Global)) OptionsError → Type 0
+IsReadText value (Ok text) = option_map string_bytes text ≡ value
+IsReadText value (Err Memory) = Unit {0}
+IsReadText value (Err _) = ⊥
+
 -- the empty tier that the options describe, of n shards: a permit's age is ten seconds, and a wait has no end
 abbrev pub settings_over : ℕ → ReplayOptions → Settings
 settings_over n o = record { shards = n; limit = o.limit; watermark = o.watermark; age = span_of 10; wait = None }
 
 -- with that tier and the words of the seed a replay begins
 abbrev pub start_over : ℕ → ReplayOptions → Start
-start_over n o = record { settings = settings_over n o; words = words_of o.seed }
+start_over n o = record { opening = empty_opening (settings_over n o); words = words_of o.seed }
 
 abbrev pub count_of : ShardCount → ℕ
 count_of One = 1

@@ -6,3 +6,4 @@ pub mod Errors
 pub mod Inputs
 pub mod Outputs
 pub mod Words
+pub mod Restarts

@@ -2,10 +2,10 @@
 use Rattle.std.specs.Prelude.{◌≡◌, ℕ, ◌==◌, List, [], ◌∷◌, ◌++◌, map, if◌then◌else◌}
 use Rattle.rand_core.specs.Stream.{Stream}
 use Rattle.tier_model.specs.Calls.{Call, History, extended}
-use Rattle.tier_model.specs.Histories.{empty_opening}
-use Rattle.tier_model.specs.Past.{HasPast}
+use Rattle.tier_model.specs.Histories.{Opening}
+use Rattle.tier_model.specs.Past.{HasPast, state_of}
 use Rattle.tier_model.specs.Reports.{report_of}
-use Rattle.tier_model.specs.State.{Settings, State, empty_state}
+use Rattle.tier_model.specs.State.{State}
 use Rattle.cache_tier.specs.Draws.{AreAllDrawn}
 use Rattle.trace_lines.specs.Lines.{line_of}
 use Rattle.trace_lines.specs.Texts.{outcome_text, refusal_text, report_text}
@@ -39,25 +39,30 @@ Replays (Refused refusal ∷ lines) past h text =
 Replays (Accepted event ∷ lines) past h text =
     (call : Call) × (rest : List ℕ) × (call.event ≡ event) × (text ≡ ended (outcome_text call.outcome) ++ rest) × Replays lines (call ∷ past) h rest
 
--- what a replay begins with: the settings of an empty tier, and the words of a generator
+-- what a replay begins with: how its tier began, and the words of a generator
 pub record Start : Type 0 where
-  pub settings : Settings
+  pub opening : Opening
   pub words : Stream
 
--- the calls evicted, in order, what the words pick from the first on
-abbrev pub AreFromWords : Start → History → Type 0
-AreFromWords start history = (calls : List Call) × (extended [] calls ≡ history) × ((rest : Stream) × AreAllDrawn (empty_state start.settings) calls start.words rest)
+-- the calls evicted, in order, what the words pick from the first on, and these words are left
+abbrev pub AreFromWords : Start → History → Stream → Type 0
+AreFromWords start history left = (calls : List Call) × (extended [] calls ≡ history) × AreAllDrawn (state_of start.opening []) calls start.words left
 
--- the text answers each line of a trace by one tier that began empty, whose history keeps the headline and whose evictions the
--- words pick, and ends with the report of its state
-pub record IsReplay (start : Start) (lines : List Line) (text : List ℕ) : Type 0 where
+-- the text answers each line of a trace by one tier that began so, whose history keeps the headline and whose evictions the
+-- words pick, and ends with the report of its state; this state and these words are left
+pub record EndsReplay (start : Start) (lines : List Line) (text : List ℕ) (state : State) (words : Stream) : Type 0 where
   pub history : History
   pub answers : List ℕ
-  pub state : State
   pub replays : Replays lines [] history answers
-  pub past : HasPast (empty_opening start.settings) state history
-  pub drawn : AreFromWords start history
+  pub past : HasPast start.opening state history
+  pub drawn : AreFromWords start history words
   pub reported : text ≡ answers ++ ended (report_text (report_of state))
+
+-- the same, whatever is left
+pub record IsReplay (start : Start) (lines : List Line) (text : List ℕ) : Type 0 where
+  pub state : State
+  pub words : Stream
+  pub ends : EndsReplay start lines text state words
 
 -- the report of the state, where no line is left
 abbrev pub last_text : List Line → State → List ℕ
@@ -65,7 +70,7 @@ last_text [] state = ended (report_text (report_of state))
 last_text (line ∷ lines) state = []
 
 -- the text is a beginning of what answers the first of the lines, or all of them and the report, by one tier that began
--- empty, whose history keeps the headline and whose evictions the words pick
+-- so, whose history keeps the headline and whose evictions the words pick
 pub record IsBegun (start : Start) (lines : List Line) (text : List ℕ) : Type 0 where
   pub answered : List Line
   pub left : List Line
@@ -75,6 +80,6 @@ pub record IsBegun (start : Start) (lines : List Line) (text : List ℕ) : Type 
   pub rest : List ℕ
   pub split : lines ≡ answered ++ left
   pub replays : Replays answered [] history answers
-  pub past : HasPast (empty_opening start.settings) state history
-  pub drawn : AreFromWords start history
+  pub past : HasPast start.opening state history
+  pub drawn : (words : Stream) × AreFromWords start history words
   pub begins : answers ++ last_text left state ≡ text ++ rest

@@ -5,4 +5,5 @@ mod input;
 pub mod options;
 mod output;
 pub mod replay;
+pub mod restart;
 pub mod status;

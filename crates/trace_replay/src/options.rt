@@ -1,11 +1,11 @@
 //! The options of a command line.
-ghost use Rattle.std.specs.Prelude.{◌≡◌, [], map, codes, ℕ, Option, Some, unwrap_or, IfOk, IfErr, false};
+ghost use Rattle.std.specs.Prelude.{◌≡◌, [], map, codes, ℕ, Option, Some, unwrap_or, option_map, string_bytes, IfOk, IfErr, false};
 ghost use Rattle.clap.specs.Values.{kind_of};
 ghost use Rattle.clap.specs.Faults.{fault_of};
 ghost use Rattle.clap.specs.Matches.{found_of, first_value};
 ghost use Rattle.clap.specs.Simple.{HasMatchesOf, app_of};
 ghost use Rattle.clap.specs.Walk.{rule_of};
-ghost use Rattle.trace_replay.specs.CommandLine.{limited_app, app, name_of, named_app, option_rule, value_of, IsGiven, IsFault, IsWrongValue, IsReadNumber, IsReadShards, shards_named, shards_in, IsUnreadable};
+ghost use Rattle.trace_replay.specs.CommandLine.{limited_app, app, name_of, named_app, option_rule, value_of, IsGiven, IsFault, IsWrongValue, IsReadNumber, IsReadShards, IsReadText, shards_named, shards_in, IsUnreadable};
 
 use clap::error::ErrorKind;
 use clap::{Arg, ArgMatches, Command};
@@ -19,7 +19,7 @@ const ABOUT: &str =
     "Replays a trace of a cache tier's events. Each line of standard input is an event as a JSON object; the line that answers it goes to standard output. After the last line comes a report on the tier.";
 
 const STATUSES: &str =
-    "Exit status: 0; 1 on an I/O error or out of memory; 2 on a bad command line.";
+    "Exit status: 0; 1 on an I/O error, out of memory or where no shard was saved; 2 on a bad command line.";
 
 const A_NUMBER: &str = "a number from 0 to 18446744073709551615";
 
@@ -34,6 +34,8 @@ pub struct ReplayOptions {
     pub shards: ShardCount,
     /// The seed of the generator whose words pick the evicted entries.
     pub seed: u64,
+    /// The directory that the order of use is loaded from and saved to, if there is one.
+    pub recency: Option<String>,
 }
 
 /// A number of shards.
@@ -100,6 +102,7 @@ pub fn options<'a, S: AsStr>(alloc: Global, words: &'a [S]) -> Result<ReplayOpti
     ensures watermark { IfOk result (λ o. IsGiven (value_of (codes "watermark") (map S.text words.entry.now)) o.watermark) }
     ensures shards { IfOk result (λ o. shards_in (value_of (codes "shards") (map S.text words.entry.now)) ≡ Some o.shards) }
     ensures seed { IfOk result (λ o. (given : Option ℕ) × IsGiven (value_of (codes "seed") (map S.text words.entry.now)) given × (o.seed ≡ unwrap_or given 0)) }
+    ensures recency { IfOk result (λ o. option_map string_bytes o.recency ≡ value_of (codes "recency") (map S.text words.entry.now)) }
     ensures faultless { IfOk result (λ _. fault_of app (map S.text words.entry.now) ≡ []) }
     ensures refused { IfErr result (IsFault (map S.text words.entry.now)) }
 {
@@ -110,11 +113,13 @@ pub fn options<'a, S: AsStr>(alloc: Global, words: &'a [S]) -> Result<ReplayOpti
     let watermark = number(alloc, &matches, OptionName::Watermark)?;
     let shards = shards(alloc, &matches)?;
     let seed = number(alloc, &matches, OptionName::Seed)?;
+    let recency = directory(alloc, &matches)?;
     Ok(ReplayOptions {
         limit,
         watermark,
         shards,
         seed: seed.unwrap_or(0),
+        recency,
     })
 }
 
@@ -154,6 +159,18 @@ fn number(
     match text.parse::<u64>() {
         Ok(number) => Ok(Some(number)),
         Err(_) => Err(wrong_value(alloc, name, text, A_NUMBER)),
+    }
+}
+
+fn directory(alloc: Global, matches: &ArgMatches<'_>) -> Result<Option<String>, OptionsError>
+    ensures { IsReadText (first_value (found_of matches.now) (codes "recency")) result }
+{
+    let Some(text) = matches.get_str("recency") else {
+        return Ok(None);
+    };
+    match String::from_str(alloc, text) {
+        Ok(copy) => Ok(Some(copy)),
+        Err(AllocError) => Err(OptionsError::Memory),
     }
 }
 
@@ -235,7 +252,10 @@ fn command<'a>(alloc: Global) -> Result<Command<'a>, AllocError>
     let seed = option(alloc, "seed", "SEED", false).help(
         "The seed of the generator that picks the evicted entries [default: 0]",
     );
-    limited(alloc)?.arg(shards)?.arg(seed)
+    let recency = option(alloc, "recency", "DIR", false).help(
+        "The directory that the order of use is loaded from first and saved to at the end",
+    );
+    limited(alloc)?.arg(shards)?.arg(seed)?.arg(recency)
 }
 
 fn limited<'a>(alloc: Global) -> Result<Command<'a>, AllocError>

@@ -9,7 +9,8 @@ ghost use Rattle.tier_model.specs.State.{empty_state};
 ghost use Rattle.trace_lines.specs.Lines.{line_of};
 ghost use Rattle.trace_lines.specs.Texts.{report_text};
 ghost use Rattle.trace_replay.specs.CommandLine.{settings_over, start_over, start_of};
-ghost use Rattle.trace_replay.specs.Replays.{requests_in, lines_in, ended, IsReplay, IsBegun};
+ghost use Rattle.trace_replay.specs.Replays.{requests_in, lines_in, ended, Start, EndsReplay, IsReplay, IsBegun};
+ghost use Rattle.trace_replay.specs.Words.{pcg_words};
 ghost use Rattle.trace_replay.specs.Errors.{IsOther};
 ghost use Rattle.trace_replay.specs.Inputs.{IsLineBefore};
 ghost use Rattle.trace_replay.specs.Outputs.{Passes, HasBegun};
@@ -38,7 +39,7 @@ const PERMIT_AGE: u64 = 10;
 // From so many bytes on, answers go out even while whole lines are held.
 const MOST_WAITING: usize = 65536;
 
-/// Why a replay ended early. Each but the last is a fault of a stream.
+/// Why a replay ended early, or saved nothing. The first two are faults of a stream.
 #[derive(Debug, Drop, Error)]
 pub enum ReplayError {
     /// A read or a write failed.
@@ -50,6 +51,9 @@ pub enum ReplayError {
     /// No memory was left.
     #[error("out of memory")]
     Memory,
+    /// No shard of the order of use was saved.
+    #[error("the order of use could not be saved")]
+    Folder,
 }
 
 impl From<io::Error> for ReplayError {
@@ -79,7 +83,8 @@ impl<T: Drop> From<AllocFailed<T>> for ReplayError {
     }
 }
 
-/// Answers each line of a trace, in order, by a tier that begins empty, and reports on the tier after the last. What was
+/// Answers each line of a trace, in order, by a tier that begins empty, and reports on the tier after the last. It loads and
+/// saves nothing, whatever directory the options name: that does [`run_in`](crate::restart::run_in). What was
 /// answered is handed on before each read. At most 2^64 - 1 lines are read. An error leaves a beginning of what was to
 /// be written. The hashes of the tier's tables start as `hasher` says: take it at random where strangers choose the keys, who
 /// then can't slow look-ups down.
@@ -123,17 +128,38 @@ fn run_over<R: Read, W: Write, const N: usize>(
     ensures too_many { result ≡ Err ReplayError.TooManyReads → IfSome (R.remaining reader.old) (λ input. 2 ^ 64 - 1 ≤ length (lines_in input)) }
 {
     let mut tier = tier_for::<N>(alloc, hasher, options)?;
+    let mut rng = Pcg64::seed_from_u64(options.seed);
+    answer_trace(alloc, &mut tier, &mut rng, reader, writer)
+}
+
+// Answers each line of a trace by this tier, and reports on it, from whichever beginning the tier and the words are.
+pub(crate) fn answer_trace<R: Read, W: Write, const N: usize>(
+    alloc: Global,
+    tier: &mut Tier<N, SecretHasher>,
+    rng: &mut Pcg64,
+    reader: &mut R,
+    writer: &mut W,
+) -> Result<(), ReplayError>
+    ensures answered { (start : Start) → HasPast start.opening tier.old [] → pcg_words rng.old ≡ start.words → OnOk result (IfSome (R.remaining reader.old) (λ input. (text : List ℕ)
+        × Appends (W.contents writer.old) (W.contents writer.new) text
+        × EndsReplay start (requests_in input) text tier.new (pcg_words rng.new))) }
+    ensures begun { (start : Start) → HasPast start.opening tier.old [] → pcg_words rng.old ≡ start.words → OnErr result (IfSome (R.remaining reader.old) (λ input. (text : List ℕ)
+        × Appends (W.contents writer.old) (W.contents writer.new) text
+        × IsBegun start (requests_in input) text)) }
+    ensures too_many { (start : Start) → HasPast start.opening tier.old [] → pcg_words rng.old ≡ start.words → result ≡ Err ReplayError.TooManyReads
+        → IfSome (R.remaining reader.old) (λ input. 2 ^ 64 - 1 ≤ length (lines_in input)) }
+    ensures unsaved { result ≡ Err ReplayError.Folder → ⊥ }
+{
     let mut input = Input::new(alloc)?;
     let mut lines = LineReader::new(alloc);
-    let mut rng = Pcg64::seed_from_u64(options.seed);
     let mut waiting = Vec::new(alloc);
     for _ in 0..u64::MAX {
         let len = next_line(&mut input, reader, &mut waiting, writer)?;
         if len == 0 {
-            return finish(alloc, &tier, &mut waiting, writer);
+            return finish(alloc, tier, &mut waiting, writer);
         }
         let line = without_line_feed(input.front(len));
-        if let Err(error) = add_answer(alloc, &mut tier, &mut lines, &mut rng, line, &mut waiting) {
+        if let Err(error) = add_answer(alloc, tier, &mut lines, rng, line, &mut waiting) {
             hand_on(&mut waiting, writer)?;
             return Err(error);
         }
@@ -143,7 +169,8 @@ fn run_over<R: Read, W: Write, const N: usize>(
     Err(ReplayError::TooManyReads)
 }
 
-fn tier_for<const N: usize>(
+// An empty tier as the options say.
+pub(crate) fn tier_for<const N: usize>(
     alloc: Global,
     hasher: SecretHasher,
     options: &ReplayOptions,

@@ -26,6 +26,7 @@ fn is_read(alloc: Global, words: &[&str], limit: u64, watermark: Option<u64>) ->
         watermark,
         shards: ShardCount::One,
         seed: 0,
+        recency: None,
     };
     match options(alloc, words) {
         Ok(given) => given == want,

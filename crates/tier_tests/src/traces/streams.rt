@@ -32,6 +32,7 @@ fn a_fault_of_the_reader_ends_the_run(rt: HostRuntime) {
             watermark: None,
             shards: ShardCount::One,
             seed: 0,
+            recency: None,
         };
         let outcome = run(rt.alloc(), HASHER, &mut reader, &mut written, &options).map_err(
             Fault::Replay,
@@ -57,6 +58,7 @@ fn long_lines_are_read_whole(rt: HostRuntime) -> Result<(), Fail> {
             watermark: None,
             shards: ShardCount::One,
             seed: 0,
+            recency: None,
         };
         let outcome = run(rt.alloc(), HASHER, &mut reader, &mut written, &options);
         assert!(rt; outcome.is_err());
@@ -105,6 +107,7 @@ fn a_fault_of_the_writer_ends_the_run(rt: HostRuntime) {
             watermark: None,
             shards: ShardCount::One,
             seed: 0,
+            recency: None,
         };
         let outcome = run(rt.alloc(), HASHER, &mut reader, &mut writer, &options).map_err(
             Fault::Replay,
@@ -146,6 +149,7 @@ fn out_of_memory_changes_no_line(rt: HostRuntime) {
         watermark: None,
         shards: ShardCount::One,
         seed: 0,
+        recency: None,
     };
     match run(rt.alloc(), HASHER, &mut reader, &mut written, &options) {
         Ok(()) | Err(ReplayError::Memory) => {

@@ -1,7 +1,7 @@
-use Rattle.std.proofs.Common.{map, codes, Some}
+use Rattle.std.proofs.Common.{◌∙◌, map, codes, Some}
 use Rattle.trace_replay.specs.declared.options.OptionName.TheVariants.{Limit, Watermark, Seed}
 use Rattle.std.proofs.lemmas.Result.{err_from_is_err_and}
-use Rattle.trace_replay.proofs.OptionLemmas.{given_by_words, none_by_words, fault_by_words, shards_by_words, shards_fault_by_words}
+use Rattle.trace_replay.proofs.OptionLemmas.{given_by_words, none_by_words, fault_by_words, shards_by_words, shards_fault_by_words, first_value-words}
 use Rattle.trace_replay.proofs.options.options.Goals as goal
 
 pub returns-clause-limit : goal.returns-clause-limit
@@ -62,3 +62,6 @@ returns-in_err-seed-clause-refused g c =
     rw (at_exit.1, at_exit.2)
     (fault_by_words Seed c.in_ok-matches.matches words c.in_err-seed.field-0.0 c.in_ok-matches.ensures.faultless c.in_ok-matches.ensures.ok
     (λ wrong. (wrong, (c.in_ok-shards.shards, count), ((c.in-Some.limit, limit), (c.in_ok-watermark.watermark, mark)))) c.in_err-seed.ensures)
+
+pub returns-clause-recency : goal.returns-clause-recency
+returns-clause-recency g c = c.in_ok-recency.ensures ∙ first_value-words (codes "recency") c.in_ok-matches.matches (map g.S.AsStr.text c.args.words.now) c.in_ok-matches.ensures.ok

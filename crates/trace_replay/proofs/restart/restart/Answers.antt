@@ -1,0 +1,58 @@
+use Rattle.std.proofs.Common.{◌≡◌, ◌∙◌, ℕ, List, [], length, Ok, Err, sym, refl, ap, subst, arith}
+use Rattle.std.proofs.lemmas.Result.{on_ok_weaker}
+use Rattle.rand_core.specs.Stream.{Stream}
+use Rattle.tier_model.specs.declared.event.TierFault.TheVariants as fault
+use Rattle.tier_model.specs.Past.{HasPast}
+use Rattle.tier_model.specs.Started.{IsNew, opening_of}
+use Rattle.tier_model.specs.State.{State}
+use Rattle.cache_tier.specs.Restarts.{SavesOrder, LoadsOrder}
+use Rattle.trace_replay.specs.CommandLine.{settings_over}
+use Rattle.trace_replay.specs.Restarts.{counts_text, holding, next_words, start_from}
+use Rattle.trace_replay.specs.Words.{pcg_words}
+use Rattle.trace_replay.proofs.RestartLaws.{length_words, new_empty, on_ok_is, restarted}
+use Rattle.trace_replay.proofs.restart.restart.Goals as goal
+
+pub start-requires : goal.start-requires
+start-requires g c = (omega arith, subst IsNew (sym c.in_ok-tier.ensures.state) (new_empty (settings_over g.row.N c.args.options.now)))
+
+pub save-requires : goal.save-requires
+save-requires g c = (omega arith, ap length (c.as_slice.ensures.value ∙ ap (λ (p : List ℕ × Stream). p.0) c.in_ok-words.ensures.words) ∙ length_words g.row.N (pcg_words c.answer_trace.new.rng))
+
+pub returns-clause-restarts : goal.returns-clause-restarts
+returns-clause-restarts g c =
+    let o = c.args.options.now in
+    let s = c.start.new.tier in
+    let m = s.managed in
+    let is : s ≡ holding g.row.N o m = c.start.ensures.others ∙ ap (λ (x : State). record x { managed = m }) c.in_ok-tier.ensures.state in
+    let past : HasPast (opening_of (holding g.row.N o m)) s [] = subst (λ (x : State). HasPast (opening_of x) s []) is c.start.ensures.past in
+    let loaded = c.in_ok-start.ensures.loaded in
+    let words : c.as_slice.result.now ≡ (next_words g.row.N (pcg_words c.answer_trace.new.rng)).0 = c.as_slice.ensures.value ∙ ap (λ (p : List ℕ × Stream). p.0) c.in_ok-words.ensures.words in
+    on_ok_weaker c.save.result (λ h.
+    restarted g.F.Folder.did g.F.Folder.failures_of g.F.Folder.keeps g.F.Folder.files g.row.N o c.args.dir.now
+    (g.R.Read.remaining c.args.reader.now) (g.W.Write.contents c.args.writer.now) (g.W.Write.contents c.start.new.writer) (g.W.Write.contents c.answer_trace.new.writer) (g.W.Write.contents c.save.new.writer)
+    c.args.folder.now c.start.new.folder c.save.new.folder m loaded.0 c.answer_trace.new.tier (pcg_words c.answer_trace.new.rng) (Ok h.0.0) (counts_text h.0.0.saved (length h.0.0.failed.items)) c.save.result
+    (subst (λ (x : State). LoadsOrder g.F.Folder.did g.F.Folder.failures_of g.F.Folder.keeps g.F.Folder.files g.row.N c.args.dir.now x.managed m c.args.folder.now c.start.new.folder (Ok loaded.0)) c.in_ok-tier.ensures.state loaded.1)
+    loaded.2
+    (c.in_ok-answer_trace.ensures.answered (start_from g.row.N o m) past (ap pcg_words c.seed_from_u64-rng.ensures))
+    (subst (λ ws. SavesOrder g.F.Folder.did g.F.Folder.failures_of g.F.Folder.keeps g.F.Folder.files g.row.N c.args.dir.now c.answer_trace.new.tier.managed ws c.start.new.folder c.save.new.folder (Ok h.0.0)) words h.0.1)
+    (refl, h.1) h.0.2)
+    (on_ok_is _ c.save.result c.save.ensures.saved)
+
+pub returns-clause-unsaved : goal.returns-clause-unsaved
+returns-clause-unsaved g c = λ told.
+    let o = c.args.options.now in
+    let s = c.start.new.tier in
+    let m = s.managed in
+    let is : s ≡ holding g.row.N o m = c.start.ensures.others ∙ ap (λ (x : State). record x { managed = m }) c.in_ok-tier.ensures.state in
+    let past : HasPast (opening_of (holding g.row.N o m)) s [] = subst (λ (x : State). HasPast (opening_of x) s []) is c.start.ensures.past in
+    let loaded = c.in_ok-start.ensures.loaded in
+    let words : c.as_slice.result.now ≡ (next_words g.row.N (pcg_words c.answer_trace.new.rng)).0 = c.as_slice.ensures.value ∙ ap (λ (p : List ℕ × Stream). p.0) c.in_ok-words.ensures.words in
+    let h = c.save.ensures.unsaved told in
+    restarted g.F.Folder.did g.F.Folder.failures_of g.F.Folder.keeps g.F.Folder.files g.row.N o c.args.dir.now
+    (g.R.Read.remaining c.args.reader.now) (g.W.Write.contents c.args.writer.now) (g.W.Write.contents c.start.new.writer) (g.W.Write.contents c.answer_trace.new.writer) (g.W.Write.contents c.save.new.writer)
+    c.args.folder.now c.start.new.folder c.save.new.folder m loaded.0 c.answer_trace.new.tier (pcg_words c.answer_trace.new.rng) (Err fault.Folder) (counts_text 0 g.row.N) c.save.result
+    (subst (λ (x : State). LoadsOrder g.F.Folder.did g.F.Folder.failures_of g.F.Folder.keeps g.F.Folder.files g.row.N c.args.dir.now x.managed m c.args.folder.now c.start.new.folder (Ok loaded.0)) c.in_ok-tier.ensures.state loaded.1)
+    loaded.2
+    (c.in_ok-answer_trace.ensures.answered (start_from g.row.N o m) past (ap pcg_words c.seed_from_u64-rng.ensures))
+    (subst (λ ws. SavesOrder g.F.Folder.did g.F.Folder.failures_of g.F.Folder.keeps g.F.Folder.files g.row.N c.args.dir.now c.answer_trace.new.tier.managed ws c.start.new.folder c.save.new.folder (Err fault.Folder)) words h.0)
+    (refl, told) h.1

@@ -1,0 +1,23 @@
+use Rattle.std.proofs.Common.{◌≡◌, ◌∙◌, length, ap, subst, arith, rules}
+use Rattle.std.proofs.lemmas.Result.{on_ok_weaker}
+use Rattle.std.specs.Io.KnownBytes.{Appends}
+use Rattle.trace_replay.specs.Replays.{ended}
+use Rattle.trace_replay.specs.Restarts.{counts_text}
+use Rattle.trace_replay.proofs.restart.save.Goals as goal
+
+pub returns-in-Ok-clause-saved : goal.returns-in-Ok-clause-saved
+returns-in-Ok-clause-saved g c =
+    let count : c.len.result ≡ length c.in-Ok.report.failed.items = first_of (omega (arith, c.len.ensures, c.in-Ok.report.failed.ok), search rules) in
+    on_ok_weaker c.write_line.result (λ appended. (
+      c.in-Ok.report,
+      c.in-Ok.ensures.saved,
+      subst (λ t. Appends (g.W.Write.contents c.args.writer.now) (g.W.Write.contents c.write_line.new.writer) (ended t))
+          (c.as_str.ensures.value ∙ (c.in_ok-line-in-Ok.ensures ∙ ap (counts_text c.in-Ok.report.saved) count)) appended,
+    )) c.write_line.ensures.written
+
+pub returns-in-Err-Folder-clause-unsaved : goal.returns-in-Err-Folder-clause-unsaved
+returns-in-Err-Folder-clause-unsaved g c = λ told. (
+  rw c.in-Err-Folder.field-0-is at c.in-Err-Folder.ensures.saved,
+  subst (λ t. Appends (g.W.Write.contents c.args.writer.now) (g.W.Write.contents c.write_line-in-Err-Folder.new.writer) (ended t))
+      (c.as_str-in-Err-Folder.ensures.value ∙ c.in_ok-line-in-Err-Folder.ensures) c.in_ok-write_line-in-Err-Folder.ensures.written,
+)

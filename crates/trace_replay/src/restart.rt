@@ -1,0 +1,187 @@
+//! Replays that start from a folder and save to it.
+ghost use Rattle.std.specs.Prelude.{◌≡◌, ◌<◌, ℕ, List, ◌++◌, length, IfOk, IfErr, OnOk, IfSome, None, [], Ok, Err, Result, string_bytes};
+ghost use Rattle.std.specs.Io.KnownBytes.{Appends};
+ghost use Rattle.trace_replay.specs.CommandLine.{count_of};
+ghost use Rattle.trace_replay.specs.Replays.{requests_in, ended, IsReplay};
+ghost use Rattle.trace_replay.specs.Restarts.{IsRestart, counts_text, loaded_text, next_words};
+ghost use Rattle.trace_replay.specs.Words.{pcg_words};
+ghost use Rattle.trace_replay.specs.CommandLine.{start_of};
+ghost use Rattle.cache_tier.specs.Restarts.{SavesOrder, LoadsOrder};
+ghost use Rattle.cache_words.specs.declared.pack.fault.PackWriteFault.{PackWriteFault};
+ghost use Rattle.lru_files.specs.declared.fault.ShardSaveReport.{ShardSaveReport};
+ghost use Rattle.tier_model.specs.Past.{HasPast};
+ghost use Rattle.tier_model.specs.Started.{IsNew, opening_of};
+ghost use Rattle.trace_replay.specs.Errors.{IsOther};
+
+use crate::options::{ReplayOptions, ShardCount};
+use crate::output::hand_on;
+use crate::replay::{ReplayError, answer_trace, run, tier_for};
+use cache_evict::LoadFault;
+use cache_tier::TierFault;
+use cache_tier::tier::Tier;
+use lru_files::persistence::{Folder, ShardLoadReport};
+use rand_core::{Rng, SeedableRng};
+use rand_pcg::Pcg64;
+use secret_hasher::SecretHasher;
+use std::alloc::{AllocError, Global};
+use std::io::{Read, Write};
+
+/// Does what [`run`] does, by a tier that starts from the directory of the options, if they name one: what was loaded is told in a
+/// first line, before any read, and after the report the order of use is saved there, which a last line tells. The words of the save
+/// are drawn from the generator after those of the trace.
+///
+/// # Errors
+///
+/// Those of `run`, before anything is saved. `Folder` where no shard was saved, and not for want of memory alone: the last line is
+/// written all the same.
+pub fn run_in<F: Folder, R: Read, W: Write>(
+    alloc: Global,
+    hasher: SecretHasher,
+    folder: &mut F,
+    reader: &mut R,
+    writer: &mut W,
+    options: &ReplayOptions,
+) -> Result<(), ReplayError>
+    ensures restarts { IfSome options.now.recency (λ dir. OnOk result (IfSome (R.remaining reader.old) (λ input. (text : List ℕ)
+        × Appends (W.contents writer.old) (W.contents writer.new) text
+        × IsRestart F.did F.failures_of F.keeps F.files (count_of options.now.shards) options.now (string_bytes dir) (requests_in input) folder.old folder.new text result))) }
+    ensures unsaved { IfSome options.now.recency (λ dir. result ≡ Err ReplayError.Folder → IfSome (R.remaining reader.old) (λ input. (text : List ℕ)
+        × Appends (W.contents writer.old) (W.contents writer.new) text
+        × IsRestart F.did F.failures_of F.keeps F.files (count_of options.now.shards) options.now (string_bytes dir) (requests_in input) folder.old folder.new text result)) }
+    ensures runs { options.now.recency ≡ None → OnOk result (IfSome (R.remaining reader.old) (λ input. (text : List ℕ)
+        × Appends (W.contents writer.old) (W.contents writer.new) text
+        × IsReplay (start_of options.now) (requests_in input) text)) }
+    ensures untouched { options.now.recency ≡ None → folder.new ≡ folder.old }
+{
+    let Some(dir) = &options.recency else {
+        return run(alloc, hasher, reader, writer, options);
+    };
+    let dir = dir.as_str();
+    match options.shards {
+        ShardCount::One => {
+            restart::<F, R, W, 1>(alloc, hasher, folder, dir, reader, writer, options)
+        }
+        ShardCount::Four => {
+            restart::<F, R, W, 4>(alloc, hasher, folder, dir, reader, writer, options)
+        }
+        ShardCount::Sixteen => {
+            restart::<F, R, W, 16>(alloc, hasher, folder, dir, reader, writer, options)
+        }
+    }
+}
+
+// The same by a tier of N shards, from this directory.
+fn restart<F: Folder, R: Read, W: Write, const N: usize>(
+    alloc: Global,
+    hasher: SecretHasher,
+    folder: &mut F,
+    dir: &str,
+    reader: &mut R,
+    writer: &mut W,
+    options: &ReplayOptions,
+) -> Result<(), ReplayError>
+    requires { 0 < N }
+    ensures restarts { OnOk result (IfSome (R.remaining reader.old) (λ input. (text : List ℕ)
+        × Appends (W.contents writer.old) (W.contents writer.new) text
+        × IsRestart F.did F.failures_of F.keeps F.files N options.now dir.now (requests_in input) folder.old folder.new text result)) }
+    ensures unsaved { result ≡ Err ReplayError.Folder → IfSome (R.remaining reader.old) (λ input. (text : List ℕ)
+        × Appends (W.contents writer.old) (W.contents writer.new) text
+        × IsRestart F.did F.failures_of F.keeps F.files N options.now dir.now (requests_in input) folder.old folder.new text result) }
+{
+    let mut tier = tier_for::<N>(alloc, hasher, options)?;
+    let mut rng = Pcg64::seed_from_u64(options.seed);
+    start(alloc, &mut tier, folder, dir, writer)?;
+    answer_trace(alloc, &mut tier, &mut rng, reader, writer)?;
+    let words = draw(alloc, &mut rng, N)?;
+    save(alloc, &tier, folder, dir, words.as_slice(), writer)
+}
+
+// Loads the order of use, and writes what came of it.
+fn start<F: Folder, W: Write, const N: usize>(
+    alloc: Global,
+    tier: &mut Tier<N, SecretHasher>,
+    folder: &mut F,
+    dir: &str,
+    writer: &mut W,
+) -> Result<(), ReplayError>
+    requires { IsNew tier.old }
+    ensures loaded { OnOk result ((report : ShardLoadReport LoadFault)
+        × LoadsOrder F.did F.failures_of F.keeps F.files N dir.now tier.old.managed tier.new.managed folder.old folder.new (Ok report)
+        × Appends (W.contents writer.old) (W.contents writer.new) (ended (loaded_text report))) }
+    ensures others { tier.new ≡ record tier.old { managed = tier.new.managed } }
+    ensures past { HasPast (opening_of tier.new) tier.new [] }
+    ensures other { IfErr result IsOther }
+{
+    let Ok(report) = tier.start(folder, dir) else {
+        return Err(ReplayError::Memory);
+    };
+    let line = loaded_line(alloc, &report)?;
+    write_line(alloc, line.as_str(), writer)
+}
+
+// So many words of the generator.
+fn draw(alloc: Global, rng: &mut Pcg64, count: usize) -> Result<Vec<u32>, AllocError>
+    ensures words { IfOk result (λ words. (words.items, pcg_words rng.new) ≡ next_words count (pcg_words rng.old)) }
+{
+    let mut words = Vec::with_capacity(alloc, count)?;
+    for _ in 0..count {
+        words.push(rng.next_u32())?;
+    }
+    Ok(words)
+}
+
+// Saves the order of use, and writes what came of it.
+fn save<F: Folder, W: Write, const N: usize>(
+    alloc: Global,
+    tier: &Tier<N, SecretHasher>,
+    folder: &mut F,
+    dir: &str,
+    words: &[u32],
+    writer: &mut W,
+) -> Result<(), ReplayError>
+    requires { length words.now ≡ N }
+    ensures saved { OnOk result ((report : ShardSaveReport PackWriteFault)
+        × SavesOrder F.did F.failures_of F.keeps F.files N dir.now tier.now.managed words.now folder.old folder.new (Ok report)
+        × Appends (W.contents writer.old) (W.contents writer.new) (ended (counts_text report.saved (length report.failed.items)))) }
+    ensures unsaved { result ≡ Err ReplayError.Folder → SavesOrder F.did F.failures_of F.keeps F.files N dir.now tier.now.managed words.now folder.old folder.new (Err TierFault.Folder)
+        × Appends (W.contents writer.old) (W.contents writer.new) (ended (counts_text 0 N)) }
+{
+    match tier.save(folder, dir, words) {
+        Ok(report) => {
+            let line = saved_line(alloc, report.saved, report.failed.len())?;
+            write_line(alloc, line.as_str(), writer)
+        }
+        Err(TierFault::Folder) => {
+            let line = saved_line(alloc, 0, N)?;
+            write_line(alloc, line.as_str(), writer)?;
+            Err(ReplayError::Folder)
+        }
+        Err(_) => Err(ReplayError::Memory),
+    }
+}
+
+fn loaded_line(alloc: Global, report: &ShardLoadReport<LoadFault>) -> Result<String, AllocError>
+    ensures { IfOk result (λ line. string_bytes line ≡ loaded_text report.now) }
+{
+    let loaded = report.loaded;
+    let missing = report.missing;
+    let errored = report.errored.len();
+    format!(in alloc; "recency loaded={loaded} missing={missing} errored={errored}")
+}
+
+fn saved_line(alloc: Global, saved: usize, failed: usize) -> Result<String, AllocError>
+    ensures { IfOk result (λ line. string_bytes line ≡ counts_text saved failed) }
+{
+    format!(in alloc; "recency saved={saved} failed={failed}")
+}
+
+// Writes a line, and hands it on.
+fn write_line<W: Write>(alloc: Global, line: &str, writer: &mut W) -> Result<(), ReplayError>
+    ensures written { OnOk result (Appends (W.contents writer.old) (W.contents writer.new) (ended line.now)) }
+    ensures other { IfErr result IsOther }
+{
+    let mut waiting = Vec::new(alloc);
+    waiting.extend_from_slice(line.as_bytes())?;
+    waiting.push(b'\n')?;
+    hand_on(&mut waiting, writer)
+}
