@@ -1,0 +1,4 @@
+pub mod Requests
+pub mod Took
+pub mod Calls
+pub mod Looking

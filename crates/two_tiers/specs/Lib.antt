@@ -1,0 +1,9 @@
+pub mod Requests
+pub mod Uniform
+pub mod Known
+pub mod Draws
+pub mod Takes
+pub mod Serves
+pub mod Leaves
+pub mod Looks
+pub mod Two
