@@ -28,7 +28,7 @@ use Rattle.tier_model.specs.State.{State}
 use Rattle.tier_model.specs.Step.{Allows, AllowsBy, BeginsWrite, IsPutAnswer, IsFault, UseFits, on_request, refusal, unless_open, can_look_up, has_reader, opened_request, looked, look_answer, after_look_up, after_read, read_answer, after_put, after_purge, taken_back, undone, after_outcome, after, body_for}
 use Rattle.two_tiers.specs.Draws.{AreDrawn}
 use Rattle.two_tiers.specs.Requests.{at}
-use Rattle.two_tiers.specs.Serves.{no_memory}
+use Rattle.two_tiers.specs.Courses.{no_memory}
 use Rattle.two_tiers.specs.Leaves.{body_at, looked_up}
 use Rattle.two_tiers.specs.Looks.{with_request}
 use Rattle.two_tiers.proofs.Took.{StepsBy}
@@ -42,26 +42,35 @@ IsAnswerOfPut (Finished n evicted) = Unit {0}
 IsAnswerOfPut (Uncacheable reason) = Unit {0}
 IsAnswerOfPut _ = ⊥
 
-module _ (old : State) (s : Stream) (t : MomentValue) (new : State) (rest : Stream) where
+-- a call of an action with an outcome
+abbrev pub IsCall : State → MomentValue → Action → Outcome → State → Type 0
+IsCall old t action o new = (c : Call) × (c.event ≡ at t action) × (c.outcome ≡ o) × Allows old c × (new ≡ after old c)
+
+-- an open that is refused draws no words
+pub undrawn : (old : State) (s : Stream) (t : MomentValue) (id : ℕ) (key : CacheKeyValue) (o : Outcome) (new : State) (rest : Stream) → StepsBy old s (at t (Open id key)) o new rest → rest ≡ s
+undrawn old s t id key o new rest h = subst (λ (e : Event). AreDrawn old (finished_in e.action (whole_in e.moment e.action h.0.reading)) h.0.outcome s rest) h.1 h.5
+
+pub is_call : (old : State) (s : Stream) (t : MomentValue) (action : Action) (o : Outcome) (new : State) (rest : Stream) → StepsBy old s (at t action) o new rest → IsCall old t action o new
+is_call old s t action o new rest h = (h.0, h.1, h.2, h.3, h.4)
+
+module _ (old : State) (t : MomentValue) (new : State) where
   -- what the call of an action says, by the reading of its response and whether a write began
-  abbrev Says : Action → Outcome → Option Reading → Bool → Type 0
+  abbrev pub Says : Action → Outcome → Option Reading → Bool → Type 0
   Says action o reading began =
       IsRead action reading × AllowsBy (refusal old action) old t action (whole_in t action reading) o × BeginsWrite old (finished_in action (whole_in t action reading)) o began
       × (new ≡ record (after_outcome old t action (whole_in t action reading) o) { writes = writes_after old.writes began })
-      × AreDrawn old (finished_in action (whole_in t action reading)) o s rest
 
   abbrev SaysAt : Event → Outcome → Option Reading → Bool → Type 0
   SaysAt e o reading began =
       IsRead e.action reading × AllowsBy (refusal old e.action) old e.moment e.action (whole_in e.moment e.action reading) o × BeginsWrite old (finished_in e.action (whole_in e.moment e.action reading)) o began
       × (new ≡ record (after_outcome old e.moment e.action (whole_in e.moment e.action reading) o) { writes = writes_after old.writes began })
-      × AreDrawn old (finished_in e.action (whole_in e.moment e.action reading)) o s rest
 
-  pub said : (action : Action) (o : Outcome) → StepsBy old s (at t action) o new rest → (reading : Option Reading) × (began : Bool) × Says action o reading began
+  pub said : (action : Action) (o : Outcome) → IsCall old t action o new → (reading : Option Reading) × (began : Bool) × Says action o reading began
   said action o h = (
     h.0.reading,
     h.0.began,
     subst (λ (x : Outcome). SaysAt (at t action) x h.0.reading h.0.began) h.2
-    (subst (λ (x : Event). SaysAt x h.0.outcome h.0.reading h.0.began) h.1 (h.3.0, h.3.1, h.3.2, h.4, h.5)),
+    (subst (λ (x : Event). SaysAt x h.0.outcome h.0.reading h.0.began) h.1 (h.3.0, h.3.1, h.3.2, h.4)),
   )
 
   -- where no write began
@@ -71,7 +80,7 @@ module _ (old : State) (s : Stream) (t : MomentValue) (new : State) (rest : Stre
   -- ---- opened
 
   module _ (id : ℕ) (key : CacheKeyValue) where
-    pub open_ok : (a : Answer) → StepsBy old s (at t (Open id key)) (Ok a) new rest → (get old.requests id ≡ None) × (a ≡ Opened) × (new ≡ with_request id (opened_request (entry_of key)) old)
+    pub open_ok : (a : Answer) → IsCall old t (Open id key) (Ok a) new → (get old.requests id ≡ None) × (a ≡ Opened) × (new ≡ with_request id (opened_request (entry_of key)) old)
     open_ok a h =
         let x = said (Open id key) (Ok a) h in
         by_test (is_some (get old.requests id)) refl x.2.1 (settled (with_request id (opened_request (entry_of key)) old) x.1 x.2.2 x.2.3 refl)
@@ -81,11 +90,11 @@ module _ (old : State) (s : Stream) (t : MomentValue) (new : State) (rest : Stre
         by_test true e allowed n = absurd cc
         by_test false e allowed n = (none_of (get old.requests id) e, allowed, n)
 
-    pub open_err : (f : TierFault) → StepsBy old s (at t (Open id key)) (Err f) new rest
-        → (new ≡ old) × (rest ≡ s) × ((f ≡ no_memory) ⊎ ((f ≡ IdInUse) × (is_some (get old.requests id) ≡ true)))
+    pub open_err : (f : TierFault) → IsCall old t (Open id key) (Err f) new
+        → (new ≡ old) × ((f ≡ no_memory) ⊎ ((f ≡ IdInUse) × (is_some (get old.requests id) ≡ true)))
     open_err f h =
         let x = said (Open id key) (Err f) h in
-        (settled old x.1 x.2.2 x.2.3 refl, x.2.4, by_test (is_some (get old.requests id)) refl x.2.1)
+        (settled old x.1 x.2.2 x.2.3 refl, by_test (is_some (get old.requests id)) refl x.2.1)
       where
         by_test : (b : Bool) → is_some (get old.requests id) ≡ b → AllowsBy (if b then Some IdInUse else None) old t (Open id key) None (Err f)
             → (f ≡ no_memory) ⊎ ((f ≡ IdInUse) × (is_some (get old.requests id) ≡ true))
@@ -109,7 +118,7 @@ module _ (old : State) (s : Stream) (t : MomentValue) (new : State) (rest : Stre
     found_so : on_request old (get old.requests id) (λ q. after_look_up old t id q (body_for q old.bodies)) ≡ with_request id (looked t (opened_request e) (body_at e old)) (looked_up old e (body_at e old))
     found_so = ap (λ (o : Option Request). on_request old o (λ q. after_look_up old t id q (body_for q old.bodies))) open ∙ after_look-is id e (body_at e old)
 
-    pub look_ok : (a : Answer) → StepsBy old s (at t (LookUp id)) (Ok a) new rest
+    pub look_ok : (a : Answer) → IsCall old t (LookUp id) (Ok a) new
         → (a ≡ look_answer t (body_at e old)) × (new ≡ with_request id (looked t (opened_request e) (body_at e old)) (looked_up old e (body_at e old)))
     look_ok a h =
         let x = said (LookUp id) (Ok a) h in
@@ -121,7 +130,7 @@ module _ (old : State) (s : Stream) (t : MomentValue) (new : State) (rest : Stre
           (x.2.3 ∙ ap (λ (y : State). record y { writes = writes_after old.writes x.1 }) found_so) (looked_up-writes e (body_at e old)),
         )
 
-    pub look_err : (f : TierFault) → StepsBy old s (at t (LookUp id)) (Err f) new rest → new ≡ old
+    pub look_err : (f : TierFault) → IsCall old t (LookUp id) (Err f) new → new ≡ old
     look_err f h =
         let x = said (LookUp id) (Err f) h in
         settled old x.1 x.2.2 x.2.3 refl
@@ -135,7 +144,7 @@ module _ (old : State) (s : Stream) (t : MomentValue) (new : State) (rest : Stre
     passes : reads (get old.requests id) ≡ None
     passes = ap reads open ∙ ap (λ (r : Reader). if has_reader r then None else Some WrongPhase) unread
 
-    pub read_ok : (o : Outcome) → StepsBy old s (at t (Read id)) o new rest → (o ≡ Ok (Bytes bytes)) × (new ≡ with_request id (after_read q) old)
+    pub read_ok : (o : Outcome) → IsCall old t (Read id) o new → (o ≡ Ok (Bytes bytes)) × (new ≡ with_request id (after_read q) old)
     read_ok (Ok a) h =
         let x = said (Read id) (Ok a) h in
         let allowed : AllowsBy None old t (Read id) None (Ok a) = subst (λ (r : Option TierFault). AllowsBy r old t (Read id) None (Ok a)) passes x.2.1 in
@@ -155,7 +164,7 @@ module _ (old : State) (s : Stream) (t : MomentValue) (new : State) (rest : Stre
   drop_passes id None h = absurd cc
   drop_passes id (Some q) h = refl
 
-  pub drop_ok : (id : ℕ) (o : Outcome) → is_some (get old.requests id) ≡ true → StepsBy old s (at t (Drop id)) o new rest → (o ≡ Ok Dropped) × (new ≡ record old { requests = remove old.requests id })
+  pub drop_ok : (id : ℕ) (o : Outcome) → is_some (get old.requests id) ≡ true → IsCall old t (Drop id) o new → (o ≡ Ok Dropped) × (new ≡ record old { requests = remove old.requests id })
   drop_ok id (Ok a) open h =
       let x = said (Drop id) (Ok a) h in
       let allowed : AllowsBy None old t (Drop id) None (Ok a) = subst (λ (r : Option TierFault). AllowsBy r old t (Drop id) None (Ok a)) (drop_passes id (get old.requests id) open) x.2.1 in
@@ -175,7 +184,7 @@ module _ (old : State) (s : Stream) (t : MomentValue) (new : State) (rest : Stre
   purge-requests key true = refl
   purge-requests key false = refl
 
-  pub purge_ok : (key : CacheKeyValue) (o : Outcome) → StepsBy old s (at t (Purge key)) o new rest
+  pub purge_ok : (key : CacheKeyValue) (o : Outcome) → IsCall old t (Purge key) o new
       → (o ≡ Ok (Purged (is_some (body_at (entry_of key) old)))) × (new ≡ after_purge old key (is_some (body_at (entry_of key) old))) × (new.requests ≡ old.requests)
   purge_ok key (Ok a) h =
       let x = said (Purge key) (Ok a) h in
@@ -202,7 +211,7 @@ module _ (old : State) (s : Stream) (t : MomentValue) (new : State) (rest : Stre
   undone-requests (Some b) done = taken_back-requests b done done.stored
 
   module _ (key : CacheKeyValue) (pieces : List (List ℕ)) where
-    pub put_requests : (o : Outcome) → StepsBy old s (at t (Put key pieces)) o new rest → new.requests ≡ old.requests
+    pub put_requests : (o : Outcome) → IsCall old t (Put key pieces) o new → new.requests ≡ old.requests
     put_requests (Ok a) h =
         let x = said (Put key pieces) (Ok a) h in
         ap (λ (y : State). y.requests) x.2.3 ∙ put_after-requests (finished_in (Put key pieces) (whole_in t (Put key pieces) x.0)) a
@@ -218,7 +227,7 @@ module _ (old : State) (s : Stream) (t : MomentValue) (new : State) (rest : Stre
     put_answers None (Some (whole.Uncacheable reason)) _ h = h
     put_answers None _ _ h = h
 
-    pub put_ok : (a : Answer) → StepsBy old s (at t (Put key pieces)) (Ok a) new rest → IsAnswerOfPut a
+    pub put_ok : (a : Answer) → IsCall old t (Put key pieces) (Ok a) new → IsAnswerOfPut a
     put_ok a h =
         let x = said (Put key pieces) (Ok a) h in
         put_answers (finished_in (Put key pieces) (whole_in t (Put key pieces) x.0)) (whole_in t (Put key pieces) x.0) a x.2.1

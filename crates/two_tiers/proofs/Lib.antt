@@ -2,3 +2,8 @@ pub mod Requests
 pub mod Took
 pub mod Calls
 pub mod Looking
+pub mod Alike
+pub mod Lengths
+pub mod Doing
+pub mod Comparing
+pub mod Both

@@ -9,6 +9,7 @@ use Rattle.cache_words.specs.Key.{CacheKeyValue}
 use Rattle.tier_model.specs.declared.state.Body.{Body}
 use Rattle.tier_model.specs.declared.state.Request.{Request}
 use Rattle.tier_model.specs.declared.state.Reader.TheVariants.{Unread}
+use Rattle.tier_model.specs.declared.event.Action.{Action}
 use Rattle.tier_model.specs.declared.event.Action.TheVariants.{Open, LookUp, Read, Drop, Put, Purge}
 use Rattle.tier_model.specs.declared.event.Answer.{Answer}
 use Rattle.tier_model.specs.declared.event.Event.{Event}
@@ -20,36 +21,41 @@ use Rattle.tier_model.specs.State.{State}
 use Rattle.tier_model.specs.Step.{opened_request, looked, look_answer, after_read}
 use Rattle.two_tiers.specs.Takes.{Takes}
 use Rattle.two_tiers.specs.Requests.{at}
-use Rattle.two_tiers.specs.Serves.{is_found, is_hit}
+use Rattle.two_tiers.specs.Courses.{is_found, is_hit}
 use Rattle.two_tiers.specs.Leaves.{body_at, is_fresh, looked_up}
 use Rattle.two_tiers.specs.Looks.{with_request, IsOpened, OpensAt, IsUnread, Reads, IsLooked, Looks, Ends, Finds}
 use Rattle.two_tiers.specs.declared.serve.Looked.{Looked}
 use Rattle.two_tiers.specs.declared.serve.Looked.TheVariants.{Fresh, Missed}
 use Rattle.two_tiers.proofs.Requests.{put_twice, there, come_and_gone}
 use Rattle.two_tiers.proofs.Took.{StepsBy-takes, Takes-then}
-use Rattle.two_tiers.proofs.Calls.{open_ok, open_err, look_ok, look_err, read_ok, drop_ok}
+use Rattle.two_tiers.proofs.Calls.{IsCall, is_call, undrawn, open_ok, open_err, look_ok, look_err, read_ok, drop_ok}
 
 -- ---- opened
 
 module _ (old : State) (s : Stream) (t : MomentValue) (new : State) (rest : Stream) where
+  called : (action : Action) (o : Outcome) → Takes old s (at t action ∷ []) (o ∷ []) new rest → IsCall old t action o new
+  called action o takes = is_call old s t action o new rest (StepsBy-takes old s (at t action) o new rest takes)
+
   pub opened : (key : CacheKeyValue) (id : ℕ) (a : Answer) → Takes old s (at t (Open id key) ∷ []) (Ok a ∷ []) new rest → IsOpened old s t key id new rest
   opened key id a takes =
-      let r = open_ok old s t new rest id key a (StepsBy-takes old s (at t (Open id key)) (Ok a) new rest takes) in
+      let r = open_ok old t new id key a (called (Open id key) (Ok a) takes) in
       (r.0, r.2, subst (λ (b : Answer). Takes old s (at t (Open id key) ∷ []) (Ok b ∷ []) new rest) r.1 takes)
 
   pub unopened : (key : CacheKeyValue) (id : ℕ) (f : TierFault) → Takes old s (at t (Open id key) ∷ []) (Err f ∷ []) new rest → OpensAt old s t key id (Err f) new rest
-  unopened key id f takes = open_err old s t new rest id key f (StepsBy-takes old s (at t (Open id key)) (Err f) new rest takes)
+  unopened key id f takes =
+      let r = open_err old t new id key f (called (Open id key) (Err f) takes) in
+      (r.0, undrawn old s t id key (Err f) new rest (StepsBy-takes old s (at t (Open id key)) (Err f) new rest takes), r.1)
 
   -- ---- read and ended
 
   pub all_read : (id : ℕ) (bytes : List ℕ) (o : Outcome) → IsUnread old id bytes → Takes old s (at t (Read id) ∷ []) (o ∷ []) new rest → (o ≡ Ok (Bytes bytes)) × Reads old s t id bytes new rest
   all_read id bytes o unread takes =
-      let r = read_ok old s t new rest id unread.0 bytes unread.1 unread.2 o (StepsBy-takes old s (at t (Read id)) o new rest takes) in
+      let r = read_ok old t new id unread.0 bytes unread.1 unread.2 o (called (Read id) o takes) in
       (r.0, (unread, (after_read unread.0, r.1), subst (λ (x : Outcome). Takes old s (at t (Read id) ∷ []) (x ∷ []) new rest) r.0 takes))
 
   pub ended : (id : ℕ) (o : Outcome) → is_some (get old.requests id) ≡ true → Takes old s (at t (Drop id) ∷ []) (o ∷ []) new rest → Ends old s t id new rest
   ended id o open takes =
-      let r = drop_ok old s t new rest id o open (StepsBy-takes old s (at t (Drop id)) o new rest takes) in
+      let r = drop_ok old t new id o open (called (Drop id) o takes) in
       (r.1, subst (λ (x : Outcome). Takes old s (at t (Drop id) ∷ []) (x ∷ []) new rest) r.0 takes)
 
 -- a request has one list of bytes to read
@@ -87,7 +93,7 @@ module _ (old : State) (s : Stream) (t : MomentValue) (id : ℕ) (e : Entry) (op
   pub hit-unread : (a : Answer) (mid : State) (left : Stream) → is_hit a ≡ true → Takes old s (at t (LookUp id) ∷ []) (Ok a ∷ []) mid left
       → (b : Body) × (body_at e old ≡ Some b) × (at_most t b.meta.internal.fresh_until ≡ true) × IsUnread mid id b.bytes × IsLooked old id e mid
   hit-unread a mid left hit takes =
-      let r = look_ok old s t mid left id e open a (StepsBy-takes old s (at t (LookUp id)) (Ok a) mid left takes) in
+      let r = look_ok old t mid id e open a (called old s t mid left (LookUp id) (Ok a) takes) in
       let b = fresh-body t (body_at e old) (sym (hit-is t (body_at e old)) ∙ ap is_hit (sym r.0) ∙ hit) in
       let q : Request = looked t (opened_request e) (body_at e old) in
       let is : get mid.requests id ≡ Some q = ap (λ (y : State). get y.requests id) r.1 ∙ there _ id q in
@@ -110,7 +116,7 @@ module _ (old : State) (s : Stream) (t : MomentValue) (id : ℕ) (e : Entry) (op
   pub looked-missed : (a : Answer) (found : Bool) (new : State) (rest : Stream) → is_hit a ≡ false → is_found a ≡ found → Takes old s (at t (LookUp id) ∷ []) (Ok a ∷ []) new rest
       → Looks old s t id e (Ok (Missed found)) new rest
   looked-missed a found new rest missed is takes =
-      let r = look_ok old s t new rest id e open a (StepsBy-takes old s (at t (LookUp id)) (Ok a) new rest takes) in
+      let r = look_ok old t new id e open a (called old s t new rest (LookUp id) (Ok a) takes) in
       let o : Option Body = body_at e old in (
         sym is ∙ ap is_found r.0 ∙ found-is t o,
         sym (hit-is t o) ∙ ap is_hit (sym r.0) ∙ missed,
@@ -119,7 +125,7 @@ module _ (old : State) (s : Stream) (t : MomentValue) (id : ℕ) (e : Entry) (op
       )
 
   pub looked-refused : (f : TierFault) (new : State) (rest : Stream) → Takes old s (at t (LookUp id) ∷ []) (Err f ∷ []) new rest → Looks old s t id e (Err f) new rest
-  looked-refused f new rest takes = (look_err old s t new rest id e open f (StepsBy-takes old s (at t (LookUp id)) (Err f) new rest takes), takes)
+  looked-refused f new rest takes = (look_err old t new id e open f (called old s t new rest (LookUp id) (Err f) takes), takes)
 
   -- the request is open still
   pub still_open : (r : Result Looked TierFault) (new : State) (rest : Stream) → Looks old s t id e r new rest → is_some (get new.requests id) ≡ true

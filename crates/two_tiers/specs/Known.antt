@@ -1,5 +1,5 @@
 -- What a table knows of the stored keys of requests. It serves the proof of `uniform` alone.
-use Rattle.std.specs.Prelude.{◌≡◌, ℕ, ◌==◌, Bool, true, ◌&&◌, List, [], ◌∷◌, if◌then◌else◌, Option, Some, None, unwrap_or, option_map}
+use Rattle.std.specs.Prelude.{◌≡◌, ℕ, ◌==◌, Bool, true, ◌&&◌, List, [], ◌∷◌, if◌then◌else◌, Option, Some, None}
 use Rattle.std.specs.Cmp.Lexicographic.{pointwise}
 use Rattle.std.specs.HashMap.{get}
 use Rattle.std.specs.Global.{HashMap}
@@ -29,7 +29,7 @@ either (Some m) n = Some m
 -- a request besides those that are known, of the same stored key
 abbrev pub added : Seen → Option Seen → Seen
 added seen None = seen
-added seen (Some known) = record known { length = either known.length seen.length }
+added seen (Some known) = record seen { length = either known.length seen.length }
 
 -- what requests tell of a stored key
 abbrev pub known_at : List PlainRequest → List ℕ → Option Seen

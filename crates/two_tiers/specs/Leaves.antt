@@ -12,7 +12,7 @@ use Rattle.tier_model.specs.Rows.{body_of}
 use Rattle.tier_model.specs.State.{State}
 use Rattle.tier_model.specs.Step.{Allows, after, after_purge, counted, used}
 use Rattle.two_tiers.specs.Requests.{at}
-use Rattle.two_tiers.specs.Serves.{no_memory, IsPutTold}
+use Rattle.two_tiers.specs.Courses.{no_memory, IsPutTold}
 use Rattle.two_tiers.specs.declared.request.Request.{Request}
 use Rattle.two_tiers.specs.declared.request.Method.{Method}
 use Rattle.two_tiers.specs.declared.request.Method.TheVariants.{Get, Purge}

@@ -3,7 +3,8 @@ pub mod Uniform
 pub mod Known
 pub mod Draws
 pub mod Takes
-pub mod Serves
+pub mod Courses
 pub mod Leaves
+pub mod Serves
 pub mod Looks
 pub mod Two

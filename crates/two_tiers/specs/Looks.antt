@@ -18,7 +18,7 @@ use Rattle.tier_model.specs.State.{State}
 use Rattle.tier_model.specs.Step.{Allows, after, opened_request, after_read}
 use Rattle.two_tiers.specs.Takes.{Takes}
 use Rattle.two_tiers.specs.Requests.{at}
-use Rattle.two_tiers.specs.Serves.{no_memory, is_found, is_hit, IsPutTold, IsUnopened}
+use Rattle.two_tiers.specs.Courses.{no_memory, is_found, is_hit, IsPutTold, IsUnopened}
 use Rattle.two_tiers.specs.Leaves.{body_at, is_fresh, looked_up}
 use Rattle.two_tiers.specs.declared.serve.Looked.{Looked}
 use Rattle.two_tiers.specs.declared.serve.Looked.TheVariants.{Fresh, Missed}

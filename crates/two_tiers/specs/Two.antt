@@ -12,7 +12,8 @@ use Rattle.tier_model.specs.State.{Settings, State}
 use Rattle.tier_loads.specs.Requests.{PlainRequest}
 use Rattle.tier_loads.specs.Uniform.{weight_in}
 use Rattle.two_tiers.specs.Requests.{entry_for, step_for}
-use Rattle.two_tiers.specs.Serves.{no_memory, Serves}
+use Rattle.two_tiers.specs.Courses.{no_memory}
+use Rattle.two_tiers.specs.Serves.{Serves}
 use Rattle.two_tiers.specs.Uniform.{AreSeenAs, IsUniform, IsPlain}
 use Rattle.two_tiers.specs.declared.request.Request.{Request}
 use Rattle.two_tiers.specs.declared.request.Served.{Served}
@@ -78,13 +79,13 @@ all_seen (Some p ∷ seen) = p ∷ all_seen seen
 -- each request finds its key in each tier exactly where the law of loads says, by limits and watermarks of its own, after the steps of those before, the latest first; and
 -- what the first finds the other finds
 abbrev pub AreFound : (CacheEntryKey → ℕ) → Settings → Settings → List Step → List Request → List Pair → Type 0
+AreFound weight a b before requests [] = Unit {0}
+AreFound weight a b before [] (p ∷ pairs) = ⊥
 AreFound weight a b before (r ∷ requests) (p ∷ pairs) =
     ((found_by p.lesser ≡ true) ↔ Stays weight a.limit a.watermark (entry_for r) before)
     × ((found_by p.greater ≡ true) ↔ Stays weight b.limit b.watermark (entry_for r) before)
     × (found_by p.lesser ≡ true → found_by p.greater ≡ true)
     × AreFound weight a b (step_for r ∷ before) requests pairs
-AreFound weight a b before requests [] = Unit {0}
-AreFound weight a b before [] (p ∷ pairs) = ⊥
 
 -- what each entry weighs: the body's length that requests for it have, at least 1
 abbrev pub FindsByLoads : Settings → Settings → List (Option PlainRequest) → List Request → List Pair → Type 0

@@ -1,5 +1,5 @@
 //! Which responses are stored, and how long their bodies are.
-ghost use Rattle.std.specs.Prelude.{◌≡◌, ◌×◌, IfOk};
+ghost use Rattle.std.specs.Prelude.{◌≡◌, IfOk};
 ghost use Rattle.response_parse.specs.Response.{Reading, IsReading};
 ghost use Rattle.tier_model.specs.Response.{judged, whole_of};
 ghost use Rattle.two_tiers.specs.Uniform.{is_kept, stored_length};

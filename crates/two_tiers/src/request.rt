@@ -26,7 +26,9 @@ pub enum Method {
 #[derive(PartialEq, Eq, Debug, Drop)]
 pub enum Served {
     /// A fresh body was stored: all its bytes.
-    Hit { body: Bytes },
+    Hit {
+        body: Bytes,
+    },
     /// The response was stored: its body's length in bytes, and the entries that went to make room, in order.
     Filled {
         found: bool,
@@ -34,7 +36,10 @@ pub enum Served {
         evicted: Entries,
     },
     /// The response is whole and may not be kept.
-    Passed { found: bool, reason: NoCacheReason },
+    Passed {
+        found: bool,
+        reason: NoCacheReason,
+    },
     /// Whether something was stored.
     Purged(bool),
 }

@@ -1,10 +1,8 @@
 //! What is known of requests by their stored keys.
-ghost use Rattle.std.specs.Prelude.{◌≡◌, ◌×◌, ◌∷◌, IfOk, OnOk, IfErr, List, ℕ, Option, option_map, option_copied, nat_eq};
-ghost use Rattle.std.specs.HashMap.{get};
-ghost use Rattle.std.specs.Cmp.Lexicographic.{pointwise};
+ghost use Rattle.std.specs.Prelude.{◌≡◌, ◌∷◌, IfOk, List, Option, option_map, true};
 ghost use Rattle.tier_loads.specs.Requests.{PlainRequest};
 ghost use Rattle.two_tiers.specs.Uniform.{IsSeenAs};
-ghost use Rattle.two_tiers.specs.Known.{shown, fits, joined_by, Knows};
+ghost use Rattle.two_tiers.specs.Known.{shown, fits, fits_all, Knows};
 
 use crate::length::stored_length;
 use crate::request::{Method, Request};
@@ -61,18 +59,16 @@ pub(crate) fn note<S: BuildHasher>(table: &mut Table<S>, seen: Seen) -> Result<b
         → IfOk result (λ yes. (yes ≡ fits_all p known) × (yes ≡ true → Knows table.new (p ∷ known))) }
 {
     let stored = seen.entry.key().combined_bin();
-    match table.get_mut(&stored) {
+    let length = match table.get(&stored) {
         Some(known) => {
             if !fits(known, &seen) {
                 return Ok(false);
             }
-            if known.length.is_none() {
-                known.length = seen.length;
-            }
+            known.length.or(seen.length)
         }
-        None => {
-            table.insert(stored, seen)?;
-        }
-    }
+        None => seen.length,
+    };
+    let entry = seen.entry;
+    table.insert(stored, Seen { entry, length })?;
     Ok(true)
 }

@@ -7,8 +7,9 @@ ghost use Rattle.tier_model.specs.Keys.{Entry, entry_of};
 ghost use Rattle.tier_model.specs.Step.{opened_request};
 ghost use Rattle.two_tiers.specs.Takes.{Takes};
 ghost use Rattle.two_tiers.specs.Requests.{at};
-ghost use Rattle.two_tiers.specs.Serves.{Serves, ServesBy, no_memory};
-ghost use Rattle.two_tiers.specs.Leaves.{Leaves, LeavesBy};
+ghost use Rattle.two_tiers.specs.Courses.{TakesBy, no_memory};
+ghost use Rattle.two_tiers.specs.Leaves.{LeavesBy};
+ghost use Rattle.two_tiers.specs.Serves.{Serves};
 ghost use Rattle.two_tiers.specs.Looks.{Opens, OpensAt, IsUnread, Reads, Looks, Ends, Finds, Fills};
 ghost use Rattle.two_tiers.specs.declared.request.Method.TheVariants as method;
 
@@ -44,8 +45,7 @@ pub trait Serve {
         rng: &mut R,
         request: &Request,
     ) -> Result<Served, TierFault>
-        ensures calls { Serves (state self.old) (R.stream rng.old) request.now result (state self.new) (R.stream rng.new) }
-        ensures leaves { Leaves (state self.old) request.now result (state self.new) }
+        ensures { Serves (state self.old) (R.stream rng.old) request.now result (state self.new) (R.stream rng.new) }
     {
         let moment = request.moment;
         match &request.method {
@@ -223,7 +223,7 @@ fn get<T: Serve, R: Rng>(
     key: &CacheKey,
     response: &Bytes,
 ) -> Result<Served, TierFault>
-    ensures calls { ServesBy (method.Get response.now) (T.state tier.old) (R.stream rng.old) moment key.now result (T.state tier.new) (R.stream rng.new) }
+    ensures calls { TakesBy (method.Get response.now) (T.state tier.old) (R.stream rng.old) moment key.now result (T.state tier.new) (R.stream rng.new) }
     ensures leaves { LeavesBy (method.Get response.now) (T.state tier.old) moment key.now result (T.state tier.new) }
     ensures requests { (T.state tier.new).requests ≡ (T.state tier.old).requests }
 {
@@ -241,7 +241,7 @@ fn purge<T: Serve, R: Rng>(
     moment: Moment,
     key: &CacheKey,
 ) -> Result<Served, TierFault>
-    ensures calls { ServesBy method.Purge (T.state tier.old) (R.stream rng.old) moment key.now result (T.state tier.new) (R.stream rng.new) }
+    ensures calls { TakesBy method.Purge (T.state tier.old) (R.stream rng.old) moment key.now result (T.state tier.new) (R.stream rng.new) }
     ensures leaves { LeavesBy method.Purge (T.state tier.old) moment key.now result (T.state tier.new) }
     ensures requests { (T.state tier.new).requests ≡ (T.state tier.old).requests }
 {

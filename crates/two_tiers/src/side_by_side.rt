@@ -37,29 +37,15 @@ pub struct Stopped {
     pub side: Option<Side>,
 }
 
-/// Has two tiers serve requests, in order, each request first by the lesser one, and returns what both told of each. The words of
-/// the generator go to both in turn.
-///
-/// Where both began empty with one shard, no limit of the lesser one is greater than the other's, the requests are uniform (see
-/// [`crate::uniform`]) and have plain heads, then each finds a key exactly where the law of loads says, whatever the lesser one finds the greater one
-/// finds, and where no request was refused the lesser one's order of use, with its weights, is a front of the greater one's. What is found needn't be fresh in both.
-///
-/// # Errors
-///
-/// At the first fault: what both told until then, the fault, and whose it is. The tier whose fault it is keeps what its request left, and
-/// the other may have served one request more or less.
-pub fn run_two<L: Serve, G: Serve, R: Rng>(
+// Has two tiers serve requests, in order.
+fn run_both<L: Serve, G: Serve, R: Rng>(
     alloc: Global,
     lesser: &mut L,
     greater: &mut G,
     rng: &mut R,
     requests: &[Request],
 ) -> Result<Vec<Pair>, Stopped>
-    ensures served { RunsTwo (L.state lesser.old) (G.state greater.old) (R.stream rng.old) requests.now result (L.state lesser.new) (G.state greater.new) (R.stream rng.new) }
-    ensures finds { (a b : Settings) (seen : List (Option PlainRequest)) → AreComparable a b → L.state lesser.old ≡ empty_state a → G.state greater.old ≡ empty_state b
-        → AreUniform requests.now seen → FindsByLoads a b seen requests.now (pairs_of result) }
-    ensures front { (a b : Settings) (seen : List (Option PlainRequest)) → AreComparable a b → L.state lesser.old ≡ empty_state a → G.state greater.old ≡ empty_state b
-        → AreUniform requests.now seen → OnOk result (IsFront (rows_at (L.state lesser.new).managed.shards 0) (rows_at (G.state greater.new).managed.shards 0)) }
+    ensures { RunsTwo (L.state lesser.old) (G.state greater.old) (R.stream rng.old) requests.now result (L.state lesser.new) (G.state greater.new) (R.stream rng.new) }
 {
     let Ok(mut pairs) = Vec::with_capacity(alloc, requests.len()) else {
         return Err(Stopped {
@@ -95,4 +81,31 @@ pub fn run_two<L: Serve, G: Serve, R: Rng>(
         });
     }
     Ok(pairs)
+}
+
+/// Has two tiers serve requests, in order, each request first by the lesser one, and returns what both told of each. The words of
+/// the generator go to both in turn.
+///
+/// Where both began empty with one shard, no limit of the lesser one is greater than the other's, the requests are uniform (see
+/// [`crate::uniform`]) and have plain heads, then each finds a key exactly where the law of loads says, whatever the lesser one finds the greater one
+/// finds, and where no request was refused the lesser one's order of use, with its weights, is a front of the greater one's. What is found needn't be fresh in both.
+///
+/// # Errors
+///
+/// At the first fault: what both told until then, the fault, and whose it is. The tier whose fault it is keeps what its request left, and
+/// the other may have served one request more or less.
+pub fn run_two<L: Serve, G: Serve, R: Rng>(
+    alloc: Global,
+    lesser: &mut L,
+    greater: &mut G,
+    rng: &mut R,
+    requests: &[Request],
+) -> Result<Vec<Pair>, Stopped>
+    ensures served { RunsTwo (L.state lesser.old) (G.state greater.old) (R.stream rng.old) requests.now result (L.state lesser.new) (G.state greater.new) (R.stream rng.new) }
+    ensures finds { (a b : Settings) (seen : List (Option PlainRequest)) → AreComparable a b → L.state lesser.old ≡ empty_state a → G.state greater.old ≡ empty_state b
+        → AreUniform requests.now seen → FindsByLoads a b seen requests.now (pairs_of result) }
+    ensures front { (a b : Settings) (seen : List (Option PlainRequest)) → AreComparable a b → L.state lesser.old ≡ empty_state a → G.state greater.old ≡ empty_state b
+        → AreUniform requests.now seen → OnOk result (IsFront (rows_at (L.state lesser.new).managed.shards 0) (rows_at (G.state greater.new).managed.shards 0)) }
+{
+    run_both(alloc, lesser, greater, rng, requests)
 }

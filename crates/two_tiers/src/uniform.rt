@@ -1,5 +1,5 @@
 //! Uniform requests.
-ghost use Rattle.std.specs.Prelude.{◌≡◌, ◌×◌, ◌↔◌, IfOk, IsTrue, List, Option};
+ghost use Rattle.std.specs.Prelude.{◌↔◌, IfOk, IsTrue, List, Option};
 ghost use Rattle.tier_loads.specs.Requests.{PlainRequest};
 ghost use Rattle.two_tiers.specs.Uniform.{AreSeenAs, IsUniform};
 

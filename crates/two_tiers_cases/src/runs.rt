@@ -36,7 +36,12 @@ fn push_told(text: &mut String, told: &Served) -> Result<(), AllocError> {
             found,
             length,
             evicted,
-        } => write!(text, "F{}:{length}:{}", u8::from(*found), evicted.as_slice().len()),
+        } => write!(
+            text,
+            "F{}:{length}:{}",
+            u8::from(*found),
+            evicted.as_slice().len()
+        ),
         Served::Passed { found, reason } => {
             write!(text, "P{}:{}", u8::from(*found), reason.as_str())
         }
