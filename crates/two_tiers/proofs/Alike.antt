@@ -19,7 +19,7 @@ both : (x y : Bool) → (x && y) ≡ true → (x ≡ true) × (y ≡ true)
 both true y h = (refl, h)
 both false y h = absurd (false≢true h)
 
-key : PlainRequest → List ℕ
+abbrev pub key : PlainRequest → List ℕ
 key p = stored_key (entry_of p)
 
 same-length : (m n : Option ℕ) → same_length m n ≡ true → AreSame m n
@@ -98,17 +98,18 @@ fits-both p r (Some y) h f =
 -- one that fits is alike to all
 pub fits-alike : (p : PlainRequest) (known : List PlainRequest) → AreAllAlike known → fits_all p known ≡ true → AllByRecursion (AreAlike p) known
 fits-alike p [] u f = tt
-fits-alike p (r ∷ known) u f = by (same_bytes (key r) (key p)) refl f
+fits-alike p (r ∷ known) u f = by (same_bytes (key r) (key p)) refl f (fits-alike p known u.1)
   where
     -- what is known by the stored key of r is known by that of p, where they are the same
     of : same_bytes (key r) (key p) ≡ true → IsOf r (known_at known (key p))
     of t = subst (λ (k : List ℕ). IsOf r (known_at known k)) (same_bytes-tells.equal (key r) (key p) t) (known-of r known u.0)
 
-    by : (t : Bool) → same_bytes (key r) (key p) ≡ t → fits_by (cond t (Some (added (shown r) (known_at known (key p)))) (known_at known (key p))) (shown p) ≡ true → AllByRecursion (AreAlike p) (r ∷ known)
-    by true t f =
+    by : (t : Bool) → same_bytes (key r) (key p) ≡ t → fits_by (cond t (Some (added (shown r) (known_at known (key p)))) (known_at known (key p))) (shown p) ≡ true
+        → (fits_all p known ≡ true → AllByRecursion (AreAlike p) known) → AllByRecursion (AreAlike p) (r ∷ known)
+    by true t f rest =
         let parts = fits-both p r (known_at known (key p)) (of t) f in
-        (λ s. (parts.0, parts.1), fits-alike p known u.1 parts.2)
-    by false t f = (λ s. absurd (false≢true (sym t ∙ same-sym same_bytes same_bytes-tells (key r) (key p) ∙ s)), fits-alike p known u.1 f)
+        (λ s. (parts.0, parts.1), rest parts.2)
+    by false t f rest = (λ s. absurd (false≢true (sym t ∙ same-sym same_bytes same_bytes-tells (key r) (key p) ∙ s)), rest f)
 
 -- what is known by a stored key
 pub known-at : (known : List PlainRequest) (a k : List ℕ) → same_bytes a k ≡ true → known_at known k ≡ known_at known a

@@ -1,7 +1,7 @@
 -- Runs of two tiers.
-use Rattle.std.proofs.Common.{◌≡◌, ℕ, ◌<◌, ◌+◌, List, ◌∷◌, [], ◌++◌, take, drop, length, get_or, drop-cons, Option, Some, None, Result, Ok, Err, refl, ap, sym, ◌∙◌, subst, inl, inr}
-use Rattle.std.specs.Prelude.{OnOk}
-use Rattle.std.specs.Global.{Vec}
+use Rattle.std.proofs.Common.{◌≡◌, ℕ, suc, ◌<◌, List, ◌∷◌, [], ◌++◌, take, drop, length, get_or, drop-cons, Option, Some, None, Ok, Err, refl, ap, sym, ◌∙◌, subst, inl, inr}
+use Rattle.std.specs.Prelude.{Result, OnOk, Vec}
+use Rattle.std.specs.declared.alloc.Global.{Global}
 use Rattle.std.proofs.lemmas.List.{append-nil, take-append-drop}
 use Rattle.rand_core.specs.Stream.{Stream}
 use Rattle.cache_evict.specs.Managed.{rows_at}
@@ -37,12 +37,12 @@ both-more l g s [] (p ∷ pairs) l1 g1 left r a b l2 g2 right rest both first se
 both-more l g s (q ∷ requests) [] l1 g1 left r a b l2 g2 right rest both first second = absurd both
 
 -- a list around one of its items
-pub around : (xs : List Request) (i : ℕ) (x : Request) → i < length xs → x ≡ get_or xs i x → xs ≡ take i xs ++ x ∷ drop (i + 1) xs
-around xs i x inside is = sym (take-append-drop i xs) ∙ ap (λ (rest : List Request). take i xs ++ rest) (drop-cons i xs x inside ∙ ap (λ (y : Request). y ∷ drop (i + 1) xs) (sym is))
+pub around : (xs : List Request) (i : ℕ) (x : Request) → i < length xs → x ≡ get_or xs i x → xs ≡ take i xs ++ x ∷ drop (suc i) xs
+around xs i x inside is = sym (take-append-drop i xs) ∙ ap (λ (rest : List Request). take i xs ++ rest) (drop-cons i xs x inside ∙ ap (λ (y : Request). y ∷ drop (suc i) xs) (sym is))
 
 module _ (a b : Settings) (c : AreComparable a b) (requests : List Request) (seen : List (Option PlainRequest)) (u : AreUniform requests seen) (l g : State) (s : Stream) (l' g' : State) (rest : Stream) (il : l ≡ empty_state a)
     (ig : g ≡ empty_state b) where
-  pub finds_of : (result : Result (Vec Pair ⊤) Stopped) → RunsTwo l g s requests result l' g' rest → FindsByLoads a b seen requests (pairs_of result)
+  pub finds_of : (result : Result (Vec Pair Global) Stopped) → RunsTwo l g s requests result l' g' rest → FindsByLoads a b seen requests (pairs_of result)
   finds_of (Ok pairs) run =
       subst (λ (rs : List Request). AreFound (weight_in (all_seen seen)) a b [] rs pairs.items) (append-nil requests)
       (compared a b c requests [] seen (subst (λ (rs : List Request). AreUniform rs seen) (sym (append-nil requests)) u) pairs.items l g s l' g' rest il ig run).0
@@ -53,6 +53,6 @@ module _ (a b : Settings) (c : AreComparable a b) (requests : List Request) (see
         (compared a b c some.0 (some.1 ∷ some.2) seen (subst (λ (rs : List Request). AreUniform rs seen) some.6 u) stopped.pairs.items l g s some.3 some.4 some.5 il ig some.7).0
   ]
 
-  pub front_of : (result : Result (Vec Pair ⊤) Stopped) → RunsTwo l g s requests result l' g' rest → OnOk result (IsFront (rows_at l'.managed.shards 0) (rows_at g'.managed.shards 0))
+  pub front_of : (result : Result (Vec Pair Global) Stopped) → RunsTwo l g s requests result l' g' rest → OnOk result (IsFront (rows_at l'.managed.shards 0) (rows_at g'.managed.shards 0))
   front_of (Ok pairs) run = (compared a b c requests [] seen (subst (λ (rs : List Request). AreUniform rs seen) (sym (append-nil requests)) u) pairs.items l g s l' g' rest il ig run).1
   front_of (Err stopped) run = tt

@@ -1,6 +1,6 @@
 -- Two tiers, request by request.
-use Rattle.std.proofs.Common.{◌≡◌, ℕ, Bool, true, false, List, ◌∷◌, [], ◌++◌, length, max, Option, Some, None, Result, Ok, Err, refl, ap, sym, ◌∙◌, subst, inl, inr}
-use Rattle.std.specs.Prelude.{is_some, ◌⊎◌, ◌≤◌, ◌↔◌}
+use Rattle.std.proofs.Common.{◌≡◌, ℕ, Bool, true, false, List, ◌∷◌, [], ◌++◌, length, max, Option, Some, None, Ok, Err, refl, ap, sym, ◌∙◌, subst, inl, inr}
+use Rattle.std.specs.Prelude.{Result, is_some, ◌⊎◌, ◌≤◌, ◌↔◌}
 use Rattle.std.specs.List.{AllByRecursion}
 use Rattle.std.specs.FinMap.{empty}
 use Rattle.rand_core.specs.Stream.{Stream}
@@ -72,7 +72,7 @@ module _ (in_use : Entry → Bool) (apart : AreApart in_use) (weight : CacheEntr
 
   law : (a : Settings) (steps : List Step) (e : CacheEntryKey) (found : Bool) → found ≡ has_row e (held weight a.limit a.watermark steps) → (found ≡ true) ↔ Stays weight a.limit a.watermark e steps
   law a steps e found is =
-      let same : found ≡ _ = is ∙ held-stays weight a.limit a.watermark e steps in
+      let same = is ∙ held-stays weight a.limit a.watermark e steps in
       (λ h. places-of weight a.limit a.watermark e steps (sym same ∙ h), λ o. same ∙ test-of weight a.limit a.watermark e steps o)
 
   -- ---- all requests of both

@@ -1,6 +1,6 @@
 -- What one request leaves, as the laws of loads see it.
-use Rattle.std.proofs.Common.{◌≡◌, ℕ, Bool, true, false, List, ◌∷◌, [], length, Option, Some, None, Result, Ok, Err, refl, ap, sym, ◌∙◌, subst, inl, inr}
-use Rattle.std.specs.Prelude.{is_some, ◌⊎◌, ◌≤◌, MatchOption}
+use Rattle.std.proofs.Common.{◌≡◌, ℕ, Bool, true, false, List, ◌∷◌, [], length, Option, Some, None, Ok, Err, refl, ap, sym, ◌∙◌, subst, inl, inr}
+use Rattle.std.specs.Prelude.{Result, is_some, ◌⊎◌, ◌≤◌, MatchOption}
 use Rattle.std.proofs.lemmas.List.{append-nil, length-set}
 use Rattle.cache_words.specs.Time.{MomentValue}
 use Rattle.cache_words.specs.Key.{CacheKeyValue}
@@ -24,7 +24,7 @@ use Rattle.tier_model.specs.Evictions.{all_gone, GoInTurn}
 use Rattle.tier_model.specs.State.{State, shards_of}
 use Rattle.tier_model.specs.Step.{AllowsBy, IsPutAnswer, after_purge, after_put, answered}
 use Rattle.tier_loads.specs.Requests.{PlainRequest, asks, purges, Stores, Uses, Does, entry_of as plain_entry, step_of}
-use Rattle.two_tiers.specs.Requests.{at, entry_for, step_for, step_by}
+use Rattle.two_tiers.specs.Requests.{event_at, entry_for, step_for, step_by}
 use Rattle.two_tiers.specs.Uniform.{asks_for, IsSeenBy, IsSeenAs, IsPlainBy, IsPlain}
 use Rattle.two_tiers.specs.Courses.{no_memory, IsPutTold}
 use Rattle.two_tiers.specs.Leaves.{body_at, is_fresh, looked_up, LeavesPut, LeavesGet, LeavesPurge, LeavesBy, Leaves}

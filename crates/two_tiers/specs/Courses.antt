@@ -13,7 +13,7 @@ use Rattle.tier_model.specs.declared.event.TierFault.TheVariants.{IdInUse, Memor
 use Rattle.tier_model.specs.Calls.{Outcome, nothing_done}
 use Rattle.tier_model.specs.State.{State}
 use Rattle.two_tiers.specs.Takes.{Takes}
-use Rattle.two_tiers.specs.Requests.{at}
+use Rattle.two_tiers.specs.Requests.{event_at}
 use Rattle.two_tiers.specs.declared.request.Method.{Method}
 use Rattle.two_tiers.specs.declared.request.Method.TheVariants as method
 use Rattle.two_tiers.specs.declared.request.Served.{Served}
@@ -46,10 +46,10 @@ pub data Course : Type 0 where
   filled : Answer → Outcome → Course
 
 abbrev pub events_of : MomentValue → CacheKeyValue → List ℕ → ℕ → Course → List Event
-events_of t key response id (unseen f) = at t (Open id key) ∷ at t (LookUp id) ∷ at t (Drop id) ∷ []
-events_of t key response id (hit body) = at t (Open id key) ∷ at t (LookUp id) ∷ at t (Read id) ∷ at t (Drop id) ∷ []
-events_of t key response id (unfilled a) = at t (Open id key) ∷ at t (LookUp id) ∷ at t (Drop id) ∷ []
-events_of t key response id (filled a o) = at t (Open id key) ∷ at t (LookUp id) ∷ at t (Drop id) ∷ at t (Put key (response ∷ [])) ∷ []
+events_of t key response id (unseen f) = event_at t (Open id key) ∷ event_at t (LookUp id) ∷ event_at t (Drop id) ∷ []
+events_of t key response id (hit body) = event_at t (Open id key) ∷ event_at t (LookUp id) ∷ event_at t (Read id) ∷ event_at t (Drop id) ∷ []
+events_of t key response id (unfilled a) = event_at t (Open id key) ∷ event_at t (LookUp id) ∷ event_at t (Drop id) ∷ []
+events_of t key response id (filled a o) = event_at t (Open id key) ∷ event_at t (LookUp id) ∷ event_at t (Drop id) ∷ event_at t (Put key (response ∷ [])) ∷ []
 
 abbrev pub outcomes_of : Course → List Outcome
 outcomes_of (unseen f) = Ok Opened ∷ Err f ∷ Ok Dropped ∷ []
@@ -92,4 +92,4 @@ abbrev pub TakesBy : Method → State → Stream → MomentValue → CacheKeyVal
 TakesBy (method.Get response) old s t key told new rest = ((f : TierFault) × (told ≡ Err f) × IsUnopened old s f new rest) ⊎ Gets old s t key response told new rest
 TakesBy method.Purge old s t key told new rest =
     ((told ≡ Err no_memory) × (new ≡ old) × (rest ≡ s))
-    ⊎ ((found : Bool) × (told ≡ Ok (served.Purged found)) × Takes old s (at t (Purge key) ∷ []) (Ok (Purged found) ∷ []) new rest)
+    ⊎ ((found : Bool) × (told ≡ Ok (served.Purged found)) × Takes old s (event_at t (Purge key) ∷ []) (Ok (Purged found) ∷ []) new rest)

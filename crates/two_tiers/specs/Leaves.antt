@@ -11,7 +11,7 @@ use Rattle.tier_model.specs.Calls.{Call}
 use Rattle.tier_model.specs.Rows.{body_of}
 use Rattle.tier_model.specs.State.{State}
 use Rattle.tier_model.specs.Step.{Allows, after, after_purge, counted, used}
-use Rattle.two_tiers.specs.Requests.{at}
+use Rattle.two_tiers.specs.Requests.{event_at}
 use Rattle.two_tiers.specs.Courses.{no_memory, IsPutTold}
 use Rattle.two_tiers.specs.declared.request.Request.{Request}
 use Rattle.two_tiers.specs.declared.request.Method.{Method}
@@ -36,7 +36,7 @@ looked_up s e (Some b) = record s { managed = used s (alone e) b; found = counte
 abbrev pub LeavesPut : State → MomentValue → CacheKeyValue → List ℕ → Bool → Result Served TierFault → State → Type 0
 LeavesPut mid t key response found told new =
     ((told ≡ Err no_memory) × (new ≡ mid))
-    ⊎ ((c : Call) × (c.event ≡ at t (Put key (response ∷ []))) × IsPutTold found c.outcome told × Allows mid c × (new ≡ after mid c))
+    ⊎ ((c : Call) × (c.event ≡ event_at t (Put key (response ∷ []))) × IsPutTold found c.outcome told × Allows mid c × (new ≡ after mid c))
 
 -- a get was refused before or at its look-up, and left all as before; or gave a fresh body whole; or put its response
 abbrev pub LeavesGet : State → MomentValue → CacheKeyValue → List ℕ → Result Served TierFault → State → Type 0

@@ -10,8 +10,8 @@ use Rattle.two_tiers.specs.declared.request.Request.{Request}
 use Rattle.two_tiers.specs.declared.request.Method.{Method}
 use Rattle.two_tiers.specs.declared.request.Method.TheVariants.{Get, Purge}
 
-abbrev pub at : MomentValue → Action → Event
-at moment action = record { moment = moment; action = action }
+abbrev pub event_at : MomentValue → Action → Event
+event_at moment action = record { moment = moment; action = action }
 
 -- the entry that the order of use has of the request's key
 abbrev pub entry_for : Request → CacheEntryKey

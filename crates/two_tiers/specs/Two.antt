@@ -1,7 +1,7 @@
 -- Two tiers that serve the same requests side by side.
-use Rattle.std.specs.Prelude.{◌≡◌, ℕ, ◌≤◌, Bool, true, false, ◌↔◌, ◌⊎◌, List, [], ◌∷◌, ◌++◌, map, Option, Some, None, Result, Ok, Err}
+use Rattle.std.specs.Prelude.{◌≡◌, ℕ, ◌≤◌, Bool, true, false, ◌↔◌, ◌⊎◌, List, [], ◌∷◌, ◌++◌, map, Option, Some, None, Result, Ok, Err, Vec}
 use Rattle.std.specs.List.{AllByRecursion}
-use Rattle.std.specs.Global.{Vec}
+use Rattle.std.specs.declared.alloc.Global.{Global}
 use Rattle.rand_core.specs.Stream.{Stream}
 use Rattle.cache_entries.specs.declared.entry.CacheEntryKey.{CacheEntryKey}
 use Rattle.entry_loads.specs.Steps.{Step}
@@ -44,7 +44,7 @@ Stops l g s requests stopped l' g' rest =
     × ServesBoth l g s done stopped.pairs.items l1 g1 left × StopsBy stopped.side l1 g1 left r stopped.fault l' g' rest)
 
 -- each tier's answers are those of its own, in order; at the first fault the pairs so far, the fault, and whose it is
-abbrev pub RunsTwo : State → State → Stream → List Request → Result (Vec Pair ⊤) Stopped → State → State → Stream → Type 0
+abbrev pub RunsTwo : State → State → Stream → List Request → Result (Vec Pair Global) Stopped → State → State → Stream → Type 0
 RunsTwo l g s requests (Ok pairs) l' g' rest = ServesBoth l g s requests pairs.items l' g' rest
 RunsTwo l g s requests (Err stopped) l' g' rest = Stops l g s requests stopped l' g' rest
 
@@ -91,6 +91,6 @@ AreFound weight a b before (r ∷ requests) (p ∷ pairs) =
 abbrev pub FindsByLoads : Settings → Settings → List (Option PlainRequest) → List Request → List Pair → Type 0
 FindsByLoads a b seen requests pairs = AreFound (weight_in (all_seen seen)) a b [] requests pairs
 
-abbrev pub pairs_of : Result (Vec Pair ⊤) Stopped → List Pair
+abbrev pub pairs_of : Result (Vec Pair Global) Stopped → List Pair
 pairs_of (Ok pairs) = pairs.items
 pairs_of (Err stopped) = stopped.pairs.items

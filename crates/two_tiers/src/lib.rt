@@ -13,10 +13,9 @@ pub mod request;
 mod seen;
 mod serve;
 mod side_by_side;
-mod tier;
-mod uniform;
+mod uniformity;
 
 pub use request::{Method, Request, Served};
 pub use serve::Serve;
 pub use side_by_side::{Pair, Side, Stopped, run_two};
-pub use uniform::uniform;
+pub use uniformity::uniform;

@@ -6,7 +6,6 @@ ghost use Rattle.tier_model.specs.State.{State};
 ghost use Rattle.tier_model.specs.Keys.{Entry, entry_of};
 ghost use Rattle.tier_model.specs.Step.{opened_request};
 ghost use Rattle.two_tiers.specs.Takes.{Takes};
-ghost use Rattle.two_tiers.specs.Requests.{at};
 ghost use Rattle.two_tiers.specs.Courses.{TakesBy, no_memory};
 ghost use Rattle.two_tiers.specs.Leaves.{LeavesBy};
 ghost use Rattle.two_tiers.specs.Serves.{Serves};
