@@ -42,7 +42,7 @@ module _ {K X : Type 0} {R : K → K → Ordering} (eq : K → K → Bool) (tota
   same-keyed apart old new h = same_map total apart _ _ (λ q. get-keyed new q ∙ h q ∙ sym (get-keyed old q))
 
   -- what is put at a new key adds to a sum over the values
-  sum-put : (f : X → ℕ) (k : K) (v : X) (es : List (K × X)) → find R k es ≡ None → sum_by f (map (λ e. e.1) (put R k v es)) ≡ f v + sum_by f (map (λ e. e.1) es)
+  pub sum-put : (f : X → ℕ) (k : K) (v : X) (es : List (K × X)) → find R k es ≡ None → sum_by f (map (λ e. e.1) (put R k v es)) ≡ f v + sum_by f (map (λ e. e.1) es)
   sum-put f k v [] none = sum_by-cons f v []
   sum-put f k v (e ∷ es) none = by_place (sum-put f k v es) (R k e.0) none
     where

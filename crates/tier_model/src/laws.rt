@@ -1,10 +1,12 @@
 //! Laws over definitions alone. The functions do nothing: their contracts are the laws.
-ghost use Rattle.tier_model.specs.Calls.{History};
+ghost use Rattle.tier_model.specs.Calls.{Call, History};
+ghost use Rattle.tier_model.specs.declared.event.TierFault.{TierFault};
+ghost use Rattle.cache_lock.specs.Answers.{IsAsBefore};
 ghost use Rattle.tier_model.specs.Headline.{Headline};
 ghost use Rattle.tier_model.specs.Histories.{Opening, changes_of};
 ghost use Rattle.cache_changes.specs.Bound.{TracksBodies};
 ghost use Rattle.cache_changes.specs.Writes.{IsOrderly};
-ghost use Rattle.std.specs.Prelude.{◌≡◌, ◌≢◌, ℕ, List};
+ghost use Rattle.std.specs.Prelude.{◌≡◌, ◌≢◌, ℕ, List, ◌∷◌, Err};
 ghost use Rattle.tier_model.specs.declared.whole.Whole.TheVariants.{BadHead};
 ghost use Rattle.cache_words.specs.Time.{MomentValue};
 ghost use Rattle.response_parse.specs.Response.{IsWellFormed, Reading, IsReading};
@@ -28,6 +30,12 @@ pub fn lawful_histories_are_orderly()
 /// The state after such a history is what it says.
 pub fn lawful_states_tell_their_history()
     ensures { (start : Opening) (h : History) → IsLawful start h → MatchesHistory (state_of start h) start h }
+{}
+
+/// A refused call leaves the lock as before to all who ask for one or wait, though a look-up may have been given a lock first: that is
+/// handed back.
+pub fn refused_calls_leave_the_lock()
+    ensures { (start : Opening) (c : Call) (h : History) (f : TierFault) → c.outcome ≡ Err f → IsAsBefore (state_of start (c ∷ h)).lock (state_of start h).lock }
 {}
 
 /// The report of a state that is what a history says tells of that history.

@@ -1,4 +1,4 @@
-use Rattle.tier_model.proofs.Carried.{IsOrderly-lawful, TracksBodies-lawful}
+use Rattle.tier_model.proofs.StandLaws.{IsOrderly-lawful, TracksBodies-lawful}
 use Rattle.tier_model.proofs.laws.lawful_histories_are_orderly.Goals as goal
 
 pub returns-clause-orderly : goal.returns-clause-orderly
