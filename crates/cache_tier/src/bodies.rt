@@ -15,31 +15,6 @@ use mem_cache::MemCache;
 use std::alloc::{AllocError, Global};
 use std::hash::BuildHasher;
 
-// What a look-up sees of a body.
-#[derive(Drop)]
-pub(crate) struct Seen {
-    pub(crate) bytes: Bytes,
-    pub(crate) fresh_until: Moment,
-}
-
-// Looks the body of a key up, and shares its bytes. It is refused for lack of memory, and only where there is one.
-pub(crate) fn look<S: BuildHasher>(
-    store: &MemCache<S>,
-    key: &HashBinary,
-) -> Result<Option<Seen>, AllocError>
-    ensures found { IfOk result (λ found. found ≡ option_map seen_of (body_of key.now (bodies_in store.now.store.bodies))) }
-    ensures refused { OnErr result (is_some (body_of key.now (bodies_in store.now.store.bodies)) ≡ true) }
-{
-    let Some((meta, bytes)) = store.finished(key) else {
-        return Ok(None);
-    };
-    let bytes = bytes.clone()?;
-    Ok(Some(Seen {
-        bytes,
-        fresh_until: meta.fresh_until(),
-    }))
-}
-
 // Whether anything was purged.
 fn is_purged(outcome: PurgeOutcome) -> bool
     ensures { result ≡ is_purged outcome }
@@ -77,11 +52,4 @@ pub(crate) fn all_bytes<S: BuildHasher>(store: &MemCache<S>) -> u64
     // No key has two bodies.
     let _count = store.finished_len();
     store.finished_bytes()
-}
-
-// What a body of that length weighs.
-pub(crate) fn weight_for(bytes: &Bytes) -> usize
-    ensures { result ≡ max 1 (length bytes.now) }
-{
-    bytes.len().max(1)
 }

@@ -1,5 +1,5 @@
 -- What becomes of a response that was found.
-use Rattle.std.specs.Prelude.{◌≡◌, ℕ, Bool, true, not, ◌&&◌, [], Option, Some, None, option_map, Result, Ok, Err, if◌then◌else◌}
+use Rattle.std.specs.Prelude.{◌≡◌, ℕ, Bool, true, false, not, ◌&&◌, [], Option, Some, None, option_map, Result, Ok, Err, if◌then◌else◌}
 use Rattle.cache_words.specs.Time.{MomentValue}
 use Rattle.cache_words.specs.Key.{CacheKeyValue, key_of}
 use Rattle.cache_heads.specs.declared.meta.CacheMeta.{CacheMeta}
@@ -8,7 +8,8 @@ use Rattle.cache_entries.specs.declared.entry.CacheEntryKey.{CacheEntryKey}
 use Rattle.cache_entries.specs.Entry.{entry_with, number_of}
 use Rattle.cache_evict.specs.Faults.{IsPutRefused, evicted_of}
 use Rattle.cache_evict.specs.declared.fault.EvictFault.{EvictFault}
-use Rattle.cache_evict.specs.Managed.{Managed, use_first}
+use Rattle.cache_evict.specs.Managed.{Managed, use_first, rows_of}
+use Rattle.cache_entries.specs.Rows.{weight_of}
 use Rattle.cache_lock.specs.declared.tokens.Locked.{Locked}
 use Rattle.cache_lock.specs.State.{LockState}
 use Rattle.cache_lock.specs.Answers.{to_wait_for, IsRefused, IsAsBefore}
@@ -18,7 +19,7 @@ use Rattle.cache_store.specs.Readers.{Reader, Parts}
 use Rattle.cache_phases.specs.declared.hit.HitStatus.{HitStatus}
 use Rattle.cache_phases.specs.HitStatuses.{is_fresh, is_treated_as_miss, found_phase}
 use Rattle.cache_phases.specs.Phases.{is_stale_phase}
-use Rattle.cache_phases.specs.Locks.{given_by, asked, now_holding, lock_held}
+use Rattle.cache_phases.specs.Locks.{is_on, given_by, asked, left_by, now_holding, lock_held}
 use Rattle.http_cache.specs.declared.faults.FoundFault.{FoundFault}
 use Rattle.http_cache.specs.declared.faults.FoundFault.TheVariants.{Lock, Evict}
 use Rattle.http_cache.specs.Request.{Request, stored_at}
@@ -83,3 +84,18 @@ abbrev pub CountAnswer : ℕ → Bool → CacheEntryKey → ℕ → Managed → 
 CountAnswer n counted e w old (Ok done) new = new ≡ (if counted then use_first n e w old else old)
 CountAnswer n counted e w old (Err (Some f)) new = IsPutRefused n e w old f × (evicted_of f ≡ []) × (counted ≡ true) × (new ≡ old)
 CountAnswer n counted e w old (Err None) new = new ≡ old
+
+-- the lock after a refusal: one that was given is given back
+abbrev pub lock_refused : {H M : Type 0} → FoundFault → HitStatus → MomentValue → Request H M → LockState → LockState
+lock_refused (Lock f) status moment r s = s
+lock_refused _ status moment r s = left_by (found_given status r s) (found_asked status moment r s)
+
+-- the lock refuses only what is asked of it: where it is on, and what was found isn't fresh
+abbrev pub WasAsked : {H M : Type 0} → FoundFault → HitStatus → Request H M → Type 0
+WasAsked (Lock f) status r = (is_fresh status ≡ false) × (is_on r.lock ≡ true)
+WasAsked _ status r = Unit {0}
+
+-- a use is refused only of an entry that isn't tracked
+abbrev pub IsUntracked : ℕ → CacheEntryKey → FoundFault → Managed → Type 0
+IsUntracked n e (Evict f) m = weight_of e (rows_of n e m) ≡ None
+IsUntracked n e _ m = Unit {0}

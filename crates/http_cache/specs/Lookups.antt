@@ -15,7 +15,7 @@ use Rattle.cache_store.specs.Held.{Held}
 use Rattle.cache_store.specs.Looks.{LookAnswer}
 use Rattle.cache_store.specs.Readers.{Reader, SameHeld}
 use Rattle.cache_phases.specs.Phases.{is_key_phase}
-use Rattle.cache_phases.specs.Locks.{given_by, asked, now_holding, lock_held}
+use Rattle.cache_phases.specs.Locks.{is_on, given_by, asked, now_holding, lock_held}
 use Rattle.http_cache.specs.declared.faults.LookUpFault.{LookUpFault}
 use Rattle.http_cache.specs.declared.faults.LookUpFault.TheVariants as fault
 use Rattle.http_cache.specs.Request.{Request, stored_at}
@@ -83,3 +83,8 @@ module _ {H M : Type 0} (reader : H → Reader) (number : M → ℕ) (custom : L
   LookUpAnswer look old (Ok None) new = FindsNothing look old (Ok tt) new
   LookUpAnswer look old (Err (fault.Store f)) new = (f ≡ Memory) × (new ≡ old)
   LookUpAnswer look old (Err (fault.Lock f)) new = FindsNothing look old (Err f) new
+
+-- the lock refuses only what is asked of it: where it is on
+abbrev pub IsAskedFor : {H M : Type 0} → Request H M → LookUpFault → Type 0
+IsAskedFor r (fault.Store f) = Unit {0}
+IsAskedFor r (fault.Lock f) = is_on r.lock ≡ true

@@ -1,15 +1,17 @@
 //! A response that was found.
-ghost use Rattle.std.specs.Prelude.{◌≡◌, true, false, is_some, Some, None, OnOk, OnErr, IfOk, IfErr, MatchResult};
+ghost use Rattle.std.specs.Prelude.{◌≡◌, true, false, is_some, Some, None, OnOk, OnErr, IfOk, IfErr, IfSome, MatchResult};
 ghost use Rattle.cache_lock.specs.Answers.{to_wait_for, IsRefused, IsAsBefore};
+ghost use Rattle.cache_entries.specs.Rows.{weight_of};
+ghost use Rattle.cache_evict.specs.Managed.{rows_of};
 ghost use Rattle.cache_store.specs.Held.{Held};
 ghost use Rattle.cache_store.specs.Readers as Readers;
-ghost use Rattle.cache_phases.specs.HitStatuses.{found_phase};
+ghost use Rattle.cache_phases.specs.HitStatuses.{found_phase, is_fresh};
 ghost use Rattle.cache_phases.specs.Phases.{can_look_up, is_disabled, is_stale_phase};
-ghost use Rattle.cache_phases.specs.Locks.{holds_permit, given_by, asked, left_by};
+ghost use Rattle.cache_phases.specs.Locks.{is_on, holds_permit, given_by, asked, left_by};
 ghost use Rattle.http_cache.specs.Request.{stored_at};
 ghost use Rattle.http_cache.specs.Spends.{Spends};
 ghost use Rattle.http_cache.specs.Points.{point};
-ghost use Rattle.http_cache.specs.Founds.{entry_at, found_given, found_asked, with_found, FoundSpends, IsTaken, IsGivenUp, is_counted, CountAnswer, UseAnswer};
+ghost use Rattle.http_cache.specs.Founds.{entry_at, found_given, found_asked, with_found, FoundSpends, IsTaken, IsGivenUp, is_counted, CountAnswer, UseAnswer, lock_refused, WasAsked, IsUntracked};
 
 use crate::ends::finish_reader;
 use crate::faults::FoundFault;
@@ -42,6 +44,7 @@ impl<S: Storage> HttpCache<S> {
         ensures given { IfOk result (λ g. g ≡ given_by self.now.lock (stored_at self.now.key) (L.state lock.old)) }
         ensures lock { OnOk result (L.state lock.new ≡ asked self.now.lock (stored_at self.now.key) stale moment (L.state lock.old)) }
         ensures err { OnErr result (L.state lock.new ≡ L.state lock.old) }
+        ensures refused_on { OnErr result (is_on self.now.lock ≡ true) }
         ensures refused { IfErr result (λ fault. IsRefused (L.state lock.old) (to_wait_for (stored_at self.now.key) (L.state lock.old)) fault) }
         ensures given_back { IfOk result (λ g. IsAsBefore (left_by g (L.state lock.new)) (L.state lock.old)) }
     {
@@ -60,6 +63,7 @@ impl<S: Storage> HttpCache<S> {
         ensures given { IfOk result (λ g. g ≡ found_given status self.now (L.state lock.old)) }
         ensures lock { OnOk result (L.state lock.new ≡ found_asked status moment self.now (L.state lock.old)) }
         ensures err { OnErr result (L.state lock.new ≡ L.state lock.old) }
+        ensures refused_on { OnErr result ((is_fresh status ≡ false) × (is_on self.now.lock ≡ true)) }
         ensures refused { IfErr result (λ fault. IsRefused (L.state lock.old) (to_wait_for (stored_at self.now.key) (L.state lock.old)) fault) }
         ensures given_back { IfOk result (λ g. IsAsBefore (left_by g (L.state lock.new)) (L.state lock.old)) }
     {
@@ -80,8 +84,9 @@ impl<S: Storage> HttpCache<S> {
         status: HitStatus,
     ) -> Result<(), Option<EvictFault>>
         requires { is_some self.now.key ≡ true }
-        ensures { CountAnswer E.shard_count (is_counted S.Hit.counts hit.now status self.now) (entry_at self.now.key (S.Hit.id hit.now)) (E.weighed (S.Hit.weight hit.now))
+        ensures counted { CountAnswer E.shard_count (is_counted S.Hit.counts hit.now status self.now) (entry_at self.now.key (S.Hit.id hit.now)) (E.weighed (S.Hit.weight hit.now))
             (E.managed manager.old) result (E.managed manager.new) }
+        ensures untracked { let e = entry_at self.now.key (S.Hit.id hit.now) in IfErr result (λ fault. IfSome fault (λ _. weight_of e (rows_of E.shard_count e (E.managed manager.old)) ≡ None)) }
     {
         if status.is_treated_as_miss() || !self.evicts || !hit.should_count_access() {
             return Ok(());
@@ -163,6 +168,9 @@ impl<S: Storage> HttpCache<S> {
             MatchResult result (λ _. IsTaken S.Hit.reader moment meta hit status old new) (λ fault. IsGivenUp S.Hit.reader hit fault old new) }
         ensures used { UseAnswer E.shard_count (is_counted S.Hit.counts hit status self.old) (entry_at self.old.key (S.Hit.id hit)) (E.weighed (S.Hit.weight hit))
             (E.managed parts.old.manager) result (E.managed parts.new.manager) }
+        ensures given_back { IfErr result (λ fault. L.state parts.new.lock ≡ lock_refused fault status moment self.old (L.state parts.old.lock)) }
+        ensures asked { IfErr result (λ fault. WasAsked fault status self.old) }
+        ensures untracked { IfErr result (λ fault. IsUntracked E.shard_count (entry_at self.old.key (S.Hit.id hit)) fault (E.managed parts.old.manager)) }
         ensures ids { S.ids parts.new.store ≡ S.ids parts.old.store }
         ensures parts { parts.new ≡ record parts.old { store = parts.new.store; manager = parts.new.manager; lock = parts.new.lock } }
     {

@@ -1,13 +1,13 @@
 //! Look-ups.
-ghost use Rattle.std.specs.Prelude.{◌≡◌, Option, Some, None, true, false, is_none, is_some, option_map, IfOk, IfErr, Ok};
+ghost use Rattle.std.specs.Prelude.{◌≡◌, Option, Some, None, true, false, is_none, is_some, option_map, IfOk, IfErr, OnErr, Ok};
 ghost use Rattle.cache_words.specs.Key.{key_of, combined};
 ghost use Rattle.cache_store.specs.Looks.{Tells, shows};
 ghost use Rattle.cache_store.specs.declared.storage.StoreFault.{StoreFault as Fault};
 ghost use Rattle.cache_phases.specs.Phases.{can_look_up};
-ghost use Rattle.cache_phases.specs.Locks.{holds_permit};
+ghost use Rattle.cache_phases.specs.Locks.{is_on, holds_permit};
 ghost use Rattle.http_cache.specs.Request.{stored_at};
 ghost use Rattle.http_cache.specs.Points.{point};
-ghost use Rattle.http_cache.specs.Lookups.{is_hidden, valid_look, IsValidFound, asks_policy, defers, decided, LockAnswer, IsAbsent, LookUpAnswer};
+ghost use Rattle.http_cache.specs.Lookups.{is_hidden, valid_look, IsValidFound, asks_policy, defers, decided, LockAnswer, IsAbsent, LookUpAnswer, IsAskedFor};
 
 use crate::faults::LookUpFault;
 use crate::request::HttpCache;
@@ -94,6 +94,7 @@ impl<S: Storage> HttpCache<S> {
         requires phase { can_look_up self.old.phase ≡ true }
         requires key { is_some self.old.key ≡ true }
         ensures answer { LockAnswer moment self.old (L.state parts.old.lock) result self.new (L.state parts.new.lock) }
+        ensures asked { OnErr result (is_on self.old.lock ≡ true) }
         ensures parts { parts.new ≡ record parts.old { lock = parts.new.lock } }
     {
         let Some(key) = &self.key else { unreachable!() };
@@ -112,6 +113,7 @@ impl<S: Storage> HttpCache<S> {
         requires no_permit { holds_permit self.old.lock ≡ false }
         ensures missed { IsAbsent S.Hit.reader S.Miss.number (L.custom parts.old.lock) moment nothing
             (point self.old (S.held parts.old.store) (L.state parts.old.lock)) result (point self.new (S.held parts.new.store) (L.state parts.new.lock)) }
+        ensures asked { OnErr result (is_on self.old.lock ≡ true) }
         ensures ids { S.ids parts.new.store ≡ S.ids parts.old.store }
         ensures parts { parts.new ≡ record parts.old { store = parts.new.store; lock = parts.new.lock } }
     {
@@ -143,6 +145,7 @@ impl<S: Storage> HttpCache<S> {
             (point self.old (S.held parts.old.store) (L.state parts.old.lock)) result (point self.new (S.held parts.new.store) (L.state parts.new.lock)) }
         ensures tells { let k = stored_at self.old.key in
             IfOk result (λ found. Tells S.Hit.weight S.Hit.id S.weigh (S.ids parts.old.store k) (shows S.streams k (S.held parts.old.store).store) (Ok found)) }
+        ensures asked { IfErr result (IsAskedFor self.old) }
         ensures ids { S.ids parts.new.store ≡ S.ids parts.old.store }
         ensures parts { parts.new ≡ record parts.old { store = parts.new.store; lock = parts.new.lock } }
     {

@@ -128,7 +128,7 @@ read_turn a q = record q { reader = read_on a q.reader }
 
 -- what a call makes of the request that it names
 abbrev pub turn : State → MomentValue → Action → Option Judged → Outcome → Option Request → Option Request
-turn s t (Open id key asks) j (Ok a) o = Some (opened_request (entry_of key) asks)
+turn s t (Open id key asks) j (Ok a) o = Some (opened_request s.wait (entry_of key) asks)
 turn s t (LookUp id) j (Ok a) o = option_map (λ q. looked t q (look_for q s.shelf) s.lock) o
 turn s t (Poll id) j (Ok (Waited outcome)) o = option_map (λ q. after_wait t outcome q.held q) o
 turn s t (Begin id head) j (Ok a) o = option_map (begin_turn s j) o
@@ -230,7 +230,7 @@ drop_turned s r id None e = by_id (r == id) refl
 drop_turned s r id (Some q) e = at-remove s.requests r id
 
 answer_turned : (s : State) (t : MomentValue) (action : Action) (c : Call) (a : Answer) (id : ℕ) → Turned s t action (judged_of c) (Ok a) id (answered s t action c a)
-answer_turned s t (Open r key asks) c a id = at-insert s.requests r (opened_request (entry_of key) asks) id
+answer_turned s t (Open r key asks) c a id = at-insert s.requests r (opened_request s.wait (entry_of key) asks) id
 answer_turned s t (LookUp r) c a id = placed_as s r id (λ q. looked t q (look_for q s.shelf) s.lock) (λ q. after_look s t r q (look_for q s.shelf)) (λ q. refl)
 answer_turned s t (Poll r) c (Waited outcome) id = placed s r id (λ q. after_wait t outcome q.held q) (get s.requests r) refl
 answer_turned s t (Poll r) c _ id = same_either (r == id) (get s.requests id)

@@ -171,10 +171,10 @@ pub answer_counts : (s : State) (t : MomentValue) (action : Action) (c : Call) (
 answer_counts s t (Open r key asks) c a p = quiet s (answered s t (Open r key asks) c a) (Ok a) refl refl refl (subst (λ (y : Answer). IsQuiet (Ok y)) (sym p) (record { found = refl; absent = refl; evicted = refl }))
 answer_counts s t (LookUp r) c a p = request_counts s t r (get s.requests r) a p
 answer_counts s t (Poll r) c a p =
-    let q = of_request (get s.requests r) (λ q. a ≡ Waited (polled s t q q.held)) p in
+    let q = of_request (get s.requests r) (λ q. a ≡ Waited (polled s.lock t q q.held)) p in
     subst (λ (y : Answer). Counts s (answered s t (Poll r) c y) (Ok y)) (sym q.2)
-    (request_quiet s (get s.requests r) _ (Ok (Waited (polled s t q.0 q.0.held))) (record { found = refl; absent = refl; evicted = refl })
-    (λ y. quiet s _ (Ok (Waited (polled s t q.0 q.0.held))) refl refl refl (record { found = refl; absent = refl; evicted = refl })))
+    (request_quiet s (get s.requests r) _ (Ok (Waited (polled s.lock t q.0 q.0.held))) (record { found = refl; absent = refl; evicted = refl })
+    (λ y. quiet s _ (Ok (Waited (polled s.lock t q.0 q.0.held))) refl refl refl (record { found = refl; absent = refl; evicted = refl })))
 answer_counts s t (Begin r head) c a p =
     request_quiet s (get s.requests r) (λ q. after_begin s r q (judged_of c)) (Ok a) (begin_quiet (judged_of c) a p) (λ q. begin_counts s r q (judged_of c) (Ok a) (begin_quiet (judged_of c) a p))
 answer_counts s t (Piece r bytes last) c a p =

@@ -289,7 +289,7 @@ module _ (start : Opening) (s : State) (h : History) (made : IsMade start.settin
 
   -- ---- all events
 
-  poll_right : (t : MomentValue) (r : ℕ) (c : Call) (a : Answer) (o : Option Request) → MatchOption o ⊥ (λ q. a ≡ Waited (polled s t q q.held)) → IsRight start t (Poll r) (Ok a) c h
+  poll_right : (t : MomentValue) (r : ℕ) (c : Call) (a : Answer) (o : Option Request) → MatchOption o ⊥ (λ q. a ≡ Waited (polled s.lock t q q.held)) → IsRight start t (Poll r) (Ok a) c h
   poll_right t r c a None p = absurd p
   poll_right t r c a (Some q) p = subst (λ (y : Answer). IsRight start t (Poll r) (Ok y) c h) (sym p) tt
 

@@ -156,7 +156,7 @@ module _ (start : Opening) where
             fits.1,
           )
 
-      open_fits : (k : ℕ) (key : CacheKeyValue) (asks : Bool) → opened_for k h ≡ None → OpenFits k (Some (opened_request (entry_of key) asks)) (call_at t (Open k key asks) i (Ok Opened) ∷ h)
+      open_fits : (k : ℕ) (key : CacheKeyValue) (asks : Bool) → opened_for k h ≡ None → OpenFits k (Some (opened_request s.wait (entry_of key) asks)) (call_at t (Open k key asks) i (Ok Opened) ∷ h)
       open_fits k key asks none = (
         record {
           key = ap (λ v. cond v (Some (entry_of key)) (opened_for k h)) (itself k);
@@ -166,12 +166,12 @@ module _ (start : Opening) where
         sym (ap (λ v. cond v (own_opened asks) (own_of k h)) (itself k)),
       )
 
-      poll_fits : (k : ℕ) (x : Option Request) (a : Answer) → MatchOption x ⊥ (λ q. a ≡ Waited (polled s t q q.held)) → OpenFits k x h
+      poll_fits : (k : ℕ) (x : Option Request) (a : Answer) → MatchOption x ⊥ (λ q. a ≡ Waited (polled s.lock t q q.held)) → OpenFits k x h
           → OpenFits k (turn s t (Poll k) None (Ok a) x) (call_at t (Poll k) i (Ok a) ∷ h)
       poll_fits k None a p fits = absurd p
       poll_fits k (Some q) a p fits =
           subst (λ (y : Answer). OpenFits k (turn s t (Poll k) None (Ok y) (Some q)) (call_at t (Poll k) i (Ok y) ∷ h)) (sym p)
-          (waited (polled s t q q.held) q.held refl)
+          (waited (polled s.lock t q q.held) q.held refl)
         where
           waited : (outcome : Option LockStatus) (held : Held) → q.held ≡ held → OpenFits k (Some (after_wait t outcome q.held q)) (call_at t (Poll k) i (Ok (Waited outcome)) ∷ h)
           waited outcome held e = (
@@ -225,8 +225,8 @@ module _ (start : Opening) where
         answer_fits : (action : Action) (a : Answer) → refusal s action ≡ None → IsAnswer s t action (call_at t action i (Ok a)) a → (id : ℕ) → is_named id (named_by action) ≡ true
             → OpenFits id (turn s t action (judged_of (call_at t action i (Ok a))) (Ok a) (get s.requests id)) (call_at t action i (Ok a) ∷ h)
         answer_fits (Open k key asks) a n p id e =
-            subst (λ (y : Answer). OpenFits id (Some (opened_request (entry_of key) asks)) (call_at t (Open k key asks) i (Ok y) ∷ h)) (sym p)
-            (subst (λ (x : ℕ). OpenFits x (Some (opened_request (entry_of key) asks)) (call_at t (Open k key asks) i (Ok Opened) ∷ h)) (eqb-true k id e)
+            subst (λ (y : Answer). OpenFits id (Some (opened_request s.wait (entry_of key) asks)) (call_at t (Open k key asks) i (Ok y) ∷ h)) (sym p)
+            (subst (λ (x : ℕ). OpenFits x (Some (opened_request s.wait (entry_of key) asks)) (call_at t (Open k key asks) i (Ok Opened) ∷ h)) (eqb-true k id e)
             (open_fits k key asks (subst (λ (o : Option Request). OpenFits k o h) (was_closed (get s.requests k) n) (fits k))))
         answer_fits (LookUp k) a n p id e =
             subst (λ (x : ℕ). OpenFits x (option_map (λ q. looked t q (look_for q s.shelf) s.lock) (get s.requests x)) (call_at t (LookUp k) i (Ok a) ∷ h)) (eqb-true k id e) (request_fits k (get s.requests k) a p (fits k))

@@ -358,8 +358,8 @@ module _ (start : Opening) (s : State) (h : History) (l : Holds start s h) (open
     answer_counted t i (Poll k) a e p orderly =
         let q = there (get s.requests k) _ p in
         subst (λ (y : Answer). IsOrderly (changes_of start (call_at t (Poll k) i (Ok y) ∷ h)) → Next (call_at t (Poll k) i (Ok y)) (after s (call_at t (Poll k) i (Ok y)))) (sym q.2)
-        (λ orderly. quiet_request (call_at t (Poll k) i (Ok (Waited (polled s t q.0 q.0.held)))) k orderly refl refl (request_readers (get s.requests k) _ (λ q. refl))
-        (λ n. waited (polled s t q.0 q.0.held) n (get s.requests k))) orderly
+        (λ orderly. quiet_request (call_at t (Poll k) i (Ok (Waited (polled s.lock t q.0 q.0.held)))) k orderly refl refl (request_readers (get s.requests k) _ (λ q. refl))
+        (λ n. waited (polled s.lock t q.0 q.0.held) n (get s.requests k))) orderly
       where
         waited : (outcome : Option LockStatus) (n : ℕ) (o : Option Request) → share (streams n) (option_map (λ q. after_wait t outcome q.held q) o) ≡ share (streams n) o
         waited outcome n None = refl

@@ -2,7 +2,7 @@
 use Rattle.std.specs.Prelude.{ℕ, ◌+◌, Bool, true, false, List, [], ◌∷◌, ◌++◌, length, if◌then◌else◌, Option, Some, None, unwrap_or, Ok, Err}
 use Rattle.std.specs.FinMap.{FinMap, get, insert, remove}
 use Rattle.std.specs.Ordering.{nat_cmp}
-use Rattle.cache_words.specs.Time.{MomentValue}
+use Rattle.cache_words.specs.Time.{MomentValue, DurationValue}
 use Rattle.cache_words.specs.Key.{CacheKeyValue}
 use Rattle.cache_entries.specs.declared.entry.CacheEntryKey.{CacheEntryKey}
 use Rattle.cache_changes.specs.Changes.{stored_key}
@@ -48,9 +48,9 @@ abbrev pub with_request : ℕ → Request → State → State
 with_request id q s = record s { requests = insert s.requests id q }
 
 -- a request that was just opened
-abbrev pub opened_request : Entry → Bool → Request
-opened_request entry asks =
-    record { entry = alone entry; asks = asks; phase = cache_key; held = nothing; waited = record { seconds = 0; nanoseconds = 0 }; gave_read = false; write = None; reader = closed }
+abbrev pub opened_request : Option DurationValue → Entry → Bool → Request
+opened_request wait entry asks =
+    record { entry = alone entry; asks = asks; wait = wait; phase = cache_key; held = nothing; waited = record { seconds = 0; nanoseconds = 0 }; gave_read = false; write = None; reader = closed }
 
 -- a count that stops at 2^64 - 1
 abbrev pub counted : ℕ → ℕ → ℕ
@@ -240,7 +240,7 @@ without_request s id q = record s { shelf = turned q.reader closed (on_write q.w
 
 -- the state after an answer, but for the lock
 abbrev pub answered : State → MomentValue → Action → Call → Answer → State
-answered s t (Open id key asks) c a = with_request id (opened_request (entry_of key) asks) s
+answered s t (Open id key asks) c a = with_request id (opened_request s.wait (entry_of key) asks) s
 answered s t (LookUp id) c a = on_request s id (λ q. after_look s t id q (look_for q s.shelf))
 answered s t (Poll id) c (Waited outcome) = on_request s id (λ q. with_request id (after_wait t outcome q.held q) s)
 answered s t (Begin id head) c a = on_request s id (λ q. after_begin s id q (judged_of c))

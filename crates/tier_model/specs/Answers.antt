@@ -86,8 +86,8 @@ is_past None waited now = false
 is_past (Some longest) waited now = at_least now (difference longest waited)
 
 -- what a poll tells of a wait for core n
-abbrev pub polled : State → MomentValue → Request → Held → Option LockStatus
-polled s t q (waits n first) = ended_by (wait_outcome n [] t s.lock) (status_of n s.lock) (is_past s.wait q.waited (time_waited first t))
+abbrev pub polled : LockState → MomentValue → Request → Held → Option LockStatus
+polled s t q (waits n first) = ended_by (wait_outcome n [] t s) (status_of n s) (is_past q.wait q.waited (time_waited first t))
 polled s t q _ = None
 
 -- ---- reads

@@ -49,11 +49,12 @@ pub data Reader : Type 0 where
   -- the write of that number, from a place on
   streaming : ℕ → ℕ → Reader
 
--- an open request: the entry for which it was opened, and whether it asks for the lock; its phase; what it holds of the lock, how long all its
--- waits that ended took, and whether its last look-up gave it a wait; the number of its write; its reader
+-- an open request: the entry for which it was opened, whether it asks for the lock, and the longest that it waits in all; its phase; what it
+-- holds of the lock, how long all its waits that ended took, and whether its last look-up gave it a wait; the number of its write; its reader
 pub record Request : Type 0 where
   pub entry : CacheEntryKey
   pub asks : Bool
+  pub wait : Option DurationValue
   pub phase : Phase
   pub held : Held
   pub waited : DurationValue

@@ -35,7 +35,7 @@ abbrev pub IsAnswer : State → MomentValue → Action → Call → Answer → T
 IsAnswer s t (Open id key asks) c a = a ≡ Opened
 IsAnswer s t (LookUp id) c a =
     OfRequest s id (λ q. (a ≡ look_answer t (lock_given t q (look_for q s.shelf) s.lock) (look_for q s.shelf)) × UseFits s q (look_for q s.shelf))
-IsAnswer s t (Poll id) c a = OfRequest s id (λ q. a ≡ Waited (polled s t q q.held))
+IsAnswer s t (Poll id) c a = OfRequest s id (λ q. a ≡ Waited (polled s.lock t q q.held))
 IsAnswer s t (Begin id head) c a = IsBeginAnswer (judged_of c) a
 IsAnswer s t (Piece id bytes last) c a = a ≡ Written
 IsAnswer s t (Finish id) c a = OfRequest s id (λ q. MatchOption (finishing q s.shelf) ⊥ (λ b. IsStored s b a))
@@ -106,11 +106,10 @@ may_begin s c = if is_some (finished_by c) then true else is_kept (judged_of c) 
 abbrev pub tells_of_write : Call → Bool
 tells_of_write c = if is_some (finished_by c) then has_stored c.outcome else is_begun c.outcome
 
--- a look-up was given a lock only where no check failed, the lock was to be asked and had a number
+-- a look-up was given a lock only where no check failed and the lock was to be asked
 abbrev pub AsksLock : State → MomentValue → Action → Bool → Type 0
 AsksLock s t action false = Unit {0}
-AsksLock s t (LookUp id) true =
-    (refusal s (LookUp id) ≡ None) × OfRequest s id (λ q. (asks_now t q (look_for q s.shelf) ≡ true) × (IsSpent s.lock (to_wait_for (key_for q) s.lock) → ⊥))
+AsksLock s t (LookUp id) true = (refusal s (LookUp id) ≡ None) × OfRequest s id (λ q. asks_now t q (look_for q s.shelf) ≡ true)
 AsksLock s t action true = ⊥
 
 -- what a state allows for a call

@@ -10,13 +10,13 @@ use Rattle.cache_words.specs.Time.{MomentValue, from_seconds}
 use Rattle.cache_words.specs.Key.{CacheKeyValue}
 use Rattle.tier_model.specs.declared.event.Event.{Event}
 use Rattle.tier_model.specs.declared.event.Action.{Action}
-use Rattle.tier_model.specs.declared.event.Action.TheVariants.{Open, LookUp, Read, Drop, Purge, Put}
+use Rattle.tier_model.specs.declared.event.Action.TheVariants.{Open, LookUp, Poll, Begin, Piece, Finish, Read, Drop, Purge, Put}
 use Rattle.trace_lines.specs.declared.line.Line.{Line}
 use Rattle.trace_lines.specs.declared.line.Line.TheVariants as lines
 use Rattle.trace_lines.specs.declared.line.Refusal.{Refusal}
 use Rattle.trace_lines.specs.declared.line.Refusal.TheVariants.{NotJson, NotObject, Op, Field}
 use Rattle.trace_lines.specs.declared.line.FieldName.{FieldName}
-use Rattle.trace_lines.specs.declared.line.FieldName.TheVariants.{At, Id, Key, Tag, Lock, Pieces}
+use Rattle.trace_lines.specs.declared.line.FieldName.TheVariants as field
 use Rattle.trace_lines.specs.declared.line.Operation.{Operation}
 use Rattle.trace_lines.specs.declared.line.Operation.TheVariants as op
 use Rattle.trace_lines.specs.declared.line.Stop.{Stop}
@@ -33,11 +33,6 @@ abbrev pub or_refused : {A : Type 0} → Refusal → Option A → Result A Refus
 or_refused refusal None = Err refusal
 or_refused refusal (Some x) = Ok x
 
--- nothing more is wanted of a field than that it passes
-abbrev pub checked : FieldName → Bool → Result ⊤ Refusal
-checked field true = Ok tt
-checked field false = Err (Field field)
-
 -- a whole number from 0 to 2^64 - 1
 abbrev pub number_of : Option Data → Option ℕ
 number_of value = option_and_then as_u64 (option_and_then as_number value)
@@ -50,10 +45,10 @@ abbrev pub moment_at : ℕ → Option MomentValue
 moment_at n = if nat_lt n (2 ^ 63) then Some (from_seconds (pos n)) else None
 
 abbrev pub moment_of : Data → Result MomentValue Refusal
-moment_of d = or_refused (Field At) (option_and_then moment_at (number_of (get (codes "at") d)))
+moment_of d = or_refused (Field field.At) (option_and_then moment_at (number_of (get (codes "at") d)))
 
 abbrev pub id_of : Data → Result ℕ Refusal
-id_of d = or_refused (Field Id) (number_of (get (codes "id") d))
+id_of d = or_refused (Field field.Id) (number_of (get (codes "id") d))
 
 -- the bytes that pairs of hex digits of either case spell
 abbrev pub hex_bytes : List ℕ → Option (List ℕ)
@@ -61,15 +56,12 @@ hex_bytes text = result_ok (decode_of text)
 
 -- the bytes that a key names
 abbrev pub primary_of : Data → Result (List ℕ) Refusal
-primary_of d = or_refused (Field Key) (option_and_then hex_bytes (text_of (get (codes "key") d)))
+primary_of d = or_refused (Field field.Key) (option_and_then hex_bytes (text_of (get (codes "key") d)))
 
-abbrev pub is_false : Data → Bool
-is_false d = unwrap_or (option_map (λ flag. if flag then false else true) (as_bool d)) false
-
--- a field may be left out, or else it passes the test
-abbrev pub is_absent_or : (Data → Bool) → Option Data → Bool
-is_absent_or test None = true
-is_absent_or test (Some d) = test d
+-- true or false, and false where the field is left out
+abbrev pub flag_in : Option Data → Option Bool
+flag_in None = Some false
+flag_in (Some d) = as_bool d
 
 -- any text, and the empty one where the field is left out
 abbrev pub tag_in : Option Data → Option (List ℕ)
@@ -77,11 +69,15 @@ tag_in None = Some []
 tag_in (Some d) = as_str d
 
 abbrev pub tag_of : Data → Result (List ℕ) Refusal
-tag_of d = or_refused (Field Tag) (tag_in (get (codes "tag") d))
+tag_of d = or_refused (Field field.Tag) (tag_in (get (codes "tag") d))
 
--- no lock
-abbrev pub lock_of : Data → Result ⊤ Refusal
-lock_of d = checked Lock (is_absent_or is_false (get (codes "lock") d))
+-- whether the lock is asked for
+abbrev pub lock_of : Data → Result Bool Refusal
+lock_of d = or_refused (Field field.Lock) (flag_in (get (codes "lock") d))
+
+-- whether no more comes
+abbrev pub end_of : Data → Result Bool Refusal
+end_of d = or_refused (Field field.End) (flag_in (get (codes "end") d))
 
 abbrev pub key_of : Data → Result CacheKeyValue Refusal
 key_of d = do
@@ -93,18 +89,29 @@ key_of d = do
 abbrev pub bytes_of : Data → Option (List ℕ)
 bytes_of d = option_and_then hex_bytes (as_str d)
 
+-- the head of a response, and bytes of a body
+abbrev pub head_of : Data → Result (List ℕ) Refusal
+head_of d = or_refused (Field field.Head) (option_and_then bytes_of (get (codes "head") d))
+
+abbrev pub piece_of : Data → Result (List ℕ) Refusal
+piece_of d = or_refused (Field field.Bytes) (option_and_then bytes_of (get (codes "bytes") d))
+
 abbrev pub all_bytes_of : Items → Option (List (List ℕ))
 all_bytes_of no_items = Some []
 all_bytes_of (item d ds) = option_and_then (λ b. option_map (λ bs. b ∷ bs) (all_bytes_of ds)) (bytes_of d)
 
 -- an array of hex texts
 abbrev pub pieces_of : Data → Result (List (List ℕ)) Refusal
-pieces_of d = or_refused (Field Pieces) (option_and_then all_bytes_of (option_and_then as_array (get (codes "pieces") d)))
+pieces_of d = or_refused (Field field.Pieces) (option_and_then all_bytes_of (option_and_then as_array (get (codes "pieces") d)))
 
 abbrev pub operation_named : List ℕ → Option Operation
 operation_named name =
     if bytes_eq name (codes "open") then Some op.Open
     else if bytes_eq name (codes "look") then Some op.LookUp
+    else if bytes_eq name (codes "poll") then Some op.Poll
+    else if bytes_eq name (codes "begin") then Some op.Begin
+    else if bytes_eq name (codes "piece") then Some op.Piece
+    else if bytes_eq name (codes "finish") then Some op.Finish
     else if bytes_eq name (codes "read") then Some op.Read
     else if bytes_eq name (codes "drop") then Some op.Drop
     else if bytes_eq name (codes "purge") then Some op.Purge
@@ -120,10 +127,25 @@ action_of op.Open d = do
   id ← id_of d
   key ← key_of d
   lock ← lock_of d
-  Ok (Open id key)
+  Ok (Open id key lock)
 action_of op.LookUp d = do
   id ← id_of d
   Ok (LookUp id)
+action_of op.Poll d = do
+  id ← id_of d
+  Ok (Poll id)
+action_of op.Begin d = do
+  id ← id_of d
+  head ← head_of d
+  Ok (Begin id head)
+action_of op.Piece d = do
+  id ← id_of d
+  bytes ← piece_of d
+  last ← end_of d
+  Ok (Piece id bytes last)
+action_of op.Finish d = do
+  id ← id_of d
+  Ok (Finish id)
 action_of op.Read d = do
   id ← id_of d
   Ok (Read id)

@@ -1,6 +1,6 @@
 //! The fields of a line.
 ghost use Rattle.std.specs.Prelude.{◌≡◌, ◌++◌, map, option_map, IfOk, string_bytes};
-ghost use Rattle.trace_lines.specs.Lines.{moment_of, id_of, primary_of, tag_of, lock_of, key_of, bytes_of, all_bytes_of, pieces_of, operation_named, operation_of, IsRead, IsReadAs};
+ghost use Rattle.trace_lines.specs.Lines.{moment_of, id_of, primary_of, tag_of, lock_of, end_of, head_of, piece_of, key_of, bytes_of, all_bytes_of, pieces_of, operation_named, operation_of, IsRead, IsReadAs};
 ghost use Rattle.trace_lines.specs.Trees.{seen, items_seen};
 
 use crate::hex_text::decode;
@@ -35,6 +35,10 @@ fn operation_named(name: &str) -> Option<Operation>
         "open" => Some(Operation::Open),
         "look" => Some(Operation::LookUp),
         "read" => Some(Operation::Read),
+        "poll" => Some(Operation::Poll),
+        "begin" => Some(Operation::Begin),
+        "piece" => Some(Operation::Piece),
+        "finish" => Some(Operation::Finish),
         "drop" => Some(Operation::Drop),
         "purge" => Some(Operation::Purge),
         _ => None,
@@ -94,16 +98,49 @@ fn tag(alloc: Global, value: &Value<'_>) -> Result<String, Stop>
     }
 }
 
-// Checks that no lock is requested.
-pub(crate) fn check_lock(value: &Value<'_>) -> Result<(), Refusal>
+// Whether the lock is asked for.
+pub(crate) fn lock(value: &Value<'_>) -> Result<bool, Refusal>
     ensures { result ≡ lock_of (seen value.now) }
 {
-    let Some(lock) = tree::member(value, "lock") else {
-        return Ok(());
+    match tree::member(value, "lock") {
+        None => Ok(false),
+        Some(lock) => tree::flag(lock).ok_or(Refusal::Field(FieldName::Lock)),
+    }
+}
+
+// Whether no more comes.
+pub(crate) fn end(value: &Value<'_>) -> Result<bool, Refusal>
+    ensures { result ≡ end_of (seen value.now) }
+{
+    match tree::member(value, "end") {
+        None => Ok(false),
+        Some(end) => tree::flag(end).ok_or(Refusal::Field(FieldName::End)),
+    }
+}
+
+// The head of a response.
+pub(crate) fn head(alloc: Global, value: &Value<'_>) -> Result<Bytes, Stop>
+    ensures { IsRead result (head_of (seen value.now)) }
+{
+    let Some(head) = tree::member(value, "head") else {
+        return Err(Stop::Refused(Refusal::Field(FieldName::Head)));
     };
-    match tree::flag(lock) {
-        Some(false) => Ok(()),
-        _ => Err(Refusal::Field(FieldName::Lock)),
+    match bytes(alloc, head)? {
+        Some(bytes) => Ok(bytes),
+        None => Err(Stop::Refused(Refusal::Field(FieldName::Head))),
+    }
+}
+
+// Bytes of a body.
+pub(crate) fn piece(alloc: Global, value: &Value<'_>) -> Result<Bytes, Stop>
+    ensures { IsRead result (piece_of (seen value.now)) }
+{
+    let Some(piece) = tree::member(value, "bytes") else {
+        return Err(Stop::Refused(Refusal::Field(FieldName::Bytes)));
+    };
+    match bytes(alloc, piece)? {
+        Some(bytes) => Ok(bytes),
+        None => Err(Stop::Refused(Refusal::Field(FieldName::Bytes))),
     }
 }
 

@@ -1,5 +1,5 @@
 -- What the words of a command line give.
-use Rattle.std.specs.Prelude.{◌≡◌, ℕ, Bool, true, false, ◌<◌, ◌^◌, bytes_eq, if◌then◌else◌, List, codes, Option, Some, None, Result, Ok, Err, ⊤, []}
+use Rattle.std.specs.Prelude.{◌≡◌, ℕ, Bool, true, false, ◌<◌, ◌^◌, bytes_eq, if◌then◌else◌, List, codes, Option, Some, None, option_map, Result, Ok, Err, ⊤, []}
 use Rattle.std.specs.Str.Parse.{IsNumeral, digits_value, without_leading_plus}
 use Rattle.clap.specs.Values.{kind_of}
 use Rattle.clap.specs.declared.error.kind.ErrorKind.TheVariants.{InvalidValue, ValueValidation}
@@ -10,7 +10,7 @@ use Rattle.clap.specs.Kinds.{IsAmong}
 use Rattle.cache_words.specs.Time.{span_of}
 use Rattle.tier_model.specs.State.{Settings}
 use Rattle.trace_replay.specs.declared.options.OptionName.{OptionName}
-use Rattle.trace_replay.specs.declared.options.OptionName.TheVariants.{Limit, Watermark, Shards, Seed}
+use Rattle.trace_replay.specs.declared.options.OptionName.TheVariants.{Limit, Watermark, Shards, Seed, Age, Wait}
 use Rattle.trace_replay.specs.declared.options.ShardCount.{ShardCount}
 use Rattle.trace_replay.specs.declared.options.ShardCount.TheVariants.{One, Four, Sixteen}
 use Rattle.trace_replay.specs.declared.options.ReplayOptions.{ReplayOptions}
@@ -32,8 +32,12 @@ abbrev pub limited_app : App
 limited_app = with_rule (with_rule named_app (option_rule (codes "limit") true)) (option_rule (codes "watermark") false)
 
 -- the same with `[--shards COUNT] [--seed SEED]`
+abbrev pub seeded_app : App
+seeded_app = with_rule (with_rule limited_app (option_rule (codes "shards") false)) (option_rule (codes "seed") false)
+
+-- the same with `[--age SECONDS] [--wait SECONDS]`
 abbrev pub app : App
-app = with_rule (with_rule limited_app (option_rule (codes "shards") false)) (option_rule (codes "seed") false)
+app = with_rule (with_rule seeded_app (option_rule (codes "age") false)) (option_rule (codes "wait") false)
 
 -- the text that the words give an option
 abbrev pub value_of : Text → List Text → Option Text
@@ -56,6 +60,8 @@ name_of Limit = codes "limit"
 name_of Watermark = codes "watermark"
 name_of Shards = codes "shards"
 name_of Seed = codes "seed"
+name_of Age = codes "age"
+name_of Wait = codes "wait"
 
 -- a text is given, and is no number
 abbrev pub IsWrong : Option Text → Type 0
@@ -74,12 +80,21 @@ shards_in (Some text) = shards_named text
 abbrev pub HasLimits : List Text → Type 0
 HasLimits words = ((n : ℕ) × IsGiven (value_of (codes "limit") words) (Some n)) × ((w : Option ℕ) × IsGiven (value_of (codes "watermark") words) w)
 
--- the option is the first whose value is wrong, in the order limit, watermark, shards, seed
+-- they and the number of shards are right, and then the seed too
+abbrev pub HasShards : List Text → Type 0
+HasShards words = ((k : ShardCount) × (shards_in (value_of (codes "shards") words) ≡ Some k)) × HasLimits words
+
+abbrev pub HasSeed : List Text → Type 0
+HasSeed words = ((s : Option ℕ) × IsGiven (value_of (codes "seed") words) s) × HasShards words
+
+-- the option is the first whose value is wrong, in the order limit, watermark, shards, seed, age, wait
 abbrev pub IsFirstWrong : List Text → OptionName → Type 0
 IsFirstWrong words Limit = IsWrong (value_of (codes "limit") words)
 IsFirstWrong words Watermark = IsWrong (value_of (codes "watermark") words) × ((n : ℕ) × IsGiven (value_of (codes "limit") words) (Some n))
 IsFirstWrong words Shards = (shards_in (value_of (codes "shards") words) ≡ None) × HasLimits words
-IsFirstWrong words Seed = IsWrong (value_of (codes "seed") words) × ((k : ShardCount) × (shards_in (value_of (codes "shards") words) ≡ Some k)) × HasLimits words
+IsFirstWrong words Seed = IsWrong (value_of (codes "seed") words) × HasShards words
+IsFirstWrong words Age = IsWrong (value_of (codes "age") words) × HasSeed words
+IsFirstWrong words Wait = IsWrong (value_of (codes "wait") words) × ((a : Option ℕ) × IsGiven (value_of (codes "age") words) a) × HasSeed words
 
 -- why the words give no options; memory may have run out instead
 abbrev pub IsFault : List Text → OptionsError → Type 0
@@ -115,9 +130,9 @@ IsReadShards value (Err Memory) = Unit {0}
 IsReadShards value (Err (WrongValue shown error)) = (shown ≡ Shards) × (kind_of error ≡ ValueValidation) × (shards_in value ≡ None)
 IsReadShards value (Err _) = ⊥
 
--- the empty tier that the options describe, of n shards: a permit's age is ten seconds, and a wait has no end
+-- the empty tier that the options describe, of n shards
 abbrev pub settings_over : ℕ → ReplayOptions → Settings
-settings_over n o = record { shards = n; limit = o.limit; watermark = o.watermark; age = span_of 10; wait = None }
+settings_over n o = record { shards = n; limit = o.limit; watermark = o.watermark; age = span_of o.age; wait = option_map span_of o.wait }
 
 -- with that tier and the words of the seed a replay begins
 abbrev pub start_over : ℕ → ReplayOptions → Start

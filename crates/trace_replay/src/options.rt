@@ -5,7 +5,7 @@ ghost use Rattle.clap.specs.Faults.{fault_of};
 ghost use Rattle.clap.specs.Matches.{found_of, first_value};
 ghost use Rattle.clap.specs.Simple.{HasMatchesOf, app_of};
 ghost use Rattle.clap.specs.Walk.{rule_of};
-ghost use Rattle.trace_replay.specs.CommandLine.{limited_app, app, name_of, named_app, option_rule, value_of, IsGiven, IsFault, IsWrongValue, IsReadNumber, IsReadShards, shards_named, shards_in, IsUnreadable};
+ghost use Rattle.trace_replay.specs.CommandLine.{limited_app, seeded_app, app, name_of, named_app, option_rule, value_of, IsGiven, IsFault, IsWrongValue, IsReadNumber, IsReadShards, shards_named, shards_in, IsUnreadable};
 
 use clap::error::ErrorKind;
 use clap::{Arg, ArgMatches, Command};
@@ -34,6 +34,10 @@ pub struct ReplayOptions {
     pub shards: ShardCount,
     /// The seed of the generator whose words pick the evicted entries.
     pub seed: u64,
+    /// How long a permit is waited for at most, in seconds.
+    pub age: u64,
+    /// How long a request waits in all, in seconds, if that has a bound.
+    pub wait: Option<u64>,
 }
 
 /// A number of shards.
@@ -58,6 +62,10 @@ pub enum OptionName {
     Shards,
     /// `--seed`
     Seed,
+    /// `--age`
+    Age,
+    /// `--wait`
+    Wait,
 }
 
 impl OptionName {
@@ -70,6 +78,8 @@ impl OptionName {
             OptionName::Watermark => "watermark",
             OptionName::Shards => "shards",
             OptionName::Seed => "seed",
+            OptionName::Age => "age",
+            OptionName::Wait => "wait",
         }
     }
 }
@@ -100,6 +110,8 @@ pub fn options<'a, S: AsStr>(alloc: Global, words: &'a [S]) -> Result<ReplayOpti
     ensures watermark { IfOk result (λ o. IsGiven (value_of (codes "watermark") (map S.text words.entry.now)) o.watermark) }
     ensures shards { IfOk result (λ o. shards_in (value_of (codes "shards") (map S.text words.entry.now)) ≡ Some o.shards) }
     ensures seed { IfOk result (λ o. (given : Option ℕ) × IsGiven (value_of (codes "seed") (map S.text words.entry.now)) given × (o.seed ≡ unwrap_or given 0)) }
+    ensures age { IfOk result (λ o. (given : Option ℕ) × IsGiven (value_of (codes "age") (map S.text words.entry.now)) given × (o.age ≡ unwrap_or given 10)) }
+    ensures wait { IfOk result (λ o. IsGiven (value_of (codes "wait") (map S.text words.entry.now)) o.wait) }
     ensures faultless { IfOk result (λ _. fault_of app (map S.text words.entry.now) ≡ []) }
     ensures refused { IfErr result (IsFault (map S.text words.entry.now)) }
 {
@@ -110,11 +122,15 @@ pub fn options<'a, S: AsStr>(alloc: Global, words: &'a [S]) -> Result<ReplayOpti
     let watermark = number(alloc, &matches, OptionName::Watermark)?;
     let shards = shards(alloc, &matches)?;
     let seed = number(alloc, &matches, OptionName::Seed)?;
+    let age = number(alloc, &matches, OptionName::Age)?;
+    let wait = number(alloc, &matches, OptionName::Wait)?;
     Ok(ReplayOptions {
         limit,
         watermark,
         shards,
         seed: seed.unwrap_or(0),
+        age: age.unwrap_or(10),
+        wait,
     })
 }
 
@@ -226,8 +242,8 @@ fn matches<'a, S: AsStr>(alloc: Global, words: &'a [S]) -> Result<ArgMatches<'a>
     }
 }
 
-fn command<'a>(alloc: Global) -> Result<Command<'a>, AllocError>
-    ensures { IfOk result (λ c. app_of c ≡ app) }
+fn seeded<'a>(alloc: Global) -> Result<Command<'a>, AllocError>
+    ensures { IfOk result (λ c. app_of c ≡ seeded_app) }
 {
     let shards = option(alloc, "shards", "COUNT", false).help(
         "How many shards the order of use has: 1, 4 or 16 [default: 1]",
@@ -236,6 +252,19 @@ fn command<'a>(alloc: Global) -> Result<Command<'a>, AllocError>
         "The seed of the generator that picks the evicted entries [default: 0]",
     );
     limited(alloc)?.arg(shards)?.arg(seed)
+}
+
+// The command with the options on waits.
+fn command<'a>(alloc: Global) -> Result<Command<'a>, AllocError>
+    ensures { IfOk result (λ c. app_of c ≡ app) }
+{
+    let age = option(alloc, "age", "SECONDS", false).help(
+        "How long a permit to write is waited for at most [default: 10]",
+    );
+    let wait = option(alloc, "wait", "SECONDS", false).help(
+        "How long a request waits for permits in all [default: no bound]",
+    );
+    seeded(alloc)?.arg(age)?.arg(wait)
 }
 
 fn limited<'a>(alloc: Global) -> Result<Command<'a>, AllocError>

@@ -1,0 +1,3 @@
+pub mod FlightLaws
+pub mod ReadingLaws
+pub mod ShelfLaws
