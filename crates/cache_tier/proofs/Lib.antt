@@ -1,7 +1,10 @@
-pub mod PutLaws
+pub mod TookLaws
+pub mod PollLaws
+pub mod ReadLaws
+pub mod PieceLaws
+pub mod OpenLaws
+pub mod PurgeLaws
+pub mod LookLaws
+pub mod BeginLaws
 pub mod RunLaws
-pub mod ShardLaws
-pub mod ShelfLaws
-pub mod StoreLaws
-pub mod TakenLaws
-pub mod UseLaws
+pub mod JudgeLaws

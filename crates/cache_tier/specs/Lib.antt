@@ -1,6 +1,6 @@
 pub mod Bodies
 pub mod Puts
-pub mod Codes
-pub mod Acts
+pub mod Heads
 pub mod Draws
+pub mod Acts
 pub mod Takes

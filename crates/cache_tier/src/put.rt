@@ -1,6 +1,7 @@
 //! Which responses the tier keeps.
 ghost use Rattle.std.specs.Prelude.{◌≡◌};
 ghost use Rattle.cache_tier.specs.Puts.{no_defaults, since_epoch, kept_by};
+ghost use Rattle.cache_tier.specs.Heads.{IsJudged};
 
 use bytes::Bytes;
 use cache_heads::CacheMeta;
@@ -59,9 +60,9 @@ impl CachePut for ByLines {
     }
 }
 
-// What a head gives that is read.
+// What is made of a head.
 #[derive(Drop)]
-pub(crate) enum Judged {
+pub(crate) enum Verdict {
     // The response is kept, with this meta.
     Kept(CacheMeta),
     // It may not be kept.
@@ -69,7 +70,9 @@ pub(crate) enum Judged {
 }
 
 // What a head gives that comes at a moment.
-pub(crate) fn judge(alloc: Global, moment: Moment, head: &Bytes) -> Result<Judged, TierFault> {
+pub(crate) fn judge(alloc: Global, moment: Moment, head: &Bytes) -> Result<Verdict, TierFault>
+    ensures { IsJudged moment head.now result }
+{
     let header = match read_head(alloc, head.as_slice()) {
         Ok(header) => header,
         Err(ReadHeadFault::BadHead) => return Err(TierFault::BadHead),
@@ -79,8 +82,8 @@ pub(crate) fn judge(alloc: Global, moment: Moment, head: &Bytes) -> Result<Judge
         return Err(out_of_memory(alloc));
     };
     match verdict {
-        RespCacheable::Cacheable(meta) => Ok(Judged::Kept(meta)),
+        RespCacheable::Cacheable(meta) => Ok(Verdict::Kept(meta)),
         RespCacheable::Uncacheable(NoCacheReason::StorageError) => Err(TierFault::BeforeEpoch),
-        RespCacheable::Uncacheable(reason) => Ok(Judged::NotKept(reason)),
+        RespCacheable::Uncacheable(reason) => Ok(Verdict::NotKept(reason)),
     }
 }

@@ -7,7 +7,8 @@ ghost use Rattle.tier_model.specs.Past.{HasPast, HoldsOrder};
 ghost use Rattle.tier_model.specs.Reports.{report_of};
 ghost use Rattle.cache_tier.specs.Takes.{Takes};
 ghost use Rattle.cache_tier.specs.Acts.{StepsBy};
-ghost use Rattle.cache_tier.specs.Bodies.{IsIdle, shelf_of, ShowsBodies};
+ghost use Rattle.tier_requests.specs.Shelves.{shelf_of};
+ghost use Rattle.cache_tier.specs.Bodies.{ShowsBodies};
 
 mod begin;
 mod faults;
@@ -50,6 +51,29 @@ pub struct Tier<const N: usize, S: BuildHasher = BuildHasherDefault<FoldHasher>>
     requests: Requests<S>,
     found: u64,
     absent: u64,
+}
+
+impl<const N: usize, S: BuildHasher> Model for Tier<N, S> {
+    ghost use Rattle.tier_model.specs.State.{State};
+    ghost use Rattle.tier_requests.specs.Codes.{state_code};
+    ghost use Rattle.tier_requests.specs.Shelves.{shelf_of, IsBelow};
+    ghost use Rattle.cache_evict.specs.Managed.{IsSharded};
+
+    ghost Value = { State };
+
+    ghost coded = { state_code };
+
+    ghost view = { λ t. record {
+      managed = t.parts.manager;
+      wait = t.wait;
+      shelf = shelf_of t.parts.store;
+      lock = t.parts.lock;
+      requests = t.requests;
+      found = t.found;
+      absent = t.absent;
+    } };
+
+    ghost invariant = { λ t. IsSharded N t.parts.manager × IsBelow (shelf_of t.parts.store) };
 }
 
 impl<const N: usize> Tier<N, BuildHasherDefault<FoldHasher>> {
@@ -127,10 +151,9 @@ impl<const N: usize, S: BuildHasher> Tier<N, S> {
         &self.parts.manager
     }
 
-    /// Returns what stores the bodies: just the finished bodies, each under its stored key.
+    /// Returns what stores the bodies: just the finished bodies, each under its stored key, and just the writes in flight.
     pub fn store(&self) -> &MemCache<S>
-        ensures idle { IsIdle result.now }
-        ensures shows { shelf_of result.now ≡ record { bodies = self.now.bodies; writes = self.now.writes } }
+        ensures shows { shelf_of result.now ≡ self.now.shelf }
         ensures bodies { (start : Opening) (h : History) → HasPast start self.now h → ShowsBodies result.now start h }
     {
         &self.parts.store

@@ -1,6 +1,7 @@
 -- What a store holds, as a tier's state has it.
-use Rattle.std.specs.Prelude.{ℕ, ◌+◌, List, map, None}
-use Rattle.std.specs.FinMap.{from_entries}
+use Rattle.std.specs.Prelude.{◌≡◌, ◌<◌, ◌≤◌, ℕ, ◌+◌, List, map, None}
+use Rattle.std.specs.List.{AllByRecursion}
+use Rattle.std.specs.FinMap.{from_entries, get}
 use Rattle.cache_heads.specs.declared.meta.CacheMeta.{CacheMeta}
 use Rattle.cache_changes.specs.Changes.{StoredKey}
 use Rattle.cache_changes.specs.Store.{Stored, Flying}
@@ -41,3 +42,8 @@ shelf_of h = record {
   readers = from_entries (map reading_row h.readings);
   writes = h.next;
 }
+
+-- the writes in flight, and those that have readers, have begun
+pub record IsBelow (shelf : Shelf) : Type 0 where
+  pub flying : AllByRecursion (λ f. f.number < shelf.writes) shelf.flying
+  pub readers : (n : ℕ) → shelf.writes ≤ n → get shelf.readers n ≡ None

@@ -1,12 +1,12 @@
 //! How a write begins.
-ghost use Rattle.std.specs.Prelude.{◌≡◌};
+ghost use Rattle.cache_tier.specs.Acts.{Took};
 
 use super::Tier;
-use crate::put::{Judged, judge};
+use crate::put::{Verdict, judge};
 use bytes::Bytes;
 use cache_words::time::Moment;
 use std::hash::BuildHasher;
-use tier_model::event::{Answer, TierFault};
+use tier_model::event::{Action, Answer, TierFault};
 
 impl<const N: usize, S: BuildHasher> Tier<N, S> {
     pub(super) fn begin(
@@ -15,6 +15,7 @@ impl<const N: usize, S: BuildHasher> Tier<N, S> {
         id: u64,
         head: &Bytes,
     ) -> Result<Answer, TierFault>
+        ensures { Took self.old moment (Action.Begin id head.now) result self.new }
     {
         match self.requests.can_begin(id) {
             None => return Err(TierFault::NoRequest),
@@ -22,11 +23,11 @@ impl<const N: usize, S: BuildHasher> Tier<N, S> {
             Some(true) => {}
         }
         match judge(self.alloc, moment, head) {
-            Ok(Judged::Kept(meta)) => {
+            Ok(Verdict::Kept(meta)) => {
                 self.requests.begin(self.alloc, id, &mut self.parts, meta)?;
                 Ok(Answer::Begun)
             }
-            Ok(Judged::NotKept(reason)) => {
+            Ok(Verdict::NotKept(reason)) => {
                 self.requests.give_up(id, &mut self.parts);
                 Ok(Answer::Uncacheable(reason))
             }

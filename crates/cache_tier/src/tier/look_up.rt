@@ -1,14 +1,15 @@
 //! Look-ups.
-ghost use Rattle.std.specs.Prelude.{◌≡◌};
+ghost use Rattle.cache_tier.specs.Acts.{Took};
 
 use super::Tier;
 use cache_words::time::Moment;
 use cache_evict::EvictionManager;
 use std::hash::BuildHasher;
-use tier_model::event::{Answer, TierFault};
+use tier_model::event::{Action, Answer, TierFault};
 
 impl<const N: usize, S: BuildHasher> Tier<N, S> {
     pub(super) fn look_up(&mut self, moment: Moment, id: u64) -> Result<Answer, TierFault>
+        ensures { Took self.old moment (Action.LookUp id) result self.new }
     {
         let outcome = self
             .requests

@@ -1,15 +1,17 @@
 //! How a request opens, and how it ends.
-ghost use Rattle.std.specs.Prelude.{◌≡◌};
+ghost use Rattle.cache_words.specs.Time.{MomentValue};
+ghost use Rattle.cache_tier.specs.Acts.{Took};
 
 use super::Tier;
 use cache_words::key::CacheKey;
 use std::hash::BuildHasher;
-use tier_model::event::{Answer, TierFault};
+use tier_model::event::{Action, Answer, TierFault};
 use tier_requests::Request;
 use tier_requests::faults::out_of_memory;
 
 impl<const N: usize, S: BuildHasher> Tier<N, S> {
     pub(super) fn open(&mut self, id: u64, key: &CacheKey, asks: bool) -> Result<Answer, TierFault>
+        ensures { (t : MomentValue) → Took self.old t (Action.Open id key.now asks) result self.new }
     {
         if self.requests.contains(id) {
             return Err(TierFault::IdInUse);
@@ -27,6 +29,7 @@ impl<const N: usize, S: BuildHasher> Tier<N, S> {
     }
 
     pub(super) fn drop_request(&mut self, id: u64) -> Result<Answer, TierFault>
+        ensures { (t : MomentValue) → Took self.old t (Action.Drop id) result self.new }
     {
         match self.requests.remove(id) {
             Some(request) => {

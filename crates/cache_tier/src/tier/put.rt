@@ -1,5 +1,5 @@
 //! Puts of whole responses.
-ghost use Rattle.std.specs.Prelude.{◌≡◌};
+ghost use Rattle.cache_tier.specs.Acts.{StepsBy};
 
 use super::Tier;
 use super::faults::told_of;
@@ -9,7 +9,7 @@ use cache_words::time::Moment;
 use pingora_cache::put::CachePutCtx;
 use rand_core::Rng;
 use std::hash::BuildHasher;
-use tier_model::event::{Answer, Pieces, TierFault};
+use tier_model::event::{Action, Answer, Pieces, TierFault};
 use tier_requests::faults::out_of_memory;
 use tier_requests::keys::kept_key;
 
@@ -21,6 +21,7 @@ impl<const N: usize, S: BuildHasher> Tier<N, S> {
         key: &CacheKey,
         pieces: &Pieces,
     ) -> Result<Answer, TierFault>
+        ensures { StepsBy self.old (R.stream rng.old) (record { moment = moment; action = Action.Put key.now pieces.now }) result self.new (R.stream rng.new) }
     {
         let Ok(key) = kept_key(self.alloc, key) else {
             return Err(out_of_memory(self.alloc));
