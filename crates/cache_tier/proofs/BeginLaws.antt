@@ -1,11 +1,12 @@
 -- Begins are taken.
-use Rattle.std.proofs.Common.{◌≡◌, ◌≢◌, ℕ, ◌+◌, ◌-◌, ◌^◌, refl, ap, sym, ◌∙◌, Bool, true, false, subst, cond, inl, inr, Some, None, Option, List}
+use Rattle.std.proofs.Common.{◌≡◌, ◌≢◌, ℕ, ◌+◌, ◌-◌, ◌^◌, refl, ap, sym, ◌∙◌, Bool, true, false, subst, cond, inl, inr, Some, None, Option, List, []}
 use Rattle.std.specs.Prelude.{Ok, Err, ◌&&◌, not, is_some, MatchOption, ◌⊎◌}
 use Rattle.std.specs.FinMap.{FinMap, get, insert}
 use Rattle.std.specs.Ordering.{nat_cmp}
 use Rattle.cache_words.specs.Time.{MomentValue}
 use Rattle.cache_heads.specs.declared.meta.CacheMeta.{CacheMeta}
 use Rattle.cache_heads.specs.declared.reason.NoCacheReason.{NoCacheReason}
+use Rattle.cache_lock.specs.Changes.{Change}
 use Rattle.cache_lock.specs.State.{LockState, after_all}
 use Rattle.cache_lock.specs.declared.status.LockStatus.TheVariants as status
 use Rattle.response_parse.specs.Response.{Reading, IsReading, head_of}
@@ -99,7 +100,7 @@ module _ (s : State) (t : MomentValue) (id : ℕ) (head : List ℕ) where
           asks = tt;
         },
         ap (λ (j : Judged). with_counts s.shelf.writes (after_all (release_of status.GiveUp q q.held s.lock) s.lock) (after_begin s id q (Some j))) (sym judged)
-        ∙ ap (λ (o : Option Request). with_counts s.shelf.writes (after_all (by_request _ o (λ p. release_of status.GiveUp p p.held s.lock)) s.lock)
+        ∙ ap (λ (o : Option Request). with_counts s.shelf.writes (after_all (by_request {X = List Change} [] o (λ p. release_of status.GiveUp p p.held s.lock)) s.lock)
             (by_request s o (λ p. after_begin s id p (Some (judged_alone t (head_of r)))))) (sym there),
       )
 
@@ -124,7 +125,7 @@ module _ (s : State) (t : MomentValue) (id : ℕ) (head : List ℕ) where
               refl,
               begun_allowed b.number,
               ap (λ (j : Judged). with_counts (s.shelf.writes + 1) (after_all (release_of status.Done q q.held s.lock) s.lock) (after_begin s id q (Some j))) (sym judged)
-              ∙ ap (λ (o : Option Request). with_counts (s.shelf.writes + 1) (after_all (by_request _ o (λ p. release_of status.Done p p.held s.lock)) s.lock)
+              ∙ ap (λ (o : Option Request). with_counts (s.shelf.writes + 1) (after_all (by_request {X = List Change} [] o (λ p. release_of status.Done p p.held s.lock)) s.lock)
                   (by_request s o (λ p. after_begin s id p (Some (judged_alone t (head_of r)))))) (sym there),
             )
 

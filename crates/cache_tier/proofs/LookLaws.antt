@@ -1,5 +1,5 @@
 -- Look-ups are taken.
-use Rattle.std.proofs.Common.{◌≡◌, ℕ, ◌<◌, ◌^◌, refl, ap, sym, ◌∙◌, arith, Bool, true, false, subst, cond, inl, inr, Some, None, Option, max, length}
+use Rattle.std.proofs.Common.{◌≡◌, ℕ, ◌<◌, ◌^◌, refl, ap, sym, ◌∙◌, arith, Bool, true, false, subst, cond, inl, inr, Some, None, Option, List, [], max, length}
 use Rattle.std.specs.Prelude.{Ok, Err, MatchOption, ◌⊎◌, if◌then◌else◌}
 use Rattle.std.specs.FinMap.{FinMap, get, insert}
 use Rattle.std.specs.Ordering.{nat_cmp}
@@ -10,6 +10,7 @@ use Rattle.cache_evict.specs.declared.fault.EvictFault.{EvictFault}
 use Rattle.cache_evict.specs.declared.fault.EvictFault.TheVariants as evict
 use Rattle.cache_evict.specs.Faults.{IsPutRefused}
 use Rattle.cache_evict.specs.Managed.{Managed, rows_of, use_first, total_size, IsSharded, IsHeavy, IsLong, IsFull}
+use Rattle.cache_lock.specs.Changes.{Change}
 use Rattle.cache_lock.specs.State.{LockState, after_all}
 use Rattle.tier_model.specs.declared.state.Body.{Body}
 use Rattle.tier_model.specs.declared.event.Action.TheVariants.{LookUp}
@@ -44,13 +45,33 @@ look_begins t g absent = refl
 look_begins t g (in_flight f) = refl
 look_begins t g (finished b) = refl
 
+-- the counts after an outcome
+abbrev pub found_after : Outcome → ℕ → ℕ
+found_after (Ok (Absent given)) n = n
+found_after (Ok a) n = counted n 1
+found_after (Err f) n = n
+
+abbrev pub absent_after : Outcome → ℕ → ℕ
+absent_after (Ok (Absent given)) n = counted n 1
+absent_after _ n = n
+
+found_counts : (t : MomentValue) (g : LockGiven) (l : Look) (n : ℕ) → found_after (Ok (look_answer t g l)) n ≡ counted_if (is_there l) n
+found_counts t g absent n = refl
+found_counts t g (in_flight f) n = refl
+found_counts t g (finished b) n = refl
+
+absent_counts : (t : MomentValue) (g : LockGiven) (l : Look) (n : ℕ) → absent_after (Ok (look_answer t g l)) n ≡ (if is_there l then n else counted n 1)
+absent_counts t g absent n = refl
+absent_counts t g (in_flight f) n = refl
+absent_counts t g (finished b) n = refl
+
 module _ (s : State) (t : MomentValue) (id : ℕ) where
   abbrev checked : Option Request → Option TierFault
   checked o = unless_open o look_refusal
 
   -- with what a look-up left, and the counts
   abbrev pub looked_to : FinMap nat_cmp Request → Lent → ℕ → ℕ → State
-  looked_to requests left found absent = record s { requests = requests; managed = left.managed; shelf = left.shelf; lock = left.lock; found = found; absent = absent }
+  looked_to requests left found missed = record s { requests = requests; managed = left.managed; shelf = left.shelf; lock = left.lock; found = found; absent = missed }
 
   pub Took-look-refused : (f : TierFault) → refusal s (LookUp id) ≡ Some f → Took s t (LookUp id) (Err f) s
   Took-look-refused f fails = Took-refused s t (LookUp id) f fails tt refl tt refl
@@ -81,7 +102,7 @@ module _ (s : State) (t : MomentValue) (id : ℕ) where
         begins = look_begins t g l;
         asks = tt;
       },
-      ap (λ (o : Option Request). with_counts s.shelf.writes (after_all (by_request _ o (λ p. given_changes t p (look_for p s.shelf) s.lock)) s.lock)
+      ap (λ (o : Option Request). with_counts s.shelf.writes (after_all (by_request {X = List Change} [] o (λ p. given_changes t p (look_for p s.shelf) s.lock)) s.lock)
           (by_request s o (λ p. after_look s t id p (look_for p s.shelf)))) (sym there),
     )
 
@@ -109,7 +130,7 @@ module _ (s : State) (t : MomentValue) (id : ℕ) where
             refl,
             refl,
             allowed true (passed, open_here (λ p. asks_now t p (look_for p s.shelf) ≡ true) (due refl)),
-            ap (λ (o : Option Request). record s { lock = after_all (by_request _ o (λ p. back_changes t p (look_for p s.shelf) s.lock)) s.lock }) (sym there),
+            ap (λ (o : Option Request). record s { lock = after_all (by_request {X = List Change} [] o (λ p. back_changes t p (look_for p s.shelf) s.lock)) s.lock }) (sym there),
           )
 
     -- ---- what was left, by the manager's own words
@@ -148,17 +169,48 @@ module _ (s : State) (t : MomentValue) (id : ℕ) where
       why_of f p = elim p [
         | inl out ↦ inl out
         | inr late ↦ elim late [
-          | inl use ↦ elim (use_fault l f use) [ | inl memory ↦ inl (memory.0, inl memory.1) | inr kept_out ↦ inr (inl kept_out) ]
+          | inl unused ↦ elim (use_fault l f unused) [ | inl memory ↦ inl (memory.0, inl memory.1) | inr kept_out ↦ inr (inl kept_out) ]
           | inr lock ↦ inr (inr lock)
         ]
       ]
 
--- the counts after an outcome
-abbrev pub found_after : Outcome → ℕ → ℕ
-found_after (Ok (Absent given)) n = n
-found_after (Ok a) n = counted n 1
-found_after (Err f) n = n
+  -- a look-up of a request that is open or isn't, in n shards, where all weights can still be counted
+  module _ (n : ℕ) (k : IsSharded n s.managed) where
+    abbrev before : Lent
+    before = lent s.shelf s.managed s.lock
 
-abbrev pub absent_after : Outcome → ℕ → ℕ
-absent_after (Ok (Absent given)) n = counted n 1
-absent_after _ n = n
+    answered_look : (q left : Request) (a : Answer) (after : Lent) → get s.requests id ≡ Some q → look_refusal q ≡ None → total_size after.managed < 2 ^ 64
+        → LooksBy n least_one t q (look_for q s.shelf) before (Ok a) left after → Took s t (LookUp id) (Ok a) (looked_to (insert s.requests id left) after (found_after (Ok a) s.found) (absent_after (Ok a) s.absent))
+    answered_look q left a after there passes small p =
+        let l = look_for q s.shelf in
+        let g = lock_given t q l s.lock in
+        let fits : UseFits s q l = use_fits q there passes n k l (subst (λ (x : Lent). total_size x.managed < 2 ^ 64) p.2 small) in
+        rw (p.2, p.1, p.0, found_counts t g l s.found, absent_counts t g l s.absent, used_same q there passes n k l) (Took-looked q there passes fits)
+
+    refused_look : (q left : Request) (f : TierFault) (after : Lent) → get s.requests id ≡ Some q → look_refusal q ≡ None
+        → LooksBy n least_one t q (look_for q s.shelf) before (Err f) left after → Took s t (LookUp id) (Err f) (looked_to (insert s.requests id left) after s.found s.absent)
+    refused_look q left f after there passes p =
+        let is : after ≡ lent s.shelf s.managed after.lock = λ i. record { shelf = p.2 i; managed = p.3 i; lock = after.lock } in
+        rw (is, p.1, insert-same s.requests id q there) (Took-look-fault q there passes f (why_of q there passes n k f p.0) after.lock p.4)
+
+    pub Took-look : (o : Outcome) (requests : FinMap nat_cmp Request) (after : Lent) → total_size after.managed < 2 ^ 64
+        → OnOpen id s.requests ((o ≡ Err NoRequest) × (after ≡ before)) (λ q left. LookAnswer n least_one t q before o left after) requests
+        → Took s t (LookUp id) o (looked_to requests after (found_after o s.found) (absent_after o s.absent))
+    Took-look o requests after small h = by_open (get s.requests id) refl h
+      where
+        by_result : (q left : Request) (o : Outcome) → get s.requests id ≡ Some q → look_refusal q ≡ None → LooksBy n least_one t q (look_for q s.shelf) before o left after
+            → Took s t (LookUp id) o (looked_to (insert s.requests id left) after (found_after o s.found) (absent_after o s.absent))
+        by_result q left (Ok a) there passes p = answered_look q left a after there passes small p
+        by_result q left (Err f) there passes p = refused_look q left f after there passes p
+
+        by_check : (q left : Request) (r : Option TierFault) → get s.requests id ≡ Some q → look_refusal q ≡ r
+            → MatchOption r (LooksBy n least_one t q (look_for q s.shelf) before o left after) (λ f. (o ≡ Err f) × (left ≡ q) × (after ≡ before))
+            → Took s t (LookUp id) o (looked_to (insert s.requests id left) after (found_after o s.found) (absent_after o s.absent))
+        by_check q left None there passes p = by_result q left o there passes p
+        by_check q left (Some f) there fails p = rw (p.0, p.1, p.2, insert-same s.requests id q there) (Took-look-refused f (ap checked there ∙ fails))
+
+        by_open : (x : Option Request) → get s.requests id ≡ x
+            → MatchOption x (((o ≡ Err NoRequest) × (after ≡ before)) × (requests ≡ s.requests)) (λ q. (left : Request) × LookAnswer n least_one t q before o left after × (requests ≡ insert s.requests id left))
+            → Took s t (LookUp id) o (looked_to requests after (found_after o s.found) (absent_after o s.absent))
+        by_open None none h = rw (h.0.0, h.0.1, h.1) (Took-look-refused NoRequest (ap checked none))
+        by_open (Some q) there h = rw h.2 (by_check q h.0 (look_refusal q) there refl h.1)

@@ -1,10 +1,11 @@
 -- Openings and drops are taken.
-use Rattle.std.proofs.Common.{◌≡◌, ℕ, refl, ap, sym, ◌∙◌, Bool, true, false, subst, inl, inr, Some, None, Option}
+use Rattle.std.proofs.Common.{◌≡◌, ℕ, refl, ap, sym, ◌∙◌, Bool, true, false, subst, inl, inr, Some, None, Option, List, []}
 use Rattle.std.specs.Prelude.{Ok, Err, not, is_some, MatchOption}
 use Rattle.std.specs.FinMap.{FinMap, get, insert, remove}
 use Rattle.std.specs.Ordering.{nat_cmp}
 use Rattle.cache_words.specs.Time.{MomentValue}
 use Rattle.cache_words.specs.Key.{CacheKeyValue}
+use Rattle.cache_lock.specs.Changes.{Change}
 use Rattle.cache_lock.specs.State.{LockState, after_all}
 use Rattle.tier_model.specs.declared.event.Action.TheVariants.{Open, Drop}
 use Rattle.tier_model.specs.declared.event.Answer.TheVariants.{Opened, Dropped}
@@ -79,7 +80,7 @@ module _ (s : State) (t : MomentValue) (id : ℕ) where
       asks = tt;
     },
     ap (λ (x : Shelf). record (dropped_to q) { shelf = x }) (sym (kept q.reader q.write))
-    ∙ ap (λ (o : Option Request). with_counts s.shelf.writes (after_all (by_request _ o (λ p. leave_of p.held)) s.lock) (by_request s o (λ p. without_request s id p))) (sym there),
+    ∙ ap (λ (o : Option Request). with_counts s.shelf.writes (after_all (by_request {X = List Change} [] o (λ p. leave_of p.held)) s.lock) (by_request s o (λ p. without_request s id p))) (sym there),
   )
 
   pub Took-drop-none : get s.requests id ≡ None → Took s t (Drop id) (Err NoRequest) s

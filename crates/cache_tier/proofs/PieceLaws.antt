@@ -13,7 +13,7 @@ use Rattle.tier_model.specs.Shelf.{Shelf, flying_at}
 use Rattle.tier_model.specs.State.{Request, State}
 use Rattle.tier_model.specs.Checks.{refusal, unless, unless_open, piece_refusal, has_ended}
 use Rattle.tier_model.specs.Step.{AllowsBy}
-use Rattle.tier_model.specs.After.{by_request, on_write, pieced}
+use Rattle.tier_model.specs.After.{by_request, on_write, pieced, with_counts}
 use Rattle.tier_requests.specs.Rows.{AddAnswer, PieceAnswer, OnOpen}
 use Rattle.cache_tier.specs.Acts.{Took}
 use Rattle.cache_tier.proofs.TookLaws.{insert-same, plain_call, Took-refused}
@@ -49,7 +49,7 @@ module _ (s : State) (t : MomentValue) (id : ℕ) (bytes : List ℕ) (last : Boo
         asks = tt;
       },
       ap (λ (x : Shelf). record s { shelf = x }) (sym (kept n last)) ∙ ap (λ (w : Option ℕ). record s { shelf = record (on_write w (pieced bytes last) s.shelf) { writes = s.shelf.writes } }) (sym writes)
-      ∙ ap (λ (o : Option Request). let x = by_request s o (λ p. record s { shelf = on_write p.write (pieced bytes last) s.shelf }) in record x { shelf = record x.shelf { writes = s.shelf.writes } }) (sym there),
+      ∙ ap (λ (o : Option Request). with_counts s.shelf.writes s.lock (by_request s o (λ p. record s { shelf = on_write p.write (pieced bytes last) s.shelf }))) (sym there),
     )
 
     memory_piece : Took s t (Piece id bytes last) (Err (Memory nothing_done)) s

@@ -1,9 +1,10 @@
 -- Polls are taken.
-use Rattle.std.proofs.Common.{◌≡◌, ℕ, refl, ap, sym, ◌∙◌, Bool, true, false, subst, Some, None, Option}
+use Rattle.std.proofs.Common.{◌≡◌, ℕ, refl, ap, sym, ◌∙◌, Bool, true, false, subst, Some, None, Option, List, []}
 use Rattle.std.specs.Prelude.{Ok, Err, MatchOption}
 use Rattle.std.specs.FinMap.{FinMap, get, insert}
 use Rattle.std.specs.Ordering.{nat_cmp}
 use Rattle.cache_words.specs.Time.{MomentValue}
+use Rattle.cache_lock.specs.Changes.{Change}
 use Rattle.cache_lock.specs.State.{LockState, after_all}
 use Rattle.tier_model.specs.declared.event.Action.TheVariants.{Poll}
 use Rattle.tier_model.specs.declared.event.Answer.TheVariants.{Waited}
@@ -47,7 +48,7 @@ module _ (s : State) (t : MomentValue) (id : ℕ) where
         begins = refl;
         asks = tt;
       },
-      ap (λ (o : Option Request). with_counts s.shelf.writes (after_all (by_request _ o (λ p. poll_of t p.held (polled s.lock t q q.held) s.lock)) s.lock)
+      ap (λ (o : Option Request). with_counts s.shelf.writes (after_all (by_request {X = List Change} [] o (λ p. poll_of t p.held (polled s.lock t q q.held) s.lock)) s.lock)
           (by_request s o (λ p. with_request id (after_wait t (polled s.lock t q q.held) p.held p) s))) (sym there),
     )
 

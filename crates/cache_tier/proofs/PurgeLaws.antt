@@ -11,7 +11,7 @@ use Rattle.tier_model.specs.declared.event.Answer.TheVariants.{Purged}
 use Rattle.tier_model.specs.Keys.{entry_of, alone, stored_key_of}
 use Rattle.tier_model.specs.Shelf.{Shelf, look, is_there, removed}
 use Rattle.tier_model.specs.State.{State, shards_of}
-use Rattle.tier_model.specs.After.{after_purge, taken}
+use Rattle.tier_model.specs.After.{after_purge, with_counts}
 use Rattle.cache_tier.specs.Acts.{Took}
 use Rattle.cache_tier.proofs.TookLaws.{plain_call}
 
@@ -25,10 +25,10 @@ module _ (s : State) (t : MomentValue) (key : CacheKeyValue) where
     refl,
     refl,
     record { read = tt; outcome = ap (λ (v : Bool). Purged v) (sym e); begins = refl; asks = tt },
-    kept v ∙ ap (λ v. let x = after_purge s key v in record x { shelf = record x.shelf { writes = s.shelf.writes } }) (sym e),
+    kept v ∙ ap (λ (v : Bool). with_counts s.shelf.writes s.lock (after_purge s key v)) (sym e),
   )
     where
-      kept : (v : Bool) → after_purge s key v ≡ (let x = after_purge s key v in record x { shelf = record x.shelf { writes = s.shelf.writes }; lock = s.lock })
+      kept : (v : Bool) → after_purge s key v ≡ with_counts s.shelf.writes s.lock (after_purge s key v)
       kept true = refl
       kept false = refl
 

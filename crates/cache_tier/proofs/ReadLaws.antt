@@ -57,7 +57,7 @@ module _ (s : State) (t : MomentValue) (id : ℕ) where
         begins = read_begins q.reader s.shelf;
         asks = tt;
       },
-      ap (λ (o : Option Request). by_request s o (λ p. with_request id (record p { reader = read_on a p.reader }) s)) (sym there),
+      ap (λ (o : Option Request). with_counts s.shelf.writes s.lock (by_request s o (λ p. with_request id (record p { reader = read_on a p.reader }) s))) (sym there),
     )
 
     memory_read : HasNews q.reader s.shelf → Took s t (Read id) (Err (Memory nothing_done)) s

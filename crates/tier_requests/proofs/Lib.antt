@@ -1,3 +1,4 @@
 pub mod FlightLaws
 pub mod ReadingLaws
 pub mod ShelfLaws
+pub mod BelowLaws

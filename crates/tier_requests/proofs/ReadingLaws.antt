@@ -89,12 +89,15 @@ table-parted n rs old e = by_reading (reading_at n old) refl
         by_key true e = subst (λ (x : ℕ). get (table_of old) x ≡ None) (eqb-true n m e) none
         by_key false e = refl
 
+    fewer : (r : Reading) → nat_lt 0 r.others ≡ true → r.others + 1 - 1 ≡ r.others - 1 + 1
+    fewer r more = grind (arith, more)
+
     by_others : (r : Reading) (v : Bool) → nat_lt 0 r.others ≡ v → reading_at n old ≡ Some r → table_of rs ≡ shelf.one_less n (Some (readers_of r)) (table_of old)
     by_others r true more is =
         let last : nat_le (r.others + 1) 1 ≡ false = grind (arith, more) in
         rw last
         (others (Some r) (insert (table_of old) n (record (readers_of r) { count = r.others + 1 - 1 })) is (λ m. at-insert (table_of old) n (record (readers_of r) { count = r.others + 1 - 1 }) m
-        ∙ rw more (ap (λ (c : ℕ). cond (n == m) (Some (record (readers_of r) { count = c })) (get (table_of old) m)) (omega arith))))
+        ∙ rw more (ap (λ (c : ℕ). cond (n == m) (Some (record (readers_of r) { count = c })) (get (table_of old) m)) (fewer r more))))
     by_others r false none is =
         let last : nat_le (r.others + 1) 1 ≡ true = grind (arith, none) in
         rw last (others (Some r) (remove (table_of old) n) is (λ m. at-remove (table_of old) n m ∙ rw none refl))
@@ -103,12 +106,15 @@ table-parted n rs old e = by_reading (reading_at n old) refl
     by_reading None is = rw (found None is) (others None (table_of old) is (λ m. absent m (found None is)))
     by_reading (Some r) is = rw (found (Some r) is) (by_others r (nat_lt 0 r.others) refl is)
 
+abbrev nobody : Option Readers
+nobody = None
+
 -- the readers of a write are left with its bytes
 found-left : (n : ℕ) (bytes : List ℕ) (m : ℕ) (rs : List Reading)
-    → option_map readers_of (reading_at m (left_with n bytes rs)) ≡ cond (n == m) (option_map (λ r. record r { left = Some bytes }) (option_map readers_of (reading_at m rs))) (option_map readers_of (reading_at m rs))
+    → option_map readers_of (reading_at m (left_with n bytes rs)) ≡ cond (n == m) (option_map {T = Readers} (λ r. record r { left = Some bytes }) (option_map readers_of (reading_at m rs))) (option_map readers_of (reading_at m rs))
 found-left n bytes m [] = by_test (n == m)
   where
-    by_test : (t : Bool) → None ≡ cond t None None
+    by_test : (t : Bool) → nobody ≡ cond t nobody nobody
     by_test true = refl
     by_test false = refl
 found-left n bytes m (r ∷ rs) = by_tests (n == r.number) refl (m == r.number) refl (found-left n bytes m rs)
@@ -117,9 +123,9 @@ found-left n bytes m (r ∷ rs) = by_tests (n == r.number) refl (m == r.number) 
     left = record r { left = Some bytes }
 
     by_tests : (t : Bool) → (n == r.number) ≡ t → (u : Bool) → (m == r.number) ≡ u
-        → option_map readers_of (reading_at m (left_with n bytes rs)) ≡ cond (n == m) (option_map (λ r. record r { left = Some bytes }) (option_map readers_of (reading_at m rs))) (option_map readers_of (reading_at m rs))
+        → option_map readers_of (reading_at m (left_with n bytes rs)) ≡ cond (n == m) (option_map {T = Readers} (λ r. record r { left = Some bytes }) (option_map readers_of (reading_at m rs))) (option_map readers_of (reading_at m rs))
         → option_map readers_of (reading_at m (cond t left r ∷ left_with n bytes rs))
-            ≡ cond (n == m) (option_map (λ r. record r { left = Some bytes }) (option_map readers_of (reading_at m (r ∷ rs)))) (option_map readers_of (reading_at m (r ∷ rs)))
+            ≡ cond (n == m) (option_map {T = Readers} (λ r. record r { left = Some bytes }) (option_map readers_of (reading_at m (r ∷ rs)))) (option_map readers_of (reading_at m (r ∷ rs)))
     by_tests true e true u ih = let same : (n == m) ≡ true = grind (arith, e, u) in rw (same, u) refl
     by_tests false e true u ih = let other : (n == m) ≡ false = grind (arith, e, u) in rw (other, u) refl
     by_tests true e false u ih = rw u ih
@@ -128,18 +134,18 @@ found-left n bytes m (r ∷ rs) = by_tests (n == r.number) refl (m == r.number) 
 pub table-left : (n : ℕ) (bytes : List ℕ) (rs : List Reading) → table_of (left_with n bytes rs) ≡ shelf.left_with n bytes (get (table_of rs) n) (table_of rs)
 table-left n bytes rs = by_readers (get (table_of rs) n) refl
   where
-    found : (m : ℕ) → get (table_of (left_with n bytes rs)) m ≡ cond (n == m) (option_map (λ r. record r { left = Some bytes }) (get (table_of rs) m)) (get (table_of rs) m)
+    found : (m : ℕ) → get (table_of (left_with n bytes rs)) m ≡ cond (n == m) (option_map {T = Readers} (λ r. record r { left = Some bytes }) (get (table_of rs) m)) (get (table_of rs) m)
     found m = reading-found m (left_with n bytes rs) ∙ found-left n bytes m rs ∙ rw (reading-found m rs) refl
 
     by_readers : (o : Option Readers) → get (table_of rs) n ≡ o → table_of (left_with n bytes rs) ≡ shelf.left_with n bytes o (table_of rs)
     by_readers None none = same-table _ _ (λ m. found m ∙ by_key m (n == m) refl)
       where
-        by_key : (m : ℕ) (t : Bool) → (n == m) ≡ t → cond t (option_map (λ r. record r { left = Some bytes }) (get (table_of rs) m)) (get (table_of rs) m) ≡ get (table_of rs) m
+        by_key : (m : ℕ) (t : Bool) → (n == m) ≡ t → cond t (option_map {T = Readers} (λ r. record r { left = Some bytes }) (get (table_of rs) m)) (get (table_of rs) m) ≡ get (table_of rs) m
         by_key m true e = let same : n ≡ m = eqb-true n m e in let gone : get (table_of rs) m ≡ None = subst (λ (x : ℕ). get (table_of rs) x ≡ None) same none in rw gone refl
         by_key m false e = refl
     by_readers (Some r) some = same-table _ _ (λ m. found m ∙ by_key m (n == m) refl ∙ sym (at-insert (table_of rs) n (record r { left = Some bytes }) m))
       where
         by_key : (m : ℕ) (t : Bool) → (n == m) ≡ t
-            → cond t (option_map (λ r. record r { left = Some bytes }) (get (table_of rs) m)) (get (table_of rs) m) ≡ cond t (Some (record r { left = Some bytes })) (get (table_of rs) m)
+            → cond t (option_map {T = Readers} (λ r. record r { left = Some bytes }) (get (table_of rs) m)) (get (table_of rs) m) ≡ cond t (Some (record r { left = Some bytes })) (get (table_of rs) m)
         by_key m true e = let same : n ≡ m = eqb-true n m e in let here : get (table_of rs) m ≡ Some r = subst (λ (x : ℕ). get (table_of rs) x ≡ Some r) same some in rw here refl
         by_key m false e = refl

@@ -1,5 +1,6 @@
 -- The codes of a tier's state, by which a proof tells two states apart: a record is its fields, one after another.
-use Rattle.std.specs.Prelude.{◌≡◌, ℕ, ℤ, Bool, List, Option, Some, None, ◌⊎◌, inl, inr, refl}
+use Rattle.std.specs.Prelude.{◌≡◌, ℕ, ℤ, Bool, true, false, List, Option, Some, None, ◌⊎◌, refl}
+use Rattle.std.proofs.Common.{inl, inr}
 use Rattle.std.specs.Coded.{Coded, code_by, coded×, coded⊎, coded_ℕ, coded_ℤ, coded_bool, coded_list, coded_option}
 use Rattle.std.specs.FinMap as finite
 use Rattle.std.specs.Ordering.{nat_cmp}
@@ -26,7 +27,7 @@ moment_code = code_by (ℤ × ℕ) (coded× coded_ℤ coded_ℕ) (λ t. (t.secon
 
 -- ---- requests
 
-abbrev number_of_phase : Phase → Bool × (Bool × Bool)
+abbrev pub number_of_phase : Phase → Bool × (Bool × Bool)
 number_of_phase cache_key = (true, (true, true))
 number_of_phase hit = (true, (true, false))
 number_of_phase stale = (true, (false, true))
@@ -34,7 +35,7 @@ number_of_phase miss = (true, (false, false))
 number_of_phase begun = (false, (true, true))
 number_of_phase disabled = (false, (true, false))
 
-abbrev phase_by : Bool → Bool → Bool → Phase
+abbrev pub phase_by : Bool → Bool → Bool → Phase
 phase_by true true true = cache_key
 phase_by true true false = hit
 phase_by true false true = stale
@@ -42,7 +43,7 @@ phase_by true false false = miss
 phase_by false true true = begun
 phase_by false _ _ = disabled
 
-phase_back : (p : Phase) → phase_by (number_of_phase p).0 (number_of_phase p).1.0 (number_of_phase p).1.1 ≡ p
+pub phase_back : (p : Phase) → phase_by (number_of_phase p).0 (number_of_phase p).1.0 (number_of_phase p).1.1 ≡ p
 phase_back cache_key = refl
 phase_back hit = refl
 phase_back stale = refl
@@ -53,20 +54,20 @@ phase_back disabled = refl
 abbrev pub phase_code : Coded Phase
 phase_code = code_by (Bool × (Bool × Bool)) (coded× coded_bool (coded× coded_bool coded_bool)) number_of_phase (λ p. phase_by p.0 p.1.0 p.1.1) phase_back
 
-abbrev Holds : Type 0
+abbrev pub Holds : Type 0
 Holds = ℕ ⊎ (ℕ × Option MomentValue)
 
-abbrev parts_of_held : Held → Option Holds
+abbrev pub parts_of_held : Held → Option Holds
 parts_of_held nothing = None
 parts_of_held (permit n) = Some (inl n)
 parts_of_held (waits n first) = Some (inr (n, first))
 
-abbrev held_by : Option Holds → Held
+abbrev pub held_by : Option Holds → Held
 held_by None = nothing
 held_by (Some (inl n)) = permit n
 held_by (Some (inr p)) = waits p.0 p.1
 
-held_back : (h : Held) → held_by (parts_of_held h) ≡ h
+pub held_back : (h : Held) → held_by (parts_of_held h) ≡ h
 held_back nothing = refl
 held_back (permit n) = refl
 held_back (waits n first) = refl
@@ -74,22 +75,22 @@ held_back (waits n first) = refl
 abbrev pub held_code : Coded Held
 held_code = code_by (Option Holds) (coded_option (coded⊎ coded_ℕ (coded× coded_ℕ (coded_option moment_code)))) parts_of_held held_by held_back
 
-abbrev Reads : Type 0
+abbrev pub Reads : Type 0
 Reads = Option (List ℕ) ⊎ Option (ℕ × ℕ)
 
-abbrev parts_of_reader : Reader → Reads
+abbrev pub parts_of_reader : Reader → Reads
 parts_of_reader closed = inl None
 parts_of_reader (unread bytes) = inl (Some bytes)
 parts_of_reader spent = inr None
 parts_of_reader (streaming n place) = inr (Some (n, place))
 
-abbrev reader_by : Reads → Reader
+abbrev pub reader_by : Reads → Reader
 reader_by (inl None) = closed
 reader_by (inl (Some bytes)) = unread bytes
 reader_by (inr None) = spent
 reader_by (inr (Some p)) = streaming p.0 p.1
 
-reader_back : (r : Reader) → reader_by (parts_of_reader r) ≡ r
+pub reader_back : (r : Reader) → reader_by (parts_of_reader r) ≡ r
 reader_back closed = refl
 reader_back (unread bytes) = refl
 reader_back spent = refl

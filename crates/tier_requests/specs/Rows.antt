@@ -1,5 +1,5 @@
 -- What the events of a request answer, and what they leave of it and of what it is lent.
-use Rattle.std.specs.Prelude.{◌≡◌, ◌≢◌, ◌×◌, ◌⊎◌, ℕ, ◌+◌, ◌-◌, ◌^◌, Bool, true, false, List, Option, Some, None, Result, Ok, Err, MatchResult, MatchOption}
+use Rattle.std.specs.Prelude.{◌≡◌, ◌≢◌, ◌⊎◌, ℕ, ◌+◌, ◌-◌, ◌^◌, Bool, true, false, List, Option, Some, None, Result, Ok, Err, MatchResult, MatchOption}
 use Rattle.std.specs.FinMap.{FinMap, get, insert}
 use Rattle.std.specs.Ordering.{nat_cmp}
 use Rattle.cache_words.specs.Time.{MomentValue}
@@ -42,10 +42,10 @@ PieceAnswer None bytes last shelf r new = (r ≡ Err WrongPhase) × (new ≡ she
 PieceAnswer (Some n) bytes last shelf r new = AddAnswer (has_ended (flying_at n shelf.flying)) bytes last n shelf r new
 
 -- a write began, with a number of its own: its request reads it, and has let go of its permit and of its earlier reader
-pub record Begins (meta : CacheMeta) (q : Request) (shelf : Shelf) (s : LockState) (new : Request) (shelf' : Shelf) (s' : LockState) : Type 0 where
-  pub number : shelf.writes ≢ 2 ^ 64 - 1
-  pub request : new ≡ writing shelf.writes q
-  pub shelf : shelf' ≡ record (turned q.reader (streaming shelf.writes 0) (begun (key_for q) (own_meta meta) shelf)) { writes = shelf.writes + 1 }
+pub record Begins (meta : CacheMeta) (q : Request) (old : Shelf) (s : LockState) (new : Request) (left : Shelf) (s' : LockState) : Type 0 where
+  pub number : old.writes ≢ 2 ^ 64 - 1
+  pub request : new ≡ writing old.writes q
+  pub shelf : left ≡ record (turned q.reader (streaming old.writes 0) (begun (key_for q) (own_meta meta) old)) { writes = old.writes + 1 }
   pub lock : s' ≡ after_all (release_of status.Done q q.held s) s
 
 -- no number is left, or no memory: then the write may have begun, and been given up

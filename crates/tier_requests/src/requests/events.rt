@@ -25,9 +25,9 @@ impl<S: BuildHasher> Requests<S> {
         parts: &mut TierParts<S, E>,
         moment: Moment,
     ) -> Result<Answer, TierFault>
-        ensures answer { OnOpen id self.old ((result ≡ Err TierFault.NoRequest) × (parts.new.lock ≡ parts.old.lock) × (parts.new.store ≡ parts.old.store) × (parts.new.manager ≡ parts.old.manager))
-            (λ q left. LookAnswer E.shard_count E.weighed moment q (lent (shelf_of parts.old.store) (E.managed parts.old.manager) parts.old.lock) result left
-            (lent (shelf_of parts.new.store) (E.managed parts.new.manager) parts.new.lock)) self.new }
+        ensures answer { let before = lent (shelf_of parts.old.store) (E.managed parts.old.manager) parts.old.lock in let after = lent (shelf_of parts.new.store) (E.managed parts.new.manager) parts.new.lock in
+            OnOpen id self.old ((result ≡ Err TierFault.NoRequest) × (after ≡ before))
+            (λ q left. LookAnswer E.shard_count E.weighed moment q before result left after) self.new }
         ensures parts { parts.new ≡ record parts.old { store = parts.new.store; manager = parts.new.manager; lock = parts.new.lock } }
     {
         match self.table.get_mut(&id) {
