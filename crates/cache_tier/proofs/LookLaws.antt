@@ -31,6 +31,7 @@ use Rattle.tier_requests.specs.Faults.{out_of_memory, fault_for}
 use Rattle.tier_requests.specs.Looks.{Lent, lent, LeavesLock, used_by, UseRefused, LockRefused, RunsOut, LooksBy, LookAnswer}
 use Rattle.tier_requests.specs.Rows.{OnOpen}
 use Rattle.cache_tier.specs.Acts.{Took}
+use Rattle.cache_tier.specs.Counts.{found_after, absent_after}
 use Rattle.cache_tier.proofs.TookLaws.{insert-same, plain_call, Took-refused}
 
 -- what the manager makes of a size
@@ -44,16 +45,6 @@ look_begins : (t : MomentValue) (g : LockGiven) (l : Look) → is_begun (Ok (loo
 look_begins t g absent = refl
 look_begins t g (in_flight f) = refl
 look_begins t g (finished b) = refl
-
--- the counts after an outcome
-abbrev pub found_after : Outcome → ℕ → ℕ
-found_after (Ok (Absent given)) n = n
-found_after (Ok a) n = counted n 1
-found_after (Err f) n = n
-
-abbrev pub absent_after : Outcome → ℕ → ℕ
-absent_after (Ok (Absent given)) n = counted n 1
-absent_after _ n = n
 
 found_counts : (t : MomentValue) (g : LockGiven) (l : Look) (n : ℕ) → found_after (Ok (look_answer t g l)) n ≡ counted_if (is_there l) n
 found_counts t g absent n = refl

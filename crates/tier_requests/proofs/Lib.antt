@@ -1,3 +1,4 @@
+pub mod PlainLaws
 pub mod FlightLaws
 pub mod ReadingLaws
 pub mod ShelfLaws

@@ -66,7 +66,8 @@ is_body (Some (Complete h)) = true
 is_body _ = false
 
 -- a request has a key and uses the manager and the lock until it is disabled, when it holds nothing. It has a write only where one
--- began, and bytes that wait to be read only with the reader of their body. No policy is asked, and nothing is hidden from it
+-- began, and then nothing of the lock, and bytes that wait to be read only with the reader of their body. No policy is asked, and
+-- nothing is hidden from it
 pub record IsDriven (r : Driven) (asks : Bool) (wait : Option DurationValue) (bytes : Option (List ℕ)) : Type 0 where
   pub used : is_never_enabled r.phase ≡ false
   pub key : is_some r.key ≡ true
@@ -76,4 +77,5 @@ pub record IsDriven (r : Driven) (asks : Bool) (wait : Option DurationValue) (by
   pub lock : is_disabled r.phase ≡ false → IsSet asks wait r.lock
   pub idle : is_disabled r.phase ≡ true → HoldsNothing r.reader r.writer r.lock
   pub writes : is_some r.writer ≡ true → phase_in r.phase (is_some r.meta) ≡ begun
+  pub released : is_some r.writer ≡ true → lock_held r.lock ≡ None
   pub body : is_some bytes ≡ true → is_body r.reader ≡ true
