@@ -50,7 +50,7 @@ with_request id q s = record s { requests = insert s.requests id q }
 -- a request that was just opened
 abbrev pub opened_request : Option DurationValue → Entry → Bool → Request
 opened_request wait entry asks =
-    record { entry = alone entry; asks = asks; wait = wait; phase = cache_key; held = nothing; waited = record { seconds = 0; nanoseconds = 0 }; gave_read = false; write = None; reader = closed }
+    record { entry = alone entry; asks = asks; wait = wait; phase = cache_key; held = nothing; waited = None; gave_read = false; write = None; reader = closed }
 
 -- a count that stops at 2^64 - 1
 abbrev pub counted : ℕ → ℕ → ℕ

@@ -101,8 +101,8 @@ reader_code = code_by Reads (coded⊎ (coded_option (coded_list coded_ℕ)) (cod
 
 abbrev pub request_code : Coded Request
 request_code =
-    code_by (CacheEntryKey × (Bool × (Option DurationValue × (Phase × (Held × (DurationValue × (Bool × (Option ℕ × Reader))))))))
-    (coded× entry_row.coded (coded× coded_bool (coded× (coded_option span_code) (coded× phase_code (coded× held_code (coded× span_code (coded× coded_bool (coded× (coded_option coded_ℕ) reader_code))))))))
+    code_by (CacheEntryKey × (Bool × (Option DurationValue × (Phase × (Held × (Option DurationValue × (Bool × (Option ℕ × Reader))))))))
+    (coded× entry_row.coded (coded× coded_bool (coded× (coded_option span_code) (coded× phase_code (coded× held_code (coded× (coded_option span_code) (coded× coded_bool (coded× (coded_option coded_ℕ) reader_code))))))))
     (λ q. (q.entry, (q.asks, (q.wait, (q.phase, (q.held, (q.waited, (q.gave_read, (q.write, q.reader)))))))))
     (λ p. record { entry = p.0; asks = p.1.0; wait = p.1.1.0; phase = p.1.1.1.0; held = p.1.1.1.1.0; waited = p.1.1.1.1.1.0; gave_read = p.1.1.1.1.1.1.0; write = p.1.1.1.1.1.1.1.0; reader = p.1.1.1.1.1.1.1.1 }) (λ _. refl)
 

@@ -1,6 +1,6 @@
 -- A request to a cache as a plain record, and what is so of each request of a tier.
-use Rattle.std.specs.Prelude.{◌≡◌, ℕ, Bool, true, false, List, Option, Some, None, is_some, unwrap_or}
-use Rattle.cache_words.specs.Time.{MomentValue, DurationValue, span_of}
+use Rattle.std.specs.Prelude.{◌≡◌, ℕ, Bool, true, false, List, Option, Some, None, is_some}
+use Rattle.cache_words.specs.Time.{MomentValue, DurationValue}
 use Rattle.cache_lock.specs.declared.tokens.Locked.{Locked}
 use Rattle.cache_lock.specs.declared.tokens.Locked.TheVariants.{Write, Read}
 use Rattle.cache_phases.specs.declared.phase.CachePhase.{CachePhase}
@@ -48,7 +48,7 @@ plain_of r asks wait gave_read bytes = record {
   wait = wait;
   phase = phase_in r.phase (is_some r.meta);
   held = held_in (lock_held r.lock) r.lock.polled;
-  waited = unwrap_or r.digest.lock_duration (span_of 0);
+  waited = r.digest.lock_duration;
   gave_read = gave_read;
   write = r.writer;
   reader = reader_in bytes r.reader;

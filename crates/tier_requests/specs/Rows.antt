@@ -48,6 +48,12 @@ pub record Begins (meta : CacheMeta) (q : Request) (old : Shelf) (s : LockState)
   pub shelf : left ≡ record (turned q.reader (streaming old.writes 0) (begun (key_for q) (own_meta meta) old)) { writes = old.writes + 1 }
   pub lock : s' ≡ after_all (release_of status.Done q q.held s) s
 
+-- a request stops using the cache: it lets go of its permit, and its reader ends
+pub record GivesUp (q : Request) (old : Shelf) (s : LockState) (new : Request) (left : Shelf) (s' : LockState) : Type 0 where
+  pub request : new ≡ record q { phase = disabled; held = nothing; reader = closed }
+  pub shelf : left ≡ turned q.reader closed old
+  pub lock : s' ≡ after_all (release_of status.GiveUp q q.held s) s
+
 -- no number is left, or no memory: then the write may have begun, and been given up
 abbrev pub BeginsNot : Shelf → TierFault → Shelf → Type 0
 BeginsNot shelf f shelf' =

@@ -1,12 +1,8 @@
 //! How a request's write begins, or how the request stops using the cache.
 ghost use Rattle.std.specs.Prelude.{◌≡◌, true, OnOk, OnErr, IfErr};
-ghost use Rattle.cache_lock.specs.State.{after_all};
-ghost use Rattle.cache_lock.specs.declared.status.LockStatus.TheVariants.{GiveUp};
 ghost use Rattle.tier_model.specs.Checks.{can_begin};
-ghost use Rattle.tier_model.specs.State.{closed, disabled, nothing};
-ghost use Rattle.tier_model.specs.After.{release_of, turned};
-ghost use Rattle.tier_requests.specs.Shelves.{shelf_of};
-ghost use Rattle.tier_requests.specs.Rows.{Begins, BeginsNot};
+ghost use Rattle.tier_requests.specs.Shelves.{shelf_of, IsBelow};
+ghost use Rattle.tier_requests.specs.Rows.{Begins, BeginsNot, GivesUp};
 
 use crate::faults::{nothing_done, out_of_memory};
 use crate::request::{Request, TierParts};
@@ -24,7 +20,8 @@ impl<S: BuildHasher> Request<S> {
         parts: &mut TierParts<S, E>,
         meta: CacheMeta,
     ) -> Result<(), TierFault>
-        requires { can_begin self.old.phase self.old.gave_read ≡ true }
+        requires phase { can_begin self.old.phase self.old.gave_read ≡ true }
+        requires below { IsBelow (shelf_of parts.old.store) }
         ensures begun { OnOk result (Begins meta self.old (shelf_of parts.old.store) parts.old.lock self.new (shelf_of parts.new.store) parts.new.lock) }
         ensures refused { IfErr result (λ f. BeginsNot (shelf_of parts.old.store) f (shelf_of parts.new.store)) }
         ensures err { OnErr result ((self.new ≡ self.old) × (parts.new.lock ≡ parts.old.lock)) }
@@ -45,9 +42,7 @@ impl<S: BuildHasher> Request<S> {
     /// Stops using the cache: the response may not be kept.
     pub fn give_up<E>(&mut self, parts: &mut TierParts<S, E>)
         requires { can_begin self.old.phase self.old.gave_read ≡ true }
-        ensures request { self.new ≡ record self.old { phase = disabled; held = nothing; reader = closed } }
-        ensures shelf { shelf_of parts.new.store ≡ turned self.old.reader closed (shelf_of parts.old.store) }
-        ensures lock { parts.new.lock ≡ after_all (release_of GiveUp self.old self.old.held parts.old.lock) parts.old.lock }
+        ensures given_up { GivesUp self.old (shelf_of parts.old.store) parts.old.lock self.new (shelf_of parts.new.store) parts.new.lock }
         ensures parts { parts.new ≡ record parts.old { store = parts.new.store; lock = parts.new.lock } }
     {
         self.cache.disable(parts, NoCacheReason::OriginNotCache);

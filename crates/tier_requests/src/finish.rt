@@ -1,10 +1,11 @@
 //! How a request's write ends as a body.
 ghost use Rattle.std.specs.Prelude.{◌≡◌};
+ghost use Rattle.cache_parts.specs.Admissions.{cache_of};
+ghost use Rattle.tier_requests.specs.Finishes.{done_as, length_of, told_as, told_of, FinishAnswer};
 
 use crate::request::{Request, TierParts};
 use cache_evict::EvictionManager;
 use cache_parts::Done as StoreDone;
-use cache_phases::CachePhase;
 use cache_store::storage::MissFinishType;
 use http_cache::{FinishFault, Finished};
 use rand_core::Rng;
@@ -14,6 +15,7 @@ use tier_model::event::{Answer, Done, Entries, TierFault};
 
 // What a finish did before it was refused.
 fn done_as(done: StoreDone) -> Done
+    ensures { result ≡ done_as done }
 {
     Done {
         stored: done.stored,
@@ -24,6 +26,7 @@ fn done_as(done: StoreDone) -> Done
 
 // Why a finish was refused.
 fn told_as(fault: FinishFault) -> TierFault
+    ensures { result ≡ told_as fault }
 {
     match fault {
         FinishFault::WriteRemoved => TierFault::WriteRemoved,
@@ -36,6 +39,7 @@ fn told_as(fault: FinishFault) -> TierFault
 
 // How long a body is that was finished.
 fn length_of(kind: MissFinishType) -> usize
+    ensures { result ≡ length_of kind }
 {
     match kind {
         MissFinishType::Created(length) => length,
@@ -45,6 +49,7 @@ fn length_of(kind: MissFinishType) -> usize
 
 // What came of a finish.
 fn told_of(came: Result<Option<Finished>, FinishFault>) -> Result<Answer, TierFault>
+    ensures { result ≡ told_of came }
 {
     match came {
         Ok(Some(finished)) => Ok(Answer::Finished {
@@ -64,12 +69,12 @@ impl<S: BuildHasher> Request<S> {
         parts: &mut TierParts<S, E>,
         rng: &mut R,
     ) -> Result<Answer, TierFault>
+        ensures answer { FinishAnswer E.shard_count E.weighed E.pick self.old.write self.old (cache_of parts.old.store (E.managed parts.old.manager) (R.stream rng.old))
+            result self.new (cache_of parts.new.store (E.managed parts.new.manager) (R.stream rng.new)) }
+        ensures lock { parts.new.lock ≡ parts.old.lock }
+        ensures parts { parts.new ≡ record parts.old { store = parts.new.store; manager = parts.new.manager; lock = parts.new.lock } }
     {
-        let writes = match self.cache.phase() {
-            CachePhase::Miss | CachePhase::Expired => true,
-            _ => false,
-        };
-        if !writes {
+        if !self.cache.phase().is_write_phase() {
             return Err(TierFault::WrongPhase);
         }
         told_of(self.cache.finish_miss_handler(alloc, parts, rng))

@@ -1,8 +1,11 @@
 //! The events of one of the requests.
-ghost use Rattle.std.specs.Prelude.{◌≡◌, ⊤, Err};
-ghost use Rattle.tier_model.specs.Checks.{is_waiting, has_reader};
-ghost use Rattle.tier_requests.specs.Shelves.{shelf_of};
-ghost use Rattle.tier_requests.specs.Rows.{PollAnswer, ReadAnswer, PieceAnswer, OnOpen};
+ghost use Rattle.std.specs.Prelude.{◌≡◌, true, Some, Err, option_map, OnOk, OnErr, IfErr};
+ghost use Rattle.std.specs.FinMap as finite;
+ghost use Rattle.cache_parts.specs.Admissions.{cache_of};
+ghost use Rattle.tier_model.specs.Checks.{can_begin, is_waiting, has_reader};
+ghost use Rattle.tier_requests.specs.Shelves.{shelf_of, IsBelow};
+ghost use Rattle.tier_requests.specs.Rows.{PollAnswer, ReadAnswer, PieceAnswer, Begins, BeginsNot, GivesUp, OnOpen};
+ghost use Rattle.tier_requests.specs.Finishes.{FinishAnswer};
 ghost use Rattle.tier_requests.specs.Looks.{LookAnswer, lent};
 
 use super::Requests;
@@ -61,6 +64,12 @@ impl<S: BuildHasher> Requests<S> {
         parts: &mut TierParts<S, E>,
         meta: CacheMeta,
     ) -> Result<(), TierFault>
+        requires open { option_map (λ q. can_begin q.phase q.gave_read) (finite.get self.old id) ≡ Some true }
+        requires below { IsBelow (shelf_of parts.old.store) }
+        ensures begun { OnOk result (OnOpen id self.old ⊥ (λ q left. Begins meta q (shelf_of parts.old.store) parts.old.lock left (shelf_of parts.new.store) parts.new.lock) self.new) }
+        ensures refused { IfErr result (λ f. BeginsNot (shelf_of parts.old.store) f (shelf_of parts.new.store)) }
+        ensures err { OnErr result ((self.new ≡ self.old) × (parts.new.lock ≡ parts.old.lock)) }
+        ensures parts { parts.new ≡ record parts.old { store = parts.new.store; lock = parts.new.lock } }
     {
         match self.table.get_mut(&id) {
             Some(request) => request.begin(alloc, parts, meta),
@@ -70,6 +79,9 @@ impl<S: BuildHasher> Requests<S> {
 
     /// Stops a request's use of the cache: its response may not be kept.
     pub fn give_up<E>(&mut self, id: u64, parts: &mut TierParts<S, E>)
+        requires { option_map (λ q. can_begin q.phase q.gave_read) (finite.get self.old id) ≡ Some true }
+        ensures given_up { OnOpen id self.old ⊥ (λ q left. GivesUp q (shelf_of parts.old.store) parts.old.lock left (shelf_of parts.new.store) parts.new.lock) self.new }
+        ensures parts { parts.new ≡ record parts.old { store = parts.new.store; lock = parts.new.lock } }
     {
         match self.table.get_mut(&id) {
             Some(request) => request.give_up(parts),
@@ -104,6 +116,11 @@ impl<S: BuildHasher> Requests<S> {
         parts: &mut TierParts<S, E>,
         rng: &mut R,
     ) -> Result<Answer, TierFault>
+        ensures answer { let before = cache_of parts.old.store (E.managed parts.old.manager) (R.stream rng.old) in let after = cache_of parts.new.store (E.managed parts.new.manager) (R.stream rng.new) in
+            OnOpen id self.old ((result ≡ Err TierFault.NoRequest) × (after ≡ before))
+            (λ q left. FinishAnswer E.shard_count E.weighed E.pick q.write q before result left after) self.new }
+        ensures lock { parts.new.lock ≡ parts.old.lock }
+        ensures parts { parts.new ≡ record parts.old { store = parts.new.store; manager = parts.new.manager; lock = parts.new.lock } }
     {
         match self.table.get_mut(&id) {
             Some(request) => request.finish(alloc, parts, rng),
