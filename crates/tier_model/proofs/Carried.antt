@@ -41,6 +41,7 @@ use Rattle.tier_model.proofs.OpenLaws.{begun-told}
 use Rattle.tier_model.proofs.OwnLaws.{OpenFits}
 use Rattle.tier_model.proofs.HeadlineLaws.{IsRight-allowed}
 use Rattle.tier_model.proofs.LockLaws.{lock-is}
+use Rattle.tier_model.proofs.LockedLaws.{AreLockedRight-lawful}
 use Rattle.tier_model.proofs.ReaderLaws.{CountFits}
 use Rattle.tier_model.proofs.ReadLaws.{ReadsFit, ReadIsRight-allowed, readable_is}
 use Rattle.tier_model.specs.Reads.{AreReadRight}
@@ -112,6 +113,7 @@ Headline-lawful start h l =
       numbers = numbers-lawful start h l;
       answers = AreRight-lawful start h l;
       reads = AreReadRight-lawful start h l;
+      locks = AreLockedRight-lawful start h l;
       within = subst (λ (x : ℕ). AreWithin x start.settings.watermark (changes_of start h)) past.made.limit
           (subst (λ (x : Option ℕ). AreWithin (state_of start h).managed.limit x (changes_of start h)) past.made.watermark past.holds.within);
       tracked = bodies-tracked (changes_of start h) past.holds.leaves.orderly past.holds.leaves.tracks past.holds.leaves.settled;

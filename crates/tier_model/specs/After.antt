@@ -169,7 +169,8 @@ after_wait t outcome _ q = q
 abbrev pub writing : ℕ → Request → Request
 writing n q = record q { phase = begun; held = nothing; write = Some n; reader = streaming n 0 }
 
--- the state after a begin with a head that is kept, and with one that isn't
+-- the state after a begin with a head that is kept, and with one that isn't. The meta is seen as that of a new response: a store in which a
+-- write begun from something stale goes back to the moment of that is seen without it, as no answer shows it
 abbrev pub after_begin : State → ℕ → Request → Option Judged → State
 after_begin s id q (Some (kept meta)) = record s {
   shelf = turned q.reader (streaming s.shelf.writes 0) (shelf.begun (key_for q) meta s.shelf);

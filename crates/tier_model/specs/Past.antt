@@ -20,7 +20,7 @@ use Rattle.tier_model.specs.Headline.{Headline}
 use Rattle.tier_model.specs.Own.{own_of, own_in}
 use Rattle.tier_model.specs.Reports.{AreAllBodies, found_answers, absent_answers, evictions}
 use Rattle.tier_model.specs.Shelf.{InFlight, Readers, Shelf, empty_shelf, readable}
-use Rattle.tier_model.specs.State.{Reader, closed, unread, spent, streaming, Request, State, empty_state}
+use Rattle.tier_model.specs.State.{Held, nothing, permit, waits, Reader, closed, unread, spent, streaming, Request, State, empty_state}
 use Rattle.tier_model.specs.Step.{Allows}
 use Rattle.tier_model.specs.After.{lock_changes, after}
 use Rattle.cache_lock.specs.Changes.{Changes as LockChanges}
@@ -105,6 +105,18 @@ streamers n requests = sum_by (streams n) (values requests)
 abbrev pub count_of : Option Readers → ℕ
 count_of None = 0
 count_of (Some r) = r.count
+
+-- how many requests hold the core of that number, by a permit or by a wait
+abbrev pub holds_by : ℕ → Held → ℕ
+holds_by n nothing = 0
+holds_by n (permit m) = if n == m then 1 else 0
+holds_by n (waits m first) = if n == m then 1 else 0
+
+abbrev pub holds : ℕ → Request → ℕ
+holds n q = holds_by n q.held
+
+abbrev pub holders : ℕ → FinMap nat_cmp Request → ℕ
+holders n requests = sum_by (holds n) (values requests)
 
 -- q is what the calls of the open request say
 pub record IsRequestOf (start : Opening) (id : ℕ) (q : Request) (h : History) : Type 0 where

@@ -2,17 +2,20 @@
 ghost use Rattle.tier_model.specs.Calls.{Call, History};
 ghost use Rattle.tier_model.specs.declared.event.TierFault.{TierFault};
 ghost use Rattle.cache_lock.specs.Answers.{IsAsBefore};
+ghost use Rattle.cache_lock.specs.Waits as locks;
 ghost use Rattle.tier_model.specs.Headline.{Headline};
 ghost use Rattle.tier_model.specs.Histories.{Opening, changes_of};
+ghost use Rattle.tier_model.specs.Locks.{PermitWaits};
+ghost use Rattle.cache_changes.specs.Changes.{StoredKey};
 ghost use Rattle.cache_changes.specs.Bound.{TracksBodies};
 ghost use Rattle.cache_changes.specs.Writes.{IsOrderly};
-ghost use Rattle.std.specs.Prelude.{◌≡◌, ◌≢◌, ℕ, List, ◌∷◌, Err};
+ghost use Rattle.std.specs.Prelude.{◌≡◌, ◌≢◌, ◌↔◌, ℕ, List, ◌∷◌, Err};
 ghost use Rattle.tier_model.specs.declared.whole.Whole.TheVariants.{BadHead};
 ghost use Rattle.cache_words.specs.Time.{MomentValue};
 ghost use Rattle.response_parse.specs.Response.{IsWellFormed, Reading, IsReading};
 ghost use Rattle.tier_model.specs.Response.{whole_of};
 ghost use Rattle.tier_model.specs.State.{State};
-ghost use Rattle.tier_model.specs.Past.{IsLawful, MatchesHistory, state_of};
+ghost use Rattle.tier_model.specs.Past.{IsLawful, MatchesHistory, state_of, lock_changes_of};
 ghost use Rattle.tier_model.specs.Reports.{IsReport, report_of};
 
 /// Whatever a tier's state allows, call by call from its opening, the headline holds of the whole history.
@@ -25,6 +28,16 @@ pub fn lawful_histories_hold_the_headline()
 pub fn lawful_histories_are_orderly()
     ensures orderly { (start : Opening) (h : History) → IsLawful start h → IsOrderly (changes_of start h) }
     ensures tracks { (start : Opening) (h : History) → IsLawful start h → TracksBodies (changes_of start h) }
+{}
+
+/// What such a history changes in the lock is orderly too: permits come from the lock alone, and each is released under its own key or left.
+pub fn lawful_histories_change_the_lock_in_order()
+    ensures { (start : Opening) (h : History) → IsLawful start h → locks.IsOrderly (lock_changes_of start h) }
+{}
+
+/// By the answers of such a history a permit of a key waits exactly where one waits by what was changed in the lock.
+pub fn a_permit_waits_as_the_lock_says()
+    ensures { (start : Opening) (h : History) → IsLawful start h → (k : StoredKey) → locks.Waits k (lock_changes_of start h) ↔ PermitWaits k h }
 {}
 
 /// The state after such a history is what it says.
