@@ -33,10 +33,12 @@ use Rattle.tier_model.specs.Shelf.{Readers}
 use Rattle.tier_model.specs.Checks.{refusal}
 use Rattle.tier_model.specs.Step.{AllowsBy, Allows, BeginsWrite, may_begin, tells_of_write}
 use Rattle.tier_model.specs.After.{after}
-use Rattle.tier_model.specs.Past.{in_shards, state_of, IsLawful, count_of, streamers, IsRequestOf, MatchesHistory, HasPast, AreTaken, CarriesHeadline}
+use Rattle.tier_model.specs.Past.{in_shards, state_of, IsLawful, count_of, streamers, holders, IsRequestOf, MatchesHistory, HasPast, AreTaken, CarriesHeadline}
 use Rattle.tier_model.proofs.RowSteps.{in_shards-are}
 use Rattle.tier_model.proofs.ShownLaws.{is_held, shows}
-use Rattle.tier_model.proofs.WriteLaws.{HoldsWrites-fit}
+use Rattle.tier_model.proofs.WriteLaws.{flies-of}
+use Rattle.tier_model.proofs.GrantedLaws.{LocksFit, LocksFit-lawful}
+use Rattle.tier_model.proofs.OwnedLaws.{Owned-lawful}
 use Rattle.tier_model.proofs.OpenLaws.{begun-told}
 use Rattle.tier_model.proofs.OwnLaws.{OpenFits}
 use Rattle.tier_model.proofs.HeadlineLaws.{IsRight-allowed}
@@ -139,16 +141,21 @@ count_is : (n : ℕ) (o : Option Readers) (k : ℕ) (changes : Changes Kept) →
 count_is n None k changes fits = sym fits
 count_is n (Some r) k changes fits = fits.0
 
-MatchesHistory-lawful : (start : Opening) (s : State) (h : History) → s.lock ≡ (state_of start h).lock → Stands start s h → MatchesHistory s start h
-MatchesHistory-lawful start s h same past = record {
+some_count : (n : ℕ) (r : Readers) (k : ℕ) (changes : Changes Kept) → CountFits n (Some r) k changes → 0 < r.count
+some_count n r k changes fits = subst (λ (c : ℕ). 0 < c) (sym fits.0) fits.1
+
+MatchesHistory-lawful : (start : Opening) (s : State) (h : History) → IsLawful start h → s ≡ state_of start h → Stands start s h → MatchesHistory s start h
+MatchesHistory-lawful start s h l is past = record {
   bodies = all-held (shards_of s) (writes_begun start h) s.shelf.bodies s.shelf.flying s.managed (changes_of start h) past.holds.leaves;
   flights = past.holds.leaves.flights;
   order = (start-some start h s past, (rows_of (changes_of start h), IsOrderOfUse-rows_of (changes_of start h), subst (λ (n : ℕ). AreShardsOf n s.managed.shards (rows_of (changes_of start h))) past.made.shards past.holds.leaves.rows));
-  held = HoldsWrites-fit start h past.writes;
+  held = record { fly = flies-of start h past.writes; owned = Owned-lawful start h l; apart = past.writes.apart };
   requests = λ id. IsRequestOf-fits start id (get s.requests id) h (past.opens id) (past.reads id);
   counted = λ n. count_is n (get s.shelf.readers n) (streamers n s.requests) (changes_of start h) (past.counted n);
+  kept = λ n r e. some_count n r (streamers n s.requests) (changes_of start h) (subst (λ (o : Option Readers). CountFits n o (streamers n s.requests) (changes_of start h)) e (past.counted n));
   reading = λ id n place q e is. readable_is start s h past.holds past.count (opened_request start s h past) past.counted id q n place e is;
-  lock = same ∙ lock-is start h;
+  lock = ap (λ (x : State). x.lock) is ∙ lock-is start h;
+  named = λ n. (LocksFit-lawful start h l).granted.grants.names n ∙ ap (λ (x : State). holders n x.requests) (sym is);
   found = past.tallies.found;
   absent = past.tallies.absent;
   evicted = past.tallies.evicted;
@@ -163,7 +170,7 @@ HasPast-lawful start s h l e =
       lawful = l;
       state = e;
       headline = Headline-lawful start h l;
-      matches = subst (λ (x : State). MatchesHistory x start h) (sym e) (MatchesHistory-lawful start (state_of start h) h refl past);
+      matches = subst (λ (x : State). MatchesHistory x start h) (sym e) (MatchesHistory-lawful start (state_of start h) h l refl past);
     }
 
 -- no rows in n shards

@@ -1,5 +1,5 @@
 -- What a call does to who holds the cores of the lock, and what it says of it.
-use Rattle.std.proofs.Common.{◌≡◌, ℕ, ◌+◌, ◌<◌, ◌==◌, refl, ap, sym, ◌∙◌, true, false, cond, [], ◌∷◌, ◌++◌, arith}
+use Rattle.std.proofs.Common.{◌≡◌, ℕ, ◌==◌, refl, ap, sym, ◌∙◌, true, false, cond, [], ◌∷◌, ◌++◌, arith}
 use Rattle.std.specs.Prelude.{◌⊎◌, Bool, Option, Some, None, Ok}
 use Rattle.std.specs.List.{sum_by}
 use Rattle.std.specs.FinMap.{FinMap, get, remove, values, same_map, nat_cmp-IsAntisymmetric}

@@ -2,15 +2,15 @@
 use Rattle.std.proofs.Common.{◌≡◌, ℕ, ◌+◌, ◌<◌, ◌==◌, refl, ap, sym, ◌∙◌, true, false, subst, cond, inl, inr, [], ◌∷◌, ◌++◌, arith}
 use Rattle.std.specs.Prelude.{◌-◌, ◌⊎◌, Bool, List, Option, Some, None}
 use Rattle.std.specs.FinMap.{get}
-use Rattle.std.proofs.lemmas.Bool.{eqb-true, eq-eqb}
+use Rattle.std.proofs.lemmas.Bool.{eq-eqb}
 use Rattle.cache_words.specs.Time.{MomentValue}
-use Rattle.cache_lock.specs.Changes.{Changes, gives, lends, stores, takes_out, spends}
+use Rattle.cache_lock.specs.Changes.{Changes, lends, stores, takes_out, spends}
 use Rattle.cache_lock.specs.State.{LockState, IsSound, status_of, after, after_all}
-use Rattle.cache_lock.specs.Status.{is_aged, is_replaced}
+use Rattle.cache_lock.specs.Status.{is_aged}
 use Rattle.cache_lock.specs.Answers.{to_wait_for, locked_by, lock_change, reason_stored, release_changes, leave_changes, poll_changes}
 use Rattle.cache_lock.specs.Waits.{same_key, names_of, last_status, core_of, IsOfKey}
 use Rattle.cache_lock.specs.declared.status.LockStatus.{LockStatus}
-use Rattle.cache_lock.specs.declared.status.LockStatus.TheVariants.{Waiting, Done, TransientError, GiveUp, Dangling, WaitTimeout, AgeTimeout}
+use Rattle.cache_lock.specs.declared.status.LockStatus.TheVariants.{Waiting, Dangling, AgeTimeout}
 use Rattle.cache_lock.specs.declared.fills.WaitOutcome.{WaitOutcome}
 use Rattle.cache_lock.specs.declared.fills.WaitOutcome.TheVariants as wait
 use Rattle.cache_lock.proofs.ChangeLaws.{lent, handed_back}

@@ -12,7 +12,7 @@ use Rattle.cache_lock.specs.declared.lock_core.HeldCore.{HeldCore}
 use Rattle.cache_lock.specs.declared.status.LockStatus.{LockStatus}
 use Rattle.cache_lock.specs.declared.status.LockStatus.TheVariants.{Waiting}
 use Rattle.cache_lock.proofs.ChangeLaws.{begun, lent, stored, taken, handed_back}
-use Rattle.tier_model.proofs.GripLaws.{Grip, free, grips, by_permit, grip_number, grip_key, Table, Moves, moved-was, moved-now, still-held, differ, key-true, key-itself, key_in, key_at, key-given, key-kept, next-kept, next-spent, key-left, key-was}
+use Rattle.tier_model.proofs.GripLaws.{Grip, free, grips, by_permit, grip_number, grip_key, Table, Moves, moved-was, moved-now, still-held, differ, key-true, key_in, key_at, key-given, key-kept, next-kept, next-spent, key-left, key-was}
 
 -- of a lock, of who holds its cores, how often each is held, and of what was changed: each core is named as often as it is held, and a number that
 -- is still to come isn't; a core that is held is there, under the key of the one that holds it, and a key's core is under that key; no two

@@ -1,23 +1,21 @@
 -- What the changes of one call leave of who holds the cores of a lock.
-use Rattle.std.proofs.Common.{◌≡◌, ℕ, ◌+◌, ◌<◌, ◌==◌, refl, ap, sym, ◌∙◌, true, false, subst, cond, inl, inr, [], ◌∷◌, ◌++◌, arith}
+use Rattle.std.proofs.Common.{◌≡◌, ℕ, ◌+◌, ◌<◌, ◌==◌, refl, ap, sym, ◌∙◌, true, false, subst, cond, inl, inr, ◌∷◌, arith}
 use Rattle.std.specs.Prelude.{◌-◌, ◌⊎◌, Bool, List, Option, Some, None, option_map}
 use Rattle.std.specs.FinMap.{get}
 use Rattle.std.proofs.lemmas.Bool.{eqb-true, eq-eqb}
 use Rattle.cache_words.specs.Time.{MomentValue}
-use Rattle.cache_lock.specs.Changes.{Changes, gives, lends, stores, takes_out, spends}
-use Rattle.cache_lock.specs.State.{LockState, IsSound, given_core, status_in, status_of, after, after_all}
+use Rattle.cache_lock.specs.Changes.{Changes, gives, stores, spends}
+use Rattle.cache_lock.specs.State.{LockState, IsSound, given_core, status_in, status_of, after}
 use Rattle.cache_lock.specs.Status.{is_waiting, is_aged, is_replaced}
-use Rattle.cache_lock.specs.Answers.{waited_for, to_wait_for, locked_by, lock_change, reason_stored, release_changes, leave_changes, poll_changes}
-use Rattle.cache_lock.specs.Waits.{same_key, names_of, last_status, core_of, IsOfKey, Waits, IsStateOf}
+use Rattle.cache_lock.specs.Answers.{waited_for, to_wait_for}
+use Rattle.cache_lock.specs.Waits.{same_key, names_of, last_status, core_of, IsOfKey}
 use Rattle.cache_lock.specs.declared.lock_core.HeldCore.{HeldCore}
 use Rattle.cache_lock.specs.declared.status.LockStatus.{LockStatus}
-use Rattle.cache_lock.specs.declared.status.LockStatus.TheVariants.{Waiting, Done, TransientError, GiveUp, Dangling, WaitTimeout, AgeTimeout}
-use Rattle.cache_lock.specs.declared.fills.WaitOutcome.{WaitOutcome}
-use Rattle.cache_lock.specs.declared.fills.WaitOutcome.TheVariants as wait
+use Rattle.cache_lock.specs.declared.status.LockStatus.TheVariants.{Waiting, Dangling, AgeTimeout}
 use Rattle.cache_lock.proofs.ChangeLaws.{begun, stored, handed_back}
-use Rattle.cache_lock.proofs.GivenBack.{permit_given_back, read_given_back}
-use Rattle.tier_model.proofs.GripLaws.{Grip, free, grips, by_permit, Table, Moves, Same, moved-now, still-held, differ, key-true, key-itself, key_in, key_at}
-use Rattle.tier_model.proofs.GrantLaws.{Grants, stores-grants, takes-grants, spends-grants, lends-grants, held-below, keyed-below, gives-grants}
+use Rattle.cache_lock.proofs.GivenBack.{permit_given_back}
+use Rattle.tier_model.proofs.GripLaws.{Grip, free, grips, Moves, Same, moved-now, differ, key-true, key-itself, key_in, key_at}
+use Rattle.tier_model.proofs.GrantLaws.{Grants, held-below, keyed-below, gives-grants}
 
 -- a permit that is held waits as its key's, or was found past its age
 abbrev pub Stands : ℕ → List ℕ → Changes → Type 0

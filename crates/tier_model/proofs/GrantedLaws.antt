@@ -1,6 +1,6 @@
 -- Lawful histories change the lock in an orderly way, and each core is named by the requests that hold it.
-use Rattle.std.proofs.Common.{◌≡◌, ℕ, refl, ap, sym, ◌∙◌, true, false, subst, cond, [], ◌∷◌, ◌++◌, ◌==◌}
-use Rattle.std.specs.Prelude.{◌&&◌, Bool, List, Option, Some, None, option_map, Ok, Err, map}
+use Rattle.std.proofs.Common.{◌≡◌, ℕ, refl, ap, sym, ◌∙◌, true, false, subst, cond, [], ◌∷◌, ◌++◌}
+use Rattle.std.specs.Prelude.{Bool, List, Option, Some, None, option_map, Ok, Err, map}
 use Rattle.std.specs.List.{sum_by}
 use Rattle.std.specs.FinMap.{get, get-empty, empty, entries, len-entries, len-empty}
 use Rattle.std.specs.Ordering.{nat_cmp}
@@ -8,7 +8,7 @@ use Rattle.std.proofs.lemmas.Bool.{eqb-true}
 use Rattle.std.proofs.lemmas.List.{nil_from_length}
 use Rattle.cache_words.specs.Time.{MomentValue}
 use Rattle.cache_lock.specs.Changes.{Changes}
-use Rattle.cache_lock.specs.Answers.{to_wait_for, locked_by, lock_change, leave_changes, wait_outcome}
+use Rattle.cache_lock.specs.Answers.{to_wait_for, wait_outcome}
 use Rattle.cache_lock.specs.State.{IsSound, after_all}
 use Rattle.cache_lock.specs.Waits.{IsOrderly}
 use Rattle.cache_lock.specs.declared.status.LockStatus.{LockStatus}
@@ -35,130 +35,14 @@ use Rattle.tier_model.specs.Own.{phase_found}
 use Rattle.tier_model.proofs.CallLaws.{Inside, call_at, named_by, is_named, begin_turn, land_turn, read_turn, turn, requests-after}
 use Rattle.tier_model.proofs.OpenLaws.{passed, unrefused}
 use Rattle.tier_model.proofs.LockLaws.{IsSound-of}
-use Rattle.tier_model.proofs.GripLaws.{Grip, free, grips}
+use Rattle.tier_model.proofs.GripLaws.{free, grips}
 use Rattle.tier_model.proofs.GrantSteps.{Granted, same-granted, given-step}
 use Rattle.tier_model.proofs.GrantEnds.{lent-step, back-step, left-step, polled-step, dropped-step, released-step}
 use Rattle.tier_model.proofs.EffectLaws.{grip_of, grip_at, hold_at, table-of, Effect, quiet, given, lent, back, polled, left, dropped, released}
-use Rattle.tier_model.proofs.HoldSteps.{WaitsFit, look-passed}
+use Rattle.tier_model.proofs.TurnLaws.{all-turned}
+use Rattle.tier_model.proofs.PhaseLaws.{waits-turn}
+use Rattle.tier_model.proofs.HoldSteps.{WaitsWell, WaitsFit}
 use Rattle.tier_model.proofs.HoldEvents.{effect-of}
-
--- ---- one that waits may not begin
-
--- one that asks again keeps its phase, or is stale
-may_not : (p : Phase) → can_look_up p ≡ true → can_begin p true ≡ false
-may_not cache_key e = refl
-may_not stale e = refl
-may_not hit e = absurd cc
-may_not miss e = absurd cc
-may_not begun e = absurd cc
-may_not disabled e = absurd cc
-
-found_may_not : (v : Bool) → can_begin (phase_found v) true ≡ false
-found_may_not true = refl
-found_may_not false = refl
-
-read_may_not : (t : MomentValue) (l : Look) (p : Phase) → can_look_up p ≡ true → can_begin (phase_of t lock.Read l p) true ≡ false
-read_may_not t absent p e = may_not p e
-read_may_not t (in_flight f) p e = found_may_not (finds_fresh t (in_flight f))
-read_may_not t (finished b) p e = found_may_not (finds_fresh t (finished b))
-
-module _ (s : State) (t : MomentValue) where
-  look_waits : (q : Request) (l : Look) → look_refusal q ≡ None → WaitsFit (Some (looked t q l s.lock))
-  look_waits q l passes n first e = by_asks (asks_now t q l) (to_wait_for (key_for q) s.lock) refl refl (look-passed q passes)
-    where
-      by_asks : (v : Bool) (core : Option ℕ) → asks_now t q l ≡ v → to_wait_for (key_for q) s.lock ≡ core → (can_look_up q.phase ≡ true) × (q.held ≡ nothing) → can_begin (looked t q l s.lock).phase (looked t q l s.lock).gave_read ≡ false
-      by_asks v core asks waits_for p = by_given v core refl refl p
-        where
-          given_is : lock_given t q l s.lock ≡ given_if v core
-          given_is = ap (λ (x : Bool). given_if x (to_wait_for (key_for q) s.lock)) asks ∙ ap (given_if v) waits_for
-
-          held_is : held_of (given_if v core) core s.lock q.held ≡ waits n first
-          held_is =
-              sym (ap (λ (x : LockGiven). held_of x (to_wait_for (key_for q) s.lock) s.lock q.held) given_is ∙ ap (λ (x : Option ℕ). held_of (given_if v core) x s.lock q.held) waits_for) ∙ e
-
-          by_given : (w : Bool) (c : Option ℕ) → w ≡ v → c ≡ core → (can_look_up q.phase ≡ true) × (q.held ≡ nothing) → can_begin (looked t q l s.lock).phase (looked t q l s.lock).gave_read ≡ false
-          by_given false c is there p =
-              let same : held_of (given_if false c) c s.lock q.held ≡ waits n first = ap (λ (x : Bool). held_of (given_if x c) c s.lock q.held) is ∙ ap (λ (x : Option ℕ). held_of (given_if v x) x s.lock q.held) there ∙ held_is in
-              let clash : nothing ≡ waits n first = sym p.1 ∙ same in
-              absurd cc
-          by_given true None is there p =
-              let same : held_of (given_if true None) None s.lock q.held ≡ waits n first = ap (λ (x : Bool). held_of (given_if x None) None s.lock q.held) is ∙ ap (λ (x : Option ℕ). held_of (given_if v x) x s.lock q.held) there ∙ held_is in
-              absurd cc
-          by_given true (Some m) is there p =
-              let read : lock_given t q l s.lock ≡ lock.Read = given_is ∙ ap (given_if v) (sym there) ∙ ap (λ (x : Bool). given_if x (Some m)) (sym is) in
-              ap (λ (x : LockGiven). can_begin (phase_of t x l q.phase) (is_wait x)) read ∙ read_may_not t l q.phase p.0
-
-  wait_waits : (outcome : Option LockStatus) (q : Request) → WaitsFit (Some q) → WaitsFit (Some (after_wait t outcome q.held q))
-  wait_waits outcome q fits n first e = by_held outcome q.held refl e
-    where
-      by_held : (outcome : Option LockStatus) (held : Held) → q.held ≡ held → (after_wait t outcome held q).held ≡ waits n first → can_begin (after_wait t outcome held q).phase (after_wait t outcome held q).gave_read ≡ false
-      by_held None (waits m f) is e = fits m f is
-      by_held (Some x) (waits m f) is e = absurd cc
-      by_held None (permit m) is e = fits n first e
-      by_held (Some x) (permit m) is e = fits n first e
-      by_held None nothing is e = fits n first e
-      by_held (Some x) nothing is e = fits n first e
-
-  begin_waits : (j : Option Judged) (q : Request) → WaitsFit (Some (begin_turn s j q))
-  begin_waits (Some (kept meta)) q n first e = absurd cc
-  begin_waits (Some _) q n first e = absurd cc
-  begin_waits None q n first e = absurd cc
-
-  land_waits : (v : Bool) (q : Request) → WaitsFit (Some q) → WaitsFit (Some (land_turn v q))
-  land_waits true q fits = fits
-  land_waits false q fits = fits
-
-  mapped : (f : Request → Request) (o : Option Request) → WaitsFit o → ((q : Request) → o ≡ Some q → WaitsFit (Some q) → WaitsFit (Some (f q))) → WaitsFit (option_map f o)
-  mapped f None fits h = tt
-  mapped f (Some q) fits h = h q refl fits
-
-  -- the request that a call names
-  answer_waits : (action : Action) (j : Option Judged) (a : Answer) (id : ℕ) → is_named id (named_by action) ≡ true → refusal s action ≡ None → WaitsFit (get s.requests id) → WaitsFit (turn s t action j (Ok a) (get s.requests id))
-  answer_waits (Open r key asks) j a id e n fits = λ m first is. absurd cc
-  answer_waits (LookUp r) j a id e n fits =
-      mapped (λ q. looked t q (look_for q s.shelf) s.lock) (get s.requests id) fits
-      (λ q there x. let p = passed (get s.requests r) look_refusal n in
-      let same : Some p.0 ≡ Some q = sym p.1 ∙ ap (get s.requests) (eqb-true r id e) ∙ there in
-      let one : p.0 ≡ q = cc in
-      look_waits q (look_for q s.shelf) (subst (λ (y : Request). look_refusal y ≡ None) one p.2))
-  answer_waits (Poll r) j (Waited outcome) id e n fits = mapped (λ q. after_wait t outcome q.held q) (get s.requests id) fits (λ q there x. wait_waits outcome q x)
-  answer_waits (Poll r) j _ id e n fits = fits
-  answer_waits (Begin r head) j a id e n fits = mapped (begin_turn s j) (get s.requests id) fits (λ q there x. begin_waits j q)
-  answer_waits (Piece r bytes last) j a id e n fits = fits
-  answer_waits (Finish r) j a id e n fits = mapped (land_turn true) (get s.requests id) fits (λ q there x. land_waits true q x)
-  answer_waits (Read r) j a id e n fits = mapped (read_turn a) (get s.requests id) fits (λ q there x. x)
-  answer_waits (Drop r) j a id e n fits = tt
-  answer_waits (Purge key) j a id e n fits = absurd cc
-  answer_waits (Put key pieces) j a id e n fits = absurd cc
-
-  fault_waits : (action : Action) (j : Option Judged) (f : TierFault) (id : ℕ) → WaitsFit (get s.requests id) → WaitsFit (turn s t action j (Err f) (get s.requests id))
-  fault_waits (Finish r) j f id fits = mapped (land_turn (is_landing (Err f))) (get s.requests id) fits (λ q there x. land_waits (is_landing (Err f)) q x)
-  fault_waits (Open r key asks) j f id fits = fits
-  fault_waits (LookUp r) j f id fits = fits
-  fault_waits (Poll r) j f id fits = fits
-  fault_waits (Begin r head) j f id fits = fits
-  fault_waits (Piece r bytes last) j f id fits = fits
-  fault_waits (Read r) j f id fits = fits
-  fault_waits (Drop r) j f id fits = fits
-  fault_waits (Purge key) j f id fits = fits
-  fault_waits (Put key pieces) j f id fits = fits
-
-WaitsFit-after : (s : State) (c : Call) → ((id : ℕ) → WaitsFit (get s.requests id)) → Allows s c → (id : ℕ) → WaitsFit (get (after s c).requests id)
-WaitsFit-after s c fits p id = subst WaitsFit (sym (requests-after s c id)) (by_name (is_named id (named_by c.event.action)) refl)
-  where
-    i : Inside
-    i = record { reading = c.reading; began = c.began; asked = c.asked }
-
-    by_outcome : (o : Outcome) → AllowsBy (refusal s c.event.action) s c.event.moment c.event.action (call_at c.event.moment c.event.action i o) o → is_named id (named_by c.event.action) ≡ true
-        → WaitsFit (turn s c.event.moment c.event.action (judged_of c) o (get s.requests id))
-    by_outcome (Ok a) p e =
-        let q = unrefused s (refusal s c.event.action) c.event.moment c.event.action (call_at c.event.moment c.event.action i (Ok a)) a refl p in
-        answer_waits s c.event.moment c.event.action (judged_of c) a id e q.0 (fits id)
-    by_outcome (Err f) p e = fault_waits s c.event.moment c.event.action (judged_of c) f id (fits id)
-
-    by_name : (v : Bool) → is_named id (named_by c.event.action) ≡ v → WaitsFit (cond v (turn s c.event.moment c.event.action (judged_of c) c.outcome (get s.requests id)) (get s.requests id))
-    by_name true e = by_outcome c.outcome p.outcome e
-    by_name false e = fits id
 
 -- ---- after each call
 
@@ -218,7 +102,7 @@ LocksFit-lawful start [] l = record {
 LocksFit-lawful start (c ∷ h) l =
     let x : LocksFit start h = LocksFit-lawful start h l.1 in
     record {
-      fits = WaitsFit-after (state_of start h) c x.fits l.0;
+      fits = all-turned (state_of start h) c WaitsWell (waits-turn (state_of start h) c.event.moment) x.fits l.0;
       granted = granted-by (state_of start h) (state_of start (c ∷ h)) c.event.moment c.event.action c.outcome (lock_changes (state_of start h) c) (lock_changes_of start h) x.granted (IsSound-of start h) (effect-lawful start c h x l.0);
     }
 

@@ -1,10 +1,9 @@
 -- The events that end what a request holds of the lock, and all others: each does one thing at most.
-use Rattle.std.proofs.Common.{◌≡◌, ℕ, refl, ap, sym, ◌∙◌, true, false, subst, cond, inl, inr, [], ◌∷◌, ◌==◌}
-use Rattle.std.specs.Prelude.{◌⊎◌, Bool, not, List, Option, Some, None, is_some, option_map, Ok, Err, MatchOption}
+use Rattle.std.proofs.Common.{◌≡◌, ℕ, refl, ap, sym, ◌∙◌, true, false, subst, inr, []}
+use Rattle.std.specs.Prelude.{Bool, not, List, Option, Some, None, is_some, option_map, Ok, Err, MatchOption}
 use Rattle.std.specs.FinMap.{get}
 use Rattle.std.proofs.lemmas.Bool.{eqb-true}
 use Rattle.cache_words.specs.Time.{MomentValue}
-use Rattle.cache_lock.specs.Changes.{Changes}
 use Rattle.cache_lock.specs.Answers.{to_wait_for, wait_outcome}
 use Rattle.cache_lock.specs.State.{status_of}
 use Rattle.cache_lock.specs.declared.status.LockStatus.{LockStatus}
@@ -27,10 +26,10 @@ use Rattle.tier_model.specs.Step.{UseFits, IsAnswer, AllowsBy, Allows}
 use Rattle.tier_model.specs.After.{by_request, after_wait, release_of, leave_of, poll_of, lock_changes_in, lock_changes, after}
 use Rattle.tier_model.proofs.CallLaws.{Inside, call_at, begin_turn, land_turn, read_turn, requests-after}
 use Rattle.tier_model.proofs.OpenLaws.{passed, test_passed, unrefused}
-use Rattle.tier_model.proofs.GripLaws.{Grip, free, grips}
+use Rattle.tier_model.proofs.GripLaws.{free, grips}
 use Rattle.tier_model.proofs.EffectLaws as effect
 use Rattle.tier_model.proofs.EffectLaws.{grip_in, grip_of, grip_at, same-all, SaysLittle, SaysEnded, Effect}
-use Rattle.tier_model.proofs.HoldSteps.{WaitsFit, look-passed, next, Does, turning, quiet_named, moves_named, look_does, Little, look_refused}
+use Rattle.tier_model.proofs.HoldSteps.{WaitsFit, look-passed, next, Does, turning, quiet_named, moves_named, look_does, look_refused}
 
 was_closed : (o : Option Request) → unless (not (is_some o)) IdInUse ≡ None → o ≡ None
 was_closed None e = refl

@@ -1,47 +1,36 @@
 -- Each call that a state allows does one thing at most to who holds the cores of the lock.
-use Rattle.std.proofs.Common.{◌≡◌, ℕ, refl, ap, sym, ◌∙◌, true, false, subst, cond, inl, inr, [], ◌∷◌, ◌++◌, ◌==◌}
-use Rattle.std.specs.Prelude.{◌⊎◌, ◌&&◌, Bool, not, Option, Some, None, is_some, option_map, Ok, Err, MatchOption}
+use Rattle.std.proofs.Common.{◌≡◌, ℕ, refl, ap, sym, ◌∙◌, true, false, cond, inl, inr, [], ◌∷◌, ◌==◌}
+use Rattle.std.specs.Prelude.{◌⊎◌, ◌&&◌, Bool, not, Option, Some, None, Ok, Err}
 use Rattle.std.specs.FinMap.{get}
 use Rattle.std.proofs.lemmas.Bool.{eqb-true}
 use Rattle.cache_words.specs.Time.{MomentValue}
-use Rattle.cache_words.specs.Key.{CacheKeyValue}
-use Rattle.cache_changes.specs.Changes.{StoredKey}
-use Rattle.cache_lock.specs.Changes.{Changes, spends}
-use Rattle.cache_lock.specs.Answers.{to_wait_for, lock_change, wait_outcome, poll_changes}
-use Rattle.cache_lock.specs.State.{status_of}
-use Rattle.cache_lock.specs.declared.status.LockStatus.{LockStatus}
-use Rattle.cache_lock.specs.declared.status.LockStatus.TheVariants as status
+use Rattle.cache_lock.specs.Changes.{Changes}
+use Rattle.cache_lock.specs.Answers.{to_wait_for, lock_change}
 use Rattle.tier_model.specs.declared.event.Action.{Action}
-use Rattle.tier_model.specs.declared.event.Action.TheVariants.{Open, LookUp, Poll, Begin, Piece, Finish, Read, Drop, Purge, Put}
-use Rattle.tier_model.specs.declared.event.Answer.{Answer}
-use Rattle.tier_model.specs.declared.event.Answer.TheVariants.{Waited, Begun}
-use Rattle.tier_model.specs.declared.event.Answer.TheVariants as answer
+use Rattle.tier_model.specs.declared.event.Action.TheVariants.{LookUp}
 use Rattle.tier_model.specs.declared.event.LockGiven.{LockGiven}
 use Rattle.tier_model.specs.declared.event.LockGiven.TheVariants as lock
 use Rattle.tier_model.specs.declared.event.TierFault.{TierFault}
-use Rattle.tier_model.specs.declared.event.TierFault.TheVariants.{IdInUse, WrongPhase, Waiting}
-use Rattle.tier_model.specs.Keys.{entry_of}
-use Rattle.tier_model.specs.Response.{Judged, kept, not_kept, too_early, not_read}
-use Rattle.tier_model.specs.Calls.{Call, Outcome, judged_of}
-use Rattle.tier_model.specs.Histories.{is_landing}
+use Rattle.tier_model.specs.declared.event.TierFault.TheVariants.{WrongPhase, Waiting}
+use Rattle.tier_model.specs.Calls.{Outcome, judged_of}
 use Rattle.tier_model.specs.Locks.{given_after, is_permit}
-use Rattle.tier_model.specs.Own.{time_waited}
 use Rattle.tier_model.specs.Shelf.{Look, absent, in_flight, finished, is_there}
-use Rattle.tier_model.specs.State.{Phase, cache_key, hit, stale, miss, begun, disabled, Held, nothing, permit, waits, Request, State}
-use Rattle.tier_model.specs.Checks.{can_look_up, can_begin, has_permit, is_waiting, unless, look_refusal, refusal}
-use Rattle.tier_model.specs.Answers.{key_for, look_for, asks_now, given_if, lock_given, look_answer, ended_by, is_past, polled, IsBeginAnswer}
-use Rattle.tier_model.specs.Step.{UseFits, IsAnswer, AllowsBy, Allows}
-use Rattle.tier_model.specs.After.{by_request, opened_request, held_of, looked, after_wait, given_changes, back_changes, release_of, leave_of, poll_of, lock_changes_in, after}
-use Rattle.tier_model.proofs.CallLaws.{Inside, call_at, named_by, is_named, itself, begin_turn, land_turn, read_turn, turn, requests-after}
-use Rattle.tier_model.proofs.OpenLaws.{passed, test_passed, not_false, unrefused}
-use Rattle.tier_model.proofs.GripLaws.{Grip, free, grips, Moves, Same}
+use Rattle.tier_model.specs.State.{Held, nothing, permit, waits, Request, State}
+use Rattle.tier_model.specs.Checks.{can_look_up, can_begin, has_permit, is_waiting, unless, look_refusal}
+use Rattle.tier_model.specs.Answers.{key_for, look_for, asks_now, given_if, lock_given, look_answer}
+use Rattle.tier_model.specs.After.{by_request, held_of, given_changes, back_changes, lock_changes_in, after}
+use Rattle.tier_model.proofs.CallLaws.{Inside, call_at, named_by, is_named, turn, requests-after}
+use Rattle.tier_model.proofs.TurnLaws.{AllOf}
+use Rattle.tier_model.proofs.GripLaws.{Grip, free, grips, Moves}
 use Rattle.tier_model.proofs.EffectLaws as effect
 use Rattle.tier_model.proofs.EffectLaws.{grip_in, grip_of, grip_at, hold_at, moves-of, same-of, same-all, SaysLittle, SaysGiven, SaysEnded, Effect}
 
 -- one that waits may not begin
+abbrev pub WaitsWell : Request → Type 0
+WaitsWell q = (n : ℕ) (first : Option MomentValue) → q.held ≡ waits n first → can_begin q.phase q.gave_read ≡ false
+
 abbrev pub WaitsFit : Option Request → Type 0
-WaitsFit None = Unit {0}
-WaitsFit (Some q) = (n : ℕ) (first : Option MomentValue) → q.held ≡ waits n first → can_begin q.phase q.gave_read ≡ false
+WaitsFit o = AllOf WaitsWell o
 
 -- a request that may look up holds nothing
 pub look-passed : (q : Request) → look_refusal q ≡ None → (can_look_up q.phase ≡ true) × (q.held ≡ nothing)

@@ -26,7 +26,9 @@ pub mod GrantLaws
 pub mod GrantSteps
 pub mod GrantEnds
 pub mod EffectLaws
+pub mod TurnLaws
 pub mod HoldSteps
+pub mod PhaseLaws
 pub mod HoldEvents
 pub mod HeadlineLaws
 pub mod StandLaws
@@ -36,6 +38,7 @@ pub mod PermitKept
 pub mod PermitBack
 pub mod PermitLaws
 pub mod LockedLaws
+pub mod OwnedLaws
 pub mod Carried
 pub mod CountLaws
 pub mod ReportLaws

@@ -16,21 +16,21 @@ use Rattle.tier_model.specs.declared.event.LockGiven.{LockGiven}
 use Rattle.tier_model.specs.declared.event.LockGiven.TheVariants as lock
 use Rattle.tier_model.specs.Calls.{Call, History, Outcome, asks_after, asks_lock}
 use Rattle.tier_model.specs.Histories.{Opening}
-use Rattle.tier_model.specs.Locks.{PermitWaits, LocksRight, IsGivenRight, LockIsRight, AreLockedRight}
+use Rattle.tier_model.specs.Locks.{LocksRight, IsGivenRight, LockIsRight, AreLockedRight}
 use Rattle.tier_model.specs.Shelf.{Look, absent, in_flight, finished}
-use Rattle.tier_model.specs.Own.{Hold, no_lock, a_permit, a_wait, Own, own_opened, own_looked, own_polled, own_begun, own_after, own_of, own_in}
+use Rattle.tier_model.specs.Own.{Hold, no_lock, a_permit, a_wait, Own, own_opened, own_polled, own_after, own_of}
 use Rattle.tier_model.specs.State.{Request, State}
 use Rattle.tier_model.specs.Checks.{refusal}
-use Rattle.tier_model.specs.Answers.{key_for, look_for, is_fresh, finds_fresh, asks_now, given_if, lock_given, look_answer}
+use Rattle.tier_model.specs.Answers.{key_for, look_for, is_fresh, finds_fresh, given_if, lock_given, look_answer}
 use Rattle.tier_model.specs.Step.{UseFits, IsAnswer, AllowsBy, Allows}
 use Rattle.tier_model.specs.Past.{state_of, lock_changes_of, IsLawful}
 use Rattle.tier_model.proofs.CallLaws.{Inside, call_at}
 use Rattle.tier_model.proofs.OpenLaws.{unrefused}
 use Rattle.tier_model.proofs.OwnLaws.{OpenFits}
-use Rattle.tier_model.proofs.StandLaws.{Stands, Stands-lawful}
+use Rattle.tier_model.proofs.StandLaws.{Stands-lawful}
 use Rattle.tier_model.proofs.GrantSteps.{waits-from, waits-for}
 use Rattle.tier_model.proofs.EffectLaws.{grip_at, hold_at}
-use Rattle.tier_model.proofs.GrantedLaws.{LocksFit, LocksFit-lawful}
+use Rattle.tier_model.proofs.GrantedLaws.{LocksFit-lawful}
 use Rattle.tier_model.proofs.PermitLaws.{core-of-permit, permit-from}
 
 -- ---- whether a request asks for the lock

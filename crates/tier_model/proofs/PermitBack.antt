@@ -1,8 +1,8 @@
 -- A permit that waits after a call was given by it, or waited before, and the call didn't end it.
 use Rattle.std.proofs.Common.{◌≡◌, ℕ, ◌==◌, refl, ap, sym, ◌∙◌, true, false, subst, cond, inl, inr, [], ◌∷◌, ◌++◌}
-use Rattle.std.specs.Prelude.{◌⊎◌, ◌&&◌, Bool, List, Option, Some, None, Ok}
+use Rattle.std.specs.Prelude.{◌⊎◌, ◌&&◌, Bool, Option, Some, None, Ok}
 use Rattle.std.specs.FinMap.{get}
-use Rattle.std.proofs.lemmas.Bool.{eqb-true, eq-eqb}
+use Rattle.std.proofs.lemmas.Bool.{eq-eqb}
 use Rattle.cache_words.specs.Time.{MomentValue}
 use Rattle.cache_entries.specs.Keys.{same_bytes}
 use Rattle.cache_entries.specs.SameEntry.{same_bytes-tells}
@@ -15,7 +15,7 @@ use Rattle.cache_lock.specs.Waits.{same_key, last_status, core_of}
 use Rattle.cache_lock.specs.declared.fills.WaitOutcome.{WaitOutcome}
 use Rattle.cache_lock.specs.declared.fills.WaitOutcome.TheVariants as wait
 use Rattle.cache_lock.specs.declared.status.LockStatus.{LockStatus}
-use Rattle.cache_lock.specs.declared.status.LockStatus.TheVariants.{Waiting, Done, TransientError, GiveUp, Dangling, WaitTimeout, AgeTimeout}
+use Rattle.cache_lock.specs.declared.status.LockStatus.TheVariants.{Waiting, Dangling, WaitTimeout, AgeTimeout}
 use Rattle.tier_model.specs.declared.event.Action.{Action}
 use Rattle.tier_model.specs.declared.event.Action.TheVariants.{Poll}
 use Rattle.tier_model.specs.declared.event.Answer.TheVariants.{Waited}
@@ -25,11 +25,11 @@ use Rattle.tier_model.specs.Calls.{History, Outcome, opened_for}
 use Rattle.tier_model.specs.Locks.{given_after, last_given, is_permit, is_wait, is_end_of_permit, is_for, is_aged_poll}
 use Rattle.tier_model.specs.State.{Request, State}
 use Rattle.tier_model.specs.Answers.{key_for, ended_by}
-use Rattle.tier_model.proofs.GripLaws.{Grip, free, grips, by_permit, grip_number, Moves, differ, key-true}
+use Rattle.tier_model.proofs.GripLaws.{free, grips, by_permit, grip_number, differ, key-true}
 use Rattle.tier_model.proofs.GrantSteps.{Granted, only_aged, status-held}
 use Rattle.tier_model.proofs.EffectLaws.{grip_at, hold_at, SaysLittle, SaysGiven, SaysEnded, Effect, quiet, given, lent, back, polled, left, dropped, released}
 use Rattle.tier_model.proofs.PermitSteps.{IsCore, below}
-use Rattle.tier_model.proofs.PermitKept.{AreOpen, told_aged}
+use Rattle.tier_model.proofs.PermitKept.{AreOpen}
 
 is_no : (v : Bool) → (v ≡ true → ⊥) → v ≡ false
 is_no true h = absurd (h refl)

@@ -1,8 +1,8 @@
 -- A permit that waits keeps its core, whatever call comes that doesn't end it.
 use Rattle.std.proofs.Common.{◌≡◌, ℕ, ◌==◌, refl, ap, sym, ◌∙◌, true, false, subst, cond, inl, inr, [], ◌∷◌, ◌++◌}
-use Rattle.std.specs.Prelude.{◌⊎◌, ◌&&◌, Bool, List, Option, Some, None, Ok}
+use Rattle.std.specs.Prelude.{◌&&◌, Bool, Option, Some, None, Ok}
 use Rattle.std.specs.FinMap.{get}
-use Rattle.std.proofs.lemmas.Bool.{eqb-true, eq-eqb}
+use Rattle.std.proofs.lemmas.Bool.{eq-eqb}
 use Rattle.cache_words.specs.Time.{MomentValue}
 use Rattle.cache_entries.specs.Keys.{same_bytes}
 use Rattle.cache_entries.specs.SameEntry.{same_bytes-tells}
@@ -24,10 +24,10 @@ use Rattle.tier_model.specs.Calls.{History, Outcome, opened_for}
 use Rattle.tier_model.specs.Locks.{given_after, last_given, is_wait, is_end_of_permit, is_for, is_aged_poll}
 use Rattle.tier_model.specs.State.{State}
 use Rattle.tier_model.specs.Answers.{ended_by}
-use Rattle.tier_model.proofs.GripLaws.{Grip, free, grips, Moves, differ, key-true}
+use Rattle.tier_model.proofs.GripLaws.{free, grips, Moves, differ, key-true}
 use Rattle.tier_model.proofs.GrantSteps.{Granted, status-held}
 use Rattle.tier_model.proofs.EffectLaws.{grip_at, hold_at, SaysEnded, Effect, quiet, given, lent, back, polled, left, dropped, released}
-use Rattle.tier_model.proofs.PermitSteps.{IsCore, polled_given, not_it, not_its_permit, Next, reads_still, by_given, by_lent, by_back, by_ended}
+use Rattle.tier_model.proofs.PermitSteps.{IsCore, polled_given, not_it, not_its_permit, reads_still, by_given, by_lent, by_back, by_ended}
 
 -- each that holds a core was opened for the key under which it does
 abbrev pub AreOpen : State → StoredKey → History → Type 0

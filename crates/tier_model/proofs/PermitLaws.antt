@@ -1,41 +1,37 @@
 -- A permit of a key waits by the answers exactly where one waits by what was changed in the lock; so a lock is given as the headline says.
 use Rattle.std.proofs.Common.{◌≡◌, ℕ, ◌==◌, refl, ap, sym, ◌∙◌, true, false, subst, cond, inl, inr, [], ◌∷◌, ◌++◌, arith}
-use Rattle.std.specs.Prelude.{◌↔◌, ◌<◌, Bool, Option, Some, None, Ok, Err, MatchOption}
+use Rattle.std.specs.Prelude.{◌↔◌, ◌<◌, Bool, Option, Some, None}
 use Rattle.std.specs.List.{AllByRecursion}
 use Rattle.std.specs.FinMap.{get}
 use Rattle.std.proofs.lemmas.Bool.{eqb-true, eq-eqb}
-use Rattle.cache_words.specs.Time.{MomentValue}
 use Rattle.cache_entries.specs.Entry.{key_of}
 use Rattle.cache_entries.specs.Keys.{same_bytes}
 use Rattle.cache_entries.specs.SameEntry.{same_bytes-tells}
 use Rattle.cache_changes.specs.Changes.{StoredKey, stored_key}
 use Rattle.cache_lock.specs.Changes.{Changes, gives}
-use Rattle.cache_lock.specs.Answers.{to_wait_for}
-use Rattle.cache_lock.specs.State.{IsSound}
 use Rattle.cache_lock.specs.Waits.{same_key, last_status, core_of, Waits}
 use Rattle.cache_lock.specs.declared.status.LockStatus.TheVariants.{Waiting}
-use Rattle.tier_model.specs.declared.event.Action.{Action}
 use Rattle.tier_model.specs.declared.event.LockGiven.{LockGiven}
 use Rattle.tier_model.specs.declared.event.LockGiven.TheVariants as lock
 use Rattle.tier_model.specs.Keys.{Entry}
-use Rattle.tier_model.specs.Calls.{Call, History, Outcome, opened_for}
+use Rattle.tier_model.specs.Calls.{Call, History, opened_for}
 use Rattle.tier_model.specs.Histories.{Opening}
-use Rattle.tier_model.specs.Locks.{given_after, last_given, is_permit, is_wait, gives_permit, ends_permit, is_for, AreTimely, PermitWaits}
+use Rattle.tier_model.specs.Locks.{given_after, last_given, is_permit, gives_permit, ends_permit, is_for, AreTimely, PermitWaits}
 use Rattle.tier_model.specs.State.{Held, nothing, permit, waits, Request, State}
 use Rattle.tier_model.specs.Answers.{key_for}
 use Rattle.tier_model.specs.After.{lock_changes}
 use Rattle.tier_model.specs.Past.{state_of, lock_changes_of, IsLawful}
 use Rattle.tier_model.proofs.OwnLaws.{OpenFits}
-use Rattle.tier_model.proofs.StandLaws.{Stands, Stands-lawful}
+use Rattle.tier_model.proofs.StandLaws.{Stands-lawful}
 use Rattle.tier_model.proofs.LockLaws.{IsSound-of}
-use Rattle.tier_model.proofs.GripLaws.{Grip, free, grips, by_permit, grip_key, Moves, moved-now, differ, key-itself}
+use Rattle.tier_model.proofs.GripLaws.{free, grips, by_permit, grip_key, Moves, moved-now, differ, key-itself}
 use Rattle.tier_model.proofs.GrantLaws.{held-below}
-use Rattle.tier_model.proofs.GrantSteps.{Granted, waits-from, waits-for}
-use Rattle.tier_model.proofs.EffectLaws.{grip_in, grip_of, grip_at, hold_at, SaysLittle, SaysGiven, SaysEnded, Effect, quiet, given, lent, back, polled, left, dropped, released}
-use Rattle.tier_model.proofs.GrantedLaws.{LocksFit, LocksFit-lawful, effect-lawful}
+use Rattle.tier_model.proofs.GrantSteps.{Granted}
+use Rattle.tier_model.proofs.EffectLaws.{grip_in, grip_of, grip_at, hold_at, SaysGiven, Effect, quiet, given, lent, back, polled, left, dropped, released}
+use Rattle.tier_model.proofs.GrantedLaws.{LocksFit-lawful, effect-lawful}
 use Rattle.tier_model.proofs.PermitSteps.{IsCore, polled_given}
 use Rattle.tier_model.proofs.PermitKept.{AreOpen, core-step}
-use Rattle.tier_model.proofs.PermitBack.{Begins, Stays, back-step}
+use Rattle.tier_model.proofs.PermitBack.{Stays, back-step}
 
 -- whom a grip is of
 under : (k key : StoredKey) (p : Bool) (m : ℕ) (held : Held) → grip_in k held ≡ grips p m key → k ≡ key

@@ -1,33 +1,27 @@
 -- A permit that waits keeps its core, and those that were given a wait since wait for it, whatever call comes.
 use Rattle.std.proofs.Common.{◌≡◌, ℕ, ◌<◌, ◌==◌, refl, ap, sym, ◌∙◌, true, false, subst, cond, inl, inr, [], ◌∷◌, ◌++◌, arith}
-use Rattle.std.specs.Prelude.{◌⊎◌, ◌&&◌, Bool, List, Option, Some, None, Ok}
-use Rattle.std.specs.FinMap.{get}
+use Rattle.std.specs.Prelude.{Bool, Option, Some, None, Ok}
 use Rattle.std.proofs.lemmas.Bool.{eqb-true, eq-eqb}
 use Rattle.cache_words.specs.Time.{MomentValue}
-use Rattle.cache_entries.specs.SameEntry.{same_bytes-tells}
 use Rattle.cache_changes.specs.Changes.{StoredKey}
-use Rattle.cache_lock.specs.Changes.{Changes, gives, lends, stores, takes_out, spends}
-use Rattle.cache_lock.specs.Answers.{to_wait_for, locked_by, lock_change, reason_stored, release_changes, leave_changes, wait_outcome, poll_changes}
-use Rattle.cache_lock.specs.State.{IsSound, status_of}
-use Rattle.cache_lock.specs.Status.{is_aged}
+use Rattle.cache_lock.specs.Changes.{Changes, gives, lends}
+use Rattle.cache_lock.specs.Answers.{to_wait_for, locked_by, lock_change, leave_changes}
+use Rattle.cache_lock.specs.State.{IsSound}
 use Rattle.cache_lock.specs.Waits.{same_key, last_status, core_of}
-use Rattle.cache_lock.specs.declared.fills.WaitOutcome.{WaitOutcome}
-use Rattle.cache_lock.specs.declared.fills.WaitOutcome.TheVariants as wait
 use Rattle.cache_lock.specs.declared.status.LockStatus.{LockStatus}
-use Rattle.cache_lock.specs.declared.status.LockStatus.TheVariants.{Waiting, Dangling, AgeTimeout}
+use Rattle.cache_lock.specs.declared.status.LockStatus.TheVariants.{Waiting, Dangling}
 use Rattle.tier_model.specs.declared.event.Action.{Action}
 use Rattle.tier_model.specs.declared.event.Action.TheVariants.{Poll}
 use Rattle.tier_model.specs.declared.event.Answer.TheVariants.{Waited}
 use Rattle.tier_model.specs.declared.event.LockGiven.{LockGiven}
 use Rattle.tier_model.specs.declared.event.LockGiven.TheVariants as lock
-use Rattle.tier_model.specs.Calls.{History, Outcome, opened_for}
-use Rattle.tier_model.specs.Locks.{given_after, last_given, is_wait, is_end_of_permit, is_for, is_aged_poll}
+use Rattle.tier_model.specs.Calls.{Outcome}
+use Rattle.tier_model.specs.Locks.{given_after, is_wait}
 use Rattle.tier_model.specs.State.{Request, State}
-use Rattle.tier_model.specs.Answers.{key_for, ended_by}
-use Rattle.tier_model.proofs.GripLaws.{Grip, free, grips, by_permit, grip_number, grip_key, Moves, Same, moved-was, moved-now, differ, differ-key, key-true, key-itself}
-use Rattle.tier_model.proofs.GrantLaws.{held-below}
-use Rattle.tier_model.proofs.GrantSteps.{Granted, status-held, waits-for}
-use Rattle.tier_model.proofs.EffectLaws.{grip_at, hold_at, SaysLittle, SaysGiven, SaysEnded, Effect, quiet, given, lent, back, polled, left, dropped, released}
+use Rattle.tier_model.specs.Answers.{key_for}
+use Rattle.tier_model.proofs.GripLaws.{Grip, free, grips, by_permit, grip_number, grip_key, Moves, Same, moved-now, differ, differ-key}
+use Rattle.tier_model.proofs.GrantSteps.{Granted, waits-for}
+use Rattle.tier_model.proofs.EffectLaws.{grip_at, hold_at, SaysLittle, SaysGiven}
 
 -- the core of k is n, and waits; the request has its permit; and of those that wait under k, just the ones that were given a wait since wait for it
 pub record IsCore (s : State) (changes : Changes) (k : StoredKey) (id n : ℕ) (given : ℕ → LockGiven) : Type 0 where
