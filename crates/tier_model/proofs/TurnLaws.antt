@@ -30,7 +30,7 @@ AllOf P (Some q) = P q
 
 -- each event of a request keeps P
 pub record Turns (s : State) (t : MomentValue) (P : Request → Type 0) : Type 0 where
-  pub opens : (entry : Entry) (asks : Bool) → P (opened_request entry asks)
+  pub opens : (entry : Entry) (asks : Bool) → P (opened_request s.wait entry asks)
   pub looks : (q : Request) (l : Look) → look_refusal q ≡ None → P q → P (looked t q l s.lock)
   pub waited : (q : Request) (outcome : Option LockStatus) → P q → P (after_wait t outcome q.held q)
   pub begins : (q : Request) (j : Option Judged) → can_begin q.phase q.gave_read ≡ true → P q → P (begin_turn s j q)
