@@ -37,7 +37,7 @@ use Rattle.tier_model.specs.Past.{in_shards, state_of, IsLawful, count_of, strea
 use Rattle.tier_model.proofs.RowSteps.{in_shards-are}
 use Rattle.tier_model.proofs.ShownLaws.{is_held, shows}
 use Rattle.tier_model.proofs.WriteLaws.{flies-of}
-use Rattle.tier_model.proofs.GrantedLaws.{LocksFit, LocksFit-lawful}
+use Rattle.tier_model.proofs.GrantedLaws.{LocksFit-lawful}
 use Rattle.tier_model.proofs.OwnedLaws.{Owned-lawful}
 use Rattle.tier_model.proofs.OpenLaws.{begun-told}
 use Rattle.tier_model.proofs.OwnLaws.{OpenFits}
@@ -45,7 +45,8 @@ use Rattle.tier_model.proofs.HeadlineLaws.{IsRight-allowed}
 use Rattle.tier_model.proofs.LockLaws.{lock-is}
 use Rattle.tier_model.proofs.LockedLaws.{AreLockedRight-lawful}
 use Rattle.tier_model.proofs.ReaderLaws.{CountFits}
-use Rattle.tier_model.proofs.ReadLaws.{ReadsFit, ReadIsRight-allowed, readable_is}
+use Rattle.tier_model.proofs.ReadLaws.{ReadsFit, readable_is}
+use Rattle.tier_model.proofs.ReadEvents.{ReadIsRight-allowed}
 use Rattle.tier_model.specs.Reads.{AreReadRight}
 use Rattle.tier_model.proofs.HeldLaws.{all-held, sums}
 use Rattle.tier_model.proofs.StandLaws.{Stands, opened_request, Stands-lawful}
@@ -67,7 +68,8 @@ AreReadRight-lawful start (c ∷ h) l =
     (ReadIsRight-allowed start (state_of start h) h past.holds past.count (opened_request start (state_of start h) h past) past.counted past.reads c l.0, AreReadRight-lawful start h l.1)
 
 -- a write began in each call that tells of one
-counted_put : (s : State) (may v : Bool) (b : Option FinishedBody) (o : Outcome) → BeginsWrite s may (cond (is_some b) (has_stored o) (is_begun o)) v → (x : FinishedBody) → b ≡ Some x → has_stored o ≡ true → v ≡ true
+counted_put : (s : State) (may v : Bool) (b : Option FinishedBody) (o : Outcome) → BeginsWrite s may (cond (is_some b) (has_stored o) (is_begun o)) v → (x : FinishedBody) → b ≡ Some x
+    → has_stored o ≡ true → v ≡ true
 counted_put s may v b o begins x e stored = begun-told s may (cond (is_some b) (has_stored o) (is_begun o)) v begins (ap (λ (y : Option FinishedBody). cond (is_some y) (has_stored o) (is_begun o)) e ∙ stored)
 
 stored_not_begun : (o : Outcome) → is_begun o ≡ true → has_stored o ≡ false
@@ -76,7 +78,8 @@ stored_not_begun (Ok _) e = absurd cc
 stored_not_begun (Err f) e = absurd cc
 
 -- a begin finishes no body
-begun_alone : (s : State) (t : MomentValue) (action : Action) (c : Call) (o : Outcome) (r : Option TierFault) → refusal s action ≡ r → AllowsBy r s t action c o → is_begun o ≡ true → finished_in action (read_by c) ≡ None
+begun_alone : (s : State) (t : MomentValue) (action : Action) (c : Call) (o : Outcome) (r : Option TierFault) → refusal s action ≡ r → AllowsBy r s t action c o → is_begun o ≡ true
+    → finished_in action (read_by c) ≡ None
 begun_alone s t (Put key pieces) c (Ok Begun) (Some f) n p e = absurd cc
 begun_alone s t (Put key pieces) c (Ok Begun) None n p e = not_put (finished_by c) (read_by c) p
   where
@@ -133,7 +136,8 @@ start-some : (start : Opening) (h : History) (s : State) → Stands start s h �
 start-some start h s past = subst (λ (n : ℕ). 0 < n) past.made.shards past.holds.leaves.some
 
 -- the state after a lawful history is what it says
-IsRequestOf-fits : (start : Opening) (id : ℕ) (o : Option Request) (h : History) → OpenFits start id o h → ReadsFit start id o h → MatchOption o (opened_for id h ≡ None) (λ q. IsRequestOf start id q h)
+IsRequestOf-fits : (start : Opening) (id : ℕ) (o : Option Request) (h : History) → OpenFits start id o h → ReadsFit start id o h
+    → MatchOption o (opened_for id h ≡ None) (λ q. IsRequestOf start id q h)
 IsRequestOf-fits start id None h fits reads = fits
 IsRequestOf-fits start id (Some q) h fits reads = record { key = fits.0.key; entry = fits.0.entry; own = fits.1; write = fits.0.write; reader = reads }
 

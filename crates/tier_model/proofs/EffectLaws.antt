@@ -130,13 +130,16 @@ pub data Effect (s new : State) (t : MomentValue) (action : Action) (o : Outcome
       → changes ≡ lends n ∷ [] → SaysGiven r lock.Read action o → Effect s new t action o changes
   -- one of them is given and handed back at once
   back : (key : StoredKey) (stale : Bool) → Same (grip_at s) (grip_at new) (hold_at s) (hold_at new)
-      → changes ≡ leave_changes (locked_by s.lock (to_wait_for key s.lock)) ++ lock_change key stale t s.lock (to_wait_for key s.lock) ∷ [] → SaysLittle s new action o → Effect s new t action o changes
+      → changes ≡ leave_changes (locked_by s.lock (to_wait_for key s.lock)) ++ lock_change key stale t s.lock (to_wait_for key s.lock) ∷ [] → SaysLittle s new action o
+      → Effect s new t action o changes
   -- a wait is told how it ended
   polled : (r n : ℕ) (key : StoredKey) (over : Bool) (outcome : LockStatus) → Moves (grip_at s) (grip_at new) (hold_at s) (hold_at new) r (grips false n key) free
-      → changes ≡ spends n ∷ poll_changes n (wait_outcome n [] t s.lock) → action ≡ Poll r → o ≡ Ok (Waited (Some outcome)) → ended_by (wait_outcome n [] t s.lock) (status_of n s.lock) over ≡ Some outcome
+      → changes ≡ spends n ∷ poll_changes n (wait_outcome n [] t s.lock) → action ≡ Poll r → o ≡ Ok (Waited (Some outcome))
+      → ended_by (wait_outcome n [] t s.lock) (status_of n s.lock) over ≡ Some outcome
       → Effect s new t action o changes
   -- a wait goes with its request
-  left : (r n : ℕ) (key : StoredKey) → Moves (grip_at s) (grip_at new) (hold_at s) (hold_at new) r (grips false n key) free → changes ≡ spends n ∷ [] → SaysEnded r action o → Effect s new t action o changes
+  left : (r n : ℕ) (key : StoredKey) → Moves (grip_at s) (grip_at new) (hold_at s) (hold_at new) r (grips false n key) free → changes ≡ spends n ∷ [] → SaysEnded r action o
+      → Effect s new t action o changes
   -- a permit goes with its request
   dropped : (r n : ℕ) (key : StoredKey) → Moves (grip_at s) (grip_at new) (hold_at s) (hold_at new) r (grips true n key) free → changes ≡ spends n ∷ stores n status.Dangling ∷ []
       → SaysEnded r action o → Effect s new t action o changes

@@ -22,7 +22,8 @@ use Rattle.tier_model.proofs.GrantSteps.{Stands, Granted, only_aged, status-held
 module _ (lock : LockState) (g : ℕ → Grip) (hold : ℕ → ℕ) (changes : Changes) (x : Granted lock g hold changes) where
   -- ---- a wait that is given
 
-  pub lent-step : (new : ℕ → Grip) (more : ℕ → ℕ) (r n : ℕ) (key : List ℕ) → to_wait_for key lock ≡ Some n → Moves g new hold more r free (grips false n key) → Granted (after (lends n) lock) new more (lends n ∷ changes)
+  pub lent-step : (new : ℕ → Grip) (more : ℕ → ℕ) (r n : ℕ) (key : List ℕ) → to_wait_for key lock ≡ Some n → Moves g new hold more r free (grips false n key)
+      → Granted (after (lends n) lock) new more (lends n ∷ changes)
   lent-step new more r n key there moves =
       let w = waits-from lock g hold changes x key n there in
       record {
@@ -95,7 +96,8 @@ module _ (lock : LockState) (g : ℕ → Grip) (hold : ℕ → ℕ) (changes : C
       permits = λ i m k e. stands m k (m == n) (x.permits i m k (still-held g new hold more r (grips false n key) moves i m true k e).1);
     }
       where
-        stands : (m : ℕ) (k : List ℕ) (v : Bool) → Stands m k changes → (cond v AgeTimeout (last_status m changes) ≡ AgeTimeout) ⊎ ((cond v AgeTimeout (last_status m changes) ≡ Waiting) × (core_of k changes ≡ Some m))
+        stands : (m : ℕ) (k : List ℕ) (v : Bool) → Stands m k changes
+            → (cond v AgeTimeout (last_status m changes) ≡ AgeTimeout) ⊎ ((cond v AgeTimeout (last_status m changes) ≡ Waiting) × (core_of k changes ≡ Some m))
         stands m k true s = inl refl
         stands m k false s = s
 

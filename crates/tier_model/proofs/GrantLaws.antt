@@ -12,7 +12,8 @@ use Rattle.cache_lock.specs.declared.lock_core.HeldCore.{HeldCore}
 use Rattle.cache_lock.specs.declared.status.LockStatus.{LockStatus}
 use Rattle.cache_lock.specs.declared.status.LockStatus.TheVariants.{Waiting}
 use Rattle.cache_lock.proofs.ChangeLaws.{begun, lent, stored, taken, handed_back}
-use Rattle.tier_model.proofs.GripLaws.{Grip, free, grips, by_permit, grip_number, grip_key, Table, Moves, moved-was, moved-now, still-held, differ, key-true, key_in, key_at, key-given, key-kept, next-kept, next-spent, key-left, key-was}
+use Rattle.tier_model.proofs.GripLaws.{Grip, free, grips, by_permit, grip_number, grip_key, Table, Moves, moved-was, moved-now, still-held, differ, key-true, key_in, key_at, key-given}
+use Rattle.tier_model.proofs.GripLaws.{key-kept, next-kept, next-spent, key-left, key-was}
 
 -- of a lock, of who holds its cores, how often each is held, and of what was changed: each core is named as often as it is held, and a number that
 -- is still to come isn't; a core that is held is there, under the key of the one that holds it, and a key's core is under that key; no two
@@ -118,7 +119,8 @@ module _ (lock : LockState) (g : ℕ → Grip) (hold : ℕ → ℕ) (changes : C
 
   -- ---- a wait that is given
 
-  module _ (new : ℕ → Grip) (more : ℕ → ℕ) (r n : ℕ) (key : List ℕ) (moves : Moves g new hold more r free (grips false n key)) (core : core_of key changes ≡ Some n) (waiting : last_status n changes ≡ Waiting) where
+  module _ (new : ℕ → Grip) (more : ℕ → ℕ) (r n : ℕ) (key : List ℕ) (moves : Moves g new hold more r free (grips false n key)) (core : core_of key changes ≡ Some n)
+      (waiting : last_status n changes ≡ Waiting) where
     same_key_at : (m : ℕ) → key_at m (after (lends n) lock) ≡ key_at m lock
     same_key_at m = key-kept m n named lock (λ c. refl) (get lock.cores n) refl
 
@@ -227,7 +229,8 @@ module _ (lock : LockState) (g : ℕ → Grip) (hold : ℕ → ℕ) (changes : C
               omega (arith, a, s, none)
           names_given m false is s = let a = x.names m in omega (arith, a, s)
 
-          keyed_given : (j k : List ℕ) (m : ℕ) (v : Bool) → same_key j key ≡ v → cond v (Some lock.next) (core_of j changes) ≡ Some m → cond (m == lock.next) (Some key) (key_at m lock) ≡ Some k → k ≡ j
+          keyed_given : (j k : List ℕ) (m : ℕ) (v : Bool) → same_key j key ≡ v → cond v (Some lock.next) (core_of j changes) ≡ Some m
+              → cond (m == lock.next) (Some key) (key_at m lock) ≡ Some k → k ≡ j
           keyed_given j k m true same e is =
               let number : lock.next ≡ m = cc in
               let there : Some key ≡ Some k = sym (ap (λ (v : Bool). cond v (Some key) (key_at m lock)) (eq-eqb m lock.next (sym number))) ∙ is in

@@ -64,7 +64,8 @@ module _ (lock : LockState) (g : ℕ → Grip) (hold : ℕ → ℕ) (changes : C
   pub waits-from : (key : List ℕ) (n : ℕ) → to_wait_for key lock ≡ Some n → (core_of key changes ≡ Some n) × (last_status n changes ≡ Waiting)
   waits-from key n e = by_core (get lock.current key) refl e
     where
-      by_there : (m : ℕ) → get lock.current key ≡ Some m → (o : Option HeldCore) → get lock.cores m ≡ o → is_replaced (status_in o) ≡ false → (core_of key changes ≡ Some m) × (last_status m changes ≡ Waiting)
+      by_there : (m : ℕ) → get lock.current key ≡ Some m → (o : Option HeldCore) → get lock.cores m ≡ o → is_replaced (status_in o) ≡ false
+          → (core_of key changes ≡ Some m) × (last_status m changes ≡ Waiting)
       by_there m is None at lasts = absurd cc
       by_there m is (Some c) at lasts =
           let core : core_of key changes ≡ Some m = x.grants.state.current key m is in
@@ -76,7 +77,8 @@ module _ (lock : LockState) (g : ℕ → Grip) (hold : ℕ → ℕ) (changes : C
             ],
           )
 
-      by_status : (m : ℕ) → get lock.current key ≡ Some m → (v : Bool) → is_replaced (status_of m lock) ≡ v → cond v None (Some m) ≡ Some n → (core_of key changes ≡ Some n) × (last_status n changes ≡ Waiting)
+      by_status : (m : ℕ) → get lock.current key ≡ Some m → (v : Bool) → is_replaced (status_of m lock) ≡ v → cond v None (Some m) ≡ Some n
+          → (core_of key changes ≡ Some n) × (last_status n changes ≡ Waiting)
       by_status m is true lasts e = absurd cc
       by_status m is false lasts e =
           let same : m ≡ n = cc in
@@ -163,7 +165,8 @@ module _ (lock : LockState) (g : ℕ → Grip) (hold : ℕ → ℕ) (changes : C
       stored_last : last_status lock.next (stores lock.next Dangling ∷ given_changes) ≡ Dangling
       stored_last = ap (λ (v : Bool). cond v Dangling (last_status lock.next given_changes)) (eq-eqb lock.next lock.next refl)
 
-      not_waiting : IsOfKey lock.next (stores lock.next Dangling ∷ given_changes) → last_status lock.next (stores lock.next Dangling ∷ given_changes) ≡ Waiting → 1 < names_of lock.next (stores lock.next Dangling ∷ given_changes)
+      not_waiting : IsOfKey lock.next (stores lock.next Dangling ∷ given_changes) → last_status lock.next (stores lock.next Dangling ∷ given_changes) ≡ Waiting
+          → 1 < names_of lock.next (stores lock.next Dangling ∷ given_changes)
       not_waiting k w = let clash : Dangling ≡ Waiting = sym stored_last ∙ w in absurd cc
 
       names_back : (m : ℕ) (v : Bool) → (m == lock.next) ≡ v → cond v (cond v 1 (names_of m changes) - 1) (cond v 1 (names_of m changes)) ≡ names_of m changes

@@ -1,39 +1,24 @@
 -- Lawful histories change the lock in an orderly way, and each core is named by the requests that hold it.
-use Rattle.std.proofs.Common.{◌≡◌, ℕ, refl, ap, sym, ◌∙◌, true, false, subst, cond, [], ◌∷◌, ◌++◌}
-use Rattle.std.specs.Prelude.{Bool, List, Option, Some, None, option_map, Ok, Err, map}
+use Rattle.std.proofs.Common.{◌≡◌, ℕ, refl, ap, sym, ◌∙◌, true, subst, [], ◌∷◌, ◌++◌}
+use Rattle.std.specs.Prelude.{Bool, List, map}
 use Rattle.std.specs.List.{sum_by}
 use Rattle.std.specs.FinMap.{get, get-empty, empty, entries, len-entries, len-empty}
 use Rattle.std.specs.Ordering.{nat_cmp}
-use Rattle.std.proofs.lemmas.Bool.{eqb-true}
 use Rattle.std.proofs.lemmas.List.{nil_from_length}
 use Rattle.cache_words.specs.Time.{MomentValue}
 use Rattle.cache_lock.specs.Changes.{Changes}
 use Rattle.cache_lock.specs.Answers.{to_wait_for, wait_outcome}
 use Rattle.cache_lock.specs.State.{IsSound, after_all}
 use Rattle.cache_lock.specs.Waits.{IsOrderly}
-use Rattle.cache_lock.specs.declared.status.LockStatus.{LockStatus}
 use Rattle.cache_lock.proofs.WaitLaws.{state_of-is}
 use Rattle.tier_model.specs.declared.event.Action.{Action}
-use Rattle.tier_model.specs.declared.event.Action.TheVariants.{Open, LookUp, Poll, Begin, Piece, Finish, Read, Drop, Purge, Put}
-use Rattle.tier_model.specs.declared.event.Answer.{Answer}
-use Rattle.tier_model.specs.declared.event.Answer.TheVariants.{Waited}
-use Rattle.tier_model.specs.declared.event.TierFault.{TierFault}
-use Rattle.tier_model.specs.declared.event.LockGiven.{LockGiven}
-use Rattle.tier_model.specs.declared.event.LockGiven.TheVariants as lock
-use Rattle.tier_model.specs.Response.{Judged, kept}
-use Rattle.tier_model.specs.Calls.{Call, History, Outcome, judged_of}
-use Rattle.tier_model.specs.Histories.{Opening, is_landing}
-use Rattle.tier_model.specs.Locks.{is_wait}
-use Rattle.tier_model.specs.Shelf.{Look, absent, in_flight, finished}
-use Rattle.tier_model.specs.State.{Phase, cache_key, hit, stale, miss, begun, disabled, Held, nothing, permit, waits, Request, State}
-use Rattle.tier_model.specs.Checks.{can_look_up, can_begin, look_refusal, refusal}
-use Rattle.tier_model.specs.Answers.{key_for, look_for, asks_now, given_if, lock_given, finds_fresh}
-use Rattle.tier_model.specs.Step.{AllowsBy, Allows}
-use Rattle.tier_model.specs.After.{held_of, phase_of, looked, after_wait, lock_changes, after}
+use Rattle.tier_model.specs.Calls.{Call, History, Outcome}
+use Rattle.tier_model.specs.Histories.{Opening}
+use Rattle.tier_model.specs.State.{Request, State}
+use Rattle.tier_model.specs.Answers.{key_for}
+use Rattle.tier_model.specs.Step.{Allows}
+use Rattle.tier_model.specs.After.{lock_changes}
 use Rattle.tier_model.specs.Past.{state_of, lock_changes_of, IsLawful, holds, holders}
-use Rattle.tier_model.specs.Own.{phase_found}
-use Rattle.tier_model.proofs.CallLaws.{Inside, call_at, named_by, is_named, begin_turn, land_turn, read_turn, turn, requests-after}
-use Rattle.tier_model.proofs.OpenLaws.{passed, unrefused}
 use Rattle.tier_model.proofs.LockLaws.{IsSound-of}
 use Rattle.tier_model.proofs.GripLaws.{free, grips}
 use Rattle.tier_model.proofs.GrantSteps.{Granted, same-granted, given-step}

@@ -60,7 +60,8 @@ module _ (g new : ℕ → Grip) (hold more : ℕ → ℕ) (r : ℕ) (a b : Grip)
   moved-now i e = ap new (sym (eqb-true r i e)) ∙ moves.now
 
 -- where one lets go, one that holds a core then held it before, and is another
-pub still-held : (g new : ℕ → Grip) (hold more : ℕ → ℕ) (r : ℕ) (a : Grip) → Moves g new hold more r a free → (i m : ℕ) (q : Bool) (k : List ℕ) → new i ≡ grips q m k → ((r == i) ≡ false) × (g i ≡ grips q m k)
+pub still-held : (g new : ℕ → Grip) (hold more : ℕ → ℕ) (r : ℕ) (a : Grip) → Moves g new hold more r a free → (i m : ℕ) (q : Bool) (k : List ℕ) → new i ≡ grips q m k
+    → ((r == i) ≡ false) × (g i ≡ grips q m k)
 still-held g new hold more r a moves i m q k e = by_one (r == i) refl
   where
     by_one : (v : Bool) → (r == i) ≡ v → ((r == i) ≡ false) × (g i ≡ grips q m k)

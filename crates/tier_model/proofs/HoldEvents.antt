@@ -140,12 +140,14 @@ module _ (s : State) (t : MomentValue) (i : Inside) (fits : (id : ℕ) → Waits
 
   -- ---- all events
 
-  poll_answer : (r : ℕ) (a : Answer) (o : Option Request) → get s.requests r ≡ o → MatchOption o ⊥ (λ q. a ≡ Waited (polled s.lock t q q.held)) → ((q : Request) → o ≡ Some q → is_waiting q.held ≡ true) → Does s t i fits (Poll r) (Ok a)
+  poll_answer : (r : ℕ) (a : Answer) (o : Option Request) → get s.requests r ≡ o → MatchOption o ⊥ (λ q. a ≡ Waited (polled s.lock t q q.held))
+      → ((q : Request) → o ≡ Some q → is_waiting q.held ≡ true) → Does s t i fits (Poll r) (Ok a)
   poll_answer r a None there p waiting = absurd p
   poll_answer r a (Some q) there p waiting = subst (λ (y : Answer). Does s t i fits (Poll r) (Ok y)) (sym p) (poll_does r q there q.held refl (waiting q refl))
 
   look_up_answer : (r : ℕ) (a : Answer) (q : Request) → get s.requests r ≡ Some q → look_refusal q ≡ None
-      → MatchOption (get s.requests r) ⊥ (λ q. (a ≡ look_answer t (lock_given t q (look_for q s.shelf) s.lock) (look_for q s.shelf)) × UseFits s q (look_for q s.shelf)) → Does s t i fits (LookUp r) (Ok a)
+      → MatchOption (get s.requests r) ⊥ (λ q. (a ≡ look_answer t (lock_given t q (look_for q s.shelf) s.lock) (look_for q s.shelf)) × UseFits s q (look_for q s.shelf))
+      → Does s t i fits (LookUp r) (Ok a)
   look_up_answer r a q there passes p =
       let is = subst (λ (o : Option Request). MatchOption o ⊥ (λ q. (a ≡ look_answer t (lock_given t q (look_for q s.shelf) s.lock) (look_for q s.shelf)) × UseFits s q (look_for q s.shelf))) there p in
       subst (λ (y : Answer). Does s t i fits (LookUp r) (Ok y)) (sym is.0)

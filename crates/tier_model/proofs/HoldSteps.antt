@@ -53,10 +53,12 @@ module _ (s : State) (t : MomentValue) (i : Inside) (fits : (id : ℕ) → Waits
   abbrev pub turning : Action → Outcome → Option Request → Option Request
   turning action o q = turn s t action (judged_of (call_at t action i o)) o q
 
-  pub turned : (action : Action) (r : ℕ) (o : Outcome) → named_by action ≡ Some r → (id : ℕ) → get (next action o).requests id ≡ cond (r == id) (turning action o (get s.requests id)) (get s.requests id)
+  pub turned : (action : Action) (r : ℕ) (o : Outcome) → named_by action ≡ Some r → (id : ℕ)
+      → get (next action o).requests id ≡ cond (r == id) (turning action o (get s.requests id)) (get s.requests id)
   turned action r o e id = requests-after s (call_at t action i o) id ∙ ap (λ (n : Option ℕ). cond (is_named id n) (turning action o (get s.requests id)) (get s.requests id)) e
 
-  pub quiet_named : (action : Action) (r : ℕ) (o : Outcome) → named_by action ≡ Some r → grip_of (turning action o (get s.requests r)) ≡ grip_of (get s.requests r) → lock_changes_in s t action o i.asked ≡ []
+  pub quiet_named : (action : Action) (r : ℕ) (o : Outcome) → named_by action ≡ Some r → grip_of (turning action o (get s.requests r)) ≡ grip_of (get s.requests r)
+      → lock_changes_in s t action o i.asked ≡ []
       → SaysLittle s (next action o) action o → Does action o
   quiet_named action r o e same none says = effect.quiet (same-of s (next action o) r (turning action o) (turned action r o e) same) none says
 
@@ -88,14 +90,16 @@ module _ (s : State) (t : MomentValue) (i : Inside) (fits : (id : ℕ) → Waits
       aged = λ k since before. refl;
     }
 
-    look_grip : (v : Bool) (core : Option ℕ) → asks_now t q l ≡ v → to_wait_for (key_for q) s.lock ≡ core → grip_of (turning (LookUp r) o (get s.requests r)) ≡ grip_in (key_for q) (held_of (given_if v core) core s.lock nothing)
+    look_grip : (v : Bool) (core : Option ℕ) → asks_now t q l ≡ v → to_wait_for (key_for q) s.lock ≡ core
+        → grip_of (turning (LookUp r) o (get s.requests r)) ≡ grip_in (key_for q) (held_of (given_if v core) core s.lock nothing)
     look_grip v core asks waits_for =
         ap (λ (x : Option Request). grip_of (turning (LookUp r) o x)) there
         ∙ ap (λ (x : Bool). grip_in (key_for q) (held_of (given_if x (to_wait_for (key_for q) s.lock)) (to_wait_for (key_for q) s.lock) s.lock q.held)) asks
         ∙ ap (λ (x : Option ℕ). grip_in (key_for q) (held_of (given_if v x) x s.lock q.held)) waits_for
         ∙ ap (λ (x : Held). grip_in (key_for q) (held_of (given_if v core) core s.lock x)) held
 
-    look_changes : (v : Bool) (core : Option ℕ) → asks_now t q l ≡ v → to_wait_for (key_for q) s.lock ≡ core → lock_changes_in s t (LookUp r) o i.asked ≡ cond v (lock_change (key_for q) (is_there l) t s.lock core ∷ []) []
+    look_changes : (v : Bool) (core : Option ℕ) → asks_now t q l ≡ v → to_wait_for (key_for q) s.lock ≡ core
+        → lock_changes_in s t (LookUp r) o i.asked ≡ cond v (lock_change (key_for q) (is_there l) t s.lock core ∷ []) []
     look_changes v core asks waits_for =
         ap (λ (x : Option Request). by_request [] x (λ q. given_changes t q (look_for q s.shelf) s.lock)) there
         ∙ ap (λ (x : Bool). cond x (lock_change (key_for q) (is_there l) t s.lock (to_wait_for (key_for q) s.lock) ∷ []) []) asks
@@ -126,7 +130,8 @@ module _ (s : State) (t : MomentValue) (i : Inside) (fits : (id : ℕ) → Waits
         none_given true = refl
         none_given false = refl
 
-        by_one : (id : ℕ) (old : LockGiven) (v : Bool) → (r == id) ≡ v → Moves (grip_at s) (grip_at (next (LookUp r) o)) (hold_at s) (hold_at (next (LookUp r) o)) r free free → SaysGiven r lock.None (LookUp r) o
+        by_one : (id : ℕ) (old : LockGiven) (v : Bool) → (r == id) ≡ v → Moves (grip_at s) (grip_at (next (LookUp r) o)) (hold_at s) (hold_at (next (LookUp r) o)) r free free
+            → SaysGiven r lock.None (LookUp r) o
             → (grip_at (next (LookUp r) o) id ≡ free) ⊎ (given_after id (LookUp r) o old ≡ old)
         by_one id old true is moves says = inl (ap (grip_at (next (LookUp r) o)) (sym (eqb-true r id is)) ∙ moves.now)
         by_one id old false is moves says = inr (says.gives id old ∙ ap (λ (x : Bool). cond x lock.None old) is)

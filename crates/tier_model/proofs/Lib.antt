@@ -19,7 +19,9 @@ pub mod OwnLaws
 pub mod HeldLaws
 pub mod ReaderLaws
 pub mod StreamLaws
+pub mod StreamEvents
 pub mod ReadLaws
+pub mod ReadEvents
 pub mod LockLaws
 pub mod GripLaws
 pub mod GrantLaws
@@ -30,6 +32,7 @@ pub mod TurnLaws
 pub mod HoldSteps
 pub mod PhaseLaws
 pub mod HoldEvents
+pub mod RightLaws
 pub mod HeadlineLaws
 pub mod StandLaws
 pub mod GrantedLaws

@@ -1,6 +1,6 @@
 -- Each write in flight is that of an open request.
 use Rattle.std.proofs.Common.{◌≡◌, ℕ, refl, ap, sym, ◌∙◌, true, false, subst, cond, inl, inr, [], ◌∷◌, ◌++◌, ◌==◌}
-use Rattle.std.specs.Prelude.{◌⊎◌, ◌&&◌, Bool, List, Option, Some, None, option_map, Ok, Err}
+use Rattle.std.specs.Prelude.{◌⊎◌, ◌&&◌, Bool, List, Option, Some, None, Ok, Err}
 use Rattle.std.specs.List.{AllByRecursion}
 use Rattle.std.specs.FinMap.{get, get-empty}
 use Rattle.std.specs.Ordering.{nat_cmp}
@@ -12,21 +12,20 @@ use Rattle.cache_changes.specs.Changes.{stored_key, Write, Change, Changes, begi
 use Rattle.cache_changes.specs.Uses.{admissions}
 use Rattle.cache_changes.specs.Writes.{lands, body_now, IsInFlight}
 use Rattle.tier_model.specs.declared.event.Action.{Action}
-use Rattle.tier_model.specs.declared.event.Action.TheVariants.{Open, LookUp, Poll, Begin, Piece, Finish, Read, Drop, Purge, Put}
+use Rattle.tier_model.specs.declared.event.Action.TheVariants.{LookUp, Begin, Piece, Finish, Drop, Purge, Put}
 use Rattle.tier_model.specs.declared.event.Answer.{Answer}
 use Rattle.tier_model.specs.declared.event.Answer.TheVariants.{Found, Begun, Written, Purged, Finished}
-use Rattle.tier_model.specs.declared.event.Answer.TheVariants as answer
 use Rattle.tier_model.specs.declared.event.TierFault.{TierFault}
 use Rattle.tier_model.specs.declared.event.TierFault.TheVariants.{WriteRemoved, WrongPhase}
 use Rattle.tier_model.specs.Keys.{Entry, entry_of}
 use Rattle.tier_model.specs.Calls.{Call, History, Outcome, extended, done_of, finished_by, opened_for}
-use Rattle.tier_model.specs.Histories.{Kept, Opening, goes, settles, stores, clears, put_changes, hit_changes, look_changes, is_landing, begun_by, write_after, write_held, begin_changes, piece_changes, finished_of, settles_back, finish_changes, drop_changes, changes_in, changes_of, writes_begun, write_of}
+use Rattle.tier_model.specs.Histories.{Kept, Opening, goes, settles, stores, clears, put_changes, hit_changes, look_changes, is_landing, begun_by, write_held, begin_changes}
+use Rattle.tier_model.specs.Histories.{piece_changes, finished_of, settles_back, finish_changes, drop_changes, changes_of, writes_begun, write_of}
 use Rattle.tier_model.specs.Headline.{IsRight, BeginsRight, FinishIsRight}
 use Rattle.tier_model.specs.Rows.{FinishedBody}
-use Rattle.tier_model.specs.State.{Phase, Request, State}
+use Rattle.tier_model.specs.State.{Phase, Request}
 use Rattle.tier_model.specs.Checks.{can_begin, unless, refusal}
-use Rattle.tier_model.specs.Step.{AllowsBy, Allows}
-use Rattle.tier_model.specs.After.{after}
+use Rattle.tier_model.specs.Step.{AllowsBy}
 use Rattle.tier_model.specs.Past.{state_of, IsLawful}
 use Rattle.tier_model.proofs.CallLaws.{Inside, call_at}
 use Rattle.tier_model.proofs.LandLaws.{Spares}
@@ -46,7 +45,8 @@ begins_none _ = true
 flown : (w : Write Kept) (c : Change Kept) (before : Changes Kept) → IsInFlight w (c ∷ before) → (c ≡ begins w) ⊎ (IsInFlight w before × (lands w.number c ≡ false))
 flown w c before f = by_since f.since f.before f.split f.flies
   where
-    by_since : (since b : Changes Kept) → c ∷ before ≡ since ++ begins w ∷ b → AllByRecursion (λ x. lands w.number x ≡ false) since → (c ≡ begins w) ⊎ (IsInFlight w before × (lands w.number c ≡ false))
+    by_since : (since b : Changes Kept) → c ∷ before ≡ since ++ begins w ∷ b → AllByRecursion (λ x. lands w.number x ≡ false) since
+        → (c ≡ begins w) ⊎ (IsInFlight w before × (lands w.number c ≡ false))
     by_since [] b e flies = inl cc
     by_since (x ∷ since) b e flies =
         let same : c ≡ x = cc in
@@ -54,7 +54,8 @@ flown w c before f = by_since f.since f.before f.split f.flies
         inr (record { since = since; before = b; split = rest; flies = flies.1 }, ap (lands w.number) same ∙ flies.0)
 
 -- through changes that begin none
-flown_all : (w : Write Kept) (cs : List (Change Kept)) (changes : Changes Kept) → AllByRecursion (λ c. begins_none c ≡ true) cs → IsInFlight w (extended changes cs) → IsInFlight w changes × AllByRecursion (Spares w.number) cs
+flown_all : (w : Write Kept) (cs : List (Change Kept)) (changes : Changes Kept) → AllByRecursion (λ c. begins_none c ≡ true) cs → IsInFlight w (extended changes cs)
+    → IsInFlight w changes × AllByRecursion (Spares w.number) cs
 flown_all w [] changes none f = (f, tt)
 flown_all w (c ∷ cs) changes none f =
     let rest = flown_all w cs (c ∷ changes) none.1 f in
@@ -111,7 +112,8 @@ drop_none None = tt
 drop_none (Some w) = (refl, tt)
 
 -- a write that a put stores is in flight no more
-stored_flown : (w : Write Kept) (n : ℕ) (b : FinishedBody) (es : List CacheEntryKey) (more : List (Change Kept)) (changes : Changes Kept) → BeginNone more → IsInFlight w (extended changes (stores n b es ++ more)) → IsInFlight w changes
+stored_flown : (w : Write Kept) (n : ℕ) (b : FinishedBody) (es : List CacheEntryKey) (more : List (Change Kept)) (changes : Changes Kept) → BeginNone more
+    → IsInFlight w (extended changes (stores n b es ++ more)) → IsInFlight w changes
 stored_flown w n b es more changes none f =
     let x = flown_all w ((appends n b.body.bytes ∷ finishes (write_of n b) ∷ settles b es) ++ more) (begins (write_of n b) ∷ changes) (refl, (refl, (refl, both_none (goes es) more (goes_none es) none))) f in
     elim (flown w (begins (write_of n b)) changes x.0) [
@@ -154,7 +156,8 @@ none_flies w (r ∷ rows) f = elim (flown w _ (admissions rows) f) [
 ]
 
 -- a finish that ends a flight lands its write
-finish_lands : (w : Write Kept) (x : Opening) (o : Outcome) (before : Changes Kept) → FinishIsRight x.settings (Some w) o before → is_landing o ≡ true → AllByRecursion (Spares w.number) (finish_changes (Some w) o before) → ⊥
+finish_lands : (w : Write Kept) (x : Opening) (o : Outcome) (before : Changes Kept) → FinishIsRight x.settings (Some w) o before → is_landing o ≡ true
+    → AllByRecursion (Spares w.number) (finish_changes (Some w) o before) → ⊥
 finish_lands w x (Ok (Finished told es)) before right lands spares = let clash : true ≡ false = sym (eq-eqb w.number w.number refl) ∙ spares.0 in absurd cc
 finish_lands w x (Ok _) before right lands spares = right
 finish_lands w x (Err WriteRemoved) before right lands spares = let clash : true ≡ false = sym (eq-eqb w.number w.number refl) ∙ spares.0 in absurd cc
@@ -193,7 +196,8 @@ module _ (start : Opening) where
         let x = owned w all.0 in
         (x.0, by_one x.0 x.1 all.1 (r == x.0) refl)
       where
-        by_landing : (j : ℕ) → write_held start j h ≡ Some w → write_held start r h ≡ Some w → AllByRecursion (Spares w.number) (finish_changes (write_held start r h) o (changes_of start h)) → (v : Bool) → is_landing o ≡ v
+        by_landing : (j : ℕ) → write_held start j h ≡ Some w → write_held start r h ≡ Some w
+            → AllByRecursion (Spares w.number) (finish_changes (write_held start r h) o (changes_of start h)) → (v : Bool) → is_landing o ≡ v
             → cond (true && v) None (write_held start j h) ≡ Some w
         by_landing j e held spares true lands =
             absurd (finish_lands w start o (changes_of start h) (subst (λ (y : Option (Write Kept)). FinishIsRight start.settings y o (changes_of start h)) held right) lands
@@ -211,7 +215,8 @@ module _ (start : Opening) where
         let x = owned w all.0 in
         (x.0, by_one x.0 x.1 all.1 (r == x.0) refl)
       where
-        by_one : (j : ℕ) → write_held start j h ≡ Some w → AllByRecursion (Spares w.number) (drop_changes (write_held start r h)) → (v : Bool) → (r == j) ≡ v → cond v None (write_held start j h) ≡ Some w
+        by_one : (j : ℕ) → write_held start j h ≡ Some w → AllByRecursion (Spares w.number) (drop_changes (write_held start r h)) → (v : Bool) → (r == j) ≡ v
+            → cond v None (write_held start j h) ≡ Some w
         by_one j e spares true is =
             let held : write_held start r h ≡ Some w = ap (λ (k : ℕ). write_held start k h) (eqb-true r j is) ∙ e in
             let left : AllByRecursion (Spares w.number) (drop_changes (Some w)) = subst (λ (y : Option (Write Kept)). AllByRecursion (Spares w.number) (drop_changes y)) held spares in

@@ -51,7 +51,8 @@ module _ (s : State) (action : Action) (o : Outcome) (changes : Changes) (k : St
     pub ends : (id : ℕ) → grip_at s id ≡ grips true n k → is_end_of_permit id action o ≡ false
     pub aged : (id : ℕ) (since before : History) → AreOpen s k (since ++ before) → IsCore s changes k id n (λ r. last_given r since) → is_aged_poll k action o since before ≡ false
 
-module _ (s new : State) (t : MomentValue) (action : Action) (o : Outcome) (changes : Changes) (x : Granted s.lock (grip_at s) (hold_at s) changes) (sound : IsSound s.lock) (k : StoredKey) (n : ℕ) where
+module _ (s new : State) (t : MomentValue) (action : Action) (o : Outcome) (changes : Changes) (x : Granted s.lock (grip_at s) (hold_at s) changes) (sound : IsSound s.lock)
+    (k : StoredKey) (n : ℕ) where
   abbrev pub Back : Type 0
   Back = Begins s action o changes k n ⊎ Stays s action o changes k n
 
@@ -72,7 +73,8 @@ module _ (s new : State) (t : MomentValue) (action : Action) (o : Outcome) (chan
   stays_given : (r : ℕ) (what : LockGiven) → SaysGiven r what action o → core_of k changes ≡ Some n → last_status n changes ≡ Waiting → Back
   stays_given r what says core waiting = inr (record { core = core; waiting = waiting; ends = λ id e. says.ends id; aged = λ id since before opens c. says.aged k since before })
 
-  by_given : (r : ℕ) (q : Request) (stale : Bool) → get s.requests r ≡ Some q → SaysGiven r lock.Write action o → (v : Bool) → same_key k (key_for q) ≡ v → cond v (Some s.lock.next) (core_of k changes) ≡ Some n
+  by_given : (r : ℕ) (q : Request) (stale : Bool) → get s.requests r ≡ Some q → SaysGiven r lock.Write action o → (v : Bool) → same_key k (key_for q) ≡ v
+      → cond v (Some s.lock.next) (core_of k changes) ≡ Some n
       → cond (n == s.lock.next) Waiting (last_status n changes) ≡ Waiting → Back
   by_given r q stale there says true is core waiting = inl (record {
     id = r;
@@ -98,7 +100,8 @@ module _ (s new : State) (t : MomentValue) (action : Action) (o : Outcome) (chan
 
   module _ (r m : ℕ) (key : StoredKey) (over : Bool) (outcome : LockStatus) (was : grip_at s r ≡ grips false m key) (act : action ≡ Poll r) (out : o ≡ Ok (Waited (Some outcome))) where
     -- one that is told so waits for another core, or under another key
-    aged_apart : (outcome ≡ AgeTimeout → (m == n) ≡ false) → (id : ℕ) (since before : History) → AreOpen s k (since ++ before) → IsCore s changes k id n (λ r. last_given r since) → (st : LockStatus) → outcome ≡ st
+    aged_apart : (outcome ≡ AgeTimeout → (m == n) ≡ false) → (id : ℕ) (since before : History) → AreOpen s k (since ++ before) → IsCore s changes k id n (λ r. last_given r since)
+        → (st : LockStatus) → outcome ≡ st
         → is_aged_poll k (Poll r) (Ok (Waited (Some st))) since before ≡ false
     aged_apart apart id since before opens c AgeTimeout is = by_key (same_bytes key k) refl
       where

@@ -57,7 +57,8 @@ module _ (start : Opening) where
 
   -- ---- a permit that waits by the answers has a core that waits
 
-  module _ (k : StoredKey) (id : ℕ) (entry : Entry) (call : Call) (before : History) (l : IsLawful start (call ∷ before)) (gives_it : gives_permit id call ≡ true) (of_entry : opened_for id before ≡ Some entry)
+  module _ (k : StoredKey) (id : ℕ) (entry : Entry) (call : Call) (before : History) (l : IsLawful start (call ∷ before)) (gives_it : gives_permit id call ≡ true)
+      (of_entry : opened_for id before ≡ Some entry)
       (of_key : same_bytes (stored_key entry) k ≡ true) where
     abbrev s : State
     s = state_of start before
@@ -119,8 +120,10 @@ module _ (start : Opening) where
     given_core : HasCore k id (λ r. lock.None) (call ∷ before)
     given_core = by_effect (lock_changes s call) (effect-lawful start call before (LocksFit-lawful start before l.1) l.0)
 
-  waiting_core : (k : StoredKey) (id : ℕ) (entry : Entry) (since : History) (call : Call) (before : History) → IsLawful start (since ++ call ∷ before) → gives_permit id call ≡ true → opened_for id before ≡ Some entry
-      → same_bytes (stored_key entry) k ≡ true → AllByRecursion (λ c. ends_permit id c ≡ false) since → AreTimely k since (call ∷ before) → HasCore k id (λ r. last_given r since) (since ++ call ∷ before)
+  waiting_core : (k : StoredKey) (id : ℕ) (entry : Entry) (since : History) (call : Call) (before : History) → IsLawful start (since ++ call ∷ before) → gives_permit id call ≡ true
+      → opened_for id before ≡ Some entry
+      → same_bytes (stored_key entry) k ≡ true → AllByRecursion (λ c. ends_permit id c ≡ false) since → AreTimely k since (call ∷ before)
+      → HasCore k id (λ r. last_given r since) (since ++ call ∷ before)
   waiting_core k id entry [] call before l gives_it of_entry of_key held timely = given_core k id entry call before l gives_it of_entry of_key
   waiting_core k id entry (c ∷ since) call before l gives_it of_entry of_key held timely =
       let x = waiting_core k id entry since call before l.1 gives_it of_entry of_key held.1 timely.1 in

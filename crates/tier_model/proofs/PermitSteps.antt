@@ -34,7 +34,8 @@ pub record IsCore (s : State) (changes : Changes) (k : StoredKey) (id n : ℕ) (
 pub polled_given : (id r : ℕ) (outcome : Option LockStatus) (action : Action) (o : Outcome) (old : LockGiven) → action ≡ Poll r → o ≡ Ok (Waited outcome) → given_after id action o old ≡ old
 polled_given id r outcome action o old act out = ap (λ (a : Action). given_after id a o old) act ∙ ap (λ (x : Outcome). given_after id (Poll r) x old) out
 
-module _ (s new : State) (t : MomentValue) (action : Action) (o : Outcome) (changes : Changes) (x : Granted s.lock (grip_at s) (hold_at s) changes) (sound : IsSound s.lock) (k : StoredKey) (id n : ℕ) where
+module _ (s new : State) (t : MomentValue) (action : Action) (o : Outcome) (changes : Changes) (x : Granted s.lock (grip_at s) (hold_at s) changes) (sound : IsSound s.lock)
+    (k : StoredKey) (id n : ℕ) where
   -- a permit of another key alone can be given
   pub other_key : (key : StoredKey) → core_of k changes ≡ Some n → last_status n changes ≡ Waiting → to_wait_for key s.lock ≡ None → same_key k key ≡ false
   other_key key core waiting none = differ-key k key (λ e.
@@ -102,7 +103,8 @@ module _ (s new : State) (t : MomentValue) (action : Action) (o : Outcome) (chan
           (λ m e. let clash : true ≡ false = ap by_permit e in absurd cc);
     }
 
-    pub by_lent : (r m : ℕ) (key : StoredKey) → Moves (grip_at s) (grip_at new) (hold_at s) (hold_at new) r free (grips false m key) → to_wait_for key s.lock ≡ Some m → SaysGiven r lock.Read action o → Next (lends m ∷ [])
+    pub by_lent : (r m : ℕ) (key : StoredKey) → Moves (grip_at s) (grip_at new) (hold_at s) (hold_at new) r free (grips false m key) → to_wait_for key s.lock ≡ Some m
+        → SaysGiven r lock.Read action o → Next (lends m ∷ [])
     by_lent r m key moves there says = record {
       core = c.core;
       waiting = c.waiting;

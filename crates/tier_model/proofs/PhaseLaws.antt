@@ -4,7 +4,6 @@ use Rattle.std.specs.Prelude.{Bool, Option, Some, None}
 use Rattle.cache_words.specs.Time.{MomentValue}
 use Rattle.cache_lock.specs.Answers.{to_wait_for}
 use Rattle.cache_lock.specs.declared.status.LockStatus.{LockStatus}
-use Rattle.tier_model.specs.declared.event.Answer.{Answer}
 use Rattle.tier_model.specs.declared.event.LockGiven.{LockGiven}
 use Rattle.tier_model.specs.declared.event.LockGiven.TheVariants as lock
 use Rattle.tier_model.specs.Response.{Judged, kept}
@@ -15,7 +14,7 @@ use Rattle.tier_model.specs.State.{Phase, cache_key, hit, stale, miss, begun, di
 use Rattle.tier_model.specs.Checks.{can_look_up, can_begin, look_refusal}
 use Rattle.tier_model.specs.Answers.{key_for, asks_now, given_if, lock_given, finds_fresh}
 use Rattle.tier_model.specs.After.{held_of, phase_of, looked, after_wait}
-use Rattle.tier_model.proofs.CallLaws.{begin_turn, land_turn, read_turn}
+use Rattle.tier_model.proofs.CallLaws.{begin_turn, land_turn}
 use Rattle.tier_model.proofs.TurnLaws.{Turns}
 use Rattle.tier_model.proofs.HoldSteps.{WaitsWell, look-passed}
 
@@ -45,7 +44,8 @@ module _ (s : State) (t : MomentValue) where
   look_waits : (q : Request) (l : Look) → look_refusal q ≡ None → WaitsWell (looked t q l s.lock)
   look_waits q l passes n first e = by_given (asks_now t q l) (to_wait_for (key_for q) s.lock) refl e (look-passed q passes)
     where
-      by_given : (v : Bool) (core : Option ℕ) → lock_given t q l s.lock ≡ given_if v core → held_of (given_if v core) core s.lock q.held ≡ waits n first → (can_look_up q.phase ≡ true) × (q.held ≡ nothing)
+      by_given : (v : Bool) (core : Option ℕ) → lock_given t q l s.lock ≡ given_if v core → held_of (given_if v core) core s.lock q.held ≡ waits n first
+          → (can_look_up q.phase ≡ true) × (q.held ≡ nothing)
           → can_begin (looked t q l s.lock).phase (looked t q l s.lock).gave_read ≡ false
       by_given false core is held p = let clash : nothing ≡ waits n first = sym p.1 ∙ held in absurd cc
       by_given true None is held p = absurd cc
@@ -54,7 +54,8 @@ module _ (s : State) (t : MomentValue) where
   wait_waits : (q : Request) (outcome : Option LockStatus) → WaitsWell q → WaitsWell (after_wait t outcome q.held q)
   wait_waits q outcome fits n first e = by_held outcome q.held refl e
     where
-      by_held : (outcome : Option LockStatus) (held : Held) → q.held ≡ held → (after_wait t outcome held q).held ≡ waits n first → can_begin (after_wait t outcome held q).phase (after_wait t outcome held q).gave_read ≡ false
+      by_held : (outcome : Option LockStatus) (held : Held) → q.held ≡ held → (after_wait t outcome held q).held ≡ waits n first
+          → can_begin (after_wait t outcome held q).phase (after_wait t outcome held q).gave_read ≡ false
       by_held None (waits m f) is e = fits m f is
       by_held (Some x) (waits m f) is e = absurd cc
       by_held None (permit m) is e = fits n first e

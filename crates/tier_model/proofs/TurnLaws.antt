@@ -49,7 +49,8 @@ module _ (s : State) (t : MomentValue) (P : Request → Type 0) (turns : Turns s
       let one : p.0 ≡ q = cc in
       subst (λ (y : Request). check y ≡ None) one p.2
 
-  answer_turned : (action : Action) (j : Option Judged) (a : Answer) (id : ℕ) → is_named id (named_by action) ≡ true → refusal s action ≡ None → AllOf P (get s.requests id) → AllOf P (turn s t action j (Ok a) (get s.requests id))
+  answer_turned : (action : Action) (j : Option Judged) (a : Answer) (id : ℕ) → is_named id (named_by action) ≡ true → refusal s action ≡ None → AllOf P (get s.requests id)
+      → AllOf P (turn s t action j (Ok a) (get s.requests id))
   answer_turned (Open r key asks) j a id e n all = turns.opens (entry_of key) asks
   answer_turned (LookUp r) j a id e n all =
       mapped (λ q. looked t q (look_for q s.shelf) s.lock) (get s.requests id) all

@@ -82,7 +82,8 @@ module _ (start : Opening) where
   held_from id new _ _ old v e = inr e
 
   -- a write that stays is not the one that lands
-  survivor : (id r : ℕ) (new : Option (Write Kept)) (action : Action) (o : Outcome) (old : Option (Write Kept)) (w : Write Kept) → write_after id new action o old ≡ Some w → lander action o ≡ Some r → (r == id) ≡ false
+  survivor : (id r : ℕ) (new : Option (Write Kept)) (action : Action) (o : Outcome) (old : Option (Write Kept)) (w : Write Kept) → write_after id new action o old ≡ Some w
+      → lander action o ≡ Some r → (r == id) ≡ false
   survivor id r new (Finish x) o old w e l = by_landing (is_landing o) e l
     where
       by_test : (t : Bool) → (x == id) ≡ t → cond (t && true) None old ≡ Some w → x ≡ r → (r == id) ≡ false

@@ -50,7 +50,7 @@ with_request id q s = record s { requests = insert s.requests id q }
 -- a request that was just opened
 abbrev pub opened_request : Option DurationValue → Entry → Bool → Request
 opened_request wait entry asks =
-    record { entry = alone entry; asks = asks; wait = wait; phase = cache_key; held = nothing; waited = record { seconds = 0; nanoseconds = 0 }; gave_read = false; write = None; reader = closed }
+    record { entry = alone entry; asks = asks; wait = wait; phase = cache_key; held = nothing; waited = None; gave_read = false; write = None; reader = closed }
 
 -- a count that stops at 2^64 - 1
 abbrev pub counted : ℕ → ℕ → ℕ
@@ -169,8 +169,8 @@ after_wait t outcome _ q = q
 abbrev pub writing : ℕ → Request → Request
 writing n q = record q { phase = begun; held = nothing; write = Some n; reader = streaming n 0 }
 
--- the state after a begin with a head that is kept, and with one that isn't. The meta is seen as that of a new response: a store in which a
--- write begun from something stale goes back to the moment of that is seen without it, as no answer shows it
+-- the state after a begin with a head that is kept, and with one that isn't. The meta is that of a new response. Where a store lets a write
+-- that begins from something stale keep the provenance of that, the state doesn't tell of it, as no answer shows it
 abbrev pub after_begin : State → ℕ → Request → Option Judged → State
 after_begin s id q (Some (kept meta)) = record s {
   shelf = turned q.reader (streaming s.shelf.writes 0) (shelf.begun (key_for q) meta s.shelf);

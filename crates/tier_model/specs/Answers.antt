@@ -1,6 +1,6 @@
 -- The rows of single events: what each may answer in a state, and its faults.
-use Rattle.std.specs.Prelude.{◌≡◌, ◌<◌, ℕ, ◌-◌, ◌^◌, Bool, true, false, ◌&&◌, not, List, [], ◌∷◌, length, if◌then◌else◌, Option, Some, None, ◌⊎◌}
-use Rattle.cache_words.specs.Time.{MomentValue, DurationValue, at_most, at_least, difference}
+use Rattle.std.specs.Prelude.{◌≡◌, ◌<◌, ℕ, ◌-◌, ◌^◌, Bool, true, false, ◌&&◌, not, List, [], ◌∷◌, length, if◌then◌else◌, Option, Some, None, ◌⊎◌, unwrap_or}
+use Rattle.cache_words.specs.Time.{MomentValue, DurationValue, span_of, at_most, at_least, difference}
 use Rattle.cache_heads.specs.declared.meta.CacheMeta.{CacheMeta}
 use Rattle.cache_entries.specs.declared.entry.CacheEntryKey.{CacheEntryKey}
 use Rattle.cache_entries.specs.Entry.{key_of}
@@ -81,9 +81,9 @@ ended_by (Some wait.AgeTimeout) ended over = Some status.AgeTimeout
 ended_by _ ended over = if over then Some status.WaitTimeout else None
 
 -- this wait took what earlier ones left of the longest wait
-abbrev pub is_past : Option DurationValue → DurationValue → DurationValue → Bool
+abbrev pub is_past : Option DurationValue → Option DurationValue → DurationValue → Bool
 is_past None waited now = false
-is_past (Some longest) waited now = at_least now (difference longest waited)
+is_past (Some longest) waited now = at_least now (difference longest (unwrap_or waited (span_of 0)))
 
 -- what a poll tells of a wait for core n
 abbrev pub polled : LockState → MomentValue → Request → Held → Option LockStatus

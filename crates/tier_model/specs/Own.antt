@@ -1,6 +1,6 @@
 -- What a request's own calls say of it.
 use Rattle.std.specs.Prelude.{ℕ, ◌==◌, Bool, false, [], ◌∷◌, if◌then◌else◌, Option, Some, None, unwrap_or, Ok}
-use Rattle.cache_words.specs.Time.{MomentValue, DurationValue, span_of, greatest, elapsed, sum_of}
+use Rattle.cache_words.specs.Time.{MomentValue, DurationValue, greatest, elapsed, sum_of}
 use Rattle.cache_lock.specs.declared.status.LockStatus.{LockStatus}
 use Rattle.tier_model.specs.declared.event.Action.{Action}
 use Rattle.tier_model.specs.declared.event.Action.TheVariants.{Open, LookUp, Poll, Begin, Read}
@@ -28,19 +28,19 @@ pub data Reads : Type 0 where
   -- a write as it comes
   as_it_comes : Reads
 
--- whether it asks for the lock; its phase; what it holds of the lock; how long all its waits that ended took; whether its last look-up gave it
+-- whether it asks for the lock; its phase; what it holds of the lock; how long all its waits that ended took, if some did; whether its last look-up gave it
 -- a wait; what it has to read
 pub record Own : Type 0 where
   pub asks : Bool
   pub phase : Phase
   pub hold : Hold
-  pub waited : DurationValue
+  pub waited : Option DurationValue
   pub gave_read : Bool
   pub reads : Reads
 
 -- just opened
 abbrev pub own_opened : Bool → Own
-own_opened asks = record { asks = asks; phase = cache_key; hold = no_lock; waited = span_of 0; gave_read = false; reads = no_reader }
+own_opened asks = record { asks = asks; phase = cache_key; hold = no_lock; waited = None; gave_read = false; reads = no_reader }
 
 abbrev pub hold_given : LockGiven → Hold → Hold
 hold_given lock.None old = old
@@ -61,9 +61,10 @@ reads_found complete = if complete then all_of_body else as_it_comes
 abbrev pub own_looked : Phase → Reads → LockGiven → Own → Own
 own_looked phase reads given o = record o { phase = phase; hold = hold_given given o.hold; gave_read = is_wait given; reads = reads }
 
--- the sum of two times, which stops at the greatest
-abbrev pub in_all : DurationValue → DurationValue → DurationValue
-in_all a b = unwrap_or (sum_of a b) greatest
+-- a further time after those before, if there were some; the sum stops at the greatest
+abbrev pub in_all : Option DurationValue → DurationValue → Option DurationValue
+in_all None further = Some further
+in_all (Some before) further = Some (unwrap_or (sum_of before further) greatest)
 
 -- since the first poll
 abbrev pub time_waited : Option MomentValue → MomentValue → DurationValue

@@ -50,14 +50,14 @@ pub data Reader : Type 0 where
   streaming : ℕ → ℕ → Reader
 
 -- an open request: the entry for which it was opened, whether it asks for the lock, and the longest that it waits in all; its phase; what it
--- holds of the lock, how long all its waits that ended took, and whether its last look-up gave it a wait; the number of its write; its reader
+-- holds of the lock, how long all its waits that ended took, if some did, and whether its last look-up gave it a wait; the number of its write; its reader
 pub record Request : Type 0 where
   pub entry : CacheEntryKey
   pub asks : Bool
   pub wait : Option DurationValue
   pub phase : Phase
   pub held : Held
-  pub waited : DurationValue
+  pub waited : Option DurationValue
   pub gave_read : Bool
   pub write : Option ℕ
   pub reader : Reader
