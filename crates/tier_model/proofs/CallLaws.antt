@@ -26,7 +26,8 @@ use Rattle.tier_model.specs.Rows.{FinishedBody}
 use Rattle.tier_model.specs.Own.{Own, own_opened, own_looked, own_polled, own_begun, phase_found, phase_absent, reads_found, no_reader, as_it_comes, reads_on, own_after}
 use Rattle.tier_model.specs.State.{begun, disabled, nothing, closed, Request, State}
 use Rattle.tier_model.specs.Answers.{look_for, finishing}
-use Rattle.tier_model.specs.After.{by_request, on_request, with_request, opened_request, looked, after_look, after_wait, after_begin, writing, after_flight, on_write, pieced, after_put, after_finish, finished_state, taken_back, undone, after_purge, without_request, read_on, answered, refused, after_outcome, after}
+use Rattle.tier_model.specs.After.{by_request, on_request, with_request, opened_request, looked, after_look, after_wait, after_begin, writing, after_flight, on_write, pieced, after_put}
+use Rattle.tier_model.specs.After.{after_finish, finished_state, taken_back, undone, after_purge, without_request, read_on, answered, refused, after_outcome, after}
 
 -- a call by its parts: a reading of its response or head, whether a write began, and whether a lock was given
 pub record Inside : Type 0 where

@@ -33,16 +33,20 @@ use Rattle.tier_model.specs.Shelf.{Readers}
 use Rattle.tier_model.specs.Checks.{refusal}
 use Rattle.tier_model.specs.Step.{AllowsBy, Allows, BeginsWrite, may_begin, tells_of_write}
 use Rattle.tier_model.specs.After.{after}
-use Rattle.tier_model.specs.Past.{in_shards, state_of, IsLawful, count_of, streamers, IsRequestOf, MatchesHistory, HasPast, AreTaken, CarriesHeadline}
+use Rattle.tier_model.specs.Past.{in_shards, state_of, IsLawful, count_of, streamers, holders, IsRequestOf, MatchesHistory, HasPast, AreTaken, CarriesHeadline}
 use Rattle.tier_model.proofs.RowSteps.{in_shards-are}
 use Rattle.tier_model.proofs.ShownLaws.{is_held, shows}
-use Rattle.tier_model.proofs.WriteLaws.{HoldsWrites-fit}
+use Rattle.tier_model.proofs.WriteLaws.{flies-of}
+use Rattle.tier_model.proofs.GrantedLaws.{LocksFit-lawful}
+use Rattle.tier_model.proofs.OwnedLaws.{Owned-lawful}
 use Rattle.tier_model.proofs.OpenLaws.{begun-told}
 use Rattle.tier_model.proofs.OwnLaws.{OpenFits}
 use Rattle.tier_model.proofs.HeadlineLaws.{IsRight-allowed}
 use Rattle.tier_model.proofs.LockLaws.{lock-is}
+use Rattle.tier_model.proofs.LockedLaws.{AreLockedRight-lawful}
 use Rattle.tier_model.proofs.ReaderLaws.{CountFits}
-use Rattle.tier_model.proofs.ReadLaws.{ReadsFit, ReadIsRight-allowed, readable_is}
+use Rattle.tier_model.proofs.ReadLaws.{ReadsFit, readable_is}
+use Rattle.tier_model.proofs.ReadEvents.{ReadIsRight-allowed}
 use Rattle.tier_model.specs.Reads.{AreReadRight}
 use Rattle.tier_model.proofs.HeldLaws.{all-held, sums}
 use Rattle.tier_model.proofs.StandLaws.{Stands, opened_request, Stands-lawful}
@@ -64,7 +68,8 @@ AreReadRight-lawful start (c ∷ h) l =
     (ReadIsRight-allowed start (state_of start h) h past.holds past.count (opened_request start (state_of start h) h past) past.counted past.reads c l.0, AreReadRight-lawful start h l.1)
 
 -- a write began in each call that tells of one
-counted_put : (s : State) (may v : Bool) (b : Option FinishedBody) (o : Outcome) → BeginsWrite s may (cond (is_some b) (has_stored o) (is_begun o)) v → (x : FinishedBody) → b ≡ Some x → has_stored o ≡ true → v ≡ true
+counted_put : (s : State) (may v : Bool) (b : Option FinishedBody) (o : Outcome) → BeginsWrite s may (cond (is_some b) (has_stored o) (is_begun o)) v → (x : FinishedBody) → b ≡ Some x
+    → has_stored o ≡ true → v ≡ true
 counted_put s may v b o begins x e stored = begun-told s may (cond (is_some b) (has_stored o) (is_begun o)) v begins (ap (λ (y : Option FinishedBody). cond (is_some y) (has_stored o) (is_begun o)) e ∙ stored)
 
 stored_not_begun : (o : Outcome) → is_begun o ≡ true → has_stored o ≡ false
@@ -73,7 +78,8 @@ stored_not_begun (Ok _) e = absurd cc
 stored_not_begun (Err f) e = absurd cc
 
 -- a begin finishes no body
-begun_alone : (s : State) (t : MomentValue) (action : Action) (c : Call) (o : Outcome) (r : Option TierFault) → refusal s action ≡ r → AllowsBy r s t action c o → is_begun o ≡ true → finished_in action (read_by c) ≡ None
+begun_alone : (s : State) (t : MomentValue) (action : Action) (c : Call) (o : Outcome) (r : Option TierFault) → refusal s action ≡ r → AllowsBy r s t action c o → is_begun o ≡ true
+    → finished_in action (read_by c) ≡ None
 begun_alone s t (Put key pieces) c (Ok Begun) (Some f) n p e = absurd cc
 begun_alone s t (Put key pieces) c (Ok Begun) None n p e = not_put (finished_by c) (read_by c) p
   where
@@ -112,6 +118,7 @@ Headline-lawful start h l =
       numbers = numbers-lawful start h l;
       answers = AreRight-lawful start h l;
       reads = AreReadRight-lawful start h l;
+      locks = AreLockedRight-lawful start h l;
       within = subst (λ (x : ℕ). AreWithin x start.settings.watermark (changes_of start h)) past.made.limit
           (subst (λ (x : Option ℕ). AreWithin (state_of start h).managed.limit x (changes_of start h)) past.made.watermark past.holds.within);
       tracked = bodies-tracked (changes_of start h) past.holds.leaves.orderly past.holds.leaves.tracks past.holds.leaves.settled;
@@ -129,7 +136,8 @@ start-some : (start : Opening) (h : History) (s : State) → Stands start s h �
 start-some start h s past = subst (λ (n : ℕ). 0 < n) past.made.shards past.holds.leaves.some
 
 -- the state after a lawful history is what it says
-IsRequestOf-fits : (start : Opening) (id : ℕ) (o : Option Request) (h : History) → OpenFits start id o h → ReadsFit start id o h → MatchOption o (opened_for id h ≡ None) (λ q. IsRequestOf start id q h)
+IsRequestOf-fits : (start : Opening) (id : ℕ) (o : Option Request) (h : History) → OpenFits start id o h → ReadsFit start id o h
+    → MatchOption o (opened_for id h ≡ None) (λ q. IsRequestOf start id q h)
 IsRequestOf-fits start id None h fits reads = fits
 IsRequestOf-fits start id (Some q) h fits reads = record { key = fits.0.key; entry = fits.0.entry; own = fits.1; write = fits.0.write; reader = reads }
 
@@ -137,16 +145,21 @@ count_is : (n : ℕ) (o : Option Readers) (k : ℕ) (changes : Changes Kept) →
 count_is n None k changes fits = sym fits
 count_is n (Some r) k changes fits = fits.0
 
-MatchesHistory-lawful : (start : Opening) (s : State) (h : History) → s.lock ≡ (state_of start h).lock → Stands start s h → MatchesHistory s start h
-MatchesHistory-lawful start s h same past = record {
+some_count : (n : ℕ) (r : Readers) (k : ℕ) (changes : Changes Kept) → CountFits n (Some r) k changes → 0 < r.count
+some_count n r k changes fits = subst (λ (c : ℕ). 0 < c) (sym fits.0) fits.1
+
+MatchesHistory-lawful : (start : Opening) (s : State) (h : History) → IsLawful start h → s ≡ state_of start h → Stands start s h → MatchesHistory s start h
+MatchesHistory-lawful start s h l is past = record {
   bodies = all-held (shards_of s) (writes_begun start h) s.shelf.bodies s.shelf.flying s.managed (changes_of start h) past.holds.leaves;
   flights = past.holds.leaves.flights;
   order = (start-some start h s past, (rows_of (changes_of start h), IsOrderOfUse-rows_of (changes_of start h), subst (λ (n : ℕ). AreShardsOf n s.managed.shards (rows_of (changes_of start h))) past.made.shards past.holds.leaves.rows));
-  held = HoldsWrites-fit start h past.writes;
+  held = record { fly = flies-of start h past.writes; owned = Owned-lawful start h l; apart = past.writes.apart };
   requests = λ id. IsRequestOf-fits start id (get s.requests id) h (past.opens id) (past.reads id);
   counted = λ n. count_is n (get s.shelf.readers n) (streamers n s.requests) (changes_of start h) (past.counted n);
+  kept = λ n r e. some_count n r (streamers n s.requests) (changes_of start h) (subst (λ (o : Option Readers). CountFits n o (streamers n s.requests) (changes_of start h)) e (past.counted n));
   reading = λ id n place q e is. readable_is start s h past.holds past.count (opened_request start s h past) past.counted id q n place e is;
-  lock = same ∙ lock-is start h;
+  lock = ap (λ (x : State). x.lock) is ∙ lock-is start h;
+  named = λ n. (LocksFit-lawful start h l).granted.grants.names n ∙ ap (λ (x : State). holders n x.requests) (sym is);
   found = past.tallies.found;
   absent = past.tallies.absent;
   evicted = past.tallies.evicted;
@@ -161,7 +174,7 @@ HasPast-lawful start s h l e =
       lawful = l;
       state = e;
       headline = Headline-lawful start h l;
-      matches = subst (λ (x : State). MatchesHistory x start h) (sym e) (MatchesHistory-lawful start (state_of start h) h refl past);
+      matches = subst (λ (x : State). MatchesHistory x start h) (sym e) (MatchesHistory-lawful start (state_of start h) h l refl past);
     }
 
 -- no rows in n shards

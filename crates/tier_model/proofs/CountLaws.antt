@@ -129,7 +129,8 @@ until_count false s b = refl
 until_count true s b = refl
 
 -- and one that is taken back
-pub back_counts : (s new : State) (b : FinishedBody) (f : TierFault) → new.found ≡ s.found → new.absent ≡ s.absent → new.managed ≡ s.managed → (done_of f).stored ≡ true → Counts s (undone new (Some b) (done_of f)) (Err f)
+pub back_counts : (s new : State) (b : FinishedBody) (f : TierFault) → new.found ≡ s.found → new.absent ≡ s.absent → new.managed ≡ s.managed → (done_of f).stored ≡ true
+    → Counts s (undone new (Some b) (done_of f)) (Err f)
 back_counts s new b f g e m stored =
     subst (λ (v : Bool). Counts s (taken_back v new b (done_of f)) (Err f)) (sym stored) (record {
       found = g;
@@ -155,11 +156,13 @@ put_counts s None (Some whole.BadHead) a p = absurd p
 put_counts s None (Some whole.BeforeEpoch) a p = absurd p
 put_counts s None None a p = absurd p
 
-finish_counts : (s new : State) (b : Option FinishedBody) (a : Answer) → new.found ≡ s.found → new.absent ≡ s.absent → new.managed ≡ s.managed → MatchOption b ⊥ (λ b. IsStored s b a) → Counts s (after_put new b a) (Ok a)
+finish_counts : (s new : State) (b : Option FinishedBody) (a : Answer) → new.found ≡ s.found → new.absent ≡ s.absent → new.managed ≡ s.managed → MatchOption b ⊥ (λ b. IsStored s b a)
+    → Counts s (after_put new b a) (Ok a)
 finish_counts s new None a f e m p = absurd p
 finish_counts s new (Some b) a f e m p = stored_counts s new b a f e m p
 
-finishes_counts : (s : State) (r : ℕ) (x : Option Request) (a : Answer) → MatchOption x ⊥ (λ q. MatchOption (finishing q s.shelf) ⊥ (λ b. IsStored s b a)) → Counts s (by_request s x (λ q. finished_state s r q (Ok a))) (Ok a)
+finishes_counts : (s : State) (r : ℕ) (x : Option Request) (a : Answer) → MatchOption x ⊥ (λ q. MatchOption (finishing q s.shelf) ⊥ (λ b. IsStored s b a))
+    → Counts s (by_request s x (λ q. finished_state s r q (Ok a))) (Ok a)
 finishes_counts s r None a p = absurd p
 finishes_counts s r (Some q) a p = finish_counts s (after_flight s r q) (finishing q s.shelf) a refl refl refl p
 

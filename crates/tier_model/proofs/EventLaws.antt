@@ -19,7 +19,8 @@ use Rattle.tier_model.specs.declared.event.TierFault.TheVariants.{WrongPhase, Af
 use Rattle.tier_model.specs.Keys.{Entry, entry_of, alone, stored_key_of}
 use Rattle.tier_model.specs.Response.{Judged, kept, not_kept}
 use Rattle.tier_model.specs.Calls.{Call, History, Outcome, extended, done_of, judged_of, read_by, finished_by, is_begun, writes_after}
-use Rattle.tier_model.specs.Histories.{Kept, Opening, writes_begun, look_changes, begun_by, write_begun, is_landing, write_held, begin_changes, finished_of, settles_back, finish_changes, piece_changes, changes_of}
+use Rattle.tier_model.specs.Histories.{Kept, Opening, writes_begun, look_changes, begun_by, write_begun, is_landing, write_held, begin_changes, finished_of, settles_back, finish_changes}
+use Rattle.tier_model.specs.Histories.{piece_changes, changes_of}
 use Rattle.tier_model.specs.Rows.{FinishedBody, body_of, weight_for}
 use Rattle.tier_model.specs.declared.event.LockGiven.{LockGiven}
 use Rattle.tier_model.specs.Shelf.{InFlight, flying_at, flies_for, Look, absent, in_flight, finished, look, is_there, landed, on_flying}
@@ -27,18 +28,21 @@ use Rattle.tier_model.specs.State.{Request, State, shards_of}
 use Rattle.tier_model.specs.Checks.{refusal, unless, unless_open, piece_refusal, has_ended as ended_at}
 use Rattle.tier_model.specs.Answers.{key_for, look_for, lock_given, look_answer, IsStored, IsBeginAnswer, IsFinishFault, finishing}
 use Rattle.tier_model.specs.Step.{UseFits, IsAnswer, IsFault, AllowsBy, BeginsWrite, may_begin, tells_of_write, Allows}
-use Rattle.tier_model.specs.After.{by_request, on_request, with_request, on_write, pieced, read_on, after_wait, after_look, after_begin, after_flight, undone, after_finish, finished_state, after_purge, without_request, answered, refused, after_outcome}
+use Rattle.tier_model.specs.After.{by_request, on_request, with_request, on_write, pieced, read_on, after_wait, after_look, after_begin, after_flight, undone, after_finish, finished_state}
+use Rattle.tier_model.specs.After.{after_purge, without_request, answered, refused, after_outcome}
 use Rattle.tier_model.proofs.CallLaws.{Inside, call_at}
 use Rattle.tier_model.proofs.WriteLaws.{WritesFit, flies_on}
 use Rattle.tier_model.proofs.ChangeLaws.{more_bytes}
 use Rattle.tier_model.proofs.ShownLaws.{shows}
 use Rattle.tier_model.proofs.BoundLaws.{Keeps, keeps-used, keeps-cleared, keeps-begun, keeps-appended, keeps-ended, keeps-left}
-use Rattle.tier_model.proofs.OpenLaws.{Holds, HoldsNext, begun-told, look_finished, hit_uses, FlightAt, flight-at, IsOpen, Written, the-write, no-write, finishing-is, passed, test_passed, not_false, unrefused}
+use Rattle.tier_model.proofs.OpenLaws.{Holds, HoldsNext, begun-told, look_finished, hit_uses, FlightAt, flight-at, IsOpen, Written, the-write, no-write, finishing-is, passed, test_passed}
+use Rattle.tier_model.proofs.OpenLaws.{not_false, unrefused}
 use Rattle.tier_model.proofs.StoredLaws.{idle, put_holds, quiet_holds, put_fault_holds, finish_holds, gone_holds, back_holds, fault-stored, landing-stored, finish_check}
 
 -- ---- each event
 
-module _ (start : Opening) (s : State) (h : History) (l : Holds start s h) (count : s.shelf.writes ≡ writes_begun start h) (opened : (r : ℕ) (q : Request) → get s.requests r ≡ Some q → IsOpen start r q h) (fits : WritesFit start h) where
+module _ (start : Opening) (s : State) (h : History) (l : Holds start s h) (count : s.shelf.writes ≡ writes_begun start h)
+    (opened : (r : ℕ) (q : Request) → get s.requests r ≡ Some q → IsOpen start r q h) (fits : WritesFit start h) where
   abbrev Next : State → Call → Type 0
   Next new c = HoldsNext s (writes_begun start h) c.began new (changes_of start (c ∷ h))
 
@@ -70,7 +74,8 @@ module _ (start : Opening) (s : State) (h : History) (l : Holds start s h) (coun
   written_holds i c None r f e = rw e (still c.began)
   written_holds i c (Some q) r f e = rw e (still c.began)
 
-  begin_holds : (t : MomentValue) (i : Inside) (r : ℕ) (head : List ℕ) (q : Request) (a : Answer) (j : Option Judged) (may : Bool) → IsOpen start r q h → judged_of (call_at t (Begin r head) i (Ok a)) ≡ j → IsBeginAnswer j a
+  begin_holds : (t : MomentValue) (i : Inside) (r : ℕ) (head : List ℕ) (q : Request) (a : Answer) (j : Option Judged) (may : Bool) → IsOpen start r q h
+      → judged_of (call_at t (Begin r head) i (Ok a)) ≡ j → IsBeginAnswer j a
       → BeginsWrite s may (is_begun (Ok a)) i.began → Next (after_begin s r q j) (call_at t (Begin r head) i (Ok a))
   begin_holds t i r head q a (Some (kept meta)) may opens is p x =
       let n = writes_begun start h in
@@ -110,7 +115,8 @@ module _ (start : Opening) (s : State) (h : History) (l : Holds start s h) (coun
           (keeps-appended (shards_of s) (writes_after n i.began) s.shelf.bodies s.shelf.flying s.managed (changes_of start h) (still i.began) w flies bytes more)
           w (flies_on start w (changes_of start h) (appends w.number bytes ∷ []) (refl, tt) flies)
 
-      by_write : (o : Option ℕ) → q.write ≡ o → piece_refusal o s.shelf ≡ None → Next (record s { shelf = on_write q.write (pieced bytes last) s.shelf }) (call_at t (Piece r bytes last) i (Ok answer.Written))
+      by_write : (o : Option ℕ) → q.write ≡ o → piece_refusal o s.shelf ≡ None
+          → Next (record s { shelf = on_write q.write (pieced bytes last) s.shelf }) (call_at t (Piece r bytes last) i (Ok answer.Written))
       by_write None e p = absurd cc
       by_write (Some m) e p =
           let x = the-piece r q opens m e in
@@ -159,7 +165,8 @@ module _ (start : Opening) (s : State) (h : History) (l : Holds start s h) (coun
           rw (landed_is t i r q x, is, e, x.held)
           (finish_holds s (writes_begun start h) (changes_of start h) l x.write (key_of q.entry) x.flies x.of_key (x.of_entry ∙ opens.entry) (rs t i r q x) a i.began ((f t i r q x).alive.0 e) p)
 
-  finish_refused : (t : MomentValue) (i : Inside) (r : ℕ) (q : Request) (g : TierFault) → IsOpen start r q h → (x : Written start r q h) → IsFinishFault s (finishing q s.shelf) g → get s.requests r ≡ Some q
+  finish_refused : (t : MomentValue) (i : Inside) (r : ℕ) (q : Request) (g : TierFault) → IsOpen start r q h → (x : Written start r q h) → IsFinishFault s (finishing q s.shelf) g
+      → get s.requests r ≡ Some q
       → Next (on_request s r (λ q. finished_state s r q (Err g))) (call_at t (Finish r) i (Err g))
   finish_refused t i r q g opens x p there = by_removed (f t i r q x).flight.removed refl (subst (λ (o : Option FinishedBody). IsFinishFault s o g) is p)
     where
@@ -205,7 +212,8 @@ module _ (start : Opening) (s : State) (h : History) (l : Holds start s h) (coun
       by_write (Some m) e there = the-write start r q h opens fits m e
 
   answer_holds : (t : MomentValue) (i : Inside) (action : Action) (a : Answer) → refusal s action ≡ None → IsAnswer s t action (call_at t action i (Ok a)) a
-      → BeginsWrite s (may_begin s (call_at t action i (Ok a))) (tells_of_write (call_at t action i (Ok a))) i.began → Next (answered s t action (call_at t action i (Ok a)) a) (call_at t action i (Ok a))
+      → BeginsWrite s (may_begin s (call_at t action i (Ok a))) (tells_of_write (call_at t action i (Ok a))) i.began
+      → Next (answered s t action (call_at t action i (Ok a)) a) (call_at t action i (Ok a))
   answer_holds t i (Open r key asks) a n p x = still i.began
   answer_holds t i (LookUp r) a n p x = request_holds t i r a (get s.requests r) refl p
   answer_holds t i (Poll r) (Waited outcome) n p x = written_holds i (call_at t (Poll r) i (Ok (Waited outcome))) (get s.requests r) r (λ q. after_wait t outcome q.held q) refl
@@ -241,14 +249,16 @@ module _ (start : Opening) (s : State) (h : History) (l : Holds start s h) (coun
       quiet_finish_holds t i r g (rw same (finish_check (get s.requests r) c n))
 
   put_fault : (t : MomentValue) (i : Inside) (key : CacheKeyValue) (pieces : List (List ℕ)) (g : TierFault) → IsFault s t (Put key pieces) (call_at t (Put key pieces) i (Err g)) g
-      → BeginsWrite s (may_begin s (call_at t (Put key pieces) i (Err g))) (tells_of_write (call_at t (Put key pieces) i (Err g))) i.began → Next (undone s (finished_by (call_at t (Put key pieces) i (Err g))) (done_of g)) (call_at t (Put key pieces) i (Err g))
+      → BeginsWrite s (may_begin s (call_at t (Put key pieces) i (Err g))) (tells_of_write (call_at t (Put key pieces) i (Err g))) i.began
+      → Next (undone s (finished_by (call_at t (Put key pieces) i (Err g))) (done_of g)) (call_at t (Put key pieces) i (Err g))
   put_fault t i key pieces g p x = elim p [
     | inl m ↦ quiet_holds s (writes_begun start h) (changes_of start h) l (finished_by (call_at t (Put key pieces) i (Err g))) g i.began (ap done_of m.0)
     | inr late ↦ put_fault_holds s (writes_begun start h) (changes_of start h) l (finished_by (call_at t (Put key pieces) i (Err g))) (read_by (call_at t (Put key pieces) i (Err g))) g i.began (may_begin s (call_at t (Put key pieces) i (Err g))) late x
   ]
 
   fault_holds : (t : MomentValue) (i : Inside) (action : Action) (g : TierFault) → AllowsBy (refusal s action) s t action (call_at t action i (Err g)) (Err g)
-      → BeginsWrite s (may_begin s (call_at t action i (Err g))) (tells_of_write (call_at t action i (Err g))) i.began → Next (refused s action (call_at t action i (Err g)) g) (call_at t action i (Err g))
+      → BeginsWrite s (may_begin s (call_at t action i (Err g))) (tells_of_write (call_at t action i (Err g))) i.began
+      → Next (refused s action (call_at t action i (Err g)) g) (call_at t action i (Err g))
   fault_holds t i (Finish r) g p x = finish_fault_holds t i r g (refusal s (Finish r)) refl p
   fault_holds t i (Put key pieces) g p x = put_fault t i key pieces g p x
   fault_holds t i _ g p x = still i.began

@@ -104,7 +104,8 @@ module _ (N n : ℕ) (bodies : Bodies) (fs : List InFlight) (m : Managed) (chang
       (x.write ∷ rest.0, (x.body, sym x.tells, rest.1))
 
   -- one key each
-  apart_writes : (j k : StoredKey) (ys : Rows) (ws : List (Write Kept)) → j ≡ k → ArePairs ys ws → AllByRecursion (λ c. same_bytes c.0 j ≡ false) ys → AllByRecursion (λ v. same_bytes v.key k ≡ false) ws
+  apart_writes : (j k : StoredKey) (ys : Rows) (ws : List (Write Kept)) → j ≡ k → ArePairs ys ws → AllByRecursion (λ c. same_bytes c.0 j ≡ false) ys
+      → AllByRecursion (λ v. same_bytes v.key k ≡ false) ws
   apart_writes j k [] [] e p h = tt
   apart_writes j k (b ∷ bs) (w ∷ ws) e p h = (ap (λ (x : StoredKey). same_bytes x k) (one_key b.0 w p.0) ∙ ap (same_bytes b.0) (sym e) ∙ h.0, apart_writes j k bs ws e p.2 h.1)
   apart_writes j k [] (w ∷ ws) e p h = absurd p

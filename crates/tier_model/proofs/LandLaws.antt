@@ -11,7 +11,8 @@ use Rattle.tier_model.specs.declared.event.Answer.TheVariants.{Finished}
 use Rattle.tier_model.specs.declared.event.TierFault.TheVariants.{WriteRemoved}
 use Rattle.tier_model.specs.Keys.{Entry}
 use Rattle.tier_model.specs.Calls.{Outcome, done_of}
-use Rattle.tier_model.specs.Histories.{Kept, goes, settles, stores, clears, put_changes, hit_changes, look_changes, is_landing, begin_changes, piece_changes, finished_of, settles_back, finish_changes, drop_changes}
+use Rattle.tier_model.specs.Histories.{Kept, goes, settles, stores, clears, put_changes, hit_changes, look_changes, is_landing, begin_changes, piece_changes, finished_of, settles_back}
+use Rattle.tier_model.specs.Histories.{finish_changes, drop_changes}
 use Rattle.tier_model.specs.Rows.{FinishedBody}
 
 -- ---- what lands
@@ -61,7 +62,8 @@ piece_spare n (Some w) bytes last = (refl, if_spare n last (ends w.number ∷ []
 abbrev pub IsApart : ℕ → Option (Write Kept) → Type 0
 IsApart n o = (v : Write Kept) → o ≡ Some v → (v.number == n) ≡ false
 
-pub finish_spare : (n : ℕ) (o : Option (Write Kept)) (outcome : Outcome) (before : Changes Kept) → (is_landing outcome ≡ true → IsApart n o) → AllByRecursion (Spares n) (finish_changes o outcome before)
+pub finish_spare : (n : ℕ) (o : Option (Write Kept)) (outcome : Outcome) (before : Changes Kept) → (is_landing outcome ≡ true → IsApart n o)
+    → AllByRecursion (Spares n) (finish_changes o outcome before)
 finish_spare n None outcome before apart = tt
 finish_spare n (Some w) (Ok (Finished told es)) before apart = (apart refl w refl, settles_spare n (finished_of before w) es)
 finish_spare n (Some w) (Ok _) before apart = tt

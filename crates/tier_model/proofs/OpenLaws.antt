@@ -85,7 +85,8 @@ abbrev use_of : Entry → Body → List (Change Kept)
 use_of e b = uses (alone e) (weight_for b) ∷ []
 
 -- what a hit changes: its entry is used
-pub hit_uses : (e : Entry) (b : Body) (changes : Changes Kept) → IsOrderly changes → Shows (stored_key e) b changes → hit_changes e (body_now (stored_key e) changes) changes ≡ uses (alone e) (weight_for b) ∷ []
+pub hit_uses : (e : Entry) (b : Body) (changes : Changes Kept) → IsOrderly changes → Shows (stored_key e) b changes
+    → hit_changes e (body_now (stored_key e) changes) changes ≡ uses (alone e) (weight_for b) ∷ []
 hit_uses e b changes o x =
     ap (λ (w : Option (Write Kept)). hit_changes e w changes) (body_now-of (stored_key e) changes x.write o x.body) ∙ ap (λ (p : Body). use_of e p) x.tells
 
@@ -99,7 +100,8 @@ pub record FlightAt (w : Write Kept) (fs : List InFlight) (changes : Changes Kep
   pub ended : flight.ended ≡ has_ended w.number changes
   pub alive : (flight.removed ≡ false) ↔ IsAlive w changes
 
-pub flight-at : (N n : ℕ) (bodies : Bodies) (fs : List InFlight) (m : Managed) (changes : Changes Kept) → Leaves N n bodies fs m changes → (w : Write Kept) → IsInFlight w changes → FlightAt w fs changes
+pub flight-at : (N n : ℕ) (bodies : Bodies) (fs : List InFlight) (m : Managed) (changes : Changes Kept) → Leaves N n bodies fs m changes → (w : Write Kept) → IsInFlight w changes
+    → FlightAt w fs changes
 flight-at N n bodies fs m changes l w flies =
     let known = life-flies w changes l.orderly flies in
     let there = flying_at-is w.number changes l.orderly ∙ ap (flying_of changes) known.1 in
@@ -169,6 +171,7 @@ not_false true e = absurd cc
 not_false false e = refl
 
 -- no check failed where there is an answer
-pub unrefused : (s : State) (o : Option TierFault) (t : MomentValue) (action : Action) (c : Call) (a : Answer) → refusal s action ≡ o → AllowsBy o s t action c (Ok a) → (refusal s action ≡ None) × IsAnswer s t action c a
+pub unrefused : (s : State) (o : Option TierFault) (t : MomentValue) (action : Action) (c : Call) (a : Answer) → refusal s action ≡ o → AllowsBy o s t action c (Ok a)
+    → (refusal s action ≡ None) × IsAnswer s t action c a
 unrefused s (Some g) t action c a e p = absurd cc
 unrefused s None t action c a e p = (e, p)

@@ -75,7 +75,8 @@ module _ (start : Opening) where
           by_held None is = refl
           by_held (Some w) is = absurd (subst (λ (o : Option Entry). IsWriteOf start w o (changes_of start h)) e (writes.each id w is))
 
-      look_fits : (r : ℕ) (q : Request) (l : Look) (a : Answer) → a ≡ look_answer t (lock_given t q l s.lock) l → OpenFits r (Some q) h → OpenFits r (Some (looked t q l s.lock)) (call_at t (LookUp r) i (Ok a) ∷ h)
+      look_fits : (r : ℕ) (q : Request) (l : Look) (a : Answer) → a ≡ look_answer t (lock_given t q l s.lock) l → OpenFits r (Some q) h
+          → OpenFits r (Some (looked t q l s.lock)) (call_at t (LookUp r) i (Ok a) ∷ h)
       look_fits r q l a e fits =
           subst (λ (y : Answer). OpenFits r (Some (looked t q l s.lock)) (call_at t (LookUp r) i (Ok y) ∷ h)) (sym e)
           (by_look l refl)
@@ -246,7 +247,8 @@ module _ (start : Opening) where
         answer_fits (Purge key) a n p id e = absurd cc
         answer_fits (Put key pieces) a n p id e = absurd cc
 
-        fault_fits : (action : Action) (f : TierFault) (id : ℕ) → is_named id (named_by action) ≡ true → OpenFits id (turn s t action (judged_of (call_at t action i (Err f))) (Err f) (get s.requests id)) (call_at t action i (Err f) ∷ h)
+        fault_fits : (action : Action) (f : TierFault) (id : ℕ) → is_named id (named_by action) ≡ true
+            → OpenFits id (turn s t action (judged_of (call_at t action i (Err f))) (Err f) (get s.requests id)) (call_at t action i (Err f) ∷ h)
         fault_fits (Finish k) f id e =
             subst (λ (x : ℕ). OpenFits x (option_map (land_turn (is_landing (Err f))) (get s.requests x)) (call_at t (Finish k) i (Err f) ∷ h)) (eqb-true k id e) (finish_fits k (Err f) (get s.requests k) (fits k))
         fault_fits (Open k key asks) f id e = kept_fits (Open k key asks) (Err f) id (quiet_by (Open k key asks) f id refl) (get s.requests id) (fits id)
@@ -268,12 +270,15 @@ module _ (start : Opening) where
               answer_fits action a q.0 q.1 id e
           by_outcome (Err f) p id e = fault_fits action f id e
 
-          pub OpenFits-next : (o : Outcome) → AllowsBy (refusal s action) s t action (call_at t action i o) o → (id : ℕ) → OpenFits id (get (after s (call_at t action i o)).requests id) (call_at t action i o ∷ h)
+          pub OpenFits-next : (o : Outcome) → AllowsBy (refusal s action) s t action (call_at t action i o) o → (id : ℕ)
+              → OpenFits id (get (after s (call_at t action i o)).requests id) (call_at t action i o ∷ h)
           OpenFits-next o p id = subst (λ (x : Option Request). OpenFits id x (call_at t action i o ∷ h)) (sym (requests-after s (call_at t action i o) id)) (by_name (is_named id (named_by action)) refl)
             where
-              by_name : (v : Bool) → is_named id (named_by action) ≡ v → OpenFits id (cond v (turn s t action (judged_of (call_at t action i o)) o (get s.requests id)) (get s.requests id)) (call_at t action i o ∷ h)
+              by_name : (v : Bool) → is_named id (named_by action) ≡ v
+                  → OpenFits id (cond v (turn s t action (judged_of (call_at t action i o)) o (get s.requests id)) (get s.requests id)) (call_at t action i o ∷ h)
               by_name true e = by_outcome o p id e
               by_name false e = kept_fits action o id (other-call id t action o e) (get s.requests id) (fits id)
 
-  pub OpenFits-after : (s : State) (c : Call) (h : History) → s.shelf.writes ≡ writes_begun start h → WritesFit start h → ((id : ℕ) → OpenFits id (get s.requests id) h) → Allows s c → (id : ℕ) → OpenFits id (get (after s c).requests id) (c ∷ h)
+  pub OpenFits-after : (s : State) (c : Call) (h : History) → s.shelf.writes ≡ writes_begun start h → WritesFit start h → ((id : ℕ) → OpenFits id (get s.requests id) h) → Allows s c
+      → (id : ℕ) → OpenFits id (get (after s c).requests id) (c ∷ h)
   OpenFits-after s c h count writes fits p = OpenFits-next c.event.moment (record { reading = c.reading; began = c.began; asked = c.asked }) h s count writes fits c.event.action c.outcome p.outcome

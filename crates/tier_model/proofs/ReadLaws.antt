@@ -1,8 +1,7 @@
 -- What a request has to read is what its calls say, and each read gives it.
 use Rattle.std.proofs.Common.{◌≡◌, ℕ, ◌+◌, refl, ap, sym, ◌∙◌, true, false, subst, cond, [], ◌∷◌, ◌++◌, ◌==◌, length, drop, arith, append_assoc, length-append, inl, inr}
-use Rattle.std.specs.Prelude.{◌&&◌, Bool, List, Option, Some, None, option_map, find, Ok, Err, MatchOption}
+use Rattle.std.specs.Prelude.{◌&&◌, Bool, List, Option, Some, None, option_map, find, Ok}
 use Rattle.std.specs.FinMap.{get}
-use Rattle.std.proofs.lemmas.Bool.{eqb-true}
 use Rattle.cache_words.specs.Time.{MomentValue}
 use Rattle.cache_changes.specs.Changes.{stored_key, Write, Change, Changes}
 use Rattle.cache_changes.specs.Writes.{bytes_of}
@@ -13,33 +12,29 @@ use Rattle.cache_changes.proofs.FlightLaws.{flying_of, flying_at-is}
 use Rattle.cache_changes.proofs.LaterLaws.{bytes-later}
 use Rattle.cache_entries.specs.Entry.{key_of}
 use Rattle.tier_model.specs.declared.state.Body.{Body}
-use Rattle.tier_model.specs.declared.event.Action.{Action}
-use Rattle.tier_model.specs.declared.event.Action.TheVariants.{Open, LookUp, Poll, Begin, Piece, Finish, Read, Drop, Purge, Put}
+use Rattle.tier_model.specs.declared.event.Action.TheVariants.{LookUp, Begin, Read}
 use Rattle.tier_model.specs.declared.event.Answer.{Answer}
-use Rattle.tier_model.specs.declared.event.Answer.TheVariants.{Waited, Begun, Bytes, End}
+use Rattle.tier_model.specs.declared.event.Answer.TheVariants.{Begun, Bytes, End}
 use Rattle.tier_model.specs.declared.event.LockGiven.{LockGiven}
-use Rattle.tier_model.specs.declared.event.TierFault.{TierFault}
-use Rattle.tier_model.specs.declared.event.TierFault.TheVariants.{WrongPhase}
 use Rattle.tier_model.specs.Keys.{Entry, alone}
 use Rattle.tier_model.specs.Response.{Judged, kept, not_kept, too_early, not_read}
-use Rattle.tier_model.specs.Calls.{Call, History, Outcome, extended, judged_of, ends_reader, bytes_given, bytes_read, bytes_answered}
-use Rattle.tier_model.specs.Histories.{Kept, Opening, writes_begun, write_begun, is_landing, changes_in, changes_of, HasHit}
+use Rattle.tier_model.specs.Calls.{Call, History, extended, judged_of, ends_reader, bytes_given, bytes_read, bytes_answered}
+use Rattle.tier_model.specs.Histories.{Kept, Opening, writes_begun, write_begun, changes_in, changes_of, HasHit}
 use Rattle.tier_model.specs.Reads.{HasStream, ReadsFront, IsOver, ReadIsRight}
 use Rattle.tier_model.specs.Rows.{body_of}
 use Rattle.tier_model.specs.Shelf.{InFlight, Readers, has_number, flying_at, flies_for, Look, absent, in_flight, finished, readable, past_place}
 use Rattle.tier_model.specs.State.{Reader, closed, unread, spent, streaming, Request, State, shards_of}
-use Rattle.tier_model.specs.Checks.{refusal, unless, has_reader}
-use Rattle.tier_model.specs.Answers.{key_for, look_for, lock_given, look_answer, next_by, next_of, read_answer, IsBeginAnswer}
-use Rattle.tier_model.specs.Step.{UseFits, IsAnswer, AllowsBy, Allows}
-use Rattle.tier_model.specs.After.{reader_of, looked, after_wait, read_on, after}
+use Rattle.tier_model.specs.Checks.{has_reader}
+use Rattle.tier_model.specs.Answers.{key_for, look_for, look_answer, next_by, next_of, read_answer, IsBeginAnswer}
+use Rattle.tier_model.specs.After.{reader_of, read_on}
 use Rattle.tier_model.specs.Past.{plain, streams_by, streams, streamers, IsReadable, HasToRead}
 use Rattle.tier_model.proofs.ShownLaws.{shows, shows_flight, body_shown}
 use Rattle.tier_model.proofs.FlightLaws.{find-plain}
-use Rattle.tier_model.proofs.CallLaws.{Inside, call_at, named_by, is_named, itself, other-call, begin_turn, land_turn, read_turn, turn, requests-after}
-use Rattle.tier_model.proofs.OpenLaws.{Holds, IsOpen, flight-at, look_finished, look_flight, passed, test_passed, unrefused}
+use Rattle.tier_model.proofs.CallLaws.{Inside, call_at, itself, begin_turn}
+use Rattle.tier_model.proofs.OpenLaws.{Holds, IsOpen, flight-at, look_finished, look_flight}
 use Rattle.tier_model.specs.Shelf.{readable_of}
 use Rattle.tier_model.proofs.ReaderLaws.{sum-taken, CountFits, LeftBy}
-use Rattle.tier_model.proofs.StreamLaws.{Counted, wait_reader, land_reader}
+use Rattle.tier_model.proofs.StreamLaws.{Counted}
 
 append_nothing : (xs : List ℕ) → xs ++ [] ≡ xs
 append_nothing [] = refl
@@ -76,7 +71,7 @@ module _ (start : Opening) where
   same_bytes_read id since c e = ap (λ (ys : List ℕ). bytes_read id since ++ ys) e ∙ append_nothing (bytes_read id since)
 
   -- a call that leaves a reader alone
-  carry : (id : ℕ) (r : Reader) (c : Call) (h : History) → ends_reader id c ≡ false → bytes_given id c.event.action c.outcome ≡ [] → HasToRead start id r h → HasToRead start id r (c ∷ h)
+  pub carry : (id : ℕ) (r : Reader) (c : Call) (h : History) → ends_reader id c ≡ false → bytes_given id c.event.action c.outcome ≡ [] → HasToRead start id r h → HasToRead start id r (c ∷ h)
   carry id closed c h e b fits = tt
   carry id (unread bytes) c h e b fits = (fits.0, c ∷ fits.1, longer_hit id fits.0 fits.1 c h e fits.2, same_bytes_read id fits.1 c b ∙ fits.3, fits.4)
   carry id spent c h e b fits = (fits.0, c ∷ fits.1, longer_hit id fits.0 fits.1 c h e fits.2, same_bytes_read id fits.1 c b ∙ fits.3)
@@ -95,13 +90,15 @@ module _ (start : Opening) where
   ReadsFit id None h = Unit {0}
   ReadsFit id (Some q) h = HasToRead start id q.reader h
 
-  carry_all : (id : ℕ) (o : Option Request) (c : Call) (h : History) → ends_reader id c ≡ false → bytes_given id c.event.action c.outcome ≡ [] → ReadsFit id o h → ReadsFit id o (c ∷ h)
+  pub carry_all : (id : ℕ) (o : Option Request) (c : Call) (h : History) → ends_reader id c ≡ false → bytes_given id c.event.action c.outcome ≡ [] → ReadsFit id o h → ReadsFit id o (c ∷ h)
   carry_all id None c h e b fits = tt
   carry_all id (Some q) c h e b fits = carry id q.reader c h e b fits
 
-  module _ (s : State) (h : History) (l : Holds start s h) (count : s.shelf.writes ≡ writes_begun start h) (opened : (r : ℕ) (q : Request) → get s.requests r ≡ Some q → IsOpen start r q h) (counts : Counted s (changes_of start h)) where
+  module _ (s : State) (h : History) (l : Holds start s h) (count : s.shelf.writes ≡ writes_begun start h)
+      (opened : (r : ℕ) (q : Request) → get s.requests r ≡ Some q → IsOpen start r q h) (counts : Counted s (changes_of start h)) where
     -- what a request streams is there to read
-    streamed : (r : ℕ) (q : Request) (n place : ℕ) → get s.requests r ≡ Some q → q.reader ≡ streaming n place → (x : Readers) × (get s.shelf.readers n ≡ Some x) × CountFits n (Some x) (streamers n s.requests) (changes_of start h)
+    streamed : (r : ℕ) (q : Request) (n place : ℕ) → get s.requests r ≡ Some q → q.reader ≡ streaming n place
+        → (x : Readers) × (get s.shelf.readers n ≡ Some x) × CountFits n (Some x) (streamers n s.requests) (changes_of start h)
     streamed r q n place e is = by_entry (get s.shelf.readers n) refl (counts n)
       where
         one : streams n q ≡ 1
@@ -126,7 +123,8 @@ module _ (start : Opening) where
         let x = streamed r q n place e is in
         by_flag x.0 x.1 x.2.2.0 x.2.2.1 x.2.2.0.flies refl x.2.2.2
       where
-        by_flag : (x : Readers) → get s.shelf.readers n ≡ Some x → (y : Life Kept) → life n (changes_of start h) ≡ Some y → (v : Bool) → y.flies ≡ v → LeftBy v x.left (bytes_of n (changes_of start h)) → IsReadable s.shelf n (changes_of start h)
+        by_flag : (x : Readers) → get s.shelf.readers n ≡ Some x → (y : Life Kept) → life n (changes_of start h) ≡ Some y → (v : Bool) → y.flies ≡ v
+            → LeftBy v x.left (bytes_of n (changes_of start h)) → IsReadable s.shelf n (changes_of start h)
         by_flag x there y known true flies left =
             let tells = life-tells n (changes_of start h) y known in
             let f = flight-at (shards_of s) (writes_begun start h) s.shelf.bodies s.shelf.flying s.managed (changes_of start h) l.leaves y.write (is_flight n (changes_of start h) y known flies) in
@@ -153,7 +151,8 @@ module _ (start : Opening) where
 
     -- ---- new readers
 
-    looked_fits : (t : MomentValue) (i : Inside) (r : ℕ) (q : Request) (x : Look) (given : LockGiven) → IsOpen start r q h → look_for q s.shelf ≡ x → HasToRead start r (reader_of x) (call_at t (LookUp r) i (Ok (look_answer t given x)) ∷ h)
+    pub looked_fits : (t : MomentValue) (i : Inside) (r : ℕ) (q : Request) (x : Look) (given : LockGiven) → IsOpen start r q h → look_for q s.shelf ≡ x
+        → HasToRead start r (reader_of x) (call_at t (LookUp r) i (Ok (look_answer t given x)) ∷ h)
     looked_fits t i r q absent given opens e = tt
     looked_fits t i r q (in_flight f) given opens e =
         let x = shows_flight (shards_of s) (writes_begun start h) s.shelf.bodies s.shelf.flying s.managed (changes_of start h) l.leaves (key_for q) f
@@ -184,7 +183,8 @@ module _ (start : Opening) where
           sym (ap (λ (p : Body). p.bytes) x.tells),
         )
 
-    begun_fits : (t : MomentValue) (i : Inside) (r : ℕ) (head : List ℕ) (q : Request) (a : Answer) (j : Option Judged) → IsOpen start r q h → judged_of (call_at t (Begin r head) i (Ok a)) ≡ j → IsBeginAnswer j a
+    pub begun_fits : (t : MomentValue) (i : Inside) (r : ℕ) (head : List ℕ) (q : Request) (a : Answer) (j : Option Judged) → IsOpen start r q h
+        → judged_of (call_at t (Begin r head) i (Ok a)) ≡ j → IsBeginAnswer j a
         → HasToRead start r (begin_turn s j q).reader (call_at t (Begin r head) i (Ok a) ∷ h)
     begun_fits t i r head q a (Some (kept meta)) opens is p =
         subst (λ (y : Answer). HasToRead start r (streaming s.shelf.writes 0) (call_at t (Begin r head) i (Ok y) ∷ h)) (sym p) (
@@ -219,7 +219,8 @@ module _ (start : Opening) where
         ap (past_place place) x.1 ∙ ap (λ (b : List ℕ). (drop place b, x.0)) fits.5.1
         ∙ ap (λ (k : ℕ). (drop k (bytes_read r fits.1 ++ fits.5.0), x.0)) fits.4 ∙ ap (λ (b : List ℕ). (b, x.0)) (drop_front (bytes_read r fits.1) fits.5.0)
 
-    read_fits : (t : MomentValue) (i : Inside) (r : ℕ) (q : Request) (x : Reader) (a : Answer) → get s.requests r ≡ Some q → q.reader ≡ x → a ≡ read_answer x s.shelf → HasToRead start r x h → HasToRead start r (read_on a x) (call_at t (Read r) i (Ok a) ∷ h)
+    pub read_fits : (t : MomentValue) (i : Inside) (r : ℕ) (q : Request) (x : Reader) (a : Answer) → get s.requests r ≡ Some q → q.reader ≡ x → a ≡ read_answer x s.shelf
+        → HasToRead start r x h → HasToRead start r (read_on a x) (call_at t (Read r) i (Ok a) ∷ h)
     read_fits t i r q closed a e is p fits = tt
     read_fits t i r q (unread bytes) a e is p fits =
         subst (λ (y : Answer). HasToRead start r spent (call_at t (Read r) i (Ok y) ∷ h)) (sym p) (
@@ -252,7 +253,8 @@ module _ (start : Opening) where
     front_is : (r n place : ℕ) (fits : HasToRead start r (streaming n place) h) → ReadsFront start r fits.5.0 h
     front_is r n place fits = record { write = fits.0; since = fits.1; stream = fits.2; front = sym fits.5.1 ∙ ap (λ (m : ℕ). bytes_of m (changes_of start h)) (sym fits.3) }
 
-    next_right : (r n place : ℕ) (fits : HasToRead start r (streaming n place) h) (x : IsReadable s.shelf n (changes_of start h)) (more : List ℕ) (over : Bool) → fits.5.0 ≡ more → x.0 ≡ over → ReadIsRight start (Read r) (Ok (next_by more over)) h
+    next_right : (r n place : ℕ) (fits : HasToRead start r (streaming n place) h) (x : IsReadable s.shelf n (changes_of start h)) (more : List ℕ) (over : Bool) → fits.5.0 ≡ more
+        → x.0 ≡ over → ReadIsRight start (Read r) (Ok (next_by more over)) h
     next_right r n place fits x [] true e f =
         let front : ReadsFront start r [] h = subst (λ (b : List ℕ). ReadsFront start r b h) e (front_is r n place fits) in
         inr (
@@ -265,123 +267,11 @@ module _ (start : Opening) where
     )
     next_right r n place fits x (b ∷ bytes) over e f = inr (subst (λ (xs : List ℕ). ReadsFront start r xs h) e (front_is r n place fits))
 
-    read_right : (r : ℕ) (q : Request) (x : Reader) → get s.requests r ≡ Some q → q.reader ≡ x → has_reader x ≡ true → HasToRead start r x h → ReadIsRight start (Read r) (Ok (read_answer x s.shelf)) h
+    pub read_right : (r : ℕ) (q : Request) (x : Reader) → get s.requests r ≡ Some q → q.reader ≡ x → has_reader x ≡ true → HasToRead start r x h
+        → ReadIsRight start (Read r) (Ok (read_answer x s.shelf)) h
     read_right r q closed e is reads fits = absurd cc
     read_right r q (unread bytes) e is reads fits = inl (record { write = fits.0; since = fits.1; hit = fits.2; whole = ap (λ (xs : List ℕ). xs ++ bytes) fits.3 ∙ fits.4 })
     read_right r q spent e is reads fits = inl (record { write = fits.0; since = fits.1; hit = fits.2; whole = append_nothing (bytes_read r fits.1) ∙ fits.3 })
     read_right r q (streaming n place) e is reads fits =
         let x = readable_is r q n place e is in
         subst (λ (a : Answer). ReadIsRight start (Read r) (Ok a) h) (sym (ap next_of (ahead r n place fits x))) (next_right r n place fits x fits.5.0 x.0 refl refl)
-
-    module _ (reads : (id : ℕ) → ReadsFit id (get s.requests id) h) where
-      the_reads : (r : ℕ) (q : Request) → get s.requests r ≡ Some q → HasToRead start r q.reader h
-      the_reads r q e = subst (λ (o : Option Request). ReadsFit r o h) e (reads r)
-
-      there : (o : Option Request) (P : Request → Type 0) → MatchOption o ⊥ P → (q : Request) × (o ≡ Some q) × P q
-      there None P p = absurd p
-      there (Some q) P p = (q, refl, p)
-
-      right_answer : (t : MomentValue) (action : Action) (c : Call) (a : Answer) → refusal s action ≡ None → IsAnswer s t action c a → ReadIsRight start action (Ok a) h
-      right_answer t (Read r) c a n p =
-          let q = there (get s.requests r) (λ q. a ≡ read_answer q.reader s.shelf) p in
-          let checked = passed (get s.requests r) (λ q. unless (has_reader q.reader) WrongPhase) n in
-          let same : q.0 ≡ checked.0 = let both : Some q.0 ≡ Some checked.0 = sym q.1 ∙ checked.1 in cc in
-          subst (λ (y : Answer). ReadIsRight start (Read r) (Ok y) h) (sym q.2)
-          (read_right r q.0 q.0.reader q.1 refl (ap (λ (y : Request). has_reader y.reader) same ∙ test_passed (has_reader checked.0.reader) WrongPhase checked.2) (the_reads r q.0 q.1))
-      right_answer t _ c a n p = tt
-
-      right_fault : (action : Action) (f : TierFault) → ReadIsRight start action (Err f) h
-      right_fault (Read r) f = tt
-      right_fault _ f = tt
-
-      pub ReadIsRight-allowed : (c : Call) → Allows s c → ReadIsRight start c.event.action c.outcome h
-      ReadIsRight-allowed c p = by_outcome c.outcome p.outcome
-        where
-          i : Inside
-          i = record { reading = c.reading; began = c.began; asked = c.asked }
-
-          by_outcome : (o : Outcome) → AllowsBy (refusal s c.event.action) s c.event.moment c.event.action (call_at c.event.moment c.event.action i o) o → ReadIsRight start c.event.action o h
-          by_outcome (Ok a) p =
-              let q = unrefused s (refusal s c.event.action) c.event.moment c.event.action (call_at c.event.moment c.event.action i (Ok a)) a refl p in
-              right_answer c.event.moment c.event.action (call_at c.event.moment c.event.action i (Ok a)) a q.0 q.1
-          by_outcome (Err f) p = right_fault c.event.action f
-
-      same_reader : (id : ℕ) (q new : Request) (c : Call) → new.reader ≡ q.reader → HasToRead start id q.reader (c ∷ h) → HasToRead start id new.reader (c ∷ h)
-      same_reader id q new c e fits = subst (λ (r : Reader). HasToRead start id r (c ∷ h)) (sym e) fits
-
-      wait_fits : (t : MomentValue) (i : Inside) (id k : ℕ) (a : Answer) (o : Option Request) → ReadsFit id o h → ReadsFit id (turn s t (Poll k) None (Ok a) o) (call_at t (Poll k) i (Ok a) ∷ h)
-      wait_fits t i id k (Waited outcome) None fits = tt
-      wait_fits t i id k (Waited outcome) (Some q) fits =
-          same_reader id q (after_wait t outcome q.held q) (call_at t (Poll k) i (Ok (Waited outcome))) (wait_reader t outcome q.held q) (carry id q.reader (call_at t (Poll k) i (Ok (Waited outcome))) h refl refl fits)
-      wait_fits t i id k a o fits = carry_all id o (call_at t (Poll k) i (Ok a)) h refl refl fits
-
-      land_fits : (t : MomentValue) (i : Inside) (id k : ℕ) (o : Outcome) (x : Option Request) → ReadsFit id x h → ReadsFit id (option_map (land_turn (is_landing o)) x) (call_at t (Finish k) i o ∷ h)
-      land_fits t i id k o None fits = tt
-      land_fits t i id k o (Some q) fits = same_reader id q (land_turn (is_landing o) q) (call_at t (Finish k) i o) (land_reader (is_landing o) q) (carry id q.reader (call_at t (Finish k) i o) h refl refl fits)
-
-      look_named : (t : MomentValue) (i : Inside) (k : ℕ) (a : Answer) (o : Option Request) → get s.requests k ≡ o
-          → MatchOption o ⊥ (λ q. (a ≡ look_answer t (lock_given t q (look_for q s.shelf) s.lock) (look_for q s.shelf)) × UseFits s q (look_for q s.shelf))
-          → ReadsFit k (option_map (λ q. looked t q (look_for q s.shelf) s.lock) o) (call_at t (LookUp k) i (Ok a) ∷ h)
-      look_named t i k a None e p = absurd p
-      look_named t i k a (Some q) e p =
-          subst (λ (y : Answer). HasToRead start k (reader_of (look_for q s.shelf)) (call_at t (LookUp k) i (Ok y) ∷ h)) (sym p.0)
-          (looked_fits t i k q (look_for q s.shelf) (lock_given t q (look_for q s.shelf) s.lock) (opened k q e) refl)
-
-      begin_named : (t : MomentValue) (i : Inside) (k : ℕ) (head : List ℕ) (a : Answer) (o : Option Request) → get s.requests k ≡ o → IsBeginAnswer (judged_of (call_at t (Begin k head) i (Ok a))) a
-          → ReadsFit k (option_map (begin_turn s (judged_of (call_at t (Begin k head) i (Ok a)))) o) (call_at t (Begin k head) i (Ok a) ∷ h)
-      begin_named t i k head a None e p = tt
-      begin_named t i k head a (Some q) e p = begun_fits t i k head q a (judged_of (call_at t (Begin k head) i (Ok a))) (opened k q e) refl p
-
-      read_named : (t : MomentValue) (i : Inside) (k : ℕ) (a : Answer) (o : Option Request) → get s.requests k ≡ o → MatchOption o ⊥ (λ q. a ≡ read_answer q.reader s.shelf)
-          → ReadsFit k (option_map (read_turn a) o) (call_at t (Read k) i (Ok a) ∷ h)
-      read_named t i k a None e p = tt
-      read_named t i k a (Some q) e p = read_fits t i k q q.reader a e refl p (the_reads k q e)
-
-      answer_reads : (t : MomentValue) (i : Inside) (action : Action) (a : Answer) → IsAnswer s t action (call_at t action i (Ok a)) a → (id : ℕ) → is_named id (named_by action) ≡ true
-          → ReadsFit id (turn s t action (judged_of (call_at t action i (Ok a))) (Ok a) (get s.requests id)) (call_at t action i (Ok a) ∷ h)
-      answer_reads t i (Open k key asks) a p id e = tt
-      answer_reads t i (LookUp k) a p id e =
-          subst (λ (x : ℕ). ReadsFit x (option_map (λ q. looked t q (look_for q s.shelf) s.lock) (get s.requests x)) (call_at t (LookUp k) i (Ok a) ∷ h)) (eqb-true k id e) (look_named t i k a (get s.requests k) refl p)
-      answer_reads t i (Poll k) a p id e = wait_fits t i id k a (get s.requests id) (reads id)
-      answer_reads t i (Begin k head) a p id e =
-          subst (λ (x : ℕ). ReadsFit x (option_map (begin_turn s (judged_of (call_at t (Begin k head) i (Ok a)))) (get s.requests x)) (call_at t (Begin k head) i (Ok a) ∷ h)) (eqb-true k id e)
-          (begin_named t i k head a (get s.requests k) refl p)
-      answer_reads t i (Piece k bytes last) a p id e = carry_all id (get s.requests id) (call_at t (Piece k bytes last) i (Ok a)) h refl refl (reads id)
-      answer_reads t i (Finish k) a p id e = land_fits t i id k (Ok a) (get s.requests id) (reads id)
-      answer_reads t i (Read k) a p id e =
-          subst (λ (x : ℕ). ReadsFit x (option_map (read_turn a) (get s.requests x)) (call_at t (Read k) i (Ok a) ∷ h)) (eqb-true k id e) (read_named t i k a (get s.requests k) refl p)
-      answer_reads t i (Drop k) a p id e = tt
-      answer_reads t i (Purge key) a p id e = absurd cc
-      answer_reads t i (Put key pieces) a p id e = absurd cc
-
-      fault_reads : (t : MomentValue) (i : Inside) (action : Action) (f : TierFault) (id : ℕ) → is_named id (named_by action) ≡ true
-          → ReadsFit id (turn s t action (judged_of (call_at t action i (Err f))) (Err f) (get s.requests id)) (call_at t action i (Err f) ∷ h)
-      fault_reads t i (Finish k) f id e = land_fits t i id k (Err f) (get s.requests id) (reads id)
-      fault_reads t i (Open k key asks) f id e = carry_all id (get s.requests id) (call_at t (Open k key asks) i (Err f)) h refl refl (reads id)
-      fault_reads t i (LookUp k) f id e = carry_all id (get s.requests id) (call_at t (LookUp k) i (Err f)) h refl refl (reads id)
-      fault_reads t i (Poll k) f id e = carry_all id (get s.requests id) (call_at t (Poll k) i (Err f)) h refl refl (reads id)
-      fault_reads t i (Begin k head) f id e = carry_all id (get s.requests id) (call_at t (Begin k head) i (Err f)) h refl refl (reads id)
-      fault_reads t i (Piece k bytes last) f id e = carry_all id (get s.requests id) (call_at t (Piece k bytes last) i (Err f)) h refl refl (reads id)
-      fault_reads t i (Read k) f id e = carry_all id (get s.requests id) (call_at t (Read k) i (Err f)) h refl refl (reads id)
-      fault_reads t i (Drop k) f id e = carry_all id (get s.requests id) (call_at t (Drop k) i (Err f)) h refl refl (reads id)
-      fault_reads t i (Purge key) f id e = absurd cc
-      fault_reads t i (Put key pieces) f id e = absurd cc
-
-      pub ReadsFit-after : (c : Call) → Allows s c → (id : ℕ) → ReadsFit id (get (after s c).requests id) (c ∷ h)
-      ReadsFit-after c p id = subst (λ (o : Option Request). ReadsFit id o (c ∷ h)) (sym (requests-after s c id)) (by_name (is_named id (named_by c.event.action)) refl)
-        where
-          i : Inside
-          i = record { reading = c.reading; began = c.began; asked = c.asked }
-
-          by_outcome : (o : Outcome) → AllowsBy (refusal s c.event.action) s c.event.moment c.event.action (call_at c.event.moment c.event.action i o) o → is_named id (named_by c.event.action) ≡ true
-              → ReadsFit id (turn s c.event.moment c.event.action (judged_of (call_at c.event.moment c.event.action i o)) o (get s.requests id)) (call_at c.event.moment c.event.action i o ∷ h)
-          by_outcome (Ok a) p e =
-              let q = unrefused s (refusal s c.event.action) c.event.moment c.event.action (call_at c.event.moment c.event.action i (Ok a)) a refl p in
-              answer_reads c.event.moment i c.event.action a q.1 id e
-          by_outcome (Err f) p e = fault_reads c.event.moment i c.event.action f id e
-
-          by_name : (v : Bool) → is_named id (named_by c.event.action) ≡ v → ReadsFit id (cond v (turn s c.event.moment c.event.action (judged_of c) c.outcome (get s.requests id)) (get s.requests id)) (c ∷ h)
-          by_name true e = by_outcome c.outcome p.outcome e
-          by_name false e =
-              let other = other-call id c.event.moment c.event.action c.outcome e in
-              carry_all id (get s.requests id) c h other.reader other.bytes (reads id)

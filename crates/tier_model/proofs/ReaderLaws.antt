@@ -81,7 +81,8 @@ life_step n c before x may o e =
     let none : begun_by n c ≡ None = ap (λ (m : ℕ). begun_by m c) known.number ∙ begun_none x.write c before may (record { since = known.since; before = known.before; split = known.split }) in
     ap (λ (w : Option (Write Kept)). life_by w c (life n before)) none ∙ ap (option_map (lived c)) e
 
-bytes_step : (n : ℕ) (c : Change Kept) (before : Changes Kept) (x : Life Kept) → MayCome c before → IsOrderly before → life n before ≡ Some x → x.flies ≡ false → bytes_of n (c ∷ before) ≡ bytes_of n before
+bytes_step : (n : ℕ) (c : Change Kept) (before : Changes Kept) (x : Life Kept) → MayCome c before → IsOrderly before → life n before ≡ Some x → x.flies ≡ false
+    → bytes_of n (c ∷ before) ≡ bytes_of n before
 bytes_step n (appends m bytes) before x may o e f =
     let known = life-tells n before x e in
     let is : life x.write.number before ≡ Some (record { write = x.write; flies = false; alive = x.alive }) =
@@ -143,7 +144,8 @@ spared n (c ∷ cs) changes x o h e =
     and_not true b e = ap not (sym e)
     and_not false b e = refl
 
-pub count_on : (n : ℕ) (cs : List (Change Kept)) (changes : Changes Kept) (o : Option Readers) (k : ℕ) → IsOrderly (extended changes cs) → ((x : Life Kept) → life n changes ≡ Some x → AllByRecursion (Spares n) cs)
+pub count_on : (n : ℕ) (cs : List (Change Kept)) (changes : Changes Kept) (o : Option Readers) (k : ℕ) → IsOrderly (extended changes cs)
+    → ((x : Life Kept) → life n changes ≡ Some x → AllByRecursion (Spares n) cs)
     → CountFits n o k changes → CountFits n o k (extended changes cs)
 count_on n cs changes None k orderly h fits = fits
 count_on n cs changes (Some r) k orderly h fits =
@@ -207,7 +209,8 @@ at_less n m readers None e = by_test (m == n) refl
     by_test false is = refl
 at_less n m readers (Some r) e = by_last (nat_le r.count 1)
   where
-    by_last : (v : Bool) → get (cond v (remove readers m) (insert readers m (record r { count = r.count - 1 }))) n ≡ cond (m == n) (cond v None (Some (record r { count = r.count - 1 }))) (get readers n)
+    by_last : (v : Bool)
+        → get (cond v (remove readers m) (insert readers m (record r { count = r.count - 1 }))) n ≡ cond (m == n) (cond v None (Some (record r { count = r.count - 1 }))) (get readers n)
     by_last true = at-remove readers m n
     by_last false = at-insert readers m (record r { count = r.count - 1 }) n
 

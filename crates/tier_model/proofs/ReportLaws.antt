@@ -27,7 +27,8 @@ use Rattle.tier_model.proofs.CountLaws.{Tallies, Counts, quiet, Tallies-counted,
 
 -- ---- refusals
 
-checked_nothing : (o : Option Request) (check : Request → Option TierFault) (f : TierFault) → ((q : Request) → check q ≡ Some f → done_of f ≡ nothing_done) → unless_open o check ≡ Some f → done_of f ≡ nothing_done
+checked_nothing : (o : Option Request) (check : Request → Option TierFault) (f : TierFault) → ((q : Request) → check q ≡ Some f → done_of f ≡ nothing_done)
+    → unless_open o check ≡ Some f → done_of f ≡ nothing_done
 checked_nothing None check f h e = let same : NoRequest ≡ f = cc in ap done_of (sym same)
 checked_nothing (Some q) check f h e = h q e
 
@@ -91,7 +92,8 @@ late_nothing s t (LookUp r) c f e p = looks_nothing s t (get s.requests r) f p
 late_nothing s t (Begin r head) c f e p = begin_nothing s (judged_of c) f p
 late_nothing s t _ c f e p = absurd p
 
-pub did_nothing : (s : State) (t : MomentValue) (action : Action) (c : Call) (f : TierFault) (o : Option TierFault) → refusal s action ≡ o → AllowsBy o s t action c (Err f) → stores_nothing action ≡ true → done_of f ≡ nothing_done
+pub did_nothing : (s : State) (t : MomentValue) (action : Action) (c : Call) (f : TierFault) (o : Option TierFault) → refusal s action ≡ o → AllowsBy o s t action c (Err f)
+    → stores_nothing action ≡ true → done_of f ≡ nothing_done
 did_nothing s t action c f (Some g) r p e = let same : f ≡ g = cc in ap done_of same ∙ refused_nothing s action g r
 did_nothing s t action c f None r p e = elim p [
   | inl m ↦ ap done_of m.0
@@ -111,7 +113,8 @@ put_fault_counts s None (Some (whole.Stored body)) f p = absurd p
 put_fault_counts s None None f p = absurd p
 
 -- a finish that did nothing, or found its write removed
-nothing_finished : (s : State) (r : ℕ) (q : Request) (f : TierFault) (v : Bool) → done_of f ≡ nothing_done → Counts s (cond v (after_finish (after_flight s r q) (finishing q s.shelf) (Err f)) s) (Err f)
+nothing_finished : (s : State) (r : ℕ) (q : Request) (f : TierFault) (v : Bool) → done_of f ≡ nothing_done
+    → Counts s (cond v (after_finish (after_flight s r q) (finishing q s.shelf) (Err f)) s) (Err f)
 nothing_finished s r q f false d = quiet s s (Err f) refl refl refl (fault_quiet f d)
 nothing_finished s r q f true d =
     rw (quiet_undone (after_flight s r q) (finishing q s.shelf) (done_of f) d) (quiet s (after_flight s r q) (Err f) refl refl refl (fault_quiet f d))
@@ -129,11 +132,13 @@ finish_fault_counts s r q f (Some b) e p = elim p [
     by_landing true l k = k
     by_landing false l k = absurd cc
 
-finishes_fault_counts : (s : State) (r : ℕ) (x : Option Request) (f : TierFault) → MatchOption x ⊥ (λ q. IsFinishFault s (finishing q s.shelf) f) → Counts s (by_request s x (λ q. finished_state s r q (Err f))) (Err f)
+finishes_fault_counts : (s : State) (r : ℕ) (x : Option Request) (f : TierFault) → MatchOption x ⊥ (λ q. IsFinishFault s (finishing q s.shelf) f)
+    → Counts s (by_request s x (λ q. finished_state s r q (Err f))) (Err f)
 finishes_fault_counts s r None f p = absurd p
 finishes_fault_counts s r (Some q) f p = finish_fault_counts s r q f (finishing q s.shelf) refl p
 
-finish_refused_counts : (s : State) (t : MomentValue) (r : ℕ) (c : Call) (f : TierFault) (o : Option TierFault) → refusal s (Finish r) ≡ o → AllowsBy o s t (Finish r) c (Err f) → Counts s (refused s (Finish r) c f) (Err f)
+finish_refused_counts : (s : State) (t : MomentValue) (r : ℕ) (c : Call) (f : TierFault) (o : Option TierFault) → refusal s (Finish r) ≡ o → AllowsBy o s t (Finish r) c (Err f)
+    → Counts s (refused s (Finish r) c f) (Err f)
 finish_refused_counts s t r c f (Some g) e p =
     let same : f ≡ g = cc in
     let d : done_of f ≡ nothing_done = ap done_of same ∙ refused_nothing s (Finish r) g e in

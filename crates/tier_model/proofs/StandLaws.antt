@@ -37,8 +37,10 @@ use Rattle.tier_model.proofs.OpenLaws.{Holds, IsOpen, unrefused}
 use Rattle.tier_model.proofs.EventLaws.{Holds-after}
 use Rattle.tier_model.proofs.OwnLaws.{OpenFits, OpenFits-after}
 use Rattle.tier_model.proofs.ReaderLaws.{CountFits}
-use Rattle.tier_model.proofs.StreamLaws.{Counted, Counted-after}
-use Rattle.tier_model.proofs.ReadLaws.{ReadsFit, ReadsFit-after}
+use Rattle.tier_model.proofs.StreamLaws.{Counted}
+use Rattle.tier_model.proofs.StreamEvents.{Counted-after}
+use Rattle.tier_model.proofs.ReadLaws.{ReadsFit}
+use Rattle.tier_model.proofs.ReadEvents.{ReadsFit-after}
 use Rattle.std.proofs.lemmas.List.{nil_from_length}
 use Rattle.std.specs.List.{sum_by}
 use Rattle.tier_model.proofs.CountLaws.{Tallies}

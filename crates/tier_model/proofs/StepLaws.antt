@@ -19,7 +19,8 @@ use Rattle.tier_model.specs.Rows.{FinishedBody, weight_for}
 use Rattle.tier_model.specs.Shelf.{Look, absent, in_flight, finished, look, is_there}
 use Rattle.tier_model.specs.State.{Settings, Request, State, shards_of}
 use Rattle.tier_model.specs.Answers.{look_for, admitted, finishing}
-use Rattle.tier_model.specs.After.{by_request, after_look, managed_after, after_begin, after_flight, after_put, until, taken_back, undone, after_finish, finished_state, after_purge, answered, refused, after_outcome, after}
+use Rattle.tier_model.specs.After.{by_request, after_look, managed_after, after_begin, after_flight, after_put, until, taken_back, undone, after_finish, finished_state, after_purge}
+use Rattle.tier_model.specs.After.{answered, refused, after_outcome, after}
 use Rattle.tier_model.proofs.RowSteps.{IsMade, made-put, made-used, made-out, made-gone}
 
 module _ (x : Settings) where

@@ -43,7 +43,8 @@ module _ (s : State) (n : ℕ) (changes : Changes Kept) (l : Keeps (shards_of s)
 
   -- after an admission
   module _ (i : ℕ) (b : FinishedBody) (gs : List InFlight) (now : Changes Kept) (st : Leaves (shards_of s) i (with_body b s.shelf.bodies) gs (admitted s b) now) where
-    pub ends_over : (settings : Settings) (over : Bool) (es : List CacheEntryKey) → IsMade settings s.managed → GoInTurn (shards_of s) over es (admitted s b) → EndsOver settings over (extended now (goes es))
+    pub ends_over : (settings : Settings) (over : Bool) (es : List CacheEntryKey) → IsMade settings s.managed → GoInTurn (shards_of s) over es (admitted s b)
+        → EndsOver settings over (extended now (goes es))
     ends_over settings over es made h =
         let N = shards_of s in
         let left : Managed = all_gone N es (admitted s b) in
@@ -88,7 +89,8 @@ module _ (s : State) (n : ℕ) (changes : Changes Kept) (l : Keeps (shards_of s)
       (keeps-back (shards_of s) n s.shelf.bodies s.shelf.flying s.managed changes l (n + 1) b s.shelf.flying (extended changes (stores n b [])) (put_stored b)
       (put_changes_key (shards_of s) n s.shelf.bodies s.shelf.flying s.managed changes l b) true es h))
 
-  pub put_fault_holds : (g : Option FinishedBody) (w : Option Whole) (f : TierFault) (began may : Bool) → IsPutFault s g w f → BeginsWrite s may (cond (is_some g) (has_stored (Err f)) (is_begun (Err f))) began → BackHolds g f began
+  pub put_fault_holds : (g : Option FinishedBody) (w : Option Whole) (f : TierFault) (began may : Bool) → IsPutFault s g w f
+      → BeginsWrite s may (cond (is_some g) (has_stored (Err f)) (is_begun (Err f))) began → BackHolds g f began
   put_fault_holds (Some b) w f began may p x = elim p [
     | inl spent ↦ quiet_holds (Some b) f began (ap done_of spent.0)
     | inr late ↦ elim late [
@@ -141,7 +143,8 @@ module _ (s : State) (n : ℕ) (changes : Changes Kept) (l : Keeps (shards_of s)
     withdrawn_holds f began rs alive d =
         rw (back_changes f (ap (λ (x : Done). x.stored) d), d) (keeps-withdrawn (shards_of s) (writes_after n began) s.shelf.bodies s.shelf.flying s.managed changes (idle began) w flies alive (key_of w.meta.entry) under)
 
-    cut_back_holds : (f : TierFault) (es : List CacheEntryKey) (began : Bool) (rs : FinMap nat_cmp Request) → IsAlive w changes → done_of f ≡ all_done es → GoInTurn (shards_of s) true es (admitted s the_body)
+    cut_back_holds : (f : TierFault) (es : List CacheEntryKey) (began : Bool) (rs : FinMap nat_cmp Request) → IsAlive w changes → done_of f ≡ all_done es
+        → GoInTurn (shards_of s) true es (admitted s the_body)
         → HoldsNext s n began (undone (landed_state rs) (Some the_body) (done_of f)) (extended changes (finish_changes (Some w) (Err f) changes))
     cut_back_holds f es began rs alive d h =
         rw (back_changes f (ap (λ (x : Done). x.stored) d), d, extended-append (finishes w ∷ changes) (settles the_body es) (clears the_body.entry))

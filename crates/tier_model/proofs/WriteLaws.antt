@@ -14,7 +14,6 @@ use Rattle.tier_model.specs.Keys.{Entry, entry_of, alone}
 use Rattle.tier_model.specs.Response.{Judged, kept}
 use Rattle.tier_model.specs.Calls.{Call, History, Outcome, extended, judged_of, finished_by, opened_for, entry_after, is_begin_of}
 use Rattle.tier_model.specs.Histories.{Kept, Opening, writes_begun, write_begun, begun_by, is_landing, write_after, write_held, begin_changes, changes_in, changes_of}
-use Rattle.tier_model.specs.Past.{HoldsWrites}
 use Rattle.tier_model.proofs.CallLaws.{Inside, call_at, itself}
 use Rattle.tier_model.proofs.LandLaws.{Spares, clears_spare, look_spare, begin_spare, piece_spare, IsApart, finish_spare, drop_spare, put_spare, lander}
 
@@ -54,9 +53,6 @@ module _ (start : Opening) where
   pub flies-of : (h : History) → WritesFit h → (id : ℕ) (w : Write Kept) → write_held start id h ≡ Some w → IsInFlight w (changes_of start h)
   flies-of h fits id w e = is_flying w (opened_for id h) (changes_of start h) (fits.each id w e)
 
-  pub HoldsWrites-fit : (h : History) → WritesFit h → HoldsWrites start h
-  HoldsWrites-fit h fits = record { fly = flies-of h fits; apart = fits.apart }
-
   -- numbers that are not one
   apart_by : (m n : ℕ) → (m ≡ n → ⊥) → (m == n) ≡ false
   apart_by m n h = by_test (m == n) refl
@@ -86,7 +82,8 @@ module _ (start : Opening) where
   held_from id new _ _ old v e = inr e
 
   -- a write that stays is not the one that lands
-  survivor : (id r : ℕ) (new : Option (Write Kept)) (action : Action) (o : Outcome) (old : Option (Write Kept)) (w : Write Kept) → write_after id new action o old ≡ Some w → lander action o ≡ Some r → (r == id) ≡ false
+  survivor : (id r : ℕ) (new : Option (Write Kept)) (action : Action) (o : Outcome) (old : Option (Write Kept)) (w : Write Kept) → write_after id new action o old ≡ Some w
+      → lander action o ≡ Some r → (r == id) ≡ false
   survivor id r new (Finish x) o old w e l = by_landing (is_landing o) e l
     where
       by_test : (t : Bool) → (x == id) ≡ t → cond (t && true) None old ≡ Some w → x ≡ r → (r == id) ≡ false

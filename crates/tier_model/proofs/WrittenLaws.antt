@@ -45,7 +45,8 @@ module _ (N : ℕ) where
       }
 
   -- bytes come to a write in flight
-  pub leaves-appended : (n : ℕ) (w : Write Kept) (bytes : List ℕ) (bodies : Bodies) (fs : List InFlight) (m : Managed) (changes : Changes Kept) → IsInFlight w changes → has_ended w.number changes ≡ false
+  pub leaves-appended : (n : ℕ) (w : Write Kept) (bytes : List ℕ) (bodies : Bodies) (fs : List InFlight) (m : Managed) (changes : Changes Kept) → IsInFlight w changes
+      → has_ended w.number changes ≡ false
       → Leaves N n bodies fs m changes → Leaves N n bodies (on_flying w.number (more_bytes bytes) fs) m (appends w.number bytes ∷ changes)
   leaves-appended n w bytes bodies fs m changes flies more l = record {
     orderly = (((w, refl, flies), more), l.orderly);
@@ -90,13 +91,15 @@ module _ (N : ℕ) where
   }
 
   -- the write is there
-  flight_there : (w : Write Kept) (changes : Changes Kept) → IsOrderly changes → IsInFlight w changes → IsAlive w changes → (f : Flying Kept) × (flying_at w.number (store_of changes) ≡ Some f) × (f.stored ≡ stored_of w changes)
+  flight_there : (w : Write Kept) (changes : Changes Kept) → IsOrderly changes → IsInFlight w changes → IsAlive w changes
+      → (f : Flying Kept) × (flying_at w.number (store_of changes) ≡ Some f) × (f.stored ≡ stored_of w changes)
   flight_there w changes o flies alive =
       let f : Flying Kept = record { stored = stored_of w changes; ended = has_ended w.number changes; removed = false } in
       (f, ((store_of-is changes o).flights w.number f).1 (refl, record { flies = flies; stored = refl; ended = refl; alive = (λ t. alive, λ a. refl) }), refl)
 
   -- a write is finished, and its entry admitted
-  pub leaves-finished : (n : ℕ) (w : Write Kept) (bodies : Bodies) (fs : List InFlight) (m : Managed) (changes : Changes Kept) → IsInFlight w changes → IsAlive w changes → w.key ≡ stored_key (key_of w.meta.entry)
+  pub leaves-finished : (n : ℕ) (w : Write Kept) (bodies : Bodies) (fs : List InFlight) (m : Managed) (changes : Changes Kept) → IsInFlight w changes → IsAlive w changes
+      → w.key ≡ stored_key (key_of w.meta.entry)
       → Leaves N n bodies fs m changes
       → Leaves N n (put_body (finished_of changes w) bodies) (filter (λ f. not (has_number w.number f)) fs) (put_first N (alone (key_of w.meta.entry)) (weight_for (told_of changes w)) m)
       (extended changes (finishes w ∷ settles (finished_of changes w) []))
@@ -138,7 +141,8 @@ module _ (N : ℕ) where
           subst (λ (y : Stored Kept). length y.bytes ≤ weight_for b.body) same (le-max_right 1 (length x.bytes))
 
   -- a write is finished, and its key removed at once
-  pub leaves-withdrawn : (n : ℕ) (w : Write Kept) (e : Entry) (bodies : Bodies) (fs : List InFlight) (m : Managed) (changes : Changes Kept) → IsInFlight w changes → IsAlive w changes → w.key ≡ stored_key e
+  pub leaves-withdrawn : (n : ℕ) (w : Write Kept) (e : Entry) (bodies : Bodies) (fs : List InFlight) (m : Managed) (changes : Changes Kept) → IsInFlight w changes → IsAlive w changes
+      → w.key ≡ stored_key e
       → Leaves N n bodies fs m changes
       → Leaves N n (without_body (stored_key e) bodies) (map (put_mark (Some (stored_key e))) (filter (λ f. not (has_number w.number f)) fs)) (taken_out N (alone e) m)
       (departs (alone e) ∷ removes (stored_key e) ∷ finishes w ∷ changes)

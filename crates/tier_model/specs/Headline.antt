@@ -23,6 +23,7 @@ use Rattle.tier_model.specs.Response.{not_kept, too_early, not_read, IsRead}
 use Rattle.tier_model.specs.Calls.{Call, History, Outcome, CountsItsWrite, extended, nothing_done, done_of, judged_of, read_by, finished_by, opened_for}
 use Rattle.tier_model.specs.Histories.{Kept, Opening, writes_begun, stores, changes_of, begun_by, write_held, finished_of, settles}
 use Rattle.tier_model.specs.Reads.{AreReadRight}
+use Rattle.tier_model.specs.Locks.{AreLockedRight}
 use Rattle.tier_model.specs.State.{Settings}
 
 -- a look-up at t is answered found exactly where a write of its key is alive; then it shows one, fresh exactly up to its
@@ -117,13 +118,15 @@ AreRight start [] = Unit {0}
 AreRight start (c ∷ h) = IsRight start c.event.moment c.event.action c.outcome c h × AreRight start h
 
 -- the headline of a tier that began so: what was read of each put and begin is a reading of its own bytes, each write of which an answer
--- tells has a number of its own, the answers are right, reads give what they are to give, finished bodies keep both limits, each body's entry is tracked with at least its length, and
--- what went to make room went lawfully
+-- tells has a number of its own, the answers are right, reads give what they are to give, a lock that is asked for gives the permit exactly
+-- where none waits, finished bodies keep both limits, each body's entry is tracked with at least its length, and what went to make room went
+-- lawfully
 pub record Headline (start : Opening) (h : History) : Type 0 where
   pub readings : AllByRecursion (λ c. IsRead c.event.action c.reading) h
   pub numbers : AllByRecursion CountsItsWrite h
   pub answers : AreRight start h
   pub reads : AreReadRight start h
+  pub locks : AreLockedRight h
   pub within : AreWithin start.settings.limit start.settings.watermark (changes_of start h)
   pub tracked : (w : Write Kept) → IsBody w.key w (changes_of start h) → IsTrackedBody w (changes_of start h)
   pub evictions : EvictsLawfully start.settings.shards start.settings.limit start.settings.watermark (changes_of start h)

@@ -20,11 +20,11 @@ use Rattle.tier_model.specs.Headline.{Headline}
 use Rattle.tier_model.specs.Own.{own_of, own_in}
 use Rattle.tier_model.specs.Reports.{AreAllBodies, found_answers, absent_answers, evictions}
 use Rattle.tier_model.specs.Shelf.{InFlight, Readers, Shelf, empty_shelf, readable}
-use Rattle.tier_model.specs.State.{Reader, closed, unread, spent, streaming, Request, State, empty_state}
+use Rattle.tier_model.specs.State.{Held, nothing, permit, waits, Reader, closed, unread, spent, streaming, Request, State, empty_state}
 use Rattle.tier_model.specs.Step.{Allows}
 use Rattle.tier_model.specs.After.{lock_changes, after}
 use Rattle.cache_lock.specs.Changes.{Changes as LockChanges}
-use Rattle.cache_lock.specs.Waits.{state_of as lock_of}
+use Rattle.cache_lock.specs.Waits.{names_of, state_of as lock_of}
 
 -- rows put into n shards
 abbrev pub in_shards : ℕ → List Tracked → List (List Tracked)
@@ -70,9 +70,10 @@ abbrev pub HoldsOrder : Managed → Opening → History → Type 0
 HoldsOrder m start h =
     (0 < start.settings.shards) × ((rows : List Tracked) × IsOrderOfUse rows (changes_of start h) × AreShardsOf start.settings.shards m.shards rows)
 
--- the writes that requests have are in flight, and no two of them have one number
+-- the writes that requests have are just those in flight, and no two of them have one number
 pub record HoldsWrites (start : Opening) (h : History) : Type 0 where
   pub fly : (id : ℕ) (w : Write Kept) → write_held start id h ≡ Some w → IsInFlight w (changes_of start h)
+  pub owned : (w : Write Kept) → IsInFlight w (changes_of start h) → (id : ℕ) × (write_held start id h ≡ Some w)
   pub apart : (i j : ℕ) (v w : Write Kept) → write_held start i h ≡ Some v → write_held start j h ≡ Some w → v.number ≡ w.number → i ≡ j
 
 -- what there is to read of a write is all that came of it, and whether no more comes
@@ -106,6 +107,18 @@ abbrev pub count_of : Option Readers → ℕ
 count_of None = 0
 count_of (Some r) = r.count
 
+-- how many requests hold the core of that number, by a permit or by a wait
+abbrev pub holds_by : ℕ → Held → ℕ
+holds_by n nothing = 0
+holds_by n (permit m) = if n == m then 1 else 0
+holds_by n (waits m first) = if n == m then 1 else 0
+
+abbrev pub holds : ℕ → Request → ℕ
+holds n q = holds_by n q.held
+
+abbrev pub holders : ℕ → FinMap nat_cmp Request → ℕ
+holders n requests = sum_by (holds n) (values requests)
+
 -- q is what the calls of the open request say
 pub record IsRequestOf (start : Opening) (id : ℕ) (q : Request) (h : History) : Type 0 where
   pub key : opened_for id h ≡ Some (key_of q.entry)
@@ -119,7 +132,8 @@ abbrev pub AreRequests : Opening → State → History → Type 0
 AreRequests start s h = (id : ℕ) → MatchOption (get s.requests id) (opened_for id h ≡ None) (λ q. IsRequestOf start id q h)
 
 -- the state is what the history says: its bodies and writes in flight, the order of use, the open requests with their writes and what they have to
--- read, the readers of each write, what its lock was changed, the counts, and how many writes began
+-- read, the readers of each write that has some, what its lock was changed, with each core named as often as requests hold it, the counts, and
+-- how many writes began
 pub record MatchesHistory (s : State) (start : Opening) (h : History) : Type 0 where
   pub bodies : HoldsBodies s start h
   pub flights : s.shelf.flying ≡ map plain (store_of (changes_of start h)).flying
@@ -127,8 +141,10 @@ pub record MatchesHistory (s : State) (start : Opening) (h : History) : Type 0 w
   pub held : HoldsWrites start h
   pub requests : AreRequests start s h
   pub counted : (n : ℕ) → count_of (get s.shelf.readers n) ≡ streamers n s.requests
+  pub kept : (n : ℕ) (r : Readers) → get s.shelf.readers n ≡ Some r → 0 < r.count
   pub reading : (id n place : ℕ) (q : Request) → get s.requests id ≡ Some q → q.reader ≡ streaming n place → IsReadable s.shelf n (changes_of start h)
   pub lock : s.lock ≡ lock_of start.settings.age (lock_changes_of start h)
+  pub named : (n : ℕ) → names_of n (lock_changes_of start h) ≡ holders n s.requests
   pub found : s.found ≡ saturated (found_answers h)
   pub absent : s.absent ≡ saturated (absent_answers h)
   pub evicted : s.managed.evicted_items ≡ saturated (evictions h)

@@ -1,5 +1,5 @@
 -- What the response of a put, and the head of a begin, give at the moment at which they come.
-use Rattle.std.specs.Prelude.{ℕ, Bool, false, List, [], codes, if◌then◌else◌, ◌||◌, Option, Some, None, pos, int_lt}
+use Rattle.std.specs.Prelude.{◌≡◌, ◌≤◌, ℕ, Bool, true, false, List, [], length, map, codes, if◌then◌else◌, ◌||◌, Option, Some, None, pos, int_lt}
 use Rattle.std.specs.List.{flat_map}
 use Rattle.cache_words.specs.Time.{MomentValue}
 use Rattle.cache_directives.specs.Control.{named, lines_under}
@@ -9,7 +9,9 @@ use Rattle.cache_heads.specs.declared.meta.CacheMeta.{CacheMeta}
 use Rattle.cache_heads.specs.declared.reason.NoCacheReason.{NoCacheReason}
 use Rattle.cache_heads.specs.declared.reason.RespCacheable.{RespCacheable}
 use Rattle.cache_heads.specs.declared.reason.RespCacheable.TheVariants as cacheable
-use Rattle.response_parse.specs.Response.{Reading, IsReading, parsed_of, head_of}
+use Rattle.httparse.specs.Grammar.{ResponseHead, ReadsResponse, status_code}
+use Rattle.httparse.specs.Spans.{name_and_value}
+use Rattle.response_parse.specs.Response.{Reading, IsReading, is_within_bounds, parsed_of, head_of}
 use Rattle.response_parse.specs.declared.response.Parsed.{Parsed}
 use Rattle.response_parse.specs.declared.response.Parsed.TheVariants as parsed
 use Rattle.tier_model.specs.declared.event.Action.{Action}
@@ -86,3 +88,8 @@ judged_alone arrival (Some header) = judged arrival header
 abbrev pub judged_in : MomentValue → Action → Option Reading → Option Judged
 judged_in t (Begin request head) (Some r) = Some (judged_alone t (head_of r))
 judged_in t _ _ = None
+
+-- the bytes are one head that the parser's default options read (RFC 9112), of at most 256 lines and within bounds, with nothing after it
+abbrev pub IsOneHead : List ℕ → Type 0
+IsOneHead bytes =
+    (h : ResponseHead) × ReadsResponse bytes h [] × (length h.fields ≤ 256) × (is_within_bounds (status_code h) (map name_and_value h.fields) ≡ true)

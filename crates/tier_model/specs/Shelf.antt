@@ -1,5 +1,6 @@
 -- What a tier holds of writes: finished bodies by their keys, and writes in flight with their readers.
-use Rattle.std.specs.Prelude.{ℕ, ◌+◌, ◌-◌, ◌==◌, nat_le, Bool, true, false, ◌||◌, ◌&&◌, not, List, [], ◌∷◌, ◌++◌, drop, filter, find, map, if◌then◌else◌, Option, Some, None, option_map, option_and_then}
+use Rattle.std.specs.Prelude.{ℕ, ◌+◌, ◌-◌, ◌==◌, nat_le, Bool, true, false, ◌||◌, ◌&&◌, not, List, [], ◌∷◌, ◌++◌, drop, filter, find, map, if◌then◌else◌, Option, Some, None, option_map}
+use Rattle.std.specs.Prelude.{option_and_then}
 use Rattle.std.specs.FinMap.{FinMap, empty, get, insert, remove}
 use Rattle.std.specs.Ordering.{nat_cmp}
 use Rattle.cache_heads.specs.declared.meta.CacheMeta.{CacheMeta}

@@ -19,7 +19,8 @@ use Rattle.tier_model.specs.Rows.{weight_for}
 use Rattle.tier_model.specs.Shelf.{Shelf, Look, finished, look, is_there, readable, past_place}
 use Rattle.tier_model.specs.State.{Reader, streaming, Request, State, shards_of}
 use Rattle.tier_model.specs.Checks.{refusal}
-use Rattle.tier_model.specs.Answers.{key_for, look_for, asks_now, lock_given, look_answer, polled, read_answer, used, Fits, IsKeptOut, IsStored, IsPutAnswer, IsPutFault, IsBeginAnswer, IsBeginFault, finishing, IsFinishFault}
+use Rattle.tier_model.specs.Answers.{key_for, look_for, asks_now, lock_given, look_answer, polled, read_answer, used, Fits, IsKeptOut, IsStored, IsPutAnswer, IsPutFault, IsBeginAnswer}
+use Rattle.tier_model.specs.Answers.{IsBeginFault, finishing, IsFinishFault}
 
 -- the weights can be counted after the use of what a request found
 abbrev pub UseFits : State → Request → Look → Type 0

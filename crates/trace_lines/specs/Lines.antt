@@ -1,5 +1,5 @@
 -- What a line requests: the fields of its operation, or the first refusal that holds.
-use Rattle.std.specs.Prelude.{◌≡◌, ℕ, ◌^◌, pos, nat_lt, Bool, true, false, List, [], ◌∷◌, codes, if◌then◌else◌, Option, Some, None, option_map, option_and_then, unwrap_or, Result, Ok, Err, ⊤}
+use Rattle.std.specs.Prelude.{◌≡◌, ℕ, ◌^◌, pos, nat_lt, Bool, false, List, [], ◌∷◌, codes, if◌then◌else◌, Option, Some, None, option_map, option_and_then, Result, Ok, Err}
 use Rattle.std.specs.Result.{result_ok}
 use Rattle.std.specs.Str.{bytes_eq, is_utf8}
 use Rattle.hex.specs.Hex.{decode_of}
@@ -16,7 +16,7 @@ use Rattle.trace_lines.specs.declared.line.Line.TheVariants as lines
 use Rattle.trace_lines.specs.declared.line.Refusal.{Refusal}
 use Rattle.trace_lines.specs.declared.line.Refusal.TheVariants.{NotJson, NotObject, Op, Field}
 use Rattle.trace_lines.specs.declared.line.FieldName.{FieldName}
-use Rattle.trace_lines.specs.declared.line.FieldName.TheVariants as field
+use Rattle.trace_lines.specs.declared.line.FieldName.TheVariants.{At, Id, Key, Tag, Lock, Head, Bytes, End, Pieces}
 use Rattle.trace_lines.specs.declared.line.Operation.{Operation}
 use Rattle.trace_lines.specs.declared.line.Operation.TheVariants as op
 use Rattle.trace_lines.specs.declared.line.Stop.{Stop}
@@ -45,23 +45,23 @@ abbrev pub moment_at : ℕ → Option MomentValue
 moment_at n = if nat_lt n (2 ^ 63) then Some (from_seconds (pos n)) else None
 
 abbrev pub moment_of : Data → Result MomentValue Refusal
-moment_of d = or_refused (Field field.At) (option_and_then moment_at (number_of (get (codes "at") d)))
+moment_of d = or_refused (Field At) (option_and_then moment_at (number_of (get (codes "at") d)))
 
 abbrev pub id_of : Data → Result ℕ Refusal
-id_of d = or_refused (Field field.Id) (number_of (get (codes "id") d))
+id_of d = or_refused (Field Id) (number_of (get (codes "id") d))
 
 -- the bytes that pairs of hex digits of either case spell
 abbrev pub hex_bytes : List ℕ → Option (List ℕ)
 hex_bytes text = result_ok (decode_of text)
 
--- the bytes that a key names
-abbrev pub primary_of : Data → Result (List ℕ) Refusal
-primary_of d = or_refused (Field field.Key) (option_and_then hex_bytes (text_of (get (codes "key") d)))
+-- the bytes that a field spells so
+abbrev pub spelled_in : FieldName → Option Data → Result (List ℕ) Refusal
+spelled_in field value = or_refused (Field field) (option_and_then hex_bytes (text_of value))
 
 -- true or false, and false where the field is left out
-abbrev pub flag_in : Option Data → Option Bool
-flag_in None = Some false
-flag_in (Some d) = as_bool d
+abbrev pub flag_in : FieldName → Option Data → Result Bool Refusal
+flag_in field None = Ok false
+flag_in field (Some d) = or_refused (Field field) (as_bool d)
 
 -- any text, and the empty one where the field is left out
 abbrev pub tag_in : Option Data → Option (List ℕ)
@@ -69,32 +69,34 @@ tag_in None = Some []
 tag_in (Some d) = as_str d
 
 abbrev pub tag_of : Data → Result (List ℕ) Refusal
-tag_of d = or_refused (Field field.Tag) (tag_in (get (codes "tag") d))
+tag_of d = or_refused (Field Tag) (tag_in (get (codes "tag") d))
 
--- whether the lock is asked for
+-- whether a request asks for the permit to write
 abbrev pub lock_of : Data → Result Bool Refusal
-lock_of d = or_refused (Field field.Lock) (flag_in (get (codes "lock") d))
+lock_of d = flag_in Lock (get (codes "lock") d)
 
--- whether no more comes
-abbrev pub end_of : Data → Result Bool Refusal
-end_of d = or_refused (Field field.End) (flag_in (get (codes "end") d))
-
+-- the bytes that a key names, and its tag
 abbrev pub key_of : Data → Result CacheKeyValue Refusal
 key_of d = do
-  primary ← primary_of d
+  primary ← spelled_in Key (get (codes "key") d)
   tag ← tag_of d
   Ok (record { primary = primary; primary_bin_override = None; variance = None; user_tag = tag })
+
+-- the head of a response
+abbrev pub head_of : Data → Result (List ℕ) Refusal
+head_of d = spelled_in Head (get (codes "head") d)
+
+-- the bytes of a part of a body
+abbrev pub part_of : Data → Result (List ℕ) Refusal
+part_of d = spelled_in Bytes (get (codes "bytes") d)
+
+-- whether the part is the last
+abbrev pub end_of : Data → Result Bool Refusal
+end_of d = flag_in End (get (codes "end") d)
 
 -- the bytes of a hex text, of either case
 abbrev pub bytes_of : Data → Option (List ℕ)
 bytes_of d = option_and_then hex_bytes (as_str d)
-
--- the head of a response, and bytes of a body
-abbrev pub head_of : Data → Result (List ℕ) Refusal
-head_of d = or_refused (Field field.Head) (option_and_then bytes_of (get (codes "head") d))
-
-abbrev pub piece_of : Data → Result (List ℕ) Refusal
-piece_of d = or_refused (Field field.Bytes) (option_and_then bytes_of (get (codes "bytes") d))
 
 abbrev pub all_bytes_of : Items → Option (List (List ℕ))
 all_bytes_of no_items = Some []
@@ -102,20 +104,20 @@ all_bytes_of (item d ds) = option_and_then (λ b. option_map (λ bs. b ∷ bs) (
 
 -- an array of hex texts
 abbrev pub pieces_of : Data → Result (List (List ℕ)) Refusal
-pieces_of d = or_refused (Field field.Pieces) (option_and_then all_bytes_of (option_and_then as_array (get (codes "pieces") d)))
+pieces_of d = or_refused (Field Pieces) (option_and_then all_bytes_of (option_and_then as_array (get (codes "pieces") d)))
 
 abbrev pub operation_named : List ℕ → Option Operation
 operation_named name =
-    if bytes_eq name (codes "open") then Some op.Open
+    if bytes_eq name (codes "put") then Some op.Put
+    else if bytes_eq name (codes "open") then Some op.Open
     else if bytes_eq name (codes "look") then Some op.LookUp
-    else if bytes_eq name (codes "poll") then Some op.Poll
-    else if bytes_eq name (codes "begin") then Some op.Begin
-    else if bytes_eq name (codes "piece") then Some op.Piece
-    else if bytes_eq name (codes "finish") then Some op.Finish
     else if bytes_eq name (codes "read") then Some op.Read
     else if bytes_eq name (codes "drop") then Some op.Drop
+    else if bytes_eq name (codes "piece") then Some op.Piece
+    else if bytes_eq name (codes "begin") then Some op.Begin
+    else if bytes_eq name (codes "finish") then Some op.Finish
+    else if bytes_eq name (codes "poll") then Some op.Poll
     else if bytes_eq name (codes "purge") then Some op.Purge
-    else if bytes_eq name (codes "put") then Some op.Put
     else None
 
 abbrev pub operation_of : Data → Result Operation Refusal
@@ -140,9 +142,9 @@ action_of op.Begin d = do
   Ok (Begin id head)
 action_of op.Piece d = do
   id ← id_of d
-  bytes ← piece_of d
-  last ← end_of d
-  Ok (Piece id bytes last)
+  bytes ← part_of d
+  end ← end_of d
+  Ok (Piece id bytes end)
 action_of op.Finish d = do
   id ← id_of d
   Ok (Finish id)

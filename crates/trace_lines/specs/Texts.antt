@@ -3,20 +3,20 @@ use Rattle.std.specs.Prelude.{ℕ, Bool, true, false, List, [], ◌∷◌, ◌++
 use Rattle.std.specs.Fmt.{decimal}
 use Rattle.hex.specs.Hex.{encode_lower}
 use Rattle.cache_heads.specs.Reasons.{reason_name}
-use Rattle.tier_model.specs.declared.event.Answer.{Answer}
-use Rattle.tier_model.specs.declared.event.Answer.TheVariants.{Opened, Found, Absent, Waited, Begun, Written, Bytes, Pending, End, Dropped, Purged, Finished, Uncacheable}
-use Rattle.tier_model.specs.declared.event.TierFault.{TierFault}
-use Rattle.tier_model.specs.declared.event.TierFault.TheVariants.{NoRequest, IdInUse, WrongPhase, Waiting, AfterEnd, BadHead, WriteRemoved, BeforeEpoch, Incomplete, NumbersSpent, TooHeavy, TooLong, Memory, Folder, NoRecord}
-use Rattle.tier_model.specs.declared.event.LockGiven.{LockGiven}
-use Rattle.tier_model.specs.declared.event.LockGiven.TheVariants as given
 use Rattle.cache_lock.specs.declared.status.LockStatus.{LockStatus}
 use Rattle.cache_lock.specs.declared.status.LockStatus.TheVariants as status
+use Rattle.tier_model.specs.declared.event.LockGiven.{LockGiven}
+use Rattle.tier_model.specs.declared.event.LockGiven.TheVariants as lock
+use Rattle.tier_model.specs.declared.event.Answer.{Answer}
+use Rattle.tier_model.specs.declared.event.Answer.TheVariants as answer
+use Rattle.tier_model.specs.declared.event.TierFault.{TierFault}
+use Rattle.tier_model.specs.declared.event.TierFault.TheVariants.{NoRequest, IdInUse, WrongPhase, Waiting, AfterEnd, BadHead, WriteRemoved, BeforeEpoch, Incomplete, NumbersSpent, TooHeavy, TooLong, Memory, Folder, NoRecord}
 use Rattle.tier_model.specs.declared.report.Report.{Report}
 use Rattle.tier_model.specs.Calls.{Outcome}
 use Rattle.trace_lines.specs.declared.line.Refusal.{Refusal}
 use Rattle.trace_lines.specs.declared.line.Refusal.TheVariants.{NotJson, NotObject, Op, Field}
 use Rattle.trace_lines.specs.declared.line.FieldName.{FieldName}
-use Rattle.trace_lines.specs.declared.line.FieldName.TheVariants as field
+use Rattle.trace_lines.specs.declared.line.FieldName.TheVariants.{At, Id, Key, Tag, Lock, Head, Bytes, End, Pieces}
 
 -- a fault's number and name
 abbrev pub fault_label : TierFault → ℕ × List ℕ
@@ -44,6 +44,30 @@ abbrev pub extent_text : Bool → List ℕ
 extent_text true = codes "complete"
 extent_text false = codes "partial"
 
+abbrev pub found_text : Bool → Bool → List ℕ
+found_text fresh complete = codes "found " ++ (freshness_text fresh ++ (codes " " ++ extent_text complete))
+
+-- what was got of the permit to write
+abbrev pub lock_text : LockGiven → List ℕ
+lock_text lock.None = codes " lock=none"
+lock_text lock.Write = codes " lock=write"
+lock_text lock.Read = codes " lock=read"
+
+-- how a wait ended
+abbrev pub status_text : LockStatus → List ℕ
+status_text status.Waiting = codes "waiting"
+status_text status.Done = codes "done"
+status_text status.TransientError = codes "transient-error"
+status_text status.GiveUp = codes "give-up"
+status_text status.Dangling = codes "dangling"
+status_text status.WaitTimeout = codes "wait-timeout"
+status_text status.AgeTimeout = codes "age-timeout"
+
+-- none: it goes on
+abbrev pub waited_text : Option LockStatus → List ℕ
+waited_text None = codes "pending"
+waited_text (Some status) = codes "waited " ++ status_text status
+
 -- lower-case hex; a hyphen where there are none
 abbrev pub bytes_text : List ℕ → List ℕ
 bytes_text [] = codes "-"
@@ -53,59 +77,41 @@ abbrev pub purged_text : Bool → List ℕ
 purged_text true = codes "purged"
 purged_text false = codes "nothing"
 
-abbrev pub lock_text : LockGiven → List ℕ
-lock_text given.None = codes "lock=none"
-lock_text given.Write = codes "lock=write"
-lock_text given.Read = codes "lock=read"
-
-abbrev pub found_text : Bool → Bool → List ℕ
-found_text fresh complete = codes "found " ++ (freshness_text fresh ++ (codes " " ++ extent_text complete))
-
--- how a wait ended, or that it goes on
-abbrev pub waited_text : Option LockStatus → List ℕ
-waited_text (Some status.Done) = codes "waited done"
-waited_text (Some status.TransientError) = codes "waited transient-error"
-waited_text (Some status.GiveUp) = codes "waited give-up"
-waited_text (Some status.Dangling) = codes "waited dangling"
-waited_text (Some status.AgeTimeout) = codes "waited age-timeout"
-waited_text (Some status.WaitTimeout) = codes "waited wait-timeout"
-waited_text _ = codes "pending"
-
 abbrev pub answer_text : Answer → List ℕ
-answer_text Opened = codes "opened"
-answer_text (Found fresh complete lock) = found_text fresh complete ++ (codes " " ++ lock_text lock)
-answer_text (Absent lock) = codes "absent " ++ lock_text lock
-answer_text (Waited outcome) = waited_text outcome
-answer_text Begun = codes "begun"
-answer_text Written = codes "written"
-answer_text Pending = codes "pending"
-answer_text (Bytes bytes) = codes "bytes " ++ bytes_text bytes
-answer_text End = codes "end"
-answer_text Dropped = codes "dropped"
-answer_text (Purged was_stored) = purged_text was_stored
-answer_text (Uncacheable reason) = codes "uncacheable " ++ reason_name reason
-answer_text (Finished size evicted) = codes "finished " ++ (decimal size ++ (codes " evicted=" ++ decimal (length evicted)))
+answer_text answer.Opened = codes "opened"
+answer_text (answer.Found fresh complete lock) = found_text fresh complete ++ lock_text lock
+answer_text (answer.Absent lock) = codes "absent" ++ lock_text lock
+answer_text (answer.Waited status) = waited_text status
+answer_text answer.Begun = codes "begun"
+answer_text answer.Written = codes "written"
+answer_text (answer.Bytes bytes) = codes "bytes " ++ bytes_text bytes
+answer_text answer.Pending = codes "pending"
+answer_text answer.End = codes "end"
+answer_text answer.Dropped = codes "dropped"
+answer_text (answer.Purged was_stored) = purged_text was_stored
+answer_text (answer.Uncacheable reason) = codes "uncacheable " ++ reason_name reason
+answer_text (answer.Finished size evicted) = codes "finished " ++ (decimal size ++ (codes " evicted=" ++ decimal (length evicted)))
 
 abbrev pub outcome_text : Outcome → List ℕ
 outcome_text (Ok answer) = answer_text answer
 outcome_text (Err fault) = codes "fault " ++ (decimal (fault_label fault).0 ++ (codes " " ++ (fault_label fault).1))
 
 abbrev pub field_text : FieldName → List ℕ
-field_text field.At = codes "at"
-field_text field.Id = codes "id"
-field_text field.Key = codes "key"
-field_text field.Tag = codes "tag"
-field_text field.Lock = codes "lock"
-field_text field.Head = codes "head"
-field_text field.Bytes = codes "bytes"
-field_text field.End = codes "end"
-field_text field.Pieces = codes "pieces"
+field_text At = codes "at"
+field_text Id = codes "id"
+field_text Key = codes "key"
+field_text Tag = codes "tag"
+field_text Lock = codes "lock"
+field_text Head = codes "head"
+field_text Bytes = codes "bytes"
+field_text End = codes "end"
+field_text Pieces = codes "pieces"
 
 abbrev pub reason_text : Refusal → List ℕ
 reason_text NotJson = codes "NotJson"
 reason_text NotObject = codes "NotObject"
 reason_text Op = codes "Op"
-reason_text (Field f) = codes "Field " ++ field_text f
+reason_text (Field field) = codes "Field " ++ field_text field
 
 abbrev pub refusal_text : Refusal → List ℕ
 refusal_text refusal = codes "refused " ++ reason_text refusal

@@ -111,7 +111,7 @@ fn piece(alloc: Global, value: &Value<'_>) -> Result<Action, Stop>
     ensures { IsRead result (action_of Operation.Piece (seen value.now)) }
 {
     let request = fields::id(value)?;
-    let bytes = fields::piece(alloc, value)?;
+    let bytes = fields::part(alloc, value)?;
     let end = fields::end(value)?;
     Ok(Action::Piece {
         request,

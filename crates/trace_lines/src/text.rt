@@ -1,13 +1,13 @@
 //! Writing a line. Each is added to what waits, with the line feed that ends it. The only error is out of memory, which leaves what waits
 //! as it was.
 ghost use Rattle.std.specs.Prelude.{◌≡◌, ◌++◌, ◌∷◌, ◌+◌, ◌≤◌, [], codes, decimal, IfOk, OnOk, OnErr, IsOk, string_bytes, vec_len, vec_capacity};
-ghost use Rattle.trace_lines.specs.Texts.{fault_label, bytes_text, lock_text, found_text, answer_text, outcome_text, field_text, reason_text, refusal_text, look_ups_text, bodies_text, entries_text, report_text};
+ghost use Rattle.trace_lines.specs.Texts.{fault_label, found_text, lock_text, waited_text, bytes_text, answer_text, outcome_text, field_text, reason_text, refusal_text, look_ups_text, bodies_text, entries_text, report_text};
 
 use crate::hex_text;
 use crate::line::{FieldName, Refusal};
+use cache_lock::LockStatus;
 use itoa::Buffer;
 use std::alloc::{AllocError, Global};
-use cache_lock::LockStatus;
 use tier_model::event::{Answer, LockGiven, TierFault};
 use tier_model::report::Report;
 
@@ -62,13 +62,13 @@ fn add_answer_line(alloc: Global, out: &mut Vec<u8>, answer: &Answer) -> Result<
             fresh,
             complete,
             lock,
-        } => add_found_line(alloc, out, *fresh, *complete, *lock),
-        Answer::Absent { lock } => add_line(out, absent_text(*lock)),
-        Answer::Waited(outcome) => add_line(out, waited_text(*outcome)),
+        } => add_look_up_line(out, found_text(*fresh, *complete), *lock),
+        Answer::Absent { lock } => add_look_up_line(out, "absent", *lock),
+        Answer::Waited(status) => add_line(out, waited_text(*status)),
         Answer::Begun => add_line(out, "begun"),
         Answer::Written => add_line(out, "written"),
-        Answer::Pending => add_line(out, "pending"),
         Answer::Bytes(bytes) => add_bytes_line(out, bytes.as_slice()),
+        Answer::Pending => add_line(out, "pending"),
         Answer::End => add_line(out, "end"),
         Answer::Dropped => add_line(out, "dropped"),
         Answer::Purged(was_stored) => {
@@ -111,28 +111,6 @@ fn add_number(out: &mut Vec<u8>, number: usize) -> Result<(), AllocError>
     out.extend_from_slice(buffer.format(number).as_bytes())
 }
 
-// What a look-up got of the permit.
-fn lock_text(lock: LockGiven) -> &'static str
-    ensures { result.now ≡ lock_text lock }
-{
-    match lock {
-        LockGiven::None => "lock=none",
-        LockGiven::Write => "lock=write",
-        LockGiven::Read => "lock=read",
-    }
-}
-
-fn absent_text(lock: LockGiven) -> &'static str
-    ensures { result.now ≡ answer_text (Answer.Absent lock) }
-{
-    match lock {
-        LockGiven::None => "absent lock=none",
-        LockGiven::Write => "absent lock=write",
-        LockGiven::Read => "absent lock=read",
-    }
-}
-
-// What was found, most often without a lock.
 fn found_text(fresh: bool, complete: bool) -> &'static str
     ensures { result.now ≡ found_text fresh complete }
 {
@@ -144,28 +122,35 @@ fn found_text(fresh: bool, complete: bool) -> &'static str
     }
 }
 
-fn add_found_line(
-    alloc: Global,
-    out: &mut Vec<u8>,
-    fresh: bool,
-    complete: bool,
-    lock: LockGiven,
-) -> Result<(), AllocError>
-    ensures ok { OnOk result (out.new.items ≡ out.old.items ++ (answer_text (Answer.Found fresh complete lock) ++ 10 ∷ [])) }
+// Adds what a look-up found, and what it got of the lock. Both go where the line waits, as this answers each look-up.
+fn add_look_up_line(out: &mut Vec<u8>, found: &str, lock: LockGiven) -> Result<(), AllocError>
+    ensures ok { OnOk result (out.new.items ≡ out.old.items ++ ((found.now ++ lock_text lock) ++ 10 ∷ [])) }
     ensures err { OnErr result (out.new.items ≡ out.old.items) }
 {
-    let found = found_text(fresh, complete);
     let lock = lock_text(lock);
-    let mut text = empty_text(alloc)?;
-    write!(text, "{found} {lock}")?;
-    add_line(out, text.as_str())
+    out.reserve(found.len() + lock.len() + 1)?;
+    out.extend_from_slice(found.as_bytes())?;
+    out.extend_from_slice(lock.as_bytes())?;
+    out.push_reserved(b'\n');
+    Ok(())
 }
 
-fn waited_text(outcome: Option<LockStatus>) -> &'static str
-    ensures { result.now ≡ answer_text (Answer.Waited outcome) }
+fn lock_text(lock: LockGiven) -> &'static str
+    ensures { result.now ≡ lock_text lock }
 {
-    match outcome {
-        None | Some(LockStatus::Waiting) => "pending",
+    match lock {
+        LockGiven::None => " lock=none",
+        LockGiven::Write => " lock=write",
+        LockGiven::Read => " lock=read",
+    }
+}
+
+fn waited_text(status: Option<LockStatus>) -> &'static str
+    ensures { result.now ≡ waited_text status }
+{
+    match status {
+        None => "pending",
+        Some(LockStatus::Waiting) => "waited waiting",
         Some(LockStatus::Done) => "waited done",
         Some(LockStatus::TransientError) => "waited transient-error",
         Some(LockStatus::GiveUp) => "waited give-up",

@@ -1,5 +1,6 @@
 -- What the words of a command line give.
-use Rattle.std.specs.Prelude.{◌≡◌, ℕ, Bool, true, false, ◌<◌, ◌^◌, bytes_eq, if◌then◌else◌, List, codes, Option, Some, None, option_map, Result, Ok, Err, ⊤, []}
+use Rattle.std.specs.Prelude.{◌≡◌, ℕ, Bool, true, false, ◌<◌, ◌^◌, bytes_eq, if◌then◌else◌, List, codes, Option, Some, None, option_map, Result, Ok, Err, ⊤, [], ◌∷◌, ◌++◌}
+use Rattle.std.specs.List.{AllByRecursion}
 use Rattle.std.specs.Str.Parse.{IsNumeral, digits_value, without_leading_plus}
 use Rattle.clap.specs.Values.{kind_of}
 use Rattle.clap.specs.declared.error.kind.ErrorKind.TheVariants.{InvalidValue, ValueValidation}
@@ -32,12 +33,12 @@ abbrev pub limited_app : App
 limited_app = with_rule (with_rule named_app (option_rule (codes "limit") true)) (option_rule (codes "watermark") false)
 
 -- the same with `[--shards COUNT] [--seed SEED]`
-abbrev pub seeded_app : App
-seeded_app = with_rule (with_rule limited_app (option_rule (codes "shards") false)) (option_rule (codes "seed") false)
+abbrev pub drawn_app : App
+drawn_app = with_rule (with_rule limited_app (option_rule (codes "shards") false)) (option_rule (codes "seed") false)
 
 -- the same with `[--age SECONDS] [--wait SECONDS]`
-abbrev pub app : App
-app = with_rule (with_rule seeded_app (option_rule (codes "age") false)) (option_rule (codes "wait") false)
+unfoldable pub app : App
+app = with_rule (with_rule drawn_app (option_rule (codes "age") false)) (option_rule (codes "wait") false)
 
 -- the text that the words give an option
 abbrev pub value_of : Text → List Text → Option Text
@@ -76,25 +77,28 @@ abbrev pub shards_in : Option Text → Option ShardCount
 shards_in None = Some One
 shards_in (Some text) = shards_named text
 
--- limit and watermark are right
-abbrev pub HasLimits : List Text → Type 0
-HasLimits words = ((n : ℕ) × IsGiven (value_of (codes "limit") words) (Some n)) × ((w : Option ℕ) × IsGiven (value_of (codes "watermark") words) w)
+-- the value of an option is wrong
+abbrev pub IsWrongValueOf : OptionName → Option Text → Type 0
+IsWrongValueOf Shards value = shards_in value ≡ None
+IsWrongValueOf name value = IsWrong value
 
--- they and the number of shards are right, and then the seed too
-abbrev pub HasShards : List Text → Type 0
-HasShards words = ((k : ShardCount) × (shards_in (value_of (codes "shards") words) ≡ Some k)) × HasLimits words
+-- the value of an option is right; the limit has to be given
+abbrev pub IsRightValueOf : OptionName → Option Text → Type 0
+IsRightValueOf Limit value = (n : ℕ) × IsGiven value (Some n)
+IsRightValueOf Shards value = (count : ShardCount) × (shards_in value ≡ Some count)
+IsRightValueOf name value = (n : Option ℕ) × IsGiven value n
 
-abbrev pub HasSeed : List Text → Type 0
-HasSeed words = ((s : Option ℕ) × IsGiven (value_of (codes "seed") words) s) × HasShards words
+-- the options in the order in which their values are read
+abbrev pub in_order : List OptionName
+in_order = Limit ∷ Watermark ∷ Shards ∷ Seed ∷ Age ∷ Wait ∷ []
 
--- the option is the first whose value is wrong, in the order limit, watermark, shards, seed, age, wait
-abbrev pub IsFirstWrong : List Text → OptionName → Type 0
-IsFirstWrong words Limit = IsWrong (value_of (codes "limit") words)
-IsFirstWrong words Watermark = IsWrong (value_of (codes "watermark") words) × ((n : ℕ) × IsGiven (value_of (codes "limit") words) (Some n))
-IsFirstWrong words Shards = (shards_in (value_of (codes "shards") words) ≡ None) × HasLimits words
-IsFirstWrong words Seed = IsWrong (value_of (codes "seed") words) × HasShards words
-IsFirstWrong words Age = IsWrong (value_of (codes "age") words) × HasSeed words
-IsFirstWrong words Wait = IsWrong (value_of (codes "wait") words) × ((a : Option ℕ) × IsGiven (value_of (codes "age") words) a) × HasSeed words
+-- the option is the first in that order whose value is wrong
+pub record IsFirstWrong (words : List Text) (name : OptionName) : Type 0 where
+  pub before : List OptionName
+  pub after : List OptionName
+  pub place : in_order ≡ before ++ name ∷ after
+  pub right : AllByRecursion (λ option. IsRightValueOf option (value_of (name_of option) words)) before
+  pub wrong : IsWrongValueOf name (value_of (name_of name) words)
 
 -- why the words give no options; memory may have run out instead
 abbrev pub IsFault : List Text → OptionsError → Type 0

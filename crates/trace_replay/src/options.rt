@@ -5,7 +5,7 @@ ghost use Rattle.clap.specs.Faults.{fault_of};
 ghost use Rattle.clap.specs.Matches.{found_of, first_value};
 ghost use Rattle.clap.specs.Simple.{HasMatchesOf, app_of};
 ghost use Rattle.clap.specs.Walk.{rule_of};
-ghost use Rattle.trace_replay.specs.CommandLine.{limited_app, seeded_app, app, name_of, named_app, option_rule, value_of, IsGiven, IsFault, IsWrongValue, IsReadNumber, IsReadShards, shards_named, shards_in, IsUnreadable};
+ghost use Rattle.trace_replay.specs.CommandLine.{limited_app, drawn_app, app, name_of, named_app, option_rule, value_of, IsGiven, IsFault, IsWrongValue, IsReadNumber, IsReadShards, shards_named, shards_in, IsUnreadable};
 
 use clap::error::ErrorKind;
 use clap::{Arg, ArgMatches, Command};
@@ -21,6 +21,9 @@ const ABOUT: &str =
 const STATUSES: &str =
     "Exit status: 0; 1 on an I/O error or out of memory; 2 on a bad command line.";
 
+// The age of a permit where none is given, in seconds.
+const USUAL_AGE: u64 = 10;
+
 const A_NUMBER: &str = "a number from 0 to 18446744073709551615";
 
 /// How a trace is replayed.
@@ -34,9 +37,9 @@ pub struct ReplayOptions {
     pub shards: ShardCount,
     /// The seed of the generator whose words pick the evicted entries.
     pub seed: u64,
-    /// How long a permit is waited for at most, in seconds.
+    /// The seconds after which others no longer wait for a permit.
     pub age: u64,
-    /// How long a request waits in all, in seconds, if that has a bound.
+    /// The seconds for which a request waits at most, if its waits have a bound.
     pub wait: Option<u64>,
 }
 
@@ -129,7 +132,7 @@ pub fn options<'a, S: AsStr>(alloc: Global, words: &'a [S]) -> Result<ReplayOpti
         watermark,
         shards,
         seed: seed.unwrap_or(0),
-        age: age.unwrap_or(10),
+        age: age.unwrap_or(USUAL_AGE),
         wait,
     })
 }
@@ -242,8 +245,20 @@ fn matches<'a, S: AsStr>(alloc: Global, words: &'a [S]) -> Result<ArgMatches<'a>
     }
 }
 
-fn seeded<'a>(alloc: Global) -> Result<Command<'a>, AllocError>
-    ensures { IfOk result (λ c. app_of c ≡ seeded_app) }
+fn command<'a>(alloc: Global) -> Result<Command<'a>, AllocError>
+    ensures { IfOk result (λ c. app_of c ≡ app) }
+{
+    let age = option(alloc, "age", "SECONDS", false).help(
+        "How long others wait for one permit to write before the next is given [default: 10]",
+    );
+    let wait = option(alloc, "wait", "SECONDS", false).help(
+        "How long a request waits for the permits of others in all [default: no bound]",
+    );
+    drawn(alloc)?.arg(age)?.arg(wait)
+}
+
+fn drawn<'a>(alloc: Global) -> Result<Command<'a>, AllocError>
+    ensures { IfOk result (λ c. app_of c ≡ drawn_app) }
 {
     let shards = option(alloc, "shards", "COUNT", false).help(
         "How many shards the order of use has: 1, 4 or 16 [default: 1]",
@@ -252,19 +267,6 @@ fn seeded<'a>(alloc: Global) -> Result<Command<'a>, AllocError>
         "The seed of the generator that picks the evicted entries [default: 0]",
     );
     limited(alloc)?.arg(shards)?.arg(seed)
-}
-
-// The command with the options on waits.
-fn command<'a>(alloc: Global) -> Result<Command<'a>, AllocError>
-    ensures { IfOk result (λ c. app_of c ≡ app) }
-{
-    let age = option(alloc, "age", "SECONDS", false).help(
-        "How long a permit to write is waited for at most [default: 10]",
-    );
-    let wait = option(alloc, "wait", "SECONDS", false).help(
-        "How long a request waits for permits in all [default: no bound]",
-    );
-    seeded(alloc)?.arg(age)?.arg(wait)
 }
 
 fn limited<'a>(alloc: Global) -> Result<Command<'a>, AllocError>

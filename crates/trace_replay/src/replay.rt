@@ -151,7 +151,7 @@ fn tier_for<const N: usize>(
 {
     let watermark = options.watermark.map(|entries| entries as usize);
     let age = Duration::from_seconds(options.age);
-    let wait = options.wait.map(|seconds| Duration::from_seconds(seconds));
+    let wait = options.wait.map(Duration::from_seconds);
     Tier::with_hasher(alloc, hasher, options.limit as usize, watermark, age, wait)
 }
 

@@ -4,42 +4,52 @@ use trace_replay::options::{OptionsError, ReplayOptions, ShardCount, options};
 use trace_replay::replay::ReplayError;
 use trace_replay::status::{Fault, status};
 
-// The words of a command line, its limit and its watermark.
-const READ: &[(&[&str], u64, Option<u64>)] = &[
-    (&["tier-replay", "--limit=+5"], 5, None),
+// The words of a command line, and its options.
+const READ: &[(&[&str], ReplayOptions)] = &[
+    (
+        &["tier-replay", "--limit=+5"],
+        ReplayOptions {
+            limit: 5,
+            watermark: None,
+            shards: ShardCount::One,
+            seed: 0,
+            age: 10,
+            wait: None,
+        },
+    ),
     (
         &[
             "tier-replay",
+            "--wait",
+            "0",
             "--watermark",
             "05",
+            "--age=18446744073709551615",
             "--limit",
             "18446744073709551615",
         ],
-        18446744073709551615,
-        Some(5),
+        ReplayOptions {
+            limit: 18446744073709551615,
+            watermark: Some(5),
+            shards: ShardCount::One,
+            seed: 0,
+            age: 18446744073709551615,
+            wait: Some(0),
+        },
     ),
 ];
 
-fn is_read(alloc: Global, words: &[&str], limit: u64, watermark: Option<u64>) -> bool {
-    let want = ReplayOptions {
-        limit,
-        watermark,
-        shards: ShardCount::One,
-        seed: 0,
-    };
+fn is_read(alloc: Global, words: &[&str], want: &ReplayOptions) -> bool {
     match options(alloc, words) {
-        Ok(given) => given == want,
+        Ok(given) => given == *want,
         Err(_) => false,
     }
 }
 
 #[test]
 fn options_are_read(rt: HostRuntime) {
-    for &(words, limit, watermark) in READ {
-        assert!(rt;
-            is_read(rt.alloc(), words, limit, watermark),
-            "at {words:?}"
-        );
+    for (words, want) in READ {
+        assert!(rt; is_read(rt.alloc(), words, want), "at {words:?}");
     }
 }
 
@@ -86,9 +96,19 @@ const ENDS: &[(&[&str], u8, &str)] = &[
         "error: invalid value '2' for '--shards': 1, 4 or 16 is wanted",
     ),
     (
-        &["tier-replay", "--limit=1", "--age=1"],
+        &["tier-replay", "--limit=1", "--wait=-1", "--age=x"],
         2,
-        "error: unexpected argument '--age' found",
+        "error: invalid value 'x' for '--age': a number from 0 to 18446744073709551615 is wanted",
+    ),
+    (
+        &["tier-replay", "--limit=1", "--wait=-1", "--age=0"],
+        2,
+        "error: invalid value '-1' for '--wait'",
+    ),
+    (
+        &["tier-replay", "--limit=1", "--old=1"],
+        2,
+        "error: unexpected argument '--old' found",
     ),
     (
         &["tier-replay", "--help"],

@@ -32,6 +32,8 @@ fn a_fault_of_the_reader_ends_the_run(rt: HostRuntime) {
             watermark: None,
             shards: ShardCount::One,
             seed: 0,
+            age: 10,
+            wait: None,
         };
         let outcome = run(rt.alloc(), HASHER, &mut reader, &mut written, &options).map_err(
             Fault::Replay,
@@ -57,6 +59,8 @@ fn long_lines_are_read_whole(rt: HostRuntime) -> Result<(), Fail> {
             watermark: None,
             shards: ShardCount::One,
             seed: 0,
+            age: 10,
+            wait: None,
         };
         let outcome = run(rt.alloc(), HASHER, &mut reader, &mut written, &options);
         assert!(rt; outcome.is_err());
@@ -105,6 +109,8 @@ fn a_fault_of_the_writer_ends_the_run(rt: HostRuntime) {
             watermark: None,
             shards: ShardCount::One,
             seed: 0,
+            age: 10,
+            wait: None,
         };
         let outcome = run(rt.alloc(), HASHER, &mut reader, &mut writer, &options).map_err(
             Fault::Replay,
@@ -146,6 +152,8 @@ fn out_of_memory_changes_no_line(rt: HostRuntime) {
         watermark: None,
         shards: ShardCount::One,
         seed: 0,
+        age: 10,
+        wait: None,
     };
     match run(rt.alloc(), HASHER, &mut reader, &mut written, &options) {
         Ok(()) | Err(ReplayError::Memory) => {
