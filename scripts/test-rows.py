@@ -2,7 +2,7 @@
 """Prints the rows of the tests, one a line, so that two forms of them can be compared:
 
     python3 scripts/test-rows.py [FOLDER] > after
-    git worktree add /tmp/before HEAD~1 && python3 scripts/test-rows.py /tmp/before > before
+    git worktree add ../before HEAD~1 && python3 scripts/test-rows.py ../before > before
     diff before after
 
 A row is an element of a table (a constant slice or array, or the array that a loop goes over) as `TABLE: ROW`, a test as
