@@ -4,4 +4,5 @@ pub mod ReadingLaws
 pub mod ShelfLaws
 pub mod EndLaws
 pub mod PollLaws
+pub mod StepLaws
 pub mod BelowLaws

@@ -1,22 +1,32 @@
 -- A request to a cache as a plain record, and what is so of each request of a tier.
 use Rattle.std.specs.Prelude.{◌≡◌, ℕ, Bool, true, false, List, Option, Some, None, is_some}
 use Rattle.cache_words.specs.Time.{MomentValue, DurationValue}
+use Rattle.cache_words.specs.Key.{CacheKeyValue}
 use Rattle.cache_lock.specs.declared.tokens.Locked.{Locked}
 use Rattle.cache_lock.specs.declared.tokens.Locked.TheVariants.{Write, Read}
 use Rattle.cache_phases.specs.declared.phase.CachePhase.{CachePhase}
 use Rattle.cache_phases.specs.declared.phase.CachePhase.TheVariants as phases
 use Rattle.cache_phases.specs.declared.request_lock.RequestLock.{RequestLock}
 use Rattle.cache_phases.specs.Phases.{is_disabled, is_never_enabled}
-use Rattle.cache_phases.specs.Locks.{is_on, timeout_of, held as lock_held}
+use Rattle.cache_phases.specs.Locks.{is_on, timeout_of, lock_set, held as lock_held}
 use Rattle.mem_cache.specs.declared.handlers.MemHitHandler.{MemHitHandler}
 use Rattle.mem_cache.specs.declared.handlers.MemHitHandler.TheVariants.{Complete, Partial}
-use Rattle.http_cache.specs.Request.{Request as CacheRequest, HoldsNothing}
+use Rattle.http_cache.specs.Request.{Request as CacheRequest, HoldsNothing, unused}
 use Rattle.http_cache.specs.Founds.{entry_at}
 use Rattle.tier_model.specs.State.{Phase, cache_key, hit, stale, miss, begun, disabled, Held, nothing, permit, waits, Reader, closed, unread, spent, streaming, Request}
 
 -- a request to the store in memory: its readers are handlers, and its writer is the number of its write
 abbrev pub Driven : Type 0
 Driven = CacheRequest MemHitHandler ℕ
+
+-- just opened, under a key
+abbrev pub opened_with : CacheKeyValue → Bool → Option DurationValue → Driven
+opened_with key asks wait = record unused {
+  phase = phases.CacheKey;
+  key = Some key;
+  evicts = true;
+  lock = lock_set asks (Some (record { wait_timeout = wait; max_lock_retries = None }));
+}
 
 -- by whether there is a meta: a miss with one has begun its write
 abbrev pub phase_in : CachePhase → Bool → Phase

@@ -7,6 +7,7 @@ ghost use Rattle.tier_model.specs.State.{closed};
 ghost use Rattle.tier_model.specs.After.{opened_request, leave_of, turned, on_write};
 ghost use Rattle.tier_model.specs.Shelf.{landed};
 ghost use Rattle.tier_requests.specs.Shelves.{shelf_of};
+ghost use Rattle.tier_requests.specs.Plain.{opened_with};
 
 use crate::keys::kept_key;
 use bytes::Bytes;
@@ -55,6 +56,29 @@ impl<S: BuildHasher> Model for Request<S> {
     ghost invariant = { λ r. IsDriven r.cache r.asks r.wait r.unread };
 }
 
+// A request to a cache under that key.
+fn opened<S: BuildHasher>(
+    key: CacheKey,
+    asks: bool,
+    wait: Option<Duration>,
+) -> HttpCache<MemCache<S>>
+    ensures { result ≡ opened_with key asks wait }
+{
+    let mut cache = HttpCache::new();
+    let uses = Uses {
+        eviction: true,
+        predictor: false,
+        lock: asks,
+    };
+    let options = CacheOptionOverrides {
+        wait_timeout: wait,
+        max_lock_retries: None,
+    };
+    cache.enable(uses, Some(options));
+    cache.set_cache_key(key);
+    cache
+}
+
 impl<S: BuildHasher> Request<S> {
     /// Opens a request for a key.
     ///
@@ -70,20 +94,8 @@ impl<S: BuildHasher> Request<S> {
         ensures { IfOk result (λ q. q ≡ opened_request wait (entry_of key.now) asks) }
     {
         let key = kept_key(alloc, key)?;
-        let mut cache = HttpCache::new();
-        let uses = Uses {
-            eviction: true,
-            predictor: false,
-            lock: asks,
-        };
-        let options = CacheOptionOverrides {
-            wait_timeout: wait,
-            max_lock_retries: None,
-        };
-        cache.enable(uses, Some(options));
-        cache.set_cache_key(key);
         Ok(Request {
-            cache,
+            cache: opened(key, asks, wait),
             asks,
             wait,
             gave_read: false,
