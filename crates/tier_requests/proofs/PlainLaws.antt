@@ -1,7 +1,9 @@
 -- What is asked of a request to a cache, as it is asked of the plain record.
 use Rattle.std.proofs.Common.{◌≡◌, ℕ, refl, ap, sym, ◌∙◌, Bool, true, false, Some, None, Option}
 use Rattle.cache_words.specs.Time.{MomentValue}
-use Rattle.cache_words.specs.Key.{CacheKeyValue, key_of}
+use Rattle.cache_words.specs.Key.{Key, CacheKeyValue, key_of}
+use Rattle.cache_entries.specs.Entry.{entry_with}
+use Rattle.cache_parts.specs.Admissions.{compact}
 use Rattle.cache_lock.specs.declared.tokens.Locked.{Locked}
 use Rattle.cache_lock.specs.declared.tokens.Locked.TheVariants.{Write, Read}
 use Rattle.cache_phases.specs.declared.phase.CachePhase.{CachePhase}
@@ -70,4 +72,4 @@ waits-in (Some (Read r)) polled = refl
 
 -- the entry of a key that is kept as another one is
 pub entry-kept : (kept key : CacheKeyValue) → key_of kept ≡ key_of key → entry_at (Some kept) None ≡ alone (entry_of key)
-entry-kept kept key same = rw same refl
+entry-kept kept key same = ap (λ (k : Key). entry_with (compact k) None) same

@@ -78,7 +78,7 @@ pub poll-lock : (ctx : Option LockCtx) (first : Option MomentValue) (d : HttpCac
 poll-lock None first d t s reads = absurd cc
 poll-lock (Some c) first d t s reads = by_lock c.lock refl reads
   where
-    abbrev r : RequestLock
+    r : RequestLock
     r = lock_with (Some c) first
 
     by_found : (rd : ReadLock) (w : Option WaitOutcome) (st : LockStatus) (over : Bool) → c.lock ≡ Some (Read rd) → wait_outcome rd.number [] t s ≡ w

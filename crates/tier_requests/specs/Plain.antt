@@ -46,7 +46,7 @@ held_in (Some (Read r)) polled = waits r.number polled
 
 -- what there is to read: a whole body that wasn't read yet, or what the request's reader has
 abbrev pub reader_in : Option (List ℕ) → Option MemHitHandler → Reader
-reader_in (Some bytes) hit = unread bytes
+reader_in (Some bytes) reader = unread bytes
 reader_in None None = closed
 reader_in None (Some (Complete h)) = spent
 reader_in None (Some (Partial h)) = streaming h.number h.place
