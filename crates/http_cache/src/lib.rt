@@ -5,6 +5,7 @@
 mod ends;
 mod finish;
 mod found;
+mod fresh;
 mod key;
 mod lock;
 mod lookup;
@@ -15,6 +16,8 @@ mod readers;
 mod request;
 mod revalidate;
 mod size;
+mod spans;
+mod vary;
 mod write;
 
 pub use request::{HttpCache, Uses};
