@@ -11,10 +11,12 @@ loop-value-init c = (c.in-Ok.first, [], search rules, search rules)
 
 pub loop-value-preserved : goal.loop-value-preserved
 loop-value-preserved c =
-    let i = c.loop-value.invariant in
-    (i.0, i.1 ++ c.in-Some-value.value.now ∷ [],
-    (c.in_ok-append_copy.ensures ∙ ap (λ (m : Entries HeaderValue). append m (lowercase c.args.name.now) c.in-Some-value.value.now) i.2 ∙ append-more (lowercase c.args.name.now) (i.0 ∷ i.1) c.in-Some-value.value.now c.args.headers.now),
-    i.3 ∙ ap (λ (l : List HeaderValue). i.0 ∷ l) (more-behind i.1 c.in-Some-value.value.now c.next-in-loop-value.new.self c.loop-value.value-iterator c.in-Some-value.ensures.steps))
+    let i = c.loop-value.invariant in (
+      i.0,
+      i.1 ++ c.in-Some-value.value.now ∷ [],
+      (c.in_ok-append_copy.ensures ∙ ap (λ (m : Entries HeaderValue). append m (lowercase c.args.name.now) c.in-Some-value.value.now) i.2 ∙ append-more (lowercase c.args.name.now) (i.0 ∷ i.1) c.in-Some-value.value.now c.args.headers.now),
+      i.3 ∙ ap (λ (l : List HeaderValue). i.0 ∷ l) (more-behind i.1 c.in-Some-value.value.now c.next-in-loop-value.new.self c.loop-value.value-iterator c.in-Some-value.ensures.steps),
+    )
 
 -- what was sent has been put
 pub returns : goal.returns
