@@ -73,7 +73,14 @@ impl<S: Storage> HttpCache<S> {
         ensures ids { S.ids parts.new.store ≡ S.ids parts.old.store }
         ensures parts { parts.new ≡ record parts.old { store = parts.new.store; manager = parts.new.manager } }
     {
-        match self.count_use(alloc, &mut parts.manager, fresh_until, &hit, HitStatus::Fresh) {
+        let Some(_) = &self.key else { unreachable!() };
+        match self.count_use(
+            alloc,
+            &mut parts.manager,
+            fresh_until,
+            &hit,
+            HitStatus::Fresh,
+        ) {
             Ok(()) => {
                 self.keep_found(&mut parts.store, None, hit, CachePhase::Hit);
                 Ok(())

@@ -26,7 +26,9 @@ impl<S: Storage> HttpCache<S> {
     {
         self.valid_after = Some(meta.provenance());
         let is_found = same_variance(meta.variance(), Some(variance));
-        let Some(key) = &mut self.key else { unreachable!() };
+        let Some(key) = &mut self.key else {
+            unreachable!()
+        };
         let is_first = key.get_variance_key().is_none();
         if !(is_found && is_first) {
             key.set_variance_key(variance);
@@ -59,7 +61,9 @@ impl<S: Storage> HttpCache<S> {
         ensures lock { L.state parts.new.lock ≡ lock_varied variance self.old (L.state parts.old.lock) }
         ensures parts { parts.new ≡ record parts.old { lock = parts.new.lock } }
     {
-        let Some(key) = &mut self.key else { unreachable!() };
+        let Some(key) = &mut self.key else {
+            unreachable!()
+        };
         let before = variance_of(key);
         if before.is_none() || same_variance(before, variance) {
             return;
