@@ -1,5 +1,5 @@
 //! The lock.
-ghost use Rattle.std.specs.Prelude.{◌≡◌, IfOk};
+ghost use Rattle.std.specs.Prelude.{◌≡◌, ◌↔◌, IsTrue, IfOk};
 ghost use Rattle.cache_lock.specs.State.{empty_lock};
 
 use crate::fault::LockFault;
@@ -75,6 +75,18 @@ impl<S: BuildHasher + Copy> CacheLock<S> {
             next: 0,
             age_timeout,
         }
+    }
+}
+
+impl<S: BuildHasher> CacheLock<S> {
+    /// Returns whether no permit was given so far: the lock is as it was made.
+    pub fn is_new(&self) -> bool
+        ensures { IsTrue result ↔ (self.now ≡ empty_lock self.now.age) }
+    {
+        self.next == 0
+            && self.cores.is_empty()
+            && self.current.is_empty()
+            && self.published.is_empty()
     }
 }
 

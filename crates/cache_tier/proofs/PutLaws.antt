@@ -1,5 +1,5 @@
 -- What a response gives of which the tier decides, and which refusals of a put it may meet.
-use Rattle.std.proofs.Common.{◌≡◌, ℕ, List, refl, ap, sym, subst, Some, None, Option, true, false, inl, inr, cond, T, not}
+use Rattle.std.proofs.Common.{◌≡◌, ℕ, List, [], refl, ap, sym, ◌∙◌, subst, Some, None, Option, true, false, inl, inr, cond, T, not}
 use Rattle.std.specs.Prelude.{Bool, ◌||◌, ◌⊎◌, codes}
 use Rattle.std.specs.Int.Signed.{lt_z_no}
 use Rattle.cache_words.specs.Time.{MomentValue}
@@ -17,9 +17,13 @@ use Rattle.cache_heads.specs.declared.reason.RespCacheable.{RespCacheable}
 use Rattle.cache_heads.specs.declared.reason.RespCacheable.TheVariants as verdict
 use Rattle.cache_evict.specs.declared.fault.EvictFault.{EvictFault}
 use Rattle.cache_evict.specs.declared.fault.EvictFault.TheVariants as evict
+use Rattle.cache_evict.specs.Faults.{evicted_of}
+use Rattle.cache_entries.specs.declared.entry.CacheEntryKey.{CacheEntryKey}
 use Rattle.response_parse.specs.declared.response.Parsed.{Parsed}
 use Rattle.response_parse.specs.declared.response.Parsed.TheVariants as parsed
 use Rattle.response_parse.specs.Parse.{content_length}
+use Rattle.cache_parts.specs.Admissions.{IsDone}
+use Rattle.cache_parts.specs.declared.done.Done.{Done as PutDone}
 use Rattle.pingora_cache.specs.Put.{IsTold}
 use Rattle.pingora_cache.specs.Response as cache
 use Rattle.pingora_cache.specs.Response.{judged, judged_short}
@@ -27,14 +31,20 @@ use Rattle.pingora_cache.specs.declared.put.whole.Whole.{Whole as Given}
 use Rattle.pingora_cache.specs.declared.put.whole.Whole.TheVariants as given
 use Rattle.pingora_cache.specs.declared.put.outcome.PutFault.{PutFault}
 use Rattle.pingora_cache.specs.declared.put.outcome.PutFault.TheVariants as put
+use Rattle.tier_model.specs.declared.event.Done.{Done}
+use Rattle.tier_model.specs.declared.event.TierFault.{TierFault}
+use Rattle.tier_model.specs.declared.event.TierFault.TheVariants as tier
+use Rattle.tier_model.specs.Calls.{nothing_done}
 use Rattle.tier_model.specs.declared.whole.Whole.{Whole}
 use Rattle.tier_model.specs.declared.whole.Whole.TheVariants as whole
 use Rattle.tier_model.specs.Response.{kept, too_early, is_before_epoch, judged_by, whole_with, whole_by}
-use Rattle.cache_tier.specs.Puts.{since_epoch, kept_by, IsTellable}
+use Rattle.tier_requests.specs.Faults.{fault_for}
+use Rattle.tier_requests.specs.Shelves.{own_meta}
+use Rattle.cache_tier.specs.Puts.{done_as, since_epoch, kept_by, IsToldAs, IsTellable}
 
--- what a response gives a put, and what it gives by the tier's own words
+-- what a response gives a put, and what it gives by the tier's own words. What is kept can be written, and is the meta of a new response
 abbrev pub IsWholeFor : Given → Whole → Type 0
-IsWholeFor (given.Cacheable meta body) g = (g ≡ whole.Stored (record { bytes = body; meta = meta })) × IsWritable meta.internal
+IsWholeFor (given.Cacheable meta body) g = (g ≡ whole.Stored (record { bytes = body; meta = meta })) × IsWritable meta.internal × (own_meta meta ≡ meta)
 IsWholeFor (given.Uncacheable reason) g = ((reason ≡ OriginNotCache) × (g ≡ whole.Uncacheable OriginNotCache)) ⊎ ((reason ≡ StorageError) × (g ≡ whole.BeforeEpoch))
 IsWholeFor given.TooLarge g = ⊥
 IsWholeFor given.Incomplete g = g ≡ whole.Incomplete
@@ -75,7 +85,7 @@ module _ (t : MomentValue) where
       by_test false e =
           let both = neither (is_before_epoch t) (is_before_epoch until) e in
           subst (λ (w : Given). IsWholeFor w (whole.Stored (record { bytes = body; meta = meta }))) (sym (judged-kept meta body))
-          (refl, record { fresh_until = since until both.1; created = since t both.0; updated = since t both.0; epoch_override = tt; provenance = since t both.0 })
+          (refl, record { fresh_until = since until both.1; created = since t both.0; updated = since t both.0; epoch_override = tt; provenance = since t both.0 }, refl)
 
   pub whole-for : (p : Parsed) → IsWholeFor (cache.whole_by None (kept_by t) p) (whole_by t p)
   whole-for (parsed.Complete response) =
@@ -84,6 +94,8 @@ module _ (t : MomentValue) where
   whole-for (parsed.Incomplete None) = refl
   whole-for (parsed.Incomplete (Some short)) = short-kept (kept_by t short.header) short.len
   whole-for parsed.BadHead = refl
+
+-- ---- refusals after a body was stored
 
 -- a fault of the order of use is never a size limit or a moment
 pub told-tellable : (a : Bool) (cause : EvictFault) (fault : PutFault) → IsTold a cause fault → IsTellable fault
@@ -104,3 +116,22 @@ told-tellable a cause put.MetaMoment t = no_moment cause t
     no_moment (evict.NumbersSpent v) t = t
     no_moment (evict.File v) t = t
 told-tellable a cause _ t = tt
+
+-- memory ran out before anything was done
+pub nothing-was : (d : PutDone) → IsDone false false [] d → done_as d ≡ nothing_done
+nothing-was d i = λ j. record { stored = i.stored j; admitted = i.admitted j; evicted = i.evicted j }
+
+pub done-is : (a : Bool) (es : List CacheEntryKey) (d : PutDone) → IsDone true a es d → done_as d ≡ record { stored = true; admitted = a; evicted = es }
+done-is a es d i = λ j. record { stored = i.stored j; admitted = i.admitted j; evicted = i.evicted j }
+
+-- it is told with what was done
+pub told-so : (a : Bool) (cause : EvictFault) (fault : PutFault) (f : TierFault) → IsTold a cause fault → IsToldAs fault f → f ≡ fault_for cause (record { stored = true; admitted = a; evicted = evicted_of cause })
+told-so a (evict.Memory v) (put.Memory d) f t e = e ∙ ap (λ (x : Done). tier.Memory x) (done-is a v.items d t)
+told-so a (evict.Memory v) _ f t e = absurd t
+told-so a (evict.Weight v) (put.Weight d) f t e = e ∙ ap (λ (x : Done). tier.TooHeavy x) (done-is a v.items d t)
+told-so a (evict.Weight v) _ f t e = absurd t
+told-so a (evict.Length v) (put.Length d) f t e = e ∙ ap (λ (x : Done). tier.TooLong x) (done-is a v.items d t)
+told-so a (evict.Length v) _ f t e = absurd t
+told-so a (evict.NumbersSpent v) (put.NumbersSpent d) f t e = e ∙ ap (λ (x : Done). tier.NumbersSpent x) (done-is a v.items d t)
+told-so a (evict.NumbersSpent v) _ f t e = absurd t
+told-so a (evict.File v) _ f t e = absurd t

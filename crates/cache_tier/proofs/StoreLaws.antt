@@ -1,5 +1,5 @@
 -- What the storing of a body leaves: its evictions, and its taking back.
-use Rattle.std.proofs.Common.{◌≡◌, ◌≢◌, ℕ, ◌+◌, ◌-◌, ◌<◌, ◌^◌, Bool, true, false, List, [], ◌∷◌, refl, ap, sym, ◌∙◌, Some, None, Option, Err, inl, inr, subst, cond}
+use Rattle.std.proofs.Common.{◌≡◌, ◌≢◌, ℕ, ◌<◌, ◌^◌, Bool, true, false, List, [], ◌∷◌, refl, ap, sym, ◌∙◌, Some, None, Option, Err, inl, inr, subst, cond, length}
 use Rattle.std.specs.Prelude.{◌⊎◌, ◌||◌, not, is_some, Ok, MatchResult}
 use Rattle.std.specs.Global.{Vec}
 use Rattle.rand_core.specs.Stream.{Stream}
@@ -11,31 +11,25 @@ use Rattle.cache_evict.specs.declared.fault.EvictFault.{EvictFault}
 use Rattle.cache_evict.specs.declared.fault.EvictFault.TheVariants as evict
 use Rattle.cache_evict.specs.Faults.{evicted_of, IsPutRefused, StopsAt, IsMemory}
 use Rattle.cache_evict.specs.Managed.{Managed, Evicts, rows_of, put_first, taken_out, pick_by_draws, is_over, total_size, IsHeavy, IsLong, IsFull, HasNoOtherReason, IsSharded}
-use Rattle.cache_parts.specs.declared.done.Done.{Done as PutDone}
-use Rattle.pingora_cache.specs.declared.put.outcome.PutFault.{PutFault}
-use Rattle.pingora_cache.specs.declared.put.outcome.PutFault.TheVariants as put
-use Rattle.cache_parts.specs.Admissions.{IsDone, was_admitted, is_empty}
-use Rattle.pingora_cache.specs.Put.{IsTold}
+use Rattle.cache_parts.specs.Admissions.{was_admitted, is_empty}
 use Rattle.tier_model.specs.Keys.{alone}
 use Rattle.tier_model.specs.declared.event.Done.{Done}
+use Rattle.tier_model.specs.declared.event.Answer.TheVariants.{Finished}
 use Rattle.tier_model.specs.declared.event.TierFault.{TierFault}
 use Rattle.tier_model.specs.declared.event.TierFault.TheVariants.{Memory, TooHeavy, TooLong, NumbersSpent}
-use Rattle.tier_model.specs.declared.whole.Whole.TheVariants.{Stored}
-use Rattle.tier_model.specs.Calls.{Outcome, nothing_done, done_of, evicted_before, evicted_by, writes_after}
+use Rattle.tier_model.specs.Calls.{Outcome, done_of, evicted_by}
 use Rattle.tier_model.specs.Evictions.{all_gone, GoInTurn}
 use Rattle.tier_model.specs.Rows.{Bodies, FinishedBody, body_of, with_body, without_body, without_bodies, weight_for}
+use Rattle.tier_model.specs.Shelf as shelf
+use Rattle.tier_model.specs.Shelf.{Shelf, stored, removed}
 use Rattle.tier_model.specs.State.{State, shards_of}
-use Rattle.tier_model.specs.Step.{BeginsWrite, Fits, HasNoNumber, IsPutAnswer, until, admitted, after_put, IsKeptOut, IsStoreFault, taken_back, stored_alone, all_done}
+use Rattle.tier_model.specs.Answers.{admitted, Fits, IsStored, IsKeptOut, IsStoreFault, stored_alone, all_done}
+use Rattle.tier_model.specs.After.{after_put, until, taken_back}
 use Rattle.tier_model.proofs.BodyLaws.{has_key, body_of-with, body_of-without, body_of-without_all}
-use Rattle.tier_model.proofs.StepLaws.{kept_out-done}
-use Rattle.cache_tier.specs.Acts.{counting}
-use Rattle.cache_tier.specs.Puts.{done_as, IsToldAs}
-use Rattle.cache_tier.proofs.ShelfLaws.{same-bodies, CanBegin}
+use Rattle.tier_model.proofs.OpenLaws.{kept_out-done}
+use Rattle.tier_requests.specs.Faults.{fault_for}
+use Rattle.tier_requests.proofs.ShelfLaws.{same-bodies}
 use Rattle.cache_tier.proofs.ShardLaws.{kept-put, kept-out, put-there, Went, evicts-went}
-
--- why a body is not stored, or not kept
-abbrev pub IsRefusal : State → FinishedBody → TierFault → Type 0
-IsRefusal s b f = (f ≡ Memory nothing_done) ⊎ (HasNoNumber s f ⊎ IsStoreFault s b f)
 
 -- the state after the storing of a body
 abbrev pub after_store : State → FinishedBody → Outcome → State
@@ -46,12 +40,10 @@ after_store s b (Err f) = taken_back (done_of f).stored s b (done_of f)
 abbrev pub DrawsFor : State → FinishedBody → Outcome → Stream → Stream → Type 0
 DrawsFor old b outcome s rest = (left : Managed) × Evicts (pick_by_draws (shards_of old)) (admitted old b) (evicted_by outcome) s left rest
 
--- a body was stored, or was refused, and with it the words from s to rest were taken
-pub record StoresBy (old : State) (s : Stream) (b : FinishedBody) (outcome : Outcome) (new : State) (rest : Stream) : Type 0 where
-  pub allowed : MatchResult outcome (IsPutAnswer old (Some b) (Some (Stored b.body))) (IsRefusal old b)
-  pub began : Bool
-  pub begins : BeginsWrite old (Some b) outcome began
-  pub after : new ≡ counting began old (after_store old b outcome)
+-- a body was stored over a state, or was taken back, and with it the words from s to rest were taken
+pub record StoresOver (old : State) (s : Stream) (b : FinishedBody) (outcome : Outcome) (new : State) (rest : Stream) : Type 0 where
+  pub allowed : MatchResult outcome (IsStored old b) (IsStoreFault old b)
+  pub after : new ≡ after_store old b outcome
   pub drawn : DrawsFor old b outcome s rest
 
 -- what the manager evicted after the admission of a body, and left
@@ -71,31 +63,6 @@ has_evicted n w s b over es m st rest k weighs fits went ends =
     let kept : IsSharded N s.managed = subst (λ (x : ℕ). IsSharded x s.managed) (sym k.count) k in
     let all : Went N over es (admitted s b) m = evicts-went (pick_by_draws N) N over es (admitted s b) m st rest (kept-put N s.managed kept (alone b.entry) (weight_for b.body)) here.1 ends in
     record { fits = here.0; turns = all.turns; left = all.left; drawn = here.1; kept = subst (λ (x : ℕ). IsSharded x m) k.count all.kept }
-
--- ---- what is told of a fault of the order of use
-
-done-is : (a : Bool) (es : List CacheEntryKey) (d : PutDone) → IsDone true a es d → done_as d ≡ record { stored = true; admitted = a; evicted = es }
-done-is a es d i = λ j. record { stored = i.stored j; admitted = i.admitted j; evicted = i.evicted j }
-
-module _ (a : Bool) (v : Vec CacheEntryKey) where
-  abbrev was_done : Done
-  was_done = record { stored = true; admitted = a; evicted = v.items }
-
-  told-memory : (fault : PutFault) (f : TierFault) → IsTold a (evict.Memory v) fault → IsToldAs fault f → f ≡ Memory was_done
-  told-memory (put.Memory d) f t e = e ∙ ap (λ (x : Done). Memory x) (done-is a v.items d t)
-  told-memory _ f t e = absurd t
-
-  told-heavy : (fault : PutFault) (f : TierFault) → IsTold a (evict.Weight v) fault → IsToldAs fault f → f ≡ TooHeavy was_done
-  told-heavy (put.Weight d) f t e = e ∙ ap (λ (x : Done). TooHeavy x) (done-is a v.items d t)
-  told-heavy _ f t e = absurd t
-
-  told-long : (fault : PutFault) (f : TierFault) → IsTold a (evict.Length v) fault → IsToldAs fault f → f ≡ TooLong was_done
-  told-long (put.Length d) f t e = e ∙ ap (λ (x : Done). TooLong x) (done-is a v.items d t)
-  told-long _ f t e = absurd t
-
-  told-spent : (fault : PutFault) (f : TierFault) → IsTold a (evict.NumbersSpent v) fault → IsToldAs fault f → f ≡ NumbersSpent was_done
-  told-spent (put.NumbersSpent d) f t e = e ∙ ap (λ (x : Done). NumbersSpent x) (done-is a v.items d t)
-  told-spent _ f t e = absurd t
 
 -- nothing was evicted, and the entry isn't there
 untouched : (es : List CacheEntryKey) (o : Option ℕ) → es ≡ [] → o ≡ None → (not (is_empty es) || is_some o) ≡ false
@@ -119,19 +86,19 @@ pub record IsRefusedPut (s : State) (b : FinishedBody) (f : TierFault) (new : St
 module _ (n w : ℕ) (s : State) (b : FinishedBody) (k : IsSharded n s.managed) (weighs : w ≡ weight_for b.body) where
   -- the body is gone with its entry, and those of the entries that were evicted until that order of use
   abbrev pub cleared : List CacheEntryKey → Managed → State
-  cleared es m = record s { bodies = without_body (stored_key b.entry) (without_bodies es s.bodies); managed = taken_out n (alone b.entry) m }
+  cleared es m = record s { shelf = removed (stored_key b.entry) (shelf.cleared es s.shelf); managed = taken_out n (alone b.entry) m }
 
   cut_put : (m : Managed) (f : TierFault) (new : State) (st rest : Stream) (es : List CacheEntryKey) → HasEvicted n s b true es m st rest → f ≡ Memory (all_done es) → new ≡ cleared es m → IsRefusedPut s b f new st rest
   cut_put m f new st rest es h told r =
       let is : new ≡ taken_back true s b (all_done es) = r ∙ ap (cleared es) h.left
-      ∙ ap (λ (x : ℕ). record s { bodies = without_body (stored_key b.entry) (without_bodies es s.bodies); managed = taken_out x (alone b.entry) (all_gone (shards_of s) es (admitted s b)) }) (sym k.count) in
+      ∙ ap (λ (x : ℕ). record s { shelf = removed (stored_key b.entry) (shelf.cleared es s.shelf); managed = taken_out x (alone b.entry) (all_gone (shards_of s) es (admitted s b)) }) (sym k.count) in
       subst (λ (x : TierFault). IsRefusedPut s b x new st rest) (sym told) (record { allowed = inr (es, refl, h.fits, h.turns); after = is; drawn = (m, h.drawn) })
 
   kept_out : (m : Managed) (f g : TierFault) (new : State) (st rest : Stream) → m ≡ s.managed → rest ≡ st → f ≡ g → IsKeptOut s (alone b.entry) (weight_for b.body) stored_alone g → evicted_by (Err g) ≡ [] → done_of g ≡ stored_alone
       → new ≡ cleared [] m → IsRefusedPut s b f new st rest
   kept_out m f g new st rest same none told out nobody alone_stored r =
       let is : new ≡ taken_back true s b stored_alone = r ∙ ap (cleared []) same
-      ∙ ap (λ (x : ℕ). record s { bodies = without_body (stored_key b.entry) s.bodies; managed = taken_out x (alone b.entry) s.managed }) (sym k.count) in
+      ∙ ap (λ (x : ℕ). record s { shelf = removed (stored_key b.entry) s.shelf; managed = taken_out x (alone b.entry) s.managed }) (sym k.count) in
       subst (λ (x : TierFault). IsRefusedPut s b x new st rest) (sym told) (record {
         allowed = inl out;
         after = is ∙ ap (taken_back true s b) (sym alone_stored);
@@ -148,44 +115,43 @@ module _ (n w : ℕ) (s : State) (b : FinishedBody) (k : IsSharded n s.managed) 
   heavy_here : (fault : ℕ → ℕ → Type 0) → fault n w → fault (shards_of s) (weight_for b.body)
   heavy_here fault p = subst (λ (v : ℕ). fault (shards_of s) v) weighs (subst (λ (x : ℕ). fault x w) (sym k.count) p)
 
-  -- a fault of the order of use, of which the put told, and the tier after it
-  abbrev Tells : EvictFault → Managed → PutFault → TierFault → Type 0
-  Tells cause m fault f = IsTold (was_admitted n (alone b.entry) cause m) cause fault × IsToldAs fault f
+  -- what a fault of the order of use is told as, that left the order of use so
+  abbrev pub told_of : EvictFault → Managed → TierFault
+  told_of cause m = fault_for cause (record { stored = true; admitted = was_admitted n (alone b.entry) cause m; evicted = evicted_of cause })
 
-  refused_by : (m : Managed) (cause : EvictFault) (fault : PutFault) (f : TierFault) (new : State) (st rest : Stream) → IsPutRefused n (alone b.entry) w s.managed cause → evicted_of cause ≡ [] → m ≡ s.managed → rest ≡ st
-      → Tells cause m fault f → new ≡ cleared [] m → IsRefusedPut s b f new st rest
-  refused_by m (evict.Memory v) fault f new st rest p none same drawn t r =
+  refused_by : (m : Managed) (cause : EvictFault) (f : TierFault) (new : State) (st rest : Stream) → IsPutRefused n (alone b.entry) w s.managed cause → evicted_of cause ≡ [] → m ≡ s.managed → rest ≡ st
+      → f ≡ told_of cause m → new ≡ cleared [] m → IsRefusedPut s b f new st rest
+  refused_by m (evict.Memory v) f new st rest p none same drawn t r =
       let absent : weight_of (alone b.entry) (rows_of n (alone b.entry) m) ≡ None = ap (λ (x : Managed). weight_of (alone b.entry) (rows_of n (alone b.entry) x)) same ∙ p.0 in
-      let told : f ≡ Memory stored_alone = told-memory (was_admitted n (alone b.entry) (evict.Memory v) m) v fault f t.0 t.1
+      let told : f ≡ Memory stored_alone = t
       ∙ (λ i. Memory (record { stored = true; admitted = untouched v.items (weight_of (alone b.entry) (rows_of n (alone b.entry) m)) none absent i; evicted = none i })) in
       kept_out m f (Memory stored_alone) new st rest same drawn told (refl, heavy_here (λ x v. HasNoOtherReason x (alone b.entry) v s.managed) p) refl refl r
-  refused_by m (evict.Weight v) fault f new st rest p none same drawn t r =
-      kept_out m f (TooHeavy stored_alone) new st rest same drawn (told-heavy false v fault f t.0 t.1 ∙ (λ i. TooHeavy (record { stored = true; admitted = false; evicted = none i })))
+  refused_by m (evict.Weight v) f new st rest p none same drawn t r =
+      kept_out m f (TooHeavy stored_alone) new st rest same drawn (t ∙ (λ i. TooHeavy (record { stored = true; admitted = false; evicted = none i })))
       (refl, heavy_here (λ x v. IsHeavy x (alone b.entry) v s.managed) p) refl refl r
-  refused_by m (evict.Length v) fault f new st rest p none same drawn t r =
-      kept_out m f (TooLong stored_alone) new st rest same drawn (told-long false v fault f t.0 t.1 ∙ (λ i. TooLong (record { stored = true; admitted = false; evicted = none i })))
+  refused_by m (evict.Length v) f new st rest p none same drawn t r =
+      kept_out m f (TooLong stored_alone) new st rest same drawn (t ∙ (λ i. TooLong (record { stored = true; admitted = false; evicted = none i })))
       (refl, heavy_here (λ x v. IsLong x (alone b.entry) s.managed) p) refl refl r
-  refused_by m (evict.NumbersSpent v) fault f new st rest p none same drawn t r =
-      kept_out m f (NumbersSpent stored_alone) new st rest same drawn (told-spent false v fault f t.0 t.1 ∙ (λ i. NumbersSpent (record { stored = true; admitted = false; evicted = none i })))
+  refused_by m (evict.NumbersSpent v) f new st rest p none same drawn t r =
+      kept_out m f (NumbersSpent stored_alone) new st rest same drawn (t ∙ (λ i. NumbersSpent (record { stored = true; admitted = false; evicted = none i })))
       (refl, heavy_here (λ x v. IsFull x (alone b.entry) s.managed) p) refl refl r
-  refused_by m (evict.File v) fault f new st rest p none same drawn t r = absurd p
+  refused_by m (evict.File v) f new st rest p none same drawn t r = absurd p
 
   -- memory ran out in the evictions
-  cut_by : (m : Managed) (cause : EvictFault) (fault : PutFault) (f : TierFault) (st rest : Stream) → IsMemory cause → Evicts (pick_by_draws n) (put_first n (alone b.entry) w s.managed) (evicted_of cause) st m rest
-      → Tells cause m fault f → f ≡ Memory (all_done (evicted_of cause))
-  cut_by m (evict.Memory v) fault f st rest memory went t =
-      told-memory (was_admitted n (alone b.entry) (evict.Memory v) m) v fault f t.0 t.1
-      ∙ (λ i. Memory (record { stored = true; admitted = touched v.items (weight_of (alone b.entry) (rows_of n (alone b.entry) m)) (there m v.items st rest went) i; evicted = v.items }))
-  cut_by m (evict.Weight v) fault f st rest memory went t = absurd memory
-  cut_by m (evict.Length v) fault f st rest memory went t = absurd memory
-  cut_by m (evict.NumbersSpent v) fault f st rest memory went t = absurd memory
-  cut_by m (evict.File v) fault f st rest memory went t = absurd memory
+  cut_by : (m : Managed) (cause : EvictFault) (f : TierFault) (st rest : Stream) → IsMemory cause → Evicts (pick_by_draws n) (put_first n (alone b.entry) w s.managed) (evicted_of cause) st m rest
+      → f ≡ told_of cause m → f ≡ Memory (all_done (evicted_of cause))
+  cut_by m (evict.Memory v) f st rest memory went t =
+      t ∙ (λ i. Memory (record { stored = true; admitted = touched v.items (weight_of (alone b.entry) (rows_of n (alone b.entry) m)) (there m v.items st rest went) i; evicted = v.items }))
+  cut_by m (evict.Weight v) f st rest memory went t = absurd memory
+  cut_by m (evict.Length v) f st rest memory went t = absurd memory
+  cut_by m (evict.NumbersSpent v) f st rest memory went t = absurd memory
+  cut_by m (evict.File v) f st rest memory went t = absurd memory
 
-  pub refused-put : (m : Managed) (cause : EvictFault) (fault : PutFault) (f : TierFault) (new : State) (st rest : Stream) → StopsAt (pick_by_draws n) n (alone b.entry) w s.managed st cause m rest → Tells cause m fault f
+  pub refused-put : (m : Managed) (cause : EvictFault) (f : TierFault) (new : State) (st rest : Stream) → StopsAt (pick_by_draws n) n (alone b.entry) w s.managed st cause m rest → f ≡ told_of cause m
       → new ≡ cleared (evicted_of cause) m → IsRefusedPut s b f new st rest
-  refused-put m cause fault f new st rest stops t r = elim stops [
-    | inl p ↦ refused_by m cause fault f new st rest p.0 p.1 p.2 p.3 t (r ∙ ap (λ (es : List CacheEntryKey). cleared es m) p.1)
-    | inr q ↦ cut_put m f new st rest (evicted_of cause) (has_evicted n w s b true (evicted_of cause) m st rest k weighs q.1 q.0.1 q.0.2) (cut_by m cause fault f st rest q.0.0 q.0.1 t) r
+  refused-put m cause f new st rest stops t r = elim stops [
+    | inl p ↦ refused_by m cause f new st rest p.0 p.1 p.2 p.3 t (r ∙ ap (λ (es : List CacheEntryKey). cleared es m) p.1)
+    | inr q ↦ cut_put m f new st rest (evicted_of cause) (has_evicted n w s b true (evicted_of cause) m st rest k weighs q.1 q.0.1 q.0.2) (cut_by m cause f st rest q.0.0 q.0.1 t) r
   ]
 
   -- the order of use stays sharded
@@ -210,10 +176,10 @@ back-same b es bodies =
     ∙ both_gone (same_bytes (stored_key b.entry) k) (has_key k es) (body_of k bodies) (Some b.body)
     ∙ sym (body_of-without k (stored_key b.entry) (without_bodies es bodies) ∙ ap (cond (same_bytes (stored_key b.entry) k) None) (body_of-without_all k es bodies)))
 
-module _ (s : State) (b : FinishedBody) (st : Stream) (number : s.writes ≢ 2 ^ 64 - 1) where
-  -- with the body put in its place by a write
+module _ (s : State) (b : FinishedBody) (st : Stream) where
+  -- with the body in its place
   abbrev pub put_in : State
-  put_in = record s { bodies = with_body b s.bodies; writes = s.writes + 1 }
+  put_in = record s { shelf = stored b s.shelf }
 
   stored_by : (f : TierFault) → IsStoreFault s b f → (done_of f).stored ≡ true
   stored_by f p = elim p [ inl out ↦ ap (λ (d : Done). d.stored) (kept_out-done s (alone b.entry) (weight_for b.body) stored_alone f out) | inr cut ↦ ap (λ (x : TierFault). (done_of x).stored) cut.1 ]
@@ -223,35 +189,24 @@ module _ (s : State) (b : FinishedBody) (st : Stream) (number : s.writes ≢ 2 ^
   until_same false = refl
 
   -- and taken back
-  pub stores-refused : (f : TierFault) (new : State) (rest : Stream) → IsRefusedPut put_in b f new st rest → StoresBy s st b (Err f) new rest
+  pub stores-refused : (f : TierFault) (new : State) (rest : Stream) → IsRefusedPut put_in b f new st rest → StoresOver s st b (Err f) new rest
   stores-refused f new rest h = record {
-    allowed = inr (inr h.allowed);
-    began = true;
-    begins = number;
+    allowed = h.allowed;
     after = h.after
-        ∙ ap (λ (m : Managed). record s { bodies = without_body (stored_key b.entry) (without_bodies (done_of f).evicted (with_body b s.bodies)); writes = s.writes + 1; managed = taken_out (shards_of s) (alone b.entry) (all_gone (shards_of s) (done_of f).evicted m) }) (until_same (done_of f).admitted)
-        ∙ ap (λ (x : Bodies). record s { bodies = x; writes = s.writes + 1; managed = taken_out (shards_of s) (alone b.entry) (all_gone (shards_of s) (done_of f).evicted (until (done_of f).admitted s b)) }) (back-same b (done_of f).evicted s.bodies)
-        ∙ ap (λ (v : Bool). counting true s (taken_back v s b (done_of f))) (sym (stored_by f h.allowed));
+        ∙ ap (λ (m : Managed). record s { shelf = removed (stored_key b.entry) (shelf.cleared (done_of f).evicted (stored b s.shelf)); managed = taken_out (shards_of s) (alone b.entry) (all_gone (shards_of s) (done_of f).evicted m) }) (until_same (done_of f).admitted)
+        ∙ ap (λ (x : Bodies). record s {
+          shelf = record (removed (stored_key b.entry) (shelf.cleared (done_of f).evicted s.shelf)) { bodies = x };
+          managed = taken_out (shards_of s) (alone b.entry) (all_gone (shards_of s) (done_of f).evicted (until (done_of f).admitted s b));
+        }) (back-same b (done_of f).evicted s.shelf.bodies)
+        ∙ ap (λ (v : Bool). taken_back v s b (done_of f)) (sym (stored_by f h.allowed));
     drawn = h.drawn;
   }
 
--- a body that was refused before it was stored
-pub stores-nothing : (s : State) (b : FinishedBody) (st : Stream) (f : TierFault) (new : State) (rest : Stream) (began : Bool) → done_of f ≡ nothing_done → IsRefusal s b f → CanBegin s.writes began
-    → new ≡ record s { writes = writes_after s.writes began } → rest ≡ st → StoresBy s st b (Err f) new rest
-stores-nothing s b st f new rest began none refusal number after same = record {
-  allowed = refusal;
-  began = began;
-  begins = begins began number;
-  after = after ∙ ap (λ (v : Bool). counting began s (taken_back v s b (done_of f))) (sym stored);
-  drawn = (admitted s b, subst (λ (l : List CacheEntryKey). Evicts (pick_by_draws (shards_of s)) (admitted s b) l st (admitted s b) rest) (sym nobody) (refl, same));
-}
-  where
-    stored : (done_of f).stored ≡ false
-    stored = ap (λ (d : Done). d.stored) none
-
-    nobody : evicted_by (Err f) ≡ []
-    nobody = ap evicted_before none
-
-    begins : (v : Bool) → CanBegin s.writes v → BeginsWrite s (Some b) (Err f) v
-    begins true number = number
-    begins false number = stored
+  -- stored, with these evictions
+  pub stores-kept : (size : ℕ) (es : List CacheEntryKey) (new : State) (rest : Stream) (n : ℕ) (m : Managed) → size ≡ length b.body.bytes → HasEvicted n s b false es m st rest
+      → new ≡ record s { shelf = shelf.cleared es (stored b s.shelf); managed = m } → StoresOver s st b (Ok (Finished size es)) new rest
+  stores-kept size es new rest n m sized h is = record {
+    allowed = (sized, h.fits, h.turns);
+    after = is ∙ ap (λ (x : Managed). record s { shelf = shelf.cleared es (stored b s.shelf); managed = x }) h.left;
+    drawn = (m, h.drawn);
+  }

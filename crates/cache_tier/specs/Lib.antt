@@ -1,7 +1,9 @@
+pub mod States
 pub mod Bodies
 pub mod Puts
-pub mod Codes
-pub mod Acts
+pub mod Heads
 pub mod Draws
+pub mod Acts
+pub mod Counts
 pub mod Takes
 pub mod Restarts

@@ -1,44 +1,18 @@
-//! Finished bodies in a store in which no write is left in flight and no reader.
-ghost use Rattle.std.specs.Prelude.{◌≡◌, true, is_some, length, option_map, max, OnErr, IfOk};
+//! What is stored: finished bodies, and writes in flight.
+ghost use Rattle.std.specs.Prelude.{◌≡◌, length};
 ghost use Rattle.std.specs.List.{sum_by};
 ghost use Rattle.std.specs.FinMap.{len, values};
-ghost use Rattle.tier_model.specs.Rows.{body_of, without_body};
-ghost use Rattle.tier_model.specs.Step.{counted};
-ghost use Rattle.cache_tier.specs.Bodies.{IsIdle, bodies_in, seen_of, shelf_of, is_purged};
+ghost use Rattle.tier_model.specs.Shelf.{look, is_there, removed};
+ghost use Rattle.tier_model.specs.After.{counted};
+ghost use Rattle.tier_requests.specs.Shelves.{bodies_in, shelf_of};
+ghost use Rattle.cache_tier.specs.Bodies.{is_purged};
 
 use crate::keys::named_by;
-use bytes::Bytes;
 use cache_store::storage::{PurgeOutcome, PurgeTarget, PurgeType, Storage};
 use cache_words::key::HashBinary;
-use cache_words::time::Moment;
 use mem_cache::MemCache;
-use std::alloc::{AllocError, Global};
+use std::alloc::Global;
 use std::hash::BuildHasher;
-
-// What a look-up sees of a body.
-#[derive(Drop)]
-pub(crate) struct Seen {
-    pub(crate) bytes: Bytes,
-    pub(crate) fresh_until: Moment,
-}
-
-// Looks the body of a key up, and shares its bytes. It is refused for lack of memory, and only where there is one.
-pub(crate) fn look<S: BuildHasher>(
-    store: &MemCache<S>,
-    key: &HashBinary,
-) -> Result<Option<Seen>, AllocError>
-    ensures found { IfOk result (λ found. found ≡ option_map seen_of (body_of key.now (bodies_in store.now.store.bodies))) }
-    ensures refused { OnErr result (is_some (body_of key.now (bodies_in store.now.store.bodies)) ≡ true) }
-{
-    let Some((meta, bytes)) = store.finished(key) else {
-        return Ok(None);
-    };
-    let bytes = bytes.clone()?;
-    Ok(Some(Seen {
-        bytes,
-        fresh_until: meta.fresh_until(),
-    }))
-}
 
 // Whether anything was purged.
 fn is_purged(outcome: PurgeOutcome) -> bool
@@ -47,16 +21,14 @@ fn is_purged(outcome: PurgeOutcome) -> bool
     matches!(outcome, PurgeOutcome::Purged(_))
 }
 
-// Removes the body of a key, and returns whether there was one.
+// Removes what is stored for a key, and returns whether there was any.
 pub(crate) fn remove<S: BuildHasher>(
     alloc: Global,
     store: &mut MemCache<S>,
     key: HashBinary,
 ) -> bool
-    requires { IsIdle store.old }
-    ensures idle { IsIdle store.new }
-    ensures found { result ≡ is_some (body_of key (bodies_in store.old.store.bodies)) }
-    ensures after { shelf_of store.new ≡ record { bodies = without_body key (bodies_in store.old.store.bodies); writes = store.old.next } }
+    ensures found { result ≡ is_there (look key (shelf_of store.old)) }
+    ensures after { shelf_of store.new ≡ removed key (shelf_of store.old) }
 {
     let named = named_by(alloc, key);
     let outcome = store.purge(PurgeTarget::Active(&named), PurgeType::Invalidation);
@@ -77,11 +49,4 @@ pub(crate) fn all_bytes<S: BuildHasher>(store: &MemCache<S>) -> u64
     // No key has two bodies.
     let _count = store.finished_len();
     store.finished_bytes()
-}
-
-// What a body of that length weighs.
-pub(crate) fn weight_for(bytes: &Bytes) -> usize
-    ensures { result ≡ max 1 (length bytes.now) }
-{
-    bytes.len().max(1)
 }

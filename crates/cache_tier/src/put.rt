@@ -1,12 +1,18 @@
 //! Which responses the tier keeps.
 ghost use Rattle.std.specs.Prelude.{◌≡◌};
 ghost use Rattle.cache_tier.specs.Puts.{no_defaults, since_epoch, kept_by};
+ghost use Rattle.cache_tier.specs.Heads.{IsJudged, not_kept_by};
 
+use bytes::Bytes;
+use cache_heads::CacheMeta;
 use cache_heads::meta::{NeverByStatus, ResponseHeader};
 use cache_words::time::Moment;
 use pingora_cache::put::{CachePut, cacheable_by_headers};
 use pingora_cache::{CacheMetaDefaults, NoCacheReason, RespCacheable};
+use response_parse::{ReadHeadFault, read_head};
 use std::alloc::{AllocError, Global};
+use tier_model::event::TierFault;
+use tier_requests::faults::out_of_memory;
 
 // Keeps what a response's own lines allow, from 1970 on.
 #[derive(Drop)]
@@ -51,5 +57,42 @@ impl CachePut for ByLines {
             stale_while_revalidate_sec: 0,
             stale_if_error_sec: 0,
         }
+    }
+}
+
+// What is made of a head.
+#[derive(Drop)]
+pub(crate) enum Verdict {
+    // The response is kept, with this meta.
+    Kept(CacheMeta),
+    // It may not be kept.
+    NotKept(NoCacheReason),
+}
+
+// What a head gives that comes at a moment.
+pub(crate) fn judge(alloc: Global, moment: Moment, head: &Bytes) -> Result<Verdict, TierFault>
+    ensures { IsJudged moment head.now result }
+{
+    let header = match read_head(alloc, head.as_slice()) {
+        Ok(header) => header,
+        Err(ReadHeadFault::BadHead) => return Err(TierFault::BadHead),
+        Err(ReadHeadFault::Memory) => return Err(out_of_memory(alloc)),
+    };
+    let Ok(verdict) = ByLines.cacheable(alloc, moment, header) else {
+        return Err(out_of_memory(alloc));
+    };
+    match verdict {
+        RespCacheable::Cacheable(meta) => Ok(Verdict::Kept(meta)),
+        RespCacheable::Uncacheable(reason) => not_kept(reason),
+    }
+}
+
+// What is made of a head that is not kept for that reason.
+fn not_kept(reason: NoCacheReason) -> Result<Verdict, TierFault>
+    ensures { result ≡ not_kept_by reason }
+{
+    match reason {
+        NoCacheReason::StorageError => Err(TierFault::BeforeEpoch),
+        reason => Ok(Verdict::NotKept(reason)),
     }
 }

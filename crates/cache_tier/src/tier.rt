@@ -7,18 +7,26 @@ ghost use Rattle.tier_model.specs.Past.{HasPast, HoldsOrder};
 ghost use Rattle.tier_model.specs.Reports.{report_of};
 ghost use Rattle.cache_tier.specs.Takes.{Takes};
 ghost use Rattle.cache_tier.specs.Acts.{StepsBy};
-ghost use Rattle.cache_tier.specs.Bodies.{IsIdle, shelf_of, ShowsBodies};
+ghost use Rattle.tier_requests.specs.Shelves.{shelf_of};
+ghost use Rattle.cache_tier.specs.Bodies.{ShowsBodies};
 
+mod begin;
 mod faults;
-mod requests;
+mod finish;
+mod look_up;
+mod open;
+mod piece;
+mod poll;
+mod purge;
+mod put;
+mod read;
 mod restarts;
-mod store;
 
 use crate::bodies::{all_bytes, count};
 use cache_evict::EvictionManager;
 use cache_evict::lru::Manager;
+use cache_lock::CacheLock;
 use cache_words::time::Duration;
-use faults::nothing_done;
 use mem_cache::MemCache;
 use pingora_cache::{NoPolicy, Parts};
 use rand_core::Rng;
@@ -27,19 +35,20 @@ use std::hash::{BuildHasher, BuildHasherDefault, FoldHasher};
 use std::marker::Model;
 use tier_model::event::{Action, Answer, Event, TierFault};
 use tier_model::report::Report;
-use tier_model::requests::Requests;
+use tier_requests::faults::nothing_done;
+use tier_requests::{Requests, TierParts};
 
 /// A cache tier over N shards.
 ///
 /// With the default hasher it is for keys and request numbers that the caller chooses itself; with one whose start the caller takes
 /// at random, strangers can't choose some whose look-up among the tracked entries, the bodies or the open requests is slow.
-#[derive(Drop)]
+///
+/// A dropped tier ends its requests.
 pub struct Tier<const N: usize, S: BuildHasher = BuildHasherDefault<FoldHasher>> {
     alloc: Global,
-    age: Duration,
     wait: Option<Duration>,
-    // The store of the bodies, in which no write is left in flight and no reader, and the order of use, with the limits.
-    parts: Parts<MemCache<S>, Manager<N, S>, (), ()>,
+    // The store of the bodies and of the writes in flight, the order of use with the limits, and the lock.
+    parts: TierParts<S, Manager<N, S>>,
     requests: Requests<S>,
     found: u64,
     absent: u64,
@@ -47,9 +56,11 @@ pub struct Tier<const N: usize, S: BuildHasher = BuildHasherDefault<FoldHasher>>
 
 impl<const N: usize, S: BuildHasher> Model for Tier<N, S> {
     ghost use Rattle.tier_model.specs.State.{State};
-    ghost use Rattle.cache_tier.specs.Codes.{state_code};
+    ghost use Rattle.tier_requests.specs.Codes.{state_code};
+    ghost use Rattle.tier_requests.specs.Shelves.{shelf_of, IsBelow};
     ghost use Rattle.cache_evict.specs.Managed.{IsSharded};
-    ghost use Rattle.cache_tier.specs.Bodies.{IsIdle, bodies_in};
+    ghost use Rattle.tier_model.specs.Past.{HasAPast};
+    ghost use Rattle.cache_tier.specs.States.{state_by};
 
     ghost Value = { State };
 
@@ -57,21 +68,21 @@ impl<const N: usize, S: BuildHasher> Model for Tier<N, S> {
 
     ghost view = { λ t. record {
       managed = t.parts.manager;
-      age = t.age;
       wait = t.wait;
-      bodies = bodies_in t.parts.store.store.bodies;
+      shelf = shelf_of t.parts.store;
+      lock = t.parts.lock;
       requests = t.requests;
       found = t.found;
       absent = t.absent;
-      writes = t.parts.store.next;
     } };
 
-    ghost invariant = { λ t. IsSharded N t.parts.manager × IsIdle t.parts.store };
+    ghost invariant = { λ t. IsSharded N t.parts.manager × IsBelow (shelf_of t.parts.store)
+        × HasAPast (state_by t.parts.manager t.wait (shelf_of t.parts.store) t.parts.lock t.requests t.found t.absent) };
 }
 
 impl<const N: usize> Tier<N, BuildHasherDefault<FoldHasher>> {
     /// Makes an empty tier. `limit` bounds the sum of the entries' weights, `watermark` their number. `age` is
-    /// how long a permit holds, `wait` how long a request waits for one; neither is looked at yet.
+    /// how long a permit holds, `wait` how long a request waits in all.
     ///
     /// # Errors
     ///
@@ -121,12 +132,11 @@ impl<const N: usize, S: BuildHasher + Copy> Tier<N, S> {
             store: MemCache::with_hasher(alloc, hasher),
             manager,
             predictor: (),
-            lock: (),
+            lock: CacheLock::with_hasher(alloc, age, hasher),
             policy: NoPolicy,
         };
         Ok(Tier {
             alloc,
-            age,
             wait,
             parts,
             requests: Requests::with_hasher(alloc, hasher),
@@ -145,10 +155,9 @@ impl<const N: usize, S: BuildHasher> Tier<N, S> {
         &self.parts.manager
     }
 
-    /// Returns what stores the bodies: just the finished bodies, each under its stored key.
+    /// Returns what stores the bodies: just the finished bodies, each under its stored key, and just the writes in flight.
     pub fn store(&self) -> &MemCache<S>
-        ensures idle { IsIdle result.now }
-        ensures shows { shelf_of result.now ≡ record { bodies = self.now.bodies; writes = self.now.writes } }
+        ensures shows { shelf_of result.now ≡ self.now.shelf }
         ensures bodies { (start : Opening) (h : History) → HasPast start self.now h → ShowsBodies result.now start h }
     {
         &self.parts.store
@@ -158,15 +167,20 @@ impl<const N: usize, S: BuildHasher> Tier<N, S> {
     fn dispatch<R: Rng>(&mut self, rng: &mut R, event: &Event) -> Result<Answer, TierFault>
         ensures { StepsBy self.old (R.stream rng.old) event.now result self.new (R.stream rng.new) }
     {
-        if let Some(fault) = self.refusal(&event.action) {
-            return Err(fault);
-        }
         match &event.action {
-            Action::Open { request, key } => self.open(event.moment, *request, key),
+            Action::Open { request, key, lock } => self.open(*request, key, *lock),
             Action::LookUp { request } => self.look_up(event.moment, *request),
-            Action::Read { request } => self.read(event.moment, *request),
-            Action::Drop { request } => self.drop_request(event.moment, *request),
-            Action::Purge { key } => self.purge(event.moment, key),
+            Action::Poll { request } => self.poll(event.moment, *request),
+            Action::Begin { request, head } => self.begin(event.moment, *request, head),
+            Action::Piece {
+                request,
+                bytes,
+                end,
+            } => self.piece(*request, bytes, *end),
+            Action::Finish { request } => self.finish(rng, *request),
+            Action::Read { request } => self.read(*request),
+            Action::Drop { request } => self.drop_request(*request),
+            Action::Purge { key } => self.purge(key),
             Action::Put { key, pieces } => self.put(rng, event.moment, key, pieces),
         }
     }
@@ -214,5 +228,19 @@ impl<const N: usize, S: BuildHasher> Tier<N, S> {
             weight: self.parts.manager.total_size() as u64,
             evicted: self.parts.manager.evicted_items() as u64,
         }
+    }
+}
+
+impl<const N: usize, S: BuildHasher + Drop> Drop for Tier<N, S> {
+    fn drop(self) {
+        let Tier {
+            alloc: _,
+            wait: _,
+            mut parts,
+            requests,
+            found: _,
+            absent: _,
+        } = self;
+        requests.end_all(&mut parts);
     }
 }

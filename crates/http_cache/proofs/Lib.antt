@@ -1,3 +1,4 @@
 pub mod PhaseLaws
 pub mod EndLaws
 pub mod FinishLaws
+pub mod FreshLaws

@@ -1,11 +1,12 @@
 -- What becomes of a response that was found.
-use Rattle.std.specs.Prelude.{◌≡◌, ℕ, Bool, true, false, not, ◌&&◌, [], Option, Some, None, option_map, Result, Ok, Err, if◌then◌else◌}
+use Rattle.std.specs.Prelude.{◌≡◌, ℕ, Bool, true, false, not, ◌&&◌, [], Option, Some, None, Result, Ok, Err, if◌then◌else◌}
 use Rattle.cache_words.specs.Time.{MomentValue}
 use Rattle.cache_heads.specs.declared.meta.CacheMeta.{CacheMeta}
 use Rattle.cache_entries.specs.declared.entry.CacheEntryKey.{CacheEntryKey}
 use Rattle.cache_evict.specs.Faults.{IsPutRefused, evicted_of}
 use Rattle.cache_evict.specs.declared.fault.EvictFault.{EvictFault}
-use Rattle.cache_evict.specs.Managed.{Managed, use_first}
+use Rattle.cache_evict.specs.Managed.{Managed, use_first, rows_of}
+use Rattle.cache_entries.specs.Rows.{weight_of}
 use Rattle.cache_lock.specs.declared.tokens.Locked.{Locked}
 use Rattle.cache_lock.specs.State.{LockState}
 use Rattle.cache_lock.specs.Answers.{to_wait_for, IsRefused, IsAsBefore}
@@ -14,7 +15,7 @@ use Rattle.cache_store.specs.Readers.{Reader, Parts}
 use Rattle.cache_phases.specs.declared.hit.HitStatus.{HitStatus}
 use Rattle.cache_phases.specs.HitStatuses.{is_fresh, is_treated_as_miss, found_phase}
 use Rattle.cache_phases.specs.Phases.{is_stale_phase}
-use Rattle.cache_phases.specs.Locks.{is_on, given_by, asked, now_holding, lock_held}
+use Rattle.cache_phases.specs.Locks.{is_on, given_by, asked, left_by, now_holding, lock_held}
 use Rattle.request_store.specs.declared.faults.FoundFault.{FoundFault}
 use Rattle.request_store.specs.declared.faults.FoundFault.TheVariants.{Memory, Lock, Evict}
 use Rattle.http_cache.specs.Request.{Request, stored_at}
@@ -50,17 +51,21 @@ pub record IsTaken {H M : Type 0} (reader : H → Reader) (moment : MomentValue)
   pub lock : new.lock ≡ lock_held (found_given status old.request old.lock) old.request.lock (found_asked status moment old.request old.lock)
   pub store : FoundSpends reader hit status old.request.reader old.held new.held
 
+-- the lock after another refusal: what it gave is given back
+abbrev pub given_back : {H M : Type 0} → HitStatus → MomentValue → Request H M → LockState → LockState
+given_back status moment r s = left_by (found_given status r s) (found_asked status moment r s)
+
 -- a lock that is asked may refuse, and then is as before; where something else refuses, what it gave is given back
-abbrev pub IsRefusedFor : {H M : Type 0} → FoundFault → HitStatus → Point H M → LockState → Type 0
-IsRefusedFor (Lock f) status old s =
+abbrev pub IsRefusedFor : {H M : Type 0} → FoundFault → HitStatus → MomentValue → Point H M → LockState → Type 0
+IsRefusedFor (Lock f) status moment old s =
     (is_fresh status ≡ false) × (is_on old.request.lock ≡ true) × IsRefused old.lock (to_wait_for (stored_at old.request.key) old.lock) f × (s ≡ old.lock)
-IsRefusedFor _ status old s = IsAsBefore s old.lock
+IsRefusedFor _ status moment old s = (s ≡ given_back status moment old.request old.lock) × IsAsBefore s old.lock
 
 -- a refusal spends what was found alone
-pub record IsGivenUp {H M : Type 0} (reader : H → Reader) (hit : H) (status : HitStatus) (fault : FoundFault) (old new : Point H M) : Type 0 where
+pub record IsGivenUp {H M : Type 0} (reader : H → Reader) (moment : MomentValue) (hit : H) (status : HitStatus) (fault : FoundFault) (old new : Point H M) : Type 0 where
   pub request : new.request ≡ old.request
   pub store : Parts (reader hit) old.held new.held
-  pub lock : IsRefusedFor fault status old new.lock
+  pub lock : IsRefusedFor fault status moment old new.lock
 
 -- whether a use of the entry is counted
 abbrev pub is_counted : {H M : Type 0} → (H → Bool) → H → HitStatus → Request H M → Bool
@@ -78,3 +83,8 @@ abbrev pub CountAnswer : ℕ → Bool → CacheEntryKey → ℕ → Managed → 
 CountAnswer n counted e w old (Ok done) new = new ≡ (if counted then use_first n e w old else old)
 CountAnswer n counted e w old (Err (Some f)) new = IsPutRefused n e w old f × (evicted_of f ≡ []) × (counted ≡ true) × (new ≡ old)
 CountAnswer n counted e w old (Err None) new = (counted ≡ true) × (new ≡ old)
+
+-- a use is refused only of an entry that isn't tracked
+abbrev pub IsUntracked : ℕ → CacheEntryKey → FoundFault → Managed → Type 0
+IsUntracked n e (Evict f) m = weight_of e (rows_of n e m) ≡ None
+IsUntracked n e _ m = Unit {0}

@@ -8,3 +8,6 @@ pub mod Sizes
 pub mod Predictions
 pub mod Stale
 pub mod Revalidations
+pub mod Freshes
+pub mod Variants
+pub mod Lends

@@ -1,6 +1,8 @@
 //! A response that was found.
-ghost use Rattle.std.specs.Prelude.{◌≡◌, true, false, is_some, Some, None, OnOk, OnErr, IfOk, IfErr, MatchResult};
+ghost use Rattle.std.specs.Prelude.{◌≡◌, true, false, is_some, Some, None, OnOk, OnErr, IfOk, IfErr, IfSome, MatchResult};
 ghost use Rattle.cache_lock.specs.Answers.{to_wait_for, IsRefused, IsAsBefore};
+ghost use Rattle.cache_entries.specs.Rows.{weight_of};
+ghost use Rattle.cache_evict.specs.Managed.{rows_of};
 ghost use Rattle.cache_store.specs.Held.{Held};
 ghost use Rattle.cache_store.specs.Readers as Readers;
 ghost use Rattle.cache_phases.specs.HitStatuses.{found_phase, is_fresh};
@@ -9,7 +11,7 @@ ghost use Rattle.cache_phases.specs.Locks.{is_on, holds_permit, given_by, asked,
 ghost use Rattle.http_cache.specs.Request.{stored_at};
 ghost use Rattle.request_store.specs.Spends.{Spends};
 ghost use Rattle.http_cache.specs.Points.{point};
-ghost use Rattle.http_cache.specs.Founds.{entry_at, found_given, found_asked, with_found, FoundSpends, IsTaken, IsGivenUp, is_counted, CountAnswer, UseAnswer};
+ghost use Rattle.http_cache.specs.Founds.{entry_at, found_given, found_asked, with_found, FoundSpends, IsTaken, IsGivenUp, is_counted, CountAnswer, UseAnswer, IsUntracked};
 
 use crate::request::HttpCache;
 use cache_evict::{CacheEntryKey, EvictFault, EvictionManager};
@@ -73,17 +75,18 @@ impl<S: Storage> HttpCache<S> {
     }
 
     // Counts a use of the entry of a response that was found. An `Err(None)` is out of memory.
-    fn count_use<E: EvictionManager>(
+    pub(crate) fn count_use<E: EvictionManager>(
         &self,
         alloc: Global,
         manager: &mut E,
-        meta: &CacheMeta,
+        fresh_until: Moment,
         hit: &S::Hit,
         status: HitStatus,
     ) -> Result<(), Option<EvictFault>>
         requires { is_some self.now.key ≡ true }
-        ensures { CountAnswer E.shard_count (is_counted S.Hit.counts hit.now status self.now) (entry_at self.now.key (S.Hit.id hit.now)) (E.weighed (S.Hit.weight hit.now))
+        ensures counted { CountAnswer E.shard_count (is_counted S.Hit.counts hit.now status self.now) (entry_at self.now.key (S.Hit.id hit.now)) (E.weighed (S.Hit.weight hit.now))
             (E.managed manager.old) result (E.managed manager.new) }
+        ensures untracked { let e = entry_at self.now.key (S.Hit.id hit.now) in IfErr result (λ fault. IfSome fault (λ _. weight_of e (rows_of E.shard_count e (E.managed manager.old)) ≡ None)) }
     {
         if status.is_treated_as_miss() || !self.evicts || !hit.should_count_access() {
             return Ok(());
@@ -93,22 +96,28 @@ impl<S: Storage> HttpCache<S> {
             return Err(None);
         };
         let entry = CacheEntryKey::from_entry_id(compact, hit.entry_id());
-        match manager.access(alloc, &entry, hit.get_eviction_weight(), meta.fresh_until()) {
+        match manager.access(alloc, &entry, hit.get_eviction_weight(), fresh_until) {
             Ok(_) => Ok(()),
             Err(fault) => Err(Some(fault)),
         }
     }
 
     // Takes what was found, and spends the earlier reader.
-    fn keep_found(&mut self, store: &mut S, meta: CacheMeta, hit: S::Hit, phase: CachePhase)
+    pub(crate) fn keep_found(
+        &mut self,
+        store: &mut S,
+        meta: Option<CacheMeta>,
+        hit: S::Hit,
+        phase: CachePhase,
+    )
         requires key { is_some self.old.key ≡ true }
         requires on { is_disabled phase ≡ false }
-        ensures request { self.new ≡ record self.old { phase = phase; meta = Some meta; reader = Some hit } }
+        ensures request { self.new ≡ record self.old { phase = phase; meta = meta; reader = Some hit } }
         ensures store { Spends S.Hit.reader self.old.reader (S.held store.old) (S.held store.new) }
         ensures ids { S.ids store.new ≡ S.ids store.old }
     {
         self.phase = phase;
-        self.meta = Some(meta);
+        self.meta = meta;
         let earlier = self.reader.replace(hit);
         finish_reader(store, earlier);
     }
@@ -137,7 +146,7 @@ impl<S: Storage> HttpCache<S> {
             self.pass_found(store, hit);
         } else {
             let phase = status.found_phase(self.phase);
-            self.keep_found(store, meta, hit, phase);
+            self.keep_found(store, Some(meta), hit, phase);
         }
     }
 
@@ -162,9 +171,10 @@ impl<S: Storage> HttpCache<S> {
         requires phase { can_look_up self.old.phase ≡ true }
         requires no_permit { holds_permit self.old.lock ≡ false }
         ensures found { let old = point self.old (S.held parts.old.store) (L.state parts.old.lock) in let new = point self.new (S.held parts.new.store) (L.state parts.new.lock) in
-            MatchResult result (λ _. IsTaken S.Hit.reader moment meta hit status old new) (λ fault. IsGivenUp S.Hit.reader hit status fault old new) }
+            MatchResult result (λ _. IsTaken S.Hit.reader moment meta hit status old new) (λ fault. IsGivenUp S.Hit.reader moment hit status fault old new) }
         ensures used { UseAnswer E.shard_count (is_counted S.Hit.counts hit status self.old) (entry_at self.old.key (S.Hit.id hit)) (E.weighed (S.Hit.weight hit))
             (E.managed parts.old.manager) result (E.managed parts.new.manager) }
+        ensures untracked { IfErr result (λ fault. IsUntracked E.shard_count (entry_at self.old.key (S.Hit.id hit)) fault (E.managed parts.old.manager)) }
         ensures ids { S.ids parts.new.store ≡ S.ids parts.old.store }
         ensures parts { parts.new ≡ record parts.old { store = parts.new.store; manager = parts.new.manager; lock = parts.new.lock } }
     {
@@ -176,7 +186,7 @@ impl<S: Storage> HttpCache<S> {
                 return Err(FoundFault::Lock(fault));
             }
         };
-        match self.count_use(alloc, &mut parts.manager, &meta, &hit, status) {
+        match self.count_use(alloc, &mut parts.manager, meta.fresh_until(), &hit, status) {
             Ok(()) => {}
             Err(None) => {
                 hit.finish(&mut parts.store);

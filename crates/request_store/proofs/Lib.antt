@@ -1,3 +1,4 @@
 pub mod LookLaws
 pub mod BeginLaws
 pub mod FinishLaws
+pub mod MergeLaws

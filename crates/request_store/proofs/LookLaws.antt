@@ -1,13 +1,15 @@
 -- What a look-up finds that a request may not have.
 use Rattle.std.proofs.Common.{◌≡◌, ℕ, refl, ap, sym, ◌∙◌, subst, true, false}
-use Rattle.std.specs.Prelude.{Bool, Option, Some, None, Ok, if◌then◌else◌}
+use Rattle.std.specs.Prelude.{Bool, Option, Some, None, Ok, Err, Result, if◌then◌else◌}
 use Rattle.cache_words.specs.Time.{MomentValue}
 use Rattle.cache_heads.specs.declared.meta.CacheMeta.{CacheMeta}
 use Rattle.cache_store.specs.Answers.{Look, in_flight, finished}
 use Rattle.cache_store.specs.Held.{Held}
-use Rattle.cache_store.specs.Looks.{LookAnswer}
+use Rattle.cache_entries.specs.declared.entry.CacheEntryId.{CacheEntryId}
+use Rattle.cache_changes.specs.Store.{Stored}
+use Rattle.cache_store.specs.Looks.{LookAnswer, LookAtAnswer, answer_at}
 use Rattle.cache_store.specs.Readers.{Reader, Parts, IsJoined, IsParted, SameHeld}
-use Rattle.request_store.specs.Looks.{is_hidden, valid_look, IsValidFound}
+use Rattle.request_store.specs.Looks.{is_hidden, valid_look, IsValidFound, IsValidFoundAt}
 
 module _ {H : Type 0} (reader : H → Reader) (since : Option MomentValue) (meta : CacheMeta) (hit : H) (old mid : Held) where
   hides : (look : Look) (shown : CacheMeta) → meta ≡ shown → is_hidden since meta ≡ true → (if is_hidden since shown then None else Some look) ≡ None
@@ -30,3 +32,15 @@ module _ {H : Type 0} (reader : H → Reader) (since : Option MomentValue) (meta
       subst (λ (o : Option Look). LookAnswer reader o old (Ok (Some (meta, hit))) mid) (sym (ap (λ (b : Bool). if b then None else Some (finished x)) (ap (is_hidden since) (sym a.0.0) ∙ h))) a
   shown-found (Some (in_flight x)) a h =
       subst (λ (o : Option Look). LookAnswer reader o old (Ok (Some (meta, hit))) mid) (sym (ap (λ (b : Bool). if b then None else Some (in_flight x)) (ap (is_hidden since) (sym a.0.0) ∙ h))) a
+
+-- where a look-up at a moment finds nothing, nothing is there
+module _ {H : Type 0} (reader : H → Reader) (weight : H → ℕ) (id : H → Option CacheEntryId) (weigh : Stored CacheMeta → ℕ) (stored : Option CacheEntryId) (moment : MomentValue) (since : Option MomentValue) (old new : Held) where
+  nothing-found : (look : Option Look) → LookAnswer reader look old (Ok None) new → IsValidFound reader (valid_look since look) old None new
+  nothing-found None a = (refl, subst (λ (s : Held). SameHeld old s) (sym a.1) (record { store = refl; next = refl; readings = λ n. refl }))
+  nothing-found (Some (finished x)) a = absurd a.0
+  nothing-found (Some (in_flight x)) a = absurd a.0
+
+  pub absent-at : (look : Option Look) → LookAtAnswer reader weight id weigh stored moment look old (Ok None) new → IsValidFoundAt reader weight id weigh stored moment since look old None new
+  absent-at look (Ok None, a, t, e) = (None, nothing-found look a, t, refl)
+  absent-at look (Ok (Some found), a, t, e) = absurd cc
+  absent-at look (Err fault, a, t, e) = absurd cc

@@ -4,3 +4,5 @@ pub mod Looks
 pub mod Begins
 pub mod Finishes
 pub mod Purges
+pub mod Merges
+pub mod Variants

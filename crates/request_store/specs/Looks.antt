@@ -1,10 +1,13 @@
 -- What a look-up finds that is no older than a moment.
-use Rattle.std.specs.Prelude.{◌≡◌, Bool, false, not, Option, Some, None, Ok, if◌then◌else◌}
+use Rattle.std.specs.Prelude.{◌≡◌, ℕ, Bool, false, not, Option, Some, None, option_map, Ok, if◌then◌else◌}
 use Rattle.cache_words.specs.Time.{MomentValue, at_most}
 use Rattle.cache_heads.specs.declared.meta.CacheMeta.{CacheMeta}
+use Rattle.cache_entries.specs.declared.entry.CacheEntryId.{CacheEntryId}
+use Rattle.cache_changes.specs.Store.{Stored}
+use Rattle.cache_store.specs.declared.storage.store.FoundAt.{FoundAt}
 use Rattle.cache_store.specs.Answers.{Look, in_flight, finished}
 use Rattle.cache_store.specs.Held.{Held}
-use Rattle.cache_store.specs.Looks.{LookAnswer}
+use Rattle.cache_store.specs.Looks.{LookAnswer, Tells, told_at}
 use Rattle.cache_store.specs.Readers.{Reader, SameHeld}
 
 abbrev pub meta_of : Look → CacheMeta
@@ -25,3 +28,9 @@ valid_look since (Some look) = if is_hidden since (meta_of look) then None else 
 abbrev pub IsValidFound : {H : Type 0} → (H → Reader) → Option Look → Held → Option (CacheMeta × H) → Held → Type 0
 IsValidFound reader look old (Some found) new = LookAnswer reader look old (Ok (Some found)) new
 IsValidFound reader look old None new = (look ≡ None) × SameHeld old new
+
+-- the same, as it is told at a moment; with what the reader tells of a finished body
+abbrev pub IsValidFoundAt : {H : Type 0} → (H → Reader) → (H → ℕ) → (H → Option CacheEntryId) → (Stored CacheMeta → ℕ) → Option CacheEntryId → MomentValue → Option MomentValue → Option Look
+    → Held → Option (FoundAt H) → Held → Type 0
+IsValidFoundAt {H} reader weight id weigh stored moment since look old r new =
+    (found : Option (CacheMeta × H)) × IsValidFound reader (valid_look since look) old found new × Tells weight id weigh stored look (Ok found) × (r ≡ option_map (told_at moment) found)

@@ -1,13 +1,13 @@
 //! Look-ups of responses that are no older than a moment.
 ghost use Rattle.std.specs.Prelude.{◌≡◌, true, is_none, is_some, IfOk, IfErr, OnErr, Ok};
 ghost use Rattle.cache_words.specs.Key.{key_of, combined};
-ghost use Rattle.cache_store.specs.Looks.{Tells, shows};
+ghost use Rattle.cache_store.specs.Looks.{Tells, shows, told_at};
 ghost use Rattle.cache_store.specs.declared.storage.StoreFault.{StoreFault as Fault};
-ghost use Rattle.request_store.specs.Looks.{is_hidden, valid_look, IsValidFound};
+ghost use Rattle.request_store.specs.Looks.{is_hidden, valid_look, IsValidFound, IsValidFoundAt};
 
 use cache_heads::CacheMeta;
 use cache_store::laws::joined_then_parted;
-use cache_store::storage::{Found, HandleHit, Storage, StoreFault};
+use cache_store::storage::{Found, FoundAt, HandleHit, Storage, StoreFault};
 use cache_words::key::CacheKey;
 use cache_words::time::Moment;
 
@@ -49,6 +49,53 @@ pub fn look_valid<S: Storage>(
                 Ok((Some((meta, hit)), false))
             }
         }
+        Ok(None) => Ok((None, true)),
+        Err(fault) => Err(fault),
+    }
+}
+
+// Returns what is found as it is told at a moment.
+fn told_at<H>(moment: Moment, meta: CacheMeta, hit: H) -> FoundAt<H>
+    ensures { result ≡ told_at moment (meta, hit) }
+{
+    if meta.is_fresh(moment) {
+        FoundAt::Fresh(meta.fresh_until(), hit)
+    } else {
+        FoundAt::Stale(meta, hit)
+    }
+}
+
+/// The same, as it is told at a moment: of a response that is fresh only how long it is. A store that keeps metas packed unpacks none then,
+/// unless older responses aren't to be found.
+///
+/// # Errors
+///
+/// Those of the look-up. Nothing has changed.
+pub fn look_valid_at<S: Storage>(
+    store: &mut S,
+    key: &CacheKey,
+    since: Option<Moment>,
+    moment: Moment,
+) -> Result<(Option<FoundAt<S::Hit>>, bool), StoreFault>
+    ensures look { let k = combined (key_of key.now) in let shown = shows S.streams k (S.held store.old).store in
+        IfOk result (λ found. IsValidFoundAt S.Hit.reader S.Hit.weight S.Hit.id S.weigh (S.ids store.old k) moment since shown (S.held store.old) found.0 (S.held store.new)) }
+    ensures err { IfErr result (λ f. (f ≡ Fault.Memory) × (S.held store.new ≡ S.held store.old)) }
+    ensures looked { OnErr result (is_some (shows S.streams (combined (key_of key.now)) (S.held store.old).store) ≡ true) }
+    ensures none { let shown = shows S.streams (combined (key_of key.now)) (S.held store.old).store in IfOk result (λ found. found.1 ≡ is_none shown) }
+    ensures ids { S.ids store.new ≡ S.ids store.old }
+{
+    if since.is_some() {
+        let (found, nothing) = match look_valid(store, key, since) {
+            Ok(found) => found,
+            Err(fault) => return Err(fault),
+        };
+        return match found {
+            Some((meta, hit)) => Ok((Some(told_at(moment, meta, hit)), nothing)),
+            None => Ok((None, nothing)),
+        };
+    }
+    match store.lookup_at(key, moment) {
+        Ok(Some(found)) => Ok((Some(found), false)),
         Ok(None) => Ok((None, true)),
         Err(fault) => Err(fault),
     }

@@ -1,5 +1,5 @@
 -- Bodies found by key after edits, in a tier's state and in what changes leave of writes.
-use Rattle.std.proofs.Common.{◌≡◌, ℕ, refl, ap, sym, ◌∙◌, true, false, subst, cond, [], ◌∷◌, ◌||◌}
+use Rattle.std.proofs.Common.{◌≡◌, refl, ap, sym, ◌∙◌, true, false, subst, cond, [], ◌∷◌, ◌||◌}
 use Rattle.std.specs.Prelude.{Bool, List, Option, Some, None, option_map, not, find, filter}
 use Rattle.std.specs.Ordering.{nat_cmp, eq_by_cmp}
 use Rattle.std.specs.Cmp.Lexicographic.{slice_cmp, texts_ties, nat_list_cmp_total}
@@ -50,7 +50,8 @@ body_of-without_all k (e ∷ es) bodies =
 of_key : {M : Type 0} (k : StoredKey) (x : Stored M) → is_of k x ≡ true → x.write.key ≡ k
 of_key k x t = same_bytes-tells.equal x.write.key k t
 
-pub body_at-without : {M : Type 0} (k : StoredKey) (j : Option StoredKey) (xs : List (Stored M)) → find (is_of k) (filter (λ x. not (is_key x.write.key j)) xs) ≡ cond (is_key k j) None (find (is_of k) xs)
+pub body_at-without : {M : Type 0} (k : StoredKey) (j : Option StoredKey) (xs : List (Stored M))
+    → find (is_of k) (filter (λ x. not (is_key x.write.key j)) xs) ≡ cond (is_key k j) None (find (is_of k) xs)
 body_at-without k None xs = find-kept (is_of k) (λ x. not (is_key x.write.key None)) xs (λ x t. refl)
 body_at-without {M = M} k (Some j) xs = by_test (same_bytes j k) refl
   where

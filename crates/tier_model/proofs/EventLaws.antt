@@ -1,188 +1,282 @@
--- What each lawful call changes leaves what the state after it holds, and what it listed as evicted went as it says.
-use Rattle.std.proofs.Common.{◌≡◌, ℕ, ◌≤◌, refl, ap, sym, ◌∙◌, true, false, subst, [], ◌∷◌, ◌++◌, length, arith, inl, inr}
-use Rattle.std.specs.Prelude.{Bool, List, Option, Some, None, is_some, Ok, Err, MatchOption}
-use Rattle.std.specs.FinMap.{get, insert}
+-- What each lawful call changes leaves what the state after it holds.
+use Rattle.std.proofs.Common.{◌≡◌, ℕ, ◌+◌, refl, ap, sym, ◌∙◌, true, false, subst, cond, [], ◌∷◌, ◌++◌, inl, inr}
+use Rattle.std.specs.Prelude.{Bool, List, Option, Some, None, is_some, Ok, Err, MatchOption, not, find}
+use Rattle.std.specs.FinMap.{FinMap, get, insert}
+use Rattle.std.specs.Ordering.{nat_cmp}
 use Rattle.cache_words.specs.Time.{MomentValue}
 use Rattle.cache_words.specs.Key.{CacheKeyValue}
-use Rattle.cache_changes.specs.Changes.{stored_key, Write, Change, Changes, uses}
-use Rattle.cache_changes.specs.Writes.{IsOrderly, body_now}
-use Rattle.cache_changes.proofs.BodyLaws.{body_now-of}
+use Rattle.cache_changes.specs.Changes.{StoredKey, stored_key, Write, Change, appends, finishes, uses}
+use Rattle.cache_changes.specs.Writes.{has_ended, IsInFlight}
 use Rattle.cache_entries.specs.declared.entry.CacheEntryKey.{CacheEntryKey}
 use Rattle.cache_entries.specs.Entry.{key_of}
-use Rattle.cache_entries.specs.Rows.{is_over}
-use Rattle.cache_changes.specs.Uses.{rows_of}
-use Rattle.cache_changes.proofs.UseLaws.{IsOrderOfUse-rows_of}
-use Rattle.cache_evict.specs.Managed.{Managed}
-use Rattle.tier_model.specs.declared.whole.Whole.{Whole}
-use Rattle.tier_model.specs.declared.state.Body.{Body}
-use Rattle.tier_model.specs.declared.state.Request.{Request}
 use Rattle.tier_model.specs.declared.event.Action.{Action}
-use Rattle.tier_model.specs.declared.event.Action.TheVariants.{Open, LookUp, Read, Drop, Purge, Put}
+use Rattle.tier_model.specs.declared.event.Action.TheVariants.{Open, LookUp, Poll, Begin, Piece, Finish, Read, Drop, Purge, Put}
 use Rattle.tier_model.specs.declared.event.Answer.{Answer}
-use Rattle.tier_model.specs.declared.event.Answer.TheVariants.{Opened, Found, Dropped, Purged, Finished}
-use Rattle.tier_model.specs.declared.event.Done.{Done}
+use Rattle.tier_model.specs.declared.event.Answer.TheVariants.{Waited, Begun, Purged}
+use Rattle.tier_model.specs.declared.event.Answer.TheVariants as answer
 use Rattle.tier_model.specs.declared.event.TierFault.{TierFault}
+use Rattle.tier_model.specs.declared.event.TierFault.TheVariants.{WrongPhase, AfterEnd, WriteRemoved}
 use Rattle.tier_model.specs.Keys.{Entry, entry_of, alone, stored_key_of}
-use Rattle.tier_model.specs.Evictions.{all_gone, GoInTurn}
-use Rattle.tier_model.specs.Response.{whole_in}
-use Rattle.tier_model.specs.Calls.{Call, History, Outcome, extended, nothing_done, done_of, read_by, finished_in, finished_by, has_stored, writes_after, opened_for}
-use Rattle.tier_model.specs.Histories.{Kept, Opening, writes_begun, stores, clears, put_changes, hit_changes, look_changes, changes_of}
-use Rattle.tier_model.specs.Headline.{EndsOver}
-use Rattle.tier_model.specs.Rows.{Bodies, FinishedBody, body_of, weight_for}
-use Rattle.tier_model.specs.State.{Settings, State, shards_of}
-use Rattle.tier_model.specs.Step.{refusal, AllowsBy, BeginsWrite, Allows, IsAnswer, IsPutAnswer, IsPutFault, after, answered, undone, on_request, look_answer, after_look_up, after_read, after_purge, after_put, UseFits, admitted, body_for, stored_alone, all_done}
-use Rattle.tier_model.proofs.StepLaws.{Inside, call_at, answer_allowed, kept_out-done}
-use Rattle.tier_model.proofs.RowSteps.{IsMade, over-rows}
-use Rattle.tier_model.proofs.ChangeLaws.{Shows, shows}
-use Rattle.tier_model.proofs.BoundLaws.{Keeps, ends-over, gone-limit, keeps-later, keeps-used, keeps-cleared, leaves-room, keeps-stored, keeps-back}
+use Rattle.tier_model.specs.Response.{Judged, kept, not_kept}
+use Rattle.tier_model.specs.Calls.{Call, History, Outcome, extended, done_of, judged_of, read_by, finished_by, is_begun, writes_after}
+use Rattle.tier_model.specs.Histories.{Kept, Opening, writes_begun, look_changes, begun_by, write_begun, is_landing, write_held, begin_changes, finished_of, settles_back, finish_changes}
+use Rattle.tier_model.specs.Histories.{piece_changes, changes_of}
+use Rattle.tier_model.specs.Rows.{FinishedBody, body_of, weight_for}
+use Rattle.tier_model.specs.declared.event.LockGiven.{LockGiven}
+use Rattle.tier_model.specs.Shelf.{InFlight, flying_at, flies_for, Look, absent, in_flight, finished, look, is_there, landed, on_flying}
+use Rattle.tier_model.specs.State.{Request, State, shards_of}
+use Rattle.tier_model.specs.Checks.{refusal, unless, unless_open, piece_refusal, has_ended as ended_at}
+use Rattle.tier_model.specs.Answers.{key_for, look_for, lock_given, look_answer, IsStored, IsBeginAnswer, IsFinishFault, finishing}
+use Rattle.tier_model.specs.Step.{UseFits, IsAnswer, IsFault, AllowsBy, BeginsWrite, may_begin, tells_of_write, Allows}
+use Rattle.tier_model.specs.After.{by_request, on_request, with_request, on_write, pieced, read_on, after_wait, after_look, after_begin, after_flight, undone, after_finish, finished_state}
+use Rattle.tier_model.specs.After.{after_purge, without_request, answered, refused, after_outcome}
+use Rattle.tier_model.proofs.CallLaws.{Inside, call_at}
+use Rattle.tier_model.proofs.WriteLaws.{WritesFit, flies_on}
+use Rattle.tier_model.proofs.ChangeLaws.{more_bytes}
+use Rattle.tier_model.proofs.ShownLaws.{shows}
+use Rattle.tier_model.proofs.BoundLaws.{Keeps, keeps-used, keeps-cleared, keeps-begun, keeps-appended, keeps-ended, keeps-left}
+use Rattle.tier_model.proofs.OpenLaws.{Holds, HoldsNext, begun-told, look_finished, hit_uses, FlightAt, flight-at, IsOpen, Written, the-write, no-write, finishing-is, passed, test_passed}
+use Rattle.tier_model.proofs.OpenLaws.{not_false, unrefused}
+use Rattle.tier_model.proofs.StoredLaws.{idle, put_holds, quiet_holds, put_fault_holds, finish_holds, gone_holds, back_holds, fault-stored, landing-stored, finish_check}
 
--- what a state holds after a history
-abbrev pub Holds : Opening → State → History → Type 0
-Holds start s h = Keeps (shards_of s) (writes_begun start h) s.bodies s.managed (changes_of start h)
+-- ---- each event
 
--- what is held after one call more, by whether a write began in it
-abbrev pub HoldsNext : State → ℕ → Bool → Bodies → Managed → Changes Kept → Type 0
-HoldsNext s n began bodies m changes = Keeps (shards_of s) (writes_after n began) bodies m changes
-
-no-fewer : (n : ℕ) (began : Bool) → n ≤ writes_after n began
-no-fewer n true = omega arith
-no-fewer n false = omega arith
-
--- a write began of what was stored
-began-stored : (s : State) (b : FinishedBody) (o : Outcome) (v : Bool) → BeginsWrite s (Some b) o v → has_stored o ≡ true → v ≡ true
-began-stored s b o true x e = refl
-began-stored s b o false x e = cc
-
-extended-append : (past : Changes Kept) (xs ys : List (Change Kept)) → extended past (xs ++ ys) ≡ extended (extended past xs) ys
-extended-append past [] ys = refl
-extended-append past (x ∷ xs) ys = extended-append (x ∷ past) xs ys
-
-module _ (s : State) (n : ℕ) (changes : Changes Kept) (l : Keeps (shards_of s) n s.bodies s.managed changes) where
-  idle : (began : Bool) → HoldsNext s n began s.bodies s.managed changes
-  idle began = keeps-later (shards_of s) n s.bodies s.managed changes l (writes_after n began) (no-fewer n began)
-
-  pub ends_over : (settings : Settings) (over : Bool) (b : FinishedBody) (es : List CacheEntryKey) → IsMade settings s.managed → GoInTurn (shards_of s) over es (admitted s b)
-      → EndsOver settings over (extended changes (stores n b es))
-  ends_over settings over b es made h =
-      let N = shards_of s in
-      let left : Managed = all_gone N es (admitted s b) in
-      let now : Changes Kept = extended changes (stores n b es) in
-      let after = leaves-room N n s.bodies s.managed changes l b over es h in
-      let limits = gone-limit N es (admitted s b) in
-      record {
-        rows = rows_of now;
-        order = IsOrderOfUse-rows_of now;
-        ends = ap (λ (x : ℕ). is_over x settings.watermark (rows_of now)) (sym (limits.0 ∙ made.limit)) ∙ ap (λ (x : Option ℕ). is_over left.limit x (rows_of now)) (sym (limits.1 ∙ made.watermark))
-            ∙ over-rows N left (rows_of now) after.some after.rows ∙ ends-over N over es (admitted s b) h;
-      }
-
-  -- the number of a body that was stored is used up
-  module _ (b : FinishedBody) (o : Outcome) (began : Bool) (begins : BeginsWrite s (Some b) o began) (stored : has_stored o ≡ true) where
-    numbered : (bodies : Bodies) (m : Managed) (now : Changes Kept) → HoldsNext s n true bodies m now → HoldsNext s n began bodies m now
-    numbered bodies m now l = subst (λ (v : Bool). HoldsNext s n v bodies m now) (sym (began-stored s b o began begins stored)) l
-
-  put_holds : (g : Option FinishedBody) (w : Option Whole) (a : Answer) (began : Bool) → IsPutAnswer s g w a → BeginsWrite s g (Ok a) began
-      → HoldsNext s n began (after_put s g a).bodies (after_put s g a).managed (extended changes (put_changes n g (Ok a)))
-  put_holds (Some b) w (Finished m es) began p x =
-      numbered b (Ok (Finished m es)) began x refl (after_put s (Some b) (Finished m es)).bodies (after_put s (Some b) (Finished m es)).managed (extended changes (stores n b es))
-      (keeps-stored (shards_of s) n s.bodies s.managed changes l b es p.2)
-  put_holds (Some b) w _ began p x = absurd p
-  put_holds None w a began p x = idle began
-
-  -- a refused put
-  abbrev BackHolds : Option FinishedBody → TierFault → Bool → Type 0
-  BackHolds g f began = HoldsNext s n began (undone s g (done_of f)).bodies (undone s g (done_of f)).managed (extended changes (put_changes n g (Err f)))
-
-  quiet_holds : (g : Option FinishedBody) (f : TierFault) (began : Bool) → done_of f ≡ nothing_done → BackHolds g f began
-  quiet_holds (Some b) f began d = rw d (idle began)
-  quiet_holds None f began d = idle began
-
-  alone_holds : (b : FinishedBody) (f : TierFault) (began : Bool) → done_of f ≡ stored_alone → BackHolds (Some b) f began
-  alone_holds b f began d = rw d (keeps-cleared (shards_of s) (writes_after n began) s.bodies s.managed changes (idle began) b.entry)
-
-  cut_holds : (b : FinishedBody) (f : TierFault) (es : List CacheEntryKey) (began : Bool) → done_of f ≡ all_done es → GoInTurn (shards_of s) true es (admitted s b) → BeginsWrite s (Some b) (Err f) began
-      → BackHolds (Some b) f began
-  cut_holds b f es began d h x =
-      numbered b (Err f) began x (ap (λ (done : Done). done.stored) d) (undone s (Some b) (done_of f)).bodies (undone s (Some b) (done_of f)).managed (extended changes (put_changes n (Some b) (Err f)))
-      (rw (d, extended-append changes (stores n b es) (clears b.entry)) (keeps-back (shards_of s) n s.bodies s.managed changes l b true es h))
-
-  put_fault_holds : (g : Option FinishedBody) (w : Option Whole) (f : TierFault) (began : Bool) → IsPutFault s g w f → BeginsWrite s g (Err f) began → BackHolds g f began
-  put_fault_holds (Some b) w f began p x = elim p [
-    | inl spent ↦ quiet_holds (Some b) f began (ap done_of spent.0)
-    | inr late ↦ elim late [
-      | inl out ↦ alone_holds b f began (kept_out-done s (alone b.entry) (weight_for b.body) stored_alone f out)
-      | inr cut ↦ cut_holds b f cut.0 began (ap done_of cut.1) cut.3 x
-    ]
-  ]
-  put_fault_holds None w f began p x = idle began
-
-abbrev use_of : Entry → Body → List (Change Kept)
-use_of e b = uses (alone e) (weight_for b) ∷ []
-
--- what a hit changes: its entry is used
-hit_uses : (e : Entry) (b : Body) (changes : Changes Kept) → IsOrderly changes → Shows (stored_key e) b changes → hit_changes e (body_now (stored_key e) changes) changes ≡ uses (alone e) (weight_for b) ∷ []
-hit_uses e b changes o x =
-    ap (λ (w : Option (Write Kept)). hit_changes e w changes) (body_now-of (stored_key e) changes x.write o x.body) ∙ ap (λ (p : Body). use_of e p) x.tells
-
-module _ (start : Opening) (s : State) (h : History) (l : Holds start s h) (opened : (i : ℕ) (q : Request) → get s.requests i ≡ Some q → (opened_for i h ≡ Some (key_of q.entry)) × (q.entry ≡ alone (key_of q.entry))) where
+module _ (start : Opening) (s : State) (h : History) (l : Holds start s h) (count : s.shelf.writes ≡ writes_begun start h)
+    (opened : (r : ℕ) (q : Request) → get s.requests r ≡ Some q → IsOpen start r q h) (fits : WritesFit start h) where
   abbrev Next : State → Call → Type 0
-  Next new c = HoldsNext s (writes_begun start h) c.began new.bodies new.managed (changes_of start (c ∷ h))
+  Next new c = HoldsNext s (writes_begun start h) c.began new (changes_of start (c ∷ h))
 
-  still : (began : Bool) → HoldsNext s (writes_begun start h) began s.bodies s.managed (changes_of start h)
+  still : (began : Bool) → HoldsNext s (writes_begun start h) began s (changes_of start h)
   still began = idle s (writes_begun start h) (changes_of start h) l began
 
-  look_holds : (t : MomentValue) (read : Inside) (i : ℕ) (q : Request) (b : Option Body) (a : Answer) → (opened_for i h ≡ Some (key_of q.entry)) × (q.entry ≡ alone (key_of q.entry))
-      → body_for q s.bodies ≡ b → a ≡ look_answer t b → Next (after_look_up s t i q b) (call_at t (LookUp i) read (Ok a))
-  look_holds t read i q None a for_it be ae = subst (λ (x : Answer). Next s (call_at t (LookUp i) read (Ok x))) (sym ae) (still read.1)
-  look_holds t read i q (Some b) a for_it be ae =
+  look_holds : (t : MomentValue) (i : Inside) (r : ℕ) (q : Request) (x : Look) (a : Answer) (given : LockGiven) → IsOpen start r q h → look_for q s.shelf ≡ x → a ≡ look_answer t given x
+      → Next (after_look s t r q x) (call_at t (LookUp r) i (Ok a))
+  look_holds t i r q absent a given opens is e = subst (λ (y : Answer). Next s (call_at t (LookUp r) i (Ok y))) (sym e) (still i.began)
+  look_holds t i r q (in_flight f) a given opens is e = subst (λ (y : Answer). Next s (call_at t (LookUp r) i (Ok y))) (sym e) (still i.began)
+  look_holds t i r q (finished b) a given opens is e =
       let key = key_of q.entry in
       let n = writes_begun start h in
-      let x = shows (shards_of s) n s.bodies s.managed (changes_of start h) l.leaves (stored_key key) b be in
-      let now = ap (λ (e : Option Entry). look_changes e (changes_of start h)) for_it.0 ∙ hit_uses key b (changes_of start h) l.leaves.orderly x ∙ ap (λ (e : CacheEntryKey). uses e (weight_for b) ∷ []) (sym for_it.1) in
-      subst (λ (x : Answer). Next (after_look_up s t i q (Some b)) (call_at t (LookUp i) read (Ok x))) (sym ae)
-      (subst (λ (cs : List (Change Kept)). HoldsNext s n read.1 s.bodies (after_look_up s t i q (Some b)).managed (extended (changes_of start h) cs)) (sym now)
-      (keeps-used (shards_of s) (writes_after n read.1) s.bodies s.managed (changes_of start h) (still read.1) q.entry (weight_for b)))
+      let there = look_finished (find (flies_for (key_for q)) s.shelf.flying) (body_of (key_for q) s.shelf.bodies) b is in
+      let x = shows (shards_of s) n s.shelf.bodies s.shelf.flying s.managed (changes_of start h) l.leaves (stored_key key) b there.1 in
+      let now = ap (λ (o : Option Entry). look_changes o (changes_of start h)) opens.key ∙ hit_uses key b (changes_of start h) l.leaves.orderly x ∙ ap (λ (o : CacheEntryKey). uses o (weight_for b) ∷ []) (sym opens.entry) in
+      subst (λ (y : Answer). Next (after_look s t r q (finished b)) (call_at t (LookUp r) i (Ok y))) (sym e)
+      (subst (λ (cs : List (Change Kept)). HoldsNext s n i.began (after_look s t r q (finished b)) (extended (changes_of start h) cs)) (sym now)
+      (keeps-used (shards_of s) (writes_after n i.began) s.shelf.bodies s.shelf.flying s.managed (changes_of start h) (still i.began) q.entry (weight_for b)))
 
-  request_holds : (t : MomentValue) (read : Inside) (i : ℕ) (a : Answer) (o : Option Request) → get s.requests i ≡ o
-      → MatchOption o ⊥ (λ q. (a ≡ look_answer t (body_for q s.bodies)) × UseFits s q)
-      → Next (on_request s o (λ q. after_look_up s t i q (body_for q s.bodies))) (call_at t (LookUp i) read (Ok a))
-  request_holds t read i a None e p = absurd p
-  request_holds t read i a (Some q) e p = look_holds t read i q (body_for q s.bodies) a (opened i q e) refl p.0
+  request_holds : (t : MomentValue) (i : Inside) (r : ℕ) (a : Answer) (o : Option Request) → get s.requests r ≡ o
+      → MatchOption o ⊥ (λ q. (a ≡ look_answer t (lock_given t q (look_for q s.shelf) s.lock) (look_for q s.shelf)) × UseFits s q (look_for q s.shelf))
+      → Next (by_request s o (λ q. after_look s t r q (look_for q s.shelf))) (call_at t (LookUp r) i (Ok a))
+  request_holds t i r a None e p = absurd p
+  request_holds t i r a (Some q) e p = look_holds t i r q (look_for q s.shelf) a (lock_given t q (look_for q s.shelf) s.lock) (opened r q e) refl p.0
 
-  read_holds : (t : MomentValue) (read : Inside) (i : ℕ) (a : Answer) (o : Option Request) → Next (on_request s o (λ q. record s { requests = insert s.requests i (after_read q) })) (call_at t (Read i) read (Ok a))
-  read_holds t read i a None = still read.1
-  read_holds t read i a (Some q) = still read.1
+  -- an event that writes a request alone
+  written_holds : (i : Inside) (c : Call) (o : Option Request) (r : ℕ) (f : Request → Request) → changes_of start (c ∷ h) ≡ changes_of start h → Next (by_request s o (λ q. with_request r (f q) s)) c
+  written_holds i c None r f e = rw e (still c.began)
+  written_holds i c (Some q) r f e = rw e (still c.began)
 
-  purged : (t : MomentValue) (read : Inside) (key : CacheKeyValue) (v : Bool) → Next (after_purge s key v) (call_at t (Purge key) read (Ok (Purged v)))
-  purged t read key true = keeps-cleared (shards_of s) (writes_after (writes_begun start h) read.1) s.bodies s.managed (changes_of start h) (still read.1) (entry_of key)
-  purged t read key false = still read.1
+  begin_holds : (t : MomentValue) (i : Inside) (r : ℕ) (head : List ℕ) (q : Request) (a : Answer) (j : Option Judged) (may : Bool) → IsOpen start r q h
+      → judged_of (call_at t (Begin r head) i (Ok a)) ≡ j → IsBeginAnswer j a
+      → BeginsWrite s may (is_begun (Ok a)) i.began → Next (after_begin s r q j) (call_at t (Begin r head) i (Ok a))
+  begin_holds t i r head q a (Some (kept meta)) may opens is p x =
+      let n = writes_begun start h in
+      let k : StoredKey = stored_key (key_of q.entry) in
+      let w : Write Kept = record { number = n; key = k; meta = record { entry = alone (key_of q.entry); meta = meta } } in
+      let new : InFlight = record { number = n; key = k; meta = meta; bytes = []; ended = false; removed = false } in
+      let begins_it : begun_by start r (call_at t (Begin r head) i (Ok Begun)) h ≡ Some w =
+      ap (λ (o : Option Entry). write_begun n o (judged_of (call_at t (Begin r head) i (Ok Begun)))) opens.key ∙ ap (write_begun n (Some (key_of q.entry))) is in
+      let began : i.began ≡ true = begun-told s may (is_begun (Ok a)) i.began x (ap (λ (y : Answer). is_begun (Ok y)) p) in
+      let done = keeps-begun (shards_of s) n s.shelf.bodies s.shelf.flying s.managed (changes_of start h) l k (record { entry = alone (key_of q.entry); meta = meta }) in
+      rw (p, began, count) (subst (λ (o : Option (Write Kept)). Keeps (shards_of s) (n + 1) s.shelf.bodies (s.shelf.flying ++ new ∷ []) s.managed (extended (changes_of start h) (begin_changes o))) (sym begins_it) done)
+  begin_holds t i r head q a (Some (not_kept reason)) may opens is p x = subst (λ (y : Answer). Next s (call_at t (Begin r head) i (Ok y))) (sym p) (still i.began)
+  begin_holds t i r head q a (Some _) may opens is p x = absurd p
+  begin_holds t i r head q a None may opens is p x = absurd p
 
-  answer_holds : (t : MomentValue) (read : Inside) (action : Action) (a : Answer) → IsAnswer s t action (whole_in t action read.0) a → BeginsWrite s (finished_in action (whole_in t action read.0)) (Ok a) read.1
-      → Next (answered s t action (whole_in t action read.0) a) (call_at t action read (Ok a))
-  answer_holds t read (Open i key) a p x = still read.1
-  answer_holds t read (LookUp i) a p x = request_holds t read i a (get s.requests i) refl p
-  answer_holds t read (Read i) a p x = read_holds t read i a (get s.requests i)
-  answer_holds t read (Drop i) a p x = still read.1
-  answer_holds t read (Purge key) a p x =
-      subst (λ (x : Answer). Next (answered s t (Purge key) None x) (call_at t (Purge key) read (Ok x))) (sym p) (purged t read key (is_some (body_of (stored_key_of key) s.bodies)))
-  answer_holds t read (Put key pieces) a p x = put_holds s (writes_begun start h) (changes_of start h) l (finished_in (Put key pieces) (whole_in t (Put key pieces) read.0)) (whole_in t (Put key pieces) read.0) a read.1 p x
+  -- the write of a request that a piece may come to
+  pub the-piece : (r : ℕ) (q : Request) → IsOpen start r q h → (m : ℕ) → q.write ≡ Some m
+      → (x : Written start r q h) × (ended_at (flying_at m s.shelf.flying) ≡ has_ended x.write.number (changes_of start h))
+  the-piece r q opens m e =
+      let x = the-write start r q h opens fits m e in
+      let f = flight-at (shards_of s) (writes_begun start h) s.shelf.bodies s.shelf.flying s.managed (changes_of start h) l.leaves x.write x.flies in
+      let same : m ≡ x.write.number = let both : Some m ≡ Some x.write.number = sym e ∙ x.number in cc in
+      (x, ap ended_at (ap (λ (k : ℕ). flying_at k s.shelf.flying) same ∙ f.at) ∙ f.ended)
 
-  fault_holds : (t : MomentValue) (read : Inside) (action : Action) (f : TierFault) → AllowsBy (refusal s action) s t action (whole_in t action read.0) (Err f) → BeginsWrite s (finished_in action (whole_in t action read.0)) (Err f) read.1
-      → Next (undone s (finished_in action (whole_in t action read.0)) (done_of f)) (call_at t action read (Err f))
-  fault_holds t read (Open i key) f p x = still read.1
-  fault_holds t read (LookUp i) f p x = still read.1
-  fault_holds t read (Read i) f p x = still read.1
-  fault_holds t read (Drop i) f p x = still read.1
-  fault_holds t read (Purge key) f p x = still read.1
-  fault_holds t read (Put key pieces) f p x = elim p [
-    | inl m ↦ quiet_holds s (writes_begun start h) (changes_of start h) l (finished_in (Put key pieces) (whole_in t (Put key pieces) read.0)) f read.1 (ap done_of m.0)
-    | inr late ↦ put_fault_holds s (writes_begun start h) (changes_of start h) l (finished_in (Put key pieces) (whole_in t (Put key pieces) read.0)) (whole_in t (Put key pieces) read.0) f read.1 late x
+  piece_holds : (t : MomentValue) (i : Inside) (r : ℕ) (bytes : List ℕ) (last : Bool) (q : Request) → IsOpen start r q h → piece_refusal q.write s.shelf ≡ None
+      → Next (record s { shelf = on_write q.write (pieced bytes last) s.shelf }) (call_at t (Piece r bytes last) i (Ok answer.Written))
+  piece_holds t i r bytes last q opens passes = by_write q.write refl passes
+    where
+      n : ℕ
+      n = writes_begun start h
+
+      pieces : (w : Write Kept) → IsInFlight w (changes_of start h) → has_ended w.number (changes_of start h) ≡ false → (v : Bool)
+          → HoldsNext s n i.began (record s { shelf = pieced bytes v w.number s.shelf }) (extended (changes_of start h) (piece_changes (Some w) bytes v))
+      pieces w flies more false = keeps-appended (shards_of s) (writes_after n i.began) s.shelf.bodies s.shelf.flying s.managed (changes_of start h) (still i.began) w flies bytes more
+      pieces w flies more true =
+          keeps-ended (shards_of s) (writes_after n i.began) s.shelf.bodies (on_flying w.number (more_bytes bytes) s.shelf.flying) s.managed (appends w.number bytes ∷ changes_of start h)
+          (keeps-appended (shards_of s) (writes_after n i.began) s.shelf.bodies s.shelf.flying s.managed (changes_of start h) (still i.began) w flies bytes more)
+          w (flies_on start w (changes_of start h) (appends w.number bytes ∷ []) (refl, tt) flies)
+
+      by_write : (o : Option ℕ) → q.write ≡ o → piece_refusal o s.shelf ≡ None
+          → Next (record s { shelf = on_write q.write (pieced bytes last) s.shelf }) (call_at t (Piece r bytes last) i (Ok answer.Written))
+      by_write None e p = absurd cc
+      by_write (Some m) e p =
+          let x = the-piece r q opens m e in
+          let more : has_ended x.0.write.number (changes_of start h) ≡ false = sym x.1 ∙ not_false _ (test_passed (not (ended_at (flying_at m s.shelf.flying))) AfterEnd p) in
+          rw (x.0.number, x.0.held) (pieces x.0.write x.0.flies more last)
+
+  -- a finish that did nothing
+  quiet_finish : (o : Option (Write Kept)) (f : TierFault) → is_landing (Err f) ≡ false → finish_changes o (Err f) (changes_of start h) ≡ []
+  quiet_finish None f e = refl
+  quiet_finish (Some w) WriteRemoved e = absurd cc
+  quiet_finish (Some w) f e = ap (λ v. cond v (finishes w ∷ settles_back (finished_of (changes_of start h) w) (done_of f)) []) e
+
+  kept_state : (o : Option Request) (r : ℕ) (f : TierFault) → is_landing (Err f) ≡ false → by_request s o (λ q. finished_state s r q (Err f)) ≡ s
+  kept_state None r f e = refl
+  kept_state (Some q) r f e = ap (λ v. cond v (after_finish (after_flight s r q) (finishing q s.shelf) (Err f)) s) e
+
+  quiet_finish_holds : (t : MomentValue) (i : Inside) (r : ℕ) (f : TierFault) → is_landing (Err f) ≡ false → Next (on_request s r (λ q. finished_state s r q (Err f))) (call_at t (Finish r) i (Err f))
+  quiet_finish_holds t i r f e = rw (kept_state (get s.requests r) r f e, quiet_finish (write_held start r h) f e) (still i.began)
+
+  module _ (t : MomentValue) (i : Inside) (r : ℕ) (q : Request) (x : Written start r q h) where
+    f : FlightAt x.write s.shelf.flying (changes_of start h)
+    f = flight-at (shards_of s) (writes_begun start h) s.shelf.bodies s.shelf.flying s.managed (changes_of start h) l.leaves x.write x.flies
+
+    abbrev rs : FinMap nat_cmp Request
+    rs = insert s.requests r (record q { write = None })
+
+    landed_is : after_flight s r q ≡ record s { shelf = landed x.write.number s.shelf; requests = rs }
+    landed_is = ap (λ (o : Option ℕ). record s { shelf = on_write o landed s.shelf; requests = rs }) x.number
+
+    entry_is : (e : Entry) → q.entry ≡ alone e → x.write.meta.entry ≡ alone (key_of q.entry)
+    entry_is e is = x.of_entry ∙ is ∙ ap (λ (y : CacheEntryKey). alone (key_of y)) (sym is)
+
+  finish_answered : (t : MomentValue) (i : Inside) (r : ℕ) (q : Request) (a : Answer) → IsOpen start r q h → (x : Written start r q h) → MatchOption (finishing q s.shelf) ⊥ (λ b. IsStored s b a)
+      → Next (finished_state s r q (Ok a)) (call_at t (Finish r) i (Ok a))
+  finish_answered t i r q a opens x p = by_removed (f t i r q x).flight.removed refl (subst (λ (o : Option FinishedBody). MatchOption o ⊥ (λ b. IsStored s b a)) is p)
+    where
+      b : FinishedBody
+      b = finished_of (changes_of start h) x.write
+
+      is : finishing q s.shelf ≡ cond (f t i r q x).flight.removed None (Some b)
+      is = finishing-is start r q h s.shelf x (f t i r q x)
+
+      by_removed : (v : Bool) → (f t i r q x).flight.removed ≡ v → MatchOption (cond v None (Some b)) ⊥ (λ b. IsStored s b a) → Next (finished_state s r q (Ok a)) (call_at t (Finish r) i (Ok a))
+      by_removed true e p = absurd p
+      by_removed false e p =
+          rw (landed_is t i r q x, is, e, x.held)
+          (finish_holds s (writes_begun start h) (changes_of start h) l x.write (key_of q.entry) x.flies x.of_key (x.of_entry ∙ opens.entry) (rs t i r q x) a i.began ((f t i r q x).alive.0 e) p)
+
+  finish_refused : (t : MomentValue) (i : Inside) (r : ℕ) (q : Request) (g : TierFault) → IsOpen start r q h → (x : Written start r q h) → IsFinishFault s (finishing q s.shelf) g
+      → get s.requests r ≡ Some q
+      → Next (on_request s r (λ q. finished_state s r q (Err g))) (call_at t (Finish r) i (Err g))
+  finish_refused t i r q g opens x p there = by_removed (f t i r q x).flight.removed refl (subst (λ (o : Option FinishedBody). IsFinishFault s o g) is p)
+    where
+      b : FinishedBody
+      b = finished_of (changes_of start h) x.write
+
+      is : finishing q s.shelf ≡ cond (f t i r q x).flight.removed None (Some b)
+      is = finishing-is start r q h s.shelf x (f t i r q x)
+
+      by_removed : (v : Bool) → (f t i r q x).flight.removed ≡ v → IsFinishFault s (cond v None (Some b)) g → Next (on_request s r (λ q. finished_state s r q (Err g))) (call_at t (Finish r) i (Err g))
+      by_removed true e p = elim p [
+        | inl gone ↦
+            rw (gone, there, landed_is t i r q x, is, e, x.held)
+            (gone_holds s (writes_begun start h) (changes_of start h) l x.write (key_of q.entry) x.flies x.of_key (x.of_entry ∙ opens.entry) i.began (rs t i r q x))
+        | inr memory ↦ quiet_finish_holds t i r g (ap (λ (y : TierFault). is_landing (Err y)) memory)
+      ]
+      by_removed false e p = elim p [
+        | inl memory ↦ quiet_finish_holds t i r g (ap (λ (y : TierFault). is_landing (Err y)) memory)
+        | inr late ↦
+            rw (there, landing-stored g (fault-stored s b g late), landed_is t i r q x, is, e, x.held)
+            (back_holds s (writes_begun start h) (changes_of start h) l x.write (key_of q.entry) x.flies x.of_key (x.of_entry ∙ opens.entry) g i.began (rs t i r q x) ((f t i r q x).alive.0 e) late)
+      ]
+
+  drop_holds : (t : MomentValue) (i : Inside) (r : ℕ) (a : Answer) (q : Request) → IsOpen start r q h → Next (without_request s r q) (call_at t (Drop r) i (Ok a))
+  drop_holds t i r a q opens = by_write q.write refl
+    where
+      by_write : (o : Option ℕ) → q.write ≡ o → Next (without_request s r q) (call_at t (Drop r) i (Ok a))
+      by_write None e = rw (e, no-write start r q h opens e) (still i.began)
+      by_write (Some m) e =
+          let x = the-write start r q h opens fits m e in
+          rw (x.number, x.held) (keeps-left (shards_of s) (writes_after (writes_begun start h) i.began) s.shelf.bodies s.shelf.flying s.managed (changes_of start h) (still i.began) x.write x.flies)
+
+  purged : (t : MomentValue) (i : Inside) (key : CacheKeyValue) (v : Bool) → Next (after_purge s key v) (call_at t (Purge key) i (Ok (Purged v)))
+  purged t i key true = keeps-cleared (shards_of s) (writes_after (writes_begun start h) i.began) s.shelf.bodies s.shelf.flying s.managed (changes_of start h) (still i.began) (entry_of key)
+  purged t i key false = still i.began
+
+  -- the request that a passed check speaks of
+  pub there_open : (r : ℕ) (check : Request → Option TierFault) → unless_open (get s.requests r) check ≡ None → (q : Request) × (get s.requests r ≡ Some q) × IsOpen start r q h × (check q ≡ None)
+  there_open r check n = let x = passed (get s.requests r) check n in (x.0, x.1, opened r x.0 x.1, x.2)
+
+  pub has_write : (r : ℕ) (q : Request) → IsOpen start r q h → unless (is_some q.write) WrongPhase ≡ None → Written start r q h
+  has_write r q opens n = by_write q.write refl (test_passed (is_some q.write) WrongPhase n)
+    where
+      by_write : (o : Option ℕ) → q.write ≡ o → is_some o ≡ true → Written start r q h
+      by_write None e there = absurd cc
+      by_write (Some m) e there = the-write start r q h opens fits m e
+
+  answer_holds : (t : MomentValue) (i : Inside) (action : Action) (a : Answer) → refusal s action ≡ None → IsAnswer s t action (call_at t action i (Ok a)) a
+      → BeginsWrite s (may_begin s (call_at t action i (Ok a))) (tells_of_write (call_at t action i (Ok a))) i.began
+      → Next (answered s t action (call_at t action i (Ok a)) a) (call_at t action i (Ok a))
+  answer_holds t i (Open r key asks) a n p x = still i.began
+  answer_holds t i (LookUp r) a n p x = request_holds t i r a (get s.requests r) refl p
+  answer_holds t i (Poll r) (Waited outcome) n p x = written_holds i (call_at t (Poll r) i (Ok (Waited outcome))) (get s.requests r) r (λ q. after_wait t outcome q.held q) refl
+  answer_holds t i (Poll r) _ n p x = still i.began
+  answer_holds t i (Begin r head) a n p x =
+      let q = there_open r _ n in
+      rw q.1 (begin_holds t i r head q.0 a (judged_of (call_at t (Begin r head) i (Ok a))) (may_begin s (call_at t (Begin r head) i (Ok a))) q.2 refl p x)
+  answer_holds t i (Piece r bytes last) a n p x =
+      let q = there_open r _ n in
+      rw (p, q.1) (piece_holds t i r bytes last q.0 q.2 q.3)
+  answer_holds t i (Finish r) a n p x =
+      let q = there_open r _ n in
+      rw q.1 (finish_answered t i r q.0 a q.2 (has_write r q.0 q.2 q.3) (subst (λ (o : Option Request). MatchOption o ⊥ (λ q. MatchOption (finishing q s.shelf) ⊥ (λ b. IsStored s b a))) q.1 p))
+  answer_holds t i (Read r) a n p x = written_holds i (call_at t (Read r) i (Ok a)) (get s.requests r) r (λ q. record q { reader = read_on a q.reader }) refl
+  answer_holds t i (Drop r) a n p x =
+      let q = there_open r _ n in
+      rw q.1 (drop_holds t i r a q.0 q.2)
+  answer_holds t i (Purge key) a n p x =
+      subst (λ (y : Answer). Next (answered s t (Purge key) (call_at t (Purge key) i (Ok y)) y) (call_at t (Purge key) i (Ok y))) (sym p) (purged t i key (is_there (look (stored_key_of key) s.shelf)))
+  answer_holds t i (Put key pieces) a n p x =
+      put_holds s (writes_begun start h) (changes_of start h) l (finished_by (call_at t (Put key pieces) i (Ok a))) (read_by (call_at t (Put key pieces) i (Ok a))) a i.began (may_begin s (call_at t (Put key pieces) i (Ok a))) p x
+
+  finish_fault_holds : (t : MomentValue) (i : Inside) (r : ℕ) (g : TierFault) (o : Option TierFault) → refusal s (Finish r) ≡ o → AllowsBy o s t (Finish r) (call_at t (Finish r) i (Err g)) (Err g)
+      → Next (on_request s r (λ q. finished_state s r q (Err g))) (call_at t (Finish r) i (Err g))
+  finish_fault_holds t i r g None n p =
+      let q = there_open r _ n in
+      elim p [
+        | inl m ↦ absurd m.1
+        | inr late ↦ finish_refused t i r q.0 g q.2 (has_write r q.0 q.2 q.3) (subst (λ (o : Option Request). MatchOption o ⊥ (λ q. IsFinishFault s (finishing q s.shelf) g)) q.1 late) q.1
+      ]
+  finish_fault_holds t i r g (Some c) n p =
+      let same : g ≡ c = cc in
+      quiet_finish_holds t i r g (rw same (finish_check (get s.requests r) c n))
+
+  put_fault : (t : MomentValue) (i : Inside) (key : CacheKeyValue) (pieces : List (List ℕ)) (g : TierFault) → IsFault s t (Put key pieces) (call_at t (Put key pieces) i (Err g)) g
+      → BeginsWrite s (may_begin s (call_at t (Put key pieces) i (Err g))) (tells_of_write (call_at t (Put key pieces) i (Err g))) i.began
+      → Next (undone s (finished_by (call_at t (Put key pieces) i (Err g))) (done_of g)) (call_at t (Put key pieces) i (Err g))
+  put_fault t i key pieces g p x = elim p [
+    | inl m ↦ quiet_holds s (writes_begun start h) (changes_of start h) l (finished_by (call_at t (Put key pieces) i (Err g))) g i.began (ap done_of m.0)
+    | inr late ↦ put_fault_holds s (writes_begun start h) (changes_of start h) l (finished_by (call_at t (Put key pieces) i (Err g))) (read_by (call_at t (Put key pieces) i (Err g))) g i.began (may_begin s (call_at t (Put key pieces) i (Err g))) late x
   ]
 
+  fault_holds : (t : MomentValue) (i : Inside) (action : Action) (g : TierFault) → AllowsBy (refusal s action) s t action (call_at t action i (Err g)) (Err g)
+      → BeginsWrite s (may_begin s (call_at t action i (Err g))) (tells_of_write (call_at t action i (Err g))) i.began
+      → Next (refused s action (call_at t action i (Err g)) g) (call_at t action i (Err g))
+  fault_holds t i (Finish r) g p x = finish_fault_holds t i r g (refusal s (Finish r)) refl p
+  fault_holds t i (Put key pieces) g p x = put_fault t i key pieces g p x
+  fault_holds t i _ g p x = still i.began
+
   -- each lawful call's changes leave what the state after it holds
-  pub Holds-after : (c : Call) → Allows s c → Next (after s c) c
-  Holds-after c p = by_outcome c.outcome p.1 p.2
+  pub Holds-after : (c : Call) → Allows s c → Next (after_outcome s c.event.moment c.event.action c c.outcome) c
+  Holds-after c p = by_outcome c.outcome p.outcome p.begins
     where
-      by_outcome : (o : Outcome) → AllowsBy (refusal s c.event.action) s c.event.moment c.event.action (read_by c) o → BeginsWrite s (finished_by c) o c.began → Next (after s (record c { outcome = o })) (record c { outcome = o })
-      by_outcome (Ok a) p x = answer_holds c.event.moment (c.reading, c.began) c.event.action a (answer_allowed (refusal s c.event.action) s c.event.moment (read_by c) c.event.action a p) x
-      by_outcome (Err f) p x = fault_holds c.event.moment (c.reading, c.began) c.event.action f p x
+      i : Inside
+      i = record { reading = c.reading; began = c.began; asked = c.asked }
+
+      by_outcome : (o : Outcome) → AllowsBy (refusal s c.event.action) s c.event.moment c.event.action (call_at c.event.moment c.event.action i o) o
+          → BeginsWrite s (may_begin s (call_at c.event.moment c.event.action i o)) (tells_of_write (call_at c.event.moment c.event.action i o)) i.began
+          → Next (after_outcome s c.event.moment c.event.action (call_at c.event.moment c.event.action i o) o) (call_at c.event.moment c.event.action i o)
+      by_outcome (Ok a) p x =
+          let q = unrefused s (refusal s c.event.action) c.event.moment c.event.action (call_at c.event.moment c.event.action i (Ok a)) a refl p in
+          answer_holds c.event.moment i c.event.action a q.0 q.1 x
+      by_outcome (Err g) p x = fault_holds c.event.moment i c.event.action g p x

@@ -1,151 +1,183 @@
--- Where a state fits a history, each call that it allows is right in the light of that history.
-use Rattle.std.proofs.Common.{◌≡◌, refl, ap, sym, ◌∙◌, true, false, subst, cond, ◌++◌, length, inl, inr}
-use Rattle.std.specs.Prelude.{◌≢◌, ◌↔◌, ℕ, List, Option, Some, None, is_some, Ok, Err, MatchOption}
+-- Where a state stands for a history, each call that it allows is right in the light of that history.
+use Rattle.std.proofs.Common.{◌≡◌, refl, sym, ◌∙◌, true, false, subst, cond, inl, inr, [], ◌∷◌}
+use Rattle.std.specs.Prelude.{◌≢◌, ◌↔◌, ℕ, Bool, List, Option, Some, None, is_some, Ok, Err, not, MatchOption, filter}
 use Rattle.std.specs.FinMap.{get}
-use Rattle.cache_words.specs.Time.{MomentValue, at_most}
-use Rattle.cache_changes.specs.Changes.{StoredKey, stored_key, Changes}
-use Rattle.cache_changes.specs.Writes.{IsFound}
-use Rattle.cache_entries.specs.Entry.{key_of}
-use Rattle.tier_model.specs.Keys.{alone, stored_key_of}
-use Rattle.tier_model.specs.declared.whole.Whole.{Whole}
-use Rattle.tier_model.specs.declared.whole.Whole.TheVariants as whole
-use Rattle.tier_model.specs.declared.state.Body.{Body}
-use Rattle.tier_model.specs.declared.state.Request.{Request}
-use Rattle.tier_model.specs.declared.state.Reader.{Reader}
-use Rattle.tier_model.specs.declared.state.Reader.TheVariants.{Closed, Unread, Spent}
-use Rattle.tier_model.specs.declared.event.Action.{Action}
-use Rattle.tier_model.specs.declared.event.Action.TheVariants.{Open, LookUp, Read, Drop, Purge, Put}
-use Rattle.tier_model.specs.declared.event.Answer.{Answer}
-use Rattle.tier_model.specs.declared.event.Answer.TheVariants.{Purged, Finished}
-use Rattle.tier_model.specs.declared.event.Answer.TheVariants as answer
-use Rattle.tier_model.specs.declared.event.TierFault.{TierFault}
-use Rattle.tier_model.specs.declared.event.TierFault.TheVariants.{IdInUse, WrongPhase, TooHeavy, TooLong, NumbersSpent, Memory}
-use Rattle.tier_model.specs.declared.event.Done.{Done}
+use Rattle.cache_words.specs.Time.{MomentValue}
 use Rattle.cache_words.specs.Key.{CacheKeyValue}
-use Rattle.tier_model.specs.Calls.{Call, History, Outcome, read_by, finished_in, opened_for, nothing_done}
-use Rattle.tier_model.specs.Histories.{Kept, Opening, writes_begun, changes_of}
-use Rattle.tier_model.specs.Headline.{LooksRight, PurgesRight, PutsRight, IsRight}
-use Rattle.tier_model.specs.Rows.{FinishedBody, body_of, weight_for}
-use Rattle.tier_model.specs.State.{State, shards_of}
-use Rattle.tier_model.specs.Step.{refusal, AllowsBy, unless_open, has_reader, Allows, IsAnswer, IsPutAnswer, IsPutFault, look_answer, read_answer, UseFits, IsKeptOut, stored_alone, body_for}
+use Rattle.cache_entries.specs.Entry.{key_of}
+use Rattle.cache_changes.specs.Changes.{Changes, finishes}
+use Rattle.cache_changes.specs.Writes.{IsAlive}
+use Rattle.tier_model.specs.Keys.{alone, stored_key_of}
+use Rattle.tier_model.specs.declared.event.Action.{Action}
+use Rattle.tier_model.specs.declared.event.Action.TheVariants.{Open, LookUp, Poll, Begin, Piece, Finish, Read, Drop, Purge, Put}
+use Rattle.tier_model.specs.declared.event.Answer.{Answer}
+use Rattle.tier_model.specs.declared.event.Answer.TheVariants.{Waited, Finished}
+use Rattle.tier_model.specs.declared.event.TierFault.{TierFault}
+use Rattle.tier_model.specs.declared.event.TierFault.TheVariants.{IdInUse, TooHeavy, TooLong, NumbersSpent, Memory}
+use Rattle.tier_model.specs.declared.event.Done.{Done}
+use Rattle.tier_model.specs.Evictions.{GoInTurn}
+use Rattle.tier_model.specs.Calls.{Call, History, Outcome, judged_of, read_by, finished_by, opened_for, nothing_done, extended}
+use Rattle.tier_model.specs.Histories.{Kept, Opening, writes_begun, settles, finished_of, write_held, changes_of}
+use Rattle.cache_entries.specs.declared.entry.CacheEntryKey.{CacheEntryKey}
+use Rattle.tier_model.specs.Headline.{EndsOver, PurgesRight, PutsRight, FinishIsRight, IsRight}
+use Rattle.tier_model.specs.Rows.{FinishedBody, weight_for}
+use Rattle.tier_model.specs.Shelf.{look, has_number}
+use Rattle.tier_model.specs.State.{Request, State, shards_of}
+use Rattle.tier_model.specs.Checks.{refusal, unless}
+use Rattle.tier_model.specs.Answers.{polled, admitted, stored_alone, IsStored, IsKeptOut}
+use Rattle.tier_model.specs.Answers.{IsFinishFault, finishing}
+use Rattle.tier_model.specs.Step.{IsAnswer, AllowsBy, Allows}
 use Rattle.tier_model.proofs.RowSteps.{IsMade}
-use Rattle.tier_model.proofs.ChangeLaws.{shows, found, not_found, none_in_flight}
-use Rattle.tier_model.proofs.BoundLaws.{Keeps}
-use Rattle.tier_model.proofs.StepLaws.{answer_allowed, did_nothing}
-use Rattle.tier_model.proofs.EventLaws.{ends_over}
-use Rattle.tier_model.proofs.RequestLaws.{Fits, RequestFits, ReaderFits, of_request, reader_there, unrefused, append_nothing}
+use Rattle.tier_model.proofs.CallLaws.{Inside, call_at}
+use Rattle.tier_model.proofs.WriteLaws.{WritesFit}
+use Rattle.tier_model.proofs.OpenLaws.{Holds, IsOpen, Written, FlightAt, flight-at, finishing-is, unrefused}
+use Rattle.tier_model.proofs.EventLaws.{there_open, has_write}
+use Rattle.tier_model.proofs.StoredLaws.{ends_over, finish_stored}
+use Rattle.tier_model.proofs.OwnLaws.{OpenFits}
+use Rattle.tier_model.proofs.ReportLaws.{did_nothing}
+use Rattle.tier_model.proofs.RightLaws.{opened, looks_right, purge_right, put_right, put_fault_right, begin_right, checked, begin_refused, piece_right, piece_refused}
 
-module _ (start : Opening) where
-  look_right : (s : State) (t : MomentValue) (g : Option Whole) (i : ℕ) (a : Answer) (h : History) (o : Option Request) → Fits start s h → get s.requests i ≡ o
-      → MatchOption o ⊥ (λ q. (a ≡ look_answer t (body_for q s.bodies)) × UseFits s q) → LooksRight i t a h (changes_of start h)
-  look_right s t g i a h None fits e p = absurd p
-  look_right s t g i a h (Some q) fits e p = by_body (body_for q s.bodies) refl p.0
-    where
-      by_body : (b : Option Body) → body_for q s.bodies ≡ b → a ≡ look_answer t b → LooksRight i t a h (changes_of start h)
-      by_body None be ae =
-          subst (λ (x : Answer). LooksRight i t x h (changes_of start h)) (sym ae)
-          (key_of q.entry, (of_request start s h fits i q e).0.0, not_found (shards_of s) (writes_begun start h) s.bodies s.managed (changes_of start h) fits.holds.leaves (stored_key (key_of q.entry)) be)
-      by_body (Some b) be ae =
-          let x = shows (shards_of s) (writes_begun start h) s.bodies s.managed (changes_of start h) fits.holds.leaves (stored_key (key_of q.entry)) b be in
-          let none = none_in_flight (shards_of s) (writes_begun start h) s.bodies s.managed (changes_of start h) fits.holds.leaves (stored_key (key_of q.entry)) in
-          subst (λ (y : Answer). LooksRight i t y h (changes_of start h)) (sym ae)
-          (key_of q.entry, x.write, (of_request start s h fits i q e).0.0, x.shown, ap (λ (p : Body). at_most t p.meta.internal.fresh_until) (sym x.tells), (λ c. none, λ n. refl))
+module _ (start : Opening) (s : State) (h : History) (made : IsMade start.settings s.managed) (l : Holds start s h) (count : s.shelf.writes ≡ writes_begun start h)
+    (fits : (id : ℕ) → OpenFits start id (get s.requests id) h) (writes : WritesFit start h) where
+  abbrev N : ℕ
+  N = shards_of s
 
-  reader_right : (t : MomentValue) (g : Option Whole) (i : ℕ) (r : Reader) (h : History) → has_reader r ≡ true → ReaderFits start i r h → IsRight start t (Read i) g (Ok (read_answer r)) h
-  reader_right t g i Closed h e fits = cc
-  reader_right t g i (Unread bytes) h e fits = record { write = fits.0; since = fits.1; hit = fits.2; whole = ap (λ (xs : List ℕ). xs ++ bytes) fits.3 ∙ fits.4 }
-  reader_right t g i Spent h e fits = record { write = fits.0; since = fits.1; hit = fits.2; whole = append_nothing start _ ∙ fits.3 }
+  abbrev n : ℕ
+  n = writes_begun start h
 
-  read_right : (s : State) (t : MomentValue) (g : Option Whole) (i : ℕ) (a : Answer) (h : History) (o : Option Request) → Fits start s h → get s.requests i ≡ o
-      → unless_open o (λ q. cond (has_reader q.reader) None (Some WrongPhase)) ≡ None → MatchOption o ⊥ (λ q. a ≡ read_answer q.reader) → IsRight start t (Read i) g (Ok a) h
-  read_right s t g i a h None fits e n p = absurd p
-  read_right s t g i a h (Some q) fits e n p =
-      subst (λ (x : Answer). IsRight start t (Read i) g (Ok x) h) (sym p) (reader_right t g i q.reader h (reader_there start q n) (of_request start s h fits i q e).1)
+  abbrev changes : Changes Kept
+  changes = changes_of start h
 
-  -- a request is opened where none of its number is open
-  open_right : (i : ℕ) (h : History) (o : Option Request) → RequestFits start i o h → cond (is_some o) (Some IdInUse) None ≡ None → opened_for i h ≡ None
-  open_right i h None fits n = fits
-  open_right i h (Some q) fits n = absurd cc
+  -- ---- finishes
 
-  open_refused : (s : State) (t : MomentValue) (g : Option Whole) (i : ℕ) (key : CacheKeyValue) (f : TierFault) (h : History) (o : Option Request) → RequestFits start i o h
-      → AllowsBy (cond (is_some o) (Some IdInUse) None) s t (Open i key) g (Err f) → (f ≡ IdInUse) ↔ (opened_for i h ≢ None)
-  open_refused s t g i key f h None fits p = elim p [
-    | inl m ↦ (λ e. let same : Memory nothing_done ≡ IdInUse = sym m.0 ∙ e in absurd cc, λ n. absurd (n fits))
-    | inr x ↦ absurd x
+  module _ (r : ℕ) (q : Request) (opens : IsOpen start r q h) (x : Written start r q h) where
+    f : FlightAt x.write s.shelf.flying changes
+    f = flight-at N n s.shelf.bodies s.shelf.flying s.managed changes l.leaves x.write x.flies
+
+    abbrev b : FinishedBody
+    b = finished_of changes x.write
+
+    is : finishing q s.shelf ≡ cond f.flight.removed None (Some b)
+    is = finishing-is start r q h s.shelf x f
+
+    room : IsAlive x.write changes → (over : Bool) (es : List CacheEntryKey) → GoInTurn N over es (admitted s b) → EndsOver start.settings over (extended changes (finishes x.write ∷ settles b es))
+    room alive over es go =
+        ends_over s n changes l n b (filter (λ g. not (has_number x.write.number g)) s.shelf.flying) (extended changes (finishes x.write ∷ settles b []))
+        (finish_stored s n changes l x.write (key_of q.entry) x.flies x.of_key (x.of_entry ∙ opens.entry) alive) start.settings over es made go
+
+    stored_right : (a : Answer) → IsAlive x.write changes → IsStored s b a → FinishIsRight start.settings (write_held start r h) (Ok a) changes
+    stored_right (Finished m es) alive p = (x.write, x.held, alive, p.0, room alive false es p.2)
+    stored_right _ alive p = absurd p
+
+    finish_right : (a : Answer) → MatchOption (finishing q s.shelf) ⊥ (λ b. IsStored s b a) → FinishIsRight start.settings (write_held start r h) (Ok a) changes
+    finish_right a p = by_removed f.flight.removed refl (subst (λ (o : Option FinishedBody). MatchOption o ⊥ (λ b. IsStored s b a)) is p)
+      where
+        by_removed : (v : Bool) → f.flight.removed ≡ v → MatchOption (cond v None (Some b)) ⊥ (λ b. IsStored s b a) → FinishIsRight start.settings (write_held start r h) (Ok a) changes
+        by_removed true e p = absurd p
+        by_removed false e p = stored_right a (f.alive.0 e) p
+
+    out_right : (g : TierFault) → IsKeptOut s (alone b.entry) (weight_for b.body) stored_alone g → FinishIsRight start.settings (write_held start r h) (Err g) changes
+    out_right (TooHeavy d) p = subst (λ (y : Done). FinishIsRight start.settings (write_held start r h) (Err (TooHeavy y)) changes) (sym p.0) (x.write, x.held, refl)
+    out_right (TooLong d) p = subst (λ (y : Done). FinishIsRight start.settings (write_held start r h) (Err (TooLong y)) changes) (sym p.0) (x.write, x.held, refl)
+    out_right (NumbersSpent d) p = subst (λ (y : Done). FinishIsRight start.settings (write_held start r h) (Err (NumbersSpent y)) changes) (sym p.0) (x.write, x.held, refl)
+    out_right (Memory d) p = subst (λ (y : Done). FinishIsRight start.settings (write_held start r h) (Err (Memory y)) changes) (sym p.0) (x.write, x.held, refl)
+    out_right _ p = absurd p
+
+    finish_late : (g : TierFault) → IsFinishFault s (finishing q s.shelf) g → FinishIsRight start.settings (write_held start r h) (Err g) changes
+    finish_late g p = by_removed f.flight.removed refl (subst (λ (o : Option FinishedBody). IsFinishFault s o g) is p)
+      where
+        by_removed : (v : Bool) → f.flight.removed ≡ v → IsFinishFault s (cond v None (Some b)) g → FinishIsRight start.settings (write_held start r h) (Err g) changes
+        by_removed true e p = elim p [
+          | inl gone ↦
+              subst (λ (y : TierFault). FinishIsRight start.settings (write_held start r h) (Err y) changes) (sym gone)
+              (x.write, x.held, λ alive. let not_removed : f.flight.removed ≡ false = f.alive.1 alive in absurd cc)
+          | inr m ↦ subst (λ (y : TierFault). FinishIsRight start.settings (write_held start r h) (Err y) changes) (sym m) (refl, refl)
+        ]
+        by_removed false e p = elim p [
+          | inl m ↦ subst (λ (y : TierFault). FinishIsRight start.settings (write_held start r h) (Err y) changes) (sym m) (refl, refl)
+          | inr late ↦ elim late [
+            | inl out ↦ out_right g out
+            | inr cut ↦ subst (λ (y : TierFault). FinishIsRight start.settings (write_held start r h) (Err y) changes) (sym cut.1) (x.write, x.held, room (f.alive.0 e) true cut.0 cut.3)
+          ]
+        ]
+
+  finish_refused : (t : MomentValue) (r : ℕ) (c : Call) (g : TierFault) (o : Option TierFault) → refusal s (Finish r) ≡ o → AllowsBy o s t (Finish r) c (Err g)
+      → FinishIsRight start.settings (write_held start r h) (Err g) changes
+  finish_refused t r c g (Some k) e p =
+      let same : g ≡ k = cc in
+      subst (λ (x : TierFault). FinishIsRight start.settings (write_held start r h) (Err x) changes) (sym same)
+      (checked start s h made l count fits writes (λ x. FinishIsRight start.settings (write_held start r h) (Err x) changes) (get s.requests r) (λ q. is_some q.write) k (refl, refl) (refl, refl) e)
+  finish_refused t r c g None e p =
+      let q = there_open start s h l count (opened start s h made l count fits writes) writes r _ e in
+      elim p [
+        | inl m ↦ absurd m.1
+        | inr late ↦ finish_late r q.0 q.2 (has_write start s h l count (opened start s h made l count fits writes) writes r q.0 q.2 q.3) g (subst (λ (o : Option Request). MatchOption o ⊥ (λ q. IsFinishFault s (finishing q s.shelf) g)) q.1 late)
+      ]
+
+  -- ---- opening
+
+  open_right : (r : ℕ) (o : Option Request) → OpenFits start r o h → unless (not (is_some o)) IdInUse ≡ None → opened_for r h ≡ None
+  open_right r None is e = is
+  open_right r (Some q) is e = absurd cc
+
+  open_refused : (t : MomentValue) (r : ℕ) (key : CacheKeyValue) (asks : Bool) (c : Call) (g : TierFault) (o : Option Request) → OpenFits start r o h
+      → AllowsBy (unless (not (is_some o)) IdInUse) s t (Open r key asks) c (Err g) → (g ≡ IdInUse) ↔ (opened_for r h ≢ None)
+  open_refused t r key asks c g None is p = elim p [
+    | inl m ↦ (λ e. let same : Memory nothing_done ≡ IdInUse = sym m.0 ∙ e in absurd cc, λ none. absurd (none is))
+    | inr late ↦ absurd late
   ]
-  open_refused s t g i key f h (Some q) fits p =
-      let same : f ≡ IdInUse = cc in
-      (λ e n. let there : Some (key_of q.entry) ≡ None = sym fits.0.0 ∙ n in absurd cc, λ n. same)
+  open_refused t r key asks c g (Some q) is p =
+      let same : g ≡ IdInUse = cc in
+      (λ e none. let there : Some (key_of q.entry) ≡ None = sym is.0.key ∙ none in absurd cc, λ none. same)
 
-  purge_right : (s : State) (k : StoredKey) (h : History) → Fits start s h → PurgesRight k (Purged (is_some (body_of k s.bodies))) (changes_of start h)
-  purge_right s k h fits = by_body (body_of k s.bodies) refl
-    where
-      by_body : (o : Option Body) → body_of k s.bodies ≡ o → (is_some o ≡ true) ↔ IsFound k (changes_of start h)
-      by_body None e =
-          (λ t. absurd cc, λ found. absurd (not_found (shards_of s) (writes_begun start h) s.bodies s.managed (changes_of start h) fits.holds.leaves k e found))
-      by_body (Some b) e = (λ t. found (shards_of s) (writes_begun start h) s.bodies s.managed (changes_of start h) fits.holds.leaves k b e, λ f. refl)
+  -- ---- all events
 
-  -- a put that is answered has what its response gave
-  put_right : (s : State) (n : ℕ) (changes : Changes Kept) → IsMade start.settings s.managed → Keeps (shards_of s) n s.bodies s.managed changes
-      → (g : Option FinishedBody) (w : Option Whole) (a : Answer) → IsPutAnswer s g w a → PutsRight start.settings n g w (Ok a) changes
-  put_right s n changes made l (Some b) w (Finished m es) p = (b, refl, p.0, ends_over s n changes l start.settings false b es made p.2)
-  put_right s n changes made l (Some b) w _ p = absurd p
-  put_right s n changes made l None (Some (whole.Uncacheable reason)) (answer.Uncacheable shown) p = ap (λ r. Some (whole.Uncacheable r)) (sym p)
-  put_right s n changes made l None (Some (whole.Uncacheable reason)) _ p = absurd p
-  put_right s n changes made l None (Some (whole.Stored body)) a p = absurd p
-  put_right s n changes made l None (Some whole.Incomplete) a p = absurd p
-  put_right s n changes made l None (Some whole.BadHead) a p = absurd p
-  put_right s n changes made l None (Some whole.BeforeEpoch) a p = absurd p
-  put_right s n changes made l None None a p = absurd p
+  poll_right : (t : MomentValue) (r : ℕ) (c : Call) (a : Answer) (o : Option Request) → MatchOption o ⊥ (λ q. a ≡ Waited (polled s.lock t q q.held)) → IsRight start t (Poll r) (Ok a) c h
+  poll_right t r c a None p = absurd p
+  poll_right t r c a (Some q) p = subst (λ (y : Answer). IsRight start t (Poll r) (Ok y) c h) (sym p) tt
 
-  -- and so has one that is refused for it
-  kept_out_right : (s : State) (n : ℕ) (changes : Changes Kept) (b : FinishedBody) (w : Option Whole) (f : TierFault) → IsKeptOut s (alone b.entry) (weight_for b.body) stored_alone f → PutsRight start.settings n (Some b) w (Err f) changes
-  kept_out_right s n changes b w (TooHeavy d) p = subst (λ (x : Done). PutsRight start.settings n (Some b) w (Err (TooHeavy x)) changes) (sym p.0) (b, refl, refl)
-  kept_out_right s n changes b w (TooLong d) p = subst (λ (x : Done). PutsRight start.settings n (Some b) w (Err (TooLong x)) changes) (sym p.0) (b, refl, refl)
-  kept_out_right s n changes b w (NumbersSpent d) p = subst (λ (x : Done). PutsRight start.settings n (Some b) w (Err (NumbersSpent x)) changes) (sym p.0) (b, refl, refl)
-  kept_out_right s n changes b w (Memory d) p = subst (λ (x : Done). PutsRight start.settings n (Some b) w (Err (Memory x)) changes) (sym p.0) (b, refl, refl)
-  kept_out_right s n changes b w _ p = absurd p
+  answer_right : (t : MomentValue) (i : Inside) (action : Action) (c : Call) (a : Answer) → refusal s action ≡ None → IsAnswer s t action c a → IsRight start t action (Ok a) c h
+  answer_right t i (Open r key asks) c a e p = (p, open_right r (get s.requests r) (fits r) e)
+  answer_right t i (LookUp r) c a e p = looks_right start s h made l count fits writes t r (get s.requests r) a refl p
+  answer_right t i (Poll r) c a e p = poll_right t r c a (get s.requests r) p
+  answer_right t i (Begin r head) c a e p =
+      let q = there_open start s h l count (opened start s h made l count fits writes) writes r _ e in
+      begin_right start s h made l count fits writes t i r head q.0 a c (judged_of c) q.2 refl p
+  answer_right t i (Piece r bytes last) c a e p =
+      let q = there_open start s h l count (opened start s h made l count fits writes) writes r _ e in
+      piece_right start s h made l count fits writes r q.0 a q.2 q.3 p
+  answer_right t i (Finish r) c a e p =
+      let q = there_open start s h l count (opened start s h made l count fits writes) writes r _ e in
+      finish_right r q.0 q.2 (has_write start s h l count (opened start s h made l count fits writes) writes r q.0 q.2 q.3) a (subst (λ (o : Option Request). MatchOption o ⊥ (λ q. MatchOption (finishing q s.shelf) ⊥ (λ b. IsStored s b a))) q.1 p)
+  answer_right t i (Read r) c a e p = tt
+  answer_right t i (Drop r) c a e p = p
+  answer_right t i (Purge key) c a e p = subst (λ (y : Answer). PurgesRight (stored_key_of key) y changes) (sym p) (purge_right start s h made l count fits writes (stored_key_of key) (look (stored_key_of key) s.shelf) refl)
+  answer_right t i (Put key pieces) c a e p = put_right start s h made l count fits writes (finished_by c) (read_by c) a p
 
-  put_fault_right : (s : State) (n : ℕ) (changes : Changes Kept) → IsMade start.settings s.managed → Keeps (shards_of s) n s.bodies s.managed changes
-      → (g : Option FinishedBody) (w : Option Whole) (f : TierFault) → IsPutFault s g w f → PutsRight start.settings n g w (Err f) changes
-  put_fault_right s n changes made l (Some b) w f p = elim p [
-    | inl spent ↦ subst (λ (x : TierFault). PutsRight start.settings n (Some b) w (Err x) changes) (sym spent.0) (refl, refl)
-    | inr late ↦ elim late [
-      | inl out ↦ kept_out_right s n changes b w f out
-      | inr cut ↦ subst (λ (x : TierFault). PutsRight start.settings n (Some b) w (Err x) changes) (sym cut.1) (b, refl, ends_over s n changes l start.settings true b cut.0 made cut.3)
-    ]
-  ]
-  put_fault_right s n changes made l None (Some whole.Incomplete) f p = subst (λ (x : TierFault). PutsRight start.settings n None (Some whole.Incomplete) (Err x) changes) (sym p) refl
-  put_fault_right s n changes made l None (Some whole.BadHead) f p = subst (λ (x : TierFault). PutsRight start.settings n None (Some whole.BadHead) (Err x) changes) (sym p) refl
-  put_fault_right s n changes made l None (Some whole.BeforeEpoch) f p = subst (λ (x : TierFault). PutsRight start.settings n None (Some whole.BeforeEpoch) (Err x) changes) (sym p) refl
-  put_fault_right s n changes made l None (Some (whole.Uncacheable reason)) f p = absurd p
-  put_fault_right s n changes made l None (Some (whole.Stored body)) f p = absurd p
-  put_fault_right s n changes made l None None f p = absurd p
-
-  answer_right : (s : State) (t : MomentValue) (g : Option Whole) (action : Action) (a : Answer) (h : History) → IsMade start.settings s.managed → Fits start s h → refusal s action ≡ None → IsAnswer s t action g a → IsRight start t action g (Ok a) h
-  answer_right s t g (Open i key) a h made fits n p = (p, open_right i h (get s.requests i) (fits.requests i) n)
-  answer_right s t g (LookUp i) a h made fits n p = look_right s t g i a h (get s.requests i) fits refl p
-  answer_right s t g (Read i) a h made fits n p = read_right s t g i a h (get s.requests i) fits refl n p
-  answer_right s t g (Drop i) a h made fits n p = p
-  answer_right s t g (Purge key) a h made fits n p = subst (λ (x : Answer). PurgesRight (stored_key_of key) x (changes_of start h)) (sym p) (purge_right s (stored_key_of key) h fits)
-  answer_right s t g (Put key pieces) a h made fits n p = put_right s (writes_begun start h) (changes_of start h) made fits.holds (finished_in (Put key pieces) g) g a p
-
-  fault_right : (s : State) (t : MomentValue) (g : Option Whole) (action : Action) (f : TierFault) (h : History) → IsMade start.settings s.managed → Fits start s h
-      → AllowsBy (refusal s action) s t action g (Err f) → IsRight start t action g (Err f) h
-  fault_right s t g (Open i key) f h made fits p = (did_nothing s t g (Open i key) f p refl, open_refused s t g i key f h (get s.requests i) (fits.requests i) p)
-  fault_right s t g (LookUp i) f h made fits p = did_nothing s t g (LookUp i) f p refl
-  fault_right s t g (Read i) f h made fits p = did_nothing s t g (Read i) f p refl
-  fault_right s t g (Drop i) f h made fits p = did_nothing s t g (Drop i) f p refl
-  fault_right s t g (Purge key) f h made fits p = did_nothing s t g (Purge key) f p refl
-  fault_right s t g (Put key pieces) f h made fits p = elim p [
-    | inl memory ↦ subst (λ (x : TierFault). PutsRight start.settings (writes_begun start h) (finished_in (Put key pieces) g) g (Err x) (changes_of start h)) (sym memory.0) (refl, refl)
-    | inr late ↦ put_fault_right s (writes_begun start h) (changes_of start h) made fits.holds (finished_in (Put key pieces) g) g f late
+  fault_right : (t : MomentValue) (action : Action) (c : Call) (g : TierFault) → AllowsBy (refusal s action) s t action c (Err g) → IsRight start t action (Err g) c h
+  fault_right t (Open r key asks) c g p = (did_nothing s t (Open r key asks) c g (refusal s (Open r key asks)) refl p refl, open_refused t r key asks c g (get s.requests r) (fits r) p)
+  fault_right t (LookUp r) c g p = did_nothing s t (LookUp r) c g (refusal s (LookUp r)) refl p refl
+  fault_right t (Poll r) c g p = did_nothing s t (Poll r) c g (refusal s (Poll r)) refl p refl
+  fault_right t (Begin r head) c g p = begin_refused start s h made l count fits writes t r head c g (refusal s (Begin r head)) refl p
+  fault_right t (Piece r bytes last) c g p = piece_refused start s h made l count fits writes t r bytes last c g (refusal s (Piece r bytes last)) refl p
+  fault_right t (Finish r) c g p = finish_refused t r c g (refusal s (Finish r)) refl p
+  fault_right t (Read r) c g p = did_nothing s t (Read r) c g (refusal s (Read r)) refl p refl
+  fault_right t (Drop r) c g p = did_nothing s t (Drop r) c g (refusal s (Drop r)) refl p refl
+  fault_right t (Purge key) c g p = did_nothing s t (Purge key) c g None refl p refl
+  fault_right t (Put key pieces) c g p = elim p [
+    | inl memory ↦ subst (λ (x : TierFault). PutsRight start.settings n (finished_by c) (read_by c) (Err x) changes) (sym memory.0) (refl, refl)
+    | inr late ↦ put_fault_right start s h made l count fits writes (finished_by c) (read_by c) g late
   ]
 
-  pub IsRight-allowed : (s : State) (c : Call) (h : History) → IsMade start.settings s.managed → Fits start s h → Allows s c → IsRight start c.event.moment c.event.action (read_by c) c.outcome h
-  IsRight-allowed s c h made fits p = by_outcome c.outcome p.1
+  pub IsRight-allowed : (c : Call) → Allows s c → IsRight start c.event.moment c.event.action c.outcome c h
+  IsRight-allowed c p = by_outcome c.outcome p.outcome
     where
-      by_outcome : (o : Outcome) → AllowsBy (refusal s c.event.action) s c.event.moment c.event.action (read_by c) o → IsRight start c.event.moment c.event.action (read_by c) o h
-      by_outcome (Ok a) p = answer_right s c.event.moment (read_by c) c.event.action a h made fits
-          (unrefused start (refusal s c.event.action) s c.event.moment (read_by c) c.event.action a refl p) (answer_allowed (refusal s c.event.action) s c.event.moment (read_by c) c.event.action a p)
-      by_outcome (Err f) p = fault_right s c.event.moment (read_by c) c.event.action f h made fits p
+      i : Inside
+      i = record { reading = c.reading; began = c.began; asked = c.asked }
+
+      by_outcome : (o : Outcome) → AllowsBy (refusal s c.event.action) s c.event.moment c.event.action (call_at c.event.moment c.event.action i o) o
+          → IsRight start c.event.moment c.event.action o (call_at c.event.moment c.event.action i o) h
+      by_outcome (Ok a) p =
+          let q = unrefused s (refusal s c.event.action) c.event.moment c.event.action (call_at c.event.moment c.event.action i (Ok a)) a refl p in
+          answer_right c.event.moment i c.event.action (call_at c.event.moment c.event.action i (Ok a)) a q.0 q.1
+      by_outcome (Err g) p = fault_right c.event.moment c.event.action (call_at c.event.moment c.event.action i (Err g)) g p

@@ -19,8 +19,10 @@ use Rattle.tier_model.specs.Histories.{Kept, told_of}
 use Rattle.tier_model.specs.Reports.{AreAllBodies}
 use Rattle.tier_model.specs.Past.{told_at}
 use Rattle.tier_model.specs.Rows.{Bodies}
+use Rattle.tier_model.specs.Shelf.{InFlight}
 use Rattle.tier_model.proofs.BodyLaws.{ties-same}
-use Rattle.tier_model.proofs.ChangeLaws.{Leaves, shows, is_held}
+use Rattle.tier_model.proofs.ChangeLaws.{Leaves}
+use Rattle.tier_model.proofs.ShownLaws.{shows, is_held}
 use Rattle.cache_changes.proofs.LaterLaws.{one_body}
 
 abbrev Rows : Type 0
@@ -84,7 +86,7 @@ found_each (x ∷ xs) d = (ap (λ v. cond v (Some x.1) (found_at x.0 xs)) (ties-
     others (y ∷ ys) found apart =
         (ap (λ v. cond v (Some x.1) (found_at y.0 xs)) (ties-same y.0 x.0 ∙ same-sym same_bytes same_bytes-tells x.0 y.0 ∙ apart.0) ∙ found.0, others ys found.1 apart.1)
 
-module _ (N n : ℕ) (bodies : Bodies) (m : Managed) (changes : Changes Kept) (l : Leaves N n bodies m changes) where
+module _ (N n : ℕ) (bodies : Bodies) (fs : List InFlight) (m : Managed) (changes : Changes Kept) (l : Leaves N n bodies fs m changes) where
   -- each body with its write
   abbrev ArePairs : Rows → List (Write Kept) → Type 0
   ArePairs [] [] = Unit {0}
@@ -97,12 +99,13 @@ module _ (N n : ℕ) (bodies : Bodies) (m : Managed) (changes : Changes Kept) (l
   with_writes : (ys : Rows) → AllByRecursion (λ e. found_at e.0 (entries bodies) ≡ Some e.1) ys → (ws : List (Write Kept)) × ArePairs ys ws
   with_writes [] h = ([], tt)
   with_writes (b ∷ bs) h =
-      let x = shows N n bodies m changes l b.0 b.1 (get-entries bodies b.0 ∙ h.0) in
+      let x = shows N n bodies fs m changes l b.0 b.1 (get-entries bodies b.0 ∙ h.0) in
       let rest = with_writes bs h.1 in
       (x.write ∷ rest.0, (x.body, sym x.tells, rest.1))
 
   -- one key each
-  apart_writes : (j k : StoredKey) (ys : Rows) (ws : List (Write Kept)) → j ≡ k → ArePairs ys ws → AllByRecursion (λ c. same_bytes c.0 j ≡ false) ys → AllByRecursion (λ v. same_bytes v.key k ≡ false) ws
+  apart_writes : (j k : StoredKey) (ys : Rows) (ws : List (Write Kept)) → j ≡ k → ArePairs ys ws → AllByRecursion (λ c. same_bytes c.0 j ≡ false) ys
+      → AllByRecursion (λ v. same_bytes v.key k ≡ false) ws
   apart_writes j k [] [] e p h = tt
   apart_writes j k (b ∷ bs) (w ∷ ws) e p h = (ap (λ (x : StoredKey). same_bytes x k) (one_key b.0 w p.0) ∙ ap (same_bytes b.0) (sym e) ∙ h.0, apart_writes j k bs ws e p.2 h.1)
   apart_writes j k [] (w ∷ ws) e p h = absurd p
@@ -151,5 +154,5 @@ module _ (N n : ℕ) (bodies : Bodies) (m : Managed) (changes : Changes Kept) (l
       let d = sorted_distinct (entries bodies) (entries_sorted bodies) in
       let pairs = with_writes (entries bodies) (found_each (entries bodies) d) in
       let is_there : (k : StoredKey) (w : Write Kept) → IsBody k w changes → find (λ v. same_bytes v.key k) pairs.0 ≡ Some w =
-      λ k w i. let x = is_held N n bodies m changes l k w i in found_in k w x.0 (entries bodies) pairs.0 pairs.1 i (sym (get-entries bodies k) ∙ x.1) in
+      λ k w i. let x = is_held N n bodies fs m changes l k w i in found_in k w x.0 (entries bodies) pairs.0 pairs.1 i (sym (get-entries bodies k) ∙ x.1) in
       (pairs.0, record { distinct = distinct_writes (entries bodies) pairs.0 pairs.1 d; each = all_bodies (entries bodies) pairs.0 pairs.1; all = is_there }, all_told (entries bodies) pairs.0 pairs.1)

@@ -1,180 +1,184 @@
--- The counts of a state are those of its history.
-use Rattle.std.proofs.Common.{◌≡◌, ℕ, ◌+◌, refl, ap, sym, ◌∙◌, true, false, subst, cond, [], ◌∷◌, length, arith, inl, inr}
-use Rattle.std.specs.Prelude.{Bool, List, Option, Some, None, is_some, Ok, Err, MatchOption}
-use Rattle.std.specs.FinMap.{get, insert}
+-- The counts of a state are those of its history, and which refusals did nothing.
+use Rattle.std.proofs.Common.{◌≡◌, ℕ, refl, ap, sym, ◌∙◌, true, false, subst, cond, ◌∷◌, inl, inr}
+use Rattle.std.specs.Prelude.{Bool, Option, Some, None, is_some, Ok, Err, MatchOption, not, ◌⊎◌}
+use Rattle.std.specs.FinMap.{get}
 use Rattle.cache_words.specs.Time.{MomentValue}
-use Rattle.cache_words.specs.Key.{CacheKeyValue}
 use Rattle.tier_model.specs.declared.whole.Whole.{Whole}
 use Rattle.tier_model.specs.declared.whole.Whole.TheVariants as whole
-use Rattle.tier_model.specs.declared.state.Body.{Body}
-use Rattle.tier_model.specs.declared.state.Request.{Request}
-use Rattle.tier_model.specs.declared.state.Reader.{Reader}
-use Rattle.tier_model.specs.declared.state.Reader.TheVariants.{Closed, Unread, Spent}
 use Rattle.tier_model.specs.declared.event.Action.{Action}
-use Rattle.tier_model.specs.declared.event.Action.TheVariants.{Open, LookUp, Read, Drop, Purge, Put}
+use Rattle.tier_model.specs.declared.event.Action.TheVariants.{Open, LookUp, Poll, Begin, Piece, Finish, Read, Drop, Purge, Put}
 use Rattle.tier_model.specs.declared.event.Answer.{Answer}
-use Rattle.tier_model.specs.declared.event.Answer.TheVariants.{Opened, Bytes, End, Dropped, Purged, Finished}
-use Rattle.tier_model.specs.declared.event.Answer.TheVariants as answer
-use Rattle.tier_model.specs.declared.event.Done.{Done}
 use Rattle.tier_model.specs.declared.event.TierFault.{TierFault}
-use Rattle.tier_model.specs.Keys.{alone, stored_key_of}
-use Rattle.tier_model.specs.Calls.{Call, History, Outcome, read_by, finished_in, evicted_by, nothing_done, done_of}
-use Rattle.cache_evict.specs.Managed.{saturated}
-use Rattle.tier_model.specs.Reports.{found_answers, absent_answers, evictions, is_found, is_absent}
-use Rattle.tier_model.specs.Rows.{FinishedBody, body_of, weight_for}
-use Rattle.tier_model.specs.State.{State, shards_of}
-use Rattle.tier_model.specs.Step.{refusal, AllowsBy, Allows, IsAnswer, IsPutAnswer, after, after_outcome, answered, undone, taken_back, on_request, look_answer, after_look_up, read_answer, after_read, after_purge, after_put, UseFits, body_for, counted, admitted, until, stored_alone, IsPutFault}
-use Rattle.tier_model.proofs.RowSteps.{gone-count}
-use Rattle.tier_model.proofs.StepLaws.{Inside, call_at, answer_allowed, did_nothing, kept_out-done}
+use Rattle.tier_model.specs.declared.event.TierFault.TheVariants.{NoRequest, IdInUse, WrongPhase, Waiting, AfterEnd}
+use Rattle.tier_model.specs.Response.{Judged, kept, not_kept, too_early, not_read}
+use Rattle.tier_model.specs.Calls.{Call, History, Outcome, judged_of, read_by, finished_by, nothing_done, done_of}
+use Rattle.tier_model.specs.Histories.{is_landing}
+use Rattle.tier_model.specs.Rows.{FinishedBody, weight_for}
+use Rattle.tier_model.specs.Shelf.{Shelf, Look, absent, in_flight, finished}
+use Rattle.tier_model.specs.State.{Request, State}
+use Rattle.tier_model.specs.Checks.{refusal, unless, unless_open, look_refusal, piece_refusal, is_waiting, can_begin, has_reader}
+use Rattle.tier_model.specs.Answers.{look_for, IsPutFault, IsBeginFault, IsFinishFault, finishing}
+use Rattle.tier_model.specs.Step.{IsUseFault, IsLockFault, IsAnswer, IsLateFault, AllowsBy, Allows}
+use Rattle.tier_model.specs.After.{by_request, after_flight, undone, after_finish, finished_state, refused, after_outcome, after}
+use Rattle.tier_model.proofs.CallLaws.{Inside, call_at}
+use Rattle.tier_model.proofs.OpenLaws.{kept_out-done}
+use Rattle.tier_model.proofs.StoredLaws.{fault-stored, landing-stored}
+use Rattle.tier_model.proofs.CountLaws.{Tallies, Counts, quiet, Tallies-counted, request_quiet, back_counts, fault_quiet, quiet_undone, answer_counts}
 
--- the counts of a state are those of its history
-pub record Tallies (s : State) (h : History) : Type 0 where
-  pub found : s.found ≡ saturated (found_answers h)
-  pub absent : s.absent ≡ saturated (absent_answers h)
-  pub evicted : s.managed.evicted_items ≡ saturated (evictions h)
+-- ---- refusals
 
-more_shown : (n m k : ℕ) → n ≡ saturated m → counted n k ≡ saturated (m + k)
-more_shown n m k e = rw e (omega arith)
+checked_nothing : (o : Option Request) (check : Request → Option TierFault) (f : TierFault) → ((q : Request) → check q ≡ Some f → done_of f ≡ nothing_done)
+    → unless_open o check ≡ Some f → done_of f ≡ nothing_done
+checked_nothing None check f h e = let same : NoRequest ≡ f = cc in ap done_of (sym same)
+checked_nothing (Some q) check f h e = h q e
 
--- a call that counts nothing
-uncounted : (s new : State) (c : Call) (h : History) → new.found ≡ s.found → new.absent ≡ s.absent → new.managed.evicted_items ≡ s.managed.evicted_items
-    → is_found c.outcome ≡ false → is_absent c.outcome ≡ false → evicted_by c.outcome ≡ [] → Tallies s h → Tallies new (c ∷ h)
-uncounted s new c h f a e nf na ne t = record {
-  found = f ∙ t.found ∙ ap (λ v. saturated (cond v (found_answers h + 1) (found_answers h))) (sym nf);
-  absent = a ∙ t.absent ∙ ap (λ v. saturated (cond v (absent_answers h + 1) (absent_answers h))) (sym na);
-  evicted = e ∙ t.evicted ∙ ap saturated (omega (arith, ap length ne));
-}
+unless_nothing : (v : Bool) (g f : TierFault) → done_of g ≡ nothing_done → unless v g ≡ Some f → done_of f ≡ nothing_done
+unless_nothing true g f d e = absurd cc
+unless_nothing false g f d e = let same : g ≡ f = cc in ap done_of (sym same) ∙ d
 
-look_tally : (s : State) (t : MomentValue) (read : Inside) (i : ℕ) (q : Request) (b : Option Body) (a : Answer) (h : History) → a ≡ look_answer t b → Tallies s h
-    → Tallies (after_look_up s t i q b) (call_at t (LookUp i) read (Ok a) ∷ h)
-look_tally s t read i q None a h e tally = subst (λ (y : Answer). Tallies (after_look_up s t i q None) (call_at t (LookUp i) read (Ok y) ∷ h)) (sym e) (record {
-  found = tally.found;
-  absent = more_shown s.absent (absent_answers h) 1 tally.absent;
-  evicted = tally.evicted ∙ ap saturated (omega arith);
-})
-look_tally s t read i q (Some b) a h e tally = subst (λ (y : Answer). Tallies (after_look_up s t i q (Some b)) (call_at t (LookUp i) read (Ok y) ∷ h)) (sym e) (record {
-  found = more_shown s.found (found_answers h) 1 tally.found;
-  absent = tally.absent;
-  evicted = tally.evicted ∙ ap saturated (omega arith);
-})
-
-request_tally : (s : State) (t : MomentValue) (read : Inside) (i : ℕ) (a : Answer) (h : History) (o : Option Request)
-    → MatchOption o ⊥ (λ q. (a ≡ look_answer t (body_for q s.bodies)) × UseFits s q)
-    → Tallies s h → Tallies (on_request s o (λ q. after_look_up s t i q (body_for q s.bodies))) (call_at t (LookUp i) read (Ok a) ∷ h)
-request_tally s t read i a h None p tally = absurd p
-request_tally s t read i a h (Some q) p tally = look_tally s t read i q (body_for q s.bodies) a h p.0 tally
-
-read_tally : (s : State) (t : MomentValue) (read : Inside) (i : ℕ) (a : Answer) (h : History) (o : Option Request) → MatchOption o ⊥ (λ q. a ≡ read_answer q.reader)
-    → Tallies s h → Tallies (on_request s o (λ q. record s { requests = insert s.requests i (after_read q) })) (call_at t (Read i) read (Ok a) ∷ h)
-read_tally s t read i a h None p tally = absurd p
-read_tally s t read i a h (Some q) p tally = by_reader q.reader p
+looked_nothing : (q : Request) (f : TierFault) → look_refusal q ≡ Some f → done_of f ≡ nothing_done
+looked_nothing q f e = by_test _ e
   where
-    new : State
-    new = record s { requests = insert s.requests i (after_read q) }
+    by_test : (v : Bool) → cond v (unless (not (is_waiting q.held)) Waiting) (Some WrongPhase) ≡ Some f → done_of f ≡ nothing_done
+    by_test true e = unless_nothing (not (is_waiting q.held)) Waiting f refl e
+    by_test false e = let same : WrongPhase ≡ f = cc in ap done_of (sym same)
 
-    by_reader : (r : Reader) → a ≡ read_answer r → Tallies new (call_at t (Read i) read (Ok a) ∷ h)
-    by_reader Closed e = subst (λ (y : Answer). Tallies new (call_at t (Read i) read (Ok y) ∷ h)) (sym e) (uncounted s new (call_at t (Read i) read (Ok End)) h refl refl refl refl refl refl tally)
-    by_reader (Unread bytes) e =
-        subst (λ (y : Answer). Tallies new (call_at t (Read i) read (Ok y) ∷ h)) (sym e) (uncounted s new (call_at t (Read i) read (Ok (Bytes bytes))) h refl refl refl refl refl refl tally)
-    by_reader Spent e = subst (λ (y : Answer). Tallies new (call_at t (Read i) read (Ok y) ∷ h)) (sym e) (uncounted s new (call_at t (Read i) read (Ok End)) h refl refl refl refl refl refl tally)
+pieced_nothing : (o : Option ℕ) (shelf : Shelf) (f : TierFault) → piece_refusal o shelf ≡ Some f → done_of f ≡ nothing_done
+pieced_nothing None shelf f e = let same : WrongPhase ≡ f = cc in ap done_of (sym same)
+pieced_nothing (Some n) shelf f e = unless_nothing _ AfterEnd f refl e
 
-purge_tally : (s : State) (t : MomentValue) (read : Inside) (key : CacheKeyValue) (h : History) (v : Bool) → Tallies s h → Tallies (after_purge s key v) (call_at t (Purge key) read (Ok (Purged v)) ∷ h)
-purge_tally s t read key h false tally = uncounted s s (call_at t (Purge key) read (Ok (Purged false))) h refl refl refl refl refl refl tally
-purge_tally s t read key h true tally =
-    uncounted s (after_purge s key true) (call_at t (Purge key) read (Ok (Purged true))) h refl refl refl refl refl refl tally
+-- a refusal before anything else did nothing
+pub refused_nothing : (s : State) (action : Action) (f : TierFault) → refusal s action ≡ Some f → done_of f ≡ nothing_done
+refused_nothing s (Open r key asks) f e = unless_nothing (not (is_some (get s.requests r))) IdInUse f refl e
+refused_nothing s (LookUp r) f e = checked_nothing (get s.requests r) look_refusal f (λ q. looked_nothing q f) e
+refused_nothing s (Poll r) f e = checked_nothing (get s.requests r) _ f (λ q. unless_nothing (is_waiting q.held) WrongPhase f refl) e
+refused_nothing s (Begin r head) f e = checked_nothing (get s.requests r) _ f (λ q. unless_nothing (can_begin q.phase q.gave_read) WrongPhase f refl) e
+refused_nothing s (Piece r bytes last) f e = checked_nothing (get s.requests r) _ f (λ q. pieced_nothing q.write s.shelf f) e
+refused_nothing s (Finish r) f e = checked_nothing (get s.requests r) _ f (λ q. unless_nothing (is_some q.write) WrongPhase f refl) e
+refused_nothing s (Read r) f e = checked_nothing (get s.requests r) _ f (λ q. unless_nothing (has_reader q.reader) WrongPhase f refl) e
+refused_nothing s (Drop r) f e = checked_nothing (get s.requests r) _ f (λ q e. absurd cc) e
+refused_nothing s (Purge key) f e = absurd cc
+refused_nothing s (Put key pieces) f e = absurd cc
 
-put_tally : (s : State) (t : MomentValue) (read : Inside) (g : Option FinishedBody) (w : Option Whole) (key : CacheKeyValue) (pieces : List (List ℕ)) (a : Answer) (h : History) → IsPutAnswer s g w a
-    → Tallies s h → Tallies (after_put s g a) (call_at t (Put key pieces) read (Ok a) ∷ h)
-put_tally s t read (Some b) w key pieces (Finished n es) h p tally = record {
-  found = tally.found;
-  absent = tally.absent;
-  evicted = gone-count (shards_of s) (evictions h) es (admitted s b) tally.evicted;
-}
-put_tally s t read (Some b) w key pieces _ h p tally = absurd p
-put_tally s t read None (Some (whole.Uncacheable reason)) key pieces (answer.Uncacheable shown) h p tally =
-    uncounted s s (call_at t (Put key pieces) read (Ok (answer.Uncacheable shown))) h refl refl refl refl refl refl tally
-put_tally s t read None (Some (whole.Uncacheable reason)) key pieces _ h p tally = absurd p
-put_tally s t read None (Some (whole.Stored body)) key pieces _ h p tally = absurd p
-put_tally s t read None (Some whole.Incomplete) key pieces _ h p tally = absurd p
-put_tally s t read None (Some whole.BadHead) key pieces _ h p tally = absurd p
-put_tally s t read None (Some whole.BeforeEpoch) key pieces _ h p tally = absurd p
-put_tally s t read None None key pieces _ h p tally = absurd p
+begin_nothing : (s : State) (j : Option Judged) (f : TierFault) → IsBeginFault s j f → done_of f ≡ nothing_done
+begin_nothing s (Some (kept meta)) f p = ap done_of p.0
+begin_nothing s (Some (not_kept reason)) f p = absurd p
+begin_nothing s (Some not_read) f p = ap done_of p
+begin_nothing s (Some too_early) f p = ap done_of p
+begin_nothing s None f p = absurd p
 
-answer_tally : (s : State) (t : MomentValue) (read : Inside) (g : Option Whole) (action : Action) (a : Answer) (h : History) → IsAnswer s t action g a → Tallies s h → Tallies (answered s t action g a) (call_at t action read (Ok a) ∷ h)
-answer_tally s t read g (Open i key) a h p tally =
-    subst (λ (y : Answer). Tallies (answered s t (Open i key) g y) (call_at t (Open i key) read (Ok y) ∷ h)) (sym p)
-    (uncounted s (answered s t (Open i key) g Opened) (call_at t (Open i key) read (Ok Opened)) h refl refl refl refl refl refl tally)
-answer_tally s t read g (LookUp i) a h p tally = request_tally s t read i a h (get s.requests i) p tally
-answer_tally s t read g (Read i) a h p tally = read_tally s t read i a h (get s.requests i) p tally
-answer_tally s t read g (Drop i) a h p tally =
-    subst (λ (y : Answer). Tallies (answered s t (Drop i) g y) (call_at t (Drop i) read (Ok y) ∷ h)) (sym p)
-    (uncounted s (answered s t (Drop i) g Dropped) (call_at t (Drop i) read (Ok Dropped)) h refl refl refl refl refl refl tally)
-answer_tally s t read g (Purge key) a h p tally =
-    subst (λ (y : Answer). Tallies (answered s t (Purge key) g y) (call_at t (Purge key) read (Ok y) ∷ h)) (sym p) (purge_tally s t read key h (is_some (body_of (stored_key_of key) s.bodies)) tally)
-answer_tally s t read g (Put key pieces) a h p tally = put_tally s t read (finished_in (Put key pieces) g) g key pieces a h p tally
+used_nothing : (s : State) (q : Request) (l : Look) (f : TierFault) → IsUseFault s q l f → done_of f ≡ nothing_done
+used_nothing s q absent f p = absurd p
+used_nothing s q (in_flight x) f p = absurd p
+used_nothing s q (finished b) f p = kept_out-done s q.entry (weight_for b) nothing_done f p.1
 
--- a refused put that had stored nothing, and one that had
-quiet_evicts : (done : Done) → done ≡ nothing_done → cond done.stored done.evicted [] ≡ []
-quiet_evicts done e = subst (λ (d : Done). cond d.stored d.evicted [] ≡ []) (sym e) refl
-
-quiet_undone : (s : State) (g : Option FinishedBody) (done : Done) → done ≡ nothing_done → undone s g done ≡ s
-quiet_undone s (Some b) done e = rw e refl
-quiet_undone s None done e = refl
-
-quiet_tally : (s : State) (t : MomentValue) (read : Inside) (g : Option FinishedBody) (action : Action) (f : TierFault) (h : History) → done_of f ≡ nothing_done → Tallies s h
-    → Tallies (undone s g (done_of f)) (call_at t action read (Err f) ∷ h)
-quiet_tally s t read g action f h d tally =
-    subst (λ (x : State). Tallies x (call_at t action read (Err f) ∷ h)) (sym (quiet_undone s g (done_of f) d))
-    (uncounted s s (call_at t action read (Err f)) h refl refl refl refl refl (quiet_evicts (done_of f) d) tally)
-
-until_count : (v : Bool) (s : State) (b : FinishedBody) → (until v s b).evicted_items ≡ s.managed.evicted_items
-until_count false s b = refl
-until_count true s b = refl
-
-back_tally : (s : State) (t : MomentValue) (read : Inside) (b : FinishedBody) (action : Action) (f : TierFault) (h : History) → (done_of f).stored ≡ true → Tallies s h
-    → Tallies (undone s (Some b) (done_of f)) (call_at t action read (Err f) ∷ h)
-back_tally s t read b action f h stored tally =
-    subst (λ (v : Bool). Tallies (taken_back v s b (done_of f)) (call_at t action read (Err f) ∷ h)) (sym stored) (record {
-      found = tally.found;
-      absent = tally.absent;
-      evicted = gone-count (shards_of s) (evictions h) (done_of f).evicted (until (done_of f).admitted s b) (until_count (done_of f).admitted s b ∙ tally.evicted)
-          ∙ ap (λ (v : Bool). saturated (evictions h + length (cond v (done_of f).evicted []))) (sym stored);
-    })
-
-put_fault_tally : (s : State) (t : MomentValue) (read : Inside) (g : Option FinishedBody) (w : Option Whole) (action : Action) (f : TierFault) (h : History) → IsPutFault s g w f → Tallies s h
-    → Tallies (undone s g (done_of f)) (call_at t action read (Err f) ∷ h)
-put_fault_tally s t read (Some b) w action f h p tally = elim p [
-  | inl spent ↦ quiet_tally s t read (Some b) action f h (ap done_of spent.0) tally
-  | inr late ↦ elim late [
-    | inl out ↦ back_tally s t read b action f h (ap (λ (d : Done). d.stored) (kept_out-done s (alone b.entry) (weight_for b.body) stored_alone f out)) tally
-    | inr cut ↦ back_tally s t read b action f h (ap (λ (x : TierFault). (done_of x).stored) cut.1) tally
-  ]
+looks_nothing : (s : State) (t : MomentValue) (x : Option Request) (f : TierFault) → MatchOption x ⊥ (λ q. IsUseFault s q (look_for q s.shelf) f ⊎ IsLockFault s t q f) → done_of f ≡ nothing_done
+looks_nothing s t None f p = absurd p
+looks_nothing s t (Some q) f p = elim p [
+  | inl x ↦ used_nothing s q (look_for q s.shelf) f x
+  | inr x ↦ ap done_of x.0
 ]
-put_fault_tally s t read None (Some whole.Incomplete) action f h p tally = quiet_tally s t read None action f h (ap done_of p) tally
-put_fault_tally s t read None (Some whole.BadHead) action f h p tally = quiet_tally s t read None action f h (ap done_of p) tally
-put_fault_tally s t read None (Some whole.BeforeEpoch) action f h p tally = quiet_tally s t read None action f h (ap done_of p) tally
-put_fault_tally s t read None (Some (whole.Uncacheable reason)) action f h p tally = absurd p
-put_fault_tally s t read None (Some (whole.Stored body)) action f h p tally = absurd p
-put_fault_tally s t read None None action f h p tally = absurd p
 
-fault_tally : (s : State) (t : MomentValue) (read : Inside) (g : Option Whole) (action : Action) (f : TierFault) (h : History) → AllowsBy (refusal s action) s t action g (Err f) → Tallies s h
-    → Tallies (undone s (finished_in action g) (done_of f)) (call_at t action read (Err f) ∷ h)
-fault_tally s t read g (Open i key) f h p tally = quiet_tally s t read None (Open i key) f h (did_nothing s t g (Open i key) f p refl) tally
-fault_tally s t read g (LookUp i) f h p tally = quiet_tally s t read None (LookUp i) f h (did_nothing s t g (LookUp i) f p refl) tally
-fault_tally s t read g (Read i) f h p tally = quiet_tally s t read None (Read i) f h (did_nothing s t g (Read i) f p refl) tally
-fault_tally s t read g (Drop i) f h p tally = quiet_tally s t read None (Drop i) f h (did_nothing s t g (Drop i) f p refl) tally
-fault_tally s t read g (Purge key) f h p tally = quiet_tally s t read None (Purge key) f h (did_nothing s t g (Purge key) f p refl) tally
-fault_tally s t read g (Put key pieces) f h p tally = elim p [
-  | inl m ↦ quiet_tally s t read (finished_in (Put key pieces) g) (Put key pieces) f h (ap done_of m.0) tally
-  | inr x ↦ put_fault_tally s t read (finished_in (Put key pieces) g) g (Put key pieces) f h x tally
+-- a refusal but of a put or a finish did nothing
+abbrev pub stores_nothing : Action → Bool
+stores_nothing (Finish r) = false
+stores_nothing (Put key pieces) = false
+stores_nothing _ = true
+
+late_nothing : (s : State) (t : MomentValue) (action : Action) (c : Call) (f : TierFault) → stores_nothing action ≡ true → IsLateFault s t action c f → done_of f ≡ nothing_done
+late_nothing s t (Finish r) c f e p = absurd cc
+late_nothing s t (Put key pieces) c f e p = absurd cc
+late_nothing s t (LookUp r) c f e p = looks_nothing s t (get s.requests r) f p
+late_nothing s t (Begin r head) c f e p = begin_nothing s (judged_of c) f p
+late_nothing s t _ c f e p = absurd p
+
+pub did_nothing : (s : State) (t : MomentValue) (action : Action) (c : Call) (f : TierFault) (o : Option TierFault) → refusal s action ≡ o → AllowsBy o s t action c (Err f)
+    → stores_nothing action ≡ true → done_of f ≡ nothing_done
+did_nothing s t action c f (Some g) r p e = let same : f ≡ g = cc in ap done_of same ∙ refused_nothing s action g r
+did_nothing s t action c f None r p e = elim p [
+  | inl m ↦ ap done_of m.0
+  | inr late ↦ late_nothing s t action c f e late
 ]
+
+put_fault_counts : (s : State) (b : Option FinishedBody) (w : Option Whole) (f : TierFault) → IsPutFault s b w f → Counts s (undone s b (done_of f)) (Err f)
+put_fault_counts s (Some b) w f p = elim p [
+  | inl full ↦ rw (quiet_undone s (Some b) (done_of f) (ap done_of full.0)) (quiet s s (Err f) refl refl refl (fault_quiet f (ap done_of full.0)))
+  | inr late ↦ back_counts s s b f refl refl refl (fault-stored s b f late)
+]
+put_fault_counts s None (Some whole.Incomplete) f p = quiet s s (Err f) refl refl refl (fault_quiet f (ap done_of p))
+put_fault_counts s None (Some whole.BadHead) f p = quiet s s (Err f) refl refl refl (fault_quiet f (ap done_of p))
+put_fault_counts s None (Some whole.BeforeEpoch) f p = quiet s s (Err f) refl refl refl (fault_quiet f (ap done_of p))
+put_fault_counts s None (Some (whole.Uncacheable reason)) f p = absurd p
+put_fault_counts s None (Some (whole.Stored body)) f p = absurd p
+put_fault_counts s None None f p = absurd p
+
+-- a finish that did nothing, or found its write removed
+nothing_finished : (s : State) (r : ℕ) (q : Request) (f : TierFault) (v : Bool) → done_of f ≡ nothing_done
+    → Counts s (cond v (after_finish (after_flight s r q) (finishing q s.shelf) (Err f)) s) (Err f)
+nothing_finished s r q f false d = quiet s s (Err f) refl refl refl (fault_quiet f d)
+nothing_finished s r q f true d =
+    rw (quiet_undone (after_flight s r q) (finishing q s.shelf) (done_of f) d) (quiet s (after_flight s r q) (Err f) refl refl refl (fault_quiet f d))
+
+finish_fault_counts : (s : State) (r : ℕ) (q : Request) (f : TierFault) (b : Option FinishedBody) → finishing q s.shelf ≡ b → IsFinishFault s b f → Counts s (finished_state s r q (Err f)) (Err f)
+finish_fault_counts s r q f None e p =
+    nothing_finished s r q f (is_landing (Err f)) (elim p [ inl gone ↦ ap done_of gone | inr m ↦ ap done_of m ])
+finish_fault_counts s r q f (Some b) e p = elim p [
+  | inl m ↦ nothing_finished s r q f (is_landing (Err f)) (ap done_of m)
+  | inr late ↦ by_landing (is_landing (Err f)) (landing-stored f (fault-stored s b f late))
+      (subst (λ (x : Option FinishedBody). Counts s (undone (after_flight s r q) x (done_of f)) (Err f)) (sym e) (back_counts s (after_flight s r q) b f refl refl refl (fault-stored s b f late)))
+]
+  where
+    by_landing : (v : Bool) → v ≡ true → Counts s (after_finish (after_flight s r q) (finishing q s.shelf) (Err f)) (Err f)
+        → Counts s (cond v (after_finish (after_flight s r q) (finishing q s.shelf) (Err f)) s) (Err f)
+    by_landing true l k = k
+    by_landing false l k = absurd cc
+
+finishes_fault_counts : (s : State) (r : ℕ) (x : Option Request) (f : TierFault) → MatchOption x ⊥ (λ q. IsFinishFault s (finishing q s.shelf) f)
+    → Counts s (by_request s x (λ q. finished_state s r q (Err f))) (Err f)
+finishes_fault_counts s r None f p = absurd p
+finishes_fault_counts s r (Some q) f p = finish_fault_counts s r q f (finishing q s.shelf) refl p
+
+finish_refused_counts : (s : State) (t : MomentValue) (r : ℕ) (c : Call) (f : TierFault) (o : Option TierFault) → refusal s (Finish r) ≡ o → AllowsBy o s t (Finish r) c (Err f)
+    → Counts s (refused s (Finish r) c f) (Err f)
+finish_refused_counts s t r c f (Some g) e p =
+    let same : f ≡ g = cc in
+    let d : done_of f ≡ nothing_done = ap done_of same ∙ refused_nothing s (Finish r) g e in
+    request_quiet s (get s.requests r) (λ q. finished_state s r q (Err f)) (Err f) (fault_quiet f d) (λ q. nothing_finished s r q f (is_landing (Err f)) d)
+finish_refused_counts s t r c f None e p = elim p [
+  | inl m ↦ absurd m.1
+  | inr late ↦ finishes_fault_counts s r (get s.requests r) f late
+]
+
+fault_counts : (s : State) (t : MomentValue) (action : Action) (c : Call) (f : TierFault) → AllowsBy (refusal s action) s t action c (Err f) → Counts s (refused s action c f) (Err f)
+fault_counts s t (Finish r) c f p = finish_refused_counts s t r c f (refusal s (Finish r)) refl p
+fault_counts s t (Put key pieces) c f p = elim p [
+  | inl m ↦ rw (quiet_undone s (finished_by c) (done_of f) (ap done_of m.0)) (quiet s s (Err f) refl refl refl (fault_quiet f (ap done_of m.0)))
+  | inr late ↦ put_fault_counts s (finished_by c) (read_by c) f late
+]
+fault_counts s t (Open r key asks) c f p = quiet s s (Err f) refl refl refl (fault_quiet f (did_nothing s t (Open r key asks) c f (refusal s (Open r key asks)) refl p refl))
+fault_counts s t (LookUp r) c f p = quiet s s (Err f) refl refl refl (fault_quiet f (did_nothing s t (LookUp r) c f (refusal s (LookUp r)) refl p refl))
+fault_counts s t (Poll r) c f p = quiet s s (Err f) refl refl refl (fault_quiet f (did_nothing s t (Poll r) c f (refusal s (Poll r)) refl p refl))
+fault_counts s t (Begin r head) c f p = quiet s s (Err f) refl refl refl (fault_quiet f (did_nothing s t (Begin r head) c f (refusal s (Begin r head)) refl p refl))
+fault_counts s t (Piece r bytes last) c f p = quiet s s (Err f) refl refl refl (fault_quiet f (did_nothing s t (Piece r bytes last) c f (refusal s (Piece r bytes last)) refl p refl))
+fault_counts s t (Read r) c f p = quiet s s (Err f) refl refl refl (fault_quiet f (did_nothing s t (Read r) c f (refusal s (Read r)) refl p refl))
+fault_counts s t (Drop r) c f p = quiet s s (Err f) refl refl refl (fault_quiet f (did_nothing s t (Drop r) c f (refusal s (Drop r)) refl p refl))
+fault_counts s t (Purge key) c f p = quiet s s (Err f) refl refl refl (fault_quiet f (did_nothing s t (Purge key) c f None refl p refl))
 
 -- each lawful call keeps the counts
 pub Tallies-after : (s : State) (c : Call) (h : History) → Allows s c → Tallies s h → Tallies (after s c) (c ∷ h)
 Tallies-after s c h p tally =
-    let t = by_outcome c.outcome p.1 in
-    record { found = t.found; absent = t.absent; evicted = t.evicted }
+    let k = by_outcome c.outcome p.outcome in
+    Tallies-counted s (after s c) c h (record { found = k.found; absent = k.absent; evicted = k.evicted }) tally
   where
-    by_outcome : (o : Outcome) → AllowsBy (refusal s c.event.action) s c.event.moment c.event.action (read_by c) o → Tallies (after_outcome s c.event.moment c.event.action (read_by c) o) (record c { outcome = o } ∷ h)
-    by_outcome (Ok a) p = answer_tally s c.event.moment (c.reading, c.began) (read_by c) c.event.action a h (answer_allowed (refusal s c.event.action) s c.event.moment (read_by c) c.event.action a p) tally
-    by_outcome (Err f) p = fault_tally s c.event.moment (c.reading, c.began) (read_by c) c.event.action f h p tally
+    i : Inside
+    i = record { reading = c.reading; began = c.began; asked = c.asked }
+
+    by_allowed : (o : Option TierFault) (a : Answer) → refusal s c.event.action ≡ o → AllowsBy o s c.event.moment c.event.action (call_at c.event.moment c.event.action i (Ok a)) (Ok a)
+        → IsAnswer s c.event.moment c.event.action (call_at c.event.moment c.event.action i (Ok a)) a
+    by_allowed (Some g) a e p = absurd cc
+    by_allowed None a e p = p
+
+    by_outcome : (o : Outcome) → AllowsBy (refusal s c.event.action) s c.event.moment c.event.action (call_at c.event.moment c.event.action i o) o
+        → Counts s (after_outcome s c.event.moment c.event.action (call_at c.event.moment c.event.action i o) o) o
+    by_outcome (Ok a) p = answer_counts s c.event.moment c.event.action (call_at c.event.moment c.event.action i (Ok a)) a (by_allowed (refusal s c.event.action) a refl p)
+    by_outcome (Err f) p = fault_counts s c.event.moment c.event.action (call_at c.event.moment c.event.action i (Err f)) f p

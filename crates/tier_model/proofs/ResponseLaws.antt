@@ -1,16 +1,20 @@
 -- What readings of responses give at a moment.
-use Rattle.std.proofs.Common.{◌≡◌, List, refl, ℕ, inl, inr}
-use Rattle.std.specs.Prelude.{◌≢◌, ◌||◌}
+use Rattle.std.proofs.Common.{◌≡◌, List, [], refl, ap, sym, ◌∙◌, true, false, cond, ℕ, inl, inr}
+use Rattle.std.specs.Prelude.{◌≢◌, ◌||◌, Bool, Some, None, map}
 use Rattle.std.proofs.lemmas.Bool.{cases_Bool}
 use Rattle.cache_words.specs.Time.{MomentValue}
 use Rattle.cache_heads.specs.declared.reason.RespCacheable.{RespCacheable}
 use Rattle.cache_heads.specs.declared.reason.RespCacheable.TheVariants as cacheable
-use Rattle.response_parse.specs.Response.{IsWellFormed, Reading, IsReading, parsed_of}
+use Rattle.cache_headers.specs.Lines.{map_of}
+use Rattle.cache_headers.specs.declared.header.ResponseHeader.{ResponseHeader}
+use Rattle.httparse.specs.Grammar.{status_code}
+use Rattle.httparse.specs.Spans.{name_and_value}
+use Rattle.response_parse.specs.Response.{IsWellFormed, Reading, IsReading, is_within_bounds, parsed_of, head_of}
 use Rattle.response_parse.specs.declared.response.Parsed.{Parsed}
 use Rattle.response_parse.specs.declared.response.Parsed.TheVariants as parsed
 use Rattle.response_parse.proofs.ReadingLaws.{parsed_of-read}
 use Rattle.tier_model.specs.declared.whole.Whole.TheVariants.{BadHead}
-use Rattle.tier_model.specs.Response.{Judged, kept, not_kept, too_early, not_read, is_before_epoch, verdict_on, judged_by, judged, whole_with, whole_by, whole_of}
+use Rattle.tier_model.specs.Response.{Judged, kept, not_kept, too_early, not_read, is_before_epoch, verdict_on, judged_by, judged, judged_alone, whole_with, whole_by, whole_of, IsOneHead}
 
 -- a head that is read is none that isn't
 judged_by-read : (arrival : MomentValue) (v : RespCacheable) → judged_by arrival v ≢ not_read
@@ -35,3 +39,13 @@ whole_by-bad arrival parsed.BadHead e = refl
 
 pub whole_of-read : (arrival : MomentValue) (bytes : List ℕ) (r : Reading) → IsWellFormed bytes → IsReading bytes r → whole_of arrival r ≢ BadHead
 whole_of-read arrival bytes r well is bad = parsed_of-read bytes r well is (whole_by-bad arrival (parsed_of r) bad)
+
+-- one head is read as it is
+read_alone : (arrival : MomentValue) (v : Bool) (header : ResponseHeader) → v ≡ true → judged_alone arrival (cond v (Some header) None) ≢ not_read
+read_alone arrival true header e bad = judged_by-read arrival (verdict_on arrival header) bad
+read_alone arrival false header e bad = absurd cc
+
+pub judged_alone-read : (arrival : MomentValue) (bytes : List ℕ) (r : Reading) → IsOneHead bytes → IsReading bytes r → judged_alone arrival (head_of r) ≢ not_read
+judged_alone-read arrival bytes r one is bad =
+    read_alone arrival (is_within_bounds (status_code one.0) (map name_and_value one.0.fields)) (record { status = status_code one.0; headers = map_of (map name_and_value one.0.fields) }) one.3
+    (ap (λ (x : Reading). judged_alone arrival (head_of x)) (sym (is.whole one.0 [] one.1 one.2)) ∙ bad)

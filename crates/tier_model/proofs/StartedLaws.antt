@@ -140,13 +140,12 @@ opening_past s new sharded =
     HasPast-lawful (opening_of s) s [] (sharded.some, rows_distinct (shards_of s) s.managed sharded)
     (λ t. record {
       managed = record { shards = again t; limit = s.managed.limit; watermark = s.managed.watermark; evicted_size = new.evicted_size t; evicted_items = new.evicted_items t };
-      age = s.age;
       wait = s.wait;
-      bodies = empty_of_len s.bodies new.bodies t;
+      shelf = record { bodies = empty_of_len s.shelf.bodies new.bodies t; flying = new.flying t; readers = empty_of_len s.shelf.readers new.readers t; writes = s.shelf.writes };
+      lock = new.lock t;
       requests = empty_of_len s.requests new.requests t;
       found = new.found t;
       absent = new.absent t;
-      writes = s.writes;
     })
 
 -- ---- what was loaded is no write

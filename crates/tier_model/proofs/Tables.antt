@@ -6,7 +6,9 @@ use Rattle.std.specs.Ordering.{is_eq, is_lt, nat_cmp, eq_by_cmp}
 use Rattle.std.specs.Cmp.{IsTotalOrder, unsigned_tied}
 use Rattle.std.specs.Cmp.Lexicographic.{pointwise, slice_cmp, texts_ties}
 use Rattle.std.proofs.lemmas.Cmp.{nat_cmp_total, nat_eq_equiv, eq_by_cmp_equiv}
-use Rattle.std.specs.FinMap.{FinMap, IsAntisymmetric, entries, entries_sorted, entries-from_sorted, from_sorted, get-from_sorted, is_sorted, empty, get, insert, remove, len, values, from_entries, find, put, same_map, get-entries, get-from_entries, get-insert, get-remove, entries-insert, len-entries, len-empty, len-insert, nat_cmp-IsAntisymmetric}
+use Rattle.std.specs.FinMap.{FinMap, IsAntisymmetric, entries, entries_sorted, entries-from_sorted, from_sorted, get-from_sorted, is_sorted, empty, get, insert, remove, len, values}
+use Rattle.std.specs.FinMap.{from_entries, find, put, same_map, get-entries, get-from_entries, get-insert, get-remove, entries-insert, len-entries, len-empty, len-insert}
+use Rattle.std.specs.FinMap.{nat_cmp-IsAntisymmetric}
 use Rattle.std.specs.FinMap.Entries.{by_order, below_all}
 use Rattle.std.specs.Map.{keys_of, values_of, lookup, set_value}
 use Rattle.std.proofs.lemmas.List.{nil_from_length}
@@ -27,12 +29,14 @@ module _ {K X : Type 0} {R : K → K → Ordering} (eq : K → K → Bool) (tota
   changed_at q k at a b e = ap (λ t. cond t at a) ((eq_by_cmp_equiv total).symm q k ∙ ties k q) ∙ ap (cond (eq k q) at) e
 
   -- the table after a change at one key is the changed map
-  pub insert-keyed : IsAntisymmetric R → (old new : List (K × X)) (k : K) (v : X) → ((q : K) → lookup (eq q) new ≡ cond (eq k q) (Some v) (lookup (eq q) old)) → from_entries {R = R} new ≡ insert (from_entries old) k v
+  pub insert-keyed : IsAntisymmetric R → (old new : List (K × X)) (k : K) (v : X) → ((q : K) → lookup (eq q) new ≡ cond (eq k q) (Some v) (lookup (eq q) old))
+      → from_entries {R = R} new ≡ insert (from_entries old) k v
   insert-keyed apart old new k v h =
       same_map total apart _ _
       (λ q. get-keyed new q ∙ h q ∙ sym (get-insert total (from_entries old) k v q ∙ changed_at q k (Some v) _ _ (get-keyed old q)))
 
-  pub remove-keyed : IsAntisymmetric R → (old new : List (K × X)) (k : K) → ((q : K) → lookup (eq q) new ≡ cond (eq k q) None (lookup (eq q) old)) → from_entries {R = R} new ≡ remove (from_entries old) k
+  pub remove-keyed : IsAntisymmetric R → (old new : List (K × X)) (k : K) → ((q : K) → lookup (eq q) new ≡ cond (eq k q) None (lookup (eq q) old))
+      → from_entries {R = R} new ≡ remove (from_entries old) k
   remove-keyed apart old new k h =
       same_map total apart _ _
       (λ q. get-keyed new q ∙ h q ∙ sym (get-remove total (from_entries old) k q ∙ changed_at q k None _ _ (get-keyed old q)))
@@ -42,7 +46,7 @@ module _ {K X : Type 0} {R : K → K → Ordering} (eq : K → K → Bool) (tota
   same-keyed apart old new h = same_map total apart _ _ (λ q. get-keyed new q ∙ h q ∙ sym (get-keyed old q))
 
   -- what is put at a new key adds to a sum over the values
-  sum-put : (f : X → ℕ) (k : K) (v : X) (es : List (K × X)) → find R k es ≡ None → sum_by f (map (λ e. e.1) (put R k v es)) ≡ f v + sum_by f (map (λ e. e.1) es)
+  pub sum-put : (f : X → ℕ) (k : K) (v : X) (es : List (K × X)) → find R k es ≡ None → sum_by f (map (λ e. e.1) (put R k v es)) ≡ f v + sum_by f (map (λ e. e.1) es)
   sum-put f k v [] none = sum_by-cons f v []
   sum-put f k v (e ∷ es) none = by_place (sum-put f k v es) (R k e.0) none
     where
@@ -107,10 +111,12 @@ bytes_tied x y = sym (texts_ties x y)
 pub get-table : {X : Type 0} (es : List (ℕ × X)) (q : ℕ) → get (from_entries {R = nat_cmp} es) q ≡ lookup (nat_eq q) es
 get-table es q = get-keyed nat_eq nat_cmp_total unsigned_tied es q
 
-pub insert-table : {X : Type 0} (old new : List (ℕ × X)) (k : ℕ) (v : X) → ((q : ℕ) → lookup (nat_eq q) new ≡ cond (nat_eq k q) (Some v) (lookup (nat_eq q) old)) → from_entries {R = nat_cmp} new ≡ insert (from_entries old) k v
+pub insert-table : {X : Type 0} (old new : List (ℕ × X)) (k : ℕ) (v : X) → ((q : ℕ) → lookup (nat_eq q) new ≡ cond (nat_eq k q) (Some v) (lookup (nat_eq q) old))
+    → from_entries {R = nat_cmp} new ≡ insert (from_entries old) k v
 insert-table old new k v h = insert-keyed nat_eq nat_cmp_total unsigned_tied nat_cmp-IsAntisymmetric old new k v h
 
-pub remove-table : {X : Type 0} (old new : List (ℕ × X)) (k : ℕ) → ((q : ℕ) → lookup (nat_eq q) new ≡ cond (nat_eq k q) None (lookup (nat_eq q) old)) → from_entries {R = nat_cmp} new ≡ remove (from_entries old) k
+pub remove-table : {X : Type 0} (old new : List (ℕ × X)) (k : ℕ) → ((q : ℕ) → lookup (nat_eq q) new ≡ cond (nat_eq k q) None (lookup (nat_eq q) old))
+    → from_entries {R = nat_cmp} new ≡ remove (from_entries old) k
 remove-table old new k h = remove-keyed nat_eq nat_cmp_total unsigned_tied nat_cmp-IsAntisymmetric old new k h
 
 one_key : (k x y : ℕ) → nat_eq k x ≡ true → nat_eq k y ≡ nat_eq x y

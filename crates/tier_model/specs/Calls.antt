@@ -1,31 +1,33 @@
--- Calls of a tier, and what one call tells: what it stored and evicted, and what a request read.
-use Rattle.std.specs.Prelude.{◌≡◌, ℕ, ◌+◌, ◌==◌, Bool, true, false, ◌&&◌, List, [], ◌∷◌, ◌++◌, if◌then◌else◌, Option, Some, None, Result, Ok, Err}
+-- Calls of a tier, and what one call tells: what it stored and evicted, what a request read, and whether it asks for a lock.
+use Rattle.std.specs.Prelude.{◌≡◌, ℕ, ◌+◌, ◌==◌, Bool, true, false, ◌&&◌, not, List, [], ◌∷◌, ◌++◌, if◌then◌else◌, Option, Some, None, Result, Ok, Err}
 use Rattle.cache_entries.specs.declared.entry.CacheEntryKey.{CacheEntryKey}
 use Rattle.tier_model.specs.Rows.{FinishedBody}
 use Rattle.tier_model.specs.declared.whole.Whole.{Whole}
 use Rattle.tier_model.specs.declared.whole.Whole.TheVariants.{Stored}
 use Rattle.tier_model.specs.declared.event.Event.{Event}
 use Rattle.tier_model.specs.declared.event.Action.{Action}
-use Rattle.tier_model.specs.declared.event.Action.TheVariants.{Open, LookUp, Read, Drop, Put}
+use Rattle.tier_model.specs.declared.event.Action.TheVariants.{Open, LookUp, Begin, Read, Drop, Put}
 use Rattle.tier_model.specs.declared.event.Answer.{Answer}
-use Rattle.tier_model.specs.declared.event.Answer.TheVariants.{Opened, Found, Bytes, Dropped, Finished}
+use Rattle.tier_model.specs.declared.event.Answer.TheVariants.{Opened, Found, Begun, Bytes, Dropped, Finished}
 use Rattle.tier_model.specs.declared.event.Done.{Done}
 use Rattle.tier_model.specs.declared.event.TierFault.{TierFault}
 use Rattle.tier_model.specs.declared.event.TierFault.TheVariants.{NumbersSpent, TooHeavy, TooLong, Memory}
 use Rattle.tier_model.specs.Keys.{Entry, entry_of}
 use Rattle.response_parse.specs.Response.{Reading}
-use Rattle.tier_model.specs.Response.{whole_in}
+use Rattle.tier_model.specs.Response.{Judged, whole_in, judged_in}
 
 -- what a call answered, or the fault that refused it
 abbrev pub Outcome : Type 0
 Outcome = Result Answer TierFault
 
--- an event with its outcome, the reading of its response, where one was read, and whether a write of its body began
+-- an event with its outcome, the reading of its response or head, where one was read, whether a write began, and whether a look-up was
+-- given a permit or a wait
 pub record Call : Type 0 where
   pub event : Event
   pub outcome : Outcome
   pub reading : Option Reading
   pub began : Bool
+  pub asked : Bool
 
 -- the calls of one tier, the latest first
 abbrev pub History : Type 0
@@ -68,6 +70,10 @@ evicted_by (Err fault) = evicted_before (done_of fault)
 abbrev pub read_by : Call → Option Whole
 read_by c = whole_in c.event.moment c.event.action c.reading
 
+-- what a begin's head gave
+abbrev pub judged_of : Call → Option Judged
+judged_of c = judged_in c.event.moment c.event.action c.reading
+
 -- what an event finishes, by what its response gave: a body under the entry of the event's key
 abbrev pub finished_in : Action → Option Whole → Option FinishedBody
 finished_in (Put key pieces) (Some (Stored body)) = Some (record { entry = entry_of key; body = body })
@@ -82,9 +88,14 @@ has_stored (Ok (Finished length evicted)) = true
 has_stored (Ok _) = false
 has_stored (Err fault) = (done_of fault).stored
 
--- a body that a call finished, and that was stored, was written by a write that began in the call
+abbrev pub is_begun : Outcome → Bool
+is_begun (Ok Begun) = true
+is_begun _ = false
+
+-- a write of which a call tells began in the call: of a body that it finished and stored, and of a begin that was answered begun
 abbrev pub CountsItsWrite : Call → Type 0
-CountsItsWrite c = (b : FinishedBody) → finished_by c ≡ Some b → has_stored c.outcome ≡ true → c.began ≡ true
+CountsItsWrite c =
+    ((b : FinishedBody) → finished_by c ≡ Some b → has_stored c.outcome ≡ true → c.began ≡ true) × (is_begun c.outcome ≡ true → c.began ≡ true)
 
 -- how many writes began, after a call
 abbrev pub writes_after : ℕ → Bool → ℕ
@@ -92,7 +103,7 @@ writes_after n false = n
 writes_after n true = n + 1
 
 abbrev pub entry_after : ℕ → Action → Outcome → Option Entry → Option Entry
-entry_after id (Open request key) (Ok Opened) old = if request == id then Some (entry_of key) else old
+entry_after id (Open request key lock) (Ok Opened) old = if request == id then Some (entry_of key) else old
 entry_after id (Drop request) (Ok Dropped) old = if request == id then None else old
 entry_after id _ _ old = old
 
@@ -101,20 +112,46 @@ abbrev pub opened_for : ℕ → History → Option Entry
 opened_for id [] = None
 opened_for id (c ∷ h) = entry_after id c.event.action c.outcome (opened_for id h)
 
+abbrev pub asks_after : ℕ → Action → Outcome → Bool → Bool
+asks_after id (Open request key lock) (Ok Opened) old = if request == id then lock else old
+asks_after id _ _ old = old
+
+-- the request asks for the lock: it was opened so
+abbrev pub asks_lock : ℕ → History → Bool
+asks_lock id [] = false
+asks_lock id (c ∷ h) = asks_after id c.event.action c.outcome (asks_lock id h)
+
 abbrev pub is_hit : ℕ → Action → Outcome → Bool
-is_hit id (LookUp request) (Ok (Found fresh complete)) = (request == id) && complete
+is_hit id (LookUp request) (Ok (Found fresh complete lock)) = (request == id) && complete
 is_hit id _ _ = false
 
 -- the request's look-up found all of a body
 abbrev pub hits : ℕ → Call → Bool
 hits id c = is_hit id c.event.action c.outcome
 
+abbrev pub is_partial_hit : ℕ → Action → Outcome → Bool
+is_partial_hit id (LookUp request) (Ok (Found fresh complete lock)) = (request == id) && not complete
+is_partial_hit id _ _ = false
+
+-- the request's look-up found a write in flight
+abbrev pub hits_partly : ℕ → Call → Bool
+hits_partly id c = is_partial_hit id c.event.action c.outcome
+
+abbrev pub is_begin_of : ℕ → Action → Outcome → Bool
+is_begin_of id (Begin request head) (Ok Begun) = request == id
+is_begin_of id _ _ = false
+
+-- the request began a write
+abbrev pub begins_by : ℕ → Call → Bool
+begins_by id c = is_begin_of id c.event.action c.outcome
+
 abbrev pub is_end_of_reader : ℕ → Action → Outcome → Bool
 is_end_of_reader id (LookUp request) (Ok answer) = request == id
+is_end_of_reader id (Begin request head) (Ok answer) = request == id
 is_end_of_reader id (Drop request) (Ok answer) = request == id
 is_end_of_reader id _ _ = false
 
--- the call ended the request's reader: it was looked up anew, or dropped
+-- the call ended the request's earlier reader: it looked up anew, began or gave up a write, or was dropped
 abbrev pub ends_reader : ℕ → Call → Bool
 ends_reader id c = is_end_of_reader id c.event.action c.outcome
 

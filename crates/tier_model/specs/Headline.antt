@@ -1,45 +1,40 @@
 -- The headline: what a history says of the answers in it. It names no state.
-use Rattle.std.specs.Prelude.{◌≡◌, ◌≢◌, ◌↔◌, ℕ, Bool, true, false, List, [], ◌∷◌, ◌++◌, length, Option, Some, None, Ok, Err}
+use Rattle.std.specs.Prelude.{◌≡◌, ◌≢◌, ◌↔◌, ℕ, Bool, true, false, List, [], ◌∷◌, length, Option, Some, None, Ok, Err}
 use Rattle.std.specs.List.{AllByRecursion}
 use Rattle.cache_words.specs.Time.{MomentValue, at_most}
 use Rattle.cache_entries.specs.declared.rows.Tracked.{Tracked}
 use Rattle.cache_entries.specs.Rows.{is_over}
 use Rattle.cache_entries.specs.declared.entry.CacheEntryKey.{CacheEntryKey}
-use Rattle.cache_changes.specs.Changes.{StoredKey, stored_key, Write, Changes}
-use Rattle.cache_changes.specs.Writes.{bytes_of, meta_of, IsFound, IsBody, IsFlying, IsShown}
+use Rattle.cache_changes.specs.Changes.{StoredKey, stored_key, Write, Changes, finishes}
+use Rattle.cache_changes.specs.Writes.{bytes_of, has_ended, meta_of, IsAlive, IsFound, IsBody, IsFlying, IsShown}
 use Rattle.cache_changes.specs.Uses.{IsOrderOfUse, EvictsLawfully}
 use Rattle.cache_changes.specs.Bound.{IsTrackedBody, AreWithin}
 use Rattle.tier_model.specs.Rows.{FinishedBody}
 use Rattle.tier_model.specs.declared.event.Action.{Action}
 use Rattle.tier_model.specs.declared.whole.Whole.{Whole}
 use Rattle.tier_model.specs.declared.whole.Whole.TheVariants as whole
-use Rattle.tier_model.specs.declared.event.Action.TheVariants.{Open, LookUp, Read, Drop, Purge, Put}
+use Rattle.tier_model.specs.declared.event.Action.TheVariants.{Open, LookUp, Poll, Begin, Piece, Finish, Read, Drop, Purge, Put}
 use Rattle.tier_model.specs.declared.event.Answer.{Answer}
-use Rattle.tier_model.specs.declared.event.Answer.TheVariants.{Opened, Found, Absent, Bytes, End, Dropped, Purged, Finished}
+use Rattle.tier_model.specs.declared.event.Answer.TheVariants.{Opened, Found, Absent, Waited, Begun, Written, Dropped, Purged, Finished}
 use Rattle.tier_model.specs.declared.event.Answer.TheVariants as answer
 use Rattle.tier_model.specs.declared.event.TierFault.TheVariants as fault
 use Rattle.tier_model.specs.Keys.{Entry, stored_key_of}
-use Rattle.tier_model.specs.Response.{IsRead}
-use Rattle.tier_model.specs.Calls.{History, Outcome, CountsItsWrite, extended, nothing_done, done_of, read_by, finished_in, opened_for, bytes_read}
-use Rattle.tier_model.specs.Histories.{Kept, Opening, writes_begun, stores, changes_of, HasHit}
+use Rattle.tier_model.specs.Response.{not_kept, too_early, not_read, IsRead}
+use Rattle.tier_model.specs.Calls.{Call, History, Outcome, CountsItsWrite, extended, nothing_done, done_of, judged_of, read_by, finished_by, opened_for}
+use Rattle.tier_model.specs.Histories.{Kept, Opening, writes_begun, stores, changes_of, begun_by, write_held, finished_of, settles}
+use Rattle.tier_model.specs.Reads.{AreReadRight}
+use Rattle.tier_model.specs.Locks.{AreLockedRight}
 use Rattle.tier_model.specs.State.{Settings}
 
 -- a look-up at t is answered found exactly where a write of its key is alive; then it shows one, fresh exactly up to its
 -- moment, and complete exactly where none of the key is in flight
 abbrev pub LooksRight : ℕ → MomentValue → Answer → History → Changes Kept → Type 0
-LooksRight id t (Found fresh complete) h before =
+LooksRight id t (Found fresh complete given) h before =
     (e : Entry) × (w : Write Kept) × (opened_for id h ≡ Some e) × IsShown (stored_key e) w before
     × (fresh ≡ at_most t (meta_of w before).meta.internal.fresh_until)
     × ((complete ≡ true) ↔ ((v : Write Kept) → IsFlying (stored_key e) v before → ⊥))
-LooksRight id t Absent h before = (e : Entry) × (opened_for id h ≡ Some e) × (¬ IsFound (stored_key e) before)
+LooksRight id t (Absent given) h before = (e : Entry) × (opened_for id h ≡ Some e) × (¬ IsFound (stored_key e) before)
 LooksRight id t _ h before = ⊥
-
--- what a request read since its complete hit, joined, with these bytes, is the body that the look-up showed, whatever came later
-pub record ReadsWhole (start : Opening) (id : ℕ) (bytes : List ℕ) (h : History) : Type 0 where
-  pub write : Write Kept
-  pub since : History
-  pub hit : HasHit start id write since h
-  pub whole : bytes_read id since ++ bytes ≡ bytes_of write.number (changes_of start hit.before)
 
 -- a purge is answered true exactly where a write of the key is alive
 abbrev pub PurgesRight : StoredKey → Answer → Changes Kept → Type 0
@@ -70,31 +65,68 @@ PutsRight settings n finished w (Err fault.BadHead) before = w ≡ Some whole.Ba
 PutsRight settings n finished w (Err fault.BeforeEpoch) before = w ≡ Some whole.BeforeEpoch
 PutsRight settings n finished w (Err f) before = TellsDone settings (done_of f).stored (done_of f).admitted n finished (done_of f).evicted before
 
--- what the calls before say of one call, and of a put what its response gave; any other call that is refused had done nothing
-abbrev pub IsRight : Opening → MomentValue → Action → Option Whole → Outcome → History → Type 0
-IsRight start t (Put key pieces) w outcome h = PutsRight start.settings (writes_begun start h) (finished_in (Put key pieces) w) w outcome (changes_of start h)
-IsRight start t (Open id key) w (Err f) h = (done_of f ≡ nothing_done) × ((f ≡ fault.IdInUse) ↔ (opened_for id h ≢ None))
-IsRight start t action w (Err f) h = done_of f ≡ nothing_done
-IsRight start t (Open id key) w (Ok answer) h = (answer ≡ Opened) × (opened_for id h ≡ None)
-IsRight start t (LookUp id) w (Ok answer) h = LooksRight id t answer h (changes_of start h)
-IsRight start t (Read id) w (Ok (Bytes bytes)) h = ReadsWhole start id bytes h
-IsRight start t (Read id) w (Ok End) h = ReadsWhole start id [] h
-IsRight start t (Read id) w (Ok _) h = ⊥
-IsRight start t (Drop id) w (Ok answer) h = answer ≡ Dropped
-IsRight start t (Purge key) w (Ok answer) h = PurgesRight (stored_key_of key) answer (changes_of start h)
+-- a begin is answered by its head: a write begins of one that is kept, for the entry of the request
+abbrev pub BeginsRight : Opening → ℕ → Call → Outcome → History → Type 0
+BeginsRight start id c (Ok Begun) h = (w : Write Kept) × (begun_by start id c h ≡ Some w)
+BeginsRight start id c (Ok (answer.Uncacheable reason)) h = judged_of c ≡ Some (not_kept reason)
+BeginsRight start id c (Ok _) h = ⊥
+BeginsRight start id c (Err fault.BadHead) h = judged_of c ≡ Some not_read
+BeginsRight start id c (Err fault.BeforeEpoch) h = judged_of c ≡ Some too_early
+BeginsRight start id c (Err f) h = done_of f ≡ nothing_done
+
+-- bytes come to the write of a request until its last piece
+abbrev pub PieceIsRight : Option (Write Kept) → Outcome → Changes Kept → Type 0
+PieceIsRight held (Ok answer) before = (answer ≡ Written) × ((w : Write Kept) × (held ≡ Some w) × (has_ended w.number before ≡ false))
+PieceIsRight held (Err fault.AfterEnd) before = (w : Write Kept) × (held ≡ Some w) × (has_ended w.number before ≡ true)
+PieceIsRight held (Err f) before = done_of f ≡ nothing_done
+
+-- what a finish of w did before it was refused: as a put's refusal tells, of the bytes that came
+abbrev pub TellsFinish : Settings → Bool → Bool → Option (Write Kept) → List CacheEntryKey → Changes Kept → Type 0
+TellsFinish settings false admitted held evicted before = (admitted ≡ false) × (evicted ≡ [])
+TellsFinish settings true false held evicted before = (w : Write Kept) × (held ≡ Some w) × (evicted ≡ [])
+TellsFinish settings true true held evicted before = (w : Write Kept) × (held ≡ Some w) × EndsOver settings true (extended before (finishes w ∷ settles (finished_of before w) evicted))
+
+-- a write is finished exactly where it is alive: its length is that of the bytes that came, and what went to make room for it was enough
+abbrev pub FinishIsRight : Settings → Option (Write Kept) → Outcome → Changes Kept → Type 0
+FinishIsRight settings held (Ok (Finished told evicted)) before =
+    (w : Write Kept) × (held ≡ Some w) × IsAlive w before × (told ≡ length (bytes_of w.number before))
+    × EndsOver settings false (extended before (finishes w ∷ settles (finished_of before w) evicted))
+FinishIsRight settings held (Ok _) before = ⊥
+FinishIsRight settings held (Err fault.WriteRemoved) before = (w : Write Kept) × (held ≡ Some w) × (¬ IsAlive w before)
+FinishIsRight settings held (Err f) before = TellsFinish settings (done_of f).stored (done_of f).admitted held (done_of f).evicted before
+
+-- what the calls before say of one call but for what a read gives and for locks, and of a put or a begin what its response or head gave;
+-- any other call that is refused had done nothing
+abbrev pub IsRight : Opening → MomentValue → Action → Outcome → Call → History → Type 0
+IsRight start t (Put key pieces) outcome c h = PutsRight start.settings (writes_begun start h) (finished_by c) (read_by c) outcome (changes_of start h)
+IsRight start t (Begin id head) outcome c h = BeginsRight start id c outcome h
+IsRight start t (Piece id bytes last) outcome c h = PieceIsRight (write_held start id h) outcome (changes_of start h)
+IsRight start t (Finish id) outcome c h = FinishIsRight start.settings (write_held start id h) outcome (changes_of start h)
+IsRight start t (Open id key asks) (Err f) c h = (done_of f ≡ nothing_done) × ((f ≡ fault.IdInUse) ↔ (opened_for id h ≢ None))
+IsRight start t action (Err f) c h = done_of f ≡ nothing_done
+IsRight start t (Open id key asks) (Ok answer) c h = (answer ≡ Opened) × (opened_for id h ≡ None)
+IsRight start t (LookUp id) (Ok answer) c h = LooksRight id t answer h (changes_of start h)
+IsRight start t (Poll id) (Ok (Waited outcome)) c h = Unit {0}
+IsRight start t (Poll id) (Ok _) c h = ⊥
+IsRight start t (Read id) (Ok answer) c h = Unit {0}
+IsRight start t (Drop id) (Ok answer) c h = answer ≡ Dropped
+IsRight start t (Purge key) (Ok answer) c h = PurgesRight (stored_key_of key) answer (changes_of start h)
 
 -- each call is right in the light of the calls before it
 abbrev pub AreRight : Opening → History → Type 0
 AreRight start [] = Unit {0}
-AreRight start (c ∷ h) = IsRight start c.event.moment c.event.action (read_by c) c.outcome h × AreRight start h
+AreRight start (c ∷ h) = IsRight start c.event.moment c.event.action c.outcome c h × AreRight start h
 
--- the headline of a tier that began so: what was read of each put is a reading of its own bytes, each body that was stored has a write
--- of its own, the answers are right, finished bodies keep both limits, each body's entry is tracked with at least its length, and what
--- went to make room went lawfully
+-- the headline of a tier that began so: what was read of each put and begin is a reading of its own bytes, each write of which an answer
+-- tells has a number of its own, the answers are right, reads give what they are to give, a lock that is asked for gives the permit exactly
+-- where none waits, finished bodies keep both limits, each body's entry is tracked with at least its length, and what went to make room went
+-- lawfully
 pub record Headline (start : Opening) (h : History) : Type 0 where
   pub readings : AllByRecursion (λ c. IsRead c.event.action c.reading) h
   pub numbers : AllByRecursion CountsItsWrite h
   pub answers : AreRight start h
+  pub reads : AreReadRight start h
+  pub locks : AreLockedRight h
   pub within : AreWithin start.settings.limit start.settings.watermark (changes_of start h)
   pub tracked : (w : Write Kept) → IsBody w.key w (changes_of start h) → IsTrackedBody w (changes_of start h)
   pub evictions : EvictsLawfully start.settings.shards start.settings.limit start.settings.watermark (changes_of start h)

@@ -1,19 +1,22 @@
 -- What a history of calls changes: the writes of bodies, and the entries in the order of use.
-use Rattle.std.specs.Prelude.{◌≡◌, ℕ, true, false, List, [], ◌∷◌, ◌++◌, map, if◌then◌else◌, Option, Some, None, Ok, Err}
+use Rattle.std.specs.Prelude.{◌≡◌, ℕ, ◌==◌, Bool, true, false, ◌&&◌, List, [], ◌∷◌, ◌++◌, map, if◌then◌else◌, Option, Some, None, Ok, Err}
 use Rattle.std.specs.List.{AllByRecursion}
 use Rattle.cache_heads.specs.declared.meta.CacheMeta.{CacheMeta}
 use Rattle.cache_entries.specs.declared.entry.CacheEntryKey.{CacheEntryKey}
 use Rattle.cache_entries.specs.declared.rows.Tracked.{Tracked}
-use Rattle.cache_changes.specs.Changes.{stored_key, Write, Change, Changes, begins, appends, finishes, removes, admits, uses, departs, evicts}
+use Rattle.cache_entries.specs.Entry.{key_of}
+use Rattle.cache_changes.specs.Changes.{stored_key, Write, Change, Changes, begins, appends, ends, finishes, leaves, removes, admits, uses, departs, evicts}
 use Rattle.cache_changes.specs.Writes.{bytes_of, meta_of, body_now, IsShown}
 use Rattle.cache_changes.specs.Uses.{admissions}
 use Rattle.tier_model.specs.declared.state.Body.{Body}
 use Rattle.tier_model.specs.declared.event.Action.{Action}
-use Rattle.tier_model.specs.declared.event.Action.TheVariants.{LookUp, Purge, Put}
-use Rattle.tier_model.specs.declared.event.Answer.TheVariants.{Found, Purged, Finished}
+use Rattle.tier_model.specs.declared.event.Action.TheVariants.{LookUp, Begin, Piece, Finish, Drop, Purge, Put}
+use Rattle.tier_model.specs.declared.event.Answer.TheVariants.{Found, Begun, Written, Purged, Finished}
+use Rattle.tier_model.specs.declared.event.TierFault.TheVariants.{WriteRemoved}
 use Rattle.tier_model.specs.declared.event.Done.{Done}
 use Rattle.tier_model.specs.Keys.{Entry, entry_of, alone}
-use Rattle.tier_model.specs.Calls.{Call, History, Outcome, extended, done_of, finished_by, writes_after, opened_for, hits, ends_reader}
+use Rattle.tier_model.specs.Calls.{Call, History, Outcome, extended, done_of, judged_of, finished_by, writes_after, opened_for, hits, ends_reader}
+use Rattle.tier_model.specs.Response.{Judged, kept}
 use Rattle.tier_model.specs.Rows.{FinishedBody, weight_for}
 use Rattle.tier_model.specs.State.{Settings}
 
@@ -53,9 +56,13 @@ write_of n b = record { number = n; key = stored_key b.entry; meta = kept_of b }
 abbrev pub goes : List CacheEntryKey → List (Change Kept)
 goes es = map (λ e. evicts e) es
 
+-- the entry of a finished body is admitted, and then these are evicted
+abbrev pub settles : FinishedBody → List CacheEntryKey → List (Change Kept)
+settles b gone = admits (alone b.entry) (weight_for b.body) ∷ goes gone
+
 -- a body is written whole, its entry is admitted, and then these are evicted
 abbrev pub stores : ℕ → FinishedBody → List CacheEntryKey → List (Change Kept)
-stores n b gone = begins (write_of n b) ∷ appends n b.body.bytes ∷ finishes (write_of n b) ∷ admits (alone b.entry) (weight_for b.body) ∷ goes gone
+stores n b gone = begins (write_of n b) ∷ appends n b.body.bytes ∷ finishes (write_of n b) ∷ settles b gone
 
 -- what an entry's key has is removed, and the entry departs
 abbrev pub clears : Entry → List (Change Kept)
@@ -81,15 +88,76 @@ abbrev pub look_changes : Option Entry → Changes Kept → List (Change Kept)
 look_changes None before = []
 look_changes (Some e) before = hit_changes e (body_now (stored_key e) before) before
 
-abbrev pub changes_in : ℕ → Action → Outcome → Option FinishedBody → History → Changes Kept → List (Change Kept)
-changes_in n (LookUp id) (Ok (Found fresh true)) body h before = look_changes (opened_for id h) before
-changes_in n (Purge key) (Ok (Purged true)) body h before = clears (entry_of key)
-changes_in n (Put key pieces) outcome body h before = put_changes n body outcome
-changes_in n _ _ body h before = []
+-- ---- writes that come in pieces
+
+-- the write that is begun for an entry, before which n others began, by what its head gives
+abbrev pub write_begun : ℕ → Option Entry → Option Judged → Option (Write Kept)
+write_begun n (Some e) (Some (kept meta)) = Some (record { number = n; key = stored_key e; meta = record { entry = alone e; meta = meta } })
+write_begun n _ _ = None
+
+-- the same of a begin of that request; h are the calls before it
+abbrev pub begun_by : Opening → ℕ → Call → History → Option (Write Kept)
+begun_by start id c h = write_begun (writes_begun start h) (opened_for id h) (judged_of c)
+
+-- the answer to a finish, or the fault, ended the flight of the write
+abbrev pub is_landing : Outcome → Bool
+is_landing (Ok answer) = true
+is_landing (Err WriteRemoved) = true
+is_landing (Err fault) = (done_of fault).stored
+
+abbrev pub write_after : ℕ → Option (Write Kept) → Action → Outcome → Option (Write Kept) → Option (Write Kept)
+write_after id new (Begin request head) (Ok Begun) old = if request == id then new else old
+write_after id new (Finish request) outcome old = if (request == id) && is_landing outcome then None else old
+write_after id new (Drop request) (Ok answer) old = if request == id then None else old
+write_after id new _ _ old = old
+
+-- the write of a request: it began it, and neither finished nor lost nor left it
+abbrev pub write_held : Opening → ℕ → History → Option (Write Kept)
+write_held start id [] = None
+write_held start id (c ∷ h) = write_after id (begun_by start id c h) c.event.action c.outcome (write_held start id h)
+
+abbrev pub begin_changes : Option (Write Kept) → List (Change Kept)
+begin_changes None = []
+begin_changes (Some w) = begins w ∷ []
+
+-- bytes come to a write, and after the last of them no more
+abbrev pub piece_changes : Option (Write Kept) → List ℕ → Bool → List (Change Kept)
+piece_changes None bytes last = []
+piece_changes (Some w) bytes last = appends w.number bytes ∷ (if last then ends w.number ∷ [] else [])
+
+-- the body that a write is, under its entry
+abbrev pub finished_of : Changes Kept → Write Kept → FinishedBody
+finished_of changes w = record { entry = key_of w.meta.entry; body = told_of changes w }
+
+-- a finish that is refused after the body was stored: what was done until then, and then body and entry go again
+abbrev pub settles_back : FinishedBody → Done → List (Change Kept)
+settles_back b done = (if done.admitted then settles b done.evicted else []) ++ clears b.entry
+
+-- a write is finished and its entry admitted, or it is given up, where it was removed
+abbrev pub finish_changes : Option (Write Kept) → Outcome → Changes Kept → List (Change Kept)
+finish_changes None outcome before = []
+finish_changes (Some w) (Ok (Finished length evicted)) before = finishes w ∷ settles (finished_of before w) evicted
+finish_changes (Some w) (Ok _) before = []
+finish_changes (Some w) (Err WriteRemoved) before = leaves w.number ∷ []
+finish_changes (Some w) (Err fault) before = if (done_of fault).stored then finishes w ∷ settles_back (finished_of before w) (done_of fault) else []
+
+abbrev pub drop_changes : Option (Write Kept) → List (Change Kept)
+drop_changes None = []
+drop_changes (Some w) = leaves w.number ∷ []
+
+abbrev pub changes_in : Opening → Action → Outcome → Call → History → Changes Kept → List (Change Kept)
+changes_in start (LookUp id) (Ok (Found fresh true lock)) c h before = look_changes (opened_for id h) before
+changes_in start (Begin id head) (Ok Begun) c h before = begin_changes (begun_by start id c h)
+changes_in start (Piece id bytes last) (Ok Written) c h before = piece_changes (write_held start id h) bytes last
+changes_in start (Finish id) outcome c h before = finish_changes (write_held start id h) outcome before
+changes_in start (Drop id) (Ok answer) c h before = drop_changes (write_held start id h)
+changes_in start (Purge key) (Ok (Purged true)) c h before = clears (entry_of key)
+changes_in start (Put key pieces) outcome c h before = put_changes (writes_begun start h) (finished_by c) outcome
+changes_in start _ _ c h before = []
 
 -- what a call changes, in the order in which it happens; h are the calls before it, and `before` what those changed
 abbrev pub changes_by : Opening → Call → History → Changes Kept → List (Change Kept)
-changes_by start c h before = changes_in (writes_begun start h) c.event.action c.outcome (finished_by c) h before
+changes_by start c h before = changes_in start c.event.action c.outcome c h before
 
 -- what a history changed, the latest change first. What was loaded was admitted before any call
 abbrev pub changes_of : Opening → History → Changes Kept

@@ -15,26 +15,26 @@ use Rattle.tier_model.specs.declared.report.Report.{Report}
 use Rattle.tier_model.specs.Calls.{History, Outcome, evicted_by}
 use Rattle.tier_model.specs.Histories.{Kept, Opening, changes_of}
 use Rattle.tier_model.specs.State.{State}
-use Rattle.tier_model.specs.Step.{counted}
+use Rattle.tier_model.specs.After.{counted}
 
 -- the answers counted, the bodies with their bytes, the tracked entries with their weights
 abbrev pub report_of : State → Report
 report_of s = record {
   found = s.found;
   absent = s.absent;
-  bodies = len s.bodies;
-  bytes = counted 0 (sum_by (λ b. length b.bytes) (values s.bodies));
+  bodies = len s.shelf.bodies;
+  bytes = counted 0 (sum_by (λ b. length b.bytes) (values s.shelf.bodies));
   tracked = total_items s.managed;
   weight = total_size s.managed;
   evicted = s.managed.evicted_items;
 }
 
 abbrev pub is_found : Outcome → Bool
-is_found (Ok (Found fresh complete)) = true
+is_found (Ok (Found fresh complete given)) = true
 is_found _ = false
 
 abbrev pub is_absent : Outcome → Bool
-is_absent (Ok Absent) = true
+is_absent (Ok (Absent given)) = true
 is_absent _ = false
 
 -- how many look-ups were answered found

@@ -1,5 +1,5 @@
--- What the response of a put gives at the moment at which it comes.
-use Rattle.std.specs.Prelude.{ℕ, Bool, false, List, [], codes, if◌then◌else◌, ◌||◌, Option, Some, None, pos, int_lt}
+-- What the response of a put, and the head of a begin, give at the moment at which they come.
+use Rattle.std.specs.Prelude.{◌≡◌, ◌≤◌, ℕ, Bool, true, false, List, [], length, map, codes, if◌then◌else◌, ◌||◌, Option, Some, None, pos, int_lt}
 use Rattle.std.specs.List.{flat_map}
 use Rattle.cache_words.specs.Time.{MomentValue}
 use Rattle.cache_directives.specs.Control.{named, lines_under}
@@ -9,11 +9,13 @@ use Rattle.cache_heads.specs.declared.meta.CacheMeta.{CacheMeta}
 use Rattle.cache_heads.specs.declared.reason.NoCacheReason.{NoCacheReason}
 use Rattle.cache_heads.specs.declared.reason.RespCacheable.{RespCacheable}
 use Rattle.cache_heads.specs.declared.reason.RespCacheable.TheVariants as cacheable
-use Rattle.response_parse.specs.Response.{Reading, IsReading, parsed_of}
+use Rattle.httparse.specs.Grammar.{ResponseHead, ReadsResponse, status_code}
+use Rattle.httparse.specs.Spans.{name_and_value}
+use Rattle.response_parse.specs.Response.{Reading, IsReading, is_within_bounds, parsed_of, head_of}
 use Rattle.response_parse.specs.declared.response.Parsed.{Parsed}
 use Rattle.response_parse.specs.declared.response.Parsed.TheVariants as parsed
 use Rattle.tier_model.specs.declared.event.Action.{Action}
-use Rattle.tier_model.specs.declared.event.Action.TheVariants.{Put}
+use Rattle.tier_model.specs.declared.event.Action.TheVariants.{Begin, Put}
 use Rattle.tier_model.specs.declared.whole.Whole.{Whole}
 use Rattle.tier_model.specs.declared.whole.Whole.TheVariants.{Stored, Uncacheable, Incomplete, BadHead, BeforeEpoch}
 
@@ -65,9 +67,11 @@ whole_by arrival parsed.BadHead = whole_with [] not_read
 abbrev pub whole_of : MomentValue → Reading → Whole
 whole_of arrival r = whole_by arrival (parsed_of r)
 
--- the response of a put was read, as a reading of its pieces, or was not, where memory ran out first; nothing else is read
+-- the response of a put was read, as a reading of its pieces, and the head of a begin, as one of its bytes, or neither was, where memory
+-- ran out first; nothing else is read
 abbrev pub IsRead : Action → Option Reading → Type 0
 IsRead (Put key pieces) (Some r) = IsReading (joined pieces) r
+IsRead (Begin request head) (Some r) = IsReading head r
 IsRead action None = Unit {0}
 IsRead action (Some r) = ⊥
 
@@ -75,3 +79,17 @@ IsRead action (Some r) = ⊥
 abbrev pub whole_in : MomentValue → Action → Option Reading → Option Whole
 whole_in t (Put key pieces) (Some r) = Some (whole_of t r)
 whole_in t _ _ = None
+
+abbrev pub judged_alone : MomentValue → Option ResponseHeader → Judged
+judged_alone arrival None = not_read
+judged_alone arrival (Some header) = judged arrival header
+
+-- what a begin's head gives, where it was read: the bytes are a whole head with nothing after it
+abbrev pub judged_in : MomentValue → Action → Option Reading → Option Judged
+judged_in t (Begin request head) (Some r) = Some (judged_alone t (head_of r))
+judged_in t _ _ = None
+
+-- the bytes are one head that the parser's default options read (RFC 9112), of at most 256 lines and within bounds, with nothing after it
+abbrev pub IsOneHead : List ℕ → Type 0
+IsOneHead bytes =
+    (h : ResponseHead) × ReadsResponse bytes h [] × (length h.fields ≤ 256) × (is_within_bounds (status_code h) (map name_and_value h.fields) ≡ true)

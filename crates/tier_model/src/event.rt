@@ -4,6 +4,7 @@ ghost use Rattle.std.specs.Prelude.{◌≡◌, []};
 use bytes::Bytes;
 use cache_entries::entry::CacheEntryKey;
 use cache_heads::NoCacheReason;
+use cache_lock::LockStatus;
 use cache_words::key::CacheKey;
 use cache_words::time::Moment;
 use std::alloc::Global;
@@ -19,18 +20,63 @@ pub struct Event {
 /// What is asked of a tier. A request is named by a number that the caller chooses.
 #[derive(Debug, Drop)]
 pub enum Action {
-    /// Opens a request for a key.
-    Open { request: u64, key: CacheKey },
+    /// Opens a request for a key. `lock`: where its look-ups find nothing, or something stale, it asks for the permit to write.
+    Open {
+        request: u64,
+        key: CacheKey,
+        lock: bool,
+    },
     /// Looks up what is stored for the request's key.
-    LookUp { request: u64 },
-    /// Reads on in what the last look-up found.
-    Read { request: u64 },
+    LookUp {
+        request: u64,
+    },
+    /// Asks how the wait for another's permit ended.
+    Poll {
+        request: u64,
+    },
+    /// Begins a write under the request's key, with the head of its response.
+    Begin {
+        request: u64,
+        head: Bytes,
+    },
+    /// Adds bytes to the request's write; `end`: they are its last.
+    Piece {
+        request: u64,
+        bytes: Bytes,
+        end: bool,
+    },
+    /// Ends the request's write: its bytes are a body.
+    Finish {
+        request: u64,
+    },
+    /// Reads on in what the last look-up found, or in what the request writes.
+    Read {
+        request: u64,
+    },
     /// Ends the request.
-    Drop { request: u64 },
+    Drop {
+        request: u64,
+    },
     /// Removes what is stored for a key, under whatever tag.
-    Purge { key: CacheKey },
+    Purge {
+        key: CacheKey,
+    },
     /// Stores the body of a whole response, whose bytes come in pieces.
-    Put { key: CacheKey, pieces: Pieces },
+    Put {
+        key: CacheKey,
+        pieces: Pieces,
+    },
+}
+
+/// What a look-up got of the permit to write.
+#[derive(Clone, Copy, PartialEq, Eq, Debug)]
+pub enum LockGiven {
+    /// Nothing: none was asked for.
+    None,
+    /// The permit.
+    Write,
+    /// A wait for another's permit.
+    Read,
 }
 
 /// What a tier answers to an event.
@@ -38,17 +84,32 @@ pub enum Action {
 pub enum Answer {
     Opened,
     /// Something is stored. Fresh: its moment isn't past. Complete: all of the body is there.
-    Found { fresh: bool, complete: bool },
-    Absent,
+    Found {
+        fresh: bool,
+        complete: bool,
+        lock: LockGiven,
+    },
+    Absent {
+        lock: LockGiven,
+    },
+    /// How the wait ended; none: it goes on.
+    Waited(Option<LockStatus>),
+    Begun,
+    Written,
     /// The bytes that are new to the reader; none is an answer too, of an empty body.
     Bytes(Bytes),
+    /// All that came was read, and more may come.
+    Pending,
     /// All was read.
     End,
     Dropped,
     /// Whether something was stored.
     Purged(bool),
     /// The body's length in bytes, and the entries that went to make room, in order.
-    Finished { length: usize, evicted: Entries },
+    Finished {
+        length: usize,
+        evicted: Entries,
+    },
     /// The response is whole and may not be kept.
     Uncacheable(NoCacheReason),
 }

@@ -1,19 +1,23 @@
 //! Laws over definitions alone. The functions do nothing: their contracts are the laws.
-ghost use Rattle.tier_model.specs.Calls.{History};
+ghost use Rattle.tier_model.specs.Calls.{Call, History};
+ghost use Rattle.tier_model.specs.declared.event.TierFault.{TierFault};
+ghost use Rattle.cache_lock.specs.Answers.{IsAsBefore};
+ghost use Rattle.cache_lock.specs.Waits as locks;
 ghost use Rattle.tier_model.specs.Headline.{Headline};
 ghost use Rattle.tier_model.specs.Histories.{Opening, changes_of};
+ghost use Rattle.tier_model.specs.Locks.{PermitWaits};
+ghost use Rattle.cache_changes.specs.Changes.{StoredKey};
 ghost use Rattle.cache_changes.specs.Bound.{TracksBodies};
 ghost use Rattle.cache_changes.specs.Writes.{IsFound, IsOrderly};
-ghost use Rattle.std.specs.Prelude.{◌≡◌, ◌≢◌, ℕ, List, []};
+ghost use Rattle.std.specs.Prelude.{◌≡◌, ◌≢◌, ◌↔◌, ℕ, List, [], ◌∷◌, Err};
 ghost use Rattle.tier_model.specs.declared.whole.Whole.TheVariants.{BadHead};
 ghost use Rattle.cache_words.specs.Time.{MomentValue};
-ghost use Rattle.response_parse.specs.Response.{IsWellFormed, Reading, IsReading};
-ghost use Rattle.tier_model.specs.Response.{whole_of};
+ghost use Rattle.response_parse.specs.Response.{IsWellFormed, Reading, IsReading, head_of};
+ghost use Rattle.tier_model.specs.Response.{not_read, judged_alone, whole_of, IsOneHead};
 ghost use Rattle.tier_model.specs.State.{State, shards_of};
-ghost use Rattle.tier_model.specs.Past.{HasPast, IsLawful, MatchesHistory, state_of};
 ghost use Rattle.tier_model.specs.Started.{IsNew, opening_of};
-ghost use Rattle.cache_changes.specs.Changes.{StoredKey};
 ghost use Rattle.cache_evict.specs.Managed.{IsSharded};
+ghost use Rattle.tier_model.specs.Past.{HasPast, IsLawful, MatchesHistory, state_of, lock_changes_of};
 ghost use Rattle.tier_model.specs.Reports.{IsReport, report_of};
 
 /// Whatever a tier's state allows, call by call from its opening, the headline holds of the whole history.
@@ -22,15 +26,28 @@ pub fn lawful_histories_hold_the_headline()
 {}
 
 /// The changes of such a history are orderly: writes begin, get bytes and finish in order, with a number each. And they keep
-/// each body tracked: its entry is admitted as it finishes, and departs only when the body's key has none.
+/// each body tracked: its entry is admitted as it finishes, and departs only when the body's key has none. What it changes in the
+/// lock is orderly too: permits come from the lock alone, and each is released under its own key or left.
 pub fn lawful_histories_are_orderly()
     ensures orderly { (start : Opening) (h : History) → IsLawful start h → IsOrderly (changes_of start h) }
     ensures tracks { (start : Opening) (h : History) → IsLawful start h → TracksBodies (changes_of start h) }
+    ensures locks { (start : Opening) (h : History) → IsLawful start h → locks.IsOrderly (lock_changes_of start h) }
+{}
+
+/// By the answers of such a history a permit of a key waits exactly where one waits by what was changed in the lock.
+pub fn a_permit_waits_as_the_lock_says()
+    ensures { (start : Opening) (h : History) → IsLawful start h → (k : StoredKey) → locks.Waits k (lock_changes_of start h) ↔ PermitWaits k h }
 {}
 
 /// The state after such a history is what it says.
 pub fn lawful_states_tell_their_history()
     ensures { (start : Opening) (h : History) → IsLawful start h → MatchesHistory (state_of start h) start h }
+{}
+
+/// A refused call leaves the lock as before to all who ask for one or wait, though a look-up may have been given a lock first: that is
+/// handed back.
+pub fn refused_calls_leave_the_lock()
+    ensures { (start : Opening) (c : Call) (h : History) (f : TierFault) → c.outcome ≡ Err f → IsAsBefore (state_of start (c ∷ h)).lock (state_of start h).lock }
 {}
 
 /// The report of a state that is what a history says tells of that history.
@@ -41,6 +58,11 @@ pub fn reports_tell_the_history()
 /// A response whose head the parser's default options read or begin to read, within bounds, is never a bad head.
 pub fn well_formed_responses_are_read()
     ensures { (arrival : MomentValue) (bytes : List ℕ) (r : Reading) → IsWellFormed bytes → IsReading bytes r → whole_of arrival r ≢ BadHead }
+{}
+
+/// A begin whose bytes are one head that the parser's default options read, within bounds, is never refused as a bad head.
+pub fn well_formed_heads_are_read()
+    ensures { (arrival : MomentValue) (bytes : List ℕ) (r : Reading) → IsOneHead bytes → IsReading bytes r → judged_alone arrival (head_of r) ≢ not_read }
 {}
 
 /// A tier in which no event left a trace is what an opening with its rows gives, so the headline of that opening holds of it;

@@ -4,6 +4,5 @@
 pub mod event;
 pub mod laws;
 pub mod report;
-pub mod requests;
 pub mod state;
 pub mod whole;

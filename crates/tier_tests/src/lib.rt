@@ -7,6 +7,10 @@ mod asks;
 #[cfg(test)]
 mod model;
 #[cfg(test)]
+mod outcomes;
+#[cfg(test)]
 mod refusals;
+#[cfg(test)]
+mod runs;
 #[cfg(test)]
 mod traces;

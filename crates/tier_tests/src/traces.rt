@@ -1,4 +1,5 @@
 //! Trace lines and the program that replays them.
+mod answers;
 mod lines;
 mod lockstep;
 mod options;

@@ -1,5 +1,5 @@
 -- What a line requests: the fields of its operation, or the first refusal that holds.
-use Rattle.std.specs.Prelude.{◌≡◌, ℕ, ◌^◌, pos, nat_lt, Bool, true, false, List, [], ◌∷◌, codes, if◌then◌else◌, Option, Some, None, option_map, option_and_then, unwrap_or, Result, Ok, Err, ⊤}
+use Rattle.std.specs.Prelude.{◌≡◌, ℕ, ◌^◌, pos, nat_lt, Bool, false, List, [], ◌∷◌, codes, if◌then◌else◌, Option, Some, None, option_map, option_and_then, Result, Ok, Err}
 use Rattle.std.specs.Result.{result_ok}
 use Rattle.std.specs.Str.{bytes_eq, is_utf8}
 use Rattle.hex.specs.Hex.{decode_of}
@@ -10,13 +10,13 @@ use Rattle.cache_words.specs.Time.{MomentValue, from_seconds}
 use Rattle.cache_words.specs.Key.{CacheKeyValue}
 use Rattle.tier_model.specs.declared.event.Event.{Event}
 use Rattle.tier_model.specs.declared.event.Action.{Action}
-use Rattle.tier_model.specs.declared.event.Action.TheVariants.{Open, LookUp, Read, Drop, Purge, Put}
+use Rattle.tier_model.specs.declared.event.Action.TheVariants.{Open, LookUp, Poll, Begin, Piece, Finish, Read, Drop, Purge, Put}
 use Rattle.trace_lines.specs.declared.line.Line.{Line}
 use Rattle.trace_lines.specs.declared.line.Line.TheVariants as lines
 use Rattle.trace_lines.specs.declared.line.Refusal.{Refusal}
 use Rattle.trace_lines.specs.declared.line.Refusal.TheVariants.{NotJson, NotObject, Op, Field}
 use Rattle.trace_lines.specs.declared.line.FieldName.{FieldName}
-use Rattle.trace_lines.specs.declared.line.FieldName.TheVariants.{At, Id, Key, Tag, Lock, Pieces}
+use Rattle.trace_lines.specs.declared.line.FieldName.TheVariants.{At, Id, Key, Tag, Lock, Head, Bytes, End, Pieces}
 use Rattle.trace_lines.specs.declared.line.Operation.{Operation}
 use Rattle.trace_lines.specs.declared.line.Operation.TheVariants as op
 use Rattle.trace_lines.specs.declared.line.Stop.{Stop}
@@ -32,11 +32,6 @@ Err r >>= f = Err r
 abbrev pub or_refused : {A : Type 0} → Refusal → Option A → Result A Refusal
 or_refused refusal None = Err refusal
 or_refused refusal (Some x) = Ok x
-
--- nothing more is wanted of a field than that it passes
-abbrev pub checked : FieldName → Bool → Result ⊤ Refusal
-checked field true = Ok tt
-checked field false = Err (Field field)
 
 -- a whole number from 0 to 2^64 - 1
 abbrev pub number_of : Option Data → Option ℕ
@@ -59,17 +54,14 @@ id_of d = or_refused (Field Id) (number_of (get (codes "id") d))
 abbrev pub hex_bytes : List ℕ → Option (List ℕ)
 hex_bytes text = result_ok (decode_of text)
 
--- the bytes that a key names
-abbrev pub primary_of : Data → Result (List ℕ) Refusal
-primary_of d = or_refused (Field Key) (option_and_then hex_bytes (text_of (get (codes "key") d)))
+-- the bytes that a field spells so
+abbrev pub spelled_in : FieldName → Option Data → Result (List ℕ) Refusal
+spelled_in field value = or_refused (Field field) (option_and_then hex_bytes (text_of value))
 
-abbrev pub is_false : Data → Bool
-is_false d = unwrap_or (option_map (λ flag. if flag then false else true) (as_bool d)) false
-
--- a field may be left out, or else it passes the test
-abbrev pub is_absent_or : (Data → Bool) → Option Data → Bool
-is_absent_or test None = true
-is_absent_or test (Some d) = test d
+-- true or false, and false where the field is left out
+abbrev pub flag_in : FieldName → Option Data → Result Bool Refusal
+flag_in field None = Ok false
+flag_in field (Some d) = or_refused (Field field) (as_bool d)
 
 -- any text, and the empty one where the field is left out
 abbrev pub tag_in : Option Data → Option (List ℕ)
@@ -79,15 +71,28 @@ tag_in (Some d) = as_str d
 abbrev pub tag_of : Data → Result (List ℕ) Refusal
 tag_of d = or_refused (Field Tag) (tag_in (get (codes "tag") d))
 
--- no lock
-abbrev pub lock_of : Data → Result ⊤ Refusal
-lock_of d = checked Lock (is_absent_or is_false (get (codes "lock") d))
+-- whether a request asks for the permit to write
+abbrev pub lock_of : Data → Result Bool Refusal
+lock_of d = flag_in Lock (get (codes "lock") d)
 
+-- the bytes that a key names, and its tag
 abbrev pub key_of : Data → Result CacheKeyValue Refusal
 key_of d = do
-  primary ← primary_of d
+  primary ← spelled_in Key (get (codes "key") d)
   tag ← tag_of d
   Ok (record { primary = primary; primary_bin_override = None; variance = None; user_tag = tag })
+
+-- the head of a response
+abbrev pub head_of : Data → Result (List ℕ) Refusal
+head_of d = spelled_in Head (get (codes "head") d)
+
+-- the bytes of a part of a body
+abbrev pub part_of : Data → Result (List ℕ) Refusal
+part_of d = spelled_in Bytes (get (codes "bytes") d)
+
+-- whether the part is the last
+abbrev pub end_of : Data → Result Bool Refusal
+end_of d = flag_in End (get (codes "end") d)
 
 -- the bytes of a hex text, of either case
 abbrev pub bytes_of : Data → Option (List ℕ)
@@ -103,12 +108,16 @@ pieces_of d = or_refused (Field Pieces) (option_and_then all_bytes_of (option_an
 
 abbrev pub operation_named : List ℕ → Option Operation
 operation_named name =
-    if bytes_eq name (codes "open") then Some op.Open
+    if bytes_eq name (codes "put") then Some op.Put
+    else if bytes_eq name (codes "open") then Some op.Open
     else if bytes_eq name (codes "look") then Some op.LookUp
     else if bytes_eq name (codes "read") then Some op.Read
     else if bytes_eq name (codes "drop") then Some op.Drop
+    else if bytes_eq name (codes "piece") then Some op.Piece
+    else if bytes_eq name (codes "begin") then Some op.Begin
+    else if bytes_eq name (codes "finish") then Some op.Finish
+    else if bytes_eq name (codes "poll") then Some op.Poll
     else if bytes_eq name (codes "purge") then Some op.Purge
-    else if bytes_eq name (codes "put") then Some op.Put
     else None
 
 abbrev pub operation_of : Data → Result Operation Refusal
@@ -120,10 +129,25 @@ action_of op.Open d = do
   id ← id_of d
   key ← key_of d
   lock ← lock_of d
-  Ok (Open id key)
+  Ok (Open id key lock)
 action_of op.LookUp d = do
   id ← id_of d
   Ok (LookUp id)
+action_of op.Poll d = do
+  id ← id_of d
+  Ok (Poll id)
+action_of op.Begin d = do
+  id ← id_of d
+  head ← head_of d
+  Ok (Begin id head)
+action_of op.Piece d = do
+  id ← id_of d
+  bytes ← part_of d
+  end ← end_of d
+  Ok (Piece id bytes end)
+action_of op.Finish d = do
+  id ← id_of d
+  Ok (Finish id)
 action_of op.Read d = do
   id ← id_of d
   Ok (Read id)

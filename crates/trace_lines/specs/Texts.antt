@@ -1,10 +1,14 @@
 -- The lines that are written, without the line feed that ends each.
-use Rattle.std.specs.Prelude.{ℕ, Bool, true, false, List, [], ◌∷◌, ◌++◌, length, codes, Ok, Err}
+use Rattle.std.specs.Prelude.{ℕ, Bool, true, false, List, [], ◌∷◌, ◌++◌, length, codes, Option, Some, None, Ok, Err}
 use Rattle.std.specs.Fmt.{decimal}
 use Rattle.hex.specs.Hex.{encode_lower}
 use Rattle.cache_heads.specs.Reasons.{reason_name}
+use Rattle.cache_lock.specs.declared.status.LockStatus.{LockStatus}
+use Rattle.cache_lock.specs.declared.status.LockStatus.TheVariants as status
+use Rattle.tier_model.specs.declared.event.LockGiven.{LockGiven}
+use Rattle.tier_model.specs.declared.event.LockGiven.TheVariants as lock
 use Rattle.tier_model.specs.declared.event.Answer.{Answer}
-use Rattle.tier_model.specs.declared.event.Answer.TheVariants.{Opened, Found, Absent, Bytes, End, Dropped, Purged, Finished, Uncacheable}
+use Rattle.tier_model.specs.declared.event.Answer.TheVariants as answer
 use Rattle.tier_model.specs.declared.event.TierFault.{TierFault}
 use Rattle.tier_model.specs.declared.event.TierFault.TheVariants.{NoRequest, IdInUse, WrongPhase, Waiting, AfterEnd, BadHead, WriteRemoved, BeforeEpoch, Incomplete, NumbersSpent, TooHeavy, TooLong, Memory, Folder, NoRecord}
 use Rattle.tier_model.specs.declared.report.Report.{Report}
@@ -12,7 +16,7 @@ use Rattle.tier_model.specs.Calls.{Outcome}
 use Rattle.trace_lines.specs.declared.line.Refusal.{Refusal}
 use Rattle.trace_lines.specs.declared.line.Refusal.TheVariants.{NotJson, NotObject, Op, Field}
 use Rattle.trace_lines.specs.declared.line.FieldName.{FieldName}
-use Rattle.trace_lines.specs.declared.line.FieldName.TheVariants.{At, Id, Key, Tag, Lock, Pieces}
+use Rattle.trace_lines.specs.declared.line.FieldName.TheVariants.{At, Id, Key, Tag, Lock, Head, Bytes, End, Pieces}
 
 -- a fault's number and name
 abbrev pub fault_label : TierFault → ℕ × List ℕ
@@ -40,6 +44,30 @@ abbrev pub extent_text : Bool → List ℕ
 extent_text true = codes "complete"
 extent_text false = codes "partial"
 
+abbrev pub found_text : Bool → Bool → List ℕ
+found_text fresh complete = codes "found " ++ (freshness_text fresh ++ (codes " " ++ extent_text complete))
+
+-- what was got of the permit to write
+abbrev pub lock_text : LockGiven → List ℕ
+lock_text lock.None = codes " lock=none"
+lock_text lock.Write = codes " lock=write"
+lock_text lock.Read = codes " lock=read"
+
+-- how a wait ended
+abbrev pub status_text : LockStatus → List ℕ
+status_text status.Waiting = codes "waiting"
+status_text status.Done = codes "done"
+status_text status.TransientError = codes "transient-error"
+status_text status.GiveUp = codes "give-up"
+status_text status.Dangling = codes "dangling"
+status_text status.WaitTimeout = codes "wait-timeout"
+status_text status.AgeTimeout = codes "age-timeout"
+
+-- none: it goes on
+abbrev pub waited_text : Option LockStatus → List ℕ
+waited_text None = codes "pending"
+waited_text (Some status) = codes "waited " ++ status_text status
+
 -- lower-case hex; a hyphen where there are none
 abbrev pub bytes_text : List ℕ → List ℕ
 bytes_text [] = codes "-"
@@ -50,15 +78,19 @@ purged_text true = codes "purged"
 purged_text false = codes "nothing"
 
 abbrev pub answer_text : Answer → List ℕ
-answer_text Opened = codes "opened"
-answer_text (Found fresh complete) = codes "found " ++ (freshness_text fresh ++ (codes " " ++ (extent_text complete ++ codes " lock=none")))
-answer_text Absent = codes "absent lock=none"
-answer_text (Bytes bytes) = codes "bytes " ++ bytes_text bytes
-answer_text End = codes "end"
-answer_text Dropped = codes "dropped"
-answer_text (Purged was_stored) = purged_text was_stored
-answer_text (Uncacheable reason) = codes "uncacheable " ++ reason_name reason
-answer_text (Finished size evicted) = codes "finished " ++ (decimal size ++ (codes " evicted=" ++ decimal (length evicted)))
+answer_text answer.Opened = codes "opened"
+answer_text (answer.Found fresh complete lock) = found_text fresh complete ++ lock_text lock
+answer_text (answer.Absent lock) = codes "absent" ++ lock_text lock
+answer_text (answer.Waited status) = waited_text status
+answer_text answer.Begun = codes "begun"
+answer_text answer.Written = codes "written"
+answer_text (answer.Bytes bytes) = codes "bytes " ++ bytes_text bytes
+answer_text answer.Pending = codes "pending"
+answer_text answer.End = codes "end"
+answer_text answer.Dropped = codes "dropped"
+answer_text (answer.Purged was_stored) = purged_text was_stored
+answer_text (answer.Uncacheable reason) = codes "uncacheable " ++ reason_name reason
+answer_text (answer.Finished size evicted) = codes "finished " ++ (decimal size ++ (codes " evicted=" ++ decimal (length evicted)))
 
 abbrev pub outcome_text : Outcome → List ℕ
 outcome_text (Ok answer) = answer_text answer
@@ -70,6 +102,9 @@ field_text Id = codes "id"
 field_text Key = codes "key"
 field_text Tag = codes "tag"
 field_text Lock = codes "lock"
+field_text Head = codes "head"
+field_text Bytes = codes "bytes"
+field_text End = codes "end"
 field_text Pieces = codes "pieces"
 
 abbrev pub reason_text : Refusal → List ℕ

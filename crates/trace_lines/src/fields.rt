@@ -1,6 +1,6 @@
 //! The fields of a line.
 ghost use Rattle.std.specs.Prelude.{◌≡◌, ◌++◌, map, option_map, IfOk, string_bytes};
-ghost use Rattle.trace_lines.specs.Lines.{moment_of, id_of, primary_of, tag_of, lock_of, key_of, bytes_of, all_bytes_of, pieces_of, operation_named, operation_of, IsRead, IsReadAs};
+ghost use Rattle.trace_lines.specs.Lines.{moment_of, id_of, tag_of, lock_of, key_of, head_of, part_of, end_of, spelled_in, flag_in, bytes_of, all_bytes_of, pieces_of, operation_named, operation_of, IsRead, IsReadAs};
 ghost use Rattle.trace_lines.specs.Trees.{seen, items_seen};
 
 use crate::hex_text::decode;
@@ -36,6 +36,10 @@ fn operation_named(name: &str) -> Option<Operation>
         "look" => Some(Operation::LookUp),
         "read" => Some(Operation::Read),
         "drop" => Some(Operation::Drop),
+        "piece" => Some(Operation::Piece),
+        "begin" => Some(Operation::Begin),
+        "finish" => Some(Operation::Finish),
+        "poll" => Some(Operation::Poll),
         "purge" => Some(Operation::Purge),
         _ => None,
     }
@@ -65,21 +69,9 @@ pub(crate) fn id(value: &Value<'_>) -> Result<u64, Refusal>
 pub(crate) fn key(alloc: Global, value: &Value<'_>) -> Result<CacheKey, Stop>
     ensures { IsRead result (key_of (seen value.now)) }
 {
-    let primary = primary(alloc, value)?;
+    let primary = spelled(alloc, FieldName::Key, tree::member(value, "key"))?;
     let tag = tag(alloc, value)?;
     Ok(CacheKey::new(primary, tag))
-}
-
-fn primary(alloc: Global, value: &Value<'_>) -> Result<Vec<u8>, Stop>
-    ensures { IsReadAs (λ bytes. bytes.items) result (primary_of (seen value.now)) }
-{
-    let Some(text) = tree::member(value, "key").and_then(tree::text) else {
-        return Err(Stop::Refused(Refusal::Field(FieldName::Key)));
-    };
-    match decode(alloc, text)? {
-        Some(bytes) => Ok(bytes),
-        None => Err(Stop::Refused(Refusal::Field(FieldName::Key))),
-    }
 }
 
 fn tag(alloc: Global, value: &Value<'_>) -> Result<String, Stop>
@@ -94,16 +86,62 @@ fn tag(alloc: Global, value: &Value<'_>) -> Result<String, Stop>
     }
 }
 
-// Checks that no lock is requested.
-pub(crate) fn check_lock(value: &Value<'_>) -> Result<(), Refusal>
+// Whether the request asks for the permit to write.
+pub(crate) fn lock(value: &Value<'_>) -> Result<bool, Refusal>
     ensures { result ≡ lock_of (seen value.now) }
 {
-    let Some(lock) = tree::member(value, "lock") else {
-        return Ok(());
+    flag(FieldName::Lock, tree::member(value, "lock"))
+}
+
+// The head of a response.
+pub(crate) fn head(alloc: Global, value: &Value<'_>) -> Result<Bytes, Stop>
+    ensures { IsRead result (head_of (seen value.now)) }
+{
+    shared(alloc, FieldName::Head, tree::member(value, "head"))
+}
+
+// The bytes of a part of a body.
+pub(crate) fn part(alloc: Global, value: &Value<'_>) -> Result<Bytes, Stop>
+    ensures { IsRead result (part_of (seen value.now)) }
+{
+    shared(alloc, FieldName::Bytes, tree::member(value, "bytes"))
+}
+
+// Whether the part is the last.
+pub(crate) fn end(value: &Value<'_>) -> Result<bool, Refusal>
+    ensures { result ≡ end_of (seen value.now) }
+{
+    flag(FieldName::End, tree::member(value, "end"))
+}
+
+fn flag(field: FieldName, value: Option<&Value<'_>>) -> Result<bool, Refusal>
+    ensures { result ≡ flag_in field (option_map (λ v. seen v.now) value.entry) }
+{
+    match value {
+        Some(value) => tree::flag(value).ok_or(Refusal::Field(field)),
+        None => Ok(false),
+    }
+}
+
+fn shared(alloc: Global, field: FieldName, value: Option<&Value<'_>>) -> Result<Bytes, Stop>
+    ensures { IsRead result (spelled_in field (option_map (λ v. seen v.now) value.entry)) }
+{
+    let bytes = spelled(alloc, field, value)?;
+    match Bytes::from_vec(bytes) {
+        Ok(bytes) => Ok(bytes),
+        Err(_) => Err(Stop::Memory),
+    }
+}
+
+fn spelled(alloc: Global, field: FieldName, value: Option<&Value<'_>>) -> Result<Vec<u8>, Stop>
+    ensures { IsReadAs (λ bytes. bytes.items) result (spelled_in field (option_map (λ v. seen v.now) value.entry)) }
+{
+    let Some(text) = value.and_then(tree::text) else {
+        return Err(Stop::Refused(Refusal::Field(field)));
     };
-    match tree::flag(lock) {
-        Some(false) => Ok(()),
-        _ => Err(Refusal::Field(FieldName::Lock)),
+    match decode(alloc, text)? {
+        Some(bytes) => Ok(bytes),
+        None => Err(Stop::Refused(Refusal::Field(field))),
     }
 }
 

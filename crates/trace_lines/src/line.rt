@@ -32,6 +32,9 @@ pub enum FieldName {
     Key,
     Tag,
     Lock,
+    Head,
+    Bytes,
+    End,
     Pieces,
 }
 
@@ -40,6 +43,10 @@ pub enum FieldName {
 pub enum Operation {
     Open,
     LookUp,
+    Poll,
+    Begin,
+    Piece,
+    Finish,
     Read,
     Drop,
     Purge,

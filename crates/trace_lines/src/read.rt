@@ -69,6 +69,14 @@ fn action(alloc: Global, operation: Operation, value: &Value<'_>) -> Result<Acti
         Operation::LookUp => Ok(Action::LookUp {
             request: fields::id(value)?,
         }),
+        Operation::Poll => Ok(Action::Poll {
+            request: fields::id(value)?,
+        }),
+        Operation::Begin => begin(alloc, value),
+        Operation::Piece => piece(alloc, value),
+        Operation::Finish => Ok(Action::Finish {
+            request: fields::id(value)?,
+        }),
         Operation::Read => Ok(Action::Read {
             request: fields::id(value)?,
         }),
@@ -87,8 +95,29 @@ fn open(alloc: Global, value: &Value<'_>) -> Result<Action, Stop>
 {
     let request = fields::id(value)?;
     let key = fields::key(alloc, value)?;
-    fields::check_lock(value)?;
-    Ok(Action::Open { request, key })
+    let lock = fields::lock(value)?;
+    Ok(Action::Open { request, key, lock })
+}
+
+fn begin(alloc: Global, value: &Value<'_>) -> Result<Action, Stop>
+    ensures { IsRead result (action_of Operation.Begin (seen value.now)) }
+{
+    let request = fields::id(value)?;
+    let head = fields::head(alloc, value)?;
+    Ok(Action::Begin { request, head })
+}
+
+fn piece(alloc: Global, value: &Value<'_>) -> Result<Action, Stop>
+    ensures { IsRead result (action_of Operation.Piece (seen value.now)) }
+{
+    let request = fields::id(value)?;
+    let bytes = fields::part(alloc, value)?;
+    let end = fields::end(value)?;
+    Ok(Action::Piece {
+        request,
+        bytes,
+        end,
+    })
 }
 
 fn put(alloc: Global, value: &Value<'_>) -> Result<Action, Stop>

@@ -1,13 +1,14 @@
 //! Writing a line. Each is added to what waits, with the line feed that ends it. The only error is out of memory, which leaves what waits
 //! as it was.
 ghost use Rattle.std.specs.Prelude.{◌≡◌, ◌++◌, ◌∷◌, ◌+◌, ◌≤◌, [], codes, decimal, IfOk, OnOk, OnErr, IsOk, string_bytes, vec_len, vec_capacity};
-ghost use Rattle.trace_lines.specs.Texts.{fault_label, bytes_text, answer_text, outcome_text, field_text, reason_text, refusal_text, look_ups_text, bodies_text, entries_text, report_text};
+ghost use Rattle.trace_lines.specs.Texts.{fault_label, found_text, lock_text, waited_text, bytes_text, answer_text, outcome_text, field_text, reason_text, refusal_text, look_ups_text, bodies_text, entries_text, report_text};
 
 use crate::hex_text;
 use crate::line::{FieldName, Refusal};
+use cache_lock::LockStatus;
 use itoa::Buffer;
 use std::alloc::{AllocError, Global};
-use tier_model::event::{Answer, TierFault};
+use tier_model::event::{Answer, LockGiven, TierFault};
 use tier_model::report::Report;
 
 // Room for a usual text.
@@ -57,9 +58,17 @@ fn add_answer_line(alloc: Global, out: &mut Vec<u8>, answer: &Answer) -> Result<
 {
     match answer {
         Answer::Opened => add_line(out, "opened"),
-        Answer::Found { fresh, complete } => add_line(out, found_text(*fresh, *complete)),
-        Answer::Absent => add_line(out, "absent lock=none"),
+        Answer::Found {
+            fresh,
+            complete,
+            lock,
+        } => add_look_up_line(out, found_text(*fresh, *complete), *lock),
+        Answer::Absent { lock } => add_look_up_line(out, "absent", *lock),
+        Answer::Waited(status) => add_line(out, waited_text(*status)),
+        Answer::Begun => add_line(out, "begun"),
+        Answer::Written => add_line(out, "written"),
         Answer::Bytes(bytes) => add_bytes_line(out, bytes.as_slice()),
+        Answer::Pending => add_line(out, "pending"),
         Answer::End => add_line(out, "end"),
         Answer::Dropped => add_line(out, "dropped"),
         Answer::Purged(was_stored) => {
@@ -103,13 +112,51 @@ fn add_number(out: &mut Vec<u8>, number: usize) -> Result<(), AllocError>
 }
 
 fn found_text(fresh: bool, complete: bool) -> &'static str
-    ensures { result.now ≡ answer_text (Answer.Found fresh complete) }
+    ensures { result.now ≡ found_text fresh complete }
 {
     match (fresh, complete) {
-        (true, true) => "found fresh complete lock=none",
-        (true, false) => "found fresh partial lock=none",
-        (false, true) => "found stale complete lock=none",
-        (false, false) => "found stale partial lock=none",
+        (true, true) => "found fresh complete",
+        (true, false) => "found fresh partial",
+        (false, true) => "found stale complete",
+        (false, false) => "found stale partial",
+    }
+}
+
+// Adds what a look-up found, and what it got of the lock. Both go where the line waits, as this answers each look-up.
+fn add_look_up_line(out: &mut Vec<u8>, found: &str, lock: LockGiven) -> Result<(), AllocError>
+    ensures ok { OnOk result (out.new.items ≡ out.old.items ++ ((found.now ++ lock_text lock) ++ 10 ∷ [])) }
+    ensures err { OnErr result (out.new.items ≡ out.old.items) }
+{
+    let lock = lock_text(lock);
+    out.reserve(found.len() + lock.len() + 1)?;
+    out.extend_from_slice(found.as_bytes())?;
+    out.extend_from_slice(lock.as_bytes())?;
+    out.push_reserved(b'\n');
+    Ok(())
+}
+
+fn lock_text(lock: LockGiven) -> &'static str
+    ensures { result.now ≡ lock_text lock }
+{
+    match lock {
+        LockGiven::None => " lock=none",
+        LockGiven::Write => " lock=write",
+        LockGiven::Read => " lock=read",
+    }
+}
+
+fn waited_text(status: Option<LockStatus>) -> &'static str
+    ensures { result.now ≡ waited_text status }
+{
+    match status {
+        None => "pending",
+        Some(LockStatus::Waiting) => "waited waiting",
+        Some(LockStatus::Done) => "waited done",
+        Some(LockStatus::TransientError) => "waited transient-error",
+        Some(LockStatus::GiveUp) => "waited give-up",
+        Some(LockStatus::Dangling) => "waited dangling",
+        Some(LockStatus::WaitTimeout) => "waited wait-timeout",
+        Some(LockStatus::AgeTimeout) => "waited age-timeout",
     }
 }
 
@@ -178,6 +225,9 @@ fn field_refusal_text(field: FieldName) -> &'static str
         FieldName::Key => "refused Field key",
         FieldName::Tag => "refused Field tag",
         FieldName::Lock => "refused Field lock",
+        FieldName::Head => "refused Field head",
+        FieldName::Bytes => "refused Field bytes",
+        FieldName::End => "refused Field end",
         FieldName::Pieces => "refused Field pieces",
     }
 }

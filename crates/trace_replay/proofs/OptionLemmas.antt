@@ -8,15 +8,16 @@ use Rattle.clap.specs.Walk.{Text, first_of}
 use Rattle.clap.specs.declared.parser.matches.ArgMatches.{ArgMatches}
 use Rattle.clap.proofs.OnLiterals.{clap_on_literals}
 use Rattle.clap.proofs.WalkLemmas.{first_value-rows}
-use Rattle.trace_replay.specs.CommandLine.{app, name_of, value_of, IsGiven, IsWrong, IsFirstWrong, IsFault, IsReadNumber, IsReadShards, shards_in, HasLimits}
+use Rattle.trace_replay.specs.CommandLine.{app, name_of, value_of, IsGiven, IsWrong, IsFirstWrong, IsFault, IsReadNumber, IsReadShards, shards_in}
 use Rattle.trace_replay.specs.declared.options.ShardCount.{ShardCount}
 use Rattle.std.specs.Prelude.{codes}
 use Rattle.trace_replay.specs.declared.options.OptionName.{OptionName}
+use Rattle.trace_replay.specs.declared.options.OptionName.TheVariants.{Shards}
 use Rattle.trace_replay.specs.declared.options.OptionsError.{OptionsError}
 use Rattle.trace_replay.specs.declared.options.OptionsError.TheVariants.{CommandLine, NoLimit, WrongValue, NotUtf8, Memory}
 
 app_is_simple : is_simple app ≡ true
-unfolding clap_on_literals
+unfolding clap_on_literals app
 app_is_simple = refl
 
 pub first_value-words : (id : Text) (m : ArgMatches) (words : List Text) → HasMatchesOf app words m → first_value (found_of m) id ≡ value_of id words
@@ -37,7 +38,7 @@ fault_by_words name m words (WrongValue shown error) free h first found =
 fault_by_words name m words Memory free h first none = tt
 
 pub app_is_free : is_simple_and_free app ≡ true
-unfolding clap_on_literals
+unfolding clap_on_literals app
 app_is_free = refl
 
 pub none_by_words : (id : Text) (m : ArgMatches) (words : List Text) (number : Option ℕ) → HasMatchesOf app words m
@@ -49,11 +50,11 @@ none_by_words id m words (Some n) h given other = absurd (other n refl)
 pub shards_by_words : (m : ArgMatches) (words : List Text) (count : ShardCount) → HasMatchesOf app words m → shards_in (first_value (found_of m) (codes "shards")) ≡ Some count → shards_in (value_of (codes "shards") words) ≡ Some count
 shards_by_words m words count h given = subst (λ v. shards_in v ≡ Some count) (first_value-words (codes "shards") m words h) given
 
-pub shards_fault_by_words : (m : ArgMatches) (words : List Text) (error : OptionsError) → fault_of app words ≡ [] → HasMatchesOf app words m → HasLimits words
-    → IsReadShards (first_value (found_of m) (codes "shards")) (Err error) → IsFault words error
-shards_fault_by_words m words (CommandLine error) free h limits none = absurd none
-shards_fault_by_words m words NoLimit free h limits none = absurd none
-shards_fault_by_words m words (NotUtf8 error) free h limits none = absurd none
-shards_fault_by_words m words (WrongValue shown error) free h limits found =
-    (free, subst (IsFirstWrong words) (sym found.0) (subst (λ v. shards_in v ≡ None) (first_value-words (codes "shards") m words h) found.2, limits), found.1)
-shards_fault_by_words m words Memory free h limits none = tt
+pub shards_fault_by_words : (m : ArgMatches) (words : List Text) (error : OptionsError) → fault_of app words ≡ [] → HasMatchesOf app words m
+    → (shards_in (value_of (codes "shards") words) ≡ None → IsFirstWrong words Shards) → IsReadShards (first_value (found_of m) (codes "shards")) (Err error) → IsFault words error
+shards_fault_by_words m words (CommandLine error) free h first none = absurd none
+shards_fault_by_words m words NoLimit free h first none = absurd none
+shards_fault_by_words m words (NotUtf8 error) free h first none = absurd none
+shards_fault_by_words m words (WrongValue shown error) free h first found =
+    (free, subst (IsFirstWrong words) (sym found.0) (first (subst (λ v. shards_in v ≡ None) (first_value-words (codes "shards") m words h) found.2)), found.1)
+shards_fault_by_words m words Memory free h first none = tt

@@ -33,9 +33,6 @@ use trace_lines::line::Line;
 use trace_lines::read::LineReader;
 use trace_lines::text::{add_outcome_line, add_refusal_line, add_report_line};
 
-// The age of a permit, in seconds.
-const PERMIT_AGE: u64 = 10;
-
 // From so many bytes on, answers go out even while whole lines are held.
 const MOST_WAITING: usize = 65536;
 
@@ -180,8 +177,9 @@ pub(crate) fn tier_for<const N: usize>(
     ensures past { IfOk result (λ tier. HasPast (empty_opening (settings_over N options.now)) tier []) }
 {
     let watermark = options.watermark.map(|entries| entries as usize);
-    let age = Duration::from_seconds(PERMIT_AGE);
-    Tier::with_hasher(alloc, hasher, options.limit as usize, watermark, age, None)
+    let age = Duration::from_seconds(options.age);
+    let wait = options.wait.map(Duration::from_seconds);
+    Tier::with_hasher(alloc, hasher, options.limit as usize, watermark, age, wait)
 }
 
 // The length of the next line. What is waiting goes out before the stream is read, and where it is much.

@@ -1,5 +1,5 @@
 //! Numbers by keys.
-ghost use Rattle.std.specs.Prelude.{◌≡◌, OnOk, OnErr};
+ghost use Rattle.std.specs.Prelude.{◌≡◌, ◌↔◌, IsTrue, OnOk, OnErr};
 ghost use Rattle.std.specs.FinMap as finite;
 ghost use Rattle.std.specs.Ordering.{nat_cmp};
 ghost use Rattle.std.specs.Cmp.Lexicographic.{slice_cmp};
@@ -38,6 +38,13 @@ impl<S: BuildHasher> ByKey<S> {
         ByKey {
             table: HashMap::with_hasher(alloc, hasher),
         }
+    }
+
+    // Whether no key has a number.
+    pub fn is_empty(&self) -> bool
+        ensures { IsTrue result ↔ (self.now ≡ finite.empty) }
+    {
+        self.table.is_empty()
     }
 
     // The number of a key.

@@ -1,5 +1,5 @@
 //! Values by numbers.
-ghost use Rattle.std.specs.Prelude.{◌≡◌, OnOk, OnErr, IsSome, option_copied};
+ghost use Rattle.std.specs.Prelude.{◌≡◌, ◌↔◌, IsTrue, OnOk, OnErr, IsSome, option_copied};
 ghost use Rattle.std.specs.FinMap as finite;
 ghost use Rattle.std.specs.Ordering.{nat_cmp};
 
@@ -34,6 +34,13 @@ impl<V: Drop, S: BuildHasher> ByNumber<V, S> {
         ByNumber {
             table: HashMap::with_hasher(alloc, hasher),
         }
+    }
+
+    // Whether no number has a value.
+    pub fn is_empty(&self) -> bool
+        ensures { IsTrue result ↔ (self.now ≡ finite.empty) }
+    {
+        self.table.is_empty()
     }
 
     // The value of a number.

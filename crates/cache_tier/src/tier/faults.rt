@@ -1,38 +1,12 @@
 //! What a tier tells of faults, and of puts.
 ghost use Rattle.std.specs.Prelude.{◌≡◌, IfErr};
-ghost use Rattle.tier_model.specs.Calls.{nothing_done};
-ghost use Rattle.cache_tier.specs.Acts.{fault_for};
 ghost use Rattle.cache_tier.specs.Puts.{done_as, answer_as, IsToldAs, IsTellable, IsToldOf};
 
-use cache_evict::EvictFault;
 use pingora_cache::NoCacheReason;
 use pingora_cache::put::{Done as PutDone, PutFault, PutOutcome};
 use std::alloc::Global;
 use tier_model::event::{Answer, Done, Entries, TierFault};
-
-// Nothing was done before the refusal.
-pub(super) fn nothing_done(alloc: Global) -> Done
-    ensures { result ≡ nothing_done }
-{
-    Done {
-        stored: false,
-        admitted: false,
-        evicted: Entries::new(alloc),
-    }
-}
-
-// A fault of the order of use, after what was done.
-pub(super) fn fault_for(fault: EvictFault, done: Done) -> TierFault
-    ensures { result ≡ fault_for fault done }
-{
-    match fault {
-        EvictFault::Memory(_) => TierFault::Memory(done),
-        EvictFault::Weight(_) => TierFault::TooHeavy(done),
-        EvictFault::Length(_) => TierFault::TooLong(done),
-        EvictFault::NumbersSpent(_) => TierFault::NumbersSpent(done),
-        EvictFault::File(_) => TierFault::Folder,
-    }
-}
+use tier_requests::faults::nothing_done;
 
 // What came of a put that was not refused.
 fn answer_as(outcome: PutOutcome) -> Result<Answer, TierFault>

@@ -1,71 +1,62 @@
-use Rattle.std.proofs.Common.{◌≡◌, ◌∙◌, refl, ap, sym, Some, None, max, length}
-use Rattle.std.specs.Prelude.{option_map}
-use Rattle.cache_entries.specs.Entry.{key_of}
-use Rattle.cache_changes.specs.Changes.{stored_key}
-use Rattle.tier_model.specs.Rows.{body_of, weight_for}
+use Rattle.std.proofs.Common.{◌≡◌, ℕ, ◌<◌, ◌^◌, refl, subst}
+use denote.Param.{layout, number, param}
+use mir.Syntax.{Ty}
+use prog.Memory.{size}
+use Rattle.cache_tier.specs.contracts.tier.Tier.{the_row}
+use Rattle.cache_tier.proofs.Room.{inner_room}
+use Rattle.cache_evict.specs.Managed.{total_size}
+use Rattle.tier_model.specs.declared.event.Action.TheVariants.{LookUp}
 use Rattle.tier_model.specs.State.{State}
-use Rattle.cache_tier.proofs.ShardLaws.{kept-use}
-use Rattle.cache_tier.specs.Bodies.{bodies_in, seen_of}
-use Rattle.cache_tier.specs.declared.bodies.Seen.{Seen}
-use Rattle.tier_model.specs.declared.state.Body.{Body}
-use Rattle.cache_tier.proofs.UseLaws.{max_twice, unseen, is-seen, look-absent, look-none, look-found, look-allowed, look-refused, no_weight}
+use Rattle.tier_requests.specs.Shelves.{shelf_of}
+use Rattle.tier_requests.specs.Looks.{Lent, lent}
+use Rattle.cache_tier.specs.States.{state_by}
+use Rattle.cache_tier.specs.Acts.{Took}
+use Rattle.cache_tier.specs.Counts.{found_after, absent_after}
+use Rattle.cache_tier.proofs.TookLaws.{Took-to}
+use Rattle.cache_tier.proofs.LookLaws.{Took-look, looked_to}
+use Rattle.cache_tier.proofs.KeptState.{kept-took}
 use Rattle.cache_tier.proofs.tier.Tier.look_up.Goals as goal
 
-pub returns-in_default-found-clause-after : goal.returns-in_default-found-clause-after
-returns-in_default-found-clause-after g c =
-    let q = c.in-Some.request.now in
-    let looked : c.in-Ok.found ≡ option_map seen_of (body_of (stored_key (key_of q.entry)) (bodies_in c.self.inside.parts.store.store.bodies)) = rw (c.stored_key.ensures, c.key.ensures) at c.in-Ok.ensures.found in
-    let none : None ≡ body_of (stored_key (key_of q.entry)) (bodies_in c.self.inside.parts.store.store.bodies) = unseen _ (sym c.in_default-found.is ∙ looked) in
-    let handed = (c.update-old.ensures.some q (sym c.in-Some.ensures)).1 in
-    rw (← c.self.view_is) (look-absent _ c.args.moment c.args.id q c.in-Some.ensures _ none (rw (handed, c.saturating_add-self-inside.ensures) refl))
+pub look_up-outcome-requires-room-E-EvictionManager : goal.look_up-outcome-requires-room-E-EvictionManager
+look_up-outcome-requires-room-E-EvictionManager g c κs within =
+    let tier : Ty = layout (the_row (param 0 (number g.row.N)) (param 1 g.row.S) (param 2 g.row.S-Hasher) g.S.BuildHasher g.S.Hasher.Hasher) in
+    let room : size tier < 2 ^ 63 = assumption in
+    inner_room tier 2 1 _ _ refl _ _ refl room
 
-pub returns-in_default-found-clause-allowed : goal.returns-in_default-found-clause-allowed
-returns-in_default-found-clause-allowed g c =
-    let q = c.in-Some.request.now in
-    let s : State = record { managed = c.self.inside.parts.manager; age = c.self.inside.age; wait = c.self.inside.wait; bodies = bodies_in c.self.inside.parts.store.store.bodies; requests = c.self.inside.requests; found = c.self.inside.found; absent = c.self.inside.absent; writes = c.self.inside.parts.store.next } in
-    let looked : c.in-Ok.found ≡ option_map seen_of (body_of (stored_key (key_of q.entry)) (bodies_in c.self.inside.parts.store.store.bodies)) = rw (c.stored_key.ensures, c.key.ensures) at c.in-Ok.ensures.found in
-    let none : None ≡ body_of (stored_key (key_of q.entry)) (bodies_in c.self.inside.parts.store.store.bodies) = unseen _ (sym c.in_default-found.is ∙ looked) in
-    rw (← c.self.view_is) (look-none s c.args.moment c.args.id q c.in-Some.ensures none)
+pub total_size-size-requires : goal.total_size-size-requires
+total_size-size-requires g c =
+    let tier : Ty = layout (the_row (param 0 (number g.row.N)) (param 1 g.row.S) (param 2 g.row.S-Hasher) g.S.BuildHasher g.S.Hasher.Hasher) in
+    let room : size tier < 2 ^ 63 = assumption in
+    inner_room tier 2 1 _ _ refl _ _ refl room
 
-pub invariant_of-self-in-Err : goal.invariant_of-self-in-Err
-invariant_of-self-in-Err g c = (rw c.in-Err.ensures.err c.self.invariant.0, c.self.invariant.1)
+pub invariant_of-self : goal.invariant_of-self
+invariant_of-self g c =
+    let i = c.self.inside in
+    let s : State = state_by i.parts.manager i.wait (shelf_of i.parts.store) i.parts.lock i.requests i.found i.absent in
+    let n = c.look_up-outcome.new in
+    let all : Lent = lent (shelf_of n.parts.store) n.parts.manager n.parts.lock in
+    let o = c.look_up-outcome.result in
+    let t = c.args.moment in
+    let to : State = looked_to s t c.args.id n.self all (found_after o i.found) (absent_after o i.absent) in
+    let left : State = state_by n.parts.manager i.wait (shelf_of n.parts.store) n.parts.lock n.self c.found_after-self-inside.result c.absent_after-self-inside.result in
+    let is : left ≡ to =
+    λ j. state_by n.parts.manager i.wait (shelf_of n.parts.store) n.parts.lock n.self (c.found_after-self-inside.ensures j) (c.absent_after-self-inside.ensures j) in
+    let small : total_size n.parts.manager < 2 ^ 64 = subst (λ (x : ℕ). x < 2 ^ 64) c.total_size-size.ensures c.total_size-size.type_inv in
+    let took : Took s t (LookUp c.args.id) o left = Took-to s t (LookUp c.args.id) o to left is (Took-look s t c.args.id g.row.N c.self.invariant.0 o n.self all small c.look_up-outcome.ensures.answer) in
+    kept-took g.row.N s t (LookUp c.args.id) o left c.self.invariant took
 
-pub invariant_of-self-2 : goal.invariant_of-self-2
-invariant_of-self-2 g c = (rw c.in_default-access.ensures.ok (kept-use g.row.N c.self.inside.parts.manager c.self.invariant.0 _ _), c.self.invariant.1)
-
-pub returns-in-Err-clause-allowed : goal.returns-in-Err-clause-allowed
-returns-in-Err-clause-allowed g c =
-    let q = c.in-Some.request.now in
-    let s : State = record { managed = c.self.inside.parts.manager; age = c.self.inside.age; wait = c.self.inside.wait; bodies = bodies_in c.self.inside.parts.store.store.bodies; requests = c.self.inside.requests; found = c.self.inside.found; absent = c.self.inside.absent; writes = c.self.inside.parts.store.next } in
-    let looked : c.in-Ok.found ≡ option_map seen_of (body_of (stored_key (key_of q.entry)) (bodies_in c.self.inside.parts.store.store.bodies)) = rw (c.stored_key.ensures, c.key.ensures) at c.in-Ok.ensures.found in
-    let saw = is-seen c.in-Some-found.body (body_of (stored_key (key_of q.entry)) (bodies_in c.self.inside.parts.store.store.bodies)) (sym c.in-Some-found.is ∙ looked) in
-    let b : Body = saw.0 in
-    let weight : max c.weight_for-weight.result 1 ≡ max 1 (length c.in-Some-found.body.bytes) = rw c.weight_for-weight.ensures (max_twice _) in
-    let weighs : max c.weight_for-weight.result 1 ≡ weight_for b = weight ∙ ap (λ (x : Seen). max 1 (length x.bytes)) saw.2 in
-    rw (← c.self.view_is) (look-refused s c.args.moment c.args.id q c.in-Some.ensures g.row.N (max c.weight_for-weight.result 1) b c.in-Some-found.body saw.2 c.self.invariant.0 weighs saw.1 c.in-Err.fault c.fault_for.result
-    (no_weight _ c.in-Err.ensures.tracked) c.in-Err.ensures.refused (rw c.nothing_done-in-Err.ensures at c.fault_for.ensures))
-
-pub returns-clause-allowed : goal.returns-clause-allowed
-returns-clause-allowed g c =
-    let q = c.in-Some.request.now in
-    let s : State = record { managed = c.self.inside.parts.manager; age = c.self.inside.age; wait = c.self.inside.wait; bodies = bodies_in c.self.inside.parts.store.store.bodies; requests = c.self.inside.requests; found = c.self.inside.found; absent = c.self.inside.absent; writes = c.self.inside.parts.store.next } in
-    let looked : c.in-Ok.found ≡ option_map seen_of (body_of (stored_key (key_of q.entry)) (bodies_in c.self.inside.parts.store.store.bodies)) = rw (c.stored_key.ensures, c.key.ensures) at c.in-Ok.ensures.found in
-    let saw = is-seen c.in-Some-found.body (body_of (stored_key (key_of q.entry)) (bodies_in c.self.inside.parts.store.store.bodies)) (sym c.in-Some-found.is ∙ looked) in
-    let b : Body = saw.0 in
-    let weight : max c.weight_for-weight.result 1 ≡ max 1 (length c.in-Some-found.body.bytes) = rw c.weight_for-weight.ensures (max_twice _) in
-    let weighs : max c.weight_for-weight.result 1 ≡ weight_for b = weight ∙ ap (λ (x : Seen). max 1 (length x.bytes)) saw.2 in
-    rw (← c.self.view_is) (look-allowed s c.args.moment c.args.id q c.in-Some.ensures g.row.N (max c.weight_for-weight.result 1) b c.in-Some-found.body saw.2 c.self.invariant.0 weighs saw.1 c.access.new.self c.is_at_most-fresh.result
-    c.in_default-access.ensures.ok (rw (← c.total_size-size.ensures) c.total_size-size.type_inv) c.is_at_most-fresh.ensures)
-
-pub returns-clause-after : goal.returns-clause-after
-returns-clause-after g c =
-    let q = c.in-Some.request.now in
-    let s : State = record { managed = c.self.inside.parts.manager; age = c.self.inside.age; wait = c.self.inside.wait; bodies = bodies_in c.self.inside.parts.store.store.bodies; requests = c.self.inside.requests; found = c.self.inside.found; absent = c.self.inside.absent; writes = c.self.inside.parts.store.next } in
-    let looked : c.in-Ok.found ≡ option_map seen_of (body_of (stored_key (key_of q.entry)) (bodies_in c.self.inside.parts.store.store.bodies)) = rw (c.stored_key.ensures, c.key.ensures) at c.in-Ok.ensures.found in
-    let saw = is-seen c.in-Some-found.body (body_of (stored_key (key_of q.entry)) (bodies_in c.self.inside.parts.store.store.bodies)) (sym c.in-Some-found.is ∙ looked) in
-    let b : Body = saw.0 in
-    let weight : max c.weight_for-weight.result 1 ≡ max 1 (length c.in-Some-found.body.bytes) = rw c.weight_for-weight.ensures (max_twice _) in
-    let weighs : max c.weight_for-weight.result 1 ≡ weight_for b = weight ∙ ap (λ (x : Seen). max 1 (length x.bytes)) saw.2 in
-    let handed = (c.update-old-2.ensures.some q (sym c.in-Some.ensures)).1 in
-    rw (← c.self.view_is) (look-found s c.args.moment c.args.id q c.in-Some.ensures g.row.N (max c.weight_for-weight.result 1) b c.in-Some-found.body saw.2 c.self.invariant.0 weighs saw.1 _ c.access.new.self c.is_at_most-fresh.result
-    c.in_default-access.ensures.ok c.is_at_most-fresh.ensures (rw (handed, c.phase_by.ensures, c.saturating_add-self-inside-2.ensures) refl))
+pub returns : goal.returns
+returns g c =
+    let i = c.self.inside in
+    let s : State = state_by i.parts.manager i.wait (shelf_of i.parts.store) i.parts.lock i.requests i.found i.absent in
+    let n = c.look_up-outcome.new in
+    let all : Lent = lent (shelf_of n.parts.store) n.parts.manager n.parts.lock in
+    let o = c.look_up-outcome.result in
+    let t = c.args.moment in
+    let to : State = looked_to s t c.args.id n.self all (found_after o i.found) (absent_after o i.absent) in
+    let left : State = state_by n.parts.manager i.wait (shelf_of n.parts.store) n.parts.lock n.self c.found_after-self-inside.result c.absent_after-self-inside.result in
+    let is : left ≡ to =
+    λ j. state_by n.parts.manager i.wait (shelf_of n.parts.store) n.parts.lock n.self (c.found_after-self-inside.ensures j) (c.absent_after-self-inside.ensures j) in
+    let small : total_size n.parts.manager < 2 ^ 64 = subst (λ (x : ℕ). x < 2 ^ 64) c.total_size-size.ensures c.total_size-size.type_inv in
+    let took : Took s t (LookUp c.args.id) o left = Took-to s t (LookUp c.args.id) o to left is (Took-look s t c.args.id g.row.N c.self.invariant.0 o n.self all small c.look_up-outcome.ensures.answer) in
+    rw (← c.self.view_is) took

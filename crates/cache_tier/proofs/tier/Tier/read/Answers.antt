@@ -1,27 +1,25 @@
-use Rattle.std.proofs.Common.{◌≡◌, refl, sym, ap, ◌∙◌}
-use Rattle.tier_model.specs.declared.state.Reader.{Reader}
-use Rattle.tier_model.specs.Step.{read_answer}
-use Rattle.cache_tier.proofs.UseLaws.{read-after}
+use Rattle.std.proofs.Common.{◌≡◌, ap, sym, ◌∙◌, true, false}
+use Rattle.std.specs.Prelude.{Ok, Err}
+use Rattle.tier_model.specs.declared.event.Action.TheVariants.{Read}
+use Rattle.tier_model.specs.State.{State}
+use Rattle.tier_requests.specs.Shelves.{shelf_of}
+use Rattle.cache_tier.specs.States.{state_by}
+use Rattle.cache_tier.proofs.TookLaws.{some_moment}
+use Rattle.cache_tier.proofs.ReadLaws.{Took-read}
+use Rattle.cache_tier.proofs.KeptState.{kept-took}
 use Rattle.cache_tier.proofs.tier.Tier.read.Goals as goal
 
--- an open request's reader is handed back
-pub returns-in_default-update-clause-allowed : goal.returns-in_default-update-clause-allowed
-returns-in_default-update-clause-allowed g c =
-    let handed = (c.update.ensures.some c.in-Some.request.now (sym c.in-Some.ensures)).0 in
-    absurd cc
+pub invariant_of-self : goal.invariant_of-self
+invariant_of-self g c =
+    let i = c.self.inside in
+    let s : State = state_by i.parts.manager i.wait (shelf_of i.parts.store) i.parts.lock i.requests i.found i.absent in
+    let left : State = state_by i.parts.manager i.wait (shelf_of i.parts.store) i.parts.lock c.read.new.self i.found i.absent in
+    kept-took g.row.N s some_moment (Read c.args.id) c.read.result left c.self.invariant
+    (Took-read s some_moment c.args.id c.read.result c.read.new.self c.read.ensures)
 
-pub returns-in_default-update-clause-after : goal.returns-in_default-update-clause-after
-returns-in_default-update-clause-after g c =
-    let handed = (c.update.ensures.some c.in-Some.request.now (sym c.in-Some.ensures)).0 in
-    absurd cc
-
-pub returns-clause-allowed : goal.returns-clause-allowed
-returns-clause-allowed g c =
-    let handed = (c.update.ensures.some c.in-Some.request.now (sym c.in-Some.ensures)).0 in
-    let reader : c.in-Some-update.reader ≡ c.in-Some.request.now.reader = cc in
-    rw (← c.self.view_is, ← c.in-Some.ensures) (c.read_answer.ensures ∙ ap (λ (r : Reader). read_answer r) reader)
-
-pub returns-clause-after : goal.returns-clause-after
-returns-clause-after g c =
-    let handed = (c.update.ensures.some c.in-Some.request.now (sym c.in-Some.ensures)).1 in
-    rw (← c.self.view_is) (read-after _ c.args.moment c.args.id c.in-Some.request.now c.in-Some.ensures _ (rw handed refl))
+pub returns : goal.returns
+returns g c = λ t.
+    let i = c.self.inside in
+    let s : State = state_by i.parts.manager i.wait (shelf_of i.parts.store) i.parts.lock i.requests i.found i.absent in
+    let left : State = state_by i.parts.manager i.wait (shelf_of i.parts.store) i.parts.lock c.read.new.self i.found i.absent in
+    rw (← c.self.view_is) (Took-read s t c.args.id c.read.result c.read.new.self c.read.ensures)

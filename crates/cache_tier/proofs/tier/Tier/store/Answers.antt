@@ -1,5 +1,5 @@
 use Rattle.std.proofs.Common.{refl}
-use Rattle.cache_tier.proofs.ShelfLaws.{shows-bodies}
+use Rattle.cache_tier.proofs.BodyRows.{shows-bodies}
 use Rattle.cache_tier.proofs.tier.Tier.store.Goals as goal
 
 pub returns-clause-bodies : goal.returns-clause-bodies

@@ -1,0 +1,71 @@
+//! The head of a stale response that upstream confirms.
+ghost use Rattle.std.specs.Prelude.{◌≡◌, IsTrue, IfOk, OnOk};
+ghost use Rattle.http_header.specs.FieldName.{is_field_name};
+ghost use Rattle.http_header.specs.HeaderMap.{append, get_all};
+ghost use Rattle.http_header.specs.Token.{lowercase};
+ghost use Rattle.request_store.specs.Merges.{with_values, merged};
+
+use cache_heads::CacheMeta;
+use cache_heads::meta::ResponseHeader;
+use http_header::{HeaderMap, HeaderMapError, HeaderValue};
+
+// Adds a copy of a value to those under a name.
+fn append_copy(
+    headers: &mut HeaderMap,
+    name: &'static str,
+    value: &HeaderValue,
+) -> Result<(), HeaderMapError>
+    requires { IsTrue (is_field_name name.now) }
+    ensures { OnOk result (headers.new ≡ append headers.old (lowercase name.now) value.now) }
+{
+    let Ok(value) = value.clone() else {
+        return Err(HeaderMapError::OutOfMemory);
+    };
+    headers.append(name, value)?;
+    Ok(())
+}
+
+// Puts copies of the values that were sent under a name in the place of those before, if any were sent.
+fn put_values(
+    headers: &mut HeaderMap,
+    sent: &HeaderMap,
+    name: &'static str,
+) -> Result<(), HeaderMapError>
+    requires { IsTrue (is_field_name name.now) }
+    ensures { OnOk result (headers.new ≡ with_values (lowercase name.now) (get_all sent.now (lowercase name.now)) headers.old) }
+{
+    let mut values = sent.get_all(name).iter();
+    let Some(first) = values.next() else {
+        return Ok(());
+    };
+    let Ok(first) = first.clone() else {
+        return Err(HeaderMapError::OutOfMemory);
+    };
+    headers.insert(name, first)?;
+    for value in values {
+        append_copy(headers, name, value)?;
+    }
+    Ok(())
+}
+
+/// Returns the head of a stale response with the fields that the response sent which confirms it.
+///
+/// # Errors
+///
+/// Out of memory, or the head has more names than it can count.
+pub fn merged_head(
+    meta: &CacheMeta,
+    sent: &ResponseHeader,
+) -> Result<ResponseHeader, HeaderMapError>
+    ensures { IfOk result (λ header. header ≡ merged meta.now.header sent.now) }
+{
+    let Ok(mut header) = meta.response_header_copy() else {
+        return Err(HeaderMapError::OutOfMemory);
+    };
+    put_values(&mut header.headers, &sent.headers, "cache-control")?;
+    put_values(&mut header.headers, &sent.headers, "expires")?;
+    put_values(&mut header.headers, &sent.headers, "cache-tag")?;
+    put_values(&mut header.headers, &sent.headers, "cdn-cache-control")?;
+    put_values(&mut header.headers, &sent.headers, "etag")?;
+    Ok(header)
+}

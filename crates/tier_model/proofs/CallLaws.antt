@@ -1,0 +1,267 @@
+-- What a call does to open requests: to the one that it names, and nothing to the others.
+use Rattle.std.proofs.Common.{◌≡◌, ℕ, refl, ap, sym, ◌∙◌, true, false, cond, [], ◌==◌}
+use Rattle.std.specs.Prelude.{Bool, Option, Some, None, option_map, Ok, Err, ◌&&◌}
+use Rattle.std.specs.FinMap.{FinMap, get, insert, remove, get-insert, get-remove}
+use Rattle.std.specs.Ordering.{nat_cmp}
+use Rattle.std.specs.Cmp.{unsigned_tied}
+use Rattle.std.proofs.lemmas.Cmp.{nat_cmp_total, eq_by_cmp_equiv}
+use Rattle.std.proofs.lemmas.Bool.{eqb-true, eq-eqb}
+use Rattle.cache_words.specs.Time.{MomentValue}
+use Rattle.cache_words.specs.Key.{CacheKeyValue}
+use Rattle.cache_changes.specs.Changes.{Write}
+use Rattle.response_parse.specs.Response.{Reading}
+use Rattle.tier_model.specs.declared.event.Action.{Action}
+use Rattle.tier_model.specs.declared.event.Action.TheVariants.{Open, LookUp, Poll, Begin, Piece, Finish, Read, Drop, Purge, Put}
+use Rattle.tier_model.specs.declared.event.Answer.{Answer}
+use Rattle.tier_model.specs.declared.event.Answer.TheVariants.{Opened, Found, Absent, Waited, Begun, Dropped, Finished}
+use Rattle.tier_model.specs.declared.event.Answer.TheVariants as answer
+use Rattle.tier_model.specs.declared.event.Done.{Done}
+use Rattle.tier_model.specs.declared.event.TierFault.{TierFault}
+use Rattle.tier_model.specs.Keys.{Entry, entry_of, stored_key_of}
+use Rattle.tier_model.specs.Shelf.{is_there, look}
+use Rattle.tier_model.specs.Calls.{Call, Outcome, done_of, judged_of, finished_by, entry_after, asks_after, is_end_of_reader, bytes_given, bytes_answered}
+use Rattle.tier_model.specs.Histories.{Kept, is_landing, write_after}
+use Rattle.tier_model.specs.Response.{Judged, kept}
+use Rattle.tier_model.specs.Rows.{FinishedBody}
+use Rattle.tier_model.specs.Own.{Own, own_opened, own_looked, own_polled, own_begun, phase_found, phase_absent, reads_found, no_reader, as_it_comes, reads_on, own_after}
+use Rattle.tier_model.specs.State.{begun, disabled, nothing, closed, Request, State}
+use Rattle.tier_model.specs.Answers.{look_for, finishing}
+use Rattle.tier_model.specs.After.{by_request, on_request, with_request, opened_request, looked, after_look, after_wait, after_begin, writing, after_flight, on_write, pieced, after_put}
+use Rattle.tier_model.specs.After.{after_finish, finished_state, taken_back, undone, after_purge, without_request, read_on, answered, refused, after_outcome, after}
+
+-- a call by its parts: a reading of its response or head, whether a write began, and whether a lock was given
+pub record Inside : Type 0 where
+  pub reading : Option Reading
+  pub began : Bool
+  pub asked : Bool
+
+abbrev pub call_at : MomentValue → Action → Inside → Outcome → Call
+call_at t action i outcome = record { event = record { moment = t; action = action }; outcome = outcome; reading = i.reading; began = i.began; asked = i.asked }
+
+-- the request that an event names
+abbrev pub named_by : Action → Option ℕ
+named_by (Open id key asks) = Some id
+named_by (LookUp id) = Some id
+named_by (Poll id) = Some id
+named_by (Begin id head) = Some id
+named_by (Piece id bytes last) = Some id
+named_by (Finish id) = Some id
+named_by (Read id) = Some id
+named_by (Drop id) = Some id
+named_by (Purge key) = None
+named_by (Put key pieces) = None
+
+abbrev pub is_named : ℕ → Option ℕ → Bool
+is_named id None = false
+is_named id (Some r) = r == id
+
+pub itself : (i : ℕ) → (i == i) ≡ true
+itself i = eq-eqb i i refl
+
+-- ---- nothing of another request changes
+
+-- the words on a request's calls leave what another's call finds
+pub record IsOther (id : ℕ) (t : MomentValue) (action : Action) (o : Outcome) : Type 0 where
+  pub key : (old : Option Entry) → entry_after id action o old ≡ old
+  pub asks : (old : Bool) → asks_after id action o old ≡ old
+  pub write : (new old : Option (Write Kept)) → write_after id new action o old ≡ old
+  pub own : (old : Own) → own_after id t action o old ≡ old
+  pub reader : is_end_of_reader id action o ≡ false
+  pub bytes : bytes_given id action o ≡ []
+
+other_key : (id : ℕ) (action : Action) (o : Outcome) (old : Option Entry) → is_named id (named_by action) ≡ false → entry_after id action o old ≡ old
+other_key id (Open r key asks) (Ok Opened) old e = ap (λ v. cond v (Some (entry_of key)) old) e
+other_key id (Drop r) (Ok Dropped) old e = ap (λ v. cond v None old) e
+other_key id _ _ old e = refl
+
+other_asks : (id : ℕ) (action : Action) (o : Outcome) (old : Bool) → is_named id (named_by action) ≡ false → asks_after id action o old ≡ old
+other_asks id (Open r key asks) (Ok Opened) old e = ap (λ v. cond v asks old) e
+other_asks id _ _ old e = refl
+
+other_write : (id : ℕ) (action : Action) (o : Outcome) (new old : Option (Write Kept)) → is_named id (named_by action) ≡ false → write_after id new action o old ≡ old
+other_write id (Begin r head) (Ok Begun) new old e = ap (λ v. cond v new old) e
+other_write id (Finish r) o new old e = ap (λ v. cond (v && is_landing o) None old) e
+other_write id (Drop r) (Ok a) new old e = ap (λ v. cond v None old) e
+other_write id _ _ new old e = refl
+
+other_own : (id : ℕ) (t : MomentValue) (action : Action) (o : Outcome) (old : Own) → is_named id (named_by action) ≡ false → own_after id t action o old ≡ old
+other_own id t (Open r key asks) (Ok Opened) old e = ap (λ v. cond v (own_opened asks) old) e
+other_own id t (LookUp r) (Ok (Found fresh complete given)) old e = ap (λ v. cond v (own_looked (phase_found fresh) (reads_found complete) given old) old) e
+other_own id t (LookUp r) (Ok (Absent given)) old e = ap (λ v. cond v (own_looked (phase_absent given old.phase) no_reader given old) old) e
+other_own id t (Poll r) (Ok (Waited outcome)) old e = ap (λ v. cond v (own_polled t outcome old.hold old) old) e
+other_own id t (Begin r head) (Ok Begun) old e = ap (λ v. cond v (own_begun begun as_it_comes old) old) e
+other_own id t (Begin r head) (Ok (answer.Uncacheable reason)) old e = ap (λ v. cond v (own_begun disabled no_reader old) old) e
+other_own id t (Read r) (Ok a) old e = ap (λ v. cond v (record old { reads = reads_on old.reads }) old) e
+other_own id t _ _ old e = refl
+
+other_reader : (id : ℕ) (action : Action) (o : Outcome) → is_named id (named_by action) ≡ false → is_end_of_reader id action o ≡ false
+other_reader id (LookUp r) (Ok a) e = e
+other_reader id (Begin r head) (Ok a) e = e
+other_reader id (Drop r) (Ok a) e = e
+other_reader id _ _ e = refl
+
+other_bytes : (id : ℕ) (action : Action) (o : Outcome) → is_named id (named_by action) ≡ false → bytes_given id action o ≡ []
+other_bytes id (Read r) (Ok a) e = ap (λ v. cond v (bytes_answered a) []) e
+other_bytes id _ _ e = refl
+
+pub other-call : (id : ℕ) (t : MomentValue) (action : Action) (o : Outcome) → is_named id (named_by action) ≡ false → IsOther id t action o
+other-call id t action o e = record {
+  key = λ old. other_key id action o old e;
+  asks = λ old. other_asks id action o old e;
+  write = λ new old. other_write id action o new old e;
+  own = λ old. other_own id t action o old e;
+  reader = other_reader id action o e;
+  bytes = other_bytes id action o e;
+}
+
+-- ---- the request that is named
+
+abbrev pub begin_turn : State → Option Judged → Request → Request
+begin_turn s (Some (kept meta)) q = writing s.shelf.writes q
+begin_turn s _ q = record q { phase = disabled; held = nothing; reader = closed }
+
+abbrev pub land_turn : Bool → Request → Request
+land_turn true q = record q { write = None }
+land_turn false q = q
+
+abbrev pub read_turn : Answer → Request → Request
+read_turn a q = record q { reader = read_on a q.reader }
+
+-- what a call makes of the request that it names
+abbrev pub turn : State → MomentValue → Action → Option Judged → Outcome → Option Request → Option Request
+turn s t (Open id key asks) j (Ok a) o = Some (opened_request s.wait (entry_of key) asks)
+turn s t (LookUp id) j (Ok a) o = option_map (λ q. looked t q (look_for q s.shelf) s.lock) o
+turn s t (Poll id) j (Ok (Waited outcome)) o = option_map (λ q. after_wait t outcome q.held q) o
+turn s t (Begin id head) j (Ok a) o = option_map (begin_turn s j) o
+turn s t (Finish id) j outcome o = option_map (land_turn (is_landing outcome)) o
+turn s t (Read id) j (Ok a) o = option_map (read_turn a) o
+turn s t (Drop id) j (Ok a) o = None
+turn s t _ j _ o = o
+
+pub at-insert : {X : Type 0} (m : FinMap nat_cmp X) (i : ℕ) (q : X) (id : ℕ) → get (insert m i q) id ≡ cond (i == id) (Some q) (get m id)
+at-insert m i q id = get-insert nat_cmp_total m i q id ∙ ap (λ t. cond t (Some q) (get m id)) ((eq_by_cmp_equiv nat_cmp_total).symm id i ∙ unsigned_tied i id)
+
+pub at-remove : {X : Type 0} (m : FinMap nat_cmp X) (i : ℕ) (id : ℕ) → get (remove m i) id ≡ cond (i == id) None (get m id)
+at-remove m i id = get-remove nat_cmp_total m i id ∙ ap (λ t. cond t None (get m id)) ((eq_by_cmp_equiv nat_cmp_total).symm id i ∙ unsigned_tied i id)
+
+-- what stores a body or takes it back leaves the requests alone
+put_requests : (s : State) (b : Option FinishedBody) (a : Answer) → (after_put s b a).requests ≡ s.requests
+put_requests s (Some b) (Finished n es) = refl
+put_requests s (Some b) _ = refl
+put_requests s None a = refl
+
+back_requests : (v : Bool) (s : State) (b : FinishedBody) (done : Done) → (taken_back v s b done).requests ≡ s.requests
+back_requests false s b done = refl
+back_requests true s b done = refl
+
+undone_requests : (s : State) (b : Option FinishedBody) (done : Done) → (undone s b done).requests ≡ s.requests
+undone_requests s (Some b) done = back_requests done.stored s b done
+undone_requests s None done = refl
+
+finish_requests : (s : State) (b : Option FinishedBody) (o : Outcome) → (after_finish s b o).requests ≡ s.requests
+finish_requests s b (Ok a) = put_requests s b a
+finish_requests s b (Err f) = undone_requests s b (done_of f)
+
+purge_requests : (s : State) (key : CacheKeyValue) (v : Bool) → (after_purge s key v).requests ≡ s.requests
+purge_requests s key false = refl
+purge_requests s key true = refl
+
+-- the requests after a call: the one that is named turns, the others stay
+abbrev Turned : State → MomentValue → Action → Option Judged → Outcome → ℕ → State → Type 0
+Turned s t action j o id new = get new.requests id ≡ cond (is_named id (named_by action)) (turn s t action j o (get s.requests id)) (get s.requests id)
+
+same_either : (v : Bool) (o : Option Request) → o ≡ cond v o o
+same_either true o = refl
+same_either false o = refl
+
+-- an event of an open request that writes another in its place
+placed : (s : State) (r id : ℕ) (f : Request → Request) (o : Option Request) → get s.requests r ≡ o
+    → get (by_request s o (λ q. with_request r (f q) s)).requests id ≡ cond (r == id) (option_map f (get s.requests id)) (get s.requests id)
+placed s r id f None e = by_id (r == id) refl
+  where
+    by_id : (v : Bool) → (r == id) ≡ v → get s.requests id ≡ cond v (option_map f (get s.requests id)) (get s.requests id)
+    by_id true same =
+        let none : get s.requests id ≡ None = ap (get s.requests) (sym (eqb-true r id same)) ∙ e in
+        none ∙ sym (ap (option_map f) none)
+    by_id false same = refl
+placed s r id f (Some q) e = at-insert s.requests r (f q) id ∙ by_id (r == id) refl
+  where
+    by_id : (v : Bool) → (r == id) ≡ v → cond v (Some (f q)) (get s.requests id) ≡ cond v (option_map f (get s.requests id)) (get s.requests id)
+    by_id true same = sym (ap (option_map f) (ap (get s.requests) (sym (eqb-true r id same)) ∙ e))
+    by_id false same = refl
+
+-- the same, whatever else the event does
+placed_as : (s : State) (r id : ℕ) (f : Request → Request) (g : Request → State) → ((q : Request) → (g q).requests ≡ insert s.requests r (f q))
+    → get (on_request s r g).requests id ≡ cond (r == id) (option_map f (get s.requests id)) (get s.requests id)
+placed_as s r id f g h = by_there (get s.requests r) ∙ placed s r id f (get s.requests r) refl
+  where
+    by_there : (o : Option Request) → get (by_request s o g).requests id ≡ get (by_request s o (λ q. with_request r (f q) s)).requests id
+    by_there None = refl
+    by_there (Some q) = ap (λ (m : FinMap nat_cmp Request). get m id) (h q)
+
+begin_requests : (s : State) (r : ℕ) (q : Request) (j : Option Judged) → (after_begin s r q j).requests ≡ insert s.requests r (begin_turn s j q)
+begin_requests s r q (Some (kept meta)) = refl
+begin_requests s r q (Some _) = refl
+begin_requests s r q None = refl
+
+finish_turned : (s : State) (r id : ℕ) (outcome : Outcome) → get (on_request s r (λ q. finished_state s r q outcome)).requests id
+    ≡ cond (r == id) (option_map (land_turn (is_landing outcome)) (get s.requests id)) (get s.requests id)
+finish_turned s r id outcome = by_landing (is_landing outcome)
+  where
+    by_same : (v : Bool) (o : Option Request) → o ≡ cond v (option_map (land_turn false) o) o
+    by_same true None = refl
+    by_same true (Some q) = refl
+    by_same false o = refl
+
+    kept_all : (o : Option Request) (v : Bool) → get (by_request s o (λ q. s)).requests id ≡ cond v (option_map (land_turn false) (get s.requests id)) (get s.requests id)
+    kept_all None v = by_same v (get s.requests id)
+    kept_all (Some q) v = by_same v (get s.requests id)
+
+    by_landing : (l : Bool) → get (on_request s r (λ q. cond l (after_finish (after_flight s r q) (finishing q s.shelf) outcome) s)).requests id
+        ≡ cond (r == id) (option_map (land_turn l) (get s.requests id)) (get s.requests id)
+    by_landing true = placed_as s r id (land_turn true) (λ q. after_finish (after_flight s r q) (finishing q s.shelf) outcome) (λ q. finish_requests (after_flight s r q) (finishing q s.shelf) outcome)
+    by_landing false = kept_all (get s.requests r) (r == id)
+
+drop_turned : (s : State) (r id : ℕ) (o : Option Request) → get s.requests r ≡ o → get (by_request s o (λ q. without_request s r q)).requests id ≡ cond (r == id) None (get s.requests id)
+drop_turned s r id None e = by_id (r == id) refl
+  where
+    by_id : (v : Bool) → (r == id) ≡ v → get s.requests id ≡ cond v None (get s.requests id)
+    by_id true same = ap (get s.requests) (sym (eqb-true r id same)) ∙ e
+    by_id false same = refl
+drop_turned s r id (Some q) e = at-remove s.requests r id
+
+answer_turned : (s : State) (t : MomentValue) (action : Action) (c : Call) (a : Answer) (id : ℕ) → Turned s t action (judged_of c) (Ok a) id (answered s t action c a)
+answer_turned s t (Open r key asks) c a id = at-insert s.requests r (opened_request s.wait (entry_of key) asks) id
+answer_turned s t (LookUp r) c a id = placed_as s r id (λ q. looked t q (look_for q s.shelf) s.lock) (λ q. after_look s t r q (look_for q s.shelf)) (λ q. refl)
+answer_turned s t (Poll r) c (Waited outcome) id = placed s r id (λ q. after_wait t outcome q.held q) (get s.requests r) refl
+answer_turned s t (Poll r) c _ id = same_either (r == id) (get s.requests id)
+answer_turned s t (Begin r head) c a id = placed_as s r id (begin_turn s (judged_of c)) (λ q. after_begin s r q (judged_of c)) (λ q. begin_requests s r q (judged_of c))
+answer_turned s t (Piece r bytes last) c a id = by_there (get s.requests r)
+  where
+    by_there : (o : Option Request) → get (by_request s o (λ q. record s { shelf = on_write q.write (pieced bytes last) s.shelf })).requests id ≡ cond (r == id) (get s.requests id) (get s.requests id)
+    by_there None = same_either (r == id) (get s.requests id)
+    by_there (Some q) = same_either (r == id) (get s.requests id)
+answer_turned s t (Finish r) c a id = finish_turned s r id (Ok a)
+answer_turned s t (Read r) c a id = placed s r id (read_turn a) (get s.requests r) refl
+answer_turned s t (Drop r) c a id = drop_turned s r id (get s.requests r) refl
+answer_turned s t (Purge key) c a id = ap (λ (m : FinMap nat_cmp Request). get m id) (purge_requests s key (is_there (look (stored_key_of key) s.shelf)))
+answer_turned s t (Put key pieces) c a id = ap (λ (m : FinMap nat_cmp Request). get m id) (put_requests s (finished_by c) a)
+
+refused_turned : (s : State) (t : MomentValue) (action : Action) (c : Call) (f : TierFault) (id : ℕ) → Turned s t action (judged_of c) (Err f) id (refused s action c f)
+refused_turned s t (Open r key asks) c f id = same_either (r == id) (get s.requests id)
+refused_turned s t (LookUp r) c f id = same_either (r == id) (get s.requests id)
+refused_turned s t (Poll r) c f id = same_either (r == id) (get s.requests id)
+refused_turned s t (Begin r head) c f id = same_either (r == id) (get s.requests id)
+refused_turned s t (Piece r bytes last) c f id = same_either (r == id) (get s.requests id)
+refused_turned s t (Finish r) c f id = finish_turned s r id (Err f)
+refused_turned s t (Read r) c f id = same_either (r == id) (get s.requests id)
+refused_turned s t (Drop r) c f id = same_either (r == id) (get s.requests id)
+refused_turned s t (Purge key) c f id = refl
+refused_turned s t (Put key pieces) c f id = ap (λ (m : FinMap nat_cmp Request). get m id) (undone_requests s (finished_by c) (done_of f))
+
+pub requests-after : (s : State) (c : Call) (id : ℕ) → Turned s c.event.moment c.event.action (judged_of c) c.outcome id (after s c)
+requests-after s c id = by_outcome c.outcome
+  where
+    by_outcome : (o : Outcome) → Turned s c.event.moment c.event.action (judged_of c) o id (after_outcome s c.event.moment c.event.action c o)
+    by_outcome (Ok a) = answer_turned s c.event.moment c.event.action c a id
+    by_outcome (Err f) = refused_turned s c.event.moment c.event.action c f id

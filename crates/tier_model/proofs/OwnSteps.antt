@@ -1,0 +1,55 @@
+-- What an event makes of an open request is what its own calls say.
+use Rattle.std.proofs.Common.{◌≡◌, ℕ, refl, ap, true, false}
+use Rattle.std.specs.Prelude.{Bool, Option, Some, None}
+use Rattle.cache_words.specs.Time.{MomentValue}
+use Rattle.cache_lock.specs.Answers.{to_wait_for}
+use Rattle.cache_lock.specs.State.{LockState}
+use Rattle.cache_lock.specs.declared.status.LockStatus.{LockStatus}
+use Rattle.tier_model.specs.declared.event.Answer.{Answer}
+use Rattle.tier_model.specs.Locks.{is_wait}
+use Rattle.tier_model.specs.Shelf.{Look}
+use Rattle.tier_model.specs.Own.{Hold, Own, own_looked, own_polled, hold_given, Reads, reads_on, hold_in, reads_in, own_in}
+use Rattle.tier_model.specs.State.{Phase, Held, nothing, permit, waits, Reader, closed, unread, spent, streaming, Request}
+use Rattle.tier_model.specs.Answers.{key_for, asks_now, given_if, lock_given}
+use Rattle.tier_model.specs.After.{held_of, phase_of, reader_of, looked, after_wait, read_on}
+use Rattle.tier_model.proofs.CallLaws.{read_turn}
+
+-- what is held of the lock is what was given
+held_given : (asks : Bool) (core : Option ℕ) (locks : LockState) (old : Held) → hold_in (held_of (given_if asks core) core locks old) ≡ hold_given (given_if asks core) (hold_in old)
+held_given false core locks old = refl
+held_given true None locks old = refl
+held_given true (Some n) locks old = refl
+
+module _ (t : MomentValue) (q : Request) (locks : LockState) where
+  looked_phase : Look → Phase
+  looked_phase l = phase_of t (lock_given t q l locks) l q.phase
+
+  pub own_look : (l : Look) → own_in (looked t q l locks) ≡ own_looked (phase_of t (lock_given t q l locks) l q.phase) (reads_in (reader_of l)) (lock_given t q l locks) (own_in q)
+  own_look l = ap (λ (hold : Hold). record {
+    asks = q.asks;
+    phase = phase_of t (lock_given t q l locks) l q.phase;
+    hold = hold;
+    waited = q.waited;
+    gave_read = is_wait (lock_given t q l locks);
+    reads = reads_in (reader_of l);
+  }) (held_given (asks_now t q l) (to_wait_for (key_for q) locks) locks q.held)
+
+pub own_wait : (t : MomentValue) (outcome : Option LockStatus) (held : Held) (q : Request) → own_in (after_wait t outcome held q) ≡ own_polled t outcome (hold_in held) (own_in q)
+own_wait t None (waits n first) q = refl
+own_wait t None (permit n) q = refl
+own_wait t None nothing q = refl
+own_wait t (Some x) (waits n first) q = refl
+own_wait t (Some x) (permit n) q = refl
+own_wait t (Some x) nothing q = refl
+
+reads_after : (a : Answer) (r : Reader) → reads_in (read_on a r) ≡ reads_on (reads_in r)
+reads_after a closed = refl
+reads_after a (unread bytes) = refl
+reads_after a spent = refl
+reads_after a (streaming n place) = refl
+
+pub own_read : (a : Answer) (q : Request) → own_in (read_turn a q) ≡ record (own_in q) { reads = reads_on (own_in q).reads }
+own_read a q = ap (λ (x : Own). x) (by_reads (reads_after a q.reader))
+  where
+    by_reads : reads_in (read_on a q.reader) ≡ reads_on (reads_in q.reader) → own_in (read_turn a q) ≡ record (own_in q) { reads = reads_on (own_in q).reads }
+    by_reads e = ap (λ (r : Reads). record (own_in q) { reads = r }) e

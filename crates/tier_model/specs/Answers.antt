@@ -1,0 +1,205 @@
+-- The rows of single events: what each may answer in a state, and its faults.
+use Rattle.std.specs.Prelude.{◌≡◌, ◌<◌, ℕ, ◌-◌, ◌^◌, Bool, true, false, ◌&&◌, not, List, [], ◌∷◌, length, if◌then◌else◌, Option, Some, None, ◌⊎◌, unwrap_or}
+use Rattle.cache_words.specs.Time.{MomentValue, DurationValue, span_of, at_most, at_least, difference}
+use Rattle.cache_heads.specs.declared.meta.CacheMeta.{CacheMeta}
+use Rattle.cache_entries.specs.declared.entry.CacheEntryKey.{CacheEntryKey}
+use Rattle.cache_entries.specs.Entry.{key_of}
+use Rattle.cache_changes.specs.Changes.{StoredKey, stored_key}
+use Rattle.cache_evict.specs.Managed.{Managed, put_first, use_first, total_size, IsHeavy, IsLong, IsFull, HasNoOtherReason}
+use Rattle.cache_lock.specs.Answers.{to_wait_for, wait_outcome}
+use Rattle.cache_lock.specs.State.{LockState, status_of}
+use Rattle.cache_lock.specs.declared.fills.WaitOutcome.{WaitOutcome}
+use Rattle.cache_lock.specs.declared.fills.WaitOutcome.TheVariants as wait
+use Rattle.cache_lock.specs.declared.status.LockStatus.{LockStatus}
+use Rattle.cache_lock.specs.declared.status.LockStatus.TheVariants as status
+use Rattle.tier_model.specs.Keys.{alone}
+use Rattle.tier_model.specs.Evictions.{GoInTurn}
+use Rattle.tier_model.specs.declared.state.Body.{Body}
+use Rattle.tier_model.specs.declared.whole.Whole.{Whole}
+use Rattle.tier_model.specs.declared.whole.Whole.TheVariants as whole
+use Rattle.tier_model.specs.declared.event.Answer.TheVariants as answer
+use Rattle.tier_model.specs.declared.event.TierFault.TheVariants as fault
+use Rattle.tier_model.specs.declared.event.LockGiven.{LockGiven}
+use Rattle.tier_model.specs.declared.event.LockGiven.TheVariants as lock
+use Rattle.tier_model.specs.declared.event.Answer.{Answer}
+use Rattle.tier_model.specs.declared.event.Answer.TheVariants.{Found, Absent, Begun, Bytes, Pending, End, Finished}
+use Rattle.tier_model.specs.declared.event.Done.{Done}
+use Rattle.tier_model.specs.declared.event.TierFault.{TierFault}
+use Rattle.tier_model.specs.declared.event.TierFault.TheVariants.{NumbersSpent, TooHeavy, TooLong, Memory}
+use Rattle.tier_model.specs.Response.{Judged, kept, not_kept, too_early, not_read}
+use Rattle.tier_model.specs.Calls.{nothing_done}
+use Rattle.tier_model.specs.Rows.{FinishedBody, weight_for}
+use Rattle.tier_model.specs.Shelf.{InFlight, Shelf, flying_at, Look, absent, in_flight, finished, look, readable, past_place}
+use Rattle.tier_model.specs.Own.{time_waited}
+use Rattle.tier_model.specs.State.{Held, waits, Reader, closed, unread, spent, streaming, Request, State, shards_of}
+
+-- ---- look-ups
+
+abbrev pub key_for : Request → StoredKey
+key_for q = stored_key (key_of q.entry)
+
+-- what a request finds
+abbrev pub look_for : Request → Shelf → Look
+look_for q shelf = look (key_for q) shelf
+
+abbrev pub is_fresh : MomentValue → CacheMeta → Bool
+is_fresh t meta = at_most t meta.internal.fresh_until
+
+-- it is found, and fresh
+abbrev pub finds_fresh : MomentValue → Look → Bool
+finds_fresh t absent = false
+finds_fresh t (in_flight f) = is_fresh t f.meta
+finds_fresh t (finished b) = is_fresh t b.meta
+
+-- the lock is asked: the request asks for it, and finds nothing, or something past its moment
+abbrev pub asks_now : MomentValue → Request → Look → Bool
+asks_now t q l = q.asks && not (finds_fresh t l)
+
+-- what is given to one that asks: the permit, where there is no core to wait for
+abbrev pub given_for : Option ℕ → LockGiven
+given_for None = lock.Write
+given_for (Some n) = lock.Read
+
+abbrev pub given_if : Bool → Option ℕ → LockGiven
+given_if false core = lock.None
+given_if true core = given_for core
+
+abbrev pub lock_given : MomentValue → Request → Look → LockState → LockGiven
+lock_given t q l locks = given_if (asks_now t q l) (to_wait_for (key_for q) locks)
+
+abbrev pub look_answer : MomentValue → LockGiven → Look → Answer
+look_answer t given absent = Absent given
+look_answer t given (in_flight f) = Found (is_fresh t f.meta) false given
+look_answer t given (finished b) = Found (is_fresh t b.meta) true given
+
+-- ---- waits
+
+-- how a wait ends by what the lock tells, else by the longest wait
+abbrev pub ended_by : Option WaitOutcome → LockStatus → Bool → Option LockStatus
+ended_by (Some wait.Released) ended over = Some ended
+ended_by (Some wait.AgeTimeout) ended over = Some status.AgeTimeout
+ended_by _ ended over = if over then Some status.WaitTimeout else None
+
+-- this wait took what earlier ones left of the longest wait
+abbrev pub is_past : Option DurationValue → Option DurationValue → DurationValue → Bool
+is_past None waited now = false
+is_past (Some longest) waited now = at_least now (difference longest (unwrap_or waited (span_of 0)))
+
+-- what a poll tells of a wait for core n
+abbrev pub polled : LockState → MomentValue → Request → Held → Option LockStatus
+polled s t q (waits n first) = ended_by (wait_outcome n [] t s) (status_of n s) (is_past q.wait q.waited (time_waited first t))
+polled s t q _ = None
+
+-- ---- reads
+
+abbrev pub next_by : List ℕ → Bool → Answer
+next_by [] true = End
+next_by [] false = Pending
+next_by (b ∷ bytes) over = Bytes (b ∷ bytes)
+
+-- what comes next of a write, or that none is there yet, or none comes
+abbrev pub next_of : List ℕ × Bool → Answer
+next_of ahead = next_by ahead.0 ahead.1
+
+-- what a reader gives next
+abbrev pub read_answer : Reader → Shelf → Answer
+read_answer closed shelf = End
+read_answer (unread bytes) shelf = Bytes bytes
+read_answer spent shelf = End
+read_answer (streaming n place) shelf = next_of (past_place place (readable n shelf))
+
+-- ---- finished bodies
+
+-- the body that was stored is gone again
+abbrev pub stored_alone : Done
+stored_alone = record { stored = true; admitted = false; evicted = [] }
+
+-- the body is stored and its entry admitted, these are evicted, and then the body is taken back
+abbrev pub all_done : List CacheEntryKey → Done
+all_done evicted = record { stored = true; admitted = true; evicted = evicted }
+
+-- the order of use with the entry of a body put first
+abbrev pub admitted : State → FinishedBody → Managed
+admitted s b = put_first (shards_of s) (alone b.entry) (weight_for b.body) s.managed
+
+-- the order of use after a use of an entry for which that body was found
+abbrev pub used : State → CacheEntryKey → Body → Managed
+used s e b = use_first (shards_of s) e (weight_for b) s.managed
+
+-- the weights together can be counted
+abbrev pub Fits : Managed → Type 0
+Fits m = total_size m < 2 ^ 64
+
+-- why an entry of that weight is kept out of the order of use, and what was done until then; memory is told only of an entry that isn't
+-- tracked, where nothing else keeps it out
+abbrev pub IsKeptOut : State → CacheEntryKey → ℕ → Done → TierFault → Type 0
+IsKeptOut s e w done (Memory told) = (told ≡ done) × HasNoOtherReason (shards_of s) e w s.managed
+IsKeptOut s e w done (TooHeavy told) = (told ≡ done) × IsHeavy (shards_of s) e w s.managed
+IsKeptOut s e w done (TooLong told) = (told ≡ done) × IsLong (shards_of s) e s.managed
+IsKeptOut s e w done (NumbersSpent told) = (told ≡ done) × IsFull (shards_of s) e s.managed
+IsKeptOut s e w done _ = ⊥
+
+-- the body is stored, and what went to make room for it is enough
+abbrev pub IsStored : State → FinishedBody → Answer → Type 0
+IsStored s b (Finished n evicted) = (n ≡ length b.body.bytes) × Fits (admitted s b) × GoInTurn (shards_of s) false evicted (admitted s b)
+IsStored s b _ = ⊥
+
+-- what a put may answer, by what it finishes and what its response gives
+abbrev pub IsPutAnswer : State → Option FinishedBody → Option Whole → Answer → Type 0
+IsPutAnswer s (Some b) w a = IsStored s b a
+IsPutAnswer s None (Some (whole.Uncacheable reason)) (answer.Uncacheable shown) = shown ≡ reason
+IsPutAnswer s _ _ _ = ⊥
+
+-- memory ran out in the midst of the evictions, after an admission that fits
+abbrev pub IsCutShort : State → FinishedBody → TierFault → Type 0
+IsCutShort s b f = (evicted : List CacheEntryKey) × (f ≡ Memory (all_done evicted)) × Fits (admitted s b) × GoInTurn (shards_of s) true evicted (admitted s b)
+
+-- why a body that was stored is taken back
+abbrev pub IsStoreFault : State → FinishedBody → TierFault → Type 0
+IsStoreFault s b f = IsKeptOut s (alone b.entry) (weight_for b.body) stored_alone f ⊎ IsCutShort s b f
+
+-- no number is left for a write
+abbrev pub HasNoNumber : State → TierFault → Type 0
+HasNoNumber s f = (f ≡ NumbersSpent nothing_done) × (s.shelf.writes ≡ 2 ^ 64 - 1)
+
+-- the faults of a put but for memory that is refused before anything is stored
+abbrev pub IsPutFault : State → Option FinishedBody → Option Whole → TierFault → Type 0
+IsPutFault s (Some b) w f = HasNoNumber s f ⊎ IsStoreFault s b f
+IsPutFault s None (Some whole.Incomplete) f = f ≡ fault.Incomplete
+IsPutFault s None (Some whole.BadHead) f = f ≡ fault.BadHead
+IsPutFault s None (Some whole.BeforeEpoch) f = f ≡ fault.BeforeEpoch
+IsPutFault s None _ f = ⊥
+
+-- ---- begins and finishes
+
+-- what a begin may answer, by what its head gives
+abbrev pub IsBeginAnswer : Option Judged → Answer → Type 0
+IsBeginAnswer (Some (kept meta)) a = a ≡ Begun
+IsBeginAnswer (Some (not_kept reason)) a = a ≡ answer.Uncacheable reason
+IsBeginAnswer _ a = ⊥
+
+-- the faults of a begin but for memory
+abbrev pub IsBeginFault : State → Option Judged → TierFault → Type 0
+IsBeginFault s (Some (kept meta)) f = HasNoNumber s f
+IsBeginFault s (Some not_read) f = f ≡ fault.BadHead
+IsBeginFault s (Some too_early) f = f ≡ fault.BeforeEpoch
+IsBeginFault s _ f = ⊥
+
+-- the body that a write in flight is, under the entry of its request; none where it isn't there, or met a removal
+abbrev pub body_under : CacheEntryKey → Option InFlight → Option FinishedBody
+body_under e None = None
+body_under e (Some f) = if f.removed then None else Some (record { entry = key_of e; body = record { bytes = f.bytes; meta = f.meta } })
+
+abbrev pub flight_of : Option ℕ → Shelf → Option InFlight
+flight_of None shelf = None
+flight_of (Some n) shelf = flying_at n shelf.flying
+
+-- the body that a finish finishes
+abbrev pub finishing : Request → Shelf → Option FinishedBody
+finishing q shelf = body_under q.entry (flight_of q.write shelf)
+
+-- why a finish is refused: the write was removed, or, with nothing done, for the memory that an entry takes, also of one that was, or
+-- else as a put of its body
+abbrev pub IsFinishFault : State → Option FinishedBody → TierFault → Type 0
+IsFinishFault s None f = (f ≡ fault.WriteRemoved) ⊎ (f ≡ Memory nothing_done)
+IsFinishFault s (Some b) f = (f ≡ Memory nothing_done) ⊎ IsStoreFault s b f

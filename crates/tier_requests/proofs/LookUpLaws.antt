@@ -1,0 +1,121 @@
+-- How a look-up of a request ends, as the plain record has it.
+use Rattle.std.proofs.Common.{◌≡◌, ℕ, refl, ap, sym, ◌∙◌, subst, Bool, true, false, inl, Some, None, Option, List}
+use Rattle.std.specs.Prelude.{is_some, Ok, Err, MatchResult}
+use Rattle.cache_heads.specs.declared.meta.CacheMeta.{CacheMeta}
+use Rattle.cache_words.specs.Time.{MomentValue, DurationValue}
+use Rattle.cache_evict.specs.Managed.{Managed}
+use Rattle.cache_lock.specs.declared.fault.LockFault.{LockFault}
+use Rattle.cache_lock.specs.Answers.{to_wait_for, IsRefused}
+use Rattle.cache_lock.specs.State.{LockState}
+use Rattle.cache_phases.specs.declared.request_lock.RequestLock.{RequestLock}
+use Rattle.cache_phases.specs.Locks.{is_read, held, given_by, asked as asked_lock, now_holding}
+use Rattle.cache_store.specs.Held.{Held}
+use Rattle.cache_store.specs.Looks.{LookAnswer as LookAnswerOf, shows}
+use Rattle.cache_store.specs.Readers.{Parts}
+use Rattle.mem_cache.specs.declared.handlers.MemHitHandler.{MemHitHandler}
+use Rattle.mem_cache.specs.Readings.{reader_of}
+use Rattle.request_store.specs.Looks.{valid_look}
+use Rattle.http_cache.specs.Request.{stored_at}
+use Rattle.http_cache.specs.Points.{point}
+use Rattle.tier_model.specs.declared.event.Answer.{Answer}
+use Rattle.tier_model.specs.declared.event.Answer.TheVariants.{Absent}
+use Rattle.tier_model.specs.Calls.{Outcome}
+use Rattle.tier_model.specs.Shelf.{Look, absent}
+use Rattle.tier_model.specs.State.{closed, Request}
+use Rattle.tier_model.specs.Checks.{look_refusal}
+use Rattle.tier_model.specs.Own.{phase_absent}
+use Rattle.tier_model.specs.Answers.{look_for, asks_now}
+use Rattle.tier_model.specs.After.{turned, looked}
+use Rattle.tier_requests.specs.Faults.{out_of_memory, lock_fault_for}
+use Rattle.tier_requests.specs.Looks.{lent, LooksBy, LookAnswer}
+use Rattle.tier_requests.specs.Shelves.{shelf_of}
+use Rattle.tier_requests.specs.Plain.{Driven, given_of, plain_of, IsDriven}
+use Rattle.tier_requests.specs.Finds.{IsFoundBy, FoundAnswer, missed_by}
+use Rattle.tier_requests.proofs.PlainLaws.{waits-in}
+use Rattle.tier_requests.proofs.ShelfLaws.{shelf-same}
+use Rattle.tier_requests.proofs.FindLaws.{key-stored, look-none, look-some, FindsOne, finds-one, shelf-counted, shelf-spared}
+use Rattle.tier_requests.proofs.LookLaws.{IsFree, free-of, FindsNone}
+use Rattle.tier_requests.proofs.GivenLaws.{IsGiven, missed-lock, and-yes, lock-refused, lock-left}
+
+module _ (n : ℕ) (weighed : ℕ → ℕ) (t : MomentValue) (r : Driven) (asks : Bool) (wait : Option DurationValue) (gave : Bool) (bytes : Option (List ℕ)) where
+  abbrev pub plain : Driven → Request
+  plain r' = plain_of r' asks wait gave bytes
+
+  -- nothing was found, and the lock has answered
+  pub look-missed : (h h' left : Held) (m m' : Managed) (s s' s1 : LockState) (r' : Driven) (gave' : Bool) (a : Answer) (new : Request) → IsDriven r asks wait gave bytes → look_refusal (plain r) ≡ None
+      → FindsNone t (shows true (stored_at r.key) h.store) r h s (Ok tt) r' h' s' → a ≡ Absent (given_of (plain r').held) → new ≡ missed_by (plain_of r' asks wait gave' bytes) → gave' ≡ is_read (held r'.lock)
+      → shelf_of left ≡ turned (plain r').reader closed (shelf_of h') → m' ≡ m → s1 ≡ s' → LookAnswer n weighed t (plain r) (lent (shelf_of h) m s) (Ok a) new (lent (shelf_of left) m' s1)
+  look-missed h h' left m m' s s' s1 r' gave' a new d e f told is waits spent same kept =
+      rw (e, look-none r.key h f.none) (
+        told ∙ ap (λ x. Absent (given_of (plain x).held)) f.lock.0 ∙ ap Absent lock.told,
+        is ∙ ap (λ v. missed_by (plain_of r' asks wait v bytes)) waits ∙ ap (λ (x : Driven). missed_by (plain_of x asks wait (is_read (held x.lock)) bytes)) f.lock.0 ∙ missed,
+        λ i. lent (shelf i) (same i) ((kept ∙ f.lock.1 ∙ lock.left) i),
+      )
+    where
+      free : IsFree r asks wait gave bytes
+      free = free-of r asks wait gave bytes d e
+
+      lock : IsGiven t (plain r) absent s r.lock (given_by r.lock (stored_at r.key) s) (asked_lock r.lock (stored_at r.key) false t s)
+      lock = missed-lock t (plain r) s r.key r.lock refl free.free free.none free.looking.on
+
+      asked : RequestLock
+      asked = now_holding (given_by r.lock (stored_at r.key) s) r.lock
+
+      missed : missed_by (plain_of (record r { lock = asked }) asks wait (is_read (held asked)) bytes) ≡ looked t (plain r) absent s
+      missed = λ i. record (plain r) { phase = phase_absent (lock.told i) (plain r).phase; held = lock.holds i; gave_read = (sym (waits-in (held asked) asked.polled) ∙ lock.waits) i; reader = closed }
+
+      shelf : shelf_of left ≡ turned (plain r).reader closed (shelf_of h)
+      shelf = spent ∙ ap (λ (x : Driven). turned (plain x).reader closed (shelf_of h')) f.lock.0 ∙ ap (turned (plain r).reader closed) (shelf-same h h' f.held)
+
+  -- nothing was found, and the lock refused
+  pub look-unlocked : (h h' : Held) (m m' : Managed) (s s' : LockState) (r' : Driven) (f : LockFault) → IsDriven r asks wait gave bytes → look_refusal (plain r) ≡ None
+      → FindsNone t (shows true (stored_at r.key) h.store) r h s (Err f) r' h' s' → m' ≡ m → LookAnswer n weighed t (plain r) (lent (shelf_of h) m s) (Err (lock_fault_for f)) (plain r') (lent (shelf_of h') m' s')
+  look-unlocked h h' m m' s s' r' f d e x same =
+      let free = free-of r asks wait gave bytes d e in
+      let asks_it : asks_now t (plain r) absent ≡ true = sym (and-yes asks) ∙ sym free.looking.on ∙ x.lock.0 in
+      let refused = subst (λ k. IsRefused s (to_wait_for k s) f) (sym (key-stored r.key)) x.lock.1 in
+      rw (e, look-none r.key h x.none) (
+        lock-refused n weighed t (plain r) absent m s f asks_it refused,
+        ap plain x.lock.2,
+        shelf-same h h' x.held,
+        same,
+        lock-left t (plain r) absent s s' x.lock.3,
+      )
+
+  -- the store has no memory to show what it has
+  pub look-unshown : (h h' : Held) (m m' : Managed) (s s' : LockState) (r' : Driven) → look_refusal (plain r) ≡ None → is_some (shows true (stored_at r.key) h.store) ≡ true → point r' h' s' ≡ point r h s → m' ≡ m
+      → LookAnswer n weighed t (plain r) (lent (shelf_of h) m s) (Err out_of_memory) (plain r') (lent (shelf_of h') m' s')
+  look-unshown h h' m m' s s' r' e some kept same =
+      rw e (
+        inl (refl, inl (look-some r.key h some)),
+        ap (λ p. plain p.request) kept,
+        ap (λ p. shelf_of p.held) kept,
+        same,
+        lock-left t (plain r) (look_for (plain r) (shelf_of h)) s s' (ap (λ p. p.lock) kept),
+      )
+
+  -- something was found
+  pub look-found : (h mid left : Held) (m m1 m' : Managed) (s s1 s' : LockState) (r1 : Driven) (meta : CacheMeta) (hit : MemHitHandler) (res : Outcome) (new : Request)
+      → r.valid_after ≡ None → look_refusal (plain r) ≡ None → LookAnswerOf reader_of (valid_look r.valid_after (shows true (stored_at r.key) h.store)) h (Ok (Some (meta, hit))) mid → r1 ≡ r → s1 ≡ s → m1 ≡ m
+      → ((l : Look) → IsFoundBy l meta hit → FoundAnswer n weighed t (plain r1) l m1 s1 res new m' s')
+      → MatchResult res (λ _. shelf_of left ≡ turned (plain r1).reader closed (shelf_of mid)) (λ _. Parts (reader_of hit) mid left)
+      → LookAnswer n weighed t (plain r) (lent (shelf_of h) m s) res new (lent (shelf_of left) m' s')
+  look-found h mid left m m1 m' s s1 s' r1 meta hit res new shown e a er es em answer shelf = rw e (by_result res answered shelf_so)
+    where
+      one : FindsOne (look_for (plain r) (shelf_of h)) meta hit h mid
+      one = finds-one r.key r.valid_after meta hit h mid shown a
+
+      answered : FoundAnswer n weighed t (plain r) (look_for (plain r) (shelf_of h)) m s res new m' s'
+      answered =
+          subst (λ x. FoundAnswer n weighed t (plain r) (look_for (plain r) (shelf_of h)) x s res new m' s') em
+          (subst (λ x. FoundAnswer n weighed t (plain r) (look_for (plain r) (shelf_of h)) m1 x res new m' s') es
+          (subst (λ (x : Driven). FoundAnswer n weighed t (plain x) (look_for (plain r) (shelf_of h)) m1 s1 res new m' s') er (answer (look_for (plain r) (shelf_of h)) one.by)))
+
+      shelf_so : MatchResult res (λ _. shelf_of left ≡ turned (plain r).reader closed (shelf_of mid)) (λ _. Parts (reader_of hit) mid left)
+      shelf_so = subst (λ (x : Driven). MatchResult res (λ _. shelf_of left ≡ turned (plain x).reader closed (shelf_of mid)) (λ _. Parts (reader_of hit) mid left)) er shelf
+
+      by_result : (res : Outcome) → FoundAnswer n weighed t (plain r) (look_for (plain r) (shelf_of h)) m s res new m' s'
+          → MatchResult res (λ _. shelf_of left ≡ turned (plain r).reader closed (shelf_of mid)) (λ _. Parts (reader_of hit) mid left)
+          → LooksBy n weighed t (plain r) (look_for (plain r) (shelf_of h)) (lent (shelf_of h) m s) res new (lent (shelf_of left) m' s')
+      by_result (Ok a) x spent = (x.0, x.1, λ i. lent ((spent ∙ ap (turned (plain r).reader closed) (shelf-counted (look_for (plain r) (shelf_of h)) h mid one.counts)) i) (x.2 i) (x.3 i))
+      by_result (Err f) x parts = (x.0, x.1, shelf-spared (look_for (plain r) (shelf_of h)) meta hit h mid left one parts, x.2, x.3)

@@ -1,0 +1,162 @@
+-- A request's own steps, as the plain record has them.
+use Rattle.std.proofs.Common.{◌≡◌, ◌≢◌, ℕ, refl, ap, sym, ◌∙◌, Bool, true, false, cond, Some, None, Option, List, [], ◌∷◌, ◌++◌, subst}
+use Rattle.std.specs.Prelude.{option_map, Result, Ok, Err, OnOk, OnErr, MatchResult}
+use Rattle.std.proofs.lemmas.List.{append-nil}
+use Rattle.cache_heads.specs.declared.meta.CacheMeta.{CacheMeta}
+use Rattle.cache_words.specs.Time.{DurationValue}
+use Rattle.cache_changes.specs.Store as store
+use Rattle.cache_changes.specs.Store.{Flying}
+use Rattle.cache_store.specs.declared.storage.ReadStep.{ReadStep}
+use Rattle.cache_store.specs.declared.storage.ReadStep.TheVariants as step
+use Rattle.cache_store.specs.declared.storage.StoreFault.{StoreFault}
+use Rattle.cache_store.specs.declared.storage.StoreFault.TheVariants as fault
+use Rattle.cache_store.specs.Answers.{WriteAnswer, after_write}
+use Rattle.cache_store.specs.Held.{Held}
+use Rattle.cache_store.specs.Readers as readers
+use Rattle.cache_store.specs.Readers.{StreamHit, Parts}
+use Rattle.mem_cache.specs.declared.handlers.MemHitHandler.{MemHitHandler}
+use Rattle.mem_cache.specs.declared.handlers.MemHitHandler.TheVariants.{Complete, Partial}
+use Rattle.mem_cache.specs.Hits as hits
+use Rattle.mem_cache.specs.Hits.{moved}
+use Rattle.mem_cache.specs.Readings as readings
+use Rattle.request_store.specs.Spends.{Spends}
+use Rattle.tier_model.specs.Answers.{next_of}
+use Rattle.tier_model.specs.Calls.{Outcome}
+use Rattle.tier_model.specs.Checks.{has_reader}
+use Rattle.tier_model.specs.Shelf.{InFlight, Shelf, has_number, on_flying, flying_at, readable, past_place}
+use Rattle.tier_model.specs.State.{Reader, spent, streaming, Request}
+use Rattle.tier_model.specs.After.{pieced, read_on}
+use Rattle.tier_requests.specs.Faults.{out_of_memory}
+use Rattle.tier_requests.specs.Shelves.{flight_of, shelf_of}
+use Rattle.tier_requests.specs.Plain.{Driven, plain_of, reader_in}
+use Rattle.tier_requests.specs.Rows.{ReadAnswer}
+use Rattle.tier_requests.specs.Steps.{WriteStep, HitAnswer, hit_after, answer_for}
+use Rattle.tier_requests.proofs.FlightLaws.{flight-at}
+use Rattle.tier_requests.proofs.ShelfLaws.{shelf-written, readable-same}
+use Rattle.tier_requests.proofs.StepLaws.{next-step}
+
+-- ---- bytes of a write
+
+-- whether a write has ended, if it is in flight
+pub ended-at : (n : ℕ) (h : Held) → option_map (λ f. f.ended) (flying_at n (shelf_of h).flying) ≡ option_map (λ f. f.ended) (store.flying_at n h.store)
+ended-at n h = ap (option_map (λ f. f.ended)) (flight-at n h.store.flying) ∙ by_flight (store.flying_at n h.store)
+  where
+    by_flight : (o : Option (Flying CacheMeta)) → option_map (λ f. f.ended) (option_map flight_of o) ≡ option_map (λ f. f.ended) o
+    by_flight None = refl
+    by_flight (Some f) = refl
+
+-- no bytes change nothing
+unchanged : (n : ℕ) (fs : List InFlight) → on_flying n (λ f. record f { bytes = f.bytes ++ [] }) fs ≡ fs
+unchanged n [] = refl
+unchanged n (f ∷ fs) =
+    ap (λ (x : InFlight). x ∷ on_flying n (λ f. record f { bytes = f.bytes ++ [] }) fs) (by_test (has_number n f))
+    ∙ ap (λ (xs : List InFlight). f ∷ xs) (unchanged n fs)
+  where
+    by_test : (t : Bool) → cond t (record f { bytes = f.bytes ++ [] }) f ≡ f
+    by_test true = ap (λ (bytes : List ℕ). record f { bytes = bytes }) (append-nil f.bytes)
+    by_test false = refl
+
+pub pieced-nothing : (n : ℕ) (s : Shelf) → pieced [] false n s ≡ s
+pieced-nothing n s = ap (λ (fs : List InFlight). record s { flying = fs }) (unchanged n s.flying)
+
+-- bytes that were written, or refused
+module _ (n : ℕ) (bytes : List ℕ) (last : Bool) (h0 h : Held) where
+  abbrev Flown : Option Bool
+  Flown = option_map (λ f. f.ended) (store.flying_at n h0.store)
+
+  abbrev Shown : Option Bool
+  Shown = option_map (λ f. f.ended) (flying_at n (shelf_of h0).flying)
+
+  abbrev Step : Option Bool → Result (Unit {0}) StoreFault → Type 0
+  Step o r = WriteStep o bytes last n (shelf_of h0) r (shelf_of h)
+
+  as_shown : (r : Result (Unit {0}) StoreFault) → Step Flown r → Step Shown r
+  as_shown r = subst (λ (o : Option Bool). Step o r) (sym (ended-at n h0))
+
+  by_written : (o : Option Bool) (r : Result (Unit {0}) StoreFault) → WriteAnswer o r → OnOk r (h ≡ record h0 { store = after_write n bytes last h0.store }) → OnErr r (h ≡ h0) → Step o r
+  by_written None r a ok err = (a, ap shelf_of (subst (λ (x : Result (Unit {0}) StoreFault). OnErr x (h ≡ h0)) a err))
+  by_written (Some true) r a ok err = (a, ap shelf_of (subst (λ (x : Result (Unit {0}) StoreFault). OnErr x (h ≡ h0)) a err))
+  by_written (Some false) (Ok v) a ok err = shelf-written n bytes last h0 h ok
+  by_written (Some false) (Err f) a ok err = (a, ap shelf_of err)
+
+  pub step-written : (r : Result (Unit {0}) StoreFault) → WriteAnswer Flown r → OnOk r (h ≡ record h0 { store = after_write n bytes last h0.store }) → OnErr r (h ≡ h0) → Step Shown r
+  step-written r a ok err = as_shown r (by_written Flown r a ok err)
+
+  -- where the bytes had no memory: the write is there and may go on, as no bytes were taken
+  by_tried : (o : Option Bool) (v : Unit {0}) → WriteAnswer {X = Unit {0}} o (Ok v) → h ≡ record h0 { store = after_write n [] false h0.store } → Step o (Err fault.Memory)
+  by_tried None v a e = absurd cc
+  by_tried (Some true) v a e = absurd cc
+  by_tried (Some false) v a e = (refl, shelf-written n [] false h0 h e ∙ pieced-nothing n (shelf_of h0))
+
+  pub step-tried : (v : Unit {0}) → WriteAnswer {X = Unit {0}} Flown (Ok v) → h ≡ record h0 { store = after_write n [] false h0.store } → Step Shown (Err fault.Memory)
+  step-tried v a e = as_shown (Err fault.Memory) (by_tried Flown v a e)
+
+  by_refused : (o : Option Bool) (f : StoreFault) → WriteAnswer {X = Unit {0}} o (Err f) → h ≡ h0 → Step o (Err f)
+  by_refused None f a e = (a, ap shelf_of e)
+  by_refused (Some true) f a e = (a, ap shelf_of e)
+  by_refused (Some false) f a e = (a, ap shelf_of e)
+
+  pub step-refused : (f : StoreFault) → WriteAnswer {X = Unit {0}} Flown (Err f) → h ≡ h0 → Step Shown (Err f)
+  step-refused f a e = as_shown (Err f) (by_refused Flown f a e)
+
+-- ---- readers
+
+-- a reader that was there, or wasn't
+pub spends-some : (o : Option MemHitHandler) (hit : MemHitHandler) (h0 h : Held) → o ≡ Some hit → Parts (readings.reader_of hit) h0 h → Spends readings.reader_of o h0 h
+spends-some o hit h0 h is e = subst (λ (x : Option MemHitHandler). Spends readings.reader_of x h0 h) (sym is) e
+
+pub spends-none : (o : Option MemHitHandler) (h0 h : Held) → o ≡ None → h ≡ h0 → Spends readings.reader_of o h0 h
+spends-none o h0 h is e = subst (λ (x : Option MemHitHandler). Spends readings.reader_of x h0 h) (sym is) e
+
+-- ---- reads
+
+-- what is read of a write as it comes
+module _ (q : Request) (s : StreamHit) (h : Held) where
+  abbrev Next : Option (List ℕ × Bool) → Result ReadStep StoreFault → Type 0
+  Next p r =
+      MatchResult (answer_for r) (λ a. (a ≡ next_of (past_place s.place p)) × (streaming s.number (moved s r).place ≡ read_on a (streaming s.number s.place)))
+      (λ f. (f ≡ out_of_memory) × ((past_place s.place p).0 ≢ []) × (moved s r ≡ s))
+
+  abbrev Streamed : Result ReadStep StoreFault → Type 0
+  Streamed r = ReadAnswer true (record q { reader = streaming s.number s.place }) (shelf_of h) (answer_for r) (record q { reader = reader_in None (Some (Partial (moved s r))) })
+
+  by_next : (r : Result ReadStep StoreFault) → Next (readable s.number (shelf_of h)) r → Streamed r
+  by_next (Ok (step.Bytes bytes)) a = (a.0, ap (λ (x : Reader). record q { reader = x }) a.1)
+  by_next (Ok step.Pending) a = (a.0, ap (λ (x : Reader). record q { reader = x }) a.1)
+  by_next (Ok step.End) a = (a.0, ap (λ (x : Reader). record q { reader = x }) a.1)
+  by_next (Err f) a = (a.0, a.1, refl)
+
+  streamed : (r : Result ReadStep StoreFault) → hits.ReadAnswer (readers.readable s.number h) s.place r → Streamed r
+  streamed r e =
+      by_next r (subst (λ (p : Option (List ℕ × Bool)). Next p r) (sym (readable-same s.number h)) (next-step s.number s.place (readers.readable s.number h) r e).answer)
+
+abbrev pub Reads : Request → Reader → Held → Outcome → Reader → Type 0
+Reads q old h a new = ReadAnswer (has_reader old) (record q { reader = old }) (shelf_of h) a (record q { reader = new })
+
+reads : (q : Request) (hit : MemHitHandler) (h : Held) (r : Result ReadStep StoreFault) → HitAnswer hit h r → Reads q (reader_in None (Some hit)) h (answer_for r) (reader_in None (Some (hit_after hit r)))
+reads q (Complete w) h r e = subst (λ (x : Result ReadStep StoreFault). Reads q spent h (answer_for x) spent) (sym e) (refl, refl)
+reads q (Partial s) h r e = streamed q s h r e
+
+-- a request reads on in what it found, or in what it writes
+pub reads-on : (q : Request) (hit new : MemHitHandler) (h : Held) (r : Result ReadStep StoreFault) (a : Outcome) → HitAnswer hit h r → new ≡ hit_after hit r → a ≡ answer_for r
+    → Reads q (reader_in None (Some hit)) h a (reader_in None (Some new))
+reads-on q hit new h r a e after told =
+    subst (λ (x : Outcome). Reads q (reader_in None (Some hit)) h x (reader_in None (Some new))) (sym told)
+    (subst (λ (x : MemHitHandler). Reads q (reader_in None (Some hit)) h (answer_for r) (reader_in None (Some x))) (sym after) (reads q hit h r e))
+
+-- and is put together again with its reader
+pub read-put : (r taken put : Driven) (asks : Bool) (wait : Option DurationValue) (gave : Bool) (bytes left : Option (List ℕ)) (q : Request) (hit next : MemHitHandler) (h : Held) (a : Outcome)
+    → plain_of r asks wait gave bytes ≡ q → bytes ≡ None → r.reader ≡ Some hit → taken ≡ record r { reader = None } → put ≡ record taken { reader = Some next } → left ≡ None
+    → Reads q (reader_in None (Some hit)) h a (reader_in None (Some next)) → ReadAnswer (has_reader q.reader) q (shelf_of h) a (plain_of put asks wait gave left)
+read-put r taken put asks wait gave bytes left q hit next h a is none there out back gone e =
+    subst (λ (x : Request). ReadAnswer (has_reader q.reader) q (shelf_of h) a x) (sym after)
+    (subst (λ (x : Reader). ReadAnswer (has_reader x) (record q { reader = x }) (shelf_of h) a (record q { reader = reader_in None (Some next) })) (sym before) e)
+  where
+    before : q.reader ≡ reader_in None (Some hit)
+    before = ap (λ (x : Request). x.reader) (sym is) ∙ ap (λ (o : Option (List ℕ)). reader_in o r.reader) none ∙ ap (reader_in None) there
+
+    after : plain_of put asks wait gave left ≡ record q { reader = reader_in None (Some next) }
+    after =
+        ap (plain_of put asks wait gave) gone ∙ ap (λ (x : Driven). plain_of x asks wait gave None) back
+        ∙ ap (λ (x : Driven). plain_of (record x { reader = Some next }) asks wait gave None) out
+        ∙ ap (λ (x : Request). record x { reader = reader_in None (Some next) }) is

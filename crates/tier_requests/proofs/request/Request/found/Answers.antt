@@ -1,0 +1,66 @@
+use Rattle.std.proofs.Common.{◌∙◌, ap}
+use Rattle.cache_words.specs.Time.{at_most}
+use Rattle.tier_requests.proofs.FindLaws.{taken-parts}
+use Rattle.tier_requests.proofs.TakeLaws.{driven-found, found-taken, found-shelf, found-uncounted, found-unlocked, found-unused}
+use Rattle.tier_requests.proofs.request.Request.found.Goals as goal
+
+pub returns-in-Err-Memory-clause-answer : goal.returns-in-Err-Memory-clause-answer
+returns-in-Err-Memory-clause-answer g c = λ l by.
+    let r = c.self.inside in
+    let up = rw (c.status_by.ensures, c.in-Err-Memory.field-0-is) at c.in-Err-Memory.ensures.found in
+    let uses = rw c.in-Err-Memory.field-0-is at c.in-Err-Memory.ensures.used in
+    rw (c.out_of_memory-in-Err-Memory.ensures, ← c.self.view_is) (found-uncounted g.E.EvictionManager.shard_count g.E.EvictionManager.weighed c.args.moment r.cache r.asks r.wait r.gave_read r.unread l c.args.meta c.args.hit c.is_at_most-fresh.result
+    (record { driven = c.self.invariant; may = rw (← c.self.view_is) at c.requires; by = by; fresh = c.is_at_most-fresh.ensures ∙ ap (at_most c.args.moment) c.fresh_until.ensures })
+    c.take_body.new.hit c.args.parts.now.store c.cache_found.new.parts.store (g.E.EvictionManager.managed c.args.parts.now.manager) (g.E.EvictionManager.managed c.cache_found.new.parts.manager)
+    c.args.parts.now.lock c.cache_found.new.parts.lock c.cache_found.new.self up uses.1)
+
+pub returns-in-Err-Memory-clause-shelf : goal.returns-in-Err-Memory-clause-shelf
+returns-in-Err-Memory-clause-shelf g c = taken-parts c.args.hit c.take_body.new.hit c.in-Ok.unread c.args.parts.now.store c.cache_found.new.parts.store c.in-Ok.ensures c.in-Err-Memory.ensures.found.store
+
+pub returns-in-Err-Lock-clause-answer : goal.returns-in-Err-Lock-clause-answer
+returns-in-Err-Lock-clause-answer g c = λ l by.
+    let r = c.self.inside in
+    let up = rw (c.status_by.ensures, c.in-Err-Lock.field-0-is) at c.in-Err-Lock.ensures.found in
+    let uses = rw c.in-Err-Lock.field-0-is at c.in-Err-Lock.ensures.used in
+    rw (c.lock_fault_for.ensures, ← c.self.view_is) (found-unlocked g.E.EvictionManager.shard_count g.E.EvictionManager.weighed c.args.moment r.cache r.asks r.wait r.gave_read r.unread l c.args.meta c.args.hit c.is_at_most-fresh.result
+    (record { driven = c.self.invariant; may = rw (← c.self.view_is) at c.requires; by = by; fresh = c.is_at_most-fresh.ensures ∙ ap (at_most c.args.moment) c.fresh_until.ensures })
+    c.take_body.new.hit c.args.parts.now.store c.cache_found.new.parts.store (g.E.EvictionManager.managed c.args.parts.now.manager) (g.E.EvictionManager.managed c.cache_found.new.parts.manager)
+    c.args.parts.now.lock c.cache_found.new.parts.lock c.cache_found.new.self _ up uses)
+
+pub returns-in-Err-Evict-clause-answer : goal.returns-in-Err-Evict-clause-answer
+returns-in-Err-Evict-clause-answer g c = λ l by.
+    let r = c.self.inside in
+    let up = rw (c.status_by.ensures, c.in-Err-Evict.field-0-is) at c.in-Err-Evict.ensures.found in
+    let uses = rw (c.in-Err-Evict.field-0-is, c.status_by.ensures) at c.in-Err-Evict.ensures.used in
+    let untracked = rw c.in-Err-Evict.field-0-is at c.in-Err-Evict.ensures.untracked in
+    rw (c.fault_for.ensures, c.nothing_done.ensures, ← c.self.view_is) (found-unused g.E.EvictionManager.shard_count g.E.EvictionManager.weighed c.args.moment r.cache r.asks r.wait r.gave_read r.unread l c.args.meta c.args.hit c.is_at_most-fresh.result
+    (record { driven = c.self.invariant; may = rw (← c.self.view_is) at c.requires; by = by; fresh = c.is_at_most-fresh.ensures ∙ ap (at_most c.args.moment) c.fresh_until.ensures })
+    c.take_body.new.hit c.in-Ok.unread c.args.parts.now.store c.cache_found.new.parts.store (g.E.EvictionManager.managed c.args.parts.now.manager) (g.E.EvictionManager.managed c.cache_found.new.parts.manager)
+    c.args.parts.now.lock c.cache_found.new.parts.lock c.cache_found.new.self _ c.in-Ok.ensures up uses untracked)
+
+pub returns-in-Err-Evict-clause-shelf : goal.returns-in-Err-Evict-clause-shelf
+returns-in-Err-Evict-clause-shelf g c = taken-parts c.args.hit c.take_body.new.hit c.in-Ok.unread c.args.parts.now.store c.cache_found.new.parts.store c.in-Ok.ensures c.in-Err-Evict.ensures.found.store
+
+pub invariant_of-self-2 : goal.invariant_of-self-2
+invariant_of-self-2 g c =
+    let r = c.self.inside in
+    let taken = rw c.status_by.ensures at c.in-Ok-cache_found.ensures.found in
+    driven-found c.args.moment r.cache c.cache_found.new.self r.asks r.wait r.gave_read c.is_cache_locked-self-inside.result r.unread c.in-Ok.unread c.args.meta c.args.hit c.take_body.new.hit c.is_at_most-fresh.result
+    c.args.parts.now.store c.cache_found.new.parts.store c.args.parts.now.lock c.cache_found.new.parts.lock c.self.invariant (rw (← c.self.view_is) at c.requires) c.is_cache_locked-self-inside.ensures c.in-Ok.ensures taken
+
+pub returns-clause-answer : goal.returns-clause-answer
+returns-clause-answer g c = λ l by.
+    let r = c.self.inside in
+    let taken = rw c.status_by.ensures at c.in-Ok-cache_found.ensures.found in
+    let uses = rw c.status_by.ensures at c.in-Ok-cache_found.ensures.used in
+    rw (c.can_seek-complete.ensures, c.given.ensures, ← c.self.view_is) (found-taken g.E.EvictionManager.shard_count g.E.EvictionManager.weighed c.args.moment r.cache r.asks r.wait r.gave_read r.unread l c.args.meta c.args.hit c.is_at_most-fresh.result
+    (record { driven = c.self.invariant; may = rw (← c.self.view_is) at c.requires; by = by; fresh = c.is_at_most-fresh.ensures ∙ ap (at_most c.args.moment) c.fresh_until.ensures })
+    c.take_body.new.hit c.in-Ok.unread c.args.parts.now.store c.cache_found.new.parts.store (g.E.EvictionManager.managed c.args.parts.now.manager) (g.E.EvictionManager.managed c.cache_found.new.parts.manager)
+    c.args.parts.now.lock c.cache_found.new.parts.lock c.cache_found.new.self c.is_cache_locked-self-inside.result c.is_cache_locked-self-inside.ensures c.in-Ok.ensures taken uses)
+
+pub returns-clause-shelf : goal.returns-clause-shelf
+returns-clause-shelf g c =
+    let r = c.self.inside in
+    let taken = rw c.status_by.ensures at c.in-Ok-cache_found.ensures.found in
+    rw (← c.self.view_is) (found-shelf c.args.moment r.cache c.cache_found.new.self r.unread c.args.meta c.take_body.new.hit c.is_at_most-fresh.result
+    c.args.parts.now.store c.cache_found.new.parts.store c.args.parts.now.lock c.cache_found.new.parts.lock c.self.invariant.body taken)

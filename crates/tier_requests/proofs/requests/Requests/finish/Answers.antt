@@ -1,0 +1,14 @@
+use Rattle.std.proofs.Common.{refl, sym}
+use Rattle.tier_requests.proofs.TableLaws.{on-open, on-none}
+use Rattle.tier_requests.proofs.requests.Requests.finish.Goals as goal
+use Rattle.tier_requests.proofs.requests.Requests.finish.Goals.{in-Some, in-None}
+
+pub returns-clause-answer : goal.returns-clause-answer
+returns-clause-answer g c =
+    elim c.match-get_mut.branch [
+      | in-Some w ↦
+          rw (w.self-inside-is, w.parts-is, w.rng-is, w.result-is, ← c.self.view_is)
+          (on-open c.self.inside.table.entries (c.get_mut.follows.lender w.finish.new.self).entries c.args.id w.in-Some.request.now w.finish.new.self _ _ (sym w.in-Some.ensures.value)
+          (c.get_mut.follows.holds w.finish.new.self).0 w.finish.ensures.answer)
+      | in-None w ↦ rw (w.self-inside-is, w.parts-is, w.rng-is, w.result-is, c.get_mut.follows.holds-at-none, ← c.self.view_is) (on-none c.self.inside.table.entries c.args.id _ _ (sym w.in-None.ensures.value) (refl, refl))
+    ]

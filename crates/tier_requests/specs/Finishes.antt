@@ -1,0 +1,63 @@
+-- What the finish of a request's write answers, and what it leaves.
+use Rattle.std.specs.Prelude.{◌≡◌, ⊤, ℕ, true, false, List, length, if◌then◌else◌, Option, Some, None, is_some, Result, Ok, Err}
+use Rattle.rand_core.specs.Stream.{Stream}
+use Rattle.cache_words.specs.Key.{CacheKeyValue}
+use Rattle.cache_entries.specs.declared.rows.Tracked.{Tracked}
+use Rattle.cache_store.specs.declared.storage.MissFinishType.{MissFinishType}
+use Rattle.cache_store.specs.declared.storage.MissFinishType.TheVariants.{Created, Appended}
+use Rattle.cache_store.specs.Held.{Held}
+use Rattle.mem_cache.specs.Misses.{are_numbers_spent}
+use Rattle.cache_parts.specs.declared.done.Done.{Done as StoreDone}
+use Rattle.cache_parts.specs.Admissions.{Rules, Cache, rules_of}
+use Rattle.request_store.specs.declared.faults.Finished.{Finished}
+use Rattle.request_store.specs.declared.faults.FinishFault.{FinishFault}
+use Rattle.request_store.specs.declared.faults.FinishFault.TheVariants as finish
+use Rattle.http_cache.specs.Founds.{entry_at}
+use Rattle.request_store.specs.Finishes.{Finishes}
+use Rattle.http_cache.specs.Finishes.{finish_status}
+use Rattle.tier_model.specs.declared.event.Answer.TheVariants as answer
+use Rattle.tier_model.specs.declared.event.Done.{Done}
+use Rattle.tier_model.specs.declared.event.TierFault.{TierFault}
+use Rattle.tier_model.specs.declared.event.TierFault.TheVariants.{WrongPhase, WriteRemoved, NumbersSpent, TooHeavy, TooLong, Memory}
+use Rattle.tier_model.specs.Calls.{Outcome}
+use Rattle.tier_model.specs.State.{Request}
+
+-- what a finish did, as the tier tells it
+abbrev pub done_as : StoreDone → Done
+done_as done = record { stored = done.stored; admitted = done.admitted; evicted = done.evicted.items }
+
+abbrev pub length_of : MissFinishType → ℕ
+length_of (Created size) = size
+length_of (Appended size bound) = size
+
+-- what the tier tells of a finish's refusal
+abbrev pub told_as : FinishFault → TierFault
+told_as finish.WriteRemoved = WriteRemoved
+told_as (finish.Weight done) = TooHeavy (done_as done)
+told_as (finish.Length done) = TooLong (done_as done)
+told_as (finish.NumbersSpent done) = NumbersSpent (done_as done)
+told_as (finish.Memory done) = Memory (done_as done)
+
+-- and of a finish; a request without a write has none to finish
+abbrev pub told_of : Result (Option Finished) FinishFault → Outcome
+told_of (Ok None) = Err WrongPhase
+told_of (Ok (Some finished)) = Ok (answer.Finished (length_of finished.kind) finished.evicted.items)
+told_of (Err fault) = Err (told_as fault)
+
+module _ (n : ℕ) (weighed : ℕ → ℕ) (pick : List (List Tracked) → Stream → ℕ × Stream) where
+  -- what is known of the store and of the order of use, in n shards
+  abbrev pub rules : Rules Held
+  rules = rules_of (λ h. h) (λ h k. None) (λ h cause h'. ⊤) are_numbers_spent (λ x. Created (length x.bytes)) n weighed pick
+
+  -- the finish of the write of a request, with what it came to in the store and in the order of use
+  pub record Ends (write : ℕ) (q : Request) (old : Cache Held) (r : Outcome) (new : Request) (left : Cache Held) : Type 0 where
+    pub came : Result (Option Finished) FinishFault
+    pub key : Option CacheKeyValue
+    pub entry : q.entry ≡ entry_at key None
+    pub ends : Finishes rules (λ m. m) (λ m. None) write key true came old left
+    pub told : r ≡ told_of came
+    pub request : new ≡ (if is_some (finish_status came) then record q { write = None } else q)
+
+  abbrev pub FinishAnswer : Option ℕ → Request → Cache Held → Outcome → Request → Cache Held → Type 0
+  FinishAnswer None q old r new left = (r ≡ Err WrongPhase) × (new ≡ q) × (left ≡ old)
+  FinishAnswer (Some m) q old r new left = Ends m q old r new left

@@ -1,0 +1,9 @@
+pub mod Codes
+pub mod Faults
+pub mod Shelves
+pub mod Plain
+pub mod Rows
+pub mod Steps
+pub mod Looks
+pub mod Finds
+pub mod Finishes

@@ -1,0 +1,101 @@
+-- A request to a cache as a plain record, and what is so of each request of a tier.
+use Rattle.std.specs.Prelude.{◌≡◌, ℕ, Bool, true, false, List, Option, Some, None, is_some}
+use Rattle.cache_words.specs.Time.{MomentValue, DurationValue}
+use Rattle.cache_words.specs.Key.{CacheKeyValue}
+use Rattle.cache_lock.specs.declared.tokens.Locked.{Locked}
+use Rattle.cache_lock.specs.declared.tokens.Locked.TheVariants.{Write, Read}
+use Rattle.cache_phases.specs.declared.phase.CachePhase.{CachePhase}
+use Rattle.cache_phases.specs.declared.phase.CachePhase.TheVariants as phases
+use Rattle.cache_phases.specs.declared.request_lock.RequestLock.{RequestLock}
+use Rattle.cache_phases.specs.Phases.{is_disabled, is_never_enabled}
+use Rattle.cache_phases.specs.Locks.{is_on, is_read, timeout_of, lock_set, held as lock_held}
+use Rattle.mem_cache.specs.declared.handlers.MemHitHandler.{MemHitHandler}
+use Rattle.mem_cache.specs.declared.handlers.MemHitHandler.TheVariants.{Complete, Partial}
+use Rattle.http_cache.specs.Request.{Request as CacheRequest, HoldsNothing, unused}
+use Rattle.http_cache.specs.Founds.{entry_at}
+use Rattle.tier_model.specs.declared.event.LockGiven.{LockGiven}
+use Rattle.tier_model.specs.declared.event.LockGiven.TheVariants as given
+use Rattle.tier_model.specs.Checks.{can_begin}
+use Rattle.tier_model.specs.State.{Phase, cache_key, hit, stale, miss, begun, disabled, Held, nothing, permit, waits, Reader, closed, unread, spent, streaming, Request}
+
+-- a request to the store in memory: its readers are handlers, and its writer is the number of its write
+abbrev pub Driven : Type 0
+Driven = CacheRequest MemHitHandler ℕ
+
+-- just opened, under a key
+abbrev pub opened_with : CacheKeyValue → Bool → Option DurationValue → Driven
+opened_with key asks wait = record unused {
+  phase = phases.CacheKey;
+  key = Some key;
+  evicts = true;
+  lock = lock_set asks (Some (record { wait_timeout = wait; max_lock_retries = None }));
+}
+
+-- by whether there is a meta: a miss with one has begun its write
+abbrev pub phase_in : CachePhase → Bool → Phase
+phase_in phases.CacheKey meta = cache_key
+phase_in phases.Hit meta = hit
+phase_in phases.Stale meta = stale
+phase_in phases.Miss true = begun
+phase_in phases.Miss false = miss
+phase_in phases.Expired meta = begun
+phase_in _ meta = disabled
+
+-- what is held of the lock, with the moment of a wait's first poll
+abbrev pub held_in : Option Locked → Option MomentValue → Held
+held_in None polled = nothing
+held_in (Some (Write p)) polled = permit p.number
+held_in (Some (Read r)) polled = waits r.number polled
+
+-- what is told of what is held of the lock
+abbrev pub given_of : Held → LockGiven
+given_of nothing = given.None
+given_of (permit n) = given.Write
+given_of (waits n first) = given.Read
+
+-- what there is to read: a whole body that wasn't read yet, or what the request's reader has
+abbrev pub reader_in : Option (List ℕ) → Option MemHitHandler → Reader
+reader_in (Some bytes) reader = unread bytes
+reader_in None None = closed
+reader_in None (Some (Complete h)) = spent
+reader_in None (Some (Partial h)) = streaming h.number h.place
+
+abbrev pub plain_of : Driven → Bool → Option DurationValue → Bool → Option (List ℕ) → Request
+plain_of r asks wait gave_read bytes = record {
+  entry = entry_at r.key None;
+  asks = asks;
+  wait = wait;
+  phase = phase_in r.phase (is_some r.meta);
+  held = held_in (lock_held r.lock) r.lock.polled;
+  waited = r.digest.lock_duration;
+  gave_read = gave_read;
+  write = r.writer;
+  reader = reader_in bytes r.reader;
+}
+
+-- ---- what is so of each
+
+-- the lock is on where the request asks for it, under the longest wait
+pub record IsSet (asks : Bool) (wait : Option DurationValue) (l : RequestLock) : Type 0 where
+  pub on : is_on l ≡ asks
+  pub timeout : is_on l ≡ true → timeout_of l ≡ wait
+
+abbrev pub is_body : Option MemHitHandler → Bool
+is_body (Some (Complete h)) = true
+is_body _ = false
+
+-- a request has a key and uses the manager and the lock until it is disabled, when it holds nothing. It has a write only where one
+-- began, and then nothing of the lock, and bytes that wait to be read only with the reader of their body. One that waits may not begin
+-- a write: its last look-up gave it the wait. No policy is asked, and nothing is hidden from it
+pub record IsDriven (r : Driven) (asks : Bool) (wait : Option DurationValue) (gave_read : Bool) (bytes : Option (List ℕ)) : Type 0 where
+  pub used : is_never_enabled r.phase ≡ false
+  pub key : is_some r.key ≡ true
+  pub admits : r.admits ≡ false
+  pub shown : r.valid_after ≡ None
+  pub evicts : is_disabled r.phase ≡ false → r.evicts ≡ true
+  pub lock : is_disabled r.phase ≡ false → IsSet asks wait r.lock
+  pub idle : is_disabled r.phase ≡ true → HoldsNothing r.reader r.writer r.lock
+  pub writes : is_some r.writer ≡ true → phase_in r.phase (is_some r.meta) ≡ begun
+  pub released : is_some r.writer ≡ true → lock_held r.lock ≡ None
+  pub waits : is_read (lock_held r.lock) ≡ true → can_begin (phase_in r.phase (is_some r.meta)) gave_read ≡ false
+  pub body : is_some bytes ≡ true → is_body r.reader ≡ true

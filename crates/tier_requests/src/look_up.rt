@@ -1,0 +1,157 @@
+//! Look-ups of a request.
+ghost use Rattle.std.specs.Prelude.{◌≡◌, true, None, MatchResult};
+ghost use Rattle.cache_store.specs.Readers.{Parts};
+ghost use Rattle.mem_cache.specs.Readings.{reader_of};
+ghost use Rattle.tier_model.specs.declared.event.Answer.TheVariants.{Absent};
+ghost use Rattle.tier_model.specs.Shelf.{Look};
+ghost use Rattle.tier_model.specs.State.{closed};
+ghost use Rattle.tier_model.specs.Checks.{can_look_up, is_waiting, look_refusal};
+ghost use Rattle.tier_model.specs.After.{turned};
+ghost use Rattle.tier_requests.specs.Shelves.{shelf_of};
+ghost use Rattle.tier_requests.specs.Plain.{given_of};
+ghost use Rattle.tier_requests.specs.Looks.{LookAnswer, lent};
+ghost use Rattle.tier_requests.specs.Finds.{TakeAnswer, status_by, IsFoundBy, FoundAnswer, missed_by};
+
+use crate::faults::{fault_for, lock_fault_for, nothing_done, out_of_memory};
+use crate::request::{Request, TierParts};
+use bytes::Bytes;
+use cache_evict::EvictionManager;
+use cache_heads::CacheMeta;
+use cache_phases::{CachePhase, HitStatus};
+use cache_store::storage::{HandleHit, ReadStep, StoreFault};
+use cache_words::time::Moment;
+use http_cache::{FoundFault, LookUpFault};
+use mem_cache::handlers::MemHitHandler;
+use std::alloc::Global;
+use std::hash::BuildHasher;
+use tier_model::event::{Answer, LockGiven, TierFault};
+
+// Takes the bytes of a whole body out of its reader, which has read them then.
+fn take_body(hit: &mut MemHitHandler) -> Result<Option<Bytes>, StoreFault>
+    ensures { TakeAnswer hit.old result hit.new }
+{
+    match hit {
+        MemHitHandler::Complete(whole) => match whole.read() {
+            Ok(ReadStep::Bytes(bytes)) => Ok(Some(bytes)),
+            Ok(ReadStep::Pending | ReadStep::End) => Ok(Some(Bytes::new())),
+            Err(fault) => Err(fault),
+        },
+        MemHitHandler::Partial(_) => Ok(None),
+    }
+}
+
+// How what was found may be used.
+fn status_by(fresh: bool) -> HitStatus
+    ensures { result ≡ status_by fresh }
+{
+    if fresh {
+        HitStatus::Fresh
+    } else {
+        HitStatus::Expired
+    }
+}
+
+impl<S: BuildHasher> Request<S> {
+    // Why a look-up isn't allowed, if it isn't.
+    fn look_refusal(&self) -> Option<TierFault>
+        ensures { result ≡ look_refusal self.now }
+    {
+        let allowed = match self.cache.phase() {
+            CachePhase::CacheKey | CachePhase::Stale => true,
+            _ => false,
+        };
+        if !allowed || self.has_permit() {
+            return Some(TierFault::WrongPhase);
+        }
+        if self.is_waiting() {
+            return Some(TierFault::Waiting);
+        }
+        None
+    }
+
+    // Nothing was found, and the lock was asked, if it is to be: `gave_read` tells of it. With a wait the phase stays.
+    fn missed<E>(&mut self, parts: &mut TierParts<S, E>) -> Answer
+        requires phase { can_look_up self.old.phase ≡ true }
+        requires told { self.old.gave_read ≡ is_waiting self.old.held }
+        ensures answer { result ≡ Absent (given_of self.old.held) }
+        ensures request { self.new ≡ missed_by self.old }
+        ensures shelf { shelf_of parts.new.store ≡ turned self.old.reader closed (shelf_of parts.old.store) }
+        ensures parts { parts.new ≡ record parts.old { store = parts.new.store } }
+    {
+        let lock = self.given();
+        if !self.gave_read {
+            self.cache.cache_miss();
+        }
+        self.spend_reader(parts);
+        Answer::Absent { lock }
+    }
+
+    // Something was found. A reader that isn't taken is spent.
+    fn found<E: EvictionManager>(
+        &mut self,
+        alloc: Global,
+        parts: &mut TierParts<S, E>,
+        meta: CacheMeta,
+        hit: MemHitHandler,
+        moment: Moment,
+    ) -> Result<Answer, TierFault>
+        requires { look_refusal self.old ≡ None }
+        ensures answer { (l : Look) → IsFoundBy l meta hit → FoundAnswer E.shard_count E.weighed moment self.old l (E.managed parts.old.manager) parts.old.lock
+            result self.new (E.managed parts.new.manager) parts.new.lock }
+        ensures shelf { MatchResult result (λ _. shelf_of parts.new.store ≡ turned self.old.reader closed (shelf_of parts.old.store))
+            (λ _. Parts (reader_of hit) parts.old.store parts.new.store) }
+        ensures parts { parts.new ≡ record parts.old { store = parts.new.store; manager = parts.new.manager; lock = parts.new.lock } }
+    {
+        let mut hit = hit;
+        let complete = hit.can_seek();
+        let fresh = moment.is_at_most(&meta.fresh_until());
+        let unread = match take_body(&mut hit) {
+            Ok(unread) => unread,
+            Err(_) => {
+                hit.finish(&mut parts.store);
+                return Err(out_of_memory(alloc));
+            }
+        };
+        match self
+            .cache
+            .cache_found(alloc, parts, meta, hit, status_by(fresh), moment)
+        {
+            Ok(()) => {}
+            Err(FoundFault::Memory) => return Err(out_of_memory(alloc)),
+            Err(FoundFault::Lock(fault)) => return Err(lock_fault_for(alloc, fault)),
+            Err(FoundFault::Evict(fault)) => return Err(fault_for(fault, nothing_done(alloc))),
+        }
+        self.unread = unread;
+        self.gave_read = self.cache.is_cache_locked();
+        Ok(Answer::Found {
+            fresh,
+            complete,
+            lock: self.given(),
+        })
+    }
+
+    /// Looks up what is stored for the request's key.
+    pub fn look_up<E: EvictionManager>(
+        &mut self,
+        alloc: Global,
+        parts: &mut TierParts<S, E>,
+        moment: Moment,
+    ) -> Result<Answer, TierFault>
+        ensures answer { LookAnswer E.shard_count E.weighed moment self.old (lent (shelf_of parts.old.store) (E.managed parts.old.manager) parts.old.lock)
+            result self.new (lent (shelf_of parts.new.store) (E.managed parts.new.manager) parts.new.lock) }
+        ensures parts { parts.new ≡ record parts.old { store = parts.new.store; manager = parts.new.manager; lock = parts.new.lock } }
+    {
+        if let Some(fault) = self.look_refusal() {
+            return Err(fault);
+        }
+        match self.cache.cache_lookup(parts, moment) {
+            Ok(Some((meta, hit))) => self.found(alloc, parts, meta, hit, moment),
+            Ok(None) => {
+                self.gave_read = self.cache.is_cache_locked();
+                Ok(self.missed(parts))
+            }
+            Err(LookUpFault::Store(_)) => Err(out_of_memory(alloc)),
+            Err(LookUpFault::Lock(fault)) => Err(lock_fault_for(alloc, fault)),
+        }
+    }
+}

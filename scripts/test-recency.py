@@ -1,0 +1,99 @@
+#!/usr/bin/env python3
+"""Replays the traces of crates/trace_cases/data/restarts by tier-replay over a real directory, and compares what is written, the exit status and
+what is left in the directory. With the path of a binary it runs that one, else the one that the last run of the gate or of rt run left.
+
+A line of their index is a trace's name and the words of its options. NAME.before and NAME.after are the directory's files by name, in hex. Traces
+whose names differ in the last letter alone, as a restart-1a and its restart-1b, follow one another over one directory."""
+
+import json
+import os
+import subprocess
+import sys
+import tempfile
+
+TOP = os.path.join(os.path.dirname(os.path.abspath(__file__)), "..")
+DATA = os.path.join(TOP, "crates", "trace_cases", "data", "restarts")
+failures = []
+
+
+def built():
+    program = os.path.join(TOP, "crates", "tier_replay", "out", "tier_replay")
+    if not os.access(program, os.X_OK):
+        words = ["rt", "run", "--", "--limit", "1"]
+        subprocess.run(words, cwd=os.path.join(TOP, "crates", "tier_replay"), stdin=subprocess.DEVNULL, stdout=subprocess.DEVNULL, check=True)
+    return program
+
+
+def data_of(name):
+    with open(os.path.join(DATA, name), "rb") as it:
+        return it.read()
+
+
+def files_of(name):
+    return {file: bytes.fromhex(text) for file, text in json.loads(data_of(name)).items()}
+
+
+def held(folder):
+    found = {}
+    for name in os.listdir(folder):
+        with open(os.path.join(folder, name), "rb") as it:
+            found[name] = it.read()
+    return found
+
+
+def same(what, got, want):
+    if got != want:
+        failures.append(what)
+        print(f"{what}: {got!r} and not {want!r}")
+
+
+def replay(program, words, folder, trace):
+    ran = subprocess.run([program, *words, "--recency", folder], input=trace, stdout=subprocess.PIPE, stderr=subprocess.PIPE)
+    return ran.returncode, ran.stdout
+
+
+def traces(program, place):
+    count = 0
+    for line in data_of("index.txt").decode().splitlines():
+        name, *words = line.split()
+        series = name[:-1] if name[-1].isalpha() else name
+        folder = os.path.join(place, series)
+        before = files_of(name + ".before")
+        if not os.path.isdir(folder):
+            os.mkdir(folder)
+            for file, data in before.items():
+                with open(os.path.join(folder, file), "wb") as it:
+                    it.write(data)
+        same(f"{name}, the directory before", held(folder), before)
+        status, text = replay(program, words, folder, data_of(name + ".jsonl"))
+        same(f"{name}, what is written", text, data_of(name + ".out"))
+        same(f"{name}, the exit status", status, 0)
+        same(f"{name}, the directory after", held(folder), files_of(name + ".after"))
+        count += 1
+    return count
+
+
+def others(program, place):
+    """A directory that isn't there yet is made; a file in its place can't be one, and nothing is saved."""
+    report = b"report found=0 absent=0 bodies=0 bytes=0 tracked=0 weight=0 evicted=0\n"
+    new = os.path.join(place, "new")
+    made = b"recency loaded=0 missing=4 errored=0\n" + report + b"recency saved=4 failed=0\n"
+    same("a new directory", replay(program, ["--limit", "1", "--shards", "4"], new, b""), (0, made))
+    same("a new directory's files", held(new), {f"lru.data.{at}": b"\x90" for at in range(4)})
+    again = b"recency loaded=4 missing=0 errored=0\n" + report + b"recency saved=4 failed=0\n"
+    same("that directory again", replay(program, ["--limit", "1", "--shards", "4"], new, b""), (0, again))
+    file = os.path.join(new, "lru.data.0")
+    status, text = replay(program, ["--limit", "1", "--shards", "4"], file, b"")
+    same("a file in its place", (status, text.splitlines()[-1]), (1, b"recency saved=0 failed=4"))
+
+
+def main():
+    program = os.path.abspath(sys.argv[1]) if len(sys.argv) > 1 else built()
+    with tempfile.TemporaryDirectory() as place:
+        count = traces(program, place)
+        others(program, place)
+    print(f"restarts: {count} traces, {len(failures)} differences")
+    sys.exit(bool(failures))
+
+
+main()
