@@ -14,6 +14,7 @@ pub mod BelowLaws
 pub mod TableLaws
 pub mod FindLaws
 pub mod LookLaws
+pub mod ToldLaws
 pub mod GivenLaws
 pub mod LookUpLaws
 pub mod TakeLaws
