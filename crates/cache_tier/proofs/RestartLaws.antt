@@ -77,9 +77,6 @@ module _ {D : Type 0} (did : D → Call → Outcome → D → Type 0) (failures 
       let kept = stays s.managed m' old new came loads in
       let still : IsNew (record s { managed = m' }) = record {
         bodies = is_new.bodies;
-        flying = is_new.flying;
-        readers = is_new.readers;
-        lock = is_new.lock;
         requests = is_new.requests;
         found = is_new.found;
         absent = is_new.absent;

@@ -1,12 +1,12 @@
 //! Look-ups of responses that are fresh at a moment: their metas stay in the store.
-ghost use Rattle.std.specs.Prelude.{◌≡◌, true, false, IfErr};
+ghost use Rattle.std.specs.Prelude.{◌≡◌, true, false};
 ghost use Rattle.cache_store.specs.Looks.{shows};
 ghost use Rattle.cache_phases.specs.declared.hit.HitStatus.TheVariants.{Fresh as FreshStatus};
 ghost use Rattle.cache_phases.specs.Phases.{can_look_up};
 ghost use Rattle.cache_phases.specs.Locks.{holds_permit};
 ghost use Rattle.http_cache.specs.Request.{stored_at};
 ghost use Rattle.http_cache.specs.Points.{point};
-ghost use Rattle.http_cache.specs.Founds.{entry_at, is_counted, UseAnswer, IsUntracked};
+ghost use Rattle.http_cache.specs.Founds.{entry_at, is_counted, UseAnswer};
 ghost use Rattle.http_cache.specs.Freshes.{LookUpAtAnswer, TakesFresh};
 
 use crate::request::HttpCache;
@@ -70,7 +70,6 @@ impl<S: Storage> HttpCache<S> {
         ensures found { TakesFresh S.Hit.reader hit (point self.old (S.held parts.old.store) (L.state parts.old.lock)) result (point self.new (S.held parts.new.store) (L.state parts.new.lock)) }
         ensures used { UseAnswer E.shard_count (is_counted S.Hit.counts hit FreshStatus self.old) (entry_at self.old.key (S.Hit.id hit)) (E.weighed (S.Hit.weight hit))
             (E.managed parts.old.manager) result (E.managed parts.new.manager) }
-        ensures untracked { IfErr result (λ fault. IsUntracked E.shard_count (entry_at self.old.key (S.Hit.id hit)) fault (E.managed parts.old.manager)) }
         ensures ids { S.ids parts.new.store ≡ S.ids parts.old.store }
         ensures parts { parts.new ≡ record parts.old { store = parts.new.store; manager = parts.new.manager } }
     {

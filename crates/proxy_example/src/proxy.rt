@@ -4,7 +4,7 @@ ghost use Rattle.proxy_example.specs.Carries.{CarriesOn};
 use cache_tier::{Action, Answer, Bytes, CacheKey, Event, Moment, Pieces, Tier, TierFault};
 use rand_core::Rng;
 
-// A proxy that serves many clients at once numbers its requests; this one serves one at a time, and so asks for no lock.
+// A proxy that serves many clients at once numbers its requests; this one serves one at a time.
 const REQUEST: u64 = 1;
 
 fn ask<R: Rng>(
@@ -30,7 +30,6 @@ fn read_fresh<R: Rng>(
         Answer::Found {
             fresh: true,
             complete: true,
-            lock: _,
         } => {}
         _ => return Ok(None),
     }
@@ -56,7 +55,6 @@ pub fn find<R: Rng>(
         Action::Open {
             request: REQUEST,
             key,
-            lock: false,
         },
     )?;
     let found = read_fresh(tier, rng, moment);

@@ -5,27 +5,28 @@ use Rattle.std.specs.FinMap.{get}
 use Rattle.cache_words.specs.Time.{MomentValue, DurationValue}
 use Rattle.cache_lock.specs.declared.tokens.Locked.{Locked}
 use Rattle.cache_lock.specs.declared.tokens.Locked.TheVariants.{Write, Read}
+use Rattle.cache_lock.specs.declared.tokens.ReadLock.{ReadLock}
 use Rattle.cache_lock.specs.declared.lock_core.HeldCore.{HeldCore}
 use Rattle.cache_lock.specs.declared.status.LockStatus.{LockStatus}
 use Rattle.cache_lock.specs.declared.status.LockStatus.TheVariants as status
 use Rattle.cache_lock.specs.declared.fills.LockWaitOutcome.{LockWaitOutcome}
 use Rattle.cache_lock.specs.declared.fills.WaitOutcome.{WaitOutcome}
-use Rattle.cache_lock.specs.declared.fills.UnusableFill.{UnusableFill}
 use Rattle.cache_lock.specs.declared.fills.WaitOutcome.TheVariants as poll
 use Rattle.cache_lock.specs.Status.{is_waiting}
+use Rattle.cache_phases.specs.Digests.{added}
 use Rattle.cache_lock.specs.Outcomes.{status_of_outcome}
 use Rattle.cache_lock.specs.Answers.{outcome, is_over_age, wait_outcome}
-use Rattle.cache_lock.specs.State.{LockState, status_in, status_of, tokens_of}
+use Rattle.cache_lock.specs.State.{LockState, status_in, status_of, tokens_of, after_all}
 use Rattle.cache_phases.specs.declared.lock_ctx.LockCtx.{LockCtx}
 use Rattle.cache_phases.specs.declared.request_lock.RequestLock.{RequestLock}
 use Rattle.cache_phases.specs.declared.digest.HttpCacheDigest.{HttpCacheDigest}
-use Rattle.cache_phases.specs.Phases.{is_disabled}
-use Rattle.cache_phases.specs.Locks.{held, is_read, is_on, timeout_of}
-use Rattle.cache_phases.specs.Waits.{is_over_timeout, told, wait_told, time_waited}
+use Rattle.cache_phases.specs.Locks.{held, is_read, timeout_of}
+use Rattle.cache_phases.specs.Waits.{is_over_timeout, is_over, told, wait_told, found_by, time_waited, request_polled, lock_polled, digest_polled}
 use Rattle.tier_model.specs.Own as own
-use Rattle.tier_model.specs.State.{Request}
+use Rattle.tier_model.specs.State.{nothing, waits, Request}
 use Rattle.tier_model.specs.Answers.{ended_by, is_past, polled}
-use Rattle.tier_requests.specs.Plain.{Driven, held_in, plain_of, IsDriven}
+use Rattle.tier_model.specs.After.{after_wait, poll_of}
+use Rattle.tier_requests.specs.Plain.{Driven, held_in, plain_of}
 
 -- what is found of a core with that status, past its age or not
 abbrev found : LockStatus → Bool → Option WaitOutcome
@@ -70,24 +71,53 @@ poll-told (Some c) first d q t s reads wait waited = by_lock c.lock refl reads
         (core_told (get s.cores rd.number) (tokens_of rd.number s) t (is_over_timeout c.wait_timeout d.lock_duration (time_waited (lock_with (Some c) first) t))
         ∙ ap (ended_by (wait_outcome rd.number [] t s) (status_of rd.number s)) (over_same c.wait_timeout d.lock_duration (own.time_waited first t)))
 
--- ---- a request that waits
+-- what it changes in the lock
+pub poll-lock : (ctx : Option LockCtx) (first : Option MomentValue) (d : HttpCacheDigest) (t : MomentValue) (s : LockState) → is_read (held (lock_with ctx first)) ≡ true
+    → lock_polled (lock_with ctx first) (found_by (lock_with ctx first) [] t s) (wait_told (lock_with ctx first) d [] t s) s
+        ≡ after_all (poll_of t (held_in (held (lock_with ctx first)) first) (option_map status_of_outcome (wait_told (lock_with ctx first) d [] t s)) s) s
+poll-lock None first d t s reads = absurd cc
+poll-lock (Some c) first d t s reads = by_lock c.lock refl reads
+  where
+    r : RequestLock
+    r = lock_with (Some c) first
 
-on_with : (ctx : Option LockCtx) (first : Option MomentValue) → is_read (held (lock_with ctx first)) ≡ true → is_on (lock_with ctx first) ≡ true
-on_with None first reads = absurd cc
-on_with (Some c) first reads = refl
+    by_found : (rd : ReadLock) (w : Option WaitOutcome) (st : LockStatus) (over : Bool) → c.lock ≡ Some (Read rd) → wait_outcome rd.number [] t s ≡ w
+        → lock_polled r w (told st over w) s ≡ after_all (poll_of t (waits rd.number first) (option_map status_of_outcome (told st over w)) s) s
+    by_found rd (Some f) st over e is = rw (e, is) refl
+    by_found rd None st true e is = rw (e, is) refl
+    by_found rd None st false e is = rw e refl
 
-module _ (d : Driven) (asks : Bool) (wait : Option DurationValue) (gave : Bool) (bytes : Option (List ℕ)) (i : IsDriven d asks wait gave bytes) (reads : is_read (held d.lock) ≡ true) where
-  -- it is no disabled one
-  waits-on : is_disabled d.phase ≡ false
-  waits-on = by_test (is_disabled d.phase) refl
-    where
-      by_test : (t : Bool) → is_disabled d.phase ≡ t → t ≡ false
-      by_test false e = refl
-      by_test true e = sym reads ∙ ap (λ (l : RequestLock). is_read (held l)) (i.idle e).lock
+    by_lock : (l : Option Locked) → c.lock ≡ l → is_read l ≡ true
+        → lock_polled r (found_by r [] t s) (wait_told r d [] t s) s ≡ after_all (poll_of t (held_in c.lock first) (option_map status_of_outcome (wait_told r d [] t s)) s) s
+    by_lock None e reads = absurd cc
+    by_lock (Some (Write p)) e reads = absurd cc
+    by_lock (Some (Read rd)) e reads = rw e (by_found rd (wait_outcome rd.number [] t s) (status_of rd.number s) (is_over r d t) e refl)
 
-  -- what it is told, where no fill is unusable
-  pub wait-told : (fills : List UnusableFill) (o : Option LockWaitOutcome) (t : MomentValue) (s : LockState) → fills ≡ [] → o ≡ wait_told d.lock d.digest fills t s
-      → option_map status_of_outcome o ≡ polled s t (plain_of d asks wait gave bytes) (held_in (held d.lock) d.lock.polled)
-  wait-told fills o t s none e =
-      ap (option_map status_of_outcome) (e ∙ ap (λ (fs : List UnusableFill). wait_told d.lock d.digest fs t s) none)
-      ∙ poll-told d.lock.ctx d.lock.polled d.digest (plain_of d asks wait gave bytes) t s reads ((i.lock waits-on).timeout (on_with d.lock.ctx d.lock.polled reads)) refl
+-- the request after it
+pub poll-left : (r : Driven) (asks : Bool) (wait : Option DurationValue) (gave : Bool) (bytes : Option (List ℕ)) (o : Option LockWaitOutcome) (t : MomentValue) → is_read (held r.lock) ≡ true
+    → plain_of (record r { lock = request_polled o t r.lock; digest = digest_polled o (time_waited r.lock t) r.digest }) asks wait gave bytes
+        ≡ after_wait t (option_map status_of_outcome o) (held_in (held r.lock) r.lock.polled) (plain_of r asks wait gave bytes)
+poll-left r asks wait gave bytes o t reads = by_ctx r.lock.ctx refl
+  where
+    now : DurationValue
+    now = time_waited r.lock t
+
+    ended : Driven → Request
+    ended r = record (plain_of r asks wait gave bytes) { held = nothing }
+
+    more : (d : Option DurationValue) → added d now ≡ own.in_all d now
+    more None = refl
+    more (Some before) = refl
+
+    by_lock : (c : LockCtx) (l : Option Locked) → r.lock.ctx ≡ Some c → c.lock ≡ l → (o : Option LockWaitOutcome)
+        → plain_of (record r { lock = request_polled o t r.lock; digest = digest_polled o (time_waited r.lock t) r.digest }) asks wait gave bytes
+            ≡ after_wait t (option_map status_of_outcome o) (held_in (held r.lock) r.lock.polled) (plain_of r asks wait gave bytes)
+    by_lock c None there e o = let none : is_read (held r.lock) ≡ false = rw (there, e) refl in absurd cc
+    by_lock c (Some (Write p)) there e o = let none : is_read (held r.lock) ≡ false = rw (there, e) refl in absurd cc
+    by_lock c (Some (Read rd)) there e None = rw (there, e) refl
+    by_lock c (Some (Read rd)) there e (Some out) = rw (there, e) (ap (λ (d : Option DurationValue). record (ended r) { waited = d }) (more r.digest.lock_duration))
+
+    by_ctx : (ctx : Option LockCtx) → r.lock.ctx ≡ ctx → plain_of (record r { lock = request_polled o t r.lock; digest = digest_polled o (time_waited r.lock t) r.digest }) asks wait gave bytes
+        ≡ after_wait t (option_map status_of_outcome o) (held_in (held r.lock) r.lock.polled) (plain_of r asks wait gave bytes)
+    by_ctx None e = let none : is_read (held r.lock) ≡ false = rw e refl in absurd cc
+    by_ctx (Some c) e = by_lock c c.lock e refl o

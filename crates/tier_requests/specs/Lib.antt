@@ -5,5 +5,4 @@ pub mod Plain
 pub mod Rows
 pub mod Steps
 pub mod Looks
-pub mod Finds
 pub mod Finishes

@@ -8,14 +8,11 @@ use Rattle.cache_phases.specs.declared.phase.CachePhase.{CachePhase}
 use Rattle.cache_phases.specs.declared.phase.CachePhase.TheVariants as phases
 use Rattle.cache_phases.specs.declared.request_lock.RequestLock.{RequestLock}
 use Rattle.cache_phases.specs.Phases.{is_disabled, is_never_enabled}
-use Rattle.cache_phases.specs.Locks.{is_on, is_read, timeout_of, lock_set, held as lock_held}
+use Rattle.cache_phases.specs.Locks.{is_on, timeout_of, lock_set, held as lock_held}
 use Rattle.mem_cache.specs.declared.handlers.MemHitHandler.{MemHitHandler}
 use Rattle.mem_cache.specs.declared.handlers.MemHitHandler.TheVariants.{Complete, Partial}
 use Rattle.http_cache.specs.Request.{Request as CacheRequest, HoldsNothing, unused}
 use Rattle.http_cache.specs.Founds.{entry_at}
-use Rattle.tier_model.specs.declared.event.LockGiven.{LockGiven}
-use Rattle.tier_model.specs.declared.event.LockGiven.TheVariants as given
-use Rattle.tier_model.specs.Checks.{can_begin}
 use Rattle.tier_model.specs.State.{Phase, cache_key, hit, stale, miss, begun, disabled, Held, nothing, permit, waits, Reader, closed, unread, spent, streaming, Request}
 
 -- a request to the store in memory: its readers are handlers, and its writer is the number of its write
@@ -46,12 +43,6 @@ abbrev pub held_in : Option Locked → Option MomentValue → Held
 held_in None polled = nothing
 held_in (Some (Write p)) polled = permit p.number
 held_in (Some (Read r)) polled = waits r.number polled
-
--- what is told of what is held of the lock
-abbrev pub given_of : Held → LockGiven
-given_of nothing = given.None
-given_of (permit n) = given.Write
-given_of (waits n first) = given.Read
 
 -- what there is to read: a whole body that wasn't read yet, or what the request's reader has
 abbrev pub reader_in : Option (List ℕ) → Option MemHitHandler → Reader
@@ -85,9 +76,9 @@ is_body (Some (Complete h)) = true
 is_body _ = false
 
 -- a request has a key and uses the manager and the lock until it is disabled, when it holds nothing. It has a write only where one
--- began, and then nothing of the lock, and bytes that wait to be read only with the reader of their body. One that waits may not begin
--- a write: its last look-up gave it the wait. No policy is asked, and nothing is hidden from it
-pub record IsDriven (r : Driven) (asks : Bool) (wait : Option DurationValue) (gave_read : Bool) (bytes : Option (List ℕ)) : Type 0 where
+-- began, and then nothing of the lock, and bytes that wait to be read only with the reader of their body. No policy is asked, and
+-- nothing is hidden from it
+pub record IsDriven (r : Driven) (asks : Bool) (wait : Option DurationValue) (bytes : Option (List ℕ)) : Type 0 where
   pub used : is_never_enabled r.phase ≡ false
   pub key : is_some r.key ≡ true
   pub admits : r.admits ≡ false
@@ -97,5 +88,4 @@ pub record IsDriven (r : Driven) (asks : Bool) (wait : Option DurationValue) (ga
   pub idle : is_disabled r.phase ≡ true → HoldsNothing r.reader r.writer r.lock
   pub writes : is_some r.writer ≡ true → phase_in r.phase (is_some r.meta) ≡ begun
   pub released : is_some r.writer ≡ true → lock_held r.lock ≡ None
-  pub waits : is_read (lock_held r.lock) ≡ true → can_begin (phase_in r.phase (is_some r.meta)) gave_read ≡ false
   pub body : is_some bytes ≡ true → is_body r.reader ≡ true

@@ -1,5 +1,5 @@
 -- What a store holds, as a tier's state has it.
-use Rattle.std.specs.Prelude.{◌≡◌, ◌<◌, ◌≤◌, ℕ, ◌+◌, List, map, Some, None}
+use Rattle.std.specs.Prelude.{◌≡◌, ◌<◌, ◌≤◌, ℕ, ◌+◌, List, map, None}
 use Rattle.std.specs.List.{AllByRecursion}
 use Rattle.std.specs.FinMap.{from_entries, get}
 use Rattle.cache_heads.specs.declared.meta.CacheMeta.{CacheMeta}
@@ -10,9 +10,9 @@ use Rattle.tier_model.specs.declared.state.Body.{Body}
 use Rattle.tier_model.specs.Rows.{Bodies}
 use Rattle.tier_model.specs.Shelf.{InFlight, Readers, Shelf}
 
--- a meta but for the provenance that a response keeps which replaces a stale one: that of a new response is the moment at which it was made
+-- a meta but for the provenance that a response keeps which replaces a stale one
 abbrev pub own_meta : CacheMeta → CacheMeta
-own_meta m = record m { internal = record m.internal { provenance = Some m.internal.created } }
+own_meta m = record m { internal = record m.internal { provenance = None } }
 
 -- the body that a store has
 abbrev pub found_in : Stored CacheMeta → Body

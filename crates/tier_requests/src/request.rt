@@ -7,7 +7,7 @@ ghost use Rattle.tier_model.specs.State.{closed};
 ghost use Rattle.tier_model.specs.After.{opened_request, leave_of, turned, on_write};
 ghost use Rattle.tier_model.specs.Shelf.{landed};
 ghost use Rattle.tier_requests.specs.Shelves.{shelf_of};
-ghost use Rattle.tier_requests.specs.Plain.{opened_with, given_of};
+ghost use Rattle.tier_requests.specs.Plain.{opened_with};
 
 use crate::keys::kept_key;
 use bytes::Bytes;
@@ -42,6 +42,7 @@ pub struct Request<S: BuildHasher> {
 
 impl<S: BuildHasher> Model for Request<S> {
     ghost use Rattle.tier_model.specs.State.{Request as Plain};
+
     ghost use Rattle.tier_requests.specs.Codes.{request_code};
 
     ghost Value = { Plain };
@@ -52,16 +53,16 @@ impl<S: BuildHasher> Model for Request<S> {
 
     ghost view = { λ r. plain_of r.cache r.asks r.wait r.gave_read r.unread };
 
-    ghost invariant = { λ r. IsDriven r.cache r.asks r.wait r.gave_read r.unread };
+    ghost invariant = { λ r. IsDriven r.cache r.asks r.wait r.unread };
 }
 
 // A request to a cache under that key.
 fn opened<S: BuildHasher>(
     key: CacheKey,
     asks: bool,
-    wait: &Option<Duration>,
+    wait: Option<Duration>,
 ) -> HttpCache<MemCache<S>>
-    ensures { result ≡ opened_with key asks wait.now }
+    ensures { result ≡ opened_with key asks wait }
 {
     let mut cache = HttpCache::new();
     let uses = Uses {
@@ -70,26 +71,12 @@ fn opened<S: BuildHasher>(
         lock: asks,
     };
     let options = CacheOptionOverrides {
-        wait_timeout: *wait,
+        wait_timeout: wait,
         max_lock_retries: None,
     };
     cache.enable(uses, Some(options));
     cache.set_cache_key(key);
     cache
-}
-
-// A request that was just opened, under a key that is kept.
-fn opened_request<S: BuildHasher>(key: CacheKey, asks: bool, wait: Option<Duration>) -> Request<S>
-    ensures { result ≡ opened_request wait (entry_of key) asks }
-{
-    let cache = opened(key, asks, &wait);
-    Request {
-        cache,
-        asks,
-        wait,
-        gave_read: false,
-        unread: None,
-    }
 }
 
 impl<S: BuildHasher> Request<S> {
@@ -107,7 +94,13 @@ impl<S: BuildHasher> Request<S> {
         ensures { IfOk result (λ q. q ≡ opened_request wait (entry_of key.now) asks) }
     {
         match kept_key(alloc, key) {
-            Ok(kept) => Ok(opened_request(kept, asks, wait)),
+            Ok(kept) => Ok(Request {
+                cache: opened(kept, asks, wait),
+                asks,
+                wait,
+                gave_read: false,
+                unread: None,
+            }),
             Err(fault) => Err(fault),
         }
     }
@@ -166,9 +159,7 @@ impl<S: BuildHasher> Request<S> {
     }
 
     // What it holds of the lock.
-    pub(crate) fn given(&self) -> LockGiven
-        ensures { result ≡ given_of self.now.held }
-    {
+    pub(crate) fn given(&self) -> LockGiven {
         if self.has_permit() {
             return LockGiven::Write;
         }

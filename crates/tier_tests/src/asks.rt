@@ -11,17 +11,8 @@ const HEAD: &[u8] = b"HTTP/1.1 200 OK\r\nCache-Control: max-age=100\r\n\r\n";
 #[derive(Clone, Copy)]
 pub(crate) enum Ask {
     Open(u64, u8),
-    // The same, with look-ups that ask for the permit to write.
-    OpenLocked(u64, u8),
     Look(u64),
-    Poll(u64),
-    // A write of what is fresh for 100 seconds.
-    Begin(u64),
-    Piece(u64, &'static [u8]),
-    Finish(u64),
     Read(u64),
-    Drop(u64),
-    Purge(u8),
     // A body that is fresh for 100 seconds.
     Put(u8, &'static [u8]),
 }
@@ -29,11 +20,6 @@ pub(crate) enum Ask {
 fn key(alloc: Global, name: u8) -> Option<CacheKey> {
     let primary = Vec::from_slice(alloc, &[name]).ok()?;
     Some(CacheKey::new(primary, String::new(alloc)))
-}
-
-fn open(alloc: Global, request: u64, name: u8, lock: bool) -> Option<Action> {
-    let key = key(alloc, name)?;
-    Some(Action::Open { request, key, lock })
 }
 
 fn put(alloc: Global, name: u8, body: &'static [u8]) -> Option<Action> {
@@ -45,25 +31,12 @@ fn put(alloc: Global, name: u8, body: &'static [u8]) -> Option<Action> {
 
 fn action(alloc: Global, ask: Ask) -> Option<Action> {
     match ask {
-        Ask::Open(request, name) => open(alloc, request, name, false),
-        Ask::OpenLocked(request, name) => open(alloc, request, name, true),
+        Ask::Open(request, name) => {
+            let key = key(alloc, name)?;
+            Some(Action::Open { request, key })
+        }
         Ask::Look(request) => Some(Action::LookUp { request }),
-        Ask::Poll(request) => Some(Action::Poll { request }),
-        Ask::Begin(request) => Some(Action::Begin {
-            request,
-            head: Bytes::from_static(HEAD),
-        }),
-        Ask::Piece(request, bytes) => Some(Action::Piece {
-            request,
-            bytes: Bytes::from_static(bytes),
-            end: false,
-        }),
-        Ask::Finish(request) => Some(Action::Finish { request }),
         Ask::Read(request) => Some(Action::Read { request }),
-        Ask::Drop(request) => Some(Action::Drop { request }),
-        Ask::Purge(name) => Some(Action::Purge {
-            key: key(alloc, name)?,
-        }),
         Ask::Put(name, body) => put(alloc, name, body),
     }
 }

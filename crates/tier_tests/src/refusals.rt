@@ -1,286 +1,238 @@
 //! Each refused growth in turn.
-use crate::asks::Ask;
-use crate::outcomes::{Outcome, empty_tier, is_answer, is_ready, step};
-use crate::runs::goes_through;
+use crate::asks::{Ask, event, events};
+use cache_store::storage::Storage;
 use cache_tier::tier::Tier;
-use std::alloc::{AllocError, Global};
-use tier_model::event::LockGiven;
+use cache_words::time::{Duration, Moment};
+use rand_pcg::Pcg32;
+use std::alloc::Global;
+use tier_model::event::{Action, Answer, Done, Event, TierFault};
 
-// A call on a tier of which something was asked before.
+const OPEN: Ask = Ask::Open(1, b'a');
+
+fn look() -> Event {
+    Event {
+        moment: Moment::from_seconds(7),
+        action: Action::LookUp { request: 1 },
+    }
+}
+
+// What came of an event, as a plain value.
+#[derive(Clone, Copy, PartialEq, Eq)]
+enum Outcome {
+    Opened,
+    Found,
+    Absent,
+    // Whether the bytes are those of a body that the fixture puts.
+    Read(bool),
+    // A body of so many bytes, with so many evictions.
+    Finished(usize, usize),
+    // Memory ran out before anything was done.
+    Refused,
+    // Memory ran out before the admission of a put, or before its first eviction, so that its body was taken back.
+    TakenBack,
+    NoRequest,
+    WrongPhase,
+    Else,
+}
+
+fn refusal(done: &Done) -> Outcome {
+    match (done.stored, done.admitted, done.evicted.as_slice().len()) {
+        (false, false, 0) => Outcome::Refused,
+        (true, _, 0) => Outcome::TakenBack,
+        _ => Outcome::Else,
+    }
+}
+
+fn outcome_of(answer: &Result<Answer, TierFault>) -> Outcome {
+    match answer {
+        Ok(Answer::Opened) => Outcome::Opened,
+        Ok(Answer::Found { fresh, complete }) if *fresh && *complete => Outcome::Found,
+        Ok(Answer::Absent) => Outcome::Absent,
+        Ok(Answer::Bytes(bytes)) => Outcome::Read(bytes.as_slice() == b"xx".as_slice()),
+        Ok(Answer::Finished { length, evicted }) => {
+            Outcome::Finished(*length, evicted.as_slice().len())
+        }
+        Err(TierFault::Memory(done)) => refusal(done),
+        Err(TierFault::NoRequest) => Outcome::NoRequest,
+        Err(TierFault::WrongPhase) => Outcome::WrongPhase,
+        _ => Outcome::Else,
+    }
+}
+
+fn step(tier: &mut Tier<1>, event: &Event) -> Outcome {
+    let mut rng = Pcg32::new(1, 1);
+    let answer = tier.step(&mut rng, event);
+    outcome_of(&answer)
+}
+
+// A tier with a body of two bytes under each name, and request 1 open for a where that is asked, if no allocation failed on
+// the way.
+fn fixture(alloc: Global, limit: usize, names: &[u8], is_open: bool) -> Option<Tier<1>> {
+    let mut tier = Tier::<1>::new(alloc, limit, None, Duration::from_seconds(1), None).ok()?;
+    for &name in names {
+        let put = event(alloc, Ask::Put(name, b"xx"))?;
+        if step(&mut tier, &put) != Outcome::Finished(2, 0) {
+            return None;
+        }
+    }
+    if is_open {
+        let open = event(alloc, OPEN)?;
+        if step(&mut tier, &open) != Outcome::Opened {
+            return None;
+        }
+    }
+    Some(tier)
+}
+
+// A call on a fixture.
 #[derive(Clone, Copy)]
 struct Row {
     limit: usize,
-    before: &'static [Ask],
+    names: &'static [u8],
+    is_open: bool,
     ask: Ask,
-    // What comes of it where memory is there, and what comes of what is asked then.
+    // What comes of it where memory is there.
     want: Outcome,
-    after: &'static [(Ask, Outcome)],
-    // What comes of what is asked after a refusal that did nothing, and after one that took a body back.
-    refused: &'static [(Ask, Outcome)],
-    taken_back: &'static [(Ask, Outcome)],
+    // What a look after it gives.
+    look: Outcome,
+    // What a look after its refusal gives.
+    look_after_refusal: Outcome,
 }
 
-// What came of a row.
-#[derive(Clone, Copy, PartialEq, Eq)]
-enum Held {
-    Answered,
-    // Memory was refused, and what is left is as before.
-    Refused,
-    // Memory was refused before the call or after it.
-    Elsewhere,
-    Broken,
-}
+const ROWS: &[Row] = &[
+    Row {
+        limit: 4,
+        names: b"a",
+        is_open: true,
+        ask: Ask::Put(b'b', b"xxxxx"),
+        want: Outcome::Finished(5, 2),
+        look: Outcome::Absent,
+        look_after_refusal: Outcome::Found,
+    },
+    Row {
+        limit: 4,
+        names: b"a",
+        is_open: false,
+        ask: OPEN,
+        want: Outcome::Opened,
+        look: Outcome::Found,
+        look_after_refusal: Outcome::NoRequest,
+    },
+    Row {
+        limit: 8,
+        names: b"abcd",
+        is_open: true,
+        ask: Ask::Look(1),
+        want: Outcome::Found,
+        look: Outcome::WrongPhase,
+        look_after_refusal: Outcome::Found,
+    },
+];
 
-// Whether what is asked has these outcomes; `held` where it does.
-fn follow(alloc: Global, tier: &mut Tier<1>, asks: &[(Ask, Outcome)], held: Held) -> Held {
-    for &(ask, want) in asks {
-        let outcome = step(alloc, tier, ask);
-        if outcome != want {
-            return if is_answer(outcome) || outcome == Outcome::Else {
-                Held::Broken
-            } else {
-                Held::Elsewhere
-            };
-        }
-    }
-    held
-}
-
-// What comes of the row's call, by a tier of which was asked what comes before it.
-fn call(alloc: Global, tier: &mut Tier<1>, row: &Row) -> Held {
+// `None` where memory is refused before the call.
+fn row_holds(alloc: Global, row: Row) -> Option<bool> {
+    let event = event(alloc, row.ask)?;
+    let mut tier = fixture(alloc, row.limit, row.names, row.is_open)?;
     let before = tier.report();
-    let outcome = step(alloc, tier, row.ask);
-    let is_same = tier.report() == before;
-    match outcome {
-        Outcome::Unasked => Held::Elsewhere,
-        Outcome::Refused if is_same => follow(alloc, tier, row.refused, Held::Refused),
-        Outcome::TakenBack if is_same => follow(alloc, tier, row.taken_back, Held::Refused),
-        outcome => {
-            if outcome == row.want {
-                follow(alloc, tier, row.after, Held::Answered)
-            } else {
-                Held::Broken
-            }
+    let first = step(&mut tier, &event);
+    let is_put = matches!(row.ask, Ask::Put(_, _));
+    if first == Outcome::Refused || is_put && first == Outcome::TakenBack {
+        return Some(tier.report() == before && step(&mut tier, &look()) == row.look_after_refusal);
+    }
+    Some(first == row.want && step(&mut tier, &look()) == row.look)
+}
+
+#[test]
+fn calls_without_memory_leave_all(rt: HostRuntime) {
+    let mut failed: Option<usize> = None;
+    for (i, &row) in ROWS.iter().enumerate() {
+        if row_holds(rt.alloc(), row) == Some(false) {
+            failed = Some(i);
         }
     }
+    assert!(rt; failed == None);
 }
 
-fn row_on(alloc: Global, tier: &mut Tier<1>, row: &Row) -> Held {
-    if is_ready(alloc, tier, row.before) {
-        call(alloc, tier, row)
-    } else {
-        Held::Elsewhere
+// A read takes no memory, whatever fails. `None` where memory is refused before it.
+fn read_comes(alloc: Global) -> Option<bool> {
+    let mut tier = fixture(alloc, 4, b"a", true)?;
+    if step(&mut tier, &look()) != Outcome::Found {
+        return None;
+    }
+    let read = event(alloc, Ask::Read(1))?;
+    Some(step(&mut tier, &read) == Outcome::Read(true))
+}
+
+#[test]
+fn a_read_takes_no_memory(rt: HostRuntime) {
+    assert!(rt; read_comes(rt.alloc()) != Some(false));
+}
+
+fn run_leaves_all(alloc: Global) -> Option<bool> {
+    let mut rng = Pcg32::new(1, 1);
+    let mut tier = fixture(alloc, 4, b"a", true)?;
+    let before = tier.report();
+    match tier.run(&mut rng, &[look()]) {
+        Ok(outcomes) => Some(outcomes.len() == 1),
+        Err(_) => Some(tier.report() == before),
     }
 }
 
-fn row_holds(alloc: Global, row: &Row) -> Held {
-    match empty_tier(alloc, row.limit) {
-        Ok(mut tier) => row_on(alloc, &mut tier, row),
-        Err(AllocError) => Held::Elsewhere,
-    }
+#[test]
+fn a_run_without_memory_does_nothing(rt: HostRuntime) {
+    assert!(rt; run_leaves_all(rt.alloc()) != Some(false));
 }
 
-const PUT: Row = Row {
-    limit: 4,
-    before: &[Ask::Put(b'a', b"xx"), Ask::Open(1, b'a')],
-    ask: Ask::Put(b'b', b"xxxxx"),
-    want: Outcome::Finished(5, 2),
-    after: &[(Ask::Look(1), Outcome::Absent(LockGiven::None))],
-    refused: &[(Ask::Look(1), Outcome::Found)],
-    taken_back: &[(Ask::Look(1), Outcome::Found)],
-};
+// The store that a tier lends shows writes in flight.
+fn store_streams(alloc: Global) -> Option<bool> {
+    let tier = fixture(alloc, 4, b"a", false)?;
+    Some(tier.store().support_streaming_partial_write())
+}
 
-const OPEN: Row = Row {
-    limit: 4,
-    before: &[],
-    ask: Ask::OpenLocked(1, b'a'),
-    want: Outcome::Opened,
-    after: &[(Ask::Look(1), Outcome::Absent(LockGiven::Write))],
-    refused: &[(Ask::Look(1), Outcome::NoRequest)],
-    taken_back: &[],
-};
+#[test]
+fn a_store_is_lent(rt: HostRuntime) {
+    assert!(rt; store_streams(rt.alloc()) != Some(false));
+}
 
-const LOOK: Row = Row {
-    limit: 8,
-    before: &[Ask::Put(b'a', b"xx"), Ask::Open(1, b'a')],
-    ask: Ask::Look(1),
-    want: Outcome::Found,
-    after: &[(Ask::Look(1), Outcome::WrongPhase)],
-    refused: &[(Ask::Look(1), Outcome::Found)],
-    taken_back: &[],
-};
-
-// A refused look gives no permit away: the next one gets it.
-const LOOK_LOCKED: Row = Row {
-    limit: 8,
-    before: &[Ask::OpenLocked(1, b'a'), Ask::OpenLocked(2, b'a')],
-    ask: Ask::Look(1),
-    want: Outcome::Absent(LockGiven::Write),
-    after: &[
-        (Ask::Look(2), Outcome::Absent(LockGiven::Read)),
-        (Ask::Poll(2), Outcome::Pending),
-    ],
-    refused: &[
-        (Ask::Look(2), Outcome::Absent(LockGiven::Write)),
-        (Ask::Look(1), Outcome::Absent(LockGiven::Read)),
-    ],
-    taken_back: &[],
-};
-
-// A refused begin keeps the permit.
-const BEGIN: Row = Row {
-    limit: 8,
-    before: &[
-        Ask::OpenLocked(1, b'a'),
-        Ask::OpenLocked(2, b'a'),
-        Ask::Look(1),
-        Ask::Look(2),
-    ],
-    ask: Ask::Begin(1),
-    want: Outcome::Begun,
-    after: &[(Ask::Read(1), Outcome::Pending)],
-    refused: &[
-        (Ask::Poll(2), Outcome::Pending),
-        (Ask::Read(1), Outcome::WrongPhase),
-        (Ask::Begin(1), Outcome::Begun),
-    ],
-    taken_back: &[],
-};
-
-const PIECE: Row = Row {
-    limit: 8,
-    before: &[Ask::Open(1, b'a'), Ask::Look(1), Ask::Begin(1)],
-    ask: Ask::Piece(1, b"xx"),
-    want: Outcome::Written,
-    after: &[(Ask::Read(1), Outcome::Read(true))],
-    refused: &[
-        (Ask::Read(1), Outcome::Pending),
-        (Ask::Piece(1, b"xx"), Outcome::Written),
-    ],
-    taken_back: &[],
-};
-
-const READ: Row = Row {
-    limit: 8,
-    before: &[
-        Ask::Open(1, b'a'),
-        Ask::Look(1),
-        Ask::Begin(1),
-        Ask::Piece(1, b"xx"),
-    ],
-    ask: Ask::Read(1),
-    want: Outcome::Read(true),
-    after: &[(Ask::Read(1), Outcome::Pending)],
-    refused: &[(Ask::Read(1), Outcome::Read(true))],
-    taken_back: &[],
-};
-
-// After a refusal that did nothing the write goes on; else the request has none any more.
-const FINISH: Row = Row {
-    limit: 4,
-    before: &[
-        Ask::Put(b'b', b"xx"),
-        Ask::Open(1, b'a'),
-        Ask::Open(2, b'b'),
-        Ask::Look(1),
-        Ask::Begin(1),
-        Ask::Piece(1, b"xxxxx"),
-    ],
-    ask: Ask::Finish(1),
-    want: Outcome::Finished(5, 2),
-    after: &[(Ask::Look(2), Outcome::Absent(LockGiven::None))],
-    refused: &[
-        (Ask::Look(2), Outcome::Found),
-        (Ask::Finish(1), Outcome::Finished(5, 2)),
-    ],
-    taken_back: &[
-        (Ask::Look(2), Outcome::Found),
-        (Ask::Finish(1), Outcome::WrongPhase),
-        (Ask::Purge(b'a'), Outcome::Purged(false)),
-    ],
-};
-
-// A wait, and a body that was found.
-const WAITING: &[Ask] = &[
-    Ask::OpenLocked(1, b'a'),
-    Ask::OpenLocked(2, b'a'),
-    Ask::Look(1),
+// What is asked of a fixture in one run, and what comes of each.
+const ASKS: &[Ask] = &[
+    Ask::Put(b'e', b"xxxxx"),
+    Ask::Open(2, b'e'),
     Ask::Look(2),
-    Ask::Put(b'b', b"xx"),
-    Ask::Open(3, b'b'),
-    Ask::Look(3),
+    Ask::Read(2),
 ];
 
-// What takes no memory then.
-const FREE: &[(Ask, Outcome)] = &[
-    (Ask::Poll(2), Outcome::Pending),
-    (Ask::Drop(2), Outcome::Dropped),
-    (Ask::Read(3), Outcome::Read(true)),
-    (Ask::Drop(1), Outcome::Dropped),
+const WANT: &[Outcome] = &[
+    Outcome::Finished(5, 3),
+    Outcome::Opened,
+    Outcome::Found,
+    Outcome::Read(false),
 ];
 
-#[test]
-fn a_refused_put_leaves_all(rt: HostRuntime) {
-    assert!(rt; row_holds(rt.alloc(), &PUT) != Held::Broken);
-}
-
-#[test]
-fn a_refused_open_leaves_all(rt: HostRuntime) {
-    assert!(rt; row_holds(rt.alloc(), &OPEN) != Held::Broken);
-}
-
-#[test]
-fn a_refused_look_leaves_all(rt: HostRuntime) {
-    assert!(rt; row_holds(rt.alloc(), &LOOK) != Held::Broken);
-    assert!(rt; row_holds(rt.alloc(), &LOOK_LOCKED) != Held::Broken);
-}
-
-#[test]
-fn a_refused_begin_leaves_all(rt: HostRuntime) {
-    assert!(rt; row_holds(rt.alloc(), &BEGIN) != Held::Broken);
-}
-
-#[test]
-fn a_refused_piece_leaves_all(rt: HostRuntime) {
-    assert!(rt; row_holds(rt.alloc(), &PIECE) != Held::Broken);
-}
-
-#[test]
-fn a_refused_read_leaves_all(rt: HostRuntime) {
-    assert!(rt; row_holds(rt.alloc(), &READ) != Held::Broken);
-}
-
-#[test]
-fn a_refused_finish_leaves_all(rt: HostRuntime) {
-    assert!(rt; row_holds(rt.alloc(), &FINISH) != Held::Broken);
-}
-
-fn are_free(alloc: Global, tier: &mut Tier<1>) -> bool {
-    for &(ask, want) in FREE {
-        if step(alloc, tier, ask) != want {
+fn are_wanted(outcomes: &[Result<Answer, TierFault>]) -> bool {
+    for (outcome, want) in outcomes.iter().zip(WANT) {
+        if outcome_of(outcome) != *want {
             return false;
         }
     }
-    true
+    outcomes.len() == WANT.len()
 }
 
-fn waits_are_free(alloc: Global) -> bool {
-    match empty_tier(alloc, 4) {
-        Ok(mut tier) => !is_ready(alloc, &mut tier, WAITING) || are_free(alloc, &mut tier),
-        Err(AllocError) => true,
-    }
+// A run after as many puts as the largest fixture of a test above has; `None` where memory is refused on the way to it.
+fn goes_through(alloc: Global) -> Option<bool> {
+    let mut rng = Pcg32::new(1, 1);
+    let mut tier = fixture(alloc, 8, b"abcd", true)?;
+    let events = events(alloc, ASKS)?;
+    let outcomes = tier.run(&mut rng, events.as_slice()).ok()?;
+    Some(are_wanted(outcomes.as_slice()))
 }
 
-#[test]
-fn polls_reads_and_drops_take_no_memory(rt: HostRuntime) {
-    assert!(rt; waits_are_free(rt.alloc()));
-}
-
-// It takes more memory than each test of a refused growth, since its two tiers take more calls than those of any of them, and fails where
-// it meets a refusal: so a run with one allocation failing in which it passes met none.
+// It takes more memory than each test of a refused growth, since each of its three tiers takes more calls than theirs, and fails
+// where it meets a refusal: so a run with one allocation failing in which it passes met none.
 #[test]
 fn ample_memory_meets_no_refusal(rt: HostRuntime) {
     let alloc = rt.alloc();
-    assert!(rt; goes_through(alloc));
-    assert!(rt; row_holds(alloc, &FINISH) == Held::Answered);
+    for _ in 0..3 {
+        assert!(rt; goes_through(alloc) == Some(true));
+    }
 }

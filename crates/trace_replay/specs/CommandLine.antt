@@ -1,6 +1,5 @@
 -- What the words of a command line give.
-use Rattle.std.specs.Prelude.{◌≡◌, ℕ, Bool, true, false, ◌<◌, ◌^◌, bytes_eq, if◌then◌else◌, List, codes, Option, Some, None, option_map, String, string_bytes, Result, Ok, Err, ⊤, [], ◌∷◌, ◌++◌}
-use Rattle.std.specs.List.{AllByRecursion}
+use Rattle.std.specs.Prelude.{◌≡◌, ℕ, Bool, true, false, ◌<◌, ◌^◌, bytes_eq, if◌then◌else◌, List, codes, Option, Some, None, option_map, String, string_bytes, Result, Ok, Err, ⊤, []}
 use Rattle.std.specs.declared.alloc.Global.{Global}
 use Rattle.std.specs.Str.Parse.{IsNumeral, digits_value, without_leading_plus}
 use Rattle.clap.specs.Values.{kind_of}
@@ -13,7 +12,7 @@ use Rattle.cache_words.specs.Time.{span_of}
 use Rattle.tier_model.specs.Histories.{empty_opening}
 use Rattle.tier_model.specs.State.{Settings}
 use Rattle.trace_replay.specs.declared.options.OptionName.{OptionName}
-use Rattle.trace_replay.specs.declared.options.OptionName.TheVariants.{Limit, Watermark, Shards, Seed, Age, Wait}
+use Rattle.trace_replay.specs.declared.options.OptionName.TheVariants.{Limit, Watermark, Shards, Seed}
 use Rattle.trace_replay.specs.declared.options.ShardCount.{ShardCount}
 use Rattle.trace_replay.specs.declared.options.ShardCount.TheVariants.{One, Four, Sixteen}
 use Rattle.trace_replay.specs.declared.options.ReplayOptions.{ReplayOptions}
@@ -34,13 +33,9 @@ named_app = on_top (λ shape. record shape { has_version = true }) (new_app (cod
 abbrev pub limited_app : App
 limited_app = with_rule (with_rule named_app (option_rule (codes "limit") true)) (option_rule (codes "watermark") false)
 
--- the same with `[--shards COUNT] [--seed SEED]`
-abbrev pub drawn_app : App
-drawn_app = with_rule (with_rule limited_app (option_rule (codes "shards") false)) (option_rule (codes "seed") false)
-
--- the same with `[--age SECONDS] [--wait SECONDS] [--recency DIR]`
-unfoldable pub app : App
-app = with_rule (with_rule (with_rule drawn_app (option_rule (codes "age") false)) (option_rule (codes "wait") false)) (option_rule (codes "recency") false)
+-- the same with `[--shards COUNT] [--seed SEED] [--recency DIR]`
+abbrev pub app : App
+app = with_rule (with_rule (with_rule limited_app (option_rule (codes "shards") false)) (option_rule (codes "seed") false)) (option_rule (codes "recency") false)
 
 -- the text that the words give an option
 abbrev pub value_of : Text → List Text → Option Text
@@ -63,8 +58,6 @@ name_of Limit = codes "limit"
 name_of Watermark = codes "watermark"
 name_of Shards = codes "shards"
 name_of Seed = codes "seed"
-name_of Age = codes "age"
-name_of Wait = codes "wait"
 
 -- a text is given, and is no number
 abbrev pub IsWrong : Option Text → Type 0
@@ -79,28 +72,16 @@ abbrev pub shards_in : Option Text → Option ShardCount
 shards_in None = Some One
 shards_in (Some text) = shards_named text
 
--- the value of an option is wrong
-abbrev pub IsWrongValueOf : OptionName → Option Text → Type 0
-IsWrongValueOf Shards value = shards_in value ≡ None
-IsWrongValueOf name value = IsWrong value
+-- limit and watermark are right
+abbrev pub HasLimits : List Text → Type 0
+HasLimits words = ((n : ℕ) × IsGiven (value_of (codes "limit") words) (Some n)) × ((w : Option ℕ) × IsGiven (value_of (codes "watermark") words) w)
 
--- the value of an option is right; the limit has to be given
-abbrev pub IsRightValueOf : OptionName → Option Text → Type 0
-IsRightValueOf Limit value = (n : ℕ) × IsGiven value (Some n)
-IsRightValueOf Shards value = (count : ShardCount) × (shards_in value ≡ Some count)
-IsRightValueOf name value = (n : Option ℕ) × IsGiven value n
-
--- the options in the order in which their values are read
-abbrev pub in_order : List OptionName
-in_order = Limit ∷ Watermark ∷ Shards ∷ Seed ∷ Age ∷ Wait ∷ []
-
--- the option is the first in that order whose value is wrong
-pub record IsFirstWrong (words : List Text) (name : OptionName) : Type 0 where
-  pub before : List OptionName
-  pub after : List OptionName
-  pub place : in_order ≡ before ++ name ∷ after
-  pub right : AllByRecursion (λ option. IsRightValueOf option (value_of (name_of option) words)) before
-  pub wrong : IsWrongValueOf name (value_of (name_of name) words)
+-- the option is the first whose value is wrong, in the order limit, watermark, shards, seed
+abbrev pub IsFirstWrong : List Text → OptionName → Type 0
+IsFirstWrong words Limit = IsWrong (value_of (codes "limit") words)
+IsFirstWrong words Watermark = IsWrong (value_of (codes "watermark") words) × ((n : ℕ) × IsGiven (value_of (codes "limit") words) (Some n))
+IsFirstWrong words Shards = (shards_in (value_of (codes "shards") words) ≡ None) × HasLimits words
+IsFirstWrong words Seed = IsWrong (value_of (codes "seed") words) × ((k : ShardCount) × (shards_in (value_of (codes "shards") words) ≡ Some k)) × HasLimits words
 
 -- why the words give no options; memory may have run out instead
 abbrev pub IsFault : List Text → OptionsError → Type 0
@@ -142,9 +123,9 @@ IsReadText value (Ok text) = option_map string_bytes text ≡ value
 IsReadText value (Err Memory) = Unit {0}
 IsReadText value (Err _) = ⊥
 
--- the empty tier that the options describe, of n shards
+-- the empty tier that the options describe, of n shards: a permit's age is ten seconds, and a wait has no end
 abbrev pub settings_over : ℕ → ReplayOptions → Settings
-settings_over n o = record { shards = n; limit = o.limit; watermark = o.watermark; age = span_of o.age; wait = option_map span_of o.wait }
+settings_over n o = record { shards = n; limit = o.limit; watermark = o.watermark; age = span_of 10; wait = None }
 
 -- with that tier and the words of the seed a replay begins
 abbrev pub start_over : ℕ → ReplayOptions → Start

@@ -5,7 +5,7 @@ ghost use Rattle.clap.specs.Faults.{fault_of};
 ghost use Rattle.clap.specs.Matches.{found_of, first_value};
 ghost use Rattle.clap.specs.Simple.{HasMatchesOf, app_of};
 ghost use Rattle.clap.specs.Walk.{rule_of};
-ghost use Rattle.trace_replay.specs.CommandLine.{limited_app, drawn_app, app, name_of, named_app, option_rule, value_of, IsGiven, IsFault, IsWrongValue, IsReadNumber, IsReadShards, IsReadText, shards_named, shards_in, IsUnreadable};
+ghost use Rattle.trace_replay.specs.CommandLine.{limited_app, app, name_of, named_app, option_rule, value_of, IsGiven, IsFault, IsWrongValue, IsReadNumber, IsReadShards, IsReadText, shards_named, shards_in, IsUnreadable};
 
 use clap::error::ErrorKind;
 use clap::{Arg, ArgMatches, Command};
@@ -21,9 +21,6 @@ const ABOUT: &str =
 const STATUSES: &str =
     "Exit status: 0; 1 on an I/O error, out of memory or where no shard was saved; 2 on a bad command line.";
 
-// The age of a permit where none is given, in seconds.
-const USUAL_AGE: u64 = 10;
-
 const A_NUMBER: &str = "a number from 0 to 18446744073709551615";
 
 /// How a trace is replayed.
@@ -37,10 +34,6 @@ pub struct ReplayOptions {
     pub shards: ShardCount,
     /// The seed of the generator whose words pick the evicted entries.
     pub seed: u64,
-    /// The seconds after which others no longer wait for a permit.
-    pub age: u64,
-    /// The seconds for which a request waits at most, if its waits have a bound.
-    pub wait: Option<u64>,
     /// The directory that the order of use is loaded from and saved to, if there is one.
     pub recency: Option<String>,
 }
@@ -67,10 +60,6 @@ pub enum OptionName {
     Shards,
     /// `--seed`
     Seed,
-    /// `--age`
-    Age,
-    /// `--wait`
-    Wait,
 }
 
 impl OptionName {
@@ -83,8 +72,6 @@ impl OptionName {
             OptionName::Watermark => "watermark",
             OptionName::Shards => "shards",
             OptionName::Seed => "seed",
-            OptionName::Age => "age",
-            OptionName::Wait => "wait",
         }
     }
 }
@@ -115,8 +102,6 @@ pub fn options<'a, S: AsStr>(alloc: Global, words: &'a [S]) -> Result<ReplayOpti
     ensures watermark { IfOk result (λ o. IsGiven (value_of (codes "watermark") (map S.text words.entry.now)) o.watermark) }
     ensures shards { IfOk result (λ o. shards_in (value_of (codes "shards") (map S.text words.entry.now)) ≡ Some o.shards) }
     ensures seed { IfOk result (λ o. (given : Option ℕ) × IsGiven (value_of (codes "seed") (map S.text words.entry.now)) given × (o.seed ≡ unwrap_or given 0)) }
-    ensures age { IfOk result (λ o. (given : Option ℕ) × IsGiven (value_of (codes "age") (map S.text words.entry.now)) given × (o.age ≡ unwrap_or given 10)) }
-    ensures wait { IfOk result (λ o. IsGiven (value_of (codes "wait") (map S.text words.entry.now)) o.wait) }
     ensures recency { IfOk result (λ o. option_map string_bytes o.recency ≡ value_of (codes "recency") (map S.text words.entry.now)) }
     ensures faultless { IfOk result (λ _. fault_of app (map S.text words.entry.now) ≡ []) }
     ensures refused { IfErr result (IsFault (map S.text words.entry.now)) }
@@ -128,16 +113,12 @@ pub fn options<'a, S: AsStr>(alloc: Global, words: &'a [S]) -> Result<ReplayOpti
     let watermark = number(alloc, &matches, OptionName::Watermark)?;
     let shards = shards(alloc, &matches)?;
     let seed = number(alloc, &matches, OptionName::Seed)?;
-    let age = number(alloc, &matches, OptionName::Age)?;
-    let wait = number(alloc, &matches, OptionName::Wait)?;
     let recency = directory(alloc, &matches)?;
     Ok(ReplayOptions {
         limit,
         watermark,
         shards,
         seed: seed.unwrap_or(0),
-        age: age.unwrap_or(USUAL_AGE),
-        wait,
         recency,
     })
 }
@@ -265,28 +246,16 @@ fn matches<'a, S: AsStr>(alloc: Global, words: &'a [S]) -> Result<ArgMatches<'a>
 fn command<'a>(alloc: Global) -> Result<Command<'a>, AllocError>
     ensures { IfOk result (λ c. app_of c ≡ app) }
 {
-    let age = option(alloc, "age", "SECONDS", false).help(
-        "How long others wait for one permit to write before the next is given [default: 10]",
-    );
-    let wait = option(alloc, "wait", "SECONDS", false).help(
-        "How long a request waits for the permits of others in all [default: no bound]",
-    );
-    let recency = option(alloc, "recency", "DIR", false).help(
-        "The directory that the order of use is loaded from first and saved to at the end",
-    );
-    drawn(alloc)?.arg(age)?.arg(wait)?.arg(recency)
-}
-
-fn drawn<'a>(alloc: Global) -> Result<Command<'a>, AllocError>
-    ensures { IfOk result (λ c. app_of c ≡ drawn_app) }
-{
     let shards = option(alloc, "shards", "COUNT", false).help(
         "How many shards the order of use has: 1, 4 or 16 [default: 1]",
     );
     let seed = option(alloc, "seed", "SEED", false).help(
         "The seed of the generator that picks the evicted entries [default: 0]",
     );
-    limited(alloc)?.arg(shards)?.arg(seed)
+    let recency = option(alloc, "recency", "DIR", false).help(
+        "The directory that the order of use is loaded from first and saved to at the end",
+    );
+    limited(alloc)?.arg(shards)?.arg(seed)?.arg(recency)
 }
 
 fn limited<'a>(alloc: Global) -> Result<Command<'a>, AllocError>

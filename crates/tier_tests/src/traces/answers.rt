@@ -10,7 +10,7 @@ use tier_model::report::Report;
 use trace_lines::text::{add_outcome_line, add_report_line};
 
 // An outcome for which a line is written.
-#[derive(Clone, Copy)]
+#[derive(Clone, Copy, Debug)]
 enum Given {
     Found(bool, bool, LockGiven),
     Absent(LockGiven),
@@ -124,7 +124,11 @@ fn is_written(alloc: Global, given: Given, want: &[u8]) -> Option<bool> {
 #[test]
 fn answers_are_written(rt: HostRuntime) {
     for &(given, want) in WRITTEN {
-        assert!(rt; is_written(rt.alloc(), given, want) == Some(true));
+        assert_eq!(rt;
+            is_written(rt.alloc(), given, want),
+            Some(true),
+            "{given:?}"
+        );
     }
 }
 
@@ -149,5 +153,5 @@ fn report_is_written(alloc: Global) -> Option<bool> {
 
 #[test]
 fn a_report_is_written(rt: HostRuntime) {
-    assert!(rt; report_is_written(rt.alloc()) == Some(true));
+    assert_eq!(rt; report_is_written(rt.alloc()), Some(true));
 }

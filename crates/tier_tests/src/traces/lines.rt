@@ -1,11 +1,14 @@
-//! Lines as they are read, and the lines that are written for those that are refused. Each helper gives `None` where memory is refused.
+//! Lines as they are read, and the lines that are written. Each helper gives `None` where memory is refused.
 use bytes::Bytes;
-use cache_words::key::{CacheHashKey, CacheKey};
+use cache_entries::entry::CacheEntryKey;
+use cache_words::key::{CacheHashKey, CacheKey, CompactCacheKey};
+use cache_words::text::Text;
 use std::alloc::{AllocError, Global};
-use tier_model::event::{Action, Event};
+use tier_model::event::{Action, Answer, Done, Entries, Event, TierFault};
+use tier_model::report::Report;
 use trace_lines::line::{Line, Refusal};
 use trace_lines::read::LineReader;
-use trace_lines::text::add_refusal_line;
+use trace_lines::text::{add_outcome_line, add_refusal_line, add_report_line};
 
 // Whether the key is that of the lines below, with this tag.
 fn is_wanted(key: &CacheKey, tag: &str) -> bool {
@@ -72,14 +75,8 @@ fn a_put_is_asked(rt: HostRuntime) {
 // What is asked of request 7, or of the key above without a tag.
 #[derive(Clone, Copy, PartialEq)]
 enum Asked {
-    Open { lock: bool },
+    Open,
     Look,
-    Poll,
-    // With the bytes of the key above as its head.
-    Begin,
-    // With the same bytes.
-    Piece { end: bool },
-    Finish,
     Read,
     Drop,
     Purge,
@@ -88,31 +85,9 @@ enum Asked {
 const ASKED: &[(&[u8], Asked)] = &[
     (
         b"{\"op\":\"open\",\"at\":0,\"id\":7,\"lock\":false,\"key\":\"006a\"}",
-        Asked::Open { lock: false },
-    ),
-    (
-        b"{\"op\":\"open\",\"at\":0,\"id\":7,\"lock\":true,\"key\":\"006a\"}",
-        Asked::Open { lock: true },
-    ),
-    (
-        b"{\"op\":\"open\",\"at\":0,\"id\":7,\"key\":\"006a\"}",
-        Asked::Open { lock: false },
+        Asked::Open,
     ),
     (b"{\"op\":\"look\",\"at\":0,\"id\":7}", Asked::Look),
-    (b"{\"op\":\"poll\",\"at\":0,\"id\":7}", Asked::Poll),
-    (
-        b"{\"op\":\"begin\",\"at\":0,\"id\":7,\"head\":\"006A\"}",
-        Asked::Begin,
-    ),
-    (
-        b"{\"op\":\"piece\",\"at\":0,\"id\":7,\"bytes\":\"006A\",\"end\":true}",
-        Asked::Piece { end: true },
-    ),
-    (
-        b"{\"op\":\"piece\",\"at\":0,\"id\":7,\"bytes\":\"006A\",\"head\":7}",
-        Asked::Piece { end: false },
-    ),
-    (b"{\"op\":\"finish\",\"at\":0,\"id\":7}", Asked::Finish),
     (
         b"{\"op\":\"read\",\"at\":0,\"id\":7,\"key\":0}",
         Asked::Read,
@@ -124,26 +99,10 @@ const ASKED: &[(&[u8], Asked)] = &[
     ),
 ];
 
-fn is_pair(bytes: &Bytes) -> bool {
-    bytes.as_slice() == b"\0\x6a".as_slice()
-}
-
 fn asked_by(action: &Action) -> Option<Asked> {
     match action {
-        Action::Open {
-            request: 7,
-            key,
-            lock,
-        } if is_wanted(key, "") => Some(Asked::Open { lock: *lock }),
+        Action::Open { request: 7, key } if is_wanted(key, "") => Some(Asked::Open),
         Action::LookUp { request: 7 } => Some(Asked::Look),
-        Action::Poll { request: 7 } => Some(Asked::Poll),
-        Action::Begin { request: 7, head } if is_pair(head) => Some(Asked::Begin),
-        Action::Piece {
-            request: 7,
-            bytes,
-            end,
-        } if is_pair(bytes) => Some(Asked::Piece { end: *end }),
-        Action::Finish { request: 7 } => Some(Asked::Finish),
         Action::Read { request: 7 } => Some(Asked::Read),
         Action::Drop { request: 7 } => Some(Asked::Drop),
         Action::Purge { key } if is_wanted(key, "") => Some(Asked::Purge),
@@ -167,45 +126,96 @@ fn every_other_event_is_asked(rt: HostRuntime) {
     }
 }
 
-// Lines with bad fields, of which the first is named.
-const BAD: &[(&[u8], &[u8])] = &[
-    (
-        b"{\"op\":\"open\",\"at\":0,\"id\":7,\"key\":\"006a\",\"lock\":null}",
-        b"refused Field lock\n",
-    ),
-    (
-        b"{\"op\":\"open\",\"at\":0,\"id\":7,\"key\":\"006a\",\"tag\":1,\"lock\":1}",
-        b"refused Field tag\n",
-    ),
-    (
-        b"{\"op\":\"begin\",\"at\":0,\"id\":7}",
-        b"refused Field head\n",
-    ),
-    (
-        b"{\"op\":\"begin\",\"at\":0,\"id\":-7,\"head\":\"0\"}",
-        b"refused Field id\n",
-    ),
-    (
-        b"{\"op\":\"piece\",\"at\":0,\"id\":7,\"bytes\":\"\",\"end\":\"true\"}",
-        b"refused Field end\n",
-    ),
-    (
-        b"{\"op\":\"piece\",\"at\":0,\"id\":7,\"bytes\":\"0\",\"end\":0}",
-        b"refused Field bytes\n",
-    ),
-    (b"{\"op\":\"poll\",\"at\":0}", b"refused Field id\n"),
-    (
-        b"{\"op\":\"finish\",\"at\":-1,\"id\":7}",
-        b"refused Field at\n",
-    ),
+// An outcome for which a line is written.
+#[derive(Clone, Copy)]
+enum Given {
+    Found,
+    Bytes(&'static [u8]),
+    // A body of three bytes, with two evictions.
+    Finished,
+    TooHeavy,
+}
+
+const WRITTEN: &[(Given, &[u8])] = &[
+    (Given::Found, b"found fresh complete lock=none\n"),
+    (Given::Bytes(b"ab\xff"), b"bytes 6162ff\n"),
+    (Given::Bytes(b""), b"bytes -\n"),
+    (Given::Finished, b"finished 3 evicted=2\n"),
+    (Given::TooHeavy, b"fault 11 TooHeavy\n"),
 ];
 
-#[test]
-fn the_first_bad_field_is_named(rt: HostRuntime) {
-    let mut lines = LineReader::new(rt.alloc());
-    for &(line, want) in BAD {
-        assert!(rt; is_refused(rt.alloc(), &mut lines, line, want) == Some(true));
+fn entry(alloc: Global) -> CacheEntryKey {
+    CacheEntryKey::key_only(CompactCacheKey {
+        primary: [1; 16],
+        variance: None,
+        user_tag: Text::from_string(String::new(alloc)),
+    })
+}
+
+fn finished(alloc: Global) -> Option<Answer> {
+    let evicted = vec![in alloc; entry(alloc), entry(alloc)].ok()?;
+    Some(Answer::Finished {
+        length: 3,
+        evicted: Entries::from_vec(evicted),
+    })
+}
+
+fn too_heavy(alloc: Global) -> TierFault {
+    TierFault::TooHeavy(Done {
+        stored: true,
+        admitted: false,
+        evicted: Entries::new(alloc),
+    })
+}
+
+fn outcome(alloc: Global, given: Given) -> Option<Result<Answer, TierFault>> {
+    match given {
+        Given::Found => Some(Ok(Answer::Found {
+            fresh: true,
+            complete: true,
+        })),
+        Given::Bytes(bytes) => Some(Ok(Answer::Bytes(Bytes::from_static(bytes)))),
+        Given::Finished => Some(Ok(finished(alloc)?)),
+        Given::TooHeavy => Some(Err(too_heavy(alloc))),
     }
+}
+
+fn is_written(alloc: Global, given: Given, want: &[u8]) -> Option<bool> {
+    let outcome = outcome(alloc, given)?;
+    let mut out = Vec::new(alloc);
+    add_outcome_line(alloc, &mut out, &outcome).ok()?;
+    Some(out.as_slice() == want)
+}
+
+#[test]
+fn answers_are_written(rt: HostRuntime) {
+    for &(given, want) in WRITTEN {
+        assert!(rt; is_written(rt.alloc(), given, want) == Some(true));
+    }
+}
+
+const REPORT: Report = Report {
+    found: 2,
+    absent: 18446744073709551615,
+    bodies: 4,
+    bytes: 3,
+    tracked: 5,
+    weight: 6,
+    evicted: 0,
+};
+
+const REPORT_LINE: &[u8] =
+    b"report found=2 absent=18446744073709551615 bodies=4 bytes=3 tracked=5 weight=6 evicted=0\n";
+
+fn report_is_written(alloc: Global) -> Option<bool> {
+    let mut out = Vec::new(alloc);
+    add_report_line(alloc, &mut out, &REPORT).ok()?;
+    Some(out.as_slice() == REPORT_LINE)
+}
+
+#[test]
+fn a_report_is_written(rt: HostRuntime) {
+    assert!(rt; report_is_written(rt.alloc()) == Some(true));
 }
 
 // If one allocation fails, the whole line is given up, or it is read as ever.

@@ -74,8 +74,6 @@ fn conversation(alloc: Global, lines: &[&[u8]]) -> Result<Vec<u8>, Fail> {
         watermark: None,
         shards: ShardCount::One,
         seed: 0,
-        age: 10,
-        wait: None,
         recency: None,
     };
     run(alloc, HASHER, &mut reader, &mut writer, &options)?;

@@ -4,53 +4,31 @@ use trace_replay::options::{OptionsError, ReplayOptions, ShardCount, options};
 use trace_replay::replay::ReplayError;
 use trace_replay::status::{Fault, status};
 
-// The words of a command line, and the numbers that they give.
-#[derive(Clone, Copy)]
-struct Row {
-    words: &'static [&'static str],
-    limit: u64,
-    watermark: Option<u64>,
-    age: u64,
-    wait: Option<u64>,
-}
-
-const READ: &[Row] = &[
-    Row {
-        words: &["tier-replay", "--limit=+5"],
-        limit: 5,
-        watermark: None,
-        age: 10,
-        wait: None,
-    },
-    Row {
-        words: &[
+// The words of a command line, its limit and its watermark.
+const READ: &[(&[&str], u64, Option<u64>)] = &[
+    (&["tier-replay", "--limit=+5"], 5, None),
+    (
+        &[
             "tier-replay",
-            "--wait",
-            "0",
             "--watermark",
             "05",
-            "--age=18446744073709551615",
             "--limit",
             "18446744073709551615",
         ],
-        limit: 18446744073709551615,
-        watermark: Some(5),
-        age: 18446744073709551615,
-        wait: Some(0),
-    },
+        18446744073709551615,
+        Some(5),
+    ),
 ];
 
-fn is_read(alloc: Global, row: &Row) -> bool {
+fn is_read(alloc: Global, words: &[&str], limit: u64, watermark: Option<u64>) -> bool {
     let want = ReplayOptions {
-        limit: row.limit,
-        watermark: row.watermark,
+        limit,
+        watermark,
         shards: ShardCount::One,
         seed: 0,
-        age: row.age,
-        wait: row.wait,
         recency: None,
     };
-    match options(alloc, row.words) {
+    match options(alloc, words) {
         Ok(given) => given == want,
         Err(_) => false,
     }
@@ -58,8 +36,8 @@ fn is_read(alloc: Global, row: &Row) -> bool {
 
 #[test]
 fn options_are_read(rt: HostRuntime) {
-    for row in READ {
-        assert!(rt; is_read(rt.alloc(), row));
+    for &(words, limit, watermark) in READ {
+        assert!(rt; is_read(rt.alloc(), words, limit, watermark));
     }
 }
 
@@ -106,19 +84,9 @@ const ENDS: &[(&[&str], u8, &str)] = &[
         "error: invalid value '2' for '--shards': 1, 4 or 16 is wanted",
     ),
     (
-        &["tier-replay", "--limit=1", "--wait=-1", "--age=x"],
+        &["tier-replay", "--limit=1", "--age=1"],
         2,
-        "error: invalid value 'x' for '--age': a number from 0 to 18446744073709551615 is wanted",
-    ),
-    (
-        &["tier-replay", "--limit=1", "--wait=-1", "--age=0"],
-        2,
-        "error: invalid value '-1' for '--wait'",
-    ),
-    (
-        &["tier-replay", "--limit=1", "--old=1"],
-        2,
-        "error: unexpected argument '--old' found",
+        "error: unexpected argument '--age' found",
     ),
     (
         &["tier-replay", "--help"],

@@ -32,8 +32,6 @@ fn a_fault_of_the_reader_ends_the_run(rt: HostRuntime) {
             watermark: None,
             shards: ShardCount::One,
             seed: 0,
-            age: 10,
-            wait: None,
             recency: None,
         };
         let outcome = run(rt.alloc(), HASHER, &mut reader, &mut written, &options).map_err(
@@ -60,8 +58,6 @@ fn long_lines_are_read_whole(rt: HostRuntime) -> Result<(), Fail> {
             watermark: None,
             shards: ShardCount::One,
             seed: 0,
-            age: 10,
-            wait: None,
             recency: None,
         };
         let outcome = run(rt.alloc(), HASHER, &mut reader, &mut written, &options);
@@ -111,8 +107,6 @@ fn a_fault_of_the_writer_ends_the_run(rt: HostRuntime) {
             watermark: None,
             shards: ShardCount::One,
             seed: 0,
-            age: 10,
-            wait: None,
             recency: None,
         };
         let outcome = run(rt.alloc(), HASHER, &mut reader, &mut writer, &options).map_err(
@@ -155,8 +149,6 @@ fn out_of_memory_changes_no_line(rt: HostRuntime) {
         watermark: None,
         shards: ShardCount::One,
         seed: 0,
-        age: 10,
-        wait: None,
         recency: None,
     };
     match run(rt.alloc(), HASHER, &mut reader, &mut written, &options) {

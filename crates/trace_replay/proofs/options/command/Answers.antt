@@ -10,7 +10,6 @@ unfolding app
 returns c =
     let age_is : rule_of c.help-age.result ≡ option_rule (codes "age") false = search rules in
     let wait_is : rule_of c.help-wait.result ≡ option_rule (codes "wait") false = search rules in
-    let recency_is : rule_of c.help-recency.result ≡ option_rule (codes "recency") false = search rules in
-    let with_age = c.in_ok-arg.ensures.shape (search rules) ∙ ap₂ with_rule c.in_ok-drawn.ensures age_is in
-    let with_wait = c.in_ok-arg-2.ensures.shape (search rules) ∙ ap₂ with_rule with_age wait_is in
-    IfOk-weaker c.arg-3.result _ _ (λ r added. added.shape (search rules) ∙ ap₂ with_rule with_wait recency_is) c.arg-3.ensures
+    IfOk-weaker c.arg-2.result _ _
+    (λ r added. added.shape (search rules) ∙ ap₂ with_rule (c.in_ok-arg.ensures.shape (search rules) ∙ ap₂ with_rule c.in_ok-drawn.ensures age_is) wait_is)
+    c.arg-2.ensures

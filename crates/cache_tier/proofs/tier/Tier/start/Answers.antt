@@ -1,52 +1,30 @@
-use Rattle.std.proofs.Common.{◌<◌, ◌^◌, refl, sym, subst, []}
-use denote.Param.{layout, number, param}
-use mir.Syntax.{Ty}
-use prog.Memory.{size}
-use Rattle.tier_model.specs.Started.{IsNew, opening_of}
+use Rattle.std.proofs.Common.{sym, subst}
+use Rattle.tier_model.specs.Started.{IsNew}
 use Rattle.tier_model.specs.State.{State}
 use Rattle.tier_model.proofs.StartedLaws.{finds_nothing}
-use Rattle.tier_requests.specs.Shelves.{shelf_of}
-use Rattle.cache_tier.specs.States.{state_by}
-use Rattle.cache_tier.specs.contracts.tier.Tier.{the_row}
+use Rattle.cache_tier.specs.Bodies.{bodies_in}
 use Rattle.cache_tier.proofs.RestartLaws.{started}
-use Rattle.cache_tier.proofs.Room.{inner_room}
 use Rattle.cache_tier.proofs.tier.Tier.start.Goals as goal
 
-pub load-came-requires : goal.load-came-requires
-load-came-requires g c =
-    let tier : Ty = layout (the_row (param 0 (number g.row.N)) (param 1 g.row.S) (param 2 g.row.S-Hasher) g.S.BuildHasher g.S.Hasher.Hasher) in
-    let room : size tier < 2 ^ 63 = assumption in
-    inner_room tier 2 1 _ _ refl _ _ refl room
-
-pub shards-shards-requires : goal.shards-shards-requires
-shards-shards-requires g c =
-    let tier : Ty = layout (the_row (param 0 (number g.row.N)) (param 1 g.row.S) (param 2 g.row.S-Hasher) g.S.BuildHasher g.S.Hasher.Hasher) in
-    let room : size tier < 2 ^ 63 = assumption in
-    inner_room tier 2 1 _ _ refl _ _ refl room
-
 pub invariant_of-self : goal.invariant_of-self
-invariant_of-self g c =
-    let s : State = state_by c.self.inside.parts.manager c.self.inside.wait (shelf_of c.self.inside.parts.store) c.self.inside.parts.lock c.self.inside.requests c.self.inside.found c.self.inside.absent in
-    let came = started g.F.Folder.did g.F.Folder.failures_of g.F.Folder.keeps g.F.Folder.files g.row.N c.args.dir.now s c.load-came.new.self c.args.folder.now c.load-came.new.folder c.load-came.result
-    (subst IsNew (sym c.self.view_is) c.requires.new) c.load-came.ensures c.shards-shards.ensures.sharded in
-    (c.shards-shards.ensures.sharded, c.self.invariant.1, (opening_of (record s { managed = c.load-came.new.self }), [], came.1))
+invariant_of-self g c = (c.shards-shards.ensures.sharded, c.self.invariant.1)
 
 pub returns-clause-loads : goal.returns-clause-loads
 returns-clause-loads g c = rw (← c.self.view_is) (c.load-came.result, c.told_of_files.ensures, c.load-came.ensures)
 
 pub returns-clause-still_new : goal.returns-clause-still_new
 returns-clause-still_new g c =
-    let s : State = state_by c.self.inside.parts.manager c.self.inside.wait (shelf_of c.self.inside.parts.store) c.self.inside.parts.lock c.self.inside.requests c.self.inside.found c.self.inside.absent in
+    let s : State = record { managed = c.self.inside.parts.manager; age = c.self.inside.age; wait = c.self.inside.wait; bodies = bodies_in c.self.inside.parts.store.store.bodies; requests = c.self.inside.requests; found = c.self.inside.found; absent = c.self.inside.absent; writes = c.self.inside.parts.store.next } in
     (started g.F.Folder.did g.F.Folder.failures_of g.F.Folder.keeps g.F.Folder.files g.row.N c.args.dir.now s c.load-came.new.self c.args.folder.now c.load-came.new.folder c.load-came.result
     (subst IsNew (sym c.self.view_is) c.requires.new) c.load-came.ensures c.shards-shards.ensures.sharded).0
 
 pub returns-clause-past : goal.returns-clause-past
 returns-clause-past g c =
-    let s : State = state_by c.self.inside.parts.manager c.self.inside.wait (shelf_of c.self.inside.parts.store) c.self.inside.parts.lock c.self.inside.requests c.self.inside.found c.self.inside.absent in
+    let s : State = record { managed = c.self.inside.parts.manager; age = c.self.inside.age; wait = c.self.inside.wait; bodies = bodies_in c.self.inside.parts.store.store.bodies; requests = c.self.inside.requests; found = c.self.inside.found; absent = c.self.inside.absent; writes = c.self.inside.parts.store.next } in
     (started g.F.Folder.did g.F.Folder.failures_of g.F.Folder.keeps g.F.Folder.files g.row.N c.args.dir.now s c.load-came.new.self c.args.folder.now c.load-came.new.folder c.load-came.result
     (subst IsNew (sym c.self.view_is) c.requires.new) c.load-came.ensures c.shards-shards.ensures.sharded).1
 
 pub returns-clause-nothing : goal.returns-clause-nothing
 returns-clause-nothing g c = λ k found.
-    let s : State = state_by c.self.inside.parts.manager c.self.inside.wait (shelf_of c.self.inside.parts.store) c.self.inside.parts.lock c.self.inside.requests c.self.inside.found c.self.inside.absent in
-    finds_nothing (record s { managed = c.load-came.new.self }) k found
+    let s : State = record { managed = c.load-came.new.self; age = c.self.inside.age; wait = c.self.inside.wait; bodies = bodies_in c.self.inside.parts.store.store.bodies; requests = c.self.inside.requests; found = c.self.inside.found; absent = c.self.inside.absent; writes = c.self.inside.parts.store.next } in
+    finds_nothing s k found
