@@ -24,7 +24,7 @@ got=0; "$program" --help < /dev/null > /dev/null 2>&1 || got=$?
 wanted 0 "--help"
 got=0; "$program" --version < /dev/null > /dev/null 2>&1 || got=$?
 wanted 0 "--version"
-for words in "" "--limit" "--limit x" "--limit 1 --shards 3" "--limit 1 --age x" "--limit 1 --wait -1" "--limit 1 --old 1" "--limit 1 more"; do
+for words in "" "--limit" "--limit x" "--limit 1 --shards 3" "--limit 1 --age 1" "--limit 1 more"; do
     # shellcheck disable=SC2086
     got=0; "$program" $words < "$trace" > /dev/null 2>&1 || got=$?
     wanted 2 "options '$words'"

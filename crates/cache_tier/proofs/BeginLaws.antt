@@ -100,7 +100,7 @@ module _ (s : State) (t : MomentValue) (id : ℕ) (head : List ℕ) where
           asks = tt;
         },
         ap (λ (j : Judged). with_counts s.shelf.writes (after_all (release_of status.GiveUp q q.held s.lock) s.lock) (after_begin s id q (Some j))) (sym judged)
-            ∙ ap (λ (o : Option Request). with_counts s.shelf.writes (after_all (by_request {X = List Change} [] o (λ p. release_of status.GiveUp p p.held s.lock)) s.lock)
+        ∙ ap (λ (o : Option Request). with_counts s.shelf.writes (after_all (by_request {X = List Change} [] o (λ p. release_of status.GiveUp p p.held s.lock)) s.lock)
             (by_request s o (λ p. after_begin s id p (Some (judged_alone t (head_of r)))))) (sym there),
       )
 
@@ -125,7 +125,7 @@ module _ (s : State) (t : MomentValue) (id : ℕ) (head : List ℕ) where
               refl,
               begun_allowed b.number,
               ap (λ (j : Judged). with_counts (s.shelf.writes + 1) (after_all (release_of status.Done q q.held s.lock) s.lock) (after_begin s id q (Some j))) (sym judged)
-                  ∙ ap (λ (o : Option Request). with_counts (s.shelf.writes + 1) (after_all (by_request {X = List Change} [] o (λ p. release_of status.Done p p.held s.lock)) s.lock)
+              ∙ ap (λ (o : Option Request). with_counts (s.shelf.writes + 1) (after_all (by_request {X = List Change} [] o (λ p. release_of status.Done p p.held s.lock)) s.lock)
                   (by_request s o (λ p. after_begin s id p (Some (judged_alone t (head_of r)))))) (sym there),
             )
 

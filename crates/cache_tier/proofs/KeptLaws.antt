@@ -1,5 +1,5 @@
 -- A body that is stored is admitted, or taken back: what that leaves of a state.
-use Rattle.std.proofs.Common.{◌≡◌, ℕ, ap, sym, ◌∙◌, arith, true, false, subst, max, length, List, Ok, Err}
+use Rattle.std.proofs.Common.{◌≡◌, ℕ, refl, ap, sym, ◌∙◌, arith, true, false, subst, max, length, List, [], Ok, Err}
 use Rattle.std.specs.Prelude.{Bool, ⊤, None}
 use Rattle.rand_core.specs.Stream.{Stream}
 use Rattle.cache_entries.specs.declared.entry.CacheEntryKey.{CacheEntryKey}

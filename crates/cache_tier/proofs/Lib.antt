@@ -1,5 +1,4 @@
 pub mod TookLaws
-pub mod PastLaws
 pub mod PollLaws
 pub mod ReadLaws
 pub mod PieceLaws
@@ -11,17 +10,10 @@ pub mod RunLaws
 pub mod JudgeLaws
 pub mod NewLaws
 pub mod RestartLaws
-pub mod Room
 pub mod ShardLaws
 pub mod StoreLaws
+pub mod PastLaws
 pub mod FlightLaws
 pub mod StoredLaws
 pub mod PutLaws
 pub mod KeptLaws
-pub mod KeptState
-pub mod BegunLaws
-pub mod BodyRows
-pub mod PutSteps
-pub mod TakenLaws
-pub mod FinishSteps
-pub mod FinishLaws

@@ -160,7 +160,7 @@ module _ (s : State) (t : MomentValue) (id : ℕ) where
       why_of f p = elim p [
         | inl out ↦ inl out
         | inr late ↦ elim late [
-          | inl unused ↦ elim (use_fault l f unused) [ inl memory ↦ inl (memory.0, inl memory.1) | inr kept_out ↦ inr (inl kept_out) ]
+          | inl unused ↦ elim (use_fault l f unused) [ | inl memory ↦ inl (memory.0, inl memory.1) | inr kept_out ↦ inr (inl kept_out) ]
           | inr lock ↦ inr (inr lock)
         ]
       ]

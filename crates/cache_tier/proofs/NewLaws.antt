@@ -14,7 +14,7 @@ use Rattle.tier_model.specs.Calls.{History, opened_for}
 use Rattle.tier_model.specs.Histories.{Kept, Opening, changes_of}
 use Rattle.tier_model.specs.Keys.{Entry}
 use Rattle.tier_model.specs.Past.{HasAPast, HasPast, IsRequestOf, count_of, plain, streamers, streams}
-use Rattle.tier_model.specs.Shelf.{Readers}
+use Rattle.tier_model.specs.Shelf.{InFlight, Readers}
 use Rattle.tier_model.specs.State.{Request, State}
 use Rattle.tier_model.proofs.StandLaws.{Stands-lawful, IsOrderly-lawful}
 use Rattle.tier_model.proofs.WriteLaws.{IsWriteOf}

@@ -80,7 +80,7 @@ module _ (s : State) (t : MomentValue) (id : ℕ) where
       asks = tt;
     },
     ap (λ (x : Shelf). record (dropped_to q) { shelf = x }) (sym (kept q.reader q.write))
-        ∙ ap (λ (o : Option Request). with_counts s.shelf.writes (after_all (by_request {X = List Change} [] o (λ p. leave_of p.held)) s.lock) (by_request s o (λ p. without_request s id p))) (sym there),
+    ∙ ap (λ (o : Option Request). with_counts s.shelf.writes (after_all (by_request {X = List Change} [] o (λ p. leave_of p.held)) s.lock) (by_request s o (λ p. without_request s id p))) (sym there),
   )
 
   pub Took-drop-none : get s.requests id ≡ None → Took s t (Drop id) (Err NoRequest) s

@@ -49,7 +49,7 @@ module _ (s : State) (t : MomentValue) (id : ℕ) (bytes : List ℕ) (last : Boo
         asks = tt;
       },
       ap (λ (x : Shelf). record s { shelf = x }) (sym (kept n last)) ∙ ap (λ (w : Option ℕ). record s { shelf = record (on_write w (pieced bytes last) s.shelf) { writes = s.shelf.writes } }) (sym writes)
-          ∙ ap (λ (o : Option Request). with_counts s.shelf.writes s.lock (by_request s o (λ p. record s { shelf = on_write p.write (pieced bytes last) s.shelf }))) (sym there),
+      ∙ ap (λ (o : Option Request). with_counts s.shelf.writes s.lock (by_request s o (λ p. record s { shelf = on_write p.write (pieced bytes last) s.shelf }))) (sym there),
     )
 
     memory_piece : Took s t (Piece id bytes last) (Err (Memory nothing_done)) s
@@ -87,7 +87,7 @@ module _ (s : State) (t : MomentValue) (id : ℕ) (bytes : List ℕ) (last : Boo
 
       by_open : (x : Option Request) → get s.requests id ≡ x
           → MatchOption x (((o ≡ Err NoRequest) × (shelf ≡ s.shelf)) × (requests ≡ s.requests))
-          (λ q. (left : Request) × ((left ≡ q) × PieceAnswer q.write bytes last s.shelf o shelf) × (requests ≡ insert s.requests id left))
+              (λ q. (left : Request) × ((left ≡ q) × PieceAnswer q.write bytes last s.shelf o shelf) × (requests ≡ insert s.requests id left))
           → Took s t (Piece id bytes last) o (pieced_to requests shelf)
       by_open None none h = rw (h.0.0, h.0.1, h.1) (refused_piece NoRequest (ap checked none))
       by_open (Some q) there h = rw (h.2, h.1.0, insert-same s.requests id q there) (by_write q q.write there refl h.1.1)

@@ -121,7 +121,7 @@ told-tellable a cause _ t = tt
 pub nothing-was : (d : PutDone) → IsDone false false [] d → done_as d ≡ nothing_done
 nothing-was d i = λ j. record { stored = i.stored j; admitted = i.admitted j; evicted = i.evicted j }
 
-pub done-is : (a : Bool) (es : List CacheEntryKey) (d : PutDone) → IsDone true a es d → done_as d ≡ record { stored = true; admitted = a; evicted = es }
+done-is : (a : Bool) (es : List CacheEntryKey) (d : PutDone) → IsDone true a es d → done_as d ≡ record { stored = true; admitted = a; evicted = es }
 done-is a es d i = λ j. record { stored = i.stored j; admitted = i.admitted j; evicted = i.evicted j }
 
 -- it is told with what was done

@@ -46,7 +46,7 @@ Steps-took old s e action o new is drawless took =
       took.3,
       took.4,
       subst (λ (b : Option FinishedBody). AreDrawn old b took.0.outcome s s)
-          (sym (no_body old took.0.event.moment took.0.event.action took.0.reading (subst IsDrawless (sym same) drawless))) refl,
+      (sym (no_body old took.0.event.moment took.0.event.action took.0.reading (subst IsDrawless (sym same) drawless))) refl,
     )
 
 -- an event that may draw words

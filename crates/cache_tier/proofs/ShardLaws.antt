@@ -28,7 +28,7 @@ none_either : {X : Type 0} (v : Bool) (o : Option X) → o ≡ None → cond v N
 none_either true o e = refl
 none_either false o e = e
 
-pub distinct-without : (e : CacheEntryKey) (rows : List Tracked) → AreDistinct rows → AreDistinct (without_row e rows)
+distinct-without : (e : CacheEntryKey) (rows : List Tracked) → AreDistinct rows → AreDistinct (without_row e rows)
 distinct-without e [] d = tt
 distinct-without e (r ∷ rows) d = by_test (same_entry r.entry e) (distinct-without e rows d.1)
   where

@@ -14,7 +14,7 @@ use Rattle.cache_store.specs.Agree.{Agree}
 use Rattle.cache_store.specs.Answers.{IsFinished, left}
 use Rattle.cache_store.specs.Held.{Held, left_with}
 use Rattle.cache_store.specs.Purges.{PurgeAnswer, entry_key, id_at}
-use Rattle.cache_store.specs.Wholes.{Stores, GivenUp, whole_of}
+use Rattle.cache_store.specs.Wholes.{Stores, GivenUp, whole_of, with_whole}
 use Rattle.cache_store.specs.declared.storage.PurgeOutcome.{PurgeOutcome}
 use Rattle.cache_parts.specs.Stored.{Purged, Removed}
 use Rattle.mem_cache.specs.Misses.{are_numbers_spent}

@@ -1,7 +1,7 @@
 -- An event that is taken: a refusal by a check, and the events that need no reading and draw no word.
-use Rattle.std.proofs.Common.{◌≡◌, ◌≢◌, ℕ, refl, ap, sym, ◌∙◌, Bool, true, false, subst, cond, Some, None, Option}
-use Rattle.std.specs.Prelude.{◌==◌, pos, Ok, Err, is_some}
-use Rattle.std.specs.FinMap.{FinMap, get, insert, remove, same_map, nat_cmp-IsAntisymmetric}
+use Rattle.std.proofs.Common.{◌≡◌, ◌≢◌, ℕ, refl, ap, sym, ◌∙◌, Bool, true, false, subst, cond, inl, inr, Some, None, Option, List, []}
+use Rattle.std.specs.Prelude.{◌==◌, Ok, Err, MatchOption}
+use Rattle.std.specs.FinMap.{FinMap, get, insert, same_map, nat_cmp-IsAntisymmetric}
 use Rattle.std.specs.Ordering.{nat_cmp}
 use Rattle.std.proofs.lemmas.Cmp.{nat_cmp_total}
 use Rattle.std.proofs.lemmas.Bool.{eqb-true}
@@ -16,7 +16,7 @@ use Rattle.tier_model.specs.State.{Request, State}
 use Rattle.tier_model.specs.Checks.{refusal}
 use Rattle.tier_model.specs.Step.{AllowsBy, BeginsWrite, may_begin, tells_of_write, AsksLock}
 use Rattle.tier_model.specs.After.{lock_changes_in, after_outcome, with_counts, after}
-use Rattle.tier_model.proofs.CallLaws.{at-insert, at-remove}
+use Rattle.tier_model.proofs.CallLaws.{at-insert}
 use Rattle.cache_tier.specs.Acts.{Took}
 
 -- a request that is put in its own place
@@ -26,26 +26,6 @@ insert-same m id q there = same_map nat_cmp_total nat_cmp-IsAntisymmetric (inser
     by_id : (j : ℕ) (t : Bool) → (id == j) ≡ t → cond t (Some q) (get m j) ≡ get m j
     by_id j true e = sym (subst (λ (x : ℕ). get m x ≡ Some q) (eqb-true id j e) there)
     by_id j false e = refl
-
--- one that isn't there is taken out
-pub remove-none : (m : FinMap nat_cmp Request) (id : ℕ) → get m id ≡ None → remove m id ≡ m
-remove-none m id none = same_map nat_cmp_total nat_cmp-IsAntisymmetric (remove m id) m (λ j. at-remove m id j ∙ by_id j (id == j) refl)
-  where
-    by_id : (j : ℕ) (t : Bool) → (id == j) ≡ t → cond t None (get m j) ≡ get m j
-    by_id j true e = sym (subst (λ (x : ℕ). get m x ≡ None) (eqb-true id j e) none)
-    by_id j false e = refl
-
-pub none-open : (o : Option Request) → is_some o ≡ false → o ≡ None
-none-open None e = refl
-none-open (Some q) e = absurd cc
-
--- a moment at which nothing is asked of the clock
-abbrev pub some_moment : MomentValue
-some_moment = record { seconds = pos 0; nanoseconds = 0 }
-
--- by another name of the state that it left
-pub Took-to : (old : State) (t : MomentValue) (action : Action) (o : Outcome) (new left : State) → left ≡ new → Took old t action o new → Took old t action o left
-Took-to old t action o new left is took = subst (λ (x : State). Took old t action o x) (sym is) took
 
 -- a call that reads nothing and begins no write
 abbrev pub plain_call : MomentValue → Action → Outcome → Bool → Call

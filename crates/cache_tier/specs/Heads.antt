@@ -1,8 +1,6 @@
 -- What the tier makes of the head of a begin.
 use Rattle.std.specs.Prelude.{◌≡◌, List, ℕ, Result, Ok, Err}
 use Rattle.cache_words.specs.Time.{MomentValue}
-use Rattle.cache_heads.specs.declared.reason.NoCacheReason.{NoCacheReason}
-use Rattle.cache_heads.specs.declared.reason.NoCacheReason.TheVariants.{StorageError}
 use Rattle.response_parse.specs.Response.{Reading, IsReading, head_of}
 use Rattle.tier_model.specs.declared.event.TierFault.{TierFault}
 use Rattle.tier_model.specs.declared.event.TierFault.TheVariants as fault
@@ -24,11 +22,6 @@ IsNew (NotKept reason) = Unit {0}
 -- the bytes give that, coming at a moment, by one of their readings
 abbrev pub JudgesTo : MomentValue → List ℕ → Judged → Type 0
 JudgesTo t head j = (r : Reading) × IsReading head r × (judged_alone t (head_of r) ≡ j)
-
--- what is made of a head that is not kept for that reason: the store's refusal stands for a moment before 1970
-abbrev pub not_kept_by : NoCacheReason → Result Verdict TierFault
-not_kept_by StorageError = Err fault.BeforeEpoch
-not_kept_by reason = Ok (NotKept reason)
 
 -- the head of a begin is judged, or refused
 abbrev pub IsJudged : MomentValue → List ℕ → Result Verdict TierFault → Type 0

@@ -8,9 +8,8 @@ mod put;
 pub mod tier;
 
 pub use bytes::Bytes;
-pub use cache_lock::LockStatus;
 pub use cache_words::key::CacheKey;
 pub use cache_words::time::{Duration, Moment};
 pub use tier::Tier;
-pub use tier_model::event::{Action, Answer, Done, Entries, Event, LockGiven, Pieces, TierFault};
+pub use tier_model::event::{Action, Answer, Done, Entries, Event, Pieces, TierFault};
 pub use tier_model::report::Report;

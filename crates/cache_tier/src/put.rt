@@ -1,7 +1,7 @@
 //! Which responses the tier keeps.
 ghost use Rattle.std.specs.Prelude.{◌≡◌};
 ghost use Rattle.cache_tier.specs.Puts.{no_defaults, since_epoch, kept_by};
-ghost use Rattle.cache_tier.specs.Heads.{IsJudged, not_kept_by};
+ghost use Rattle.cache_tier.specs.Heads.{IsJudged};
 
 use bytes::Bytes;
 use cache_heads::CacheMeta;
@@ -83,16 +83,7 @@ pub(crate) fn judge(alloc: Global, moment: Moment, head: &Bytes) -> Result<Verdi
     };
     match verdict {
         RespCacheable::Cacheable(meta) => Ok(Verdict::Kept(meta)),
-        RespCacheable::Uncacheable(reason) => not_kept(reason),
-    }
-}
-
-// What is made of a head that is not kept for that reason.
-fn not_kept(reason: NoCacheReason) -> Result<Verdict, TierFault>
-    ensures { result ≡ not_kept_by reason }
-{
-    match reason {
-        NoCacheReason::StorageError => Err(TierFault::BeforeEpoch),
-        reason => Ok(Verdict::NotKept(reason)),
+        RespCacheable::Uncacheable(NoCacheReason::StorageError) => Err(TierFault::BeforeEpoch),
+        RespCacheable::Uncacheable(reason) => Ok(Verdict::NotKept(reason)),
     }
 }

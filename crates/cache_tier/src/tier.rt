@@ -172,11 +172,7 @@ impl<const N: usize, S: BuildHasher> Tier<N, S> {
             Action::LookUp { request } => self.look_up(event.moment, *request),
             Action::Poll { request } => self.poll(event.moment, *request),
             Action::Begin { request, head } => self.begin(event.moment, *request, head),
-            Action::Piece {
-                request,
-                bytes,
-                end,
-            } => self.piece(*request, bytes, *end),
+            Action::Piece { request, bytes, end } => self.piece(*request, bytes, *end),
             Action::Finish { request } => self.finish(rng, *request),
             Action::Read { request } => self.read(*request),
             Action::Drop { request } => self.drop_request(*request),

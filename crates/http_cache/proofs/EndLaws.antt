@@ -1,5 +1,6 @@
 -- A request that is disabled already.
-use Rattle.std.proofs.Common.{◌≡◌, ℕ, refl, ap, sym, subst, List, Option, Some, None, true, false}
+use Rattle.std.proofs.Common.{◌≡◌, ℕ, refl, ap, sym, ◌∙◌, subst, List, Option, Some, None, true, false}
+use Rattle.std.specs.Prelude.{Bool, if◌then◌else◌}
 use Rattle.std.proofs.lemmas.Bool.{false≢true}
 use Rattle.cache_heads.specs.declared.reason.NoCacheReason.{NoCacheReason}
 use Rattle.cache_heads.specs.declared.reason.NoCacheReason.TheVariants.{NeverEnabled}

@@ -1,4 +1,3 @@
 pub mod PhaseLaws
 pub mod EndLaws
 pub mod FinishLaws
-pub mod FreshLaws

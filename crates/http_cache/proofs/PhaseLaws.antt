@@ -6,7 +6,7 @@ use Rattle.cache_phases.specs.declared.phase.CachePhase.TheVariants.{Disabled, U
 use Rattle.cache_phases.specs.declared.hit.HitStatus.{HitStatus}
 use Rattle.cache_phases.specs.declared.hit.HitStatus.TheVariants.{Expired, ForceExpired, ForceExpiredServeStale, ForceMiss, FailedHitFilter, Fresh, ForceFresh}
 use Rattle.cache_phases.specs.HitStatuses.{found_phase}
-use Rattle.cache_phases.specs.Phases.{is_disabled, has_key_phase, can_look_up, can_miss, can_begin, is_write_phase, is_stale_phase, is_key_phase, has_reader_phase}
+use Rattle.cache_phases.specs.Phases.{is_disabled, has_key_phase, can_look_up, can_miss, can_begin, is_write_phase, is_stale_phase, is_key_phase}
 
 pub key_at_look_up : (p : CachePhase) → can_look_up p ≡ true → has_key_phase p ≡ true
 key_at_look_up (Disabled reason) e = absurd (false≢true e)
@@ -38,10 +38,6 @@ key_at_stale (Disabled reason) e = absurd (false≢true e)
 key_at_stale Uninit e = absurd (false≢true e)
 key_at_stale _ e = refl
 
-pub on_with_reader : (p : CachePhase) → has_reader_phase p ≡ true → is_disabled p ≡ false
-on_with_reader (Disabled reason) e = absurd (false≢true e)
-on_with_reader _ e = refl
-
 pub on_with_key : (p : CachePhase) → has_key_phase p ≡ true → is_disabled p ≡ false
 on_with_key (Disabled reason) e = absurd (false≢true e)
 on_with_key _ e = refl
@@ -54,6 +50,3 @@ on_when_found ForceMiss p e = on_with_key p (key_at_look_up p e)
 on_when_found FailedHitFilter p e = on_with_key p (key_at_look_up p e)
 on_when_found Fresh p e = refl
 on_when_found ForceFresh p e = refl
-
--- those that most calls need
-pub ruleset phases = (key_at_look_up, key_at_miss, key_at_begin, key_at_write, key_at_stale, on_with_key, on_with_reader, on_when_found)

@@ -8,6 +8,3 @@ pub mod Sizes
 pub mod Predictions
 pub mod Stale
 pub mod Revalidations
-pub mod Freshes
-pub mod Variants
-pub mod Lends

@@ -1,6 +1,6 @@
 -- What a look-up gives a request.
-use Rattle.std.specs.Prelude.{◌≡◌, ◌↔◌, ℕ, Bool, true, false, List, Option, Some, None, IsTrue, IfSome, is_some, is_none, Result, Ok, Err}
-use Rattle.cache_words.specs.Time.{MomentValue}
+use Rattle.std.specs.Prelude.{◌≡◌, ◌↔◌, ℕ, Bool, true, false, not, List, Option, Some, None, IsTrue, IfSome, is_some, is_none, Result, Ok, Err, if◌then◌else◌}
+use Rattle.cache_words.specs.Time.{MomentValue, at_most}
 use Rattle.cache_words.specs.Key.{Key, key_of}
 use Rattle.cache_heads.specs.declared.meta.CacheMeta.{CacheMeta}
 use Rattle.cache_heads.specs.declared.reason.NoCacheReason.TheVariants.{Deferred}
@@ -11,8 +11,9 @@ use Rattle.cache_lock.specs.State.{LockState}
 use Rattle.cache_store.specs.declared.admission.Decision.{Decision}
 use Rattle.cache_store.specs.declared.admission.Decision.TheVariants.{Defer}
 use Rattle.cache_store.specs.declared.storage.StoreFault.TheVariants.{Memory}
-use Rattle.cache_store.specs.Answers.{Look}
+use Rattle.cache_store.specs.Answers.{Look, in_flight, finished}
 use Rattle.cache_store.specs.Held.{Held}
+use Rattle.cache_store.specs.Looks.{LookAnswer}
 use Rattle.cache_store.specs.Readers.{Reader, SameHeld}
 use Rattle.cache_phases.specs.Phases.{is_key_phase}
 use Rattle.cache_phases.specs.Locks.{is_on, given_by, asked, now_holding, lock_held}

@@ -1,5 +1,5 @@
 -- A request to a cache: its phase, and what it holds.
-use Rattle.std.specs.Prelude.{◌≡◌, ℕ, Bool, true, false, List, Option, None, is_some}
+use Rattle.std.specs.Prelude.{◌≡◌, ℕ, Bool, true, false, List, [], Option, Some, None, is_some, if◌then◌else◌}
 use Rattle.cache_words.specs.Time.{MomentValue}
 use Rattle.cache_words.specs.Key.{CacheKeyValue}
 use Rattle.cache_heads.specs.declared.meta.CacheMeta.{CacheMeta}
@@ -11,9 +11,9 @@ use Rattle.cache_phases.specs.declared.phase.CachePhase.TheVariants.{Disabled, U
 use Rattle.cache_phases.specs.declared.digest.HttpCacheDigest.{HttpCacheDigest}
 use Rattle.cache_phases.specs.declared.lock_ctx.CacheOptionOverrides.{CacheOptionOverrides}
 use Rattle.cache_phases.specs.declared.request_lock.RequestLock.{RequestLock}
-use Rattle.cache_phases.specs.Phases.{is_disabled, has_key_phase}
+use Rattle.cache_phases.specs.Phases.{is_disabled, is_never_enabled, has_key_phase}
 use Rattle.cache_phases.specs.Digests.{empty_digest}
-use Rattle.cache_phases.specs.Locks.{lock_off, lock_set}
+use Rattle.cache_phases.specs.Locks.{held, lock_off, lock_set}
 use Rattle.http_cache.specs.declared.request.Uses.{Uses}
 pub use Rattle.request_store.specs.Entries.{stored_at}
 

@@ -1,5 +1,5 @@
 -- What becomes of a stale response that upstream confirms.
-use Rattle.std.specs.Prelude.{Option, option_map}
+use Rattle.std.specs.Prelude.{Option, Some, None, option_map}
 use Rattle.cache_headers.specs.declared.header.ResponseHeader.{ResponseHeader}
 use Rattle.cache_heads.specs.declared.meta.CacheMeta.{CacheMeta}
 

@@ -75,11 +75,11 @@ impl<S: Storage> HttpCache<S> {
     }
 
     // Counts a use of the entry of a response that was found. An `Err(None)` is out of memory.
-    pub(crate) fn count_use<E: EvictionManager>(
+    fn count_use<E: EvictionManager>(
         &self,
         alloc: Global,
         manager: &mut E,
-        fresh_until: Moment,
+        meta: &CacheMeta,
         hit: &S::Hit,
         status: HitStatus,
     ) -> Result<(), Option<EvictFault>>
@@ -96,28 +96,22 @@ impl<S: Storage> HttpCache<S> {
             return Err(None);
         };
         let entry = CacheEntryKey::from_entry_id(compact, hit.entry_id());
-        match manager.access(alloc, &entry, hit.get_eviction_weight(), fresh_until) {
+        match manager.access(alloc, &entry, hit.get_eviction_weight(), meta.fresh_until()) {
             Ok(_) => Ok(()),
             Err(fault) => Err(Some(fault)),
         }
     }
 
     // Takes what was found, and spends the earlier reader.
-    pub(crate) fn keep_found(
-        &mut self,
-        store: &mut S,
-        meta: Option<CacheMeta>,
-        hit: S::Hit,
-        phase: CachePhase,
-    )
+    fn keep_found(&mut self, store: &mut S, meta: CacheMeta, hit: S::Hit, phase: CachePhase)
         requires key { is_some self.old.key ≡ true }
         requires on { is_disabled phase ≡ false }
-        ensures request { self.new ≡ record self.old { phase = phase; meta = meta; reader = Some hit } }
+        ensures request { self.new ≡ record self.old { phase = phase; meta = Some meta; reader = Some hit } }
         ensures store { Spends S.Hit.reader self.old.reader (S.held store.old) (S.held store.new) }
         ensures ids { S.ids store.new ≡ S.ids store.old }
     {
         self.phase = phase;
-        self.meta = meta;
+        self.meta = Some(meta);
         let earlier = self.reader.replace(hit);
         finish_reader(store, earlier);
     }
@@ -146,7 +140,7 @@ impl<S: Storage> HttpCache<S> {
             self.pass_found(store, hit);
         } else {
             let phase = status.found_phase(self.phase);
-            self.keep_found(store, Some(meta), hit, phase);
+            self.keep_found(store, meta, hit, phase);
         }
     }
 
@@ -186,7 +180,7 @@ impl<S: Storage> HttpCache<S> {
                 return Err(FoundFault::Lock(fault));
             }
         };
-        match self.count_use(alloc, &mut parts.manager, meta.fresh_until(), &hit, status) {
+        match self.count_use(alloc, &mut parts.manager, &meta, &hit, status) {
             Ok(()) => {}
             Err(None) => {
                 hit.finish(&mut parts.store);

@@ -1,13 +1,11 @@
 //! What a request does with a cache: each call is allowed in some phases, and says what it leaves of the request and of each part of
 //! the cache that it is lent.
-#![tactic(auto, using(crate::proofs::PhaseLaws::phases))]
+#![tactic(auto, using(crate::proofs::PhaseLaws::key_at_look_up, crate::proofs::PhaseLaws::key_at_miss, crate::proofs::PhaseLaws::key_at_begin, crate::proofs::PhaseLaws::key_at_write, crate::proofs::PhaseLaws::key_at_stale, crate::proofs::PhaseLaws::on_with_key, crate::proofs::PhaseLaws::on_when_found))]
 
 mod ends;
 mod finish;
 mod found;
-mod fresh;
 mod key;
-mod lent;
 mod lock;
 mod lookup;
 mod meta;
@@ -17,8 +15,6 @@ mod readers;
 mod request;
 mod revalidate;
 mod size;
-mod spans;
-mod vary;
 mod write;
 
 pub use request::{HttpCache, Uses};

@@ -61,7 +61,7 @@ impl<S: Storage> HttpCache<S> {
     }
 
     // Nothing was found. `nothing` tells whether the store has nothing.
-    pub(crate) fn miss<E, P, L: CacheKeyLock, A: AdmissionPolicy>(
+    fn miss<E, P, L: CacheKeyLock, A: AdmissionPolicy>(
         &mut self,
         parts: &mut Parts<S, E, P, L, A>,
         nothing: bool,

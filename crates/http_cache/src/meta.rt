@@ -1,5 +1,6 @@
 //! The meta of a request, and the phases that need no part of the cache.
 ghost use Rattle.std.specs.Prelude.{◌≡◌, ◌&&◌, Some, None, true, is_some, option_map, if◌then◌else◌};
+ghost use Rattle.cache_words.specs.Time.{MomentValue};
 ghost use Rattle.cache_phases.specs.declared.phase.CachePhase.TheVariants as phases;
 ghost use Rattle.cache_phases.specs.Phases.{can_miss, is_stale_phase, has_meta_phase, can_serve_stale};
 ghost use Rattle.http_cache.specs.Stale.{serves_on_error, serves_while_updating};

@@ -47,9 +47,8 @@ impl<S: Storage> HttpCache<S> {
         ensures err { IfErr result (λ f. (f ≡ OutOfMemory) × (parts.new ≡ parts.old)) }
         ensures parts { parts.new ≡ record parts.old { store = parts.new.store; manager = parts.new.manager } }
     {
-        let tracked = self.evicts;
         let Some(key) = &self.key else { unreachable!() };
-        purge_key(parts, key, tracked)
+        purge_key(parts, key, self.evicts)
     }
 
     /// Lets what is stored under the key go stale at a moment. Returns whether something was stored. In a store in which nothing goes

@@ -1,6 +1,6 @@
 //! A request, off and on.
 ghost use Rattle.std.specs.Prelude.{◌≡◌, true, false};
-ghost use Rattle.cache_phases.specs.Phases.{is_disabled, is_enabled, is_bypass, is_upstream_used};
+ghost use Rattle.cache_phases.specs.Phases.{is_disabled, is_never_enabled, is_enabled, is_bypass, is_upstream_used};
 ghost use Rattle.cache_phases.specs.Digests.{added};
 ghost use Rattle.http_cache.specs.Request.{unused, enabled_with};
 

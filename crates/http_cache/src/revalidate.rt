@@ -1,5 +1,5 @@
 //! A stale response that upstream confirms.
-ghost use Rattle.std.specs.Prelude.{◌≡◌, Some, None, true, is_some, IfOk, IfSome};
+ghost use Rattle.std.specs.Prelude.{◌≡◌, Some, None, true, is_some};
 ghost use Rattle.cache_changes.specs.Store.{body_at};
 ghost use Rattle.cache_store.specs.Renewals.{UpdateAnswer};
 ghost use Rattle.cache_lock.specs.declared.status.LockStatus.TheVariants.{Done};
@@ -9,7 +9,6 @@ ghost use Rattle.cache_phases.specs.Locks.{let_go};
 ghost use Rattle.cache_phases.specs.Releases.{is_releasable, lock_released, lock_released_for, status_for, key_in};
 ghost use Rattle.http_cache.specs.Request.{stored_at};
 ghost use Rattle.request_store.specs.Begins.{renewed_from};
-ghost use Rattle.request_store.specs.Merges.{merged};
 ghost use Rattle.http_cache.specs.Revalidations.{with_head};
 
 use crate::request::HttpCache;
@@ -19,8 +18,7 @@ use cache_lock::{CacheKeyLock, LockStatus};
 use cache_parts::Parts;
 use cache_phases::CachePhase;
 use cache_store::storage::{Storage, StoreFault};
-use http_header::HeaderMapError;
-use request_store::{merged_head, renewed_from};
+use request_store::renewed_from;
 
 impl<S: Storage> HttpCache<S> {
     /// Takes the meta of a response that confirms the stale one, whose moment of creation and provenance stay, and stores it in the place
@@ -51,26 +49,6 @@ impl<S: Storage> HttpCache<S> {
         self.stale_variance = None;
         self.phase = CachePhase::Revalidated;
         result
-    }
-
-    /// Returns the stale response's head with the fields that a response sent which confirms it: Cache-Control, Expires, Cache-Tag,
-    /// CDN-Cache-Control and ETag, where they were sent.
-    ///
-    /// # Errors
-    ///
-    /// Out of memory, or the head has more names than it can count.
-    pub fn revalidate_merge_header(
-        &self,
-        sent: &ResponseHeader,
-    ) -> Result<ResponseHeader, HeaderMapError>
-        requires phase { is_stale_phase self.now.phase ≡ true }
-        requires meta { is_some self.now.meta ≡ true }
-        ensures { IfOk result (λ header. IfSome self.now.meta (λ m. header ≡ merged m.header sent.now)) }
-    {
-        let Some(meta) = &self.meta else {
-            unreachable!()
-        };
-        merged_head(meta, sent)
     }
 
     /// Takes the head of a response that confirms the stale one and may not be stored, for a reason. What is held of the lock is released

@@ -85,8 +85,8 @@ impl<S: Storage> HttpCache<S> {
         requires { can_begin self.old.phase ≡ true }
         ensures { self.new ≡ with_meta (meta_for meta self.old) self.old }
     {
-        let stored = self.meta_for(meta);
-        self.set_meta(stored);
+        let meta = self.meta_for(meta);
+        self.set_meta(meta);
     }
 
     /// Begins the write of a response, with the meta that is set. In a store that streams, the request then has a reader of its own write,

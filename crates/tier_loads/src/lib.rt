@@ -8,8 +8,7 @@
 //! So of two tiers that serve the same requests the one with greater limits finds whatever the other finds, and the lesser one's
 //! order of use is a front of the greater one's. That both find it fresh isn't said: the greater tier may hold an older body.
 //!
-//! The laws are over the plain state, the order of use and the bodies. A request stores its response whole, so between requests no
-//! write is in flight. Requests stand latest first.
+//! The laws are over the plain state, the order of use and the bodies. Requests stand latest first.
 #![tactic(auto)]
 
 pub mod laws;

@@ -38,7 +38,7 @@ module _ (d : Driven) (asks : Bool) (wait : Option DurationValue) (gave : Bool) 
   is-on = on-in d.phase (is_some d.meta) gave may
 
   -- it has no write, and doesn't wait
-  no-writer : d.writer ≡ None
+  pub no-writer : d.writer ≡ None
   no-writer = by_writer d.writer refl
     where
       by_writer : (w : Option ℕ) → d.writer ≡ w → w ≡ None
@@ -64,6 +64,24 @@ module _ (d : Driven) (asks : Bool) (wait : Option DurationValue) (gave : Bool) 
 
   off-request : plain_of off asks wait gave None ≡ record (plain_of d asks wait gave bytes) { phase = disabled; held = nothing; reader = closed }
   off-request = ap (λ (w : Option ℕ). record (plain_of d asks wait gave bytes) { phase = disabled; held = nothing; reader = closed; write = w }) (sym no-writer)
+
+  driven-off : IsDriven off asks wait gave None
+  driven-off = record {
+    used = refl;
+    key = i.key;
+    admits = refl;
+    shown = refl;
+    evicts = λ on. absurd cc;
+    lock = λ on. absurd cc;
+    idle = λ off. record { reader = refl; writer = refl; lock = refl };
+    writes = λ there. absurd cc;
+    released = λ there. refl;
+    waits = λ reads. absurd cc;
+    body = λ there. absurd cc;
+  }
+
+  pub driven-given-up : (new : Driven) → new ≡ disabled_for OriginNotCache d → IsDriven new asks wait gave None
+  driven-given-up new e = subst (λ (r : Driven). IsDriven r asks wait gave None) (sym (e ∙ is-off)) driven-off
 
   pub given-up : (custom : List ℕ → LockStatus) (h0 h : Held) (s s' : LockState) (new : Driven) → IsDisabledFor readings.reader_of (λ n. n) custom OriginNotCache (point d h0 s) (point new h s')
       → GivesUp (plain_of d asks wait gave bytes) (shelf_of h0) s (plain_of new asks wait gave None) (shelf_of h) s'

@@ -1,5 +1,5 @@
 -- The writes in flight, and those that have readers, have begun: what each change leaves of that.
-use Rattle.std.proofs.Common.{◌≡◌, ℕ, ◌+◌, ◌-◌, ◌<◌, ◌≤◌, refl, sym, ◌∙◌, true, false, cond, [], ◌∷◌, ◌++◌, arith, subst}
+use Rattle.std.proofs.Common.{◌≡◌, ◌≢◌, ℕ, ◌+◌, ◌-◌, ◌<◌, ◌≤◌, refl, ap, sym, ◌∙◌, true, false, cond, [], ◌∷◌, ◌++◌, arith, subst}
 use Rattle.std.specs.Prelude.{◌==◌, Bool, not, List, Option, Some, None, find, filter, map, nat_le, if◌then◌else◌}
 use Rattle.std.specs.List.{AllByRecursion}
 use Rattle.std.specs.FinMap.{get, insert, remove}
@@ -7,7 +7,8 @@ use Rattle.std.proofs.lemmas.Bool.{eqb-true}
 use Rattle.cache_heads.specs.declared.meta.CacheMeta.{CacheMeta}
 use Rattle.cache_entries.specs.declared.entry.CacheEntryKey.{CacheEntryKey}
 use Rattle.cache_changes.specs.Changes.{StoredKey, key_alone}
-use Rattle.tier_model.specs.Shelf.{InFlight, Readers, Shelf, has_number, flying_at, one_more, joined, one_less, parted, begun, appended, left_with, readers_left, landed, marked, marked_all, removed, cleared}
+use Rattle.tier_model.specs.Rows.{FinishedBody}
+use Rattle.tier_model.specs.Shelf.{InFlight, Readers, Shelf, has_number, flying_at, one_more, joined, one_less, parted, begun, on_flying, appended, ended, left_with, readers_left, landed, stored, marked, marked_all, removed, cleared}
 use Rattle.tier_model.specs.State.{Reader, closed, unread, spent, streaming}
 use Rattle.tier_model.specs.After.{with_reader, without_reader, turned, pieced, on_write}
 use Rattle.tier_requests.specs.Shelves.{IsBelow}

@@ -1,19 +1,23 @@
 -- How what a request holds ends, as the plain record has it.
-use Rattle.std.proofs.Common.{◌≡◌, ℕ, refl, ap, ◌∙◌, true, false, Some, None, Option, List}
+use Rattle.std.proofs.Common.{◌≡◌, ℕ, refl, ap, sym, ◌∙◌, Bool, true, false, Some, None, Option, List}
 use Rattle.std.specs.Prelude.{is_some}
 use Rattle.cache_words.specs.Time.{MomentValue}
 use Rattle.cache_lock.specs.declared.tokens.Locked.{Locked}
 use Rattle.cache_lock.specs.declared.tokens.Locked.TheVariants.{Write, Read}
+use Rattle.cache_lock.specs.declared.status.LockStatus.{LockStatus}
 use Rattle.cache_lock.specs.State.{LockState, after_all}
 use Rattle.cache_phases.specs.Locks.{left_by}
+use Rattle.cache_phases.specs.Releases.{released_in}
+use Rattle.cache_store.specs.Answers.{left}
 use Rattle.cache_store.specs.Held.{Held}
 use Rattle.mem_cache.specs.declared.handlers.MemHitHandler.{MemHitHandler}
 use Rattle.mem_cache.specs.declared.handlers.MemHitHandler.TheVariants.{Complete, Partial}
 use Rattle.mem_cache.specs.Readings as readings
 use Rattle.request_store.specs.Spends.{Spends, Leaves, Ends}
-use Rattle.tier_model.specs.Shelf.{landed}
-use Rattle.tier_model.specs.State.{closed}
-use Rattle.tier_model.specs.After.{turned, on_write, leave_of}
+use Rattle.tier_model.specs.Shelf.{Shelf, landed}
+use Rattle.tier_model.specs.State.{closed, Request}
+use Rattle.tier_model.specs.Answers.{key_for}
+use Rattle.tier_model.specs.After.{turned, on_write, leave_of, release_of}
 use Rattle.tier_requests.specs.Shelves.{shelf_of}
 use Rattle.tier_requests.specs.Plain.{held_in, reader_in, is_body}
 use Rattle.tier_requests.proofs.ShelfLaws.{shelf-parted, shelf-left}

@@ -1,5 +1,5 @@
 -- What a look-up finds, as the plain record has it.
-use Rattle.std.proofs.Common.{arith, ◌≡◌, ℕ, refl, ap, sym, ◌∙◌, subst, Bool, true, false, cond, Some, None, Option, List, [], length}
+use Rattle.std.proofs.Common.{arith, ◌≡◌, ℕ, refl, ap, sym, ◌∙◌, subst, Bool, true, false, cond, Some, None, Option, List, [], ◌∷◌, length}
 use Rattle.std.specs.Prelude.{◌==◌, ◌+◌, ◌-◌, nat_lt, is_some, option_map, find, Result, Ok, Err}
 use Rattle.std.proofs.lemmas.Bool.{eqb-true}
 use Rattle.std.proofs.lemmas.Bool.Decides.{nat_tests}
@@ -7,7 +7,7 @@ use Rattle.cache_words.specs.Time.{MomentValue, at_most}
 use Rattle.cache_words.specs.Key.{CacheKeyValue}
 use Rattle.cache_heads.specs.declared.meta.CacheMeta.{CacheMeta}
 use Rattle.cache_entries.specs.Entry.{key_of}
-use Rattle.cache_changes.specs.Changes.{stored_key}
+use Rattle.cache_changes.specs.Changes.{StoredKey, stored_key}
 use Rattle.cache_changes.specs.Store.{Stored, Flying, body_at, flies_for}
 use Rattle.cache_store.specs.declared.storage.StoreFault.{StoreFault}
 use Rattle.cache_store.specs.Answers.{look_of}
@@ -40,7 +40,7 @@ key-stored None = refl
 key-stored (Some key) = refl
 
 -- a look-up of the state finds what one of the store shows
-abbrev pub IsShownAs : Option store.Look → Look → Type 0
+IsShownAs : Option store.Look → Look → Type 0
 IsShownAs None l = l ≡ absent
 IsShownAs (Some (store.in_flight x)) l = (f : InFlight) × (l ≡ in_flight f) × (f.number ≡ x.write.number) × (f.meta ≡ own_meta x.meta)
 IsShownAs (Some (store.finished x)) l = l ≡ finished (found_in x)
@@ -61,14 +61,14 @@ look-none key h e = subst (λ o. IsShownAs o (shelf.look (stored_key (key_of (en
 
 shown_there : (o : Option store.Look) (l : Look) → is_some o ≡ true → IsShownAs o l → is_there l ≡ true
 shown_there None l e s = absurd cc
-shown_there (Some (store.in_flight x)) l e s = ap is_there s.1
+shown_there (Some (store.in_flight x)) l e s = ap is_there s.1.0
 shown_there (Some (store.finished x)) l e s = ap is_there s
 
 pub look-some : (key : Option CacheKeyValue) (h : Held) → is_some (shows true (stored_at key) h.store) ≡ true → is_there (shelf.look (stored_key (key_of (entry_at key None))) (shelf_of h)) ≡ true
 look-some key h e = shown_there (shows true (stored_at key) h.store) (shelf.look (stored_key (key_of (entry_at key None))) (shelf_of h)) e (look_shown key h)
 
 -- what the store did for a look-up that found that: of a write in flight a reader is counted
-abbrev pub Counts : Look → Held → Held → Type 0
+Counts : Look → Held → Held → Type 0
 Counts absent old new = ⊥
 Counts (in_flight f) old new = IsJoined f.number old new
 Counts (finished b) old new = new ≡ old
@@ -77,18 +77,14 @@ pub record FindsOne (l : Look) (meta : CacheMeta) (hit : MemHitHandler) (old new
   pub by : IsFoundBy l meta hit
   pub counts : Counts l old new
 
-abbrev is_found : Result (Option (CacheMeta × MemHitHandler)) StoreFault → Bool
-is_found (Ok (Some found)) = true
-is_found _ = false
-
 finds_one : (o : Option store.Look) (l : Look) (meta : CacheMeta) (hit : MemHitHandler) (old new : Held) → IsShownAs o l → LookAnswer reader_of o old (Ok (Some (meta, hit))) new → FindsOne l meta hit old new
-finds_one None l meta hit old new s a = let never : true ≡ false = ap is_found a.0 in absurd cc
-finds_one (Some (store.in_flight x)) l meta hit old new s a = subst (λ k. FindsOne k meta hit old new) (sym s.1) (record {
-  by = (ap own_meta a.0.0 ∙ sym s.3, a.0.1 ∙ ap (λ n. streaming (record { number = n; place = 0 })) (sym s.2));
-  counts = subst (λ n. IsJoined n old new) (sym s.2) a.1;
+finds_one None l meta hit old new s a = let never : Ok (Some (meta, hit)) ≡ Ok None = a.0 in absurd cc
+finds_one (Some (store.in_flight x)) l meta hit old new s a = subst (λ k. FindsOne k meta hit old new) (sym s.1.0) (record {
+  by = (ap own_meta a.0.0 ∙ sym s.1.2.1, a.0.1 ∙ ap (λ n. streaming (record { number = n; place = 0 })) (sym s.1.2.0));
+  counts = subst (λ n. IsJoined n old new) (sym s.1.2.0) a.1;
 })
 finds_one (Some (store.finished x)) l meta hit old new s a = subst (λ k. FindsOne k meta hit old new) (sym s) (record {
-  by = (x.write.number, ap own_meta a.0.0, a.0.1);
+  by = (ap own_meta a.0.0, x.write.number, a.0.1);
   counts = a.1;
 })
 
@@ -146,25 +142,25 @@ shelf-spared (in_flight g) meta hit old mid new f p =
     let parts : IsParted g.number mid new = subst (λ (r : Reader). Parts r mid new) f.by.1 p in
     shelf-same old new (joined-parted g.number old mid new f.counts parts)
 shelf-spared (finished b) meta hit old mid new f p =
-    let same : new ≡ mid = subst (λ (r : Reader). Parts r mid new) f.by.2 p in
+    let same : new ≡ mid = subst (λ (r : Reader). Parts r mid new) f.by.1.1 p in
     ap shelf_of (same ∙ f.counts)
 
 -- ---- what was found
 
 -- the bytes of a reader that reads nothing more are those that it was to read
-abbrev bytes_of : Reader → List ℕ
+bytes_of : Reader → List ℕ
 bytes_of (whole n body bytes) = bytes
 bytes_of (streaming s) = []
 
-abbrev body_of : Reader → List ℕ
+body_of : Reader → List ℕ
 body_of (whole n body bytes) = body
 body_of (streaming s) = []
 
-abbrev number_of : Reader → ℕ
+number_of : Reader → ℕ
 number_of (whole n body bytes) = n
 number_of (streaming s) = s.number
 
-abbrev place_of : Reader → ℕ
+place_of : Reader → ℕ
 place_of (whole n body bytes) = 0
 place_of (streaming s) = s.place
 
@@ -172,10 +168,6 @@ place_of (streaming s) = s.place
 pub record IsTakenFrom (l : Look) (bytes : Option (List ℕ)) (hit : MemHitHandler) : Type 0 where
   pub reads : reader_in bytes (Some hit) ≡ after_event.reader_of l
   pub body : is_some bytes ≡ true → is_body (Some hit) ≡ true
-
-abbrev has_taken : Result (Option (List ℕ)) StoreFault → Bool
-has_taken (Ok took) = is_some took
-has_taken (Err f) = false
 
 pub taken-from : (l : Look) (meta : CacheMeta) (before hit : MemHitHandler) (bytes : Option (List ℕ)) → IsFoundBy l meta before → TakeAnswer before (Ok bytes) hit → IsTakenFrom l bytes hit
 taken-from absent meta before hit bytes f a = absurd f
@@ -188,10 +180,10 @@ taken-from (in_flight g) meta (Partial h) hit bytes f a = let took : Ok bytes �
       body = λ some. let never : false ≡ true = sym (ap is_some none) ∙ some in absurd cc;
     }
 taken-from (finished b) meta (Complete h) hit bytes f a = record {
-  reads = rw (a.1, a.0) (ap (λ (r : Reader). tier.unread (bytes_of r)) f.2);
+  reads = rw (a.1, a.0) (ap (λ (r : Reader). tier.unread (bytes_of r)) f.1.1);
   body = λ some. ap (λ (x : MemHitHandler). is_body (Some x)) a.1;
 }
-taken-from (finished b) meta (Partial h) hit bytes f a = let never : streaming h ≡ whole _ _ _ = f.2 in absurd cc
+taken-from (finished b) meta (Partial h) hit bytes f a = let never : streaming h ≡ whole _ _ _ = f.1.1 in absurd cc
 
 -- nothing is taken out of a reader of a write, and memory runs out only at a body: then all is still there
 pub taken-none : (l : Look) (meta : CacheMeta) (before hit : MemHitHandler) (f : StoreFault) → TakeAnswer before (Err f) hit → reader_of hit ≡ reader_of before
@@ -203,11 +195,6 @@ pub taken-parts : (before hit : MemHitHandler) (bytes : Option (List ℕ)) (old 
 taken-parts (Complete h) hit bytes old new a p = subst (λ (x : MemHitHandler). Parts (reader_of x) old new) a.1 p
 taken-parts (Partial h) hit bytes old new a p = subst (λ (x : MemHitHandler). Parts (reader_of x) old new) a.1 p
 
--- bytes are taken out of a reader of a body alone
-pub took-body : (before hit : MemHitHandler) (took : Option (List ℕ)) → TakeAnswer before (Ok took) hit → is_some took ≡ true → is_body (Some hit) ≡ true
-took-body (Complete h) hit took a some = ap (λ (x : MemHitHandler). is_body (Some x)) a.1
-took-body (Partial h) hit took a some = let never : false ≡ true = sym (ap has_taken a.0) ∙ some in absurd cc
-
 -- whether all of a body was found
 abbrev pub is_whole : Look → Bool
 is_whole (finished b) = true
@@ -218,7 +205,7 @@ whole-found absent meta hit f = absurd f
 whole-found (in_flight g) meta (Complete h) f = let never : whole h.number h.body _ ≡ streaming _ = f.1 in absurd cc
 whole-found (in_flight g) meta (Partial h) f = refl
 whole-found (finished b) meta (Complete h) f = refl
-whole-found (finished b) meta (Partial h) f = let never : streaming h ≡ whole _ _ _ = f.2 in absurd cc
+whole-found (finished b) meta (Partial h) f = let never : streaming h ≡ whole _ _ _ = f.1.1 in absurd cc
 
 pub whole-taken : (before hit : MemHitHandler) (bytes : Option (List ℕ)) → TakeAnswer before (Ok bytes) hit → is_complete hit ≡ is_complete before
 whole-taken (Complete h) hit bytes a = ap is_complete a.1
@@ -226,14 +213,14 @@ whole-taken (Partial h) hit bytes a = ap is_complete a.1
 
 -- what a body weighs that was found
 pub weight-found : (b : Body) (meta : CacheMeta) (before hit : MemHitHandler) (bytes : Option (List ℕ)) → IsFoundBy (finished b) meta before → TakeAnswer before (Ok bytes) hit → weight_of hit ≡ length b.bytes
-weight-found b meta (Complete h) hit bytes f a = ap weight_of a.1 ∙ ap (λ (r : Reader). length (body_of r)) f.2
-weight-found b meta (Partial h) hit bytes f a = let never : streaming h ≡ whole _ _ _ = f.2 in absurd cc
+weight-found b meta (Complete h) hit bytes f a = ap weight_of a.1 ∙ ap (λ (r : Reader). length (body_of r)) f.1.1
+weight-found b meta (Partial h) hit bytes f a = let never : streaming h ≡ whole _ _ _ = f.1.1 in absurd cc
 
 -- what was found is fresh exactly where its meta is
 pub fresh-found : (t : MomentValue) (l : Look) (meta : CacheMeta) (hit : MemHitHandler) → IsFoundBy l meta hit → finds_fresh t l ≡ at_most t meta.internal.fresh_until
 fresh-found t absent meta hit f = absurd f
 fresh-found t (in_flight g) meta hit f = ap (λ (m : CacheMeta). at_most t m.internal.fresh_until) (sym f.0)
-fresh-found t (finished b) meta hit f = ap (λ (m : CacheMeta). at_most t m.internal.fresh_until) (sym f.1)
+fresh-found t (finished b) meta hit f = ap (λ (m : CacheMeta). at_most t m.internal.fresh_until) (sym f.0)
 
 pub found-there : (l : Look) (meta : CacheMeta) (hit : MemHitHandler) → IsFoundBy l meta hit → is_there l ≡ true
 found-there absent meta hit f = absurd f

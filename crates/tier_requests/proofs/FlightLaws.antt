@@ -1,6 +1,6 @@
 -- Writes in flight as a state has them: what is done to them is what the store does.
 use Rattle.std.proofs.Common.{◌≡◌, ℕ, refl, ap, sym, ◌∙◌, true, false, cond, [], ◌∷◌, ◌++◌}
-use Rattle.std.specs.Prelude.{Bool, List, Option, Some, option_map, not, find, filter, map}
+use Rattle.std.specs.Prelude.{Bool, List, Option, Some, None, option_map, not, find, filter, map}
 use Rattle.cache_heads.specs.declared.meta.CacheMeta.{CacheMeta}
 use Rattle.cache_changes.specs.Changes.{StoredKey}
 use Rattle.cache_changes.specs.Store.{Flying}

@@ -1,34 +1,38 @@
 -- What the lock gives a request that looks up, as the plain record has it.
-use Rattle.std.proofs.Common.{◌≡◌, ℕ, refl, ap, sym, ◌∙◌, subst, Bool, true, false, cond, inl, inr, Some, None, Option, [], ◌∷◌, ◌++◌}
+use Rattle.std.proofs.Common.{◌≡◌, ℕ, refl, ap, sym, ◌∙◌, subst, Bool, true, false, cond, inl, inr, Some, None, Option, List, [], ◌∷◌, ◌++◌}
 use Rattle.std.specs.Prelude.{◌&&◌, ◌⊎◌, not, is_some}
-use Rattle.cache_words.specs.Time.{MomentValue}
-use Rattle.cache_words.specs.Key.{CacheKeyValue}
+use Rattle.cache_words.specs.Time.{MomentValue, DurationValue}
+use Rattle.cache_words.specs.Key.{CacheKeyValue, Key}
 use Rattle.cache_entries.specs.Entry.{key_of}
 use Rattle.cache_changes.specs.Changes.{StoredKey, stored_key}
 use Rattle.cache_evict.specs.Managed.{Managed}
 use Rattle.cache_lock.specs.declared.fault.LockFault.{LockFault}
 use Rattle.cache_lock.specs.declared.fault.LockFault.TheVariants as lock_fault
 use Rattle.cache_lock.specs.declared.tokens.Locked.{Locked}
+use Rattle.cache_lock.specs.declared.tokens.Locked.TheVariants.{Write, Read}
 use Rattle.cache_lock.specs.Answers.{to_wait_for, locked_by, lock_change, leave_changes, IsRefused, IsSpent}
 use Rattle.cache_lock.specs.State.{LockState, after, after_all}
 use Rattle.cache_phases.specs.declared.lock_ctx.LockCtx.{LockCtx}
 use Rattle.cache_phases.specs.declared.request_lock.RequestLock.{RequestLock}
 use Rattle.cache_phases.specs.declared.phase.CachePhase.{CachePhase}
-use Rattle.cache_phases.specs.Phases.{is_stale_phase}
+use Rattle.cache_phases.specs.declared.phase.CachePhase.TheVariants as phases
+use Rattle.cache_phases.specs.Phases.{is_disabled, is_stale_phase}
 use Rattle.cache_phases.specs.HitStatuses.{found_phase, is_fresh}
 use Rattle.cache_phases.specs.Locks.{is_on, held, given_by, asked as asked_lock, left_by, now_holding, lock_held}
 use Rattle.http_cache.specs.Founds.{entry_at, found_given, found_asked}
 use Rattle.http_cache.specs.Request.{stored_at}
+use Rattle.http_cache.specs.Lookups.{FindsNothing, LockAnswer}
 use Rattle.tier_model.specs.Shelf.{Look, absent, is_there}
-use Rattle.tier_model.specs.State.{nothing, Request}
-use Rattle.tier_model.specs.Checks.{is_waiting}
+use Rattle.tier_model.specs.State.{begun, Held as Holds, nothing, permit, waits, Request}
+use Rattle.tier_model.specs.Checks.{can_look_up, has_permit, is_waiting, look_refusal, unless}
 use Rattle.tier_model.specs.Locks.{is_wait}
 use Rattle.tier_model.specs.Answers.{key_for, finds_fresh, asks_now, given_for, given_if, lock_given}
 use Rattle.tier_model.specs.After.{held_of, given_changes, back_changes}
 use Rattle.tier_requests.specs.Faults.{lock_fault_for}
 use Rattle.tier_requests.specs.Looks.{UseRefused, LockRefused, RunsOut, LeavesLock}
-use Rattle.tier_requests.specs.Plain.{Driven, held_in, given_of}
+use Rattle.tier_requests.specs.Plain.{Driven, phase_in, held_in, given_of, plain_of, IsSet, IsDriven}
 use Rattle.tier_requests.specs.Finds.{status_by}
+use Rattle.tier_requests.proofs.PlainLaws.{looks-up}
 use Rattle.tier_requests.proofs.FindLaws.{key-stored}
 use Rattle.tier_requests.proofs.LookLaws.{held_by}
 
@@ -71,6 +75,8 @@ one_back : (key : StoredKey) (stale : Bool) (t : MomentValue) (s : LockState) (o
     ≡ after_all (leave_changes (locked_by s o) ++ lock_change key stale t s o ∷ []) s
 one_back key stale t s None = refl
 one_back key stale t s (Some n) = refl
+
+
 
 -- ---- what the lock gave
 

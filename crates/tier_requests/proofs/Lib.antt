@@ -15,6 +15,6 @@ pub mod TableLaws
 pub mod FindLaws
 pub mod LookLaws
 pub mod GivenLaws
-pub mod LookUpLaws
+pub mod MissLaws
 pub mod TakeLaws
 pub mod RequestLaws

@@ -1,10 +1,11 @@
 -- What a request lets go of the lock, as the plain record has it.
-use Rattle.std.proofs.Common.{◌≡◌, ℕ, refl, ap, sym, ◌∙◌, Bool, true, false, Some, None, Option, List}
+use Rattle.std.proofs.Common.{◌≡◌, ℕ, refl, ap, sym, ◌∙◌, Bool, true, false, cond, Some, None, Option, List}
 use Rattle.std.specs.Prelude.{is_some, option_map}
 use Rattle.cache_words.specs.Time.{MomentValue, DurationValue}
 use Rattle.cache_words.specs.Key.{CacheKeyValue}
 use Rattle.cache_entries.specs.Entry as entries
 use Rattle.cache_changes.specs.Changes.{stored_key}
+use Rattle.cache_heads.specs.declared.reason.NoCacheReason.TheVariants.{OriginNotCache}
 use Rattle.cache_lock.specs.declared.status.LockStatus.{LockStatus}
 use Rattle.cache_lock.specs.declared.tokens.Locked.{Locked}
 use Rattle.cache_lock.specs.declared.tokens.Locked.TheVariants.{Write, Read}
@@ -13,15 +14,22 @@ use Rattle.cache_lock.specs.State.{LockState, after_all}
 use Rattle.cache_phases.specs.declared.lock_ctx.LockCtx.{LockCtx}
 use Rattle.cache_phases.specs.declared.request_lock.RequestLock.{RequestLock}
 use Rattle.cache_phases.specs.Locks as locks
-use Rattle.cache_phases.specs.Locks.{is_read, let_go}
-use Rattle.cache_phases.specs.Releases.{released_in, lock_released_for, key_in}
+use Rattle.cache_phases.specs.Locks.{is_read, holds_permit, let_go}
+use Rattle.cache_phases.specs.Releases.{is_releasable, released_in, lock_released_for, key_in}
 use Rattle.http_cache.specs.Founds.{entry_at}
 use Rattle.http_cache.specs.Request.{stored_at}
 use Rattle.tier_model.specs.State.{Request}
 use Rattle.tier_model.specs.After.{release_of}
 use Rattle.tier_requests.specs.Plain.{held_in, IsSet}
 
--- nothing is held then
+-- a permit may end since the origin keeps a response out
+pub releasable : (l : RequestLock) → is_releasable l OriginNotCache ≡ true
+releasable l = by_test (holds_permit l)
+  where
+    by_test : (t : Bool) → cond t true true ≡ true
+    by_test true = refl
+    by_test false = refl
+
 pub let-go-none : (l : RequestLock) → locks.held (let_go l) ≡ None
 let-go-none l = by_ctx l.ctx
   where

@@ -1,33 +1,49 @@
 -- How a look-up of a request goes, as the plain record has it.
-use Rattle.std.proofs.Common.{◌≡◌, ℕ, refl, ap, sym, ◌∙◌, subst, Bool, true, false, cond, Some, None, Option, List}
-use Rattle.std.specs.Prelude.{◌&&◌, not, is_some, Result}
+use Rattle.std.proofs.Common.{◌≡◌, ℕ, refl, ap, sym, ◌∙◌, subst, Bool, true, false, cond, inl, inr, Some, None, Option, List, [], ◌∷◌, ◌++◌}
+use Rattle.std.specs.Prelude.{◌&&◌, ◌⊎◌, not, is_some, Result, Ok, Err}
 use Rattle.cache_words.specs.Time.{MomentValue, DurationValue}
-use Rattle.cache_words.specs.Key.{Key}
+use Rattle.cache_words.specs.Key.{CacheKeyValue, Key}
+use Rattle.cache_entries.specs.Entry.{key_of}
+use Rattle.cache_changes.specs.Changes.{StoredKey, stored_key}
+use Rattle.cache_evict.specs.Managed.{Managed}
 use Rattle.cache_lock.specs.declared.fault.LockFault.{LockFault}
+use Rattle.cache_lock.specs.declared.fault.LockFault.TheVariants as lock_fault
 use Rattle.cache_lock.specs.declared.status.LockStatus.{LockStatus}
 use Rattle.cache_lock.specs.declared.tokens.Locked.{Locked}
 use Rattle.cache_lock.specs.declared.tokens.Locked.TheVariants.{Write, Read}
-use Rattle.cache_lock.specs.State.{LockState}
+use Rattle.cache_lock.specs.Answers.{to_wait_for, locked_by, lock_change, leave_changes, IsRefused, IsSpent}
+use Rattle.cache_lock.specs.State.{LockState, after, after_all}
 use Rattle.cache_phases.specs.declared.lock_ctx.LockCtx.{LockCtx}
 use Rattle.cache_phases.specs.declared.request_lock.RequestLock.{RequestLock}
 use Rattle.cache_phases.specs.declared.phase.CachePhase.{CachePhase}
 use Rattle.cache_phases.specs.declared.phase.CachePhase.TheVariants as phases
 use Rattle.cache_phases.specs.Phases as asked
-use Rattle.cache_phases.specs.Phases.{is_disabled, is_never_enabled}
-use Rattle.cache_phases.specs.Locks.{is_on, held, now_holding}
+use Rattle.cache_phases.specs.Phases.{is_disabled, is_stale_phase}
+use Rattle.cache_phases.specs.HitStatuses.{found_phase, is_fresh}
+use Rattle.cache_phases.specs.Locks.{is_on, held, given_by, asked as asked_lock, left_by, now_holding, lock_held}
 use Rattle.cache_store.specs.declared.admission.Decision.{Decision}
 use Rattle.cache_store.specs.Answers as store
 use Rattle.cache_store.specs.Held.{Held}
 use Rattle.cache_store.specs.Readers.{SameHeld}
 use Rattle.mem_cache.specs.Readings.{reader_of}
+use Rattle.request_store.specs.Looks.{valid_look}
+use Rattle.http_cache.specs.Founds.{entry_at, found_given, found_asked}
+use Rattle.http_cache.specs.Request.{stored_at}
 use Rattle.http_cache.specs.Points.{point}
 use Rattle.http_cache.specs.Lookups.{FindsNothing, LockAnswer}
 use Rattle.tier_model.specs.declared.event.TierFault.TheVariants.{WrongPhase, Waiting}
+use Rattle.tier_model.specs.Shelf.{Look, absent, is_there}
 use Rattle.tier_model.specs.State.{begun, Held as Holds, nothing, permit, waits, Request}
 use Rattle.tier_model.specs.Checks.{can_look_up, has_permit, is_waiting, look_refusal, unless}
-use Rattle.tier_requests.specs.Plain.{Driven, phase_in, held_in, plain_of, IsSet, IsDriven}
+use Rattle.tier_model.specs.Locks.{is_wait}
+use Rattle.tier_model.specs.Answers.{key_for, finds_fresh, asks_now, given_for, given_if, lock_given}
+use Rattle.tier_model.specs.After.{held_of, given_changes, back_changes}
+use Rattle.tier_requests.specs.Faults.{lock_fault_for}
+use Rattle.tier_requests.specs.Looks.{UseRefused, LockRefused, RunsOut, LeavesLock}
+use Rattle.tier_requests.specs.Plain.{Driven, phase_in, held_in, given_of, plain_of, IsSet, IsDriven}
+use Rattle.tier_requests.specs.Finds.{status_by}
 use Rattle.tier_requests.proofs.PlainLaws.{looks-up}
-use Rattle.tier_requests.proofs.FindLaws.{shown-all}
+use Rattle.tier_requests.proofs.FindLaws.{key-stored, shown-all}
 
 -- ---- which requests look up
 
@@ -66,8 +82,8 @@ pub record IsLooking (r : Driven) (asks : Bool) : Type 0 where
   pub on : is_on r.lock ≡ asks
   pub writer : is_some r.writer ≡ false
 
-pub looking : (r : Driven) (asks : Bool) (wait : Option DurationValue) (gave : Bool) (bytes : Option (List ℕ)) → IsDriven r asks wait gave bytes → can_look_up (phase_in r.phase (is_some r.meta)) ≡ true → IsLooking r asks
-looking r asks wait gave bytes d e = record { phase = phase; enabled = enabled; on = (d.lock enabled).on; writer = by_writer (is_some r.writer) refl }
+pub looking : (r : Driven) (asks : Bool) (wait : Option DurationValue) (bytes : Option (List ℕ)) → IsDriven r asks wait bytes → can_look_up (phase_in r.phase (is_some r.meta)) ≡ true → IsLooking r asks
+looking r asks wait bytes d e = record { phase = phase; enabled = enabled; on = (d.lock enabled).on; writer = by_writer (is_some r.writer) refl }
   where
     phase : asked.can_look_up r.phase ≡ true
     phase = sym (looks-up r.phase (is_some r.meta)) ∙ e
@@ -90,10 +106,10 @@ pub record IsFree (r : Driven) (asks : Bool) (wait : Option DurationValue) (gave
   pub free : held_by r.lock ≡ nothing
   pub none : held r.lock ≡ None
 
-pub free-of : (r : Driven) (asks : Bool) (wait : Option DurationValue) (gave : Bool) (bytes : Option (List ℕ)) → IsDriven r asks wait gave bytes → look_refusal (plain_of r asks wait gave bytes) ≡ None → IsFree r asks wait gave bytes
+pub free-of : (r : Driven) (asks : Bool) (wait : Option DurationValue) (gave : Bool) (bytes : Option (List ℕ)) → IsDriven r asks wait bytes → look_refusal (plain_of r asks wait gave bytes) ≡ None → IsFree r asks wait gave bytes
 free-of r asks wait gave bytes d e =
     let may = looks (plain_of r asks wait gave bytes) e in
-    record { looking = looking r asks wait gave bytes d may.0; free = may.1; none = holds_none (held r.lock) r.lock.polled may.1 }
+    record { looking = looking r asks wait bytes d may.0; free = may.1; none = holds_none (held r.lock) r.lock.polled may.1 }
 
 abbrev lock_with : Option LockCtx → Option MomentValue → RequestLock
 lock_with ctx first = record { ctx = ctx; polled = first }
@@ -107,7 +123,7 @@ set-held asks wait (Some l) (Some c) first h = record { on = h.on; timeout = h.t
 
 -- no policy is asked, and nothing is hidden
 pub record FindsNone (t : MomentValue) (look : Option store.Look) (r : Driven) (h : Held) (s : LockState) (res : Result (Unit {0}) LockFault) (r' : Driven) (h' : Held) (s' : LockState) : Type 0 where
-  pub none : look ≡ None
+  pub look : look ≡ None
   pub lock : LockAnswer t r s res r' s'
   pub held : SameHeld h h'
 
@@ -118,8 +134,40 @@ finds-none custom decides t look r h s res r' h' s' admits shown f = by_decision
     by_decision : (d : Option Decision) → f.1.2.decision ≡ d → FindsNone t look r h s res r' h' s'
     by_decision None e =
         let missed = rw e at f.1.2.missed in
-        record { none = sym (shown-all r.valid_after look shown) ∙ f.0; lock = missed.0; held = subst (λ x. SameHeld h x) (sym missed.1) f.1.1 }
+        record { look = sym (shown-all r.valid_after look shown) ∙ f.0; lock = missed.0; held = subst (λ x. SameHeld h x) (sym missed.1) f.1.1 }
     by_decision (Some d) e =
         let asked = f.1.2.asked.0 (ap is_some e) in
         let never : true ≡ false = sym asked.on ∙ admits in
         absurd cc
+
+-- the request once the lock has answered
+pub driven-locked : (r : Driven) (asks : Bool) (wait : Option DurationValue) (bytes : Option (List ℕ)) (g : Option Locked) → IsLooking r asks → IsDriven r asks wait bytes
+    → IsDriven (record r { lock = now_holding g r.lock }) asks wait bytes
+driven-locked r asks wait bytes g k d = record {
+  used = d.used;
+  key = d.key;
+  admits = d.admits;
+  shown = d.shown;
+  evicts = d.evicts;
+  lock = λ e. set-held asks wait g r.lock.ctx r.lock.polled (d.lock e);
+  idle = λ e. let never : true ≡ false = sym e ∙ k.enabled in absurd cc;
+  writes = λ e. let never : true ≡ false = sym e ∙ k.writer in absurd cc;
+  released = λ e. let never : true ≡ false = sym e ∙ k.writer in absurd cc;
+  body = d.body;
+}
+
+-- the request in `Miss`
+pub driven-missed : (r : Driven) (asks : Bool) (wait : Option DurationValue) (bytes : Option (List ℕ)) → IsLooking r asks → IsDriven r asks wait bytes
+    → IsDriven (record r { phase = phases.Miss; meta = None; stale_variance = None }) asks wait bytes
+driven-missed r asks wait bytes k d = record {
+  used = refl;
+  key = d.key;
+  admits = d.admits;
+  shown = d.shown;
+  evicts = λ e. d.evicts k.enabled;
+  lock = λ e. d.lock k.enabled;
+  idle = λ e. absurd cc;
+  writes = λ e. let never : true ≡ false = sym e ∙ k.writer in absurd cc;
+  released = λ e. let never : true ≡ false = sym e ∙ k.writer in absurd cc;
+  body = d.body;
+}

@@ -1,5 +1,5 @@
 -- What is asked of a request to a cache, as it is asked of the plain record.
-use Rattle.std.proofs.Common.{◌≡◌, refl, ap, Bool, true, false, Some, None, Option}
+use Rattle.std.proofs.Common.{◌≡◌, ℕ, refl, ap, sym, ◌∙◌, Bool, true, false, Some, None, Option}
 use Rattle.cache_words.specs.Time.{MomentValue}
 use Rattle.cache_words.specs.Key.{Key, CacheKeyValue, key_of}
 use Rattle.cache_entries.specs.Entry.{entry_with}

@@ -1,13 +1,13 @@
 -- The readers of writes as a state has them: a finite map by the writes' numbers.
 use Rattle.std.proofs.Common.{◌≡◌, ℕ, ◌+◌, ◌-◌, refl, ap, sym, ◌∙◌, true, false, cond, [], ◌∷◌, arith, subst}
-use Rattle.std.specs.Prelude.{◌==◌, Bool, List, Option, Some, None, option_map, map, nat_eq, nat_lt, nat_le}
-use Rattle.std.specs.FinMap.{FinMap, get, insert, remove, from_entries, same_map, get-insert, get-remove, nat_cmp-IsAntisymmetric}
+use Rattle.std.specs.Prelude.{◌==◌, Bool, List, Option, Some, None, option_map, find, map, nat_eq, nat_lt, nat_le}
+use Rattle.std.specs.FinMap.{FinMap, IsAntisymmetric, get, insert, remove, from_entries, same_map, get-insert, get-remove, nat_cmp-IsAntisymmetric}
 use Rattle.std.specs.Ordering.{nat_cmp, eq_by_cmp}
 use Rattle.std.specs.Cmp.{unsigned_tied}
-use Rattle.std.proofs.lemmas.Cmp.{nat_cmp_total, eq_by_cmp_equiv}
+use Rattle.std.proofs.lemmas.Cmp.{nat_cmp_total, nat_eq_equiv, eq_by_cmp_equiv}
 use Rattle.std.specs.Map.{lookup}
 use Rattle.std.proofs.lemmas.Bool.{eqb-true}
-use Rattle.cache_store.specs.Held.{Reading, left_with}
+use Rattle.cache_store.specs.Held.{Reading, Held, left_with}
 use Rattle.cache_store.specs.Readers.{reading_at, one_more, one_less}
 use Rattle.tier_model.specs.Shelf as shelf
 use Rattle.tier_model.specs.Shelf.{Readers, joined, parted}
@@ -125,7 +125,7 @@ found-left n bytes m (r ∷ rs) = by_tests (n == r.number) refl (m == r.number) 
     by_tests : (t : Bool) → (n == r.number) ≡ t → (u : Bool) → (m == r.number) ≡ u
         → option_map readers_of (reading_at m (left_with n bytes rs)) ≡ cond (n == m) (option_map {T = Readers} (λ r. record r { left = Some bytes }) (option_map readers_of (reading_at m rs))) (option_map readers_of (reading_at m rs))
         → option_map readers_of (reading_at m (cond t left r ∷ left_with n bytes rs))
-        ≡ cond (n == m) (option_map {T = Readers} (λ r. record r { left = Some bytes }) (option_map readers_of (reading_at m (r ∷ rs)))) (option_map readers_of (reading_at m (r ∷ rs)))
+            ≡ cond (n == m) (option_map {T = Readers} (λ r. record r { left = Some bytes }) (option_map readers_of (reading_at m (r ∷ rs)))) (option_map readers_of (reading_at m (r ∷ rs)))
     by_tests true e true u ih = let same : (n == m) ≡ true = grind (arith, e, u) in rw (same, u) refl
     by_tests false e true u ih = let other : (n == m) ≡ false = grind (arith, e, u) in rw (other, u) refl
     by_tests true e false u ih = rw u ih

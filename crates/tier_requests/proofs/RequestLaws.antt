@@ -1,9 +1,8 @@
 -- A request's own steps, as the plain record has them.
 use Rattle.std.proofs.Common.{◌≡◌, ◌≢◌, ℕ, refl, ap, sym, ◌∙◌, Bool, true, false, cond, Some, None, Option, List, [], ◌∷◌, ◌++◌, subst}
-use Rattle.std.specs.Prelude.{option_map, Result, Ok, Err, OnOk, OnErr, MatchResult}
+use Rattle.std.specs.Prelude.{option_map, map, Result, Ok, Err, OnOk, OnErr, MatchResult}
 use Rattle.std.proofs.lemmas.List.{append-nil}
 use Rattle.cache_heads.specs.declared.meta.CacheMeta.{CacheMeta}
-use Rattle.cache_words.specs.Time.{DurationValue}
 use Rattle.cache_changes.specs.Store as store
 use Rattle.cache_changes.specs.Store.{Flying}
 use Rattle.cache_store.specs.declared.storage.ReadStep.{ReadStep}
@@ -28,7 +27,7 @@ use Rattle.tier_model.specs.State.{Reader, spent, streaming, Request}
 use Rattle.tier_model.specs.After.{pieced, read_on}
 use Rattle.tier_requests.specs.Faults.{out_of_memory}
 use Rattle.tier_requests.specs.Shelves.{flight_of, shelf_of}
-use Rattle.tier_requests.specs.Plain.{Driven, plain_of, reader_in}
+use Rattle.tier_requests.specs.Plain.{reader_in}
 use Rattle.tier_requests.specs.Rows.{ReadAnswer}
 use Rattle.tier_requests.specs.Steps.{WriteStep, HitAnswer, hit_after, answer_for}
 use Rattle.tier_requests.proofs.FlightLaws.{flight-at}
@@ -143,20 +142,3 @@ pub reads-on : (q : Request) (hit new : MemHitHandler) (h : Held) (r : Result Re
 reads-on q hit new h r a e after told =
     subst (λ (x : Outcome). Reads q (reader_in None (Some hit)) h x (reader_in None (Some new))) (sym told)
     (subst (λ (x : MemHitHandler). Reads q (reader_in None (Some hit)) h (answer_for r) (reader_in None (Some x))) (sym after) (reads q hit h r e))
-
--- and is put together again with its reader
-pub read-put : (r taken put : Driven) (asks : Bool) (wait : Option DurationValue) (gave : Bool) (bytes left : Option (List ℕ)) (q : Request) (hit next : MemHitHandler) (h : Held) (a : Outcome)
-    → plain_of r asks wait gave bytes ≡ q → bytes ≡ None → r.reader ≡ Some hit → taken ≡ record r { reader = None } → put ≡ record taken { reader = Some next } → left ≡ None
-    → Reads q (reader_in None (Some hit)) h a (reader_in None (Some next)) → ReadAnswer (has_reader q.reader) q (shelf_of h) a (plain_of put asks wait gave left)
-read-put r taken put asks wait gave bytes left q hit next h a is none there out back gone e =
-    subst (λ (x : Request). ReadAnswer (has_reader q.reader) q (shelf_of h) a x) (sym after)
-    (subst (λ (x : Reader). ReadAnswer (has_reader x) (record q { reader = x }) (shelf_of h) a (record q { reader = reader_in None (Some next) })) (sym before) e)
-  where
-    before : q.reader ≡ reader_in None (Some hit)
-    before = ap (λ (x : Request). x.reader) (sym is) ∙ ap (λ (o : Option (List ℕ)). reader_in o r.reader) none ∙ ap (reader_in None) there
-
-    after : plain_of put asks wait gave left ≡ record q { reader = reader_in None (Some next) }
-    after =
-        ap (plain_of put asks wait gave) gone ∙ ap (λ (x : Driven). plain_of x asks wait gave None) back
-        ∙ ap (λ (x : Driven). plain_of (record x { reader = Some next }) asks wait gave None) out
-        ∙ ap (λ (x : Request). record x { reader = reader_in None (Some next) }) is

@@ -1,9 +1,9 @@
 -- What the store does, as a tier's state has it.
-use Rattle.std.proofs.Common.{◌≡◌, ℕ, ◌+◌, refl, ap, sym, ◌∙◌, true, false, cond, [], ◌∷◌, ◌++◌}
-use Rattle.std.specs.Prelude.{Bool, List, Option, Some, None, option_map, option_and_then, find, map, nat_eq}
+use Rattle.std.proofs.Common.{◌≡◌, ◌≢◌, ℕ, ◌+◌, ◌-◌, ◌^◌, refl, ap, sym, ◌∙◌, arith, true, false, subst, cond, inl, inr, [], ◌∷◌, ◌++◌, length}
+use Rattle.std.specs.Prelude.{◌==◌, ◌||◌, not, Bool, List, Option, Some, None, option_map, option_and_then, is_some, find, filter, map, nat_eq}
 use Rattle.std.specs.Ordering.{nat_cmp}
 use Rattle.std.specs.Cmp.Lexicographic.{pointwise, slice_cmp, nat_list_cmp_total}
-use Rattle.std.specs.FinMap.{IsAntisymmetric, same_map, get-remove, nat_cmp-IsAntisymmetric, slice_cmp-IsAntisymmetric}
+use Rattle.std.specs.FinMap.{IsAntisymmetric, get, insert, same_map, get-insert, get-remove, nat_cmp-IsAntisymmetric, slice_cmp-IsAntisymmetric}
 use Rattle.std.specs.Map.{lookup}
 use Rattle.cache_entries.specs.Keys.{same_bytes}
 use Rattle.cache_entries.specs.SameEntry.{same_bytes-tells, same-sym}
@@ -17,6 +17,7 @@ use Rattle.cache_store.specs.Held.{Reading, Held}
 use Rattle.cache_store.specs.Misses.{begun}
 use Rattle.cache_store.specs.Readers as readers
 use Rattle.cache_store.specs.Readers.{Reader, SameHeld, IsJoined, IsParted, Parts}
+use Rattle.tier_model.specs.declared.state.Body.{Body}
 use Rattle.tier_model.specs.Rows.{Bodies, body_of, without_body}
 use Rattle.tier_model.specs.Shelf as shelf
 use Rattle.tier_model.specs.Shelf.{InFlight, Shelf, Look, look, look_by, readable, joined, parted, landed, removed}

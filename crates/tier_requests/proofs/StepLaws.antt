@@ -1,12 +1,14 @@
 -- Steps of reading a write as it comes, as the plain record has them.
-use Rattle.std.proofs.Common.{◌≡◌, ◌≢◌, ℕ, ◌-◌, refl, ap, sym, ◌∙◌, arith, Bool, true, false, cond, Some, None, Option, List, [], ◌∷◌, length, nat_lt}
+use Rattle.std.proofs.Common.{◌≡◌, ◌≢◌, ℕ, ◌+◌, ◌-◌, ◌<◌, refl, ap, sym, ◌∙◌, arith, Bool, true, false, cond, Some, None, Option, List, [], ◌∷◌, length, nat_lt}
 use Rattle.std.specs.Prelude.{drop, Result, Ok, Err, MatchResult}
 use Rattle.std.proofs.lemmas.List.{length-drop}
 use Rattle.cache_store.specs.declared.storage.ReadStep.{ReadStep}
 use Rattle.cache_store.specs.declared.storage.ReadStep.TheVariants as step
 use Rattle.cache_store.specs.declared.storage.StoreFault.{StoreFault}
+use Rattle.cache_store.specs.Readers.{StreamHit}
 use Rattle.mem_cache.specs.Hits.{ReadAnswer, StepAnswer, moved}
 use Rattle.tier_model.specs.declared.event.Answer.TheVariants.{Bytes, Pending, End}
+use Rattle.tier_model.specs.Calls.{bytes_answered}
 use Rattle.tier_model.specs.Shelf.{past_place}
 use Rattle.tier_model.specs.Answers.{next_by, next_of}
 use Rattle.tier_model.specs.State.{streaming}

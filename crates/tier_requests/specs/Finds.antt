@@ -13,10 +13,12 @@ use Rattle.mem_cache.specs.declared.handlers.MemHitHandler.{MemHitHandler}
 use Rattle.mem_cache.specs.declared.handlers.MemHitHandler.TheVariants.{Complete, Partial}
 use Rattle.mem_cache.specs.Hits.{WholeHit, next_bytes}
 use Rattle.mem_cache.specs.Readings.{reader_of}
+use Rattle.tier_model.specs.declared.event.TierFault.{TierFault}
 use Rattle.tier_model.specs.Calls.{Outcome}
 use Rattle.tier_model.specs.Shelf.{Look, absent, in_flight, finished}
 use Rattle.tier_model.specs.State.{closed, Request}
 use Rattle.tier_model.specs.Own.{phase_absent}
+use Rattle.tier_model.specs.Checks.{is_waiting}
 use Rattle.tier_model.specs.Answers.{lock_given, look_answer}
 use Rattle.tier_model.specs.After.{looked, given_changes}
 use Rattle.tier_requests.specs.Shelves.{own_meta}
@@ -42,11 +44,11 @@ status_by false = Expired
 abbrev pub IsFoundBy : Look → CacheMeta → MemHitHandler → Type 0
 IsFoundBy absent meta hit = ⊥
 IsFoundBy (in_flight f) meta hit = (own_meta meta ≡ f.meta) × (reader_of hit ≡ streaming (record { number = f.number; place = 0 }))
-IsFoundBy (finished b) meta hit = (n : ℕ) × (own_meta meta ≡ b.meta) × (reader_of hit ≡ whole n b.bytes b.bytes)
+IsFoundBy (finished b) meta hit = (own_meta meta ≡ b.meta) × ((n : ℕ) × (reader_of hit ≡ whole n b.bytes b.bytes))
 
 -- the request, told that nothing was found, with what the lock gave it
 abbrev pub missed_by : Request → Request
-missed_by q = record q { phase = phase_absent (given_of q.held) q.phase; reader = closed }
+missed_by q = record q { phase = phase_absent (given_of q.held) q.phase; gave_read = is_waiting q.held; reader = closed }
 
 module _ (n : ℕ) (weighed : ℕ → ℕ) where
   -- what is answered to a request that found something, and what that leaves of the request, of the order of use in n shards, and of the lock

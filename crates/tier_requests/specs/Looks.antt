@@ -1,5 +1,5 @@
 -- What a look-up of a request answers, and what it leaves of it and of what it is lent.
-use Rattle.std.specs.Prelude.{◌≡◌, ◌⊎◌, ℕ, Bool, true, length, if◌then◌else◌, None, Ok, Err, MatchOption}
+use Rattle.std.specs.Prelude.{◌≡◌, ◌⊎◌, ℕ, Bool, true, false, length, if◌then◌else◌, Option, None, Ok, Err, MatchOption}
 use Rattle.cache_words.specs.Time.{MomentValue}
 use Rattle.cache_entries.specs.Rows.{weight_of}
 use Rattle.cache_evict.specs.Managed.{Managed, rows_of, use_first}

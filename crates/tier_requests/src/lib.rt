@@ -18,5 +18,6 @@ pub use requests::Requests;
 #[cfg(test)]
 mod tests {
     #[test]
-    fn nothing() {}
+    fn nothing() {
+    }
 }

@@ -5,7 +5,7 @@ ghost use Rattle.mem_cache.specs.Readings.{reader_of};
 ghost use Rattle.tier_model.specs.declared.event.Answer.TheVariants.{Absent};
 ghost use Rattle.tier_model.specs.Shelf.{Look};
 ghost use Rattle.tier_model.specs.State.{closed};
-ghost use Rattle.tier_model.specs.Checks.{can_look_up, is_waiting, look_refusal};
+ghost use Rattle.tier_model.specs.Checks.{can_look_up, look_refusal};
 ghost use Rattle.tier_model.specs.After.{turned};
 ghost use Rattle.tier_requests.specs.Shelves.{shelf_of};
 ghost use Rattle.tier_requests.specs.Plain.{given_of};
@@ -69,16 +69,16 @@ impl<S: BuildHasher> Request<S> {
         None
     }
 
-    // Nothing was found, and the lock was asked, if it is to be: `gave_read` tells of it. With a wait the phase stays.
+    // Nothing was found, and the lock was asked, if it is to be. With a wait the phase stays.
     fn missed<E>(&mut self, parts: &mut TierParts<S, E>) -> Answer
-        requires phase { can_look_up self.old.phase ≡ true }
-        requires told { self.old.gave_read ≡ is_waiting self.old.held }
+        requires { can_look_up self.old.phase ≡ true }
         ensures answer { result ≡ Absent (given_of self.old.held) }
         ensures request { self.new ≡ missed_by self.old }
         ensures shelf { shelf_of parts.new.store ≡ turned self.old.reader closed (shelf_of parts.old.store) }
         ensures parts { parts.new ≡ record parts.old { store = parts.new.store } }
     {
         let lock = self.given();
+        self.gave_read = self.is_waiting();
         if !self.gave_read {
             self.cache.cache_miss();
         }
@@ -122,7 +122,7 @@ impl<S: BuildHasher> Request<S> {
             Err(FoundFault::Evict(fault)) => return Err(fault_for(fault, nothing_done(alloc))),
         }
         self.unread = unread;
-        self.gave_read = self.cache.is_cache_locked();
+        self.gave_read = self.is_waiting();
         Ok(Answer::Found {
             fresh,
             complete,
@@ -146,10 +146,7 @@ impl<S: BuildHasher> Request<S> {
         }
         match self.cache.cache_lookup(parts, moment) {
             Ok(Some((meta, hit))) => self.found(alloc, parts, meta, hit, moment),
-            Ok(None) => {
-                self.gave_read = self.cache.is_cache_locked();
-                Ok(self.missed(parts))
-            }
+            Ok(None) => Ok(self.missed(parts)),
             Err(LookUpFault::Store(_)) => Err(out_of_memory(alloc)),
             Err(LookUpFault::Lock(fault)) => Err(lock_fault_for(alloc, fault)),
         }

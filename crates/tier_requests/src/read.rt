@@ -42,7 +42,11 @@ fn answer_for(alloc: Global, step: Result<ReadStep, StoreFault>) -> Result<Answe
 
 impl<S: BuildHasher> Request<S> {
     /// Reads on in what the last look-up found, or in what the request writes.
-    pub fn read<E>(&mut self, alloc: Global, parts: &TierParts<S, E>) -> Result<Answer, TierFault>
+    pub fn read<E>(
+        &mut self,
+        alloc: Global,
+        parts: &TierParts<S, E>,
+    ) -> Result<Answer, TierFault>
         ensures { ReadAnswer (has_reader self.old.reader) self.old (shelf_of parts.now.store) result self.new }
     {
         if let Some(bytes) = self.unread.take() {

@@ -42,6 +42,7 @@ pub struct Request<S: BuildHasher> {
 
 impl<S: BuildHasher> Model for Request<S> {
     ghost use Rattle.tier_model.specs.State.{Request as Plain};
+
     ghost use Rattle.tier_requests.specs.Codes.{request_code};
 
     ghost Value = { Plain };
@@ -79,7 +80,11 @@ fn opened<S: BuildHasher>(
 }
 
 // A request that was just opened, under a key that is kept.
-fn opened_request<S: BuildHasher>(key: CacheKey, asks: bool, wait: Option<Duration>) -> Request<S>
+fn opened_request<S: BuildHasher>(
+    key: CacheKey,
+    asks: bool,
+    wait: Option<Duration>,
+) -> Request<S>
     ensures { result ≡ opened_request wait (entry_of key) asks }
 {
     let cache = opened(key, asks, &wait);

@@ -7,10 +7,6 @@ mod asks;
 #[cfg(test)]
 mod model;
 #[cfg(test)]
-mod outcomes;
-#[cfg(test)]
 mod refusals;
-#[cfg(test)]
-mod runs;
 #[cfg(test)]
 mod traces;

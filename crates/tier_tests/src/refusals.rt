@@ -1,13 +1,114 @@
 //! Each refused growth in turn.
-use crate::asks::Ask;
-use crate::outcomes::{Outcome, empty_tier, is_answer, is_ready, step};
-use crate::runs::goes_through;
+use crate::asks::{Ask, event, events};
+use cache_store::storage::Storage;
 use cache_tier::tier::Tier;
-use std::alloc::{AllocError, Global};
-use tier_model::event::LockGiven;
+use cache_words::time::Duration;
+use rand_pcg::Pcg32;
+use std::alloc::Global;
+use tier_model::event::{Answer, Done, LockGiven, TierFault};
+
+// What came of an event, as a plain value.
+#[derive(Clone, Copy, PartialEq, Eq)]
+enum Outcome {
+    Opened,
+    // Fresh and complete.
+    Found,
+    Absent(LockGiven),
+    // A wait or a read has nothing yet.
+    Pending,
+    Begun,
+    Written,
+    // Whether the bytes are `xx`.
+    Read(bool),
+    // A body of so many bytes, with so many evictions.
+    Finished(usize, usize),
+    Dropped,
+    Purged(bool),
+    // Memory ran out before anything was done.
+    Refused,
+    // Memory ran out before the admission of a body, or before its first eviction, so that it was taken back.
+    TakenBack,
+    NoRequest,
+    WrongPhase,
+    Else,
+}
+
+fn refusal(done: &Done) -> Outcome {
+    match (done.stored, done.admitted, done.evicted.as_slice().len()) {
+        (false, false, 0) => Outcome::Refused,
+        (true, _, 0) => Outcome::TakenBack,
+        _ => Outcome::Else,
+    }
+}
+
+fn answered(answer: &Answer) -> Outcome {
+    match answer {
+        Answer::Opened => Outcome::Opened,
+        Answer::Found {
+            fresh: true,
+            complete: true,
+            lock: LockGiven::None,
+        } => Outcome::Found,
+        Answer::Absent { lock } => Outcome::Absent(*lock),
+        Answer::Waited(None) | Answer::Pending => Outcome::Pending,
+        Answer::Begun => Outcome::Begun,
+        Answer::Written => Outcome::Written,
+        Answer::Bytes(bytes) => Outcome::Read(bytes.as_slice() == b"xx".as_slice()),
+        Answer::Finished { length, evicted } => {
+            Outcome::Finished(*length, evicted.as_slice().len())
+        }
+        Answer::Dropped => Outcome::Dropped,
+        Answer::Purged(was) => Outcome::Purged(*was),
+        _ => Outcome::Else,
+    }
+}
+
+fn outcome_of(answer: &Result<Answer, TierFault>) -> Outcome {
+    match answer {
+        Ok(answer) => answered(answer),
+        Err(TierFault::Memory(done)) => refusal(done),
+        Err(TierFault::NoRequest) => Outcome::NoRequest,
+        Err(TierFault::WrongPhase) => Outcome::WrongPhase,
+        Err(_) => Outcome::Else,
+    }
+}
+
+// What comes of what is asked; `None` where memory is refused on the way to it.
+fn step(alloc: Global, tier: &mut Tier<1>, ask: Ask) -> Option<Outcome> {
+    let event = event(alloc, ask)?;
+    let mut rng = Pcg32::new(1, 1);
+    let answer = tier.step(&mut rng, &event);
+    Some(outcome_of(&answer))
+}
+
+// A tier of which all this was asked, if memory was there for it.
+fn fixture(alloc: Global, limit: usize, asks: &[Ask]) -> Option<Tier<1>> {
+    let mut tier = Tier::<1>::new(alloc, limit, None, Duration::from_seconds(1), None).ok()?;
+    for &ask in asks {
+        match step(alloc, &mut tier, ask)? {
+            Outcome::Refused | Outcome::TakenBack | Outcome::Else => return None,
+            _ => {}
+        }
+    }
+    Some(tier)
+}
+
+// Whether what is asked has these outcomes; `None` where memory is refused on the way.
+fn follow(alloc: Global, tier: &mut Tier<1>, asks: &[(Ask, Outcome)]) -> Option<bool> {
+    for &(ask, want) in asks {
+        match step(alloc, tier, ask)? {
+            Outcome::Refused | Outcome::TakenBack => return None,
+            outcome => {
+                if outcome != want {
+                    return Some(false);
+                }
+            }
+        }
+    }
+    Some(true)
+}
 
 // A call on a tier of which something was asked before.
-#[derive(Clone, Copy)]
 struct Row {
     limit: usize,
     before: &'static [Ask],
@@ -26,57 +127,32 @@ enum Held {
     Answered,
     // Memory was refused, and what is left is as before.
     Refused,
-    // Memory was refused before the call or after it.
-    Elsewhere,
     Broken,
 }
 
-// Whether what is asked has these outcomes; `held` where it does.
-fn follow(alloc: Global, tier: &mut Tier<1>, asks: &[(Ask, Outcome)], held: Held) -> Held {
-    for &(ask, want) in asks {
-        let outcome = step(alloc, tier, ask);
-        if outcome != want {
-            return if is_answer(outcome) || outcome == Outcome::Else {
-                Held::Broken
-            } else {
-                Held::Elsewhere
-            };
-        }
-    }
-    held
+fn held(is_right: bool, held: Held) -> Held {
+    if is_right { held } else { Held::Broken }
 }
 
-// What comes of the row's call, by a tier of which was asked what comes before it.
-fn call(alloc: Global, tier: &mut Tier<1>, row: &Row) -> Held {
+// `None` where memory is refused before the call or after it.
+fn row_holds(alloc: Global, row: &Row) -> Option<Held> {
+    let mut tier = fixture(alloc, row.limit, row.before)?;
     let before = tier.report();
-    let outcome = step(alloc, tier, row.ask);
-    let is_same = tier.report() == before;
+    let outcome = step(alloc, &mut tier, row.ask)?;
+    let same = tier.report() == before;
     match outcome {
-        Outcome::Unasked => Held::Elsewhere,
-        Outcome::Refused if is_same => follow(alloc, tier, row.refused, Held::Refused),
-        Outcome::TakenBack if is_same => follow(alloc, tier, row.taken_back, Held::Refused),
-        outcome => {
-            if outcome == row.want {
-                follow(alloc, tier, row.after, Held::Answered)
-            } else {
-                Held::Broken
-            }
+        Outcome::Refused => {
+            let follows = follow(alloc, &mut tier, row.refused)?;
+            Some(held(same && follows, Held::Refused))
         }
-    }
-}
-
-fn row_on(alloc: Global, tier: &mut Tier<1>, row: &Row) -> Held {
-    if is_ready(alloc, tier, row.before) {
-        call(alloc, tier, row)
-    } else {
-        Held::Elsewhere
-    }
-}
-
-fn row_holds(alloc: Global, row: &Row) -> Held {
-    match empty_tier(alloc, row.limit) {
-        Ok(mut tier) => row_on(alloc, &mut tier, row),
-        Err(AllocError) => Held::Elsewhere,
+        Outcome::TakenBack => {
+            let follows = follow(alloc, &mut tier, row.taken_back)?;
+            Some(held(same && follows, Held::Refused))
+        }
+        outcome => {
+            let follows = follow(alloc, &mut tier, row.after)?;
+            Some(held(outcome == row.want && follows, Held::Answered))
+        }
     }
 }
 
@@ -201,7 +277,7 @@ const FINISH: Row = Row {
 };
 
 // A wait, and a body that was found.
-const WAITING: &[Ask] = &[
+const HELD: &[Ask] = &[
     Ask::OpenLocked(1, b'a'),
     Ask::OpenLocked(2, b'a'),
     Ask::Look(1),
@@ -221,59 +297,143 @@ const FREE: &[(Ask, Outcome)] = &[
 
 #[test]
 fn a_refused_put_leaves_all(rt: HostRuntime) {
-    assert!(rt; row_holds(rt.alloc(), &PUT) != Held::Broken);
+    assert!(rt; row_holds(rt.alloc(), &PUT) != Some(Held::Broken));
 }
 
 #[test]
 fn a_refused_open_leaves_all(rt: HostRuntime) {
-    assert!(rt; row_holds(rt.alloc(), &OPEN) != Held::Broken);
+    assert!(rt; row_holds(rt.alloc(), &OPEN) != Some(Held::Broken));
 }
 
 #[test]
 fn a_refused_look_leaves_all(rt: HostRuntime) {
-    assert!(rt; row_holds(rt.alloc(), &LOOK) != Held::Broken);
-    assert!(rt; row_holds(rt.alloc(), &LOOK_LOCKED) != Held::Broken);
+    assert!(rt; row_holds(rt.alloc(), &LOOK) != Some(Held::Broken));
+    assert!(rt; row_holds(rt.alloc(), &LOOK_LOCKED) != Some(Held::Broken));
 }
 
 #[test]
 fn a_refused_begin_leaves_all(rt: HostRuntime) {
-    assert!(rt; row_holds(rt.alloc(), &BEGIN) != Held::Broken);
+    assert!(rt; row_holds(rt.alloc(), &BEGIN) != Some(Held::Broken));
 }
 
 #[test]
 fn a_refused_piece_leaves_all(rt: HostRuntime) {
-    assert!(rt; row_holds(rt.alloc(), &PIECE) != Held::Broken);
+    assert!(rt; row_holds(rt.alloc(), &PIECE) != Some(Held::Broken));
 }
 
 #[test]
 fn a_refused_read_leaves_all(rt: HostRuntime) {
-    assert!(rt; row_holds(rt.alloc(), &READ) != Held::Broken);
+    assert!(rt; row_holds(rt.alloc(), &READ) != Some(Held::Broken));
 }
 
 #[test]
 fn a_refused_finish_leaves_all(rt: HostRuntime) {
-    assert!(rt; row_holds(rt.alloc(), &FINISH) != Held::Broken);
+    assert!(rt; row_holds(rt.alloc(), &FINISH) != Some(Held::Broken));
 }
 
-fn are_free(alloc: Global, tier: &mut Tier<1>) -> bool {
+// `None` where memory is refused before.
+fn are_free(alloc: Global) -> Option<bool> {
+    let mut tier = fixture(alloc, 4, HELD)?;
     for &(ask, want) in FREE {
-        if step(alloc, tier, ask) != want {
-            return false;
+        if step(alloc, &mut tier, ask)? != want {
+            return Some(false);
         }
     }
-    true
-}
-
-fn waits_are_free(alloc: Global) -> bool {
-    match empty_tier(alloc, 4) {
-        Ok(mut tier) => !is_ready(alloc, &mut tier, WAITING) || are_free(alloc, &mut tier),
-        Err(AllocError) => true,
-    }
+    Some(true)
 }
 
 #[test]
 fn polls_reads_and_drops_take_no_memory(rt: HostRuntime) {
-    assert!(rt; waits_are_free(rt.alloc()));
+    assert!(rt; are_free(rt.alloc()) != Some(false));
+}
+
+fn run_leaves_all(alloc: Global) -> Option<bool> {
+    let mut rng = Pcg32::new(1, 1);
+    let mut tier = fixture(alloc, 4, LOOK.before)?;
+    let look = event(alloc, LOOK.ask)?;
+    let before = tier.report();
+    match tier.run(&mut rng, &[look]) {
+        Ok(outcomes) => Some(outcomes.len() == 1),
+        Err(_) => Some(tier.report() == before),
+    }
+}
+
+#[test]
+fn a_run_without_memory_does_nothing(rt: HostRuntime) {
+    assert!(rt; run_leaves_all(rt.alloc()) != Some(false));
+}
+
+// The store that a tier lends shows writes in flight.
+fn store_streams(alloc: Global) -> Option<bool> {
+    let tier = fixture(alloc, 4, &[])?;
+    Some(tier.store().support_streaming_partial_write())
+}
+
+#[test]
+fn a_store_is_lent(rt: HostRuntime) {
+    assert!(rt; store_streams(rt.alloc()) != Some(false));
+}
+
+const FOUR: &[Ask] = &[
+    Ask::Put(b'a', b"xx"),
+    Ask::Put(b'b', b"xx"),
+    Ask::Put(b'c', b"xx"),
+    Ask::Put(b'd', b"xx"),
+];
+
+// What is asked of a tier with four bodies in one run, and what comes of each.
+const ASKS: &[Ask] = &[
+    Ask::Put(b'e', b"xxxxx"),
+    Ask::Open(2, b'e'),
+    Ask::Look(2),
+    Ask::Read(2),
+    Ask::OpenLocked(3, b'f'),
+    Ask::OpenLocked(4, b'f'),
+    Ask::Look(3),
+    Ask::Look(4),
+    Ask::Poll(4),
+    Ask::Begin(3),
+    Ask::Piece(3, b"xx"),
+    Ask::Read(3),
+    Ask::Finish(3),
+    Ask::Drop(3),
+    Ask::Purge(b'f'),
+];
+
+const WANT: &[Outcome] = &[
+    Outcome::Finished(5, 3),
+    Outcome::Opened,
+    Outcome::Found,
+    Outcome::Read(false),
+    Outcome::Opened,
+    Outcome::Opened,
+    Outcome::Absent(LockGiven::Write),
+    Outcome::Absent(LockGiven::Read),
+    Outcome::Pending,
+    Outcome::Begun,
+    Outcome::Written,
+    Outcome::Read(true),
+    Outcome::Finished(2, 1),
+    Outcome::Dropped,
+    Outcome::Purged(true),
+];
+
+fn are_wanted(outcomes: &[Result<Answer, TierFault>]) -> bool {
+    for (outcome, want) in outcomes.iter().zip(WANT) {
+        if outcome_of(outcome) != *want {
+            return false;
+        }
+    }
+    outcomes.len() == WANT.len()
+}
+
+// `None` where memory is refused on the way to the run.
+fn goes_through(alloc: Global) -> Option<bool> {
+    let mut rng = Pcg32::new(1, 1);
+    let mut tier = fixture(alloc, 8, FOUR)?;
+    let events = events(alloc, ASKS)?;
+    let outcomes = tier.run(&mut rng, events.as_slice()).ok()?;
+    Some(are_wanted(outcomes.as_slice()))
 }
 
 // It takes more memory than each test of a refused growth, since its two tiers take more calls than those of any of them, and fails where
@@ -281,6 +441,6 @@ fn polls_reads_and_drops_take_no_memory(rt: HostRuntime) {
 #[test]
 fn ample_memory_meets_no_refusal(rt: HostRuntime) {
     let alloc = rt.alloc();
-    assert!(rt; goes_through(alloc));
-    assert!(rt; row_holds(alloc, &FINISH) == Held::Answered);
+    assert!(rt; goes_through(alloc) == Some(true));
+    assert!(rt; row_holds(alloc, &FINISH) == Some(Held::Answered));
 }

@@ -15,9 +15,9 @@ use Rattle.cache_evict.specs.declared.load_fault.LoadFault.{LoadFault}
 use Rattle.cache_evict.specs.Managed.{Managed}
 use Rattle.tier_model.specs.declared.event.TierFault.{TierFault}
 use Rattle.tier_model.specs.declared.state.Body.{Body}
-use Rattle.tier_model.specs.Shelf.{Readers}
+use Rattle.tier_model.specs.declared.state.Request.{Request}
 use Rattle.tier_model.specs.Started.{IsNew}
-use Rattle.tier_model.specs.State.{Request, Settings, State, empty_state}
+use Rattle.tier_model.specs.State.{Settings, State, empty_state}
 use Rattle.cache_tier.specs.Restarts.{SavesOrder, LoadsOrder}
 use Rattle.trace_replay.specs.declared.options.ReplayOptions.{ReplayOptions}
 use Rattle.trace_replay.specs.declared.replay.ReplayError.{ReplayError}
@@ -36,17 +36,7 @@ on_ok_is P (Err e) h = tt
 
 -- an empty tier is new
 pub new_empty : (settings : Settings) → IsNew (empty_state settings)
-new_empty settings = record {
-  bodies = len-empty (slice_cmp nat_cmp) Body;
-  flying = refl;
-  readers = len-empty nat_cmp Readers;
-  lock = refl;
-  requests = len-empty nat_cmp Request;
-  found = refl;
-  absent = refl;
-  evicted_size = refl;
-  evicted_items = refl;
-}
+new_empty settings = record { bodies = len-empty (slice_cmp nat_cmp) Body; requests = len-empty nat_cmp Request; found = refl; absent = refl; evicted_size = refl; evicted_items = refl }
 
 module _ {D : Type 0} (did : D → Call → Outcome → D → Type 0) (failures : D → ℕ) (keeps : Type 0) (files : D → Files) (n : ℕ) (o : ReplayOptions) (dir : List ℕ) where
   pub restarted : (input w0 w1 w2 w3 : Option (List ℕ)) (old mid new : D) (managed : Managed) (report : ShardLoadReport LoadFault) (state : State) (words : Stream)

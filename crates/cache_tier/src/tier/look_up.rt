@@ -4,8 +4,8 @@ ghost use Rattle.cache_tier.specs.Acts.{Took};
 ghost use Rattle.cache_tier.specs.Counts.{found_after, absent_after};
 
 use super::Tier;
-use cache_evict::EvictionManager;
 use cache_words::time::Moment;
+use cache_evict::EvictionManager;
 use std::hash::BuildHasher;
 use tier_model::event::{Action, Answer, TierFault};
 

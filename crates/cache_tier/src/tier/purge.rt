@@ -5,8 +5,8 @@ ghost use Rattle.cache_tier.specs.Acts.{Took};
 use super::Tier;
 use crate::bodies::remove;
 use crate::keys::parts_of;
-use cache_evict::EvictionManager;
 use cache_words::key::CacheKey;
+use cache_evict::EvictionManager;
 use std::hash::BuildHasher;
 use tier_model::event::{Action, Answer, TierFault};
 

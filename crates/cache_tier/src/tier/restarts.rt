@@ -8,19 +8,16 @@ ghost use Rattle.cache_evict.specs.Stored.{file_at, temp_at, lru_stored};
 ghost use Rattle.tier_model.specs.Histories.{changes_of};
 ghost use Rattle.tier_model.specs.Past.{HasPast};
 ghost use Rattle.tier_model.specs.Started.{IsNew, opening_of};
-ghost use Rattle.tier_requests.specs.Shelves.{bodies_in};
-ghost use Rattle.cache_tier.specs.Restarts.{IsToldOfFiles, IsUnused, SavesOrder, LoadsOrder};
+ghost use Rattle.cache_tier.specs.Restarts.{IsToldOfFiles, SavesOrder, LoadsOrder};
 
 use super::Tier;
+use tier_requests::faults::{fault_for, nothing_done};
 use crate::bodies::count;
-use cache_evict::lru::Manager;
 use cache_evict::{EvictFault, EvictionManager, LoadFault, PackWriteFault};
 use lru_files::persistence::{Folder, ShardLoadReport, ShardSaveReport};
 use std::alloc::Global;
 use std::hash::BuildHasher;
 use tier_model::event::TierFault;
-use tier_requests::TierParts;
-use tier_requests::faults::{fault_for, nothing_done};
 
 impl<const N: usize, S: BuildHasher> Tier<N, S> {
     /// Returns whether no event left a trace so far: nothing is stored or written, no request is open, no permit was ever given, and
@@ -28,10 +25,16 @@ impl<const N: usize, S: BuildHasher> Tier<N, S> {
     pub fn is_new(&self) -> bool
         ensures { IsTrue result ↔ IsNew self.now }
     {
-        if !are_zero(self.found, self.absent) {
+        let bodies = count(&self.parts.store);
+        let size = self.parts.manager.evicted_size() as u64;
+        let items = self.parts.manager.evicted_items() as u64;
+        if !are_zero(bodies, self.found, self.absent) {
             return false;
         }
-        self.requests.is_empty() && are_unused(&self.parts)
+        if !are_zero(size, items, 0) {
+            return false;
+        }
+        self.requests.is_empty() && self.parts.lock.is_new()
     }
 
     /// Saves the order of use, each shard to a file in `dir`, which is made first. The texts are written under temporary names,
@@ -92,21 +95,8 @@ fn told_of_files<T>(alloc: Global, came: Result<T, EvictFault>) -> Result<T, Tie
     }
 }
 
-// Whether nothing is stored, no permit was ever given, and no eviction was counted.
-fn are_unused<const N: usize, S: BuildHasher>(parts: &TierParts<S, Manager<N, S>>) -> bool
-    ensures { IsTrue result ↔ IsUnused (bodies_in parts.now.store.store.bodies) parts.now.manager parts.now.lock }
+fn are_zero(a: u64, b: u64, c: u64) -> bool
+    ensures { IsTrue result ↔ ((a ≡ 0) × ((b ≡ 0) × (c ≡ 0))) }
 {
-    let bodies = count(&parts.store);
-    let size = parts.manager.evicted_size() as u64;
-    let items = parts.manager.evicted_items() as u64;
-    if !are_zero(size, items) {
-        return false;
-    }
-    bodies == 0 && parts.lock.is_new()
-}
-
-fn are_zero(a: u64, b: u64) -> bool
-    ensures { IsTrue result ↔ ((a ≡ 0) × (b ≡ 0)) }
-{
-    a == 0 && b == 0
+    a == 0 && b == 0 && c == 0
 }

@@ -28,8 +28,7 @@ impl<S: BuildHasher> Requests<S> {
         parts: &mut TierParts<S, E>,
         moment: Moment,
     ) -> Result<Answer, TierFault>
-        ensures answer { let before = lent (shelf_of parts.old.store) (E.managed parts.old.manager) parts.old.lock in
-            let after = lent (shelf_of parts.new.store) (E.managed parts.new.manager) parts.new.lock in
+        ensures answer { let before = lent (shelf_of parts.old.store) (E.managed parts.old.manager) parts.old.lock in let after = lent (shelf_of parts.new.store) (E.managed parts.new.manager) parts.new.lock in
             OnOpen id self.old ((result ≡ Err TierFault.NoRequest) × (after ≡ before))
             (λ q left. LookAnswer E.shard_count E.weighed moment q before result left after) self.new }
         ensures parts { parts.new ≡ record parts.old { store = parts.new.store; manager = parts.new.manager; lock = parts.new.lock } }
@@ -48,8 +47,7 @@ impl<S: BuildHasher> Requests<S> {
         parts: &mut TierParts<S, E>,
         moment: Moment,
     ) -> Result<Answer, TierFault>
-        ensures answer { OnOpen id self.old ((result ≡ Err TierFault.NoRequest) × (parts.new.lock ≡ parts.old.lock))
-            (λ q left. PollAnswer (is_waiting q.held) moment q parts.old.lock result left parts.new.lock) self.new }
+        ensures answer { OnOpen id self.old ((result ≡ Err TierFault.NoRequest) × (parts.new.lock ≡ parts.old.lock)) (λ q left. PollAnswer (is_waiting q.held) moment q parts.old.lock result left parts.new.lock) self.new }
         ensures parts { parts.new ≡ record parts.old { lock = parts.new.lock } }
     {
         match self.table.get_mut(&id) {
@@ -118,8 +116,7 @@ impl<S: BuildHasher> Requests<S> {
         parts: &mut TierParts<S, E>,
         rng: &mut R,
     ) -> Result<Answer, TierFault>
-        ensures answer { let before = cache_of parts.old.store (E.managed parts.old.manager) (R.stream rng.old) in
-            let after = cache_of parts.new.store (E.managed parts.new.manager) (R.stream rng.new) in
+        ensures answer { let before = cache_of parts.old.store (E.managed parts.old.manager) (R.stream rng.old) in let after = cache_of parts.new.store (E.managed parts.new.manager) (R.stream rng.new) in
             OnOpen id self.old ((result ≡ Err TierFault.NoRequest) × (after ≡ before))
             (λ q left. FinishAnswer E.shard_count E.weighed E.pick q.write q before result left after) self.new }
         ensures lock { parts.new.lock ≡ parts.old.lock }

@@ -4,26 +4,22 @@ use trace_replay::options::{OptionsError, ReplayOptions, ShardCount, options};
 use trace_replay::replay::ReplayError;
 use trace_replay::status::{Fault, status};
 
-// The words of a command line, and the numbers that they give.
-#[derive(Clone, Copy)]
-struct Row {
-    words: &'static [&'static str],
-    limit: u64,
-    watermark: Option<u64>,
-    age: u64,
-    wait: Option<u64>,
-}
-
-const READ: &[Row] = &[
-    Row {
-        words: &["tier-replay", "--limit=+5"],
-        limit: 5,
-        watermark: None,
-        age: 10,
-        wait: None,
-    },
-    Row {
-        words: &[
+// The words of a command line, and its options.
+const READ: &[(&[&str], ReplayOptions)] = &[
+    (
+        &["tier-replay", "--limit=+5"],
+        ReplayOptions {
+            limit: 5,
+            watermark: None,
+            shards: ShardCount::One,
+            seed: 0,
+            age: 10,
+            wait: None,
+            recency: None,
+        },
+    ),
+    (
+        &[
             "tier-replay",
             "--wait",
             "0",
@@ -33,33 +29,29 @@ const READ: &[Row] = &[
             "--limit",
             "18446744073709551615",
         ],
-        limit: 18446744073709551615,
-        watermark: Some(5),
-        age: 18446744073709551615,
-        wait: Some(0),
-    },
+        ReplayOptions {
+            limit: 18446744073709551615,
+            watermark: Some(5),
+            shards: ShardCount::One,
+            seed: 0,
+            age: 18446744073709551615,
+            wait: Some(0),
+            recency: None,
+        },
+    ),
 ];
 
-fn is_read(alloc: Global, row: &Row) -> bool {
-    let want = ReplayOptions {
-        limit: row.limit,
-        watermark: row.watermark,
-        shards: ShardCount::One,
-        seed: 0,
-        age: row.age,
-        wait: row.wait,
-        recency: None,
-    };
-    match options(alloc, row.words) {
-        Ok(given) => given == want,
+fn is_read(alloc: Global, words: &[&str], want: &ReplayOptions) -> bool {
+    match options(alloc, words) {
+        Ok(given) => given == *want,
         Err(_) => false,
     }
 }
 
 #[test]
 fn options_are_read(rt: HostRuntime) {
-    for row in READ {
-        assert!(rt; is_read(rt.alloc(), row));
+    for (words, want) in READ {
+        assert!(rt; is_read(rt.alloc(), words, want));
     }
 }
 

@@ -1,6 +1,6 @@
-use Rattle.std.proofs.Common.{◌≡◌, ℕ, ◌-◌, ◌^◌, min, arith, sym, ap, ◌∙◌}
-use Rattle.tier_model.specs.After.{counted}
-use Rattle.cache_tier.proofs.BodyRows.{bodies-sum}
+use Rattle.std.proofs.Common.{◌≡◌, ℕ, ◌+◌, ◌-◌, ◌^◌, min, arith, sym, ap, ◌∙◌}
+use Rattle.tier_model.specs.Step.{counted}
+use Rattle.cache_tier.proofs.ShelfLaws.{bodies-sum}
 use Rattle.cache_tier.proofs.bodies.all_bytes.Goals as goal
 
 counted-from : (n : ℕ) → min n (2 ^ 64 - 1) ≡ counted 0 n

@@ -1,5 +1,5 @@
 use Rattle.std.proofs.Common.{sym, ◌∙◌}
-use Rattle.cache_tier.proofs.BodyRows.{bodies-count}
+use Rattle.cache_tier.proofs.ShelfLaws.{bodies-count}
 use Rattle.cache_tier.proofs.bodies.count.Goals as goal
 
 pub returns : goal.returns

@@ -5,6 +5,9 @@ use Rattle.tier_model.specs.Shelf.{flying_at}
 use Rattle.tier_requests.specs.Shelves.{shelf_of}
 use Rattle.tier_requests.specs.Steps.{WriteStep}
 use Rattle.tier_requests.proofs.RequestLaws.{step-written, step-tried, step-refused}
+use Rattle.tier_requests.proofs.PlainLaws as plain
+use Rattle.tier_requests.proofs.EndLaws as ends
+use Rattle.tier_requests.proofs.StepLaws as steps
 use Rattle.tier_requests.proofs.piece.write_piece.Goals as goal
 
 pub returns-in-Ok-clause-step : goal.returns-in-Ok-clause-step

@@ -1,46 +1,35 @@
-use Rattle.std.proofs.Common.{◌≡◌, ◌<◌, ◌^◌, true, false, refl, sym, ◌∙◌}
-use denote.Param.{layout, number, param}
-use mir.Syntax.{Ty}
-use prog.Memory.{size}
-use Rattle.cache_tier.specs.contracts.tier.Tier.{the_row}
-use Rattle.tier_model.specs.State.{State}
-use Rattle.tier_requests.specs.Shelves.{shelf_of}
-use Rattle.cache_tier.specs.States.{state_by}
-use Rattle.cache_tier.proofs.NewLaws.{idle-alone}
-use Rattle.cache_tier.proofs.Room.{inner_room}
+use Rattle.std.proofs.Common.{rules, ◌≡◌, ◌↔◌, [], length, IsTrue, ℕ, ◌+◌, ◌-◌, ◌*◌, ◌<◌, ◌≤◌, ◌/◌, ◌%◌, Bool, true, false, nat_eq, nat_lt, List, ◌∷◌, ◌++◌, slice_index_or, slice_set, bit_and, bit_or, Fits, w8, w32, w64, Bor, MutBor}
+use Rattle.lru_files.specs.Folder.{StopsLeave}
+use Rattle.cache_changes.specs.Changes.{StoredKey}
+use Rattle.cache_changes.specs.Writes.{IsFound}
+use Rattle.cache_evict.specs.Saves.{AreOldOrWhole}
+use Rattle.cache_evict.specs.Stored.{file_at, temp_at, lru_stored}
+use Rattle.tier_model.specs.Histories.{changes_of}
+use Rattle.tier_model.specs.Past.{HasPast}
+use Rattle.tier_model.specs.Started.{IsNew, opening_of}
+use Rattle.cache_tier.specs.Restarts.{IsToldOfFiles, SavesOrder, LoadsOrder}
 use Rattle.cache_tier.proofs.tier.Tier.is_new.Goals as goal
 
-pub are_unused-requires : goal.are_unused-requires
-are_unused-requires g c =
-    let tier : Ty = layout (the_row (param 0 (number g.row.N)) (param 1 g.row.S) (param 2 g.row.S-Hasher) g.S.BuildHasher g.S.Hasher.Hasher) in
-    let room : size tier < 2 ^ 63 = assumption in
-    inner_room tier 2 1 _ _ refl _ _ refl room
+-- src/tier/restarts.rt:29:20
+pub evicted_size-size-requires : goal.evicted_size-size-requires
+evicted_size-size-requires g c = ?
 
+-- src/tier/restarts.rt:30:21
+pub evicted_items-items-requires : goal.evicted_items-items-requires
+evicted_items-items-requires g c = ?
+
+-- src/tier/restarts.rt:32:13
 pub returns-then-not-are_zero : goal.returns-then-not-are_zero
-returns-then-not-are_zero g c =
-    rw (← c.self.view_is) ((λ t. let no : false ≡ true = t in absurd cc), (λ new. sym c.if-not-are_zero.true ∙ c.are_zero.ensures.1 (new.found, new.absent)))
+returns-then-not-are_zero g c = ?
 
+-- src/tier/restarts.rt:35:13
+pub returns-then-not-are_zero-2 : goal.returns-then-not-are_zero-2
+returns-then-not-are_zero-2 g c = ?
+
+-- src/tier/restarts.rt:25:5
 pub returns-then-is_empty : goal.returns-then-is_empty
-returns-then-is_empty g c =
-    let s : State = state_by c.self.inside.parts.manager c.self.inside.wait (shelf_of c.self.inside.parts.store) c.self.inside.parts.lock c.self.inside.requests c.self.inside.found c.self.inside.absent in
-    let zero = c.are_zero.ensures.0 c.if-not-are_zero.false in
-    let none = c.is_empty.ensures.0 c.if-is_empty.true in
-    let idle = idle-alone s c.self.invariant.2 none in
-    rw (← c.self.view_is) (
-      (λ t. let unused = c.are_unused.ensures.0 t in record {
-        bodies = unused.bodies;
-        flying = idle.0;
-        readers = idle.1;
-        lock = unused.lock;
-        requests = none;
-        found = zero.0;
-        absent = zero.1;
-        evicted_size = unused.evicted_size;
-        evicted_items = unused.evicted_items;
-      }),
-      (λ new. c.are_unused.ensures.1 (record { bodies = new.bodies; lock = new.lock; evicted_size = new.evicted_size; evicted_items = new.evicted_items })),
-    )
+returns-then-is_empty g c = ?
 
+-- src/tier/restarts.rt:25:5
 pub returns-else-is_empty : goal.returns-else-is_empty
-returns-else-is_empty g c =
-    rw (← c.self.view_is) ((λ t. let no : c.is_empty.result ≡ true = t in absurd cc), (λ new. c.is_empty.ensures.1 new.requests))
+returns-else-is_empty g c = ?

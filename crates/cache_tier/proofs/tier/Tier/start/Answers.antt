@@ -1,28 +1,11 @@
-use Rattle.std.proofs.Common.{◌<◌, ◌^◌, refl, sym, subst, []}
-use denote.Param.{layout, number, param}
-use mir.Syntax.{Ty}
-use prog.Memory.{size}
+use Rattle.std.proofs.Common.{sym, subst, []}
 use Rattle.tier_model.specs.Started.{IsNew, opening_of}
 use Rattle.tier_model.specs.State.{State}
 use Rattle.tier_model.proofs.StartedLaws.{finds_nothing}
 use Rattle.tier_requests.specs.Shelves.{shelf_of}
 use Rattle.cache_tier.specs.States.{state_by}
-use Rattle.cache_tier.specs.contracts.tier.Tier.{the_row}
 use Rattle.cache_tier.proofs.RestartLaws.{started}
-use Rattle.cache_tier.proofs.Room.{inner_room}
 use Rattle.cache_tier.proofs.tier.Tier.start.Goals as goal
-
-pub load-came-requires : goal.load-came-requires
-load-came-requires g c =
-    let tier : Ty = layout (the_row (param 0 (number g.row.N)) (param 1 g.row.S) (param 2 g.row.S-Hasher) g.S.BuildHasher g.S.Hasher.Hasher) in
-    let room : size tier < 2 ^ 63 = assumption in
-    inner_room tier 2 1 _ _ refl _ _ refl room
-
-pub shards-shards-requires : goal.shards-shards-requires
-shards-shards-requires g c =
-    let tier : Ty = layout (the_row (param 0 (number g.row.N)) (param 1 g.row.S) (param 2 g.row.S-Hasher) g.S.BuildHasher g.S.Hasher.Hasher) in
-    let room : size tier < 2 ^ 63 = assumption in
-    inner_room tier 2 1 _ _ refl _ _ refl room
 
 pub invariant_of-self : goal.invariant_of-self
 invariant_of-self g c =

@@ -11,8 +11,8 @@ unreachable-requires g c =
     absurd cc
 
 pub returns-clause-ok : goal.returns-clause-ok
-returns-clause-ok g c =
+returns-clause-ok g c = 
     elim c.match-insert.branch [
-      | in-Ok+in-None w ↦ rw (w.result-is, ← c.self.view_is) (insert-table c.self.inside.table.entries c.insert.new.self.entries c.args.id c.args.request w.in-Ok.ensures.updates.0)
-      | in-Err w ↦ rw w.result-is tt
+      in-Ok+in-None w ↦ rw (w.result-is, ← c.self.view_is) (insert-table c.self.inside.table.entries c.insert.new.self.entries c.args.id c.args.request w.in-Ok.ensures.updates.0)
+    | in-Err w ↦ rw w.result-is tt
     ]

@@ -1,0 +1,11 @@
+pub mod Requests
+pub mod Readers
+pub mod Took
+pub mod Calls
+pub mod Looking
+pub mod Alike
+pub mod Lengths
+pub mod Seeing
+pub mod Doing
+pub mod Comparing
+pub mod Both
