@@ -1,4 +1,4 @@
-//! A cache of responses: what its layers offer, the parts that its calls are lent, and puts of whole responses.
+//! A cache of responses: what its layers offer, the parts that its calls are lent, requests, and puts of whole responses.
 #![tactic(auto)]
 
 pub use cache_evict as eviction;
@@ -7,7 +7,13 @@ pub use cache_heads::{
     CacheMeta, CacheMetaDefaults, Error, ErrorType, NoCacheReason, RespCacheable, cache_control,
     filters, meta,
 };
+pub use cache_lock as lock;
 pub use cache_parts::{BoxedPolicy, NoPolicy, Parts};
+pub use cache_phases::{
+    CacheOptionOverrides, CachePhase, ForcedFreshness, HitStatus, HttpCacheDigest, LockAbandon,
+    LockCtx,
+};
+pub use cache_predictor as predictor;
 pub use cache_store::storage::{
     HitHandler, MissHandler, PurgeAction, PurgeOutcome, PurgeTarget, PurgeType, Storage,
 };
@@ -15,6 +21,7 @@ pub use cache_store::{admission, max_file_size, storage, trace};
 pub use cache_words::key::CacheKey;
 pub use cache_words::variance::VarianceBuilder;
 pub use cache_words::{key, time};
+pub use http_cache::{FinishFault, Finished, FoundFault, HttpCache, LookUpFault, Uses};
 pub use mem_cache::MemCache;
 
 pub mod put;
