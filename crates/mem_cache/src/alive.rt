@@ -81,10 +81,13 @@ pub(crate) fn is_alive<S: BuildHasher>(alive: &Alive<S>, key: &HashBinary, numbe
     }
 }
 
-// Returns the least number of a key.
+// Returns the least number of a key. Mostly no write is in flight, and no key is hashed.
 pub(crate) fn first<S: BuildHasher>(alive: &Alive<S>, key: &HashBinary) -> Option<u64>
     ensures some { IfSome result (λ n. (has alive.now key.now n ≡ true) × ((m : ℕ) → has alive.now key.now m ≡ true → n ≤ m)) }
     ensures none { IfNone result ((m : ℕ) → has alive.now key.now m ≡ false) }
 {
+    if alive.is_empty() {
+        return None;
+    }
     alive.get(&StoredKey::new(*key))?.first()
 }

@@ -86,6 +86,18 @@ impl<S: BuildHasher> MemCache<S> {
         {
             return fresh_body(body);
         }
+        self.look_told(key, moment)
+    }
+
+    // Looks a key up, and tells what is found as it is at a moment. It has room for metas, which a look-up of a fresh body needs not.
+    #[inline(never)]
+    fn look_told(
+        &mut self,
+        key: &HashBinary,
+        moment: Moment,
+    ) -> Result<Option<FoundAt<MemHitHandler>>, StoreFault>
+        ensures { (found : Result (Option (Meta × Handler)) Fault) × MemLookAnswer (look_up key.now self.old.store) self.old found self.new × (result ≡ answer_at moment found) }
+    {
         match self.look(key) {
             Ok(Some((meta, hit))) => Ok(Some(told_at(moment, meta, hit))),
             Ok(None) => Ok(None),
