@@ -4,7 +4,7 @@ ghost use Rattle.tier_model.specs.State.{empty_state};
 ghost use Rattle.tier_model.specs.Calls.{History, nothing_done};
 ghost use Rattle.tier_model.specs.Histories.{Opening, empty_opening};
 ghost use Rattle.tier_model.specs.Past.{HasPast, HoldsOrder};
-ghost use Rattle.tier_model.specs.Reports.{report_of};
+ghost use Rattle.tier_model.specs.Reports.{report_of, IsReport};
 ghost use Rattle.cache_tier.specs.Takes.{Takes};
 ghost use Rattle.cache_tier.specs.Acts.{StepsBy};
 ghost use Rattle.tier_requests.specs.Shelves.{shelf_of};
@@ -217,7 +217,8 @@ impl<const N: usize, S: BuildHasher> Tier<N, S> {
 
     /// Returns what the tier did and holds.
     pub fn report(&self) -> Report
-        ensures { result ≡ report_of self.now }
+        ensures state { result ≡ report_of self.now }
+        ensures past { (start : Opening) (h : History) → HasPast start self.now h → IsReport result start h }
     {
         Report {
             found: self.found,

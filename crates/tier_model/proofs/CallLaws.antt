@@ -23,7 +23,8 @@ use Rattle.tier_model.specs.Calls.{Call, Outcome, done_of, judged_of, finished_b
 use Rattle.tier_model.specs.Histories.{Kept, is_landing, write_after}
 use Rattle.tier_model.specs.Response.{Judged, kept}
 use Rattle.tier_model.specs.Rows.{FinishedBody}
-use Rattle.tier_model.specs.Own.{Own, own_opened, own_looked, own_polled, own_begun, phase_found, phase_absent, reads_found, no_reader, as_it_comes, reads_on, own_after}
+use Rattle.tier_model.specs.Own.{no_lock, Wait, no_wait, hold_given, wait_polled, wait_after}
+use Rattle.tier_model.specs.Own.{Own, own_opened, own_looked, own_begun, phase_found, phase_absent, reads_found, no_reader, as_it_comes, reads_on, own_after}
 use Rattle.tier_model.specs.State.{begun, disabled, nothing, closed, Request, State}
 use Rattle.tier_model.specs.Answers.{look_for, finishing}
 use Rattle.tier_model.specs.After.{by_request, on_request, with_request, opened_request, looked, after_look, after_wait, after_begin, writing, after_flight, on_write, pieced, after_put}
@@ -65,7 +66,8 @@ pub record IsOther (id : ℕ) (t : MomentValue) (action : Action) (o : Outcome) 
   pub key : (old : Option Entry) → entry_after id action o old ≡ old
   pub asks : (old : Bool) → asks_after id action o old ≡ old
   pub write : (new old : Option (Write Kept)) → write_after id new action o old ≡ old
-  pub own : (old : Own) → own_after id t action o old ≡ old
+  pub own : (old : Own) → own_after id action o old ≡ old
+  pub wait : (old : Wait) → wait_after id t action o old ≡ old
   pub reader : is_end_of_reader id action o ≡ false
   pub bytes : bytes_given id action o ≡ []
 
@@ -84,15 +86,22 @@ other_write id (Finish r) o new old e = ap (λ v. cond (v && is_landing o) None 
 other_write id (Drop r) (Ok a) new old e = ap (λ v. cond v None old) e
 other_write id _ _ new old e = refl
 
-other_own : (id : ℕ) (t : MomentValue) (action : Action) (o : Outcome) (old : Own) → is_named id (named_by action) ≡ false → own_after id t action o old ≡ old
-other_own id t (Open r key asks) (Ok Opened) old e = ap (λ v. cond v (own_opened asks) old) e
-other_own id t (LookUp r) (Ok (Found fresh complete given)) old e = ap (λ v. cond v (own_looked (phase_found fresh) (reads_found complete) given old) old) e
-other_own id t (LookUp r) (Ok (Absent given)) old e = ap (λ v. cond v (own_looked (phase_absent given old.phase) no_reader given old) old) e
-other_own id t (Poll r) (Ok (Waited outcome)) old e = ap (λ v. cond v (own_polled t outcome old.hold old) old) e
-other_own id t (Begin r head) (Ok Begun) old e = ap (λ v. cond v (own_begun begun as_it_comes old) old) e
-other_own id t (Begin r head) (Ok (answer.Uncacheable reason)) old e = ap (λ v. cond v (own_begun disabled no_reader old) old) e
-other_own id t (Read r) (Ok a) old e = ap (λ v. cond v (record old { reads = reads_on old.reads }) old) e
-other_own id t _ _ old e = refl
+other_own : (id : ℕ) (action : Action) (o : Outcome) (old : Own) → is_named id (named_by action) ≡ false → own_after id action o old ≡ old
+other_own id (Open r key asks) (Ok Opened) old e = ap (λ v. cond v own_opened old) e
+other_own id (LookUp r) (Ok (Found fresh complete given)) old e = ap (λ v. cond v (own_looked (phase_found fresh) (reads_found complete) given) old) e
+other_own id (LookUp r) (Ok (Absent given)) old e = ap (λ v. cond v (own_looked (phase_absent given old.phase) no_reader given) old) e
+other_own id (Begin r head) (Ok Begun) old e = ap (λ v. cond v (own_begun begun as_it_comes old) old) e
+other_own id (Begin r head) (Ok (answer.Uncacheable reason)) old e = ap (λ v. cond v (own_begun disabled no_reader old) old) e
+other_own id (Read r) (Ok a) old e = ap (λ v. cond v (record old { reads = reads_on old.reads }) old) e
+other_own id _ _ old e = refl
+
+other_wait : (id : ℕ) (t : MomentValue) (action : Action) (o : Outcome) (old : Wait) → is_named id (named_by action) ≡ false → wait_after id t action o old ≡ old
+other_wait id t (Open r key asks) (Ok Opened) old e = ap (λ v. cond v no_wait old) e
+other_wait id t (LookUp r) (Ok (Found fresh complete given)) old e = ap (λ v. cond v (record old { hold = hold_given given old.hold }) old) e
+other_wait id t (LookUp r) (Ok (Absent given)) old e = ap (λ v. cond v (record old { hold = hold_given given old.hold }) old) e
+other_wait id t (Poll r) (Ok (Waited told)) old e = ap (λ v. cond v (wait_polled t told old.hold old) old) e
+other_wait id t (Begin r head) (Ok a) old e = ap (λ v. cond v (record old { hold = no_lock }) old) e
+other_wait id t _ _ old e = refl
 
 other_reader : (id : ℕ) (action : Action) (o : Outcome) → is_named id (named_by action) ≡ false → is_end_of_reader id action o ≡ false
 other_reader id (LookUp r) (Ok a) e = e
@@ -109,10 +118,28 @@ other-call id t action o e = record {
   key = λ old. other_key id action o old e;
   asks = λ old. other_asks id action o old e;
   write = λ new old. other_write id action o new old e;
-  own = λ old. other_own id t action o old e;
+  own = λ old. other_own id action o old e;
+  wait = λ old. other_wait id t action o old e;
   reader = other_reader id action o e;
   bytes = other_bytes id action o e;
 }
+
+-- a refusal but of a finish leaves all requests alone
+abbrev pub is_finish : Action → Bool
+is_finish (Finish r) = true
+is_finish _ = false
+
+pub quiet-call : (t : MomentValue) (action : Action) (f : TierFault) (id : ℕ) → is_finish action ≡ false → IsOther id t action (Err f)
+quiet-call t (Finish r) f id e = absurd cc
+quiet-call t (Open k key asks) f id e = record { key = λ old. refl; asks = λ old. refl; write = λ new old. refl; own = λ old. refl; wait = λ old. refl; reader = refl; bytes = refl }
+quiet-call t (LookUp k) f id e = record { key = λ old. refl; asks = λ old. refl; write = λ new old. refl; own = λ old. refl; wait = λ old. refl; reader = refl; bytes = refl }
+quiet-call t (Poll k) f id e = record { key = λ old. refl; asks = λ old. refl; write = λ new old. refl; own = λ old. refl; wait = λ old. refl; reader = refl; bytes = refl }
+quiet-call t (Begin k head) f id e = record { key = λ old. refl; asks = λ old. refl; write = λ new old. refl; own = λ old. refl; wait = λ old. refl; reader = refl; bytes = refl }
+quiet-call t (Piece k bytes last) f id e = record { key = λ old. refl; asks = λ old. refl; write = λ new old. refl; own = λ old. refl; wait = λ old. refl; reader = refl; bytes = refl }
+quiet-call t (Read k) f id e = record { key = λ old. refl; asks = λ old. refl; write = λ new old. refl; own = λ old. refl; wait = λ old. refl; reader = refl; bytes = refl }
+quiet-call t (Drop k) f id e = record { key = λ old. refl; asks = λ old. refl; write = λ new old. refl; own = λ old. refl; wait = λ old. refl; reader = refl; bytes = refl }
+quiet-call t (Purge key) f id e = record { key = λ old. refl; asks = λ old. refl; write = λ new old. refl; own = λ old. refl; wait = λ old. refl; reader = refl; bytes = refl }
+quiet-call t (Put key pieces) f id e = record { key = λ old. refl; asks = λ old. refl; write = λ new old. refl; own = λ old. refl; wait = λ old. refl; reader = refl; bytes = refl }
 
 -- ---- the request that is named
 

@@ -44,6 +44,7 @@ use Rattle.tier_model.proofs.OwnLaws.{OpenFits}
 use Rattle.tier_model.proofs.HeadlineLaws.{IsRight-allowed}
 use Rattle.tier_model.proofs.LockLaws.{lock-is}
 use Rattle.tier_model.proofs.LockedLaws.{AreLockedRight-lawful}
+use Rattle.tier_model.proofs.PollLaws.{ArePolledRight-lawful}
 use Rattle.tier_model.proofs.ReaderLaws.{CountFits}
 use Rattle.tier_model.proofs.ReadLaws.{ReadsFit, readable_is}
 use Rattle.tier_model.proofs.ReadEvents.{ReadIsRight-allowed}
@@ -119,6 +120,7 @@ Headline-lawful start h l =
       answers = AreRight-lawful start h l;
       reads = AreReadRight-lawful start h l;
       locks = AreLockedRight-lawful start h l;
+      polls = ArePolledRight-lawful start h l;
       within = subst (λ (x : ℕ). AreWithin x start.settings.watermark (changes_of start h)) past.made.limit
           (subst (λ (x : Option ℕ). AreWithin (state_of start h).managed.limit x (changes_of start h)) past.made.watermark past.holds.within);
       tracked = bodies-tracked (changes_of start h) past.holds.leaves.orderly past.holds.leaves.tracks past.holds.leaves.settled;
@@ -139,7 +141,7 @@ start-some start h s past = subst (λ (n : ℕ). 0 < n) past.made.shards past.ho
 IsRequestOf-fits : (start : Opening) (id : ℕ) (o : Option Request) (h : History) → OpenFits start id o h → ReadsFit start id o h
     → MatchOption o (opened_for id h ≡ None) (λ q. IsRequestOf start id q h)
 IsRequestOf-fits start id None h fits reads = fits
-IsRequestOf-fits start id (Some q) h fits reads = record { key = fits.0.key; entry = fits.0.entry; own = fits.1; write = fits.0.write; reader = reads }
+IsRequestOf-fits start id (Some q) h fits reads = record { key = fits.0.key; entry = fits.0.entry; asks = fits.3; own = fits.1; wait = fits.2; write = fits.0.write; reader = reads }
 
 count_is : (n : ℕ) (o : Option Readers) (k : ℕ) (changes : Changes Kept) → CountFits n o k changes → count_of o ≡ k
 count_is n None k changes fits = sym fits

@@ -10,6 +10,7 @@ use Rattle.cache_changes.specs.Changes.{StoredKey}
 use Rattle.cache_lock.specs.Changes.{Changes, gives, lends, stores, spends}
 use Rattle.cache_lock.specs.Answers.{to_wait_for, locked_by, lock_change, release_changes, leave_changes, wait_outcome, poll_changes}
 use Rattle.cache_lock.specs.State.{status_of}
+use Rattle.cache_lock.specs.Status.{is_end}
 use Rattle.cache_lock.specs.declared.status.LockStatus.{LockStatus}
 use Rattle.cache_lock.specs.declared.status.LockStatus.TheVariants as status
 use Rattle.tier_model.specs.declared.event.Action.{Action}
@@ -119,6 +120,13 @@ pub record SaysEnded (r : ℕ) (action : Action) (o : Outcome) : Type 0 where
 
 -- ---- what a call does
 
+-- a permit that ends waits no more, and no permit ends as a wait does
+pub end-not-waiting : (st : LockStatus) → is_end st ≡ true → st ≡ status.Waiting → ⊥
+end-not-waiting st e is = let clash : false ≡ true = sym (ap is_end is) ∙ e in absurd cc
+
+pub end-not-timeout : (st : LockStatus) → is_end st ≡ true → st ≡ status.WaitTimeout → ⊥
+end-not-timeout st e is = let clash : false ≡ true = sym (ap is_end is) ∙ e in absurd cc
+
 pub data Effect (s new : State) (t : MomentValue) (action : Action) (o : Outcome) (changes : Changes) : Type 0 where
   -- nothing is given, and nothing ends
   quiet : Same (grip_at s) (grip_at new) (hold_at s) (hold_at new) → changes ≡ [] → SaysLittle s new action o → Effect s new t action o changes
@@ -144,5 +152,5 @@ pub data Effect (s new : State) (t : MomentValue) (action : Action) (o : Outcome
   dropped : (r n : ℕ) (key : StoredKey) → Moves (grip_at s) (grip_at new) (hold_at s) (hold_at new) r (grips true n key) free → changes ≡ spends n ∷ stores n status.Dangling ∷ []
       → SaysEnded r action o → Effect s new t action o changes
   -- a permit is released
-  released : (r n : ℕ) (key : StoredKey) (reason : LockStatus) → (reason ≡ status.Waiting → ⊥) → Moves (grip_at s) (grip_at new) (hold_at s) (hold_at new) r (grips true n key) free
+  released : (r n : ℕ) (key : StoredKey) (reason : LockStatus) → is_end reason ≡ true → Moves (grip_at s) (grip_at new) (hold_at s) (hold_at new) r (grips true n key) free
       → changes ≡ release_changes key n reason s.lock → SaysEnded r action o → Effect s new t action o changes

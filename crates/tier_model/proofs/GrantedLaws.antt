@@ -23,7 +23,7 @@ use Rattle.tier_model.proofs.LockLaws.{IsSound-of}
 use Rattle.tier_model.proofs.GripLaws.{free, grips}
 use Rattle.tier_model.proofs.GrantSteps.{Granted, same-granted, given-step}
 use Rattle.tier_model.proofs.GrantEnds.{lent-step, back-step, left-step, polled-step, dropped-step, released-step}
-use Rattle.tier_model.proofs.EffectLaws.{grip_of, grip_at, hold_at, table-of, Effect, quiet, given, lent, back, polled, left, dropped, released}
+use Rattle.tier_model.proofs.EffectLaws.{grip_of, grip_at, hold_at, table-of, end-not-waiting, Effect, quiet, given, lent, back, polled, left, dropped, released}
 use Rattle.tier_model.proofs.TurnLaws.{all-turned}
 use Rattle.tier_model.proofs.PhaseLaws.{waits-turn}
 use Rattle.tier_model.proofs.HoldSteps.{WaitsWell, WaitsFit}
@@ -49,7 +49,7 @@ granted-by s new t action o cs changes x sound e = by_effect e
     by_effect (left r n key moves is says) = subst Now (sym is) (left-step s.lock (grip_at s) (hold_at s) changes x (grip_at new) (hold_at new) r n key (table-of s) moves)
     by_effect (dropped r n key moves is says) = subst Now (sym is) (dropped-step s.lock (grip_at s) (hold_at s) changes x (grip_at new) (hold_at new) r n key (table-of s) moves)
     by_effect (released r n key reason ends moves is says) =
-        subst Now (sym is) (released-step s.lock (grip_at s) (hold_at s) changes x (grip_at new) (hold_at new) r n key (table-of s) moves reason ends)
+        subst Now (sym is) (released-step s.lock (grip_at s) (hold_at s) changes x (grip_at new) (hold_at new) r n key (table-of s) moves reason (end-not-waiting reason ends))
 
 -- what a lawful history leaves of the lock and of those that hold its cores
 pub record LocksFit (start : Opening) (h : History) : Type 0 where

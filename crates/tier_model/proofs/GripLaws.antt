@@ -115,14 +115,34 @@ map_cond false x y = refl
 pub key-given : (m : ℕ) (key : List ℕ) (stale : Bool) (t : MomentValue) (s : LockState) → key_at m (after (gives s.next key stale t) s) ≡ cond (m == s.next) (Some key) (key_at m s)
 key-given m key stale t s = ap (option_map key_in) (get-put s.cores s.next m (given_core key stale t s.age)) ∙ map_cond (m == s.next) (Some (given_core key stale t s.age)) (get s.cores m)
 
+module _ {X : Type 0} (p : HeldCore → X) where
+  -- what a core keeps where one is changed in its place
+  pub kept-in : (m n : ℕ) (f : HeldCore → HeldCore) (s : LockState) → ((c : HeldCore) → p (f c) ≡ p c) → (o : Option HeldCore) → get s.cores n ≡ o
+      → option_map p (get (with_core n f o s).cores m) ≡ option_map p (get s.cores m)
+  kept-in m n f s h None e = refl
+  kept-in m n f s h (Some c) e = ap (option_map p) (get-put s.cores n m (f c)) ∙ by_test (m == n) refl
+    where
+      by_test : (v : Bool) → (m == n) ≡ v → option_map p (cond v (Some (f c)) (get s.cores m)) ≡ option_map p (get s.cores m)
+      by_test true is = ap (λ (k : X). Some k) (h c) ∙ sym (ap (option_map p) (ap (get s.cores) (eqb-true m n is) ∙ e))
+      by_test false is = refl
+
+  -- what a core had that is there after it
+  pub was-in : (m n : ℕ) (s : LockState) → ((c : HeldCore) → p (unnamed c) ≡ p c) → (k : X) (o : Option HeldCore) → get s.cores n ≡ o
+      → option_map p (get (spent n o s).cores m) ≡ Some k → option_map p (get s.cores m) ≡ Some k
+  was-in m n s h k None e is = is
+  was-in m n s h k (Some c) e is = by_last (nat_le c.names 1) is
+    where
+      by_test : (w : Bool) → option_map p (cond w None (get s.cores m)) ≡ Some k → option_map p (get s.cores m) ≡ Some k
+      by_test true is = absurd cc
+      by_test false is = is
+
+      by_last : (v : Bool) → option_map p (get (cond v (without_core n c.key s) (record s { cores = insert s.cores n (unnamed c) })).cores m) ≡ Some k → option_map p (get s.cores m) ≡ Some k
+      by_last true is = by_test (m == n) (sym (ap (option_map p) (get-out s.cores n m)) ∙ is)
+      by_last false is = sym (kept-in m n unnamed s h (Some c) e) ∙ is
+
 -- a core that is changed in its place keeps its key
 pub key-kept : (m n : ℕ) (f : HeldCore → HeldCore) (s : LockState) → ((c : HeldCore) → (f c).key ≡ c.key) → (o : Option HeldCore) → get s.cores n ≡ o → key_at m (with_core n f o s) ≡ key_at m s
-key-kept m n f s h None e = refl
-key-kept m n f s h (Some c) e = ap (option_map key_in) (get-put s.cores n m (f c)) ∙ by_test (m == n) refl
-  where
-    by_test : (v : Bool) → (m == n) ≡ v → option_map key_in (cond v (Some (f c)) (get s.cores m)) ≡ key_at m s
-    by_test true is = ap (λ (k : List ℕ). Some k) (h c) ∙ sym (ap (option_map key_in) (ap (get s.cores) (eqb-true m n is) ∙ e))
-    by_test false is = refl
+key-kept m n f s h o e = kept-in key_in m n f s h o e
 
 pub next-kept : (n : ℕ) (f : HeldCore → HeldCore) (o : Option HeldCore) (s : LockState) → (with_core n f o s).next ≡ s.next
 next-kept n f None s = refl
@@ -136,7 +156,7 @@ next-spent n (Some c) s = by_last (nat_le c.names 1)
     by_last true = refl
     by_last false = refl
 
--- and so does one that others name too, where a name is handed back
+-- a core that others name too keeps its key where a name is handed back
 pub key-left : (m n : ℕ) (s : LockState) → ((m == n) ≡ true → (c : HeldCore) → get s.cores n ≡ Some c → 1 < c.names) → (o : Option HeldCore) → get s.cores n ≡ o → key_at m (spent n o s) ≡ key_at m s
 key-left m n s many None e = refl
 key-left m n s many (Some c) e = by_last (nat_le c.names 1) refl
@@ -154,13 +174,4 @@ key-left m n s many (Some c) e = by_last (nat_le c.names 1) refl
 
 -- no key is another after it
 pub key-was : (m n : ℕ) (s : LockState) (k : List ℕ) (o : Option HeldCore) → get s.cores n ≡ o → key_at m (spent n o s) ≡ Some k → key_at m s ≡ Some k
-key-was m n s k None e is = is
-key-was m n s k (Some c) e is = by_last (nat_le c.names 1) is
-  where
-    by_test : (w : Bool) → option_map key_in (cond w None (get s.cores m)) ≡ Some k → key_at m s ≡ Some k
-    by_test true is = absurd cc
-    by_test false is = is
-
-    by_last : (v : Bool) → key_at m (cond v (without_core n c.key s) (record s { cores = insert s.cores n (unnamed c) })) ≡ Some k → key_at m s ≡ Some k
-    by_last true is = by_test (m == n) (sym (ap (option_map key_in) (get-out s.cores n m)) ∙ is)
-    by_last false is = sym (key-kept m n unnamed s (λ c. refl) (Some c) e) ∙ is
+key-was m n s k o e is = was-in key_in m n s (λ c. refl) k o e is

@@ -76,12 +76,12 @@ module _ (start : Opening) (s : State) (h : History) (made : IsMade start.settin
         by_removed true e p = absurd p
         by_removed false e p = stored_right a (f.alive.0 e) p
 
-    out_right : (g : TierFault) → IsKeptOut s (alone b.entry) (weight_for b.body) stored_alone g → FinishIsRight start.settings (write_held start r h) (Err g) changes
-    out_right (TooHeavy d) p = subst (λ (y : Done). FinishIsRight start.settings (write_held start r h) (Err (TooHeavy y)) changes) (sym p.0) (x.write, x.held, refl)
-    out_right (TooLong d) p = subst (λ (y : Done). FinishIsRight start.settings (write_held start r h) (Err (TooLong y)) changes) (sym p.0) (x.write, x.held, refl)
-    out_right (NumbersSpent d) p = subst (λ (y : Done). FinishIsRight start.settings (write_held start r h) (Err (NumbersSpent y)) changes) (sym p.0) (x.write, x.held, refl)
-    out_right (Memory d) p = subst (λ (y : Done). FinishIsRight start.settings (write_held start r h) (Err (Memory y)) changes) (sym p.0) (x.write, x.held, refl)
-    out_right _ p = absurd p
+    out_right : IsAlive x.write changes → (g : TierFault) → IsKeptOut s (alone b.entry) (weight_for b.body) stored_alone g → FinishIsRight start.settings (write_held start r h) (Err g) changes
+    out_right alive (TooHeavy d) p = subst (λ (y : Done). FinishIsRight start.settings (write_held start r h) (Err (TooHeavy y)) changes) (sym p.0) (x.write, x.held, alive, refl)
+    out_right alive (TooLong d) p = subst (λ (y : Done). FinishIsRight start.settings (write_held start r h) (Err (TooLong y)) changes) (sym p.0) (x.write, x.held, alive, refl)
+    out_right alive (NumbersSpent d) p = subst (λ (y : Done). FinishIsRight start.settings (write_held start r h) (Err (NumbersSpent y)) changes) (sym p.0) (x.write, x.held, alive, refl)
+    out_right alive (Memory d) p = subst (λ (y : Done). FinishIsRight start.settings (write_held start r h) (Err (Memory y)) changes) (sym p.0) (x.write, x.held, alive, refl)
+    out_right alive _ p = absurd p
 
     finish_late : (g : TierFault) → IsFinishFault s (finishing q s.shelf) g → FinishIsRight start.settings (write_held start r h) (Err g) changes
     finish_late g p = by_removed f.flight.removed refl (subst (λ (o : Option FinishedBody). IsFinishFault s o g) is p)
@@ -96,8 +96,9 @@ module _ (start : Opening) (s : State) (h : History) (made : IsMade start.settin
         by_removed false e p = elim p [
           | inl m ↦ subst (λ (y : TierFault). FinishIsRight start.settings (write_held start r h) (Err y) changes) (sym m) (refl, refl)
           | inr late ↦ elim late [
-            | inl out ↦ out_right g out
-            | inr cut ↦ subst (λ (y : TierFault). FinishIsRight start.settings (write_held start r h) (Err y) changes) (sym cut.1) (x.write, x.held, room (f.alive.0 e) true cut.0 cut.3)
+            | inl out ↦ out_right (f.alive.0 e) g out
+            | inr cut ↦ subst (λ (y : TierFault). FinishIsRight start.settings (write_held start r h) (Err y) changes) (sym cut.1)
+                (x.write, x.held, f.alive.0 e, room (f.alive.0 e) true cut.0 cut.3)
           ]
         ]
 

@@ -6,6 +6,7 @@ use Rattle.std.proofs.lemmas.Bool.{eqb-true}
 use Rattle.cache_words.specs.Time.{MomentValue}
 use Rattle.cache_lock.specs.Answers.{to_wait_for, wait_outcome}
 use Rattle.cache_lock.specs.State.{status_of}
+use Rattle.cache_lock.specs.Status.{is_end}
 use Rattle.cache_lock.specs.declared.status.LockStatus.{LockStatus}
 use Rattle.cache_lock.specs.declared.status.LockStatus.TheVariants as status
 use Rattle.tier_model.specs.declared.event.Action.{Action}
@@ -83,7 +84,7 @@ module _ (s : State) (t : MomentValue) (i : Inside) (fits : (id : ℕ) → Waits
 
     -- ---- begins
 
-    module _ (head : List ℕ) (a : Answer) (reason : LockStatus) (ends : reason ≡ status.Waiting → ⊥)
+    module _ (head : List ℕ) (a : Answer) (reason : LockStatus) (ends : is_end reason ≡ true)
         (releases : lock_changes_in s t (Begin r head) (Ok a) i.asked ≡ by_request [] (get s.requests r) (λ q. release_of reason q q.held s.lock)) where
       begin_says : SaysEnded r (Begin r head) (Ok a)
       begin_says = record { ends = λ id. refl; given = λ id old. refl; aged = λ k since before. refl }
@@ -110,9 +111,9 @@ module _ (s : State) (t : MomentValue) (i : Inside) (fits : (id : ℕ) → Waits
           absurd cc
 
     begin_answer : (head : List ℕ) (a : Answer) (j : Option Judged) → IsBeginAnswer j a → can_begin q.phase q.gave_read ≡ true → Does s t i fits (Begin r head) (Ok a)
-    begin_answer head a (Some (kept meta)) p can = subst (λ (y : Answer). Does s t i fits (Begin r head) (Ok y)) (sym p) (begin_does head Begun status.Done (λ e. absurd cc) refl q.held refl can)
+    begin_answer head a (Some (kept meta)) p can = subst (λ (y : Answer). Does s t i fits (Begin r head) (Ok y)) (sym p) (begin_does head Begun status.Done refl refl q.held refl can)
     begin_answer head a (Some (not_kept reason)) p can =
-        subst (λ (y : Answer). Does s t i fits (Begin r head) (Ok y)) (sym p) (begin_does head (answer.Uncacheable reason) status.GiveUp (λ e. absurd cc) refl q.held refl can)
+        subst (λ (y : Answer). Does s t i fits (Begin r head) (Ok y)) (sym p) (begin_does head (answer.Uncacheable reason) status.GiveUp refl refl q.held refl can)
     begin_answer head a (Some too_early) p can = absurd p
     begin_answer head a (Some not_read) p can = absurd p
     begin_answer head a None p can = absurd p

@@ -36,11 +36,15 @@ pub mod RightLaws
 pub mod HeadlineLaws
 pub mod StandLaws
 pub mod GrantedLaws
+pub mod BeganLaws
 pub mod PermitSteps
 pub mod PermitKept
 pub mod PermitBack
 pub mod PermitLaws
 pub mod LockedLaws
+pub mod WaitLaws
+pub mod SettledLaws
+pub mod PollLaws
 pub mod OwnedLaws
 pub mod Carried
 pub mod CountLaws

@@ -1,24 +1,21 @@
 -- A lock that is asked for is given as the headline says.
-use Rattle.std.proofs.Common.{◌≡◌, ℕ, refl, ap, sym, ◌∙◌, true, false, subst, cond, inl, inr, [], ◌∷◌, ◌==◌}
+use Rattle.std.proofs.Common.{◌≡◌, ℕ, refl, ap, sym, ◌∙◌, true, false, subst, inl, inr, [], ◌∷◌}
 use Rattle.std.specs.Prelude.{◌&&◌, not, Bool, Option, Some, None, Ok, Err, MatchOption}
 use Rattle.std.specs.FinMap.{get}
 use Rattle.cache_words.specs.Time.{MomentValue}
 use Rattle.cache_entries.specs.Entry.{key_of}
 use Rattle.cache_lock.specs.Answers.{to_wait_for}
-use Rattle.cache_lock.specs.declared.status.LockStatus.{LockStatus}
 use Rattle.tier_model.specs.declared.event.Action.{Action}
 use Rattle.tier_model.specs.declared.event.Action.TheVariants.{Open, LookUp, Poll, Begin, Piece, Finish, Read, Drop, Purge, Put}
 use Rattle.tier_model.specs.declared.event.Answer.{Answer}
-use Rattle.tier_model.specs.declared.event.Answer.TheVariants.{Opened, Found, Absent, Waited, Begun}
-use Rattle.tier_model.specs.declared.event.Answer.TheVariants as answer
+use Rattle.tier_model.specs.declared.event.Answer.TheVariants.{Found}
 use Rattle.tier_model.specs.declared.event.TierFault.{TierFault}
 use Rattle.tier_model.specs.declared.event.LockGiven.{LockGiven}
 use Rattle.tier_model.specs.declared.event.LockGiven.TheVariants as lock
-use Rattle.tier_model.specs.Calls.{Call, History, Outcome, asks_after, asks_lock}
+use Rattle.tier_model.specs.Calls.{Call, History, Outcome, asks_lock}
 use Rattle.tier_model.specs.Histories.{Opening}
 use Rattle.tier_model.specs.Locks.{LocksRight, IsGivenRight, LockIsRight, AreLockedRight}
 use Rattle.tier_model.specs.Shelf.{Look, absent, in_flight, finished}
-use Rattle.tier_model.specs.Own.{Hold, no_lock, a_permit, a_wait, Own, own_opened, own_polled, own_after, own_of}
 use Rattle.tier_model.specs.State.{Request, State}
 use Rattle.tier_model.specs.Checks.{refusal}
 use Rattle.tier_model.specs.Answers.{key_for, look_for, is_fresh, finds_fresh, given_if, lock_given, look_answer}
@@ -33,51 +30,6 @@ use Rattle.tier_model.proofs.EffectLaws.{grip_at, hold_at}
 use Rattle.tier_model.proofs.GrantedLaws.{LocksFit-lawful}
 use Rattle.tier_model.proofs.PermitLaws.{core-of-permit, permit-from}
 
--- ---- whether a request asks for the lock
-
-own_or : (v : Bool) (a b : Own) (asks : Bool) → a.asks ≡ b.asks → b.asks ≡ asks → (cond v a b).asks ≡ asks
-own_or true a b asks same e = same ∙ e
-own_or false a b asks same e = e
-
-polled_asks : (t : MomentValue) (outcome : Option LockStatus) (hold : Hold) (old : Own) → (own_polled t outcome hold old).asks ≡ old.asks
-polled_asks t None (a_wait first) old = refl
-polled_asks t (Some st) (a_wait first) old = refl
-polled_asks t None no_lock old = refl
-polled_asks t (Some st) no_lock old = refl
-polled_asks t None a_permit old = refl
-polled_asks t (Some st) a_permit old = refl
-
-asks_step : (id : ℕ) (t : MomentValue) (action : Action) (o : Outcome) (old : Own) (asks : Bool) → old.asks ≡ asks → (own_after id t action o old).asks ≡ asks_after id action o asks
-asks_step id t (Open r key opened) (Ok Opened) old asks e = by_one (r == id)
-  where
-    by_one : (v : Bool) → (cond v (own_opened opened) old).asks ≡ cond v opened asks
-    by_one true = refl
-    by_one false = e
-asks_step id t (Open r key opened) (Ok _) old asks e = e
-asks_step id t (Open r key opened) (Err f) old asks e = e
-asks_step id t (LookUp r) (Ok (Found fresh complete given)) old asks e = own_or (r == id) _ old asks refl e
-asks_step id t (LookUp r) (Ok (Absent given)) old asks e = own_or (r == id) _ old asks refl e
-asks_step id t (LookUp r) (Ok _) old asks e = e
-asks_step id t (LookUp r) (Err f) old asks e = e
-asks_step id t (Poll r) (Ok (Waited outcome)) old asks e = own_or (r == id) _ old asks (polled_asks t outcome old.hold old) e
-asks_step id t (Poll r) (Ok _) old asks e = e
-asks_step id t (Poll r) (Err f) old asks e = e
-asks_step id t (Begin r head) (Ok Begun) old asks e = own_or (r == id) _ old asks refl e
-asks_step id t (Begin r head) (Ok (answer.Uncacheable reason)) old asks e = own_or (r == id) _ old asks refl e
-asks_step id t (Begin r head) (Ok _) old asks e = e
-asks_step id t (Begin r head) (Err f) old asks e = e
-asks_step id t (Read r) (Ok a) old asks e = own_or (r == id) _ old asks refl e
-asks_step id t (Read r) (Err f) old asks e = e
-asks_step id t (Piece r bytes last) o old asks e = e
-asks_step id t (Finish r) o old asks e = e
-asks_step id t (Drop r) o old asks e = e
-asks_step id t (Purge key) o old asks e = e
-asks_step id t (Put key pieces) o old asks e = e
-
-asks-is : (id : ℕ) (h : History) → (own_of id h).asks ≡ asks_lock id h
-asks-is id [] = refl
-asks-is id (c ∷ h) = asks_step id c.event.moment c.event.action c.outcome (own_of id h) (asks_lock id h) (asks-is id h)
-
 -- ---- what a look-up gives
 
 module _ (start : Opening) (h : History) (lawful : IsLawful start h) where
@@ -89,7 +41,7 @@ module _ (start : Opening) (h : History) (lawful : IsLawful start h) where
     opens = subst (λ (o : Option Request). OpenFits start r o h) there ((Stands-lawful start h lawful).opens r)
 
     asks_as : q.asks ≡ asks_lock r h
-    asks_as = ap (λ (o : Own). o.asks) opens.1 ∙ asks-is r h
+    asks_as = opens.3
 
     asked : (l : Look) (v w : Bool) → q.asks ≡ v → finds_fresh t l ≡ w → lock_given t q l s.lock ≡ given_if (v && not w) (to_wait_for (key_for q) s.lock)
     asked l v w a b =

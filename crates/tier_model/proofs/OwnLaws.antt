@@ -1,5 +1,5 @@
 -- An open request is what its own calls say.
-use Rattle.std.proofs.Common.{◌≡◌, ℕ, refl, ap, sym, ◌∙◌, true, false, subst, cond, ◌∷◌}
+use Rattle.std.proofs.Common.{◌≡◌, ℕ, ◌==◌, refl, ap, sym, ◌∙◌, true, false, subst, cond, ◌∷◌}
 use Rattle.std.specs.Prelude.{Bool, List, Option, Some, None, option_map, is_some, Ok, Err, ◌&&◌, not, MatchOption}
 use Rattle.std.specs.FinMap.{get}
 use Rattle.std.proofs.lemmas.Bool.{eqb-true}
@@ -14,10 +14,11 @@ use Rattle.tier_model.specs.declared.event.Answer.TheVariants.{Opened, Waited, B
 use Rattle.tier_model.specs.declared.event.TierFault.{TierFault}
 use Rattle.tier_model.specs.Keys.{Entry, entry_of, alone}
 use Rattle.tier_model.specs.Response.{Judged, kept, not_kept}
-use Rattle.tier_model.specs.Calls.{Call, History, Outcome, judged_of, opened_for}
+use Rattle.tier_model.specs.Calls.{Call, History, Outcome, judged_of, opened_for, asks_lock}
 use Rattle.tier_model.specs.Histories.{Kept, Opening, writes_begun, begun_by, write_begun, is_landing, write_held, changes_of}
 use Rattle.tier_model.specs.Shelf.{Look, absent, in_flight, finished}
-use Rattle.tier_model.specs.Own.{Own, own_opened, own_looked, own_polled, own_begun, own_after, own_of, phase_absent, phase_found, no_reader, as_it_comes, reads_on, reads_in, own_in}
+use Rattle.tier_model.specs.Own.{no_lock, Wait, no_wait, hold_given, wait_polled, wait_after, wait_of}
+use Rattle.tier_model.specs.Own.{Own, own_opened, own_looked, own_begun, own_after, own_of, phase_absent, phase_found, no_reader, as_it_comes, reads_on}
 use Rattle.tier_model.specs.State.{Phase, begun, disabled, Held, nothing, permit, waits, Request, State}
 use Rattle.tier_model.specs.Checks.{refusal, unless}
 use Rattle.cache_words.specs.Key.{CacheKeyValue}
@@ -26,15 +27,16 @@ use Rattle.tier_model.specs.declared.event.TierFault.TheVariants.{IdInUse}
 use Rattle.tier_model.specs.Answers.{look_for, is_fresh, lock_given, look_answer, polled, IsBeginAnswer}
 use Rattle.tier_model.specs.Step.{UseFits, IsAnswer, AllowsBy, Allows}
 use Rattle.tier_model.specs.After.{phase_of, reader_of, looked, after_wait, writing, opened_request, after}
-use Rattle.tier_model.proofs.CallLaws.{Inside, call_at, named_by, is_named, itself, IsOther, other-call, begin_turn, land_turn, read_turn, turn, requests-after}
+use Rattle.tier_model.specs.Past.{reads_in, own_in, wait_in}
+use Rattle.tier_model.proofs.CallLaws.{Inside, call_at, quiet-call, named_by, is_named, itself, IsOther, other-call, begin_turn, land_turn, read_turn, turn, requests-after}
 use Rattle.tier_model.proofs.WriteLaws.{WritesFit, IsWriteOf}
 use Rattle.tier_model.proofs.OpenLaws.{IsOpen, unrefused}
-use Rattle.tier_model.proofs.OwnSteps.{own_look, own_wait, own_read}
+use Rattle.tier_model.proofs.OwnSteps.{wait_look, own_wait, wait_wait, own_read}
 
 module _ (start : Opening) where
   abbrev pub OpenFits : ℕ → Option Request → History → Type 0
   OpenFits id None h = opened_for id h ≡ None
-  OpenFits id (Some q) h = IsOpen start id q h × (own_in q ≡ own_of id h)
+  OpenFits id (Some q) h = IsOpen start id q h × (own_in q ≡ own_of id h) × (wait_in q ≡ wait_of id h) × (q.asks ≡ asks_lock id h)
 
   module _ (t : MomentValue) (i : Inside) (h : History) where
     -- a call that leaves a request alone
@@ -47,24 +49,9 @@ module _ (start : Opening) where
         write = fits.0.write ∙ ap (option_map (λ w. w.number)) (sym (other.write (begun_by start id (call_at t action i o) h) (write_held start id h)));
       },
       fits.1 ∙ sym (other.own (own_of id h)),
+      fits.2 ∙ sym (other.wait (wait_of id h)),
+      fits.3 ∙ sym (other.asks (asks_lock id h)),
     )
-
-    -- a refusal but of a finish leaves all requests alone
-    abbrev is_finish : Action → Bool
-    is_finish (Finish r) = true
-    is_finish _ = false
-
-    quiet_by : (action : Action) (f : TierFault) (id : ℕ) → is_finish action ≡ false → IsOther id t action (Err f)
-    quiet_by (Finish r) f id e = absurd cc
-    quiet_by (Open k key asks) f id e = record { key = λ old. refl; asks = λ old. refl; write = λ new old. refl; own = λ old. refl; reader = refl; bytes = refl }
-    quiet_by (LookUp k) f id e = record { key = λ old. refl; asks = λ old. refl; write = λ new old. refl; own = λ old. refl; reader = refl; bytes = refl }
-    quiet_by (Poll k) f id e = record { key = λ old. refl; asks = λ old. refl; write = λ new old. refl; own = λ old. refl; reader = refl; bytes = refl }
-    quiet_by (Begin k head) f id e = record { key = λ old. refl; asks = λ old. refl; write = λ new old. refl; own = λ old. refl; reader = refl; bytes = refl }
-    quiet_by (Piece k bytes last) f id e = record { key = λ old. refl; asks = λ old. refl; write = λ new old. refl; own = λ old. refl; reader = refl; bytes = refl }
-    quiet_by (Read k) f id e = record { key = λ old. refl; asks = λ old. refl; write = λ new old. refl; own = λ old. refl; reader = refl; bytes = refl }
-    quiet_by (Drop k) f id e = record { key = λ old. refl; asks = λ old. refl; write = λ new old. refl; own = λ old. refl; reader = refl; bytes = refl }
-    quiet_by (Purge key) f id e = record { key = λ old. refl; asks = λ old. refl; write = λ new old. refl; own = λ old. refl; reader = refl; bytes = refl }
-    quiet_by (Put key pieces) f id e = record { key = λ old. refl; asks = λ old. refl; write = λ new old. refl; own = λ old. refl; reader = refl; bytes = refl }
 
     module _ (s : State) (count : s.shelf.writes ≡ writes_begun start h) (writes : WritesFit start h) where
       -- a request that isn't open has no write
@@ -84,31 +71,39 @@ module _ (start : Opening) where
           opens : (y : Answer) → IsOpen start r (looked t q l s.lock) (call_at t (LookUp r) i (Ok y) ∷ h)
           opens y = record { key = fits.0.key; entry = fits.0.entry; write = fits.0.write }
 
-          own : own_in (looked t q l s.lock) ≡ own_looked (phase_of t (lock_given t q l s.lock) l q.phase) (reads_in (reader_of l)) (lock_given t q l s.lock) (own_of r h)
-          own = own_look t q s.lock l ∙ ap (own_looked (phase_of t (lock_given t q l s.lock) l q.phase) (reads_in (reader_of l)) (lock_given t q l s.lock)) fits.1
-
           phase : q.phase ≡ (own_of r h).phase
           phase = ap (λ (x : Own). x.phase) fits.1
+
+          waiting : wait_in (looked t q l s.lock) ≡ cond (r == r) (record (wait_of r h) { hold = hold_given (lock_given t q l s.lock) (wait_of r h).hold }) (wait_of r h)
+          waiting =
+              wait_look t q s.lock l ∙ ap (λ (w : Wait). record w { hold = hold_given (lock_given t q l s.lock) w.hold }) fits.2
+              ∙ sym (ap (λ v. cond v (record (wait_of r h) { hold = hold_given (lock_given t q l s.lock) (wait_of r h).hold }) (wait_of r h)) (itself r))
 
           by_look : (k : Look) → l ≡ k → OpenFits r (Some (looked t q l s.lock)) (call_at t (LookUp r) i (Ok (look_answer t (lock_given t q l s.lock) l)) ∷ h)
           by_look absent e = (
             opens _,
-            own ∙ ap (λ (k : Look). own_looked (phase_of t (lock_given t q l s.lock) k q.phase) (reads_in (reader_of k)) (lock_given t q l s.lock) (own_of r h)) e
-                ∙ ap (λ (p : Phase). own_looked (phase_absent (lock_given t q l s.lock) p) no_reader (lock_given t q l s.lock) (own_of r h)) phase
-                ∙ sym (ap (λ v. cond v (own_looked (phase_absent (lock_given t q l s.lock) (own_of r h).phase) no_reader (lock_given t q l s.lock) (own_of r h)) (own_of r h)) (itself r))
-                ∙ sym (ap (λ (k : Look). own_after r t (LookUp r) (Ok (look_answer t (lock_given t q l s.lock) k)) (own_of r h)) e),
+            ap (λ (k : Look). own_looked (phase_of t (lock_given t q l s.lock) k q.phase) (reads_in (reader_of k)) (lock_given t q l s.lock)) e
+                ∙ ap (λ (p : Phase). own_looked (phase_absent (lock_given t q l s.lock) p) no_reader (lock_given t q l s.lock)) phase
+                ∙ sym (ap (λ v. cond v (own_looked (phase_absent (lock_given t q l s.lock) (own_of r h).phase) no_reader (lock_given t q l s.lock)) (own_of r h)) (itself r))
+                ∙ sym (ap (λ (k : Look). own_after r (LookUp r) (Ok (look_answer t (lock_given t q l s.lock) k)) (own_of r h)) e),
+            waiting ∙ sym (ap (λ (k : Look). wait_after r t (LookUp r) (Ok (look_answer t (lock_given t q l s.lock) k)) (wait_of r h)) e),
+            fits.3,
           )
           by_look (in_flight f) e = (
             opens _,
-            own ∙ ap (λ (k : Look). own_looked (phase_of t (lock_given t q l s.lock) k q.phase) (reads_in (reader_of k)) (lock_given t q l s.lock) (own_of r h)) e
-                ∙ sym (ap (λ v. cond v (own_looked (phase_found (is_fresh t f.meta)) as_it_comes (lock_given t q l s.lock) (own_of r h)) (own_of r h)) (itself r))
-                ∙ sym (ap (λ (k : Look). own_after r t (LookUp r) (Ok (look_answer t (lock_given t q l s.lock) k)) (own_of r h)) e),
+            ap (λ (k : Look). own_looked (phase_of t (lock_given t q l s.lock) k q.phase) (reads_in (reader_of k)) (lock_given t q l s.lock)) e
+                ∙ sym (ap (λ v. cond v (own_looked (phase_found (is_fresh t f.meta)) as_it_comes (lock_given t q l s.lock)) (own_of r h)) (itself r))
+                ∙ sym (ap (λ (k : Look). own_after r (LookUp r) (Ok (look_answer t (lock_given t q l s.lock) k)) (own_of r h)) e),
+            waiting ∙ sym (ap (λ (k : Look). wait_after r t (LookUp r) (Ok (look_answer t (lock_given t q l s.lock) k)) (wait_of r h)) e),
+            fits.3,
           )
           by_look (finished b) e = (
             opens _,
-            own ∙ ap (λ (k : Look). own_looked (phase_of t (lock_given t q l s.lock) k q.phase) (reads_in (reader_of k)) (lock_given t q l s.lock) (own_of r h)) e
-                ∙ sym (ap (λ v. cond v (own_looked (phase_found (is_fresh t b.meta)) (reads_in (reader_of (finished b))) (lock_given t q l s.lock) (own_of r h)) (own_of r h)) (itself r))
-                ∙ sym (ap (λ (k : Look). own_after r t (LookUp r) (Ok (look_answer t (lock_given t q l s.lock) k)) (own_of r h)) e),
+            ap (λ (k : Look). own_looked (phase_of t (lock_given t q l s.lock) k q.phase) (reads_in (reader_of k)) (lock_given t q l s.lock)) e
+                ∙ sym (ap (λ v. cond v (own_looked (phase_found (is_fresh t b.meta)) (reads_in (reader_of (finished b))) (lock_given t q l s.lock)) (own_of r h)) (itself r))
+                ∙ sym (ap (λ (k : Look). own_after r (LookUp r) (Ok (look_answer t (lock_given t q l s.lock) k)) (own_of r h)) e),
+            waiting ∙ sym (ap (λ (k : Look). wait_after r t (LookUp r) (Ok (look_answer t (lock_given t q l s.lock) k)) (wait_of r h)) e),
+            fits.3,
           )
 
       begin_fits : (r : ℕ) (head : List ℕ) (q : Request) (a : Answer) (j : Option Judged) → judged_of (call_at t (Begin r head) i (Ok a)) ≡ j → IsBeginAnswer j a → OpenFits r (Some q) h
@@ -124,11 +119,15 @@ module _ (start : Opening) where
                   ∙ ap (λ (j : Option Judged). option_map (λ (w : Write Kept). w.number) (write_begun (writes_begun start h) (Some (key_of q.entry)) j)) is);
             },
             ap (own_begun begun as_it_comes) fits.1 ∙ sym (ap (λ v. cond v (own_begun begun as_it_comes (own_of r h)) (own_of r h)) (itself r)),
+            ap (λ (w : Wait). record w { hold = no_lock }) fits.2 ∙ sym (ap (λ v. cond v (record (wait_of r h) { hold = no_lock }) (wait_of r h)) (itself r)),
+            fits.3,
           )
       begin_fits r head q a (Some (not_kept reason)) is p fits =
           subst (λ (y : Answer). OpenFits r (Some (begin_turn s (Some (not_kept reason)) q)) (call_at t (Begin r head) i (Ok y) ∷ h)) (sym p) (
             record { key = fits.0.key; entry = fits.0.entry; write = fits.0.write },
             ap (own_begun disabled no_reader) fits.1 ∙ sym (ap (λ v. cond v (own_begun disabled no_reader (own_of r h)) (own_of r h)) (itself r)),
+            ap (λ (w : Wait). record w { hold = no_lock }) fits.2 ∙ sym (ap (λ v. cond v (record (wait_of r h) { hold = no_lock }) (wait_of r h)) (itself r)),
+            fits.3,
           )
       begin_fits r head q a (Some _) is p fits = absurd p
       begin_fits r head q a None is p fits = absurd p
@@ -146,6 +145,8 @@ module _ (start : Opening) where
                   ∙ ap (λ v. option_map (λ (w : Write Kept). w.number) (cond v None (write_held start r h))) e);
             },
             fits.1,
+            fits.2,
+            fits.3,
           )
           by_landing false e = (
             record {
@@ -155,6 +156,8 @@ module _ (start : Opening) where
                   ∙ ap (λ v. option_map (λ (w : Write Kept). w.number) (cond v None (write_held start r h))) e);
             },
             fits.1,
+            fits.2,
+            fits.3,
           )
 
       open_fits : (k : ℕ) (key : CacheKeyValue) (asks : Bool) → opened_for k h ≡ None → OpenFits k (Some (opened_request s.wait (entry_of key) asks)) (call_at t (Open k key asks) i (Ok Opened) ∷ h)
@@ -164,7 +167,9 @@ module _ (start : Opening) where
           entry = refl;
           write = sym (ap (option_map (λ (w : Write Kept). w.number)) (closed_none k none));
         },
-        sym (ap (λ v. cond v (own_opened asks) (own_of k h)) (itself k)),
+        sym (ap (λ v. cond v own_opened (own_of k h)) (itself k)),
+        sym (ap (λ v. cond v no_wait (wait_of k h)) (itself k)),
+        sym (ap (λ v. cond v asks (asks_lock k h)) (itself k)),
       )
 
       poll_fits : (k : ℕ) (x : Option Request) (a : Answer) → MatchOption x ⊥ (λ q. a ≡ Waited (polled s.lock t q q.held)) → OpenFits k x h
@@ -177,17 +182,19 @@ module _ (start : Opening) where
           waited : (outcome : Option LockStatus) (held : Held) → q.held ≡ held → OpenFits k (Some (after_wait t outcome q.held q)) (call_at t (Poll k) i (Ok (Waited outcome)) ∷ h)
           waited outcome held e = (
             as_before outcome held e,
-            own_wait t outcome q.held q ∙ ap (λ (o : Own). own_polled t outcome o.hold o) fits.1
-                ∙ sym (ap (λ v. cond v (own_polled t outcome (own_of k h).hold (own_of k h)) (own_of k h)) (itself k)),
+            own_wait t outcome q.held q ∙ fits.1,
+            wait_wait t outcome q.held q ∙ ap (λ (w : Wait). wait_polled t outcome w.hold w) fits.2
+                ∙ sym (ap (λ v. cond v (wait_polled t outcome (wait_of k h).hold (wait_of k h)) (wait_of k h)) (itself k)),
+            (same outcome q.held).2 ∙ fits.3,
           )
             where
-              same : (outcome : Option LockStatus) (held : Held) → (((after_wait t outcome held q).entry ≡ q.entry) × ((after_wait t outcome held q).write ≡ q.write))
-              same None (waits n first) = (refl, refl)
-              same None (permit n) = (refl, refl)
-              same None nothing = (refl, refl)
-              same (Some x) (waits n first) = (refl, refl)
-              same (Some x) (permit n) = (refl, refl)
-              same (Some x) nothing = (refl, refl)
+              same : (outcome : Option LockStatus) (held : Held) → ((after_wait t outcome held q).entry ≡ q.entry) × ((after_wait t outcome held q).write ≡ q.write) × ((after_wait t outcome held q).asks ≡ q.asks)
+              same None (waits n first) = (refl, refl, refl)
+              same None (permit n) = (refl, refl, refl)
+              same None nothing = (refl, refl, refl)
+              same (Some x) (waits n first) = (refl, refl, refl)
+              same (Some x) (permit n) = (refl, refl, refl)
+              same (Some x) nothing = (refl, refl, refl)
 
               as_before : (outcome : Option LockStatus) (held : Held) → q.held ≡ held → IsOpen start k (after_wait t outcome q.held q) (call_at t (Poll k) i (Ok (Waited outcome)) ∷ h)
               as_before outcome held e =
@@ -204,6 +211,8 @@ module _ (start : Opening) where
         record { key = fits.0.key; entry = fits.0.entry; write = fits.0.write },
         own_read a q ∙ ap (λ (o : Own). record o { reads = reads_on o.reads }) fits.1
             ∙ sym (ap (λ v. cond v (record (own_of k h) { reads = reads_on (own_of k h).reads }) (own_of k h)) (itself k)),
+        fits.2,
+        fits.3,
       )
 
       request_fits : (k : ℕ) (x : Option Request) (a : Answer)
@@ -237,7 +246,7 @@ module _ (start : Opening) where
             subst (λ (x : ℕ). OpenFits x (option_map (begin_turn s (judged_of (call_at t (Begin k head) i (Ok a)))) (get s.requests x)) (call_at t (Begin k head) i (Ok a) ∷ h)) (eqb-true k id e)
             (begun_fits k head (get s.requests k) a p (fits k))
         answer_fits (Piece k bytes last) a n p id e =
-            kept_fits (Piece k bytes last) (Ok a) id (record { key = λ old. refl; asks = λ old. refl; write = λ new old. refl; own = λ old. refl; reader = refl; bytes = refl }) (get s.requests id) (fits id)
+            kept_fits (Piece k bytes last) (Ok a) id (record { key = λ old. refl; asks = λ old. refl; write = λ new old. refl; own = λ old. refl; wait = λ old. refl; reader = refl; bytes = refl }) (get s.requests id) (fits id)
         answer_fits (Finish k) a n p id e =
             subst (λ (x : ℕ). OpenFits x (option_map (land_turn true) (get s.requests x)) (call_at t (Finish k) i (Ok a) ∷ h)) (eqb-true k id e) (finish_fits k (Ok a) (get s.requests k) (fits k))
         answer_fits (Read k) a n p id e =
@@ -251,13 +260,13 @@ module _ (start : Opening) where
             → OpenFits id (turn s t action (judged_of (call_at t action i (Err f))) (Err f) (get s.requests id)) (call_at t action i (Err f) ∷ h)
         fault_fits (Finish k) f id e =
             subst (λ (x : ℕ). OpenFits x (option_map (land_turn (is_landing (Err f))) (get s.requests x)) (call_at t (Finish k) i (Err f) ∷ h)) (eqb-true k id e) (finish_fits k (Err f) (get s.requests k) (fits k))
-        fault_fits (Open k key asks) f id e = kept_fits (Open k key asks) (Err f) id (quiet_by (Open k key asks) f id refl) (get s.requests id) (fits id)
-        fault_fits (LookUp k) f id e = kept_fits (LookUp k) (Err f) id (quiet_by (LookUp k) f id refl) (get s.requests id) (fits id)
-        fault_fits (Poll k) f id e = kept_fits (Poll k) (Err f) id (quiet_by (Poll k) f id refl) (get s.requests id) (fits id)
-        fault_fits (Begin k head) f id e = kept_fits (Begin k head) (Err f) id (quiet_by (Begin k head) f id refl) (get s.requests id) (fits id)
-        fault_fits (Piece k bytes last) f id e = kept_fits (Piece k bytes last) (Err f) id (quiet_by (Piece k bytes last) f id refl) (get s.requests id) (fits id)
-        fault_fits (Read k) f id e = kept_fits (Read k) (Err f) id (quiet_by (Read k) f id refl) (get s.requests id) (fits id)
-        fault_fits (Drop k) f id e = kept_fits (Drop k) (Err f) id (quiet_by (Drop k) f id refl) (get s.requests id) (fits id)
+        fault_fits (Open k key asks) f id e = kept_fits (Open k key asks) (Err f) id (quiet-call t (Open k key asks) f id refl) (get s.requests id) (fits id)
+        fault_fits (LookUp k) f id e = kept_fits (LookUp k) (Err f) id (quiet-call t (LookUp k) f id refl) (get s.requests id) (fits id)
+        fault_fits (Poll k) f id e = kept_fits (Poll k) (Err f) id (quiet-call t (Poll k) f id refl) (get s.requests id) (fits id)
+        fault_fits (Begin k head) f id e = kept_fits (Begin k head) (Err f) id (quiet-call t (Begin k head) f id refl) (get s.requests id) (fits id)
+        fault_fits (Piece k bytes last) f id e = kept_fits (Piece k bytes last) (Err f) id (quiet-call t (Piece k bytes last) f id refl) (get s.requests id) (fits id)
+        fault_fits (Read k) f id e = kept_fits (Read k) (Err f) id (quiet-call t (Read k) f id refl) (get s.requests id) (fits id)
+        fault_fits (Drop k) f id e = kept_fits (Drop k) (Err f) id (quiet-call t (Drop k) f id refl) (get s.requests id) (fits id)
         fault_fits (Purge key) f id e = absurd cc
         fault_fits (Put key pieces) f id e = absurd cc
 

@@ -6,12 +6,13 @@ use Rattle.cache_lock.specs.Answers.{to_wait_for}
 use Rattle.cache_lock.specs.State.{LockState}
 use Rattle.cache_lock.specs.declared.status.LockStatus.{LockStatus}
 use Rattle.tier_model.specs.declared.event.Answer.{Answer}
-use Rattle.tier_model.specs.Locks.{is_wait}
 use Rattle.tier_model.specs.Shelf.{Look}
-use Rattle.tier_model.specs.Own.{Hold, Own, own_looked, own_polled, hold_given, Reads, reads_on, hold_in, reads_in, own_in}
-use Rattle.tier_model.specs.State.{Phase, Held, nothing, permit, waits, Reader, closed, unread, spent, streaming, Request}
+use Rattle.tier_model.specs.Own.{Hold, hold_given, wait_polled}
+use Rattle.tier_model.specs.Own.{Own, Reads, reads_on}
+use Rattle.tier_model.specs.State.{Held, nothing, permit, waits, Reader, closed, unread, spent, streaming, Request}
 use Rattle.tier_model.specs.Answers.{key_for, asks_now, given_if, lock_given}
-use Rattle.tier_model.specs.After.{held_of, phase_of, reader_of, looked, after_wait, read_on}
+use Rattle.tier_model.specs.After.{held_of, looked, after_wait, read_on}
+use Rattle.tier_model.specs.Past.{hold_in, reads_in, own_in, wait_in}
 use Rattle.tier_model.proofs.CallLaws.{read_turn}
 
 -- what is held of the lock is what was given
@@ -20,27 +21,26 @@ held_given false core locks old = refl
 held_given true None locks old = refl
 held_given true (Some n) locks old = refl
 
-module _ (t : MomentValue) (q : Request) (locks : LockState) where
-  looked_phase : Look → Phase
-  looked_phase l = phase_of t (lock_given t q l locks) l q.phase
+-- after a look-up
+pub wait_look : (t : MomentValue) (q : Request) (locks : LockState) (l : Look) → wait_in (looked t q l locks) ≡ record (wait_in q) { hold = hold_given (lock_given t q l locks) (wait_in q).hold }
+wait_look t q locks l = ap (λ (hold : Hold). record { hold = hold; waited = q.waited }) (held_given (asks_now t q l) (to_wait_for (key_for q) locks) locks q.held)
 
-  pub own_look : (l : Look) → own_in (looked t q l locks) ≡ own_looked (phase_of t (lock_given t q l locks) l q.phase) (reads_in (reader_of l)) (lock_given t q l locks) (own_in q)
-  own_look l = ap (λ (hold : Hold). record {
-    asks = q.asks;
-    phase = phase_of t (lock_given t q l locks) l q.phase;
-    hold = hold;
-    waited = q.waited;
-    gave_read = is_wait (lock_given t q l locks);
-    reads = reads_in (reader_of l);
-  }) (held_given (asks_now t q l) (to_wait_for (key_for q) locks) locks q.held)
-
-pub own_wait : (t : MomentValue) (outcome : Option LockStatus) (held : Held) (q : Request) → own_in (after_wait t outcome held q) ≡ own_polled t outcome (hold_in held) (own_in q)
+-- after a poll
+pub own_wait : (t : MomentValue) (outcome : Option LockStatus) (held : Held) (q : Request) → own_in (after_wait t outcome held q) ≡ own_in q
 own_wait t None (waits n first) q = refl
 own_wait t None (permit n) q = refl
 own_wait t None nothing q = refl
 own_wait t (Some x) (waits n first) q = refl
 own_wait t (Some x) (permit n) q = refl
 own_wait t (Some x) nothing q = refl
+
+pub wait_wait : (t : MomentValue) (outcome : Option LockStatus) (held : Held) (q : Request) → wait_in (after_wait t outcome held q) ≡ wait_polled t outcome (hold_in held) (wait_in q)
+wait_wait t None (waits n first) q = refl
+wait_wait t None (permit n) q = refl
+wait_wait t None nothing q = refl
+wait_wait t (Some x) (waits n first) q = refl
+wait_wait t (Some x) (permit n) q = refl
+wait_wait t (Some x) nothing q = refl
 
 reads_after : (a : Answer) (r : Reader) → reads_in (read_on a r) ≡ reads_on (reads_in r)
 reads_after a closed = refl

@@ -27,7 +27,7 @@ use Rattle.tier_model.specs.State.{Request, State}
 use Rattle.tier_model.specs.Answers.{key_for, ended_by}
 use Rattle.tier_model.proofs.GripLaws.{free, grips, by_permit, grip_number, differ, key-true}
 use Rattle.tier_model.proofs.GrantSteps.{Granted, only_aged, status-held}
-use Rattle.tier_model.proofs.EffectLaws.{grip_at, hold_at, SaysLittle, SaysGiven, SaysEnded, Effect, quiet, given, lent, back, polled, left, dropped, released}
+use Rattle.tier_model.proofs.EffectLaws.{grip_at, hold_at, SaysLittle, SaysGiven, SaysEnded, end-not-waiting, Effect, quiet, given, lent, back, polled, left, dropped, released}
 use Rattle.tier_model.proofs.PermitSteps.{IsCore, below}
 use Rattle.tier_model.proofs.PermitKept.{AreOpen}
 
@@ -195,4 +195,4 @@ module _ (s new : State) (t : MomentValue) (action : Action) (o : Outcome) (chan
   back-step cs (polled r m key over outcome moves is act out ended) = subst From (sym is) (by_wait r m key over outcome moves.was act out (wait_outcome m [] t s.lock) ended)
   back-step cs (left r m key moves is says) = subst From (sym is) (stays_ended r m false key moves.was says (λ e. absurd cc))
   back-step cs (dropped r m key moves is says) = subst From (sym is) (by_dropped r m key moves.was says)
-  back-step cs (released r m key reason lasts moves is says) = subst From (sym is) (by_released r m key reason lasts moves.was says)
+  back-step cs (released r m key reason lasts moves is says) = subst From (sym is) (by_released r m key reason (end-not-waiting reason lasts) moves.was says)

@@ -4,6 +4,7 @@ use Rattle.std.specs.Prelude.{◌↔◌, ◌<◌, Bool, Option, Some, None}
 use Rattle.std.specs.List.{AllByRecursion}
 use Rattle.std.specs.FinMap.{get}
 use Rattle.std.proofs.lemmas.Bool.{eqb-true, eq-eqb}
+use Rattle.cache_words.specs.Time.{MomentValue}
 use Rattle.cache_entries.specs.Entry.{key_of}
 use Rattle.cache_entries.specs.Keys.{same_bytes}
 use Rattle.cache_entries.specs.SameEntry.{same_bytes-tells}
@@ -29,7 +30,8 @@ use Rattle.tier_model.proofs.GrantLaws.{held-below}
 use Rattle.tier_model.proofs.GrantSteps.{Granted}
 use Rattle.tier_model.proofs.EffectLaws.{grip_in, grip_of, grip_at, hold_at, SaysGiven, Effect, quiet, given, lent, back, polled, left, dropped, released}
 use Rattle.tier_model.proofs.GrantedLaws.{LocksFit-lawful, effect-lawful}
-use Rattle.tier_model.proofs.PermitSteps.{IsCore, polled_given}
+use Rattle.tier_model.proofs.BeganLaws.{began_at, began-step}
+use Rattle.tier_model.proofs.PermitSteps.{IsCore, polled_given, below}
 use Rattle.tier_model.proofs.PermitKept.{AreOpen, core-step}
 use Rattle.tier_model.proofs.PermitBack.{Stays, back-step}
 
@@ -52,8 +54,9 @@ module _ (start : Opening) where
   opened_as : (h : History) → IsLawful start h → (r : ℕ) (q : Request) → get (state_of start h).requests r ≡ Some q → opened_for r h ≡ Some (key_of q.entry)
   opened_as h l r q e = (subst (λ (o : Option Request). OpenFits start r o h) e ((Stands-lawful start h l).opens r)).0.key
 
-  abbrev HasCore : StoredKey → ℕ → (ℕ → LockGiven) → History → Type 0
-  HasCore k id what h = (n : ℕ) × IsCore (state_of start h) (lock_changes_of start h) k id n what
+  -- the core of k waits, whose permit the request got at that moment
+  abbrev HasCore : StoredKey → ℕ → MomentValue → (ℕ → LockGiven) → History → Type 0
+  HasCore k id t what h = (n : ℕ) × IsCore (state_of start h) (lock_changes_of start h) k id n what × (began_at n (lock_changes_of start h) ≡ Some t)
 
   -- ---- a permit that waits by the answers has a core that waits
 
@@ -67,7 +70,7 @@ module _ (start : Opening) where
     new = state_of start (call ∷ before)
 
     abbrev Now : Changes → Type 0
-    Now cs = (n : ℕ) × IsCore new (cs ++ lock_changes_of start before) k id n (λ r. lock.None)
+    Now cs = (n : ℕ) × IsCore new (cs ++ lock_changes_of start before) k id n (λ r. lock.None) × (began_at n (cs ++ lock_changes_of start before) ≡ Some call.event.moment)
 
     not_given : (what : LockGiven) → given_after id call.event.action call.outcome lock.None ≡ what → is_permit what ≡ false → ⊥
     not_given what is lacks = let clash : true ≡ false = sym gives_it ∙ ap (λ (g : LockGiven). is_permit g) is ∙ lacks in absurd cc
@@ -90,6 +93,7 @@ module _ (start : Opening) where
         holder = moved-now (grip_at s) (grip_at new) (hold_at s) (hold_at new) r free (grips true s.lock.next (key_for q)) moves id is ∙ ap (grips true s.lock.next) key;
         readers = λ i m e. by_one i m e (r == i) refl;
       },
+      ap (λ (v : Bool). cond v (Some call.event.moment) (began_at s.lock.next (lock_changes_of start before))) (eq-eqb s.lock.next s.lock.next refl),
     )
       where
         key : key_for q ≡ k
@@ -117,13 +121,13 @@ module _ (start : Opening) where
     by_effect cs (dropped r m key moves is says) = absurd (not_given lock.None (says.given id lock.None) refl)
     by_effect cs (released r m key reason lasts moves is says) = absurd (not_given lock.None (says.given id lock.None) refl)
 
-    given_core : HasCore k id (λ r. lock.None) (call ∷ before)
+    given_core : HasCore k id call.event.moment (λ r. lock.None) (call ∷ before)
     given_core = by_effect (lock_changes s call) (effect-lawful start call before (LocksFit-lawful start before l.1) l.0)
 
   waiting_core : (k : StoredKey) (id : ℕ) (entry : Entry) (since : History) (call : Call) (before : History) → IsLawful start (since ++ call ∷ before) → gives_permit id call ≡ true
       → opened_for id before ≡ Some entry
       → same_bytes (stored_key entry) k ≡ true → AllByRecursion (λ c. ends_permit id c ≡ false) since → AreTimely k since (call ∷ before)
-      → HasCore k id (λ r. last_given r since) (since ++ call ∷ before)
+      → HasCore k id call.event.moment (λ r. last_given r since) (since ++ call ∷ before)
   waiting_core k id entry [] call before l gives_it of_entry of_key held timely = given_core k id entry call before l gives_it of_entry of_key
   waiting_core k id entry (c ∷ since) call before l gives_it of_entry of_key held timely =
       let x = waiting_core k id entry since call before l.1 gives_it of_entry of_key held.1 timely.1 in
@@ -132,11 +136,15 @@ module _ (start : Opening) where
         core-step (state_of start (since ++ call ∷ before)) (state_of start (c ∷ since ++ call ∷ before)) c.event.moment c.event.action c.outcome (lock_changes_of start (since ++ call ∷ before)) fit.granted
             (IsSound-of start (since ++ call ∷ before)) k id x.0 since (call ∷ before) (are_open (since ++ call ∷ before) l.1 k) x.1 timely.0 (lock_changes (state_of start (since ++ call ∷ before)) c)
             (effect-lawful start c (since ++ call ∷ before) fit l.0) held.0,
+        began-step (state_of start (since ++ call ∷ before)) (state_of start (c ∷ since ++ call ∷ before)) c.event.moment c.event.action c.outcome (lock_changes_of start (since ++ call ∷ before)) x.0
+            (below (state_of start (since ++ call ∷ before)) (state_of start (c ∷ since ++ call ∷ before)) c.event.moment c.event.action c.outcome (lock_changes_of start (since ++ call ∷ before)) fit.granted
+            (IsSound-of start (since ++ call ∷ before)) k id x.0 x.1.core)
+            (lock_changes (state_of start (since ++ call ∷ before)) c) (effect-lawful start c (since ++ call ∷ before) fit l.0) ∙ x.2,
       )
 
-  pub core-of-permit : (h : History) → IsLawful start h → (k : StoredKey) (w : PermitWaits k h) → HasCore k w.id (λ r. last_given r w.since) h
+  pub core-of-permit : (h : History) → IsLawful start h → (k : StoredKey) (w : PermitWaits k h) → HasCore k w.id w.call.event.moment (λ r. last_given r w.since) h
   core-of-permit h l k w =
-      subst (HasCore k w.id (λ r. last_given r w.since)) (sym w.split) (waiting_core k w.id w.entry w.since w.call w.before (subst (IsLawful start) w.split l) w.gives w.of_entry w.of_key w.held w.timely)
+      subst (HasCore k w.id w.call.event.moment (λ r. last_given r w.since)) (sym w.split) (waiting_core k w.id w.entry w.since w.call w.before (subst (IsLawful start) w.split l) w.gives w.of_entry w.of_key w.held w.timely)
 
   -- ---- a core that waits has a permit that waits by the answers
 

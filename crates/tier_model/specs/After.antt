@@ -30,7 +30,8 @@ use Rattle.tier_model.specs.Histories.{is_landing}
 use Rattle.tier_model.specs.Rows.{FinishedBody}
 use Rattle.tier_model.specs.Shelf as shelf
 use Rattle.tier_model.specs.Shelf.{Readers, Shelf, Look, absent, in_flight, finished, look, is_there, joined, parted, appended, ended, landed, stored, removed, cleared}
-use Rattle.tier_model.specs.Own.{phase_absent, phase_found, in_all, time_waited}
+use Rattle.tier_model.specs.Own.{phase_absent, phase_found}
+use Rattle.tier_model.specs.Own.{in_all, time_waited}
 use Rattle.tier_model.specs.Locks.{is_wait}
 use Rattle.tier_model.specs.State.{Phase, cache_key, begun, disabled, Held, nothing, permit, waits, Reader, closed, unread, spent, streaming, Request, State, shards_of}
 use Rattle.tier_model.specs.Answers.{key_for, look_for, finds_fresh, asks_now, lock_given, admitted, used, finishing}

@@ -24,6 +24,7 @@ use Rattle.tier_model.specs.Calls.{Call, History, Outcome, CountsItsWrite, exten
 use Rattle.tier_model.specs.Histories.{Kept, Opening, writes_begun, stores, changes_of, begun_by, write_held, finished_of, settles}
 use Rattle.tier_model.specs.Reads.{AreReadRight}
 use Rattle.tier_model.specs.Locks.{AreLockedRight}
+use Rattle.tier_model.specs.Polls.{ArePolledRight}
 use Rattle.tier_model.specs.State.{Settings}
 
 -- a look-up at t is answered found exactly where a write of its key is alive; then it shows one, fresh exactly up to its
@@ -80,11 +81,12 @@ PieceIsRight held (Ok answer) before = (answer ≡ Written) × ((w : Write Kept)
 PieceIsRight held (Err fault.AfterEnd) before = (w : Write Kept) × (held ≡ Some w) × (has_ended w.number before ≡ true)
 PieceIsRight held (Err f) before = done_of f ≡ nothing_done
 
--- what a finish of w did before it was refused: as a put's refusal tells, of the bytes that came
+-- what a finish did before it was refused, as a put's refusal tells, of the bytes that came; a body was stored only of a write that is alive
 abbrev pub TellsFinish : Settings → Bool → Bool → Option (Write Kept) → List CacheEntryKey → Changes Kept → Type 0
 TellsFinish settings false admitted held evicted before = (admitted ≡ false) × (evicted ≡ [])
-TellsFinish settings true false held evicted before = (w : Write Kept) × (held ≡ Some w) × (evicted ≡ [])
-TellsFinish settings true true held evicted before = (w : Write Kept) × (held ≡ Some w) × EndsOver settings true (extended before (finishes w ∷ settles (finished_of before w) evicted))
+TellsFinish settings true false held evicted before = (w : Write Kept) × (held ≡ Some w) × IsAlive w before × (evicted ≡ [])
+TellsFinish settings true true held evicted before =
+    (w : Write Kept) × (held ≡ Some w) × IsAlive w before × EndsOver settings true (extended before (finishes w ∷ settles (finished_of before w) evicted))
 
 -- a write is finished exactly where it is alive: its length is that of the bytes that came, and what went to make room for it was enough
 abbrev pub FinishIsRight : Settings → Option (Write Kept) → Outcome → Changes Kept → Type 0
@@ -95,7 +97,7 @@ FinishIsRight settings held (Ok _) before = ⊥
 FinishIsRight settings held (Err fault.WriteRemoved) before = (w : Write Kept) × (held ≡ Some w) × (¬ IsAlive w before)
 FinishIsRight settings held (Err f) before = TellsFinish settings (done_of f).stored (done_of f).admitted held (done_of f).evicted before
 
--- what the calls before say of one call but for what a read gives and for locks, and of a put or a begin what its response or head gave;
+-- what the calls before say of one call but for what a read gives, for locks and for waits, and of a put or a begin what its response or head gave;
 -- any other call that is refused had done nothing
 abbrev pub IsRight : Opening → MomentValue → Action → Outcome → Call → History → Type 0
 IsRight start t (Put key pieces) outcome c h = PutsRight start.settings (writes_begun start h) (finished_by c) (read_by c) outcome (changes_of start h)
@@ -119,14 +121,15 @@ AreRight start (c ∷ h) = IsRight start c.event.moment c.event.action c.outcome
 
 -- the headline of a tier that began so: what was read of each put and begin is a reading of its own bytes, each write of which an answer
 -- tells has a number of its own, the answers are right, reads give what they are to give, a lock that is asked for gives the permit exactly
--- where none waits, finished bodies keep both limits, each body's entry is tracked with at least its length, and what went to make room went
--- lawfully
+-- where none waits, one that waits is told when the permit waits no more or time is up, finished bodies keep both limits, each body's entry is
+-- tracked with at least its length, and what went to make room went lawfully
 pub record Headline (start : Opening) (h : History) : Type 0 where
   pub readings : AllByRecursion (λ c. IsRead c.event.action c.reading) h
   pub numbers : AllByRecursion CountsItsWrite h
   pub answers : AreRight start h
   pub reads : AreReadRight start h
   pub locks : AreLockedRight h
+  pub polls : ArePolledRight start h
   pub within : AreWithin start.settings.limit start.settings.watermark (changes_of start h)
   pub tracked : (w : Write Kept) → IsBody w.key w (changes_of start h) → IsTrackedBody w (changes_of start h)
   pub evictions : EvictsLawfully start.settings.shards start.settings.limit start.settings.watermark (changes_of start h)

@@ -4,6 +4,7 @@ pub mod Calls
 pub mod Histories
 pub mod Reads
 pub mod Locks
+pub mod Polls
 pub mod Headline
 pub mod Rows
 pub mod Evictions

@@ -13,11 +13,12 @@ use Rattle.cache_changes.specs.Uses.{IsOrderOfUse, in_shard, AreShardsOf}
 use Rattle.cache_evict.specs.Managed.{Managed, fresh, saturated}
 use Rattle.tier_model.specs.declared.state.Body.{Body}
 use Rattle.tier_model.specs.Keys.{alone}
-use Rattle.tier_model.specs.Calls.{Call, History, opened_for, bytes_read, extended}
+use Rattle.tier_model.specs.Calls.{Call, History, opened_for, asks_lock, bytes_read, extended}
 use Rattle.tier_model.specs.Histories.{Kept, Opening, told_of, writes_begun, write_held, changes_of, HasHit}
 use Rattle.tier_model.specs.Reads.{HasStream, IsOver}
 use Rattle.tier_model.specs.Headline.{Headline}
-use Rattle.tier_model.specs.Own.{own_of, own_in}
+use Rattle.tier_model.specs.Own.{Hold, no_lock, a_permit, a_wait, Wait, wait_of}
+use Rattle.tier_model.specs.Own.{Reads, no_reader, all_of_body, read_body, as_it_comes, Own, own_of}
 use Rattle.tier_model.specs.Reports.{AreAllBodies, found_answers, absent_answers, evictions}
 use Rattle.tier_model.specs.Shelf.{InFlight, Readers, Shelf, empty_shelf, readable}
 use Rattle.tier_model.specs.State.{Held, nothing, permit, waits, Reader, closed, unread, spent, streaming, Request, State, empty_state}
@@ -119,11 +120,31 @@ holds n q = holds_by n q.held
 abbrev pub holders : ℕ → FinMap nat_cmp Request → ℕ
 holders n requests = sum_by (holds n) (values requests)
 
+-- what a request's own calls are to say of it
+abbrev pub hold_in : Held → Hold
+hold_in nothing = no_lock
+hold_in (permit n) = a_permit
+hold_in (waits n first) = a_wait first
+
+abbrev pub reads_in : Reader → Reads
+reads_in closed = no_reader
+reads_in (unread bytes) = all_of_body
+reads_in spent = read_body
+reads_in (streaming n place) = as_it_comes
+
+abbrev pub own_in : Request → Own
+own_in q = record { phase = q.phase; gave_read = q.gave_read; reads = reads_in q.reader }
+
+abbrev pub wait_in : Request → Wait
+wait_in q = record { hold = hold_in q.held; waited = q.waited }
+
 -- q is what the calls of the open request say
 pub record IsRequestOf (start : Opening) (id : ℕ) (q : Request) (h : History) : Type 0 where
   pub key : opened_for id h ≡ Some (key_of q.entry)
   pub entry : q.entry ≡ alone (key_of q.entry)
+  pub asks : q.asks ≡ asks_lock id h
   pub own : own_in q ≡ own_of id h
+  pub wait : wait_in q ≡ wait_of id h
   pub write : q.write ≡ option_map (λ w. w.number) (write_held start id h)
   pub reader : HasToRead start id q.reader h
 

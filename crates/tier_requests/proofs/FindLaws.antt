@@ -29,8 +29,8 @@ use Rattle.tier_model.specs.State as tier
 use Rattle.tier_model.specs.After as after_event
 use Rattle.tier_model.specs.After.{with_reader}
 use Rattle.tier_requests.specs.Shelves.{own_meta, found_in, flight_of, shelf_of}
-use Rattle.tier_requests.specs.Plain.{reader_in, is_body}
-use Rattle.tier_requests.specs.Finds.{TakeAnswer, IsFoundBy}
+use Rattle.tier_requests.specs.Plain.{reader_in}
+use Rattle.tier_requests.specs.Finds.{TakeAnswer, IsReadBy}
 use Rattle.tier_requests.proofs.ShelfLaws.{shelf-same, shelf-joined, look-of}
 
 -- ---- what a look-up shows
@@ -73,22 +73,25 @@ Counts absent old new = ⊥
 Counts (in_flight f) old new = IsJoined f.number old new
 Counts (finished b) old new = new ≡ old
 
-pub record FindsOne (l : Look) (meta : CacheMeta) (hit : MemHitHandler) (old new : Held) : Type 0 where
-  pub by : IsFoundBy l meta hit
+pub record FindsOne (t : MomentValue) (l : Look) (meta : CacheMeta) (hit : MemHitHandler) (old new : Held) : Type 0 where
+  pub reads : IsReadBy l hit
+  pub fresh : finds_fresh t l ≡ at_most t meta.internal.fresh_until
   pub counts : Counts l old new
 
 abbrev is_found : Result (Option (CacheMeta × MemHitHandler)) StoreFault → Bool
 is_found (Ok (Some found)) = true
 is_found _ = false
 
-finds_one : (o : Option store.Look) (l : Look) (meta : CacheMeta) (hit : MemHitHandler) (old new : Held) → IsShownAs o l → LookAnswer reader_of o old (Ok (Some (meta, hit))) new → FindsOne l meta hit old new
-finds_one None l meta hit old new s a = let never : true ≡ false = ap is_found a.0 in absurd cc
-finds_one (Some (store.in_flight x)) l meta hit old new s a = subst (λ k. FindsOne k meta hit old new) (sym s.1) (record {
-  by = (ap own_meta a.0.0 ∙ sym s.3, a.0.1 ∙ ap (λ n. streaming (record { number = n; place = 0 })) (sym s.2));
+finds_one : (t : MomentValue) (o : Option store.Look) (l : Look) (meta : CacheMeta) (hit : MemHitHandler) (old new : Held) → IsShownAs o l → LookAnswer reader_of o old (Ok (Some (meta, hit))) new → FindsOne t l meta hit old new
+finds_one t None l meta hit old new s a = let never : true ≡ false = ap is_found a.0 in absurd cc
+finds_one t (Some (store.in_flight x)) l meta hit old new s a = subst (λ k. FindsOne t k meta hit old new) (sym s.1) (record {
+  reads = a.0.1 ∙ ap (λ n. streaming (record { number = n; place = 0 })) (sym s.2);
+  fresh = ap (λ (m : CacheMeta). at_most t m.internal.fresh_until) s.3 ∙ ap (λ (m : CacheMeta). at_most t m.internal.fresh_until) (sym a.0.0);
   counts = subst (λ n. IsJoined n old new) (sym s.2) a.1;
 })
-finds_one (Some (store.finished x)) l meta hit old new s a = subst (λ k. FindsOne k meta hit old new) (sym s) (record {
-  by = (x.write.number, ap own_meta a.0.0, a.0.1);
+finds_one t (Some (store.finished x)) l meta hit old new s a = subst (λ k. FindsOne t k meta hit old new) (sym s) (record {
+  reads = (x.write.number, a.0.1);
+  fresh = ap (λ (m : CacheMeta). at_most t m.internal.fresh_until) (sym a.0.0);
   counts = a.1;
 })
 
@@ -101,11 +104,11 @@ all_shown (Some (store.finished x)) = refl
 pub shown-all : (since : Option MomentValue) (look : Option store.Look) → since ≡ None → valid_look since look ≡ look
 shown-all since look none = ap (λ v. valid_look v look) none ∙ all_shown look
 
-pub finds-one : (key : Option CacheKeyValue) (since : Option MomentValue) (meta : CacheMeta) (hit : MemHitHandler) (old new : Held) → since ≡ None
-    → LookAnswer reader_of (valid_look since (shows true (stored_at key) old.store)) old (Ok (Some (meta, hit))) new → FindsOne (shelf.look (stored_key (key_of (entry_at key None))) (shelf_of old)) meta hit old new
-finds-one key since meta hit old new none a =
+pub finds-one : (t : MomentValue) (key : Option CacheKeyValue) (since : Option MomentValue) (meta : CacheMeta) (hit : MemHitHandler) (old new : Held) → since ≡ None
+    → LookAnswer reader_of (valid_look since (shows true (stored_at key) old.store)) old (Ok (Some (meta, hit))) new → FindsOne t (shelf.look (stored_key (key_of (entry_at key None))) (shelf_of old)) meta hit old new
+finds-one t key since meta hit old new none a =
     let look = shows true (stored_at key) old.store in
-    finds_one look (shelf.look (stored_key (key_of (entry_at key None))) (shelf_of old)) meta hit old new (look_shown key old)
+    finds_one t look (shelf.look (stored_key (key_of (entry_at key None))) (shelf_of old)) meta hit old new (look_shown key old)
     (subst (λ o. LookAnswer reader_of o old (Ok (Some (meta, hit))) new) (shown-all since look none) a)
 
 -- ---- readers of it
@@ -140,14 +143,14 @@ shelf-counted (in_flight f) old new c = shelf-joined f.number old new c
 shelf-counted (finished b) old new c = ap shelf_of c
 
 -- a reader that isn't taken is spent
-pub shelf-spared : (l : Look) (meta : CacheMeta) (hit : MemHitHandler) (old mid new : Held) → FindsOne l meta hit old mid → Parts (reader_of hit) mid new → shelf_of new ≡ shelf_of old
-shelf-spared absent meta hit old mid new f p = absurd f.counts
-shelf-spared (in_flight g) meta hit old mid new f p =
-    let parts : IsParted g.number mid new = subst (λ (r : Reader). Parts r mid new) f.by.1 p in
-    shelf-same old new (joined-parted g.number old mid new f.counts parts)
-shelf-spared (finished b) meta hit old mid new f p =
-    let same : new ≡ mid = subst (λ (r : Reader). Parts r mid new) f.by.2 p in
-    ap shelf_of (same ∙ f.counts)
+pub shelf-spared : (l : Look) (hit : MemHitHandler) (old mid new : Held) → IsReadBy l hit → Counts l old mid → Parts (reader_of hit) mid new → shelf_of new ≡ shelf_of old
+shelf-spared absent hit old mid new f c p = absurd c
+shelf-spared (in_flight g) hit old mid new f c p =
+    let parts : IsParted g.number mid new = subst (λ (r : Reader). Parts r mid new) f p in
+    shelf-same old new (joined-parted g.number old mid new c parts)
+shelf-spared (finished b) hit old mid new f c p =
+    let same : new ≡ mid = subst (λ (r : Reader). Parts r mid new) f.1 p in
+    ap shelf_of (same ∙ c)
 
 -- ---- what was found
 
@@ -169,29 +172,15 @@ place_of (whole n body bytes) = 0
 place_of (streaming s) = s.place
 
 -- what a request has to read of what was found, once its bytes are taken out
-pub record IsTakenFrom (l : Look) (bytes : Option (List ℕ)) (hit : MemHitHandler) : Type 0 where
-  pub reads : reader_in bytes (Some hit) ≡ after_event.reader_of l
-  pub body : is_some bytes ≡ true → is_body (Some hit) ≡ true
+abbrev pub IsTakenFrom : Look → Option (List ℕ) → MemHitHandler → Type 0
+IsTakenFrom l bytes hit = reader_in bytes (Some hit) ≡ after_event.reader_of l
 
-abbrev has_taken : Result (Option (List ℕ)) StoreFault → Bool
-has_taken (Ok took) = is_some took
-has_taken (Err f) = false
-
-pub taken-from : (l : Look) (meta : CacheMeta) (before hit : MemHitHandler) (bytes : Option (List ℕ)) → IsFoundBy l meta before → TakeAnswer before (Ok bytes) hit → IsTakenFrom l bytes hit
-taken-from absent meta before hit bytes f a = absurd f
-taken-from (in_flight g) meta (Complete h) hit bytes f a = let never : whole h.number h.body _ ≡ streaming _ = f.1 in absurd cc
-taken-from (in_flight g) meta (Partial h) hit bytes f a = let took : Ok bytes ≡ Ok None = a.0 in by_bytes bytes hit a.1 cc
-  where
-    by_bytes : (bytes : Option (List ℕ)) (hit : MemHitHandler) → hit ≡ Partial h → bytes ≡ None → IsTakenFrom (in_flight g) bytes hit
-    by_bytes bytes hit e none = record {
-      reads = rw (e, none) (ap (λ (r : Reader). tier.streaming (number_of r) (place_of r)) f.1);
-      body = λ some. let never : false ≡ true = sym (ap is_some none) ∙ some in absurd cc;
-    }
-taken-from (finished b) meta (Complete h) hit bytes f a = record {
-  reads = rw (a.1, a.0) (ap (λ (r : Reader). tier.unread (bytes_of r)) f.2);
-  body = λ some. ap (λ (x : MemHitHandler). is_body (Some x)) a.1;
-}
-taken-from (finished b) meta (Partial h) hit bytes f a = let never : streaming h ≡ whole _ _ _ = f.2 in absurd cc
+pub taken-from : (l : Look) (before hit : MemHitHandler) (bytes : Option (List ℕ)) → IsReadBy l before → TakeAnswer before (Ok bytes) hit → IsTakenFrom l bytes hit
+taken-from absent before hit bytes f a = absurd f
+taken-from (in_flight g) (Complete h) hit bytes f a = let never : whole h.number h.body _ ≡ streaming _ = f in absurd cc
+taken-from (in_flight g) (Partial h) hit bytes f a = rw a.1 (ap (λ (r : Reader). tier.streaming (number_of r) (place_of r)) f)
+taken-from (finished b) (Complete h) hit bytes f a = rw (a.1, a.0) (ap (λ (r : Reader). tier.unread (bytes_of r)) f.1)
+taken-from (finished b) (Partial h) hit bytes f a = let never : streaming h ≡ whole _ _ _ = f.1 in absurd cc
 
 -- nothing is taken out of a reader of a write, and memory runs out only at a body: then all is still there
 pub taken-none : (l : Look) (meta : CacheMeta) (before hit : MemHitHandler) (f : StoreFault) → TakeAnswer before (Err f) hit → reader_of hit ≡ reader_of before
@@ -203,39 +192,28 @@ pub taken-parts : (before hit : MemHitHandler) (bytes : Option (List ℕ)) (old 
 taken-parts (Complete h) hit bytes old new a p = subst (λ (x : MemHitHandler). Parts (reader_of x) old new) a.1 p
 taken-parts (Partial h) hit bytes old new a p = subst (λ (x : MemHitHandler). Parts (reader_of x) old new) a.1 p
 
--- bytes are taken out of a reader of a body alone
-pub took-body : (before hit : MemHitHandler) (took : Option (List ℕ)) → TakeAnswer before (Ok took) hit → is_some took ≡ true → is_body (Some hit) ≡ true
-took-body (Complete h) hit took a some = ap (λ (x : MemHitHandler). is_body (Some x)) a.1
-took-body (Partial h) hit took a some = let never : false ≡ true = sym (ap has_taken a.0) ∙ some in absurd cc
-
 -- whether all of a body was found
 abbrev pub is_whole : Look → Bool
 is_whole (finished b) = true
 is_whole _ = false
 
-pub whole-found : (l : Look) (meta : CacheMeta) (hit : MemHitHandler) → IsFoundBy l meta hit → is_complete hit ≡ is_whole l
-whole-found absent meta hit f = absurd f
-whole-found (in_flight g) meta (Complete h) f = let never : whole h.number h.body _ ≡ streaming _ = f.1 in absurd cc
-whole-found (in_flight g) meta (Partial h) f = refl
-whole-found (finished b) meta (Complete h) f = refl
-whole-found (finished b) meta (Partial h) f = let never : streaming h ≡ whole _ _ _ = f.2 in absurd cc
+pub whole-found : (l : Look) (hit : MemHitHandler) → IsReadBy l hit → is_complete hit ≡ is_whole l
+whole-found absent hit f = absurd f
+whole-found (in_flight g) (Complete h) f = let never : whole h.number h.body _ ≡ streaming _ = f in absurd cc
+whole-found (in_flight g) (Partial h) f = refl
+whole-found (finished b) (Complete h) f = refl
+whole-found (finished b) (Partial h) f = let never : streaming h ≡ whole _ _ _ = f.1 in absurd cc
 
 pub whole-taken : (before hit : MemHitHandler) (bytes : Option (List ℕ)) → TakeAnswer before (Ok bytes) hit → is_complete hit ≡ is_complete before
 whole-taken (Complete h) hit bytes a = ap is_complete a.1
 whole-taken (Partial h) hit bytes a = ap is_complete a.1
 
 -- what a body weighs that was found
-pub weight-found : (b : Body) (meta : CacheMeta) (before hit : MemHitHandler) (bytes : Option (List ℕ)) → IsFoundBy (finished b) meta before → TakeAnswer before (Ok bytes) hit → weight_of hit ≡ length b.bytes
-weight-found b meta (Complete h) hit bytes f a = ap weight_of a.1 ∙ ap (λ (r : Reader). length (body_of r)) f.2
-weight-found b meta (Partial h) hit bytes f a = let never : streaming h ≡ whole _ _ _ = f.2 in absurd cc
+pub weight-found : (b : Body) (before hit : MemHitHandler) (bytes : Option (List ℕ)) → IsReadBy (finished b) before → TakeAnswer before (Ok bytes) hit → weight_of hit ≡ length b.bytes
+weight-found b (Complete h) hit bytes f a = ap weight_of a.1 ∙ ap (λ (r : Reader). length (body_of r)) f.1
+weight-found b (Partial h) hit bytes f a = let never : streaming h ≡ whole _ _ _ = f.1 in absurd cc
 
--- what was found is fresh exactly where its meta is
-pub fresh-found : (t : MomentValue) (l : Look) (meta : CacheMeta) (hit : MemHitHandler) → IsFoundBy l meta hit → finds_fresh t l ≡ at_most t meta.internal.fresh_until
-fresh-found t absent meta hit f = absurd f
-fresh-found t (in_flight g) meta hit f = ap (λ (m : CacheMeta). at_most t m.internal.fresh_until) (sym f.0)
-fresh-found t (finished b) meta hit f = ap (λ (m : CacheMeta). at_most t m.internal.fresh_until) (sym f.1)
-
-pub found-there : (l : Look) (meta : CacheMeta) (hit : MemHitHandler) → IsFoundBy l meta hit → is_there l ≡ true
-found-there absent meta hit f = absurd f
-found-there (in_flight g) meta hit f = refl
-found-there (finished b) meta hit f = refl
+pub found-there : (l : Look) (hit : MemHitHandler) → IsReadBy l hit → is_there l ≡ true
+found-there absent hit f = absurd f
+found-there (in_flight g) hit f = refl
+found-there (finished b) hit f = refl

@@ -14,6 +14,8 @@ use Rattle.cache_lock.specs.State.{LockState, after, after_all}
 use Rattle.cache_phases.specs.declared.lock_ctx.LockCtx.{LockCtx}
 use Rattle.cache_phases.specs.declared.request_lock.RequestLock.{RequestLock}
 use Rattle.cache_phases.specs.declared.phase.CachePhase.{CachePhase}
+use Rattle.cache_phases.specs.declared.hit.HitStatus.{HitStatus}
+use Rattle.cache_phases.specs.declared.hit.HitStatus.TheVariants.{Fresh, Expired}
 use Rattle.cache_phases.specs.Phases.{is_stale_phase}
 use Rattle.cache_phases.specs.HitStatuses.{found_phase, is_fresh}
 use Rattle.cache_phases.specs.Locks.{is_on, held, given_by, asked as asked_lock, left_by, now_holding, lock_held}
@@ -28,7 +30,6 @@ use Rattle.tier_model.specs.After.{held_of, given_changes, back_changes}
 use Rattle.tier_requests.specs.Faults.{lock_fault_for}
 use Rattle.tier_requests.specs.Looks.{UseRefused, LockRefused, RunsOut, LeavesLock}
 use Rattle.tier_requests.specs.Plain.{Driven, held_in, given_of}
-use Rattle.tier_requests.specs.Finds.{status_by}
 use Rattle.tier_requests.proofs.FindLaws.{key-stored}
 use Rattle.tier_requests.proofs.LookLaws.{held_by}
 
@@ -124,6 +125,11 @@ missed-lock t q s key lock entry free none on =
   where
     same : stored_at key ≡ key_for q
     same = sym (key-stored key) ∙ ap (λ e. stored_key (key_of e)) (sym entry)
+
+-- how what was found may be used
+abbrev pub status_by : Bool → HitStatus
+status_by true = Fresh
+status_by false = Expired
 
 given_found : (v on : Bool) (x : Option Locked) → cond (is_fresh (status_by v)) None (cond on x None) ≡ cond (on && not v) x None
 given_found true true x = refl

@@ -3,6 +3,7 @@ pub mod FlightLaws
 pub mod ReadingLaws
 pub mod ShelfLaws
 pub mod EndLaws
+pub mod EndAllLaws
 pub mod LockLaws
 pub mod PollLaws
 pub mod BeginLaws
@@ -14,6 +15,7 @@ pub mod BelowLaws
 pub mod TableLaws
 pub mod FindLaws
 pub mod LookLaws
+pub mod ToldLaws
 pub mod GivenLaws
 pub mod LookUpLaws
 pub mod TakeLaws

@@ -1,7 +1,6 @@
 -- How a look-up of a request ends, as the plain record has it.
 use Rattle.std.proofs.Common.{◌≡◌, ℕ, refl, ap, sym, ◌∙◌, subst, Bool, true, false, inl, Some, None, Option, List}
 use Rattle.std.specs.Prelude.{is_some, Ok, Err, MatchResult}
-use Rattle.cache_heads.specs.declared.meta.CacheMeta.{CacheMeta}
 use Rattle.cache_words.specs.Time.{MomentValue, DurationValue}
 use Rattle.cache_evict.specs.Managed.{Managed}
 use Rattle.cache_lock.specs.declared.fault.LockFault.{LockFault}
@@ -10,11 +9,10 @@ use Rattle.cache_lock.specs.State.{LockState}
 use Rattle.cache_phases.specs.declared.request_lock.RequestLock.{RequestLock}
 use Rattle.cache_phases.specs.Locks.{is_read, held, given_by, asked as asked_lock, now_holding}
 use Rattle.cache_store.specs.Held.{Held}
-use Rattle.cache_store.specs.Looks.{LookAnswer as LookAnswerOf, shows}
+use Rattle.cache_store.specs.Looks.{shows}
 use Rattle.cache_store.specs.Readers.{Parts}
 use Rattle.mem_cache.specs.declared.handlers.MemHitHandler.{MemHitHandler}
 use Rattle.mem_cache.specs.Readings.{reader_of}
-use Rattle.request_store.specs.Looks.{valid_look}
 use Rattle.http_cache.specs.Request.{stored_at}
 use Rattle.http_cache.specs.Points.{point}
 use Rattle.tier_model.specs.declared.event.Answer.{Answer}
@@ -35,6 +33,7 @@ use Rattle.tier_requests.proofs.PlainLaws.{waits-in}
 use Rattle.tier_requests.proofs.ShelfLaws.{shelf-same}
 use Rattle.tier_requests.proofs.FindLaws.{key-stored, look-none, look-some, FindsOne, finds-one, shelf-counted, shelf-spared}
 use Rattle.tier_requests.proofs.LookLaws.{IsFree, free-of, FindsNone}
+use Rattle.tier_requests.proofs.ToldLaws.{FindsAs}
 use Rattle.tier_requests.proofs.GivenLaws.{IsGiven, missed-lock, and-yes, lock-refused, lock-left}
 
 module _ (n : ℕ) (weighed : ℕ → ℕ) (t : MomentValue) (r : Driven) (asks : Bool) (wait : Option DurationValue) (gave : Bool) (bytes : Option (List ℕ)) where
@@ -94,28 +93,31 @@ module _ (n : ℕ) (weighed : ℕ → ℕ) (t : MomentValue) (r : Driven) (asks 
         lock-left t (plain r) (look_for (plain r) (shelf_of h)) s s' (ap (λ p. p.lock) kept),
       )
 
-  -- something was found
-  pub look-found : (h mid left : Held) (m m1 m' : Managed) (s s1 s' : LockState) (r1 : Driven) (meta : CacheMeta) (hit : MemHitHandler) (res : Outcome) (new : Request)
-      → r.valid_after ≡ None → look_refusal (plain r) ≡ None → LookAnswerOf reader_of (valid_look r.valid_after (shows true (stored_at r.key) h.store)) h (Ok (Some (meta, hit))) mid → r1 ≡ r → s1 ≡ s → m1 ≡ m
-      → ((l : Look) → IsFoundBy l meta hit → FoundAnswer n weighed t (plain r1) l m1 s1 res new m' s')
+  -- something was found, which is fresh or isn't
+  pub look-found : (h mid left : Held) (m m1 m' : Managed) (s s1 s' : LockState) (r1 : Driven) (v : Bool) (hit : MemHitHandler) (res : Outcome) (new : Request)
+      → r.valid_after ≡ None → look_refusal (plain r) ≡ None → FindsAs t v (shows true (stored_at r.key) h.store) hit r r1 h mid s s1 → m1 ≡ m
+      → ((l : Look) → IsFoundBy t v l hit → FoundAnswer n weighed t (plain r1) l m1 s1 res new m' s')
       → MatchResult res (λ _. shelf_of left ≡ turned (plain r1).reader closed (shelf_of mid)) (λ _. Parts (reader_of hit) mid left)
       → LookAnswer n weighed t (plain r) (lent (shelf_of h) m s) res new (lent (shelf_of left) m' s')
-  look-found h mid left m m1 m' s s1 s' r1 meta hit res new shown e a er es em answer shelf = rw e (by_result res answered shelf_so)
+  look-found h mid left m m1 m' s s1 s' r1 v hit res new shown e f em answer shelf = rw e (by_result res answered shelf_so)
     where
-      one : FindsOne (look_for (plain r) (shelf_of h)) meta hit h mid
-      one = finds-one r.key r.valid_after meta hit h mid shown a
+      l : Look
+      l = look_for (plain r) (shelf_of h)
 
-      answered : FoundAnswer n weighed t (plain r) (look_for (plain r) (shelf_of h)) m s res new m' s'
+      one : FindsOne t l f.meta hit h mid
+      one = finds-one t r.key r.valid_after f.meta hit h mid shown f.found
+
+      answered : FoundAnswer n weighed t (plain r) l m s res new m' s'
       answered =
-          subst (λ x. FoundAnswer n weighed t (plain r) (look_for (plain r) (shelf_of h)) x s res new m' s') em
-          (subst (λ x. FoundAnswer n weighed t (plain r) (look_for (plain r) (shelf_of h)) m1 x res new m' s') es
-          (subst (λ (x : Driven). FoundAnswer n weighed t (plain x) (look_for (plain r) (shelf_of h)) m1 s1 res new m' s') er (answer (look_for (plain r) (shelf_of h)) one.by)))
+          subst (λ x. FoundAnswer n weighed t (plain r) l x s res new m' s') em
+          (subst (λ x. FoundAnswer n weighed t (plain r) l m1 x res new m' s') f.lock
+          (subst (λ (x : Driven). FoundAnswer n weighed t (plain x) l m1 s1 res new m' s') f.request (answer l (record { freshness = one.fresh ∙ f.fresh; reads = one.reads }))))
 
       shelf_so : MatchResult res (λ _. shelf_of left ≡ turned (plain r).reader closed (shelf_of mid)) (λ _. Parts (reader_of hit) mid left)
-      shelf_so = subst (λ (x : Driven). MatchResult res (λ _. shelf_of left ≡ turned (plain x).reader closed (shelf_of mid)) (λ _. Parts (reader_of hit) mid left)) er shelf
+      shelf_so = subst (λ (x : Driven). MatchResult res (λ _. shelf_of left ≡ turned (plain x).reader closed (shelf_of mid)) (λ _. Parts (reader_of hit) mid left)) f.request shelf
 
-      by_result : (res : Outcome) → FoundAnswer n weighed t (plain r) (look_for (plain r) (shelf_of h)) m s res new m' s'
+      by_result : (res : Outcome) → FoundAnswer n weighed t (plain r) l m s res new m' s'
           → MatchResult res (λ _. shelf_of left ≡ turned (plain r).reader closed (shelf_of mid)) (λ _. Parts (reader_of hit) mid left)
-          → LooksBy n weighed t (plain r) (look_for (plain r) (shelf_of h)) (lent (shelf_of h) m s) res new (lent (shelf_of left) m' s')
-      by_result (Ok a) x spent = (x.0, x.1, λ i. lent ((spent ∙ ap (turned (plain r).reader closed) (shelf-counted (look_for (plain r) (shelf_of h)) h mid one.counts)) i) (x.2 i) (x.3 i))
-      by_result (Err f) x parts = (x.0, x.1, shelf-spared (look_for (plain r) (shelf_of h)) meta hit h mid left one parts, x.2, x.3)
+          → LooksBy n weighed t (plain r) l (lent (shelf_of h) m s) res new (lent (shelf_of left) m' s')
+      by_result (Ok a) x spent = (x.0, x.1, λ i. lent ((spent ∙ ap (turned (plain r).reader closed) (shelf-counted l h mid one.counts)) i) (x.2 i) (x.3 i))
+      by_result (Err f) x parts = (x.0, x.1, shelf-spared l hit h mid left one.reads one.counts parts, x.2, x.3)

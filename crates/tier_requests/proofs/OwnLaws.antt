@@ -194,14 +194,13 @@ module _ (d : Driven) (asks : Bool) (wait : Option DurationValue) (gave : Bool) 
     writes = λ there. plain;
     released = λ there. let-go-none d.lock;
     waits = λ reads. let never : false ≡ true = sym (ap is_read (let-go-none d.lock)) ∙ reads in absurd cc;
-    body = λ there. absurd cc;
   }
 
   -- what the store did, as the shelf has it
   shelf-own : (k : StoredKey) (meta stored : CacheMeta) (n : ℕ) (own : MemHitHandler) (h0 mid seen h : Held) → own_meta stored ≡ own_meta meta → misses.IsBegun k stored n h0 mid → IsOwn n own mid seen
       → Spends readings.reader_of d.reader seen h → shelf_of h ≡ record (turned (reader_in bytes d.reader) (streaming h0.next 0) (shelf.begun k (own_meta meta) (shelf_of h0))) { writes = h0.next + 1 }
   shelf-own k meta stored n own h0 mid seen h same b o spends =
-      shelf-spent bytes d.reader seen h i.body spends
+      shelf-spent bytes d.reader seen h spends
       ∙ ap (turned (reader_in bytes d.reader) closed) (shelf-joined n mid seen o.counted)
       ∙ ap (λ (s : Shelf). turned (reader_in bytes d.reader) (streaming n 0) s) (ap shelf_of b.begun ∙ shelf-begun k stored h0)
       ∙ ap (λ (m : CacheMeta). turned (reader_in bytes d.reader) (streaming n 0) (record (shelf.begun k m (shelf_of h0)) { writes = h0.next + 1 })) same

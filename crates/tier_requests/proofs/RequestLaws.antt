@@ -17,20 +17,20 @@ use Rattle.cache_store.specs.Readers.{StreamHit, Parts}
 use Rattle.mem_cache.specs.declared.handlers.MemHitHandler.{MemHitHandler}
 use Rattle.mem_cache.specs.declared.handlers.MemHitHandler.TheVariants.{Complete, Partial}
 use Rattle.mem_cache.specs.Hits as hits
-use Rattle.mem_cache.specs.Hits.{moved}
+use Rattle.mem_cache.specs.Hits.{WholeHit, moved}
 use Rattle.mem_cache.specs.Readings as readings
 use Rattle.request_store.specs.Spends.{Spends}
 use Rattle.tier_model.specs.Answers.{next_of}
 use Rattle.tier_model.specs.Calls.{Outcome}
 use Rattle.tier_model.specs.Checks.{has_reader}
 use Rattle.tier_model.specs.Shelf.{InFlight, Shelf, has_number, on_flying, flying_at, readable, past_place}
-use Rattle.tier_model.specs.State.{Reader, spent, streaming, Request}
+use Rattle.tier_model.specs.State.{Reader, streaming, Request}
 use Rattle.tier_model.specs.After.{pieced, read_on}
 use Rattle.tier_requests.specs.Faults.{out_of_memory}
 use Rattle.tier_requests.specs.Shelves.{flight_of, shelf_of}
 use Rattle.tier_requests.specs.Plain.{Driven, plain_of, reader_in}
 use Rattle.tier_requests.specs.Rows.{ReadAnswer}
-use Rattle.tier_requests.specs.Steps.{WriteStep, HitAnswer, hit_after, answer_for}
+use Rattle.tier_requests.specs.Steps.{WriteStep, answer_for, read_whole, read_without}
 use Rattle.tier_requests.proofs.FlightLaws.{flight-at}
 use Rattle.tier_requests.proofs.ShelfLaws.{shelf-written, readable-same}
 use Rattle.tier_requests.proofs.StepLaws.{next-step}
@@ -118,7 +118,7 @@ module _ (q : Request) (s : StreamHit) (h : Held) where
       (λ f. (f ≡ out_of_memory) × ((past_place s.place p).0 ≢ []) × (moved s r ≡ s))
 
   abbrev Streamed : Result ReadStep StoreFault → Type 0
-  Streamed r = ReadAnswer true (record q { reader = streaming s.number s.place }) (shelf_of h) (answer_for r) (record q { reader = reader_in None (Some (Partial (moved s r))) })
+  Streamed r = ReadAnswer true (record q { reader = streaming s.number s.place }) (shelf_of h) (answer_for r) (record q { reader = streaming (moved s r).number (moved s r).place })
 
   by_next : (r : Result ReadStep StoreFault) → Next (readable s.number (shelf_of h)) r → Streamed r
   by_next (Ok (step.Bytes bytes)) a = (a.0, ap (λ (x : Reader). record q { reader = x }) a.1)
@@ -133,30 +133,33 @@ module _ (q : Request) (s : StreamHit) (h : Held) where
 abbrev pub Reads : Request → Reader → Held → Outcome → Reader → Type 0
 Reads q old h a new = ReadAnswer (has_reader old) (record q { reader = old }) (shelf_of h) a (record q { reader = new })
 
-reads : (q : Request) (hit : MemHitHandler) (h : Held) (r : Result ReadStep StoreFault) → HitAnswer hit h r → Reads q (reader_in None (Some hit)) h (answer_for r) (reader_in None (Some (hit_after hit r)))
-reads q (Complete w) h r e = subst (λ (x : Result ReadStep StoreFault). Reads q spent h (answer_for x) spent) (sym e) (refl, refl)
-reads q (Partial s) h r e = streamed q s h r e
+-- where no reader is left
+pub reads-none : (q : Request) (bytes : Option (List ℕ)) (h : Held) → Reads q (reader_in bytes None) h (read_without bytes) (reader_in bytes None)
+reads-none q None h = (refl, refl)
+reads-none q (Some bytes) h = (refl, refl)
 
--- a request reads on in what it found, or in what it writes
-pub reads-on : (q : Request) (hit new : MemHitHandler) (h : Held) (r : Result ReadStep StoreFault) (a : Outcome) → HitAnswer hit h r → new ≡ hit_after hit r → a ≡ answer_for r
-    → Reads q (reader_in None (Some hit)) h a (reader_in None (Some new))
-reads-on q hit new h r a e after told =
-    subst (λ (x : Outcome). Reads q (reader_in None (Some hit)) h x (reader_in None (Some new))) (sym told)
-    (subst (λ (x : MemHitHandler). Reads q (reader_in None (Some hit)) h (answer_for r) (reader_in None (Some x))) (sym after) (reads q hit h r e))
+-- a body, whose reader goes
+pub reads-whole : (q : Request) (bytes : Option (List ℕ)) (w : WholeHit) (h : Held) → Reads q (reader_in bytes (Some (Complete w))) h (Ok (read_whole bytes)) (reader_in (Some []) None)
+reads-whole q None w h = (refl, refl)
+reads-whole q (Some bytes) w h = (refl, refl)
 
--- and is put together again with its reader
-pub read-put : (r taken put : Driven) (asks : Bool) (wait : Option DurationValue) (gave : Bool) (bytes left : Option (List ℕ)) (q : Request) (hit next : MemHitHandler) (h : Held) (a : Outcome)
-    → plain_of r asks wait gave bytes ≡ q → bytes ≡ None → r.reader ≡ Some hit → taken ≡ record r { reader = None } → put ≡ record taken { reader = Some next } → left ≡ None
-    → Reads q (reader_in None (Some hit)) h a (reader_in None (Some next)) → ReadAnswer (has_reader q.reader) q (shelf_of h) a (plain_of put asks wait gave left)
-read-put r taken put asks wait gave bytes left q hit next h a is none there out back gone e =
+-- a write as it comes
+pub reads-stream : (q : Request) (bytes : Option (List ℕ)) (s new : StreamHit) (h : Held) (r : Result ReadStep StoreFault) (a : Outcome) → hits.ReadAnswer (readers.readable s.number h) s.place r
+    → new ≡ moved s r → a ≡ answer_for r → Reads q (reader_in bytes (Some (Partial s))) h a (reader_in bytes (Some (Partial new)))
+reads-stream q bytes s new h r a e after told =
+    subst (λ (x : Outcome). Reads q (streaming s.number s.place) h x (streaming new.number new.place)) (sym told)
+    (subst (λ (x : StreamHit). Reads q (streaming s.number s.place) h (answer_for r) (streaming x.number x.place)) (sym after) (streamed q s h r e))
+
+-- and the request is put together again with what is left of its reader
+pub read-put : (r put : Driven) (asks : Bool) (wait : Option DurationValue) (gave : Bool) (bytes left : Option (List ℕ)) (q : Request) (hit next : Option MemHitHandler) (h : Held) (a : Outcome)
+    → plain_of r asks wait gave bytes ≡ q → r.reader ≡ hit → put ≡ record r { reader = next } → Reads q (reader_in bytes hit) h a (reader_in left next)
+    → ReadAnswer (has_reader q.reader) q (shelf_of h) a (plain_of put asks wait gave left)
+read-put r put asks wait gave bytes left q hit next h a is there back e =
     subst (λ (x : Request). ReadAnswer (has_reader q.reader) q (shelf_of h) a x) (sym after)
-    (subst (λ (x : Reader). ReadAnswer (has_reader x) (record q { reader = x }) (shelf_of h) a (record q { reader = reader_in None (Some next) })) (sym before) e)
+    (subst (λ (x : Reader). ReadAnswer (has_reader x) (record q { reader = x }) (shelf_of h) a (record q { reader = reader_in left next })) (sym before) e)
   where
-    before : q.reader ≡ reader_in None (Some hit)
-    before = ap (λ (x : Request). x.reader) (sym is) ∙ ap (λ (o : Option (List ℕ)). reader_in o r.reader) none ∙ ap (reader_in None) there
+    before : q.reader ≡ reader_in bytes hit
+    before = ap (λ (x : Request). x.reader) (sym is) ∙ ap (reader_in bytes) there
 
-    after : plain_of put asks wait gave left ≡ record q { reader = reader_in None (Some next) }
-    after =
-        ap (plain_of put asks wait gave) gone ∙ ap (λ (x : Driven). plain_of x asks wait gave None) back
-        ∙ ap (λ (x : Driven). plain_of (record x { reader = Some next }) asks wait gave None) out
-        ∙ ap (λ (x : Request). record x { reader = reader_in None (Some next) }) is
+    after : plain_of put asks wait gave left ≡ record q { reader = reader_in left next }
+    after = ap (λ (x : Driven). plain_of x asks wait gave left) back ∙ ap (λ (x : Request). record x { reader = reader_in left next }) is

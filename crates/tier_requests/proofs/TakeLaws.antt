@@ -1,7 +1,7 @@
 -- How what a look-up found is taken or refused, as the plain record has it.
 use Rattle.std.proofs.Common.{◌≡◌, ℕ, refl, ap, sym, ◌∙◌, subst, Bool, true, false, cond, inl, inr, Some, None, Option, List}
 use Rattle.std.specs.Prelude.{◌&&◌, not, is_some, Ok, Err}
-use Rattle.cache_words.specs.Time.{MomentValue, DurationValue, at_most}
+use Rattle.cache_words.specs.Time.{MomentValue, DurationValue}
 use Rattle.cache_heads.specs.declared.meta.CacheMeta.{CacheMeta}
 use Rattle.cache_entries.specs.Rows.{weight_of as weight_of_entry}
 use Rattle.cache_evict.specs.Managed.{Managed, rows_of, use_first}
@@ -15,35 +15,38 @@ use Rattle.cache_phases.specs.declared.request_lock.RequestLock.{RequestLock}
 use Rattle.cache_phases.specs.declared.phase.CachePhase.{CachePhase}
 use Rattle.cache_phases.specs.declared.phase.CachePhase.TheVariants as phases
 use Rattle.cache_phases.specs.Phases.{is_disabled, is_never_enabled}
-use Rattle.cache_phases.specs.HitStatuses.{is_fresh, is_treated_as_miss}
-use Rattle.cache_phases.specs.Locks.{is_read, held, now_holding}
+use Rattle.cache_phases.specs.HitStatuses.{is_treated_as_miss}
+use Rattle.cache_phases.specs.declared.hit.HitStatus.TheVariants.{Expired}
+use Rattle.cache_phases.specs.Locks.{is_on, is_read, held, now_holding, lock_held}
 use Rattle.cache_store.specs.Held.{Held}
 use Rattle.mem_cache.specs.declared.handlers.MemHitHandler.{MemHitHandler}
 use Rattle.mem_cache.specs.Readings.{reader_of, is_complete, weight_of}
-use Rattle.request_store.specs.declared.faults.FoundFault.TheVariants.{Memory, Lock, Evict}
+use Rattle.request_store.specs.declared.faults.FoundFault.TheVariants.{Evict}
 use Rattle.request_store.specs.Spends.{Spends}
-use Rattle.http_cache.specs.Founds.{entry_at, found_given, found_asked, with_found, FoundSpends, IsTaken, IsGivenUp, is_counted, UseAnswer}
+use Rattle.http_cache.specs.Founds.{entry_at, found_given, found_asked, given_back, IsTaken, is_counted, UseAnswer}
+use Rattle.http_cache.specs.Freshes.{TakesFresh}
+use Rattle.http_cache.specs.Request.{stored_at}
 use Rattle.http_cache.specs.Points.{point}
 use Rattle.tier_model.specs.declared.event.Answer.TheVariants.{Found}
 use Rattle.tier_model.specs.declared.event.LockGiven.{LockGiven}
+use Rattle.tier_model.specs.declared.event.LockGiven.TheVariants as given
 use Rattle.tier_model.specs.Calls.{nothing_done}
 use Rattle.tier_model.specs.Shelf.{Look, absent, in_flight, finished, is_there}
-use Rattle.tier_model.specs.State.{Phase, closed, Request}
+use Rattle.tier_model.specs.State.{Phase, Request}
 use Rattle.tier_model.specs.Own.{phase_found}
 use Rattle.tier_model.specs.Checks.{can_begin, look_refusal}
 use Rattle.tier_model.specs.Answers.{finds_fresh, asks_now, lock_given, look_answer}
-use Rattle.tier_model.specs.After.{turned, phase_of, looked}
+use Rattle.tier_model.specs.After.{phase_of, looked}
 use Rattle.tier_requests.specs.Faults.{out_of_memory, fault_for, lock_fault_for}
 use Rattle.tier_requests.specs.Looks.{used_by, UseRefused}
-use Rattle.tier_requests.specs.Shelves.{shelf_of}
-use Rattle.tier_requests.specs.Plain.{Driven, phase_in, given_of, reader_in, plain_of, is_body, IsDriven}
-use Rattle.tier_requests.specs.Finds.{TakeAnswer, status_by, IsFoundBy, FoundAnswer}
+use Rattle.tier_requests.specs.Plain.{Driven, phase_in, held_in, given_of, reader_in, plain_of, IsDriven}
+use Rattle.tier_requests.specs.Finds.{TakeAnswer, IsReadBy, IsFoundBy, FoundAnswer}
 use Rattle.tier_requests.proofs.PlainLaws.{waits-in}
-use Rattle.tier_requests.proofs.EndLaws.{shelf-spent}
-use Rattle.tier_requests.proofs.FindLaws.{key-stored, taken-from, took-body, is_whole, whole-found, whole-taken, weight-found, fresh-found, found-there}
+use Rattle.tier_requests.proofs.FindLaws.{key-stored, taken-from, is_whole, whole-found, whole-taken, weight-found, found-there}
 use Rattle.tier_requests.proofs.LookLaws.{held_by, IsLooking, IsFree, free-of, set-held}
-use Rattle.tier_requests.proofs.GivenLaws.{IsGiven, given-lock, IsAsked, asked-by, handed-back, and-yes, lock-left, lock-refused}
+use Rattle.tier_requests.proofs.GivenLaws.{status_by, IsGiven, given-lock, IsAsked, asked-by, handed-back, and-yes, lock-left, lock-refused}
 
+-- the phase of a request that took what is fresh or isn't
 abbrev fresh_phase : Bool → CachePhase
 fresh_phase v = cond v phases.Hit phases.Stale
 
@@ -55,13 +58,13 @@ on_phase : (v : Bool) → is_disabled (fresh_phase v) ≡ false
 on_phase true = refl
 on_phase false = refl
 
-begins_not : (v gave : Bool) → gave ≡ true → can_begin (phase_in (fresh_phase v) true) gave ≡ false
-begins_not true gave e = refl
-begins_not false gave e = ap not e
+begins_not : (v meta gave : Bool) → gave ≡ true → can_begin (phase_in (fresh_phase v) meta) gave ≡ false
+begins_not true meta gave e = refl
+begins_not false meta gave e = ap not e
 
-plain_phase : (v : Bool) → phase_in (fresh_phase v) true ≡ phase_found v
-plain_phase true = refl
-plain_phase false = refl
+plain_phase : (v meta : Bool) → phase_in (fresh_phase v) meta ≡ phase_found v
+plain_phase true meta = refl
+plain_phase false meta = refl
 
 phase_looked : (t : MomentValue) (l : Look) (g : LockGiven) (p : Phase) → is_there l ≡ true → phase_of t g l p ≡ phase_found (finds_fresh t l)
 phase_looked t absent g p e = absurd cc
@@ -73,33 +76,40 @@ answer_looked t absent g e = absurd cc
 answer_looked t (in_flight f) g e = refl
 answer_looked t (finished b) g e = refl
 
-fresh_status : (v : Bool) → is_fresh (status_by v) ≡ v
-fresh_status true = refl
-fresh_status false = refl
-
 counted_as : (v evicts c : Bool) → evicts ≡ true → (not (is_treated_as_miss (status_by v)) && (evicts && c)) ≡ c
 counted_as true evicts c e = ap (λ x. x && c) e
 counted_as false evicts c e = ap (λ x. x && c) e
 
--- the earlier reader is spent
-spends_earlier : (v : Bool) (hit : MemHitHandler) (earlier : Option MemHitHandler) (old new : Held) → FoundSpends reader_of hit (status_by v) earlier old new → Spends reader_of earlier old new
-spends_earlier true hit earlier old new f = subst (λ (x : Held). Spends reader_of earlier x new) f.1 f.2
-spends_earlier false hit earlier old new f = subst (λ (x : Held). Spends reader_of earlier x new) f.1 f.2
+-- ---- what becomes of a request that took what was found
 
 -- the request with what was found
-abbrev pub after_found : Bool → CacheMeta → MemHitHandler → Option Locked → Driven → Driven
-after_found v meta hit g r = record r { phase = fresh_phase v; meta = Some meta; reader = Some hit; lock = now_holding g r.lock }
+abbrev pub after_found : Bool → Option CacheMeta → MemHitHandler → Option Locked → Driven → Driven
+after_found v meta hit g r = record r { phase = fresh_phase v; meta = meta; reader = Some hit; lock = now_holding g r.lock }
 
-found_form : (v : Bool) (meta : CacheMeta) (hit : MemHitHandler) (g : Option Locked) (r : Driven) → record (with_found meta hit (status_by v) r) { lock = now_holding g r.lock } ≡ after_found v meta hit g r
-found_form true meta hit g r = refl
-found_form false meta hit g r = refl
+-- the request took it, as fresh or not, and an earlier reader is spent
+pub record IsTakenAs (v : Bool) (t : MomentValue) (meta : Option CacheMeta) (hit : MemHitHandler) (r r' : Driven) (h h' : Held) (s s' : LockState) : Type 0 where
+  pub request : r' ≡ after_found v meta hit (found_given (status_by v) r s) r
+  pub lock : s' ≡ lock_held (found_given (status_by v) r s) r.lock (found_asked (status_by v) t r s)
+  pub store : Spends reader_of r.reader h h'
+
+pub taken-stale : (t : MomentValue) (meta : CacheMeta) (hit : MemHitHandler) (r r' : Driven) (h h' : Held) (s s' : LockState)
+    → IsTaken reader_of t meta hit Expired (point r h s) (point r' h' s') → IsTakenAs false t (Some meta) hit r r' h h' s s'
+taken-stale t meta hit r r' h h' s s' taken = record {
+  request = taken.request;
+  lock = taken.lock;
+  store = subst (λ (x : Held). Spends reader_of r.reader x h') taken.store.1 taken.store.2;
+}
+
+pub taken-fresh : (t : MomentValue) (hit : MemHitHandler) (r r' : Driven) (h h' : Held) (s s' : LockState)
+    → TakesFresh reader_of hit (point r h s) (Ok tt) (point r' h' s') → IsTakenAs true t None hit r r' h h' s s'
+taken-fresh t hit r r' h h' s s' taken = record { request = taken.0; lock = taken.2; store = taken.1 }
 
 -- the request that took it
-pub driven-found : (t : MomentValue) (r r' : Driven) (asks : Bool) (wait : Option DurationValue) (gave gave' : Bool) (bytes took : Option (List ℕ)) (meta : CacheMeta) (before hit : MemHitHandler) (v : Bool) (h h' : Held) (s s' : LockState)
+pub driven-found : (t : MomentValue) (r r' : Driven) (asks : Bool) (wait : Option DurationValue) (gave gave' : Bool) (bytes took : Option (List ℕ)) (meta : Option CacheMeta) (before hit : MemHitHandler) (v : Bool) (h h' : Held) (s s' : LockState)
     → IsDriven r asks wait gave bytes → look_refusal (plain_of r asks wait gave bytes) ≡ None → gave' ≡ is_read (held r'.lock) → TakeAnswer before (Ok took) hit
-    → IsTaken reader_of t meta hit (status_by v) (point r h s) (point r' h' s') → IsDriven r' asks wait gave' took
+    → IsTakenAs v t meta hit r r' h h' s s' → IsDriven r' asks wait gave' took
 driven-found t r r' asks wait gave gave' bytes took meta before hit v h h' s s' d may told take taken =
-    subst (λ (x : Driven). IsDriven x asks wait gave' took) (sym form) (record {
+    subst (λ (x : Driven). IsDriven x asks wait gave' took) (sym taken.request) (record {
       used = used_phase v;
       key = d.key;
       admits = d.admits;
@@ -109,29 +119,22 @@ driven-found t r r' asks wait gave gave' bytes took meta before hit v h h' s s' 
       idle = λ e. let never : true ≡ false = sym e ∙ on_phase v in absurd cc;
       writes = λ e. let never : true ≡ false = sym e ∙ k.writer in absurd cc;
       released = λ e. let never : true ≡ false = sym e ∙ k.writer in absurd cc;
-      waits = λ e. begins_not v gave' (told ∙ ap (λ (x : Driven). is_read (held x.lock)) form ∙ e);
-      body = took-body before hit took take;
+      waits = λ e. begins_not v (is_some meta) gave' (told ∙ ap (λ (x : Driven). is_read (held x.lock)) taken.request ∙ e);
     })
   where
-    form : r' ≡ after_found v meta hit (found_given (status_by v) r s) r
-    form = taken.request ∙ found_form v meta hit (found_given (status_by v) r s) r
-
     k : IsLooking r asks
     k = (free-of r asks wait gave bytes d may).looking
 
-pub found-shelf : (t : MomentValue) (r r' : Driven) (bytes : Option (List ℕ)) (meta : CacheMeta) (hit : MemHitHandler) (v : Bool) (h h' : Held) (s s' : LockState) → (is_some bytes ≡ true → is_body r.reader ≡ true)
-    → IsTaken reader_of t meta hit (status_by v) (point r h s) (point r' h' s') → shelf_of h' ≡ turned (reader_in bytes r.reader) closed (shelf_of h)
-found-shelf t r r' bytes meta hit v h h' s s' whole taken = shelf-spent bytes r.reader h h' whole (spends_earlier v hit r.reader h h' taken.store)
+-- ---- what is told of it
 
--- what is so where a look-up found l, of which `took` was taken, and the meta is fresh or isn't
-pub record Finding (t : MomentValue) (r : Driven) (asks : Bool) (wait : Option DurationValue) (gave : Bool) (bytes : Option (List ℕ)) (l : Look) (meta : CacheMeta) (before : MemHitHandler) (v : Bool) : Type 0 where
+-- what is so where a look-up found l, of which `took` was taken, and it is fresh or isn't
+pub record Finding (t : MomentValue) (r : Driven) (asks : Bool) (wait : Option DurationValue) (gave : Bool) (bytes : Option (List ℕ)) (l : Look) (before : MemHitHandler) (v : Bool) : Type 0 where
   pub driven : IsDriven r asks wait gave bytes
   pub may : look_refusal (plain_of r asks wait gave bytes) ≡ None
-  pub by : IsFoundBy l meta before
-  pub fresh : v ≡ at_most t meta.internal.fresh_until
+  pub by : IsFoundBy t v l before
 
-module _ (n : ℕ) (weighed : ℕ → ℕ) (t : MomentValue) (r : Driven) (asks : Bool) (wait : Option DurationValue) (gave : Bool) (bytes : Option (List ℕ)) (l : Look) (meta : CacheMeta) (before : MemHitHandler) (v : Bool)
-    (f : Finding t r asks wait gave bytes l meta before v) where
+module _ (n : ℕ) (weighed : ℕ → ℕ) (t : MomentValue) (r : Driven) (asks : Bool) (wait : Option DurationValue) (gave : Bool) (bytes : Option (List ℕ)) (l : Look) (before : MemHitHandler) (v : Bool)
+    (f : Finding t r asks wait gave bytes l before v) where
   abbrev pub q : Request
   q = plain_of r asks wait gave bytes
 
@@ -139,10 +142,10 @@ module _ (n : ℕ) (weighed : ℕ → ℕ) (t : MomentValue) (r : Driven) (asks 
   free = free-of r asks wait gave bytes f.driven f.may
 
   there : is_there l ≡ true
-  there = found-there l meta before f.by
+  there = found-there l before f.by.reads
 
   fresh : finds_fresh t l ≡ v
-  fresh = fresh-found t l meta before f.by ∙ sym f.fresh
+  fresh = f.by.freshness
 
   asked : (s : LockState) → IsAsked t q l s (found_given (status_by v) r s) (found_asked (status_by v) t r s)
   asked s = asked-by t r q l s v refl free.looking.on fresh there
@@ -152,20 +155,19 @@ module _ (n : ℕ) (weighed : ℕ → ℕ) (t : MomentValue) (r : Driven) (asks 
 
   -- a use is counted where all of a body was found
   counted : (hit : MemHitHandler) (took : Option (List ℕ)) → TakeAnswer before (Ok took) hit → is_counted is_complete hit (status_by v) r ≡ is_whole l
-  counted hit took take = counted_as v r.evicts (is_complete hit) (f.driven.evicts free.looking.enabled) ∙ whole-taken before hit took take ∙ whole-found l meta before f.by
+  counted hit took take = counted_as v r.evicts (is_complete hit) (f.driven.evicts free.looking.enabled) ∙ whole-taken before hit took take ∙ whole-found l before f.by.reads
 
-  pub found-taken : (hit : MemHitHandler) (took : Option (List ℕ)) (h h' : Held) (m m' : Managed) (s s' : LockState) (r' : Driven) (gave' : Bool) → gave' ≡ is_read (held r'.lock) → TakeAnswer before (Ok took) hit
-      → IsTaken reader_of t meta hit (status_by v) (point r h s) (point r' h' s')
+  pub found-taken : (meta : Option CacheMeta) (hit : MemHitHandler) (took : Option (List ℕ)) (h h' : Held) (m m' : Managed) (s s' : LockState) (r' : Driven) (gave' : Bool) → gave' ≡ is_read (held r'.lock) → TakeAnswer before (Ok took) hit
+      → IsTakenAs v t meta hit r r' h h' s s'
       → UseAnswer n (is_counted is_complete hit (status_by v) r) (entry_at r.key None) (weighed (weight_of hit)) m (Ok tt) m'
       → FoundAnswer n weighed t q l m s (Ok (Found v (is_complete before) (given_of (held_by r'.lock))))
       (plain_of r' asks wait gave' took) m' s'
-  found-taken hit took h h' m m' s s' r' gave' told take taken uses =
-      let form : r' ≡ after_found v meta hit given r = taken.request ∙ found_form v meta hit given r in (
-        ap (λ (x : Driven). Found v (is_complete before) (given_of (held_by x.lock))) form ∙ answer,
-        ap (λ w. plain_of r' asks wait w took) told ∙ ap (λ (x : Driven). plain_of x asks wait (is_read (held x.lock)) took) form ∙ looks_so,
-        by_look l f.by refl (uses ∙ ap (λ x. cond x (use_first n (entry_at r.key None) (weighed (weight_of hit)) m) m) (counted hit took take)),
-        taken.lock ∙ lock.left,
-      )
+  found-taken meta hit took h h' m m' s s' r' gave' told take taken uses = (
+    ap (λ (x : Driven). Found v (is_complete before) (given_of (held_by x.lock))) taken.request ∙ answer,
+    ap (λ w. plain_of r' asks wait w took) told ∙ ap (λ (x : Driven). plain_of x asks wait (is_read (held x.lock)) took) taken.request ∙ looks_so,
+    by_look l f.by.reads refl (uses ∙ ap (λ x. cond x (use_first n (entry_at r.key None) (weighed (weight_of hit)) m) m) (counted hit took take)),
+    taken.lock ∙ lock.left,
+  )
     where
       given : Option Locked
       given = found_given (status_by v) r s
@@ -177,65 +179,79 @@ module _ (n : ℕ) (weighed : ℕ → ℕ) (t : MomentValue) (r : Driven) (asks 
       lock = given_of_lock s
 
       answer : Found v (is_complete before) (given_of (held_by locked)) ≡ look_answer t (lock_given t q l s) l
-      answer = (λ i. Found (sym fresh i) (whole-found l meta before f.by i) (lock.told i)) ∙ sym (answer_looked t l (lock_given t q l s) there)
+      answer = (λ i. Found (sym fresh i) (whole-found l before f.by.reads i) (lock.told i)) ∙ sym (answer_looked t l (lock_given t q l s) there)
 
-      phase : phase_in (fresh_phase v) true ≡ phase_of t (lock_given t q l s) l q.phase
-      phase = plain_phase v ∙ ap phase_found (sym fresh) ∙ sym (phase_looked t l (lock_given t q l s) q.phase there)
+      phase : phase_in (fresh_phase v) (is_some meta) ≡ phase_of t (lock_given t q l s) l q.phase
+      phase = plain_phase v (is_some meta) ∙ ap phase_found (sym fresh) ∙ sym (phase_looked t l (lock_given t q l s) q.phase there)
 
       looks_so : plain_of (after_found v meta hit given r) asks wait (is_read (held locked)) took ≡ looked t q l s
-      looks_so = λ i. record q { phase = phase i; held = lock.holds i; gave_read = (sym (waits-in (held locked) locked.polled) ∙ lock.waits) i; reader = (taken-from l meta before hit took f.by take).reads i }
+      looks_so = λ i. record q { phase = phase i; held = lock.holds i; gave_read = (sym (waits-in (held locked) locked.polled) ∙ lock.waits) i; reader = taken-from l before hit took f.by.reads take i }
 
-      by_look : (k : Look) → IsFoundBy k meta before → k ≡ l → m' ≡ cond (is_whole l) (use_first n (entry_at r.key None) (weighed (weight_of hit)) m) m → m' ≡ used_by n weighed q l m
+      by_look : (k : Look) → IsReadBy k before → k ≡ l → m' ≡ cond (is_whole l) (use_first n (entry_at r.key None) (weighed (weight_of hit)) m) m → m' ≡ used_by n weighed q l m
       by_look absent by e u = absurd by
       by_look (in_flight g) by e u = subst (λ (k : Look). m' ≡ cond (is_whole k) (use_first n (entry_at r.key None) (weighed (weight_of hit)) m) m → m' ≡ used_by n weighed q k m) e (λ x. x) u
       by_look (finished b) by e u =
           subst (λ (k : Look). m' ≡ cond (is_whole k) (use_first n (entry_at r.key None) (weighed (weight_of hit)) m) m → m' ≡ used_by n weighed q k m) e
-          (λ x. x ∙ ap (λ w. use_first n (entry_at r.key None) (weighed w) m) (weight-found b meta before hit took by take)) u
+          (λ x. x ∙ ap (λ w. use_first n (entry_at r.key None) (weighed w) m) (weight-found b before hit took by take)) u
 
   -- a body has no memory for its bytes: nothing was asked
   pub found-unread : (m : Managed) (s : LockState) → FoundAnswer n weighed t q l m s (Err out_of_memory) q m s
   found-unread m s = (inl (refl, inl there), refl, refl, lock-left t q l s s refl)
 
   -- the lock refused
-  pub found-unlocked : (hit : MemHitHandler) (h h' : Held) (m m' : Managed) (s s' : LockState) (r' : Driven) (fault : LockFault)
-      → IsGivenUp reader_of t hit (status_by v) (Lock fault) (point r h s) (point r' h' s') → m' ≡ m → FoundAnswer n weighed t q l m s (Err (lock_fault_for fault)) (plain_of r' asks wait gave bytes) m' s'
-  found-unlocked hit h h' m m' s s' r' fault up same =
-      let stale : finds_fresh t l ≡ false = fresh ∙ sym (fresh_status v) ∙ up.lock.0 in
-      let asks_it : asks_now t q l ≡ true = ap (λ x. asks && not x) stale ∙ sym (and-yes asks) ∙ sym free.looking.on ∙ up.lock.1 in (
-        lock-refused n weighed t q l m s fault asks_it (subst (λ k. IsRefused s (to_wait_for k s) fault) (sym (key-stored r.key)) up.lock.2),
-        ap (λ (x : Driven). plain_of x asks wait gave bytes) up.request,
+  pub found-unlocked : (m m' : Managed) (s s' : LockState) (r' : Driven) (fault : LockFault) → v ≡ false → is_on r.lock ≡ true → IsRefused s (to_wait_for (stored_at r.key) s) fault → r' ≡ r → s' ≡ s → m' ≡ m
+      → FoundAnswer n weighed t q l m s (Err (lock_fault_for fault)) (plain_of r' asks wait gave bytes) m' s'
+  found-unlocked m m' s s' r' fault stale on refused unchanged kept same =
+      let asks_it : asks_now t q l ≡ true = ap (λ x. asks && not x) (fresh ∙ stale) ∙ sym (and-yes asks) ∙ sym free.looking.on ∙ on in (
+        lock-refused n weighed t q l m s fault asks_it (subst (λ k. IsRefused s (to_wait_for k s) fault) (sym (key-stored r.key)) refused),
+        ap (λ (x : Driven). plain_of x asks wait gave bytes) unchanged,
         same,
-        lock-left t q l s s' up.lock.3,
+        lock-left t q l s s' kept,
       )
 
   -- no memory was left to count the use
-  pub found-uncounted : (hit : MemHitHandler) (h h' : Held) (m m' : Managed) (s s' : LockState) (r' : Driven)
-      → IsGivenUp reader_of t hit (status_by v) Memory (point r h s) (point r' h' s') → m' ≡ m → FoundAnswer n weighed t q l m s (Err out_of_memory) (plain_of r' asks wait gave bytes) m' s'
-  found-uncounted hit h h' m m' s s' r' up same = (
+  pub found-uncounted : (m m' : Managed) (s s' : LockState) (r' : Driven) → r' ≡ r → s' ≡ given_back (status_by v) t r s → m' ≡ m → FoundAnswer n weighed t q l m s (Err out_of_memory) (plain_of r' asks wait gave bytes) m' s'
+  found-uncounted m m' s s' r' unchanged back same = (
     inl (refl, inl there),
-    ap (λ (x : Driven). plain_of x asks wait gave bytes) up.request,
+    ap (λ (x : Driven). plain_of x asks wait gave bytes) unchanged,
     same,
-    handed-back t q l s (found_given (status_by v) r s) (found_asked (status_by v) t r s) s' (asked s) up.lock.0,
+    handed-back t q l s (found_given (status_by v) r s) (found_asked (status_by v) t r s) s' (asked s) back,
   )
 
   -- the use can't be counted
-  pub found-unused : (hit : MemHitHandler) (took : Option (List ℕ)) (h h' : Held) (m m' : Managed) (s s' : LockState) (r' : Driven) (fault : EvictFault) → TakeAnswer before (Ok took) hit
-      → IsGivenUp reader_of t hit (status_by v) (Evict fault) (point r h s) (point r' h' s')
+  pub found-unused : (hit : MemHitHandler) (took : Option (List ℕ)) (m m' : Managed) (s s' : LockState) (r' : Driven) (fault : EvictFault) → TakeAnswer before (Ok took) hit → r' ≡ r → s' ≡ given_back (status_by v) t r s
       → UseAnswer n (is_counted is_complete hit (status_by v) r) (entry_at r.key None) (weighed (weight_of hit)) m (Err (Evict fault)) m' → weight_of_entry (entry_at r.key None) (rows_of n (entry_at r.key None) m) ≡ None
       → FoundAnswer n weighed t q l m s (Err (fault_for fault nothing_done)) (plain_of r' asks wait gave bytes) m' s'
-  found-unused hit took h h' m m' s s' r' fault take up uses untracked = (
-    inr (inl (by_look l f.by refl)),
-    ap (λ (x : Driven). plain_of x asks wait gave bytes) up.request,
+  found-unused hit took m m' s s' r' fault take unchanged back uses untracked = (
+    inr (inl (by_look l f.by.reads refl)),
+    ap (λ (x : Driven). plain_of x asks wait gave bytes) unchanged,
     uses.3,
-    handed-back t q l s (found_given (status_by v) r s) (found_asked (status_by v) t r s) s' (asked s) up.lock.0,
+    handed-back t q l s (found_given (status_by v) r s) (found_asked (status_by v) t r s) s' (asked s) back,
   )
     where
       whole : is_whole l ≡ true
       whole = sym (counted hit took take) ∙ uses.2
 
-      by_look : (k : Look) → IsFoundBy k meta before → k ≡ l → UseRefused n weighed q l m (fault_for fault nothing_done)
+      by_look : (k : Look) → IsReadBy k before → k ≡ l → UseRefused n weighed q l m (fault_for fault nothing_done)
       by_look absent by e = absurd by
       by_look (in_flight g) by e = let never : false ≡ true = ap is_whole e ∙ whole in absurd cc
       by_look (finished b) by e =
           subst (λ (k : Look). UseRefused n weighed q k m (fault_for fault nothing_done)) e
-          (untracked, (fault, subst (λ w. IsPutRefused n (entry_at r.key None) (weighed w) m fault) (weight-found b meta before hit took by take) uses.0, refl))
+          (untracked, (fault, subst (λ w. IsPutRefused n (entry_at r.key None) (weighed w) m fault) (weight-found b before hit took by take) uses.0, refl))
+
+-- ---- the lock isn't asked for what is fresh
+
+pub none-held : (t : MomentValue) (meta : Option CacheMeta) (hit : MemHitHandler) (r r' : Driven) (h h' : Held) (s s' : LockState) → IsTakenAs true t meta hit r r' h h' s s' → held r.lock ≡ None → held r'.lock ≡ None
+none-held t meta hit r r' h h' s s' taken none = ap (λ (x : Driven). held x.lock) taken.request ∙ none
+
+pub found-fresh : (n : ℕ) (weighed : ℕ → ℕ) (t : MomentValue) (r : Driven) (asks : Bool) (wait : Option DurationValue) (gave : Bool) (bytes : Option (List ℕ)) (l : Look) (before : MemHitHandler) → Finding t r asks wait gave bytes l before true
+    → (hit : MemHitHandler) (took : Option (List ℕ)) (h h' : Held) (m m' : Managed) (s s' : LockState) (r' : Driven) → TakeAnswer before (Ok took) hit → IsTakenAs true t None hit r r' h h' s s'
+    → UseAnswer n (is_counted is_complete hit (status_by true) r) (entry_at r.key None) (weighed (weight_of hit)) m (Ok tt) m'
+    → FoundAnswer n weighed t (plain_of r asks wait gave bytes) l m s (Ok (Found true (is_complete before) given.None)) (plain_of r' asks wait false took) m' s'
+found-fresh n weighed t r asks wait gave bytes l before f hit took h h' m m' s s' r' take taken uses =
+    subst (λ g. FoundAnswer n weighed t (plain_of r asks wait gave bytes) l m s (Ok (Found true (is_complete before) g)) (plain_of r' asks wait false took) m' s')
+    (ap (λ x. given_of (held_in x r'.lock.polled)) none)
+    (found-taken n weighed t r asks wait gave bytes l before true f None hit took h h' m m' s s' r' false (sym (ap is_read none)) take taken uses)
+  where
+    none : held r'.lock ≡ None
+    none = none-held t None hit r r' h h' s s' taken (free-of r asks wait gave bytes f.driven f.may).none

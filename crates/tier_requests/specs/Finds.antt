@@ -1,13 +1,12 @@
 -- What a look-up of a request does with what the store gave it.
 use Rattle.std.specs.Prelude.{◌≡◌, ◌⊎◌, ℕ, Bool, true, false, List, Option, Some, None, Result, Ok, Err, MatchResult}
 use Rattle.cache_words.specs.Time.{MomentValue}
-use Rattle.cache_heads.specs.declared.meta.CacheMeta.{CacheMeta}
 use Rattle.cache_evict.specs.Managed.{Managed}
 use Rattle.cache_lock.specs.State.{LockState, after_all}
-use Rattle.cache_phases.specs.declared.hit.HitStatus.{HitStatus}
-use Rattle.cache_phases.specs.declared.hit.HitStatus.TheVariants.{Fresh, Expired}
 use Rattle.cache_store.specs.declared.storage.StoreFault.{StoreFault}
 use Rattle.cache_store.specs.declared.storage.StoreFault.TheVariants.{Memory}
+use Rattle.cache_store.specs.declared.storage.store.FoundAt.{FoundAt}
+use Rattle.cache_store.specs.declared.storage.store.FoundAt.TheVariants.{Fresh, Stale}
 use Rattle.cache_store.specs.Readers.{whole, streaming}
 use Rattle.mem_cache.specs.declared.handlers.MemHitHandler.{MemHitHandler}
 use Rattle.mem_cache.specs.declared.handlers.MemHitHandler.TheVariants.{Complete, Partial}
@@ -17,9 +16,8 @@ use Rattle.tier_model.specs.Calls.{Outcome}
 use Rattle.tier_model.specs.Shelf.{Look, absent, in_flight, finished}
 use Rattle.tier_model.specs.State.{closed, Request}
 use Rattle.tier_model.specs.Own.{phase_absent}
-use Rattle.tier_model.specs.Answers.{lock_given, look_answer}
+use Rattle.tier_model.specs.Answers.{finds_fresh, lock_given, look_answer}
 use Rattle.tier_model.specs.After.{looked, given_changes}
-use Rattle.tier_requests.specs.Shelves.{own_meta}
 use Rattle.tier_requests.specs.Plain.{given_of}
 use Rattle.tier_requests.specs.Looks.{used_by, UseRefused, LockRefused, RunsOut, LeavesLock}
 
@@ -33,16 +31,25 @@ abbrev pub TakeAnswer : MemHitHandler → Result (Option (List ℕ)) StoreFault 
 TakeAnswer (Complete h) r new = MatchResult r (λ bytes. bytes ≡ Some (next_bytes h)) (λ f. f ≡ Memory) × (new ≡ Complete (taken h r))
 TakeAnswer (Partial h) r new = (r ≡ Ok None) × (new ≡ Partial h)
 
--- how what was found may be used
-abbrev pub status_by : Bool → HitStatus
-status_by true = Fresh
-status_by false = Expired
+-- that is found with this reader, which has read nothing
+abbrev pub IsReadBy : Look → MemHitHandler → Type 0
+IsReadBy absent hit = ⊥
+IsReadBy (in_flight f) hit = reader_of hit ≡ streaming (record { number = f.number; place = 0 })
+IsReadBy (finished b) hit = (n : ℕ) × (reader_of hit ≡ whole n b.bytes b.bytes)
 
--- that is found with this meta and this reader, which has read nothing
-abbrev pub IsFoundBy : Look → CacheMeta → MemHitHandler → Type 0
-IsFoundBy absent meta hit = ⊥
-IsFoundBy (in_flight f) meta hit = (own_meta meta ≡ f.meta) × (reader_of hit ≡ streaming (record { number = f.number; place = 0 }))
-IsFoundBy (finished b) meta hit = (n : ℕ) × (own_meta meta ≡ b.meta) × (reader_of hit ≡ whole n b.bytes b.bytes)
+-- the same, and at moment t it is fresh or isn't
+pub record IsFoundBy (t : MomentValue) (fresh : Bool) (l : Look) (hit : MemHitHandler) : Type 0 where
+  pub freshness : finds_fresh t l ≡ fresh
+  pub reads : IsReadBy l hit
+
+-- what a look-up at a moment told: whether it is fresh then, and its reader
+abbrev pub is_told_fresh : FoundAt MemHitHandler → Bool
+is_told_fresh (Fresh until hit) = true
+is_told_fresh (Stale meta hit) = false
+
+abbrev pub hit_told : FoundAt MemHitHandler → MemHitHandler
+hit_told (Fresh until hit) = hit
+hit_told (Stale meta hit) = hit
 
 -- the request, told that nothing was found, with what the lock gave it
 abbrev pub missed_by : Request → Request

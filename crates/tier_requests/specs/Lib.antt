@@ -3,6 +3,7 @@ pub mod Faults
 pub mod Shelves
 pub mod Plain
 pub mod Rows
+pub mod Ends
 pub mod Steps
 pub mod Looks
 pub mod Finds

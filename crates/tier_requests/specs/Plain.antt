@@ -1,5 +1,5 @@
 -- A request to a cache as a plain record, and what is so of each request of a tier.
-use Rattle.std.specs.Prelude.{◌≡◌, ℕ, Bool, true, false, List, Option, Some, None, is_some}
+use Rattle.std.specs.Prelude.{◌≡◌, ℕ, Bool, true, false, List, if◌then◌else◌, Option, Some, None, is_some, option_map, unwrap_or}
 use Rattle.cache_words.specs.Time.{MomentValue, DurationValue}
 use Rattle.cache_words.specs.Key.{CacheKeyValue}
 use Rattle.cache_lock.specs.declared.tokens.Locked.{Locked}
@@ -53,12 +53,12 @@ given_of nothing = given.None
 given_of (permit n) = given.Write
 given_of (waits n first) = given.Read
 
--- what there is to read: a whole body that wasn't read yet, or what the request's reader has
+-- what there is to read: all of a body, which waits beside its reader, or what the reader of a write has. A body that was read has no
+-- reader any more, and bytes stand for it
 abbrev pub reader_in : Option (List ℕ) → Option MemHitHandler → Reader
-reader_in (Some bytes) reader = unread bytes
-reader_in None None = closed
-reader_in None (Some (Complete h)) = spent
-reader_in None (Some (Partial h)) = streaming h.number h.place
+reader_in bytes None = if is_some bytes then spent else closed
+reader_in bytes (Some (Complete h)) = unwrap_or (option_map unread bytes) spent
+reader_in bytes (Some (Partial h)) = streaming h.number h.place
 
 abbrev pub plain_of : Driven → Bool → Option DurationValue → Bool → Option (List ℕ) → Request
 plain_of r asks wait gave_read bytes = record {
@@ -80,13 +80,9 @@ pub record IsSet (asks : Bool) (wait : Option DurationValue) (l : RequestLock) :
   pub on : is_on l ≡ asks
   pub timeout : is_on l ≡ true → timeout_of l ≡ wait
 
-abbrev pub is_body : Option MemHitHandler → Bool
-is_body (Some (Complete h)) = true
-is_body _ = false
-
 -- a request has a key and uses the manager and the lock until it is disabled, when it holds nothing. It has a write only where one
--- began, and then nothing of the lock, and bytes that wait to be read only with the reader of their body. One that waits may not begin
--- a write: its last look-up gave it the wait. No policy is asked, and nothing is hidden from it
+-- began, and then nothing of the lock. One that waits may not begin a write: its last look-up gave it the wait. No policy is asked, and
+-- nothing is hidden from it
 pub record IsDriven (r : Driven) (asks : Bool) (wait : Option DurationValue) (gave_read : Bool) (bytes : Option (List ℕ)) : Type 0 where
   pub used : is_never_enabled r.phase ≡ false
   pub key : is_some r.key ≡ true
@@ -98,4 +94,3 @@ pub record IsDriven (r : Driven) (asks : Bool) (wait : Option DurationValue) (ga
   pub writes : is_some r.writer ≡ true → phase_in r.phase (is_some r.meta) ≡ begun
   pub released : is_some r.writer ≡ true → lock_held r.lock ≡ None
   pub waits : is_read (lock_held r.lock) ≡ true → can_begin (phase_in r.phase (is_some r.meta)) gave_read ≡ false
-  pub body : is_some bytes ≡ true → is_body r.reader ≡ true

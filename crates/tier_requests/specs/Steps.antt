@@ -1,14 +1,10 @@
 -- Steps of reading, and of writing.
-use Rattle.std.specs.Prelude.{◌≡◌, ℕ, Bool, true, false, List, Option, Some, None, Result, Ok, Err, MatchResult}
+use Rattle.std.specs.Prelude.{◌≡◌, ℕ, Bool, true, false, List, if◌then◌else◌, Option, Some, None, is_some, option_map, unwrap_or, Result, Ok, Err, MatchResult}
 use Rattle.cache_store.specs.declared.storage.ReadStep.{ReadStep}
 use Rattle.cache_store.specs.declared.storage.ReadStep.TheVariants as step
 use Rattle.cache_store.specs.declared.storage.StoreFault.{StoreFault}
-use Rattle.cache_store.specs.Held.{Held}
-use Rattle.cache_store.specs.Readers.{readable}
-use Rattle.mem_cache.specs.declared.handlers.MemHitHandler.{MemHitHandler}
-use Rattle.mem_cache.specs.declared.handlers.MemHitHandler.TheVariants.{Complete, Partial}
-use Rattle.mem_cache.specs.Hits.{ReadAnswer, moved}
 use Rattle.cache_store.specs.declared.storage.StoreFault.TheVariants as fault
+use Rattle.tier_model.specs.declared.event.Answer.{Answer}
 use Rattle.tier_model.specs.declared.event.Answer.TheVariants.{Written, Bytes, Pending, End}
 use Rattle.tier_model.specs.declared.event.TierFault.TheVariants as tier
 use Rattle.tier_model.specs.Shelf.{Shelf}
@@ -23,14 +19,13 @@ answer_for (Ok step.Pending) = Ok Pending
 answer_for (Ok step.End) = Ok End
 answer_for (Err f) = Err out_of_memory
 
--- a step of a reader, which has read all of a whole body
-abbrev pub HitAnswer : MemHitHandler → Held → Result ReadStep StoreFault → Type 0
-HitAnswer (Complete h) store r = r ≡ Ok step.End
-HitAnswer (Partial h) store r = ReadAnswer (readable h.number store) h.place r
+-- a body is read whole, if it wasn't yet
+abbrev pub read_whole : Option (List ℕ) → Answer
+read_whole bytes = unwrap_or (option_map Bytes bytes) End
 
-abbrev pub hit_after : MemHitHandler → Result ReadStep StoreFault → MemHitHandler
-hit_after (Complete h) r = Complete h
-hit_after (Partial h) r = Partial (moved h r)
+-- where no reader is left, a body was read, or there is nothing to read
+abbrev pub read_without : Option (List ℕ) → Outcome
+read_without bytes = if is_some bytes then Ok End else Err tier.WrongPhase
 
 -- bytes of the write n, by whether it has ended, if it is in flight
 abbrev pub WriteStep : Option Bool → List ℕ → Bool → ℕ → Shelf → Result (Unit {0}) StoreFault → Shelf → Type 0

@@ -14,9 +14,3 @@ pub mod requests;
 
 pub use request::{Request, TierParts};
 pub use requests::Requests;
-
-#[cfg(test)]
-mod tests {
-    #[test]
-    fn nothing() {}
-}

@@ -1,5 +1,6 @@
 //! Look-ups of a request.
-ghost use Rattle.std.specs.Prelude.{◌≡◌, true, None, MatchResult};
+ghost use Rattle.std.specs.Prelude.{◌≡◌, true, false, None, MatchResult};
+ghost use Rattle.cache_words.specs.Time.{MomentValue};
 ghost use Rattle.cache_store.specs.Readers.{Parts};
 ghost use Rattle.mem_cache.specs.Readings.{reader_of};
 ghost use Rattle.tier_model.specs.declared.event.Answer.TheVariants.{Absent};
@@ -10,7 +11,7 @@ ghost use Rattle.tier_model.specs.After.{turned};
 ghost use Rattle.tier_requests.specs.Shelves.{shelf_of};
 ghost use Rattle.tier_requests.specs.Plain.{given_of};
 ghost use Rattle.tier_requests.specs.Looks.{LookAnswer, lent};
-ghost use Rattle.tier_requests.specs.Finds.{TakeAnswer, status_by, IsFoundBy, FoundAnswer, missed_by};
+ghost use Rattle.tier_requests.specs.Finds.{TakeAnswer, IsFoundBy, is_told_fresh, hit_told, FoundAnswer, missed_by};
 
 use crate::faults::{fault_for, lock_fault_for, nothing_done, out_of_memory};
 use crate::request::{Request, TierParts};
@@ -18,7 +19,7 @@ use bytes::Bytes;
 use cache_evict::EvictionManager;
 use cache_heads::CacheMeta;
 use cache_phases::{CachePhase, HitStatus};
-use cache_store::storage::{HandleHit, ReadStep, StoreFault};
+use cache_store::storage::{FoundAt, HandleHit, ReadStep, StoreFault};
 use cache_words::time::Moment;
 use http_cache::{FoundFault, LookUpFault};
 use mem_cache::handlers::MemHitHandler;
@@ -37,17 +38,6 @@ fn take_body(hit: &mut MemHitHandler) -> Result<Option<Bytes>, StoreFault>
             Err(fault) => Err(fault),
         },
         MemHitHandler::Partial(_) => Ok(None),
-    }
-}
-
-// How what was found may be used.
-fn status_by(fresh: bool) -> HitStatus
-    ensures { result ≡ status_by fresh }
-{
-    if fresh {
-        HitStatus::Fresh
-    } else {
-        HitStatus::Expired
     }
 }
 
@@ -86,8 +76,47 @@ impl<S: BuildHasher> Request<S> {
         Answer::Absent { lock }
     }
 
-    // Something was found. A reader that isn't taken is spent.
-    fn found<E: EvictionManager>(
+    // Something was found that is fresh: its meta stays in the store, and the lock isn't asked. A reader that isn't taken is spent.
+    fn found_fresh<E: EvictionManager>(
+        &mut self,
+        alloc: Global,
+        parts: &mut TierParts<S, E>,
+        hit: MemHitHandler,
+        fresh_until: Moment,
+    ) -> Result<Answer, TierFault>
+        requires { look_refusal self.old ≡ None }
+        ensures answer { (t : MomentValue) (l : Look) → IsFoundBy t true l hit → FoundAnswer E.shard_count E.weighed t self.old l (E.managed parts.old.manager) parts.old.lock
+            result self.new (E.managed parts.new.manager) parts.new.lock }
+        ensures shelf { MatchResult result (λ _. shelf_of parts.new.store ≡ turned self.old.reader closed (shelf_of parts.old.store))
+            (λ _. Parts (reader_of hit) parts.old.store parts.new.store) }
+        ensures parts { parts.new ≡ record parts.old { store = parts.new.store; manager = parts.new.manager } }
+    {
+        let mut hit = hit;
+        let complete = hit.can_seek();
+        let unread = match take_body(&mut hit) {
+            Ok(unread) => unread,
+            Err(_) => {
+                hit.finish(&mut parts.store);
+                return Err(out_of_memory(alloc));
+            }
+        };
+        match self.cache.cache_found_fresh(alloc, parts, hit, fresh_until) {
+            Ok(()) => {}
+            Err(FoundFault::Memory) => return Err(out_of_memory(alloc)),
+            Err(FoundFault::Evict(fault)) => return Err(fault_for(fault, nothing_done(alloc))),
+            Err(FoundFault::Lock(_)) => unreachable!(),
+        }
+        self.unread = unread;
+        self.gave_read = false;
+        Ok(Answer::Found {
+            fresh: true,
+            complete,
+            lock: LockGiven::None,
+        })
+    }
+
+    // Something was found that is fresh no more. A reader that isn't taken is spent.
+    fn found_stale<E: EvictionManager>(
         &mut self,
         alloc: Global,
         parts: &mut TierParts<S, E>,
@@ -96,7 +125,7 @@ impl<S: BuildHasher> Request<S> {
         moment: Moment,
     ) -> Result<Answer, TierFault>
         requires { look_refusal self.old ≡ None }
-        ensures answer { (l : Look) → IsFoundBy l meta hit → FoundAnswer E.shard_count E.weighed moment self.old l (E.managed parts.old.manager) parts.old.lock
+        ensures answer { (l : Look) → IsFoundBy moment false l hit → FoundAnswer E.shard_count E.weighed moment self.old l (E.managed parts.old.manager) parts.old.lock
             result self.new (E.managed parts.new.manager) parts.new.lock }
         ensures shelf { MatchResult result (λ _. shelf_of parts.new.store ≡ turned self.old.reader closed (shelf_of parts.old.store))
             (λ _. Parts (reader_of hit) parts.old.store parts.new.store) }
@@ -104,7 +133,6 @@ impl<S: BuildHasher> Request<S> {
     {
         let mut hit = hit;
         let complete = hit.can_seek();
-        let fresh = moment.is_at_most(&meta.fresh_until());
         let unread = match take_body(&mut hit) {
             Ok(unread) => unread,
             Err(_) => {
@@ -114,7 +142,7 @@ impl<S: BuildHasher> Request<S> {
         };
         match self
             .cache
-            .cache_found(alloc, parts, meta, hit, status_by(fresh), moment)
+            .cache_found(alloc, parts, meta, hit, HitStatus::Expired, moment)
         {
             Ok(()) => {}
             Err(FoundFault::Memory) => return Err(out_of_memory(alloc)),
@@ -124,10 +152,31 @@ impl<S: BuildHasher> Request<S> {
         self.unread = unread;
         self.gave_read = self.cache.is_cache_locked();
         Ok(Answer::Found {
-            fresh,
+            fresh: false,
             complete,
             lock: self.given(),
         })
+    }
+
+    // Something was found, as it is told at the moment. A reader that isn't taken is spent.
+    fn found<E: EvictionManager>(
+        &mut self,
+        alloc: Global,
+        parts: &mut TierParts<S, E>,
+        found: FoundAt<MemHitHandler>,
+        moment: Moment,
+    ) -> Result<Answer, TierFault>
+        requires { look_refusal self.old ≡ None }
+        ensures answer { (l : Look) → IsFoundBy moment (is_told_fresh found) l (hit_told found) → FoundAnswer E.shard_count E.weighed moment self.old l (E.managed parts.old.manager) parts.old.lock
+            result self.new (E.managed parts.new.manager) parts.new.lock }
+        ensures shelf { MatchResult result (λ _. shelf_of parts.new.store ≡ turned self.old.reader closed (shelf_of parts.old.store))
+            (λ _. Parts (reader_of (hit_told found)) parts.old.store parts.new.store) }
+        ensures parts { parts.new ≡ record parts.old { store = parts.new.store; manager = parts.new.manager; lock = parts.new.lock } }
+    {
+        match found {
+            FoundAt::Fresh(fresh_until, hit) => self.found_fresh(alloc, parts, hit, fresh_until),
+            FoundAt::Stale(meta, hit) => self.found_stale(alloc, parts, meta, hit, moment),
+        }
     }
 
     /// Looks up what is stored for the request's key.
@@ -144,8 +193,8 @@ impl<S: BuildHasher> Request<S> {
         if let Some(fault) = self.look_refusal() {
             return Err(fault);
         }
-        match self.cache.cache_lookup(parts, moment) {
-            Ok(Some((meta, hit))) => self.found(alloc, parts, meta, hit, moment),
+        match self.cache.cache_lookup_at(parts, moment) {
+            Ok(Some(found)) => self.found(alloc, parts, found, moment),
             Ok(None) => {
                 self.gave_read = self.cache.is_cache_locked();
                 Ok(self.missed(parts))

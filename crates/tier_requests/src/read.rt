@@ -1,30 +1,37 @@
 //! Reads of a request.
-ghost use Rattle.std.specs.Prelude.{◌≡◌};
+ghost use Rattle.std.specs.Prelude.{◌≡◌, Some, []};
 ghost use Rattle.tier_model.specs.Checks.{has_reader};
 ghost use Rattle.tier_requests.specs.Shelves.{shelf_of};
 ghost use Rattle.tier_requests.specs.Rows.{ReadAnswer};
-ghost use Rattle.tier_requests.specs.Steps.{answer_for, HitAnswer, hit_after};
+ghost use Rattle.tier_requests.specs.Steps.{answer_for, read_whole, read_without};
 
 use crate::faults::out_of_memory;
 use crate::request::{Request, TierParts};
+use bytes::Bytes;
 use cache_store::storage::{ReadStep, StoreFault};
-use mem_cache::MemCache;
 use mem_cache::handlers::MemHitHandler;
 use std::alloc::Global;
 use std::hash::BuildHasher;
 use tier_model::event::{Answer, TierFault};
 
-// Reads on. All of a whole body was read.
-fn read_on<S: BuildHasher>(
-    hit: &mut MemHitHandler,
-    store: &MemCache<S>,
-) -> Result<ReadStep, StoreFault>
-    ensures answer { HitAnswer hit.old store.now result }
-    ensures after { hit.new ≡ hit_after hit.old result }
+// Reads all of a body, if it wasn't read yet: no bytes are left of it.
+fn read_whole(unread: &mut Option<Bytes>) -> Answer
+    ensures answer { result ≡ read_whole unread.old }
+    ensures left { unread.new ≡ Some [] }
 {
-    match hit {
-        MemHitHandler::Complete(_) => Ok(ReadStep::End),
-        MemHitHandler::Partial(stream) => stream.read(store),
+    match unread.replace(Bytes::new()) {
+        Some(bytes) => Answer::Bytes(bytes),
+        None => Answer::End,
+    }
+}
+
+// What is told where no reader is left.
+fn read_without(unread: &Option<Bytes>) -> Result<Answer, TierFault>
+    ensures { result ≡ read_without unread.now }
+{
+    match unread {
+        Some(_) => Ok(Answer::End),
+        None => Err(TierFault::WrongPhase),
     }
 }
 
@@ -41,19 +48,21 @@ fn answer_for(alloc: Global, step: Result<ReadStep, StoreFault>) -> Result<Answe
 }
 
 impl<S: BuildHasher> Request<S> {
-    /// Reads on in what the last look-up found, or in what the request writes.
+    /// Reads on in what the last look-up found, or in what the request writes. A body that was read is kept no longer.
     pub fn read<E>(&mut self, alloc: Global, parts: &TierParts<S, E>) -> Result<Answer, TierFault>
         ensures { ReadAnswer (has_reader self.old.reader) self.old (shelf_of parts.now.store) result self.new }
     {
-        if let Some(bytes) = self.unread.take() {
-            return Ok(Answer::Bytes(bytes));
-        }
         let Some(hit) = self.cache.take_reader() else {
-            return Err(TierFault::WrongPhase);
+            return read_without(&self.unread);
         };
-        let mut hit = hit;
-        let step = read_on(&mut hit, &parts.store);
-        self.cache.put_reader(hit);
-        answer_for(alloc, step)
+        match hit {
+            MemHitHandler::Complete(_read) => Ok(read_whole(&mut self.unread)),
+            MemHitHandler::Partial(stream) => {
+                let mut stream = stream;
+                let step = stream.read(&parts.store);
+                self.cache.put_reader(MemHitHandler::Partial(stream));
+                answer_for(alloc, step)
+            }
+        }
     }
 }

@@ -36,7 +36,8 @@ pub struct Request<S: BuildHasher> {
     pub(crate) wait: Option<Duration>,
     // Its last look-up gave it a wait.
     pub(crate) gave_read: bool,
-    // A whole body that was found, until it is read: to read it then takes no memory.
+    // A whole body that was found, until it is read: to read it then takes no memory. Once it was read its reader is gone, and no
+    // bytes stand here: nothing keeps the body.
     pub(crate) unread: Option<Bytes>,
 }
 

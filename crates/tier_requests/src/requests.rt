@@ -2,6 +2,8 @@
 ghost use Rattle.std.specs.Prelude.{◌≡◌, ◌↔◌, None, IsTrue, is_some, option_map, OnOk, IfErr};
 ghost use Rattle.std.specs.FinMap as finite;
 ghost use Rattle.tier_model.specs.Checks.{can_begin};
+ghost use Rattle.tier_requests.specs.Shelves.{shelf_of};
+ghost use Rattle.tier_requests.specs.Ends.{EndsAll};
 
 use crate::request::{Request, TierParts};
 use std::alloc::{AllocFailed, Global};
@@ -99,6 +101,8 @@ impl<S: BuildHasher> Requests<S> {
     pub fn end_all<E>(self, parts: &mut TierParts<S, E>)
     where
         S: Drop,
+        ensures ends { EndsAll self (shelf_of parts.old.store) parts.old.lock (shelf_of parts.new.store) parts.new.lock }
+        ensures parts { parts.new ≡ record parts.old { store = parts.new.store; lock = parts.new.lock } }
     {
         let Requests { mut table } = self;
         while let Some(&id) = table.keys().next() {

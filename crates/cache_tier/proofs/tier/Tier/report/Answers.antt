@@ -3,6 +3,7 @@ use denote.Param.{layout, number, param}
 use mir.Syntax.{Ty}
 use prog.Memory.{size}
 use Rattle.cache_tier.specs.contracts.tier.Tier.{the_row}
+use Rattle.tier_model.proofs.Carried.{IsReport-matches}
 use Rattle.cache_tier.proofs.Room.{inner_room}
 use Rattle.cache_tier.proofs.tier.Tier.report.Goals as goal
 
@@ -23,3 +24,7 @@ evicted_items-requires g c =
     let tier : Ty = layout (the_row (param 0 (number g.row.N)) (param 1 g.row.S) (param 2 g.row.S-Hasher) g.S.BuildHasher g.S.Hasher.Hasher) in
     let room : size tier < 2 ^ 63 = assumption in
     inner_room tier 2 1 _ _ refl _ _ refl room
+
+pub returns-clause-past : goal.returns-clause-past
+returns-clause-past g c =
+    rw (← c.self.view_is, c.count.ensures, c.all_bytes.ensures, c.total_items.ensures.sum, c.total_size.ensures, c.evicted_items.ensures) (λ start h p. IsReport-matches _ start h p.matches)

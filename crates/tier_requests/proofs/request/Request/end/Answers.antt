@@ -12,4 +12,4 @@ returns-clause-shelf g c =
     let old = c.args.parts.now.store in
     let new = c.end.new.parts.store in
     subst (λ (q : Request). shelf_of new ≡ turned q.reader closed (on_write q.write landed (shelf_of old))) c.self.view_is
-    (shelf-ends i.unread i.cache.reader i.cache.writer old new c.self.invariant.body c.end.ensures.store)
+    (shelf-ends i.unread i.cache.reader i.cache.writer old new c.end.ensures.store)

@@ -20,4 +20,4 @@ returns-clause-shelf g c =
       | in-Some w ↦ spends-some i.cache.reader w.in-Some.hit old new (sym c.take_reader.ensures.reader ∙ w.in-Some.is) (subst (λ (h : Held). Parts (reader_of w.in-Some.hit) old h) (sym (ap (λ p. p.store) w.parts-is)) w.finish.ensures.parts)
       | in_default w ↦ spends-none i.cache.reader old new (sym c.take_reader.ensures.reader ∙ w.in_default.is) (ap (λ p. p.store) w.parts-is)
     ] in
-    subst (λ (q : Request). shelf_of new ≡ turned q.reader closed (shelf_of old)) c.self.view_is (shelf-spent i.unread i.cache.reader old new c.self.invariant.body spends)
+    subst (λ (q : Request). shelf_of new ≡ turned q.reader closed (shelf_of old)) c.self.view_is (shelf-spent i.unread i.cache.reader old new spends)

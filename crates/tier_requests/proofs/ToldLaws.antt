@@ -1,0 +1,100 @@
+-- What a look-up at a moment told, as the look-up that it tells of had it.
+use Rattle.std.proofs.Common.{◌≡◌, ℕ, refl, ap, sym, subst, Bool, true, false, cond, Some, None, Option, List}
+use Rattle.std.specs.Prelude.{Result, Ok, Err}
+use Rattle.cache_words.specs.Time.{MomentValue, at_most}
+use Rattle.cache_words.specs.Key.{Key}
+use Rattle.cache_heads.specs.declared.meta.CacheMeta.{CacheMeta}
+use Rattle.cache_entries.specs.declared.entry.CacheEntryId.{CacheEntryId}
+use Rattle.cache_changes.specs.Store.{Stored}
+use Rattle.cache_lock.specs.declared.status.LockStatus.{LockStatus}
+use Rattle.cache_lock.specs.State.{LockState}
+use Rattle.cache_store.specs.declared.admission.Decision.{Decision}
+use Rattle.cache_store.specs.declared.storage.store.FoundAt.{FoundAt}
+use Rattle.cache_store.specs.declared.storage.store.FoundAt.TheVariants.{Fresh, Stale}
+use Rattle.cache_store.specs.Answers as store
+use Rattle.cache_store.specs.Held.{Held}
+use Rattle.cache_store.specs.Looks.{LookAnswer}
+use Rattle.mem_cache.specs.declared.handlers.MemHitHandler.{MemHitHandler}
+use Rattle.mem_cache.specs.Readings.{reader_of}
+use Rattle.request_store.specs.declared.faults.LookUpFault.{LookUpFault}
+use Rattle.request_store.specs.Looks.{valid_look}
+use Rattle.http_cache.specs.Points.{point}
+use Rattle.http_cache.specs.Lookups.{FindsNothing, LookUpAnswer}
+use Rattle.http_cache.specs.Freshes.{LookUpAtAnswer}
+use Rattle.tier_requests.specs.Plain.{Driven}
+use Rattle.tier_requests.specs.Finds.{is_told_fresh, hit_told}
+
+-- with this reader a meta was found that is fresh at the moment, or isn't
+pub record FindsAs (t : MomentValue) (v : Bool) (look : Option store.Look) (hit : MemHitHandler) (r r1 : Driven) (h mid : Held) (s s1 : LockState) : Type 0 where
+  pub meta : CacheMeta
+  pub fresh : at_most t meta.internal.fresh_until ≡ v
+  pub found : LookAnswer reader_of (valid_look r.valid_after look) h (Ok (Some (meta, hit))) mid
+  pub request : r1 ≡ r
+  pub lock : s1 ≡ s
+
+abbrev Told : Type 0
+Told = Result (Option (FoundAt MemHitHandler)) LookUpFault
+
+abbrev hit_of : MemHitHandler → Told → MemHitHandler
+hit_of other (Ok (Some (Fresh until hit))) = hit
+hit_of other (Ok (Some (Stale meta hit))) = hit
+hit_of other _ = other
+
+abbrev fault_of : LookUpFault → Told → LookUpFault
+fault_of other (Ok found) = other
+fault_of other (Err fault) = fault
+
+abbrev told_ok : FoundAt MemHitHandler → Told
+told_ok found = Ok (Some found)
+
+module _ (weight : MemHitHandler → ℕ) (id : MemHitHandler → Option CacheEntryId) (weigh : Stored CacheMeta → ℕ) (stored : Option CacheEntryId) (custom : List ℕ → LockStatus) (decides : Key → Decision → Type 0)
+    (t : MomentValue) (look : Option store.Look) (r r1 : Driven) (h mid : Held) (s s1 : LockState) where
+  abbrev Tells : Told → Type 0
+  Tells res = LookUpAtAnswer reader_of (λ n. n) weight id weigh stored custom decides t look (point r h s) res (point r1 mid s1)
+
+  abbrev Answers : Result (Option (CacheMeta × MemHitHandler)) LookUpFault → Type 0
+  Answers res = LookUpAnswer reader_of (λ n. n) custom decides t look (point r h s) res (point r1 mid s1)
+
+  found_as : (v : Bool) (meta : CacheMeta) (hit found : MemHitHandler) → at_most t meta.internal.fresh_until ≡ v → hit ≡ found → Answers (Ok (Some (meta, found))) → FindsAs t v look hit r r1 h mid s s1
+  found_as v meta hit found fresh same a = record {
+    meta = meta;
+    fresh = fresh;
+    found = subst (λ (x : MemHitHandler). LookAnswer reader_of (valid_look r.valid_after look) h (Ok (Some (meta, x))) mid) (sym same) a.0;
+    request = a.1;
+    lock = a.2;
+  }
+
+  -- a response that is fresh
+  told-fresh : (until : MomentValue) (hit : MemHitHandler) → Tells (Ok (Some (Fresh until hit))) → FindsAs t true look hit r r1 h mid s s1
+  told-fresh until hit (Ok (Some (meta, found)), a, tells, e) = by_test (at_most t meta.internal.fresh_until) refl e
+    where
+      by_test : (v : Bool) → at_most t meta.internal.fresh_until ≡ v → told_ok (Fresh until hit) ≡ told_ok (cond v (Fresh meta.internal.fresh_until found) (Stale meta found)) → FindsAs t true look hit r r1 h mid s s1
+      by_test true fresh e = found_as true meta hit found fresh (ap (hit_of hit) e) a
+      by_test false fresh e = absurd cc
+  told-fresh until hit (Ok None, a, tells, e) = absurd cc
+  told-fresh until hit (Err fault, a, tells, e) = absurd cc
+
+  -- one that is fresh no more
+  told-stale : (meta : CacheMeta) (hit : MemHitHandler) → Tells (Ok (Some (Stale meta hit))) → FindsAs t false look hit r r1 h mid s s1
+  told-stale told hit (Ok (Some (meta, found)), a, tells, e) = by_test (at_most t meta.internal.fresh_until) refl e
+    where
+      by_test : (v : Bool) → at_most t meta.internal.fresh_until ≡ v → told_ok (Stale told hit) ≡ told_ok (cond v (Fresh meta.internal.fresh_until found) (Stale meta found)) → FindsAs t false look hit r r1 h mid s s1
+      by_test true fresh e = absurd cc
+      by_test false fresh e = found_as false meta hit found fresh (ap (hit_of hit) e) a
+  told-stale told hit (Ok None, a, tells, e) = absurd cc
+  told-stale told hit (Err fault, a, tells, e) = absurd cc
+
+  pub told-found : (found : FoundAt MemHitHandler) → Tells (Ok (Some found)) → FindsAs t (is_told_fresh found) look (hit_told found) r r1 h mid s s1
+  told-found (Fresh until hit) x = told-fresh until hit x
+  told-found (Stale meta hit) x = told-stale meta hit x
+
+  -- nothing was found
+  pub told-none : Tells (Ok None) → FindsNothing reader_of (λ n. n) custom decides t look (point r h s) (Ok tt) (point r1 mid s1)
+  told-none (Ok None, a, tells, e) = a
+  told-none (Ok (Some found), a, tells, e) = absurd cc
+  told-none (Err fault, a, tells, e) = absurd cc
+
+  -- the store or the lock refuses
+  pub told-fault : (fault : LookUpFault) → Tells (Err fault) → Answers (Err fault)
+  told-fault fault (Err found, a, tells, e) = subst (λ (x : LookUpFault). Answers (Err x)) (sym (ap (fault_of fault) e)) a
+  told-fault fault (Ok found, a, tells, e) = absurd cc
