@@ -3,4 +3,5 @@ mod answers;
 mod lines;
 mod lockstep;
 mod options;
+mod restarts;
 mod streams;

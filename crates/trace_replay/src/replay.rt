@@ -99,6 +99,7 @@ pub fn run<R: Read, W: Write>(
         × Appends (W.contents writer.old) (W.contents writer.new) text
         × IsBegun (start_of options.now) (requests_in input) text)) }
     ensures too_many { result ≡ Err ReplayError.TooManyReads → IfSome (R.remaining reader.old) (λ input. 2 ^ 64 - 1 ≤ length (lines_in input)) }
+    ensures unsaved { result ≡ Err ReplayError.Folder → ⊥ }
 {
     match options.shards {
         ShardCount::One => run_over::<R, W, 1>(alloc, hasher, reader, writer, options),
@@ -123,6 +124,7 @@ fn run_over<R: Read, W: Write, const N: usize>(
         × Appends (W.contents writer.old) (W.contents writer.new) text
         × IsBegun (start_over N options.now) (requests_in input) text)) }
     ensures too_many { result ≡ Err ReplayError.TooManyReads → IfSome (R.remaining reader.old) (λ input. 2 ^ 64 - 1 ≤ length (lines_in input)) }
+    ensures unsaved { result ≡ Err ReplayError.Folder → ⊥ }
 {
     let mut tier = tier_for::<N>(alloc, hasher, options)?;
     let mut rng = Pcg64::seed_from_u64(options.seed);

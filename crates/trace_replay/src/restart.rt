@@ -1,9 +1,10 @@
 //! Replays that start from a folder and save to it.
-ghost use Rattle.std.specs.Prelude.{◌≡◌, ◌<◌, ℕ, List, ◌++◌, length, IfOk, IfErr, OnOk, IfSome, None, [], Ok, Err, Result, string_bytes};
+ghost use Rattle.std.specs.Prelude.{◌≡◌, ◌⊎◌, ◌<◌, ◌≤◌, ◌-◌, ◌^◌, ℕ, List, ◌++◌, length, IfOk, IfErr, OnOk, OnErr, IfSome, None, [], Ok, Err, Result, string_bytes};
 ghost use Rattle.std.specs.Io.KnownBytes.{Appends};
 ghost use Rattle.trace_replay.specs.CommandLine.{count_of};
-ghost use Rattle.trace_replay.specs.Replays.{requests_in, ended, IsReplay};
-ghost use Rattle.trace_replay.specs.Restarts.{IsRestart, counts_text, loaded_text, next_words};
+ghost use Rattle.trace_replay.specs.Outputs.{HasBegun};
+ghost use Rattle.trace_replay.specs.Replays.{requests_in, lines_in, ended, IsBegun, IsReplay};
+ghost use Rattle.trace_replay.specs.Restarts.{EndsEarly, IsRestart, IsUntouched, counts_text, last_line, loaded_text, next_words};
 ghost use Rattle.trace_replay.specs.Words.{pcg_words};
 ghost use Rattle.trace_replay.specs.CommandLine.{start_of};
 ghost use Rattle.cache_tier.specs.Restarts.{SavesOrder, LoadsOrder};
@@ -32,8 +33,8 @@ use std::io::{Read, Write};
 ///
 /// # Errors
 ///
-/// Those of `run`, before anything is saved. `Folder` where no shard was saved, and not for want of memory alone: the last line is
-/// written all the same.
+/// Those of `run`. Nothing is saved where they come before the last line: the directory is as it was before, or as the loading left it,
+/// without temporary files. `Folder` where no shard was saved, and not for want of memory alone: the last line is written all the same.
 pub fn run_in<F: Folder, R: Read, W: Write>(
     alloc: Global,
     hasher: SecretHasher,
@@ -48,9 +49,17 @@ pub fn run_in<F: Folder, R: Read, W: Write>(
     ensures unsaved { IfSome options.now.recency (λ dir. result ≡ Err ReplayError.Folder → IfSome (R.remaining reader.old) (λ input. (text : List ℕ)
         × Appends (W.contents writer.old) (W.contents writer.new) text
         × IsRestart F.did F.failures_of F.keeps F.files (count_of options.now.shards) options.now (string_bytes dir) (requests_in input) folder.old folder.new text result)) }
+    ensures early { IfSome options.now.recency (λ dir. OnErr result (IfSome (R.remaining reader.old) (λ input. (text : List ℕ)
+        × Appends (W.contents writer.old) (W.contents writer.new) text
+        × EndsEarly F.did F.failures_of F.keeps F.files (count_of options.now.shards) options.now (string_bytes dir) (requests_in input) folder.old folder.new text))) }
+    ensures too_many { result ≡ Err ReplayError.TooManyReads → IfSome (R.remaining reader.old) (λ input. 2 ^ 64 - 1 ≤ length (lines_in input)) }
     ensures runs { options.now.recency ≡ None → OnOk result (IfSome (R.remaining reader.old) (λ input. (text : List ℕ)
         × Appends (W.contents writer.old) (W.contents writer.new) text
         × IsReplay (start_of options.now) (requests_in input) text)) }
+    ensures begun { options.now.recency ≡ None → OnErr result (IfSome (R.remaining reader.old) (λ input. (text : List ℕ)
+        × Appends (W.contents writer.old) (W.contents writer.new) text
+        × IsBegun (start_of options.now) (requests_in input) text)) }
+    ensures no_folder { options.now.recency ≡ None → result ≡ Err ReplayError.Folder → ⊥ }
     ensures untouched { options.now.recency ≡ None → folder.new ≡ folder.old }
 {
     let Some(dir) = &options.recency else {
@@ -87,6 +96,10 @@ fn restart<F: Folder, R: Read, W: Write, const N: usize>(
     ensures unsaved { result ≡ Err ReplayError.Folder → IfSome (R.remaining reader.old) (λ input. (text : List ℕ)
         × Appends (W.contents writer.old) (W.contents writer.new) text
         × IsRestart F.did F.failures_of F.keeps F.files N options.now dir.now (requests_in input) folder.old folder.new text result) }
+    ensures early { OnErr result (IfSome (R.remaining reader.old) (λ input. (text : List ℕ)
+        × Appends (W.contents writer.old) (W.contents writer.new) text
+        × EndsEarly F.did F.failures_of F.keeps F.files N options.now dir.now (requests_in input) folder.old folder.new text)) }
+    ensures too_many { result ≡ Err ReplayError.TooManyReads → IfSome (R.remaining reader.old) (λ input. 2 ^ 64 - 1 ≤ length (lines_in input)) }
 {
     let mut tier = tier_for::<N>(alloc, hasher, options)?;
     let mut rng = Pcg64::seed_from_u64(options.seed);
@@ -108,6 +121,9 @@ fn start<F: Folder, W: Write, const N: usize>(
     ensures loaded { OnOk result ((report : ShardLoadReport LoadFault)
         × LoadsOrder F.did F.failures_of F.keeps F.files N dir.now tier.old.managed tier.new.managed folder.old folder.new (Ok report)
         × Appends (W.contents writer.old) (W.contents writer.new) (ended (loaded_text report))) }
+    ensures early { OnErr result ((IsUntouched F.did F.failures_of F.keeps F.files folder.old folder.new [] × Appends (W.contents writer.old) (W.contents writer.new) [])
+        ⊎ ((report : ShardLoadReport LoadFault) × LoadsOrder F.did F.failures_of F.keeps F.files N dir.now tier.old.managed tier.new.managed folder.old folder.new (Ok report)
+        × HasBegun (W.contents writer.old) (W.contents writer.new) (ended (loaded_text report)))) }
     ensures others { tier.new ≡ record tier.old { managed = tier.new.managed } }
     ensures past { HasPast (opening_of tier.new) tier.new [] }
     ensures other { IfErr result IsOther }
@@ -145,6 +161,10 @@ fn save<F: Folder, W: Write, const N: usize>(
         × Appends (W.contents writer.old) (W.contents writer.new) (ended (counts_text report.saved (length report.failed.items)))) }
     ensures unsaved { result ≡ Err ReplayError.Folder → SavesOrder F.did F.failures_of F.keeps F.files N dir.now tier.now.managed words.now folder.old folder.new (Err TierFault.Folder)
         × Appends (W.contents writer.old) (W.contents writer.new) (ended (counts_text 0 N)) }
+    ensures early { OnErr result ((came : Result (ShardSaveReport PackWriteFault) TierFault)
+        × SavesOrder F.did F.failures_of F.keeps F.files N dir.now tier.now.managed words.now folder.old folder.new came
+        × HasBegun (W.contents writer.old) (W.contents writer.new) (last_line N came)) }
+    ensures too_many { result ≡ Err ReplayError.TooManyReads → ⊥ }
 {
     match tier.save(folder, dir, words) {
         Ok(report) => {
@@ -178,6 +198,7 @@ fn saved_line(alloc: Global, saved: usize, failed: usize) -> Result<String, Allo
 // Writes a line, and hands it on.
 fn write_line<W: Write>(alloc: Global, line: &str, writer: &mut W) -> Result<(), ReplayError>
     ensures written { OnOk result (Appends (W.contents writer.old) (W.contents writer.new) (ended line.now)) }
+    ensures begun { OnErr result (HasBegun (W.contents writer.old) (W.contents writer.new) (ended line.now)) }
     ensures other { IfErr result IsOther }
 {
     let mut waiting = Vec::new(alloc);

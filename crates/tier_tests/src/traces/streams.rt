@@ -10,7 +10,7 @@ const HASHER: SecretHasher = SecretHasher { word: 2 };
 
 // Gives its bytes so many at a time, and then fails.
 #[derive(Drop)]
-struct FailingReader<'a>(&'a [u8], usize);
+pub(crate) struct FailingReader<'a>(pub(crate) &'a [u8], pub(crate) usize);
 
 impl Read for FailingReader<'_> {
     fn read(&mut self, buf: &mut [u8]) -> io::Result<usize> {
@@ -76,9 +76,9 @@ fn long_lines_are_read_whole(rt: HostRuntime) -> Result<(), Fail> {
 
 // Takes so many bytes, and then fails; a flush fails where that is said.
 #[derive(Drop)]
-struct FailingWriter {
-    room: usize,
-    flushes: bool,
+pub(crate) struct FailingWriter {
+    pub(crate) room: usize,
+    pub(crate) flushes: bool,
 }
 
 impl Write for FailingWriter {
