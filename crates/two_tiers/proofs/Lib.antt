@@ -1,0 +1,13 @@
+pub mod Requests
+pub mod Readers
+pub mod Took
+pub mod Calls
+pub mod Looking
+pub mod LookedUp
+pub mod Serving
+pub mod Alike
+pub mod Lengths
+pub mod Seeing
+pub mod Doing
+pub mod Comparing
+pub mod Both
