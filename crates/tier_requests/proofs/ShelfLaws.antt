@@ -22,9 +22,10 @@ use Rattle.tier_model.specs.Shelf as shelf
 use Rattle.tier_model.specs.Shelf.{InFlight, Shelf, Look, look, look_by, readable, joined, parted, landed, removed}
 use Rattle.tier_model.specs.After.{pieced}
 use Rattle.tier_model.proofs.BodyLaws.{ties-same, body_at-without}
+use Rattle.tier_model.proofs.FlightLaws.{shown-append, shown-marked, shown-on, find-shown}
 use Rattle.tier_model.proofs.Tables.{bytes_tied, get-keyed}
 use Rattle.tier_requests.specs.Shelves.{own_meta, found_in, row_of, bodies_in, flight_of, readers_of, shelf_of}
-use Rattle.tier_requests.proofs.FlightLaws.{flights-append, flights-marked, flights-on, flights-landed, flights-found, flight-at, flights-agree}
+use Rattle.tier_requests.proofs.FlightLaws.{flights-landed, flight-at, flights-agree}
 use Rattle.tier_requests.proofs.ReadingLaws.{table_of, reading-found, table-same, table-joined, table-parted, table-left}
 
 -- ---- bodies
@@ -78,20 +79,20 @@ shelf-parted n h0 h e = only-readers h0 h e.store e.next ∙ ap (λ t. record (s
 -- ---- writes in flight
 
 pub shelf-begun : (k : StoredKey) (meta : CacheMeta) (h : Held) → shelf_of (begun k meta h) ≡ record (shelf.begun k (own_meta meta) (shelf_of h)) { writes = h.next + 1 }
-shelf-begun k meta h = ap (λ (fs : List InFlight). record (shelf_of h) { flying = fs; writes = h.next + 1 }) (flights-append h.store.flying (store.begun (record { number = h.next; key = k; meta = meta })))
+shelf-begun k meta h = ap (λ (fs : List InFlight). record (shelf_of h) { flying = fs; writes = h.next + 1 }) (shown-append own_meta h.store.flying (store.begun (record { number = h.next; key = k; meta = meta })))
 
 -- bytes came to a write, and maybe its last
 pub shelf-written : (n : ℕ) (bytes : List ℕ) (last : Bool) (h0 h : Held) → h ≡ record h0 { store = after_write n bytes last h0.store } → shelf_of h ≡ pieced bytes last n (shelf_of h0)
 shelf-written n bytes last h0 h e = ap shelf_of e ∙ by_last last
   where
     added : (fs : List (Flying CacheMeta)) → map flight_of (store.on_flying n (store.with_bytes bytes) fs) ≡ shelf.on_flying n (λ f. record f { bytes = f.bytes ++ bytes }) (map flight_of fs)
-    added fs = flights-on n (store.with_bytes bytes) (λ f. record f { bytes = f.bytes ++ bytes }) fs (λ f. refl)
+    added fs = shown-on own_meta n (store.with_bytes bytes) (λ f. record f { bytes = f.bytes ++ bytes }) fs (λ f. refl)
 
     by_last : (last : Bool) → shelf_of (record h0 { store = after_write n bytes last h0.store }) ≡ pieced bytes last n (shelf_of h0)
     by_last false = ap (λ (fs : List InFlight). record (shelf_of h0) { flying = fs }) (added h0.store.flying)
     by_last true =
         ap (λ (fs : List InFlight). record (shelf_of h0) { flying = fs })
-        (flights-on n store.ended (λ f. record f { ended = true }) (store.on_flying n (store.with_bytes bytes) h0.store.flying) (λ f. refl)
+        (shown-on own_meta n store.ended (λ f. record f { ended = true }) (store.on_flying n (store.with_bytes bytes) h0.store.flying) (λ f. refl)
         ∙ ap (shelf.on_flying n (λ f. record f { ended = true })) (added h0.store.flying))
 
 -- a write is given up
@@ -111,7 +112,7 @@ shelf-left n h = λ i. record {
 
 -- what a look-up finds, by what the store has
 pub look-of : (k : StoredKey) (h : Held) → look k (shelf_of h) ≡ look_by (option_map flight_of (find (flies_for k) h.store.flying)) (option_map found_in (body_at k h.store))
-look-of k h = rw (flights-found (flies_for k) (shelf.flies_for k) h.store.flying (λ f. refl), body-found k h.store) refl
+look-of k h = rw (find-shown own_meta (flies_for k) (shelf.flies_for k) h.store.flying (λ f. refl), body-found k h.store) refl
 
 -- what there is to read of a write
 pub readable-same : (n : ℕ) (h : Held) → readable n (shelf_of h) ≡ readers.readable n h
@@ -127,7 +128,7 @@ readable-same n h = rw (flight-at n h.store.flying, reading-found n h.readings) 
 pub shelf-removed : (k : StoredKey) (h0 h : Held) → Agree h.store (after (removes k) h0.store) → h.next ≡ h0.next → h.readings ≡ h0.readings → shelf_of h ≡ removed k (shelf_of h0)
 shelf-removed k h0 h agree next readings = λ i. record {
   bodies = bodies i;
-  flying = (flights-agree h.store.flying (map (store.marked (Some k)) h0.store.flying) agree.flying ∙ flights-marked (Some k) h0.store.flying) i;
+  flying = (flights-agree h.store.flying (map (store.marked (Some k)) h0.store.flying) agree.flying ∙ shown-marked own_meta (Some k) h0.store.flying) i;
   readers = table_of (readings i);
   writes = next i;
 }
