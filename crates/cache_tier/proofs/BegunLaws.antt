@@ -6,6 +6,7 @@ use Rattle.std.specs.Ordering.{nat_cmp}
 use Rattle.cache_words.specs.Time.{MomentValue}
 use Rattle.cache_heads.specs.declared.meta.CacheMeta.{CacheMeta}
 use Rattle.cache_heads.specs.declared.reason.NoCacheReason.{NoCacheReason}
+use Rattle.cache_evict.specs.Managed.{Managed}
 use Rattle.cache_lock.specs.State.{LockState}
 use Rattle.tier_model.specs.declared.event.Action.TheVariants.{Begin}
 use Rattle.tier_model.specs.declared.event.Answer.TheVariants.{Begun, Uncacheable}
@@ -20,6 +21,7 @@ use Rattle.tier_requests.specs.Shelves.{own_meta}
 use Rattle.tier_requests.specs.Rows.{Begins, BeginsNot, GivesUp, OnOpen}
 use Rattle.cache_tier.specs.Acts.{Took}
 use Rattle.cache_tier.specs.Heads.{JudgesTo, IsJudged}
+use Rattle.cache_tier.proofs.TookLaws.{Took-to}
 use Rattle.cache_tier.proofs.BeginLaws.{Took-begin-none, Took-begin-wrong, Took-begin-memory, Took-bad-head, Took-too-early, Took-uncacheable, Took-begun, Took-not-begun}
 
 -- whether the request of a number may begin a write, if it is open
@@ -52,10 +54,10 @@ module _ (s : State) (t : MomentValue) (id : ℕ) (head : List ℕ) where
     begin-fault _ j = no_memory _ j
 
     -- or may not be kept
-    pub begin-given-up : (reason : NoCacheReason) (requests : FinMap nat_cmp Request) (shelf : Shelf) (lock : LockState) → JudgesTo t head (not_kept reason)
+    begin_given_up : (reason : NoCacheReason) (requests : FinMap nat_cmp Request) (shelf : Shelf) (lock : LockState) → JudgesTo t head (not_kept reason)
         → OnOpen id s.requests ⊥ (λ q left. GivesUp q s.shelf s.lock left shelf lock) requests
         → Took s t (Begin id head) (Ok (Uncacheable reason)) (record s { requests = requests; shelf = shelf; lock = lock })
-    begin-given-up reason requests shelf lock j h = by_open (get s.requests id) refl h
+    begin_given_up reason requests shelf lock j h = by_open (get s.requests id) refl h
       where
         by_open : (x : Option Request) → get s.requests id ≡ x → MatchOption x (⊥ × (requests ≡ s.requests)) (λ q. (left : Request) × GivesUp q s.shelf s.lock left shelf lock × (requests ≡ insert s.requests id left))
             → Took s t (Begin id head) (Ok (Uncacheable reason)) (record s { requests = requests; shelf = shelf; lock = lock })
@@ -66,10 +68,19 @@ module _ (s : State) (t : MomentValue) (id : ℕ) (head : List ℕ) where
             let can : can_begin q.phase q.gave_read ≡ true = subst (λ (x : Request). can_begin x.phase x.gave_read ≡ true) same p.2 in
             rw (h.2, h.1.request, h.1.shelf, h.1.lock) (Took-uncacheable s t id head q there can j.0 j.1 reason j.2)
 
+    -- the state that is left, its order of use by another name
+    pub begin-given-up : (reason : NoCacheReason) (managed : Managed) (shelf : Shelf) (lock : LockState) (requests : FinMap nat_cmp Request) → managed ≡ s.managed → JudgesTo t head (not_kept reason)
+        → OnOpen id s.requests ⊥ (λ q left. GivesUp q s.shelf s.lock left shelf lock) requests
+        → Took s t (Begin id head) (Ok (Uncacheable reason)) (record s { managed = managed; shelf = shelf; lock = lock; requests = requests })
+    begin-given-up reason managed shelf lock requests same j h =
+        Took-to s t (Begin id head) (Ok (Uncacheable reason)) (record s { requests = requests; shelf = shelf; lock = lock })
+        (record s { managed = managed; shelf = shelf; lock = lock; requests = requests }) (λ k. record s { managed = same k; shelf = shelf; lock = lock; requests = requests })
+        (begin_given_up reason requests shelf lock j h)
+
     module _ (meta : CacheMeta) (j : JudgesTo t head (kept meta)) where
-      pub begin-begun : (requests : FinMap nat_cmp Request) (shelf : Shelf) (lock : LockState) → own_meta meta ≡ meta → OnOpen id s.requests ⊥ (λ q left. Begins meta q s.shelf s.lock left shelf lock) requests
+      begin_begun : (requests : FinMap nat_cmp Request) (shelf : Shelf) (lock : LockState) → own_meta meta ≡ meta → OnOpen id s.requests ⊥ (λ q left. Begins meta q s.shelf s.lock left shelf lock) requests
           → Took s t (Begin id head) (Ok Begun) (record s { requests = requests; shelf = shelf; lock = lock })
-      begin-begun requests shelf lock own h = by_open (get s.requests id) refl h
+      begin_begun requests shelf lock own h = by_open (get s.requests id) refl h
         where
           by_open : (x : Option Request) → get s.requests id ≡ x → MatchOption x (⊥ × (requests ≡ s.requests)) (λ q. (left : Request) × Begins meta q s.shelf s.lock left shelf lock × (requests ≡ insert s.requests id left))
               → Took s t (Begin id head) (Ok Begun) (record s { requests = requests; shelf = shelf; lock = lock })
@@ -80,6 +91,19 @@ module _ (s : State) (t : MomentValue) (id : ℕ) (head : List ℕ) where
               let can : can_begin q.phase q.gave_read ≡ true = subst (λ (x : Request). can_begin x.phase x.gave_read ≡ true) same p.2 in
               rw h.2 (Took-begun s t id head q there can j.0 j.1 meta j.2 h.0 shelf lock own h.1)
 
+      pub begin-begun : (managed : Managed) (shelf : Shelf) (lock : LockState) (requests : FinMap nat_cmp Request) → managed ≡ s.managed → own_meta meta ≡ meta
+          → OnOpen id s.requests ⊥ (λ q left. Begins meta q s.shelf s.lock left shelf lock) requests
+          → Took s t (Begin id head) (Ok Begun) (record s { managed = managed; shelf = shelf; lock = lock; requests = requests })
+      begin-begun managed shelf lock requests same own h =
+          Took-to s t (Begin id head) (Ok Begun) (record s { requests = requests; shelf = shelf; lock = lock }) (record s { managed = managed; shelf = shelf; lock = lock; requests = requests })
+          (λ k. record s { managed = same k; shelf = shelf; lock = lock; requests = requests }) (begin_begun requests shelf lock own h)
+
+      begin_not : (f : TierFault) (shelf : Shelf) → BeginsNot s.shelf f shelf → Took s t (Begin id head) (Err f) (record s { shelf = shelf })
+      begin_not f shelf b = let q = some-there (get s.requests id) true may in Took-not-begun s t id head q.0 q.1 q.2 j.0 j.1 meta j.2 f shelf b
+
       -- the write began not, or was given up at once
-      pub begin-not : (f : TierFault) (shelf : Shelf) → BeginsNot s.shelf f shelf → Took s t (Begin id head) (Err f) (record s { shelf = shelf })
-      begin-not f shelf b = let q = some-there (get s.requests id) true may in Took-not-begun s t id head q.0 q.1 q.2 j.0 j.1 meta j.2 f shelf b
+      pub begin-not : (f : TierFault) (managed : Managed) (shelf : Shelf) (lock : LockState) (requests : FinMap nat_cmp Request) → managed ≡ s.managed → lock ≡ s.lock → requests ≡ s.requests
+          → BeginsNot s.shelf f shelf → Took s t (Begin id head) (Err f) (record s { managed = managed; shelf = shelf; lock = lock; requests = requests })
+      begin-not f managed shelf lock requests same unlocked kept b =
+          Took-to s t (Begin id head) (Err f) (record s { shelf = shelf }) (record s { managed = managed; shelf = shelf; lock = lock; requests = requests })
+          (λ k. record s { managed = same k; shelf = shelf; lock = unlocked k; requests = kept k }) (begin_not f shelf b)

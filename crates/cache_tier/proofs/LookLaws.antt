@@ -32,7 +32,7 @@ use Rattle.tier_requests.specs.Looks.{Lent, lent, LeavesLock, used_by, UseRefuse
 use Rattle.tier_requests.specs.Rows.{OnOpen}
 use Rattle.cache_tier.specs.Acts.{Took}
 use Rattle.cache_tier.specs.Counts.{found_after, absent_after}
-use Rattle.cache_tier.proofs.TookLaws.{insert-same, plain_call, Took-refused}
+use Rattle.cache_tier.proofs.TookLaws.{insert-same, plain_call, Took-refused, Took-to}
 
 -- what the manager makes of a size
 abbrev pub least_one : ℕ → ℕ
@@ -184,7 +184,7 @@ module _ (s : State) (t : MomentValue) (id : ℕ) where
         let is : after ≡ lent s.shelf s.managed after.lock = λ i. record { shelf = p.2 i; managed = p.3 i; lock = after.lock } in
         rw (is, p.1, insert-same s.requests id q there) (Took-look-fault q there passes f (why_of q there passes n k f p.0) after.lock p.4)
 
-    pub Took-look : (o : Outcome) (requests : FinMap nat_cmp Request) (after : Lent) → total_size after.managed < 2 ^ 64
+    Took-look : (o : Outcome) (requests : FinMap nat_cmp Request) (after : Lent) → total_size after.managed < 2 ^ 64
         → OnOpen id s.requests ((o ≡ Err NoRequest) × (after ≡ before)) (λ q left. LookAnswer n least_one t q before o left after) requests
         → Took s t (LookUp id) o (looked_to requests after (found_after o s.found) (absent_after o s.absent))
     Took-look o requests after small h = by_open (get s.requests id) refl h
@@ -205,3 +205,10 @@ module _ (s : State) (t : MomentValue) (id : ℕ) where
             → Took s t (LookUp id) o (looked_to requests after (found_after o s.found) (absent_after o s.absent))
         by_open None none h = rw (h.0.0, h.0.1, h.1) (Took-look-refused NoRequest (ap checked none))
         by_open (Some q) there h = rw h.2 (by_check q h.0 (look_refusal q) there refl h.1)
+
+    -- with the counts by other names
+    pub Took-look-counted : (o : Outcome) (requests : FinMap nat_cmp Request) (after : Lent) (found missed : ℕ) → total_size after.managed < 2 ^ 64
+        → OnOpen id s.requests ((o ≡ Err NoRequest) × (after ≡ before)) (λ q left. LookAnswer n least_one t q before o left after) requests
+        → found ≡ found_after o s.found → missed ≡ absent_after o s.absent → Took s t (LookUp id) o (looked_to requests after found missed)
+    Took-look-counted o requests after found missed small h a b =
+        Took-to s t (LookUp id) o (looked_to requests after (found_after o s.found) (absent_after o s.absent)) (looked_to requests after found missed) (λ k. looked_to requests after (a k) (b k)) (Took-look o requests after small h)

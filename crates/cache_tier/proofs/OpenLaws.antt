@@ -5,6 +5,7 @@ use Rattle.std.specs.FinMap.{FinMap, get, insert, remove}
 use Rattle.std.specs.Ordering.{nat_cmp}
 use Rattle.cache_words.specs.Time.{MomentValue}
 use Rattle.cache_words.specs.Key.{CacheKeyValue}
+use Rattle.cache_evict.specs.Managed.{Managed}
 use Rattle.cache_lock.specs.Changes.{Change}
 use Rattle.cache_lock.specs.State.{LockState, after_all}
 use Rattle.tier_model.specs.declared.event.Action.TheVariants.{Open, Drop}
@@ -18,13 +19,13 @@ use Rattle.tier_model.specs.Checks.{refusal, unless, unless_open}
 use Rattle.tier_model.specs.Step.{AllowsBy}
 use Rattle.tier_model.specs.After.{by_request, opened_request, turned, on_write, leave_of, without_request, with_counts}
 use Rattle.cache_tier.specs.Acts.{Took}
-use Rattle.cache_tier.proofs.TookLaws.{plain_call, Took-refused}
+use Rattle.cache_tier.proofs.TookLaws.{plain_call, Took-refused, Took-to}
 
 module _ (s : State) (t : MomentValue) (id : ℕ) (key : CacheKeyValue) (asks : Bool) where
   passed : get s.requests id ≡ None → refusal s (Open id key asks) ≡ None
   passed none = ap (λ (o : Option Request). unless (not (is_some o)) IdInUse) none
 
-  pub Took-open : get s.requests id ≡ None → Took s t (Open id key asks) (Ok Opened) (record s { requests = insert s.requests id (opened_request s.wait (entry_of key) asks) })
+  Took-open : get s.requests id ≡ None → Took s t (Open id key asks) (Ok Opened) (record s { requests = insert s.requests id (opened_request s.wait (entry_of key) asks) })
   Took-open none = (
     plain_call t (Open id key asks) (Ok Opened) false,
     refl,
@@ -37,6 +38,24 @@ module _ (s : State) (t : MomentValue) (id : ℕ) (key : CacheKeyValue) (asks : 
     },
     refl,
   )
+
+  -- the open requests by another name
+  pub Took-opened : (requests : FinMap nat_cmp Request) → requests ≡ insert s.requests id (opened_request s.wait (entry_of key) asks) → get s.requests id ≡ None
+      → Took s t (Open id key asks) (Ok Opened) (record s { requests = requests })
+  Took-opened requests same none =
+      Took-to s t (Open id key asks) (Ok Opened) (record s { requests = insert s.requests id (opened_request s.wait (entry_of key) asks) }) (record s { requests = requests }) (λ k. record s { requests = same k })
+      (Took-open none)
+
+  -- a request that was opened and ended at once left all as before
+  pub ended-at-once : (q : Request) (managed : Managed) (shelf : Shelf) (lock : LockState) (requests : FinMap nat_cmp Request) → q ≡ opened_request s.wait (entry_of key) asks → managed ≡ s.managed
+      → shelf ≡ turned q.reader closed (on_write q.write landed s.shelf) → lock ≡ after_all (leave_of q.held) s.lock → requests ≡ s.requests
+      → record s { managed = managed; shelf = shelf; lock = lock; requests = requests } ≡ s
+  ended-at-once q managed shelf lock requests opened same shelves locks kept = λ k. record s {
+    managed = same k;
+    shelf = (shelves ∙ ap (λ (x : Request). turned x.reader closed (on_write x.write landed s.shelf)) opened) k;
+    lock = (locks ∙ ap (λ (x : Request). after_all (leave_of x.held) s.lock) opened) k;
+    requests = kept k;
+  }
 
   pub Took-open-memory : get s.requests id ≡ None → Took s t (Open id key asks) (Err (Memory nothing_done)) s
   Took-open-memory none = (

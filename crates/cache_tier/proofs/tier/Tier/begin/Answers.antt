@@ -4,14 +4,11 @@ use Rattle.std.specs.FinMap.{get}
 use Rattle.std.proofs.lemmas.Result.{err_from_is_err_and}
 use Rattle.tier_model.specs.declared.event.Action.TheVariants.{Begin}
 use Rattle.tier_model.specs.declared.event.Answer.TheVariants.{Begun, Uncacheable}
-use Rattle.tier_model.specs.Calls.{Outcome}
 use Rattle.tier_model.specs.Response.{kept, not_kept}
 use Rattle.tier_model.specs.State.{State}
 use Rattle.tier_requests.specs.Shelves.{own_meta, shelf_of}
 use Rattle.cache_tier.specs.States.{state_by}
-use Rattle.cache_tier.specs.Acts.{Took}
 use Rattle.cache_tier.specs.Heads.{JudgesTo}
-use Rattle.cache_tier.proofs.TookLaws.{Took-to}
 use Rattle.cache_tier.proofs.BegunLaws.{may_begin, begin-none, begin-wrong, begin-fault, begin-given-up, begin-begun, begin-not}
 use Rattle.cache_tier.proofs.KeptState.{kept-took}
 use Rattle.cache_tier.proofs.tier.Tier.begin.Goals as goal
@@ -42,14 +39,11 @@ invariant_of-self g c =
     let s : State = state_by i.parts.manager i.wait (shelf_of i.parts.store) i.parts.lock i.requests i.found i.absent in
     let may : may_begin (get i.requests c.args.id) ≡ Some true = cc (c.can_begin.ensures, c.in-Some-true.is, c.in-Some-true.field-0-test) in
     let j : JudgesTo c.args.moment c.args.head.now (kept c.in-Ok-Kept.meta) × (own_meta c.in-Ok-Kept.meta ≡ c.in-Ok-Kept.meta) = rw c.in-Ok-Kept.field-0-is at c.in-Ok-Kept.ensures in
-    let left : State = state_by c.begin.new.parts.manager i.wait (shelf_of c.begin.new.parts.store) c.begin.new.parts.lock c.begin.new.self i.found i.absent in
+    let n = c.begin.new in
     let f = c.in_err-begin-in-Ok-Kept.field-0.0 in
-    let to : State = record s { shelf = shelf_of c.begin.new.parts.store } in
-    let is : left ≡ to =
-    λ k. state_by (c.begin.ensures.parts k).manager i.wait (shelf_of (c.begin.ensures.parts k).store) (c.in_err-begin-in-Ok-Kept.ensures.err.1 k) (c.in_err-begin-in-Ok-Kept.ensures.err.0 k) i.found i.absent in
-    let took : Took s c.args.moment (Begin c.args.id c.args.head.now) (Err f) left = Took-to s c.args.moment (Begin c.args.id c.args.head.now) (Err f) to left is
-    (begin-not s c.args.moment c.args.id c.args.head.now may c.in-Ok-Kept.meta j.0 f (shelf_of c.begin.new.parts.store) c.in_err-begin-in-Ok-Kept.ensures.refused) in
-    kept-took g.row.N s c.args.moment (Begin c.args.id c.args.head.now) (Err f) left c.self.invariant took
+    let e = c.in_err-begin-in-Ok-Kept.ensures in
+    kept-took g.row.N s c.args.moment (Begin c.args.id c.args.head.now) (Err f) _ c.self.invariant
+    (begin-not s c.args.moment c.args.id c.args.head.now may c.in-Ok-Kept.meta j.0 f n.parts.manager (shelf_of n.parts.store) n.parts.lock n.self (λ k. (c.begin.ensures.parts k).manager) e.err.1 e.err.0 e.refused)
 
 pub returns-in_err-begin-in-Ok-Kept : goal.returns-in_err-begin-in-Ok-Kept
 returns-in_err-begin-in-Ok-Kept g c =
@@ -57,15 +51,12 @@ returns-in_err-begin-in-Ok-Kept g c =
     let s : State = state_by i.parts.manager i.wait (shelf_of i.parts.store) i.parts.lock i.requests i.found i.absent in
     let may : may_begin (get i.requests c.args.id) ≡ Some true = cc (c.can_begin.ensures, c.in-Some-true.is, c.in-Some-true.field-0-test) in
     let j : JudgesTo c.args.moment c.args.head.now (kept c.in-Ok-Kept.meta) × (own_meta c.in-Ok-Kept.meta ≡ c.in-Ok-Kept.meta) = rw c.in-Ok-Kept.field-0-is at c.in-Ok-Kept.ensures in
-    let left : State = state_by c.begin.new.parts.manager i.wait (shelf_of c.begin.new.parts.store) c.begin.new.parts.lock c.begin.new.self i.found i.absent in
+    let n = c.begin.new in
     let f = c.in_err-begin-in-Ok-Kept.field-0.0 in
-    let to : State = record s { shelf = shelf_of c.begin.new.parts.store } in
-    let is : left ≡ to =
-    λ k. state_by (c.begin.ensures.parts k).manager i.wait (shelf_of (c.begin.ensures.parts k).store) (c.in_err-begin-in-Ok-Kept.ensures.err.1 k) (c.in_err-begin-in-Ok-Kept.ensures.err.0 k) i.found i.absent in
-    let took : Took s c.args.moment (Begin c.args.id c.args.head.now) (Err f) left = Took-to s c.args.moment (Begin c.args.id c.args.head.now) (Err f) to left is
-    (begin-not s c.args.moment c.args.id c.args.head.now may c.in-Ok-Kept.meta j.0 f (shelf_of c.begin.new.parts.store) c.in_err-begin-in-Ok-Kept.ensures.refused) in
+    let e = c.in_err-begin-in-Ok-Kept.ensures in
     let p = err_from_is_err_and c.from_residual.result c.from_residual.ensures.1 in
-    rw (← c.self.view_is, p.1, p.2) took
+    rw (← c.self.view_is, p.1, p.2)
+    (begin-not s c.args.moment c.args.id c.args.head.now may c.in-Ok-Kept.meta j.0 f n.parts.manager (shelf_of n.parts.store) n.parts.lock n.self (λ k. (c.begin.ensures.parts k).manager) e.err.1 e.err.0 e.refused)
 
 pub invariant_of-self-in-Ok-Kept : goal.invariant_of-self-in-Ok-Kept
 invariant_of-self-in-Ok-Kept g c =
@@ -73,12 +64,9 @@ invariant_of-self-in-Ok-Kept g c =
     let s : State = state_by i.parts.manager i.wait (shelf_of i.parts.store) i.parts.lock i.requests i.found i.absent in
     let may : may_begin (get i.requests c.args.id) ≡ Some true = cc (c.can_begin.ensures, c.in-Some-true.is, c.in-Some-true.field-0-test) in
     let j : JudgesTo c.args.moment c.args.head.now (kept c.in-Ok-Kept.meta) × (own_meta c.in-Ok-Kept.meta ≡ c.in-Ok-Kept.meta) = rw c.in-Ok-Kept.field-0-is at c.in-Ok-Kept.ensures in
-    let left : State = state_by c.begin.new.parts.manager i.wait (shelf_of c.begin.new.parts.store) c.begin.new.parts.lock c.begin.new.self i.found i.absent in
-    let to : State = record s { requests = c.begin.new.self; shelf = shelf_of c.begin.new.parts.store; lock = c.begin.new.parts.lock } in
-    let is : left ≡ to = λ k. state_by (c.begin.ensures.parts k).manager i.wait (shelf_of (c.begin.ensures.parts k).store) (c.begin.ensures.parts k).lock c.begin.new.self i.found i.absent in
-    let took : Took s c.args.moment (Begin c.args.id c.args.head.now) (Ok Begun) left = Took-to s c.args.moment (Begin c.args.id c.args.head.now) (Ok Begun) to left is
-    (begin-begun s c.args.moment c.args.id c.args.head.now may c.in-Ok-Kept.meta j.0 c.begin.new.self (shelf_of c.begin.new.parts.store) c.begin.new.parts.lock j.1 c.in_ok-begin-in-Ok-Kept.ensures.begun) in
-    kept-took g.row.N s c.args.moment (Begin c.args.id c.args.head.now) (Ok Begun) left c.self.invariant took
+    let n = c.begin.new in
+    kept-took g.row.N s c.args.moment (Begin c.args.id c.args.head.now) (Ok Begun) _ c.self.invariant
+    (begin-begun s c.args.moment c.args.id c.args.head.now may c.in-Ok-Kept.meta j.0 n.parts.manager (shelf_of n.parts.store) n.parts.lock n.self (λ k. (c.begin.ensures.parts k).manager) j.1 c.in_ok-begin-in-Ok-Kept.ensures.begun)
 
 pub returns-in_ok-begin-in-Ok-Kept : goal.returns-in_ok-begin-in-Ok-Kept
 returns-in_ok-begin-in-Ok-Kept g c =
@@ -86,37 +74,26 @@ returns-in_ok-begin-in-Ok-Kept g c =
     let s : State = state_by i.parts.manager i.wait (shelf_of i.parts.store) i.parts.lock i.requests i.found i.absent in
     let may : may_begin (get i.requests c.args.id) ≡ Some true = cc (c.can_begin.ensures, c.in-Some-true.is, c.in-Some-true.field-0-test) in
     let j : JudgesTo c.args.moment c.args.head.now (kept c.in-Ok-Kept.meta) × (own_meta c.in-Ok-Kept.meta ≡ c.in-Ok-Kept.meta) = rw c.in-Ok-Kept.field-0-is at c.in-Ok-Kept.ensures in
-    let left : State = state_by c.begin.new.parts.manager i.wait (shelf_of c.begin.new.parts.store) c.begin.new.parts.lock c.begin.new.self i.found i.absent in
-    let to : State = record s { requests = c.begin.new.self; shelf = shelf_of c.begin.new.parts.store; lock = c.begin.new.parts.lock } in
-    let is : left ≡ to = λ k. state_by (c.begin.ensures.parts k).manager i.wait (shelf_of (c.begin.ensures.parts k).store) (c.begin.ensures.parts k).lock c.begin.new.self i.found i.absent in
-    let took : Took s c.args.moment (Begin c.args.id c.args.head.now) (Ok Begun) left = Took-to s c.args.moment (Begin c.args.id c.args.head.now) (Ok Begun) to left is
-    (begin-begun s c.args.moment c.args.id c.args.head.now may c.in-Ok-Kept.meta j.0 c.begin.new.self (shelf_of c.begin.new.parts.store) c.begin.new.parts.lock j.1 c.in_ok-begin-in-Ok-Kept.ensures.begun) in
-    rw (← c.self.view_is) took
+    let n = c.begin.new in
+    rw (← c.self.view_is)
+    (begin-begun s c.args.moment c.args.id c.args.head.now may c.in-Ok-Kept.meta j.0 n.parts.manager (shelf_of n.parts.store) n.parts.lock n.self (λ k. (c.begin.ensures.parts k).manager) j.1 c.in_ok-begin-in-Ok-Kept.ensures.begun)
 
 pub invariant_of-self-in-Ok-NotKept : goal.invariant_of-self-in-Ok-NotKept
 invariant_of-self-in-Ok-NotKept g c =
     let i = c.self.inside in
     let s : State = state_by i.parts.manager i.wait (shelf_of i.parts.store) i.parts.lock i.requests i.found i.absent in
     let may : may_begin (get i.requests c.args.id) ≡ Some true = cc (c.can_begin.ensures, c.in-Some-true.is, c.in-Some-true.field-0-test) in
-    let left : State = state_by c.give_up.new.parts.manager i.wait (shelf_of c.give_up.new.parts.store) c.give_up.new.parts.lock c.give_up.new.self i.found i.absent in
     let j : JudgesTo c.args.moment c.args.head.now (not_kept c.in-Ok-NotKept.reason) × Unit {0} = rw c.in-Ok-NotKept.field-0-is at c.in-Ok-NotKept.ensures in
-    let o : Outcome = Ok (Uncacheable c.in-Ok-NotKept.reason) in
-    let to : State = record s { requests = c.give_up.new.self; shelf = shelf_of c.give_up.new.parts.store; lock = c.give_up.new.parts.lock } in
-    let is : left ≡ to = λ k. state_by (c.give_up.ensures.parts k).manager i.wait (shelf_of (c.give_up.ensures.parts k).store) (c.give_up.ensures.parts k).lock c.give_up.new.self i.found i.absent in
-    let took : Took s c.args.moment (Begin c.args.id c.args.head.now) o left = Took-to s c.args.moment (Begin c.args.id c.args.head.now) o to left is
-    (begin-given-up s c.args.moment c.args.id c.args.head.now may c.in-Ok-NotKept.reason c.give_up.new.self (shelf_of c.give_up.new.parts.store) c.give_up.new.parts.lock j.0 c.give_up.ensures.given_up) in
-    kept-took g.row.N s c.args.moment (Begin c.args.id c.args.head.now) o left c.self.invariant took
+    let n = c.give_up.new in
+    kept-took g.row.N s c.args.moment (Begin c.args.id c.args.head.now) (Ok (Uncacheable c.in-Ok-NotKept.reason)) _ c.self.invariant
+    (begin-given-up s c.args.moment c.args.id c.args.head.now may c.in-Ok-NotKept.reason n.parts.manager (shelf_of n.parts.store) n.parts.lock n.self (λ k. (c.give_up.ensures.parts k).manager) j.0 c.give_up.ensures.given_up)
 
 pub returns-in-Ok-NotKept : goal.returns-in-Ok-NotKept
 returns-in-Ok-NotKept g c =
     let i = c.self.inside in
     let s : State = state_by i.parts.manager i.wait (shelf_of i.parts.store) i.parts.lock i.requests i.found i.absent in
     let may : may_begin (get i.requests c.args.id) ≡ Some true = cc (c.can_begin.ensures, c.in-Some-true.is, c.in-Some-true.field-0-test) in
-    let left : State = state_by c.give_up.new.parts.manager i.wait (shelf_of c.give_up.new.parts.store) c.give_up.new.parts.lock c.give_up.new.self i.found i.absent in
     let j : JudgesTo c.args.moment c.args.head.now (not_kept c.in-Ok-NotKept.reason) × Unit {0} = rw c.in-Ok-NotKept.field-0-is at c.in-Ok-NotKept.ensures in
-    let o : Outcome = Ok (Uncacheable c.in-Ok-NotKept.reason) in
-    let to : State = record s { requests = c.give_up.new.self; shelf = shelf_of c.give_up.new.parts.store; lock = c.give_up.new.parts.lock } in
-    let is : left ≡ to = λ k. state_by (c.give_up.ensures.parts k).manager i.wait (shelf_of (c.give_up.ensures.parts k).store) (c.give_up.ensures.parts k).lock c.give_up.new.self i.found i.absent in
-    let took : Took s c.args.moment (Begin c.args.id c.args.head.now) o left = Took-to s c.args.moment (Begin c.args.id c.args.head.now) o to left is
-    (begin-given-up s c.args.moment c.args.id c.args.head.now may c.in-Ok-NotKept.reason c.give_up.new.self (shelf_of c.give_up.new.parts.store) c.give_up.new.parts.lock j.0 c.give_up.ensures.given_up) in
-    rw (← c.self.view_is) took
+    let n = c.give_up.new in
+    rw (← c.self.view_is)
+    (begin-given-up s c.args.moment c.args.id c.args.head.now may c.in-Ok-NotKept.reason n.parts.manager (shelf_of n.parts.store) n.parts.lock n.self (λ k. (c.give_up.ensures.parts k).manager) j.0 c.give_up.ensures.given_up)

@@ -1,4 +1,4 @@
-use Rattle.std.proofs.Common.{◌≡◌, ℕ, ◌<◌, ◌^◌, refl, subst}
+use Rattle.std.proofs.Common.{ℕ, ◌<◌, ◌^◌, refl, subst}
 use denote.Param.{layout, number, param}
 use mir.Syntax.{Ty}
 use prog.Memory.{size}
@@ -8,12 +8,9 @@ use Rattle.cache_evict.specs.Managed.{total_size}
 use Rattle.tier_model.specs.declared.event.Action.TheVariants.{LookUp}
 use Rattle.tier_model.specs.State.{State}
 use Rattle.tier_requests.specs.Shelves.{shelf_of}
-use Rattle.tier_requests.specs.Looks.{Lent, lent}
+use Rattle.tier_requests.specs.Looks.{lent}
 use Rattle.cache_tier.specs.States.{state_by}
-use Rattle.cache_tier.specs.Acts.{Took}
-use Rattle.cache_tier.specs.Counts.{found_after, absent_after}
-use Rattle.cache_tier.proofs.TookLaws.{Took-to}
-use Rattle.cache_tier.proofs.LookLaws.{Took-look, looked_to}
+use Rattle.cache_tier.proofs.LookLaws.{Took-look-counted}
 use Rattle.cache_tier.proofs.KeptState.{kept-took}
 use Rattle.cache_tier.proofs.tier.Tier.look_up.Goals as goal
 
@@ -34,29 +31,17 @@ invariant_of-self g c =
     let i = c.self.inside in
     let s : State = state_by i.parts.manager i.wait (shelf_of i.parts.store) i.parts.lock i.requests i.found i.absent in
     let n = c.look_up-outcome.new in
-    let all : Lent = lent (shelf_of n.parts.store) n.parts.manager n.parts.lock in
     let o = c.look_up-outcome.result in
-    let t = c.args.moment in
-    let to : State = looked_to s t c.args.id n.self all (found_after o i.found) (absent_after o i.absent) in
-    let left : State = state_by n.parts.manager i.wait (shelf_of n.parts.store) n.parts.lock n.self c.found_after-self-inside.result c.absent_after-self-inside.result in
-    let is : left ≡ to =
-    λ j. state_by n.parts.manager i.wait (shelf_of n.parts.store) n.parts.lock n.self (c.found_after-self-inside.ensures j) (c.absent_after-self-inside.ensures j) in
     let small : total_size n.parts.manager < 2 ^ 64 = subst (λ (x : ℕ). x < 2 ^ 64) c.total_size-size.ensures c.total_size-size.type_inv in
-    let took : Took s t (LookUp c.args.id) o left = Took-to s t (LookUp c.args.id) o to left is (Took-look s t c.args.id g.row.N c.self.invariant.0 o n.self all small c.look_up-outcome.ensures.answer) in
-    kept-took g.row.N s t (LookUp c.args.id) o left c.self.invariant took
+    kept-took g.row.N s c.args.moment (LookUp c.args.id) o _ c.self.invariant
+    (Took-look-counted s c.args.moment c.args.id g.row.N c.self.invariant.0 o n.self (lent (shelf_of n.parts.store) n.parts.manager n.parts.lock) c.found_after-self-inside.result c.absent_after-self-inside.result small c.look_up-outcome.ensures.answer c.found_after-self-inside.ensures c.absent_after-self-inside.ensures)
 
 pub returns : goal.returns
 returns g c =
     let i = c.self.inside in
     let s : State = state_by i.parts.manager i.wait (shelf_of i.parts.store) i.parts.lock i.requests i.found i.absent in
     let n = c.look_up-outcome.new in
-    let all : Lent = lent (shelf_of n.parts.store) n.parts.manager n.parts.lock in
     let o = c.look_up-outcome.result in
-    let t = c.args.moment in
-    let to : State = looked_to s t c.args.id n.self all (found_after o i.found) (absent_after o i.absent) in
-    let left : State = state_by n.parts.manager i.wait (shelf_of n.parts.store) n.parts.lock n.self c.found_after-self-inside.result c.absent_after-self-inside.result in
-    let is : left ≡ to =
-    λ j. state_by n.parts.manager i.wait (shelf_of n.parts.store) n.parts.lock n.self (c.found_after-self-inside.ensures j) (c.absent_after-self-inside.ensures j) in
     let small : total_size n.parts.manager < 2 ^ 64 = subst (λ (x : ℕ). x < 2 ^ 64) c.total_size-size.ensures c.total_size-size.type_inv in
-    let took : Took s t (LookUp c.args.id) o left = Took-to s t (LookUp c.args.id) o to left is (Took-look s t c.args.id g.row.N c.self.invariant.0 o n.self all small c.look_up-outcome.ensures.answer) in
-    rw (← c.self.view_is) took
+    rw (← c.self.view_is)
+    (Took-look-counted s c.args.moment c.args.id g.row.N c.self.invariant.0 o n.self (lent (shelf_of n.parts.store) n.parts.manager n.parts.lock) c.found_after-self-inside.result c.absent_after-self-inside.result small c.look_up-outcome.ensures.answer c.found_after-self-inside.ensures c.absent_after-self-inside.ensures)
