@@ -31,8 +31,12 @@ def opened(i, more=0, tag=0):
     return line(op="open", at=1000, id=i, key=key(i, more), tag="t" * tag)
 
 
-def found(i):
-    return line(op="open", at=1000, id=i, key=key(0)) + line(op="look", at=1000, id=i)
+def found(i, at=1000):
+    return line(op="open", at=at, id=i, key=key(0)) + line(op="look", at=at, id=i)
+
+
+def found_stale(i):
+    return found(i, at=100000)
 
 
 def peak(lines):
@@ -55,7 +59,8 @@ ROWS = (
     ("an open request", lambda n: map(opened, range(n))),
     ("the same with 200 bytes more of key", lambda n: (opened(i, more=200) for i in range(n))),
     ("the same with a tag of 100 bytes", lambda n: (opened(i, tag=100) for i in range(n))),
-    ("an open request that found a body, which it shares", lambda n: [put(0), *map(found, range(n))]),
+    ("an open request that found a fresh body, which it shares", lambda n: [put(0), *map(found, range(n))]),
+    ("one that found a stale body with 1,000 bytes more of head", lambda n: [put(0, head=1000), *map(found_stale, range(n))]),
 )
 none = peak([])
 print(f"an empty trace: {none // 1024} KiB")

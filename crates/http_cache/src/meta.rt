@@ -1,7 +1,7 @@
 //! The meta of a request, and the phases that need no part of the cache.
 ghost use Rattle.std.specs.Prelude.{◌≡◌, ◌&&◌, Some, None, true, is_some, option_map, if◌then◌else◌};
 ghost use Rattle.cache_phases.specs.declared.phase.CachePhase.TheVariants as phases;
-ghost use Rattle.cache_phases.specs.Phases.{can_miss, is_stale_phase, has_meta_phase, can_serve_stale};
+ghost use Rattle.cache_phases.specs.Phases.{can_miss, is_stale_phase, has_reader_phase, has_meta_phase, can_serve_stale};
 ghost use Rattle.http_cache.specs.Stale.{serves_on_error, serves_while_updating};
 
 use crate::request::HttpCache;
@@ -50,6 +50,15 @@ impl<S: Storage> HttpCache<S> {
         } else {
             None
         }
+    }
+
+    /// Lets go of the meta of a response that was found, for a request that needs no more of it than its phase: a stale response can't be
+    /// revalidated then, nor served past its time.
+    pub fn forget_cache_meta(&mut self)
+        requires { has_reader_phase self.old.phase ≡ true }
+        ensures { self.new ≡ record self.old { meta = None } }
+    {
+        let _forgotten = self.meta.take();
     }
 
     /// Returns whether the stale response may be served at that moment after an error.

@@ -1,4 +1,5 @@
 pub mod PlainLaws
+pub mod ForgetLaws
 pub mod FlightLaws
 pub mod ReadingLaws
 pub mod ShelfLaws

@@ -175,7 +175,11 @@ impl<S: BuildHasher> Request<S> {
     {
         match found {
             FoundAt::Fresh(fresh_until, hit) => self.found_fresh(alloc, parts, hit, fresh_until),
-            FoundAt::Stale(meta, hit) => self.found_stale(alloc, parts, meta, hit, moment),
+            FoundAt::Stale(meta, hit) => {
+                let answered = self.found_stale(alloc, parts, meta, hit, moment);
+                self.forget_meta();
+                answered
+            }
         }
     }
 

@@ -166,6 +166,15 @@ impl<S: BuildHasher> Request<S> {
         }
     }
 
+    // Lets go of the meta of what was found, which stands in the store: no more is needed of it than the phase. So an open request keeps no head.
+    pub(crate) fn forget_meta(&mut self)
+        ensures { self.new ≡ self.old }
+    {
+        if self.cache.phase().has_reader_phase() {
+            self.cache.forget_cache_meta();
+        }
+    }
+
     // What it holds of the lock.
     pub(crate) fn given(&self) -> LockGiven
         ensures { result ≡ given_of self.now.held }
