@@ -1,0 +1,184 @@
+//! Look-ups, and what is found.
+ghost use Rattle.std.specs.Prelude.{◌≡◌, true, false};
+ghost use Rattle.cache_phases.specs.Locks.{holds_permit};
+ghost use Rattle.cache_phases.specs.Phases.{can_look_up};
+
+use crate::answer::{Answer, yes_or_no};
+use crate::step::{Step, status, variance};
+use cache_evict::EvictionManager;
+use cache_heads::CacheMeta;
+use cache_lock::CacheKeyLock;
+use cache_parts::Parts;
+use cache_phases::HitStatus;
+use cache_store::admission::AdmissionPolicy;
+use cache_store::storage::{FoundAt, HandleHit, Storage};
+use cache_words::time::Moment;
+use http_cache::{FoundFault, HttpCache};
+use std::alloc::Global;
+
+// Nothing was found.
+const ABSENT: Answer = Answer::Word("absent");
+
+// The store or the lock refuses to answer.
+const FAULT: Answer = Answer::Word("fault");
+
+// Whether a request may look up, or take what a look-up found.
+fn may_look<S: Storage>(request: &HttpCache<S>) -> bool
+    ensures phase { result ≡ true → can_look_up request.now.phase ≡ true }
+    ensures no_permit { result ≡ true → holds_permit request.now.lock ≡ false }
+{
+    let phase = request.phase();
+    if phase.is_never_enabled() || !phase.can_look_up() || request.is_cache_lock_writer() {
+        return false;
+    }
+    true
+}
+
+// What is told of a response that was found.
+fn told_of_found(taken: Result<(), FoundFault>, passed: bool, length: usize) -> Answer {
+    match taken {
+        Ok(()) if passed => Answer::Word("passed"),
+        Ok(()) => Answer::Body(length),
+        Err(FoundFault::Evict(_)) => Answer::Word("too-heavy"),
+        Err(_) => FAULT,
+    }
+}
+
+fn take<S: Storage, E: EvictionManager, P, L: CacheKeyLock, A>(
+    alloc: Global,
+    request: &mut HttpCache<S>,
+    parts: &mut Parts<S, E, P, L, A>,
+    found: (CacheMeta, S::Hit),
+    status: HitStatus,
+    moment: Moment,
+) -> Answer {
+    let (meta, hit) = found;
+    let length = hit.get_eviction_weight();
+    if !may_look(request) {
+        hit.finish(&mut parts.store);
+        return FAULT;
+    }
+    let taken = request.cache_found(alloc, parts, meta, hit, status, moment);
+    told_of_found(taken, status.is_treated_as_miss(), length)
+}
+
+// Looks up, and takes what is found with that status.
+fn look<S: Storage, E: EvictionManager, P, L: CacheKeyLock, A: AdmissionPolicy>(
+    alloc: Global,
+    request: &mut HttpCache<S>,
+    parts: &mut Parts<S, E, P, L, A>,
+    moment: Moment,
+    status: HitStatus,
+) -> Answer
+    requires phase { can_look_up request.old.phase ≡ true }
+    requires no_permit { holds_permit request.old.lock ≡ false }
+{
+    match request.cache_lookup(parts, moment) {
+        Ok(Some(found)) => take(alloc, request, parts, found, status, moment),
+        Ok(None) => ABSENT,
+        Err(_) => FAULT,
+    }
+}
+
+fn take_fresh<S: Storage, E: EvictionManager, P, L: CacheKeyLock, A>(
+    alloc: Global,
+    request: &mut HttpCache<S>,
+    parts: &mut Parts<S, E, P, L, A>,
+    hit: S::Hit,
+    fresh_until: Moment,
+) -> Answer {
+    let length = hit.get_eviction_weight();
+    if !may_look(request) {
+        hit.finish(&mut parts.store);
+        return FAULT;
+    }
+    let taken = request.cache_found_fresh(alloc, parts, hit, fresh_until);
+    told_of_found(taken, false, length)
+}
+
+fn take_at<S: Storage, E: EvictionManager, P, L: CacheKeyLock, A>(
+    alloc: Global,
+    request: &mut HttpCache<S>,
+    parts: &mut Parts<S, E, P, L, A>,
+    found: FoundAt<S::Hit>,
+    moment: Moment,
+) -> Answer {
+    match found {
+        FoundAt::Fresh(until, hit) => take_fresh(alloc, request, parts, hit, until),
+        FoundAt::Stale(meta, hit) => {
+            let found = (meta, hit);
+            take(alloc, request, parts, found, HitStatus::Expired, moment)
+        }
+    }
+}
+
+// Looks up at a moment, and takes what is found as it is then.
+fn look_at<S: Storage, E: EvictionManager, P, L: CacheKeyLock, A: AdmissionPolicy>(
+    alloc: Global,
+    request: &mut HttpCache<S>,
+    parts: &mut Parts<S, E, P, L, A>,
+    moment: Moment,
+) -> Answer
+    requires phase { can_look_up request.old.phase ≡ true }
+    requires no_permit { holds_permit request.old.lock ≡ false }
+{
+    match request.cache_lookup_at(parts, moment) {
+        Ok(Some(found)) => take_at(alloc, request, parts, found, moment),
+        Ok(None) => ABSENT,
+        Err(_) => FAULT,
+    }
+}
+
+// Goes on to a variant of what was found, which is left in the store.
+fn vary_found<S: Storage, E, P, L, A>(
+    request: &mut HttpCache<S>,
+    parts: &mut Parts<S, E, P, L, A>,
+    found: (CacheMeta, S::Hit),
+    variance: [u8; 16],
+) -> Answer {
+    let (meta, hit) = found;
+    hit.finish(&mut parts.store);
+    if !request.phase().can_vary() {
+        return FAULT;
+    }
+    yes_or_no(request.cache_vary_lookup(variance, &meta))
+}
+
+// Looks up, and goes on to a variant of what is found.
+fn vary<S: Storage, E, P, L: CacheKeyLock, A: AdmissionPolicy>(
+    request: &mut HttpCache<S>,
+    parts: &mut Parts<S, E, P, L, A>,
+    moment: Moment,
+    variance: [u8; 16],
+) -> Answer
+    requires phase { can_look_up request.old.phase ≡ true }
+    requires no_permit { holds_permit request.old.lock ≡ false }
+{
+    match request.cache_lookup(parts, moment) {
+        Ok(Some(found)) => vary_found(request, parts, found, variance),
+        Ok(None) => ABSENT,
+        Err(_) => FAULT,
+    }
+}
+
+/// A look-up.
+pub fn looked<S: Storage, E: EvictionManager, P, L: CacheKeyLock, A: AdmissionPolicy>(
+    alloc: Global,
+    request: &mut HttpCache<S>,
+    parts: &mut Parts<S, E, P, L, A>,
+    step: Step<'_>,
+) -> Option<Answer> {
+    if !may_look(request) {
+        return None;
+    }
+    let moment = step.moment();
+    match step.call {
+        "look" => Some(look(alloc, request, parts, moment, status(step.second))),
+        "look-at" => Some(look_at(alloc, request, parts, moment)),
+        "vary" => match variance(step.second) {
+            Some(variance) => Some(vary(request, parts, moment, variance)),
+            None => None,
+        },
+        _ => None,
+    }
+}

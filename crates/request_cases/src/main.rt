@@ -1,0 +1,66 @@
+//! Does rows of calls of requests to a cache, and writes after each call what it answers and the phase that it leaves.
+//!
+//! A row of `rows.txt` is a name and then a step a line, of the first or the second of two requests; an empty line ends it. Both use one cache, which begins
+//! empty with each row: a store in memory, a manager of one shard that may hold 10 bytes, a predictor of 4 keys, a lock whose permits may be held for 5
+//! seconds, and a policy that defers the key `d`. A call that isn't allowed is `refused`: what it requires is tested first, by the public tests of it.
+//!
+//! | Step | Means |
+//! |---|---|
+//! | `enable`, `enable lock` | with all parts of the cache, or with its lock alone; waits take 3 seconds in all, and are tried again twice |
+//! | `end` | the request ends, and another begins in its place |
+//! | `look SECOND STATUS` | looks up, and takes what is found with that status: `body` and its length, or `passed` as a miss, or `too-heavy` for the manager |
+//! | `look-at SECOND` | the same of what is fresh or stale by itself at that second |
+//! | `vary SECOND VARIANCE` | looks up, leaves what is found and goes on to a variant of it; whether that was found |
+//! | `meta`, `begin`, `revalidate` `UNTIL CREATED` | with a meta that is fresh until a second, made at another (else at 1000), with stale windows of 30 and 60 seconds |
+//! | `variance VARIANCE` | what the response varies by: 16 bytes of that value, or nothing for `-` |
+//! | `writer`, `finish` | begins the write with the meta that is set, and finishes it |
+//! | `read`, `read-back` | a step of reading by the reader of what was found, or of what is being written |
+//! | `move-reader`, `move-writer` | takes it out, and puts it in again |
+//! | `move-permit` | hands the permit to the other request |
+//! | `publish TOKEN` | says what is filled; no request here can use 7 |
+//! | `forget` | lets go of the meta of what was found |
+//! | `merge` | the stale head, with what a head that confirms it renews |
+//! | `off-for` | for which reason the cache is off, or the response isn't kept |
+//! | `maybe-key`, `key-lent`, `maybe-meta`, `meta-lent` | the letter of the key, and until when the meta is fresh, as an option or lent |
+//! | `add-time SECONDS`, `time` | how long look-ups took |
+//! | `limit`, `track` `BYTES` | the most bytes that a body may have, and bytes that come |
+//! | `tracked KEY`, `burden KEY` | no calls of a request: whether the manager tracks the key's entry; it goes, and another comes that leaves room for one byte |
+#![tactic(auto)]
+
+mod answer;
+mod heads;
+mod locks;
+mod looks;
+mod metas;
+mod reads;
+mod rows;
+mod sizes;
+mod stale;
+mod step;
+mod stored;
+mod told;
+mod turns;
+mod world;
+mod writes;
+
+use std::alloc::{AllocError, Global};
+use std::{fs, io};
+
+// The lines of a row, each with what its step comes to.
+fn done(alloc: Global, row: &str) -> Result<String, AllocError> {
+    let mut text = String::new(alloc);
+    match world::cache(alloc) {
+        Some(mut parts) => rows::push_row(alloc, &mut parts, row, &mut text)?,
+        None => text.push_str("memory")?,
+    }
+    Ok(text)
+}
+
+fn main(rt: HostRuntime) -> io::Result<()> {
+    let rows = fs::read_to_string(&rt, "rows.txt")?;
+    for row in rows.as_str().split("\n\n") {
+        let text = done(rt.alloc(), row)?;
+        println!(rt; "{text}")?;
+    }
+    Ok(())
+}

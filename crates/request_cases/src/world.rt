@@ -1,0 +1,94 @@
+//! A cache, its keys and metas.
+ghost use Rattle.std.specs.Prelude.{◌≡◌};
+
+use crate::heads::{STORED, head_of};
+use crate::step::Step;
+use cache_evict::lru::Manager;
+use cache_evict::{CacheEntryKey, EvictionManager};
+use cache_heads::CacheMeta;
+use cache_lock::CacheLock;
+use cache_parts::Parts;
+use cache_predictor::Predictor;
+use cache_store::admission::{AdmissionPolicy, Decision};
+use cache_store::storage::{PurgeTarget, Storage};
+use cache_words::key::{CacheHashKey, CacheKey, CompactCacheKey};
+use cache_words::time::{Duration, Moment};
+use mem_cache::MemCache;
+use std::alloc::Global;
+
+/// Defers the key `d`.
+#[derive(Clone, Copy)]
+pub struct DefersD;
+
+impl AdmissionPolicy for DefersD {
+    ghost decides = { λ _ _ _. Unit {0} };
+
+    fn observe(&self, key: &CacheKey) -> Decision {
+        if key.primary_key() == b"d".as_slice() {
+            Decision::Defer { observed: 3 }
+        } else {
+            Decision::Ready { observed: 4 }
+        }
+    }
+}
+
+type Cache = Parts<MemCache, Manager<1>, Predictor<1>, CacheLock, DefersD>;
+
+// The most that bodies may weigh in all.
+const LIMIT: usize = 10;
+
+/// The cache; its lock's permits may be held for 5 seconds.
+pub fn cache(alloc: Global) -> Option<Cache> {
+    Some(Parts {
+        store: MemCache::new(alloc),
+        manager: Manager::<1>::with_capacity(alloc, LIMIT, 0).ok()?,
+        predictor: Predictor::<1>::new(alloc, 4, None).ok()?,
+        lock: CacheLock::new(alloc, Duration::from_seconds(5)),
+        policy: DefersD,
+    })
+}
+
+/// The key of one letter.
+pub fn key(alloc: Global, letter: u8) -> Option<CacheKey> {
+    let primary = Vec::from_slice(alloc, &[letter]).ok()?;
+    Some(CacheKey::new(primary, String::new(alloc)))
+}
+
+/// The meta that a step names: fresh until a second, made at another or at 1000, with windows of 30 and 60 seconds.
+pub fn meta(alloc: Global, step: Step<'_>) -> CacheMeta {
+    let created = Moment::from_seconds(step.second.parse().unwrap_or(1000));
+    CacheMeta::new(step.moment(), created, 30, 60, head_of(alloc, STORED))
+}
+
+fn compact(alloc: Global, letter: u8) -> Option<CompactCacheKey> {
+    key(alloc, letter)?.to_compact().ok()
+}
+
+/// Whether the entry of a key is tracked; none out of memory.
+pub fn tracked<S: Storage, E: EvictionManager, P, L, A>(
+    alloc: Global,
+    parts: &Parts<S, E, P, L, A>,
+    letter: u8,
+) -> Option<bool> {
+    let entry = CacheEntryKey::from_entry_id(compact(alloc, letter)?, None);
+    Some(parts.manager.peek(&entry))
+}
+
+/// Takes the entry of a key out of the order of use, and tracks another there that leaves room for one byte.
+pub fn burden<S: Storage, E: EvictionManager, P, L, A>(
+    alloc: Global,
+    parts: &mut Parts<S, E, P, L, A>,
+    letter: u8,
+) -> Option<()> {
+    let key = compact(alloc, letter)?;
+    let heavy = CacheEntryKey::from_entry_id(compact(alloc, b'z')?, None);
+    parts
+        .manager
+        .remove(PurgeTarget::Active(&key).removed_entry(None));
+    let moment = Moment::from_seconds(1000);
+    let _was_tracked = parts
+        .manager
+        .access(alloc, &heavy, usize::MAX - 1, moment)
+        .ok()?;
+    Some(())
+}
