@@ -1,0 +1,9 @@
+pub mod HistoryLaws
+pub mod SeatLaws
+pub mod MarkLaws
+pub mod CallLaws
+pub mod DifferLaws
+pub mod Matched
+pub mod ToldLaws
+pub mod TextLaws
+pub mod NewLaws

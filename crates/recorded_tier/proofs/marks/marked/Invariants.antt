@@ -1,0 +1,6 @@
+use Rattle.std.proofs.Common.{take}
+use Rattle.recorded_tier.specs.Seats.{Marks}
+use Rattle.recorded_tier.proofs.marks.marked.Given as goal
+
+abbrev pub invariant-loop-pass : goal.invariant-loop-pass
+invariant-loop-pass g l = Marks l.seats (take l.pass-index l.passes) l.history l.marked.items
