@@ -9,7 +9,9 @@ use Rattle.recorded_tier.specs.declared.history.Record.{Record}
 use Rattle.recorded_tier.specs.declared.history.Own.{Own}
 use Rattle.recorded_tier.specs.declared.history.Seat.{Seat}
 use Rattle.recorded_tier.specs.Histories.{records_of, AreSame}
-use Rattle.recorded_tier.specs.Seats.{PassState, stranger, seat_of, Shows, IsOne, mark, AreSeated, Marks, ShowsOne, total}
+use Rattle.recorded_tier.specs.declared.gather.GatherFault.{GatherFault}
+use Rattle.recorded_tier.specs.declared.gather.GatherFault.TheVariants.{PassDiffers, Memory}
+use Rattle.recorded_tier.specs.Seats.{PassState, stranger, seat_of, Shows, IsOne, IsOpen, mark, AreSeated, Marks, MarksOnly, DiffersAt, OneDiffers, ShowsOne, total}
 
 one-front : (c : ℕ) (ps qs : List PassState) → IsOne c ps → IsOne c (ps ++ qs)
 one-front c [] qs one = absurd one
@@ -91,6 +93,66 @@ marks-join seats ps h m p n first next = (
   next.0 ∙ first.0,
   λ qs a. subst (λ (l : List PassState). AreSeated n l h) (append_assoc qs ps (p ∷ [])) (next.1 (qs ++ ps) (first.1 qs a)),
 )
+
+-- ---- what is marked, and why a pass isn't gathered
+
+one-next : (c : ℕ) (ps qs : List PassState) → IsOne c qs → IsOne c (ps ++ qs)
+one-next c [] qs one = one
+one-next c (p ∷ ps) qs one = inr (one-next c ps qs one)
+
+pub only-none : (seats : List Seat) → MarksOnly seats [] seats
+only-none seats c e = inl e
+
+pub only-mark : (seats : List Seat) (p : PassState) (s : Seat) → MarksOnly seats (p ∷ []) (set seats p.caller s)
+only-mark seats p s c e = elim (cases_eq p.caller c) [
+  | inl f ↦ inr (inl f)
+  | inr n ↦ inl (ap (λ (x : Seat). x.is_gathered) (sym (get_or-set_other seats p.caller c s stranger (λ g. n (sym g)))) ∙ e)
+]
+
+pub only-join : (seats : List Seat) (ps : List PassState) (m : List Seat) (p : PassState) (n : List Seat) → MarksOnly seats ps m → MarksOnly m (p ∷ []) n → MarksOnly seats (ps ++ p ∷ []) n
+only-join seats ps m p n first next c e = elim (next c e) [
+  | inr one ↦ inr (one-next c ps (p ∷ []) one)
+  | inl was ↦ elim (first c was) [ inl e ↦ inl e | inr one ↦ inr (one-front c ps (p ∷ []) one) ]
+]
+
+caller_of : GatherFault → ℕ
+caller_of (PassDiffers c turn) = c
+caller_of Memory = 0
+
+turn_of : GatherFault → ℕ
+turn_of (PassDiffers c turn) = turn
+turn_of Memory = 0
+
+is_memory : GatherFault → Bool
+is_memory (PassDiffers c turn) = false
+is_memory Memory = true
+
+pub memory-differs : (fault : GatherFault) (c turn : ℕ) → fault ≡ Memory → fault ≡ PassDiffers c turn → ⊥
+unfolding is_memory
+memory-differs fault c turn e f = true≢false (ap is_memory (sym e ∙ f))
+
+-- a pass that differs from what is left open differs from what was open
+differs-open : (seats m : List Seat) (h : List Record) (ps : List PassState) (p : PassState) (turn : ℕ) → length m ≡ length seats → MarksOnly seats ps m
+    → DiffersAt m h [] p turn → DiffersAt seats h ps p turn
+differs-open seats m h ps p turn same only d = elim d [
+  | inr differ ↦ inr differ
+  | inl closed ↦ inl (was-open closed.0, closed.1)
+]
+  where
+    by_flag : (b : Bool) → (seat_of p.caller m).is_gathered ≡ b → (IsOpen m p.caller → ⊥) → IsOpen seats p.caller → IsOne p.caller ps
+    by_flag false e n o = absurd (n (omega (arith, same, o.0), e))
+    by_flag true e n o = elim (only p.caller e) [ inl was ↦ absurd (true≢false (sym was ∙ o.1)) | inr one ↦ one ]
+
+    was-open : (IsOpen m p.caller → ⊥) → IsOpen seats p.caller → IsOne p.caller ps
+    was-open n o = by_flag (seat_of p.caller m).is_gathered refl n o
+
+pub one-differs : (seats m : List Seat) (h : List Record) (all before : List PassState) (p : PassState) (rest : List PassState) (fault : GatherFault) (t c turn : ℕ) → all ≡ before ++ p ∷ rest
+    → length m ≡ length seats → MarksOnly seats before m → fault ≡ PassDiffers p.caller t → DiffersAt m h [] p t → fault ≡ PassDiffers c turn → OneDiffers seats h all c turn
+unfolding caller_of turn_of
+one-differs seats m h all before p rest fault t c turn split same only e d f =
+    let faults : PassDiffers p.caller t ≡ PassDiffers c turn = sym e ∙ f in
+    let turns : t ≡ turn = ap turn_of faults in
+    (before, p, rest, split, ap caller_of faults, subst (λ (n : ℕ). DiffersAt seats h before p n) turns (differs-open seats m h before p t same only d))
 
 -- ---- all passes are gathered
 

@@ -12,7 +12,8 @@ use Rattle.recorded_tier.specs.Seats.{PassState}
 use Rattle.recorded_tier.specs.Recorded.{RecordedState}
 
 abbrev pub pass_code : Coded Own → Coded PassState
-pass_code own = code_by (ℕ × List Own) (coded× coded_ℕ (coded_list own)) (λ p. (p.caller, p.records)) (λ t. record { caller = t.0; records = t.1 }) (λ _. refl)
+pass_code own =
+    code_by (ℕ × (List Own × ℕ)) (coded× coded_ℕ (coded× (coded_list own) coded_ℕ)) (λ p. (p.caller, (p.records, p.room))) (λ t. record { caller = t.0; records = t.1.0; room = t.1.1 }) (λ _. refl)
 
 abbrev pub snapshot_code : {R : Type 0} → Coded TierOptions → Coded R → Coded (Snapshot R)
 snapshot_code {R} options rng =

@@ -1,5 +1,5 @@
 -- The history of a tier's calls, and its replay.
-use Rattle.std.specs.Prelude.{◌≡◌, ℕ, Bool, Option, ◌==◌, List, [], ◌∷◌, ◌++◌, length, map, if◌then◌else◌}
+use Rattle.std.specs.Prelude.{◌≡◌, ℕ, ◌+◌, Bool, Option, ◌==◌, List, [], ◌∷◌, ◌++◌, length, map, take, if◌then◌else◌}
 use Rattle.rand_core.specs.Stream.{Stream}
 use Rattle.tier_model.specs.declared.event.Event.{Event}
 use Rattle.tier_model.specs.Calls.{Call, Outcome}
@@ -44,6 +44,10 @@ seen_own x = (seen x.event, seen_note x.note)
 -- the same records, as far as a cache can tell
 abbrev pub AreSame : List Own → List Own → Type 0
 AreSame xs ys = map seen_own xs ≡ map seen_own ys
+
+-- so many records in front are the same, and with the next they aren't
+abbrev pub FirstDiffer : List Own → List Own → ℕ → Type 0
+FirstDiffer xs ys turn = AreSame (take turn xs) (take turn ys) × (AreSame (take (turn + 1) xs) (take (turn + 1) ys) → ⊥)
 
 -- the calls are those of the history, in order
 abbrev pub AreCallsIn : List Record → List Call → Type 0

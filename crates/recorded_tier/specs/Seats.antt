@@ -4,12 +4,14 @@ use Rattle.std.specs.List.{sum_by}
 use Rattle.recorded_tier.specs.declared.history.Record.{Record}
 use Rattle.recorded_tier.specs.declared.history.Own.{Own}
 use Rattle.recorded_tier.specs.declared.history.Seat.{Seat}
-use Rattle.recorded_tier.specs.Histories.{records_of, AreSame}
+use Rattle.recorded_tier.specs.Histories.{records_of, AreSame, FirstDiffer}
 
 -- a pass: whose it is, and the records of its calls
 pub record PassState : Type 0 where
   pub caller : ℕ
   pub records : List Own
+  -- for how many records more there is room
+  pub room : ℕ
 
 -- one without a seat
 abbrev pub stranger : Seat
@@ -32,6 +34,21 @@ abbrev pub IsOne : ℕ → List PassState → Type 0
 IsOne c [] = ⊥
 IsOne c (p ∷ ps) = (p.caller ≡ c) ⊎ IsOne c ps
 
+-- a pass of the caller can be gathered: it has a seat that isn't marked
+abbrev pub IsOpen : List Seat → ℕ → Type 0
+IsOpen seats c = (c < length seats) × ((seat_of c seats).is_gathered ≡ false)
+
+-- why a pass can't be gathered after these others, and from which turn on: its caller has no open seat, or one of them is the caller's,
+-- and it is the first turn; or it is where the pass first differs from what the history has of the caller
+abbrev pub DiffersAt : List Seat → List Record → List PassState → PassState → ℕ → Type 0
+DiffersAt seats history others p turn =
+    ((IsOpen seats p.caller → IsOne p.caller others) × (turn ≡ 0)) ⊎ FirstDiffer p.records (records_of p.caller history) turn
+
+-- one of the passes is this caller's, and can't be gathered after those before it
+abbrev pub OneDiffers : List Seat → List Record → List PassState → ℕ → ℕ → Type 0
+OneDiffers seats history passes c turn = (before : List PassState) × (p : PassState) × (after : List PassState)
+    × (passes ≡ before ++ p ∷ after) × (p.caller ≡ c) × DiffersAt seats history before p turn
+
 abbrev pub mark : Seat → ℕ
 mark s = if s.is_gathered then 1 else 0
 
@@ -46,6 +63,10 @@ pub record AreSeated (seats : List Seat) (gathered : List PassState) (history : 
 abbrev pub Marks : List Seat → List PassState → List Record → List Seat → Type 0
 Marks seats passes history marked =
     (length marked ≡ length seats) × ((ps : List PassState) → AreSeated seats ps history → AreSeated marked (ps ++ passes) history)
+
+-- a seat that is marked was marked before, or one of the passes is its caller's
+abbrev pub MarksOnly : List Seat → List PassState → List Seat → Type 0
+MarksOnly seats passes marked = (c : ℕ) → (seat_of c marked).is_gathered ≡ true → ((seat_of c seats).is_gathered ≡ true) ⊎ IsOne c passes
 
 -- the records of all passes
 abbrev pub total : List PassState → ℕ

@@ -1,6 +1,6 @@
 //! Passes compared with a history.
 ghost use Rattle.std.specs.Prelude.{◌≡◌, ◌↔◌, IsTrue, IfSome, IfNone};
-ghost use Rattle.recorded_tier.specs.Histories.{own_of, records_of, seen_own, AreSame};
+ghost use Rattle.recorded_tier.specs.Histories.{own_of, records_of, seen_own, AreSame, FirstDiffer};
 
 use crate::history::{Own, Record};
 use crate::same::is_same_event;
@@ -16,7 +16,7 @@ fn is_same_record(own: &Own, kept: &Record) -> bool
 /// Returns the first turn from which a pass's records aren't those of its caller, if there is one.
 pub(crate) fn difference(history: &[Record], caller: u64, records: &[Own]) -> Option<u64>
     ensures same { IfNone result (AreSame records.now (records_of caller history.now)) }
-    ensures other { IfSome result (λ turn. AreSame records.now (records_of caller history.now) → ⊥) }
+    ensures other { IfSome result (λ turn. FirstDiffer records.now (records_of caller history.now) turn) }
 {
     let mut turn = 0;
     for kept in history {

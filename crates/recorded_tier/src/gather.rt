@@ -14,7 +14,8 @@ pub struct Gathered {
 /// Why passes were not gathered.
 #[derive(Clone, Copy, PartialEq, Eq, Debug)]
 pub enum GatherFault {
-    /// A pass isn't what the history has of its caller: from that turn on, or it was gathered before.
+    /// A pass isn't what the history has of its caller: from that turn on. Or it is of another tier, a pass of that caller was gathered
+    /// before, or two of one caller were handed in: the turn is 0 then.
     PassDiffers { caller: u64, turn: u64 },
     /// The growth of a part was refused.
     Memory,

@@ -1,6 +1,7 @@
 //! Seats of the callers whose passes are gathered.
-ghost use Rattle.std.specs.Prelude.{◌≡◌, ◌+◌, ◌<◌, ◌≤◌, ◌∷◌, ◌++◌, [], true, false, IsTrue, IfOk, OnOk, length, set, vec_len, vec_capacity};
-ghost use Rattle.recorded_tier.specs.Seats.{Marks, seat_of, total};
+ghost use Rattle.std.specs.Prelude.{◌≡◌, ◌+◌, ◌<◌, ◌≤◌, ◌↔◌, ◌∷◌, ◌++◌, [], ℕ, true, IsTrue, IfOk, OnOk, IfErr, length, set, vec_len, vec_capacity};
+ghost use Rattle.recorded_tier.specs.declared.gather.GatherFault.TheVariants.{PassDiffers};
+ghost use Rattle.recorded_tier.specs.Seats.{DiffersAt, IsOpen, Marks, MarksOnly, OneDiffers, seat_of, total};
 
 use crate::differs::difference;
 use crate::gather::GatherFault;
@@ -12,7 +13,7 @@ use std::sync::ledger::{Ledger, Share};
 
 // Whether a caller has a seat, and its pass isn't gathered.
 fn is_open(seats: &Vec<Seat>, caller: u64) -> bool
-    ensures { IsTrue result → (caller < length seats.now.items) × ((seat_of caller seats.now.items).is_gathered ≡ false) }
+    ensures { IsTrue result ↔ IsOpen seats.now.items caller }
 {
     let place = caller as usize;
     if place >= seats.len() {
@@ -34,7 +35,9 @@ fn mark<L: Ledger>(
     seats: &mut Vec<Seat>,
     pass: &Pass<L>,
 ) -> Result<(), GatherFault>
-    ensures { OnOk result (Marks seats.old.items (pass.now ∷ []) history.now seats.new.items) }
+    ensures marks { OnOk result (Marks seats.old.items (pass.now ∷ []) history.now seats.new.items) }
+    ensures only { OnOk result (MarksOnly seats.old.items (pass.now ∷ []) seats.new.items) }
+    ensures differs { IfErr result (λ fault. (turn : ℕ) × (fault ≡ PassDiffers pass.now.caller turn) × DiffersAt seats.old.items history.now [] pass.now turn) }
 {
     let caller = pass.caller();
     if !is_open(seats, caller) {
@@ -54,7 +57,8 @@ pub(crate) fn marked<L: Ledger>(
     seats: &[Seat],
     passes: &[Pass<L>],
 ) -> Result<Vec<Seat>, GatherFault>
-    ensures { IfOk result (λ marked. Marks seats.now passes.now history.now marked.items) }
+    ensures marks { IfOk result (λ marked. Marks seats.now passes.now history.now marked.items) }
+    ensures differs { IfErr result (λ fault. (c turn : ℕ) → fault ≡ PassDiffers c turn → OneDiffers seats.now history.now passes.now c turn) }
 {
     let Ok(mut marked) = Vec::from_slice(alloc, seats) else {
         return Err(GatherFault::Memory);

@@ -1,38 +1,19 @@
 //! Passes: what a caller holds.
-ghost use Rattle.std.specs.Prelude.{◌≡◌, ◌↔◌, ◌∷◌, ◌++◌, [], IsTrue, Err, length};
+ghost use Rattle.std.specs.Prelude.{◌≡◌, ◌≤◌, ◌+◌, ◌⊎◌, ◌∷◌, ◌++◌, [], Err, OnOk, length};
 ghost use Rattle.tier_model.specs.declared.event.TierFault.TheVariants.{NoRecord};
 ghost use Rattle.recorded_tier.specs.Histories.{own};
+ghost use Rattle.recorded_tier.specs.Seats.{IsTurn};
 ghost use Rattle.recorded_tier.specs.Recorded.{MatchRecorded, Appends};
 
-use crate::event::SharedEvent;
+use crate::event::HeldTwice;
 use crate::history::Own;
-use crate::note::noted;
-use crate::recorded::Recorded;
+use crate::recorded::{Recorded, Unrecorded};
 use rand_core::Rng;
-use std::alloc::Global;
+use std::alloc::{AllocError, Global};
 use std::hash::BuildHasher;
 use std::marker::Model;
 use std::sync::ledger::{Ledger, Share};
 use tier_model::event::{Answer, TierFault};
-
-fn is_no_record(fault: &TierFault) -> bool
-    ensures { IsTrue result ↔ (fault.now ≡ NoRecord) }
-{
-    match fault {
-        TierFault::NoRecord => true,
-        _ => false,
-    }
-}
-
-// Whether a call's record was refused.
-fn is_unrecorded(outcome: &Result<Answer, TierFault>) -> bool
-    ensures { IsTrue result ↔ (outcome.now ≡ Err NoRecord) }
-{
-    match outcome {
-        Ok(_) => false,
-        Err(fault) => is_no_record(fault),
-    }
-}
 
 /// Why there is no pass.
 #[derive(Clone, Copy, PartialEq, Eq, Debug)]
@@ -55,12 +36,12 @@ pub struct Pass<L: Ledger> {
 }
 
 impl<L: Ledger> Model for Pass<L> {
-    ghost use Rattle.std.specs.Prelude.{◌≡◌, length};
+    ghost use Rattle.std.specs.Prelude.{◌≡◌, ◌-◌, length, vec_len, vec_capacity};
     ghost use Rattle.recorded_tier.specs.Seats.{PassState};
 
     ghost Value = { PassState };
 
-    ghost view = { λ p. record { caller = p.caller; records = p.records.items } };
+    ghost view = { λ p. record { caller = p.caller; records = p.records.items; room = vec_capacity p.records - vec_len p.records } };
 
     ghost invariant = { λ p. (p.share.parts ≡ 1) × (p.share.amount ≡ length p.records.items) };
 }
@@ -73,11 +54,12 @@ pub struct SpentPass {
 }
 
 impl Model for SpentPass {
+    ghost use Rattle.std.specs.Prelude.{◌-◌, vec_len, vec_capacity};
     ghost use Rattle.recorded_tier.specs.Seats.{PassState};
 
     ghost Value = { PassState };
 
-    ghost view = { λ p. record { caller = p.caller; records = p.records.items } };
+    ghost view = { λ p. record { caller = p.caller; records = p.records.items; room = vec_capacity p.records - vec_len p.records } };
 }
 
 impl SpentPass {
@@ -100,7 +82,7 @@ impl<L: Ledger> Pass<L> {
     // A pass without records.
     pub(crate) fn new(alloc: Global, caller: u64, share: Share<L>) -> Pass<L>
         requires { (share.parts ≡ 1) × (share.amount ≡ 0) }
-        ensures { result ≡ record { caller = caller; records = [] } }
+        ensures { (result.caller ≡ caller) × (result.records ≡ []) }
     {
         Pass {
             caller,
@@ -123,34 +105,48 @@ impl<L: Ledger> Pass<L> {
         self.records.as_slice()
     }
 
-    /// Makes a call: the recorded tier takes the event, and both keep it with the note of the outcome. `NoRecord` where the room
-    /// for a record is refused, or where the pass is none of this tier's: neither changes then.
+    /// Makes room for the records of so many calls more.
+    ///
+    /// # Errors
+    ///
+    /// `AllocError` where there is no memory for it. Nothing changes.
+    pub fn reserve(&mut self, more: usize) -> Result<(), AllocError>
+        ensures room { OnOk result (more ≤ self.new.room) }
+        ensures same { (self.new.caller ≡ self.old.caller) × (self.new.records ≡ self.old.records) × (self.old.room ≤ self.new.room) }
+    {
+        self.records.reserve(more)
+    }
+
+    /// Makes a call: the recorded tier takes the event, and both keep it with the note of the outcome.
+    ///
+    /// # Errors
+    ///
+    /// The tier's own fault, whose record is kept too. `NoRecord` where there was no room for a record in the pass or in the
+    /// recorded tier, and no memory for more; or where the pass is none of this tier's. Neither changes then.
     pub fn step<const N: usize, R: Rng, S: BuildHasher>(
         &mut self,
         recorded: &mut Recorded<N, R, L, S>,
-        event: SharedEvent,
+        event: HeldTwice,
     ) -> Result<Answer, TierFault>
         ensures caller { self.new.caller ≡ self.old.caller }
         ensures records { MatchRecorded result (self.new.records ≡ self.old.records) (self.new.records ≡ self.old.records ++ own event result ∷ []) }
         ensures history { MatchRecorded result (recorded.new ≡ recorded.old)
             (Appends recorded.old (R.stream recorded.old.rng) self.old.caller (length self.old.records) event result recorded.new (R.stream recorded.new.rng)) }
+        ensures room { self.old.room ≤ self.new.room + 1 }
+        ensures reason { result ≡ Err NoRecord → IsTurn recorded.old.seats self.old.caller (length self.old.records) → (recorded.old.room ≡ 0) ⊎ (self.old.room ≡ 0) }
     {
         let Ok(()) = self.records.reserve(1) else {
             return Err(TierFault::NoRecord);
         };
-        let Ok(mine) = event.share() else {
-            return Err(TierFault::NoRecord);
-        };
         let turn = self.records.len() as u64;
-        let outcome = recorded.step(self.caller, turn, &mut self.share, event);
-        if is_unrecorded(&outcome) {
-            return outcome;
+        let (theirs, mine) = event.apart();
+        match recorded.record(self.caller, turn, &mut self.share, theirs) {
+            Ok((outcome, note)) => {
+                self.records.push_reserved(Own { event: mine, note });
+                outcome
+            }
+            Err(Unrecorded) => Err(TierFault::NoRecord),
         }
-        self.records.push_reserved(Own {
-            event: mine,
-            note: noted(&outcome),
-        });
-        outcome
     }
 
     // Takes the pass apart.

@@ -1,6 +1,7 @@
 //! A tier with its history.
-ghost use Rattle.std.specs.Prelude.{◌≡◌, ◌≢◌, ◌<◌, ◌+◌, ◌^◌, ◌↔◌, ◌∷◌, ◌++◌, [], false, IsTrue, IfOk, IfErr, OnOk, OnErr, Err, length};
+ghost use Rattle.std.specs.Prelude.{◌≡◌, ◌≢◌, ◌<◌, ◌≤◌, ◌+◌, ◌^◌, ◌↔◌, ◌∷◌, ◌++◌, [], false, IsTrue, IfOk, IfErr, OnOk, OnErr, Err, length};
 ghost use Rattle.tier_model.specs.declared.event.TierFault.TheVariants.{NoRecord};
+ghost use Rattle.recorded_tier.specs.Notes.{note_of};
 ghost use Rattle.recorded_tier.specs.Openings.{Opens};
 ghost use Rattle.recorded_tier.specs.Seats.{stranger, IsTurn};
 ghost use Rattle.recorded_tier.specs.Recorded.{MatchRecorded, Appends, Refuses, IsReplayed};
@@ -10,12 +11,12 @@ mod passes;
 
 use crate::event::SharedEvent;
 use crate::history::{Record, Seat};
-use crate::note::noted;
+use crate::note::{Note, noted};
 use crate::pass::SpentPass;
 use crate::snapshot::Snapshot;
 use cache_tier::Tier;
 use rand_core::Rng;
-use std::alloc::Global;
+use std::alloc::{AllocError, Global};
 use std::hash::{BuildHasher, BuildHasherDefault, FoldHasher};
 use std::marker::Model;
 use std::sync::ledger::{Blank, Book, Ledger, Share};
@@ -27,9 +28,9 @@ pub const LEDGER_PARTS: u64 = 4294967296;
 /// The most passes that a recorded tier gives.
 pub const MOST_PASSES: usize = 4294967295;
 
-/// A call that was refused before anything was done.
+// A call that was refused before anything was done.
 #[derive(Drop)]
-struct Unrecorded;
+pub(crate) struct Unrecorded;
 
 // Whether a caller with that seat may make its call of that number.
 fn is_free(seat: Seat, turn: u64) -> bool
@@ -133,17 +134,18 @@ impl<const N: usize, R: Rng, L: Ledger, S: BuildHasher> Recorded<N, R, L, S> {
         }
     }
 
-    // Takes an event and keeps its record, or refuses it before anything is done.
-    fn record(
+    // Takes an event and keeps its record, or refuses it before anything is done. The note is that of the outcome.
+    pub(crate) fn record(
         &mut self,
         caller: u64,
         turn: u64,
         mine: &mut Share<L>,
         event: SharedEvent,
-    ) -> Result<Result<Answer, TierFault>, Unrecorded>
+    ) -> Result<(Result<Answer, TierFault>, Note), Unrecorded>
         requires { 0 < mine.old.parts }
-        ensures recorded { IfOk result (λ o. Appends self.old (R.stream self.old.rng) caller turn event o self.new (R.stream self.new.rng)) }
-        ensures told { IfOk result (λ o. o ≢ Err NoRecord) }
+        ensures recorded { IfOk result (λ o. Appends self.old (R.stream self.old.rng) caller turn event o.0 self.new (R.stream self.new.rng)) }
+        ensures told { IfOk result (λ o. o.0 ≢ Err NoRecord) }
+        ensures noted { IfOk result (λ o. o.1 ≡ note_of o.0) }
         ensures counted { OnOk result (mine.new.amount ≡ mine.old.amount + 1) }
         ensures refused { OnErr result (Refuses self.old caller turn self.new × (mine.new.amount ≡ mine.old.amount)) }
         ensures parts { mine.new.parts ≡ mine.old.parts }
@@ -155,18 +157,32 @@ impl<const N: usize, R: Rng, L: Ledger, S: BuildHasher> Recorded<N, R, L, S> {
             return Err(Unrecorded);
         };
         let outcome = self.tier.step(&mut self.rng, event.event());
+        let note = noted(&outcome);
         self.history.push_reserved(Record {
             caller,
             turn,
             event,
-            note: noted(&outcome),
+            note,
         });
         self.seats[caller as usize] = Seat {
             records: turn + 1,
             is_gathered: false,
         };
         self.book.add(mine, 1);
-        Ok(outcome)
+        Ok((outcome, note))
+    }
+
+    /// Makes room in the history for so many calls more.
+    ///
+    /// # Errors
+    ///
+    /// `AllocError` where there is no memory for it. Nothing changes.
+    pub fn reserve(&mut self, more: usize) -> Result<(), AllocError>
+        ensures room { OnOk result (more ≤ self.new.room) }
+        ensures same { self.new ≡ record self.old { room = self.new.room } }
+        ensures grows { self.old.room ≤ self.new.room }
+    {
+        self.history.reserve(more)
     }
 
     /// Takes one event of a caller at its turn, answers it, and keeps its record.
@@ -189,7 +205,7 @@ impl<const N: usize, R: Rng, L: Ledger, S: BuildHasher> Recorded<N, R, L, S> {
         ensures parts { mine.new.parts ≡ mine.old.parts }
     {
         match self.record(caller, turn, mine, event) {
-            Ok(outcome) => outcome,
+            Ok((outcome, _)) => outcome,
             Err(Unrecorded) => Err(TierFault::NoRecord),
         }
     }

@@ -1,5 +1,8 @@
 //! The shared tier.
-ghost use Rattle.std.specs.Prelude.{◌≡◌, ◌<◌, ◌∷◌, ◌++◌, [], IfOk, IfErr};
+ghost use Rattle.std.specs.Prelude.{◌≡◌, ℕ, ◌<◌, ◌∷◌, ◌++◌, [], IfOk, IfErr};
+ghost use Rattle.cache_words.specs.declared.pack.fault.PackWriteFault.{PackWriteFault};
+ghost use Rattle.cache_evict.specs.Loads.{CantBeWritten};
+ghost use Rattle.cache_evict.specs.Managed.{rows_at};
 ghost use Rattle.tier_model.specs.Started.{IsNew, settings_of};
 ghost use Rattle.recorded_tier.specs.Histories.{own, HasTurns};
 ghost use Rattle.recorded_tier.specs.Openings.{settings_with};
@@ -8,7 +11,7 @@ ghost use Rattle.recorded_tier.specs.Recorded.{MatchRecorded, IsClosed, IsReplay
 use cache_evict::PackWriteFault;
 use cache_tier::{Answer, Event, Tier, TierFault};
 use rand_core::Rng;
-use recorded_tier::event::SharedEvent;
+use recorded_tier::event::HeldTwice;
 use recorded_tier::{Gathered, NotGathered, Pass, PassFault, Recorded, Snapshot, TierOptions};
 use std::alloc::Global;
 use std::hash::{BuildHasher, BuildHasherDefault, FoldHasher};
@@ -30,11 +33,12 @@ pub struct SharedTier<
     lock: Mutex<Recorded<N, R, L, S>>,
 }
 
-/// A tier that can't be shared, and its generator, as they were.
+/// A tier that can't be shared, its generator and its blank ledger, as they were.
 #[derive(Drop)]
 pub struct NotShared<const N: usize, R: Rng, S: BuildHasher = BuildHasherDefault<FoldHasher>> {
-    /// What the texts of its shards met.
+    /// `Memory`: there was none for the texts of its shards or the generator's copy. `TooLong`: a shard's text can't be written.
     pub fault: PackWriteFault,
+    pub blank: Blank,
     pub tier: Tier<N, S>,
     pub rng: R,
 }
@@ -45,8 +49,8 @@ impl<const N: usize, R: Rng + Clone, L: Ledger, S: BuildHasher> SharedTier<N, R,
     ///
     /// # Errors
     ///
-    /// No memory for the texts of the shards or the generator's copy; or `TooLong`, where a shard's text can't be written. The tier and
-    /// the generator come back.
+    /// No memory for the texts of the shards or the generator's copy; or `TooLong`, where a shard's text can't be written. The tier,
+    /// the generator and the ledger come back.
     pub fn new(
         alloc: Global,
         blank: Blank,
@@ -58,11 +62,19 @@ impl<const N: usize, R: Rng + Clone, L: Ledger, S: BuildHasher> SharedTier<N, R,
         requires made { settings_of tier ≡ settings_with N options }
         requires words { (copy : R) → R.is_clone rng copy → R.stream copy ≡ R.stream rng }
         requires blank { (blank.name ≡ L.name) × (blank.parts ≡ L.parts) × (L.parts ≡ 4294967296) }
-        ensures back { IfErr result (λ back. (back.tier ≡ tier) × (back.rng ≡ rng)) }
+        ensures back { IfErr result (λ back. (back.tier ≡ tier) × (back.rng ≡ rng) × (back.blank ≡ blank)) }
+        ensures long { IfErr result (λ back. back.fault ≡ PackWriteFault.TooLong → (i : ℕ) × CantBeWritten (rows_at tier.managed.shards i)) }
     {
         let opening = match Snapshot::of(alloc, options, &tier, &rng) {
             Ok(opening) => opening,
-            Err(fault) => return Err(NotShared { fault, tier, rng }),
+            Err(fault) => {
+                return Err(NotShared {
+                    fault,
+                    blank,
+                    tier,
+                    rng,
+                });
+            }
         };
         let recorded = Recorded::open(alloc, blank, opening, tier, rng);
         Ok(SharedTier {
@@ -73,12 +85,14 @@ impl<const N: usize, R: Rng + Clone, L: Ledger, S: BuildHasher> SharedTier<N, R,
 }
 
 impl<const N: usize, R: Rng, L: Ledger, S: BuildHasher> SharedTier<N, R, L, S> {
-    /// Gives a pass for a new caller.
+    /// Gives a pass for a new caller, without records.
     ///
     /// # Errors
     ///
     /// `PassesSpent` after 4294967295 passes, and `Memory`.
-    pub fn pass<W: Wait>(&self, rt: &W) -> Result<Pass<L>, PassFault> {
+    pub fn pass<W: Wait>(&self, rt: &W) -> Result<Pass<L>, PassFault>
+        ensures empty { IfOk result (λ pass. pass.records ≡ []) }
+    {
         self.lock.lock(rt).pass()
     }
 
@@ -86,8 +100,8 @@ impl<const N: usize, R: Rng, L: Ledger, S: BuildHasher> SharedTier<N, R, L, S> {
     ///
     /// # Errors
     ///
-    /// The tier's own fault, which is recorded too. `NoRecord` where the room for the record is refused, or the pass is of another
-    /// tier: nothing changes then.
+    /// The tier's own fault, which is recorded too. `NoRecord` where there is no memory for the record: nothing changes then, and
+    /// the event is dropped.
     pub fn step<W: Wait>(
         &self,
         rt: &W,
@@ -97,7 +111,7 @@ impl<const N: usize, R: Rng, L: Ledger, S: BuildHasher> SharedTier<N, R, L, S> {
         ensures caller { pass.new.caller ≡ pass.old.caller }
         ensures records { MatchRecorded result (pass.new.records ≡ pass.old.records) (pass.new.records ≡ pass.old.records ++ own event result ∷ []) }
     {
-        let Ok(event) = SharedEvent::new(self.alloc, event) else {
+        let Ok(event) = HeldTwice::new(self.alloc, event) else {
             return Err(TierFault::NoRecord);
         };
         pass.step(&mut *self.lock.lock(rt), event)
@@ -136,5 +150,12 @@ impl<const N: usize, R: Rng, L: Ledger, S: BuildHasher> SharedTier<N, R, L, S> {
         }
         recorded.audit();
         Ok(recorded)
+    }
+
+    /// Ends the sharing though passes may be outstanding, as where a thread dropped its own: what comes out says what holds of it. Only
+    /// `close` says of the passes that they are the history.
+    pub fn abandon(self) -> Recorded<N, R, L, S> {
+        let SharedTier { lock, .. } = self;
+        lock.into_inner()
     }
 }

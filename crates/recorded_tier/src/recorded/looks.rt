@@ -1,6 +1,7 @@
 //! What a recorded tier shows.
-ghost use Rattle.std.specs.Prelude.{◌≡◌, []};
-ghost use Rattle.recorded_tier.specs.Histories.{HasTurns};
+ghost use Rattle.std.specs.Prelude.{◌≡◌, ℕ, [], length};
+ghost use Rattle.recorded_tier.specs.Histories.{HasTurns, records_of};
+ghost use Rattle.recorded_tier.specs.Seats.{Shows, seat_of};
 ghost use Rattle.recorded_tier.specs.Recorded.{IsReplayed};
 
 use super::Recorded;
@@ -25,15 +26,24 @@ impl<const N: usize, R: Rng, L: Ledger, S: BuildHasher> Recorded<N, R, L, S> {
     pub fn history(&self) -> &[Record]
         ensures same { result.now ≡ self.now.history }
         ensures turns { HasTurns [] self.now.history }
+        ensures fits { (c : ℕ) → (seat_of c self.now.seats).records ≡ length (records_of c self.now.history) }
     {
         self.history.as_slice()
     }
 
     /// Returns the gathered passes, in the order in which they were gathered.
     pub fn gathered(&self) -> &[SpentPass]
-        ensures { result.now ≡ self.now.gathered }
+        ensures same { result.now ≡ self.now.gathered }
+        ensures shown { Shows self.now.seats self.now.history self.now.gathered }
     {
         self.gathered.as_slice()
+    }
+
+    /// Returns the generator, whose next words the tier draws next.
+    pub fn rng(&self) -> &R
+        ensures { result.now ≡ self.now.rng }
+    {
+        &self.rng
     }
 
     /// Returns how the tier began.

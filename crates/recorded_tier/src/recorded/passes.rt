@@ -1,7 +1,8 @@
 //! Passes that a recorded tier gives, and takes back.
-ghost use Rattle.std.specs.Prelude.{◌≡◌, ◌+◌, ◌≤◌, ◌<◌, ◌∷◌, ◌++◌, [], IfOk, IfErr, OnOk, OnErr, length};
-ghost use Rattle.recorded_tier.specs.declared.pass.PassFault.TheVariants.{PassesSpent};
-ghost use Rattle.recorded_tier.specs.Seats.{stranger};
+ghost use Rattle.std.specs.Prelude.{◌≡◌, ℕ, ◌+◌, ◌≤◌, ◌<◌, ◌∷◌, ◌++◌, [], IfOk, IfErr, OnOk, OnErr, length};
+ghost use Rattle.recorded_tier.specs.declared.pass.PassFault.TheVariants.{PassesSpent, Memory};
+ghost use Rattle.recorded_tier.specs.declared.gather.GatherFault.TheVariants.{PassDiffers};
+ghost use Rattle.recorded_tier.specs.Seats.{stranger, OneDiffers};
 ghost use Rattle.recorded_tier.specs.Histories.{HasTurns};
 ghost use Rattle.recorded_tier.specs.Recorded.{IsClosed, IsReplayed};
 
@@ -21,10 +22,12 @@ impl<const N: usize, R: Rng, L: Ledger, S: BuildHasher> Recorded<N, R, L, S> {
     ///
     /// `PassesSpent` after 4294967295 passes, and `Memory`. Nothing changes.
     pub fn pass(&mut self) -> Result<Pass<L>, PassFault>
-        ensures pass { IfOk result (λ pass. pass ≡ record { caller = length self.old.seats; records = [] }) }
+        ensures pass { IfOk result (λ pass. (pass.caller ≡ length self.old.seats) × (pass.records ≡ [])) }
         ensures seats { OnOk result (self.new ≡ record self.old { seats = self.old.seats ++ stranger ∷ [] }) }
         ensures err { OnErr result (self.new ≡ self.old) }
         ensures spent { IfErr result (λ fault. fault ≡ PassesSpent → 4294967295 ≤ length self.old.seats) }
+        ensures most { OnOk result (length self.old.seats < 4294967295) }
+        ensures memory { IfErr result (λ fault. fault ≡ Memory → length self.old.seats < 4294967295) }
     {
         if self.seats.len() >= MOST_PASSES {
             return Err(PassFault::PassesSpent);
@@ -59,6 +62,7 @@ impl<const N: usize, R: Rng, L: Ledger, S: BuildHasher> Recorded<N, R, L, S> {
         ensures same { (self.new.tier ≡ self.old.tier) × (self.new.rng ≡ self.old.rng) × (self.new.history ≡ self.old.history) × (self.new.opening ≡ self.old.opening) }
         ensures seats { length self.new.seats ≡ length self.old.seats }
         ensures err { IfErr result (λ back. (back.passes.items ≡ passes.items) × (self.new ≡ self.old)) }
+        ensures differs { IfErr result (λ back. (c turn : ℕ) → back.fault ≡ PassDiffers c turn → OneDiffers self.old.seats self.old.history passes.items c turn) }
     {
         let seats = match marked(
             self.alloc,

@@ -42,10 +42,10 @@ pub invariant_of-self-2 : goal.invariant_of-self-2
 invariant_of-self-2 g c =
     let turn : IsTurn c.self.inside.seats.items c.args.caller c.args.turn = c.is_turn.ensures.0 c.if-not-is_turn.false in
     let is : c.args.turn ≡ length (records_of c.args.caller c.self.inside.history.items) = sym (ap (λ (x : Seat). x.records) turn.1) ∙ c.self.invariant.2.fits c.args.caller in
-    let r : Record = record { caller = c.args.caller; turn = c.args.turn; event = c.args.event; note = c.noted.result } in
+    let r : Record = record { caller = c.args.caller; turn = c.args.turn; event = c.args.event; note = c.noted-note.result } in
     let longer = length_push c.self.inside.history.items r in
     rw (c.push_reserved.ensures.items, c.in-Ok.ensures.items) (
-      (c.self.invariant.0.0, c.self.invariant.0.1, replay-more _ _ _ _ _ r c.step-outcome.result _ _ c.self.invariant.0.2 (rw c.event-2.ensures at c.step-outcome.ensures) c.noted.ensures),
+      (c.self.invariant.0.0, c.self.invariant.0.1, replay-more _ _ _ _ _ r c.step-outcome.result _ _ c.self.invariant.0.2 (rw c.event-2.ensures at c.step-outcome.ensures) c.noted-note.ensures),
       turns-more [] c.self.inside.history.items r c.self.invariant.1 is,
       seated-call c.self.inside.seats.items c.self.inside.gathered.items c.self.inside.history.items r turn c.self.invariant.2,
       omega (arith, longer, c.add.ensures.total, c.self.invariant.3),
@@ -84,8 +84,8 @@ returns-clause-recorded g c =
     rw (← c.self.view_is) (record {
       takes = rw c.event-2.ensures at c.step-outcome.ensures;
       history =
-          c.push_reserved.ensures.items ∙ ap (λ (l : List Record). l ++ r c.noted.result ∷ []) c.in-Ok.ensures.items
-          ∙ ap (λ (n : Note). c.self.inside.history.items ++ r n ∷ []) c.noted.ensures;
+          c.push_reserved.ensures.items ∙ ap (λ (l : List Record). l ++ r c.noted-note.result ∷ []) c.in-Ok.ensures.items
+          ∙ ap (λ (n : Note). c.self.inside.history.items ++ r n ∷ []) c.noted-note.ensures;
       is_turn = turn;
       seats = refl;
       opening = refl;

@@ -2,7 +2,7 @@ use borrow.Rule.Slice.AtParam.{field_room}
 use denote.Param.{layout, number, param}
 use mir.Syntax.{Ty}
 use prog.Memory.{size}
-use Rattle.std.proofs.Common.{◌<◌, ◌^◌, refl}
+use Rattle.std.proofs.Common.{◌<◌, ◌^◌, ap, Err, refl}
 use Rattle.std.specs.contracts.cell.UnsafeCell.{the_row as cell_row}
 use Rattle.std.specs.contracts.sync.Mutex.{the_row as mutex_row}
 use Rattle.cache_tier.specs.contracts.tier.Tier.{the_row as tier_row}
@@ -21,3 +21,6 @@ open-recorded-requires g c =
     let lock_fits : size mutex < 2 ^ 63 = field_room shared 1 _ _ refl fits in
     let cell_fits : size cell < 2 ^ 63 = field_room mutex 1 _ _ refl lock_fits in
     (tier_fits, (field_room cell 0 _ _ refl cell_fits, (c.in-Ok.ensures.opens, (c.in-Ok.ensures.words, c.requires.blank))))
+
+pub returns-in-Err-clause-long : goal.returns-in-Err-clause-long
+returns-in-Err-clause-long g c = λ e. c.in-Err.ensures.long (ap Err e)

@@ -2,7 +2,8 @@ use borrow.Rule.Slice.AtParam.{field_room}
 use denote.Param.{layout, number, param}
 use mir.Syntax.{Ty}
 use prog.Memory.{size}
-use Rattle.std.proofs.Common.{◌<◌, ◌^◌, refl}
+use Rattle.std.proofs.Common.{◌<◌, ◌^◌, ◌≡◌, [], refl}
+use Rattle.std.proofs.lemmas.Result.{IfOk-weaker}
 use Rattle.std.specs.contracts.cell.UnsafeCell.{the_row as cell_row}
 use Rattle.std.specs.contracts.sync.Mutex.{the_row as mutex_row}
 use Rattle.recorded_tier.specs.contracts.recorded.Recorded.{the_row as recorded_row}
@@ -28,3 +29,6 @@ drop-lock-requires-room-T-Destruct g c = λ κs below.
     let lock_fits : size mutex < 2 ^ 63 = field_room shared 1 _ _ refl fits in
     let cell_fits : size cell < 2 ^ 63 = field_room mutex 1 _ _ refl lock_fits in
     field_room cell 0 _ _ refl cell_fits
+
+pub returns : goal.returns
+returns g c = record { empty = IfOk-weaker c.pass.result _ (λ pass. pass.records ≡ []) (λ _ p. p.1) c.pass.ensures.pass }
