@@ -1,45 +1,93 @@
 #!/bin/sh
-# Runs the tests of the crates that the arguments name with each allocation failing in turn, the first, the second, ..,
-# until a run meets none. It proves nothing and builds anew for each run, so it is no part of the gate.
+# Runs tests with each allocation of theirs failing in turn: the first, the second, .., until a run has fewer. The arguments
+# name crates of tests. It takes the proved program crates/NAME/out/NAME_tests that `rt ci` or `rt test` left there, and proves nothing.
 #
 # The tests with `memory` or `refused` in their names pass whichever allocation fails: each takes a refusal as an answer and
-# looks at what is left. Of the others those fail that meet the refusal. A crate's test ample_memory_meets_no_refusal
-# takes more memory than each of the first kind and fails where it meets a refusal: once it passes, none of them met one.
-# In a crate without such a test the runs go on until no test fails. An allocation may fail unseen, as one that would give
-# spare room back, so the runs end only when twelve in a row met nothing.
-set -u
-cd "$(dirname "$0")/.." || exit 1
+# looks at what is left. ample_memory_meets_no_refusal is the canary: it takes a refusal as a failure, so a run of it must fail.
+set -eu
+cd "$(dirname "$0")/.."
 [ $# -gt 0 ] || set -- tier_tests
-log=$(mktemp) || exit 1
-trap 'rm -f "$log"' EXIT
-most=${MOST:-400}
+work=$(mktemp -d)
+trap 'rm -rf "$work"' EXIT
+cat > "$work/fail.c" <<'C'
+/* The FAIL_ATth allocation of the process returns no memory, and the file FAIL_MARK is made then. */
+#define _GNU_SOURCE
+#include <errno.h>
+#include <fcntl.h>
+#include <stdatomic.h>
+#include <stdlib.h>
+#include <unistd.h>
+
+extern void *__libc_malloc(size_t), *__libc_calloc(size_t, size_t), *__libc_realloc(void *, size_t), *__libc_memalign(size_t, size_t);
+static atomic_long met;
+static long at;
+
+__attribute__((constructor)) static void begin(void) {
+    const char *word = getenv("FAIL_AT");
+    at = word ? atol(word) : 0;
+    met = 0;
+}
+
+static int fails(void) {
+    if (!at || atomic_fetch_add(&met, 1) + 1 != at) return 0;
+    int file = open(getenv("FAIL_MARK"), O_CREAT | O_WRONLY, 0600);
+    if (file >= 0) close(file);
+    errno = ENOMEM;
+    return 1;
+}
+
+void *malloc(size_t n) { return fails() ? NULL : __libc_malloc(n); }
+void *calloc(size_t n, size_t m) { return fails() ? NULL : __libc_calloc(n, m); }
+void *realloc(void *p, size_t n) { return fails() ? NULL : __libc_realloc(p, n); }
+void *aligned_alloc(size_t a, size_t n) { return fails() ? NULL : __libc_memalign(a, n); }
+void *memalign(size_t a, size_t n) { return fails() ? NULL : __libc_memalign(a, n); }
+int posix_memalign(void **p, size_t a, size_t n) {
+    if (fails()) return ENOMEM;
+    void *made = __libc_memalign(a, n);
+    if (!made) return ENOMEM;
+    *p = made;
+    return 0;
+}
+C
+cc -O2 -shared -fPIC -o "$work/fail.so" "$work/fail.c"
+
+# Runs a test with that allocation failing; says whether it met it by the file `mark`.
+one() {
+    rm -f "$work/mark"
+    FAIL_AT=$3 FAIL_MARK="$work/mark" LD_PRELOAD="$work/fail.so" "$1" "$2" > "$work/said" 2>&1
+}
+
+passed=0
+failed=0
 for crate in "$@"; do
-    n=1
-    met=0
-    while [ "$n" -le "$most" ]; do
-        (cd "crates/$crate" && rt try --test --fail-alloc "$n") > "$log" 2>&1
-        if ! grep -q '^test result' "$log"; then
-            echo "$crate: no answer at allocation $n"
-            tail -n 5 "$log"
-            exit 1
+    program=$PWD/crates/$crate/out/${crate}_tests
+    [ -x "$program" ] || { echo "fail-alloc: there is no $program: run 'rt ci $crate' or 'rt test' in the crate first"; exit 1; }
+    for name in $("$program" --list | sed -n 's/: test$//p' | grep 'memory\|refused'); do
+        n=1
+        refusals=0
+        while :; do
+            status=0
+            one "$program" "$name" "$n" || status=$?
+            [ "$status" -eq 0 ] || refusals=$((refusals + 1))
+            [ -e "$work/mark" ] || break
+            if [ "$status" -ne 0 ] && [ "${name%ample_memory_meets_no_refusal}" = "$name" ]; then
+                echo "$crate: $name fails where allocation $n fails"
+                tail -n 3 "$work/said"
+                failed=$((failed + 1))
+            fi
+            n=$((n + 1))
+        done
+        if [ "$status" -ne 0 ]; then
+            echo "$crate: $name fails where none fails"
+            failed=$((failed + 1))
+        elif [ "${name%ample_memory_meets_no_refusal}" != "$name" ] && [ "$refusals" -eq 0 ]; then
+            echo "$crate: the canary $name met no refusal in $((n - 1)) runs"
+            failed=$((failed + 1))
+        else
+            passed=$((passed + n))
+            echo "$crate: $name: each of $((n - 1)) allocations failed in turn"
         fi
-        failed=$(grep '^test .* FAILED$' "$log")
-        wrong=$(echo "$failed" | grep 'memory\|refused' | grep -v 'ample_memory_meets_no_refusal')
-        if [ -n "$wrong" ]; then
-            echo "$crate: at allocation $n"
-            echo "$wrong"
-            exit 1
-        fi
-        if grep -q '^test .*ample_memory_meets_no_refusal' "$log"; then
-            failed=$(echo "$failed" | grep 'ample_memory_meets_no_refusal')
-        fi
-        [ -z "$failed" ] || met=$n
-        [ $((n - met)) -lt 12 ] || break
-        n=$((n + 1))
     done
-    if [ "$n" -gt "$most" ]; then
-        echo "$crate: each of the first $most allocations failed in turn; the runs were ended there"
-    else
-        echo "$crate: each allocation failed in turn up to number $met, and the runs from $((met + 1)) to $n met none"
-    fi
 done
+echo "$passed passed, $failed failed"
+[ "$failed" -eq 0 ] && [ "$passed" -gt 0 ]
