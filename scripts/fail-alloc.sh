@@ -2,11 +2,13 @@
 # Runs tests with each allocation of theirs failing in turn: the first, the second, .., until a run has fewer. The arguments
 # name crates of tests. It takes the proved program crates/NAME/out/NAME_tests that `rt ci` or `rt test` left there, and proves nothing.
 #
-# The tests with `memory` or `refused` in their names pass whichever allocation fails: each takes a refusal as an answer and
-# looks at what is left. ample_memory_meets_no_refusal is the canary: it takes a refusal as a failure, so a run of it must fail.
+# Tried are the tests of refused memory, by their names: of a module `refused` or `refusals`, or with out_of_memory, without_memory,
+# no_memory, refused_memory or memory_cuts_short in it. Each takes a refusal as an answer and looks at what is left, so it passes
+# whichever allocation fails. ample_memory_meets_no_refusal is the canary: it takes a refusal as a failure, so a run of it must fail.
 set -eu
 cd "$(dirname "$0")/.."
-[ $# -gt 0 ] || set -- tier_tests
+[ $# -gt 0 ] || set -- tier_tests heads_tests lru_tests words_tests evict_tests store_tests
+names='refused::\|refusals::\|refused_memory\|out_of_memory\|without_memory\|no_memory\|memory_cuts_short'
 work=$(mktemp -d)
 trap 'rm -rf "$work"' EXIT
 cat > "$work/fail.c" <<'C'
@@ -62,7 +64,7 @@ failed=0
 for crate in "$@"; do
     program=$PWD/crates/$crate/out/${crate}_tests
     [ -x "$program" ] || { echo "fail-alloc: there is no $program: run 'rt ci $crate' or 'rt test' in the crate first"; exit 1; }
-    for name in $("$program" --list | sed -n 's/: test$//p' | grep 'memory\|refused'); do
+    for name in $("$program" --list | sed -n 's/: test$//p' | grep "$names"); do
         n=1
         refusals=0
         while :; do
