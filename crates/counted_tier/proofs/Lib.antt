@@ -1,0 +1,3 @@
+pub mod CountLaws
+pub mod HeadlineLaws
+pub mod Rooms

@@ -1,0 +1,11 @@
+//! A tier that threads share, for a program that runs for long: its calls are counted, and none is kept.
+#![tactic(auto)]
+
+pub mod counted;
+pub mod laws;
+pub mod shared;
+
+pub use counted::{CallPass, Counted};
+pub use recorded_tier::{PassFault, Snapshot, TierOptions};
+pub use shared::CountedTier;
+pub use shared_tier::NotShared;
