@@ -1,15 +1,19 @@
 #!/usr/bin/env python3
 """Makes a put line for tier-replay of an HTTP response as curl prints it, to see what the tier makes of it.
 
-    curl -si https://example.org/a.js | response-to-trace.py /a.js > trace.jsonl
+    curl -sSi https://example.org/a.js | response-to-trace.py /a.js > trace.jsonl
     response-to-trace.py --at 1000 --look 5 --look 60 /a.js < response.txt > trace.jsonl
 
 The first line is a put of the response under the key at the moment --at (now, if left out). Each --look SECONDS adds a look-up so
 many seconds after it: three lines, open, look and drop.
 
-A status line of HTTP/2 or HTTP/3, which has no reason and no minor version, is written as HTTP/1.1, since the tier reads HTTP/1.x alone.
-Where curl printed several heads (100 Continue, redirects with -L, a proxy's), only the last response is taken. Both are reported on
-standard error. curl decodes a chunked body, but prints its Transfer-Encoding; the tier takes the bytes as they are here.
+What is changed is reported on standard error:
+- A status line of HTTP/2 or HTTP/3, which has no reason and no minor version, is written as HTTP/1.1, since the tier reads HTTP/1.x alone.
+- Where curl printed several heads (100 Continue, redirects with -L, a proxy's), only the last response is taken.
+- A head alone, as of curl -I, gets as many bytes 'x' for a body as its Content-Length says, up to 1 MiB. A head whose empty line is
+  missing, as in a copied text, gets one.
+
+curl decodes a chunked body (but for --raw), and a packed one with --compressed; the tier takes the bytes as they are here.
 """
 import argparse
 import json
@@ -18,26 +22,70 @@ import sys
 import time
 
 STATUS = re.compile(rb"HTTP/(\d)(?:\.(\d))? (\d{3})[^\r\n]*\r?\n")
+HEAD = re.compile(rb".*?\n\r?\n", re.DOTALL)
+LENGTH = re.compile(rb"^content-length:[ \t]*(\d+)[ \t]*\r?$", re.IGNORECASE | re.MULTILINE)
+CODED = re.compile(rb"^transfer-encoding:", re.IGNORECASE | re.MULTILINE)
+LONGEST, EMPTY = 2**20, (b"204", b"304")
+
+
+def note(text):
+    print(text, file=sys.stderr)
+
+
+def promises_body(head):
+    """Whether a body is printed behind a head that isn't the last: not behind 1xx, 3xx, 401, 407 or a proxy's 200."""
+    status = STATUS.match(head)[3]
+    if status[:1] in b"13" or status in (b"401", b"407"):
+        return False
+    return bool(LENGTH.search(head) or CODED.search(head))
 
 
 def last_response(data):
-    """Returns the bytes of the last response, and how many stand before it."""
+    """Returns the bytes of the last response, and how many heads stand before it."""
     dropped = 0
     while True:
-        head = re.match(rb".*?\r?\n\r?\n", data, re.DOTALL)
-        if not head or not STATUS.match(data[head.end() :]):
+        head = HEAD.match(data)
+        if not head or not STATUS.match(data[head.end() :]) or promises_body(head[0]):
             return data, dropped
         data, dropped = data[head.end() :], dropped + 1
 
 
 def as_http_1(data):
-    """Returns the response with a status line of HTTP/1.x, and the version that was replaced, or None."""
+    """Returns the response with a status line of HTTP/1.x."""
     status = STATUS.match(data)
-    if not status:
-        sys.exit("the input doesn't begin with a status line: print the head too, as curl -i does")
     if status[1] == b"1":
-        return data, None
-    return b"HTTP/1.1 " + status[3] + b"\r\n" + data[status.end() :], status[1].decode()
+        return data
+    note(f"the status line of HTTP/{status[1].decode()} is written as HTTP/1.1")
+    return b"HTTP/1.1 " + status[3] + b"\r\n" + data[status.end() :]
+
+
+def with_body(data):
+    """Returns the response with its empty line, and with a body where the head stands alone and announces one."""
+    head = HEAD.match(data)
+    if not head:
+        note("no empty line ends the head: one is added")
+        data = data.rstrip(b"\r\n") + b"\r\n\r\n"
+        head = HEAD.match(data)
+    length = LENGTH.search(head[0])
+    wanted, there = int(length[1]) if length else 0, len(data) - head.end()
+    if not there and 0 < wanted <= LONGEST and STATUS.match(data)[3] not in EMPTY:
+        note(f"no body follows the head: {wanted} bytes stand for it")
+        return data + b"x" * wanted
+    if length and there != wanted and STATUS.match(data)[3] not in EMPTY:
+        note(f"Content-Length is {wanted}, and {there} bytes follow the head")
+    return data
+
+
+def response_of(data):
+    """Returns the response to put."""
+    if not data:
+        sys.exit("the input is empty")
+    if not STATUS.match(data):
+        sys.exit("the input doesn't begin with a status line: print the head too, as curl -i does")
+    data, dropped = last_response(data)
+    if dropped:
+        note(f"earlier heads left out: {dropped}")
+    return with_body(as_http_1(data))
 
 
 def line(event):
@@ -50,12 +98,7 @@ def main():
     parser.add_argument("--at", type=int, default=int(time.time()), help="the moment of the put, in seconds since 1970 (default now)")
     parser.add_argument("--look", type=int, action="append", default=[], metavar="SECONDS", help="look the key up so many seconds later")
     options = parser.parse_args()
-    data, dropped = last_response(sys.stdin.buffer.read())
-    data, replaced = as_http_1(data)
-    if dropped:
-        print(f"{dropped} earlier heads left out", file=sys.stderr)
-    if replaced:
-        print(f"the status line of HTTP/{replaced} is written as HTTP/1.1", file=sys.stderr)
+    data = response_of(sys.stdin.buffer.read())
     key = options.key.encode("utf-8", "surrogateescape").hex()
     line({"op": "put", "at": options.at, "key": key, "pieces": [data.hex()]})
     for number, after in enumerate(options.look):

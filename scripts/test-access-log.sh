@@ -37,6 +37,56 @@ expect() { [ "$(lengths)" = "$1" ] && grep -qx "$2" "$room/told"; }
 # what never gets a length is left out, and holds nothing else back
 { line 1 GET a '304 0'; line 2 GET b '200 7'; line 3 HEAD c '200 0'; line 4 GET d '206 9'; line 5 GET b '206 1'; } |
     expect "2:7 5:7" "lines passed over: 1 status 304 without a length, 1 method HEAD without a length, 1 status 206 without a length"
+# lines that real logs have: the host of a virtual host, users with a blank, a target with one, two blanks, no such day, no request
+logged() { printf -- '%s [%s] "%s" %s "-" "-"\n' "$1" "$2" "$3" "$4"; }
+keys() {
+    python3 scripts/access-log-to-trace.py "$@" 2> "$room/told" | python3 -c '
+import json, sys
+print(*(bytes.fromhex(json.loads(line)["key"]).decode() for line in sys.stdin if "\"open\"" in line), sep="|")'
+}
+{
+    logged 'www.example.org:443 192.0.2.1 - -' '01/Jan/1970:00:00:01 +0000' 'GET /a HTTP/1.1' '200 5'
+    logged '2001:db8::1 - john doe' '01/Jan/1970:00:00:02 +0000' 'GET /b HTTP/2.0' '200 5'
+    logged '192.0.2.1 - "john doe"' '01/Jan/1970:00:00:03 +0000' 'GET /c d HTTP/1.1' '200 5'
+    logged '192.0.2.1 - -' '01/Jan/1970:00:00:04 +0000' 'GET  /e' '200 5'
+    logged '192.0.2.1 - -' '31/Feb/1970:00:00:05 +0000' 'GET /f HTTP/1.1' '200 5'
+    logged '192.0.2.1 - -' '01/Jan/1970:99:00:05 +0000' 'GET /f HTTP/1.1' '200 5'
+    logged '192.0.2.1 - -' '01/Jan/1970:00:00:06 +0000' '\x16\x03 \x01' '400 5'
+    logged '192.0.2.1 - -' '01/Jan/1970:00:00:07 +0000' 'GET /iso HTTP/1.1' '200 40000000000'
+} > "$room/odd"
+[ "$(keys < "$room/odd")" = "www.example.org:443/a|/b|/c d|/e" ]
+grep -qx "lines passed over: 2 time not read, 1 no request in it, 1 longer than 67108864" "$room/told"
+[ "$(python3 scripts/access-log-to-trace.py --count < "$room/odd" 2> "$room/told")" = "requests=4" ]
+# cases for several limits, and what their answers say
+printf '%s\n' '1 a 1000' '2 b 500' '3 a 1000' > "$room/plain"
+python3 scripts/access-log-to-trace.py --scale 10 --cases "$room/cases" --limits 1000,20000 < "$room/plain" > /dev/null 2> "$room/told"
+[ "$(tr '\n' ' ' < "$room/cases/20000.args")" = "--limit 2000 " ]
+cmp "$room/cases/1000" "$room/cases/20000"
+for limit in 1000 20000; do
+    echo "== $limit"
+    python3 scripts/replay_model.py $(cat "$room/cases/$limit.args") < "$room/cases/$limit"
+done > "$room/answers"
+python3 scripts/access-log-to-trace.py --scale 10 --answers "$room/answers" < "$room/plain" > "$room/ratios" 2> "$room/told"
+printf '%s\n' '== 1000' 'requests=3 found=0 absent=3' 'hit ratio 0.0 % of requests, 0.0 % of bytes' \
+    '== 20000' 'requests=3 found=1 absent=2' 'hit ratio 33.3 % of requests, 40.0 % of bytes' | diff - "$room/ratios"
+# driven by the plain model, line by line: a 304 before a body that is too long for the limit is no hit
+cat > "$room/model.py" << 'END'
+import sys
+
+sys.path.insert(0, "scripts")
+import replay_model
+
+tier = replay_model.Tier(**replay_model.options_of(sys.argv[1:]))
+for line in sys.stdin.buffer:
+    print(replay_model.answer(tier, line.rstrip(b"\n")), flush=True)
+print(tier.report())
+END
+driven() {
+    { line 1 GET a '304 0'; line 2 GET a '200 1000'; } |
+        python3 scripts/access-log-to-trace.py --drive "python3 $room/model.py --limit $1" 2> "$room/told" | sed -n 2p
+}
+[ "$(driven 100)" = "hit ratio 0.0 % of requests, 0.0 % of bytes" ]
+[ "$(driven 1000)" = "hit ratio 50.0 % of requests, 50.0 % of bytes" ]
 # a response as curl prints it: the last of several heads, with a status line of HTTP/1.1
 printf 'HTTP/1.1 301 Moved\r\nLocation: /b\r\n\r\nHTTP/2 200 \r\ncache-control: max-age=5\r\n\r\nabc' |
     python3 scripts/response-to-trace.py --at 1000 --look 6 /a 2> "$room/told" > "$room/trace"
@@ -47,5 +97,19 @@ head=$(printf 'HTTP/1.1 200\r\ncache-control: max-age=5\r\n\r\nabc' | od -An -v 
     echo '{"op":"look","at":1006,"id":0}'
     echo '{"op":"drop","at":1006,"id":0}'
 } | diff - "$room/trace"
-printf '1 earlier heads left out\nthe status line of HTTP/2 is written as HTTP/1.1\n' | diff - "$room/told"
+printf 'earlier heads left out: 1\nthe status line of HTTP/2 is written as HTTP/1.1\n' | diff - "$room/told"
+# a head alone, one without its empty line, a body that begins like a head, a decoded body, and no input
+response() { printf "$1" | python3 scripts/response-to-trace.py --at 1 /a 2> "$room/told" | python3 -c '
+import json, sys
+print(repr(bytes.fromhex(json.loads(sys.stdin.readline())["pieces"][0]))[2:-1])'; }
+[ "$(response 'HTTP/1.1 200 OK\r\nContent-Length: 3\r\n\r\n')" = 'HTTP/1.1 200 OK\r\nContent-Length: 3\r\n\r\nxxx' ]
+grep -qx "no body follows the head: 3 bytes stand for it" "$room/told"
+[ "$(response 'HTTP/1.1 200 OK\nExpires: 0\n')" = 'HTTP/1.1 200 OK\nExpires: 0\r\n\r\n' ]
+grep -qx "no empty line ends the head: one is added" "$room/told"
+[ "$(response 'HTTP/1.1 200 OK\r\nContent-Length: 16\r\n\r\nHTTP/1.1 404 No\n')" = 'HTTP/1.1 200 OK\r\nContent-Length: 16\r\n\r\nHTTP/1.1 404 No\n' ]
+[ ! -s "$room/told" ]
+response 'HTTP/1.1 200 OK\r\nContent-Length: 9\r\n\r\nabc' > "$room/trace"
+grep -qx "Content-Length is 9, and 3 bytes follow the head" "$room/told"
+if python3 scripts/response-to-trace.py /a < /dev/null 2> "$room/told"; then exit 1; fi
+grep -qx "the input is empty" "$room/told"
 echo "access-log-to-trace.py, response-to-trace.py: as expected"
