@@ -1,7 +1,5 @@
-//! Tests of a tier that threads share.
+//! Tests of a tier that threads share. What they call is no test by itself, so that the drops which it proves are there without them.
 #![tactic(auto)]
 
-#[cfg(test)]
 mod asks;
-#[cfg(test)]
 mod threads;
