@@ -32,7 +32,9 @@ fn shared<L: Ledger>(alloc: Global, blank: Blank) -> Option<Shared<L>>
     requires { (blank.name ≡ L.name) × (blank.parts ≡ L.parts) × (L.parts ≡ 4294967296) }
 {
     let set = options();
-    let tier = Tier::<4>::new(alloc, set.limit, set.watermark, set.age, set.wait).ok()?;
+    let Ok(tier) = Tier::<4>::new(alloc, set.limit, set.watermark, set.age, set.wait) else {
+        return None;
+    };
     SharedTier::new(alloc, blank, set, tier, Pcg64::seed_from_u64(1)).ok()
 }
 

@@ -8,6 +8,6 @@ use Rattle.shared_tests.proofs.shared_tier++shared++NotShared+Destruct.drop.Goal
 
 pub drop-requires-2 : goal.drop-requires-2
 drop-requires-2 g c =
-    let whole : Ty = layout (the_row (param 0 (number g.row.N)) (param 1 g.row.R) (param 2 g.row.S) (param 3 g.row.S-Hasher) g.R.Rng g.S.BuildHasher g.S.Hasher.Hasher) in
+    let whole : Ty = layout (the_row (param 0 (number g.row.N)) (param 1 g.row.R) (param 2 g.row.S) (param 3 g.row.S-Hasher) g.S.BuildHasher g.S.Hasher.Hasher) in
     let room : size whole < 2 ^ 63 = assumption in
     field_room whole 2 _ _ refl room
