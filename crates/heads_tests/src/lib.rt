@@ -6,6 +6,8 @@ mod directives;
 #[cfg(test)]
 mod heads;
 #[cfg(test)]
+mod made;
+#[cfg(test)]
 mod metas;
 #[cfg(test)]
 mod responses;

@@ -1,5 +1,5 @@
 //! Directives of requests and responses.
-use crate::directives::fields;
+use crate::made::{fields, head};
 use cache_directives::{
     CacheControl, InterpretCacheControl, ListValueIter, RequestHeader, ResponseHeader,
 };
@@ -15,36 +15,54 @@ enum Head {
     ResponseNamed(&'static str),
 }
 
-fn in_request(alloc: Global, name: Option<&str>, headers: HeaderMap) -> Option<CacheControl> {
-    let method = Method::GET;
-    let request = RequestHeader { method, headers }.clone().ok()?;
-    let found = match name {
-        Some(name) => CacheControl::from_req_headers_named(alloc, name, &request),
-        None => CacheControl::from_req_headers(alloc, &request),
-    };
-    found.ok()?
+// Whether what was found has the directive.
+fn has_no_cache<E: Drop>(found: Result<Option<CacheControl>, E>) -> Option<bool> {
+    match found {
+        Ok(Some(control)) => Some(control.no_cache()),
+        Ok(None) => Some(false),
+        Err(_) => None,
+    }
 }
 
-fn in_response(alloc: Global, name: Option<&str>, headers: HeaderMap) -> Option<CacheControl> {
+fn in_request(alloc: Global, name: Option<&str>, request: &RequestHeader) -> Option<bool> {
+    match name {
+        Some(name) => has_no_cache(CacheControl::from_req_headers_named(alloc, name, request)),
+        None => has_no_cache(CacheControl::from_req_headers(alloc, request)),
+    }
+}
+
+fn in_response(alloc: Global, name: Option<&str>, response: &ResponseHeader) -> Option<bool> {
+    match name {
+        Some(name) => has_no_cache(CacheControl::from_resp_headers_named(alloc, name, response)),
+        None => has_no_cache(CacheControl::from_resp_headers(alloc, response)),
+    }
+}
+
+fn in_copied_request(alloc: Global, name: Option<&str>, headers: HeaderMap) -> Option<bool> {
+    let method = Method::GET;
+    match (RequestHeader { method, headers }).clone() {
+        Ok(request) => in_request(alloc, name, &request),
+        Err(_) => None,
+    }
+}
+
+fn in_copied_response(alloc: Global, name: Option<&str>, headers: HeaderMap) -> Option<bool> {
     let status = StatusCode::OK;
-    let response = ResponseHeader { status, headers }.clone().ok()?;
-    let found = match name {
-        Some(name) => CacheControl::from_resp_headers_named(alloc, name, &response),
-        None => CacheControl::from_resp_headers(alloc, &response),
-    };
-    found.ok()?
+    match (ResponseHeader { status, headers }).clone() {
+        Ok(response) => in_response(alloc, name, &response),
+        Err(_) => None,
+    }
 }
 
 // Whether the head has the directive of its one line under the name that is asked for.
 fn finds(alloc: Global, field: &str, head: Head) -> Option<bool> {
     let headers = fields(alloc, &[(field, b"no-cache")])?;
-    let found = match head {
-        Head::Request => in_request(alloc, None, headers),
-        Head::RequestNamed(name) => in_request(alloc, Some(name), headers),
-        Head::Response => in_response(alloc, None, headers),
-        Head::ResponseNamed(name) => in_response(alloc, Some(name), headers),
-    };
-    Some(found.is_some_and(|c| c.no_cache()))
+    match head {
+        Head::Request => in_copied_request(alloc, None, headers),
+        Head::RequestNamed(name) => in_copied_request(alloc, Some(name), headers),
+        Head::Response => in_copied_response(alloc, None, headers),
+        Head::ResponseNamed(name) => in_copied_response(alloc, Some(name), headers),
+    }
 }
 
 const HEADS: &[(&str, Head, bool)] = &[
@@ -79,21 +97,29 @@ fn how_many(names: Option<ListValueIter<'_>>) -> usize {
     count
 }
 
-// How many names the directives list, and how many fields of a head with x-a and x-b they leave.
+// How many names the directives list, and how many fields they leave of a head.
+fn strip(found: &CacheControl, response: &mut ResponseHeader) -> (usize, usize, usize) {
+    found.strip_private_headers(response);
+    let in_private = how_many(found.private_field_names());
+    let in_no_cache = how_many(found.no_cache_field_names());
+    (in_private, in_no_cache, response.headers.len())
+}
+
+fn strip_own(alloc: Global, mut response: ResponseHeader) -> Option<(usize, usize, usize)> {
+    match CacheControl::from_resp_headers(alloc, &response) {
+        Ok(Some(found)) => Some(strip(&found, &mut response)),
+        _ => None,
+    }
+}
+
+// The same of a head with x-a and x-b.
 fn stripped(alloc: Global, line: &str) -> Option<(usize, usize, usize)> {
     let lines: [(&str, &[u8]); 3] = [
         ("cache-control", line.as_bytes()),
         ("x-a", b"1"),
         ("x-b", b"2"),
     ];
-    let headers = fields(alloc, &lines)?;
-    let status = StatusCode::OK;
-    let mut response = ResponseHeader { status, headers };
-    let found = CacheControl::from_resp_headers(alloc, &response).ok()??;
-    found.strip_private_headers(&mut response);
-    let in_private = how_many(found.private_field_names());
-    let in_no_cache = how_many(found.no_cache_field_names());
-    Some((in_private, in_no_cache, response.headers.len()))
+    strip_own(alloc, head(alloc, &lines)?)
 }
 
 const STRIPPED: &[(&str, (usize, usize, usize))] = &[

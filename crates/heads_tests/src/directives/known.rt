@@ -1,11 +1,10 @@
 //! What is known of a response's directives without memory, and the verdict by it.
-use crate::directives::fields;
-use cache_directives::{KnownDirectives, ResponseHeader};
+use crate::made::head;
+use cache_directives::KnownDirectives;
 use cache_heads::filters::resp_cacheable_by_lines;
 use cache_heads::meta::NeverByStatus;
 use cache_heads::{CacheMetaDefaults, RespCacheable};
-use cache_words::time::Moment;
-use http::StatusCode;
+use cache_words::time::{Duration, Moment};
 use std::alloc::Global;
 
 // The lines, whether storing is forbidden, the seconds of freshness and of both stale windows, and whether fields are listed.
@@ -86,24 +85,32 @@ const ROWS: &[Row] = &[
     (&[("cache-control", b"")], false, [None, None, None], false),
 ];
 
-// A head of status 200 with these lines; `None` where memory is refused.
-fn head(alloc: Global, lines: &[(&str, &[u8])]) -> Option<ResponseHeader> {
-    let headers = fields(alloc, lines)?;
-    let status = StatusCode::OK;
-    Some(ResponseHeader { status, headers })
+fn seconds_of(span: Option<Duration>) -> Option<u64> {
+    match span {
+        Some(span) => Some(span.seconds()),
+        None => None,
+    }
+}
+
+fn spans_of(known: &KnownDirectives) -> [Option<u64>; 3] {
+    [
+        seconds_of(known.fresh_duration()),
+        seconds_of(known.serve_stale_while_revalidate_duration()),
+        seconds_of(known.serve_stale_if_error_duration()),
+    ]
 }
 
 // The answers to one head's lines.
 fn answers(alloc: Global, lines: &[(&str, &[u8])]) -> Option<(bool, [Option<u64>; 3], bool)> {
     let header = head(alloc, lines)?;
-    let known = KnownDirectives::from_resp_headers(&header)?;
-    let spans = [
-        known.fresh_duration(),
-        known.serve_stale_while_revalidate_duration(),
-        known.serve_stale_if_error_duration(),
-    ];
-    let seconds = spans.map(|span| span.map(|span| span.seconds()));
-    Some((known.forbids_storing(), seconds, known.lists_fields()))
+    match KnownDirectives::from_resp_headers(&header) {
+        Some(known) => Some((
+            known.forbids_storing(),
+            spans_of(&known),
+            known.lists_fields(),
+        )),
+        None => None,
+    }
 }
 
 #[test]

@@ -1,24 +1,29 @@
 //! What lines hold.
-use crate::directives::{control, is_text};
+use crate::directives::control;
 use cache_directives::CacheControl;
 use std::alloc::{AllocError, Global};
+use std::fmt::Write;
 
-// Each directive as `name` or `name=` and its value in hex.
-fn shown(alloc: Global, control: &CacheControl) -> Result<String, AllocError> {
-    let mut text = String::new(alloc);
+fn show_value(text: &mut String, value: &[u8]) -> Result<(), AllocError> {
+    text.push('=')?;
+    for b in value {
+        write!(text, "{b:02x}")?;
+    }
+    Ok(())
+}
+
+// Writes each directive as `name` or `name=` and its value in hex.
+fn show(text: &mut String, control: &CacheControl) -> Result<(), AllocError> {
     for (key, value) in control.directives.iter() {
         if !text.is_empty() {
             text.push(';')?;
         }
         text.push_str(key.as_str())?;
         if let Some(value) = value {
-            text.push('=')?;
-            for b in value.as_ref() {
-                text.push_str(format!(in alloc; "{b:02x}")?.as_str())?;
-            }
+            show_value(text, value.as_ref())?;
         }
     }
-    Ok(text)
+    Ok(())
 }
 
 // Lines with bytes from 80 hex on: a name that is not UTF-8 is passed over, and a value takes any byte.
@@ -33,13 +38,21 @@ const BYTES: &[(&[u8], &str)] = &[
     (b"max-age\xa0=5, \xa0max-age=6", ""),
 ];
 
-pub fn shown_line(alloc: Global, line: &[u8]) -> Option<String> {
-    shown(alloc, &control(alloc, line)?).ok()
+fn is_shown(alloc: Global, control: &CacheControl, want: &str) -> bool {
+    let mut text = String::new(alloc);
+    show(&mut text, control).is_ok() && text.as_str() == want
+}
+
+pub fn is_line(alloc: Global, line: &[u8], want: &str) -> bool {
+    match control(alloc, line) {
+        Some(control) => is_shown(alloc, &control, want),
+        None => false,
+    }
 }
 
 #[test]
 fn bytes_past_ascii(rt: HostRuntime) {
     for &(line, expected) in BYTES {
-        assert!(rt; is_text(shown_line(rt.alloc(), line), expected));
+        assert!(rt; is_line(rt.alloc(), line, expected));
     }
 }

@@ -36,59 +36,9 @@ fn answer(control: &CacheControl, question: Question) -> bool {
     }
 }
 
-fn answered(alloc: Global, line: &str, question: Question) -> Option<bool> {
-    let control = control(alloc, line.as_bytes())?;
-    Some(answer(&control, question))
-}
-
 const FULL: &str = "public, Only-If-Cached, x-y=1, no-store, max-age=+7";
 
 const STRICT: &str = "must-revalidate, proxy-revalidate, no-cache, stale-if-error=x";
-
-const QUESTIONS: &[(&str, Question, bool)] = &[
-    (FULL, Question::Public, true),
-    (FULL, Question::OnlyIfCached, true),
-    (FULL, Question::NoStore, true),
-    (FULL, Question::HasKey("x-y"), true),
-    (FULL, Question::HasKey("x-z"), false),
-    (FULL, Question::HasKey("max-age"), true),
-    (FULL, Question::HasMaxAge, true),
-    (FULL, Question::MustRevalidate, false),
-    (FULL, Question::ProxyRevalidate, false),
-    (FULL, Question::Private, false),
-    (FULL, Question::AllowAuthorized, true),
-    (STRICT, Question::MustRevalidate, true),
-    (STRICT, Question::ProxyRevalidate, true),
-    (STRICT, Question::NoCache, true),
-    ("no-cache=x", Question::NoCache, false),
-    ("private=\"x\"", Question::Private, false),
-];
-
-#[test]
-fn questions(rt: HostRuntime) {
-    for &(line, question, expected) in QUESTIONS {
-        assert!(rt; answered(rt.alloc(), line, question) == Some(expected));
-    }
-}
-
-const STORING: &[(&str, Cacheable)] = &[
-    (FULL, Cacheable::No),
-    ("max-age=x", Cacheable::Yes),
-    (STRICT, Cacheable::Default),
-    ("private=x", Cacheable::Default),
-];
-
-fn is_cacheable(alloc: Global, line: &str) -> Option<Cacheable> {
-    let control = control(alloc, line.as_bytes())?;
-    Some(control.is_cacheable())
-}
-
-#[test]
-fn storing(rt: HostRuntime) {
-    for &(line, expected) in STORING {
-        assert!(rt; is_cacheable(rt.alloc(), line) == Some(expected));
-    }
-}
 
 #[derive(Clone, Copy)]
 enum Seconds {
@@ -102,7 +52,10 @@ enum Seconds {
 }
 
 fn whole(time: Option<Duration>) -> Result<Option<u32>, Error> {
-    Ok(time.and_then(|t| u32::try_from(t.seconds()).ok()))
+    match time {
+        Some(time) => Ok(u32::try_from(time.seconds()).ok()),
+        None => Ok(None),
+    }
 }
 
 fn read_seconds(control: &CacheControl, asked: Seconds) -> Result<Option<u32>, Error> {
@@ -119,45 +72,94 @@ fn read_seconds(control: &CacheControl, asked: Seconds) -> Result<Option<u32>, E
     }
 }
 
-fn seconds_of(alloc: Global, line: &str, asked: Seconds) -> Option<Result<Option<u32>, Error>> {
-    let control = control(alloc, line.as_bytes())?;
-    Some(read_seconds(&control, asked))
+// What is asked, and the answer.
+#[derive(Clone, Copy)]
+enum Asked {
+    Whether(Question, bool),
+    Storing(Cacheable),
+    Seconds(Seconds, Result<Option<u32>, Error>),
 }
 
-const SECONDS: &[(&str, Seconds, Result<Option<u32>, Error>)] = &[
-    (FULL, Seconds::MaxAge, Ok(Some(7))),
-    (FULL, Seconds::SMaxAge, Ok(None)),
-    (FULL, Seconds::Fresh, Ok(Some(7))),
-    (STRICT, Seconds::StaleWhileRevalidate, Ok(None)),
-    (STRICT, Seconds::StaleIfError, Err(UNREADABLE)),
-    (STRICT, Seconds::Fresh, Ok(Some(0))),
-    (STRICT, Seconds::ServeStaleIfError, Ok(Some(0))),
-    ("stale-if-error=3", Seconds::ServeStaleIfError, Ok(Some(3))),
+fn answers(control: &CacheControl, asked: Asked) -> bool {
+    match asked {
+        Asked::Whether(question, expected) => answer(control, question) == expected,
+        Asked::Storing(expected) => control.is_cacheable() == expected,
+        Asked::Seconds(seconds, expected) => read_seconds(control, seconds) == expected,
+    }
+}
+
+fn is_answered(alloc: Global, line: &str, asked: Asked) -> bool {
+    match control(alloc, line.as_bytes()) {
+        Some(control) => answers(&control, asked),
+        None => false,
+    }
+}
+
+const QUESTIONS: &[(&str, Asked)] = &[
+    (FULL, Asked::Whether(Question::Public, true)),
+    (FULL, Asked::Whether(Question::OnlyIfCached, true)),
+    (FULL, Asked::Whether(Question::NoStore, true)),
+    (FULL, Asked::Whether(Question::HasKey("x-y"), true)),
+    (FULL, Asked::Whether(Question::HasKey("x-z"), false)),
+    (FULL, Asked::Whether(Question::HasKey("max-age"), true)),
+    (FULL, Asked::Whether(Question::HasMaxAge, true)),
+    (FULL, Asked::Whether(Question::MustRevalidate, false)),
+    (FULL, Asked::Whether(Question::ProxyRevalidate, false)),
+    (FULL, Asked::Whether(Question::Private, false)),
+    (FULL, Asked::Whether(Question::AllowAuthorized, true)),
+    (STRICT, Asked::Whether(Question::MustRevalidate, true)),
+    (STRICT, Asked::Whether(Question::ProxyRevalidate, true)),
+    (STRICT, Asked::Whether(Question::NoCache, true)),
+    ("no-cache=x", Asked::Whether(Question::NoCache, false)),
+    ("private=\"x\"", Asked::Whether(Question::Private, false)),
+    (FULL, Asked::Storing(Cacheable::No)),
+    ("max-age=x", Asked::Storing(Cacheable::Yes)),
+    (STRICT, Asked::Storing(Cacheable::Default)),
+    ("private=x", Asked::Storing(Cacheable::Default)),
+    (FULL, Asked::Seconds(Seconds::MaxAge, Ok(Some(7)))),
+    (FULL, Asked::Seconds(Seconds::SMaxAge, Ok(None))),
+    (FULL, Asked::Seconds(Seconds::Fresh, Ok(Some(7)))),
+    (
+        STRICT,
+        Asked::Seconds(Seconds::StaleWhileRevalidate, Ok(None)),
+    ),
+    (
+        STRICT,
+        Asked::Seconds(Seconds::StaleIfError, Err(UNREADABLE)),
+    ),
+    (STRICT, Asked::Seconds(Seconds::Fresh, Ok(Some(0)))),
+    (
+        STRICT,
+        Asked::Seconds(Seconds::ServeStaleIfError, Ok(Some(0))),
+    ),
+    (
+        "stale-if-error=3",
+        Asked::Seconds(Seconds::ServeStaleIfError, Ok(Some(3))),
+    ),
     (
         "stale-while-revalidate=4",
-        Seconds::ServeStaleWhileRevalidate,
-        Ok(Some(4)),
+        Asked::Seconds(Seconds::ServeStaleWhileRevalidate, Ok(Some(4))),
     ),
 ];
-
-#[test]
-fn seconds_of_directives(rt: HostRuntime) {
-    for &(line, asked, expected) in SECONDS {
-        assert!(rt; seconds_of(rt.alloc(), line, asked) == Some(expected));
-    }
-    let most = u64::from(DELTA_SECONDS_OVERFLOW_VALUE);
-    assert!(rt; DELTA_SECONDS_OVERFLOW_DURATION.seconds() == most);
-}
 
 // Whether directives that are made by hand have public, and private.
 fn made_by_hand(alloc: Global) -> Option<(bool, bool)> {
     let mut directives = DirectiveMap::with_hasher(alloc, BuildDirectiveHasher::default());
-    directives.insert(DirectiveKey::Public, None).ok()?;
+    let put = directives.insert(DirectiveKey::Public, None).is_ok();
     let control = CacheControl { directives };
-    Some((control.public(), control.private()))
+    if put {
+        Some((control.public(), control.private()))
+    } else {
+        None
+    }
 }
 
 #[test]
-fn control_made_by_hand(rt: HostRuntime) {
+fn questions_storing_and_seconds(rt: HostRuntime) {
+    for &(line, asked) in QUESTIONS {
+        assert!(rt; is_answered(rt.alloc(), line, asked));
+    }
+    let most = u64::from(DELTA_SECONDS_OVERFLOW_VALUE);
+    assert!(rt; DELTA_SECONDS_OVERFLOW_DURATION.seconds() == most);
     assert!(rt; made_by_hand(rt.alloc()) == Some((true, false)));
 }

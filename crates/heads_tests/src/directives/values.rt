@@ -1,7 +1,8 @@
 //! Names, values and printed texts.
-use crate::directives::{UNREADABLE, control, is_text};
+use crate::directives::{UNREADABLE, control};
+use crate::made::is_text;
 use cache_directives::{DirectiveKey, DirectiveValue, Error, ErrorType};
-use std::alloc::Global;
+use std::alloc::{AllocError, Global};
 
 // Names, and the keys that they have.
 pub const NAMES: &[(&str, &str)] = &[
@@ -40,25 +41,27 @@ pub fn make_key(alloc: Global, name: &str, made: Made) -> Option<DirectiveKey> {
     }
 }
 
-// The key's Debug, where all else that it shows is its name.
-fn key_debug(alloc: Global, name: &str, made: Made) -> Option<String> {
-    let key = make_key(alloc, name, made)?;
-    let shown = format!(in alloc; "{key}").ok()?;
-    if key.as_str() != name
-        || !key.is_text(name)
-        || key.is_text("x-none")
-        || shown.as_str() != name
-    {
-        return None;
+// Whether all that a key shows is its name, and its Debug this.
+fn shows(alloc: Global, key: &DirectiveKey, name: &str, debug: &str) -> bool {
+    key.as_str() == name
+        && key.is_text(name)
+        && !key.is_text("x-none")
+        && is_text(format!(in alloc; "{key}"), name)
+        && is_text(format!(in alloc; "{key:?}"), debug)
+}
+
+fn is_key(alloc: Global, name: &str, made: Made, debug: &str) -> bool {
+    match make_key(alloc, name, made) {
+        Some(key) => shows(alloc, &key, name, debug),
+        None => false,
     }
-    format!(in alloc; "{key:?}").ok()
 }
 
 #[test]
 fn names_have_keys(rt: HostRuntime) {
     for &(name, debug) in NAMES {
         for made in [Made::Borrowed, Made::Owned, Made::Cloned] {
-            assert!(rt; is_text(key_debug(rt.alloc(), name, made), debug));
+            assert!(rt; is_key(rt.alloc(), name, made, debug));
         }
     }
 }
@@ -89,21 +92,25 @@ const VALUES: &[ValueRow] = &[
     (b"\"\xc3\xa4\"", b"\xc3\xa4", Some("\u{e4}"), None),
 ];
 
-fn reads_value(alloc: Global, row: ValueRow) -> Option<bool> {
+fn reads(value: &DirectiveValue, row: ValueRow) -> bool {
     let (written, bytes, text, seconds) = row;
-    let value = DirectiveValue(written.to_vec(alloc).ok()?);
-    Some(
-        value.as_ref() == written
-            && value.parse_as_bytes() == bytes
-            && value.parse_as_str() == text.ok_or(UNREADABLE)
-            && value.parse_as_delta_seconds() == seconds.ok_or(UNREADABLE),
-    )
+    value.as_ref() == written
+        && value.parse_as_bytes() == bytes
+        && value.parse_as_str() == text.ok_or(UNREADABLE)
+        && value.parse_as_delta_seconds() == seconds.ok_or(UNREADABLE)
+}
+
+fn reads_value(alloc: Global, row: ValueRow) -> bool {
+    match row.0.to_vec(alloc) {
+        Ok(bytes) => reads(&DirectiveValue(bytes), row),
+        Err(AllocError) => false,
+    }
 }
 
 #[test]
 fn values(rt: HostRuntime) {
     for &row in VALUES {
-        assert!(rt; reads_value(rt.alloc(), row) == Some(true));
+        assert!(rt; reads_value(rt.alloc(), row));
     }
 }
 
@@ -113,22 +120,23 @@ const ERRORS: &[(ErrorType, &str)] = &[
     (ErrorType::Custom("mine"), "mine"),
 ];
 
-fn error_text(alloc: Global, etype: ErrorType) -> Option<String> {
-    format!(in alloc; "{}", Error { etype }).ok()
+fn is_shown(alloc: Global, etype: ErrorType, want: &str) -> bool {
+    is_text(format!(in alloc; "{}", Error { etype }), want)
 }
 
-fn control_debug(alloc: Global, line: &[u8]) -> Option<String> {
-    let found = control(alloc, line)?;
-    format!(in alloc; "{found:?}").ok()
+fn is_control(alloc: Global, line: &[u8], want: &str) -> bool {
+    match control(alloc, line) {
+        Some(found) => is_text(format!(in alloc; "{found:?}"), want),
+        None => false,
+    }
 }
 
 #[test]
 fn shown_texts(rt: HostRuntime) {
     for &(etype, expected) in ERRORS {
-        assert!(rt; is_text(error_text(rt.alloc(), etype), expected));
+        assert!(rt; is_shown(rt.alloc(), etype, expected));
     }
-    let text = control_debug(rt.alloc(), b"public, max-age=3");
     let expected =
         "CacheControl { directives: {Public: None, MaxAge: Some(DirectiveValue([51]))} }";
-    assert!(rt; is_text(text, expected));
+    assert!(rt; is_control(rt.alloc(), b"public, max-age=3", expected));
 }

@@ -1,5 +1,6 @@
 //! What is kept of a response, and what is sent to the origin.
-use super::{append, head, meta};
+use super::meta;
+use crate::made::{fields, head_of};
 use cache_heads::cache_control::CacheControl;
 use cache_heads::filters::upstream::request_filter;
 use cache_heads::filters::{
@@ -7,7 +8,8 @@ use cache_heads::filters::{
     request_cacheable, resp_cacheable,
 };
 use cache_heads::meta::{
-    CacheMetaDefaults, FreshDurationByStatusFn, NeverByStatus, RequestHeader, ResponseHeader,
+    CacheMeta, CacheMetaDefaults, FreshDurationByStatusFn, NeverByStatus, RequestHeader,
+    ResponseHeader,
 };
 use cache_heads::{NoCacheReason, RespCacheable};
 use cache_words::time::Moment;
@@ -63,35 +65,36 @@ fn seconds_of(moment: Option<Moment>) -> Option<i64> {
     }
 }
 
-fn seconds(header: &ResponseHeader, authorized: bool) -> (Option<i64>, Option<i64>) {
+// Whether the moments are right of a response that came at 1000.
+fn are_seconds(header: &ResponseHeader, row: &Row) -> bool {
     let now = Moment::from_seconds(1000);
-    let until = calculate_fresh_until(now, None, header, authorized, &defaults());
+    let until = calculate_fresh_until(now, None, header, row.2, &defaults());
     let expires = calculate_expires_header_time(header);
-    (seconds_of(expires), seconds_of(until))
+    seconds_of(expires) == row.3 && seconds_of(until) == row.4
 }
 
-fn is_seconds(alloc: Global, row: &Row) -> Option<bool> {
-    let (name, value, authorized, expires, until) = *row;
-    let header = head(alloc, name, value)?;
-    Some(seconds(&header, authorized) == (expires, until))
-}
-
-// Whether the response is kept that came at 1000.
-fn is_kept(alloc: Global, row: &Row) -> Option<bool> {
-    let header = head(alloc, row.0, row.1)?;
+// Whether it is kept just where it is fresh until some moment.
+fn is_kept(header: ResponseHeader, row: &Row) -> bool {
     let now = Moment::from_seconds(1000);
     match resp_cacheable(now, None, header, row.2, &defaults()) {
-        RespCacheable::Cacheable(_) => Some(true),
-        RespCacheable::Uncacheable(NoCacheReason::OriginNotCache) => Some(false),
-        RespCacheable::Uncacheable(_) => None,
+        RespCacheable::Cacheable(_) => row.4.is_some(),
+        RespCacheable::Uncacheable(reason) => {
+            row.4.is_none() && reason == NoCacheReason::OriginNotCache
+        }
+    }
+}
+
+fn is_right(alloc: Global, row: &Row) -> bool {
+    match head_of(alloc, row.0, row.1) {
+        Some(header) => are_seconds(&header, row) && is_kept(header, row),
+        None => false,
     }
 }
 
 #[test]
 fn expires_gives_a_moment(rt: HostRuntime) {
     for row in ROWS {
-        assert!(rt; is_seconds(rt.alloc(), row) == Some(true));
-        assert!(rt; is_kept(rt.alloc(), row) == Some(row.4.is_some()));
+        assert!(rt; is_right(rt.alloc(), row));
     }
 }
 
@@ -106,48 +109,46 @@ fn defaults_are_shown(rt: HostRuntime) {
     assert!(rt; windows == (7, 8));
 }
 
-#[test]
-fn reasons_have_names(rt: HostRuntime) {
-    assert!(rt; NoCacheReason::OriginNotCache.as_str() == "OriginNotCache");
-    assert!(rt; NoCacheReason::Custom("mine").as_str() == "mine");
-}
-
 fn is_cacheable(alloc: Global, method: Method) -> bool {
     let headers = HeaderMap::new(alloc);
     request_cacheable(&RequestHeader { method, headers })
 }
 
 #[test]
-fn methods_are_cacheable(rt: HostRuntime) {
+fn methods_are_cacheable_and_reasons_have_names(rt: HostRuntime) {
     assert!(rt; is_cacheable(rt.alloc(), Method::GET));
     assert!(rt; is_cacheable(rt.alloc(), Method::HEAD));
     assert!(rt; !is_cacheable(rt.alloc(), Method::POST));
+    assert!(rt; NoCacheReason::OriginNotCache.as_str() == "OriginNotCache");
+    assert!(rt; NoCacheReason::Custom("mine").as_str() == "mine");
 }
 
 // A HEAD request with a range; `None` when out of memory.
 fn ranged(alloc: Global) -> Option<RequestHeader> {
-    let mut headers = HeaderMap::new(alloc);
-    append(alloc, &mut headers, "range", "bytes=0-1")?;
-    append(alloc, &mut headers, "if-none-match", "\"b\"")?;
-    Some(RequestHeader {
-        method: Method::HEAD,
-        headers,
-    })
+    let lines: [(&str, &[u8]); 2] = [("range", b"bytes=0-1"), ("if-none-match", b"\"b\"")];
+    let headers = fields(alloc, &lines)?;
+    let method = Method::HEAD;
+    Some(RequestHeader { method, headers })
 }
 
 // Sends it on. Without memory it stays as it was.
-fn is_sent_or_kept(alloc: Global) -> Option<bool> {
-    let kept = meta(alloc)?;
-    let mut request = ranged(alloc)?;
-    let is_sent = request_filter(&mut request, Some(&kept)).is_ok();
-    Some(
-        (request.method == Method::GET) == is_sent
-            && request.headers.contains_key("range") != is_sent
-            && request.headers.contains_key("if-none-match"),
-    )
+fn is_sent_or_kept(kept: &CacheMeta, mut request: RequestHeader) -> bool {
+    let is_sent = request_filter(&mut request, Some(kept)).is_ok();
+    (request.method == Method::GET) == is_sent
+        && request.headers.contains_key("range") != is_sent
+        && request.headers.contains_key("if-none-match")
+}
+
+fn is_filtered(alloc: Global, kept: &CacheMeta) -> bool {
+    match ranged(alloc) {
+        Some(request) => is_sent_or_kept(kept, request),
+        None => true,
+    }
 }
 
 #[test]
 fn refused_request_is_unchanged(rt: HostRuntime) {
-    assert!(rt; is_sent_or_kept(rt.alloc()) != Some(false));
+    if let Some(kept) = meta(rt.alloc()) {
+        assert!(rt; is_filtered(rt.alloc(), &kept));
+    }
 }

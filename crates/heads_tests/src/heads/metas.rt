@@ -69,6 +69,58 @@ fn served(meta: &CacheMeta, time: Moment) -> [bool; 3] {
     ]
 }
 
+// What a meta shows.
+#[derive(Clone, Copy)]
+enum Look {
+    Moments([i64; 5]),
+    Spans([u64; 3]),
+    Override(Option<i64>),
+    Variance(Option<HashBinary>),
+    // at a moment
+    Served(i64, [bool; 3]),
+    Age(i64, u64),
+}
+
+fn override_of(meta: &CacheMeta) -> Option<i64> {
+    match meta.epoch_override() {
+        Some(moment) => Some(moment.seconds()),
+        None => None,
+    }
+}
+
+fn is_shown(meta: &CacheMeta, look: Look) -> bool {
+    match look {
+        Look::Moments(expected) => moments(meta) == expected,
+        Look::Spans(expected) => spans(meta) == expected,
+        Look::Override(expected) => override_of(meta) == expected,
+        Look::Variance(expected) => meta.variance() == expected,
+        Look::Served(at, expected) => served(meta, Moment::from_seconds(at)) == expected,
+        Look::Age(at, expected) => meta.age(Moment::from_seconds(at)).seconds() == expected,
+    }
+}
+
+// A call if there is one, and what the meta then shows.
+type Row = (Option<Step>, Look);
+
+fn all_done(meta: &mut CacheMeta, rows: &[Row]) -> bool {
+    for &(step, look) in rows {
+        if let Some(step) = step {
+            apply(meta, step);
+        }
+        if !is_shown(meta, look) {
+            return false;
+        }
+    }
+    true
+}
+
+fn does(alloc: Global, rows: &[Row]) -> bool {
+    match meta(alloc) {
+        Some(mut meta) => all_done(&mut meta, rows),
+        None => false,
+    }
+}
+
 const MADE: [i64; 5] = [1000, 1000, 1000, 1000, 1010];
 
 const LASTING: [u64; 3] = [10, 5, 60];
@@ -77,106 +129,88 @@ const MOVED: [i64; 5] = [1000, 1010, 1000, 1010, 1016];
 
 const ENDED: [i64; 5] = [1000, 1010, 1000, 1010, 1000];
 
-// Calls, and what the meta then shows.
-const CHANGES: &[(Step, [i64; 5], [u64; 3])] = &[
-    (Step::RemoveVariance, MADE, LASTING),
+const CHANGES: &[Row] = &[
+    (Some(Step::RemoveVariance), Look::Moments(MADE)),
+    (None, Look::Spans(LASTING)),
     (
-        Step::SetEpoch(1016),
-        [1000, 1000, 1000, 1016, 1010],
-        [0, 5, 60],
+        Some(Step::SetEpoch(1016)),
+        Look::Moments([1000, 1000, 1000, 1016, 1010]),
     ),
-    (Step::RemoveEpoch, MADE, LASTING),
+    (None, Look::Spans([0, 5, 60])),
+    (Some(Step::RemoveEpoch), Look::Moments(MADE)),
+    (None, Look::Spans(LASTING)),
     (
-        Step::SetProvenance(1016),
-        [1000, 1000, 1016, 1000, 1010],
-        LASTING,
+        Some(Step::SetProvenance(1016)),
+        Look::Moments([1000, 1000, 1016, 1000, 1010]),
     ),
-    (Step::ResetProvenance, MADE, LASTING),
-    (Step::Update(1016, 1010), MOVED, [6, 1, 2]),
-    (Step::ExpireAt(1017), MOVED, [6, 1, 2]),
-    (Step::ExpireAt(1000), ENDED, [0, 1, 2]),
-    (Step::DisableStale, ENDED, [0, 0, 0]),
+    (None, Look::Spans(LASTING)),
+    (Some(Step::ResetProvenance), Look::Moments(MADE)),
+    (None, Look::Spans(LASTING)),
+    (Some(Step::Update(1016, 1010)), Look::Moments(MOVED)),
+    (None, Look::Spans([6, 1, 2])),
+    (Some(Step::ExpireAt(1017)), Look::Moments(MOVED)),
+    (None, Look::Spans([6, 1, 2])),
+    (Some(Step::ExpireAt(1000)), Look::Moments(ENDED)),
+    (None, Look::Spans([0, 1, 2])),
+    (Some(Step::DisableStale), Look::Moments(ENDED)),
+    (None, Look::Spans([0, 0, 0])),
 ];
 
-#[test]
-fn each_call_changes_what_it_names(rt: HostRuntime) {
-    let meta = meta(rt.alloc());
-    assert!(rt; meta.is_some());
-    if let Some(mut meta) = meta {
-        for (step, is_moments, is_spans) in CHANGES {
-            apply(&mut meta, *step);
-            assert!(rt; moments(&meta) == *is_moments);
-            assert!(rt; spans(&meta) == *is_spans);
-        }
-    }
-}
-
-// Calls, and the override of the epoch and the variance then.
-const SET: &[(Step, Option<i64>, Option<HashBinary>)] = &[
-    (Step::DisableStale, None, None),
-    (Step::SetEpoch(1016), Some(1016), None),
-    (Step::SetVariance([1; 16]), Some(1016), Some([1; 16])),
-    (Step::SetVarianceKey([2; 16]), Some(1016), Some([2; 16])),
-    (Step::RemoveEpoch, None, Some([2; 16])),
-    (Step::RemoveVariance, None, None),
+const SET: &[Row] = &[
+    (Some(Step::DisableStale), Look::Override(None)),
+    (None, Look::Variance(None)),
+    (Some(Step::SetEpoch(1016)), Look::Override(Some(1016))),
+    (None, Look::Variance(None)),
+    (Some(Step::SetVariance([1; 16])), Look::Override(Some(1016))),
+    (None, Look::Variance(Some([1; 16]))),
+    (
+        Some(Step::SetVarianceKey([2; 16])),
+        Look::Override(Some(1016)),
+    ),
+    (None, Look::Variance(Some([2; 16]))),
+    (Some(Step::RemoveEpoch), Look::Override(None)),
+    (None, Look::Variance(Some([2; 16]))),
+    (Some(Step::RemoveVariance), Look::Override(None)),
+    (None, Look::Variance(None)),
 ];
 
-fn override_of(meta: &CacheMeta) -> Option<i64> {
-    Some(meta.epoch_override()?.seconds())
-}
-
-#[test]
-fn an_override_and_a_variance_are_shown(rt: HostRuntime) {
-    let meta = meta(rt.alloc());
-    assert!(rt; meta.is_some());
-    if let Some(mut meta) = meta {
-        for (step, epoch, variance) in SET {
-            apply(&mut meta, *step);
-            assert!(rt; override_of(&meta) == *epoch);
-            assert!(rt; meta.variance() == *variance);
-        }
-    }
-}
-
-const SERVED: &[(i64, [bool; 3])] = &[
-    (1010, [true, true, true]),
-    (1011, [false, true, true]),
-    (1015, [false, true, true]),
-    (1016, [false, false, true]),
-    (1070, [false, false, true]),
-    (1071, [false, false, false]),
+const SERVED: &[Row] = &[
+    (None, Look::Served(1010, [true, true, true])),
+    (None, Look::Served(1011, [false, true, true])),
+    (None, Look::Served(1015, [false, true, true])),
+    (None, Look::Served(1016, [false, false, true])),
+    (None, Look::Served(1070, [false, false, true])),
+    (None, Look::Served(1071, [false, false, false])),
+    (None, Look::Age(999, 0)),
+    (None, Look::Age(1000, 0)),
+    (None, Look::Age(1010, 10)),
 ];
-
-const AGES: &[(i64, u64)] = &[(999, 0), (1000, 0), (1010, 10)];
-
-#[test]
-fn freshness_and_windows_end(rt: HostRuntime) {
-    let meta = meta(rt.alloc());
-    assert!(rt; meta.is_some());
-    if let Some(meta) = meta {
-        for (at, expected) in SERVED {
-            assert!(rt; served(&meta, Moment::from_seconds(*at)) == *expected);
-        }
-        for (at, age) in AGES {
-            assert!(rt; meta.age(Moment::from_seconds(*at)).seconds() == *age);
-        }
-    }
-}
 
 // Whether a meta's head is lent to be changed, copied, and shown.
-fn lent_and_copied(alloc: Global) -> Option<bool> {
-    let mut meta = meta(alloc)?;
+fn lends_and_copies(meta: &mut CacheMeta) -> bool {
     meta.response_header_mut().status = StatusCode::NOT_FOUND;
-    let copy = meta.response_header_copy().ok()?;
-    Some(
-        copy.status == StatusCode::NOT_FOUND
-            && copy.headers.len() == 1
-            && meta.response_header().headers.contains_key("etag")
-            && meta.headers().len() == 1,
-    )
+    match meta.response_header_copy() {
+        Ok(copy) => {
+            copy.status == StatusCode::NOT_FOUND
+                && copy.headers.len() == 1
+                && meta.response_header().headers.contains_key("etag")
+                && meta.headers().len() == 1
+        }
+        Err(_) => false,
+    }
+}
+
+fn lent_and_copied(alloc: Global) -> bool {
+    match meta(alloc) {
+        Some(mut meta) => lends_and_copies(&mut meta),
+        None => false,
+    }
 }
 
 #[test]
-fn heads_are_lent_and_copied(rt: HostRuntime) {
-    assert!(rt; lent_and_copied(rt.alloc()) == Some(true));
+fn metas_change_and_lend_their_heads(rt: HostRuntime) {
+    assert!(rt; does(rt.alloc(), CHANGES));
+    assert!(rt; does(rt.alloc(), SET));
+    assert!(rt; does(rt.alloc(), SERVED));
+    assert!(rt; lent_and_copied(rt.alloc()));
 }

@@ -3,35 +3,38 @@
 use super::meta;
 use super::texts::{HEADER, INTERNAL};
 use cache_heads::meta::{CacheMeta, MetaFault, MetaReadFault};
+use std::alloc::Global;
 
-#[test]
-fn refused_copy_of_a_head(rt: HostRuntime) {
-    let Some(kept) = meta(rt.alloc()) else {
-        return;
-    };
+fn is_copied_or_left(kept: &CacheMeta) -> bool {
     match kept.response_header_copy() {
-        Ok(copy) => assert!(rt; copy.headers.len() == 1),
-        Err(_) => assert!(rt; kept.headers().len() == 1),
+        Ok(copy) => copy.headers.len() == 1,
+        Err(_) => kept.headers().len() == 1,
+    }
+}
+
+fn is_written_or_refused(alloc: Global, kept: &CacheMeta) -> bool {
+    match kept.serialize(alloc) {
+        Ok((internal, header)) => internal.as_slice() == INTERNAL && header.as_slice() == HEADER,
+        Err(fault) => fault == MetaFault::Memory,
+    }
+}
+
+fn is_read_or_refused(alloc: Global) -> bool {
+    match CacheMeta::deserialize(alloc, INTERNAL, HEADER) {
+        Ok(read) => read.headers().len() == 1,
+        Err(fault) => fault == MetaReadFault::Memory,
     }
 }
 
 #[test]
-fn refused_write_of_a_meta(rt: HostRuntime) {
-    let Some(kept) = meta(rt.alloc()) else {
-        return;
-    };
-    match kept.serialize(rt.alloc()) {
-        Ok((internal, header)) => {
-            assert!(rt; internal.as_slice() == INTERNAL && header.as_slice() == HEADER);
-        }
-        Err(fault) => assert!(rt; fault == MetaFault::Memory),
+fn refused_copy_and_write_of_a_meta(rt: HostRuntime) {
+    if let Some(kept) = meta(rt.alloc()) {
+        assert!(rt; is_copied_or_left(&kept));
+        assert!(rt; is_written_or_refused(rt.alloc(), &kept));
     }
 }
 
 #[test]
 fn refused_read_of_a_meta(rt: HostRuntime) {
-    match CacheMeta::deserialize(rt.alloc(), INTERNAL, HEADER) {
-        Ok(read) => assert!(rt; read.headers().len() == 1),
-        Err(fault) => assert!(rt; fault == MetaReadFault::Memory),
-    }
+    assert!(rt; is_read_or_refused(rt.alloc()));
 }

@@ -1,9 +1,12 @@
 //! Metas as bytes.
-use super::{head, meta};
+use super::meta;
+use crate::made::head_of;
 use cache_heads::cache_control::CacheControl;
 use cache_heads::filters::resp_cacheable;
-use cache_heads::laws;
-use cache_heads::meta::{CacheMeta, CacheMetaDefaults, MetaFault, MetaReadFault, NeverByStatus};
+use cache_heads::meta::{
+    CacheMeta, CacheMetaDefaults, MetaFault, MetaReadFault, NeverByStatus, ResponseHeader,
+};
+use cache_heads::{RespCacheable, laws};
 use cache_words::pack::fault::PackFault;
 use cache_words::time::Moment;
 use std::alloc::Global;
@@ -51,29 +54,38 @@ fn metas_are_read_again(rt: HostRuntime) {
     assert!(rt; both_ways(rt.alloc()) == Some([true, true, true]));
 }
 
-// What is kept of a response with this Cache-Control that came at 127; `None` when out of memory, and
-// where it isn't kept.
-fn put(alloc: Global, line: &str) -> Option<CacheMeta> {
-    let header = head(alloc, "cache-control", line)?;
-    let control = CacheControl::from_resp_headers(alloc, &header).ok()?;
+fn is_kept(alloc: Global, found: RespCacheable) -> bool {
+    if found.is_cacheable() {
+        let meta = found.unwrap_meta();
+        return is_written(alloc, &meta, PUT_INTERNAL, PUT_HEADER);
+    }
+    false
+}
+
+// Whether a response that came at 127 is kept so.
+fn is_put(alloc: Global, header: ResponseHeader) -> bool {
     let defaults = CacheMetaDefaults::new(NeverByStatus, 0, 0);
     let now = Moment::from_seconds(127);
-    let found = resp_cacheable(now, control.as_ref(), header, false, &defaults);
-    if found.is_cacheable() {
-        Some(found.unwrap_meta())
-    } else {
-        None
+    match CacheControl::from_resp_headers(alloc, &header) {
+        Ok(found) => is_kept(
+            alloc,
+            resp_cacheable(now, found.as_ref(), header, false, &defaults),
+        ),
+        Err(_) => false,
+    }
+}
+
+fn is_put_so(alloc: Global, line: &str) -> bool {
+    match head_of(alloc, "cache-control", line) {
+        Some(header) => is_put(alloc, header),
+        None => false,
     }
 }
 
 #[test]
 fn the_meta_of_a_put_is_written(rt: HostRuntime) {
     let line = "max-age=46, stale-while-revalidate=70000, stale-if-error=60";
-    let is_right = match put(rt.alloc(), line) {
-        Some(meta) => is_written(rt.alloc(), &meta, PUT_INTERNAL, PUT_HEADER),
-        None => false,
-    };
-    assert!(rt; is_right);
+    assert!(rt; is_put_so(rt.alloc(), line));
 }
 
 // The moments and numbers are read before the head.

@@ -154,20 +154,28 @@ fn parsed(line: &str) -> Option<InternalMetaV2> {
     })
 }
 
-// The text of the meta in hex, if it is read as the meta again.
-fn both_ways(alloc: Global, meta: &InternalMetaV2) -> Option<String> {
-    let text = internal::write(alloc, meta).ok()?;
-    if internal::read(text.as_slice()) != Ok(*meta) {
-        return None;
+fn is_hex(alloc: Global, bytes: &[u8], want: &str) -> bool {
+    match hex::encode(alloc, bytes) {
+        Ok(text) => text.as_str() == want,
+        Err(_) => false,
     }
-    hex::encode(alloc, text.as_slice()).ok()
+}
+
+// Whether this is the text of the meta in hex, which is read as the meta again.
+fn is_text(alloc: Global, meta: &InternalMetaV2, want: &str) -> bool {
+    match internal::write(alloc, meta) {
+        Ok(text) => {
+            internal::read(text.as_slice()) == Ok(*meta) && is_hex(alloc, text.as_slice(), want)
+        }
+        Err(_) => false,
+    }
 }
 
 fn agrees(alloc: Global, line: &str) -> bool {
-    let (Some(meta), Some((_, want))) = (parsed(line), line.rsplit_once(' ')) else {
-        return false;
-    };
-    both_ways(alloc, &meta).is_some_and(|text| text.as_str() == want)
+    match (parsed(line), line.rsplit_once(' ')) {
+        (Some(meta), Some((_, want))) => is_text(alloc, &meta, want),
+        _ => false,
+    }
 }
 
 // The meta that the format's description shows.

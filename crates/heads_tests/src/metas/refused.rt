@@ -1,39 +1,47 @@
 //! Calls that take memory. Nothing here makes an allocation fail: a run that makes the n-th one fail shows the other arm.
-use super::head::made;
 use super::internal::early;
+use crate::made;
+use cache_headers::ResponseHeader;
 use cache_metas::fault::{MetaFault, MetaReadFault};
 use cache_metas::versions::{InternalMetaV0, InternalMetaV2};
 use cache_metas::{head, internal};
 use std::alloc::{AllocError, Global};
 
-#[test]
-fn refused_write_of_moments(rt: HostRuntime) {
+fn moments_are_written(alloc: Global) -> bool {
     let first: InternalMetaV0 = early();
-    match internal::write(rt.alloc(), &InternalMetaV2::from(first)) {
-        Ok(text) => assert!(rt; text.len() == 21),
-        Err(fault) => assert!(rt; fault == MetaFault::Memory),
+    match internal::write(alloc, &InternalMetaV2::from(first)) {
+        Ok(text) => text.len() == 21,
+        Err(fault) => fault == MetaFault::Memory,
     }
 }
 
-#[test]
-fn refused_write_of_a_head(rt: HostRuntime) {
-    let fields: [(&str, &[u8]); 1] = [("x-name-of-its-own", b"a value of some length")];
-    let Some(header) = made(rt.alloc(), &fields) else {
-        return;
-    };
-    match head::write(rt.alloc(), &header) {
-        Ok(text) => assert!(rt; text.len() == 47),
-        Err(AllocError) => assert!(rt; header.headers.len() == 1),
+fn is_written(alloc: Global, header: &ResponseHeader) -> bool {
+    match head::write(alloc, header) {
+        Ok(text) => text.len() == 47,
+        Err(AllocError) => header.headers.len() == 1,
     }
 }
 
-#[test]
-fn refused_read_of_a_head(rt: HostRuntime) {
+fn head_is_written(alloc: Global) -> bool {
+    match made::head_of(alloc, "x-name-of-its-own", "a value of some length") {
+        Some(header) => is_written(alloc, &header),
+        None => true,
+    }
+}
+
+fn head_is_read(alloc: Global) -> bool {
     let text = b"\x92\xcc\xc8\x92\x92\xb1x-name-of-its-own\xc4\x01a\x92\xa4etag\xc4\x01b";
-    match head::read(rt.alloc(), text) {
-        Ok(header) => assert!(rt; header.headers.len() == 2),
-        Err(fault) => assert!(rt; fault == MetaReadFault::Memory),
+    match head::read(alloc, text) {
+        Ok(header) => header.headers.len() == 2,
+        Err(fault) => fault == MetaReadFault::Memory,
     }
+}
+
+#[test]
+fn refused_writes_and_reads(rt: HostRuntime) {
+    assert!(rt; moments_are_written(rt.alloc()));
+    assert!(rt; head_is_written(rt.alloc()));
+    assert!(rt; head_is_read(rt.alloc()));
 }
 
 fn takes_memory(alloc: Global) -> Option<()> {

@@ -5,93 +5,123 @@ use response_parse::{Parsed, ResponseParse, read_response};
 use std::alloc::{AllocError, Global};
 use std::fmt::Write;
 
-// Writes the status, the number of fields and the body.
-pub(crate) fn show(text: &mut String, parsed: &Parsed) -> Result<(), AllocError> {
+// Writes a bar, and then the status, the number of fields and the body.
+fn show(text: &mut String, parsed: &Parsed) -> Result<(), AllocError> {
     match parsed {
         Parsed::Complete(response) => {
             let status = response.header.status.as_u16();
             let fields = response.header.headers.len();
-            write!(text, "{status} {fields} {:?}", response.body.as_slice())
+            write!(text, "|{status} {fields} {:?}", response.body.as_slice())
         }
         Parsed::Incomplete(Some(short)) => {
             let status = short.header.status.as_u16();
-            write!(text, "incomplete, {status} and {} bytes", short.len)
+            write!(text, "|incomplete, {status} and {} bytes", short.len)
         }
-        Parsed::Incomplete(None) => text.push_str("incomplete"),
-        Parsed::BadHead => text.push_str("bad head"),
+        Parsed::Incomplete(None) => text.push_str("|incomplete"),
+        Parsed::BadHead => text.push_str("|bad head"),
     }
 }
 
+fn finish(text: &mut String, parser: ResponseParse) -> Result<(), AllocError> {
+    show(text, &parser.finish()?)
+}
+
+// Writes how far the parser has come after each piece.
 fn inject(
     alloc: Global,
     text: &mut String,
     parser: &mut ResponseParse,
-    piece: &[u8],
+    pieces: &[&str],
 ) -> Result<(), AllocError> {
-    let piece = Bytes::copy_from_slice(alloc, piece)?;
-    let progress = parser.inject_data(piece)?;
-    write!(text, "{progress:?} ")
-}
-
-// The answers after each piece, and what all of them give.
-fn as_cut(alloc: Global, pieces: &[&str]) -> Result<(String, String), AllocError> {
-    let (mut answers, mut end) = (String::new(alloc), String::new(alloc));
-    let mut parser = ResponseParse::new(alloc);
     for piece in pieces {
-        inject(alloc, &mut answers, &mut parser, piece.as_bytes())?;
+        let piece = Bytes::copy_from_slice(alloc, piece.as_bytes())?;
+        let progress = parser.inject_data(piece)?;
+        write!(text, "{progress:?} ")?;
     }
-    show(&mut end, &parser.finish()?)?;
-    Ok((answers, end))
+    Ok(())
 }
 
-// What bytes give that come one by one.
-pub(crate) fn by_bytes(alloc: Global, bytes: &[u8]) -> Result<String, AllocError> {
-    let mut end = String::new(alloc);
+// Writes the answers after each piece, a bar, and what all of them give.
+fn as_cut(alloc: Global, text: &mut String, pieces: &[&str]) -> Result<(), AllocError> {
     let mut parser = ResponseParse::new(alloc);
+    inject(alloc, text, &mut parser, pieces)?;
+    finish(text, parser)
+}
+
+fn inject_bytes(alloc: Global, parser: &mut ResponseParse, bytes: &[u8]) -> Result<(), AllocError> {
     let whole = Bytes::copy_from_slice(alloc, bytes)?;
     for i in 0..whole.len() {
         parser.inject_data(whole.slice(i..i + 1)?)?;
     }
-    show(&mut end, &parser.finish()?)?;
-    Ok(end)
+    Ok(())
 }
 
-// What bytes give that come at once.
-pub(crate) fn at_once(alloc: Global, bytes: &[u8]) -> Result<String, AllocError> {
-    let mut end = String::new(alloc);
-    let parsed = read_response(alloc, Bytes::copy_from_slice(alloc, bytes)?)?;
-    show(&mut end, &parsed)?;
-    Ok(end)
+// Writes a bar, and what bytes give that come one by one.
+fn by_bytes(alloc: Global, text: &mut String, bytes: &[u8]) -> Result<(), AllocError> {
+    let mut parser = ResponseParse::new(alloc);
+    inject_bytes(alloc, &mut parser, bytes)?;
+    finish(text, parser)
 }
 
-fn joined(alloc: Global, pieces: &[&str]) -> Result<Vec<u8>, AllocError> {
-    let mut all = Vec::new(alloc);
-    for piece in pieces {
-        all.extend_from_slice(piece.as_bytes())?;
-    }
-    Ok(all)
+// Writes a bar, and what bytes give that come at once.
+fn at_once(alloc: Global, text: &mut String, bytes: &[u8]) -> Result<(), AllocError> {
+    show(
+        text,
+        &read_response(alloc, Bytes::copy_from_slice(alloc, bytes)?)?,
+    )
 }
 
-// Whether a text, if memory allows it, is what is wanted.
-pub(crate) fn is_text(made: Result<String, AllocError>, want: &str) -> bool {
-    match made {
-        Ok(text) => text.as_str() == want,
-        Err(AllocError) => true,
+// Whether a text, if memory allows it, has these parts before and after its bar.
+fn is_text(made: Result<(), AllocError>, text: &str, answers: &str, end: &str) -> bool {
+    match (made, text.split_once('|')) {
+        (Ok(()), Some(parts)) => parts.0 == answers && parts.1 == end,
+        (Ok(()), None) => false,
+        (Err(AllocError), _) => true,
     }
 }
 
 fn is_cut_so(alloc: Global, pieces: &[&str], answers: &str, end: &str) -> bool {
-    match as_cut(alloc, pieces) {
-        Ok(made) => made.0.as_str() == answers && made.1.as_str() == end,
+    let mut text = String::new(alloc);
+    let made = as_cut(alloc, &mut text, pieces);
+    is_text(made, text.as_str(), answers, end)
+}
+
+fn is_at_once(alloc: Global, bytes: &[u8], end: &str) -> bool {
+    let mut text = String::new(alloc);
+    let made = at_once(alloc, &mut text, bytes);
+    is_text(made, text.as_str(), "", end)
+}
+
+pub(crate) fn is_by_bytes(alloc: Global, bytes: &[u8], end: &str) -> bool {
+    let mut text = String::new(alloc);
+    let made = by_bytes(alloc, &mut text, bytes);
+    is_text(made, text.as_str(), "", end)
+}
+
+// Whether bytes, if memory sufficed for them, are read so in both ways.
+pub(crate) fn is_read_so(
+    alloc: Global,
+    made: Result<(), AllocError>,
+    bytes: &[u8],
+    end: &str,
+) -> bool {
+    match made {
+        Ok(()) => is_at_once(alloc, bytes, end) && is_by_bytes(alloc, bytes, end),
         Err(AllocError) => true,
     }
 }
 
+fn join(all: &mut Vec<u8>, pieces: &[&str]) -> Result<(), AllocError> {
+    for piece in pieces {
+        all.extend_from_slice(piece.as_bytes())?;
+    }
+    Ok(())
+}
+
 fn is_joined_so(alloc: Global, pieces: &[&str], end: &str) -> bool {
-    let Ok(bytes) = joined(alloc, pieces) else {
-        return true;
-    };
-    is_text(at_once(alloc, &bytes), end) && is_text(by_bytes(alloc, &bytes), end)
+    let mut all = Vec::new(alloc);
+    let made = join(&mut all, pieces);
+    is_read_so(alloc, made, all.as_slice(), end)
 }
 
 #[test]
@@ -104,6 +134,7 @@ fn pieces_give_what_they_give_joined(rt: HostRuntime) {
 
 #[test]
 fn ample_memory_reads_a_response(rt: HostRuntime) {
-    assert!(rt; as_cut(rt.alloc(), &["HTTP/1.1 200 OK\r\n\r\n", "a"]).is_ok());
-    assert!(rt; at_once(rt.alloc(), b"HTTP/1.1 200 OK\r\n\r\na").is_ok());
+    let mut text = String::new(rt.alloc());
+    assert!(rt; as_cut(rt.alloc(), &mut text, &["HTTP/1.1 200 OK\r\n\r\n", "a"]).is_ok());
+    assert!(rt; at_once(rt.alloc(), &mut text, b"HTTP/1.1 200 OK\r\n\r\na").is_ok());
 }
