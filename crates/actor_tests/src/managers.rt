@@ -8,9 +8,9 @@ use cache_evict::{EvictionManager, KeyParts};
 use cache_words::key::CompactCacheKey;
 use cache_words::text::Text;
 use cache_words::time::Moment;
+use lru_core::SeededState;
 use rand_core::SeedableRng;
 use rand_pcg::Pcg64;
-use secret_hasher::SecretHasher;
 use std::alloc::Global;
 use std::sync::Wait;
 use std::thread::Threads;
@@ -226,7 +226,7 @@ fn own_start_answers<R: Threads + Wait + Copy + Send + 'static>(
     rows: &[Row],
 ) -> Option<bool> {
     let manager = Manager::builder(100, |_: CacheEntryKey, _: usize| {})
-        .with_hasher(SecretHasher { word: 7 })
+        .with_hasher(SeededState { word: 7 })
         .build(rt, alloc, generators(alloc)?)
         .ok()?;
     Some(answers(rt, alloc, manager, rows))

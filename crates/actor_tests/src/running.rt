@@ -2,9 +2,9 @@
 
 use async_lru::{AsyncLru, Event, Message, World, hash_key};
 use crossbeam_channel::Receiver;
+use lru_core::SeededState;
 use rand_core::SeedableRng;
 use rand_pcg::Pcg64;
-use secret_hasher::SecretHasher;
 use std::alloc::Global;
 use std::sync::Wait;
 use std::thread;
@@ -82,7 +82,7 @@ fn built<R: Threads + Wait + Copy + Send + 'static>(
     let built = match own {
         Some(word) => {
             builder
-                .with_hasher(SecretHasher { word })
+                .with_hasher(SeededState { word })
                 .build_with_eviction_receiver(rt, alloc, generators)
         }
         None => builder.build_with_eviction_receiver(rt, alloc, generators),

@@ -3,8 +3,8 @@
 ghost use Rattle.std.specs.Prelude.{◌<◌};
 
 use async_lru::{Event, Message, Outcome, World};
+use lru_core::SeededState;
 use lru_core::lru_unit::LruUnitIter;
-use secret_hasher::SecretHasher;
 use std::alloc::Global;
 use std::hash::BuildHasher;
 
@@ -45,7 +45,7 @@ const B: Step = Step::Admit(2, 1, 0);
 const ACT: Step = Step::Act(0, true);
 
 /// A start of the caller's.
-const OWN: SecretHasher = SecretHasher { word: 7 };
+const OWN: SeededState = SeededState { word: 7 };
 
 /// One shard and a limit of 1.
 const TIGHT: &[Row] = &[
@@ -287,7 +287,7 @@ fn fixed_goes<const N: usize>(alloc: Global, row: &Row) -> bool
 fn own_goes<const N: usize>(alloc: Global, row: &Row) -> bool
     requires { 0 < N }
 {
-    match World::<u32, N, SecretHasher>::with_hasher(alloc, OWN, 1, None) {
+    match World::<u32, N, SeededState>::with_hasher(alloc, OWN, 1, None) {
         Ok(world) => goes(world, row),
         Err(_) => false,
     }

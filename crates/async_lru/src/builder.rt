@@ -9,8 +9,8 @@ use crate::fault::BuildFault;
 use crate::running::AsyncLru;
 use crate::start::start_callers;
 use crossbeam_channel::Receiver;
+use lru_core::SeededState;
 use rand_core::Rng;
-use secret_hasher::SecretHasher;
 use std::alloc::Global;
 use std::marker::PhantomData;
 use std::sync::{Arc, Wait};
@@ -32,7 +32,7 @@ pub struct AsyncLruBuilder<K, C, const N: usize> {
     /// What is called with each evicted pair.
     pub callback: C,
     /// The start of the hashes by which each shard's table finds its rows.
-    pub hasher: SecretHasher,
+    pub hasher: SeededState,
     pub(crate) keys: PhantomData<K>,
 }
 
@@ -69,10 +69,10 @@ impl<K, C, const N: usize> AsyncLruBuilder<K, C, N> {
         self
     }
 
-    /// Sets the start of the hashes by which each shard's table finds its rows, for keys that strangers choose: who doesn't know the
+    /// Sets the start of the hashes by which each shard's table finds its rows, for keys that attackers choose: who doesn't know the
     /// start can't choose keys that slow look-ups down. `hash_key`, which names rows and shards, keeps its fixed start, so two keys
     /// of one hash share a row all the same.
-    pub fn with_hasher(mut self, hasher: SecretHasher) -> Self
+    pub fn with_hasher(mut self, hasher: SeededState) -> Self
         ensures { result ≡ record self { hasher = hasher } }
     {
         self.hasher = hasher;

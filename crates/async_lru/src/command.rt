@@ -10,9 +10,9 @@ use std::alloc::AllocError;
 pub(crate) enum Command<K> {
     // Apply the message.
     Apply(Message<K>),
-    // Put the key under a new hash at the back, and tell whether it was new, or why it was refused.
+    // Put the key under a new hash at the back, and say whether it was new, or why it was refused.
     InsertTail(u64, K, usize, Sender<Result<bool, LruFault<K>>>),
-    // Move the hash to the front, and tell whether it was there.
+    // Move the hash to the front, and say whether it was there.
     Promote(u64, Sender<bool>),
     // Tell the weight of the hash.
     PeekWeight(u64, Sender<Option<usize>>),

@@ -10,8 +10,8 @@ use crate::plan::Wires;
 use crate::start::{start_actors, start_evictors};
 use crate::threads::Actor;
 use crossbeam_channel::{Receiver, Sender, bounded};
+use lru_core::SeededState;
 use rand_core::Rng;
-use secret_hasher::SecretHasher;
 use std::alloc::Global;
 use std::sync::atomic::Ordering;
 use std::sync::{Arc, Wait};
@@ -57,7 +57,7 @@ impl<K: Clone + Send + 'static> Crew<K> {
     pub(crate) fn start<H: Threads + Wait + Copy + Send + 'static, G: Rng + Drop + Send + 'static>(
         rt: &H,
         alloc: Global,
-        hasher: SecretHasher,
+        hasher: SeededState,
         shards: usize,
         counts: Counts,
         capacity: usize,

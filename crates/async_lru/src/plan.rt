@@ -7,7 +7,7 @@ use crate::counts::Counts;
 use crate::evictor::{Evictor, MOST_AT_ONCE};
 use crate::threads::Actor;
 use crossbeam_channel::{Receiver, Sender, bounded, unbounded};
-use secret_hasher::SecretHasher;
+use lru_core::SeededState;
 use shard_actors::ShardActor;
 use std::alloc::{AllocError, Global};
 use std::sync::Arc;
@@ -47,7 +47,7 @@ impl<K: Drop> Wires<K> {
     fn actor(
         &self,
         alloc: Global,
-        hasher: SecretHasher,
+        hasher: SeededState,
         shard: usize,
         capacity: usize,
         bound: usize,
@@ -68,7 +68,7 @@ impl<K: Drop> Wires<K> {
     pub(crate) fn actors(
         &self,
         alloc: Global,
-        hasher: SecretHasher,
+        hasher: SeededState,
         shards: usize,
         capacity: usize,
     ) -> Result<(Vec<Sender<Command<K>>>, Vec<Actor<K>>), AllocError>

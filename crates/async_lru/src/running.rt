@@ -8,7 +8,7 @@ mod sends;
 
 use crate::builder::AsyncLruBuilder;
 use crate::crew::Crew;
-use secret_hasher::SecretHasher;
+use lru_core::SeededState;
 use std::alloc::Global;
 use std::marker::PhantomData;
 use std::sync::Wait;
@@ -49,7 +49,7 @@ impl<K: Drop, const N: usize> AsyncLru<K, N> {
             eviction_workers: N,
             callback_workers: 1,
             callback,
-            hasher: SecretHasher { word: 0 },
+            hasher: SeededState { word: 0 },
             keys: PhantomData,
         }
     }

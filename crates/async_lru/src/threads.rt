@@ -7,7 +7,7 @@ use crate::callback::AsyncEvictionCallback;
 use crate::command::Command;
 use crate::counts::{Counts, Sums};
 use crossbeam_channel::{Receiver, Sender};
-use secret_hasher::SecretHasher;
+use lru_core::SeededState;
 use shard_actors::ShardActor;
 use std::sync::atomic::Ordering;
 use std::sync::{Arc, Wait};
@@ -16,7 +16,7 @@ use std::sync::{Arc, Wait};
 #[derive(Drop)]
 pub(crate) struct Actor<K> {
     pub(crate) shard: usize,
-    pub(crate) actor: ShardActor<K, SecretHasher>,
+    pub(crate) actor: ShardActor<K, SeededState>,
     pub(crate) commands: Receiver<Command<K>>,
     pub(crate) counts: Arc<Counts>,
     pub(crate) wake: Sender<()>,

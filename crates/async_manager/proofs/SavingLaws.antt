@@ -1,4 +1,4 @@
--- Saves by what serializing gives, and what their fault tells of calls.
+-- Saves by what serializing gives, and what their fault reports of calls.
 use Rattle.std.proofs.Common.{◌≡◌, ◌⊎◌, inl, inr, ℕ, ◌<◌, Bool, true, false, true≢false, List, [], ◌∷◌, length, Option, Some, Result, Ok, Err, Vec, refl, subst, arith}
 use Rattle.std.specs.Prelude.{slice_index, if◌then◌else◌}
 use Rattle.std.specs.declared.alloc.Global.{Global}
@@ -55,7 +55,7 @@ left-by dir file_name words n {P} Q did keeps opened files old new ended stops l
 
 -- ---- the fault of a file
 
--- where a call failed for some shard, a call is told
+-- where a call failed for some shard, a call is reported
 some_call-first : (i : ℕ) (failure : ShardSaveFailure TextFault) (rest : List (ℕ × ShardSaveFailure TextFault)) → (are_without_call rest ≡ false → 0 < length (file_errors rest))
     → are_without_call ((i, failure) ∷ rest) ≡ false → 0 < length (file_errors ((i, failure) ∷ rest))
 some_call-first i (Serialize error) rest more some = more some

@@ -58,7 +58,7 @@ IsOfRow (Text fault) = ⊥
 IsOfRow Memory = Unit {0}
 IsOfRow (Put fault) = Unit {0}
 
--- a text is told as faulty just where it is
+-- a text is reported as faulty just where it is
 abbrev pub IsRead : List ℕ → Result (Unit {0}) RowsFault → Type 0
 IsRead bytes (Ok done) = (recency_at bytes).1 ≡ None
 IsRead bytes (Err (Text fault)) = (recency_at bytes).1 ≡ Some fault

@@ -5,8 +5,8 @@ ghost use Rattle.std.specs.Prelude.{◌≡◌, ◌<◌, Some, IfOk};
 use crate::manager::Manager;
 use async_lru::{AsyncEvictionCallback, AsyncLruBuilder, BuildFault};
 use cache_entries::entry::CacheEntryKey;
+use lru_core::SeededState;
 use rand_core::Rng;
-use secret_hasher::SecretHasher;
 use std::alloc::Global;
 use std::sync::Wait;
 use std::thread::Threads;
@@ -59,10 +59,10 @@ impl<C, const N: usize> ManagerBuilder<C, N> {
         }
     }
 
-    /// Sets the start of the hashes by which each shard's table finds its rows, for entries that strangers choose: who doesn't know
+    /// Sets the start of the hashes by which each shard's table finds its rows, for entries that attackers choose: who doesn't know
     /// the start can't choose entries that slow look-ups down. The hashes that name rows and shards keep their fixed start, so two
     /// entries of one hash share a row all the same.
-    pub fn with_hasher(self, hasher: SecretHasher) -> Self
+    pub fn with_hasher(self, hasher: SeededState) -> Self
         ensures { result.lists ≡ record self.lists { hasher = hasher } }
     {
         let ManagerBuilder { lists } = self;

@@ -21,7 +21,7 @@ use std::sync::Wait;
 
 impl<const N: usize> Manager<N> {
     /// Saves the entries of each shard with their weights to its file `lru.data.i` in `dir`, which is made first. The texts are
-    /// written under temporary names, which the words tell apart; a word is for one save alone. Wherever the save is stopped, each
+    /// written under temporary names, made distinct by the words; a word is for one save alone. Wherever the save is stopped, each
     /// shard's file is as before or has the whole text of some moment of the save. Those that failed are in the report.
     ///
     /// # Errors

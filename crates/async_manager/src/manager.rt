@@ -24,7 +24,7 @@ use std::sync::Wait;
 ///
 /// Calls that change a shard are messages to its actor and take effect later; nothing is claimed of when, nor of what the counters
 /// show. A message that its shard refuses, for memory, weight or length, is dropped and changes nothing: an entry that was not
-/// tracked stays untracked, so it is never evicted, and of all calls only `insert_tail` tells. Evicted entries go to the callback. Callers in several
+/// tracked stays untracked, so it is never evicted, and of all calls only `insert_tail` reports it. Evicted entries go to the callback. Callers in several
 /// threads may share a manager by reference. The threads end by `shutdown`, so each value must be given to it.
 ///
 /// Rows are named by the entries' 64-bit hashes, which start at a fixed place: two entries of one hash share a row. The one that

@@ -1,4 +1,4 @@
--- The state tells which changes may come.
+-- The state says which changes may come.
 use Rattle.std.proofs.Common.{◌≡◌, ℕ, refl, ap, sym, ◌∙◌, true, false, subst, inl, inr}
 use Rattle.std.specs.Prelude.{◌↔◌, ◌⊎◌, List, Option, Some, None, is_some}
 use Rattle.cache_entries.specs.SameEntry.{same_bytes-tells}

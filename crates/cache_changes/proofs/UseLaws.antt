@@ -109,7 +109,7 @@ none_there f n rows e o h = by_weight (weight_of e rows) refl
         let same : there.0 ≡ n = cc (there.1) in
         absurd (omega (arith, same, there.2))
 
--- the first rows of two orders that tell the same are of one entry
+-- the first rows of two orders that report the same are of one entry
 one_first : (f : CacheEntryKey → Option ℕ) (a b : ℕ) (r q : Tracked) (xs ys : List Tracked) → AreInOrder f a (r ∷ xs) → AreInOrder f b (q ∷ ys)
     → ((e : CacheEntryKey) → weight_of e (r ∷ xs) ≡ weight_of e (q ∷ ys)) → same_entry r.entry q.entry ≡ true
 one_first f a b r q xs ys o p h = by_key (same_entry r.entry q.entry) refl
@@ -129,7 +129,7 @@ one_first f a b r q xs ys o p h = by_key (same_entry r.entry q.entry) refl
 one_row : (r q : Tracked) → r.entry ≡ q.entry → r.weight ≡ q.weight → r ≡ q
 one_row r q e w = λ i. record { entry = e i; weight = w i }
 
--- two orders that tell the same are one
+-- two orders that report the same are one
 one_order : (f : CacheEntryKey → Option ℕ) (a b : ℕ) (rows other : List Tracked) → AreInOrder f a rows → AreInOrder f b other
     → ((e : CacheEntryKey) → weight_of e rows ≡ weight_of e other) → rows ≡ other
 one_order f a b [] [] o p h = refl

@@ -131,7 +131,7 @@ life-alive {M = M} w changes o a =
     let found = life-began w changes o (alive_began w changes a) in
     (found.flies, subst (λ (x : Bool). life w.number changes ≡ Some (record { write = w; flies = found.flies; alive = x })) (found.kept a.kept a.held) found.is)
 
--- what is known of a number tells of its write
+-- what is known of a number reports of its write
 pub record Lived {M : Type 0} (n : ℕ) (x : Life M) (changes : Changes M) : Type 0 where
   pub number : n ≡ x.write.number
   pub since : Changes M

@@ -15,7 +15,7 @@ pub fn the_state_is_what_changes_say<M>()
     ensures { (changes : Changes M) → IsOrderly changes → IsStateOf (store_of changes) changes }
 {}
 
-/// That state tells which changes may come next: bytes, to a write that has not ended; a finish, of one that was not removed; what
+/// That state says which changes may come next: bytes, to a write that has not ended; a finish, of one that was not removed; what
 /// else is done to a write, in flight; and another meta, to a write in flight or a body.
 pub fn the_state_tells_what_may_come<M>()
     ensures flies { (changes : Changes M) → IsOrderly changes → (n : ℕ) → (is_some (flying_at n (store_of changes)) ≡ true) ↔ Flies n changes }
@@ -56,8 +56,8 @@ pub fn shards_change_alone<M>()
     ensures other { (n s : ℕ) (c : Change M) (rows : List Tracked) → changes_shard n s c ≡ false → in_shard n s (rows_after c rows) ≡ in_shard n s rows }
 {}
 
-/// Shards' lists that hold the rows hold them after each change of an entry, done to its shard's list alone, and weigh and count
-/// together what the rows do. The last row of a list goes as its entry is evicted, which is the last of its shard.
+/// Lists that hold the rows by shard still hold them after a change of an entry that was made in its shard's list alone. Together
+/// they weigh and count what the rows do. An eviction takes the last row of its shard's list.
 pub fn shards_hold_the_rows<M>()
     ensures change { (n : ℕ) (c : Change M) (e : CacheEntryKey) (shards : List (List Tracked)) (rows : List Tracked) → 0 < n → entry_changed c ≡ Some e
         → AreShardsOf n shards rows → AreShardsOf n (shards_after n e c shards) (rows_after c rows) }

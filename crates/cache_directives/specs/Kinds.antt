@@ -1,4 +1,4 @@
--- The bytes that a search for directives tells apart. It takes more than RFC 9110, 5.6.2 and 5.6.3 allow.
+-- The bytes that a search for directives distinguishes. It takes more than RFC 9110, 5.6.2 and 5.6.3 allow.
 use Rattle.std.specs.Prelude.{ℕ, Bool, ◌==◌, ◌||◌, ◌&&◌, not, nat_lt, codes}
 use Rattle.std.specs.List.{list_any}
 

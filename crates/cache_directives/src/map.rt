@@ -32,7 +32,7 @@ pub struct BuildDirectiveHasher {
 }
 
 impl Default for BuildDirectiveHasher {
-    /// Hashers that start alike in each map: for names that no stranger chooses.
+    /// Hashers that start alike in each map: for names that no attacker chooses.
     fn default() -> Self {
         BuildDirectiveHasher {
             start: DefaultHasher::new(),

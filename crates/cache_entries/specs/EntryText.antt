@@ -45,7 +45,7 @@ alone_at bytes = do
   key ← key_at bytes
   Ok (entry_with (kept_key key.0) None, key.1)
 
--- an entry: the length of the array tells which of both it is
+-- an entry: the length of the array says which of both it is
 unfoldable pub entry_at : Reader CacheEntryKey
 entry_at bytes = do
   count ← number_at arrays bytes

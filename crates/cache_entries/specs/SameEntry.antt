@@ -13,7 +13,7 @@ use Rattle.cache_entries.specs.declared.entry.CacheEntryKey.TheVariants.{KeyOnly
 use Rattle.cache_entries.specs.Keys.{same_bytes, same_variance, same_key}
 use Rattle.cache_entries.specs.Entry.{number_of, same_id, same_entry, key_of, id_of}
 
--- a test that tells whether two things are equal
+-- a test that says whether two things are equal
 pub record Tells {K : Type 0} (same : K → K → Bool) : Type 0 where
   pub equal : (a b : K) → same a b ≡ true → a ≡ b
   pub itself : (a : K) → same a a ≡ true

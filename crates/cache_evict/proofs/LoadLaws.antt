@@ -133,7 +133,7 @@ module _ (again : Again) (n : ℕ) (read : RowsRead) (old m : Managed) where
         ),
       )
 
-  -- the same of a fault that was told by another
+  -- the same of a fault that was reported by another
   pub loads-err : (r : Result (Unit {0}) LoadFault) (P : LoadFault → Type 0) → IsErrAnd r P → ((fault : LoadFault) → P fault → Loads again n read old m (Err fault)) → Loads again n read old m r
   loads-err (Ok x) P e f = absurd e
   loads-err (Err fault) P e f = f fault e

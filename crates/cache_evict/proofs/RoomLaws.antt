@@ -1,17 +1,19 @@
 -- What room for a row says of an entry that isn't tracked.
 use Rattle.std.proofs.Common.{◌≡◌, ℕ, ◌+◌, ◌*◌, ◌/◌, ◌-◌, ◌^◌, ◌<◌, ◌≤◌, inl, inr, map, List, [], length, get_or, Option, None, ap, ◌∙◌, subst, arith}
 use Rattle.std.proofs.lemmas.Nat.{mod_below}
+use Rattle.std.specs.List.{All}
 use Rattle.std.proofs.lemmas.List.{length-map}
+use Rattle.std.proofs.lemmas.List.Elements.{All-map}
 use Rattle.std.proofs.Math.Nat.{mul-le-mul_left, mul-add, mul-one, mul-div-le}
 use Rattle.cache_entries.specs.EntryText.{entry_hash}
 use Rattle.cache_entries.specs.declared.entry.CacheEntryKey.{CacheEntryKey}
 use Rattle.cache_entries.specs.Rows.{weight_of, without_row, all_weights}
 use Rattle.lru_core.specs.declared.rows.Row.{Row}
 use Rattle.lru_core.specs.Rows.{total_weight}
-use Rattle.lru_core.specs.Cores.{Core, rows_at}
+use Rattle.lru_core.specs.Cores.{Core, rows_at, IsWithin as IsRowsWithin}
 use Rattle.cache_evict.specs.declared.tracker.refusal.Refusal.{Refusal}
 use Rattle.cache_evict.specs.declared.tracker.refusal.Refusal.TheVariants.{Memory, Weight, Length, Spent}
-use Rattle.cache_evict.specs.Managed.{shard_of, HasNoOtherReason}
+use Rattle.cache_evict.specs.Managed.{shard_of, IsWithin, HasNoOtherReason}
 use Rattle.cache_evict.specs.Numbered.{tracked_row, tracked, managed_in, IsNumbered}
 use Rattle.cache_evict.specs.Refusals.{IsRefusal, HasRoom, IsRoomRefusal}
 use Rattle.cache_evict.proofs.CountLaws.{counts}
@@ -27,6 +29,16 @@ not_full n s len below few =
     let o = mul-one n in
     let d = mul-div-le (2 ^ 64 - 1) n in
     omega (arith, u, v, o, d, below)
+
+-- shards of numbers within their bound are within it by their entries
+pub within-tracked : (n : ℕ) (names : ℕ → Option CacheEntryKey) (shards : List (List (Row ℕ))) → All (IsRowsWithin n) shards → All (IsWithin n) (map (tracked names) shards)
+within-tracked n names shards all =
+    All-map (IsWithin n) (tracked names) shards (λ k d below. let within = all k d below in let rows = get_or shards k d in
+    let weight = all_weights-tracked names rows in
+    let len = length-map rows (tracked_row names) in (
+      omega (arith, within.0, weight),
+      omega (arith, within.1, len),
+    ))
 
 module _ (n : ℕ) (names : ℕ → Option CacheEntryKey) (core : Core ℕ) (e : CacheEntryKey) (w size items : ℕ) (h : IsNumbered n names core.shards)
     (none : weight_of e (get_or (map (tracked names) core.shards) (shard_of n e) []) ≡ None) where

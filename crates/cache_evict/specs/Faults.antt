@@ -1,5 +1,5 @@
 -- Faults of managers, and what each leaves.
-use Rattle.std.specs.Prelude.{◌≡◌, ◌<◌, ◌^◌, ℕ, ◌⊎◌, true, List, [], Option, Some, None, codes}
+use Rattle.std.specs.Prelude.{◌≡◌, ℕ, ◌⊎◌, true, List, [], Option, Some, None, codes}
 use Rattle.rand_core.specs.Stream.{Stream}
 use Rattle.cache_entries.specs.declared.entry.CacheEntryKey.{CacheEntryKey}
 use Rattle.cache_entries.specs.declared.rows.Tracked.{Tracked}
@@ -7,7 +7,7 @@ use Rattle.cache_evict.specs.declared.fault.EvictFault.{EvictFault}
 use Rattle.cache_evict.specs.declared.fault.EvictFault.TheVariants.{Memory, Weight, Length, NumbersSpent, File}
 use Rattle.cache_evict.specs.declared.tracker.refusal.Refusal.{Refusal}
 use Rattle.cache_evict.specs.declared.tracker.refusal.Refusal.TheVariants as refusal
-use Rattle.cache_evict.specs.Managed.{Managed, put_first, is_over, total_size, Evicts, IsHeavy, IsLong, IsFull, HasNoOtherReason}
+use Rattle.cache_evict.specs.Managed.{Managed, put_first, is_over, Fits, Evicts, IsHeavy, IsLong, IsFull, HasNoOtherReason}
 
 -- the entries evicted until then
 abbrev pub evicted_of : EvictFault → List CacheEntryKey
@@ -17,7 +17,7 @@ evicted_of (Length v) = v.items
 evicted_of (NumbersSpent v) = v.items
 evicted_of (File v) = v.items
 
--- the cause that it tells of an entry that isn't put
+-- the cause that it reports of an entry that isn't put
 abbrev pub cause_of : EvictFault → Option Refusal
 cause_of (Memory v) = Some refusal.Memory
 cause_of (Weight v) = Some refusal.Weight
@@ -50,7 +50,7 @@ abbrev pub RunsOut : (List (List Tracked) → Stream → ℕ × Stream) → Mana
 RunsOut pick old s fault new rest = IsMemory fault × Evicts pick old (evicted_of fault) s new rest × (is_over new ≡ true)
 
 -- a fault of a call that puts e first and then evicts: either e isn't put, and all is as before, or memory runs out in the
--- evictions, where the weights with e fit
+-- evictions, where e fits
 abbrev pub StopsAt : (List (List Tracked) → Stream → ℕ × Stream) → ℕ → CacheEntryKey → ℕ → Managed → Stream → EvictFault → Managed → Stream → Type 0
 StopsAt pick n e w old s fault new rest =
-    (IsPutRefused n e w old fault × (evicted_of fault ≡ []) × (new ≡ old) × (rest ≡ s)) ⊎ (RunsOut pick (put_first n e w old) s fault new rest × (total_size (put_first n e w old) < 2 ^ 64))
+    (IsPutRefused n e w old fault × (evicted_of fault ≡ []) × (new ≡ old) × (rest ≡ s)) ⊎ (RunsOut pick (put_first n e w old) s fault new rest × Fits n (put_first n e w old))

@@ -1,4 +1,4 @@
--- What a load of a manager's files does, and what it tells.
+-- What a load of a manager's files does, and what it reports.
 use Rattle.std.specs.Prelude.{◌≡◌, ◌≢◌, ◌⊎◌, ◌<◌, ◌+◌, ℕ, Bool, true, List, [], ◌++◌, length, Option, Some, None, Result, Ok, Err}
 use Rattle.lru_files.specs.Folder.{Files, Call, Outcome, IsSame}
 use Rattle.lru_files.specs.Load.{CleansUp, LoadsOne, load_error, load_errors}
@@ -33,7 +33,7 @@ TakesText again n old bytes result new = Loads again n (recency_at bytes) old ne
 abbrev pub TakesShard : ℕ → Managed → ℕ → List ℕ → Result (Unit {0}) LoadFault → Managed → Type 0
 TakesShard n old shard bytes result new = TakesText PassedOver n old bytes result new
 
--- what the fault of a row or of its text is told as
+-- what the fault of a row or of its text is reported as
 abbrev pub IsRowFault : LoadFault → EvictFault → Type 0
 IsRowFault fault (Memory v) = (v.items ≡ []) × (fault ≡ load.Memory)
 IsRowFault fault (File v) = (v.items ≡ []) × (fault ≢ load.Memory)
@@ -72,7 +72,7 @@ module _ {D : Type 0} (did : D → Call → Outcome → D → Type 0) (failures 
     pub failed : report.cleanup.failed.items ≡ []
 
   -- What a load does, by its result. Where one file is asked for, and it is absent or faulty, that is the fault of a file; a row of it that is refused for memory is
-  -- told as that. Without memory for the report nothing was done.
+  -- reported as that. Without memory for the report nothing was done.
   abbrev pub LoadsStored : Stored → List ℕ → Managed → Managed → D → D → Result (ShardLoadReport LoadFault) EvictFault → Type 0
   LoadsStored (Sharded file_name) dir m m' old new (Ok report) = LoadsEach file_name dir m m' old new report
   LoadsStored (Single file_name) dir m m' old new (Ok report) = IsOneLoaded report × LoadsFile (file_at (Single file_name) dir 0) m m' old new (Ok true)

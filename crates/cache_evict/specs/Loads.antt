@@ -50,7 +50,7 @@ abbrev pub StopsBefore : Again → ℕ → RowsRead → Managed → Managed → 
 StopsBefore again n read old new why =
     (done : List Tracked) × (r : Tracked) × (rest : List Tracked) × (read.0 ≡ done ++ r ∷ rest) × (new ≡ all_put (loaded again n) done old) × IsLoadRefusal again n r new why
 
--- Of n shards, the rows that were read are put in turn, up to one that can't be put. A fault of the text is told after its rows.
+-- Of n shards, the rows that were read are put in turn, up to one that can't be put. A fault of the text is reported after its rows.
 abbrev pub Loads : Again → ℕ → RowsRead → Managed → Managed → Result (Unit {0}) LoadFault → Type 0
 Loads again n read old new (Ok x) = (read.1 ≡ None) × (new ≡ all_put (loaded again n) read.0 old)
 Loads again n read old new (Err fault) =

@@ -1,6 +1,6 @@
 -- What an eviction manager holds: shards of tracked entries, each most recent first.
 use Rattle.std.specs.Prelude.{◌≡◌, ℕ, zero, suc, Bool, true, ◌||◌, ◌==◌, ◌+◌, ◌-◌, ◌*◌, ◌%◌, ◌^◌, ◌<◌, ◌≤◌, ◌⊎◌, min, max, nat_lt, if◌then◌else◌, List, [], ◌∷◌, ◌++◌, length, replicate, slice_set, slice_index_or, Option, Some, None}
-use Rattle.std.specs.List.{sum_by, AllByRecursion}
+use Rattle.std.specs.List.{sum_by, All, AllByRecursion}
 use Rattle.rand_core.specs.Stream.{Stream, next_u64}
 use Rattle.cache_entries.specs.declared.entry.CacheEntryKey.{CacheEntryKey}
 use Rattle.cache_entries.specs.declared.rows.Tracked.{Tracked}
@@ -13,7 +13,7 @@ use Rattle.lru_core.specs.Rows.{capped, raised}
 use Rattle.lru_core.specs.Cores.{shard_bound, passes}
 use Rattle.lru_core.specs.declared.rows.TheConstants.{MOST_ROWS}
 
--- `limit` is what the entries may weigh together, `watermark` how many there may be; the rest tells of all that were
+-- `limit` is what the entries may weigh together, `watermark` how many there may be; the rest counts all that were
 -- evicted, up to 2 ^ 64 - 1
 pub record Managed : Type 0 where
   pub shards : List (List Tracked)
@@ -49,6 +49,14 @@ total_size m = sum_by all_weights m.shards
 
 abbrev pub total_items : Managed → ℕ
 total_items m = sum_by length m.shards
+
+-- rows of one of n shards: neither their weight nor their number is past what can be counted for each of n shards
+abbrev pub IsWithin : ℕ → List Tracked → Type 0
+IsWithin n rows = (all_weights rows ≤ shard_bound n) × (length rows ≤ shard_bound n)
+
+-- each of n shards is within its bound, and the weights of all together can be counted
+abbrev pub Fits : ℕ → Managed → Type 0
+Fits n m = All (IsWithin n) m.shards × (total_size m < 2 ^ 64)
 
 -- the weight is past the limit, or the number of entries past the watermark
 abbrev pub is_over : Managed → Bool
@@ -100,7 +108,7 @@ GoesLast old s e new =
     (front : List Tracked) × (w : ℕ) × (rows_at old.shards s ≡ front ++ record { entry = e; weight = w } ∷ [])
     × (new ≡ record old { shards = slice_set old.shards s front; evicted_size = saturated (old.evicted_size + w); evicted_items = saturated (old.evicted_items + 1) })
 
--- The entries go in turn, while a limit is passed. `pick` tells which shard is taken from, and what is left of the stream of draws.
+-- The entries go in turn, while a limit is passed. `pick` says which shard is taken from, and what is left of the stream of draws.
 abbrev pub Evicts : (List (List Tracked) → Stream → ℕ × Stream) → Managed → List CacheEntryKey → Stream → Managed → Stream → Type 0
 Evicts pick old [] s new rest = (new ≡ old) × (rest ≡ s)
 Evicts pick old (e ∷ es) s new rest =

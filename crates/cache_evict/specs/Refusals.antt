@@ -38,7 +38,7 @@ IsNewRefusal n names hash w core Spent = IsSpent n names hash
 abbrev pub HasRoom : ℕ → ℕ → ℕ → Core ℕ → Type 0
 HasRoom n s w core = (total_weight (rows_at core.shards s) + w ≤ shard_bound n) × (length (rows_at core.shards s) < shard_bound n) × (core_len core.shards < MOST_ROWS)
 
--- why there is no room, which is told before anything grows
+-- why there is no room, which is reported before anything grows
 abbrev pub IsRoomRefusal : ℕ → ℕ → ℕ → Core ℕ → Refusal → Type 0
 IsRoomRefusal n s w core Memory = ⊥
 IsRoomRefusal n s w core Weight = shard_bound n < total_weight (rows_at core.shards s) + w

@@ -1,4 +1,4 @@
--- What a save of a manager's shards leaves, and what it tells.
+-- What a save of a manager's shards leaves, and what it reports.
 use Rattle.std.specs.Prelude.{◌≡◌, ◌⊎◌, ◌<◌, ◌+◌, ℕ, Bool, true, false, List, [], length, Some, Result, Ok, Err}
 use Rattle.lru_files.specs.Folder.{Files, Call, Outcome, IsSame}
 use Rattle.lru_files.specs.Folder.Call.{Make}
@@ -24,7 +24,7 @@ pub record AreLeft (m : Managed) (n : ℕ) (at temp : ℕ → List ℕ) (old new
   pub each : (i : ℕ) → i < n → ShardLeft (Serializes (rows_at m.shards i)) (old (at i)) (old (temp i)) (new (at i)) (new (temp i)) (outcome_of failed i)
   pub others : OthersStay at temp n old new
 
--- what it is told as that there is no text of the rows, or no name for its file
+-- as what it is reported that there is no text of the rows, or no name for its file
 abbrev pub IsUnwritten : List Tracked → EvictFault → Type 0
 IsUnwritten rows (Memory v) = v.items ≡ []
 IsUnwritten rows (File v) = (v.items ≡ []) × CantBeWritten rows

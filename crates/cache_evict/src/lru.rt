@@ -32,8 +32,8 @@ use std::marker::Model;
 /// Entries in N shards, each most recent first, under a limit on their weight and perhaps on their number. An entry is in the
 /// shard of its hash modulo N.
 ///
-/// With the default hasher it is for entries that the caller chooses itself. For entries that strangers choose the start is to be
-/// random and secret, as a `SecretHasher`: no choice of keys, tags and ids takes it out of the hashes of entries and numbers.
+/// With the default hasher it is for entries that the caller chooses itself. For entries that attackers choose the start is to be
+/// random and secret, as a `SeededState`: no choice of keys, tags and ids takes it out of the hashes of entries and numbers.
 #[derive(Drop)]
 pub struct Manager<const N: usize, S: BuildHasher = BuildHasherDefault<FoldHasher>> {
     tracker: Tracker<N, S>,
@@ -226,7 +226,7 @@ impl<const N: usize, S: BuildHasher> EvictionManager for Manager<N, S> {
     ) -> Result<Vec<CacheEntryKey>, EvictFault> {
         match self.tracker.admit(item, size.max(1)) {
             Ok(()) => {
-                // A usize, so that the sum is known to be below 2^64.
+                // It shows that each shard is within its bound.
                 let _size = self.tracker.total_size();
                 self.tracker.evict_by_draws(alloc, rng)
             }

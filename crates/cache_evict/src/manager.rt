@@ -7,7 +7,7 @@ ghost use Rattle.cache_entries.specs.Entry.{owned_of};
 ghost use Rattle.cache_entries.specs.Rows.{weight_of};
 ghost use Rattle.cache_evict.specs.Faults.{evicted_of, IsPutRefused, StopsAt};
 ghost use Rattle.cache_evict.specs.FileLoads.{LoadsStored};
-ghost use Rattle.cache_evict.specs.Managed.{Managed, Evicts, IsSharded, rows_of, put_first, use_first, taken_out, weight_after, weighed_first, is_over, total_size, total_items};
+ghost use Rattle.cache_evict.specs.Managed.{Managed, Evicts, IsSharded, rows_of, put_first, use_first, taken_out, weight_after, weighed_first, is_over, total_size, total_items, Fits};
 ghost use Rattle.cache_evict.specs.Saves.{AreOldOrWhole, Saves};
 ghost use Rattle.cache_evict.specs.Stored.{Stored, file_at, temp_at};
 ghost use Rattle.lru_files.specs.Folder.{StopsLeave};
@@ -42,7 +42,8 @@ pub trait EvictionManager {
 
     /// Returns the weight of all entries, in the unit of their sizes, as bytes.
     fn total_size(&self) -> usize
-        ensures { result ≡ total_size (managed self.now) };
+        ensures sum { result ≡ total_size (managed self.now) }
+        ensures fits { Fits shard_count (managed self.now) };
 
     /// Returns the number of all entries.
     fn total_items(&self) -> usize
@@ -69,7 +70,7 @@ pub trait EvictionManager {
     ///
     /// `Weight`, `Length`, `NumbersSpent` or `Memory` where the entry isn't put: all is as before. `Memory` too where there is
     /// no memory for the evicted entries: those in the fault are gone, and a limit is still passed. Where the list is empty
-    /// and the entry was not tracked before, `peek` tells which.
+    /// and the entry was not tracked before, `peek` says which.
     fn admit<R: Rng>(
         &mut self,
         alloc: Global,
@@ -80,7 +81,7 @@ pub trait EvictionManager {
     ) -> Result<Vec<CacheEntryKey>, EvictFault>
         ensures ok { IfOk result (λ v. Evicts pick (put_first shard_count item (weighed size) (managed self.old)) v.items (R.stream rng.old) (managed self.new) (R.stream rng.new)) }
         ensures within { OnOk result (is_over (managed self.new) ≡ false) }
-        ensures fits { OnOk result (total_size (put_first shard_count item (weighed size) (managed self.old)) < 2 ^ 64) }
+        ensures fits { OnOk result (Fits shard_count (put_first shard_count item (weighed size) (managed self.old))) }
         ensures refused { IfErr result (λ fault. StopsAt pick shard_count item (weighed size) (managed self.old) (R.stream rng.old) fault (managed self.new) (R.stream rng.new)) };
 
     /// Adds `delta` to the weight of an entry, up to `max_weight` but never down, and moves the entry to the front of its
@@ -99,7 +100,7 @@ pub trait EvictionManager {
     ) -> Result<Vec<CacheEntryKey>, EvictFault>
         ensures ok { IfOk result (λ v. Evicts pick (weighed_first shard_count item.now delta max_weight (managed self.old)) v.items (R.stream rng.old) (managed self.new) (R.stream rng.new)) }
         ensures within { OnOk result (is_over (managed self.new) ≡ false) }
-        ensures fits { OnOk result (total_size (weighed_first shard_count item.now delta max_weight (managed self.old)) < 2 ^ 64) }
+        ensures fits { OnOk result (Fits shard_count (weighed_first shard_count item.now delta max_weight (managed self.old))) }
         ensures refused { let w = weight_after shard_count item.now delta max_weight (managed self.old) in
             IfErr result (λ fault. StopsAt pick shard_count item.now w (managed self.old) (R.stream rng.old) fault (managed self.new) (R.stream rng.new)) };
 
@@ -129,7 +130,7 @@ pub trait EvictionManager {
         ensures { managed self.new ≡ taken_out shard_count (owned_of item.entry) (managed self.old) };
 
     /// Saves the entries of each shard with their weights to a file in `dir`, which is made first. The texts are written under
-    /// temporary names, which the words tell apart; a word is for one save alone. Wherever the save is stopped, each shard's
+    /// temporary names, made distinct by the words; a word is for one save alone. Wherever the save is stopped, each shard's
     /// file is as before or has the whole text. Those that failed are in the report.
     ///
     /// # Errors

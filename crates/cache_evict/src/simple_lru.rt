@@ -27,8 +27,8 @@ use std::marker::Model;
 /// Entries in one list, most recent first, under a limit on their weight and perhaps on their number. Where a limit is passed
 /// the last entry goes, so nothing is drawn.
 ///
-/// With the default hasher it is for entries that the caller chooses itself. For entries that strangers choose the start is to be
-/// random and secret, as a `SecretHasher`: no choice of keys, tags and ids takes it out of the hashes of entries and numbers.
+/// With the default hasher it is for entries that the caller chooses itself. For entries that attackers choose the start is to be
+/// random and secret, as a `SeededState`: no choice of keys, tags and ids takes it out of the hashes of entries and numbers.
 pub type Manager<S = BuildHasherDefault<FoldHasher>> = OneList<1, S>;
 
 /// A `Manager`, whose N is 1.
@@ -187,7 +187,7 @@ impl<const N: usize, S: BuildHasher> EvictionManager for OneList<N, S> {
         if let Err(refusal) = self.tracker.admit(item, size) {
             return Err(EvictFault::of(alloc, refusal));
         }
-        // A usize, so that the sum is known to be below 2^64.
+        // It shows that each shard is within its bound.
         let _size = self.tracker.total_size();
         self.tracker.evict_in_order(alloc)
     }

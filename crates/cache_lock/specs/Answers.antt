@@ -102,7 +102,7 @@ abbrev pub poll_changes : ℕ → Option WaitOutcome → List Change
 poll_changes n (Some Aged) = stores n AgeTimeout ∷ []
 poll_changes n _ = []
 
--- nobody who asks for a lock or waits can tell the states apart: each core is the same, each key has the same core to wait for, and
+-- nobody who asks for a lock or waits can distinguish the states: each core is the same, each key has the same core to wait for, and
 -- each wait ends the same way. The next number may be another, and a core that nobody is to wait for may have left its key
 pub record IsAsBefore (new old : LockState) : Type 0 where
   pub cores : new.cores ≡ old.cores
@@ -111,7 +111,7 @@ pub record IsAsBefore (new old : LockState) : Type 0 where
   pub asked : (key : List ℕ) → to_wait_for key new ≡ to_wait_for key old
   pub outcomes : (n : ℕ) (fills : List UnusableFill) (moment : MomentValue) → wait_outcome n fills moment new ≡ wait_outcome n fills moment old
 
--- what a permit and a read lock tell of their core
+-- what a permit and a read lock report of their core
 abbrev pub is_stale : Option HeldCore → Bool
 is_stale None = false
 is_stale (Some c) = c.core.stale_writer

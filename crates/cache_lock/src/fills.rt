@@ -16,7 +16,7 @@ pub struct UnusableFill {
     pub reason: &'static str,
 }
 
-/// The fills that a reader can't use. Where several of them are published, the reader is told of the one that comes first.
+/// The fills that a reader can't use. Of several that are published, the first in this order is reported.
 #[derive(Clone, Debug, PartialEq, Eq, Drop)]
 pub struct UnusableFills {
     fills: Vec<UnusableFill>,
@@ -70,7 +70,7 @@ pub enum WaitOutcome {
     Abandoned(UnusableFill),
 }
 
-/// How a wait ended, as the one who waited is told.
+/// How a wait ended, as it is reported to the one who waited.
 #[derive(Clone, Copy, Debug, PartialEq, Eq)]
 pub enum LockWaitOutcome {
     /// The response is stored.

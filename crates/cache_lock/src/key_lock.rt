@@ -29,7 +29,7 @@ pub trait CacheKeyLock {
     // The cores, and which one a key has.
     ghost state: { Self → LockState };
 
-    // What readers are told of a custom reason not to keep a response.
+    // What is reported to readers of a custom reason not to keep a response.
     ghost custom: { Self → List ℕ → LockStatus };
 
     /// Returns a read lock of the key's core, unless its status is `Dangling` or `AgeTimeout`, and otherwise the permit, under

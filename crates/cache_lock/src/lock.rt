@@ -21,7 +21,7 @@ mod changes;
 /// number of each key's core.
 ///
 /// Keys are found by their hashes. `new` hashes with a fixed start, for keys that the caller chooses itself;
-/// `with_hasher` takes a start of the caller's, for keys that strangers choose, who then can't slow look-ups down.
+/// `with_hasher` takes a start of the caller's, for keys that attackers choose, who then can't slow look-ups down.
 /// A core goes with the last permit or read lock that names it, so memory is bounded by those that are held.
 #[derive(Debug, Drop)]
 pub struct CacheLock<S: BuildHasher = BuildHasherDefault<FoldHasher>> {

@@ -1,5 +1,5 @@
 -- How the entry of a stored body is admitted to the order of use, and how a refused admission is taken back with the body.
-use Rattle.std.specs.Prelude.{◌≡◌, ℕ, ◌<◌, ◌^◌, max, Bool, true, false, not, ◌||◌, is_some, List, [], ◌∷◌, Option}
+use Rattle.std.specs.Prelude.{◌≡◌, ℕ, max, Bool, true, false, not, ◌||◌, is_some, List, [], ◌∷◌, Option}
 use Rattle.rand_core.specs.Stream.{Stream}
 use Rattle.cache_words.specs.Key.{Key}
 use Rattle.cache_words.specs.declared.key.CompactCacheKey.{CompactCacheKey}
@@ -14,7 +14,7 @@ use Rattle.cache_changes.specs.Store as changes
 use Rattle.cache_evict.specs.declared.fault.EvictFault.{EvictFault}
 use Rattle.cache_evict.specs.declared.fault.EvictFault.TheVariants as evict
 use Rattle.cache_evict.specs.Faults.{StopsAt, evicted_of}
-use Rattle.cache_evict.specs.Managed.{Managed, Evicts, put_first, weight_after, taken_out, rows_of, total_size, is_over}
+use Rattle.cache_evict.specs.Managed.{Managed, Evicts, put_first, weight_after, taken_out, rows_of, is_over, Fits}
 use Rattle.cache_store.specs.declared.storage.PurgeType.{PurgeType}
 use Rattle.cache_store.specs.declared.storage.MissFinishType.{MissFinishType}
 use Rattle.cache_store.specs.declared.storage.MissFinishType.TheVariants.{Created, Appended}
@@ -56,7 +56,7 @@ compact k = record { primary = k.primary; variance = k.variance; user_tag = k.us
 abbrev pub weight_for : ℕ → ℕ
 weight_for weight = max 1 weight
 
--- the weight of an entry in n shards once a finish is told of it: that of its body, or where something was added to the body that much
+-- the weight of an entry in n shards once a finish is reported to it: that of its body, or where something was added to the body that much
 -- more than it weighed
 abbrev pub weight_then : ℕ → (ℕ → ℕ) → MissFinishType → CacheEntryKey → Managed → ℕ
 weight_then n weighed (Created weight) e m = weighed (weight_for weight)
@@ -72,7 +72,7 @@ pub record IsDone (is_stored is_admitted : Bool) (gone : List CacheEntryKey) (do
   pub admitted : done.admitted ≡ is_admitted
   pub evicted : done.evicted.items ≡ gone
 
--- a fault of the order of use, which came after a body was stored, is told as this
+-- a fault of the order of use, which came after a body was stored, is reported as this
 abbrev pub IsTold : Bool → EvictFault → AdmitFault → Type 0
 IsTold admitted (evict.Memory v) (Memory done) = IsDone true admitted v.items done
 IsTold admitted (evict.Weight v) (Weight done) = IsDone true admitted v.items done
@@ -91,19 +91,19 @@ IsWithoutFile (evict.File v) = ⊥
 IsWithoutFile _ = Unit {0}
 
 module _ {S : Type 0} (rules : Rules S) where
-  -- the order of use with that entry first, as a finish tells of it
+  -- the order of use with that entry first, as a finish reports it
   abbrev pub followed : MissFinishType → CacheEntryKey → Managed → Managed
   followed finish e m = put_first rules.shards e (weight_then rules.shards rules.weighed finish e m) m
 
-  -- an entry was admitted as its finish tells, these were evicted, and what is stored of them was purged
+  -- an entry was admitted as its finish reports, these were evicted, and what is stored of them was purged
   pub record IsAdmitted (finish : MissFinishType) (e : CacheEntryKey) (evicted : List CacheEntryKey) (old new : Cache S) : Type 0 where
     pub evicts : Evicts rules.pick (followed finish e old.managed) evicted old.words new.managed new.words
     pub within : is_over new.managed ≡ false
-    pub fits : total_size (followed finish e old.managed) < 2 ^ 64
+    pub fits : Fits rules.shards (followed finish e old.managed)
     pub purged : Purged rules.held rules.ids rules.purged_as evicted old.store new.store
 
   -- an entry was not admitted, or memory ran out in the evictions: what was evicted until then is purged, and then what is
-  -- stored under the entry's key is removed with the entry. `tells` says how the fault is told
+  -- stored under the entry's key is removed with the entry. `tells` says how the fault is reported
   pub record IsTakenBack {F : Type 0} (tells : Bool → EvictFault → F → Type 0) (finish : MissFinishType) (e : CacheEntryKey) (fault : F) (old new : Cache S) : Type 0 where
     pub cause : EvictFault
     pub left : Managed

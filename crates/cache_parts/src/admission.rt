@@ -1,8 +1,8 @@
 //! An entry is admitted to the order of use, what that evicts is purged, and a refused admission is taken back.
 
-ghost use Rattle.std.specs.Prelude.{◌≡◌, ◌<◌, ◌^◌, true, false, IfOk, IfErr, OnOk, MatchResult};
+ghost use Rattle.std.specs.Prelude.{◌≡◌, true, false, IfOk, IfErr, OnOk, MatchResult};
 ghost use Rattle.cache_entries.specs.Entry.{key_of as key_of_entry};
-ghost use Rattle.cache_evict.specs.Managed.{Evicts, put_first, taken_out, total_size, is_over};
+ghost use Rattle.cache_evict.specs.Managed.{Evicts, put_first, taken_out, is_over, Fits};
 ghost use Rattle.cache_evict.specs.Faults.{StopsAt, evicted_of};
 ghost use Rattle.cache_changes.specs.Changes.{stored_key};
 ghost use Rattle.cache_parts.specs.Stored.{Purged, Removed};
@@ -108,7 +108,7 @@ fn follow<E: EvictionManager, R: Rng>(
     ensures ok { let m = E.managed manager.old in
         IfOk result (λ v. Evicts E.pick (put_first E.shard_count entry (weight_then E.shard_count E.weighed finish entry m) m) v.items (R.stream rng.old) (E.managed manager.new) (R.stream rng.new)) }
     ensures within { OnOk result (is_over (E.managed manager.new) ≡ false) }
-    ensures fits { let m = E.managed manager.old in OnOk result (total_size (put_first E.shard_count entry (weight_then E.shard_count E.weighed finish entry m) m) < 2 ^ 64) }
+    ensures fits { let m = E.managed manager.old in OnOk result (Fits E.shard_count (put_first E.shard_count entry (weight_then E.shard_count E.weighed finish entry m) m)) }
     ensures refused { let w = weight_then E.shard_count E.weighed finish entry (E.managed manager.old) in
         IfErr result (λ fault. StopsAt E.pick E.shard_count entry w (E.managed manager.old) (R.stream rng.old) fault (E.managed manager.new) (R.stream rng.new)) }
 {

@@ -1,4 +1,4 @@
--- What is told of a request once it has ended.
+-- What is reported of a request once it has ended.
 use Rattle.std.specs.Prelude.{Option, Some, None, unwrap_or}
 use Rattle.cache_words.specs.Time.{DurationValue, sum_of, greatest}
 use Rattle.cache_phases.specs.declared.digest.HttpCacheDigest.{HttpCacheDigest}

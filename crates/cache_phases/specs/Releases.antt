@@ -13,7 +13,7 @@ use Rattle.cache_lock.specs.Answers.{release_changes, leave_changes}
 use Rattle.cache_phases.specs.declared.request_lock.RequestLock.{RequestLock}
 use Rattle.cache_phases.specs.Locks.{held, holds_permit, lock_left}
 
--- the status that a permit is released with, by what the lock tells of custom reasons. Another request may try where this one
+-- the status that a permit is released with, by what the lock reports of custom reasons. Another request may try where this one
 -- failed, and nobody needs a lock where the response can't be kept. The last four are no reasons of one that holds a permit
 abbrev pub status_for : (List ℕ → LockStatus) → NoCacheReason → Option LockStatus
 status_for custom InternalError = Some TransientError

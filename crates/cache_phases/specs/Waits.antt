@@ -43,7 +43,7 @@ is_over_timeout (Some longest) before waited = at_least waited (difference longe
 abbrev pub is_over : RequestLock → HttpCacheDigest → MomentValue → Bool
 is_over r d moment = is_over_timeout (timeout_of r) d.lock_duration (time_waited r moment)
 
--- what is told of a permit that has ended, by its status
+-- what is reported of a permit that has ended, by its status
 abbrev pub released_as : LockStatus → LockWaitOutcome
 released_as status.Waiting = Dangling
 released_as status.Done = Done
@@ -53,13 +53,13 @@ released_as status.Dangling = Dangling
 released_as status.WaitTimeout = WaitTimeout
 released_as status.AgeTimeout = AgeTimeout
 
--- what is told of what a poll found
+-- what is reported of what a poll found
 abbrev pub ended_as : LockStatus → WaitOutcome → LockWaitOutcome
 ended_as status poll.Released = released_as status
 ended_as status poll.AgeTimeout = AgeTimeout
 ended_as status (poll.Abandoned fill) = Abandoned (Custom fill.reason) fill.token
 
--- what is told of a poll, by the core's status, and by whether the longest wait is over: that comes last
+-- what is reported of a poll, by the core's status, and by whether the longest wait is over: that comes last
 abbrev pub told : LockStatus → Bool → Option WaitOutcome → Option LockWaitOutcome
 told status over (Some found) = Some (ended_as status found)
 told status true None = Some WaitTimeout
@@ -69,7 +69,7 @@ told status false None = None
 abbrev pub found_by : RequestLock → List UnusableFill → MomentValue → LockState → Option WaitOutcome
 found_by r fills moment s = wait_outcome (waited_core r) fills moment s
 
--- what the request is told
+-- what is reported to the request
 abbrev pub wait_told : RequestLock → HttpCacheDigest → List UnusableFill → MomentValue → LockState → Option LockWaitOutcome
 wait_told r d fills moment s = told (status_of (waited_core r) s) (is_over r d moment) (found_by r fills moment s)
 

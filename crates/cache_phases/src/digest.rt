@@ -1,4 +1,4 @@
-//! What is told of a request once it has ended.
+//! What is reported of a request once it has ended.
 ghost use Rattle.std.specs.Prelude.{◌≡◌};
 ghost use Rattle.cache_phases.specs.Digests.{added, empty_digest};
 
@@ -15,7 +15,7 @@ pub struct LockAbandon {
     pub token: u64,
 }
 
-/// What is told of a request once it has ended.
+/// What is reported of a request once it has ended.
 #[derive(Clone, Copy, Debug, PartialEq, Eq)]
 pub struct HttpCacheDigest {
     /// How long it waited for permits, if it did.

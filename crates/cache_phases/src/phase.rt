@@ -145,7 +145,7 @@ impl CachePhase {
         matches!(self, CachePhase::CacheKey)
     }
 
-    /// Whether a look-up is allowed, and what it found may be told.
+    /// Whether a look-up is allowed, and what it found may be reported.
     pub fn can_look_up(self) -> bool
         ensures { result ≡ can_look_up self }
     {

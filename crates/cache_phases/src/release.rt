@@ -23,7 +23,7 @@ pub fn is_permit_reason(reason: NoCacheReason) -> bool
     )
 }
 
-/// Returns the status that a permit is released with for that reason; of a custom one the lock tells it. `None` where no permit may end
+/// Returns the status that a permit is released with for that reason; for a custom one the lock gives it. `None` where no permit may end
 /// for it.
 pub fn status_for<L: CacheKeyLock>(lock: &L, reason: NoCacheReason) -> Option<LockStatus>
     ensures status { result ≡ status_for (L.custom lock.now) reason }

@@ -14,7 +14,7 @@ use cache_lock::{
 use cache_store::trace::Span;
 use cache_words::time::{Duration, Moment};
 
-// What is told of a permit that has ended.
+// What is reported of a permit that has ended.
 fn released_as(status: LockStatus) -> LockWaitOutcome
     ensures { result ≡ released_as status }
 {
@@ -28,7 +28,7 @@ fn released_as(status: LockStatus) -> LockWaitOutcome
     }
 }
 
-// What is told of what a poll found, by the core's status.
+// What is reported of what a poll found, by the core's status.
 fn ended_as(status: LockStatus, found: WaitOutcome) -> LockWaitOutcome
     ensures { result ≡ ended_as status found }
 {
@@ -52,7 +52,7 @@ fn status_of<L: CacheKeyLock>(lock: &L, number: u64) -> LockStatus
     }
 }
 
-// Polls a read lock, tells what came of it, and the lock's trace of an outcome.
+// Polls a read lock, reports what came of it, and the lock's trace of an outcome.
 fn poll<L: CacheKeyLock>(
     lock: &mut L,
     read: &ReadLock,
@@ -106,7 +106,7 @@ impl RequestLock {
         }
     }
 
-    /// Returns how the wait for a permit ended, the first that holds: the permit has ended, which is told by its status; it is past its
+    /// Returns how the wait for a permit ended, the first that holds: the permit has ended, as its status says; it is past its
     /// age; its writer published a fill that the request can't use; the wait is at least as long as the longest one, less what the
     /// digest says was waited before. `None` while the wait goes on. A wait counts from its first poll; moments may come in any order.
     ///

@@ -7,13 +7,13 @@ use cache_heads::NoCacheReason;
 use cache_words::key::CacheKey;
 use std::alloc::AllocError;
 
-/// Predicts which responses are kept, by what was marked. Keys are told apart by the hash of what is requested: by what
+/// Predicts which responses are kept, by what was marked. Keys are distinguished by the hash of what is requested: by what
 /// a response varies isn't known before a look-up.
 pub trait CacheablePredictor {
     // The reason for which a key is marked as not kept, if it is.
     ghost reason_of: { Self → List ℕ → Option NoCacheReason };
 
-    // The reason that the predictor tells of a key.
+    // The reason that the predictor gives for a key.
     ghost tells: { Self → List ℕ → Option NoCacheReason };
 
     // Whether such a reason is remembered.
@@ -29,8 +29,8 @@ pub trait CacheablePredictor {
     fn cacheable_prediction(&self, key: &CacheKey) -> bool
         ensures { result ≡ is_none (reason_of self.now (key_of key.now).primary) };
 
-    /// Returns the reason that the predictor tells of the key: the one for which it is marked as not kept, or none. A predictor that
-    /// tells no reasons returns `None`, which the original's trait has as its default.
+    /// Returns the reason that the predictor gives for the key: the one for which it is marked as not kept, or none. A predictor that
+    /// gives no reasons returns `None`, which the original's trait has as its default.
     fn predicted_uncacheable_reason(&self, key: &CacheKey) -> Option<NoCacheReason>
         ensures answer { result ≡ tells self.now (key_of key.now).primary }
         ensures told { IfSome result (λ r. reason_of self.now (key_of key.now).primary ≡ Some r) };

@@ -1,10 +1,21 @@
-//! Which keys answered a response lately that is not kept.
+//! Which keys lately had a response that is not kept, and tables for threads: N shards, each under a lock of its own, where key k is in
+//! shard k modulo N.
+//!
+//! A shard's lock gives the shard as the last holder left it. Nothing is claimed of what a shard holds at the next lock: other
+//! threads may have changed it.
 #![tactic(auto)]
 
+mod hash_table;
 mod key_predictor;
+mod lru_cache;
+mod lru_shard;
 mod predictor;
+mod shards;
 mod skipped;
 
+pub use hash_table::ConcurrentHashTable;
 pub use key_predictor::CacheablePredictor;
+pub use lru_cache::ConcurrentLruCache;
+pub use lru_shard::LruShard;
 pub use predictor::Predictor;
 pub use skipped::{CustomReasonPredicate, NothingSkipped};

@@ -14,11 +14,11 @@ use std::hash::{BuildHasher, BuildHasherDefault, FoldHasher};
 use std::marker::Model;
 use std::num::NonZeroUsize;
 
-/// Remembers for which keys a response came lately that may not be stored, and why. A contract sees N lists of keys with reasons. Each
+/// Remembers which keys lately had a response that may not be stored, and why. A contract sees N lists of keys with reasons. Each
 /// list has a bounded length, and begins with the key that was marked last.
 ///
 /// Keys are found by their hashes. `new` hashes with a fixed start, for keys that the caller chooses itself; `with_hasher`
-/// takes a start of the caller's, for keys that strangers choose, who then can't slow look-ups down.
+/// takes a start of the caller's, for keys that attackers choose, who then can't slow look-ups down.
 #[derive(Drop)]
 pub struct Predictor<
     const N: usize,

@@ -221,7 +221,7 @@ module _ {H : Type 0} (number : H → ℕ) (told : Stored CacheMeta → MissFini
             ∙ ap (λ (n : ℕ). left_with n bytes h2.readings) (f.same ∙ b.1.number) ∙ ap (λ (h : Held). left_with h0.next bytes h.readings) (in-flight f);
       }
 
-  -- what is told of it
+  -- what is reported of it
   pub told-of : IsFilled → (finish : MissFinishType) → MissAnswer number told (alive_key (flying_at (number m2) h2.store)) (number m2) h2 (Ok finish) h3 → finish ≡ told (whole_of key meta bytes h0)
   told-of f finish a =
       let end = finished-by (alive_key (flying_at (number m2) h2.store)) (number m2) finish a in

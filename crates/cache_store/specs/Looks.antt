@@ -46,12 +46,12 @@ abbrev pub TagAnswer : {H : Type 0} → (H → Reader) → Option ℕ → Option
 TagAnswer reader None look old r new = LookAnswer reader look old r new
 TagAnswer reader (Some n) look old r new = StreamAnswer reader look old r new
 
--- what a reader tells of a finished body that was found: what the body weighs, and the id that is stored under the key
+-- what a reader reports of a finished body that was found: what the body weighs, and the id that is stored under the key
 abbrev pub Tells : {H : Type 0} → (H → ℕ) → (H → Option CacheEntryId) → (Stored CacheMeta → ℕ) → Option CacheEntryId → Option Look → Result (Option (CacheMeta × H)) StoreFault → Type 0
 Tells weight id weigh stored (Some (finished x)) (Ok (Some found)) = (weight found.1 ≡ weigh x) × (id found.1 ≡ stored)
 Tells weight id weigh stored _ _ = ⊤
 
--- what is found, as it is told at a moment: of a fresh response only how long it is fresh
+-- what is found, as it is reported at a moment: of a fresh response only how long it is fresh
 abbrev pub told_at : {H : Type 0} → MomentValue → CacheMeta × H → FoundAt H
 told_at moment found =
     if is_fresh_at found.0.internal.fresh_until moment then Fresh found.0.internal.fresh_until found.1 else Stale found.0 found.1
@@ -60,7 +60,7 @@ abbrev pub answer_at : {H : Type 0} → MomentValue → Result (Option (CacheMet
 answer_at moment (Ok found) = Ok (option_map (told_at moment) found)
 answer_at moment (Err f) = Err f
 
--- what a look-up at a moment answers: what a look-up would, as that is told at the moment
+-- what a look-up at a moment answers: what a look-up would, as that is reported at the moment
 abbrev pub LookAtAnswer : {H : Type 0} → (H → Reader) → (H → ℕ) → (H → Option CacheEntryId) → (Stored CacheMeta → ℕ) → Option CacheEntryId → MomentValue → Option Look → Held → Result (Option (FoundAt H)) StoreFault → Held → Type 0
 LookAtAnswer {H} reader weight id weigh stored moment look old r new =
     (found : Result (Option (CacheMeta × H)) StoreFault) × LookAnswer reader look old found new × Tells weight id weigh stored look found × (r ≡ answer_at moment found)

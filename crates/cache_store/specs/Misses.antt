@@ -41,8 +41,8 @@ abbrev pub IsAlike : {H : Type 0} → (H → Option CacheEntryId) → (H → Opt
 IsAlike id tag before (Memory h) = (id h ≡ id before) × (tag h ≡ tag before)
 IsAlike id tag before WriteRemoved = ⊤
 
--- the answer to the end of the write n, by the key of the write where no removal met it: its body is stored, which is told as
--- its store tells of it, or, out of memory, the writer is handed back and nothing has changed. A write that was removed, or isn't there, is given up
+-- the answer to the end of the write n, by the key of the write where no removal met it: its body is stored, which is reported as
+-- its store reports of it, or, out of memory, the writer is handed back and nothing has changed. A write that was removed, or isn't there, is given up
 abbrev pub MissAnswer : {H : Type 0} → (H → ℕ) → (Stored CacheMeta → MissFinishType) → Option StoredKey → ℕ → Held → Result MissFinishType (MissFault H) → Held → Type 0
 MissAnswer number told None n old r new = (r ≡ Err WriteRemoved) × (new ≡ left n old)
 MissAnswer number told (Some k) n old r new = MatchResult r (λ finish. (x : Stored CacheMeta) × (finish ≡ told x) × IsFinished n x old new) (λ fault. IsHandedBack number n fault × (new ≡ old))

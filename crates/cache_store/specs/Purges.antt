@@ -27,7 +27,7 @@ abbrev pub id_at : (StoredKey → Option CacheEntryId) → Option StoredKey → 
 id_at ids None = None
 id_at ids (Some k) = ids k
 
--- what is stored under a key is removed, where anything is found, and its id is told
+-- what is stored under a key is removed, where anything is found, and its id is reported
 abbrev pub PurgeAnswer : Option StoredKey → Option CacheEntryId → Held → PurgeOutcome → Held → Type 0
 PurgeAnswer None id old outcome new = (outcome ≡ NotFound) × (new ≡ old)
 PurgeAnswer (Some k) id old outcome new =

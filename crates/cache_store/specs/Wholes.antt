@@ -18,7 +18,7 @@ abbrev pub with_whole : StoredKey → CacheMeta → List ℕ → Held → Store 
 with_whole k meta bytes h =
     record h.store { bodies = with_body (Some (whole_of k meta bytes h)) h.store.bodies }
 
--- a body was stored whole, by a write that took the next number; `spent` tells whether none is left
+-- a body was stored whole, by a write that took the next number; `spent` says whether none is left
 pub record Stores (spent : Bool) (k : StoredKey) (meta : CacheMeta) (bytes : List ℕ) (old new : Held) : Type 0 where
   pub numbered : spent ≡ false
   pub written : IsWritable meta.internal

@@ -13,8 +13,8 @@ ghost use Rattle.cache_store.specs.Misses.{IsBegun};
 ghost use Rattle.cache_store.specs.Readers.{readable, reading_at, IsJoined, IsParted, SameHeld};
 ghost use Rattle.cache_store.specs.Renewals.{IsRenewed};
 
-/// States that agree do so after each change. So a store that agrees with what changes left, and then does a change, agrees
-/// with what all of them leave.
+/// States that agree still agree after a change, and agreement is transitive. So a store that agrees with a state, and makes a
+/// change, agrees with the state after that change.
 pub fn changes_keep_agreement<M>()
     ensures next { (c : Change M) (s t : Store M) → Agree s t → Agree (after c s) (after c t) }
     ensures joined { (r s t : Store M) → Agree r s → Agree s t → Agree r t }

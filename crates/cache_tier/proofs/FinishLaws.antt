@@ -55,7 +55,7 @@ use Rattle.cache_tier.proofs.TookLaws.{insert-same}
 
 -- ---- refusals after a body was stored
 
--- a fault of the order of use is told with what was done
+-- a fault of the order of use is reported with what was done
 told-finish : (a : Bool) (cause : EvictFault) (fault : FinishFault) → IsToldAs a cause fault → told_as fault ≡ fault_for cause (record { stored = true; admitted = a; evicted = evicted_of cause })
 told-finish a (evict.Memory v) (finish.Memory d) t = ap (λ (x : Done). tier.Memory x) (done-is a v.items d t)
 told-finish a (evict.Memory v) _ t = absurd t

@@ -9,7 +9,7 @@ use Rattle.cache_entries.specs.declared.entry.CacheEntryKey.{CacheEntryKey}
 use Rattle.cache_evict.specs.declared.fault.EvictFault.{EvictFault}
 use Rattle.cache_evict.specs.declared.fault.EvictFault.TheVariants as evict
 use Rattle.cache_evict.specs.Faults.{IsPutRefused}
-use Rattle.cache_evict.specs.Managed.{Managed, rows_of, use_first, total_size, IsSharded, IsHeavy, IsLong, IsFull}
+use Rattle.cache_evict.specs.Managed.{Managed, rows_of, use_first, Fits, IsSharded, IsHeavy, IsLong, IsFull}
 use Rattle.cache_lock.specs.Changes.{Change}
 use Rattle.cache_lock.specs.State.{LockState, after_all}
 use Rattle.tier_model.specs.declared.state.Body.{Body}
@@ -24,7 +24,7 @@ use Rattle.tier_model.specs.Rows.{weight_for}
 use Rattle.tier_model.specs.Shelf.{Shelf, Look, absent, in_flight, finished, is_there}
 use Rattle.tier_model.specs.State.{Request, State, shards_of}
 use Rattle.tier_model.specs.Checks.{refusal, unless_open, look_refusal}
-use Rattle.tier_model.specs.Answers.{look_for, asks_now, lock_given, look_answer, used, Fits}
+use Rattle.tier_model.specs.Answers.{look_for, asks_now, lock_given, look_answer, used}
 use Rattle.tier_model.specs.Step.{AllowsBy, Allows, AsksLock, UseFits, IsDue, IsUseFault, IsLockFault, OfRequest}
 use Rattle.tier_model.specs.After.{by_request, turned, reader_of, looked, given_changes, back_changes, managed_after, after_look, counted, counted_if, with_counts, lock_changes, lock_changes_in, after}
 use Rattle.tier_requests.specs.Faults.{out_of_memory, fault_for}
@@ -132,10 +132,10 @@ module _ (s : State) (t : MomentValue) (id : ℕ) where
       used_same (finished b) =
           ap (λ (w : ℕ). use_first n q.entry w s.managed) (weighs_same (length b.bytes)) ∙ ap (λ (x : ℕ). use_first x q.entry (weight_for b) s.managed) (sym k.count)
 
-      use_fits : (l : Look) → total_size (used_by n least_one q l s.managed) < 2 ^ 64 → UseFits s q l
-      use_fits absent small = tt
-      use_fits (in_flight f) small = tt
-      use_fits (finished b) small = subst (λ (m : Managed). total_size m < 2 ^ 64) (used_same (finished b)) small
+      use_fits : (l : Look) → Fits n (used_by n least_one q l s.managed) → UseFits s q l
+      use_fits absent fits = tt
+      use_fits (in_flight f) fits = tt
+      use_fits (finished b) fits = subst (λ (x : ℕ). Fits x (used s q.entry b)) (sym k.count) (subst (Fits n) (used_same (finished b)) fits)
 
       use_fault : (l : Look) (f : TierFault) → UseRefused n least_one q l s.managed f → ((f ≡ Memory nothing_done) × (is_there l ≡ true)) ⊎ IsUseFault s q l f
       use_fault absent f p = absurd p
@@ -165,17 +165,17 @@ module _ (s : State) (t : MomentValue) (id : ℕ) where
         ]
       ]
 
-  -- a look-up of a request that is open or isn't, in n shards, where all weights can still be counted
+  -- a look-up of a request that is open or isn't, in n shards, each of which is still within its bound
   module _ (n : ℕ) (k : IsSharded n s.managed) where
     abbrev before : Lent
     before = lent s.shelf s.managed s.lock
 
-    answered_look : (q left : Request) (a : Answer) (after : Lent) → get s.requests id ≡ Some q → look_refusal q ≡ None → total_size after.managed < 2 ^ 64
+    answered_look : (q left : Request) (a : Answer) (after : Lent) → get s.requests id ≡ Some q → look_refusal q ≡ None → Fits n after.managed
         → LooksBy n least_one t q (look_for q s.shelf) before (Ok a) left after → Took s t (LookUp id) (Ok a) (looked_to (insert s.requests id left) after (found_after (Ok a) s.found) (absent_after (Ok a) s.absent))
     answered_look q left a after there passes small p =
         let l = look_for q s.shelf in
         let g = lock_given t q l s.lock in
-        let fits : UseFits s q l = use_fits q there passes n k l (subst (λ (x : Lent). total_size x.managed < 2 ^ 64) p.2 small) in
+        let fits : UseFits s q l = use_fits q there passes n k l (subst (λ (x : Lent). Fits n x.managed) p.2 small) in
         rw (p.2, p.1, p.0, found_counts t g l s.found, absent_counts t g l s.absent, used_same q there passes n k l) (Took-looked q there passes fits)
 
     refused_look : (q left : Request) (f : TierFault) (after : Lent) → get s.requests id ≡ Some q → look_refusal q ≡ None
@@ -184,7 +184,7 @@ module _ (s : State) (t : MomentValue) (id : ℕ) where
         let is : after ≡ lent s.shelf s.managed after.lock = λ i. record { shelf = p.2 i; managed = p.3 i; lock = after.lock } in
         rw (is, p.1, insert-same s.requests id q there) (Took-look-fault q there passes f (why_of q there passes n k f p.0) after.lock p.4)
 
-    pub Took-look : (o : Outcome) (requests : FinMap nat_cmp Request) (after : Lent) → total_size after.managed < 2 ^ 64
+    pub Took-look : (o : Outcome) (requests : FinMap nat_cmp Request) (after : Lent) → Fits n after.managed
         → OnOpen id s.requests ((o ≡ Err NoRequest) × (after ≡ before)) (λ q left. LookAnswer n least_one t q before o left after) requests
         → Took s t (LookUp id) o (looked_to requests after (found_after o s.found) (absent_after o s.absent))
     Took-look o requests after small h = by_open (get s.requests id) refl h

@@ -124,7 +124,7 @@ nothing-was d i = λ j. record { stored = i.stored j; admitted = i.admitted j; e
 pub done-is : (a : Bool) (es : List CacheEntryKey) (d : PutDone) → IsDone true a es d → done_as d ≡ record { stored = true; admitted = a; evicted = es }
 done-is a es d i = λ j. record { stored = i.stored j; admitted = i.admitted j; evicted = i.evicted j }
 
--- it is told with what was done
+-- it is reported with what was done
 pub told-so : (a : Bool) (cause : EvictFault) (fault : PutFault) (f : TierFault) → IsTold a cause fault → IsToldAs fault f → f ≡ fault_for cause (record { stored = true; admitted = a; evicted = evicted_of cause })
 told-so a (evict.Memory v) (put.Memory d) f t e = e ∙ ap (λ (x : Done). tier.Memory x) (done-is a v.items d t)
 told-so a (evict.Memory v) _ f t e = absurd t

@@ -54,7 +54,7 @@ module _ (s : State) (st : Stream) (t : MomentValue) (key : CacheKeyValue) (piec
   then_is w (Ok a) = after_put s (body_in w) a
   then_is w (Err f) = undone s (body_in w) (done_of f)
 
-  -- what is told of a response that gives that, by whether a write began
+  -- what is reported of a response that gives that, by whether a write began
   record ByWhole (w : Whole) (began : Bool) (o : Outcome) (new : State) (rest : Stream) : Type 0 where
     outcome : IsOutcome w o
     begins : BeginsWrite s (cond (is_some (body_in w)) true false) (cond (is_some (body_in w)) (has_stored o) (is_begun o)) began

@@ -19,7 +19,7 @@ use Rattle.tier_requests.specs.Rows.{ReadAnswer, OnOpen}
 use Rattle.cache_tier.specs.Acts.{Took}
 use Rattle.cache_tier.proofs.TookLaws.{insert-same, plain_call, Took-refused}
 
--- a read tells of no write
+-- a read reports of no write
 next_begins : (bytes : List ℕ) (over : Bool) → is_begun (Ok (next_by bytes over)) ≡ false
 next_begins [] true = refl
 next_begins [] false = refl

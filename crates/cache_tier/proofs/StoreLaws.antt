@@ -10,7 +10,7 @@ use Rattle.cache_changes.specs.Changes.{stored_key}
 use Rattle.cache_evict.specs.declared.fault.EvictFault.{EvictFault}
 use Rattle.cache_evict.specs.declared.fault.EvictFault.TheVariants as evict
 use Rattle.cache_evict.specs.Faults.{evicted_of, IsPutRefused, StopsAt, IsMemory}
-use Rattle.cache_evict.specs.Managed.{Managed, Evicts, rows_of, put_first, taken_out, pick_by_draws, is_over, total_size, IsHeavy, IsLong, IsFull, HasNoOtherReason, IsSharded}
+use Rattle.cache_evict.specs.Managed.{Managed, Evicts, rows_of, put_first, taken_out, pick_by_draws, is_over, Fits, IsHeavy, IsLong, IsFull, HasNoOtherReason, IsSharded}
 use Rattle.cache_parts.specs.Admissions.{was_admitted, is_empty}
 use Rattle.tier_model.specs.Keys.{alone}
 use Rattle.tier_model.specs.declared.event.Done.{Done}
@@ -23,7 +23,7 @@ use Rattle.tier_model.specs.Rows.{Bodies, FinishedBody, body_of, with_body, with
 use Rattle.tier_model.specs.Shelf as shelf
 use Rattle.tier_model.specs.Shelf.{Shelf, stored, removed}
 use Rattle.tier_model.specs.State.{State, shards_of}
-use Rattle.tier_model.specs.Answers.{admitted, Fits, IsStored, IsKeptOut, IsStoreFault, stored_alone, all_done}
+use Rattle.tier_model.specs.Answers.{admitted, IsStored, IsKeptOut, IsStoreFault, stored_alone, all_done}
 use Rattle.tier_model.specs.After.{after_put, until, taken_back}
 use Rattle.tier_model.proofs.BodyLaws.{has_key, body_of-with, body_of-without, body_of-without_all}
 use Rattle.tier_model.proofs.OpenLaws.{kept_out-done}
@@ -48,17 +48,17 @@ pub record StoresOver (old : State) (s : Stream) (b : FinishedBody) (outcome : O
 
 -- what the manager evicted after the admission of a body, and left
 pub record HasEvicted (n : ℕ) (s : State) (b : FinishedBody) (over : Bool) (es : List CacheEntryKey) (m : Managed) (st rest : Stream) : Type 0 where
-  pub fits : Fits (admitted s b)
+  pub fits : Fits (shards_of s) (admitted s b)
   pub turns : GoInTurn (shards_of s) over es (admitted s b)
   pub left : m ≡ all_gone (shards_of s) es (admitted s b)
   pub drawn : Evicts (pick_by_draws (shards_of s)) (admitted s b) es st m rest
   pub kept : IsSharded n m
 
 pub has_evicted : (n w : ℕ) (s : State) (b : FinishedBody) (over : Bool) (es : List CacheEntryKey) (m : Managed) (st rest : Stream) → IsSharded n s.managed → w ≡ weight_for b.body
-    → total_size (put_first n (alone b.entry) w s.managed) < 2 ^ 64 → Evicts (pick_by_draws n) (put_first n (alone b.entry) w s.managed) es st m rest → is_over m ≡ over → HasEvicted n s b over es m st rest
+    → Fits n (put_first n (alone b.entry) w s.managed) → Evicts (pick_by_draws n) (put_first n (alone b.entry) w s.managed) es st m rest → is_over m ≡ over → HasEvicted n s b over es m st rest
 has_evicted n w s b over es m st rest k weighs fits went ends =
     let N = shards_of s in
-    let turn : (x v : ℕ) → Type 0 = λ x v. (total_size (put_first x (alone b.entry) v s.managed) < 2 ^ 64) × Evicts (pick_by_draws x) (put_first x (alone b.entry) v s.managed) es st m rest in
+    let turn : (x v : ℕ) → Type 0 = λ x v. Fits x (put_first x (alone b.entry) v s.managed) × Evicts (pick_by_draws x) (put_first x (alone b.entry) v s.managed) es st m rest in
     let here : turn N (weight_for b.body) = subst (λ (v : ℕ). turn N v) weighs (subst (λ (x : ℕ). turn x w) (sym k.count) (fits, went)) in
     let kept : IsSharded N s.managed = subst (λ (x : ℕ). IsSharded x s.managed) (sym k.count) k in
     let all : Went N over es (admitted s b) m = evicts-went (pick_by_draws N) N over es (admitted s b) m st rest (kept-put N s.managed kept (alone b.entry) (weight_for b.body)) here.1 ends in
@@ -115,7 +115,7 @@ module _ (n w : ℕ) (s : State) (b : FinishedBody) (k : IsSharded n s.managed) 
   heavy_here : (fault : ℕ → ℕ → Type 0) → fault n w → fault (shards_of s) (weight_for b.body)
   heavy_here fault p = subst (λ (v : ℕ). fault (shards_of s) v) weighs (subst (λ (x : ℕ). fault x w) (sym k.count) p)
 
-  -- what a fault of the order of use is told as, that left the order of use so
+  -- what a fault of the order of use is reported as, that left the order of use so
   abbrev pub told_of : EvictFault → Managed → TierFault
   told_of cause m = fault_for cause (record { stored = true; admitted = was_admitted n (alone b.entry) cause m; evicted = evicted_of cause })
 

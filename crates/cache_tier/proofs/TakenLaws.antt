@@ -59,7 +59,7 @@ module _ (n : ℕ) (s : State) (t : MomentValue) (key : CacheKeyValue) (pieces :
     pub tellable : IfErr r IsTellable
     pub takes : (o : Outcome) → IsToldOf r o → Steps old c0.words t key pieces o (with_cache s c) c.words
 
-  -- with one outcome, which the tier tells
+  -- with one outcome, which the tier reports
   told_one : (fault : PutFault) (g : TierFault) (c : Cache Held) → ((f : TierFault) → IsToldAs fault f → f ≡ g) → Steps old c0.words t key pieces (Err g) (with_cache s c) c.words
       → (o : Outcome) → IsToldOf (Err fault) o → Steps old c0.words t key pieces o (with_cache s c) c.words
   told_one fault g c same takes o told =

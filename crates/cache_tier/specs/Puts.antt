@@ -1,4 +1,4 @@
--- Which responses the tier keeps, and what it tells of a put.
+-- Which responses the tier keeps, and what it reports of a put.
 use Rattle.std.specs.Prelude.{◌≡◌, ℕ, Option, None, Result, Ok, Err, ◌||◌, if◌then◌else◌}
 use Rattle.cache_words.specs.Time.{MomentValue, DurationValue}
 use Rattle.cache_headers.specs.declared.header.ResponseHeader.{ResponseHeader}
@@ -39,7 +39,7 @@ since_epoch arrival (verdict.Cacheable meta) =
 abbrev pub kept_by : MomentValue → ResponseHeader → RespCacheable
 kept_by arrival header = since_epoch arrival (verdict_by_headers arrival header never no_defaults)
 
--- what a put did, as the tier tells it
+-- what a put did, as the tier reports it
 abbrev pub done_as : PutDone → Done
 done_as done = record { stored = done.stored; admitted = done.admitted; evicted = done.evicted.items }
 
@@ -49,7 +49,7 @@ answer_as (Stored size evicted) = Ok (answer.Finished size evicted.items)
 answer_as (Uncacheable StorageError) = Err fault.BeforeEpoch
 answer_as (Uncacheable reason) = Ok (answer.Uncacheable reason)
 
--- what the tier tells of a put's refusal. It knows no size limit, and has looked at 1970 before the store does
+-- what the tier reports of a put's refusal. It knows no size limit, and has looked at 1970 before the store does
 abbrev pub IsToldAs : PutFault → TierFault → Type 0
 IsToldAs put.BadHead f = f ≡ fault.BadHead
 IsToldAs put.Incomplete f = f ≡ fault.Incomplete

@@ -1,4 +1,4 @@
--- What a tier tells of the files of its order of use.
+-- What a tier reports of the files of its order of use.
 use Rattle.std.specs.Prelude.{◌≡◌, ℕ, List, Result, Ok, Err}
 use Rattle.std.specs.FinMap.{len}
 use Rattle.lru_files.specs.Folder.{Files, Call, Outcome}
@@ -24,7 +24,7 @@ pub record IsUnused (stored : Bodies) (m : Managed) (locks : LockState) : Type 0
   pub evicted_size : m.evicted_size ≡ 0
   pub evicted_items : m.evicted_items ≡ 0
 
--- what the tier tells of what came of the files: a fault of the folder is `Folder`, and for memory nothing was done to an entry
+-- what the tier reports of what came of the files: a fault of the folder is `Folder`, and for memory nothing was done to an entry
 abbrev pub IsToldOfFiles : {X : Type 0} → Result X EvictFault → Result X TierFault → Type 0
 IsToldOfFiles (Ok report) result = result ≡ Ok report
 IsToldOfFiles (Err fault) result = result ≡ Err (fault_for fault nothing_done)

@@ -18,7 +18,7 @@ use tier_requests::faults::out_of_memory;
 #[derive(Drop)]
 pub(crate) struct ByLines;
 
-// What is told of a response that came before 1970, or is fresh only before it: that is known before the store is asked, which
+// What is reported of a response that came before 1970, or is fresh only before it: that is known before the store is asked, which
 // could not write such a moment either.
 fn since_epoch(arrival: Moment, verdict: RespCacheable) -> RespCacheable
     ensures { result ≡ since_epoch arrival verdict }

@@ -41,7 +41,7 @@ use tier_requests::{Requests, TierParts};
 /// A cache tier over N shards.
 ///
 /// With the default hasher it is for keys and request numbers that the caller chooses itself; with one whose start the caller takes
-/// at random, strangers can't choose some whose look-up among the tracked entries, the bodies or the open requests is slow.
+/// at random, attackers can't choose some whose look-up among the tracked entries, the bodies or the open requests is slow.
 ///
 /// A dropped tier ends its requests.
 pub struct Tier<const N: usize, S: BuildHasher = BuildHasherDefault<FoldHasher>> {

@@ -29,7 +29,7 @@ key_of k = record {
   user_tag = k.user_tag;
 }
 
--- the hash that tells variants apart too: without a variance the primary one, else that of both. The tag is not in it
+-- the hash that distinguishes variants too: without a variance the primary one, else that of both. The tag is not in it
 abbrev pub combined_of : List ℕ → Option (List ℕ) → List ℕ
 combined_of primary None = primary
 combined_of primary (Some variance) = blake2b_128 (primary ++ variance)

@@ -1,4 +1,4 @@
--- The greatest load of an entry since it was last asked for: it tells under which limits the entry is held.
+-- The greatest load of an entry since it was last asked for: it says under which limits the entry is held.
 use Rattle.std.specs.Prelude.{ℕ, ◌+◌, max, Bool, false, not, if◌then◌else◌, List, [], ◌∷◌, length, Option, Some, None, option_map}
 use Rattle.cache_entries.specs.declared.entry.CacheEntryKey.{CacheEntryKey}
 use Rattle.cache_entries.specs.declared.rows.Tracked.{Tracked}

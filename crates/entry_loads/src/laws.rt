@@ -62,7 +62,7 @@ pub fn asks_of_what_is_held_evict_nothing()
         → held weight limit watermark (asks e ∷ asks e ∷ steps) ≡ held weight limit watermark (asks e ∷ steps) }
 {}
 
-/// The greatest load that an entry had since it was last asked for tells under which limits it is held. No limit is in it, so one
+/// The greatest load that an entry had since it was last asked for says under which limits it is held. No limit is in it, so one
 /// pass over the steps counts the finds of all limits.
 pub fn peaks_count_the_finds()
     ensures held { (weight : CacheEntryKey → ℕ) (limit : ℕ) (watermark : Option ℕ) (e : CacheEntryKey) (steps : List Step)

@@ -1,4 +1,4 @@
-//! What a cache of one list finds, told by its requests alone: the ground of capacity planning.
+//! What a cache of one list finds, by its requests alone: the ground of capacity planning.
 //!
 //! The **load** of an entry is the entry itself and all entries asked for since it was last, each once, without those removed since
 //! they were last asked for. It is counted by weight and by number, and no limit is in it.
@@ -11,7 +11,7 @@
 //! with the same weights, and then some more. A request that finds its entry in a cache finds it in each greater one, and a greater
 //! limit loses nothing (`laws::lesser_lists_are_fronts`). Neither holds of several shards, nor where the weight of an entry changes.
 //!
-//! It is for those who choose a limit: one pass over a trace tells the finds of all limits, by the greatest load that each entry
+//! It is for those who choose a limit: one pass over a trace gives the finds of all limits, by the greatest load that each entry
 //! had since it was last asked for (`laws::peaks_count_the_finds`).
 #![tactic(auto)]
 

@@ -31,7 +31,7 @@ use table::{move_place, put_entry, put_place, room_for, take_place};
 /// number.
 ///
 /// Both are found by their hashes. `new` hashes with a fixed start, for entries that the caller chooses itself;
-/// `with_hasher` takes a start of the caller's: `SecretHasher` or std's `RandomState`, for entries that strangers choose. No part
+/// `with_hasher` takes a start of the caller's: `SeededState` or std's `RandomState`, for entries that attackers choose. No part
 /// of an entry is hashed in a write of more than eight bytes, so no choice of parts takes the start out of the hash.
 #[derive(Drop)]
 pub struct Numbers<const N: usize, S: BuildHasher = BuildHasherDefault<FoldHasher>> {

@@ -16,7 +16,7 @@ use cache_entries::pack::BorrowedEntry;
 use cache_words::key::{CompactCacheKey, HashBinary};
 use cache_words::pack::BorrowedKey;
 use indexmap::Equivalent;
-use secret_hasher::write_pieces;
+use lru_core::write_pieces;
 use std::hash::{Hash, Hasher};
 
 // An entry whose tag is borrowed, which is compared and hashed as the entry that it stands for.
@@ -101,7 +101,7 @@ impl<'a> Hash for Query<'a> {
 
     ghost respects_eq = { λ a b. same-hashed same_entry same_entry-tells table_writes (borrowed_entry a.entry) (borrowed_entry b.entry) };
 
-    // No write has more than eight bytes, since strangers choose the tag: `write_pieces` says what they could do to a longer one.
+    // No write has more than eight bytes, since attackers choose the tag: `write_pieces` says what they could do to a longer one.
     fn hash<H: Hasher>(&self, state: &mut H) {
         hash_halves(&self.entry.key.primary, state);
         hash_variance(&self.entry.key.variance, state);

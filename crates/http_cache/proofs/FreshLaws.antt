@@ -1,4 +1,4 @@
--- What a look-up finds, as it is told at a moment.
+-- What a look-up finds, as it is reported at a moment.
 use Rattle.std.proofs.Common.{◌≡◌, ℕ, refl, ap, subst}
 use Rattle.std.specs.Prelude.{Bool, true, List, Option, Some, None, is_some, is_none, Result, Ok, Err}
 use Rattle.cache_words.specs.Time.{MomentValue}

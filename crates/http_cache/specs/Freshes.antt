@@ -19,17 +19,17 @@ use Rattle.request_store.specs.Spends.{Spends}
 use Rattle.http_cache.specs.Points.{Point}
 use Rattle.http_cache.specs.Lookups.{LookUpAnswer}
 
--- what a look-up found, as it is told at a moment
+-- what a look-up found, as it is reported at a moment
 abbrev pub found_at : {H : Type 0} → MomentValue → Result (Option (CacheMeta × H)) LookUpFault → Result (Option (FoundAt H)) LookUpFault
 found_at moment (Ok found) = Ok (option_map (told_at moment) found)
 found_at moment (Err fault) = Err fault
 
--- what a reader tells of a finished body that a look-up found; `stored` is the id under the key
+-- what a reader reports of a finished body that a look-up found; `stored` is the id under the key
 abbrev pub TellsOf : {H : Type 0} → (H → ℕ) → (H → Option CacheEntryId) → (Stored CacheMeta → ℕ) → Option CacheEntryId → Option Look → Result (Option (CacheMeta × H)) LookUpFault → Type 0
 TellsOf weight id weigh stored look (Ok found) = Tells weight id weigh stored look (Ok found)
 TellsOf weight id weigh stored look (Err fault) = Unit {0}
 
--- the answer of a look-up, as it is told at a moment
+-- the answer of a look-up, as it is reported at a moment
 abbrev pub LookUpAtAnswer : {H M : Type 0} → (H → Reader) → (M → ℕ) → (H → ℕ) → (H → Option CacheEntryId) → (Stored CacheMeta → ℕ) → Option CacheEntryId → (List ℕ → LockStatus) → (Key → Decision → Type 0) → MomentValue → Option Look
     → Point H M → Result (Option (FoundAt H)) LookUpFault → Point H M → Type 0
 LookUpAtAnswer {H} reader number weight id weigh stored custom decides moment look old r new =

@@ -17,7 +17,7 @@ pub record Point (H M : Type 0) : Type 0 where
 abbrev pub point : {H M : Type 0} → Request H M → Held → LockState → Point H M
 point request held lock = record { request = request; held = held; lock = lock }
 
--- a request is disabled for a reason; `custom` is what the lock tells of custom reasons
+-- a request is disabled for a reason; `custom` is what the lock reports of custom reasons
 pub record IsDisabledFor {H M : Type 0} (reader : H → Reader) (number : M → ℕ) (custom : List ℕ → LockStatus) (reason : NoCacheReason) (old new : Point H M) : Type 0 where
   pub request : new.request ≡ disabled_for reason old.request
   pub store : Ends reader number old.request.reader old.request.writer old.held new.held

@@ -43,7 +43,7 @@ impl<S: Storage> HttpCache<S> {
     }
 
     /// Stops using the cache for a reason: a permit ends by the reason and a read lock is left, the write is left, the reader spent, and
-    /// the meta goes. What stays is the key, the counted size, the predictor with its reason, and what the request tells of itself. A
+    /// the meta goes. What stays is the key, the counted size, the predictor with its reason, and what the request reports of itself. A
     /// request that has stopped before takes the reason alone, and one that never used the cache nothing.
     pub fn disable<E, P, L: CacheKeyLock, A>(
         &mut self,

@@ -26,7 +26,7 @@ impl<S: Storage> HttpCache<S> {
     }
 
     /// Finishes the write, if there is one: its body is stored, the permit is released, and where the manager is on the entry is admitted
-    /// as the store tells of the body, and what that evicts is purged. It may be asked more than once.
+    /// as the store reports of the body, and what that evicts is purged. It may be asked more than once.
     ///
     /// # Errors
     ///

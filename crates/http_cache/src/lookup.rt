@@ -25,7 +25,7 @@ fn defers(decision: Option<Decision>) -> bool
 }
 
 impl<S: Storage> HttpCache<S> {
-    // Asks the policy, where it is to be asked, and returns what it decided. `nothing` tells whether the store has nothing.
+    // Asks the policy, where it is to be asked, and returns what it decided. `nothing` says whether the store has nothing.
     fn observe<A: AdmissionPolicy>(&mut self, policy: &A, nothing: bool) -> Option<Decision>
         requires { is_some self.old.key ≡ true }
         ensures asked { IsTrue (is_some result) ↔ AsksPolicy nothing self.old }
@@ -60,7 +60,7 @@ impl<S: Storage> HttpCache<S> {
         self.lock.ask(&mut parts.lock, key, false, moment)
     }
 
-    // Nothing was found. `nothing` tells whether the store has nothing.
+    // Nothing was found. `nothing` says whether the store has nothing.
     pub(crate) fn miss<E, P, L: CacheKeyLock, A: AdmissionPolicy>(
         &mut self,
         parts: &mut Parts<S, E, P, L, A>,

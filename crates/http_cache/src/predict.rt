@@ -1,4 +1,4 @@
-//! What the predictor tells a request, and is told.
+//! What a request asks of the predictor, and what it reports to it.
 ghost use Rattle.std.specs.Prelude.{◌≡◌, true, false, is_some, OnOk, OnErr, if◌then◌else◌};
 ghost use Rattle.cache_phases.specs.declared.phase.CachePhase.TheVariants.{Bypass};
 ghost use Rattle.cache_phases.specs.Phases.{is_key_phase, can_set_policy, is_never_enabled};
@@ -21,7 +21,7 @@ impl<S: Storage> HttpCache<S> {
         self.admits = on;
     }
 
-    /// Passes the cache by. Why the predictor told not to keep the response is the request's from then on.
+    /// Passes the cache by. Why the predictor said not to keep the response is the request's from then on.
     pub fn bypass<E, P: CacheablePredictor, L, A>(&mut self, parts: &Parts<S, E, P, L, A>)
         requires { is_key_phase self.old.phase ≡ true }
         ensures { self.new ≡ record self.old { phase = Bypass; predicted = told_by self.old.predicts (P.tells parts.now.predictor) self.old.key } }
@@ -33,7 +33,7 @@ impl<S: Storage> HttpCache<S> {
         self.phase = CachePhase::Bypass;
     }
 
-    /// Returns why the predictor told not to keep the response, as the cache was passed by.
+    /// Returns why the predictor said not to keep the response, as the cache was passed by.
     pub fn predicted_uncacheable_reason(&self) -> Option<NoCacheReason>
         ensures { result ≡ self.now.predicted }
     {

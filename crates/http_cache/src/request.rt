@@ -94,7 +94,7 @@ impl<S: Storage> HttpCache<S> {
         }
     }
 
-    /// Lets the request use a cache, with those parts of it. All is anew but what the request tells of itself.
+    /// Lets the request use a cache, with those parts of it. All is anew but what the request reports of itself.
     pub fn enable(&mut self, uses: Uses, overrides: Option<CacheOptionOverrides>)
         requires { is_disabled self.old.phase ≡ true }
         ensures { self.new ≡ enabled_with uses overrides self.old }

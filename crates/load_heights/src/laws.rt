@@ -6,7 +6,7 @@ ghost use Rattle.entry_loads.specs.Peaks.{peak};
 ghost use Rattle.load_heights.specs.Cells.{cells_of, height_of, one_each, is_kept};
 
 /// The height of an entry is its greatest load since it was last asked for, by weight, and by number where each entry counts once.
-/// So heights tell under which limits the entry is held.
+/// So heights say under which limits the entry is held.
 pub fn heights_are_peaks()
     ensures weights { (weight : CacheEntryKey → ℕ) (e : CacheEntryKey) (steps : List Step) → height_of e (cells_of weight steps) ≡ option_map (λ most. most.0) (peak weight e steps) }
     ensures numbers { (weight : CacheEntryKey → ℕ) (e : CacheEntryKey) (steps : List Step) → height_of e (cells_of one_each steps) ≡ option_map (λ most. most.1) (peak weight e steps) }

@@ -1,4 +1,4 @@
-//! The ground of a planner: one pass over a trace tells, for all limits at once, which requests find their entry.
+//! The ground of a planner: one pass over a trace shows, for all limits at once, which requests find their entry.
 //!
 //! Keep the entries in the order of use, as cells. An entry that leaves its place, by a removal or because it is asked for again,
 //! leaves a hole of its weight there; an ask takes its weight from the holes, the latest first, as far as there are any, and

@@ -23,7 +23,7 @@ pub(super) enum Step {
     Stub(u64, bool),
     /// At a second, by a reader that can't use fill 7.
     Poll(i64, u64, Option<WaitOutcome>),
-    /// At a second, the status that a reader is told.
+    /// At a second, the status that is reported to a reader.
     Status(i64, u64, LockStatus),
     /// Whether the permit has not ended.
     Locked(u64, bool),
@@ -44,7 +44,7 @@ const RELEASED: Option<WaitOutcome> = Some(WaitOutcome::Released);
 
 const AGED: Option<WaitOutcome> = Some(WaitOutcome::AgeTimeout);
 
-/// One permit a key; a reader is told once the permit is released.
+/// One permit a key; a reader is answered once the permit is released.
 const GET_RELEASE: &[Step] = &[
     Step::Lock(10, 1, Given::Write(0)),
     Step::Lock(10, 1, Given::Read(0)),

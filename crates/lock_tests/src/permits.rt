@@ -68,7 +68,7 @@ fn read_of(alloc: Global, number: u64) -> Option<ReadLock> {
     }
 }
 
-/// Whether a read lock tells that, once it was polled with fills.
+/// Whether a read lock reports that, once it was polled with fills.
 fn is_polled_so<L: CacheKeyLock>(
     alloc: Global,
     lock: &mut L,
@@ -82,7 +82,7 @@ fn is_polled_so<L: CacheKeyLock>(
     }
 }
 
-/// Whether a read lock tells what it must.
+/// Whether a read lock reports what it must.
 fn tells<L: CacheKeyLock>(alloc: Global, lock: &mut L, read: &ReadLock, step: Step) -> bool {
     match step {
         Step::Poll(second, _, wanted) => is_polled_so(alloc, lock, read, second, wanted),

@@ -1,5 +1,5 @@
 //! Tables under locks, by one thread.
-use cache_tables::{ConcurrentHashTable, ConcurrentLruCache, LruShard};
+use cache_predictor::{ConcurrentHashTable, ConcurrentLruCache, LruShard};
 use std::alloc::Global;
 use std::hash::BuildHasherDefault;
 use std::sync::Wait;

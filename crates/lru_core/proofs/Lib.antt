@@ -9,3 +9,4 @@ pub mod Updating
 pub mod Ordering
 pub mod Pairs
 pub mod Fronts
+mod PieceLaws

@@ -10,7 +10,7 @@ use Rattle.std.proofs.lemmas.List.Elements.{All-set, All-map, All-weaker}
 use Rattle.lru_core.specs.declared.rows.Row.{Row}
 use Rattle.lru_core.specs.Rows.{Shard, total_weight}
 use Rattle.lru_core.specs.declared.sharded.totals.Totals.{Totals}
-use Rattle.lru_core.specs.Cores.{Core, rows_at, shard_of, core_weight, core_len, shard_bound}
+use Rattle.lru_core.specs.Cores.{Core, rows_at, shard_of, core_weight, core_len, shard_bound, IsWithin}
 use Rattle.lru_core.specs.Units.{AreSums, IsBounded, IsSummed, IsChanged}
 
 below : (a b : ℕ) → a ≤ b → b ≤ 2 ^ 64 - 1 → a < 2 ^ 64
@@ -98,6 +98,10 @@ module _ {T : Type 0} where
   -- the rows of the shards after a change of one
   pub shown_rows : (units : List (Shard T)) (i : ℕ) (now : Shard T) → lists (set units i now) ≡ set (lists units) i now.rows
   shown_rows units i now = map-set (λ u. u.rows) units i now
+
+  -- each shard is within its bound
+  pub within : (n : ℕ) (units : List (Shard T)) → All (IsBounded n) units → All (IsWithin n) (lists units)
+  within n units bounded = All-map (IsWithin n) (λ u. u.rows) units (λ k d l. let b = bounded k d l in (rw (← b.0) b.1, rw (← b.0) b.2))
 
   -- no rows
   pub none_summed : (n : ℕ) → 0 < n → IsSummed {T = T} n (replicate n (record { rows = []; bound = (2 ^ 64 - 1) / n })) (record { len = 0; weight = 0 })

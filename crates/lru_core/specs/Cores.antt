@@ -1,5 +1,5 @@
 -- Lists of rows in shards: where a key lives, and what one eviction takes.
-use Rattle.std.specs.Prelude.{◌≡◌, ℕ, zero, suc, Bool, true, false, ◌||◌, ◌==◌, ◌+◌, ◌-◌, ◌/◌, ◌%◌, ◌^◌, nat_lt, if◌then◌else◌, List, [], ◌∷◌, ◌++◌, length, slice_set, slice_index_or, Option}
+use Rattle.std.specs.Prelude.{◌≡◌, ℕ, zero, suc, Bool, true, false, ◌||◌, ◌==◌, ◌+◌, ◌-◌, ◌/◌, ◌%◌, ◌^◌, ◌≤◌, nat_lt, if◌then◌else◌, List, [], ◌∷◌, ◌++◌, length, slice_set, slice_index_or, Option}
 use Rattle.std.specs.Prelude.{Some, None}
 use Rattle.std.specs.List.{sum_by}
 use Rattle.rand_core.specs.Stream.{Stream, next_u64}
@@ -30,6 +30,10 @@ with_shard n core k rows = record core { shards = slice_set core.shards (k % n) 
 -- what neither the number of rows of one of n shards nor their weight may pass
 abbrev pub shard_bound : ℕ → ℕ
 shard_bound n = (2 ^ 64 - 1) / n
+
+-- neither the number of a shard's rows nor their weight is past that bound
+abbrev pub IsWithin : {T : Type 0} → ℕ → List (Row T) → Type 0
+IsWithin n rows = (total_weight rows ≤ shard_bound n) × (length rows ≤ shard_bound n)
 
 -- the weight of all rows
 abbrev pub core_weight : {T : Type 0} → List (List (Row T)) → ℕ

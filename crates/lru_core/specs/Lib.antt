@@ -7,3 +7,5 @@ pub mod Orders
 pub mod FaultTexts
 pub mod Faults
 pub mod Fronts
+pub mod Pieces
+pub mod Start

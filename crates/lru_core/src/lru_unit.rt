@@ -19,7 +19,7 @@ use std::marker::Model;
 /// A shard of rows of distinct keys, most recent first.
 ///
 /// Rows are found by the hashes of their keys. `with_capacity` hashes with a fixed start, for keys that the caller chooses
-/// itself; `with_hasher` takes a start of the caller's, for keys that strangers choose, who then can't slow look-ups down.
+/// itself; `with_hasher` takes a start of the caller's, for keys that attackers choose, who then can't slow look-ups down.
 #[derive(Drop)]
 pub struct LruUnit<T, S: BuildHasher = BuildHasherDefault<FoldHasher>> {
     rows: Rows<T, S>,

@@ -2,7 +2,8 @@
 
 ghost use Rattle.std.specs.Prelude.{◌≡◌, ◌<◌, ◌≤◌, ◌%◌, [], length, replicate, IfOk, OnErr};
 ghost use Rattle.lru_core.specs.Rows.{total_weight};
-ghost use Rattle.lru_core.specs.Cores.{rows_at, core_weight, core_len, shard_bound};
+ghost use Rattle.std.specs.List.{All};
+ghost use Rattle.lru_core.specs.Cores.{rows_at, core_weight, core_len, shard_bound, IsWithin};
 
 mod edits;
 mod eviction;
@@ -18,7 +19,7 @@ use totals::Totals;
 /// N shards of rows of distinct keys, each most recent first.
 ///
 /// Rows are found by the hashes of their keys. The default hasher starts at a fixed place, for keys that the caller chooses
-/// itself; `with_hasher` takes a start of the caller's, for keys that strangers choose, who then can't slow look-ups down.
+/// itself; `with_hasher` takes a start of the caller's, for keys that attackers choose, who then can't slow look-ups down.
 #[derive(Drop)]
 pub struct LruCore<T, const N: usize, S: BuildHasher = BuildHasherDefault<FoldHasher>> {
     units: Vec<LruUnit<T, S>>,
@@ -109,6 +110,13 @@ impl<T, const N: usize, S: BuildHasher> LruCore<T, N, S> {
         ensures bound { result ≤ shard_bound N }
     {
         self.units[shard].weight()
+    }
+
+    /// A law: each shard is within its bound. It does nothing.
+    pub fn shards_are_within(&self)
+        ensures { All (IsWithin N) self.now.shards }
+    {
+        let _ = &self.units;
     }
 
     // The shard of a key or a draw.

@@ -1,4 +1,4 @@
--- What calls told, one run after the other.
+-- What calls reported, one run after the other.
 use Rattle.std.proofs.Common.{◌≡◌, ℕ, zero, suc, ◌+◌, ◌-◌, ◌^◌, min, List, [], ◌∷◌, ◌++◌, length, sym, ◌∙◌, refl, ap, subst, arith}
 use Rattle.std.specs.Prelude.{flat_map}
 use Rattle.std.proofs.lemmas.Grind.{flat_map-append}
@@ -42,7 +42,7 @@ module _ {D : Type 0} {did : D → Call → Outcome → D → Type 0} {failures 
   pub tells_on : {errors : List ShardFileError} {old middle new : D} → Tells did failures errors old middle → Tells did failures [] middle new → Tells did failures errors old new
   tells_on {errors} {old} {new = new} first then = subst (λ e. Tells did failures e old new) (append-nil errors) (tells_then first then)
 
-  -- after calls that told one failure more
+  -- after calls that reported one failure more
   pub tells_more : {X : Type 0} (front : List ShardFileError) (error_of_item : X → List ShardFileError) (failed : List X) (x : X) {old middle new : D}
       → Tells did failures (front ++ flat_map error_of_item failed) old middle → Tells did failures (error_of_item x) middle new
       → Tells did failures (front ++ flat_map error_of_item (failed ++ x ∷ [])) old new

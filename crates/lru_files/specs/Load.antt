@@ -66,7 +66,7 @@ CleansUp dir file_name old new report = ((report.removed ≡ 0) × ((report.fail
 abbrev pub ShardsStay : (dir file_name : List ℕ) → Files → Files → Type 0
 ShardsStay dir file_name old new = (i : ℕ) → i < 2 ^ 64 → new (shard_path dir file_name i) ≡ old (shard_path dir file_name i)
 
--- the failed call on a file that a shard's failure tells
+-- the failed call on a file that a shard's failure reports
 abbrev pub load_error : {E : Type 0} → Result Bool (ShardLoadFailure E) → List ShardFileError
 load_error (Ok found) = []
 load_error (Err (Deserialize error)) = []
@@ -76,7 +76,7 @@ load_error (Err (Io call)) = call ∷ []
 abbrev pub load_errors : {E : Type 0} → List (ℕ × ShardLoadFailure E) → List ShardFileError
 load_errors = flat_map (λ failed. load_error (Err failed.1))
 
--- what a load tells of its calls: the failures on files are those in the report, in order; where memory was refused, no call failed
+-- what a load reports of its calls: the failures on files are those in the report, in order; where memory was refused, no call failed
 abbrev pub LoadTells : {D E X : Type 0} → (D → Call → Outcome → D → Type 0) → (D → ℕ) → D → D → Result (ShardLoadReport E) X → Type 0
 LoadTells did failures old new (Ok report) = Tells did failures (report.cleanup.failed.items ++ load_errors report.errored.items) old new
 LoadTells did failures old new (Err error) = Tells did failures [] old new

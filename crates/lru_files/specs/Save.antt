@@ -45,7 +45,7 @@ LeftByWriting old new temp at bytes (Err ReadDir) = ⊥
 LeftByWriting old new temp at bytes (Err ReadDirEntry) = ⊥
 LeftByWriting old new temp at bytes (Err Remove) = ⊥
 
--- the failed call that the writing of a file tells
+-- the failed call that the writing of a file reports
 abbrev pub error_in : Result (Unit {0}) ShardFileError → List ShardFileError
 error_in (Ok done) = []
 error_in (Err call) = call ∷ []
@@ -126,7 +126,7 @@ module _ {E : Type 0} where
   SaveCounts shards (Err (AllShardsFailed failed)) = (length failed.items ≡ shards) × AreNumbered 0 shards failed.items × (0 < shards)
   SaveCounts shards (Err (Setup error)) = Unit {0}
 
-  -- the failed call on a file that a shard's failure tells
+  -- the failed call on a file that a shard's failure reports
   abbrev pub file_error : Result (Unit {0}) (ShardSaveFailure E) → List ShardFileError
   file_error (Ok done) = []
   file_error (Err (Serialize e)) = []
@@ -136,7 +136,7 @@ module _ {E : Type 0} where
   abbrev pub file_errors : List (ℕ × ShardSaveFailure E) → List ShardFileError
   file_errors = flat_map (λ failed. file_error (Err failed.1))
 
-  -- what a save tells of its calls: the failures on files are those in the report, in order; the directory was not made exactly if that is told; without memory there was no call
+  -- what a save reports of its calls: the failures on files are those in the report, in order; the directory was not made exactly if that is reported; without memory there was no call
   abbrev pub SaveTells : {D : Type 0} → (D → Call → Outcome → D → Type 0) → (D → ℕ) → (dir : List ℕ) → D → D → Result (ShardSaveReport E) (ShardSaveError E) → Type 0
   SaveTells did failures dir old new (Ok report) = Tells did failures (file_errors report.failed.items) old new
   SaveTells did failures dir old new (Err (AllShardsFailed failed)) = Tells did failures (file_errors failed.items) old new

@@ -1,4 +1,4 @@
--- What the failures of calls are told as, and how they are counted.
+-- How failures of calls are reported and counted.
 use Rattle.std.specs.Prelude.{◌≡◌, ◌+◌, ◌-◌, ◌^◌, ℕ, zero, suc, min, List, [], ◌∷◌, flat_map, length, Result, Ok, Err}
 use Rattle.lru_files.specs.Folder.{Call, Outcome, Step, IsRun}
 use Rattle.lru_files.specs.Folder.Outcome.{Done, Failed, FailedAtEntry}
@@ -28,7 +28,7 @@ abbrev pub Counts : {X E : Type 0} → Result X E → ℕ → ℕ → Type 0
 Counts (Ok x) before now = now ≡ before
 Counts (Err e) before now = now ≡ raised before 1
 
--- what a call that ended so is told as; that a directory could not be made is told apart
+-- what a call that ended so is reported as; that a directory could not be made is reported apart
 abbrev pub error_of : Outcome → Call → List ShardFileError
 error_of Done call = []
 error_of FailedAtEntry call = told.ReadDirEntry ∷ []

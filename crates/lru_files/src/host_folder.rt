@@ -28,7 +28,7 @@ fn is_regular(found: &Metadata) -> bool
 /// A folder of the system's files. No clause says what they hold: that is left to tests.
 ///
 /// `create` follows no link and takes no name that is there; `open` opens regular files alone. Another process that puts something
-/// else in a file's place between the look at its name and its opening isn't told.
+/// else in a file's place between the look at its name and its opening isn't reported.
 #[derive(Drop)]
 pub struct HostFolder<R: Files + AllocGlobal + Clone + Drop> {
     rt: R,

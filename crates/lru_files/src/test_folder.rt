@@ -71,7 +71,7 @@ impl TestFolder {
         folder
     }
 
-    // Counts the call, and tells whether it is refused.
+    // Counts the call, and says whether it is refused.
     fn refuses(&mut self, is_rename: bool) -> bool
         ensures refused { result ≡ is_refused self.old.plan self.new.calls is_rename }
         ensures calls { self.new.calls ≡ min (self.old.calls + 1) (2 ^ 64 - 1) }

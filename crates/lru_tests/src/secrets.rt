@@ -1,8 +1,7 @@
 //! Hashes that start with a secret word, and shards that are searched by them.
 
-use lru_core::LruCore;
 use lru_core::lru_unit::LruUnit;
-use secret_hasher::SecretHasher;
+use lru_core::{LruCore, SeededState};
 use std::alloc::Global;
 use std::hash::BuildHasher;
 
@@ -15,7 +14,7 @@ const HASHES: &[(u64, u64, u64, bool)] = &[
 ];
 
 fn hash_of(word: u64, number: u64) -> u64 {
-    SecretHasher { word }.hash_one(number)
+    SeededState { word }.hash_one(number)
 }
 
 #[test]
@@ -25,9 +24,9 @@ fn hashes_are_equal_where_words_are(rt: HostRuntime) {
     }
 }
 
-type Unit = LruUnit<u32, SecretHasher>;
+type Unit = LruUnit<u32, SeededState>;
 
-type Core = LruCore<u32, 2, SecretHasher>;
+type Core = LruCore<u32, 2, SeededState>;
 
 /// Whether a row is found in a shard under a secret word.
 fn shard_finds(unit: &mut Unit) -> bool {
@@ -41,14 +40,14 @@ fn core_finds(core: &mut Core) -> bool {
 }
 
 fn shard_under(alloc: Global, word: u64) -> bool {
-    match Unit::with_hasher(alloc, SecretHasher { word }, 2, 9) {
+    match Unit::with_hasher(alloc, SeededState { word }, 2, 9) {
         Ok(mut unit) => shard_finds(&mut unit),
         Err(_) => false,
     }
 }
 
 fn core_under(alloc: Global, word: u64) -> bool {
-    match Core::with_hasher(alloc, SecretHasher { word }, 9, 2, None) {
+    match Core::with_hasher(alloc, SeededState { word }, 9, 2, None) {
         Ok(mut core) => core_finds(&mut core),
         Err(_) => false,
     }

@@ -54,7 +54,7 @@ tracked-stays weight limit watermark e steps m o =
       λ p. same ∙ test-of weight limit watermark e steps p,
     )
 
--- two runs of the same steps, where each leaves what loads tell
+-- two runs of the same steps, where each leaves what loads report
 module _ (weight : CacheEntryKey → ℕ) (limit limit' : ℕ) (watermark watermark' : Option ℕ) (l : limit ≤ limit') (a : IsAtMost watermark watermark') (steps : List Step) (m m' : Managed)
     (o : IsOne limit watermark (held weight limit watermark steps) m) (o' : IsOne limit' watermark' (held weight limit' watermark' steps) m') where
   pub front-two : IsFront (rows_at m.shards 0) (rows_at m'.shards 0)

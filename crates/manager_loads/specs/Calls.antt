@@ -17,7 +17,7 @@ abbrev pub after_calls : List Call → List Step → List Step
 after_calls [] before = before
 after_calls (call ∷ calls) before = after_calls calls (step_of call ∷ before)
 
--- the size of an admission weighs what its entry weighs, where `weighed` tells what a size weighs; an access of what is held changes no weight
+-- the size of an admission weighs what its entry weighs, where `weighed` reports what a size weighs; an access of what is held changes no weight
 abbrev pub IsUniform : (CacheEntryKey → ℕ) → (ℕ → ℕ) → Call → Type 0
 IsUniform weight weighed (Admit e size) = weighed size ≡ weight e
 IsUniform weight weighed (Access e size) = Unit {0}

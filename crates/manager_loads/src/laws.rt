@@ -16,7 +16,7 @@ type Shard = lru::Manager<1>;
 
 type Single = simple_lru::Manager;
 
-/// From empty, a manager of one shard holds what loads tell, in that order and with those weights, whatever is drawn. So it tracks
+/// From empty, a manager of one shard holds what loads report, in that order and with those weights, whatever is drawn. So it tracks
 /// the entries that were asked for, not removed since, and whose load was within the limits from then on. `call` is one call.
 pub fn one_shard_holds_by_loads()
     ensures call { (weight : CacheEntryKey → ℕ) (limit : ℕ) (watermark : Option ℕ) (c : Call) (old new : Managed) (gone : List CacheEntryKey) (s rest : Stream) (before : List Step)

@@ -1,7 +1,7 @@
-//! What managers of one shard track, told by the calls alone.
+//! What managers of one shard track, by the calls alone.
 //!
 //! After admissions, accesses of tracked entries and removals, in which each entry has one weight, a manager of one shard holds what
-//! loads tell (see `entry_loads`), whatever is drawn. A limit or a watermark of 0 and an entry heavier than the limit are no
+//! loads report (see `entry_loads`), whatever is drawn. A limit or a watermark of 0 and an entry heavier than the limit are no
 //! exceptions. So a manager under lesser limits holds a front of what one under greater limits holds, and what it tracks the other
 //! tracks.
 //!

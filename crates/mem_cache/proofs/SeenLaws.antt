@@ -21,7 +21,7 @@ use Rattle.mem_cache.proofs.RowLaws.{Ascends, above_apart, seen-removed, removed
 abbrev pub Alive : Type 0
 Alive = StoredKey → ℕ → Bool
 
--- seen by what tells the same of each entry
+-- seen by what reports the same of each entry
 pub seen-same : (a b : Alive) (es : List (ℕ × Flight)) → AllByRecursion (λ e. b e.1.key e.0 ≡ a e.1.key e.0) es → flights_of b es ≡ flights_of a es
 seen-same a b [] h = refl
 seen-same a b (e ∷ es) h = λ i. record (seen a e) { removed = not (h.0 i) } ∷ seen-same a b es h.1 i

@@ -21,7 +21,7 @@ bytes_in (Shared bytes) = bytes
 abbrev pub stored_flight : ℕ × Flight → Stored CacheMeta
 stored_flight e = record { write = record { number = e.0; key = e.1.key; meta = e.1.meta }; meta = e.1.meta; bytes = bytes_in e.1.buffer }
 
--- a write in flight, where `alive` tells which are
+-- a write in flight, where `alive` says which are
 abbrev pub seen : (StoredKey → ℕ → Bool) → ℕ × Flight → Flying CacheMeta
 seen alive e = record {
   stored = stored_flight e;

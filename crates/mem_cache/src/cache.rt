@@ -33,7 +33,7 @@ mod writes;
 /// write, and the writes that have readers.
 ///
 /// Keys are found by their hashes. `new` hashes with a fixed start, for keys that the caller chooses itself; `with_hasher`
-/// takes a start of the caller's, for keys that strangers choose, who then can't slow look-ups down.
+/// takes a start of the caller's, for keys that attackers choose, who then can't slow look-ups down.
 #[derive(Drop)]
 pub struct MemCache<S: BuildHasher = BuildHasherDefault<FoldHasher>> {
     pub(crate) alloc: Global,

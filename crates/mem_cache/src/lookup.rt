@@ -61,7 +61,7 @@ fn fresh_body(body: &Body) -> Result<Option<FoundAt<MemHitHandler>>, StoreFault>
     }
 }
 
-// Returns what is found as it is told at a moment.
+// Returns what is found as it is reported at a moment.
 fn told_at(moment: Moment, meta: CacheMeta, hit: MemHitHandler) -> FoundAt<MemHitHandler>
     ensures { result ≡ told_at moment (meta, hit) }
 {
@@ -89,7 +89,7 @@ impl<S: BuildHasher> MemCache<S> {
         self.look_told(key, moment)
     }
 
-    // Looks a key up, and tells what is found as it is at a moment. It has room for metas, which a look-up of a fresh body needs not.
+    // Looks a key up, and reports what is found as it is at a moment. It has room for metas, which a look-up of a fresh body needs not.
     #[inline(never)]
     fn look_told(
         &mut self,

@@ -31,7 +31,7 @@ use Rattle.pingora_cache.specs.Put.{IsStoreFaultTold, IsTold, fault_of_admission
 pub entry-of : (c : CompactCacheKey) (k : Key) (id : Option ℕ) (e : CacheEntryKey) → compact_view c ≡ k → e ≡ entry_with c id → e ≡ entry_with (compact k) id
 entry-of c k id e same made = made ∙ ap (λ (k : Key). entry_with (compact k) id) same
 
--- a fault of the admission is told as one of the put
+-- a fault of the admission is reported as one of the put
 told-as-put : (a : Bool) (cause : EvictFault) (fault : AdmitFault) → admissions.IsTold a cause fault → IsTold a cause (fault_of_admission fault)
 told-as-put a (evict.Memory v) (admit.Memory done) t = t
 told-as-put a (evict.Weight v) (admit.Weight done) t = t

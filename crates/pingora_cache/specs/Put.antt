@@ -28,13 +28,13 @@ use Rattle.cache_store.specs.Wholes.{Stores, GivenUp, whole_of}
 abbrev pub IsOutOfMemory : PutFault → Type 0
 IsOutOfMemory fault = (done : Done) × (fault ≡ Memory done) × IsDone false false [] done
 
--- a fault of the store, with which nothing was stored, is told as this
+-- a fault of the store, with which nothing was stored, is reported as this
 abbrev pub IsStoreFaultTold : StoreFault → PutFault → Type 0
 IsStoreFaultTold store.WriteNumbersSpent fault = fault ≡ WriteNumbersSpent
 IsStoreFaultTold store.MetaMoment fault = fault ≡ MetaMoment
 IsStoreFaultTold _ fault = IsOutOfMemory fault
 
--- a fault of the order of use, which came after a body was stored, is told as this
+-- a fault of the order of use, which came after a body was stored, is reported as this
 abbrev pub IsTold : Bool → EvictFault → PutFault → Type 0
 IsTold admitted (evict.Memory v) (Memory done) = IsDone true admitted v.items done
 IsTold admitted (evict.Weight v) (Weight done) = IsDone true admitted v.items done
@@ -68,7 +68,7 @@ module _ {S : Type 0} (rules : Rules S) where
   abbrev pub IsTakenBack : MissFinishType → CacheEntryKey → PutFault → Cache S → Cache S → Type 0
   IsTakenBack finish e fault old new = admissions.IsTakenBack rules IsTold finish e fault old new
 
-  -- a body was stored, and then its entry was admitted as the store tells of the body, or both were taken back. The entry has the id
+  -- a body was stored, and then its entry was admitted as the store reports of the body, or both were taken back. The entry has the id
   -- that the store gave the body
   abbrev pub IsStoredThen : Key → CacheMeta → List ℕ → (MissFinishType → CacheEntryKey → Cache S → Type 0) → Cache S → Type 0
   IsStoredThen key meta body next old =

@@ -24,4 +24,5 @@ pub use cache_words::{key, time};
 pub use http_cache::{FinishFault, Finished, FoundFault, HttpCache, LookUpFault, Uses};
 pub use mem_cache::MemCache;
 
+pub mod hashtable;
 pub mod put;

@@ -115,17 +115,17 @@ impl<C: CachePut> CachePutCtx<C> {
         self.max_file_size_bytes = Some(max_file_size_bytes);
     }
 
-    /// Stores the response that the pieces are, one after another, coming at `moment`; tells the order of use of its entry what
-    /// the store tells of the body, and purges what that evicts: where the store created a body of a weight, the entry is admitted with
+    /// Stores the response that the pieces are, one after another, coming at `moment`; reports to the order of use of its entry what
+    /// the store reports of the body, and purges what that evicts: where the store created a body of a weight, the entry is admitted with
     /// `max(1, weight)`, and where it added to one, the entry's weight grows by that. The pieces may be cut anywhere, and all are read, also of a response that is
-    /// not kept, so that one that ends too early is told.
+    /// not kept, so that one that ends too early is reported.
     ///
     /// # Errors
     ///
     /// The first that holds of `BadHead`, `ResponseTooLarge`, `Incomplete` and, after an uncacheable response's reason,
     /// `WriteNumbersSpent` and `MetaMoment`: the store and the order of use are as before. `Weight`, `Length`, `NumbersSpent` and
     /// `Memory` where the entry isn't admitted or memory runs out in the evictions: all that is stored under the key is removed with its
-    /// entry, an earlier body and other writes in flight too, and the evictions that are told are done. `Memory` too before anything is stored, when a write may have used a number.
+    /// entry, an earlier body and other writes in flight too, and the evictions that are reported are done. `Memory` too before anything is stored, when a write may have used a number.
     pub fn cache_put<S: Storage, E: EvictionManager, P, L, A, R: Rng>(
         &mut self,
         alloc: Global,

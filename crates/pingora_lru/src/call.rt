@@ -13,7 +13,7 @@ pub enum Call<T> {
     /// Adds to the weight of the key, up to a cap, if there is one, but never down, or puts the data under the key with that
     /// weight, of 1 at least. The key moves to the front.
     IncrementWeight(u64, T, usize, Option<usize>),
-    /// As `Admit`; the reply tells whether the key was there.
+    /// As `Admit`; the reply says whether the key was there.
     UpdateOrAdmit(u64, T, usize),
     /// Sets the weight of the key, as it is, if the key is there. The order stays.
     SetWeight(u64, usize),

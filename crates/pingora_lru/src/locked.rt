@@ -19,7 +19,7 @@ use std::sync::{Mutex, Wait};
 /// Nothing is claimed of what the counters show, also with one thread alone.
 ///
 /// Rows are found by the hashes of their keys. The default hasher starts at a fixed place, for keys that the caller chooses
-/// itself; `with_hasher` takes a start of the caller's, for keys that strangers choose, who then can't slow look-ups down.
+/// itself; `with_hasher` takes a start of the caller's, for keys that attackers choose, who then can't slow look-ups down.
 #[derive(Drop)]
 pub struct Lru<T, const N: usize, S: BuildHasher = BuildHasherDefault<FoldHasher>> {
     shards: Vec<Mutex<LruUnit<T, S>>>,

@@ -38,7 +38,7 @@ replay-calls old s history new rest p = (
   p.1.headline,
 )
 
--- from the opening that a snapshot tells of, the tier has the history's calls as its past
+-- from the opening that a snapshot describes, the tier has the history's calls as its past
 pub replay-headline : {R : Type 0} (n : ℕ) (opening : Snapshot R) (first : State) (s : Stream) (history : List Record) (tier : State) (rest : Stream)
     → Opens n opening first → IsReplay first s history tier rest
     → (calls : List Call) × AreCallsIn history calls × HasPast (opening_of first) tier (extended [] calls)

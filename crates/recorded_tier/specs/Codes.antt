@@ -1,4 +1,4 @@
--- The code of a recorded tier's value, by which a proof tells two values apart: a record is its fields, one after another.
+-- The code of a recorded tier's value, by which a proof distinguishes two values: a record is its fields, one after another.
 use Rattle.std.specs.Prelude.{ℕ, List, refl}
 use Rattle.std.specs.Coded.{Coded, code_by, coded×, coded_ℕ, coded_list}
 use Rattle.tier_model.specs.State.{State}

@@ -34,14 +34,14 @@ abbrev pub IsReplay : State → Stream → List Record → State → Stream → 
 IsReplay old s history new rest =
     (outcomes : List Outcome) × Takes old s (map (λ r. r.event) history) outcomes new rest × (map (λ r. r.note) history ≡ map note_of outcomes)
 
--- what tells records apart
+-- what distinguishes records
 abbrev pub SeenOwn : Type 0
 SeenOwn = Event × (Note × Option (List ℕ × Bool))
 
 abbrev pub seen_own : Own → SeenOwn
 seen_own x = (seen x.event, seen_note x.note)
 
--- the same records, as far as a cache can tell
+-- the same records, as far as a cache can see
 abbrev pub AreSame : List Own → List Own → Type 0
 AreSame xs ys = map seen_own xs ≡ map seen_own ys
 

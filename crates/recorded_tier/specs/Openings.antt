@@ -17,7 +17,7 @@ pub record AreTexts (shards : List (List Tracked)) (texts : List (List ℕ)) : T
   pub count : length texts ≡ length shards
   pub each : (i : ℕ) → i < length shards → IsText (rows_at shards i) (slice_index_or texts i [])
 
--- a tier of n shards that a snapshot tells of began in this state: no event had left a trace in it, it was made with these options, and
+-- a tier of n shards that a snapshot describes began in this state: no event had left a trace in it, it was made with these options, and
 -- its shards, each with rows of its own entries alone, have these texts
 pub record Opens {R : Type 0} (n : ℕ) (opening : Snapshot R) (first : State) : Type 0 where
   pub is_new : IsNew first

@@ -1,4 +1,4 @@
--- What tells events and notes apart.
+-- What distinguishes events and notes.
 use Rattle.std.specs.Prelude.{ℕ, Bool, true, false, List, Option, Some, None}
 use Rattle.cache_heads.specs.Reasons.{reason_name}
 use Rattle.cache_heads.specs.declared.reason.NoCacheReason.{NoCacheReason}
@@ -11,7 +11,7 @@ use Rattle.recorded_tier.specs.declared.note.AnswerNote.TheVariants.{Opened}
 use Rattle.recorded_tier.specs.declared.note.Note.{Note}
 use Rattle.recorded_tier.specs.declared.note.Note.TheVariants.{Answered, Uncacheable}
 
--- a key with its hash in full: all of it that a cache can tell
+-- a key with its hash in full: all of it that a cache can see
 abbrev pub seen_key : CacheKeyValue → CacheKeyValue
 seen_key k = record k { primary_bin_override = Some (primary_hash k.primary_bin_override k.primary) }
 

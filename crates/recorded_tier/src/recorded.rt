@@ -102,7 +102,8 @@ impl<const N: usize, R: Rng, L: Ledger, S: BuildHasher> Model for Recorded<N, R,
         × AreSeated a.seats.items a.gathered.items a.history.items
         × (a.book.total ≡ length a.history.items)
         × (a.owner.parts + length a.seats.items ≡ 2 ^ 32 + length a.gathered.items)
-        × (a.owner.amount ≡ total a.gathered.items) };
+        × (a.owner.amount ≡ total a.gathered.items)
+        × (L.parts ≡ 4294967296) };
 }
 
 impl<const N: usize, R: Rng, L: Ledger, S: BuildHasher> Recorded<N, R, L, S> {

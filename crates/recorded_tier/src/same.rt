@@ -1,4 +1,4 @@
-//! What tells events apart.
+//! What distinguishes events.
 ghost use Rattle.std.specs.Prelude.{◌≡◌, ◌↔◌, IsTrue};
 ghost use Rattle.tier_model.specs.declared.event.Action.TheVariants.{Open, LookUp, Poll, Begin, Piece, Finish, Read, Drop, Purge, Put};
 ghost use Rattle.recorded_tier.specs.Seen.{seen_key, seen_action, seen};
@@ -140,7 +140,7 @@ fn is_same_action(a: &Action, b: &Action) -> bool
     }
 }
 
-/// Returns whether two events are the same, as far as a cache can tell.
+/// Returns whether two events are the same, as far as a cache can see.
 pub fn is_same_event(a: &Event, b: &Event) -> bool
     ensures { IsTrue result ↔ (seen a.now ≡ seen b.now) }
 {

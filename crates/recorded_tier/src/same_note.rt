@@ -1,4 +1,4 @@
-//! What tells notes apart.
+//! What distinguishes notes.
 ghost use Rattle.std.specs.Prelude.{◌≡◌, ◌↔◌, IsTrue};
 ghost use Rattle.recorded_tier.specs.declared.note.Note.TheVariants.{Answered, Uncacheable, Refused};
 ghost use Rattle.recorded_tier.specs.Seen.{is_custom, seen_reason, seen_note};

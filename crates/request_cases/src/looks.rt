@@ -34,7 +34,7 @@ fn may_look<S: Storage>(request: &HttpCache<S>) -> bool
     true
 }
 
-// What is told of a response that was found.
+// What is reported of a response that was found.
 fn told_of_found(taken: Result<(), FoundFault>, passed: bool, length: usize) -> Answer {
     match taken {
         Ok(()) if passed => Answer::Word("passed"),

@@ -24,7 +24,7 @@ fn key_variance<S: Storage>(request: &HttpCache<S>) -> Answer {
     }
 }
 
-/// What a request tells of its key.
+/// What a request reports of its key.
 pub fn told_of_key<S: Storage>(request: &HttpCache<S>, step: Step<'_>) -> Option<Answer> {
     match step.call {
         "maybe-key" => Some(letter(request.maybe_cache_key())),
@@ -50,7 +50,7 @@ fn meta_variance<S: Storage>(request: &HttpCache<S>) -> Answer {
     }
 }
 
-/// What it tells of its meta, and whether the stale response may be served at a moment.
+/// What it reports of its meta, and whether the stale response may be served at a moment.
 pub fn told_of_meta<S: Storage>(request: &HttpCache<S>, step: Step<'_>) -> Option<Answer> {
     match step.call {
         "maybe-meta" => Some(until(request.maybe_cache_meta())),

@@ -1,4 +1,4 @@
-//! What a request tells of itself.
+//! What a request reports of itself.
 use crate::answer::{Answer, NONE, reason_or_none, size_or_none, yes_or_no};
 use crate::step::{Step, reason};
 use cache_parts::Parts;
@@ -64,7 +64,7 @@ fn held<S: Storage>(request: &HttpCache<S>) -> &'static str {
     }
 }
 
-/// What it tells of the lock.
+/// What it reports of the lock.
 pub fn told_of_lock<S: Storage>(request: &HttpCache<S>, step: Step<'_>) -> Option<Answer> {
     match step.call {
         "holds" => Some(Answer::Word(held(request))),
@@ -92,7 +92,7 @@ fn decision(decision: Option<Decision>) -> Answer {
     }
 }
 
-/// What it tells of its waits and look-ups.
+/// What it reports of its waits and look-ups.
 pub fn told_of_waits<S: Storage>(request: &HttpCache<S>, step: Step<'_>) -> Option<Answer> {
     match step.call {
         "waited" => Some(seconds(request.lock_duration())),

@@ -94,7 +94,7 @@ fn write<S: Storage, E, P, L, A>(
     }
 }
 
-// What is told of a body that was stored.
+// What is reported of a body that was stored.
 fn told_of_body(finished: &Finished) -> Answer {
     match finished.kind {
         MissFinishType::Created(size) => Answer::Created(size, finished.evicted.len()),

@@ -1,4 +1,4 @@
--- How faults of an admission are told by a finish.
+-- How faults of an admission are reported by a finish.
 use Rattle.std.proofs.Common.{◌≡◌, refl, sym, subst, true, false}
 use Rattle.std.specs.Prelude.{Bool, List, Option, Some, None, ⊤}
 use Rattle.cache_entries.specs.declared.entry.CacheEntryKey.{CacheEntryKey}
@@ -19,7 +19,7 @@ told-as a (evict.Length v) (admit.Length done) t = t
 told-as a (evict.NumbersSpent v) (admit.NumbersSpent done) t = t
 told-as a _ _ t = absurd t
 
--- what is taken back is told by the finish
+-- what is taken back is reported by the finish
 pub taken-back-as : {S : Type 0} (rules : Rules S) (kind : MissFinishType) (e : CacheEntryKey) (fault : AdmitFault) (old new : Cache S) → IsTakenBack rules IsTold kind e fault old new
     → IsTakenBack rules IsToldAs kind e (fault_of_admission fault) old new
 taken-back-as rules kind e fault old new t =

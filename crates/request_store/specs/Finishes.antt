@@ -24,13 +24,13 @@ use Rattle.request_store.specs.declared.faults.FinishFault.{FinishFault}
 use Rattle.request_store.specs.declared.faults.FinishFault.TheVariants.{Memory, WriteRemoved, Weight, Length, NumbersSpent}
 use Rattle.request_store.specs.Entries.{entry_at}
 
--- ---- how faults are told
+-- ---- how faults are reported
 
 -- memory ran out before anything was done
 abbrev pub IsOutOfMemory : FinishFault → Type 0
 IsOutOfMemory fault = (done : Done) × (fault ≡ Memory done) × IsDone false false [] done
 
--- a fault of the order of use, which came after the body was stored, is told as this
+-- a fault of the order of use, which came after the body was stored, is reported as this
 abbrev pub IsToldAs : Bool → EvictFault → FinishFault → Type 0
 IsToldAs admitted (evict.Memory v) (Memory done) = IsDone true admitted v.items done
 IsToldAs admitted (evict.Weight v) (Weight done) = IsDone true admitted v.items done
@@ -58,7 +58,7 @@ module _ {S M : Type 0} (held : S → Held) (ids : S → StoredKey → Option Ca
   abbrev pub key_alive : M → S → Option StoredKey
   key_alive m s = alive_key (flying_at (number m) (held s).store)
 
-  -- a write is stored, which the store tells as this
+  -- a write is stored, which the store reports as this
   pub record IsStored (told : Stored CacheMeta → MissFinishType) (m : M) (kind : MissFinishType) (old new : S) : Type 0 where
     pub answer : MissAnswer number told (key_alive m old) (number m) (held old) (Ok kind) (held new)
     pub given : IsGiven (key_alive m old) (id m) (ids old) (ids new)

@@ -29,7 +29,7 @@ abbrev pub IsValidFound : {H : Type 0} → (H → Reader) → Option Look → He
 IsValidFound reader look old (Some found) new = LookAnswer reader look old (Ok (Some found)) new
 IsValidFound reader look old None new = (look ≡ None) × SameHeld old new
 
--- the same, as it is told at a moment; with what the reader tells of a finished body
+-- the same, as it is reported at a moment; with what the reader reports of a finished body
 abbrev pub IsValidFoundAt : {H : Type 0} → (H → Reader) → (H → ℕ) → (H → Option CacheEntryId) → (Stored CacheMeta → ℕ) → Option CacheEntryId → MomentValue → Option MomentValue → Option Look
     → Held → Option (FoundAt H) → Held → Type 0
 IsValidFoundAt {H} reader weight id weigh stored moment since look old r new =

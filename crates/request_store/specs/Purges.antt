@@ -34,7 +34,7 @@ abbrev pub kept_in : {S : Type 0} → S → Managed → Kept S
 kept_in store managed = record { store = store; managed = managed }
 
 module _ {S : Type 0} (held : S → Held) (ids : S → StoredKey → Option CacheEntryId) (purged_as : S → PurgeType → S → Type 0) (shards : ℕ) (evicts : Bool) (key : Option CacheKeyValue) where
-  -- what is stored under a key is purged as no longer valid, and where the manager is on its entry is tracked no more. `found` tells whether
+  -- what is stored under a key is purged as no longer valid, and where the manager is on its entry is tracked no more. `found` says whether
   -- something was found
   pub record PurgesKey (found : Bool) (old new : Kept S) : Type 0 where
     pub outcome : PurgeOutcome

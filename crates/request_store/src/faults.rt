@@ -28,7 +28,7 @@ pub enum FoundFault {
 /// What the finish of a write did.
 #[derive(Debug, Drop)]
 pub struct Finished {
-    /// What the store tells of the body.
+    /// What the store reports of the body.
     pub kind: MissFinishType,
     /// The entries that were evicted, in order, perhaps that of the body too.
     pub evicted: Vec<CacheEntryKey>,

@@ -17,10 +17,10 @@ use std::alloc::{AllocError, Global};
 /// An entry, twice.
 pub type Entries = (CacheEntryKey, CacheEntryKey);
 
-/// What a store tells of a body that it stored, and the body's entry where it is to be admitted.
+/// What a store reports of a body that it stored, and the body's entry where it is to be admitted.
 #[derive(Drop)]
 pub struct Stored {
-    /// What the store tells.
+    /// What the store reports.
     pub kind: MissFinishType,
     /// The entry, where the manager is on.
     pub entries: Option<Entries>,

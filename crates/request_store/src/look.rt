@@ -54,7 +54,7 @@ pub fn look_valid<S: Storage>(
     }
 }
 
-// Returns what is found as it is told at a moment.
+// Returns what is found as it is reported at a moment.
 fn told_at<H>(moment: Moment, meta: CacheMeta, hit: H) -> FoundAt<H>
     ensures { result ≡ told_at moment (meta, hit) }
 {
@@ -65,7 +65,7 @@ fn told_at<H>(moment: Moment, meta: CacheMeta, hit: H) -> FoundAt<H>
     }
 }
 
-/// The same, as it is told at a moment: of a response that is fresh only how long it is. A store that keeps metas packed unpacks none then,
+/// The same, as it is reported at a moment: of a response that is fresh only how long it is. A store that keeps metas packed unpacks none then,
 /// unless older responses aren't to be found.
 ///
 /// # Errors

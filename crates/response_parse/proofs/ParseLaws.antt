@@ -146,7 +146,7 @@ pub Gives-body : (bytes : List ℕ) (header : ResponseHeader) (body : List ℕ) 
 Gives-body bytes header body holds =
     subst (Gives bytes) (sym (ap (λ (x : List ℕ). parsed_by_header header x) holds.2 ∙ by_body-limited header (announced header) holds.0)) (Gives-header bytes header holds.0 holds.1)
 
--- what is told of a front that was read
+-- what is reported of a front that was read
 pub told-front : (bytes : List ℕ) (front : Front) → IsFrontOf bytes front → IsToldFront bytes front
 told-front bytes (Found head) is = is
 told-front bytes Begun is = tt

@@ -61,7 +61,7 @@ IsFrontOf bytes (Found head) = (head.len ≤ length bytes) × IsHeaderFor bytes 
 IsFrontOf bytes Begun = IsBegun bytes
 IsFrontOf bytes Refused = IsBad bytes
 
--- what is told of a front; where a head goes on, nothing is
+-- what is reported of a front; where a head goes on, nothing is
 abbrev pub IsToldFront : List ℕ → Front → Type 0
 IsToldFront bytes (Found head) = (head.len ≤ length bytes) × IsHeaderFor bytes head.header (drop head.len bytes)
 IsToldFront bytes Begun = Unit {0}

@@ -88,7 +88,7 @@ held_progress (in_head front) = Head
 held_progress (in_body header body) = progress_by_length (announced header) (length body)
 held_progress at_bad_head = BadHead
 
--- the code of what is held, by which a proof tells two such values apart
+-- the code of what is held, by which a proof distinguishes two such values
 abbrev split : Held → List ℕ ⊎ ((ResponseHeader × List ℕ) ⊎ Unit {0})
 split (in_head front) = inl front
 split (in_body header body) = inr (inl (header, body))

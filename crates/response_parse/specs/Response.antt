@@ -116,7 +116,7 @@ pub record IsReading (bytes : List ℕ) (r : Reading) : Type 0 where
   pub refused : BeginsNoHead bytes → r ≡ no_head
 
 -- what a head gives whose body has this length, with the bytes after it: the body is so many of them, or without a length all
--- of them, and where fewer came, it is told how many
+-- of them, and where fewer came, it is reported how many
 abbrev pub parsed_by_body : ResponseHeader → Option ℕ → List ℕ → Parsed
 parsed_by_body header None rest = Complete (record { header = header; body = rest })
 parsed_by_body header (Some n) rest =

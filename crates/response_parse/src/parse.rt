@@ -121,7 +121,7 @@ impl ResponseParse {
     }
 
     /// Takes the next piece, and returns how far the response has come. Bytes after the body are ignored. A head is kept until it
-    /// ends, however long: a caller that reads from strangers bounds how many bytes come before its end.
+    /// ends, however long: a caller that reads from attackers bounds how many bytes come before its end.
     ///
     /// # Errors
     ///

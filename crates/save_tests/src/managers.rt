@@ -86,7 +86,7 @@ fn puts_cut(folder: &mut MemFolder, text: &[u8], cut: usize) -> bool {
     }
 }
 
-// Whether a load tells so many shards loaded, missing and errored, and leaves so many entries.
+// Whether a load reports so many shards loaded, missing and errored, and leaves so many entries.
 fn loads(alloc: Global, manager: &mut Shard, folder: &mut MemFolder, wanted: [usize; 4]) -> bool {
     let [loaded, missing, errored, items] = wanted;
     match manager.load(alloc, folder, "dir") {

@@ -55,7 +55,7 @@ fn cut(alloc: Global, folder: &mut MemFolder) -> Option<()> {
     Some(())
 }
 
-// Whether a save whose renames fail is told.
+// Whether a save whose renames fail is reported.
 fn is_told<R: Wait>(rt: &R, alloc: Global, manager: &Running<1>) -> bool {
     let mut folder = TestFolder::renames_fail(MemFolder::new(alloc));
     is_file(manager.save(rt, alloc, &mut folder, "dir", &[8]))

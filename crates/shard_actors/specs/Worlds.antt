@@ -89,7 +89,7 @@ pub record IsWorld {K : Type 0} (n : ℕ) (first : Core K) (h : History K) (w : 
   pub queues : (i : ℕ) → i < n → to_shard n i (sent h) ≡ to_shard n i (taken h) ++ queue_of w i
   pub dispatch : evicted h ≡ called h ++ w.dispatch
 
--- what a step of n shards that were `old` tells of its turn
+-- what a step of n shards that were `old` reports of its turn
 abbrev pub Tells : {K : Type 0} → ℕ → State K → Event K → Result (Outcome K) (StepFault K) → Turn K → Type 0
 Tells n old (Send m) (Ok (Sent i)) t = (i ≡ hash_of m % n) × (t ≡ sends m)
 Tells n old (Send m) (Err (Unsent back)) t = (back ≡ m) × (t ≡ rests)

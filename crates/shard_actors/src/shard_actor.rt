@@ -14,7 +14,7 @@ use std::hash::{BuildHasher, BuildHasherDefault, FoldHasher};
 /// A shard's list, as its actor keeps it.
 ///
 /// Rows are found by the hashes of their keys' hashes. `with_capacity` hashes with a fixed start, for keys that the caller chooses
-/// itself; `with_hasher` takes a start of the caller's, for keys that strangers choose, who then can't slow look-ups down.
+/// itself; `with_hasher` takes a start of the caller's, for keys that attackers choose, who then can't slow look-ups down.
 #[derive(Drop)]
 pub struct ShardActor<K, S: BuildHasher = BuildHasherDefault<FoldHasher>> {
     /// The rows, keyed by hash, most recent first.

@@ -22,7 +22,7 @@ use std::marker::Model;
 /// N shards with their queues of messages, and the evicted pairs that wait for their callbacks.
 ///
 /// Rows are found by the hashes of their keys' hashes. `new` hashes with a fixed start, for keys that the caller chooses itself;
-/// `with_hasher` takes a start of the caller's, for keys that strangers choose, who then can't slow look-ups down.
+/// `with_hasher` takes a start of the caller's, for keys that attackers choose, who then can't slow look-ups down.
 #[derive(Drop)]
 pub struct World<K, const N: usize, S: BuildHasher = BuildHasherDefault<FoldHasher>> {
     core: LruCore<K, N, S>,
@@ -88,7 +88,7 @@ impl<K: Drop, const N: usize, S: BuildHasher + Copy> World<K, N, S> {
 }
 
 impl<K: Drop, const N: usize, S: BuildHasher> World<K, N, S> {
-    /// Does one step. Each history that the world may have come from has one turn more then, of which the answer tells.
+    /// Does one step. Each history that the world may have come from has one turn more then, which the answer gives.
     ///
     /// # Errors
     ///

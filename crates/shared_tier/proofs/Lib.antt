@@ -1,1 +1,2 @@
 pub mod GatherLaws
+pub mod Rooms

@@ -135,7 +135,6 @@ impl<const N: usize, R: Rng, L: Ledger, S: BuildHasher> SharedTier<N, R, L, S> {
     ///
     /// The number of outstanding passes, if there are any. The shared tier comes back.
     pub fn close(self) -> Result<Recorded<N, R, L, S>, (u64, SharedTier<N, R, L, S>)>
-        requires { L.parts ≡ 4294967296 }
         ensures closed { IfOk result (λ recorded. IsClosed recorded) }
         ensures replayed { IfOk result (λ recorded. IsReplayed N recorded (R.stream recorded.opening.rng) (R.stream recorded.rng)) }
         ensures turns { IfOk result (λ recorded. HasTurns [] recorded.history) }

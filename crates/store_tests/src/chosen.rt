@@ -1,16 +1,16 @@
 //! Keys, tags and ids that are chosen so that std's hasher multiplies by 0, or nearly so, where it hashes them in one write: 64 such values then have one
 //! place or two of 64. The hashes start with a known word, so that each run gives the same.
 use cache_entries::entry::{CacheEntryId, CacheEntryKey};
-use cache_tables::{ConcurrentHashTable, ConcurrentLruCache};
+use cache_predictor::{ConcurrentHashTable, ConcurrentLruCache};
 use cache_words::key::CacheKey;
 use entry_numbers::Numbers;
-use secret_hasher::SecretHasher;
+use lru_core::SeededState;
 use std::alloc::Global;
 use std::hash::{BuildHasher, Hasher};
 use std::sync::Wait;
 use std::test::*;
 
-const HASHER: SecretHasher = SecretHasher {
+const HASHER: SeededState = SeededState {
     word: 0x1357_9bdf_0246_8ace,
 };
 
@@ -54,7 +54,7 @@ const ROWS: &[Chosen] = &[
 fn hash_of_entry(alloc: Global, tag: String, id: Option<CacheEntryId>) -> Option<u64> {
     let primary = Vec::from_slice(alloc, b"k").ok()?;
     let key = CacheKey::new(primary, tag).to_compact().ok()?;
-    let numbers: Numbers<1, SecretHasher> = Numbers::with_hasher(alloc, HASHER);
+    let numbers: Numbers<1, SeededState> = Numbers::with_hasher(alloc, HASHER);
     Some(numbers.hash_of(&CacheEntryKey::from_entry_id(key, id)))
 }
 
@@ -110,7 +110,7 @@ fn chosen_values_hash_apart(rt: HostRuntime) {
 /// How many chosen keys are put: were they hashed alike, the tests would take minutes.
 const KEYS: u64 = 30_000;
 
-fn fill_map<R: Wait>(rt: &R, map: &ConcurrentHashTable<u64, 4, SecretHasher>) -> Option<()> {
+fn fill_map<R: Wait>(rt: &R, map: &ConcurrentHashTable<u64, 4, SeededState>) -> Option<()> {
     for number in 0..KEYS {
         let key = wide(MULTIPLIER, number);
         map.write(rt, key).insert(key, number).ok()?;
@@ -118,7 +118,7 @@ fn fill_map<R: Wait>(rt: &R, map: &ConcurrentHashTable<u64, 4, SecretHasher>) ->
     Some(())
 }
 
-fn found_in_map<R: Wait>(rt: &R, map: &ConcurrentHashTable<u64, 4, SecretHasher>) -> u64 {
+fn found_in_map<R: Wait>(rt: &R, map: &ConcurrentHashTable<u64, 4, SeededState>) -> u64 {
     let mut found: u64 = 0;
     for number in 0..KEYS {
         let key = wide(MULTIPLIER, number);
@@ -138,7 +138,7 @@ fn maps_hold_chosen_keys(rt: HostRuntime) {
     assert!(rt; found == Some(KEYS));
 }
 
-fn fill_lists<R: Wait>(rt: &R, lists: &ConcurrentLruCache<u64, 4, SecretHasher>) -> Option<()> {
+fn fill_lists<R: Wait>(rt: &R, lists: &ConcurrentLruCache<u64, 4, SeededState>) -> Option<()> {
     for number in 0..KEYS {
         let key = wide(MULTIPLIER, number);
         lists.write(rt, key).put(key, number).ok()?;
@@ -146,7 +146,7 @@ fn fill_lists<R: Wait>(rt: &R, lists: &ConcurrentLruCache<u64, 4, SecretHasher>)
     Some(())
 }
 
-fn found_in_lists<R: Wait>(rt: &R, lists: &ConcurrentLruCache<u64, 4, SecretHasher>) -> u64 {
+fn found_in_lists<R: Wait>(rt: &R, lists: &ConcurrentLruCache<u64, 4, SeededState>) -> u64 {
     let mut found: u64 = 0;
     for number in 0..KEYS {
         let key = wide(MULTIPLIER, number);

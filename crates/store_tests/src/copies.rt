@@ -13,7 +13,7 @@ struct Row {
     names: u16,
     sensitive: bool,
     renewed: bool,
-    // Whether its head is packed, if it has a value to tell it by.
+    // Whether its head is packed, if it has a value that shows it.
     packed: Option<bool>,
     // Whether it shares no buffer.
     own: bool,

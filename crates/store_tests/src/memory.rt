@@ -111,7 +111,7 @@ impl Bench {
         }
     }
 
-    // Whether a writer that finishes tells this size, or that it was removed.
+    // Whether a writer that finishes reports this size, or that it was removed.
     fn ends(&mut self, writer: MemMissHandler, size: Option<usize>) -> bool {
         match writer.finish(&mut self.store) {
             Ok(MissFinishType::Created(created)) => size == Some(created),

@@ -14,7 +14,7 @@ ghost use Rattle.tier_loads.specs.Holds.{AreApart, Holds};
 ghost use Rattle.tier_loads.specs.Requests.{PlainRequest, entry_of, step_of, steps_of, Does, AreServed};
 ghost use Rattle.tier_loads.specs.Uniform.{IsUniform, IsWeighed, AreUniform, used_in, weight_in};
 
-/// What each change of order of use and bodies leaves, where they were what loads tell: a use of what is found, a body that is
+/// What each change of order of use and bodies leaves, where they were what loads report: a use of what is found, a body that is
 /// stored and the evictions after it, a purge, and a purge that finds nothing.
 pub fn changes_are_steps()
     ensures found { (in_use : Entry → Bool) (weight : CacheEntryKey → ℕ) (limit : ℕ) (watermark : Option ℕ) (steps : List Step) (m : Managed) (bodies : Bodies) (k : Entry) (b : Body)

@@ -1,4 +1,4 @@
-//! What requests of a tier of one shard find, told by the requests alone.
+//! What requests of a tier of one shard find, by the requests alone.
 //!
 //! Requests are uniform where each stored key has one entry and each entry one weight. After uniform requests, none refused, a
 //! request or a purge finds its key exactly where the key was asked for before, not purged since, and its load (see

@@ -68,7 +68,7 @@ AreReadRight-lawful start (c ∷ h) l =
     let past : Stands start (state_of start h) h = Stands-lawful start h l.1 in
     (ReadIsRight-allowed start (state_of start h) h past.holds past.count (opened_request start (state_of start h) h past) past.counted past.reads c l.0, AreReadRight-lawful start h l.1)
 
--- a write began in each call that tells of one
+-- a write began in each call that reports of one
 counted_put : (s : State) (may v : Bool) (b : Option FinishedBody) (o : Outcome) → BeginsWrite s may (cond (is_some b) (has_stored o) (is_begun o)) v → (x : FinishedBody) → b ≡ Some x
     → has_stored o ≡ true → v ≡ true
 counted_put s may v b o begins x e stored = begun-told s may (cond (is_some b) (has_stored o) (is_begun o)) v begins (ap (λ (y : Option FinishedBody). cond (is_some y) (has_stored o) (is_begun o)) e ∙ stored)

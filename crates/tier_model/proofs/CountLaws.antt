@@ -39,7 +39,7 @@ pub record Counts (old new : State) (o : Outcome) : Type 0 where
   pub absent : new.absent ≡ counted_if (is_absent o) old.absent
   pub evicted : (k : ℕ) → old.managed.evicted_items ≡ saturated k → new.managed.evicted_items ≡ saturated (k + length (evicted_by o))
 
--- an outcome that tells of nothing counted
+-- an outcome that reports of nothing counted
 pub record IsQuiet (o : Outcome) : Type 0 where
   pub found : is_found o ≡ false
   pub absent : is_absent o ≡ false

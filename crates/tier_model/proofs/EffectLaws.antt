@@ -99,7 +99,7 @@ same-all s new h = record {
 
 -- ---- what a call says of locks
 
--- it ends no permit but of one that has none, gives none, gives no wait to one that waits then, and tells nobody that a wait is past its age
+-- it ends no permit but of one that has none, gives none, gives no wait to one that waits then, and answers nobody that a wait is past its age
 pub record SaysLittle (s new : State) (action : Action) (o : Outcome) : Type 0 where
   pub ends : (id : ℕ) → is_end_of_permit id action o ≡ true → grip_at s id ≡ free
   pub gives : (id : ℕ) → is_permit (given_after id action o lock.None) ≡ false
@@ -140,7 +140,7 @@ pub data Effect (s new : State) (t : MomentValue) (action : Action) (o : Outcome
   back : (key : StoredKey) (stale : Bool) → Same (grip_at s) (grip_at new) (hold_at s) (hold_at new)
       → changes ≡ leave_changes (locked_by s.lock (to_wait_for key s.lock)) ++ lock_change key stale t s.lock (to_wait_for key s.lock) ∷ [] → SaysLittle s new action o
       → Effect s new t action o changes
-  -- a wait is told how it ended
+  -- a wait is reported how it ended
   polled : (r n : ℕ) (key : StoredKey) (over : Bool) (outcome : LockStatus) → Moves (grip_at s) (grip_at new) (hold_at s) (hold_at new) r (grips false n key) free
       → changes ≡ spends n ∷ poll_changes n (wait_outcome n [] t s.lock) → action ≡ Poll r → o ≡ Ok (Waited (Some outcome))
       → ended_by (wait_outcome n [] t s.lock) (status_of n s.lock) over ≡ Some outcome

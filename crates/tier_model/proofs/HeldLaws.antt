@@ -1,4 +1,4 @@
--- The bodies that a state holds are the writes that are bodies, each with what is told of it.
+-- The bodies that a state holds are the writes that are bodies, each with what is reported of it.
 use Rattle.std.proofs.Common.{◌≡◌, ℕ, ◌+◌, refl, ap, sym, ◌∙◌, true, false, subst, cond, [], ◌∷◌, length, arith, Ordering, Less, Equal, Greater}
 use Rattle.std.specs.Prelude.{Bool, T, ◌&&◌, List, Option, Some, map, find}
 use Rattle.std.specs.List.{AllByRecursion, sum_by}
@@ -117,7 +117,7 @@ module _ (N n : ℕ) (bodies : Bodies) (fs : List InFlight) (m : Managed) (chang
   distinct_writes [] (w ∷ ws) p d = absurd p
   distinct_writes (b ∷ bs) [] p d = absurd p
 
-  -- what is told of them
+  -- what is reported of them
   all_told : (ys : Rows) (ws : List (Write Kept)) → ArePairs ys ws → ys ≡ map (told_at changes) ws
   all_told [] [] p = refl
   all_told (b ∷ bs) (w ∷ ws) p =

@@ -47,7 +47,7 @@ pub no-fewer : (n : ℕ) (began : Bool) → n ≤ writes_after n began
 no-fewer n true = omega arith
 no-fewer n false = omega arith
 
--- a write began of what is told
+-- a write began of what is reported
 pub begun-told : (s : State) (may told v : Bool) → BeginsWrite s may told v → told ≡ true → v ≡ true
 begun-told s may told true x e = refl
 begun-told s may told false x e = cc

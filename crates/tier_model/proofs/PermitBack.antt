@@ -44,7 +44,7 @@ module _ (s : State) (action : Action) (o : Outcome) (changes : Changes) (k : St
     pub key : key_for request ≡ k
     pub gives : is_permit (given_after id action o lock.None) ≡ true
 
-  -- the core waited before, and the call neither ends its permit nor tells one that waits for it that it is past its age
+  -- the core waited before, and the call neither ends its permit nor answers one that waits for it that it is past its age
   pub record Stays : Type 0 where
     pub core : core_of k changes ≡ Some n
     pub waiting : last_status n changes ≡ Waiting
@@ -99,7 +99,7 @@ module _ (s new : State) (t : MomentValue) (action : Action) (o : Outcome) (chan
   -- ---- polls
 
   module _ (r m : ℕ) (key : StoredKey) (over : Bool) (outcome : LockStatus) (was : grip_at s r ≡ grips false m key) (act : action ≡ Poll r) (out : o ≡ Ok (Waited (Some outcome))) where
-    -- one that is told so waits for another core, or under another key
+    -- one that gets that answer waits for another core, or under another key
     aged_apart : (outcome ≡ AgeTimeout → (m == n) ≡ false) → (id : ℕ) (since before : History) → AreOpen s k (since ++ before) → IsCore s changes k id n (λ r. last_given r since)
         → (st : LockStatus) → outcome ≡ st
         → is_aged_poll k (Poll r) (Ok (Waited (Some st))) since before ≡ false

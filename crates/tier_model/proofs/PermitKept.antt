@@ -33,7 +33,7 @@ use Rattle.tier_model.proofs.PermitSteps.{IsCore, polled_given, not_it, not_its_
 abbrev pub AreOpen : State → StoredKey → History → Type 0
 AreOpen s k h = (r m : ℕ) (p : Bool) (key : StoredKey) → grip_at s r ≡ grips p m key → is_for k (opened_for r h) ≡ same_bytes key k
 
--- one that was told that its wait is past the permit's age
+-- one that was answered that its wait is past the permit's age
 pub told_aged : (k : StoredKey) (r : ℕ) (action : Action) (o : Outcome) (since before : History) → action ≡ Poll r → o ≡ Ok (Waited (Some AgeTimeout))
     → is_aged_poll k action o since before ≡ (is_for k (opened_for r (since ++ before)) && is_wait (last_given r since))
 told_aged k r action o since before act out = ap (λ (a : Action). is_aged_poll k a o since before) act ∙ ap (λ (y : Outcome). is_aged_poll k (Poll r) y since before) out
@@ -52,7 +52,7 @@ module _ (s new : State) (t : MomentValue) (action : Action) (o : Outcome) (chan
 
   module _ (r m : ℕ) (key : StoredKey) (over : Bool) (outcome : LockStatus) (moves : Moves (grip_at s) (grip_at new) (hold_at s) (hold_at new) r (grips false m key) free)
       (act : action ≡ Poll r) (out : o ≡ Ok (Waited (Some outcome))) where
-    -- one that waits for the permit isn't told that it is past its age
+    -- one that waits for the permit isn't answered that it is past its age
     not_aged : outcome ≡ AgeTimeout → (n == m) ≡ false
     not_aged is = differ n m (λ e.
         let there : grip_at s r ≡ grips false n key = moves.was ∙ ap (λ (j : ℕ). grips false j key) (sym e) in

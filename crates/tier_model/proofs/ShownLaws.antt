@@ -1,4 +1,4 @@
--- What the bodies and the writes in flight that are left tell of writes.
+-- What the bodies and the writes in flight that are left report of writes.
 use Rattle.std.proofs.Common.{◌≡◌, ℕ, refl, ap, sym, ◌∙◌, true, false, inl, inr}
 use Rattle.std.specs.Prelude.{List, Option, Some, None, option_map, is_some, find}
 use Rattle.cache_entries.specs.Keys.{same_bytes}
@@ -20,7 +20,7 @@ use Rattle.tier_model.specs.Rows.{Bodies, body_of}
 use Rattle.tier_model.proofs.BodyLaws.{view, AreSame}
 use Rattle.tier_model.proofs.ChangeLaws.{Leaves}
 
--- ---- what the bodies that are left tell of writes
+-- ---- what the bodies that are left report of writes
 
 -- where none is first in flight, none flies
 none_flies : (k : StoredKey) (v : Write Kept) (changes : Changes Kept) → IsOrderly changes → find (flies_for k) (store_of changes).flying ≡ None → IsFlying k v changes → ⊥

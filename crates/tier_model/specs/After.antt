@@ -171,7 +171,7 @@ abbrev pub writing : ℕ → Request → Request
 writing n q = record q { phase = begun; held = nothing; write = Some n; reader = streaming n 0 }
 
 -- the state after a begin with a head that is kept, and with one that isn't. The meta is that of a new response. Where a store lets a write
--- that begins from something stale keep the provenance of that, the state doesn't tell of it, as no answer shows it
+-- that begins from something stale keep the provenance of that, the state doesn't show it, as no answer shows it
 abbrev pub after_begin : State → ℕ → Request → Option Judged → State
 after_begin s id q (Some (kept meta)) = record s {
   shelf = turned q.reader (streaming s.shelf.writes 0) (shelf.begun (key_for q) meta s.shelf);

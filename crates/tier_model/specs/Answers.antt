@@ -5,7 +5,7 @@ use Rattle.cache_heads.specs.declared.meta.CacheMeta.{CacheMeta}
 use Rattle.cache_entries.specs.declared.entry.CacheEntryKey.{CacheEntryKey}
 use Rattle.cache_entries.specs.Entry.{key_of}
 use Rattle.cache_changes.specs.Changes.{StoredKey, stored_key}
-use Rattle.cache_evict.specs.Managed.{Managed, put_first, use_first, total_size, IsHeavy, IsLong, IsFull, HasNoOtherReason}
+use Rattle.cache_evict.specs.Managed.{Managed, put_first, use_first, Fits, IsHeavy, IsLong, IsFull, HasNoOtherReason}
 use Rattle.cache_lock.specs.Answers.{to_wait_for, wait_outcome}
 use Rattle.cache_lock.specs.State.{LockState, status_of}
 use Rattle.cache_lock.specs.declared.fills.WaitOutcome.{WaitOutcome}
@@ -74,7 +74,7 @@ look_answer t given (finished b) = Found (is_fresh t b.meta) true given
 
 -- ---- waits
 
--- how a wait ends by what the lock tells, else by the longest wait
+-- how a wait ends by what the lock reports, else by the longest wait
 abbrev pub ended_by : Option WaitOutcome → LockStatus → Bool → Option LockStatus
 ended_by (Some wait.Released) ended over = Some ended
 ended_by (Some wait.AgeTimeout) ended over = Some status.AgeTimeout
@@ -85,7 +85,7 @@ abbrev pub is_past : Option DurationValue → Option DurationValue → DurationV
 is_past None waited now = false
 is_past (Some longest) waited now = at_least now (difference longest (unwrap_or waited (span_of 0)))
 
--- what a poll tells of a wait for core n
+-- what a poll reports of a wait for core n
 abbrev pub polled : LockState → MomentValue → Request → Held → Option LockStatus
 polled s t q (waits n first) = ended_by (wait_outcome n [] t s) (status_of n s) (is_past q.wait q.waited (time_waited first t))
 polled s t q _ = None
@@ -126,11 +126,7 @@ admitted s b = put_first (shards_of s) (alone b.entry) (weight_for b.body) s.man
 abbrev pub used : State → CacheEntryKey → Body → Managed
 used s e b = use_first (shards_of s) e (weight_for b) s.managed
 
--- the weights together can be counted
-abbrev pub Fits : Managed → Type 0
-Fits m = total_size m < 2 ^ 64
-
--- why an entry of that weight is kept out of the order of use, and what was done until then; memory is told only of an entry that isn't
+-- why an entry of that weight is kept out of the order of use, and what was done until then; memory is reported only of an entry that isn't
 -- tracked, where nothing else keeps it out
 abbrev pub IsKeptOut : State → CacheEntryKey → ℕ → Done → TierFault → Type 0
 IsKeptOut s e w done (Memory told) = (told ≡ done) × HasNoOtherReason (shards_of s) e w s.managed
@@ -141,7 +137,7 @@ IsKeptOut s e w done _ = ⊥
 
 -- the body is stored, and what went to make room for it is enough
 abbrev pub IsStored : State → FinishedBody → Answer → Type 0
-IsStored s b (Finished n evicted) = (n ≡ length b.body.bytes) × Fits (admitted s b) × GoInTurn (shards_of s) false evicted (admitted s b)
+IsStored s b (Finished n evicted) = (n ≡ length b.body.bytes) × Fits (shards_of s) (admitted s b) × GoInTurn (shards_of s) false evicted (admitted s b)
 IsStored s b _ = ⊥
 
 -- what a put may answer, by what it finishes and what its response gives
@@ -152,7 +148,7 @@ IsPutAnswer s _ _ _ = ⊥
 
 -- memory ran out in the midst of the evictions, after an admission that fits
 abbrev pub IsCutShort : State → FinishedBody → TierFault → Type 0
-IsCutShort s b f = (evicted : List CacheEntryKey) × (f ≡ Memory (all_done evicted)) × Fits (admitted s b) × GoInTurn (shards_of s) true evicted (admitted s b)
+IsCutShort s b f = (evicted : List CacheEntryKey) × (f ≡ Memory (all_done evicted)) × Fits (shards_of s) (admitted s b) × GoInTurn (shards_of s) true evicted (admitted s b)
 
 -- why a body that was stored is taken back
 abbrev pub IsStoreFault : State → FinishedBody → TierFault → Type 0

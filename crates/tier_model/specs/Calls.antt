@@ -1,4 +1,4 @@
--- Calls of a tier, and what one call tells: what it stored and evicted, what a request read, and whether it asks for a lock.
+-- Calls of a tier, and what one call reports: what it stored and evicted, what a request read, and whether it asks for a lock.
 use Rattle.std.specs.Prelude.{◌≡◌, ℕ, ◌+◌, ◌==◌, Bool, true, false, ◌&&◌, not, List, [], ◌∷◌, ◌++◌, if◌then◌else◌, Option, Some, None, Result, Ok, Err}
 use Rattle.cache_entries.specs.declared.entry.CacheEntryKey.{CacheEntryKey}
 use Rattle.tier_model.specs.Rows.{FinishedBody}
@@ -92,7 +92,7 @@ abbrev pub is_begun : Outcome → Bool
 is_begun (Ok Begun) = true
 is_begun _ = false
 
--- a write of which a call tells began in the call: of a body that it finished and stored, and of a begin that was answered begun
+-- a write of which a call reports began in the call: of a body that it finished and stored, and of a begin that was answered begun
 abbrev pub CountsItsWrite : Call → Type 0
 CountsItsWrite c =
     ((b : FinishedBody) → finished_by c ≡ Some b → has_stored c.outcome ≡ true → c.began ≡ true) × (is_begun c.outcome ≡ true → c.began ≡ true)

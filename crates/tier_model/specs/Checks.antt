@@ -40,7 +40,7 @@ abbrev pub unless_open : Option Request → (Request → Option TierFault) → O
 unless_open None check = Some NoRequest
 unless_open (Some q) check = check q
 
--- a request with a permit may not look up, and one that waits is told so
+-- a request with a permit may not look up, and one that waits gets that answer
 abbrev pub look_refusal : Request → Option TierFault
 look_refusal q =
     if can_look_up q.phase && not (has_permit q.held)

@@ -13,7 +13,7 @@ abbrev pub all_gone : ℕ → List CacheEntryKey → Managed → Managed
 all_gone n [] m = m
 all_gone n (e ∷ es) m = all_gone n es (gone n e m)
 
--- these go in turn, each the last of its shard while a limit is passed; `over` tells whether one is passed still after them
+-- these go in turn, each the last of its shard while a limit is passed; `over` says whether one is passed still after them
 abbrev pub GoInTurn : ℕ → Bool → List CacheEntryKey → Managed → Type 0
 GoInTurn n over [] m = is_over m ≡ over
 GoInTurn n over (e ∷ es) m = (is_over m ≡ true) × IsLast (rows_of n e m) e × GoInTurn n over es (gone n e m)

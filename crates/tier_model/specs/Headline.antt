@@ -48,7 +48,7 @@ pub record EndsOver (settings : Settings) (over : Bool) (changes : Changes Kept)
   pub order : IsOrderOfUse rows changes
   pub ends : is_over settings.limit settings.watermark rows ≡ over
 
--- what a refusal tells, by whether a body was stored and its entry admitted: none went where it wasn't admitted, and where it was, not enough
+-- what a refusal reports, by whether a body was stored and its entry admitted: none went where it wasn't admitted, and where it was, not enough
 abbrev pub TellsDone : Settings → Bool → Bool → ℕ → Option FinishedBody → List CacheEntryKey → Changes Kept → Type 0
 TellsDone settings false admitted n finished evicted before = (admitted ≡ false) × (evicted ≡ [])
 TellsDone settings true false n finished evicted before = (b : FinishedBody) × (finished ≡ Some b) × (evicted ≡ [])
@@ -81,7 +81,7 @@ PieceIsRight held (Ok answer) before = (answer ≡ Written) × ((w : Write Kept)
 PieceIsRight held (Err fault.AfterEnd) before = (w : Write Kept) × (held ≡ Some w) × (has_ended w.number before ≡ true)
 PieceIsRight held (Err f) before = done_of f ≡ nothing_done
 
--- what a finish did before it was refused, as a put's refusal tells, of the bytes that came; a body was stored only of a write that is alive
+-- what a finish did before it was refused, as a put's refusal reports, of the bytes that came; a body was stored only of a write that is alive
 abbrev pub TellsFinish : Settings → Bool → Bool → Option (Write Kept) → List CacheEntryKey → Changes Kept → Type 0
 TellsFinish settings false admitted held evicted before = (admitted ≡ false) × (evicted ≡ [])
 TellsFinish settings true false held evicted before = (w : Write Kept) × (held ≡ Some w) × IsAlive w before × (evicted ≡ [])
@@ -119,9 +119,9 @@ abbrev pub AreRight : Opening → History → Type 0
 AreRight start [] = Unit {0}
 AreRight start (c ∷ h) = IsRight start c.event.moment c.event.action c.outcome c h × AreRight start h
 
--- the headline of a tier that began so: what was read of each put and begin is a reading of its own bytes, each write of which an answer
--- tells has a number of its own, the answers are right, reads give what they are to give, a lock that is asked for gives the permit exactly
--- where none waits, one that waits is told when the permit waits no more or time is up, finished bodies keep both limits, each body's entry is
+-- the headline of a tier that began so: what was read of each put and begin is a reading of its own bytes, each write that an answer
+-- reports has a number of its own, the answers are right, reads give what they are to give, a lock that is asked for gives the permit exactly
+-- where none waits, one that waits is answered when the permit waits no more or time is up, finished bodies keep both limits, each body's entry is
 -- tracked with at least its length, and what went to make room went lawfully
 pub record Headline (start : Opening) (h : History) : Type 0 where
   pub readings : AllByRecursion (λ c. IsRead c.event.action c.reading) h

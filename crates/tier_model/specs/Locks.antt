@@ -51,17 +51,17 @@ abbrev pub is_aged_poll : StoredKey → Action → Outcome → History → Histo
 is_aged_poll k (Poll request) (Ok (Waited (Some AgeTimeout))) since before = is_for k (opened_for request (since ++ before)) && is_wait (last_given request since)
 is_aged_poll k _ _ since before = false
 
--- the call told a request for k that its wait is past the permit's age; that wait was given among the calls `since`
+-- the call answered a request for k that its wait is past the permit's age; that wait was given among the calls `since`
 abbrev pub aged_for : StoredKey → Call → History → History → Bool
 aged_for k c since before = is_aged_poll k c.event.action c.outcome since before
 
--- no call among these, with those before them, told that to one that was given a wait for k among them
+-- no call among these, with those before them, gave that answer to one that was given a wait for k among them
 abbrev pub AreTimely : StoredKey → History → History → Type 0
 AreTimely k [] before = Unit {0}
 AreTimely k (c ∷ since) before = (aged_for k c since before ≡ false) × AreTimely k since before
 
 -- a permit of k waits: it was given, its request met no begin, no uncacheable head and no drop since, and none that waits for it
--- was told that it is past its age
+-- was answered that it is past its age
 pub record PermitWaits (k : StoredKey) (h : History) : Type 0 where
   pub since : History
   pub call : Call

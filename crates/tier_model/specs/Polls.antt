@@ -24,7 +24,7 @@ pub record WaitsStill (id : ℕ) (k : StoredKey) (h : History) : Type 0 where
 abbrev pub told_in_time : Bool → Bool → Option LockStatus
 told_in_time aged over = if aged then Some AgeTimeout else (if over then Some WaitTimeout else None)
 
--- what the request is told that waits for a permit of k, and polled first at that moment: while the permit waits, by the time; once it
+-- what is answered to the request that waits for a permit of k, and polled first at that moment: while the permit waits, by the time; once it
 -- doesn't, one of the ends of a permit
 abbrev pub WaitIsTold : Opening → ℕ → StoredKey → Option MomentValue → MomentValue → Option LockStatus → History → Type 0
 WaitIsTold start id k first t told h =

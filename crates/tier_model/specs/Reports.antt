@@ -58,7 +58,7 @@ pub record AreAllBodies (writes : List (Write Kept)) (changes : Changes Kept) : 
   pub each : AllByRecursion (λ w. IsBody w.key w changes) writes
   pub all : (k : StoredKey) (w : Write Kept) → IsBody k w changes → find (λ v. same_bytes v.key k) writes ≡ Some w
 
--- what the report tells of a history
+-- what the report says of a history
 pub record IsReport (r : Report) (start : Opening) (h : History) : Type 0 where
   pub found : r.found ≡ saturated (found_answers h)
   pub absent : r.absent ≡ saturated (absent_answers h)

@@ -3,7 +3,7 @@ use Rattle.std.specs.Prelude.{◌≡◌, ◌≢◌, ℕ, ◌-◌, ◌^◌, Bool,
 use Rattle.std.specs.FinMap.{get}
 use Rattle.cache_words.specs.Time.{MomentValue}
 use Rattle.cache_entries.specs.Rows.{weight_of}
-use Rattle.cache_evict.specs.Managed.{rows_of}
+use Rattle.cache_evict.specs.Managed.{rows_of, Fits}
 use Rattle.cache_lock.specs.Answers.{to_wait_for, IsSpent}
 use Rattle.tier_model.specs.Keys.{stored_key_of}
 use Rattle.tier_model.specs.declared.event.LockGiven.TheVariants as lock
@@ -19,12 +19,12 @@ use Rattle.tier_model.specs.Rows.{weight_for}
 use Rattle.tier_model.specs.Shelf.{Shelf, Look, finished, look, is_there, readable, past_place}
 use Rattle.tier_model.specs.State.{Reader, streaming, Request, State, shards_of}
 use Rattle.tier_model.specs.Checks.{refusal}
-use Rattle.tier_model.specs.Answers.{key_for, look_for, asks_now, lock_given, look_answer, polled, read_answer, used, Fits, IsKeptOut, IsStored, IsPutAnswer, IsPutFault, IsBeginAnswer}
+use Rattle.tier_model.specs.Answers.{key_for, look_for, asks_now, lock_given, look_answer, polled, read_answer, used, IsKeptOut, IsStored, IsPutAnswer, IsPutFault, IsBeginAnswer}
 use Rattle.tier_model.specs.Answers.{IsBeginFault, finishing, IsFinishFault}
 
--- the weights can be counted after the use of what a request found
+-- each shard is within its bound after the use of what a request found
 abbrev pub UseFits : State → Request → Look → Type 0
-UseFits s q (finished b) = Fits (used s q.entry b)
+UseFits s q (finished b) = Fits (shards_of s) (used s q.entry b)
 UseFits s q _ = Unit {0}
 
 -- what is said of an open request
@@ -91,7 +91,7 @@ AllowsBy None s t action c outcome = MatchResult outcome (IsAnswer s t action c)
 
 -- ---- what happened besides
 
--- whether a write began: of a body to finish or a head that is kept, where a number is left, and always where it is told of
+-- whether a write began: of a body to finish or a head that is kept, where a number is left, and always where it is reported
 abbrev pub BeginsWrite : State → Bool → Bool → Bool → Type 0
 BeginsWrite s may told true = (may ≡ true) × (s.shelf.writes ≢ 2 ^ 64 - 1)
 BeginsWrite s may told false = told ≡ false

@@ -34,7 +34,7 @@ pub fn lawful_histories_are_orderly()
     ensures locks { (start : Opening) (h : History) → IsLawful start h → locks.IsOrderly (lock_changes_of start h) }
 {}
 
-/// By the answers of such a history a permit of a key waits exactly where one waits by what was changed in the lock.
+/// In such a history a permit of a key waits by the answers exactly where one waits by the changes of the lock.
 pub fn a_permit_waits_as_the_lock_says()
     ensures { (start : Opening) (h : History) → IsLawful start h → (k : StoredKey) → locks.Waits k (lock_changes_of start h) ↔ PermitWaits k h }
 {}
@@ -50,7 +50,7 @@ pub fn refused_calls_leave_the_lock()
     ensures { (start : Opening) (c : Call) (h : History) (f : TierFault) → c.outcome ≡ Err f → IsAsBefore (state_of start (c ∷ h)).lock (state_of start h).lock }
 {}
 
-/// The report of a state that is what a history says tells of that history.
+/// The report of a state that matches a history is that of the history.
 pub fn reports_tell_the_history()
     ensures { (s : State) (start : Opening) (h : History) → MatchesHistory s start h → IsReport (report_of s) start h }
 {}

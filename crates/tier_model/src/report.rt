@@ -1,4 +1,4 @@
-//! What a tier tells of itself.
+//! What a tier reports of itself.
 
 /// What a tier did and holds. `found`, `absent` and `evicted` stop at 2^64 - 1.
 #[derive(Clone, Copy, PartialEq, Eq, Debug)]

@@ -3,8 +3,8 @@
 #![tactic(auto)]
 
 use log::{Log, warn};
+use lru_core::SeededState;
 use lru_files::persistence::HostFolder;
-use secret_hasher::SecretHasher;
 use std::io;
 use std::process::ExitCode;
 use std::random::RandomSource;
@@ -19,11 +19,11 @@ fn main(rt: HostRuntime) -> ExitCode {
     ExitCode::from(status(&outcome))
 }
 
-// Hashes with a start that nobody knows, since strangers choose the keys of a trace.
-fn random_start<R: RandomSource>(rt: &R) -> Result<SecretHasher, io::Error> {
+// Hashes with a start that nobody knows, since attackers choose the keys of a trace.
+fn random_start<R: RandomSource>(rt: &R) -> Result<SeededState, io::Error> {
     let mut bytes = [0; 8];
     rt.fill_bytes(&mut bytes)?;
-    Ok(SecretHasher {
+    Ok(SeededState {
         word: u64::from_le_bytes(bytes),
     })
 }

@@ -1,4 +1,4 @@
--- How the finish of a request's write is told, and what it leaves of the request.
+-- How the finish of a request's write is reported, and what it leaves of the request.
 use Rattle.std.proofs.Common.{◌≡◌, ℕ, refl, ap, sym, ◌∙◌, subst, Bool, true, false, cond, Some, None, Option, List}
 use Rattle.std.specs.Prelude.{is_some, Result}
 use Rattle.rand_core.specs.Stream.{Stream}

@@ -15,10 +15,6 @@ module _ (d : Driven) (asks : Bool) (wait : Option DurationValue) (gave : Bool) 
   same : phase_in d.phase false ≡ phase_in d.phase (is_some d.meta)
   same = reads-in d.phase (is_some d.meta) reads
 
-  -- it is the same by the plain record
-  pub forgotten-as : plain_of (without_meta d) asks wait gave bytes ≡ plain_of d asks wait gave bytes
-  forgotten-as = ap (λ (p : Phase). record (plain_of d asks wait gave bytes) { phase = p }) same
-
   pub driven-forgotten : IsDriven d asks wait gave bytes → IsDriven (without_meta d) asks wait gave bytes
   driven-forgotten i = record {
     used = i.used;

@@ -51,7 +51,7 @@ takes_lock None first true o s none on = let never : false ≡ true = on refl in
 takes_lock (Some c) first true None s none on = record { holds = refl; left = λ x. ap (λ l. left_by l x) none }
 takes_lock (Some c) first true (Some n) s none on = record { holds = refl; left = λ x. ap (λ l. left_by l x) none }
 
--- what is told of it
+-- what is reported of it
 told_given : (v : Bool) (o : Option ℕ) (s : LockState) → given_of (held_of (given_if v o) o s nothing) ≡ given_if v o
 told_given false o s = refl
 told_given true None s = refl
@@ -75,7 +75,7 @@ one_back key stale t s (Some n) = refl
 
 -- ---- what the lock gave
 
--- what a request holds and is told, and what the lock is then, where it was given g and the lock that was asked is `locked`
+-- what a request holds and is answered, and what the lock is then, where it was given g and the lock that was asked is `locked`
 pub record IsGiven (t : MomentValue) (q : Request) (l : Look) (s : LockState) (lock : RequestLock) (g : Option Locked) (locked : LockState) : Type 0 where
   pub holds : held_by (now_holding g lock) ≡ held_of (lock_given t q l s) (to_wait_for (key_for q) s) s q.held
   pub told : given_of (held_by (now_holding g lock)) ≡ lock_given t q l s
@@ -184,7 +184,7 @@ handed-back t q l s g locked back a e = record { asked = asks_now t q l; due = �
 pub lock-left : (t : MomentValue) (q : Request) (l : Look) (s left : LockState) → left ≡ s → LeavesLock t q l s left
 lock-left t q l s left e = record { asked = false; due = λ x. absurd cc; lock = e }
 
--- what is told where a lock refuses that is asked for
+-- what is reported where a lock refuses that is asked for
 pub lock-refused : (n : ℕ) (weighed : ℕ → ℕ) (t : MomentValue) (q : Request) (l : Look) (m : Managed) (s : LockState) (f : LockFault) → asks_now t q l ≡ true → IsRefused s (to_wait_for (key_for q) s) f
     → RunsOut n weighed t q l s (lock_fault_for f) ⊎ (UseRefused n weighed q l m (lock_fault_for f) ⊎ LockRefused n weighed t q l s (lock_fault_for f))
 lock-refused n weighed t q l m s f asks h = by_fault (to_wait_for (key_for q) s) refl f h

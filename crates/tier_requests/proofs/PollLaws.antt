@@ -42,7 +42,7 @@ told_by status.Dangling aged over = refl
 told_by status.WaitTimeout aged over = refl
 told_by status.AgeTimeout aged over = refl
 
--- the status that is told of what is known of a core, where no fill is unusable
+-- the status that is reported of what is known of a core, where no fill is unusable
 core_told : (o : Option HeldCore) (tokens : List ℕ) (t : MomentValue) (over : Bool)
     → option_map status_of_outcome (told (status_in o) over (outcome o tokens [] t)) ≡ ended_by (outcome o tokens [] t) (status_in o) over
 core_told None tokens t over = refl
@@ -56,7 +56,7 @@ over_same (Some longest) waited now = refl
 abbrev pub lock_with : Option LockCtx → Option MomentValue → RequestLock
 lock_with ctx first = record { ctx = ctx; polled = first }
 
--- what a poll tells
+-- what a poll reports
 pub poll-told : (ctx : Option LockCtx) (first : Option MomentValue) (d : HttpCacheDigest) (q : Request) (t : MomentValue) (s : LockState) → is_read (held (lock_with ctx first)) ≡ true → timeout_of (lock_with ctx first) ≡ q.wait
     → q.waited ≡ d.lock_duration → option_map status_of_outcome (wait_told (lock_with ctx first) d [] t s) ≡ polled s t q (held_in (held (lock_with ctx first)) first)
 poll-told None first d q t s reads wait waited = absurd cc
@@ -85,7 +85,7 @@ module _ (d : Driven) (asks : Bool) (wait : Option DurationValue) (gave : Bool) 
       by_test false e = refl
       by_test true e = sym reads ∙ ap (λ (l : RequestLock). is_read (held l)) (i.idle e).lock
 
-  -- what it is told, where no fill is unusable
+  -- what it is answered, where no fill is unusable
   pub wait-told : (fills : List UnusableFill) (o : Option LockWaitOutcome) (t : MomentValue) (s : LockState) → fills ≡ [] → o ≡ wait_told d.lock d.digest fills t s
       → option_map status_of_outcome o ≡ polled s t (plain_of d asks wait gave bytes) (held_in (held d.lock) d.lock.polled)
   wait-told fills o t s none e =

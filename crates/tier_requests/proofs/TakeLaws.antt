@@ -125,7 +125,7 @@ driven-found t r r' asks wait gave gave' bytes took meta before hit v h h' s s' 
     k : IsLooking r asks
     k = (free-of r asks wait gave bytes d may).looking
 
--- ---- what is told of it
+-- ---- what is reported of it
 
 -- what is so where a look-up found l, of which `took` was taken, and it is fresh or isn't
 pub record Finding (t : MomentValue) (r : Driven) (asks : Bool) (wait : Option DurationValue) (gave : Bool) (bytes : Option (List ℕ)) (l : Look) (before : MemHitHandler) (v : Bool) : Type 0 where

@@ -1,4 +1,4 @@
--- What a look-up at a moment told, as the look-up that it tells of had it.
+-- What a look-up at a moment reported, as the look-up that it reports of had it.
 use Rattle.std.proofs.Common.{◌≡◌, ℕ, refl, ap, sym, subst, Bool, true, false, cond, Some, None, Option, List}
 use Rattle.std.specs.Prelude.{Result, Ok, Err}
 use Rattle.cache_words.specs.Time.{MomentValue, at_most}

@@ -1,4 +1,4 @@
--- The codes of a tier's state, by which a proof tells two states apart: a record is its fields, one after another.
+-- The codes of a tier's state, by which a proof distinguishes two states: a record is its fields, one after another.
 use Rattle.std.specs.Prelude.{◌≡◌, ℕ, ℤ, Bool, true, false, List, Option, Some, None, ◌⊎◌, refl}
 use Rattle.std.proofs.Common.{inl, inr}
 use Rattle.std.specs.Coded.{Coded, code_by, coded×, coded⊎, coded_ℕ, coded_ℤ, coded_bool, coded_list, coded_option}

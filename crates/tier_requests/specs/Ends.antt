@@ -17,7 +17,7 @@ shelf_after shelf q = turned q.reader closed (on_write q.write landed shelf)
 abbrev pub lock_after : LockState → Request → LockState
 lock_after s q = after_all (leave_of q.held) s
 
--- each of the requests ends once, in an order that isn't told
+-- each of the requests ends once, in an order that isn't reported
 pub record EndsAll (requests : FinMap nat_cmp Request) (old : Shelf) (s : LockState) (new : Shelf) (s' : LockState) : Type 0 where
   pub order : List Request
   pub each : IsPermutation (values requests) order

@@ -1,4 +1,4 @@
--- What a tier tells of faults.
+-- What a tier reports of faults.
 use Rattle.cache_evict.specs.declared.fault.EvictFault.{EvictFault}
 use Rattle.cache_evict.specs.declared.fault.EvictFault.TheVariants as evict
 use Rattle.cache_lock.specs.declared.fault.LockFault.{LockFault}

@@ -42,7 +42,7 @@ pub record IsFoundBy (t : MomentValue) (fresh : Bool) (l : Look) (hit : MemHitHa
   pub freshness : finds_fresh t l ≡ fresh
   pub reads : IsReadBy l hit
 
--- what a look-up at a moment told: whether it is fresh then, and its reader
+-- what a look-up at a moment reported: whether it is fresh then, and its reader
 abbrev pub is_told_fresh : FoundAt MemHitHandler → Bool
 is_told_fresh (Fresh until hit) = true
 is_told_fresh (Stale meta hit) = false
@@ -51,7 +51,7 @@ abbrev pub hit_told : FoundAt MemHitHandler → MemHitHandler
 hit_told (Fresh until hit) = hit
 hit_told (Stale meta hit) = hit
 
--- the request, told that nothing was found, with what the lock gave it
+-- the request, answered that nothing was found, with what the lock gave it
 abbrev pub missed_by : Request → Request
 missed_by q = record q { phase = phase_absent (given_of q.held) q.phase; reader = closed }
 

@@ -22,7 +22,7 @@ use Rattle.tier_model.specs.declared.event.TierFault.TheVariants.{WrongPhase, Wr
 use Rattle.tier_model.specs.Calls.{Outcome}
 use Rattle.tier_model.specs.State.{Request}
 
--- what a finish did, as the tier tells it
+-- what a finish did, as the tier reports it
 abbrev pub done_as : StoreDone → Done
 done_as done = record { stored = done.stored; admitted = done.admitted; evicted = done.evicted.items }
 
@@ -30,7 +30,7 @@ abbrev pub length_of : MissFinishType → ℕ
 length_of (Created size) = size
 length_of (Appended size bound) = size
 
--- what the tier tells of a finish's refusal
+-- what the tier reports of a finish's refusal
 abbrev pub told_as : FinishFault → TierFault
 told_as finish.WriteRemoved = WriteRemoved
 told_as (finish.Weight done) = TooHeavy (done_as done)

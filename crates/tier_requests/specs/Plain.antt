@@ -47,7 +47,7 @@ held_in None polled = nothing
 held_in (Some (Write p)) polled = permit p.number
 held_in (Some (Read r)) polled = waits r.number polled
 
--- what is told of what is held of the lock
+-- what is reported of what is held of the lock
 abbrev pub given_of : Held → LockGiven
 given_of nothing = given.None
 given_of (permit n) = given.Write

@@ -60,6 +60,6 @@ BeginsNot shelf f shelf' =
     ((f ≡ NumbersSpent nothing_done) × (shelf.writes ≡ 2 ^ 64 - 1) × (shelf' ≡ shelf))
     ⊎ ((f ≡ out_of_memory) × ((shelf' ≡ shelf) ⊎ ((shelf.writes ≢ 2 ^ 64 - 1) × (shelf' ≡ record shelf { writes = shelf.writes + 1 }))))
 
--- an event of one of the open requests: told as not open where it isn't, and else the request is put back as the event left it
+-- an event of one of the open requests: reported as not open where it isn't, and else the request is put back as the event left it
 abbrev pub OnOpen : ℕ → FinMap nat_cmp Request → Type 0 → (Request → Request → Type 0) → FinMap nat_cmp Request → Type 0
 OnOpen id old none row new = MatchOption (get old id) (none × (new ≡ old)) (λ q. (left : Request) × row q left × (new ≡ insert old id left))

@@ -33,7 +33,7 @@ WriteStep None bytes last n shelf r new = (r ≡ Err fault.WriteRemoved) × (new
 WriteStep (Some true) bytes last n shelf r new = (r ≡ Err fault.AfterEnd) × (new ≡ shelf)
 WriteStep (Some false) bytes last n shelf r new = MatchResult r (λ _. new ≡ pieced bytes last n shelf) (λ f. (f ≡ fault.Memory) × (new ≡ shelf))
 
--- what is told of it
+-- what is reported of it
 abbrev pub told_of_piece : Result (Unit {0}) StoreFault → Outcome
 told_of_piece (Ok v) = Ok Written
 told_of_piece (Err fault.AfterEnd) = Err tier.AfterEnd

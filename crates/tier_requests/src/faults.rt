@@ -1,4 +1,4 @@
-//! What a tier tells of faults.
+//! What a tier reports of faults.
 ghost use Rattle.std.specs.Prelude.{◌≡◌};
 ghost use Rattle.tier_model.specs.Calls.{nothing_done};
 ghost use Rattle.tier_requests.specs.Faults.{out_of_memory, fault_for, lock_fault_for};

@@ -59,7 +59,7 @@ impl<S: BuildHasher> Request<S> {
         None
     }
 
-    // Nothing was found, and the lock was asked, if it is to be: `gave_read` tells of it. With a wait the phase stays.
+    // Nothing was found, and the lock was asked, if it is to be: `gave_read` says so. With a wait the phase stays.
     fn missed<E>(&mut self, parts: &mut TierParts<S, E>) -> Answer
         requires phase { can_look_up self.old.phase ≡ true }
         requires told { self.old.gave_read ≡ is_waiting self.old.held }
@@ -158,7 +158,7 @@ impl<S: BuildHasher> Request<S> {
         })
     }
 
-    // Something was found, as it is told at the moment. A reader that isn't taken is spent.
+    // Something was found, as it is reported at the moment. A reader that isn't taken is spent.
     fn found<E: EvictionManager>(
         &mut self,
         alloc: Global,

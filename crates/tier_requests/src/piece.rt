@@ -34,7 +34,7 @@ fn write_piece<S: BuildHasher>(
     }
 }
 
-// What is told of bytes that were written or not.
+// What is reported of bytes that were written or not.
 fn told_of_piece(alloc: Global, outcome: Result<(), StoreFault>) -> Result<Answer, TierFault>
     ensures { result ≡ told_of_piece outcome }
 {

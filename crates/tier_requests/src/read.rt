@@ -25,7 +25,7 @@ fn read_whole(unread: &mut Option<Bytes>) -> Answer
     }
 }
 
-// What is told where no reader is left.
+// What is reported where no reader is left.
 fn read_without(unread: &Option<Bytes>) -> Result<Answer, TierFault>
     ensures { result ≡ read_without unread.now }
 {

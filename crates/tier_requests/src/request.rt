@@ -166,7 +166,7 @@ impl<S: BuildHasher> Request<S> {
         }
     }
 
-    // Lets go of the meta of what was found, which stands in the store: no more is needed of it than the phase. So an open request keeps no head.
+    // Lets go of the meta of what was found, which the store has: the phase is enough. So an open request keeps no head of what it found.
     pub(crate) fn forget_meta(&mut self)
         ensures { self.new ≡ self.old }
     {

@@ -94,7 +94,7 @@ pub(crate) fn is_answer(outcome: Outcome) -> bool {
     )
 }
 
-// Asks all this of a tier, and tells whether memory was there for it.
+// Asks all this of a tier, and says whether memory was there for it.
 pub(crate) fn is_ready(alloc: Global, tier: &mut Tier<1>, asks: &[Ask]) -> bool {
     for &ask in asks {
         if !is_answer(step(alloc, tier, ask)) {

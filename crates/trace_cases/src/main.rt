@@ -3,13 +3,13 @@
 //! output. Traces that differ are shown.
 #![tactic(auto)]
 
-use secret_hasher::SecretHasher;
+use lru_core::SeededState;
 use std::fs::{self, Files};
 use std::io;
 use trace_replay::options::options;
 use trace_replay::replay::run;
 
-const HASHER: SecretHasher = SecretHasher { word: 0 };
+const HASHER: SeededState = SeededState { word: 0 };
 
 // Whether the trace of a line of the index is answered as expected.
 fn agrees<R: Files + AllocGlobal>(rt: &R, line: &str) -> io::Result<bool> {

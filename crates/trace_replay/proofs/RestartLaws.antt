@@ -185,7 +185,7 @@ module _ {D : Type 0} (did : D → Call → Outcome → D → Type 0) (failures 
     })),
   )
 
-  -- what a load that was not told whole leaves, by a tier that was empty
+  -- what a load that was not reported whole leaves, by a tier that was empty
   pub early_start : (tier : State) → tier ≡ empty_state (settings_over n o) → (input w0 w1 : Option (List ℕ)) (old new : D) (managed : Managed)
       → (IsUntouched did failures keeps files old new [] × Appends w0 w1 [])
       ⊎ ((report : ShardLoadReport LoadFault) × LoadsOrder did failures keeps files n dir tier.managed managed old new (Ok report) × HasBegun w0 w1 (ended (loaded_text report)))

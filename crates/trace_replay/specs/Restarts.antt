@@ -21,12 +21,12 @@ use Rattle.trace_replay.specs.CommandLine.{settings_over}
 use Rattle.trace_replay.specs.Replays.{Start, EndsReplay, IsBegun, ended}
 use Rattle.trace_replay.specs.Words.{words_of}
 
--- the line that tells what was loaded
+-- the line that reports what was loaded
 abbrev pub loaded_text : ShardLoadReport LoadFault → List ℕ
 loaded_text report =
     codes "recency loaded=" ++ (decimal report.loaded ++ (codes " missing=" ++ (decimal report.missing ++ (codes " errored=" ++ decimal (length report.errored.items)))))
 
--- the line that tells how many shards were saved, and how many failed
+-- the line that says how many shards were saved, and how many failed
 abbrev pub counts_text : ℕ → ℕ → List ℕ
 counts_text saved failed = codes "recency saved=" ++ (decimal saved ++ (codes " failed=" ++ decimal failed))
 
@@ -35,13 +35,13 @@ abbrev pub next_words : ℕ → Stream → List ℕ × Stream
 next_words zero s = ([], s)
 next_words (suc n) s = let first = next_u32 s in let rest = next_words n first.1 in (first.0 ∷ rest.0, rest.1)
 
--- what a save of n shards is told as, and the outcome of the replay: where none was saved, that is a fault, which is told after the line
+-- what a save of n shards is reported as, and the outcome of the replay: where none was saved, that is a fault, which is reported after the line
 abbrev pub IsToldOfSave : ℕ → Result (ShardSaveReport PackWriteFault) TierFault → List ℕ → Result ⊤ ReplayError → Type 0
 IsToldOfSave n (Ok report) text result = (text ≡ counts_text report.saved (length report.failed.items)) × (result ≡ Ok tt)
 IsToldOfSave n (Err fault.Folder) text result = (text ≡ counts_text 0 n) × (result ≡ Err Folder)
 IsToldOfSave n (Err _) text result = ⊥
 
--- the line that is to tell of such a save, with its line feed; without memory for a save there is none
+-- the line that is to report such a save, with its line feed; without memory for a save there is none
 abbrev pub last_line : ℕ → Result (ShardSaveReport PackWriteFault) TierFault → List ℕ
 last_line n (Ok report) = ended (counts_text report.saved (length report.failed.items))
 last_line n (Err fault.Folder) = ended (counts_text 0 n)
@@ -66,7 +66,7 @@ module _ {D : Type 0} (did : D → Call → Outcome → D → Type 0) (failures 
   abbrev pub LoadsInto : Managed → D → D → ShardLoadReport LoadFault → Type 0
   LoadsInto managed old new report = LoadsOrder did failures keeps files n dir (empty_state (settings_over n o)).managed managed old new (Ok report)
 
-  -- The order of use was loaded, which the first line tells; the lines were answered by a tier that began with it; and its order of use was saved under the next words
+  -- The order of use was loaded, which the first line reports; the lines were answered by a tier that began with it; and its order of use was saved under the next words
   -- of the generator, of which this came.
   pub record IsSaved (lines : List Line) (old new : D) (text : List ℕ) (came : Result (ShardSaveReport PackWriteFault) TierFault) : Type 0 where
     pub mid : D
@@ -80,7 +80,7 @@ module _ {D : Type 0} (did : D → Call → Outcome → D → Type 0) (failures 
     pub saves : SavesOrder did failures keeps files n dir state.managed (next_words n words).0 mid new came
     pub written : text ≡ ended (loaded_text report) ++ answers
 
-  -- the same, and what came of the save is told by the last line and by the result
+  -- the same, and what came of the save is reported by the last line and by the result
   pub record IsRestart (lines : List Line) (old new : D) (text : List ℕ) (result : Result ⊤ ReplayError) : Type 0 where
     pub before : List ℕ
     pub came : Result (ShardSaveReport PackWriteFault) TierFault
@@ -107,6 +107,6 @@ module _ {D : Type 0} (did : D → Call → Outcome → D → Type 0) (failures 
     pub written : ((rest : List ℕ) × (ended (loaded_text report) ≡ text ++ rest))
         ⊎ ((answers : List ℕ) × IsBegun (start_from n o managed) lines answers × (text ≡ ended (loaded_text report) ++ answers))
 
-  -- how far a restart comes that ends early: nothing is loaded, or nothing is saved, or only the last line isn't told whole
+  -- how far a restart comes that ends early: nothing is loaded, or nothing is saved, or only the last line isn't reported whole
   abbrev pub EndsEarly : List Line → D → D → List ℕ → Type 0
   EndsEarly lines old new text = IsUntouched did failures keeps files old new text ⊎ (IsUnsaved lines old new text ⊎ IsUntold lines old new text)

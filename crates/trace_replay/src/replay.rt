@@ -22,9 +22,9 @@ use crate::options::{ReplayOptions, ShardCount};
 use crate::output::hand_on;
 use cache_tier::tier::Tier;
 use cache_words::time::Duration;
+use lru_core::SeededState;
 use rand_core::{Rng, SeedableRng};
 use rand_pcg::Pcg64;
-use secret_hasher::SecretHasher;
 use std::alloc::{AllocError, AllocFailed, Global};
 use std::io;
 use std::io::{Read, Write};
@@ -83,11 +83,11 @@ impl<T: Drop> From<AllocFailed<T>> for ReplayError {
 /// Answers each line of a trace, in order, by a tier that begins empty, and reports on the tier after the last. It loads and
 /// saves nothing, whatever directory the options name: that does [`run_in`](crate::restart::run_in). What was
 /// answered is handed on before each read. At most 2^64 - 1 lines are read. An error leaves a beginning of what was to
-/// be written. The hashes of the tier's tables start as `hasher` says: take it at random where strangers choose the keys, who
+/// be written. The hashes of the tier's tables start as `hasher` says: take it at random where attackers choose the keys, who
 /// then can't slow look-ups down.
 pub fn run<R: Read, W: Write>(
     alloc: Global,
-    hasher: SecretHasher,
+    hasher: SeededState,
     reader: &mut R,
     writer: &mut W,
     options: &ReplayOptions,
@@ -111,7 +111,7 @@ pub fn run<R: Read, W: Write>(
 // The same by a tier of N shards.
 fn run_over<R: Read, W: Write, const N: usize>(
     alloc: Global,
-    hasher: SecretHasher,
+    hasher: SeededState,
     reader: &mut R,
     writer: &mut W,
     options: &ReplayOptions,
@@ -134,7 +134,7 @@ fn run_over<R: Read, W: Write, const N: usize>(
 // Answers each line of a trace by this tier, and reports on it, from whichever beginning the tier and the words are.
 pub(crate) fn answer_trace<R: Read, W: Write, const N: usize>(
     alloc: Global,
-    tier: &mut Tier<N, SecretHasher>,
+    tier: &mut Tier<N, SeededState>,
     rng: &mut Pcg64,
     reader: &mut R,
     writer: &mut W,
@@ -171,9 +171,9 @@ pub(crate) fn answer_trace<R: Read, W: Write, const N: usize>(
 // An empty tier as the options say.
 pub(crate) fn tier_for<const N: usize>(
     alloc: Global,
-    hasher: SecretHasher,
+    hasher: SeededState,
     options: &ReplayOptions,
-) -> Result<Tier<N, SecretHasher>, AllocError>
+) -> Result<Tier<N, SeededState>, AllocError>
     requires { 0 < N }
     ensures state { IfOk result (λ tier. tier ≡ empty_state (settings_over N options.now)) }
     ensures past { IfOk result (λ tier. HasPast (empty_opening (settings_over N options.now)) tier []) }
@@ -209,7 +209,7 @@ fn next_line<R: Read, W: Write>(
 
 fn finish<W: Write, const N: usize>(
     alloc: Global,
-    tier: &Tier<N, SecretHasher>,
+    tier: &Tier<N, SeededState>,
     waiting: &mut Vec<u8>,
     writer: &mut W,
 ) -> Result<(), ReplayError>
@@ -227,7 +227,7 @@ fn finish<W: Write, const N: usize>(
 // Adds the report to what is waiting.
 fn report<const N: usize>(
     alloc: Global,
-    tier: &Tier<N, SecretHasher>,
+    tier: &Tier<N, SeededState>,
     waiting: &mut Vec<u8>,
 ) -> Result<(), AllocError>
     ensures ok { OnOk result (waiting.new.items ≡ waiting.old.items ++ ended (report_text (report_of tier.now))) }
@@ -249,7 +249,7 @@ fn without_line_feed(line: &[u8]) -> &[u8]
 // Adds the line that answers a line to what is waiting.
 fn add_answer<G: Rng, const N: usize>(
     alloc: Global,
-    tier: &mut Tier<N, SecretHasher>,
+    tier: &mut Tier<N, SeededState>,
     lines: &mut LineReader,
     rng: &mut G,
     line: &[u8],

@@ -20,15 +20,15 @@ use crate::replay::{ReplayError, answer_trace, run, tier_for};
 use cache_evict::LoadFault;
 use cache_tier::TierFault;
 use cache_tier::tier::Tier;
+use lru_core::SeededState;
 use lru_files::persistence::{Folder, ShardLoadReport};
 use rand_core::{Rng, SeedableRng};
 use rand_pcg::Pcg64;
-use secret_hasher::SecretHasher;
 use std::alloc::{AllocError, Global};
 use std::io::{Read, Write};
 
-/// Does what [`run`] does, by a tier that starts from the directory of the options, if they name one: what was loaded is told in a
-/// first line, before any read, and after the report the order of use is saved there, which a last line tells. The words of the save
+/// Does what [`run`] does, by a tier that starts from the directory of the options, if they name one: what was loaded is reported in a
+/// first line, before any read, and after the report the order of use is saved there, which a last line reports. The words of the save
 /// are drawn from the generator after those of the trace.
 ///
 /// # Errors
@@ -37,7 +37,7 @@ use std::io::{Read, Write};
 /// without temporary files. `Folder` where no shard was saved, and not for want of memory alone: the last line is written all the same.
 pub fn run_in<F: Folder, R: Read, W: Write>(
     alloc: Global,
-    hasher: SecretHasher,
+    hasher: SeededState,
     folder: &mut F,
     reader: &mut R,
     writer: &mut W,
@@ -82,7 +82,7 @@ pub fn run_in<F: Folder, R: Read, W: Write>(
 // The same by a tier of N shards, from this directory.
 fn restart<F: Folder, R: Read, W: Write, const N: usize>(
     alloc: Global,
-    hasher: SecretHasher,
+    hasher: SeededState,
     folder: &mut F,
     dir: &str,
     reader: &mut R,
@@ -112,7 +112,7 @@ fn restart<F: Folder, R: Read, W: Write, const N: usize>(
 // Loads the order of use, and writes what came of it.
 fn start<F: Folder, W: Write, const N: usize>(
     alloc: Global,
-    tier: &mut Tier<N, SecretHasher>,
+    tier: &mut Tier<N, SeededState>,
     folder: &mut F,
     dir: &str,
     writer: &mut W,
@@ -149,7 +149,7 @@ fn draw(alloc: Global, rng: &mut Pcg64, count: usize) -> Result<Vec<u32>, AllocE
 // Saves the order of use, and writes what came of it.
 fn save<F: Folder, W: Write, const N: usize>(
     alloc: Global,
-    tier: &Tier<N, SecretHasher>,
+    tier: &Tier<N, SeededState>,
     folder: &mut F,
     dir: &str,
     words: &[u32],

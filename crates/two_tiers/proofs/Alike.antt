@@ -1,4 +1,4 @@
--- What a table knows of requests tells whether another one is alike to all of them.
+-- What a table knows of requests says whether another one is alike to all of them.
 use Rattle.std.proofs.Common.{◌≡◌, ℕ, Bool, true, false, cond, List, ◌∷◌, [], Option, Some, None, refl, ap, sym, ◌∙◌, subst}
 use Rattle.std.specs.Prelude.{◌&&◌, ◌↔◌, MatchOption, map, option_map, Result, Ok, Err, IfOk}
 use Rattle.std.specs.List.{AllByRecursion}
@@ -70,7 +70,7 @@ alike-fits p known a = by (known_at known (key p)) (known-of p known a)
     by (Some x) h = and_from (same_entry x.entry (alone (entry_of p))) (same_length x.length (length_of p)) (ap (λ (e : CacheEntryKey). same_entry e (alone (entry_of p))) h.0 ∙ same-self (alone (entry_of p)))
         (length-same (length_of p) x.length h.1)
 
--- one that fits what r and others tell, of r's stored key, is alike to r and fits the others
+-- one that fits what r and others say, of r's stored key, is alike to r and fits the others
 fits-both : (p r : PlainRequest) (o : Option Seen) → IsOf r o → fits_by (Some (added (shown r) o)) (shown p) ≡ true → (entry_of p ≡ entry_of r) × AreSame (length_of p) (length_of r) × (fits_by o (shown p) ≡ true)
 fits-both p r None h f =
     let f' = both (same_entry (alone (entry_of r)) (alone (entry_of p))) (same_length (length_of r) (length_of p)) f in

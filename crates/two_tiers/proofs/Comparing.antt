@@ -115,7 +115,7 @@ holds-empty requests u apart a s one is = record {
   grounded = ap (λ (x : State). x.shelf.flying) is;
 }
 
--- what both told of the first of the requests, and both orders of use then
+-- what both answered to the first of the requests, and both orders of use then
 pub compared : (a b : Settings) → AreComparable a b → (requests more : List Request) (seen : List (Option PlainRequest)) → AreUniform (requests ++ more) seen → (pairs : List Pair) (l g : State) (s : Stream) (l' g' : State) (rest : Stream)
     → l ≡ empty_state a → g ≡ empty_state b → ServesBoth l g s requests pairs l' g' rest
     → AreFound (weight_in (all_seen seen)) a b [] (requests ++ more) pairs × IsFront (rows_at l'.managed.shards 0) (rows_at g'.managed.shards 0)

@@ -1,4 +1,4 @@
--- The events by which a request is served, with their outcomes, and what is told of them.
+-- The events by which a request is served, with their outcomes, and what is answered to them.
 use Rattle.std.specs.Prelude.{◌≡◌, ◌<◌, ℕ, ◌^◌, Bool, true, false, ◌&&◌, ◌⊎◌, List, [], ◌∷◌, None, is_some, Result, Ok, Err}
 use Rattle.std.specs.FinMap.{get}
 use Rattle.rand_core.specs.Stream.{Stream}
@@ -59,14 +59,14 @@ outcomes_of (hit body) = Ok Opened ∷ Ok (Found true true lock.None) ∷ Ok (By
 outcomes_of (unfilled a) = Ok Opened ∷ Ok a ∷ Ok Dropped ∷ []
 outcomes_of (filled a o) = Ok Opened ∷ Ok a ∷ Ok Dropped ∷ o ∷ []
 
--- what is told of a put, by whether the look-up found the key
+-- what is answered to a put, by whether the look-up found the key
 abbrev pub IsPutTold : Bool → Outcome → Result Served TierFault → Type 0
 IsPutTold found (Ok (Finished n evicted)) told = told ≡ Ok (Filled found n evicted)
 IsPutTold found (Ok (Uncacheable reason)) told = told ≡ Ok (Passed found reason)
 IsPutTold found (Ok _) told = ⊥
 IsPutTold found (Err f) told = told ≡ Err f
 
--- what is told of a get. A put comes only where no fresh and complete body was found
+-- what is answered to a get. A put comes only where no fresh and complete body was found
 abbrev pub IsTold : Course → Result Served TierFault → Type 0
 IsTold (unseen f) told = told ≡ Err f
 IsTold (hit body) told = told ≡ Ok (Hit body)

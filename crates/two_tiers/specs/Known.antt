@@ -45,7 +45,7 @@ abbrev pub added : Seen → Option Seen → Seen
 added seen None = seen
 added seen (Some known) = record seen { length = either known.length seen.length }
 
--- what requests tell of a stored key
+-- what requests say of a stored key
 abbrev pub known_at : List PlainRequest → List ℕ → Option Seen
 known_at [] k = None
 known_at (p ∷ known) k = if same_bytes (stored_key (entry_of p)) k then Some (added (shown p) (known_at known k)) else known_at known k
@@ -59,11 +59,11 @@ abbrev pub fitting : Option Seen → Seen → Option (Option ℕ)
 fitting None seen = Some seen.length
 fitting (Some known) seen = if fits known seen then Some (either known.length seen.length) else None
 
--- a request fits what others tell of its stored key
+-- a request fits what others say of its stored key
 abbrev pub fits_all : PlainRequest → List PlainRequest → Bool
 fits_all p known = fits_by (known_at known (stored_key (entry_of p))) (shown p)
 
--- the table has what requests tell
+-- the table has what requests say
 abbrev pub Knows : {S : Type 0} → HashMap (List ℕ) Seen S → List PlainRequest → Type 0
 Knows table known = (k : List ℕ) → get (pointwise ◌==◌) table k ≡ known_at known k
 

@@ -1,4 +1,4 @@
--- What a request that was served leaves of the plain state, and what it tells.
+-- What a request that was served leaves of the plain state, and what it answers.
 use Rattle.std.specs.Prelude.{◌≡◌, ℕ, Bool, true, false, ◌⊎◌, List, [], ◌∷◌, if◌then◌else◌, Result, Ok, Err}
 use Rattle.cache_words.specs.Time.{MomentValue}
 use Rattle.cache_words.specs.Key.{CacheKeyValue}
@@ -59,7 +59,7 @@ LeavesPut mid t key response found told new =
     ((told ≡ Err no_memory) × (new ≡ mid))
     ⊎ ((c : Call) × (c.event ≡ event_at t (Put key (response ∷ []))) × IsPutTold found c.outcome told × Allows mid c × (new ≡ after mid c))
 
--- a fresh body was found whole: its bytes are told
+-- a fresh body was found whole: its bytes are answered
 abbrev pub LeavesHit : State → MomentValue → Entry → Result Served TierFault → State → Type 0
 LeavesHit old t e told new =
     (b : Body) × (found_at e old ≡ finished b) × (is_fresh t b.meta ≡ true) × (told ≡ Ok (Hit b.bytes)) × (new ≡ looked_up old e (finished b))
@@ -90,7 +90,7 @@ pub record IsAside (old new : State) : Type 0 where
   pub requests : new.requests ≡ old.requests
   pub lock : new.lock ≡ old.lock
 
--- what a request leaves, and what it tells. No request is opened for others, none of theirs ends, and the lock isn't asked
+-- what a request leaves, and what it answers. No request is opened for others, none of theirs ends, and the lock isn't asked
 pub record Leaves (old : State) (r : Request) (told : Result Served TierFault) (new : State) : Type 0 where
   pub leaves : LeavesBy r.method old r.moment r.key told new
   pub aside : IsAside old new

@@ -8,7 +8,7 @@ use Rattle.two_tiers.specs.Leaves.{Leaves}
 use Rattle.two_tiers.specs.declared.request.Request.{Request}
 use Rattle.two_tiers.specs.declared.request.Served.{Served}
 
--- what was told, and the new state, are those of the request's events, which took the words from s to rest
+-- what was answered, and the new state, are those of the request's events, which took the words from s to rest
 pub record Serves (old : State) (s : Stream) (r : Request) (told : Result Served TierFault) (new : State) (rest : Stream) : Type 0 where
   pub events : TakesBy r.method old s r.moment r.key told new rest
   pub leaves : Leaves old r told new

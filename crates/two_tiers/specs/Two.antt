@@ -23,7 +23,7 @@ use Rattle.two_tiers.specs.declared.side_by_side.Side.{Side}
 use Rattle.two_tiers.specs.declared.side_by_side.Side.TheVariants.{Lesser, Greater}
 use Rattle.two_tiers.specs.declared.side_by_side.Stopped.{Stopped}
 
--- both tiers served the requests in order, each first the lesser one, with the words from s to rest, and told these
+-- both tiers served the requests in order, each first the lesser one, with the words from s to rest, and answered these
 abbrev pub ServesBoth : State → State → Stream → List Request → List Pair → State → State → Stream → Type 0
 ServesBoth l g s [] [] l' g' rest = (l' ≡ l) × (g' ≡ g) × (rest ≡ s)
 ServesBoth l g s (r ∷ requests) (p ∷ pairs) l' g' rest =
@@ -31,7 +31,7 @@ ServesBoth l g s (r ∷ requests) (p ∷ pairs) l' g' rest =
     × ServesBoth l1 g1 right requests pairs l' g' rest
 ServesBoth l g s _ _ l' g' rest = ⊥
 
--- after what both told so far, the request that comes next was refused to one of them; where there was no room nothing was served
+-- after what both answered so far, the request that comes next was refused to one of them; where there was no room nothing was served
 abbrev pub StopsBy : Option Side → State → State → Stream → Request → TierFault → State → State → Stream → Type 0
 StopsBy None l g s r f l' g' rest = ⊥
 StopsBy (Some Lesser) l g s r f l' g' rest = Serves l s r (Err f) l' rest × (g' ≡ g)

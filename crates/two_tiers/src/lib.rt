@@ -4,7 +4,7 @@
 //! removed. To serve it is to give a tier its events, one after another: see [`Serve`].
 //!
 //! Requests are uniform where each response is whole and may be kept, each stored key has one entry, and its bodies one length. What a
-//! tier of one shard finds of them is told by the requests alone, so a tier with greater limits finds all that one with lesser
+//! tier of one shard finds of them follows from the requests alone, so a tier with greater limits finds all that one with lesser
 //! limits finds: see [`run_two`].
 #![tactic(auto)]
 

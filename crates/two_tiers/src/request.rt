@@ -1,4 +1,4 @@
-//! Requests, and what serving them tells.
+//! Requests, and what serving them gives.
 use bytes::Bytes;
 use cache_heads::NoCacheReason;
 use cache_words::key::CacheKey;
@@ -22,7 +22,7 @@ pub enum Method {
     Purge,
 }
 
-/// What serving a request told. `found` says whether the look-up found the key.
+/// What serving a request gave. `found` says whether the look-up found the key.
 #[derive(PartialEq, Eq, Debug, Drop)]
 pub enum Served {
     /// A fresh body was stored: all its bytes.

@@ -38,7 +38,7 @@ pub trait Serve {
     /// # Errors
     ///
     /// The first fault of these events. After the look-up of a get that look-up stays: what was found was used and counted. Before
-    /// it all is as it was: there was no memory, or each number has an open request, which is told as `IdInUse`.
+    /// it all is as it was: there was no memory, or each number has an open request, which is reported as `IdInUse`.
     final fn serve<R: Rng>(
         &mut self,
         alloc: Global,

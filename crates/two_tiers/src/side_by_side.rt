@@ -12,7 +12,7 @@ use rand_core::Rng;
 use std::alloc::Global;
 use tier_model::event::TierFault;
 
-/// What both tiers told of one request.
+/// What both tiers answered to one request.
 #[derive(PartialEq, Eq, Debug, Drop)]
 pub struct Pair {
     pub lesser: Served,
@@ -29,7 +29,7 @@ pub enum Side {
 /// A run that ended at a fault.
 #[derive(Debug, Drop)]
 pub struct Stopped {
-    /// What both told of each request before.
+    /// What both answered to each request before.
     pub pairs: Vec<Pair>,
     /// The fault.
     pub fault: TierFault,
@@ -83,7 +83,7 @@ fn run_both<L: Serve, G: Serve, R: Rng>(
     Ok(pairs)
 }
 
-/// Has two tiers serve requests, in order, each request first by the lesser one, and returns what both told of each. The words of
+/// Has two tiers serve requests, in order, each request first by the lesser one, and returns what both answered to each. The words of
 /// the generator go to both in turn.
 ///
 /// Where both began empty with one shard, no limit of the lesser one is greater than the other's, the requests are uniform (see
@@ -92,7 +92,7 @@ fn run_both<L: Serve, G: Serve, R: Rng>(
 ///
 /// # Errors
 ///
-/// At the first fault: what both told until then, the fault, and whose it is. The tier whose fault it is keeps what its request left, and
+/// At the first fault: what both answered until then, the fault, and whose it is. The tier whose fault it is keeps what its request left, and
 /// the other may have served one request more or less.
 pub fn run_two<L: Serve, G: Serve, R: Rng>(
     alloc: Global,

@@ -1,4 +1,4 @@
-//! Serves requests by two tiers side by side, and compares what they tell with a table of runs, whose outcomes come from another program or were
+//! Serves requests by two tiers side by side, and compares what they answer with a table of runs, whose outcomes come from another program or were
 //! worked by hand. A line of `runs.txt` is a run, ` => ` and its outcome; lines that differ are shown.
 #![tactic(auto)]
 

@@ -1,16 +1,16 @@
 //! Runs of two tiers.
 use crate::requests::{number, request};
 use cache_tier::{Duration, Tier};
+use lru_core::SeededState;
 use rand_core::SeedableRng;
 use rand_pcg::Pcg64;
-use secret_hasher::SecretHasher;
 use std::alloc::{AllocError, Global};
 use std::fmt::Write;
 use two_tiers::{Pair, Request, Served, run_two, uniform};
 
-type OneShard = Tier<1, SecretHasher>;
+type OneShard = Tier<1, SeededState>;
 
-const HASHER: SecretHasher = SecretHasher { word: 0 };
+const HASHER: SeededState = SeededState { word: 0 };
 
 // The limit that a word is.
 fn limit(word: &str) -> usize {
@@ -28,7 +28,7 @@ fn tier(alloc: Global, bytes: &str, entries: &str) -> Result<OneShard, AllocErro
     Tier::with_hasher(alloc, HASHER, limit(bytes), watermark(entries), age, None)
 }
 
-// One more word for what was told of a request.
+// One more word for what was answered to a request.
 fn push_told(text: &mut String, told: &Served) -> Result<(), AllocError> {
     match told {
         Served::Hit { body } => write!(text, "H{}", body.len()),
@@ -69,7 +69,7 @@ fn push_order(alloc: Global, text: &mut String, one: &OneShard) -> Result<(), Al
     }
 }
 
-// What two tiers tell of requests.
+// What two tiers answer to requests.
 fn run(
     alloc: Global,
     lesser: &mut OneShard,
@@ -87,7 +87,7 @@ fn run(
     Ok(text)
 }
 
-/// What a run tells: whether its requests are uniform, what both tiers tell of each, and both orders of use at its end.
+/// What a run gives: whether its requests are uniform, what both tiers answer to each, and both orders of use at its end.
 pub fn outcome(alloc: Global, case: &str) -> Result<String, AllocError> {
     let mut words = case.split(' ');
     let (Some(a), Some(b)) = (words.next(), words.next()) else {

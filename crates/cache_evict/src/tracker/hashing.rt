@@ -16,7 +16,7 @@ use entry_numbers::Numbers;
 use std::hash::BuildHasher;
 
 // A hash that leads to the shard of an entry, and with which the search for its number starts. With one shard each hash leads
-// to it, so that of the tables serves and no digest is taken: under a secret start strangers don't know from which number the
+// to it, so that of the tables serves and no digest is taken: under a secret start attackers don't know from which number the
 // search for an entry's begins.
 pub(super) fn number_hash<const N: usize, S: BuildHasher>(
     numbers: &Numbers<N, S>,

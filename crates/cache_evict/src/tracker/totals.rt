@@ -1,7 +1,7 @@
 //! Limits and sums.
 
 ghost use Rattle.std.specs.Prelude.{◌≡◌, ◌<◌, IfOk};
-ghost use Rattle.cache_evict.specs.Managed.{IsSharded, fresh, total_size, total_items};
+ghost use Rattle.cache_evict.specs.Managed.{IsSharded, fresh, total_size, total_items, Fits};
 
 use super::Tracker;
 use entry_numbers::Numbers;
@@ -44,8 +44,10 @@ impl<const N: usize, S: BuildHasher> Tracker<N, S> {
 
     /// Returns the weight of all entries.
     pub fn total_size(&self) -> usize
-        ensures { result ≡ total_size self.now }
+        ensures sum { result ≡ total_size self.now }
+        ensures fits { Fits N self.now }
     {
+        self.core.shards_are_within();
         self.core.weight()
     }
 

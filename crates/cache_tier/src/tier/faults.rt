@@ -1,4 +1,4 @@
-//! What a tier tells of faults, and of puts.
+//! What a tier reports of faults, and of puts.
 ghost use Rattle.std.specs.Prelude.{◌≡◌, IfErr};
 ghost use Rattle.cache_tier.specs.Puts.{done_as, answer_as, IsToldAs, IsTellable, IsToldOf};
 

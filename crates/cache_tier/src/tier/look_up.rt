@@ -37,7 +37,7 @@ impl<const N: usize, S: BuildHasher> Tier<N, S> {
         let outcome = self
             .requests
             .look_up(self.alloc, id, &mut self.parts, moment);
-        // A usize, so that the sum is known to be below 2^64.
+        // It shows that each shard is within its bound.
         let _size = self.parts.manager.total_size();
         self.found = found_after(&outcome, self.found);
         self.absent = absent_after(&outcome, self.absent);

@@ -35,7 +35,7 @@ impl<const N: usize, S: BuildHasher> Tier<N, S> {
     }
 
     /// Saves the order of use, each shard to a file in `dir`, which is made first. The texts are written under temporary names,
-    /// which the words tell apart, one word a shard (`manager().shards()` are asked for); a word is for one save alone. Wherever
+    /// made distinct by the words, one word a shard (`manager().shards()` are asked for); a word is for one save alone. Wherever
     /// the save is stopped, each shard's file is as before or has the whole text. Those that failed are in the report.
     ///
     /// # Errors
@@ -82,7 +82,7 @@ impl<const N: usize, S: BuildHasher> Tier<N, S> {
     }
 }
 
-// What the tier tells of what came of the files.
+// What the tier reports of what came of the files.
 fn told_of_files<T>(alloc: Global, came: Result<T, EvictFault>) -> Result<T, TierFault>
     ensures { IsToldOfFiles came result }
 {

@@ -273,7 +273,7 @@ fn what_is_no_file_fails_its_shard_alone(rt: HostRuntime) {
     let _ = fs::remove_dir_all(&rt, "files_tests_odd");
 }
 
-// (the path, what `open` tells: none for a fault; how many failures are counted)
+// (the path, what `open` reports: none for a fault; how many failures are counted)
 const OPENED: &[(&str, Option<bool>, u64)] = &[
     ("files_tests_opened/file", Some(true), 0),
     ("files_tests_opened/absent", Some(false), 0),

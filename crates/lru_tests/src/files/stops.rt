@@ -268,7 +268,7 @@ fn a_list_that_fails_fails_its_shard_alone(rt: HostRuntime) {
     assert!(rt; shards_with(&folder, b"new") == 3 && folder.failures() == 0);
 }
 
-// Whether a save whose renames fail tells it.
+// Whether a save whose renames fail reports it.
 fn is_not_renamed(alloc: Global, failing: &mut TestFolder) -> bool {
     answer_of(&save(alloc, failing, 1, b"new"))
         == Answer::AllFailed(1, Some((0, ShardFileError::Rename)))

@@ -89,8 +89,7 @@ impl<const N: usize, R: Rng, L: Ledger, S: BuildHasher> Recorded<N, R, L, S> {
 
     /// Checks the book against the owner's share, which has every part once all passes are gathered.
     pub fn audit(&mut self)
-        requires parts { L.parts ≡ 4294967296 }
-        requires all { length self.old.gathered ≡ length self.old.seats }
+        requires { length self.old.gathered ≡ length self.old.seats }
         ensures closed { IsClosed self.new }
         ensures replayed { IsReplayed N self.new (R.stream self.new.opening.rng) (R.stream self.new.rng) }
         ensures turns { HasTurns [] self.new.history }

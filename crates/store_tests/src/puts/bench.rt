@@ -56,7 +56,7 @@ pub(crate) enum Got {
     // A body of that size was stored, and so many entries were evicted.
     Stored(usize, usize),
     Uncacheable(NoCacheReason),
-    // It was refused, which is told by that text.
+    // It was refused, which is reported by that text.
     Refused(&'static str),
 }
 

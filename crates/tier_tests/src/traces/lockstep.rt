@@ -1,5 +1,5 @@
 //! A reader that waits for each answer before it asks for more.
-use secret_hasher::SecretHasher;
+use lru_core::SeededState;
 use std::alloc::Global;
 use std::cell::Cell;
 use std::io::{self, Read, Write};
@@ -7,7 +7,7 @@ use std::test::Fail;
 use trace_replay::options::{ReplayOptions, ShardCount};
 use trace_replay::replay::run;
 
-const HASHER: SecretHasher = SecretHasher { word: 1 };
+const HASHER: SeededState = SeededState { word: 1 };
 
 // Gives a line at each read, and fails where a line before it isn't answered.
 #[derive(Drop)]

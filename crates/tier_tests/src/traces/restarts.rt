@@ -1,15 +1,15 @@
 //! Replays that load an order of use from a folder and save one to it. Each helper is false where memory is refused.
 mod early_ends;
 
+use lru_core::SeededState;
 use lru_files::persistence::{Folder, MemFolder, TestFolder};
-use secret_hasher::SecretHasher;
 use std::alloc::{AllocError, Global};
 use std::io::{Read, Write};
 use trace_replay::options::{ReplayOptions, ShardCount};
 use trace_replay::restart::run_in;
 use trace_replay::status::{Fault, status};
 
-const HASHER: SecretHasher = SecretHasher { word: 3 };
+const HASHER: SeededState = SeededState { word: 3 };
 
 // The file of the first shard, and the name under which a save with the first word of seed 0 writes it.
 const FILE: &str = "dir/lru.data.0";

@@ -1,12 +1,12 @@
 //! Readers and writers that fail, and memory that runs out, in mid-stream.
-use secret_hasher::SecretHasher;
+use lru_core::SeededState;
 use std::io::{self, Read, Write};
 use std::test::Fail;
 use trace_replay::options::{ReplayOptions, ShardCount};
 use trace_replay::replay::{ReplayError, run};
 use trace_replay::status::{Fault, status};
 
-const HASHER: SecretHasher = SecretHasher { word: 2 };
+const HASHER: SeededState = SeededState { word: 2 };
 
 // Gives its bytes so many at a time, and then fails.
 #[derive(Drop)]

@@ -95,7 +95,7 @@ fn is_owned(alloc: Global, found: BorrowedEntry<'_>, id: Option<u64>) -> bool {
     }
 }
 
-// Whether an entry is read, which must be of `aa`, or this fault is told. After a fault the cursor is where it was.
+// Whether an entry is read, which must be of `aa`, or this fault is reported. After a fault the cursor is where it was.
 fn is_read(alloc: Global, bytes: &[u8], want: Read) -> bool {
     let mut cursor = Cursor { rest: bytes };
     match (take_entry(&mut cursor), want) {

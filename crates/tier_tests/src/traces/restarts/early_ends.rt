@@ -46,7 +46,7 @@ fn a_fault_of_the_reader_saves_nothing(rt: HostRuntime) {
     }
 }
 
-// Until when there is room for the lines, of which the last tells the save, the exit status and the file.
+// Until when there is room for the lines, of which the last reports the save, the exit status and the file.
 const ROOMS: &[(usize, u8, &[u8])] = &[
     (0, 1, BA),
     (37, 1, BA),

@@ -1,7 +1,18 @@
-use Rattle.std.proofs.Common.{max}
-use Rattle.cache_evict.specs.Managed.{pick_by_draws}
-use Rattle.cache_evict.proofs.FaultLaws.{stops_at_once}
+use Rattle.std.proofs.Common.{◌≡◌, max}
+use Rattle.cache_evict.specs.Managed.{pick_by_draws, put_first}
+use Rattle.cache_evict.proofs.FaultLaws.{stops_at_once, stops_later, fits_then}
 use Rattle.cache_evict.proofs.lru.ManagerEvictionManager.admit.Goals as goal
+
+pub returns-in-Ok-clause-fits : goal.returns-in-Ok-clause-fits
+returns-in-Ok-clause-fits g c =
+    let same : c.admit.new.self ≡ put_first g.row.N c.args.item (max c.args.size 1) c.args.self.now = rw (← c.self.view_is, ← c.max.ensures) c.in-Ok.ensures.ok in
+    fits_then c.evict_by_draws.result g.row.N (put_first g.row.N c.args.item (max c.args.size 1) c.args.self.now) c.admit.new.self same c.total_size-size.ensures.fits
+
+pub returns-in-Ok-clause-refused : goal.returns-in-Ok-clause-refused
+returns-in-Ok-clause-refused g c =
+    let same : c.admit.new.self ≡ put_first g.row.N c.args.item (max c.args.size 1) c.args.self.now = rw (← c.self.view_is, ← c.max.ensures) c.in-Ok.ensures.ok in
+    stops_later (pick_by_draws g.row.N) g.row.N c.args.item (max c.args.size 1) c.args.self.now c.admit.new.self c.evict_by_draws.new.self (g.R.Rng.stream c.args.rng.now)
+    (g.R.Rng.stream c.evict_by_draws.new.rng) c.evict_by_draws.result same c.total_size-size.ensures.fits c.evict_by_draws.ensures.refused
 
 pub returns-in-Err-clause-refused : goal.returns-in-Err-clause-refused
 returns-in-Err-clause-refused g c =

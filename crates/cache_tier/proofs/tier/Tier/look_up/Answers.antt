@@ -4,7 +4,6 @@ use mir.Syntax.{Ty}
 use prog.Memory.{size}
 use Rattle.cache_tier.specs.contracts.tier.Tier.{the_row}
 use Rattle.cache_tier.proofs.Room.{inner_room}
-use Rattle.cache_evict.specs.Managed.{total_size}
 use Rattle.tier_model.specs.declared.event.Action.TheVariants.{LookUp}
 use Rattle.tier_model.specs.State.{State}
 use Rattle.tier_requests.specs.Shelves.{shelf_of}
@@ -41,8 +40,7 @@ invariant_of-self g c =
     let left : State = state_by n.parts.manager i.wait (shelf_of n.parts.store) n.parts.lock n.self c.found_after-self-inside.result c.absent_after-self-inside.result in
     let is : left ≡ to =
     λ j. state_by n.parts.manager i.wait (shelf_of n.parts.store) n.parts.lock n.self (c.found_after-self-inside.ensures j) (c.absent_after-self-inside.ensures j) in
-    let small : total_size n.parts.manager < 2 ^ 64 = subst (λ (x : ℕ). x < 2 ^ 64) c.total_size-size.ensures c.total_size-size.type_inv in
-    let took : Took s t (LookUp c.args.id) o left = Took-to s t (LookUp c.args.id) o to left is (Took-look s t c.args.id g.row.N c.self.invariant.0 o n.self all small c.look_up-outcome.ensures.answer) in
+    let took : Took s t (LookUp c.args.id) o left = Took-to s t (LookUp c.args.id) o to left is (Took-look s t c.args.id g.row.N c.self.invariant.0 o n.self all c.total_size-size.ensures.fits c.look_up-outcome.ensures.answer) in
     kept-took g.row.N s t (LookUp c.args.id) o left c.self.invariant took
 
 pub returns : goal.returns
@@ -57,6 +55,5 @@ returns g c =
     let left : State = state_by n.parts.manager i.wait (shelf_of n.parts.store) n.parts.lock n.self c.found_after-self-inside.result c.absent_after-self-inside.result in
     let is : left ≡ to =
     λ j. state_by n.parts.manager i.wait (shelf_of n.parts.store) n.parts.lock n.self (c.found_after-self-inside.ensures j) (c.absent_after-self-inside.ensures j) in
-    let small : total_size n.parts.manager < 2 ^ 64 = subst (λ (x : ℕ). x < 2 ^ 64) c.total_size-size.ensures c.total_size-size.type_inv in
-    let took : Took s t (LookUp c.args.id) o left = Took-to s t (LookUp c.args.id) o to left is (Took-look s t c.args.id g.row.N c.self.invariant.0 o n.self all small c.look_up-outcome.ensures.answer) in
+    let took : Took s t (LookUp c.args.id) o left = Took-to s t (LookUp c.args.id) o to left is (Took-look s t c.args.id g.row.N c.self.invariant.0 o n.self all c.total_size-size.ensures.fits c.look_up-outcome.ensures.answer) in
     rw (← c.self.view_is) took

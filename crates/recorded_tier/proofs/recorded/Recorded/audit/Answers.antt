@@ -10,12 +10,13 @@ invariant_of-self g c = (
   c.audit.ensures.total ∙ c.self.invariant.3,
   omega (arith, c.audit.ensures.parts, c.self.invariant.4),
   c.audit.ensures.amount ∙ c.self.invariant.5,
+  c.self.invariant.6,
 )
 
 pub returns-clause-closed : goal.returns-clause-closed
 returns-clause-closed g c =
-    let all : length c.self.inside.gathered.items ≡ length c.self.inside.seats.items = rw (← c.self.view_is) at c.requires.all in
-    let parts : c.self.inside.owner.parts ≡ g.L.Ledger.parts = omega (arith, all, c.self.invariant.4, c.requires.parts) in
+    let all : length c.self.inside.gathered.items ≡ length c.self.inside.seats.items = rw (← c.self.view_is) at c.requires in
+    let parts : c.self.inside.owner.parts ≡ g.L.Ledger.parts = omega (arith, all, c.self.invariant.4, c.self.invariant.6) in
     record {
       callers = closed-callers c.self.inside.seats.items c.self.inside.gathered.items c.self.inside.history.items c.self.invariant.2 all;
       strangers = closed-strangers c.self.inside.seats.items c.self.inside.gathered.items c.self.inside.history.items c.self.invariant.2;

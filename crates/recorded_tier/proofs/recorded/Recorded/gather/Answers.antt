@@ -34,6 +34,7 @@ invariant_of-self-2 g c =
       c.self.invariant.3,
       omega (arith, same, long, c.spend_all.ensures.parts, c.self.invariant.4),
       omega (arith, all, c.spend_all.ensures.amount, c.self.invariant.5),
+      c.self.invariant.6,
     )
 
 pub returns-clause-counts : goal.returns-clause-counts

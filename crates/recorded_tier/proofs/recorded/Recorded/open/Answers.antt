@@ -17,4 +17,5 @@ invariant_of-result g c =
       c.open-book.ensures.total,
       omega (arith, c.open-book.ensures.parts, c.requires.blank),
       c.open-book.ensures.amount,
+      c.requires.blank.2,
     )

@@ -17,4 +17,5 @@ invariant_of-self-2 g c =
       c.self.invariant.3,
       omega (arith, longer, c.split_off-share.ensures.parts_left, c.self.invariant.4),
       omega (arith, c.split_off-share.ensures.amount_left, c.self.invariant.5),
+      c.self.invariant.6,
     )

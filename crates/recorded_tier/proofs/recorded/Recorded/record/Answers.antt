@@ -51,6 +51,7 @@ invariant_of-self-2 g c =
       omega (arith, longer, c.add.ensures.total, c.self.invariant.3),
       rw length-set c.self.invariant.4,
       c.self.invariant.5,
+      c.self.invariant.6,
     )
 
 pub returns-then-not-is_turn-clause-refused : goal.returns-then-not-is_turn-clause-refused

@@ -10,4 +10,4 @@ pub audit-requires : goal.audit-requires
 audit-requires g c =
     let recorded : Ty = layout (recorded_row (param 0 (number g.row.N)) (param 1 g.row.R) (param 2 g.row.L) (param 3 g.row.S) (param 4 g.row.S-Hasher) g.R.Rng g.L.Ledger g.S.BuildHasher g.S.Hasher.Hasher) in
     let room : size recorded < 2 ^ 63 = assumption in
-    (room, (c.requires, none-left c.outstanding-outstanding.result _ _ c.if-outstanding-ne0.false c.outstanding-outstanding.ensures))
+    (room, none-left c.outstanding-outstanding.result _ _ c.if-outstanding-ne0.false c.outstanding-outstanding.ensures)
