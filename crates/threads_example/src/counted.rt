@@ -1,0 +1,83 @@
+//! The tier for production: its calls are counted, and none is kept.
+ghost use Rattle.std.specs.Prelude.{◌≡◌, ◌*◌, IfOk};
+
+use crate::caller::{Shared, four_at_work};
+use crate::outcome::{Day, Trouble};
+use crate::setting::settings;
+use cache_tier::{Answer, Event, Tier, TierFault};
+use counted_tier::{CallPass, CountedTier};
+use rand_core::SeedableRng;
+use rand_pcg::Pcg64;
+use std::alloc::Global;
+use std::rt::Clock;
+use std::sync::Wait;
+use std::sync::ledger::{Blank, Ledger};
+use std::thread::Threads;
+use std::time::Instant;
+
+type Counted<L> = CountedTier<4, Pcg64, L>;
+
+impl<L: Ledger> Shared for CountedTier<4, Pcg64, L> {
+    type Pass = CallPass<L>;
+
+    ghost made = { λ pass. pass };
+
+    fn new_pass<W: Wait>(&self, rt: &W) -> Result<CallPass<L>, Trouble> {
+        match self.pass(rt) {
+            Ok(pass) => Ok(pass),
+            Err(fault) => Err(Trouble::NoPass(fault)),
+        }
+    }
+
+    fn call<W: Wait>(
+        &self,
+        rt: &W,
+        pass: &mut CallPass<L>,
+        event: Event,
+    ) -> Result<Answer, TierFault> {
+        self.step(rt, pass, &event)
+    }
+}
+
+// A new tier of four shards, shared.
+fn shared<L: Ledger>(alloc: Global, blank: Blank) -> Result<Counted<L>, Trouble>
+    requires { (blank.name ≡ L.name) × (blank.parts ≡ L.parts) × (L.parts ≡ 4294967296) }
+{
+    let set = settings();
+    let Ok(tier) = Tier::<4>::new(alloc, set.limit, set.watermark, set.age, set.wait) else {
+        return Err(Trouble::Memory);
+    };
+    match CountedTier::new(alloc, blank, set, tier, Pcg64::seed_from_u64(1)) {
+        Ok(tier) => Ok(tier),
+        Err(back) => Err(Trouble::NotShared(back.fault)),
+    }
+}
+
+/// Lets four threads share a new tier, for so many calls each. `blank` is the tier's ledger, and `L` names it.
+pub fn counted_day<L: Ledger + Send + Sync, W: Threads + Wait + Clock + Sync>(
+    rt: &W,
+    alloc: Global,
+    blank: Blank,
+    calls: u32,
+) -> Result<Day, Trouble>
+    requires { (blank.name ≡ L.name) × (blank.parts ≡ L.parts) × (L.parts ≡ 4294967296) }
+    ensures { IfOk result (λ day. day.tally.calls ≡ 4 * calls) }
+{
+    let tier: Counted<L> = shared(alloc, blank)?;
+    let start = Instant::now(rt)?;
+    let (passes, tally) = four_at_work(rt, alloc, &tier, calls)?;
+    let took = start.elapsed(rt)?;
+    for pass in passes {
+        tier.gather(rt, pass);
+    }
+    match tier.close() {
+        Ok(counted) => Ok(Day {
+            tally,
+            recorded: counted.calls(),
+            report: counted.tier().report(),
+            replayed: None,
+            took,
+        }),
+        Err((outstanding, _)) => Err(Trouble::Outstanding(outstanding)),
+    }
+}
