@@ -6,7 +6,7 @@
     access-log-to-trace.py --cases FOLDER --limits 100000,400000 < access.log    and then --answers FILE < access.log
     access-log-to-trace.py < access.log > trace.jsonl
 
-It reads nginx's and Apache's combined and common log formats, also behind the name of a virtual host, and plain lines
+It reads nginx's and Apache's combined and common log formats, also after the name of a virtual host, and plain lines
 'time key bytes' (time in seconds since 1970). Each request becomes four events: open, look, put, drop. The put follows whether
 or not the body was found, since a trace can't know: so after each request its key is the one used last, as in a cache that fills
 what it lacks, and the look-ups found are those of such a cache. What this changes is freshness, which each put renews.

@@ -10,10 +10,11 @@ many seconds after it: three lines, open, look and drop.
 What is changed is reported on standard error:
 - A status line of HTTP/2 or HTTP/3, which has no reason and no minor version, is written as HTTP/1.1, since the tier reads HTTP/1.x alone.
 - Where curl printed several heads (100 Continue, redirects with -L, a proxy's), only the last response is taken.
-- A head alone, as of curl -I, gets as many bytes 'x' for a body as its Content-Length says, up to 1 MiB. A head whose empty line is
+- A head alone, as of curl -sSI, gets as many bytes 'x' for a body as its Content-Length says, up to 1 MiB. A head whose empty line is
   missing, as in a copied text, gets one.
 
-curl decodes a chunked body (but for --raw), and a packed one with --compressed; the tier takes the bytes as they are here.
+curl decodes a chunked body (but for --raw), and a packed one with --compressed; the tier takes the bytes as they are here. That the
+chunks' framing isn't there is reported.
 """
 import argparse
 import json
@@ -25,6 +26,8 @@ STATUS = re.compile(rb"HTTP/(\d)(?:\.(\d))? (\d{3})[^\r\n]*\r?\n")
 HEAD = re.compile(rb".*?\n\r?\n", re.DOTALL)
 LENGTH = re.compile(rb"^content-length:[ \t]*(\d+)[ \t]*\r?$", re.IGNORECASE | re.MULTILINE)
 CODED = re.compile(rb"^transfer-encoding:", re.IGNORECASE | re.MULTILINE)
+CHUNKED = re.compile(rb"^transfer-encoding:.*\bchunked[ \t]*\r?$", re.IGNORECASE | re.MULTILINE)
+CHUNK = re.compile(rb"[0-9a-f]+[ \t]*(?:;[^\r\n]*)?\r?\n", re.IGNORECASE)
 LONGEST, EMPTY = 2**20, (b"204", b"304")
 
 
@@ -33,7 +36,7 @@ def note(text):
 
 
 def promises_body(head):
-    """Whether a body is printed behind a head that isn't the last: not behind 1xx, 3xx, 401, 407 or a proxy's 200."""
+    """Whether a body is printed after a head that isn't the last: not after 1xx, 3xx, 401, 407 or a proxy's 200."""
     status = STATUS.match(head)[3]
     if status[:1] in b"13" or status in (b"401", b"407"):
         return False
@@ -71,6 +74,8 @@ def with_body(data):
     if not there and 0 < wanted <= LONGEST and STATUS.match(data)[3] not in EMPTY:
         note(f"no body follows the head: {wanted} bytes stand for it")
         return data + b"x" * wanted
+    if there and CHUNKED.search(head[0]) and not CHUNK.match(data[head.end() :]):
+        note(f"the body isn't in chunks, as its Transfer-Encoding says: {there} bytes, as curl decodes them, stand for it")
     if length and there != wanted and STATUS.match(data)[3] not in EMPTY:
         note(f"Content-Length is {wanted}, and {there} bytes follow the head")
     return data
@@ -81,7 +86,7 @@ def response_of(data):
     if not data:
         sys.exit("the input is empty")
     if not STATUS.match(data):
-        sys.exit("the input doesn't begin with a status line: print the head too, as curl -i does")
+        sys.exit("the input doesn't begin with a status line: print the head too, as curl -sSi does")
     data, dropped = last_response(data)
     if dropped:
         note(f"earlier heads left out: {dropped}")

@@ -110,6 +110,11 @@ grep -qx "no empty line ends the head: one is added" "$room/told"
 [ ! -s "$room/told" ]
 response 'HTTP/1.1 200 OK\r\nContent-Length: 9\r\n\r\nabc' > "$room/trace"
 grep -qx "Content-Length is 9, and 3 bytes follow the head" "$room/told"
+# a chunked body as it came, and as curl decodes it
+response 'HTTP/1.1 200 OK\r\nTransfer-Encoding: chunked\r\n\r\n3\r\nabc\r\n0\r\n\r\n' > "$room/trace"
+[ ! -s "$room/told" ]
+response 'HTTP/1.1 200 OK\r\ntransfer-encoding: gzip, chunked\r\n\r\nabc' > "$room/trace"
+grep -qx "the body isn't in chunks, as its Transfer-Encoding says: 3 bytes, as curl decodes them, stand for it" "$room/told"
 if python3 scripts/response-to-trace.py /a < /dev/null 2> "$room/told"; then exit 1; fi
 grep -qx "the input is empty" "$room/told"
 echo "access-log-to-trace.py, response-to-trace.py: as expected"

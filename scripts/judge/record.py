@@ -1,6 +1,7 @@
 """The record of verdicts, `edits/RECORD`: a line for each edit with its crate, its name, a digest and its verdict.
 
-The digest is of the edit's text and of all files of its crate's src and specs, so a line is old once one of these changes.
+The digest is of the edit's text and of all files of its crate's src and specs but for their comments, so a line is old once one of these
+changes.
 """
 import glob
 import hashlib
@@ -49,15 +50,21 @@ def strays(root, crates):
     return found
 
 
+def without_comments(data):
+    """A file's lines without those that are empty or a comment alone, by which nothing is proved."""
+    marks = (b"//", b"--")
+    return b"\n".join(line for line in data.split(b"\n") if line.strip() and not line.strip().startswith(marks))
+
+
 def digest_of_crate(folder):
-    """A digest of all files of a crate's src and specs with their paths, in the order of the paths."""
+    """A digest of all files of a crate's src and specs with their paths, in the order of the paths, without their comments."""
     made, paths = hashlib.blake2b(digest_size=16), []
     for part in ("src", "specs"):
         for at, _, names in os.walk(os.path.join(folder, part)):
             paths += [os.path.relpath(os.path.join(at, name), folder) for name in names]
     for path in sorted(paths):
         with open(os.path.join(folder, path), "rb") as it:
-            data = it.read()
+            data = without_comments(it.read())
         made.update(f"{path}\0{len(data)}\0".encode() + data)
     return made.digest()
 

@@ -1,14 +1,14 @@
 #!/bin/sh
 # Runs the gate (rt ci) and prints what it took, by crate and by kind, as docs/gate.md shows it:
 #
-#     sh scripts/gate-time.sh [LOG]
-#     GATE=PROCESS sh scripts/gate-time.sh LOG
+#     sh scripts/measure/gate-time.sh [LOG]
+#     GATE=PROCESS sh scripts/measure/gate-time.sh LOG
 #
 # What the gate itself prints goes to LOG (gate.log without one). The second form watches a gate that runs already, started in this
 # folder under that number, and reads its LOG when it has ended; it has no exit status then. Times are processor minutes, read from the processes of
 # the run five times a second; the last lines give the wall time, the sums, the date, and the speed of the host: what Python's
 # BLAKE2b takes for 256 MiB, the best of five. Nothing else may run beside it.
-top=$(cd "$(dirname "$0")/.." && pwd)
+top=$(cd "$(dirname "$0")/../.." && pwd)
 cd "$top" || exit 1
 exec python3 - "${1:-gate.log}" <<'PYTHON'
 import hashlib, os, re, subprocess, sys, threading, time

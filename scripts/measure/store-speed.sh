@@ -4,8 +4,8 @@
 # 1 GiB written in pieces of 64 KiB, beside a Rust Vec that takes the same pieces. It builds a small proved program over mem_cache and
 # a Rust program in a temporary folder.
 set -eu
-top=$(cd "$(dirname "$0")/.." && pwd)
-. "$top/scripts/seconds.sh"
+top=$(cd "$(dirname "$0")/../.." && pwd)
+. "$top/scripts/measure/seconds.sh"
 work=$(mktemp -d)
 trap 'rm -rf "$work"' EXIT
 mkdir -p "$work/crates/calls/src"

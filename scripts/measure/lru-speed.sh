@@ -3,8 +3,8 @@
 # the eviction that follows, a quarter look-ups), beside a Rust hash map with an index list on the same machine. It builds a
 # small proved program over lru_core and a Rust program in a temporary folder.
 set -eu
-top=$(cd "$(dirname "$0")/.." && pwd)
-. "$top/scripts/seconds.sh"
+top=$(cd "$(dirname "$0")/../.." && pwd)
+. "$top/scripts/measure/seconds.sh"
 work=$(mktemp -d)
 trap 'rm -rf "$work"' EXIT
 mkdir -p "$work/crates/calls/src"

@@ -1,13 +1,13 @@
 #!/bin/sh
 # Counts the instructions that tier-replay takes for a line, by kind of line, as valgrind's callgrind counts them:
 #
-#     sh scripts/instructions.sh [PROGRAM]
+#     sh scripts/measure/instructions.sh [PROGRAM]
 #
 # They don't change with other work on the machine. Each kind is run over N and over 3 N lines, and what the first run takes is taken off.
 # Beside it stands what a plain program takes for a line of that kind (docs/performance.md). PROGRAM is
 # crates/tier_replay/out/tier_replay, if none is named. It takes some minutes.
 set -eu
-top=$(cd "$(dirname "$0")/.." && pwd)
+top=$(cd "$(dirname "$0")/../.." && pwd)
 exec python3 - "${1:-$top/crates/tier_replay/out/tier_replay}" <<'PYTHON'
 import json, random, re, subprocess, sys, tempfile
 

@@ -1,13 +1,13 @@
 #!/bin/sh
 # Measures the program's calls by the number of bodies that the tier holds, and puts of long bodies:
 #
-#     sh scripts/tier-speed.sh [PROGRAM]
+#     sh scripts/measure/tier-speed.sh [PROGRAM]
 #
 # For 10^3 to 10^6 bodies of one byte: user seconds for 100,000 look-ups that hit, look-ups that find nothing, puts of new keys, of which each
 # evicts one entry, and purges, each with the put of the same key. The filling is measured by itself and taken off. Then bodies of 1 MiB in pieces of
 # 64 KiB. PROGRAM is the proved program, crates/tier_replay/out/tier_replay, if none is named.
 set -eu
-top=$(cd "$(dirname "$0")/.." && pwd)
+top=$(cd "$(dirname "$0")/../.." && pwd)
 exec python3 - "${1:-$top/crates/tier_replay/out/tier_replay}" <<'PYTHON'
 import json, os, random, resource, subprocess, sys, tempfile
 

@@ -3,11 +3,11 @@
 # pause. Prints the greatest number of rows that it had, and the number once it settled. It builds a small proved program over async_lru
 # in a temporary folder.
 set -eu
-top=$(cd "$(dirname "$0")/.." && pwd)
+top=$(cd "$(dirname "$0")/../.." && pwd)
 work=$(mktemp -d)
 trap 'rm -rf "$work"' EXIT
 mkdir -p "$work/crates/rows/src"
-for name in lru_list secret_hasher lru_core shard_actors async_lru; do
+for name in lru_list lru_core shard_actors async_lru; do
     cp -r --reflink=auto "$top/crates/$name" "$work/crates/"
     grep "^$name:" "$top/crates.txt" >> "$work/crates.txt"
 done

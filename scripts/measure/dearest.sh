@@ -1,13 +1,13 @@
 #!/bin/sh
 # Prints the ten dearest functions of each crate that the arguments name, in processor seconds of their own proofs:
 #
-#     sh scripts/dearest.sh CRATE..
+#     sh scripts/measure/dearest.sh CRATE..
 #
 # A function's proof is checked by itself, as `rt check --only` does, over kept work of all else, and what an empty --only takes is
 # taken off. It works on a copy of what the crate's own checks kept; the libraries below must have been built. A crate takes some
 # five seconds a function and its proofs once more.
 set -eu
-top=$(cd "$(dirname "$0")/.." && pwd)
+top=$(cd "$(dirname "$0")/../.." && pwd)
 exec python3 - "$top" "$@" <<'PYTHON'
 import glob, os, re, shutil, sys, tempfile
 

@@ -3,12 +3,12 @@
 # share of the body; a look-up of the store (`lookup_at`); a request that begins and ends, and one that finds the body between (`cache_lookup_at`,
 # `cache_found_fresh`). It builds a small proved program over http_cache in a temporary folder.
 set -eu
-top=$(cd "$(dirname "$0")/.." && pwd)
+top=$(cd "$(dirname "$0")/../.." && pwd)
 work=$(mktemp -d)
 trap 'rm -rf "$work"' EXIT
 mkdir -p "$work/crates/calls/src"
 sed 's/:.*//' "$top/crates.txt" | while read -r name; do
-    if grep -qE "^(cache_words|cache_headers|cache_directives|cache_metas|cache_heads|cache_entries|cache_changes|cache_store|packed_meta|mem_cache|secret_hasher|lru_list|lru_files|lru_core|entry_numbers|cache_evict|cache_lock|cache_phases|cache_predictor|cache_parts|request_store|http_cache):" <<N
+    if grep -qE "^(cache_words|cache_headers|cache_directives|cache_metas|cache_heads|cache_entries|cache_changes|cache_store|packed_meta|mem_cache|lru_list|lru_files|lru_core|entry_numbers|cache_evict|cache_lock|cache_phases|cache_predictor|cache_parts|request_store|http_cache):" <<N
 $name:
 N
     then

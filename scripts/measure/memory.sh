@@ -1,12 +1,12 @@
 #!/bin/sh
 # Measures how much memory tier-replay takes for an entry beside its body, and for an open request:
 #
-#     sh scripts/memory.sh [PROGRAM]
+#     sh scripts/measure/memory.sh [PROGRAM]
 #
 # Each row is the program's greatest memory (GNU time's %M) after 10^4 and 10^5 puts of a body of one byte, or opens, less that of an
 # empty trace, divided by their number. PROGRAM is crates/tier_replay/out/tier_replay, if none is named.
 set -eu
-top=$(cd "$(dirname "$0")/.." && pwd)
+top=$(cd "$(dirname "$0")/../.." && pwd)
 exec python3 - "${1:-$top/crates/tier_replay/out/tier_replay}" <<'PYTHON'
 import json, subprocess, sys, tempfile
 

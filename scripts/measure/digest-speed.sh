@@ -2,8 +2,8 @@
 # Measures the digest: bytes a second over pieces of 1 MiB, and keys of 40 bytes a second, each beside Python's hashlib on
 # the same machine. It builds two small proved programs over cache_words in a temporary folder.
 set -eu
-top=$(cd "$(dirname "$0")/.." && pwd)
-. "$top/scripts/seconds.sh"
+top=$(cd "$(dirname "$0")/../.." && pwd)
+. "$top/scripts/measure/seconds.sh"
 work=$(mktemp -d)
 trap 'rm -rf "$work"' EXIT
 mkdir -p "$work/crates"

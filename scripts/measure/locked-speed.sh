@@ -4,7 +4,7 @@
 # plain Rust list under one std Mutex. It builds a small proved program over pingora_lru and a Rust program in a temporary folder.
 # A time is the best of three runs, less the best of three that only fill: seconds that pass, and seconds of all processors.
 set -eu
-top=$(cd "$(dirname "$0")/.." && pwd)
+top=$(cd "$(dirname "$0")/../.." && pwd)
 work=$(mktemp -d)
 trap 'rm -rf "$work"' EXIT
 mkdir -p "$work/crates/calls/src"

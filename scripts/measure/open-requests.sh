@@ -1,14 +1,14 @@
 #!/bin/sh
 # Counts the instructions that tier-replay takes for an event of each kind, beside 10^3 and beside 10^5 open requests:
 #
-#     sh scripts/open-requests.sh [PROGRAM [EVENTS]]
+#     sh scripts/measure/open-requests.sh [PROGRAM [EVENTS]]
 #
 # Of the open requests a quarter was just opened, a quarter found nothing, a quarter writes, each a body of its own, and a quarter reads these
 # writes as they come; as many again wait for one permit. Valgrind's callgrind counts, which other work on the machine doesn't change; the
 # program is fed line by line, and its counts are read between the kinds. EVENTS (2000, if none is named) is how many events of a kind are
 # counted. PROGRAM is crates/tier_replay/out/tier_replay, if none is named. It takes some minutes.
 set -eu
-top=$(cd "$(dirname "$0")/.." && pwd)
+top=$(cd "$(dirname "$0")/../.." && pwd)
 exec python3 - "${1:-$top/crates/tier_replay/out/tier_replay}" "${2:-2000}" <<'PYTHON'
 import glob, json, os, re, subprocess, sys, tempfile, threading
 

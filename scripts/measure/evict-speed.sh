@@ -3,8 +3,8 @@
 # each of looks, uses, admissions with the eviction that follows, and removals with the admission of the same entry, with 1,000 and
 # with 1,000,000 entries. It builds a small proved program over cache_evict and a Rust program in a temporary folder.
 set -eu
-top=$(cd "$(dirname "$0")/.." && pwd)
-. "$top/scripts/seconds.sh"
+top=$(cd "$(dirname "$0")/../.." && pwd)
+. "$top/scripts/measure/seconds.sh"
 work=$(mktemp -d)
 trap 'rm -rf "$work"' EXIT
 mkdir -p "$work/crates/calls/src"
