@@ -6,7 +6,7 @@ use Rattle.std.proofs.lemmas.Bool.{eqb-true}
 use Rattle.cache_entries.specs.Keys.{same_bytes}
 use Rattle.cache_entries.specs.SameEntry.{same_bytes-tells, same-sym}
 use Rattle.cache_changes.specs.Changes.{StoredKey, Write, Change, Changes, appends, finishes, leaves, renews, removes, evicts, key_alone, is_key}
-use Rattle.cache_changes.specs.Writes.{finished_by, body_chosen, body_now, removes_key, leaves_write, finishes_key, IsInFlight, IsAlive, IsBody, Flies, MayCome, IsOrderly, HasBegun}
+use Rattle.cache_changes.specs.Writes.{finished_by, body_chosen, body_now, removes_key, leaves_write, finishes_key, IsInFlight, IsAlive, IsBody, IsNumberInFlight, MayCome, IsOrderly, HasBegun}
 use Rattle.cache_changes.specs.Store.{Stored, Flying, stored_of, is_of, body_at, flying_at, renewed, with_body, after, store_of}
 use Rattle.cache_changes.proofs.RowLaws.{not_true, not_false, find-map, find-kept, find-gone}
 use Rattle.cache_changes.proofs.WriteLaws.{Life, life, life_by, begun_by, lived, flight_began, began_more, began_later, begun_none, life-began, life-flies, life-alive, life-tells, is_alive, and_true, neither, not_either, same_number}
@@ -52,7 +52,7 @@ back {M = M} n c before x none e = by_old (life n before) refl (ap (λ (b : Opti
     by_old (Some y) is e = (y, is, cc)
 
 -- a flight is of one write
-pub flight_life : {M : Type 0} (m : ℕ) (changes : Changes M) → IsOrderly changes → Flies m changes → (v : Write M) × (a : Bool) × (life m changes ≡ Some (live v a))
+pub flight_life : {M : Type 0} (m : ℕ) (changes : Changes M) → IsOrderly changes → IsNumberInFlight m changes → (v : Write M) × (a : Bool) × (life m changes ≡ Some (live v a))
 flight_life m changes o f =
     let found = life-flies f.0 changes o f.2 in
     (f.0, found.0, ap (λ (k : ℕ). life k changes) (sym f.1) ∙ found.1)
@@ -216,7 +216,7 @@ append_step : {M : Type 0} (m : ℕ) (bytes : List ℕ) (before : Changes M) (o 
 append_step m bytes before None h = refl
 append_step m bytes before (Some w) h = rw (h w refl) refl
 
-pub not_appended : {M : Type 0} (k : StoredKey) (m : ℕ) (before : Changes M) → IsOrderly before → Flies m before → (w : Write M) → body_now k before ≡ Some w → (m == w.number) ≡ false
+pub not_appended : {M : Type 0} (k : StoredKey) (m : ℕ) (before : Changes M) → IsOrderly before → IsNumberInFlight m before → (w : Write M) → body_now k before ≡ Some w → (m == w.number) ≡ false
 not_appended {M = M} k m before o flies w e =
     no_leaving w true (leaves m) before flies o (body_now-has k before w o e).lives
 

@@ -6,7 +6,7 @@ use Rattle.std.proofs.lemmas.Bool.{eqb-true}
 use Rattle.cache_entries.specs.Keys.{same_bytes}
 use Rattle.cache_entries.specs.SameEntry.{same_bytes-tells}
 use Rattle.cache_changes.specs.Changes.{StoredKey, Write, Change, Changes, finishes, leaves}
-use Rattle.cache_changes.specs.Writes.{finished_by, body_chosen, body_now, removes_key, lands, leaves_write, IsFound, IsFlying, IsShown, MayCome, IsOrderly}
+use Rattle.cache_changes.specs.Writes.{finished_by, body_chosen, body_now, removes_key, lands, leaves_write, IsFound, IsAliveInFlight, IsShown, MayCome, IsOrderly}
 use Rattle.cache_changes.specs.Store.{Stored, Flying, IsStateOf, stored_of, has_number, body_at, flying_at, flies_for, shown_at, is_found_at, store_of}
 use Rattle.cache_changes.proofs.RowLaws.{find-passes, find-some}
 use Rattle.cache_changes.proofs.WriteLaws.{Life, life, life_by, begun_by, life-flies, life-alive, and_true, both_true, neither, was_false}
@@ -70,18 +70,18 @@ finished_found {M = M} k n (c ∷ before) x o number e f t key = by_begun (begun
 
 -- ---- what is shown
 
-flying_there : {M : Type 0} (k : StoredKey) (w : Write M) (changes : Changes M) → IsOrderly changes → IsFlying k w changes → flying_at w.number (store_of changes) ≡ Some (flight w true changes)
+flying_there : {M : Type 0} (k : StoredKey) (w : Write M) (changes : Changes M) → IsOrderly changes → IsAliveInFlight k w changes → flying_at w.number (store_of changes) ≡ Some (flight w true changes)
 flying_there k w changes o h = flying_at-is w.number changes o ∙ ap (flying_of changes) (life-both w changes o h.flies h.alive)
 
 flight_passes : {M : Type 0} (k : StoredKey) (w : Write M) (changes : Changes M) → same_bytes w.key k ≡ true → flies_for k (flight w true changes) ≡ true
 flight_passes k w changes t = both_true (same_bytes w.key k) true t refl
 
-first_there : {M : Type 0} (k : StoredKey) (w : Write M) (changes : Changes M) → IsOrderly changes → IsFlying k w changes → is_some (find (flies_for k) (store_of changes).flying) ≡ true
+first_there : {M : Type 0} (k : StoredKey) (w : Write M) (changes : Changes M) → IsOrderly changes → IsAliveInFlight k w changes → is_some (find (flies_for k) (store_of changes).flying) ≡ true
 first_there k w changes o h =
     find-some (has_number w.number) (flies_for k) (store_of changes).flying (flight w true changes) (flying_there k w changes o h) (flight_passes k w changes h.of_key)
 
 first_flies : {M : Type 0} (k : StoredKey) (changes : Changes M) (f : Flying M) → IsOrderly changes → find (flies_for k) (store_of changes).flying ≡ Some f
-    → IsFlying k f.stored.write changes × (f.stored ≡ stored_of f.stored.write changes)
+    → IsAliveInFlight k f.stored.write changes × (f.stored ≡ stored_of f.stored.write changes)
 first_flies k changes f o e =
     let there : flying_at (number_of f) (store_of changes) ≡ Some f = found_number 0 (flies_for k) (store_of changes).flying f (flights-rise changes o) e in
     let h = (flying-tells (number_of f) changes f o there).1 in
@@ -89,7 +89,7 @@ first_flies k changes f o e =
     (record { of_key = parts.0; alive = h.alive.0 (was_false f.removed parts.1); flies = h.flies }, h.stored)
 
 first_least : {M : Type 0} (k : StoredKey) (changes : Changes M) (f : Flying M) (v : Write M) → IsOrderly changes → find (flies_for k) (store_of changes).flying ≡ Some f
-    → IsFlying k v changes → number_of f ≤ v.number
+    → IsAliveInFlight k v changes → number_of f ≤ v.number
 first_least k changes f v o e h =
     found_least 0 v.number (flies_for k) (store_of changes).flying f (flight v true changes) (flights-rise changes o) e (flying_there k v changes o h) (flight_passes k v changes h.of_key)
 

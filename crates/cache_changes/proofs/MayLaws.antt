@@ -3,28 +3,28 @@ use Rattle.std.proofs.Common.{◌≡◌, ℕ, refl, ap, sym, ◌∙◌, true, fa
 use Rattle.std.specs.Prelude.{◌↔◌, ◌⊎◌, List, Option, Some, None, is_some}
 use Rattle.cache_entries.specs.SameEntry.{same_bytes-tells}
 use Rattle.cache_changes.specs.Changes.{StoredKey, Write, Changes, appends, finishes, renews}
-use Rattle.cache_changes.specs.Writes.{has_ended, IsInFlight, IsAlive, IsBody, Flies, IsStored, MayCome, IsOrderly}
+use Rattle.cache_changes.specs.Writes.{has_ended, IsInFlight, IsAlive, IsBody, IsNumberInFlight, IsStored, MayCome, IsOrderly}
 use Rattle.cache_changes.specs.Store.{Stored, Flying, stored_of, body_at, flying_at, store_of}
 use Rattle.cache_changes.proofs.FlightLaws.{flight, flying_of, flying_at-is}
 use Rattle.cache_changes.proofs.BodyLaws.{flight_life, life-both}
 use Rattle.cache_changes.proofs.StateLaws.{flying-tells, bodies-are}
 
 -- a write in flight is in the state
-flight_there : {M : Type 0} (n : ℕ) (changes : Changes M) → IsOrderly changes → Flies n changes → (f : Flying M) × (flying_at n (store_of changes) ≡ Some f)
+flight_there : {M : Type 0} (n : ℕ) (changes : Changes M) → IsOrderly changes → IsNumberInFlight n changes → (f : Flying M) × (flying_at n (store_of changes) ≡ Some f)
 flight_there n changes o h =
     let known = flight_life n changes o h in
     (flight known.0 known.1 changes, flying_at-is n changes o ∙ ap (flying_of changes) known.2)
 
-there_flies : {M : Type 0} (n : ℕ) (changes : Changes M) (f : Flying M) → IsOrderly changes → flying_at n (store_of changes) ≡ Some f → Flies n changes
+there_flies : {M : Type 0} (n : ℕ) (changes : Changes M) (f : Flying M) → IsOrderly changes → flying_at n (store_of changes) ≡ Some f → IsNumberInFlight n changes
 there_flies n changes f o e = let t = flying-tells n changes f o e in (f.stored.write, t.0, t.1.flies)
 
 ended_there : {M : Type 0} (n : ℕ) (changes : Changes M) (f : Flying M) → IsOrderly changes → flying_at n (store_of changes) ≡ Some f → f.ended ≡ has_ended n changes
 ended_there n changes f o e = let t = flying-tells n changes f o e in t.1.ended ∙ ap (λ (m : ℕ). has_ended m changes) t.0
 
-pub flies-is : {M : Type 0} (changes : Changes M) → IsOrderly changes → (n : ℕ) → (is_some (flying_at n (store_of changes)) ≡ true) ↔ Flies n changes
+pub flies-is : {M : Type 0} (changes : Changes M) → IsOrderly changes → (n : ℕ) → (is_some (flying_at n (store_of changes)) ≡ true) ↔ IsNumberInFlight n changes
 flies-is {M = M} changes o n = (λ t. by_flight (flying_at n (store_of changes)) refl t, λ h. ap is_some (flight_there n changes o h).1)
   where
-    by_flight : (f : Option (Flying M)) → flying_at n (store_of changes) ≡ f → is_some f ≡ true → Flies n changes
+    by_flight : (f : Option (Flying M)) → flying_at n (store_of changes) ≡ f → is_some f ≡ true → IsNumberInFlight n changes
     by_flight None e t = absurd cc
     by_flight (Some f) e t = there_flies n changes f o e
 

@@ -5,7 +5,7 @@ use Rattle.std.specs.List.{AllByRecursion}
 use Rattle.std.proofs.lemmas.Bool.{eqb-true}
 use Rattle.std.proofs.lemmas.Bool.Decides.{nat_tests}
 use Rattle.cache_changes.specs.Changes.{Write, Change, Changes, begins, appends, ends, renews}
-use Rattle.cache_changes.specs.Writes.{bytes_of, has_ended, meta_of, removes_key, lands, leaves_write, IsInFlight, IsAlive, BeginsBelow, Flies, MayCome, IsOrderly, HasBegun}
+use Rattle.cache_changes.specs.Writes.{bytes_of, has_ended, meta_of, removes_key, lands, leaves_write, IsInFlight, IsAlive, BeginsBelow, IsNumberInFlight, MayCome, IsOrderly, HasBegun}
 use Rattle.cache_changes.proofs.RowLaws.{not_false}
 
 -- the write of a number, whether it is in flight, and whether it is alive
@@ -190,7 +190,7 @@ pub life_number : {M : Type 0} (n : ℕ) (changes : Changes M) (x : Life M) → 
 life_number n changes x e = (life-tells n changes x e).number
 
 -- a number that no change names
-flies_below : {M : Type 0} (m n : ℕ) (changes : Changes M) → AllByRecursion (BeginsBelow n) changes → Flies m changes → m < n
+flies_below : {M : Type 0} (m n : ℕ) (changes : Changes M) → AllByRecursion (BeginsBelow n) changes → IsNumberInFlight m changes → m < n
 flies_below m n changes h f = subst (λ (k : ℕ). k < n) f.1 (began_below n f.0 changes h (flight_began f.0 changes f.2))
 
 named_below : {M : Type 0} (m n : ℕ) (meta : M) (changes : Changes M) → AllByRecursion (BeginsBelow n) changes → MayCome (renews m meta) changes → m < n

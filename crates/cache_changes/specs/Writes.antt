@@ -93,19 +93,19 @@ body_now k [] = None
 body_now k (c ∷ before) = body_chosen (removes_key k c) (finished_by k c) (body_now k before)
 
 -- w is an alive write of k in flight
-pub record IsFlying {M : Type 0} (k : StoredKey) (w : Write M) (changes : Changes M) : Type 0 where
+pub record IsAliveInFlight {M : Type 0} (k : StoredKey) (w : Write M) (changes : Changes M) : Type 0 where
   pub of_key : same_bytes w.key k ≡ true
   pub alive : IsAlive w changes
   pub flies : IsInFlight w changes
 
 -- of those it began first: each other one has a greater number
 pub record IsFirstInFlight {M : Type 0} (k : StoredKey) (w : Write M) (changes : Changes M) : Type 0 where
-  pub flying : IsFlying k w changes
-  pub first : (v : Write M) → IsFlying k v changes → w.number ≤ v.number
+  pub flying : IsAliveInFlight k w changes
+  pub first : (v : Write M) → IsAliveInFlight k v changes → w.number ≤ v.number
 
 -- what a look-up of k shows: the alive write in flight that began first; without one the body
 abbrev pub IsShown : {M : Type 0} → StoredKey → Write M → Changes M → Type 0
-IsShown {M = M} k w changes = IsFirstInFlight k w changes ⊎ (((v : Write M) → IsFlying k v changes → ⊥) × IsBody k w changes)
+IsShown {M = M} k w changes = IsFirstInFlight k w changes ⊎ (((v : Write M) → IsAliveInFlight k v changes → ⊥) × IsBody k w changes)
 
 -- where the change begins a write, its number is below n
 abbrev pub BeginsBelow : {M : Type 0} → ℕ → Change M → Type 0
@@ -113,8 +113,8 @@ BeginsBelow n (begins w) = w.number < n
 BeginsBelow n _ = Unit {0}
 
 -- the number is that of a write in flight
-abbrev pub Flies : {M : Type 0} → ℕ → Changes M → Type 0
-Flies {M = M} n changes = (w : Write M) × (w.number ≡ n) × IsInFlight w changes
+abbrev pub IsNumberInFlight : {M : Type 0} → ℕ → Changes M → Type 0
+IsNumberInFlight {M = M} n changes = (w : Write M) × (w.number ≡ n) × IsInFlight w changes
 
 -- the number is that of a body
 abbrev pub IsStored : {M : Type 0} → ℕ → Changes M → Type 0
@@ -124,11 +124,11 @@ IsStored {M = M} n changes = (w : Write M) × (w.number ≡ n) × IsBody w.key w
 -- if it is alive; what is done to a write is done in flight, but a body may get another meta too
 abbrev pub MayCome : {M : Type 0} → Change M → Changes M → Type 0
 MayCome (begins w) before = AllByRecursion (BeginsBelow w.number) before
-MayCome (appends n bytes) before = Flies n before × (has_ended n before ≡ false)
-MayCome (ends n) before = Flies n before
+MayCome (appends n bytes) before = IsNumberInFlight n before × (has_ended n before ≡ false)
+MayCome (ends n) before = IsNumberInFlight n before
 MayCome (finishes w) before = IsInFlight w before × IsAlive w before
-MayCome (leaves n) before = Flies n before
-MayCome (renews n meta) before = Flies n before ⊎ IsStored n before
+MayCome (leaves n) before = IsNumberInFlight n before
+MayCome (renews n meta) before = IsNumberInFlight n before ⊎ IsStored n before
 MayCome _ before = Unit {0}
 
 -- what every store keeps to

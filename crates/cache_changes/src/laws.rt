@@ -5,7 +5,7 @@ ghost use Rattle.cache_entries.specs.declared.entry.CacheEntryKey.{CacheEntryKey
 ghost use Rattle.cache_entries.specs.declared.rows.Tracked.{Tracked};
 ghost use Rattle.cache_entries.specs.Rows.{AreDistinct, all_weights, is_over};
 ghost use Rattle.cache_changes.specs.Changes.{StoredKey, Write, Change, Changes, appends, finishes, renews, evicts};
-ghost use Rattle.cache_changes.specs.Writes.{body_now, bytes_of, HasBegun, IsInFlight, IsBody, IsShown, Flies, MayCome, IsOrderly};
+ghost use Rattle.cache_changes.specs.Writes.{body_now, bytes_of, HasBegun, IsInFlight, IsBody, IsShown, IsNumberInFlight, MayCome, IsOrderly};
 ghost use Rattle.cache_changes.specs.Store.{Stored, Flying, IsStateOf, body_at, flying_at, store_of};
 ghost use Rattle.cache_changes.specs.Bound.{TracksBodies, is_settled, IsTrackedBody, AreWithin};
 ghost use Rattle.cache_changes.specs.Uses.{IsOrderOfUse, IsLast, IsLawfulEviction, rows_after, rows_of, shard_of, in_shard, changes_shard, entry_changed, AreShardsOf, shards_after, admissions};
@@ -18,7 +18,7 @@ pub fn the_state_is_what_changes_say<M>()
 /// That state says which changes may come next: bytes, to a write that has not ended; a finish, of one that was not removed; what
 /// else is done to a write, in flight; and another meta, to a write in flight or a body.
 pub fn the_state_tells_what_may_come<M>()
-    ensures flies { (changes : Changes M) → IsOrderly changes → (n : ℕ) → (is_some (flying_at n (store_of changes)) ≡ true) ↔ Flies n changes }
+    ensures flies { (changes : Changes M) → IsOrderly changes → (n : ℕ) → (is_some (flying_at n (store_of changes)) ≡ true) ↔ IsNumberInFlight n changes }
     ensures appends { (changes : Changes M) → IsOrderly changes → (n : ℕ) (bytes : List ℕ)
         → ((f : Flying M) × (flying_at n (store_of changes) ≡ Some f) × (f.ended ≡ false)) ↔ MayCome (appends n bytes) changes }
     ensures finishes { (changes : Changes M) → IsOrderly changes → (w : Write M)

@@ -3,7 +3,7 @@ use Rattle.std.proofs.Common.{◌≡◌, ℕ, refl, ap, sym, ◌∙◌, true, fa
 use Rattle.std.specs.Prelude.{List, Option, Some, None, option_map, is_some, find}
 use Rattle.cache_entries.specs.Keys.{same_bytes}
 use Rattle.cache_changes.specs.Changes.{StoredKey, Write, Changes}
-use Rattle.cache_changes.specs.Writes.{bytes_of, has_ended, meta_of, IsOrderly, IsFlying, IsFound, IsShown, IsBody}
+use Rattle.cache_changes.specs.Writes.{bytes_of, has_ended, meta_of, IsOrderly, IsAliveInFlight, IsFound, IsShown, IsBody}
 use Rattle.std.specs.Option.{option_or}
 use Rattle.cache_changes.specs.Store.{Stored, Flying, store_of, body_at, shown_at, is_found_at, flying_at, flies_for, stored_of, has_number as held_number, IsFlight}
 use Rattle.cache_changes.proofs.FoundLaws.{store_of-is}
@@ -23,7 +23,7 @@ use Rattle.tier_model.proofs.ChangeLaws.{Leaves}
 -- ---- what the bodies that are left report of writes
 
 -- where none is first in flight, none flies
-none_flies : (k : StoredKey) (v : Write Kept) (changes : Changes Kept) → IsOrderly changes → find (flies_for k) (store_of changes).flying ≡ None → IsFlying k v changes → ⊥
+none_flies : (k : StoredKey) (v : Write Kept) (changes : Changes Kept) → IsOrderly changes → find (flies_for k) (store_of changes).flying ≡ None → IsAliveInFlight k v changes → ⊥
 none_flies k v changes o e f =
     let flight : Flying Kept = record { stored = stored_of v changes; ended = has_ended v.number changes; removed = false } in
     let is : IsFlight flight changes = record { flies = f.flies; stored = refl; ended = refl; alive = (λ t. f.alive, λ a. refl) } in
@@ -33,7 +33,7 @@ none_flies k v changes o e f =
 
 -- the first in flight
 first_flies : (k : StoredKey) (g : Flying Kept) (changes : Changes Kept) → IsOrderly changes → find (flies_for k) (store_of changes).flying ≡ Some g
-    → IsFlying k g.stored.write changes × (g.stored ≡ stored_of g.stored.write changes)
+    → IsAliveInFlight k g.stored.write changes × (g.stored ≡ stored_of g.stored.write changes)
 first_flies k g changes o e =
     let there : flying_at g.stored.write.number (store_of changes) ≡ Some g = found_number 0 (flies_for k) (store_of changes).flying g (flights-rise changes o) e in
     let h = (((store_of-is changes o).flights g.stored.write.number g).0 there).1 in
@@ -79,7 +79,7 @@ pub record Shows (k : StoredKey) (b : Body) (changes : Changes Kept) : Type 0 wh
 pub record ShowsFlight (k : StoredKey) (f : InFlight) (changes : Changes Kept) : Type 0 where
   pub write : Write Kept
   pub shown : IsShown k write changes
-  pub flying : IsFlying k write changes
+  pub flying : IsAliveInFlight k write changes
   pub number : f.number ≡ write.number
   pub meta : f.meta ≡ (meta_of write changes).meta
   pub bytes : f.bytes ≡ bytes_of write.number changes
@@ -128,7 +128,7 @@ module _ (N n : ℕ) (bodies : Bodies) (fs : List InFlight) (m : Managed) (chang
     none_first : find (flies_for k) (store_of changes).flying ≡ None
     none_first = plain_none (find (flies_for k) (store_of changes).flying) (sym (first_in k) ∙ none)
 
-    pub none_in_flight : (v : Write Kept) → IsFlying k v changes → ⊥
+    pub none_in_flight : (v : Write Kept) → IsAliveInFlight k v changes → ⊥
     none_in_flight v f = none_flies k v changes l.orderly none_first f
 
     pub body_shown : (b : Body) (x : Shows k b changes) → IsShown k x.write changes

@@ -6,7 +6,7 @@ use Rattle.cache_entries.specs.declared.rows.Tracked.{Tracked}
 use Rattle.cache_entries.specs.Rows.{is_over}
 use Rattle.cache_entries.specs.declared.entry.CacheEntryKey.{CacheEntryKey}
 use Rattle.cache_changes.specs.Changes.{StoredKey, stored_key, Write, Changes, finishes}
-use Rattle.cache_changes.specs.Writes.{bytes_of, has_ended, meta_of, IsAlive, IsFound, IsBody, IsFlying, IsShown}
+use Rattle.cache_changes.specs.Writes.{bytes_of, has_ended, meta_of, IsAlive, IsFound, IsBody, IsAliveInFlight, IsShown}
 use Rattle.cache_changes.specs.Uses.{IsOrderOfUse, EvictsLawfully}
 use Rattle.cache_changes.specs.Bound.{IsTrackedBody, AreWithin}
 use Rattle.tier_model.specs.Rows.{FinishedBody}
@@ -33,7 +33,7 @@ abbrev pub LooksRight : ℕ → MomentValue → Answer → History → Changes K
 LooksRight id t (Found fresh complete given) h before =
     (e : Entry) × (w : Write Kept) × (opened_for id h ≡ Some e) × IsShown (stored_key e) w before
     × (fresh ≡ at_most t (meta_of w before).meta.internal.fresh_until)
-    × ((complete ≡ true) ↔ ((v : Write Kept) → IsFlying (stored_key e) v before → ⊥))
+    × ((complete ≡ true) ↔ ((v : Write Kept) → IsAliveInFlight (stored_key e) v before → ⊥))
 LooksRight id t (Absent given) h before = (e : Entry) × (opened_for id h ≡ Some e) × (¬ IsFound (stored_key e) before)
 LooksRight id t _ h before = ⊥
 

@@ -2,7 +2,7 @@
 use Rattle.std.specs.Prelude.{◌≡◌, ℕ, true, false, List, [], ◌∷◌, ◌++◌, ◌⊎◌, Some, Ok}
 use Rattle.std.specs.List.{AllByRecursion}
 use Rattle.cache_changes.specs.Changes.{stored_key, Write, Changes}
-use Rattle.cache_changes.specs.Writes.{bytes_of, has_ended, IsShown, Flies}
+use Rattle.cache_changes.specs.Writes.{bytes_of, has_ended, IsShown, IsNumberInFlight}
 use Rattle.tier_model.specs.Keys.{Entry}
 use Rattle.tier_model.specs.declared.event.Action.{Action}
 use Rattle.tier_model.specs.declared.event.Action.TheVariants.{Read}
@@ -41,7 +41,7 @@ pub record ReadsFront (start : Opening) (id : ℕ) (bytes : List ℕ) (h : Histo
 
 -- no more comes to a write: it had its last piece, or is in flight no more
 abbrev pub IsOver : ℕ → Changes Kept → Type 0
-IsOver n changes = (has_ended n changes ≡ true) ⊎ (Flies n changes → ⊥)
+IsOver n changes = (has_ended n changes ≡ true) ⊎ (IsNumberInFlight n changes → ⊥)
 
 -- all was read, and no more comes
 abbrev pub ReadsEnd : Opening → ℕ → History → Type 0
