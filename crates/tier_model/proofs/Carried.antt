@@ -41,32 +41,31 @@ use Rattle.tier_model.proofs.GrantedLaws.{LocksFit-lawful}
 use Rattle.tier_model.proofs.OwnedLaws.{Owned-lawful}
 use Rattle.tier_model.proofs.OpenLaws.{begun-told}
 use Rattle.tier_model.proofs.OwnLaws.{OpenFits}
-use Rattle.tier_model.proofs.HeadlineLaws.{IsRight-allowed}
+use Rattle.tier_model.proofs.PartLaws.{IsRight-joined}
+use Rattle.tier_model.proofs.HeadlineLaws.{IsRightApart-allowed}
 use Rattle.tier_model.proofs.LockLaws.{lock-is}
-use Rattle.tier_model.proofs.LockedLaws.{AreLockedRight-lawful}
-use Rattle.tier_model.proofs.PollLaws.{ArePolledRight-lawful}
+use Rattle.tier_model.proofs.LockedLaws.{LockIsRight-allowed}
+use Rattle.tier_model.proofs.PollLaws.{PollIsRight-allowed}
 use Rattle.tier_model.proofs.ReaderLaws.{CountFits}
 use Rattle.tier_model.proofs.ReadLaws.{ReadsFit, readable_is}
 use Rattle.tier_model.proofs.ReadEvents.{ReadIsRight-allowed}
-use Rattle.tier_model.specs.Reads.{AreReadRight}
 use Rattle.tier_model.proofs.HeldLaws.{all-held, sums}
 use Rattle.tier_model.proofs.StandLaws.{Stands, opened_request, Stands-lawful}
 
 AreRight-lawful : (start : Opening) (h : History) → IsLawful start h → AreRight start h
 AreRight-lawful start [] l = tt
 AreRight-lawful start (c ∷ h) l =
-    let past : Stands start (state_of start h) h = Stands-lawful start h l.1 in
-    (IsRight-allowed start (state_of start h) h past.made past.holds past.count past.opens past.writes c l.0, AreRight-lawful start h l.1)
+    let past : Stands start (state_of start h) h = Stands-lawful start h l.1 in (
+      IsRight-joined start c.event.moment c.event.action c.outcome c h
+          (IsRightApart-allowed start (state_of start h) h past.made past.holds past.count past.opens past.writes c l.0)
+          (LockIsRight-allowed start h l.1 c l.0) (PollIsRight-allowed start h l.1 c l.0)
+          (ReadIsRight-allowed start (state_of start h) h past.holds past.count (opened_request start (state_of start h) h past) past.counted past.reads c l.0),
+      AreRight-lawful start h l.1,
+    )
 
 readings-lawful : (start : Opening) (h : History) → IsLawful start h → AllByRecursion (λ c. IsRead c.event.action c.reading) h
 readings-lawful start [] l = tt
 readings-lawful start (c ∷ h) l = (l.0.read, readings-lawful start h l.1)
-
-AreReadRight-lawful : (start : Opening) (h : History) → IsLawful start h → AreReadRight start h
-AreReadRight-lawful start [] l = tt
-AreReadRight-lawful start (c ∷ h) l =
-    let past : Stands start (state_of start h) h = Stands-lawful start h l.1 in
-    (ReadIsRight-allowed start (state_of start h) h past.holds past.count (opened_request start (state_of start h) h past) past.counted past.reads c l.0, AreReadRight-lawful start h l.1)
 
 -- a write began in each call that reports of one
 counted_put : (s : State) (may v : Bool) (b : Option FinishedBody) (o : Outcome) → BeginsWrite s may (cond (is_some b) (has_stored o) (is_begun o)) v → (x : FinishedBody) → b ≡ Some x
@@ -118,9 +117,6 @@ Headline-lawful start h l =
       readings = readings-lawful start h l;
       numbers = numbers-lawful start h l;
       answers = AreRight-lawful start h l;
-      reads = AreReadRight-lawful start h l;
-      locks = AreLockedRight-lawful start h l;
-      polls = ArePolledRight-lawful start h l;
       within = subst (λ (x : ℕ). AreWithin x start.settings.watermark (changes_of start h)) past.made.limit
           (subst (λ (x : Option ℕ). AreWithin (state_of start h).managed.limit x (changes_of start h)) past.made.watermark past.holds.within);
       tracked = bodies-tracked (changes_of start h) past.holds.leaves.orderly past.holds.leaves.tracks past.holds.leaves.settled;

@@ -19,7 +19,7 @@ use Rattle.tier_model.specs.Evictions.{GoInTurn}
 use Rattle.tier_model.specs.Calls.{Call, History, Outcome, judged_of, read_by, finished_by, opened_for, nothing_done, extended}
 use Rattle.tier_model.specs.Histories.{Kept, Opening, writes_begun, settles, finished_of, write_held, changes_of}
 use Rattle.cache_entries.specs.declared.entry.CacheEntryKey.{CacheEntryKey}
-use Rattle.tier_model.specs.Headline.{EndsOver, PurgesRight, PutsRight, FinishIsRight, IsRight}
+use Rattle.tier_model.specs.Headline.{EndsOver, PurgesRight, PutsRight, FinishIsRight}
 use Rattle.tier_model.specs.Rows.{FinishedBody, weight_for}
 use Rattle.tier_model.specs.Shelf.{look, has_number}
 use Rattle.tier_model.specs.State.{Request, State, shards_of}
@@ -28,6 +28,7 @@ use Rattle.tier_model.specs.Answers.{polled, admitted, stored_alone, IsStored, I
 use Rattle.tier_model.specs.Answers.{IsFinishFault, finishing}
 use Rattle.tier_model.specs.Step.{IsAnswer, AllowsBy, Allows}
 use Rattle.tier_model.proofs.RowSteps.{IsMade}
+use Rattle.tier_model.proofs.PartLaws.{IsRightApart}
 use Rattle.tier_model.proofs.CallLaws.{Inside, call_at}
 use Rattle.tier_model.proofs.WriteLaws.{WritesFit}
 use Rattle.tier_model.proofs.OpenLaws.{Holds, IsOpen, Written, FlightAt, flight-at, finishing-is, unrefused}
@@ -133,11 +134,11 @@ module _ (start : Opening) (s : State) (h : History) (made : IsMade start.settin
 
   -- ---- all events
 
-  poll_right : (t : MomentValue) (r : ℕ) (c : Call) (a : Answer) (o : Option Request) → MatchOption o ⊥ (λ q. a ≡ Waited (polled s.lock t q q.held)) → IsRight start t (Poll r) (Ok a) c h
+  poll_right : (t : MomentValue) (r : ℕ) (c : Call) (a : Answer) (o : Option Request) → MatchOption o ⊥ (λ q. a ≡ Waited (polled s.lock t q q.held)) → IsRightApart start t (Poll r) (Ok a) c h
   poll_right t r c a None p = absurd p
-  poll_right t r c a (Some q) p = subst (λ (y : Answer). IsRight start t (Poll r) (Ok y) c h) (sym p) tt
+  poll_right t r c a (Some q) p = subst (λ (y : Answer). IsRightApart start t (Poll r) (Ok y) c h) (sym p) tt
 
-  answer_right : (t : MomentValue) (i : Inside) (action : Action) (c : Call) (a : Answer) → refusal s action ≡ None → IsAnswer s t action c a → IsRight start t action (Ok a) c h
+  answer_right : (t : MomentValue) (i : Inside) (action : Action) (c : Call) (a : Answer) → refusal s action ≡ None → IsAnswer s t action c a → IsRightApart start t action (Ok a) c h
   answer_right t i (Open r key asks) c a e p = (p, open_right r (get s.requests r) (fits r) e)
   answer_right t i (LookUp r) c a e p = looks_right start s h made l count fits writes t r (get s.requests r) a refl p
   answer_right t i (Poll r) c a e p = poll_right t r c a (get s.requests r) p
@@ -155,7 +156,7 @@ module _ (start : Opening) (s : State) (h : History) (made : IsMade start.settin
   answer_right t i (Purge key) c a e p = subst (λ (y : Answer). PurgesRight (stored_key_of key) y changes) (sym p) (purge_right start s h made l count fits writes (stored_key_of key) (look (stored_key_of key) s.shelf) refl)
   answer_right t i (Put key pieces) c a e p = put_right start s h made l count fits writes (finished_by c) (read_by c) a p
 
-  fault_right : (t : MomentValue) (action : Action) (c : Call) (g : TierFault) → AllowsBy (refusal s action) s t action c (Err g) → IsRight start t action (Err g) c h
+  fault_right : (t : MomentValue) (action : Action) (c : Call) (g : TierFault) → AllowsBy (refusal s action) s t action c (Err g) → IsRightApart start t action (Err g) c h
   fault_right t (Open r key asks) c g p = (did_nothing s t (Open r key asks) c g (refusal s (Open r key asks)) refl p refl, open_refused t r key asks c g (get s.requests r) (fits r) p)
   fault_right t (LookUp r) c g p = did_nothing s t (LookUp r) c g (refusal s (LookUp r)) refl p refl
   fault_right t (Poll r) c g p = did_nothing s t (Poll r) c g (refusal s (Poll r)) refl p refl
@@ -170,14 +171,14 @@ module _ (start : Opening) (s : State) (h : History) (made : IsMade start.settin
     | inr late ↦ put_fault_right start s h made l count fits writes (finished_by c) (read_by c) g late
   ]
 
-  pub IsRight-allowed : (c : Call) → Allows s c → IsRight start c.event.moment c.event.action c.outcome c h
-  IsRight-allowed c p = by_outcome c.outcome p.outcome
+  pub IsRightApart-allowed : (c : Call) → Allows s c → IsRightApart start c.event.moment c.event.action c.outcome c h
+  IsRightApart-allowed c p = by_outcome c.outcome p.outcome
     where
       i : Inside
       i = record { reading = c.reading; began = c.began; asked = c.asked }
 
       by_outcome : (o : Outcome) → AllowsBy (refusal s c.event.action) s c.event.moment c.event.action (call_at c.event.moment c.event.action i o) o
-          → IsRight start c.event.moment c.event.action o (call_at c.event.moment c.event.action i o) h
+          → IsRightApart start c.event.moment c.event.action o (call_at c.event.moment c.event.action i o) h
       by_outcome (Ok a) p =
           let q = unrefused s (refusal s c.event.action) c.event.moment c.event.action (call_at c.event.moment c.event.action i (Ok a)) a refl p in
           answer_right c.event.moment i c.event.action (call_at c.event.moment c.event.action i (Ok a)) a q.0 q.1

@@ -1,5 +1,5 @@
 -- A lock that is asked for is given as the headline says.
-use Rattle.std.proofs.Common.{◌≡◌, ℕ, refl, ap, sym, ◌∙◌, true, false, subst, inl, inr, [], ◌∷◌}
+use Rattle.std.proofs.Common.{◌≡◌, ℕ, refl, ap, sym, ◌∙◌, true, false, subst, inl, inr}
 use Rattle.std.specs.Prelude.{◌&&◌, not, Bool, Option, Some, None, Ok, Err, MatchOption}
 use Rattle.std.specs.FinMap.{get}
 use Rattle.cache_words.specs.Time.{MomentValue}
@@ -14,13 +14,14 @@ use Rattle.tier_model.specs.declared.event.LockGiven.{LockGiven}
 use Rattle.tier_model.specs.declared.event.LockGiven.TheVariants as lock
 use Rattle.tier_model.specs.Calls.{Call, History, Outcome, asks_lock}
 use Rattle.tier_model.specs.Histories.{Opening}
-use Rattle.tier_model.specs.Locks.{LocksRight, IsGivenRight, LockIsRight, AreLockedRight}
+use Rattle.tier_model.specs.Locks.{LocksRight}
 use Rattle.tier_model.specs.Shelf.{Look, absent, in_flight, finished}
 use Rattle.tier_model.specs.State.{Request, State}
 use Rattle.tier_model.specs.Checks.{refusal}
 use Rattle.tier_model.specs.Answers.{key_for, look_for, is_fresh, finds_fresh, given_if, lock_given, look_answer}
 use Rattle.tier_model.specs.Step.{UseFits, IsAnswer, AllowsBy, Allows}
 use Rattle.tier_model.specs.Past.{state_of, lock_changes_of, IsLawful}
+use Rattle.tier_model.proofs.PartLaws.{IsGivenRight, LockIsRight}
 use Rattle.tier_model.proofs.CallLaws.{Inside, call_at}
 use Rattle.tier_model.proofs.OpenLaws.{unrefused}
 use Rattle.tier_model.proofs.OwnLaws.{OpenFits}
@@ -114,7 +115,7 @@ module _ (start : Opening) (h : History) (lawful : IsLawful start h) where
   fault_right (Purge key) f = tt
   fault_right (Put key pieces) f = tt
 
-  LockIsRight-allowed : (c : Call) → Allows s c → LockIsRight c.event.action c.outcome h
+  pub LockIsRight-allowed : (c : Call) → Allows s c → LockIsRight c.event.action c.outcome h
   LockIsRight-allowed c p = by_outcome c.outcome p.outcome
     where
       i : Inside
@@ -125,7 +126,3 @@ module _ (start : Opening) (h : History) (lawful : IsLawful start h) where
           let q = unrefused s (refusal s c.event.action) c.event.moment c.event.action (call_at c.event.moment c.event.action i (Ok a)) a refl p in
           answer_right c.event.moment c.event.action (call_at c.event.moment c.event.action i (Ok a)) a q.1
       by_outcome (Err f) p = fault_right c.event.action f
-
-pub AreLockedRight-lawful : (start : Opening) (h : History) → IsLawful start h → AreLockedRight h
-AreLockedRight-lawful start [] l = tt
-AreLockedRight-lawful start (c ∷ h) l = (LockIsRight-allowed start h l.1 c l.0, AreLockedRight-lawful start h l.1)

@@ -21,7 +21,7 @@ use Rattle.tier_model.specs.Keys.{Entry, entry_of}
 use Rattle.tier_model.specs.Calls.{Call, History, Outcome, extended, done_of, finished_by, opened_for}
 use Rattle.tier_model.specs.Histories.{Kept, Opening, goes, settles, stores, clears, put_changes, hit_changes, look_changes, is_landing, begun_by, write_held, begin_changes}
 use Rattle.tier_model.specs.Histories.{piece_changes, finished_of, settles_back, finish_changes, drop_changes, changes_of, writes_begun, write_of}
-use Rattle.tier_model.specs.Headline.{IsRight, BeginsRight, FinishIsRight}
+use Rattle.tier_model.specs.Headline.{BeginsRight, FinishIsRight}
 use Rattle.tier_model.specs.Rows.{FinishedBody}
 use Rattle.tier_model.specs.State.{Phase, Request}
 use Rattle.tier_model.specs.Checks.{can_begin, unless, refusal}
@@ -31,7 +31,8 @@ use Rattle.tier_model.proofs.CallLaws.{Inside, call_at}
 use Rattle.tier_model.proofs.LandLaws.{Spares}
 use Rattle.tier_model.proofs.OpenLaws.{no-write, passed, test_passed, unrefused}
 use Rattle.tier_model.proofs.OwnLaws.{OpenFits}
-use Rattle.tier_model.proofs.HeadlineLaws.{IsRight-allowed}
+use Rattle.tier_model.proofs.PartLaws.{IsRightApart}
+use Rattle.tier_model.proofs.HeadlineLaws.{IsRightApart-allowed}
 use Rattle.tier_model.proofs.StandLaws.{Stands, Stands-lawful}
 use Rattle.tier_model.proofs.TurnLaws.{AllOf, all-turned}
 use Rattle.tier_model.proofs.PhaseLaws.{WritesWell, writes-turn}
@@ -228,7 +229,7 @@ module _ (start : Opening) where
     Unwritten (Begin r head) (Ok Begun) = write_held start r h ≡ None
     Unwritten _ _ = Unit {0}
 
-    owned_after : (action : Action) (o : Outcome) → IsRight start t action o (call_at t action i o) h → Unwritten action o → OwnedAfter action o
+    owned_after : (action : Action) (o : Outcome) → IsRightApart start t action o (call_at t action i o) h → Unwritten action o → OwnedAfter action o
     owned_after (LookUp r) (Ok (Found fresh true given)) right none f = owned w (flown_all w (look_changes (opened_for r h) (changes_of start h)) (changes_of start h) (look_none (opened_for r h) (changes_of start h)) f).0
     owned_after (Begin r head) (Ok Begun) right none f = begin_owned r head right none f
     owned_after (Piece r bytes last) (Ok Written) right none f =
@@ -268,7 +269,7 @@ module _ (start : Opening) where
     no_answer _ g = tt
 
     by_outcome : (o : Outcome) → AllowsBy (refusal (state_of start h) c.event.action) (state_of start h) c.event.moment c.event.action (call_at c.event.moment c.event.action i o) o
-        → IsRight start c.event.moment c.event.action o (call_at c.event.moment c.event.action i o) h → OwnedAfter c.event.moment i h owned w c.event.action o
+        → IsRightApart start c.event.moment c.event.action o (call_at c.event.moment c.event.action i o) h → OwnedAfter c.event.moment i h owned w c.event.action o
     by_outcome (Ok a) p right =
         let q = unrefused (state_of start h) (refusal (state_of start h) c.event.action) c.event.moment c.event.action (call_at c.event.moment c.event.action i (Ok a)) a refl p in
         owned_after c.event.moment i h owned w c.event.action (Ok a) right (free_of c.event.action a q.0)
@@ -277,7 +278,7 @@ module _ (start : Opening) where
     owned_next : IsInFlight w (changes_of start (c ∷ h)) → (id : ℕ) × (write_held start id (c ∷ h) ≡ Some w)
     owned_next f =
         let past : Stands start (state_of start h) h = Stands-lawful start h l.1 in
-        by_outcome c.outcome l.0.outcome (IsRight-allowed start (state_of start h) h past.made past.holds past.count past.opens past.writes c l.0) f
+        by_outcome c.outcome l.0.outcome (IsRightApart-allowed start (state_of start h) h past.made past.holds past.count past.opens past.writes c l.0) f
 
   pub Owned-lawful : (h : History) → IsLawful start h → Owned h
   Owned-lawful [] l w f = absurd (none_flies w start.loaded f)

@@ -1,5 +1,5 @@
 -- A poll is answered as the headline says.
-use Rattle.std.proofs.Common.{◌≡◌, ℕ, refl, ap, sym, ◌∙◌, true, false, subst, cond, inl, inr, [], ◌∷◌, ◌==◌}
+use Rattle.std.proofs.Common.{◌≡◌, ℕ, refl, ap, sym, ◌∙◌, true, false, subst, cond, inl, inr, [], ◌==◌}
 use Rattle.std.specs.Prelude.{Bool, Option, Some, None, option_map, Ok, Err, MatchOption}
 use Rattle.std.specs.FinMap.{get}
 use Rattle.std.proofs.lemmas.Bool.{eqb-true, eq-eqb}
@@ -27,12 +27,13 @@ use Rattle.tier_model.specs.Calls.{Call, History, Outcome}
 use Rattle.tier_model.specs.Histories.{Opening}
 use Rattle.tier_model.specs.Locks.{last_given, is_wait, PermitWaits}
 use Rattle.tier_model.specs.Own.{Wait, wait_of, time_waited}
-use Rattle.tier_model.specs.Polls.{told_in_time, WaitIsTold, PollIsRight, ArePolledRight}
+use Rattle.tier_model.specs.Polls.{told_in_time, WaitIsTold}
 use Rattle.tier_model.specs.State.{Held, nothing, permit, waits, Request, State}
 use Rattle.tier_model.specs.Checks.{is_waiting as held_waits, unless, refusal}
 use Rattle.tier_model.specs.Answers.{key_for, ended_by, is_past, polled}
 use Rattle.tier_model.specs.Step.{IsAnswer, AllowsBy, Allows}
 use Rattle.tier_model.specs.Past.{hold_in, state_of, lock_changes_of, IsLawful}
+use Rattle.tier_model.proofs.PartLaws.{PollIsRight}
 use Rattle.tier_model.proofs.CallLaws.{Inside, call_at}
 use Rattle.tier_model.proofs.OpenLaws.{passed, test_passed, unrefused}
 use Rattle.tier_model.proofs.OwnLaws.{OpenFits}
@@ -180,7 +181,7 @@ module _ (start : Opening) (h : History) (lawful : IsLawful start h) where
   fault_right t (Poll r) f = tt
   fault_right t _ f = tt
 
-  PollIsRight-allowed : (c : Call) → Allows s c → PollIsRight start c.event.moment c.event.action c.outcome h
+  pub PollIsRight-allowed : (c : Call) → Allows s c → PollIsRight start c.event.moment c.event.action c.outcome h
   PollIsRight-allowed c p = by_outcome c.outcome p.outcome
     where
       i : Inside
@@ -191,7 +192,3 @@ module _ (start : Opening) (h : History) (lawful : IsLawful start h) where
           let q = unrefused s (refusal s c.event.action) c.event.moment c.event.action (call_at c.event.moment c.event.action i (Ok a)) a refl p in
           answer_right c.event.moment c.event.action (call_at c.event.moment c.event.action i (Ok a)) a q.0 q.1
       by_outcome (Err f) p = fault_right c.event.moment c.event.action f
-
-pub ArePolledRight-lawful : (start : Opening) (h : History) → IsLawful start h → ArePolledRight start h
-ArePolledRight-lawful start [] l = tt
-ArePolledRight-lawful start (c ∷ h) l = (PollIsRight-allowed start h l.1 c l.0, ArePolledRight-lawful start h l.1)

@@ -12,13 +12,13 @@ use Rattle.tier_model.specs.declared.event.TierFault.{TierFault}
 use Rattle.tier_model.specs.declared.event.TierFault.TheVariants.{WrongPhase}
 use Rattle.tier_model.specs.Calls.{Call, History, Outcome, judged_of}
 use Rattle.tier_model.specs.Histories.{Opening, writes_begun, is_landing, changes_of}
-use Rattle.tier_model.specs.Reads.{ReadIsRight}
 use Rattle.tier_model.specs.State.{Reader, Request, State}
 use Rattle.tier_model.specs.Checks.{refusal, unless, has_reader}
 use Rattle.tier_model.specs.Answers.{look_for, lock_given, look_answer, read_answer, IsBeginAnswer}
 use Rattle.tier_model.specs.Step.{UseFits, IsAnswer, AllowsBy, Allows}
 use Rattle.tier_model.specs.After.{reader_of, looked, after_wait, after}
 use Rattle.tier_model.specs.Past.{HasToRead}
+use Rattle.tier_model.proofs.PartLaws.{ReadIsRight}
 use Rattle.tier_model.proofs.CallLaws.{Inside, call_at, named_by, is_named, other-call, begin_turn, land_turn, read_turn, turn, requests-after}
 use Rattle.tier_model.proofs.OpenLaws.{Holds, IsOpen, passed, test_passed, unrefused}
 use Rattle.tier_model.proofs.StreamLaws.{Counted, wait_reader, land_reader}

@@ -20,7 +20,7 @@ use Rattle.tier_model.specs.Keys.{Entry, alone}
 use Rattle.tier_model.specs.Response.{Judged, kept, not_kept, too_early, not_read}
 use Rattle.tier_model.specs.Calls.{Call, History, extended, judged_of, ends_reader, bytes_given, bytes_read, bytes_answered}
 use Rattle.tier_model.specs.Histories.{Kept, Opening, writes_begun, write_begun, changes_in, changes_of, HasHit}
-use Rattle.tier_model.specs.Reads.{HasStream, ReadsFront, IsOver, ReadIsRight}
+use Rattle.tier_model.specs.Reads.{HasStream, ReadsFront, IsOver}
 use Rattle.tier_model.specs.Rows.{body_of}
 use Rattle.tier_model.specs.Shelf.{InFlight, Readers, has_number, flying_at, flies_for, Look, absent, in_flight, finished, readable, past_place}
 use Rattle.tier_model.specs.State.{Reader, closed, unread, spent, streaming, Request, State, shards_of}
@@ -28,6 +28,7 @@ use Rattle.tier_model.specs.Checks.{has_reader}
 use Rattle.tier_model.specs.Answers.{key_for, look_for, look_answer, next_by, next_of, read_answer, IsBeginAnswer}
 use Rattle.tier_model.specs.After.{reader_of, read_on}
 use Rattle.tier_model.specs.Past.{plain, streams_by, streams, streamers, IsReadable, HasToRead}
+use Rattle.tier_model.proofs.PartLaws.{ReadIsRight}
 use Rattle.tier_model.proofs.ShownLaws.{shows, shows_flight, body_shown}
 use Rattle.tier_model.proofs.FlightLaws.{find-plain}
 use Rattle.tier_model.proofs.CallLaws.{Inside, call_at, itself, begin_turn}

@@ -12,7 +12,7 @@ use Rattle.tier_model.specs.declared.whole.Whole.TheVariants as whole
 use Rattle.tier_model.specs.declared.state.Body.{Body}
 use Rattle.tier_model.specs.declared.event.Action.TheVariants.{Begin, Piece}
 use Rattle.tier_model.specs.declared.event.Answer.{Answer}
-use Rattle.tier_model.specs.declared.event.Answer.TheVariants.{Waited, Begun, Purged, Finished}
+use Rattle.tier_model.specs.declared.event.Answer.TheVariants.{Purged, Finished}
 use Rattle.tier_model.specs.declared.event.Answer.TheVariants as answer
 use Rattle.tier_model.specs.declared.event.LockGiven.{LockGiven}
 use Rattle.tier_model.specs.declared.event.TierFault.{TierFault}
@@ -21,7 +21,7 @@ use Rattle.tier_model.specs.declared.event.Done.{Done}
 use Rattle.tier_model.specs.Response.{Judged, kept, not_kept, too_early, not_read}
 use Rattle.tier_model.specs.Calls.{Call, History, judged_of, extended}
 use Rattle.tier_model.specs.Histories.{Kept, Opening, writes_begun, stores, write_begun, write_held, changes_of}
-use Rattle.tier_model.specs.Headline.{LooksRight, PurgesRight, PutsRight, BeginsRight, PieceIsRight}
+use Rattle.tier_model.specs.Headline.{PurgesRight, PutsRight, BeginsRight, PieceIsRight}
 use Rattle.tier_model.specs.Rows.{FinishedBody, body_of, weight_for}
 use Rattle.tier_model.specs.Shelf.{Look, absent, in_flight, finished, look, flies_for, flying_at, is_there}
 use Rattle.tier_model.specs.State.{Request, State, shards_of}
@@ -29,6 +29,7 @@ use Rattle.tier_model.specs.Checks.{refusal, unless, unless_open, piece_refusal,
 use Rattle.tier_model.specs.Answers.{key_for, look_for, lock_given, look_answer, stored_alone, IsPutAnswer, IsKeptOut, IsPutFault, IsBeginAnswer, IsBeginFault}
 use Rattle.tier_model.specs.Step.{UseFits, AllowsBy}
 use Rattle.tier_model.proofs.RowSteps.{IsMade}
+use Rattle.tier_model.proofs.PartLaws.{ShowsRight}
 use Rattle.tier_model.proofs.ShownLaws.{shows, shows_flight, none_in_flight, body_shown, not_found}
 use Rattle.tier_model.proofs.CallLaws.{Inside}
 use Rattle.tier_model.proofs.WriteLaws.{WritesFit}
@@ -53,7 +54,7 @@ module _ (start : Opening) (s : State) (h : History) (made : IsMade start.settin
 
   -- ---- look-ups and purges
 
-  look_right : (t : MomentValue) (r : ℕ) (q : Request) (given : LockGiven) (x : Look) → IsOpen start r q h → look_for q s.shelf ≡ x → LooksRight r t (look_answer t given x) h changes
+  look_right : (t : MomentValue) (r : ℕ) (q : Request) (given : LockGiven) (x : Look) → IsOpen start r q h → look_for q s.shelf ≡ x → ShowsRight r t (look_answer t given x) h changes
   look_right t r q given absent opens e =
       let there = look_absent (find (flies_for (key_for q)) s.shelf.flying) (body_of (key_for q) s.shelf.bodies) e in
       (key_of q.entry, opens.key, not_found N n s.shelf.bodies s.shelf.flying s.managed changes l.leaves (key_for q) there.0 there.1)
@@ -72,10 +73,10 @@ module _ (start : Opening) (s : State) (h : History) (made : IsMade start.settin
       )
 
   pub looks_right : (t : MomentValue) (r : ℕ) (o : Option Request) (a : Answer) → get s.requests r ≡ o
-      → MatchOption o ⊥ (λ q. (a ≡ look_answer t (lock_given t q (look_for q s.shelf) s.lock) (look_for q s.shelf)) × UseFits s q (look_for q s.shelf)) → LooksRight r t a h changes
+      → MatchOption o ⊥ (λ q. (a ≡ look_answer t (lock_given t q (look_for q s.shelf) s.lock) (look_for q s.shelf)) × UseFits s q (look_for q s.shelf)) → ShowsRight r t a h changes
   looks_right t r None a e p = absurd p
   looks_right t r (Some q) a e p =
-      subst (λ (y : Answer). LooksRight r t y h changes) (sym p.0) (look_right t r q (lock_given t q (look_for q s.shelf) s.lock) (look_for q s.shelf) (opened r q e) refl)
+      subst (λ (y : Answer). ShowsRight r t y h changes) (sym p.0) (look_right t r q (lock_given t q (look_for q s.shelf) s.lock) (look_for q s.shelf) (opened r q e) refl)
 
   pub purge_right : (k : StoredKey) (x : Look) → look k s.shelf ≡ x → PurgesRight k (Purged (is_there x)) changes
   purge_right k absent e =

@@ -1,5 +1,5 @@
 -- The headline: what a history says of the answers in it. It names no state.
-use Rattle.std.specs.Prelude.{◌≡◌, ◌≢◌, ◌↔◌, ℕ, Bool, true, false, List, [], ◌∷◌, length, Option, Some, None, Ok, Err}
+use Rattle.std.specs.Prelude.{◌≡◌, ◌≢◌, ◌↔◌, ℕ, Bool, true, false, not, ◌&&◌, List, [], ◌∷◌, length, Option, Some, None, Ok, Err}
 use Rattle.std.specs.List.{AllByRecursion}
 use Rattle.cache_words.specs.Time.{MomentValue, at_most}
 use Rattle.cache_entries.specs.declared.rows.Tracked.{Tracked}
@@ -15,26 +15,28 @@ use Rattle.tier_model.specs.declared.whole.Whole.{Whole}
 use Rattle.tier_model.specs.declared.whole.Whole.TheVariants as whole
 use Rattle.tier_model.specs.declared.event.Action.TheVariants.{Open, LookUp, Poll, Begin, Piece, Finish, Read, Drop, Purge, Put}
 use Rattle.tier_model.specs.declared.event.Answer.{Answer}
-use Rattle.tier_model.specs.declared.event.Answer.TheVariants.{Opened, Found, Absent, Waited, Begun, Written, Dropped, Purged, Finished}
+use Rattle.tier_model.specs.declared.event.Answer.TheVariants.{Opened, Found, Absent, Begun, Written, Dropped, Purged, Finished}
 use Rattle.tier_model.specs.declared.event.Answer.TheVariants as answer
 use Rattle.tier_model.specs.declared.event.TierFault.TheVariants as fault
 use Rattle.tier_model.specs.Keys.{Entry, stored_key_of}
 use Rattle.tier_model.specs.Response.{not_kept, too_early, not_read, IsRead}
-use Rattle.tier_model.specs.Calls.{Call, History, Outcome, CountsItsWrite, extended, nothing_done, done_of, judged_of, read_by, finished_by, opened_for}
+use Rattle.tier_model.specs.Calls.{Call, History, Outcome, CountsItsWrite, extended, nothing_done, done_of, judged_of, read_by, finished_by, opened_for, asks_lock}
 use Rattle.tier_model.specs.Histories.{Kept, Opening, writes_begun, stores, changes_of, begun_by, write_held, finished_of, settles}
-use Rattle.tier_model.specs.Reads.{AreReadRight}
-use Rattle.tier_model.specs.Locks.{AreLockedRight}
-use Rattle.tier_model.specs.Polls.{ArePolledRight}
+use Rattle.tier_model.specs.Reads.{ReadsRight}
+use Rattle.tier_model.specs.Locks.{LocksRight}
+use Rattle.tier_model.specs.Polls.{PollsRight}
 use Rattle.tier_model.specs.State.{Settings}
 
 -- a look-up at t is answered found exactly where a write of its key is alive; then it shows one, fresh exactly up to its
--- moment, and complete exactly where none of the key is in flight
+-- moment, and complete exactly where none of the key is in flight. It asks for the lock where it found nothing, or something past its moment
 abbrev pub LooksRight : ℕ → MomentValue → Answer → History → Changes Kept → Type 0
 LooksRight id t (Found fresh complete given) h before =
     (e : Entry) × (w : Write Kept) × (opened_for id h ≡ Some e) × IsShown (stored_key e) w before
     × (fresh ≡ at_most t (meta_of w before).meta.internal.fresh_until)
     × ((complete ≡ true) ↔ ((v : Write Kept) → IsAliveInFlight (stored_key e) v before → ⊥))
-LooksRight id t (Absent given) h before = (e : Entry) × (opened_for id h ≡ Some e) × (¬ IsFound (stored_key e) before)
+    × LocksRight (not fresh && asks_lock id h) (stored_key e) given h
+LooksRight id t (Absent given) h before =
+    (e : Entry) × (opened_for id h ≡ Some e) × (¬ IsFound (stored_key e) before) × LocksRight (asks_lock id h) (stored_key e) given h
 LooksRight id t _ h before = ⊥
 
 -- a purge is answered true exactly where a write of the key is alive
@@ -97,8 +99,7 @@ FinishIsRight settings held (Ok _) before = ⊥
 FinishIsRight settings held (Err fault.WriteRemoved) before = (w : Write Kept) × (held ≡ Some w) × (¬ IsAlive w before)
 FinishIsRight settings held (Err f) before = TellsFinish settings (done_of f).stored (done_of f).admitted held (done_of f).evicted before
 
--- what the calls before say of one call but for what a read gives, for locks and for waits, and of a put or a begin what its response or head gave;
--- any other call that is refused had done nothing
+-- what the calls before say of one call, and of a put or a begin what its response or head gave; any other call that is refused had done nothing
 abbrev pub IsRight : Opening → MomentValue → Action → Outcome → Call → History → Type 0
 IsRight start t (Put key pieces) outcome c h = PutsRight start.settings (writes_begun start h) (finished_by c) (read_by c) outcome (changes_of start h)
 IsRight start t (Begin id head) outcome c h = BeginsRight start id c outcome h
@@ -108,9 +109,8 @@ IsRight start t (Open id key asks) (Err f) c h = (done_of f ≡ nothing_done) ×
 IsRight start t action (Err f) c h = done_of f ≡ nothing_done
 IsRight start t (Open id key asks) (Ok answer) c h = (answer ≡ Opened) × (opened_for id h ≡ None)
 IsRight start t (LookUp id) (Ok answer) c h = LooksRight id t answer h (changes_of start h)
-IsRight start t (Poll id) (Ok (Waited outcome)) c h = Unit {0}
-IsRight start t (Poll id) (Ok _) c h = ⊥
-IsRight start t (Read id) (Ok answer) c h = Unit {0}
+IsRight start t (Poll id) (Ok answer) c h = PollsRight start id t answer h
+IsRight start t (Read id) (Ok answer) c h = ReadsRight start id answer h
 IsRight start t (Drop id) (Ok answer) c h = answer ≡ Dropped
 IsRight start t (Purge key) (Ok answer) c h = PurgesRight (stored_key_of key) answer (changes_of start h)
 
@@ -120,16 +120,12 @@ AreRight start [] = Unit {0}
 AreRight start (c ∷ h) = IsRight start c.event.moment c.event.action c.outcome c h × AreRight start h
 
 -- the headline of a tier that began so: what was read of each put and begin is a reading of its own bytes, each write that an answer
--- reports has a number of its own, the answers are right, reads give what they are to give, a lock that is asked for gives the permit exactly
--- where none waits, one that waits is answered when the permit waits no more or time is up, finished bodies keep both limits, each body's entry is
--- tracked with at least its length, and what went to make room went lawfully
+-- reports has a number of its own, each call is answered right, finished bodies keep both limits, each body's entry is tracked with at least its
+-- length, and what went to make room went lawfully
 pub record Headline (start : Opening) (h : History) : Type 0 where
   pub readings : AllByRecursion (λ c. IsRead c.event.action c.reading) h
   pub numbers : AllByRecursion CountsItsWrite h
   pub answers : AreRight start h
-  pub reads : AreReadRight start h
-  pub locks : AreLockedRight h
-  pub polls : ArePolledRight start h
   pub within : AreWithin start.settings.limit start.settings.watermark (changes_of start h)
   pub tracked : (w : Write Kept) → IsBody w.key w (changes_of start h) → IsTrackedBody w (changes_of start h)
   pub evictions : EvictsLawfully start.settings.shards start.settings.limit start.settings.watermark (changes_of start h)

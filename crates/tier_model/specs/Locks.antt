@@ -10,7 +10,7 @@ use Rattle.tier_model.specs.declared.event.Answer.TheVariants.{Found, Absent, Wa
 use Rattle.tier_model.specs.declared.event.LockGiven.{LockGiven}
 use Rattle.tier_model.specs.declared.event.LockGiven.TheVariants as lock
 use Rattle.tier_model.specs.Keys.{Entry}
-use Rattle.tier_model.specs.Calls.{Call, History, Outcome, opened_for, asks_lock}
+use Rattle.tier_model.specs.Calls.{Call, History, Outcome, opened_for}
 
 abbrev pub given_after : ℕ → Action → Outcome → LockGiven → LockGiven
 given_after id (LookUp request) (Ok (Found fresh complete given)) old = if request == id then given else old
@@ -79,19 +79,3 @@ pub record PermitWaits (k : StoredKey) (h : History) : Type 0 where
 abbrev pub LocksRight : Bool → StoredKey → LockGiven → History → Type 0
 LocksRight false k given h = given ≡ lock.None
 LocksRight true k given h = ((given ≡ lock.Write) × (PermitWaits k h → ⊥)) ⊎ ((given ≡ lock.Read) × PermitWaits k h)
-
--- the same of an open request
-abbrev pub IsGivenRight : ℕ → LockGiven → History → Type 0
-IsGivenRight id given h = (e : Entry) × (opened_for id h ≡ Some e) × LocksRight (asks_lock id h) (stored_key e) given h
-
--- a look-up gives a lock where it found nothing, or something past its moment
-abbrev pub LockIsRight : Action → Outcome → History → Type 0
-LockIsRight (LookUp id) (Ok (Found true complete given)) h = given ≡ lock.None
-LockIsRight (LookUp id) (Ok (Found false complete given)) h = IsGivenRight id given h
-LockIsRight (LookUp id) (Ok (Absent given)) h = IsGivenRight id given h
-LockIsRight _ _ h = Unit {0}
-
--- each look-up is right in the light of the calls before it
-abbrev pub AreLockedRight : History → Type 0
-AreLockedRight [] = Unit {0}
-AreLockedRight (c ∷ h) = LockIsRight c.event.action c.outcome h × AreLockedRight h

@@ -1,15 +1,14 @@
 -- Waits, said of answers alone: what a poll is to be answered.
-use Rattle.std.specs.Prelude.{◌≡◌, ℕ, Bool, true, [], ◌∷◌, ◌⊎◌, if◌then◌else◌, Option, Some, None, Ok}
+use Rattle.std.specs.Prelude.{◌≡◌, ℕ, Bool, true, ◌⊎◌, if◌then◌else◌, Option, Some, None}
 use Rattle.cache_words.specs.Time.{MomentValue, elapsed, at_least}
 use Rattle.cache_changes.specs.Changes.{StoredKey, stored_key}
 use Rattle.cache_lock.specs.Status.{is_end}
 use Rattle.cache_lock.specs.declared.status.LockStatus.{LockStatus}
 use Rattle.cache_lock.specs.declared.status.LockStatus.TheVariants.{WaitTimeout, AgeTimeout}
-use Rattle.tier_model.specs.declared.event.Action.{Action}
-use Rattle.tier_model.specs.declared.event.Action.TheVariants.{Poll}
+use Rattle.tier_model.specs.declared.event.Answer.{Answer}
 use Rattle.tier_model.specs.declared.event.Answer.TheVariants.{Waited}
 use Rattle.tier_model.specs.Keys.{Entry}
-use Rattle.tier_model.specs.Calls.{History, Outcome, opened_for}
+use Rattle.tier_model.specs.Calls.{History, opened_for}
 use Rattle.tier_model.specs.Histories.{Opening}
 use Rattle.tier_model.specs.Locks.{last_given, is_wait, PermitWaits}
 use Rattle.tier_model.specs.Own.{a_wait, time_waited, wait_of}
@@ -33,13 +32,7 @@ WaitIsTold start id k first t told h =
     ⊎ ((WaitsStill id k h → ⊥) × ((s : LockStatus) × (told ≡ Some s) × (is_end s ≡ true)))
 
 -- a poll is answered of a request whose last look-up gave it a wait that no poll has ended
-abbrev pub PollIsRight : Opening → MomentValue → Action → Outcome → History → Type 0
-PollIsRight start t (Poll id) (Ok (Waited told)) h =
+abbrev pub PollsRight : Opening → ℕ → MomentValue → Answer → History → Type 0
+PollsRight start id t (Waited told) h =
     (e : Entry) × (first : Option MomentValue) × (opened_for id h ≡ Some e) × ((wait_of id h).hold ≡ a_wait first) × WaitIsTold start id (stored_key e) first t told h
-PollIsRight start t (Poll id) (Ok _) h = ⊥
-PollIsRight start t _ _ h = Unit {0}
-
--- each poll is right in the light of the calls before it
-abbrev pub ArePolledRight : Opening → History → Type 0
-ArePolledRight start [] = Unit {0}
-ArePolledRight start (c ∷ h) = PollIsRight start c.event.moment c.event.action c.outcome h × ArePolledRight start h
+PollsRight start id t _ h = ⊥

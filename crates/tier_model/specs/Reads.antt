@@ -1,13 +1,12 @@
 -- What a request read, by the calls of a history: a whole body, or a write as it came.
-use Rattle.std.specs.Prelude.{◌≡◌, ℕ, true, false, List, [], ◌∷◌, ◌++◌, ◌⊎◌, Some, Ok}
+use Rattle.std.specs.Prelude.{◌≡◌, ℕ, true, false, List, [], ◌∷◌, ◌++◌, ◌⊎◌, Some}
 use Rattle.std.specs.List.{AllByRecursion}
 use Rattle.cache_changes.specs.Changes.{stored_key, Write, Changes}
 use Rattle.cache_changes.specs.Writes.{bytes_of, has_ended, IsShown, IsNumberInFlight}
 use Rattle.tier_model.specs.Keys.{Entry}
-use Rattle.tier_model.specs.declared.event.Action.{Action}
-use Rattle.tier_model.specs.declared.event.Action.TheVariants.{Read}
+use Rattle.tier_model.specs.declared.event.Answer.{Answer}
 use Rattle.tier_model.specs.declared.event.Answer.TheVariants.{Bytes, Pending, End}
-use Rattle.tier_model.specs.Calls.{Call, History, Outcome, opened_for, hits_partly, begins_by, ends_reader, bytes_read}
+use Rattle.tier_model.specs.Calls.{Call, History, opened_for, hits_partly, begins_by, ends_reader, bytes_read}
 use Rattle.tier_model.specs.Histories.{Kept, Opening, begun_by, changes_of, HasHit}
 
 -- what a request read since its complete hit, joined, with these bytes, is the body that the look-up showed, whatever came later
@@ -51,15 +50,9 @@ ReadsEnd start id h = ReadsWhole start id [] h ⊎ ((r : ReadsFront start id [] 
 abbrev pub AwaitsMore : Opening → ℕ → History → Type 0
 AwaitsMore start id h = (r : ReadsFront start id [] h) × (IsOver r.write.number (changes_of start h) → ⊥)
 
--- a read gives what it is to give, by the calls before it
-abbrev pub ReadIsRight : Opening → Action → Outcome → History → Type 0
-ReadIsRight start (Read id) (Ok (Bytes bytes)) h = ReadsWhole start id bytes h ⊎ ReadsFront start id bytes h
-ReadIsRight start (Read id) (Ok End) h = ReadsEnd start id h
-ReadIsRight start (Read id) (Ok Pending) h = AwaitsMore start id h
-ReadIsRight start (Read id) (Ok _) h = ⊥
-ReadIsRight start _ _ h = Unit {0}
-
--- each read does
-abbrev pub AreReadRight : Opening → History → Type 0
-AreReadRight start [] = Unit {0}
-AreReadRight start (c ∷ h) = ReadIsRight start c.event.action c.outcome h × AreReadRight start h
+-- a read is answered with what it is to give, by the calls before it
+abbrev pub ReadsRight : Opening → ℕ → Answer → History → Type 0
+ReadsRight start id (Bytes bytes) h = ReadsWhole start id bytes h ⊎ ReadsFront start id bytes h
+ReadsRight start id End h = ReadsEnd start id h
+ReadsRight start id Pending h = AwaitsMore start id h
+ReadsRight start id _ h = ⊥
