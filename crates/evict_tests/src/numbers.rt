@@ -2,7 +2,7 @@
 
 ghost use Rattle.std.specs.Prelude.{◌<◌};
 
-use crate::names::{A, B, C, Name, is, item};
+use crate::names::{A, B, C, Name, entry, is, item};
 use cache_entries::entry::CacheEntryKeyRef;
 use cache_evict::numbers::{Numbers, NumbersFault};
 use std::alloc::Global;
@@ -20,51 +20,59 @@ enum Step {
     Empty(bool),
 }
 
-/// Whether an entry that has no number gets that number, or none is left and it comes back.
-fn is_given<const N: usize>(
+/// What the gift of a number to an entry returns.
+#[derive(Clone, Copy)]
+pub enum Given {
+    Number(u64),
+    /// None is left, and the entry comes back.
+    Spent,
+    /// There is no memory for the number, or for the entry.
+    Memory,
+    /// The entry has a number, or there are too many entries, or another entry comes back.
+    Other,
+}
+
+/// Gives a number to the entry of a name, if it has none.
+pub fn give<const N: usize>(
     alloc: Global,
     numbers: &mut Numbers<N>,
     name: Name,
     hash: u64,
-    wanted: Option<u64>,
-) -> bool {
-    let given = item(alloc, name);
+) -> Given {
+    let Ok(given) = entry(alloc, name) else {
+        return Given::Memory;
+    };
     if numbers.number_of(CacheEntryKeyRef::from(&given)).is_some() {
-        return false;
+        return Given::Other;
     }
     match numbers.give(given, hash) {
-        Ok(number) => wanted == Some(number),
-        Err(NumbersFault::NumbersSpent(back)) => wanted.is_none() && back == item(alloc, name),
-        Err(NumbersFault::Memory(_) | NumbersFault::Length(_)) => false,
+        Ok(number) => Given::Number(number),
+        Err(NumbersFault::NumbersSpent(back)) => {
+            if is(alloc, Some(&back), Some(name)) {
+                Given::Spent
+            } else {
+                Given::Other
+            }
+        }
+        Err(NumbersFault::Memory(_)) => Given::Memory,
+        Err(NumbersFault::Length(_)) => Given::Other,
     }
-}
-
-fn is_given_back<const N: usize>(
-    alloc: Global,
-    numbers: &mut Numbers<N>,
-    number: u64,
-    name: Option<Name>,
-) -> bool {
-    match numbers.give_back(number) {
-        Some(back) => is(alloc, Some(&back), name),
-        None => name.is_none(),
-    }
-}
-
-fn is_numbered<const N: usize>(
-    alloc: Global,
-    numbers: &Numbers<N>,
-    name: Name,
-    wanted: Option<u64>,
-) -> bool {
-    numbers.number_of(CacheEntryKeyRef::from(&item(alloc, name))) == wanted
 }
 
 fn is_done<const N: usize>(alloc: Global, numbers: &mut Numbers<N>, step: Step) -> bool {
     match step {
-        Step::Give(name, hash, wanted) => is_given(alloc, numbers, name, hash, wanted),
-        Step::GiveBack(number, name) => is_given_back(alloc, numbers, number, name),
-        Step::NumberOf(name, wanted) => is_numbered(alloc, numbers, name, wanted),
+        Step::Give(name, hash, wanted) => match give(alloc, numbers, name, hash) {
+            Given::Number(number) => wanted == Some(number),
+            Given::Spent => wanted.is_none(),
+            Given::Memory | Given::Other => false,
+        },
+        Step::GiveBack(number, name) => match numbers.give_back(number) {
+            Some(back) => is(alloc, Some(&back), name),
+            None => name.is_none(),
+        },
+        Step::NumberOf(name, wanted) => {
+            numbers.number_of(CacheEntryKeyRef::from(&item(alloc, name))) == wanted
+        }
         Step::EntryOf(number, name) => is(alloc, numbers.entry_of(number), name),
         Step::Len(count) => numbers.len() == count,
         Step::Empty(empty) => numbers.is_empty() == empty,
@@ -120,13 +128,9 @@ const FAR_APART: &[Step] = &[
 ];
 
 #[test]
-fn numbers_are_given(rt: HostRuntime) {
+fn numbers_are_given_until_they_are_spent(rt: HostRuntime) {
     for &steps in FOUR_APART {
         assert!(rt; all_done::<4>(rt.alloc(), steps));
     }
-}
-
-#[test]
-fn numbers_are_spent(rt: HostRuntime) {
     assert!(rt; all_done::<9_223_372_036_854_775_808>(rt.alloc(), FAR_APART));
 }

@@ -3,39 +3,31 @@
 ghost use Rattle.std.specs.Prelude.{◌<◌};
 
 use crate::names::{A, B, C, D, Name, entry};
-use crate::texts::{Text, bytes_of};
-use cache_entries::entry::CacheEntryKeyRef;
-use cache_evict::numbers::{Numbers, NumbersFault};
+use crate::numbers::{Given, give};
+use cache_evict::numbers::Numbers;
 use cache_evict::{EvictFault, EvictionManager, LoadFault, PackWriteFault, lru, simple_lru};
 use cache_words::time::Moment;
-use rand_core::{Rng, SeedableRng};
+use rand_core::SeedableRng;
 use rand_pcg::Pcg64;
 use std::alloc::Global;
 
-/// Whether an entry gets a number, or is refused for want of memory and all is as before.
-fn gives_or_keeps(alloc: Global, numbers: &mut Numbers<4>, name: Name) -> bool {
-    let Ok(item) = entry(alloc, name) else {
-        return true;
-    };
-    if numbers.number_of(CacheEntryKeyRef::from(&item)).is_some() {
-        return false;
-    }
-    let count = numbers.len();
-    match numbers.give(item, 5) {
-        Ok(number) => numbers.len() > count && numbers.entry_of(number).is_some(),
-        Err(NumbersFault::Memory(_)) => numbers.len() == count,
-        Err(_) => false,
-    }
-}
-
 const NAMES: &[Name] = &[A, B, C, D];
 
-#[test]
-fn refused_numbers_change_nothing(rt: HostRuntime) {
-    let mut numbers: Numbers<4> = Numbers::new(rt.alloc());
+/// Whether each entry gets a number, or is refused for want of memory and all is as before.
+fn numbers_stop(alloc: Global) -> bool {
+    let mut numbers: Numbers<4> = Numbers::new(alloc);
     for &name in NAMES {
-        assert!(rt; gives_or_keeps(rt.alloc(), &mut numbers, name));
+        let count = numbers.len();
+        let right = match give(alloc, &mut numbers, name, 5) {
+            Given::Number(number) => numbers.len() > count && numbers.entry_of(number).is_some(),
+            Given::Memory => numbers.len() == count,
+            Given::Spent | Given::Other => false,
+        };
+        if !right {
+            return false;
+        }
     }
+    true
 }
 
 #[derive(Clone, Copy)]
@@ -46,10 +38,10 @@ enum Call {
 }
 
 /// Why the call of an entry with the weight 1 stopped, if it did; `None` also where there is no memory for the entry.
-fn fault_of<M: EvictionManager, R: Rng>(
+fn fault_of<M: EvictionManager>(
     alloc: Global,
     manager: &mut M,
-    rng: &mut R,
+    rng: &mut Pcg64,
     call: Call,
     name: Name,
 ) -> Option<EvictFault> {
@@ -63,7 +55,7 @@ fn fault_of<M: EvictionManager, R: Rng>(
 }
 
 /// Whether a call stopped, if it did, for want of memory, with all as before or else a limit passed.
-fn is_right(fault: &Option<EvictFault>, is_same: bool, is_over: bool) -> bool {
+fn is_right(fault: Option<EvictFault>, is_same: bool, is_over: bool) -> bool {
     match fault {
         None => true,
         Some(EvictFault::Memory(gone)) => gone.is_empty() && is_same || is_over,
@@ -78,47 +70,15 @@ fn stops_for_memory<M: EvictionManager>(alloc: Global, manager: &mut M, call: Ca
         let (size, items) = (manager.total_size(), manager.total_items());
         let fault = fault_of(alloc, manager, &mut rng, call, name);
         let is_same = manager.total_size() == size && manager.total_items() == items;
-        if !is_right(&fault, is_same, manager.total_size() > 2) {
+        if !is_right(fault, is_same, manager.total_size() > 2) {
             return false;
         }
     }
     true
 }
 
-fn shards_stop_for_memory<const N: usize>(alloc: Global, call: Call) -> bool
-    requires { 0 < N }
-{
-    match lru::Manager::with_capacity(alloc, 2, 0) {
-        Ok(manager) => {
-            let mut shards: lru::Manager<N> = manager;
-            stops_for_memory(alloc, &mut shards, call)
-        }
-        Err(_) => true,
-    }
-}
-
-fn list_stops_for_memory(alloc: Global, call: Call) -> bool {
-    match simple_lru::Manager::new(alloc, 2) {
-        Ok(manager) => {
-            let mut list: simple_lru::Manager = manager;
-            stops_for_memory(alloc, &mut list, call)
-        }
-        Err(_) => true,
-    }
-}
-
-const CALLS: &[Call] = &[Call::Admit, Call::Access, Call::Raise];
-
-#[test]
-fn refused_calls_change_nothing(rt: HostRuntime) {
-    for &call in CALLS {
-        assert!(rt; shards_stop_for_memory::<1>(rt.alloc(), call));
-        assert!(rt; shards_stop_for_memory::<4>(rt.alloc(), call));
-        assert!(rt; list_stops_for_memory(rt.alloc(), call));
-    }
-}
-
-const TEXT: Text = (b"\x91", &[b"\x01"]);
+const TEXT: &[u8] =
+    b"\x91\x92\x93\xdc\x00\x10\xcc\xac\x10\xcc\xf2\xcc\xae\xcc\xf1\x17\x72\xcc\x9f\xcc\x8d\xcc\xad\x05\x6b\x30\x59\xcc\xeb\x7e\xc0\xa1\x31\x01";
 
 /// Whether the row is there, or the load was refused for want of memory and nothing is there.
 fn is_loaded_or_refused(loaded: Result<(), LoadFault>, items: usize) -> bool {
@@ -129,51 +89,61 @@ fn is_loaded_or_refused(loaded: Result<(), LoadFault>, items: usize) -> bool {
 }
 
 /// Whether the text is that which was loaded, or was refused for want of memory.
-fn is_text_or_refused(written: Result<Vec<u8>, PackWriteFault>, text: &[u8]) -> bool {
+fn is_text_or_refused(written: Result<Vec<u8>, PackWriteFault>) -> bool {
     match written {
-        Ok(bytes) => bytes.as_slice() == text,
+        Ok(bytes) => bytes.as_slice() == TEXT,
         Err(fault) => fault == PackWriteFault::Memory,
     }
 }
 
 /// Whether a text is loaded and written, unless memory is refused.
-fn shard_is_right(alloc: Global, shard: &mut lru::Manager<1>, bytes: &[u8]) -> bool {
-    let loaded = shard.deserialize_shard(alloc, bytes);
-    is_loaded_or_refused(loaded, shard.total_items())
-        && (loaded.is_err() || is_text_or_refused(shard.serialize_shard(alloc, 0), bytes))
+fn shard_takes(alloc: Global) -> bool {
+    match lru::Manager::<1>::with_capacity(alloc, 9, 0) {
+        Ok(mut shard) => {
+            let loaded = shard.deserialize_shard(alloc, TEXT);
+            is_loaded_or_refused(loaded, shard.total_items())
+                && (loaded.is_err() || is_text_or_refused(shard.serialize_shard(alloc, 0)))
+        }
+        Err(_) => true,
+    }
 }
 
 /// The same of one list.
-fn list_is_right(alloc: Global, list: &mut simple_lru::Manager, bytes: &[u8]) -> bool {
-    let loaded = list.deserialize(alloc, bytes);
-    is_loaded_or_refused(loaded, list.total_items())
-        && (loaded.is_err() || is_text_or_refused(list.serialize(alloc), bytes))
-}
-
-fn shard_takes(alloc: Global, bytes: &[u8]) -> bool {
-    match lru::Manager::with_capacity(alloc, 9, 0) {
-        Ok(mut shard) => shard_is_right(alloc, &mut shard, bytes),
-        Err(_) => true,
-    }
-}
-
-fn list_takes(alloc: Global, bytes: &[u8]) -> bool {
+fn list_takes(alloc: Global) -> bool {
     match simple_lru::Manager::new(alloc, 9) {
-        Ok(mut list) => list_is_right(alloc, &mut list, bytes),
+        Ok(mut list) => {
+            let loaded = list.deserialize(alloc, TEXT);
+            is_loaded_or_refused(loaded, list.total_items())
+                && (loaded.is_err() || is_text_or_refused(list.serialize(alloc)))
+        }
         Err(_) => true,
     }
 }
 
-fn both_take(alloc: Global, text: Text) -> bool {
-    match bytes_of(alloc, text) {
-        Some(bytes) => {
-            shard_takes(alloc, bytes.as_slice()) && list_takes(alloc, bytes.as_slice())
-        }
-        None => true,
+/// Whether calls of N shards stop for want of memory alone.
+fn shards_stop<const N: usize>(alloc: Global, call: Call) -> bool
+    requires { 0 < N }
+{
+    match lru::Manager::<N>::with_capacity(alloc, 2, 0) {
+        Ok(mut shards) => stops_for_memory(alloc, &mut shards, call),
+        Err(_) => true,
+    }
+}
+
+fn list_stops(alloc: Global, call: Call) -> bool {
+    match simple_lru::Manager::new(alloc, 2) {
+        Ok(mut list) => stops_for_memory(alloc, &mut list, call),
+        Err(_) => true,
     }
 }
 
 #[test]
-fn refused_texts_leave_what_was_there(rt: HostRuntime) {
-    assert!(rt; both_take(rt.alloc(), TEXT));
+fn refusals_leave_what_was_there(rt: HostRuntime) {
+    assert!(rt; numbers_stop(rt.alloc()));
+    for call in [Call::Admit, Call::Access, Call::Raise] {
+        assert!(rt; shards_stop::<1>(rt.alloc(), call));
+        assert!(rt; shards_stop::<4>(rt.alloc(), call));
+        assert!(rt; list_stops(rt.alloc(), call));
+    }
+    assert!(rt; shard_takes(rt.alloc()) && list_takes(rt.alloc()));
 }

@@ -3,15 +3,15 @@
 ghost use Rattle.std.specs.Prelude.{◌<◌};
 
 use crate::names::{A, B, E, Name, is, item};
-use crate::steps::{Step, is_done};
-use cache_evict::lru;
+use crate::steps::{Step, all_done, is_done};
+use cache_evict::{LoadFault, lru};
 use rand_core::SeedableRng;
 use rand_pcg::Pcg64;
 use std::alloc::Global;
 
 /// A call, with what it must return.
 #[derive(Clone, Copy)]
-enum Look {
+pub enum Look {
     /// The number of shards.
     Shards(usize),
     /// The shard of an entry.
@@ -27,9 +27,11 @@ enum Look {
     Any(Step),
 }
 
-/// Whether a shard shows what it must.
-fn shows<const N: usize>(alloc: Global, manager: &lru::Manager<N>, look: Look) -> bool {
+fn is_seen<const N: usize>(alloc: Global, manager: &mut lru::Manager<N>, look: Look) -> bool {
     match look {
+        Look::Shards(count) => manager.shards() == count,
+        Look::ShardOf(name, shard) => manager.get_shard_for_key(&item(alloc, name)) == shard,
+        Look::Weight(name, weight) => manager.peek_weight(&item(alloc, name)) == weight,
         Look::Holds(shard, weight, len) => {
             shard < manager.shards()
                 && manager.shard_weight(shard) == weight
@@ -38,21 +40,11 @@ fn shows<const N: usize>(alloc: Global, manager: &lru::Manager<N>, look: Look) -
         Look::Last(shard, name) => {
             shard < manager.shards() && is(alloc, manager.peek_lru(shard), name)
         }
-        _ => false,
-    }
-}
-
-fn is_seen<const N: usize>(alloc: Global, manager: &mut lru::Manager<N>, look: Look) -> bool {
-    match look {
-        Look::Shards(count) => manager.shards() == count,
-        Look::ShardOf(name, shard) => manager.get_shard_for_key(&item(alloc, name)) == shard,
-        Look::Weight(name, weight) => manager.peek_weight(&item(alloc, name)) == weight,
         Look::SetLimit(limit) => {
             manager.set_weight_limit(limit);
             manager.weight_limit() == limit
         }
         Look::Any(step) => is_done(alloc, manager, &mut Pcg64::seed_from_u64(1), step),
-        Look::Holds(..) | Look::Last(..) => shows(alloc, manager, look),
     }
 }
 
@@ -65,12 +57,31 @@ fn all_seen<const N: usize>(alloc: Global, manager: &mut lru::Manager<N>, looks:
     true
 }
 
-/// Whether all looks of a manager of N shards come true; false when out of memory.
-fn does<const N: usize>(alloc: Global, capacity: usize, looks: &[Look]) -> bool
+/// Bytes that are loaded first, with what the load must return.
+pub type Load<'a> = Option<(&'a [u8], Result<(), LoadFault>)>;
+
+/// The weight that all entries may have, the entries that there is room for, and the entries that there may be.
+type Bounds = (usize, usize, Option<usize>);
+
+/// Whether a load, all looks and then all calls of a manager of N shards come true; false when out of memory.
+pub fn shards_do<const N: usize>(
+    alloc: Global,
+    bounds: Bounds,
+    load: Load<'_>,
+    looks: &[Look],
+    steps: &[Step],
+) -> bool
     requires { 0 < N }
 {
-    match lru::Manager::<N>::with_capacity(alloc, 9, capacity) {
-        Ok(mut manager) => all_seen(alloc, &mut manager, looks),
+    let (limit, capacity, watermark) = bounds;
+    match lru::Manager::<N>::with_capacity_and_watermark(alloc, limit, capacity, watermark) {
+        Ok(mut manager) => {
+            let loaded = match load {
+                Some((bytes, wanted)) => manager.deserialize_shard(alloc, bytes) == wanted,
+                None => true,
+            };
+            loaded && all_seen(alloc, &mut manager, looks) && all_done(alloc, &mut manager, steps)
+        }
         Err(_) => false,
     }
 }
@@ -109,12 +120,8 @@ const LAST_GOES: &[Look] = &[
 const SIXTEEN: &[Look] = &[Look::ShardOf(AA, 12)];
 
 #[test]
-fn shards_are_shown(rt: HostRuntime) {
-    assert!(rt; does::<4>(rt.alloc(), 8, FOUR));
-    assert!(rt; does::<16>(rt.alloc(), 0, SIXTEEN));
-}
-
-#[test]
-fn the_last_of_a_shard_goes(rt: HostRuntime) {
-    assert!(rt; does::<4>(rt.alloc(), 0, LAST_GOES));
+fn shards_are_shown_and_their_last_goes(rt: HostRuntime) {
+    assert!(rt; shards_do::<4>(rt.alloc(), (9, 8, None), None, FOUR, &[]));
+    assert!(rt; shards_do::<16>(rt.alloc(), (9, 0, None), None, SIXTEEN, &[]));
+    assert!(rt; shards_do::<4>(rt.alloc(), (9, 0, None), None, LAST_GOES, &[]));
 }

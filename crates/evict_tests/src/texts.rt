@@ -1,10 +1,9 @@
 //! Recency texts of both managers.
 
-ghost use Rattle.std.specs.Prelude.{◌<◌};
-
 use crate::names::{A, B, C, D, Name};
-use crate::steps::{Step, all_done};
-use cache_evict::{EvictionManager, LoadFault, lru, simple_lru};
+use crate::shards::shards_do;
+use crate::steps::{Step, all_done, list_does};
+use cache_evict::{LoadFault, lru, simple_lru};
 use cache_words::pack::PackFault;
 use std::alloc::{AllocError, Global};
 
@@ -36,57 +35,6 @@ pub fn bytes_of(alloc: Global, text: Text) -> Option<Vec<u8>> {
 
 /// What a load returns, and the weight and number of all entries after it.
 type Loaded = (Result<(), LoadFault>, usize, usize);
-
-/// Whether so many entries of this weight are there, and the calls come true then.
-fn goes_on<M: EvictionManager>(
-    alloc: Global,
-    manager: &mut M,
-    size: usize,
-    items: usize,
-    steps: &[Step],
-) -> bool {
-    manager.total_size() == size
-        && manager.total_items() == items
-        && all_done(alloc, manager, steps)
-}
-
-/// Whether loading the bytes into empty shards gives this, and the calls come true after it.
-fn is_loaded_by_shards<const N: usize>(
-    alloc: Global,
-    limit: usize,
-    bytes: &[u8],
-    wanted: Loaded,
-    steps: &[Step],
-) -> bool
-    requires { 0 < N }
-{
-    let (loaded, size, items) = wanted;
-    match lru::Manager::<N>::with_capacity(alloc, limit, 0) {
-        Ok(mut shards) => {
-            shards.deserialize_shard(alloc, bytes) == loaded
-                && goes_on(alloc, &mut shards, size, items, steps)
-        }
-        Err(_) => false,
-    }
-}
-
-/// The same of one list.
-fn is_loaded_by_list(
-    alloc: Global,
-    limit: usize,
-    bytes: &[u8],
-    wanted: Loaded,
-    steps: &[Step],
-) -> bool {
-    let (loaded, size, items) = wanted;
-    match simple_lru::Manager::new(alloc, limit) {
-        Ok(mut list) => {
-            list.deserialize(alloc, bytes) == loaded
-                && goes_on(alloc, &mut list, size, items, steps)
-        }
-        Err(_) => false,
-    }
-}
 
 const SHORT: Result<(), LoadFault> = Err(LoadFault::Text(PackFault::Short));
 
@@ -126,37 +74,30 @@ const TEXTS: &[(Text, Loaded, Loaded)] = &[
 fn are_read(alloc: Global, text: Text, sharded: Loaded, simple: Loaded) -> bool {
     match bytes_of(alloc, text) {
         Some(bytes) => {
-            is_loaded_by_shards::<4>(alloc, 9, bytes.as_slice(), sharded, &[])
-                && is_loaded_by_list(alloc, 9, bytes.as_slice(), simple, &[])
+            let (one, other) = ((bytes.as_slice(), sharded.0), (bytes.as_slice(), simple.0));
+            let held = [Step::Holds(sharded.1, sharded.2)];
+            shards_do::<4>(alloc, (9, 0, None), Some(one), &[], &held)
+                && list_does(
+                    alloc,
+                    9,
+                    None,
+                    Some(other),
+                    &[Step::Holds(simple.1, simple.2)],
+                )
         }
         None => false,
     }
 }
 
-#[test]
-fn texts_are_read(rt: HostRuntime) {
-    for &(text, sharded, simple) in TEXTS {
-        assert!(rt; are_read(rt.alloc(), text, sharded, simple));
-    }
-}
-
-/// What a manager may weigh, its calls, the weight and number of all entries then, the text, and the calls of one into which
-/// the text is loaded.
-type Kept = (
-    usize,
-    &'static [Step],
-    (usize, usize),
-    Option<Text>,
-    &'static [Step],
-);
+/// What a manager may weigh, its calls, the text that it saves then, and the calls of one into which the text is loaded.
+type Kept = (usize, &'static [Step], Option<Text>, &'static [Step]);
 
 const KEPT: &[Kept] = &[
     (
         9,
         &[Step::Admit(AA, 1, &[])],
-        (1, 1),
         Some((b"\x91", &[b"\x01"])),
-        &[],
+        &[Step::Holds(1, 1)],
     ),
     // What is loaded evicts as what was saved.
     (
@@ -167,9 +108,8 @@ const KEPT: &[Kept] = &[
             Step::Admit(C, 1, &[]),
             Step::Access(A, 1, true),
         ],
-        (4, 3),
         None,
-        &[Step::Admit(D, 2, &[B])],
+        &[Step::Holds(4, 3), Step::Admit(D, 2, &[B])],
     ),
 ];
 
@@ -210,35 +150,32 @@ fn is_text(alloc: Global, bytes: &[u8], text: Option<Text>) -> bool {
     }
 }
 
-/// Whether bytes that were saved are that text, and are loaded by both managers.
-fn is_kept(alloc: Global, saved: Option<Vec<u8>>, kept: Kept) -> bool {
-    let (limit, _, (size, items), text, steps) = kept;
-    match saved {
-        Some(bytes) => {
-            let wanted = (Ok(()), size, items);
-            is_text(alloc, bytes.as_slice(), text)
-                && is_loaded_by_shards::<1>(alloc, limit, bytes.as_slice(), wanted, steps)
-                && is_loaded_by_list(alloc, limit, bytes.as_slice(), wanted, steps)
-        }
-        None => false,
-    }
+/// Whether the bytes are that text, and are loaded by both managers.
+fn are_loaded(alloc: Global, bytes: &[u8], kept: Kept) -> bool {
+    let (limit, _, text, steps) = kept;
+    let load = Some((bytes, Ok(())));
+    is_text(alloc, bytes, text)
+        && shards_do::<1>(alloc, (limit, 0, None), load, &[], steps)
+        && list_does(alloc, limit, None, load, steps)
 }
 
-/// Whether both managers save the same bytes.
-fn are_saved_alike(alloc: Global, limit: usize, steps: &[Step]) -> bool {
+/// Whether both managers save the same bytes, which are loaded again.
+fn are_kept(alloc: Global, kept: Kept) -> bool {
     match (
-        saved_by_shard(alloc, limit, steps),
-        saved_by_list(alloc, limit, steps),
+        saved_by_shard(alloc, kept.0, kept.1),
+        saved_by_list(alloc, kept.0, kept.1),
     ) {
-        (Some(one), Some(other)) => one == other,
+        (Some(one), Some(other)) => one == other && are_loaded(alloc, one.as_slice(), kept),
         _ => false,
     }
 }
 
 #[test]
-fn texts_are_written_and_read(rt: HostRuntime) {
+fn texts_are_read_and_written(rt: HostRuntime) {
+    for &(text, sharded, simple) in TEXTS {
+        assert!(rt; are_read(rt.alloc(), text, sharded, simple));
+    }
     for &kept in KEPT {
-        assert!(rt; are_saved_alike(rt.alloc(), kept.0, kept.1));
-        assert!(rt; is_kept(rt.alloc(), saved_by_shard(rt.alloc(), kept.0, kept.1), kept));
+        assert!(rt; are_kept(rt.alloc(), kept));
     }
 }

@@ -14,8 +14,8 @@ enum Edit {
     InsertTail(u64, u32, usize, Option<bool>),
     SetWeight(u64, usize, Option<Option<usize>>),
     Increment(u64, u32, usize, Option<usize>, Option<usize>),
-    Raise(u64, usize, (u32, usize), Option<Option<usize>>),
-    Drain(u64, (u32, usize), Option<Option<usize>>),
+    // An update adds 1 to the data and so much to the weight, or sets it to 0.
+    Update(u64, Option<usize>, (u32, usize), Option<Option<usize>>),
     Promote(u64, bool),
     PromoteTop(u64, usize, bool),
     Step(u64, u64, Option<(u32, usize)>),
@@ -24,121 +24,48 @@ enum Edit {
     // It is refused for its weight, and the data come back.
     TooHeavy(u64, u32, usize),
     SetLimit(usize),
-    // Looks, which change nothing: how many rows there are with their weight, whether a key has a row, its weight, the
-    // last row of shard 0, and the limit.
+    // Looks, which change nothing: how many rows there are with their weight, whether a key has a row, its weight, the last row of
+    // shard 0, the limit, the rows of another shard, and its data as digits with their weight.
     Sums(usize, usize),
     Peek(u64, bool),
     PeekWeight(u64, Option<usize>),
     Last(u32, usize),
     Limit(usize),
+    Shard(usize, &'static [(u32, usize)]),
+    Digits(usize, u32, usize),
 }
 
-fn is_last<const N: usize>(core: &LruCore<u32, N>, data: u32, weight: usize) -> bool {
-    core.shards() > 0 && core.peek_lru(0) == Some((&data, weight))
-}
-
-fn is_seen<const N: usize>(core: &LruCore<u32, N>, edit: Edit) -> bool {
-    match edit {
-        Edit::Sums(len, weight) => core.len() == len && core.weight() == weight,
-        Edit::Peek(key, found) => core.peek(key) == found,
-        Edit::PeekWeight(key, weight) => core.peek_weight(key) == weight,
-        Edit::Last(data, weight) => is_last(core, data, weight),
-        Edit::Limit(limit) => core.weight_limit() == limit,
-        _ => false,
-    }
-}
-
-fn is_too_heavy<const N: usize>(
-    core: &mut LruCore<u32, N>,
-    key: u64,
-    data: u32,
-    weight: usize,
-) -> bool {
-    match core.admit(key, data, weight) {
-        Err(LruFault::Weight(back)) => back == data,
-        _ => false,
-    }
-}
-
-fn is_added<const N: usize>(core: &mut LruCore<u32, N>, edit: Edit) -> bool {
+/// Whether a row is added, or its weight is set, as it must be.
+fn is_weighed<const N: usize>(core: &mut LruCore<u32, N>, edit: Edit) -> bool {
     match edit {
         Edit::Admit(key, data, weight, shard) => core.admit(key, data, weight).ok() == shard,
+        Edit::TooHeavy(key, data, weight) => match core.admit(key, data, weight) {
+            Err(LruFault::Weight(back)) => back == data,
+            _ => false,
+        },
         Edit::InsertTail(key, data, weight, new) => {
             core.insert_tail(key, data, weight).ok() == new
         }
-        Edit::TooHeavy(key, data, weight) => is_too_heavy(core, key, data, weight),
-        _ => false,
-    }
-}
-
-/// Adds 1 to the data and so much to the weight, or sets it to 0.
-fn changed(data: &mut u32, weight: usize, by: Option<usize>) -> usize {
-    *data = data.wrapping_add(1);
-    match by {
-        Some(by) => weight.saturating_add(by),
-        None => 0,
-    }
-}
-
-fn is_updated<const N: usize>(
-    core: &mut LruCore<u32, N>,
-    key: u64,
-    by: Option<usize>,
-    new: (u32, usize),
-    old: Option<Option<usize>>,
-) -> bool {
-    let update = |data: &mut u32, weight: usize| changed(data, weight, by);
-    core.update_or_admit(key, update, || new).ok() == old
-}
-
-fn is_weighed<const N: usize>(core: &mut LruCore<u32, N>, edit: Edit) -> bool {
-    match edit {
         Edit::SetWeight(key, weight, old) => core.set_weight(key, weight).ok() == old,
         Edit::Increment(key, data, delta, cap, now) => {
             core.increment_weight(key, || data, delta, cap).ok() == now
         }
-        Edit::Raise(key, by, new, old) => is_updated(core, key, Some(by), new, old),
-        Edit::Drain(key, new, old) => is_updated(core, key, None, new, old),
-        _ => false,
-    }
-}
-
-fn is_used<const N: usize>(core: &mut LruCore<u32, N>, edit: Edit) -> bool {
-    match edit {
-        Edit::Promote(key, found) => core.promote(key) == found,
-        Edit::PromoteTop(key, top, found) => core.promote_top_n(key, top) == found,
-        Edit::SetLimit(limit) => {
-            core.set_weight_limit(limit);
-            core.weight_limit() == limit
+        Edit::Update(key, by, new, old) => {
+            let update = |data: &mut u32, weight: usize| {
+                *data = data.wrapping_add(1);
+                match by {
+                    Some(by) => weight.saturating_add(by),
+                    None => 0,
+                }
+            };
+            core.update_or_admit(key, update, || new).ok() == old
         }
         _ => false,
     }
 }
 
-fn is_gone<const N: usize>(core: &mut LruCore<u32, N>, edit: Edit) -> bool {
-    match edit {
-        Edit::Step(a, b, row) => core.evict_step(a, b) == row,
-        Edit::EvictShard(shard, row) => core.evict_shard(shard) == row,
-        Edit::Remove(key, row) => core.remove(key) == row,
-        _ => false,
-    }
-}
-
-/// Whether an edit returns what it must: each of these is false of the edits that it doesn't do.
-fn is_done<const N: usize>(core: &mut LruCore<u32, N>, edit: Edit) -> bool {
-    is_added(core, edit)
-        || is_weighed(core, edit)
-        || is_used(core, edit)
-        || is_gone(core, edit)
-        || is_seen(core, edit)
-}
-
 /// Whether a shard has these data and weights, and the sum of them.
-pub(crate) fn has<const N: usize>(
-    core: &LruCore<u32, N>,
-    shard: usize,
-    rows: &[(u32, usize)],
-) -> bool {
+fn has<const N: usize>(core: &LruCore<u32, N>, shard: usize, rows: &[(u32, usize)]) -> bool {
     if shard >= core.shards() {
         return false;
     }
@@ -149,6 +76,51 @@ pub(crate) fn has<const N: usize>(
     core.shard_len(shard) == rows.len()
         && core.shard_weight(shard) == weight
         && gives(core.iter(shard), rows)
+}
+
+/// The data of each row of a shard as digits, and their weight.
+fn digits_of<const N: usize>(core: &LruCore<u32, N>, shard: usize) -> (u32, usize) {
+    let mut digits = 0u32;
+    let mut weight = 0usize;
+    if shard < core.shards() {
+        core.iter_for_each(shard, |row| {
+            digits = digits.wrapping_mul(10).wrapping_add(*row.0);
+            weight = weight.wrapping_add(row.1);
+        });
+    }
+    (digits, weight)
+}
+
+fn is_seen<const N: usize>(core: &LruCore<u32, N>, edit: Edit) -> bool {
+    match edit {
+        Edit::Sums(len, weight) => core.len() == len && core.weight() == weight,
+        Edit::Peek(key, found) => core.peek(key) == found,
+        Edit::PeekWeight(key, weight) => core.peek_weight(key) == weight,
+        Edit::Last(data, weight) => {
+            core.shards() > 0 && core.peek_lru(0) == Some((&data, weight))
+        }
+        Edit::Limit(limit) => core.weight_limit() == limit,
+        Edit::Shard(shard, rows) => has(core, shard, rows),
+        Edit::Digits(shard, digits, weight) => digits_of(core, shard) == (digits, weight),
+        _ => false,
+    }
+}
+
+/// Whether an edit returns what it must.
+fn is_done<const N: usize>(core: &mut LruCore<u32, N>, edit: Edit) -> bool {
+    match edit {
+        Edit::Promote(key, found) => core.promote(key) == found,
+        Edit::PromoteTop(key, top, found) => core.promote_top_n(key, top) == found,
+        Edit::SetLimit(limit) => {
+            core.set_weight_limit(limit);
+            core.weight_limit() == limit
+        }
+        Edit::Step(a, b, row) => core.evict_step(a, b) == row,
+        Edit::EvictShard(shard, row) => core.evict_shard(shard) == row,
+        Edit::Remove(key, row) => core.remove(key) == row,
+        // Each of these is false of the edits that it doesn't do.
+        _ => is_weighed(core, edit) || is_seen(core, edit),
+    }
 }
 
 /// An edit, and the data and weights of shard 0 then.
@@ -164,11 +136,15 @@ fn all_done<const N: usize>(core: &mut LruCore<u32, N>, rows: &[Row]) -> bool {
     true
 }
 
-/// The same of a core of N shards, with a watermark; false when out of memory.
-fn does<const N: usize>(alloc: Global, limit: usize, watermark: Option<usize>, rows: &[Row]) -> bool
+/// A limit, the room for rows, a watermark, and the rows.
+type Case = (usize, usize, Option<usize>, &'static [Row]);
+
+/// The same of a core of N shards; false when out of memory.
+fn does<const N: usize>(alloc: Global, case: Case) -> bool
     requires { 0 < N }
 {
-    match LruCore::<u32, N>::with_capacity_and_watermark(alloc, limit, 0, watermark) {
+    let (limit, capacity, watermark, rows) = case;
+    match LruCore::<u32, N>::with_capacity_and_watermark(alloc, limit, capacity, watermark) {
         Ok(mut core) => all_done(&mut core, rows),
         Err(_) => false,
     }
@@ -178,15 +154,15 @@ const UPDATES: &[Row] = &[
     (Edit::Admit(2, 20, 2, Some(0)), &[(20, 2)]),
     (Edit::Admit(4, 40, 4, Some(0)), &[(40, 4), (20, 2)]),
     (
-        Edit::Raise(2, 3, (0, 0), Some(Some(2))),
+        Edit::Update(2, Some(3), (0, 0), Some(Some(2))),
         &[(21, 5), (40, 4)],
     ),
     (
-        Edit::Raise(6, 0, (60, 0), Some(None)),
+        Edit::Update(6, Some(0), (60, 0), Some(None)),
         &[(60, 1), (21, 5), (40, 4)],
     ),
     (
-        Edit::Drain(4, (0, 0), Some(Some(4))),
+        Edit::Update(4, None, (0, 0), Some(Some(4))),
         &[(41, 1), (60, 1), (21, 5)],
     ),
     (Edit::Sums(3, 7), &[(41, 1), (60, 1), (21, 5)]),
@@ -215,16 +191,6 @@ const PROMOTIONS: &[Row] = &[
     (Edit::Last(12, 5), &[(13, 2), (11, 1), (12, 5)]),
     (Edit::Sums(3, 8), &[(13, 2), (11, 1), (12, 5)]),
 ];
-
-#[test]
-fn one_shard_updates(rt: HostRuntime) {
-    assert!(rt; does::<1>(rt.alloc(), 99, None, UPDATES));
-}
-
-#[test]
-fn one_shard_promotes(rt: HostRuntime) {
-    assert!(rt; does::<1>(rt.alloc(), 9, None, PROMOTIONS));
-}
 
 // A step takes the longer of two shards.
 const LONGER: &[Row] = &[
@@ -259,17 +225,6 @@ const PARTS: &[Row] = &[
     (Edit::TooHeavy(2, 12, 1), &[(10, PART)]),
 ];
 
-#[test]
-fn two_shards_take_steps(rt: HostRuntime) {
-    assert!(rt; does::<2>(rt.alloc(), 0, None, LONGER));
-    assert!(rt; does::<2>(rt.alloc(), 0, None, EQUAL));
-}
-
-#[test]
-fn two_shards_take_their_parts(rt: HostRuntime) {
-    assert!(rt; does::<2>(rt.alloc(), 9, None, PARTS));
-}
-
 const CIRCLE: &[Row] = &[
     (Edit::Admit(3, 13, 1, Some(3)), &[]),
     (Edit::Step(0, 0, Some((13, 1))), &[]),
@@ -283,16 +238,35 @@ const MARKED: &[Row] = &[
     (Edit::SetLimit(8), &[]),
 ];
 
-/// A core that is made without a word of a watermark.
-fn goes_around(alloc: Global) -> bool {
-    match LruCore::<u32, 4>::with_capacity(alloc, 0, 0) {
-        Ok(mut core) => all_done(&mut core, CIRCLE),
-        Err(_) => false,
-    }
-}
+const EACH: &[Row] = &[
+    (Edit::Admit(1, 1, 1, Some(1)), &[]),
+    (Edit::Admit(2, 2, 1, Some(0)), &[(2, 1)]),
+    (Edit::Admit(3, 3, 1, Some(1)), &[(2, 1)]),
+    (Edit::Admit(4, 4, 1, Some(0)), &[(4, 1), (2, 1)]),
+    (Edit::Digits(1, 31, 2), &[(4, 1), (2, 1)]),
+    (Edit::Shard(1, &[(3, 1), (1, 1)]), &[(4, 1), (2, 1)]),
+];
+
+const ONE: &[Case] = &[(99, 0, None, UPDATES), (9, 0, None, PROMOTIONS)];
+
+const TWO: &[Case] = &[
+    (0, 0, None, LONGER),
+    (0, 0, None, EQUAL),
+    (9, 0, None, PARTS),
+    (9, 4, None, EACH),
+];
+
+const FOUR: &[Case] = &[(0, 0, None, CIRCLE), (9, 0, Some(0), MARKED)];
 
 #[test]
-fn a_step_goes_around_the_circle(rt: HostRuntime) {
-    assert!(rt; goes_around(rt.alloc()));
-    assert!(rt; does::<4>(rt.alloc(), 9, Some(0), MARKED));
+fn cores_show_their_edits(rt: HostRuntime) {
+    for &case in ONE {
+        assert!(rt; does::<1>(rt.alloc(), case));
+    }
+    for &case in TWO {
+        assert!(rt; does::<2>(rt.alloc(), case));
+    }
+    for &case in FOUR {
+        assert!(rt; does::<4>(rt.alloc(), case));
+    }
 }

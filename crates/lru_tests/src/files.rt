@@ -1,4 +1,5 @@
 //! Shards saved to files and loaded again.
+mod calls;
 mod folders;
 mod loads;
 mod stops;

@@ -28,98 +28,89 @@ enum Look {
     Near(Index, usize, bool),
     Exists(u64, usize, bool),
     Neighbours(Index, Index, Index),
+    Pulls(&'static [Pull]),
 }
 
-/// Whether a push or a pop is done so.
-fn grows(list: &mut LinkedListU64, edit: Edit) -> bool {
+/// A call of an iterator, with what it must return.
+#[derive(Clone, Copy)]
+enum Pull {
+    Front(Option<u64>),
+    Back(Option<u64>),
+    Left(usize),
+}
+
+/// Whether an edit returns what it must.
+fn is_done(list: &mut LinkedListU64, edit: Edit) -> bool {
     match edit {
         Edit::PushHead(item, index) => list.push_head(item).ok() == Some(index),
         Edit::PushTail(item, index) => list.push_tail(item).ok() == Some(index),
-        Edit::PopTail(item) => list.pop_tail() == item,
-        _ => false,
-    }
-}
-
-fn is_promoted(list: &mut LinkedListU64, i: Index) -> bool {
-    if list.is_live(i) {
-        list.promote(i);
-        return true;
-    }
-    false
-}
-
-fn is_set(list: &mut LinkedListU64, i: Index, item: u64) -> bool {
-    match list.peek_mut(i) {
-        Some(slot) => {
-            *slot = item;
-            true
-        }
-        None => false,
-    }
-}
-
-fn is_done(list: &mut LinkedListU64, edit: Edit) -> bool {
-    match edit {
         Edit::Remove(i, item) => list.is_live(i) && list.remove(i) == item,
         Edit::Replace(i, item, old) => list.is_live(i) && list.replace(i, item) == old,
-        Edit::Promote(i) => is_promoted(list, i),
-        Edit::Set(i, item) => is_set(list, i, item),
+        Edit::PopTail(item) => list.pop_tail() == item,
+        Edit::Promote(i) => {
+            let live = list.is_live(i);
+            if live {
+                list.promote(i);
+            }
+            live
+        }
+        Edit::Set(i, item) => match list.peek_mut(i) {
+            Some(slot) => {
+                *slot = item;
+                true
+            }
+            None => false,
+        },
         Edit::Keep => true,
-        Edit::PushHead(..) | Edit::PushTail(..) | Edit::PopTail(_) => grows(list, edit),
     }
 }
 
-/// Whether the list gives these items from its head.
+/// Whether the list gives these items from its head, and the same from its tail.
 fn gives(list: &LinkedListU64, items: &[u64]) -> bool {
-    let mut there = list.iter();
-    for item in items {
-        if there.next().copied() != Some(*item) {
-            return false;
-        }
-    }
-    there.next().is_none()
-}
-
-/// Whether it gives the same from its tail.
-fn gives_back(list: &LinkedListU64, items: &[u64]) -> bool {
-    let mut there = list.iter();
+    let mut first = list.iter();
+    let mut last = list.iter();
     let mut left = items.len();
-    for _ in items {
+    for item in items {
         left = left.wrapping_sub(1);
-        if there.next_back().copied() != items.get(left).copied() {
+        if first.next().copied() != Some(*item)
+            || last.next_back().copied() != items.get(left).copied()
+        {
             return false;
         }
     }
-    there.next_back().is_none()
+    first.next().is_none() && last.next_back().is_none()
 }
 
-fn is_slot(list: &mut LinkedListU64, i: Index, item: Option<u64>) -> bool {
-    list.peek(i).copied() == item && list.peek_mut(i).is_some() == item.is_some()
-}
-
-fn are_beside(list: &LinkedListU64, i: Index, before: Index, after: Index) -> bool {
-    list.peek(i).is_some() && list.prev_index(i) == before && list.next_index(i) == after
-}
-
-fn is_near(list: &LinkedListU64, look: Look) -> bool {
-    match look {
-        Look::Near(i, limit, near) => list.is_near_head(i, limit) == near,
-        Look::Exists(item, limit, near) => list.exist_near_head(&item, limit) == near,
-        _ => false,
+/// Whether each call of an iterator returns what it must.
+fn all_are_pulled(mut items: LinkedListIter<'_, u64>, pulls: &[Pull]) -> bool {
+    for &pull in pulls {
+        let pulled = match pull {
+            Pull::Front(item) => items.next().copied() == item,
+            Pull::Back(item) => items.next_back().copied() == item,
+            Pull::Left(left) => items.size_hint() == (left, Some(left)),
+        };
+        if !pulled {
+            return false;
+        }
     }
+    true
 }
 
 fn is_shown(list: &mut LinkedListU64, look: Look) -> bool {
     match look {
-        Look::Items(items) => {
-            list.len() == items.len() && gives(list, items) && gives_back(list, items)
-        }
+        Look::Items(items) => list.len() == items.len() && gives(list, items),
         Look::Ends(first, last) => list.head() == first && list.tail() == last,
         Look::Live(i, live) => list.is_live(i) == live,
-        Look::Slot(i, item) => is_slot(list, i, item),
+        Look::Slot(i, item) => {
+            list.peek(i).copied() == item && list.peek_mut(i).is_some() == item.is_some()
+        }
         Look::Item(i, item) => list.is_live(i) && *list.item(i) == item,
-        Look::Neighbours(i, before, after) => are_beside(list, i, before, after),
-        Look::Near(..) | Look::Exists(..) => is_near(list, look),
+        Look::Near(i, limit, near) => list.is_near_head(i, limit) == near,
+        Look::Exists(item, limit, near) => list.exist_near_head(&item, limit) == near,
+        Look::Neighbours(i, before, after) => {
+            list.peek(i).is_some() && list.prev_index(i) == before && list.next_index(i) == after
+        }
+        Look::Pulls(pulls) => all_are_pulled(list.iter(), pulls),
     }
 }
 
@@ -136,10 +127,20 @@ fn all_done(list: &mut LinkedListU64, rows: &[Row]) -> bool {
     true
 }
 
-/// The same of a list that had room made for two items; false when out of memory.
+const OUTSIDE: usize = u32::MAX as usize;
+
+/// Whether the sentinels of an empty list have no neighbours outside, and all rows come true once it has room for two items; false
+/// when out of memory.
 fn does(alloc: Global, capacity: usize, rows: &[Row]) -> bool {
     match LinkedList::with_capacity(alloc, capacity) {
-        Ok(mut list) => list.reserve(2).is_ok() && all_done(&mut list, rows),
+        Ok(mut list) => {
+            list.prev_index(0) == OUTSIDE
+                && list.next_index(0) == 1
+                && list.prev_index(1) == 0
+                && list.next_index(1) == OUTSIDE
+                && list.reserve(2).is_ok()
+                && all_done(&mut list, rows)
+        }
         Err(_) => false,
     }
 }
@@ -190,58 +191,14 @@ const FIRST_ITEMS: &[Row] = &[
     (Edit::Set(2, 7), Look::Slot(4, None)),
 ];
 
-#[test]
-fn edits_show(rt: HostRuntime) {
-    assert!(rt; does(rt.alloc(), 4, SLOTS));
-}
-
-#[test]
-fn promotions_show(rt: HostRuntime) {
-    assert!(rt; does(rt.alloc(), 0, PROMOTIONS));
-}
-
-#[test]
-fn first_items_show(rt: HostRuntime) {
-    assert!(rt; does(rt.alloc(), 2, FIRST_ITEMS));
-}
-
-/// Whether the sentinels of an empty list have no neighbours outside.
-fn has_outer_neighbours(alloc: Global) -> bool {
-    let made: Result<LinkedListU64, _> = LinkedList::with_capacity(alloc, 0);
-    match made {
-        Ok(list) => {
-            list.prev_index(0) == OUTSIDE
-                && list.next_index(0) == 1
-                && list.prev_index(1) == 0
-                && list.next_index(1) == OUTSIDE
-        }
-        Err(_) => false,
-    }
-}
-
-const OUTSIDE: usize = u32::MAX as usize;
-
-#[test]
-fn sentinels_have_no_neighbours_outside(rt: HostRuntime) {
-    assert!(rt; has_outer_neighbours(rt.alloc()));
-    assert!(rt; MOST_ITEMS == 4294967293);
-}
-
-/// A call of an iterator, with what it must return.
-#[derive(Clone, Copy)]
-enum Pull {
-    Front(Option<u64>),
-    Back(Option<u64>),
-    Left(usize),
-}
-
-fn is_pulled(items: &mut LinkedListIter<'_, u64>, pull: Pull) -> bool {
-    match pull {
-        Pull::Front(item) => items.next().copied() == item,
-        Pull::Back(item) => items.next_back().copied() == item,
-        Pull::Left(left) => items.size_hint() == (left, Some(left)),
-    }
-}
+// An empty list gives nothing, and three items come from both ends.
+const BOTH_ENDS: &[Row] = &[
+    (Edit::Keep, Look::Pulls(&[Pull::Front(None)])),
+    (Edit::PushTail(4, 2), Look::Live(2, true)),
+    (Edit::PushTail(3, 3), Look::Live(3, true)),
+    (Edit::PushTail(1, 4), Look::Live(4, true)),
+    (Edit::Keep, Look::Pulls(PULLS)),
+];
 
 const PULLS: &[Pull] = &[
     Pull::Front(Some(4)),
@@ -252,38 +209,18 @@ const PULLS: &[Pull] = &[
     Pull::Back(None),
 ];
 
-/// Whether each call of an iterator returns what it must.
-fn all_are_pulled(mut items: LinkedListIter<'_, u64>, pulls: &[Pull]) -> bool {
-    for &pull in pulls {
-        if !is_pulled(&mut items, pull) {
-            return false;
-        }
-    }
-    true
-}
-
-const FILLED: &[Row] = &[
-    (Edit::PushTail(4, 2), Look::Live(2, true)),
-    (Edit::PushTail(3, 3), Look::Live(3, true)),
-    (Edit::PushTail(1, 4), Look::Live(4, true)),
+// The room that a list is made with, and its rows.
+const LISTS: &[(usize, &[Row])] = &[
+    (4, SLOTS),
+    (0, PROMOTIONS),
+    (2, FIRST_ITEMS),
+    (3, BOTH_ENDS),
 ];
 
-/// Whether an empty list gives nothing, and three items come from both ends.
-fn gives_from_both_ends(list: &mut LinkedListU64) -> bool {
-    all_are_pulled(list.iter(), &[Pull::Front(None)])
-        && all_done(list, FILLED)
-        && all_are_pulled(list.iter(), PULLS)
-}
-
-/// The same of a list with room for three.
-fn both_ends(alloc: Global) -> bool {
-    match LinkedList::with_capacity(alloc, 3) {
-        Ok(mut list) => gives_from_both_ends(&mut list),
-        Err(_) => false,
-    }
-}
-
 #[test]
-fn goes_from_both_ends(rt: HostRuntime) {
-    assert!(rt; both_ends(rt.alloc()));
+fn lists_show_their_edits(rt: HostRuntime) {
+    for &(capacity, rows) in LISTS {
+        assert!(rt; does(rt.alloc(), capacity, rows));
+    }
+    assert!(rt; MOST_ITEMS == 4294967293);
 }

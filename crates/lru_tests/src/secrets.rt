@@ -17,45 +17,37 @@ fn hash_of(word: u64, number: u64) -> u64 {
     SeededState { word }.hash_one(number)
 }
 
-#[test]
-fn hashes_are_equal_where_words_are(rt: HostRuntime) {
-    for &(one, other, number, equal) in HASHES {
-        assert!(rt; (hash_of(one, number) == hash_of(other, number)) == equal);
-    }
-}
-
 type Unit = LruUnit<u32, SeededState>;
 
 type Core = LruCore<u32, 2, SeededState>;
 
 /// Whether a row is found in a shard under a secret word.
-fn shard_finds(unit: &mut Unit) -> bool {
-    unit.admit(7, 70, 3).ok() == Some(0)
-        && unit.peek(7).copied() == Some(70)
-        && unit.peek(8).is_none()
-}
-
-fn core_finds(core: &mut Core) -> bool {
-    core.admit(7, 70, 3).ok() == Some(1) && core.remove(7) == Some((70, 3)) && !core.peek(7)
-}
-
-fn shard_under(alloc: Global, word: u64) -> bool {
+fn shard_finds(alloc: Global, word: u64) -> bool {
     match Unit::with_hasher(alloc, SeededState { word }, 2, 9) {
-        Ok(mut unit) => shard_finds(&mut unit),
+        Ok(mut unit) => {
+            unit.admit(7, 70, 3).ok() == Some(0)
+                && unit.peek(7).copied() == Some(70)
+                && unit.peek(8).is_none()
+        }
         Err(_) => false,
     }
 }
 
-fn core_under(alloc: Global, word: u64) -> bool {
+fn core_finds(alloc: Global, word: u64) -> bool {
     match Core::with_hasher(alloc, SeededState { word }, 9, 2, None) {
-        Ok(mut core) => core_finds(&mut core),
+        Ok(mut core) => {
+            core.admit(7, 70, 3).ok() == Some(1) && core.remove(7) == Some((70, 3)) && !core.peek(7)
+        }
         Err(_) => false,
     }
 }
 
 #[test]
-fn rows_are_found_whatever_the_word(rt: HostRuntime) {
+fn words_part_hashes_and_hide_no_row(rt: HostRuntime) {
+    for &(one, other, number, equal) in HASHES {
+        assert!(rt; (hash_of(one, number) == hash_of(other, number)) == equal);
+    }
     for word in 0..3 {
-        assert!(rt; shard_under(rt.alloc(), word) && core_under(rt.alloc(), word));
+        assert!(rt; shard_finds(rt.alloc(), word) && core_finds(rt.alloc(), word));
     }
 }

@@ -1,59 +1,94 @@
 // Saves that are stopped, or of which one call fails.
-ghost use Rattle.std.specs.Prelude.{◌≤◌};
+use crate::files::calls::{Answer, Saver, Text, Told, loads, save};
+use crate::files::loads::holds;
+use lru_files::persistence::{Folder, MemFolder, ShardFileError, ShardSaveSetupError, TestFolder};
+use std::alloc::Global;
 
-use lru_files::persistence::{
-    Folder, MemFolder, ShardFileError, ShardSaveError, ShardSaveFailure, ShardSaveReport,
-    ShardSaveSetupError, TestFolder, load_shards, save_shards, save_shards_async,
-};
-use std::alloc::{AllocError, Global};
+// The words of four shards, and of one.
+const FOUR: &[u32] = &[0x12ab_34cd, 1, 0xffff_ffff, 0];
 
-const WORDS: [u32; 4] = [0x12ab_34cd, 1, 0xffff_ffff, 0];
+const ONE: &[u32] = &[0x12ab_34cd];
 
-type Saved = Result<ShardSaveReport<AllocError>, ShardSaveError<AllocError>>;
+const OLD: Text = Some(b"old");
 
-// Saves the text as each shard's list.
-fn save<F: Folder>(alloc: Global, folder: &mut F, shards: usize, text: &[u8]) -> Saved
-    requires { shards ≤ 4 }
-{
-    save_shards(
-        alloc,
-        folder,
-        "dir",
-        "lru.data",
-        shards,
-        &WORDS[..shards],
-        |_| text.to_vec(alloc),
-    )
+const NEW: Text = Some(b"newer");
+
+// Which calls of a save fail.
+#[derive(Clone, Copy)]
+enum Plan {
+    // All after so many, the first of which writes so many bytes, if it writes.
+    After(usize, usize),
+    Once(usize),
+    Renames,
 }
 
-// Whether the next load removes so many temporary files.
-fn removes(alloc: Global, folder: &mut MemFolder, files: usize) -> bool {
-    let report = load_shards(
-        alloc,
-        folder,
-        "dir",
-        "lru.data",
-        1,
-        &mut |_, _| -> Result<(), AllocError> { Ok(()) },
-    );
-    match report {
-        Ok(report) => report.cleanup.removed == files,
-        Err(_) => false,
+fn planned(folder: MemFolder, plan: Plan) -> TestFolder {
+    match plan {
+        Plan::After(calls, bytes) => TestFolder::stops_after(folder, calls, bytes),
+        Plan::Once(call) => TestFolder::fails_once(folder, call),
+        Plan::Renames => TestFolder::renames_fail(folder),
     }
 }
 
-pub(crate) fn holds(folder: &MemFolder, path: &str, text: &[u8]) -> bool {
-    match folder.bytes(path) {
-        Some(bytes) => bytes == text,
-        None => false,
-    }
+// What a save of new texts answers, over old texts of the shards of some words, where calls fail by a plan; and the folder then.
+fn after(alloc: Global, old: &[u32], new: &[u32], plan: Plan) -> (Answer, MemFolder) {
+    let mut folder = MemFolder::new(alloc);
+    let _ = save(alloc, &mut folder, Saver::Plain, "dir", old, &[OLD; 4]);
+    let mut failing = planned(folder, plan);
+    let answer = save(alloc, &mut failing, Saver::Plain, "dir", new, &[NEW; 4]);
+    (answer, failing.into_inner())
 }
 
-// A folder after a save over these files that stops after so many calls, the last of which writes so many bytes.
-fn stopped(alloc: Global, folder: MemFolder, calls: usize, bytes: usize) -> MemFolder {
-    let mut stopping = TestFolder::stops_after(folder, calls, bytes);
-    let _ = save(alloc, &mut stopping, 1, b"newer");
-    stopping.into_inner()
+const PATHS: &[&str] = &[
+    "dir/lru.data.0",
+    "dir/lru.data.1",
+    "dir/lru.data.2",
+    "dir/lru.data.3",
+];
+
+// Whether the first of the shards have the new text, from one number to another they have another text, and the last the new one.
+fn are(folder: &MemFolder, shards: usize, from: usize, to: usize, text: Text) -> bool {
+    let mut shard = 0usize;
+    for &path in PATHS {
+        let wanted = if shard >= shards {
+            None
+        } else if from <= shard && shard < to {
+            text
+        } else {
+            NEW
+        };
+        if !holds(folder, path, wanted) {
+            return false;
+        }
+        shard = shard.wrapping_add(1);
+    }
+    true
+}
+
+// What a save over old texts leaves: its answer, if it is looked at, the shards that keep the old text, from one to another, and how many
+// temporary files a load removes then.
+type Left = (Option<Answer>, usize, usize, usize);
+
+fn leaves(alloc: Global, words: &[u32], plan: Plan, left: Left) -> bool {
+    let (wanted, from, to, removed) = left;
+    let (answer, mut folder) = after(alloc, words, words, plan);
+    let texts: &[u8] = if from == 0 && to > 0 {
+        b"0old"
+    } else {
+        b"0newer"
+    };
+    let told = Told {
+        loaded: 1,
+        texts,
+        missing: 0,
+        failed: None,
+        failed_next: None,
+        removed,
+        unremoved: None,
+    };
+    (wanted.is_none() || wanted == Some(answer))
+        && are(&folder, words.len(), from, to, OLD)
+        && loads(alloc, &mut folder, "dir", 1, told)
 }
 
 // How many calls a save over an old file does, whether the file is new then, and how many files the next load removes.
@@ -69,220 +104,114 @@ const STOPS: &[(usize, bool, usize)] = &[
 
 const BYTES: &[usize] = &[0, 1, 5, 9];
 
-fn stops_so(alloc: Global, row: (usize, bool, usize), bytes: usize) -> bool {
-    let mut folder = MemFolder::new(alloc);
-    let put = folder.put("dir/lru.data.0", b"old").is_ok();
-    let mut folder = stopped(alloc, folder, row.0, bytes);
-    let text: &[u8] = if row.1 { b"newer" } else { b"old" };
-    put && holds(&folder, "dir/lru.data.0", text) && removes(alloc, &mut folder, row.2)
-}
-
-// Whether a save that stops after so many calls leaves this, whatever is written of the last.
-fn always_stops_so(alloc: Global, row: (usize, bool, usize)) -> bool {
-    for &bytes in BYTES {
-        if !stops_so(alloc, row, bytes) {
-            return false;
+#[test]
+fn a_stopped_save_leaves_each_file_old_or_new(rt: HostRuntime) {
+    for &(calls, is_new, removed) in STOPS {
+        for &bytes in BYTES {
+            let old = if is_new { 0 } else { 1 };
+            assert!(rt;
+                leaves(
+                    rt.alloc(),
+                    ONE,
+                    Plan::After(calls, bytes),
+                    (None, 0, old, removed)
+                )
+            );
         }
     }
-    true
-}
-
-#[test]
-fn a_stopped_save_leaves_the_old_file_or_the_new_one(rt: HostRuntime) {
-    for &row in STOPS {
-        assert!(rt; always_stops_so(rt.alloc(), row));
-    }
-}
-
-// How many bytes of a write are done, and what they are.
-const PARTS: &[(usize, &[u8])] = &[
-    (0, b""),
-    (1, b"n"),
-    (4, b"newe"),
-    (5, b"newer"),
-    (9, b"newer"),
-];
-
-fn leaves_part(alloc: Global, bytes: usize, part: &[u8]) -> bool {
-    let folder = stopped(alloc, MemFolder::new(alloc), 2, bytes);
-    holds(&folder, "dir/lru.data.0.12ab34cd.tmp", part) && folder.bytes("dir/lru.data.0").is_none()
-}
-
-#[test]
-fn a_write_that_is_stopped_leaves_some_of_its_bytes(rt: HostRuntime) {
-    for &(bytes, part) in PARTS {
-        assert!(rt; leaves_part(rt.alloc(), bytes, part));
-    }
-}
-
-const PATHS: &[&str] = &[
-    "dir/lru.data.0",
-    "dir/lru.data.1",
-    "dir/lru.data.2",
-    "dir/lru.data.3",
-];
-
-// How many shards have this text.
-fn shards_with(folder: &MemFolder, bytes: &[u8]) -> usize {
-    let mut count = 0usize;
-    for &path in PATHS {
-        if holds(folder, path, bytes) {
-            count = count.wrapping_add(1);
-        }
-    }
-    count
-}
-
-// Whether so many shards have the new text, the first ones, and the others the old one.
-fn are_new(folder: &MemFolder, new: usize) -> bool {
-    let mut number = 0usize;
-    for &path in PATHS {
-        let text: &[u8] = if number < new { b"new" } else { b"old" };
-        if !holds(folder, path, text) {
-            return false;
-        }
-        number = number.wrapping_add(1);
-    }
-    true
-}
-
-// Whether of four shards so many have the new text after a save that stops, and the next load removes so many files.
-fn stops_of_four(alloc: Global, calls: usize, new: usize, gone: usize) -> bool {
-    let mut folder = MemFolder::new(alloc);
-    let _ = save(alloc, &mut folder, 4, b"old");
-    let mut stopping = TestFolder::stops_after(folder, calls, 1);
-    let _ = save(alloc, &mut stopping, 4, b"new");
-    let mut folder = stopping.into_inner();
-    are_new(&folder, new) && removes(alloc, &mut folder, gone)
-}
-
-#[test]
-fn a_stopped_save_of_four_shards_leaves_each_old_or_new(rt: HostRuntime) {
     for calls in 0..18usize {
         let of_shards = calls.saturating_sub(1);
         let temp = if of_shards % 4 == 0 { 0 } else { 1 };
-        assert!(rt; stops_of_four(rt.alloc(), calls, of_shards / 4, temp));
+        assert!(rt;
+            leaves(
+                rt.alloc(),
+                FOUR,
+                Plan::After(calls, 1),
+                (None, of_shards / 4, 4, temp)
+            )
+        );
     }
 }
 
-// What a save answers: how many were saved, and the first that failed, with the call on its file; or what failed before.
-#[derive(Clone, Copy, PartialEq, Eq)]
-enum Answer {
-    Setup(ShardSaveSetupError),
-    AllFailed(usize, Option<(usize, ShardFileError)>),
-    Report(usize, usize, Option<(usize, ShardFileError)>),
-}
+const NO_FOLDER: Option<Answer> = Some(Answer::Setup(ShardSaveSetupError::CreateDir));
 
-fn first_of(failed: &[(usize, ShardSaveFailure<AllocError>)]) -> Option<(usize, ShardFileError)> {
-    match failed.first()? {
-        (shard, ShardSaveFailure::Io(call)) => Some((*shard, *call)),
-        _ => None,
-    }
-}
-
-fn answer_of(saved: &Saved) -> Answer {
-    match saved {
-        Ok(report) => Answer::Report(
-            report.saved,
-            report.failed.len(),
-            first_of(report.failed.as_slice()),
-        ),
-        Err(ShardSaveError::Setup(error)) => Answer::Setup(*error),
-        Err(ShardSaveError::AllShardsFailed(failed)) => {
-            Answer::AllFailed(failed.len(), first_of(failed.as_slice()))
-        }
-    }
-}
-
-// Whether a save over old files of which one call fails gives this answer, and so many of the shards keep the old text.
-fn fails_so(alloc: Global, shards: usize, call: usize, wanted: Answer, old: usize) -> bool
-    requires { shards ≤ 4 }
-{
-    let mut folder = MemFolder::new(alloc);
-    let _ = save(alloc, &mut folder, shards, b"old");
-    let mut failing = TestFolder::fails_once(folder, call);
-    let answer = answer_of(&save(alloc, &mut failing, shards, b"new"));
-    let folder = failing.into_inner();
-    answer == wanted && shards_with(&folder, b"old") == old
-}
-
-const NO_FOLDER: Answer = Answer::Setup(ShardSaveSetupError::CreateDir);
-
-// The calls on one shard's files, in their order.
-const KINDS: &[ShardFileError] = &[
-    ShardFileError::Create,
-    ShardFileError::Write,
-    ShardFileError::Flush,
-    ShardFileError::Rename,
+// The calls on one shard's files, in their order, and how many temporary files each leaves where it fails.
+const KINDS: &[(ShardFileError, usize)] = &[
+    (ShardFileError::Create, 0),
+    (ShardFileError::Write, 1),
+    (ShardFileError::Flush, 1),
+    (ShardFileError::Rename, 1),
 ];
 
-#[test]
-fn one_failing_call_of_one_shard_is_told(rt: HostRuntime) {
-    assert!(rt; fails_so(rt.alloc(), 1, 1, NO_FOLDER, 1));
-    let mut call = 2usize;
-    for &kind in KINDS {
-        let wanted = Answer::AllFailed(1, Some((0, kind)));
-        assert!(rt; fails_so(rt.alloc(), 1, call, wanted, 1));
-        call = call.saturating_add(1);
-    }
-    assert!(rt; fails_so(rt.alloc(), 1, 6, Answer::Report(1, 0, None), 0));
-}
+// The words of the shards, the call that fails, and what is left: no call on a shard's file fails, so all shards are new, or all old.
+const WHOLE: &[(&[u32], usize, Left)] = &[
+    (ONE, 1, (NO_FOLDER, 0, 1, 0)),
+    (ONE, 6, (Some(Answer::Report(1, 0, None)), 0, 0, 0)),
+    (FOUR, 1, (NO_FOLDER, 0, 4, 0)),
+    (FOUR, 99, (Some(Answer::Report(4, 0, None)), 0, 0, 0)),
+];
 
-// Whether each call on one shard's files that fails, the first of which is the save's call of this number, fails that shard alone.
-fn fails_alone(alloc: Global, shard: usize, first: usize) -> bool {
-    let mut call = first;
-    for &kind in KINDS {
-        let wanted = Answer::Report(3, 1, Some((shard, kind)));
-        if !fails_so(alloc, 4, call, wanted, 1) {
+// Whether each call on one shard's files that fails fails that shard alone.
+fn fails_alone(alloc: Global, words: &[u32], shard: usize) -> bool {
+    let mut call = shard.wrapping_mul(4).wrapping_add(2);
+    for &(kind, removed) in KINDS {
+        let first = Some((shard, kind));
+        let answer = if words.len() == 1 {
+            Answer::AllFailed(1, first)
+        } else {
+            Answer::Report(3, 1, first)
+        };
+        let left = (Some(answer), shard, shard.wrapping_add(1), removed);
+        if !leaves(alloc, words, Plan::Once(call), left) {
             return false;
         }
-        call = call.saturating_add(1);
+        call = call.wrapping_add(1);
     }
     true
 }
 
 #[test]
-fn one_failing_call_of_four_shards_fails_its_shard_alone(rt: HostRuntime) {
-    assert!(rt; fails_so(rt.alloc(), 4, 1, NO_FOLDER, 4));
-    for shard in 0..4usize {
-        assert!(rt; fails_alone(rt.alloc(), shard, 4 * shard + 2));
+fn one_failing_call_fails_its_shard_alone(rt: HostRuntime) {
+    for &(words, call, left) in WHOLE {
+        assert!(rt; leaves(rt.alloc(), words, Plan::Once(call), left));
     }
-    assert!(rt; fails_so(rt.alloc(), 4, 99, Answer::Report(4, 0, None), 0));
+    assert!(rt; fails_alone(rt.alloc(), ONE, 0));
+    for shard in 0..4usize {
+        assert!(rt; fails_alone(rt.alloc(), FOUR, shard));
+    }
+}
+
+// A plan for a save of one shard where nothing was, the call that fails, and the bytes of the temporary file then.
+const PARTS: &[(Plan, ShardFileError, &[u8])] = &[
+    (Plan::After(2, 0), ShardFileError::Write, b""),
+    (Plan::After(2, 1), ShardFileError::Write, b"n"),
+    (Plan::After(2, 4), ShardFileError::Write, b"newe"),
+    (Plan::After(2, 5), ShardFileError::Write, b"newer"),
+    (Plan::After(2, 9), ShardFileError::Write, b"newer"),
+    (Plan::Renames, ShardFileError::Rename, b"newer"),
+];
+
+fn leaves_part(alloc: Global, plan: Plan, call: ShardFileError, part: &'static [u8]) -> bool {
+    let (answer, folder) = after(alloc, &[], ONE, plan);
+    answer == Answer::AllFailed(1, Some((0, call)))
+        && are(&folder, 1, 0, 1, None)
+        && holds(&folder, "dir/lru.data.0.12ab34cd.tmp", Some(part))
+        && folder.failures() == 1
 }
 
 // Whether of four shards the third alone isn't saved, whose list fails.
-fn third_fails(alloc: Global, folder: &mut MemFolder) -> bool {
-    let saved = save_shards_async(alloc, folder, "dir", "lru.data", 4, &WORDS, |shard| {
-        if shard == 2 {
-            return Err(AllocError);
-        }
-        b"new".to_vec(alloc)
-    });
-    answer_of(&saved) == Answer::Report(3, 1, None)
+fn third_fails(alloc: Global) -> bool {
+    let texts = [NEW, NEW, None, NEW];
+    let mut folder = MemFolder::new(alloc);
+    save(alloc, &mut folder, Saver::Async, "dir", FOUR, &texts) == Answer::Report(3, 1, None)
+        && are(&folder, 4, 2, 3, None)
+        && folder.failures() == 0
 }
 
 #[test]
-fn a_list_that_fails_fails_its_shard_alone(rt: HostRuntime) {
-    let mut folder = MemFolder::new(rt.alloc());
-    assert!(rt; third_fails(rt.alloc(), &mut folder));
-    assert!(rt; shards_with(&folder, b"new") == 3 && folder.failures() == 0);
-}
-
-// Whether a save whose renames fail reports it.
-fn is_not_renamed(alloc: Global, failing: &mut TestFolder) -> bool {
-    answer_of(&save(alloc, failing, 1, b"new"))
-        == Answer::AllFailed(1, Some((0, ShardFileError::Rename)))
-}
-
-fn keeps_temporary(folder: &MemFolder) -> bool {
-    folder.bytes("dir/lru.data.0").is_none()
-        && folder.failures() == 1
-        && holds(folder, "dir/lru.data.0.12ab34cd.tmp", b"new")
-}
-
-#[test]
-fn failing_renames_leave_the_temporary_file(rt: HostRuntime) {
-    let mut failing = TestFolder::renames_fail(MemFolder::new(rt.alloc()));
-    assert!(rt; is_not_renamed(rt.alloc(), &mut failing));
-    assert!(rt; keeps_temporary(&failing.into_inner()));
+fn what_fails_leaves_its_part(rt: HostRuntime) {
+    for &(plan, call, part) in PARTS {
+        assert!(rt; leaves_part(rt.alloc(), plan, call, part));
+    }
+    assert!(rt; third_fails(rt.alloc()));
 }
