@@ -1,6 +1,6 @@
 //! Calls of a manager with its threads running.
 
-use async_lru::AsyncLru;
+use crate::made::{called, generators, limited};
 use async_manager::Manager;
 use cache_entries::entry::{CacheEntryId, CacheEntryKey, CacheEntryKeyRef};
 use cache_evict::lru::Manager as OwnRows;
@@ -9,8 +9,6 @@ use cache_words::key::CompactCacheKey;
 use cache_words::text::Text;
 use cache_words::time::Moment;
 use lru_core::SeededState;
-use rand_core::SeedableRng;
-use rand_pcg::Pcg64;
 use std::alloc::Global;
 use std::sync::Wait;
 use std::thread::Threads;
@@ -196,66 +194,36 @@ fn answers<R: Threads + Wait>(rt: &R, alloc: Global, manager: Manager<1>, rows: 
     all
 }
 
-/// A generator for one eviction worker.
-fn generators(alloc: Global) -> Option<Vec<Pcg64>> {
-    let mut generators = Vec::new(alloc);
-    generators.push(Pcg64::seed_from_u64(0)).ok()?;
-    Some(generators)
-}
-
-/// Whether a manager that was built does.
+/// Whether a manager that was built does, of which all is set or, of a manager with a start of the caller's for its tables, that alone.
 fn built_answers<R: Threads + Wait + Copy + Send + 'static>(
     rt: &R,
     alloc: Global,
-    rows: &[Row],
+    start: Option<SeededState>,
 ) -> Option<bool> {
-    let manager = Manager::builder(100, |_: CacheEntryKey, _: usize| {})
-        .capacity(4)
-        .len_watermark(10)
-        .num_eviction_workers(1)
-        .num_callback_workers(2)
-        .build(rt, alloc, generators(alloc)?)
-        .ok()?;
-    Some(answers(rt, alloc, manager, rows))
-}
-
-/// Whether a manager does whose tables have a start of the caller's.
-fn own_start_answers<R: Threads + Wait + Copy + Send + 'static>(
-    rt: &R,
-    alloc: Global,
-    rows: &[Row],
-) -> Option<bool> {
-    let manager = Manager::builder(100, |_: CacheEntryKey, _: usize| {})
-        .with_hasher(SeededState { word: 7 })
-        .build(rt, alloc, generators(alloc)?)
-        .ok()?;
-    Some(answers(rt, alloc, manager, rows))
+    let builder = Manager::builder(100, |_: CacheEntryKey, _: usize| {});
+    let builder = match start {
+        Some(start) => builder.with_hasher(start),
+        None => {
+            builder
+                .capacity(4)
+                .len_watermark(10)
+                .num_eviction_workers(1)
+                .num_callback_workers(2)
+        }
+    };
+    let manager = builder.build(rt, alloc, generators(alloc, 1)?).ok()?;
+    Some(answers(rt, alloc, manager, CALLS))
 }
 
 /// Whether a manager of lists that run does.
-fn lists_answer<R: Threads + Wait + Copy + Send + 'static>(
-    rt: &R,
-    alloc: Global,
-    rows: &[Row],
-) -> Option<bool> {
-    let lists = AsyncLru::builder(100, |_: CacheEntryKey, _: usize| {})
-        .build(rt, alloc, generators(alloc)?)
-        .ok()?;
-    Some(answers(rt, alloc, Manager::from_lru(lists), rows))
-}
-
-/// Whether each of the three does.
-fn all_answer<R: Threads + Wait + Copy + Send + 'static>(
-    rt: &R,
-    alloc: Global,
-    rows: &[Row],
-) -> bool {
-    built_answers(rt, alloc, rows) == Some(true)
-        && own_start_answers(rt, alloc, rows) == Some(true)
-        && lists_answer(rt, alloc, rows) == Some(true)
+fn lists_answer<R: Threads + Wait + Copy + Send + 'static>(rt: &R, alloc: Global) -> Option<bool> {
+    let lists = called(rt, alloc, limited(100, 1), generators(alloc, 1)?)?;
+    Some(answers(rt, alloc, Manager::from_lru(lists), CALLS))
 }
 
 #[test]
 fn entries_are_tracked(rt: HostRuntime) {
-    assert!(rt; all_answer(&rt, rt.alloc(), CALLS));
+    assert!(rt; built_answers(&rt, rt.alloc(), None) == Some(true));
+    assert!(rt; built_answers(&rt, rt.alloc(), Some(SeededState { word: 7 })) == Some(true));
+    assert!(rt; lists_answer(&rt, rt.alloc()) == Some(true));
 }

@@ -2,11 +2,10 @@
 
 ghost use Rattle.std.specs.Prelude.{◌<◌};
 
+use crate::made::{Plan, called, generators, received};
 use async_lru::{AsyncLru, TailFault};
 use crossbeam_channel::Receiver;
 use lru_core::lru_unit::LruFault;
-use rand_core::SeedableRng;
-use rand_pcg::Pcg64;
 use std::alloc::Global;
 use std::sync::Wait;
 use std::thread;
@@ -114,43 +113,15 @@ type Limits = (usize, Option<usize>, usize);
 
 const LIMITS: &[Limits] = &[(7, None, 5), (100, Some(3), 5), (100, None, 0)];
 
-/// A generator for one eviction worker.
-fn generators(alloc: Global) -> Option<Vec<Pcg64>> {
-    let mut generators = Vec::new(alloc);
-    generators.push(Pcg64::seed_from_u64(0)).ok()?;
-    Some(generators)
-}
-
-/// Returns a list without callbacks, and the receiver of its evicted pairs.
-fn received<R: Threads + Wait + Copy + Send + 'static>(
-    rt: &R,
-    alloc: Global,
-    limit: usize,
-    mark: Option<usize>,
-) -> Option<(List, Receiver<(u32, usize)>)> {
-    let builder = AsyncLru::builder(limit, |_: u32, _: usize| {});
-    let builder = match mark {
-        Some(mark) => builder.len_watermark(mark),
-        None => builder,
-    };
-    builder
-        .build_with_eviction_receiver(rt, alloc, generators(alloc)?)
-        .ok()
-}
-
-/// Returns a list with a callback that does nothing.
-fn called<R: Threads + Wait + Copy + Send + 'static>(
-    rt: &R,
-    alloc: Global,
-    limit: usize,
-    mark: Option<usize>,
-) -> Option<List> {
-    let builder = AsyncLru::builder(limit, |_: u32, _: usize| {});
-    let builder = match mark {
-        Some(mark) => builder.len_watermark(mark),
-        None => builder,
-    };
-    builder.build(rt, alloc, generators(alloc)?).ok()
+/// What is set of a list of that limit, and perhaps a watermark.
+fn planned(limit: usize, mark: Option<usize>) -> Plan {
+    Plan {
+        limit,
+        mark,
+        capacity: 0,
+        workers: 4,
+        start: None,
+    }
 }
 
 fn is_too_heavy<R: Wait>(rt: &R, list: &List, key: u32, weight: usize) -> bool {
@@ -160,15 +131,12 @@ fn is_too_heavy<R: Wait>(rt: &R, list: &List, key: u32, weight: usize) -> bool {
     }
 }
 
-/// Whether a shard shows what it must.
-fn shows<R: Wait>(rt: &R, list: &List, step: Step) -> bool {
-    match step {
-        Step::Last(shard, last) => shard < 4 && list.peek_lru(rt, shard) == Ok(last),
-        Step::Rows(shard, rows) => shard < 4 && has_rows(rt, list, shard, rows),
-        Step::Weighs(shard, weight, len) => {
-            shard < 4 && list.shard_weight(rt, shard) == Ok(weight) && list.shard_len(shard) == len
-        }
-        _ => false,
+fn has_rows<R: Wait>(rt: &R, list: &List, shard: usize, rows: &[(u32, usize)]) -> bool
+    requires { shard < 4 }
+{
+    match list.snapshot_shard(rt, shard) {
+        Ok(pairs) => pairs.as_slice() == rows,
+        Err(_) => false,
     }
 }
 
@@ -179,16 +147,11 @@ fn does<R: Wait>(rt: &R, list: &List, step: Step) -> bool {
         Step::TooHeavy(key, weight) => is_too_heavy(rt, list, key, weight),
         Step::Promote(key, found) => list.promote(rt, &key) == Ok(found),
         Step::PeekWeight(key, weight) => list.peek_weight(rt, &key) == Ok(weight),
-        Step::Last(..) | Step::Rows(..) | Step::Weighs(..) => shows(rt, list, step),
-    }
-}
-
-fn has_rows<R: Wait>(rt: &R, list: &List, shard: usize, rows: &[(u32, usize)]) -> bool
-    requires { shard < 4 }
-{
-    match list.snapshot_shard(rt, shard) {
-        Ok(pairs) => pairs.as_slice() == rows,
-        Err(_) => false,
+        Step::Last(shard, last) => shard < 4 && list.peek_lru(rt, shard) == Ok(last),
+        Step::Rows(shard, rows) => shard < 4 && has_rows(rt, list, shard, rows),
+        Step::Weighs(shard, weight, len) => {
+            shard < 4 && list.shard_weight(rt, shard) == Ok(weight) && list.shard_len(shard) == len
+        }
     }
 }
 
@@ -234,7 +197,8 @@ fn limit_holds<R: Threads + Wait + Copy + Send + 'static>(
     alloc: Global,
     limits: Limits,
 ) -> Option<bool> {
-    let list = called(rt, alloc, limits.0, limits.1)?;
+    let plan = planned(limits.0, limits.1);
+    let list: List = called(rt, alloc, plan, generators(alloc, 1)?)?;
     let holds = evicts(rt, &list, limits.2);
     list.shutdown(rt);
     Some(holds)
@@ -246,60 +210,64 @@ fn limit_holds_received<R: Threads + Wait + Copy + Send + 'static>(
     alloc: Global,
     limits: Limits,
 ) -> Option<bool> {
-    let (list, pairs) = received(rt, alloc, limits.0, limits.1)?;
+    let plan = planned(limits.0, limits.1);
+    let (list, _pairs): (List, Receiver<(u32, usize)>) = received(
+        rt,
+        alloc,
+        plan,
+        generators(alloc, 1)?,
+    )?;
     let holds = evicts(rt, &list, limits.2);
     list.shutdown(rt);
-    drop(pairs);
     Some(holds)
 }
 
-fn answers<R: Threads + Wait + Copy + Send + 'static>(
-    rt: &R,
-    alloc: Global,
-    steps: &[Step],
-) -> Option<bool> {
-    let list = called(rt, alloc, usize::MAX, None)?;
-    let all = all_do(rt, &list, steps);
-    list.shutdown(rt);
-    Some(all)
+fn limits_hold<R: Threads + Wait + Copy + Send + 'static>(rt: &R, alloc: Global) -> bool {
+    for &limits in LIMITS {
+        if limit_holds(rt, alloc, limits) != Some(true)
+            || limit_holds_received(rt, alloc, limits) != Some(true)
+        {
+            return false;
+        }
+    }
+    true
 }
 
-/// Whether two callers at once get their answers, and leave both their rows.
+/// Whether two callers at once get their answers, and what is asked then is answered too.
 fn two_do<R: Threads + Wait + Sync>(rt: &R, list: &List, tables: [&[Step]; 3]) -> bool {
     let [first, second, both] = tables;
     let (one, two) = thread::join(rt, || all_do(rt, list, first), || all_do(rt, list, second));
     one && two && all_do(rt, list, both)
 }
 
-fn two_call<R: Threads + Wait + Copy + Send + Sync + 'static>(
+/// Whether a list without a limit answers two callers at once, and then one.
+fn answers<R: Threads + Wait + Copy + Send + Sync + 'static>(
     rt: &R,
     alloc: Global,
+    tables: [&[Step]; 3],
 ) -> Option<bool> {
-    let list = called(rt, alloc, usize::MAX, None)?;
-    let done = two_do(rt, &list, [FIRST, SECOND, BOTH]);
+    let list: List = called(rt, alloc, planned(usize::MAX, None), generators(alloc, 1)?)?;
+    let all = two_do(rt, &list, tables);
     list.shutdown(rt);
-    Some(done)
+    Some(all)
 }
 
 #[test]
 fn calls_go_to_their_shards(rt: HostRuntime) {
-    assert!(rt; answers(&rt, rt.alloc(), CALLS) == Some(true));
+    assert!(rt; answers(&rt, rt.alloc(), [&[], &[], CALLS]) == Some(true));
 }
 
 #[test]
 fn heavy_messages_are_dropped(rt: HostRuntime) {
-    assert!(rt; answers(&rt, rt.alloc(), HEAVY) == Some(true));
+    assert!(rt; answers(&rt, rt.alloc(), [&[], &[], HEAVY]) == Some(true));
 }
 
 #[test]
 fn limits_take_effect(rt: HostRuntime) {
-    for &limits in LIMITS {
-        assert!(rt; limit_holds(&rt, rt.alloc(), limits) == Some(true));
-        assert!(rt; limit_holds_received(&rt, rt.alloc(), limits) == Some(true));
-    }
+    assert!(rt; limits_hold(&rt, rt.alloc()));
 }
 
 #[test]
 fn two_callers_share_a_list(rt: HostRuntime) {
-    assert!(rt; two_call(&rt, rt.alloc()) == Some(true));
+    assert!(rt; answers(&rt, rt.alloc(), [FIRST, SECOND, BOTH]) == Some(true));
 }

@@ -10,17 +10,18 @@ mod variance;
 mod writing;
 
 use std::alloc::{AllocError, Global};
-use std::collections::HashMap;
 use std::fmt;
-use std::hash::Hash;
+use std::hash::{DefaultHasher, Hash, Hasher};
 
-// Whether so many of the keys differ, as a map counts them.
-fn are_distinct<K: Hash + Eq + Drop>(alloc: Global, keys: Vec<K>, count: usize) -> bool {
-    let mut counts = HashMap::new(alloc);
-    for key in keys {
-        let _ = counts.insert(key, ());
-    }
-    counts.len() == count
+pub(crate) fn hash_of<T: Hash>(value: &T) -> u64 {
+    let mut hasher = DefaultHasher::new();
+    value.hash(&mut hasher);
+    hasher.finish()
+}
+
+// Whether two values are equal, and hash alike, just where they are the same.
+pub(crate) fn are_told_apart<T: Hash + Eq>(a: &T, b: &T, is_same: bool) -> bool {
+    (*a == *b) == is_same && (hash_of(a) == hash_of(b)) == is_same
 }
 
 // Whether this is the text.

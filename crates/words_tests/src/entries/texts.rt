@@ -112,18 +112,32 @@ fn text_is_read(alloc: Global, text: Text, want: Read) -> bool {
     }
 }
 
+fn all_are_read(alloc: Global) -> bool {
+    for &(text, want) in READ {
+        if !text_is_read(alloc, text, want) {
+            return false;
+        }
+    }
+    true
+}
+
 #[test]
 fn entries_are_read(rt: HostRuntime) {
-    for &(text, want) in READ {
-        assert!(rt; text_is_read(rt.alloc(), text, want));
+    assert!(rt; all_are_read(rt.alloc()));
+}
+
+fn faults_are_found(alloc: Global) -> bool {
+    for &(text, fault) in FAULTS {
+        if !text_is_read(alloc, text, Err(fault)) {
+            return false;
+        }
     }
+    true
 }
 
 #[test]
 fn faults_of_entries_are_told(rt: HostRuntime) {
-    for &(text, fault) in FAULTS {
-        assert!(rt; text_is_read(rt.alloc(), text, Err(fault)));
-    }
+    assert!(rt; faults_are_found(rt.alloc()));
 }
 
 // An id of an entry of `aa`, the bytes around the key where it is written, and its hash. The hashes are Python's, by
@@ -160,16 +174,25 @@ fn is_spelled(alloc: Global, owned: &CacheEntryKey, text: Text, hash: u64) -> bo
     }
 }
 
+fn all_are_spelled(alloc: Global) -> bool {
+    for &(id, text, hash) in WRITTEN {
+        if !is_spelled(alloc, &item(alloc, b"aa", id), text, hash) {
+            return false;
+        }
+    }
+    true
+}
+
+fn hash_of_empty(alloc: Global) -> u64 {
+    entry_hash(CacheEntryKeyRef::from(&CacheEntryKey::empty(alloc)))
+}
+
 #[test]
 fn entries_are_written_and_hashed(rt: HostRuntime) {
     laws::written_is_spelled();
     laws::one_spelling();
-    for &(id, text, hash) in WRITTEN {
-        let owned = item(rt.alloc(), b"aa", id);
-        assert!(rt; is_spelled(rt.alloc(), &owned, text, hash));
-    }
-    let empty = CacheEntryKey::empty(rt.alloc());
-    assert!(rt; entry_hash(CacheEntryKeyRef::from(&empty)) == 0xe2e934a731fcf75e);
+    assert!(rt; all_are_spelled(rt.alloc()));
+    assert!(rt; hash_of_empty(rt.alloc()) == 0xe2e934a731fcf75e);
 }
 
 // Whether rows are read that weigh so much together until one can't be read, how many they are, and the fault then.
@@ -267,12 +290,19 @@ fn rows_are_so(
     }
 }
 
+fn all_rows_are_so(alloc: Global) -> bool {
+    for &(text, weight, count, fault) in ROWS {
+        if !rows_are_so(alloc, text, weight, count, fault) {
+            return false;
+        }
+    }
+    true
+}
+
 #[test]
 fn rows_are_read(rt: HostRuntime) {
     laws::rows_are_spelled();
-    for &(text, weight, count, fault) in ROWS {
-        assert!(rt; rows_are_so(rt.alloc(), text, weight, count, fault));
-    }
+    assert!(rt; all_rows_are_so(rt.alloc()));
 }
 
 // Whether an order of use of one row is written so.
@@ -299,10 +329,16 @@ const WRITTEN_ROWS: &[(Option<u64>, usize, Text)] = &[
     ),
 ];
 
+fn all_are_row_texts(alloc: Global) -> bool {
+    for &(id, weight, text) in WRITTEN_ROWS {
+        if !is_row_text(alloc, &item(alloc, b"aa", id), weight, text) {
+            return false;
+        }
+    }
+    true
+}
+
 #[test]
 fn rows_are_written(rt: HostRuntime) {
-    for &(id, weight, text) in WRITTEN_ROWS {
-        let owned = item(rt.alloc(), b"aa", id);
-        assert!(rt; is_row_text(rt.alloc(), &owned, weight, text));
-    }
+    assert!(rt; all_are_row_texts(rt.alloc()));
 }

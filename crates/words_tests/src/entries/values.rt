@@ -1,12 +1,11 @@
 //! Entries as values: how they compare, hash and are shown, and a map that is searched without a copy.
-use crate::words::is_shown;
+use crate::words::{are_told_apart, hash_of, is_shown};
 use cache_entries::entry::{CacheEntryId, CacheEntryKey, CacheEntryKeyRef};
 use cache_entries::laws;
 use cache_words::key::{CacheKey, CompactCacheKey};
 use indexmap::IndexMap;
 use std::alloc::{AllocError, Global};
 use std::cmp::Ordering;
-use std::hash::{DefaultHasher, Hash, Hasher};
 
 // The kept key of these bytes with the tag `1`.
 pub(crate) fn kept(alloc: Global, primary: &[u8]) -> Result<CompactCacheKey, AllocError> {
@@ -20,7 +19,14 @@ pub(crate) fn entry(
     primary: &[u8],
     id: Option<u64>,
 ) -> Result<CacheEntryKey, AllocError> {
-    Ok(CacheEntryKey::from_entry_id(kept(alloc, primary)?, id.map(CacheEntryId::new)))
+    Ok(CacheEntryKey::from_entry_id(kept(alloc, primary)?, id_of(id)))
+}
+
+fn id_of(number: Option<u64>) -> Option<CacheEntryId> {
+    match number {
+        Some(number) => Some(CacheEntryId::new(number)),
+        None => None,
+    }
 }
 
 /// The same, or the empty entry when out of memory.
@@ -39,12 +45,6 @@ fn known(alloc: Global) -> CompactCacheKey {
     }
 }
 
-fn hash_of<T: Hash>(value: &T) -> u64 {
-    let mut hasher = DefaultHasher::new();
-    value.hash(&mut hasher);
-    hasher.finish()
-}
-
 type Name = (&'static [u8], Option<u64>);
 
 // Two entries, and how the first compares with the second where that doesn't rest on a digest.
@@ -57,21 +57,29 @@ const PAIRS: &[(Name, Name, Ordering)] = &[
     ((b"bb", None), (b"aa", Some(7)), Ordering::Less),
 ];
 
-// Whether both hash alike, owned and borrowed, just where they are the same.
-fn hash_so(a: &CacheEntryKey, b: &CacheEntryKey, is_same: bool) -> bool {
-    (hash_of(a) == hash_of(b)) == is_same
-        && hash_of(&CacheEntryKeyRef::from(a)) == hash_of(a)
-        && hash_of(&CacheEntryKeyRef::from(b)) == hash_of(b)
-}
-
 // Whether they compare so, and comparisons and hashes, owned and borrowed, say the same.
 fn compare_so(a: &CacheEntryKey, b: &CacheEntryKey, order: Ordering) -> bool {
     let is_same = order == Ordering::Equal;
+    let borrowed = (CacheEntryKeyRef::from(a), CacheEntryKeyRef::from(b));
     a.cmp(b) == order
         && a.partial_cmp(b) == Some(order)
-        && (*a == *b) == is_same
-        && (CacheEntryKeyRef::from(a) == CacheEntryKeyRef::from(b)) == is_same
-        && hash_so(a, b, is_same)
+        && are_told_apart(a, b, is_same)
+        && are_told_apart(&borrowed.0, &borrowed.1, is_same)
+        && hash_of(&borrowed.0) == hash_of(a)
+        && hash_of(&borrowed.1) == hash_of(b)
+}
+
+fn all_compare_so(alloc: Global) -> bool {
+    for &(first, second, order) in PAIRS {
+        if !compare_so(
+            &item(alloc, first.0, first.1),
+            &item(alloc, second.0, second.1),
+            order,
+        ) {
+            return false;
+        }
+    }
+    true
 }
 
 #[test]
@@ -79,11 +87,7 @@ fn entries_compare_and_hash(rt: HostRuntime) {
     laws::same_is_equal();
     laws::borrowed_is_owned();
     laws::ids_tell_entries_apart();
-    for &(first, second, order) in PAIRS {
-        let a = item(rt.alloc(), first.0, first.1);
-        let b = item(rt.alloc(), second.0, second.1);
-        assert!(rt; compare_so(&a, &b, order));
-    }
+    assert!(rt; all_compare_so(rt.alloc()));
 }
 
 // The id of an entry of `aa`, and what follows the key where it is shown.
@@ -108,12 +112,18 @@ fn is_shown_so(alloc: Global, owned: &CacheEntryKey, text: &str) -> bool {
     is_shown(alloc, owned, text) && is_shown(alloc, &CacheEntryKeyRef::from(owned), text)
 }
 
+fn all_are_shown(alloc: Global) -> bool {
+    for &(id, text) in SHOWN {
+        if !is_shown_so(alloc, &item(alloc, b"aa", id), text) {
+            return false;
+        }
+    }
+    true
+}
+
 #[test]
 fn entries_are_shown(rt: HostRuntime) {
-    for &(id, text) in SHOWN {
-        let owned = item(rt.alloc(), b"aa", id);
-        assert!(rt; is_shown_so(rt.alloc(), &owned, text));
-    }
+    assert!(rt; all_are_shown(rt.alloc()));
 }
 
 // Whether an entry has this key and id.
@@ -141,10 +151,8 @@ fn have_parts(key: &CompactCacheKey, id: Option<CacheEntryId>) -> bool {
 
 #[test]
 fn parts_of_entries(rt: HostRuntime) {
-    let key = known(rt.alloc());
-    for id in [None, Some(CacheEntryId::new(3))] {
-        assert!(rt; have_parts(&key, id));
-    }
+    assert!(rt; have_parts(&known(rt.alloc()), None));
+    assert!(rt; have_parts(&known(rt.alloc()), Some(CacheEntryId::new(3))));
     assert!(rt; CacheEntryId::new(3).get() == 3);
 }
 
@@ -178,18 +186,29 @@ fn fills(alloc: Global, map: &mut Map) -> bool {
         && map.insert(item(alloc, b"aa", Some(7)), 2).is_ok()
 }
 
-// Whether a map finds this by a borrowed entry of a key.
-fn finds(map: &Map, key: &CompactCacheKey, id: Option<u64>, want: Option<u64>) -> bool {
-    let borrowed = CacheEntryKeyRef::from_entry_id(key, id.map(CacheEntryId::new));
-    map.get(borrowed).copied() == want
+// An id, and what a map has for the borrowed entry of the key with it.
+const FOUND: &[(Option<u64>, Option<u64>)] = &[
+    (None, Some(1)),
+    (Some(7), Some(2)),
+    (Some(8), None),
+];
+
+fn finds(map: &Map, key: &CompactCacheKey) -> bool {
+    for &(id, want) in FOUND {
+        let borrowed = CacheEntryKeyRef::from_entry_id(key, id_of(id));
+        if map.get(borrowed).copied() != want {
+            return false;
+        }
+    }
+    true
+}
+
+fn is_searched(alloc: Global) -> bool {
+    let mut map = IndexMap::new(alloc);
+    fills(alloc, &mut map) && finds(&map, &known(alloc))
 }
 
 #[test]
 fn a_map_is_searched_by_borrowed_entries(rt: HostRuntime) {
-    let mut map = IndexMap::new(rt.alloc());
-    let key = known(rt.alloc());
-    assert!(rt; fills(rt.alloc(), &mut map));
-    for (id, want) in [(None, Some(1)), (Some(7), Some(2)), (Some(8), None)] {
-        assert!(rt; finds(&map, &key, id, want));
-    }
+    assert!(rt; is_searched(rt.alloc()));
 }

@@ -1,5 +1,5 @@
 //! Keys, their hashes and their texts.
-use crate::words::{are_distinct, bytes, is_shown, is_text, string};
+use crate::words::{are_told_apart, bytes, is_shown, is_text, string};
 use cache_words::key::{CacheHashKey, CacheKey, CompactCacheKey, HashBinary, hash_key, str2hex};
 use std::alloc::{AllocError, Global};
 use std::fmt;
@@ -93,22 +93,17 @@ fn key_of(alloc: Global, primary: &[u8], tag: &str) -> CacheKey {
     CacheKey::new(bytes(alloc, primary), string(alloc, tag))
 }
 
-fn set(key: &mut CacheKey, case: &Case) {
+fn made(alloc: Global, case: &Case) -> CacheKey {
+    let mut key = match hex::decode(alloc, case.primary) {
+        Ok(primary) => CacheKey::new(primary, string(alloc, case.tag)),
+        Err(_) => key_of(alloc, b"", case.tag),
+    };
     if let Some(variance) = hash_of(case.variance) {
         key.set_variance_key(variance);
     }
-    if let Some(over) = hash_of(case.over) {
-        key.set_primary_bin_override(over);
+    if let Some(over) = case.over {
+        take(&mut key, Step::Override(over));
     }
-}
-
-fn made(alloc: Global, case: &Case) -> CacheKey {
-    let primary = match hex::decode(alloc, case.primary) {
-        Ok(primary) => primary,
-        Err(_) => Vec::new(alloc),
-    };
-    let mut key = CacheKey::new(primary, string(alloc, case.tag));
-    set(&mut key, case);
     key
 }
 
@@ -139,12 +134,18 @@ fn is_case(alloc: Global, key: &CacheKey, case: &Case) -> bool {
         && is_text(key.combined(alloc), case.combined)
 }
 
+fn are_cases(alloc: Global) -> bool {
+    for case in CASES {
+        if !is_case(alloc, &made(alloc, case), case) {
+            return false;
+        }
+    }
+    true
+}
+
 #[test]
 fn keys_as_the_original(rt: HostRuntime) {
-    for case in CASES {
-        let key = made(rt.alloc(), case);
-        assert!(rt; is_case(rt.alloc(), &key, case));
-    }
+    assert!(rt; are_cases(rt.alloc()));
 }
 
 // What is done to the key of `aa`.
@@ -211,21 +212,18 @@ fn take(key: &mut CacheKey, step: Step) {
     }
 }
 
-fn take_all(key: &mut CacheKey, steps: &[Step]) {
-    for &step in steps {
-        take(key, step);
-    }
-}
-
 fn after(alloc: Global, primary: &[u8], steps: &[Step]) -> CacheKey {
     let mut key = key_of(alloc, primary, "1");
-    take_all(&mut key, steps);
+    for &step in steps {
+        take(&mut key, step);
+    }
     key
 }
 
 fn is_variance(text: Result<Option<String>, AllocError>, want: Option<&str>) -> bool {
     match text {
-        Ok(text) => text.as_ref().map(String::as_str) == want,
+        Ok(Some(text)) => want == Some(text.as_str()),
+        Ok(None) => want.is_none(),
         Err(AllocError) => false,
     }
 }
@@ -254,22 +252,35 @@ fn copy_is_after(alloc: Global, row: Row) -> bool {
     }
 }
 
+fn copies_are_after(alloc: Global) -> bool {
+    for &row in STEPS {
+        if !copy_is_after(alloc, row) {
+            return false;
+        }
+    }
+    true
+}
+
 #[test]
 fn steps_on_a_key(rt: HostRuntime) {
-    for &row in STEPS {
-        assert!(rt; copy_is_after(rt.alloc(), row));
-    }
+    assert!(rt; copies_are_after(rt.alloc()));
 }
 
 // Primary bytes, and whether they are text.
 const TEXTS: &[(&[u8], Option<&str>)] = &[(b"aa", Some("aa")), (&[0x66, 0x6f, 0x6f, 0xff], None)];
 
+fn are_texts(alloc: Global) -> bool {
+    for &(primary, text) in TEXTS {
+        if key_of(alloc, primary, "1").primary_key_str() != text {
+            return false;
+        }
+    }
+    true
+}
+
 #[test]
 fn bytes_that_are_text(rt: HostRuntime) {
-    for &(primary, text) in TEXTS {
-        let key = key_of(rt.alloc(), primary, "1");
-        assert!(rt; key.primary_key_str() == text);
-    }
+    assert!(rt; are_texts(rt.alloc()));
 }
 
 // A kept key, or the empty one when out of memory.
@@ -280,37 +291,39 @@ fn kept(alloc: Global, primary: &[u8], steps: &[Step]) -> CompactCacheKey {
     }
 }
 
-// Whether a key is its copy, and is not one with a variance, and before that.
-fn are_in_order(plain: &CompactCacheKey, varied: &CompactCacheKey) -> bool {
-    let is_copy = match plain.clone() {
-        Ok(copy) => *plain == copy,
+fn is_copied(key: &CompactCacheKey) -> bool {
+    match key.clone() {
+        Ok(copy) => are_told_apart(key, &copy, true),
         Err(AllocError) => false,
-    };
-    is_copy && *plain != *varied && *plain < *varied
+    }
 }
 
-fn hash_alike(alloc: Global) -> bool {
-    let keys = vec![in alloc;
-        kept(alloc, b"aa", &[]),
-        kept(alloc, b"bb", &[]),
-        kept(alloc, b"aa", &[]),
-        CompactCacheKey::empty(alloc),
-    ];
-    match keys {
-        Ok(keys) => are_distinct(alloc, keys, 3),
-        Err(_) => false,
-    }
+// Whether a key is its copy, and is not one with a variance, and before that.
+fn are_in_order(plain: &CompactCacheKey, varied: &CompactCacheKey) -> bool {
+    is_copied(plain) && *plain != *varied && *plain < *varied
+}
+
+// Whether two keys of the same bytes are one, and neither is that of other bytes or the empty one.
+fn hash_alike(alloc: Global, key: &CompactCacheKey, other: &CompactCacheKey) -> bool {
+    let empty = CompactCacheKey::empty(alloc);
+    are_told_apart(key, &kept(alloc, b"aa", &[]), true)
+        && are_told_apart(key, other, false)
+        && are_told_apart(key, &empty, false)
+        && are_told_apart(other, &empty, false)
 }
 
 fn is_empty(key: &CompactCacheKey) -> bool {
     key.primary_bin() == [0; 16] && key.variance_bin().is_none() && key.user_tag() == ""
 }
 
+// Whether the key of `aa` compares and hashes so.
+fn compares_and_hashes(alloc: Global, key: &CompactCacheKey) -> bool {
+    are_in_order(key, &kept(alloc, b"aa", &[Step::SetVariance]))
+        && hash_alike(alloc, key, &kept(alloc, b"bb", &[]))
+}
+
 #[test]
 fn kept_keys_compare_and_hash(rt: HostRuntime) {
-    let plain = kept(rt.alloc(), b"aa", &[]);
-    let varied = kept(rt.alloc(), b"aa", &[Step::SetVariance]);
-    assert!(rt; are_in_order(&plain, &varied));
-    assert!(rt; hash_alike(rt.alloc()));
+    assert!(rt; compares_and_hashes(rt.alloc(), &kept(rt.alloc(), b"aa", &[])));
     assert!(rt; is_empty(&CompactCacheKey::empty(rt.alloc())));
 }

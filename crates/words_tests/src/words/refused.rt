@@ -18,11 +18,18 @@ fn adds_or_keeps(alloc: Global, value: Put, text: &[u8]) -> bool {
     }
 }
 
+fn add_or_keep(alloc: Global) -> bool {
+    for &(value, text) in WRITTEN {
+        if !adds_or_keeps(alloc, value, text) {
+            return false;
+        }
+    }
+    true
+}
+
 #[test]
 fn refused_writes_add_nothing(rt: HostRuntime) {
-    for &(value, text) in WRITTEN {
-        assert!(rt; adds_or_keeps(rt.alloc(), value, text));
-    }
+    assert!(rt; add_or_keep(rt.alloc()));
 }
 
 #[derive(Clone, Copy)]
@@ -34,6 +41,14 @@ enum Call {
     Combined,
 }
 
+const CALLS: &[Call] = &[
+    Call::ToCompact,
+    Call::Clone,
+    Call::Primary,
+    Call::Variance,
+    Call::Combined,
+];
+
 fn full_key(alloc: Global) -> Result<CacheKey, AllocError> {
     let primary = Vec::from_slice(alloc, b"aa")?;
     let mut key = CacheKey::new(primary, String::from_str(alloc, "1")?);
@@ -41,56 +56,78 @@ fn full_key(alloc: Global) -> Result<CacheKey, AllocError> {
     Ok(key)
 }
 
+const PRIMARY: &str = "ac10f2aef117729f8dad056b3059eb7e";
+
 // Whether what the call made is right.
 fn is_right(alloc: Global, key: &CacheKey, call: Call) -> Result<bool, AllocError> {
-    Ok(match call {
-        Call::ToCompact => key.to_compact()?.variance == Some([7; 16]),
-        Call::Clone => key.clone()?.variance_bin() == Some([7; 16]),
-        Call::Primary => key.primary(alloc)?.as_str() == "ac10f2aef117729f8dad056b3059eb7e",
-        Call::Variance => key.variance(alloc)?.is_some(),
-        Call::Combined => key.combined(alloc)?.as_str().len() == 32,
-    })
+    match call {
+        Call::ToCompact => Ok(key.to_compact()?.variance == Some([7; 16])),
+        Call::Clone => Ok(key.clone()?.variance_bin() == Some([7; 16])),
+        Call::Primary => Ok(key.primary(alloc)?.as_str() == PRIMARY),
+        Call::Variance => Ok(key.variance(alloc)?.is_some()),
+        Call::Combined => Ok(key.combined(alloc)?.as_str().len() == 32),
+    }
+}
+
+// Whether a call is right or refused, and leaves the variance.
+fn keeps(alloc: Global, call: Call) -> bool {
+    match full_key(alloc) {
+        Ok(key) => {
+            is_right(alloc, &key, call) != Ok(false) && key.variance_bin() == Some([7; 16])
+        }
+        Err(AllocError) => true,
+    }
+}
+
+fn all_keep(alloc: Global) -> bool {
+    for &call in CALLS {
+        if !keeps(alloc, call) {
+            return false;
+        }
+    }
+    true
 }
 
 #[test]
 fn refused_calls_keep_the_key(rt: HostRuntime) {
-    let calls = [
-        Call::ToCompact,
-        Call::Clone,
-        Call::Primary,
-        Call::Variance,
-        Call::Combined,
-    ];
-    for step in calls {
-        if let Ok(key) = full_key(rt.alloc()) {
-            assert!(rt; is_right(rt.alloc(), &key, step) != Ok(false));
-            assert!(rt; key.variance_bin() == Some([7; 16]));
-        }
+    assert!(rt; all_keep(rt.alloc()));
+}
+
+const BORROWED: BorrowedKey<'static> = BorrowedKey {
+    primary: [7; 16],
+    variance: None,
+    user_tag: "tag",
+};
+
+fn has_tag(alloc: Global, key: BorrowedKey<'_>) -> bool {
+    match key.to_compact(alloc) {
+        Ok(compact) => compact.user_tag() == "tag",
+        Err(AllocError) => key.user_tag == "tag",
     }
 }
 
 #[test]
 fn refused_tags_stay_borrowed(rt: HostRuntime) {
-    let key = BorrowedKey {
-        primary: [7; 16],
-        variance: None,
-        user_tag: "tag",
-    };
-    match key.to_compact(rt.alloc()) {
-        Ok(compact) => assert!(rt; compact.user_tag() == "tag"),
-        Err(AllocError) => assert!(rt; key.user_tag == "tag"),
+    assert!(rt; has_tag(rt.alloc(), BORROWED));
+}
+
+fn is_copied_or_left(text: &Text) -> bool {
+    match text.clone() {
+        Ok(copy) => copy == *text,
+        Err(AllocError) => text.as_str() == "tag",
+    }
+}
+
+fn tag_is_copied_or_left(alloc: Global) -> bool {
+    match String::from_str(alloc, "tag") {
+        Ok(string) => is_copied_or_left(&Text::from_string(string)),
+        Err(AllocError) => true,
     }
 }
 
 #[test]
 fn refused_text_clone(rt: HostRuntime) {
-    if let Ok(string) = String::from_str(rt.alloc(), "tag") {
-        let text = Text::from_string(string);
-        match text.clone() {
-            Ok(copy) => assert!(rt; copy == text),
-            Err(AllocError) => assert!(rt; text.as_str() == "tag"),
-        }
-    }
+    assert!(rt; tag_is_copied_or_left(rt.alloc()));
 }
 
 #[derive(Clone, Copy)]
@@ -99,6 +136,8 @@ enum Add {
     OwnedValue,
     OwnedBoth,
 }
+
+const WAYS: &[Add] = &[Add::Borrowed, Add::OwnedValue, Add::OwnedBoth];
 
 fn add_value(
     alloc: Global,
@@ -114,11 +153,23 @@ fn add_value(
     }
 }
 
+// Whether a builder has a variance just where the value was added.
+fn adds_or_not(alloc: Global, way: Add) -> bool {
+    let mut builder = VarianceBuilder::new(alloc);
+    let is_added = add_value(alloc, &mut builder, way).is_ok();
+    builder.has_variance() == is_added
+}
+
+fn all_add_or_not(alloc: Global) -> bool {
+    for &way in WAYS {
+        if !adds_or_not(alloc, way) {
+            return false;
+        }
+    }
+    true
+}
+
 #[test]
 fn refused_values_are_not_added(rt: HostRuntime) {
-    for way in [Add::Borrowed, Add::OwnedValue, Add::OwnedBoth] {
-        let mut builder = VarianceBuilder::new(rt.alloc());
-        let result = add_value(rt.alloc(), &mut builder, way);
-        assert!(rt; builder.has_variance() == result.is_ok());
-    }
+    assert!(rt; all_add_or_not(rt.alloc()));
 }

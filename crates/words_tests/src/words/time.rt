@@ -1,5 +1,5 @@
 //! Moments and durations.
-use crate::words::are_distinct;
+use crate::words::are_told_apart;
 use cache_words::laws;
 use cache_words::time::{Duration, Moment};
 use std::cmp::Ordering;
@@ -35,24 +35,38 @@ fn duration(length: Length) -> Option<Duration> {
     Duration::new(length.0, length.1)
 }
 
-fn parts_of(moment: Moment) -> Parts {
-    (moment.seconds(), moment.nanoseconds())
+fn parts_of(moment: Option<Moment>) -> Option<Parts> {
+    match moment {
+        Some(moment) => Some((moment.seconds(), moment.nanoseconds())),
+        None => None,
+    }
+}
+
+fn length_of(duration: Duration) -> Length {
+    (duration.seconds(), duration.nanoseconds())
 }
 
 fn later_and_earlier(start: Parts, span: Length) -> Option<(Option<Parts>, Option<Parts>)> {
     let start = moment(start)?;
     let span = duration(span)?;
     Some((
-        start.checked_add(span).map(parts_of),
-        start.checked_sub(span).map(parts_of),
+        parts_of(start.checked_add(span)),
+        parts_of(start.checked_sub(span)),
     ))
+}
+
+fn are_sums() -> bool {
+    for &(start, span, later, earlier) in SUMS {
+        if later_and_earlier(start, span) != Some((later, earlier)) {
+            return false;
+        }
+    }
+    true
 }
 
 #[test]
 fn later_and_earlier_moments(rt: HostRuntime) {
-    for &(start, span, later, earlier) in SUMS {
-        assert!(rt; later_and_earlier(start, span) == Some((later, earlier)));
-    }
+    assert!(rt; are_sums());
 }
 
 // Two moments, and the time from the first to the second.
@@ -64,15 +78,21 @@ const ELAPSED: &[(Parts, Parts, Length)] = &[
 ];
 
 fn elapsed(from: Parts, to: Parts) -> Option<Length> {
-    let elapsed = moment(to)?.elapsed_since(moment(from)?);
-    Some((elapsed.seconds(), elapsed.nanoseconds()))
+    Some(length_of(moment(to)?.elapsed_since(moment(from)?)))
+}
+
+fn are_elapsed() -> bool {
+    for &(from, to, want) in ELAPSED {
+        if elapsed(from, to) != Some(want) {
+            return false;
+        }
+    }
+    true
 }
 
 #[test]
 fn elapsed_times(rt: HostRuntime) {
-    for &(from, to, want) in ELAPSED {
-        assert!(rt; elapsed(from, to) == Some(want));
-    }
+    assert!(rt; are_elapsed());
 }
 
 // Two moments, the first no later than the second.
@@ -88,18 +108,29 @@ fn compared(first: Parts, second: Parts) -> Option<(bool, bool, Ordering)> {
     ))
 }
 
+fn is_in_order(first: Parts, second: Parts) -> bool {
+    let is_same = first == second;
+    let order = if is_same {
+        Ordering::Equal
+    } else {
+        Ordering::Less
+    };
+    compared(first, second) == Some((true, is_same, order))
+}
+
+fn are_in_order() -> bool {
+    for &(first, second) in IN_ORDER {
+        if !is_in_order(first, second) {
+            return false;
+        }
+    }
+    true
+}
+
 #[test]
 fn order_of_moments(rt: HostRuntime) {
     laws::order_is_by_time();
-    for &(first, second) in IN_ORDER {
-        let is_same = first == second;
-        let order = if is_same {
-            Ordering::Equal
-        } else {
-            Ordering::Less
-        };
-        assert!(rt; compared(first, second) == Some((true, is_same, order)));
-    }
+    assert!(rt; are_in_order());
 }
 
 #[test]
@@ -124,30 +155,37 @@ const LENGTHS: &[(Length, Length, Option<Length>, Length)] = &[
     ((5, 5), (5, 5), Some((10, 10)), (0, 0)),
 ];
 
-fn length_of(duration: Duration) -> Length {
-    (duration.seconds(), duration.nanoseconds())
+fn sum_and_rest(first: Duration, second: Duration) -> (Option<Length>, Length) {
+    let sum = match first.checked_add(second) {
+        Some(sum) => Some(length_of(sum)),
+        None => None,
+    };
+    (sum, length_of(first.saturating_sub(second)))
 }
 
-fn sum_and_rest(first: Length, second: Length) -> Option<(Option<Length>, Length)> {
+// Both together, the difference, and both together up to the greatest time.
+fn sums_of(first: Length, second: Length) -> Option<((Option<Length>, Length), Length)> {
     let first = duration(first)?;
     let second = duration(second)?;
     Some((
-        first.checked_add(second).map(length_of),
-        length_of(first.saturating_sub(second)),
+        sum_and_rest(first, second),
+        length_of(first.saturating_add(second)),
     ))
 }
 
-fn stopping_sum(first: Length, second: Length) -> Option<Length> {
-    Some(length_of(duration(first)?.saturating_add(duration(second)?)))
+fn are_lengths() -> bool {
+    let greatest = (u64::MAX, 999_999_999);
+    for &(first, second, sum, rest) in LENGTHS {
+        if sums_of(first, second) != Some(((sum, rest), sum.unwrap_or(greatest))) {
+            return false;
+        }
+    }
+    true
 }
 
 #[test]
 fn sums_and_differences_of_durations(rt: HostRuntime) {
-    let greatest = (u64::MAX, 999_999_999);
-    for &(first, second, sum, rest) in LENGTHS {
-        assert!(rt; sum_and_rest(first, second) == Some((sum, rest)));
-        assert!(rt; stopping_sum(first, second) == Some(sum.unwrap_or(greatest)));
-    }
+    assert!(rt; are_lengths());
 }
 
 // Two times, the first longer than the second.
@@ -167,12 +205,20 @@ fn lengths_compared(first: Length, second: Length) -> Option<(bool, bool, bool)>
     ))
 }
 
+fn are_longer() -> bool {
+    for &(longer, shorter) in LONGER {
+        if lengths_compared(longer, shorter) != Some((true, false, true))
+            || lengths_compared(longer, longer) != Some((true, true, false))
+        {
+            return false;
+        }
+    }
+    true
+}
+
 #[test]
 fn order_of_durations(rt: HostRuntime) {
-    for &(longer, shorter) in LONGER {
-        assert!(rt; lengths_compared(longer, shorter) == Some((true, false, true)));
-        assert!(rt; lengths_compared(longer, longer) == Some((true, true, false)));
-    }
+    assert!(rt; are_longer());
     assert!(rt; Duration::zero() == Duration::from_seconds(0));
 }
 
@@ -182,9 +228,6 @@ fn at(seconds: i64) -> (Moment, Duration) {
 
 #[test]
 fn equal_times_hash_alike(rt: HostRuntime) {
-    let times = vec![in rt.alloc(); at(1), at(2), at(1)];
-    assert!(rt; times.is_ok());
-    if let Ok(times) = times {
-        assert!(rt; are_distinct(rt.alloc(), times, 2));
-    }
+    assert!(rt; are_told_apart(&at(1), &at(1), true));
+    assert!(rt; are_told_apart(&at(1), &at(2), false));
 }

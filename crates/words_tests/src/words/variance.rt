@@ -86,35 +86,44 @@ fn are_added(alloc: Global, builder: &mut VarianceBuilder<'static>, rows: &[Row]
     true
 }
 
-// Whether rows have this hash.
-fn is_hash(alloc: Global, rows: &[Row], hash: Option<HashBinary>) -> bool {
-    let mut builder = VarianceBuilder::new(alloc);
-    are_added(alloc, &mut builder, rows) && builder.finalize() == hash
-}
-
-// The hash of rows; none where memory is refused, too.
-fn hash_of(alloc: Global, rows: &[Row]) -> Option<HashBinary> {
+// The variance of rows; `None` where memory is refused.
+fn variance_of(alloc: Global, rows: &[Row]) -> Option<Option<HashBinary>> {
     let mut builder = VarianceBuilder::new(alloc);
     if are_added(alloc, &mut builder, rows) {
-        builder.finalize()
+        Some(builder.finalize())
     } else {
         None
     }
 }
 
+fn are_hashes(alloc: Global) -> bool {
+    for &(rows, hash) in CASES {
+        if variance_of(alloc, rows) != Some(str2hex(hash)) {
+            return false;
+        }
+    }
+    true
+}
+
+// The hash of rows, which there must be.
+fn hash_of(alloc: Global, rows: &[Row]) -> Option<HashBinary> {
+    variance_of(alloc, rows)?
+}
+
+fn is_one_hash(found: Option<HashBinary>, other: Option<HashBinary>) -> bool {
+    found.is_some() && found == other
+}
+
 #[test]
 fn variances_as_the_original(rt: HostRuntime) {
     laws::any_order();
-    for &(rows, hash) in CASES {
-        assert!(rt; is_hash(rt.alloc(), rows, str2hex(hash)));
-    }
-    assert!(rt; is_hash(rt.alloc(), &[], None));
+    assert!(rt; are_hashes(rt.alloc()));
+    assert!(rt; variance_of(rt.alloc(), &[]) == Some(None));
 }
 
 #[test]
 fn orders_make_no_difference(rt: HostRuntime) {
-    let hash = hash_of(rt.alloc(), ORDER);
-    assert!(rt; hash.is_some() && is_hash(rt.alloc(), OTHER_ORDER, hash));
+    assert!(rt; is_one_hash(hash_of(rt.alloc(), ORDER), hash_of(rt.alloc(), OTHER_ORDER)));
 }
 
 const LENT: &[Row] = &[
@@ -134,12 +143,19 @@ fn are_lent(alloc: Global, vec: &Vec<u8>, string: &String, hash: Option<HashBina
         && builder.add_value("c", vec).is_ok()
         && builder.add_value("d", string).is_ok()
         && builder.has_variance()
-        && builder.finalize() == hash
+        && is_one_hash(builder.finalize(), hash)
+}
+
+fn lend(alloc: Global) -> bool {
+    are_lent(
+        alloc,
+        &bytes(alloc, b"1"),
+        &string(alloc, "1"),
+        hash_of(alloc, LENT),
+    )
 }
 
 #[test]
 fn a_builder_takes_whatever_lends_bytes(rt: HostRuntime) {
-    let (vec, string) = (bytes(rt.alloc(), b"1"), string(rt.alloc(), "1"));
-    let hash = hash_of(rt.alloc(), LENT);
-    assert!(rt; hash.is_some() && are_lent(rt.alloc(), &vec, &string, hash));
+    assert!(rt; lend(rt.alloc()));
 }
