@@ -13,15 +13,13 @@ use std::alloc::{AllocError, Global};
 use std::fmt;
 use std::hash::{DefaultHasher, Hash, Hasher};
 
-pub(crate) fn hash_of<T: Hash>(value: &T) -> u64 {
-    let mut hasher = DefaultHasher::new();
-    value.hash(&mut hasher);
-    hasher.finish()
-}
-
-// Whether two values are equal, and hash alike, just where they are the same.
-pub(crate) fn are_told_apart<T: Hash + Eq>(a: &T, b: &T, is_same: bool) -> bool {
-    (*a == *b) == is_same && (hash_of(a) == hash_of(b)) == is_same
+// Whether two values hash alike.
+pub(crate) fn hash_alike<A: Hash, B: Hash>(a: &A, b: &B) -> bool {
+    let mut first = DefaultHasher::new();
+    a.hash(&mut first);
+    let mut second = DefaultHasher::new();
+    b.hash(&mut second);
+    first.finish() == second.finish()
 }
 
 // Whether this is the text.

@@ -1,7 +1,7 @@
 //! Each call that takes memory, with a look at what a refusal leaves. These tests pass whichever allocation fails.
 use crate::entries::values::entry;
-use cache_entries::entry::{CacheEntryKey, CacheEntryKeyRef};
-use cache_entries::pack::{BorrowedEntry, put_entry, put_row, take_entry};
+use cache_entries::entry::{CacheEntryId, CacheEntryKey, CacheEntryKeyRef};
+use cache_entries::pack::{put_entry, put_row, take_entry};
 use cache_words::pack::{Cursor, PackWriteFault};
 use std::alloc::{AllocError, Global};
 
@@ -27,21 +27,19 @@ fn adds_or_keeps(alloc: Global, owned: &CacheEntryKey, put: Put) -> bool {
     }
 }
 
-fn all_add_or_keep(alloc: Global, owned: &CacheEntryKey) -> bool {
-    adds_or_keeps(alloc, owned, Put::Entry) && adds_or_keeps(alloc, owned, Put::Row)
-}
-
-fn entry_adds_or_keeps(alloc: Global, id: Option<u64>) -> bool {
+fn writes_add_or_keep(alloc: Global, id: Option<u64>) -> bool {
     match entry(alloc, b"aa", id) {
-        Ok(owned) => all_add_or_keep(alloc, &owned),
+        Ok(owned) => {
+            adds_or_keeps(alloc, &owned, Put::Entry) && adds_or_keeps(alloc, &owned, Put::Row)
+        }
         Err(AllocError) => true,
     }
 }
 
 #[test]
 fn refused_writes_leave_the_bytes(rt: HostRuntime) {
-    assert!(rt; entry_adds_or_keeps(rt.alloc(), None));
-    assert!(rt; entry_adds_or_keeps(rt.alloc(), Some(7)));
+    assert!(rt; writes_add_or_keep(rt.alloc(), None));
+    assert!(rt; writes_add_or_keep(rt.alloc(), Some(7)));
 }
 
 // Whether an outcome is a copy of the entry, or refused.
@@ -53,50 +51,34 @@ fn is_copy(found: Result<CacheEntryKey, AllocError>, owned: &CacheEntryKey) -> b
 }
 
 // Whether an entry of id 7 stays, copied or not.
-fn is_left(owned: &CacheEntryKey) -> bool {
-    is_copy(owned.clone(), owned)
-        && is_copy(CacheEntryKeyRef::from(owned).to_entry(), owned)
-        && has_id(owned)
-}
-
-fn has_id(owned: &CacheEntryKey) -> bool {
-    match owned.entry_id() {
-        Some(id) => id.get() == 7,
-        None => false,
-    }
-}
-
 fn entry_is_left(alloc: Global) -> bool {
     match entry(alloc, b"aa", Some(7)) {
-        Ok(owned) => is_left(&owned),
+        Ok(owned) => {
+            is_copy(owned.clone(), &owned)
+                && is_copy(CacheEntryKeyRef::from(&owned).to_entry(), &owned)
+                && owned.entry_id() == Some(CacheEntryId::new(7))
+        }
         Err(AllocError) => true,
     }
-}
-
-#[test]
-fn refused_copies_leave_the_entry(rt: HostRuntime) {
-    assert!(rt; entry_is_left(rt.alloc()));
 }
 
 const TEXT: &[u8] = b"\x92\x93\xdc\x00\x10\0\0\0\0\0\0\0\0\0\0\0\0\0\0\0\0\xc0\xa1x\x07";
 
-// Whether the copy of what was read has the id 7, or is refused.
-fn copy_has_id(alloc: Global, read: BorrowedEntry<'_>) -> bool {
-    match read.to_entry(alloc) {
-        Ok(owned) => has_id(&owned),
-        Err(AllocError) => true,
-    }
-}
-
+// Whether the text is read to its end, and a copy of what was read has the id 7, or is refused.
 fn is_read_and_copied(alloc: Global) -> bool {
     let mut cursor = Cursor { rest: TEXT };
-    match take_entry(&mut cursor) {
-        Ok(read) => cursor.rest.is_empty() && copy_has_id(alloc, read),
-        Err(_) => false,
-    }
+    let Ok(read) = take_entry(&mut cursor) else {
+        return false;
+    };
+    let is_right = match read.to_entry(alloc) {
+        Ok(owned) => owned.entry_id() == Some(CacheEntryId::new(7)),
+        Err(AllocError) => true,
+    };
+    is_right && cursor.rest.is_empty()
 }
 
 #[test]
-fn a_refused_copy_of_what_was_read(rt: HostRuntime) {
+fn refused_copies_leave_the_entry_and_what_was_read(rt: HostRuntime) {
+    assert!(rt; entry_is_left(rt.alloc()));
     assert!(rt; is_read_and_copied(rt.alloc()));
 }

@@ -35,20 +35,14 @@ fn digest_in_pieces(bytes: &[u8], piece_len: usize) -> [u8; DIGEST_LEN] {
     hasher.finalize()
 }
 
-// Whether bytes have this digest, whatever the pieces.
-fn is_digest(bytes: &[u8], digest: &str) -> bool {
-    for &piece_len in PIECES {
-        if Some(digest_in_pieces(bytes, piece_len)) != str2hex(digest) {
-            return false;
-        }
-    }
-    true
-}
-
+// Whether the bytes have their digests, whatever the pieces.
 fn are_digests(bytes: &[u8; 1000]) -> bool {
     for &(len, digest) in DIGESTS {
-        if !is_digest(&bytes[..len.min(1000)], digest) {
-            return false;
+        for &piece_len in PIECES {
+            let found = digest_in_pieces(&bytes[..len.min(1000)], piece_len);
+            if Some(found) != str2hex(digest) {
+                return false;
+            }
         }
     }
     true

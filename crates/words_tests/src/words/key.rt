@@ -1,5 +1,5 @@
 //! Keys, their hashes and their texts.
-use crate::words::{are_told_apart, bytes, is_shown, is_text, string};
+use crate::words::{bytes, hash_alike, is_shown, is_text, string};
 use cache_words::key::{CacheHashKey, CacheKey, CompactCacheKey, HashBinary, hash_key, str2hex};
 use std::alloc::{AllocError, Global};
 use std::fmt;
@@ -101,8 +101,8 @@ fn made(alloc: Global, case: &Case) -> CacheKey {
     if let Some(variance) = hash_of(case.variance) {
         key.set_variance_key(variance);
     }
-    if let Some(over) = case.over {
-        take(&mut key, Step::Override(over));
+    if let Some(over) = hash_of(case.over) {
+        key.set_primary_bin_override(over);
     }
     key
 }
@@ -119,16 +119,14 @@ fn shows<K: CacheHashKey + fmt::Display>(alloc: Global, key: &K, case: &Case) ->
         && is_shown(alloc, key, case.display)
 }
 
-fn kept_shows(alloc: Global, key: &CacheKey, case: &Case) -> bool {
-    match key.to_compact() {
+// Whether a key and the kept key are as the case says.
+fn is_case(alloc: Global, key: &CacheKey, case: &Case) -> bool {
+    let is_kept = match key.to_compact() {
         Ok(kept) => shows(alloc, &kept, case),
         Err(AllocError) => false,
-    }
-}
-
-fn is_case(alloc: Global, key: &CacheKey, case: &Case) -> bool {
-    shows(alloc, key, case)
-        && kept_shows(alloc, key, case)
+    };
+    is_kept
+        && shows(alloc, key, case)
         && Some(hash_key(key.primary_key())) == str2hex(case.hash)
         && key.primary_key_str().is_some() == case.text
         && is_text(key.combined(alloc), case.combined)
@@ -143,9 +141,22 @@ fn are_cases(alloc: Global) -> bool {
     true
 }
 
+// Primary bytes, and whether they are text.
+const TEXTS: &[(&[u8], Option<&str>)] = &[(b"aa", Some("aa")), (&[0x66, 0x6f, 0x6f, 0xff], None)];
+
+fn are_texts(alloc: Global) -> bool {
+    for &(primary, text) in TEXTS {
+        if key_of(alloc, primary, "1").primary_key_str() != text {
+            return false;
+        }
+    }
+    true
+}
+
 #[test]
 fn keys_as_the_original(rt: HostRuntime) {
     assert!(rt; are_cases(rt.alloc()));
+    assert!(rt; are_texts(rt.alloc()));
 }
 
 // What is done to the key of `aa`.
@@ -200,87 +211,52 @@ const STEPS: &[Row] = &[
     ),
 ];
 
-fn take(key: &mut CacheKey, step: Step) {
-    match step {
-        Step::SetVariance => key.set_variance_key([0; 16]),
-        Step::RemoveVariance => key.remove_variance_key(),
-        Step::Override(hash) => {
-            if let Some(hash) = str2hex(hash) {
-                key.set_primary_bin_override(hash);
-            }
-        }
-    }
-}
-
 fn after(alloc: Global, primary: &[u8], steps: &[Step]) -> CacheKey {
     let mut key = key_of(alloc, primary, "1");
     for &step in steps {
-        take(&mut key, step);
+        match step {
+            Step::SetVariance => key.set_variance_key([0; 16]),
+            Step::RemoveVariance => key.remove_variance_key(),
+            Step::Override(hash) => {
+                if let Some(hash) = str2hex(hash) {
+                    key.set_primary_bin_override(hash);
+                }
+            }
+        }
     }
     key
 }
 
-fn is_variance(text: Result<Option<String>, AllocError>, want: Option<&str>) -> bool {
-    match text {
-        Ok(Some(text)) => want == Some(text.as_str()),
-        Ok(None) => want.is_none(),
-        Err(AllocError) => false,
-    }
-}
-
-fn kept_combined(key: &CacheKey) -> Option<HashBinary> {
-    match key.to_compact() {
-        Ok(kept) => Some(kept.combined_bin()),
-        Err(AllocError) => None,
-    }
-}
-
 fn is_after(alloc: Global, key: &CacheKey, row: Row) -> bool {
     let (_, _, hash, variance, combined) = row;
-    is_text(key.primary(alloc), hash)
-        && is_variance(key.variance(alloc), variance)
+    let is_variance = match key.variance(alloc) {
+        Ok(Some(text)) => variance == Some(text.as_str()),
+        Ok(None) => variance.is_none(),
+        Err(AllocError) => false,
+    };
+    let is_kept = match key.to_compact() {
+        Ok(kept) => Some(kept.combined_bin()) == str2hex(combined),
+        Err(AllocError) => false,
+    };
+    is_variance
+        && is_kept
+        && is_text(key.primary(alloc), hash)
         && is_text(key.combined(alloc), combined)
         && key.get_variance_key().copied() == hash_of(variance)
-        && kept_combined(key) == str2hex(combined)
 }
 
-// The same of a copy of the key.
-fn copy_is_after(alloc: Global, row: Row) -> bool {
-    match after(alloc, row.0, row.1).clone() {
-        Ok(key) => is_after(alloc, &key, row),
-        Err(AllocError) => false,
-    }
-}
-
+// Whether copies of the keys are as the steps leave them.
 fn copies_are_after(alloc: Global) -> bool {
     for &row in STEPS {
-        if !copy_is_after(alloc, row) {
+        let is_right = match after(alloc, row.0, row.1).clone() {
+            Ok(key) => is_after(alloc, &key, row),
+            Err(AllocError) => false,
+        };
+        if !is_right {
             return false;
         }
     }
     true
-}
-
-#[test]
-fn steps_on_a_key(rt: HostRuntime) {
-    assert!(rt; copies_are_after(rt.alloc()));
-}
-
-// Primary bytes, and whether they are text.
-const TEXTS: &[(&[u8], Option<&str>)] = &[(b"aa", Some("aa")), (&[0x66, 0x6f, 0x6f, 0xff], None)];
-
-fn are_texts(alloc: Global) -> bool {
-    for &(primary, text) in TEXTS {
-        if key_of(alloc, primary, "1").primary_key_str() != text {
-            return false;
-        }
-    }
-    true
-}
-
-#[test]
-fn bytes_that_are_text(rt: HostRuntime) {
-    assert!(rt; are_texts(rt.alloc()));
 }
 
 // A kept key, or the empty one when out of memory.
@@ -291,39 +267,38 @@ fn kept(alloc: Global, primary: &[u8], steps: &[Step]) -> CompactCacheKey {
     }
 }
 
-fn is_copied(key: &CompactCacheKey) -> bool {
-    match key.clone() {
-        Ok(copy) => are_told_apart(key, &copy, true),
-        Err(AllocError) => false,
-    }
+// Whether two keys differ, and hash so.
+fn differ(key: &CompactCacheKey, other: &CompactCacheKey) -> bool {
+    *key != *other && !hash_alike(key, other)
 }
 
-// Whether a key is its copy, and is not one with a variance, and before that.
-fn are_in_order(plain: &CompactCacheKey, varied: &CompactCacheKey) -> bool {
-    is_copied(plain) && *plain != *varied && *plain < *varied
-}
-
-// Whether two keys of the same bytes are one, and neither is that of other bytes or the empty one.
-fn hash_alike(alloc: Global, key: &CompactCacheKey, other: &CompactCacheKey) -> bool {
+// Whether a key is its copy, and one with a variance, of other bytes, or empty is another.
+fn is_told_apart(alloc: Global, key: &CompactCacheKey, other: &CompactCacheKey) -> bool {
+    let varied = kept(alloc, b"aa", &[Step::SetVariance]);
     let empty = CompactCacheKey::empty(alloc);
-    are_told_apart(key, &kept(alloc, b"aa", &[]), true)
-        && are_told_apart(key, other, false)
-        && are_told_apart(key, &empty, false)
-        && are_told_apart(other, &empty, false)
+    let is_copied = match key.clone() {
+        Ok(copy) => *key == copy && hash_alike(key, &copy),
+        Err(AllocError) => false,
+    };
+    is_copied
+        && differ(key, &varied)
+        && *key < varied
+        && differ(key, other)
+        && differ(key, &empty)
+        && differ(other, &empty)
+        && empty.primary_bin() == [0; 16]
+        && empty.variance_bin().is_none()
+        && empty.user_tag() == ""
 }
 
-fn is_empty(key: &CompactCacheKey) -> bool {
-    key.primary_bin() == [0; 16] && key.variance_bin().is_none() && key.user_tag() == ""
-}
-
-// Whether the key of `aa` compares and hashes so.
-fn compares_and_hashes(alloc: Global, key: &CompactCacheKey) -> bool {
-    are_in_order(key, &kept(alloc, b"aa", &[Step::SetVariance]))
-        && hash_alike(alloc, key, &kept(alloc, b"bb", &[]))
+fn kept_keys_compare_and_hash(alloc: Global) -> bool {
+    let key = kept(alloc, b"aa", &[]);
+    let again = kept(alloc, b"aa", &[]);
+    key == again && hash_alike(&key, &again) && is_told_apart(alloc, &key, &kept(alloc, b"bb", &[]))
 }
 
 #[test]
-fn kept_keys_compare_and_hash(rt: HostRuntime) {
-    assert!(rt; compares_and_hashes(rt.alloc(), &kept(rt.alloc(), b"aa", &[])));
-    assert!(rt; is_empty(&CompactCacheKey::empty(rt.alloc())));
+fn steps_on_a_key_and_kept_keys(rt: HostRuntime) {
+    assert!(rt; copies_are_after(rt.alloc()));
+    assert!(rt; kept_keys_compare_and_hash(rt.alloc()));
 }

@@ -7,20 +7,17 @@ use cache_words::text::Text;
 use cache_words::variance::VarianceBuilder;
 use std::alloc::{AllocError, Global};
 
-// Whether a writer added the text to the byte that was there, or was refused and left that byte alone.
-fn adds_or_keeps(alloc: Global, value: Put, text: &[u8]) -> bool {
-    let Ok(mut out) = Vec::from_slice(alloc, &[9]) else {
-        return true;
-    };
-    match write_value(alloc, &mut out, value) {
-        Ok(()) => out.get(..1) == Some(&[9]) && out.get(1..) == Some(text),
-        Err(fault) => fault == PackWriteFault::Memory && out.as_slice() == [9].as_slice(),
-    }
-}
-
+// Whether a writer adds each text to the byte that was there, or is refused and leaves that byte alone.
 fn add_or_keep(alloc: Global) -> bool {
     for &(value, text) in WRITTEN {
-        if !adds_or_keeps(alloc, value, text) {
+        let Ok(mut out) = Vec::from_slice(alloc, &[9]) else {
+            return true;
+        };
+        let is_right = match write_value(alloc, &mut out, value) {
+            Ok(()) => out.get(..1) == Some(&[9]) && out.get(1..) == Some(text),
+            Err(fault) => fault == PackWriteFault::Memory && out.as_slice() == [9].as_slice(),
+        };
+        if !is_right {
             return false;
         }
     }
@@ -69,28 +66,20 @@ fn is_right(alloc: Global, key: &CacheKey, call: Call) -> Result<bool, AllocErro
     }
 }
 
-// Whether a call is right or refused, and leaves the variance.
-fn keeps(alloc: Global, call: Call) -> bool {
-    match full_key(alloc) {
-        Ok(key) => {
-            is_right(alloc, &key, call) != Ok(false) && key.variance_bin() == Some([7; 16])
-        }
-        Err(AllocError) => true,
-    }
-}
-
-fn all_keep(alloc: Global) -> bool {
+// Whether each call is right or refused, and leaves the variance.
+fn calls_keep_the_key(alloc: Global) -> bool {
     for &call in CALLS {
-        if !keeps(alloc, call) {
+        let is_right = match full_key(alloc) {
+            Ok(key) => {
+                is_right(alloc, &key, call) != Ok(false) && key.variance_bin() == Some([7; 16])
+            }
+            Err(AllocError) => true,
+        };
+        if !is_right {
             return false;
         }
     }
     true
-}
-
-#[test]
-fn refused_calls_keep_the_key(rt: HostRuntime) {
-    assert!(rt; all_keep(rt.alloc()));
 }
 
 const BORROWED: BorrowedKey<'static> = BorrowedKey {
@@ -106,28 +95,22 @@ fn has_tag(alloc: Global, key: BorrowedKey<'_>) -> bool {
     }
 }
 
-#[test]
-fn refused_tags_stay_borrowed(rt: HostRuntime) {
-    assert!(rt; has_tag(rt.alloc(), BORROWED));
-}
-
-fn is_copied_or_left(text: &Text) -> bool {
+fn text_is_copied_or_left(alloc: Global) -> bool {
+    let Ok(string) = String::from_str(alloc, "tag") else {
+        return true;
+    };
+    let text = Text::from_string(string);
     match text.clone() {
-        Ok(copy) => copy == *text,
+        Ok(copy) => copy == text,
         Err(AllocError) => text.as_str() == "tag",
     }
 }
 
-fn tag_is_copied_or_left(alloc: Global) -> bool {
-    match String::from_str(alloc, "tag") {
-        Ok(string) => is_copied_or_left(&Text::from_string(string)),
-        Err(AllocError) => true,
-    }
-}
-
 #[test]
-fn refused_text_clone(rt: HostRuntime) {
-    assert!(rt; tag_is_copied_or_left(rt.alloc()));
+fn refused_calls_keep_keys_tags_and_texts(rt: HostRuntime) {
+    assert!(rt; calls_keep_the_key(rt.alloc()));
+    assert!(rt; has_tag(rt.alloc(), BORROWED));
+    assert!(rt; text_is_copied_or_left(rt.alloc()));
 }
 
 #[derive(Clone, Copy)]
@@ -153,16 +136,12 @@ fn add_value(
     }
 }
 
-// Whether a builder has a variance just where the value was added.
-fn adds_or_not(alloc: Global, way: Add) -> bool {
-    let mut builder = VarianceBuilder::new(alloc);
-    let is_added = add_value(alloc, &mut builder, way).is_ok();
-    builder.has_variance() == is_added
-}
-
-fn all_add_or_not(alloc: Global) -> bool {
+// Whether builders have a variance just where the value was added.
+fn are_added_or_not(alloc: Global) -> bool {
     for &way in WAYS {
-        if !adds_or_not(alloc, way) {
+        let mut builder = VarianceBuilder::new(alloc);
+        let is_added = add_value(alloc, &mut builder, way).is_ok();
+        if builder.has_variance() != is_added {
             return false;
         }
     }
@@ -171,5 +150,5 @@ fn all_add_or_not(alloc: Global) -> bool {
 
 #[test]
 fn refused_values_are_not_added(rt: HostRuntime) {
-    assert!(rt; all_add_or_not(rt.alloc()));
+    assert!(rt; are_added_or_not(rt.alloc()));
 }

@@ -1,5 +1,5 @@
 //! Moments and durations.
-use crate::words::are_told_apart;
+use crate::words::hash_alike;
 use cache_words::laws;
 use cache_words::time::{Duration, Moment};
 use std::cmp::Ordering;
@@ -27,14 +27,6 @@ const SUMS: &[(Parts, Length, Option<Parts>, Option<Parts>)] = &[
     ((i64::MIN, 0), (0, 1), Some((i64::MIN, 1)), None),
 ];
 
-fn moment(parts: Parts) -> Option<Moment> {
-    Moment::new(parts.0, parts.1)
-}
-
-fn duration(length: Length) -> Option<Duration> {
-    Duration::new(length.0, length.1)
-}
-
 fn parts_of(moment: Option<Moment>) -> Option<Parts> {
     match moment {
         Some(moment) => Some((moment.seconds(), moment.nanoseconds())),
@@ -46,27 +38,17 @@ fn length_of(duration: Duration) -> Length {
     (duration.seconds(), duration.nanoseconds())
 }
 
-fn later_and_earlier(start: Parts, span: Length) -> Option<(Option<Parts>, Option<Parts>)> {
-    let start = moment(start)?;
-    let span = duration(span)?;
-    Some((
-        parts_of(start.checked_add(span)),
-        parts_of(start.checked_sub(span)),
-    ))
-}
-
-fn are_sums() -> bool {
+fn are_later_and_earlier() -> Option<bool> {
     for &(start, span, later, earlier) in SUMS {
-        if later_and_earlier(start, span) != Some((later, earlier)) {
-            return false;
+        let start = Moment::new(start.0, start.1)?;
+        let span = Duration::new(span.0, span.1)?;
+        if parts_of(start.checked_add(span)) != later
+            || parts_of(start.checked_sub(span)) != earlier
+        {
+            return Some(false);
         }
     }
-    true
-}
-
-#[test]
-fn later_and_earlier_moments(rt: HostRuntime) {
-    assert!(rt; are_sums());
+    Some(true)
 }
 
 // Two moments, and the time from the first to the second.
@@ -77,66 +59,47 @@ const ELAPSED: &[(Parts, Parts, Length)] = &[
     ((i64::MIN, 0), (i64::MAX, 0), (u64::MAX, 0)),
 ];
 
-fn elapsed(from: Parts, to: Parts) -> Option<Length> {
-    Some(length_of(moment(to)?.elapsed_since(moment(from)?)))
-}
-
-fn are_elapsed() -> bool {
+fn are_elapsed() -> Option<bool> {
     for &(from, to, want) in ELAPSED {
-        if elapsed(from, to) != Some(want) {
-            return false;
+        let from = Moment::new(from.0, from.1)?;
+        let to = Moment::new(to.0, to.1)?;
+        if length_of(to.elapsed_since(from)) != want {
+            return Some(false);
         }
     }
-    true
-}
-
-#[test]
-fn elapsed_times(rt: HostRuntime) {
-    assert!(rt; are_elapsed());
+    Some(true)
 }
 
 // Two moments, the first no later than the second.
 const IN_ORDER: &[(Parts, Parts)] = &[((1, 2), (1, 2)), ((1, 2), (1, 3)), ((-1, 9), (0, 0))];
 
-fn compared(first: Parts, second: Parts) -> Option<(bool, bool, Ordering)> {
-    let first = moment(first)?;
-    let second = moment(second)?;
-    Some((
-        first.is_at_most(&second),
-        second.is_at_most(&first),
-        first.cmp(&second),
-    ))
-}
-
-fn is_in_order(first: Parts, second: Parts) -> bool {
-    let is_same = first == second;
-    let order = if is_same {
-        Ordering::Equal
-    } else {
-        Ordering::Less
-    };
-    compared(first, second) == Some((true, is_same, order))
-}
-
-fn are_in_order() -> bool {
+fn are_in_order() -> Option<bool> {
     for &(first, second) in IN_ORDER {
-        if !is_in_order(first, second) {
-            return false;
+        let is_same = first == second;
+        let order = if is_same {
+            Ordering::Equal
+        } else {
+            Ordering::Less
+        };
+        let first = Moment::new(first.0, first.1)?;
+        let second = Moment::new(second.0, second.1)?;
+        if !first.is_at_most(&second)
+            || second.is_at_most(&first) != is_same
+            || first.cmp(&second) != order
+        {
+            return Some(false);
         }
     }
-    true
+    Some(true)
 }
 
 #[test]
-fn order_of_moments(rt: HostRuntime) {
+fn moments_are_added_to_and_compared(rt: HostRuntime) {
     laws::order_is_by_time();
-    assert!(rt; are_in_order());
-}
-
-#[test]
-fn bounds_of_moments(rt: HostRuntime) {
-    assert!(rt; moment((0, 1_000_000_000)).is_none());
-    assert!(rt; duration((0, 1_000_000_000)).is_none());
+    assert!(rt; are_later_and_earlier() == Some(true));
+    assert!(rt; are_elapsed() == Some(true));
+    assert!(rt; are_in_order() == Some(true));
+    assert!(rt; Moment::new(0, 1_000_000_000).is_none());
     assert!(rt; Moment::from_seconds(-1).is_before_epoch());
     assert!(rt; !Moment::from_seconds(0).is_before_epoch());
 }
@@ -155,37 +118,23 @@ const LENGTHS: &[(Length, Length, Option<Length>, Length)] = &[
     ((5, 5), (5, 5), Some((10, 10)), (0, 0)),
 ];
 
-fn sum_and_rest(first: Duration, second: Duration) -> (Option<Length>, Length) {
-    let sum = match first.checked_add(second) {
-        Some(sum) => Some(length_of(sum)),
-        None => None,
-    };
-    (sum, length_of(first.saturating_sub(second)))
-}
-
-// Both together, the difference, and both together up to the greatest time.
-fn sums_of(first: Length, second: Length) -> Option<((Option<Length>, Length), Length)> {
-    let first = duration(first)?;
-    let second = duration(second)?;
-    Some((
-        sum_and_rest(first, second),
-        length_of(first.saturating_add(second)),
-    ))
-}
-
-fn are_lengths() -> bool {
+fn are_sums_and_differences() -> Option<bool> {
     let greatest = (u64::MAX, 999_999_999);
     for &(first, second, sum, rest) in LENGTHS {
-        if sums_of(first, second) != Some(((sum, rest), sum.unwrap_or(greatest))) {
-            return false;
+        let first = Duration::new(first.0, first.1)?;
+        let second = Duration::new(second.0, second.1)?;
+        let found = match first.checked_add(second) {
+            Some(found) => Some(length_of(found)),
+            None => None,
+        };
+        if found != sum
+            || length_of(first.saturating_sub(second)) != rest
+            || length_of(first.saturating_add(second)) != sum.unwrap_or(greatest)
+        {
+            return Some(false);
         }
     }
-    true
-}
-
-#[test]
-fn sums_and_differences_of_durations(rt: HostRuntime) {
-    assert!(rt; are_lengths());
+    Some(true)
 }
 
 // Two times, the first longer than the second.
@@ -195,39 +144,36 @@ const LONGER: &[(Length, Length)] = &[
     ((1, 9), (1, 8)),
 ];
 
-fn lengths_compared(first: Length, second: Length) -> Option<(bool, bool, bool)> {
-    let first = duration(first)?;
-    let second = duration(second)?;
-    Some((
-        first.is_at_least(&second),
-        second.is_at_least(&first),
-        first > second,
-    ))
-}
-
-fn are_longer() -> bool {
+// The longer one is as long as itself, too.
+fn are_longer() -> Option<bool> {
     for &(longer, shorter) in LONGER {
-        if lengths_compared(longer, shorter) != Some((true, false, true))
-            || lengths_compared(longer, longer) != Some((true, true, false))
+        let longer = Duration::new(longer.0, longer.1)?;
+        let shorter = Duration::new(shorter.0, shorter.1)?;
+        if !longer.is_at_least(&shorter)
+            || shorter.is_at_least(&longer)
+            || !(longer > shorter)
+            || !longer.is_at_least(&longer)
+            || longer > longer
         {
-            return false;
+            return Some(false);
         }
     }
-    true
+    Some(true)
+}
+
+// Whether the times of so many seconds, each a moment and no time, hash alike.
+fn times_hash_alike(first: i64, second: i64) -> bool {
+    let first = (Moment::from_seconds(first), Duration::zero());
+    let second = (Moment::from_seconds(second), Duration::zero());
+    (first == second) && hash_alike(&first, &second)
 }
 
 #[test]
-fn order_of_durations(rt: HostRuntime) {
-    assert!(rt; are_longer());
+fn durations_are_added_and_compared_and_times_hash_alike(rt: HostRuntime) {
+    assert!(rt; are_sums_and_differences() == Some(true));
+    assert!(rt; are_longer() == Some(true));
+    assert!(rt; Duration::new(0, 1_000_000_000).is_none());
     assert!(rt; Duration::zero() == Duration::from_seconds(0));
-}
-
-fn at(seconds: i64) -> (Moment, Duration) {
-    (Moment::from_seconds(seconds), Duration::zero())
-}
-
-#[test]
-fn equal_times_hash_alike(rt: HostRuntime) {
-    assert!(rt; are_told_apart(&at(1), &at(1), true));
-    assert!(rt; are_told_apart(&at(1), &at(2), false));
+    assert!(rt; times_hash_alike(1, 1));
+    assert!(rt; !times_hash_alike(1, 2));
 }

@@ -64,36 +64,28 @@ const OTHER_ORDER: &[Row] = &[
     ("a", "1", Given::OwnedBoth),
 ];
 
-fn is_added(alloc: Global, builder: &mut VarianceBuilder<'static>, row: Row) -> bool {
-    let (name, value, given) = row;
-    match given {
-        Given::Borrowed => builder.add_value(name, value).is_ok(),
-        Given::OwnedValue => builder
-            .add_owned_value(name, bytes(alloc, value.as_bytes()))
-            .is_ok(),
-        Given::OwnedBoth => builder
-            .add_owned_name_value(string(alloc, name), bytes(alloc, value.as_bytes()))
-            .is_ok(),
-    }
-}
-
-fn are_added(alloc: Global, builder: &mut VarianceBuilder<'static>, rows: &[Row]) -> bool {
-    for &row in rows {
-        if !is_added(alloc, builder, row) {
-            return false;
-        }
-    }
-    true
-}
-
 // The variance of rows; `None` where memory is refused.
 fn variance_of(alloc: Global, rows: &[Row]) -> Option<Option<HashBinary>> {
     let mut builder = VarianceBuilder::new(alloc);
-    if are_added(alloc, &mut builder, rows) {
-        Some(builder.finalize())
-    } else {
-        None
+    for &(name, value, given) in rows {
+        let is_added = match given {
+            Given::Borrowed => builder.add_value(name, value).is_ok(),
+            Given::OwnedValue => {
+                builder
+                    .add_owned_value(name, bytes(alloc, value.as_bytes()))
+                    .is_ok()
+            }
+            Given::OwnedBoth => {
+                builder
+                    .add_owned_name_value(string(alloc, name), bytes(alloc, value.as_bytes()))
+                    .is_ok()
+            }
+        };
+        if !is_added {
+            return None;
+        }
     }
+    Some(builder.finalize())
 }
 
 fn are_hashes(alloc: Global) -> bool {
@@ -102,28 +94,14 @@ fn are_hashes(alloc: Global) -> bool {
             return false;
         }
     }
-    true
+    variance_of(alloc, &[]) == Some(None)
 }
 
-// The hash of rows, which there must be.
-fn hash_of(alloc: Global, rows: &[Row]) -> Option<HashBinary> {
-    variance_of(alloc, rows)?
-}
-
-fn is_one_hash(found: Option<HashBinary>, other: Option<HashBinary>) -> bool {
-    found.is_some() && found == other
-}
-
-#[test]
-fn variances_as_the_original(rt: HostRuntime) {
-    laws::any_order();
-    assert!(rt; are_hashes(rt.alloc()));
-    assert!(rt; variance_of(rt.alloc(), &[]) == Some(None));
-}
-
-#[test]
-fn orders_make_no_difference(rt: HostRuntime) {
-    assert!(rt; is_one_hash(hash_of(rt.alloc(), ORDER), hash_of(rt.alloc(), OTHER_ORDER)));
+fn are_one_hash(alloc: Global, rows: &[Row], others: &[Row]) -> bool {
+    match variance_of(alloc, rows) {
+        Some(Some(hash)) => variance_of(alloc, others) == Some(Some(hash)),
+        _ => false,
+    }
 }
 
 const LENT: &[Row] = &[
@@ -133,29 +111,25 @@ const LENT: &[Row] = &[
     ("d", "1", Given::Borrowed),
 ];
 
-// Whether values of each type are added, and then there is a variance, which there wasn't before, with this hash.
-fn are_lent(alloc: Global, vec: &Vec<u8>, string: &String, hash: Option<HashBinary>) -> bool {
+// Whether values of each type are added, and then there is a variance, which there wasn't before: that of rows.
+fn are_lent(alloc: Global, rows: &[Row]) -> bool {
+    let vec = bytes(alloc, b"1");
+    let string = string(alloc, "1");
     let mut builder = VarianceBuilder::new(alloc);
     let before = builder.has_variance();
     !before
         && builder.add_value("a", vec.as_slice()).is_ok()
         && builder.add_value("b", b"1").is_ok()
-        && builder.add_value("c", vec).is_ok()
-        && builder.add_value("d", string).is_ok()
+        && builder.add_value("c", &vec).is_ok()
+        && builder.add_value("d", &string).is_ok()
         && builder.has_variance()
-        && is_one_hash(builder.finalize(), hash)
-}
-
-fn lend(alloc: Global) -> bool {
-    are_lent(
-        alloc,
-        &bytes(alloc, b"1"),
-        &string(alloc, "1"),
-        hash_of(alloc, LENT),
-    )
+        && Some(builder.finalize()) == variance_of(alloc, rows)
 }
 
 #[test]
-fn a_builder_takes_whatever_lends_bytes(rt: HostRuntime) {
-    assert!(rt; lend(rt.alloc()));
+fn variances_as_the_original(rt: HostRuntime) {
+    laws::any_order();
+    assert!(rt; are_hashes(rt.alloc()));
+    assert!(rt; are_one_hash(rt.alloc(), ORDER, OTHER_ORDER));
+    assert!(rt; are_lent(rt.alloc(), LENT));
 }

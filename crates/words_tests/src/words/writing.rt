@@ -3,7 +3,7 @@ use crate::words::{is_shown, string};
 use cache_words::blake::Blake2b128;
 use cache_words::key::{CompactCacheKey, HashBinary, hash_key, str2hex};
 use cache_words::laws;
-use cache_words::pack::{BorrowedKey, Cursor, PackFault, PackWriteFault, Sink, writing};
+use cache_words::pack::{Cursor, PackFault, PackWriteFault, Sink, writing};
 use cache_words::text::Text;
 use cache_words::time::Moment;
 use std::alloc::{AllocError, Global};
@@ -76,16 +76,15 @@ fn write_short<S: Sink>(out: &mut S, value: Put) -> Result<(), AllocError> {
         Put::Array(count) => writing::put_array(out, count),
         Put::Hash(hash) => writing::put_hash(out, &hash),
         Put::OptionalHash(hash) => writing::put_optional_hash(out, hash),
-        Put::Moment(seconds) => write_moment(out, Moment::from_seconds(seconds)),
+        Put::Moment(seconds) => {
+            let moment = Moment::from_seconds(seconds);
+            if moment.is_before_epoch() {
+                return Ok(());
+            }
+            writing::put_moment(out, moment)
+        }
         _ => writing::put_nil(out),
     }
-}
-
-fn write_moment<S: Sink>(out: &mut S, moment: Moment) -> Result<(), AllocError> {
-    if moment.is_before_epoch() {
-        return Ok(());
-    }
-    writing::put_moment(out, moment)
 }
 
 pub(super) fn write_value<S: Sink>(
@@ -124,14 +123,6 @@ fn are_written(alloc: Global) -> bool {
     true
 }
 
-#[test]
-fn values_are_written_and_hashed(rt: HostRuntime) {
-    laws::written_is_spelled();
-    laws::one_spelling();
-    laws::shortest_is_shortest();
-    assert!(rt; are_written(rt.alloc()));
-}
-
 const KEYS: &[Row] = &[
     (
         "3bf0bdcb7f2d9a170292a964cab8214e",
@@ -147,17 +138,11 @@ const KEYS: &[Row] = &[
     ),
 ];
 
-fn hash_or_zeros(text: &str) -> HashBinary {
-    match str2hex(text) {
-        Some(hash) => hash,
-        None => [0; 16],
-    }
-}
-
+// A row's key; of bytes that aren't a hash it is that of zeros.
 fn kept_key(alloc: Global, row: Row) -> CompactCacheKey {
     let (primary, variance, tag, _) = row;
     CompactCacheKey {
-        primary: hash_or_zeros(primary),
+        primary: str2hex(primary).unwrap_or([0; 16]),
         variance: match variance {
             Some(variance) => str2hex(variance),
             None => None,
@@ -166,33 +151,26 @@ fn kept_key(alloc: Global, row: Row) -> CompactCacheKey {
     }
 }
 
-fn is_key(alloc: Global, read: BorrowedKey<'_>, key: &CompactCacheKey) -> bool {
-    match read.to_compact(alloc) {
-        Ok(kept) => kept == *key,
-        Err(_) => false,
-    }
-}
-
 fn is_key_read(alloc: Global, row: Row, text: &[u8]) -> bool {
     match (Cursor { rest: text }.key()) {
-        Ok(read) => is_key(alloc, read, &kept_key(alloc, row)),
+        Ok(read) => match read.to_compact(alloc) {
+            Ok(kept) => kept == kept_key(alloc, row),
+            Err(_) => false,
+        },
         Err(_) => false,
     }
 }
 
-fn is_both(alloc: Global, row: Row) -> bool {
-    match hex::decode(alloc, row.3) {
-        Ok(text) => {
-            is_written(alloc, Put::Key(row), text.as_slice())
-                && is_key_read(alloc, row, text.as_slice())
-        }
-        Err(_) => false,
-    }
-}
-
-fn are_both(alloc: Global) -> bool {
+fn keys_are_written_and_read(alloc: Global) -> bool {
     for &row in KEYS {
-        if !is_both(alloc, row) {
+        let is_right = match hex::decode(alloc, row.3) {
+            Ok(text) => {
+                is_written(alloc, Put::Key(row), text.as_slice())
+                    && is_key_read(alloc, row, text.as_slice())
+            }
+            Err(_) => false,
+        };
+        if !is_right {
             return false;
         }
     }
@@ -200,8 +178,12 @@ fn are_both(alloc: Global) -> bool {
 }
 
 #[test]
-fn keys_are_written_and_read(rt: HostRuntime) {
-    assert!(rt; are_both(rt.alloc()));
+fn values_and_keys_are_written_and_hashed(rt: HostRuntime) {
+    laws::written_is_spelled();
+    laws::one_spelling();
+    laws::shortest_is_shortest();
+    assert!(rt; are_written(rt.alloc()));
+    assert!(rt; keys_are_written_and_read(rt.alloc()));
 }
 
 const FAULTS: &[(PackFault, &str)] = &[
