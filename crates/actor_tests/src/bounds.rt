@@ -68,17 +68,15 @@ fn bounds_rows<R: Threads + Wait + Copy + Send + Sync + 'static, const N: usize>
     requires { 0 < N }
 {
     let generators = made::generators(alloc, workers)?;
-    let list: AsyncLru<u64, N> = made::called(rt, alloc, made::limited(1_000, N), generators)?;
+    let list: AsyncLru<u64, N> = made::called(
+        rt,
+        alloc,
+        made::limited(1_000, None, N),
+        generators,
+    )?;
     let bounded = is_bounded(rt, &list, 5_000);
     list.shutdown(rt);
     Some(bounded)
-}
-
-#[test]
-fn rows_past_the_limit_are_bounded(rt: HostRuntime) {
-    assert!(rt; bounds_rows::<HostRuntime, 1>(&rt, rt.alloc(), 1) == Some(true));
-    assert!(rt; bounds_rows::<HostRuntime, 4>(&rt, rt.alloc(), 1) == Some(true));
-    assert!(rt; bounds_rows::<HostRuntime, 16>(&rt, rt.alloc(), 16) == Some(true));
 }
 
 /// Whether the rows of a list without eviction workers all stay, where so many keys are admitted past its limit.
@@ -88,7 +86,7 @@ fn keeps_all<R: Threads + Wait + Copy + Send + 'static>(
     keys: usize,
 ) -> Option<bool> {
     let generators = made::generators(alloc, 0)?;
-    let list: AsyncLru<u64, 1> = made::called(rt, alloc, made::limited(10, 1), generators)?;
+    let list: AsyncLru<u64, 1> = made::called(rt, alloc, made::limited(10, None, 1), generators)?;
     let sent = flood(rt, &list, 0, keys as u64).is_some();
     let all = sent && list.shard_weight(rt, 0) == Ok(keys);
     list.shutdown(rt);
@@ -96,6 +94,9 @@ fn keeps_all<R: Threads + Wait + Copy + Send + 'static>(
 }
 
 #[test]
-fn no_caller_waits_for_workers_that_are_not_there(rt: HostRuntime) {
+fn rows_past_the_limit_are_bounded_and_no_caller_waits_in_vain(rt: HostRuntime) {
+    assert!(rt; bounds_rows::<HostRuntime, 1>(&rt, rt.alloc(), 1) == Some(true));
+    assert!(rt; bounds_rows::<HostRuntime, 4>(&rt, rt.alloc(), 1) == Some(true));
+    assert!(rt; bounds_rows::<HostRuntime, 16>(&rt, rt.alloc(), 16) == Some(true));
     assert!(rt; keeps_all(&rt, rt.alloc(), 1_000) == Some(true));
 }

@@ -2,7 +2,6 @@
 
 use crate::made::{comes_past, limited, received};
 use async_lru::AsyncLru;
-use crossbeam_channel::Receiver;
 use rand_core::{Rng, SeedableRng};
 use rand_pcg::Pcg64;
 use std::alloc::Global;
@@ -56,16 +55,13 @@ impl Rng for Shown {
     }
 }
 
-fn add(generators: &mut Vec<Shown>, signs: &Arc<Signs>, seed: u64) -> Option<()> {
-    let words = Pcg64::seed_from_u64(seed);
-    let signs = Arc::try_clone(signs).ok()?;
-    generators.push(Shown { words, signs }).ok()
-}
-
 fn generators(alloc: Global, signs: &Arc<Signs>) -> Option<Vec<Shown>> {
     let mut generators = Vec::new(alloc);
-    add(&mut generators, signs, 0)?;
-    add(&mut generators, signs, 1)?;
+    for seed in 0..2 {
+        let words = Pcg64::seed_from_u64(seed);
+        let signs = Arc::try_clone(signs).ok()?;
+        generators.push(Shown { words, signs }).ok()?;
+    }
     Some(generators)
 }
 
@@ -81,24 +77,16 @@ fn wakes<R: Wait>(rt: &R, list: &List, signs: &Signs) -> bool {
     list.admit(rt, 9, 1) == Ok(0) && comes_past(&signs.drawn, 0)
 }
 
-/// Whether just one pair is received, this one.
-fn is_alone<R: Wait>(rt: &R, pairs: &Receiver<(u32, usize)>, wanted: (u32, usize)) -> bool {
-    match pairs.recv(rt) {
-        Ok(pair) => pair == wanted && pairs.recv(rt).is_err(),
-        Err(_) => false,
-    }
-}
-
 /// Ends a list of limit 0 with two eviction workers while one of them is in a step of eviction, which goes on once the other has ended.
 /// Returns whether the pair that is evicted then is the only one.
 fn ends<R: Threads + Wait + Copy + Send + 'static>(rt: &R, alloc: Global) -> Option<bool> {
     let drawn = AtomicU64::new(0);
     let gone = AtomicU64::new(0);
     let signs = Arc::new(alloc, Signs { drawn, gone }).ok()?;
-    let (list, pairs) = received(rt, alloc, limited(0, 2), generators(alloc, &signs)?)?;
+    let (list, pairs) = received(rt, alloc, limited(0, None, 2), generators(alloc, &signs)?)?;
     let woken = wakes(rt, &list, &signs);
     list.shutdown(rt);
-    Some(woken && is_alone(rt, &pairs, (8, 0)))
+    Some(woken && pairs.recv(rt).ok() == Some((8, 0)) && pairs.recv(rt).is_err())
 }
 
 #[test]

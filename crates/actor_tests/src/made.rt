@@ -26,13 +26,11 @@ pub struct Plan {
     pub start: Option<u64>,
 }
 
-/// A list of that limit alone, with so many eviction workers.
-pub const fn limited(limit: usize, workers: usize) -> Plan
-    ensures { result.workers ≡ workers }
-{
+/// Of a list of that limit, perhaps a watermark, and so many eviction workers.
+pub fn limited(limit: usize, mark: Option<usize>, workers: usize) -> Plan {
     Plan {
         limit,
-        mark: None,
+        mark,
         capacity: 0,
         workers,
         start: None,

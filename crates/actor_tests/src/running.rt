@@ -89,8 +89,8 @@ fn has_rows<R: Wait>(rt: &R, list: &List, rows: &[(u32, usize)]) -> bool {
     }
 }
 
-/// Whether a key is put, taken out or moved so.
-fn changes<R: Wait>(rt: &R, list: &List, step: Step) -> bool {
+/// Whether a call answers what it must.
+fn does<R: Wait>(rt: &R, list: &List, step: Step) -> bool {
     match step {
         Step::Admit(key, weight) => list.admit(rt, key, weight) == Ok(0),
         Step::InsertTail(key, weight) => list.insert_tail(rt, key, weight) == Ok(0),
@@ -102,20 +102,12 @@ fn changes<R: Wait>(rt: &R, list: &List, step: Step) -> bool {
         }
         Step::Remove(key) => list.remove(rt, &key) == Ok(()),
         Step::RemoveByHash(key) => list.remove_by_hash(rt, hash_key(&key)) == Ok(()),
-        _ => false,
-    }
-}
-
-/// Whether a call answers what it must.
-fn does<R: Wait>(rt: &R, list: &List, step: Step) -> bool {
-    match step {
         Step::Promote(key, found) => list.promote(rt, &key) == Ok(found),
         Step::Peek(key, found) => list.peek(rt, &key) == Ok(found),
         Step::PeekWeight(key, weight) => list.peek_weight(rt, &key) == Ok(weight),
         Step::PeekLru(last) => list.peek_lru(rt, 0) == Ok(last),
         Step::Rows(rows) => has_rows(rt, list, rows),
         Step::Weight(weight) => list.shard_weight(rt, 0) == Ok(weight),
-        _ => changes(rt, list, step),
     }
 }
 
@@ -139,20 +131,16 @@ fn message_of(step: Step) -> Option<Message<u32>> {
     }
 }
 
-/// Sends the message of a call to a world, and has its actor apply it.
-fn applies(world: &mut World<u32, 1>, step: Step) -> bool {
-    match message_of(step) {
-        Some(message) => {
-            world.step(Event::Send(message)).is_ok() && world.step(Event::Act(0)).is_ok()
-        }
-        None => false,
-    }
-}
-
-/// Whether a world has these rows after the messages.
+/// Whether a world, whose actor applies each message once it is sent, has these rows after the messages.
 fn world_has(world: &mut World<u32, 1>, steps: &[Step], rows: &[(u32, usize)]) -> bool {
     for &step in steps {
-        if !applies(world, step) {
+        let is_applied = match message_of(step) {
+            Some(message) => {
+                world.step(Event::Send(message)).is_ok() && world.step(Event::Act(0)).is_ok()
+            }
+            None => false,
+        };
+        if !is_applied {
             return false;
         }
     }
@@ -181,17 +169,8 @@ fn is_as_a_world<R: Threads + Wait + Copy + Send + 'static>(
     Some(is_same && new_world_has(alloc, ORDER, rows))
 }
 
-/// Whether a list has one row then that weighs 1, and nothing was evicted.
-fn is_left(list: &List) -> bool {
-    comes_to(list, [1, 1, 0, 0])
-        && list.shard_len(0) == 1
-        && !list.is_empty()
-        && !list.over_limit()
-        && list.shards() == 1
-        && list.weight_limit() == 100
-}
-
-/// Whether a list, whose tables may have a start of the caller's, answers its calls as it must.
+/// Whether a list, whose tables may have a start of the caller's, answers its calls as it must, and has one row then that weighs 1, and
+/// nothing was evicted.
 fn answers<R: Threads + Wait + Copy + Send + 'static>(
     rt: &R,
     alloc: Global,
@@ -201,47 +180,36 @@ fn answers<R: Threads + Wait + Copy + Send + 'static>(
     let (list, _pairs) = built(rt, alloc, 100, start)?;
     let all = all_do(rt, &list, steps);
     list.trigger_eviction(rt);
-    let left = is_left(&list);
+    let left = comes_to(&list, [1, 1, 0, 0])
+        && list.shard_len(0) == 1
+        && !list.is_empty()
+        && !list.over_limit()
+        && list.shards() == 1
+        && list.weight_limit() == 100;
     list.shutdown(rt);
     Some(all && left)
 }
 
-#[test]
-fn async_ignores_messages(rt: HostRuntime) {
-    assert!(rt; is_as_a_world(&rt, rt.alloc(), &[(1, 1), (3, 1)]) == Some(true));
-}
-
-#[test]
-fn calls_answer(rt: HostRuntime) {
-    assert!(rt; answers(&rt, rt.alloc(), None, CALLS) == Some(true));
-    assert!(rt; answers(&rt, rt.alloc(), Some(7), CALLS) == Some(true));
-}
-
 const PASSING: &[Step] = &[Step::Admit(1, 1), Step::Admit(2, 2), Step::Admit(3, 2)];
-
-/// Whether two pairs are evicted in order.
-fn come_in_order<R: Wait>(rt: &R, pairs: &Receiver<(u32, usize)>) -> bool {
-    pairs.recv(rt).ok() == Some((1, 1)) && pairs.recv(rt).ok() == Some((2, 2))
-}
-
-/// Whether a row that the closed channel refuses counts too.
-fn counts_on<R: Wait>(rt: &R, list: &List) -> bool {
-    list.admit(rt, 4, 1) == Ok(0)
-        && comes_to(list, [1, 1, 3, 5])
-        && list.peek_lru(rt, 0) == Ok(Some((4, 1)))
-}
 
 /// Whether the rows past a limit are evicted in order, and those that the closed channel refuses count too.
 fn evicts<R: Threads + Wait + Copy + Send + 'static>(rt: &R, alloc: Global) -> Option<bool> {
     let (list, pairs) = built(rt, alloc, 2, Some(7))?;
-    let in_order = all_do(rt, &list, PASSING) && come_in_order(rt, &pairs);
+    let in_order = all_do(rt, &list, PASSING)
+        && pairs.recv(rt).ok() == Some((1, 1))
+        && pairs.recv(rt).ok() == Some((2, 2));
     drop(pairs);
-    let counted = counts_on(rt, &list);
+    let counted = list.admit(rt, 4, 1) == Ok(0)
+        && comes_to(&list, [1, 1, 3, 5])
+        && list.peek_lru(rt, 0) == Ok(Some((4, 1)));
     list.shutdown(rt);
     Some(in_order && counted)
 }
 
 #[test]
-fn evicted_pairs_come_in_order(rt: HostRuntime) {
+fn calls_answer_as_in_a_world_and_pairs_come_in_order(rt: HostRuntime) {
+    assert!(rt; is_as_a_world(&rt, rt.alloc(), &[(1, 1), (3, 1)]) == Some(true));
+    assert!(rt; answers(&rt, rt.alloc(), None, CALLS) == Some(true));
+    assert!(rt; answers(&rt, rt.alloc(), Some(7), CALLS) == Some(true));
     assert!(rt; evicts(&rt, rt.alloc()) == Some(true));
 }

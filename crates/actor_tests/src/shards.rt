@@ -2,7 +2,7 @@
 
 ghost use Rattle.std.specs.Prelude.{◌<◌};
 
-use crate::made::{Plan, called, generators, received};
+use crate::made::{called, generators, limited, received};
 use async_lru::{AsyncLru, TailFault};
 use crossbeam_channel::Receiver;
 use lru_core::lru_unit::LruFault;
@@ -113,24 +113,6 @@ type Limits = (usize, Option<usize>, usize);
 
 const LIMITS: &[Limits] = &[(7, None, 5), (100, Some(3), 5), (100, None, 0)];
 
-/// What is set of a list of that limit, and perhaps a watermark.
-fn planned(limit: usize, mark: Option<usize>) -> Plan {
-    Plan {
-        limit,
-        mark,
-        capacity: 0,
-        workers: 4,
-        start: None,
-    }
-}
-
-fn is_too_heavy<R: Wait>(rt: &R, list: &List, key: u32, weight: usize) -> bool {
-    match list.insert_tail_checked(rt, key, weight) {
-        Err(TailFault::Refused(LruFault::Weight(back))) => back == key,
-        _ => false,
-    }
-}
-
 fn has_rows<R: Wait>(rt: &R, list: &List, shard: usize, rows: &[(u32, usize)]) -> bool
     requires { shard < 4 }
 {
@@ -144,7 +126,10 @@ fn has_rows<R: Wait>(rt: &R, list: &List, shard: usize, rows: &[(u32, usize)]) -
 fn does<R: Wait>(rt: &R, list: &List, step: Step) -> bool {
     match step {
         Step::Admit(key, weight, shard) => list.admit(rt, key, weight) == Ok(shard),
-        Step::TooHeavy(key, weight) => is_too_heavy(rt, list, key, weight),
+        Step::TooHeavy(key, weight) => match list.insert_tail_checked(rt, key, weight) {
+            Err(TailFault::Refused(LruFault::Weight(back))) => back == key,
+            _ => false,
+        },
         Step::Promote(key, found) => list.promote(rt, &key) == Ok(found),
         Step::PeekWeight(key, weight) => list.peek_weight(rt, &key) == Ok(weight),
         Step::Last(shard, last) => shard < 4 && list.peek_lru(rt, shard) == Ok(last),
@@ -165,18 +150,13 @@ fn all_do<R: Wait>(rt: &R, list: &List, steps: &[Step]) -> bool {
     true
 }
 
-/// Admits eight rows of weight 2, and returns whether none is refused.
-fn admits<R: Wait>(rt: &R, list: &List) -> bool {
+/// Whether eight rows of weight 2 are admitted, and so many go, for so many turns at most, and no more.
+fn evicts<R: Wait>(rt: &R, list: &List, gone: usize) -> bool {
     for key in 0..8 {
         if list.admit(rt, key, 2).is_err() {
             return false;
         }
     }
-    true
-}
-
-/// Whether so many of the eight rows go, for so many turns at most, and no more.
-fn so_many_go<R: Wait>(rt: &R, list: &List, gone: usize) -> bool {
     for _ in 0..1_000_000 {
         let evicted = list.evicted_len();
         if evicted >= gone && list.len().wrapping_add(evicted) == 8 {
@@ -188,45 +168,30 @@ fn so_many_go<R: Wait>(rt: &R, list: &List, gone: usize) -> bool {
     false
 }
 
-fn evicts<R: Wait>(rt: &R, list: &List, gone: usize) -> bool {
-    admits(rt, list) && so_many_go(rt, list, gone)
-}
-
+/// Whether limits hold where what is evicted is called back with, and where it is received.
 fn limit_holds<R: Threads + Wait + Copy + Send + 'static>(
     rt: &R,
     alloc: Global,
     limits: Limits,
 ) -> Option<bool> {
-    let plan = planned(limits.0, limits.1);
+    let plan = limited(limits.0, limits.1, 4);
     let list: List = called(rt, alloc, plan, generators(alloc, 1)?)?;
     let holds = evicts(rt, &list, limits.2);
     list.shutdown(rt);
-    Some(holds)
-}
-
-/// The same where what is evicted is received.
-fn limit_holds_received<R: Threads + Wait + Copy + Send + 'static>(
-    rt: &R,
-    alloc: Global,
-    limits: Limits,
-) -> Option<bool> {
-    let plan = planned(limits.0, limits.1);
     let (list, _pairs): (List, Receiver<(u32, usize)>) = received(
         rt,
         alloc,
         plan,
         generators(alloc, 1)?,
     )?;
-    let holds = evicts(rt, &list, limits.2);
+    let holds_received = evicts(rt, &list, limits.2);
     list.shutdown(rt);
-    Some(holds)
+    Some(holds && holds_received)
 }
 
 fn limits_hold<R: Threads + Wait + Copy + Send + 'static>(rt: &R, alloc: Global) -> bool {
     for &limits in LIMITS {
-        if limit_holds(rt, alloc, limits) != Some(true)
-            || limit_holds_received(rt, alloc, limits) != Some(true)
-        {
+        if limit_holds(rt, alloc, limits) != Some(true) {
             return false;
         }
     }
@@ -246,28 +211,25 @@ fn answers<R: Threads + Wait + Copy + Send + Sync + 'static>(
     alloc: Global,
     tables: [&[Step]; 3],
 ) -> Option<bool> {
-    let list: List = called(rt, alloc, planned(usize::MAX, None), generators(alloc, 1)?)?;
+    let list: List = called(
+        rt,
+        alloc,
+        limited(usize::MAX, None, 4),
+        generators(alloc, 1)?,
+    )?;
     let all = two_do(rt, &list, tables);
     list.shutdown(rt);
     Some(all)
 }
 
 #[test]
-fn calls_go_to_their_shards(rt: HostRuntime) {
+fn calls_go_to_their_shards_and_two_callers_share_a_list(rt: HostRuntime) {
     assert!(rt; answers(&rt, rt.alloc(), [&[], &[], CALLS]) == Some(true));
-}
-
-#[test]
-fn heavy_messages_are_dropped(rt: HostRuntime) {
     assert!(rt; answers(&rt, rt.alloc(), [&[], &[], HEAVY]) == Some(true));
+    assert!(rt; answers(&rt, rt.alloc(), [FIRST, SECOND, BOTH]) == Some(true));
 }
 
 #[test]
 fn limits_take_effect(rt: HostRuntime) {
     assert!(rt; limits_hold(&rt, rt.alloc()));
-}
-
-#[test]
-fn two_callers_share_a_list(rt: HostRuntime) {
-    assert!(rt; answers(&rt, rt.alloc(), [FIRST, SECOND, BOTH]) == Some(true));
 }

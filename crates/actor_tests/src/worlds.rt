@@ -4,7 +4,6 @@ ghost use Rattle.std.specs.Prelude.{◌<◌};
 
 use async_lru::{Event, Message, Outcome, StepFault, World};
 use lru_core::SeededState;
-use lru_core::lru_unit::LruUnitIter;
 use std::alloc::Global;
 use std::hash::BuildHasher;
 
@@ -216,10 +215,7 @@ pub fn has_rows<const N: usize, S: BuildHasher>(
     if shard >= core.shards() {
         return false;
     }
-    are_all(core.iter(shard), rows)
-}
-
-fn are_all(mut there: LruUnitIter<'_, u32>, rows: &[(u32, usize)]) -> bool {
+    let mut there = core.iter(shard);
     for pair in rows {
         match there.next() {
             Some((key, weight)) => {
@@ -233,43 +229,20 @@ fn are_all(mut there: LruUnitIter<'_, u32>, rows: &[(u32, usize)]) -> bool {
     there.next().is_none()
 }
 
-/// Whether these pairs wait for their callbacks.
-fn wait<const N: usize, S: BuildHasher>(world: &World<u32, N, S>, pairs: &[(u32, usize)]) -> bool {
-    let mut there = world.dispatch().iter();
-    for pair in pairs {
-        if there.next() != Some(pair) {
-            return false;
-        }
-    }
-    there.next().is_none()
-}
-
-/// Whether a world does the steps of a row and shows what they leave.
+/// Whether a world does the steps of a row, and has then the rows in shard 0 and the pairs that wait for their callbacks.
 fn goes<const N: usize, S: BuildHasher + Drop>(mut world: World<u32, N, S>, row: &Row) -> bool {
     for &step in row.steps {
         if !does(&mut world, step) {
             return false;
         }
     }
-    has_rows(&world, 0, row.rows) && wait(&world, row.dispatch)
-}
-
-fn fixed_goes<const N: usize>(alloc: Global, row: &Row) -> bool
-    requires { 0 < N }
-{
-    match World::<u32, N>::new(alloc, 1, None) {
-        Ok(world) => goes(world, row),
-        Err(_) => false,
+    let mut there = world.dispatch().iter();
+    for pair in row.dispatch {
+        if there.next() != Some(pair) {
+            return false;
+        }
     }
-}
-
-fn own_goes<const N: usize>(alloc: Global, row: &Row) -> bool
-    requires { 0 < N }
-{
-    match World::<u32, N, SeededState>::with_hasher(alloc, OWN, 1, None) {
-        Ok(world) => goes(world, row),
-        Err(_) => false,
-    }
+    there.next().is_none() && has_rows(&world, 0, row.rows)
 }
 
 /// Whether a world of N shards of limit 1 does each row, under hashes with a fixed start and with one of the caller's.
@@ -277,7 +250,15 @@ fn all_go<const N: usize>(alloc: Global, rows: &[Row]) -> bool
     requires { 0 < N }
 {
     for row in rows {
-        if !fixed_goes::<N>(alloc, row) || !own_goes::<N>(alloc, row) {
+        let fixed = match World::<u32, N>::new(alloc, 1, None) {
+            Ok(world) => goes(world, row),
+            Err(_) => false,
+        };
+        let own = match World::<u32, N, SeededState>::with_hasher(alloc, OWN, 1, None) {
+            Ok(world) => goes(world, row),
+            Err(_) => false,
+        };
+        if !fixed || !own {
             return false;
         }
     }
@@ -285,11 +266,7 @@ fn all_go<const N: usize>(alloc: Global, rows: &[Row]) -> bool
 }
 
 #[test]
-fn a_tight_world_evicts_the_last(rt: HostRuntime) {
+fn a_tight_world_evicts_the_last_and_two_words_pick_the_shard(rt: HostRuntime) {
     assert!(rt; all_go::<1>(rt.alloc(), TIGHT));
-}
-
-#[test]
-fn two_words_pick_the_shard(rt: HostRuntime) {
     assert!(rt; all_go::<2>(rt.alloc(), TWO));
 }
