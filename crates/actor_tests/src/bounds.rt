@@ -94,9 +94,13 @@ fn keeps_all<R: Threads + Wait + Copy + Send + 'static>(
 }
 
 #[test]
-fn rows_past_the_limit_are_bounded_and_no_caller_waits_in_vain(rt: HostRuntime) {
+fn rows_past_the_limit_are_bounded(rt: HostRuntime) {
     assert!(rt; bounds_rows::<HostRuntime, 1>(&rt, rt.alloc(), 1) == Some(true));
     assert!(rt; bounds_rows::<HostRuntime, 4>(&rt, rt.alloc(), 1) == Some(true));
     assert!(rt; bounds_rows::<HostRuntime, 16>(&rt, rt.alloc(), 16) == Some(true));
+}
+
+#[test]
+fn no_caller_waits_for_workers_that_are_not_there(rt: HostRuntime) {
     assert!(rt; keeps_all(&rt, rt.alloc(), 1_000) == Some(true));
 }

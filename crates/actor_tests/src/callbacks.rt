@@ -30,7 +30,7 @@ fn evicts_two<R: Wait>(rt: &R, list: &AsyncLru<u32, 1>) -> bool {
             return false;
         }
     }
-    comes_to(list, [1, 1, 2, 2])
+    comes_to(list, (1, 1), (2, 2))
 }
 
 /// Whether the first of two callbacks sees the second begin, with that many callback workers.

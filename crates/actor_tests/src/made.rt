@@ -107,12 +107,13 @@ pub fn comes_past(number: &AtomicU64, least: u64) -> bool {
     false
 }
 
-/// Waits until a list has rows of such a weight, so many, and has evicted so many, of such a weight, for so many turns at most. Returns
-/// whether it has.
-pub fn comes_to(list: &AsyncLru<u32, 1>, counts: [usize; 4]) -> bool {
+/// Waits until the rows of a list and those that it evicted have such a weight and are so many, for so many turns at most. Returns
+/// whether they have.
+pub fn comes_to(list: &AsyncLru<u32, 1>, rows: (usize, usize), evicted: (usize, usize)) -> bool {
     for _ in 0..10_000_000 {
-        let rows = [list.weight(), list.len()];
-        if [rows[0], rows[1], list.evicted_len(), list.evicted_weight()] == counts {
+        if (list.weight(), list.len()) == rows
+            && (list.evicted_weight(), list.evicted_len()) == evicted
+        {
             return true;
         }
         thread::yield_now();

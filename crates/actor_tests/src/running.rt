@@ -180,7 +180,7 @@ fn answers<R: Threads + Wait + Copy + Send + 'static>(
     let (list, _pairs) = built(rt, alloc, 100, start)?;
     let all = all_do(rt, &list, steps);
     list.trigger_eviction(rt);
-    let left = comes_to(&list, [1, 1, 0, 0])
+    let left = comes_to(&list, (1, 1), (0, 0))
         && list.shard_len(0) == 1
         && !list.is_empty()
         && !list.over_limit()
@@ -200,15 +200,19 @@ fn evicts<R: Threads + Wait + Copy + Send + 'static>(rt: &R, alloc: Global) -> O
         && pairs.recv(rt).ok() == Some((2, 2));
     drop(pairs);
     let counted = list.admit(rt, 4, 1) == Ok(0)
-        && comes_to(&list, [1, 1, 3, 5])
+        && comes_to(&list, (1, 1), (5, 3))
         && list.peek_lru(rt, 0) == Ok(Some((4, 1)));
     list.shutdown(rt);
     Some(in_order && counted)
 }
 
 #[test]
-fn calls_answer_as_in_a_world_and_pairs_come_in_order(rt: HostRuntime) {
+fn async_ignores_messages(rt: HostRuntime) {
     assert!(rt; is_as_a_world(&rt, rt.alloc(), &[(1, 1), (3, 1)]) == Some(true));
+}
+
+#[test]
+fn calls_answer_and_evicted_pairs_come_in_order(rt: HostRuntime) {
     assert!(rt; answers(&rt, rt.alloc(), None, CALLS) == Some(true));
     assert!(rt; answers(&rt, rt.alloc(), Some(7), CALLS) == Some(true));
     assert!(rt; evicts(&rt, rt.alloc()) == Some(true));
