@@ -108,6 +108,15 @@ const BOTH: &[Step] = &[
     Step::Weighs(3, 9, 2),
 ];
 
+/// What two callers do at once, and what is asked then.
+type Tables = (&'static [Step], &'static [Step], &'static [Step]);
+
+const CALLED: Tables = (&[], &[], CALLS);
+
+const WEIGHTY: Tables = (&[], &[], HEAVY);
+
+const SHARED: Tables = (FIRST, SECOND, BOTH);
+
 /// A limit on the weight, perhaps a watermark, and how many of eight rows of weight 2 go.
 type Limits = (usize, Option<usize>, usize);
 
@@ -199,8 +208,8 @@ fn limits_hold<R: Threads + Wait + Copy + Send + 'static>(rt: &R, alloc: Global)
 }
 
 /// Whether two callers at once get their answers, and what is asked then is answered too.
-fn two_do<R: Threads + Wait + Sync>(rt: &R, list: &List, tables: [&[Step]; 3]) -> bool {
-    let [first, second, both] = tables;
+fn two_do<R: Threads + Wait + Sync>(rt: &R, list: &List, tables: Tables) -> bool {
+    let (first, second, both) = tables;
     let (one, two) = thread::join(rt, || all_do(rt, list, first), || all_do(rt, list, second));
     one && two && all_do(rt, list, both)
 }
@@ -209,7 +218,7 @@ fn two_do<R: Threads + Wait + Sync>(rt: &R, list: &List, tables: [&[Step]; 3]) -
 fn answers<R: Threads + Wait + Copy + Send + Sync + 'static>(
     rt: &R,
     alloc: Global,
-    tables: [&[Step]; 3],
+    tables: Tables,
 ) -> Option<bool> {
     let list: List = called(
         rt,
@@ -224,9 +233,9 @@ fn answers<R: Threads + Wait + Copy + Send + Sync + 'static>(
 
 #[test]
 fn calls_go_to_their_shards_and_two_callers_share_a_list(rt: HostRuntime) {
-    assert!(rt; answers(&rt, rt.alloc(), [&[], &[], CALLS]) == Some(true));
-    assert!(rt; answers(&rt, rt.alloc(), [&[], &[], HEAVY]) == Some(true));
-    assert!(rt; answers(&rt, rt.alloc(), [FIRST, SECOND, BOTH]) == Some(true));
+    assert!(rt; answers(&rt, rt.alloc(), CALLED) == Some(true));
+    assert!(rt; answers(&rt, rt.alloc(), WEIGHTY) == Some(true));
+    assert!(rt; answers(&rt, rt.alloc(), SHARED) == Some(true));
 }
 
 #[test]
