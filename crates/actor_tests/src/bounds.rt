@@ -2,22 +2,12 @@
 
 ghost use Rattle.std.specs.Prelude.{◌<◌};
 
+use crate::made;
 use async_lru::AsyncLru;
-use rand_core::SeedableRng;
-use rand_pcg::Pcg64;
 use std::alloc::Global;
 use std::sync::Wait;
 use std::thread;
 use std::thread::Threads;
-
-/// Generators for so many eviction workers.
-fn generators(alloc: Global, workers: u64) -> Option<Vec<Pcg64>> {
-    let mut generators = Vec::new(alloc);
-    for seed in 0..workers {
-        generators.push(Pcg64::seed_from_u64(seed)).ok()?;
-    }
-    Some(generators)
-}
 
 /// Admits so many keys of weight 1, from `first` on, and returns the greatest number of rows that was seen.
 fn flood<R: Wait, const N: usize>(
@@ -28,7 +18,9 @@ fn flood<R: Wait, const N: usize>(
 ) -> Option<usize> {
     let mut most = 0;
     for key in 0..keys {
-        list.admit(rt, first.wrapping_add(key), 1).ok()?;
+        if list.admit(rt, first.wrapping_add(key), 1).is_err() {
+            return None;
+        }
         most = list.len().max(most);
     }
     Some(most)
@@ -75,13 +67,30 @@ fn bounds_rows<R: Threads + Wait + Copy + Send + Sync + 'static, const N: usize>
 ) -> Option<bool>
     requires { 0 < N }
 {
-    let list: AsyncLru<u64, N> = AsyncLru::builder(1_000, |_: u64, _: usize| {})
-        .num_eviction_workers(N)
-        .build(rt, alloc, generators(alloc, workers)?)
-        .ok()?;
+    let generators = made::generators(alloc, workers)?;
+    let list: AsyncLru<u64, N> = made::called(
+        rt,
+        alloc,
+        made::limited(1_000, None, N),
+        generators,
+    )?;
     let bounded = is_bounded(rt, &list, 5_000);
     list.shutdown(rt);
     Some(bounded)
+}
+
+/// Whether the rows of a list without eviction workers all stay, where so many keys are admitted past its limit.
+fn keeps_all<R: Threads + Wait + Copy + Send + 'static>(
+    rt: &R,
+    alloc: Global,
+    keys: usize,
+) -> Option<bool> {
+    let generators = made::generators(alloc, 0)?;
+    let list: AsyncLru<u64, 1> = made::called(rt, alloc, made::limited(10, None, 1), generators)?;
+    let sent = flood(rt, &list, 0, keys as u64).is_some();
+    let all = sent && list.shard_weight(rt, 0) == Ok(keys);
+    list.shutdown(rt);
+    Some(all)
 }
 
 #[test]
@@ -91,23 +100,7 @@ fn rows_past_the_limit_are_bounded(rt: HostRuntime) {
     assert!(rt; bounds_rows::<HostRuntime, 16>(&rt, rt.alloc(), 16) == Some(true));
 }
 
-/// How much the rows of a list without eviction workers weigh in the end, where so many keys are admitted past its limit.
-fn unevicted<R: Threads + Wait + Copy + Send + Sync + 'static>(
-    rt: &R,
-    alloc: Global,
-    keys: u64,
-) -> Option<usize> {
-    let list: AsyncLru<u64, 1> = AsyncLru::builder(10, |_: u64, _: usize| {})
-        .build(rt, alloc, generators(alloc, 0)?)
-        .ok()?;
-    let sent = flood(rt, &list, 0, keys);
-    let weight = list.shard_weight(rt, 0);
-    list.shutdown(rt);
-    sent?;
-    weight.ok()
-}
-
 #[test]
 fn no_caller_waits_for_workers_that_are_not_there(rt: HostRuntime) {
-    assert!(rt; unevicted(&rt, rt.alloc(), 1_000) == Some(1_000));
+    assert!(rt; keeps_all(&rt, rt.alloc(), 1_000) == Some(true));
 }

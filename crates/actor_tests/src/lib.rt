@@ -8,6 +8,8 @@ mod callbacks;
 #[cfg(test)]
 mod endings;
 #[cfg(test)]
+mod made;
+#[cfg(test)]
 mod managers;
 #[cfg(test)]
 mod running;

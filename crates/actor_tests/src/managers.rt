@@ -1,6 +1,6 @@
 //! Calls of a manager with its threads running.
 
-use async_lru::AsyncLru;
+use crate::made::{called, generators, limited};
 use async_manager::Manager;
 use cache_entries::entry::{CacheEntryId, CacheEntryKey, CacheEntryKeyRef};
 use cache_evict::lru::Manager as OwnRows;
@@ -9,8 +9,6 @@ use cache_words::key::CompactCacheKey;
 use cache_words::text::Text;
 use cache_words::time::Moment;
 use lru_core::SeededState;
-use rand_core::SeedableRng;
-use rand_pcg::Pcg64;
 use std::alloc::Global;
 use std::sync::Wait;
 use std::thread::Threads;
@@ -80,30 +78,19 @@ fn entry(alloc: Global, key: u8, id: Option<u64>) -> CacheEntryKey {
     }
 }
 
-/// Whether a text of so many bytes gives a manager rows of that weight, of which it writes the same text.
-fn is_taken(
-    alloc: Global,
-    other: &mut OwnRows<1>,
-    text: &Vec<u8>,
-    len: usize,
-    weight: usize,
-) -> bool {
-    let loaded = other.deserialize_shard(alloc, text.as_slice()).is_ok();
+/// Whether a text gives a manager rows of that weight, of which it writes the same text.
+fn gives(alloc: Global, text: &Vec<u8>, weight: usize) -> bool {
+    let Ok(mut other) = OwnRows::<1>::with_capacity(alloc, 100, 0) else {
+        return false;
+    };
+    let is_loaded = other.deserialize_shard(alloc, text.as_slice()).is_ok();
     match other.serialize_shard(alloc, 0) {
-        Ok(again) => {
-            loaded && again == *text && text.len() == len && other.total_size() == weight
-        }
+        Ok(again) => is_loaded && again == *text && other.total_size() == weight,
         Err(_) => false,
     }
 }
 
-fn loads(alloc: Global, text: &Vec<u8>, len: usize, weight: usize) -> bool {
-    match OwnRows::with_capacity(alloc, 100, 0) {
-        Ok(mut other) => is_taken(alloc, &mut other, text, len, weight),
-        Err(_) => false,
-    }
-}
-
+/// Whether a manager has a text of so many bytes, which gives rows of that weight.
 fn has_text<R: Wait>(
     rt: &R,
     alloc: Global,
@@ -112,18 +99,9 @@ fn has_text<R: Wait>(
     weight: usize,
 ) -> bool {
     match manager.serialize_shard(rt, alloc, 0) {
-        Ok(text) => loads(alloc, &text, len, weight),
+        Ok(text) => text.len() == len && gives(alloc, &text, weight),
         Err(_) => false,
     }
-}
-
-fn removes_parts<R: Wait>(rt: &R, manager: &Manager<1>, key: u8) -> bool {
-    let parts = KeyParts {
-        primary: [key; 16],
-        variance: None,
-        user_tag: "",
-    };
-    manager.remove_parts(rt, parts) == Ok(())
 }
 
 /// Whether an entry is put so.
@@ -160,7 +138,14 @@ fn does<R: Wait>(rt: &R, alloc: Global, manager: &Manager<1>, row: Row) -> bool 
         Step::Admit(_) | Step::InsertTail(..) | Step::Last => {
             puts(rt, manager, entry(alloc, row.0, row.1), row.2)
         }
-        Step::RemoveParts => removes_parts(rt, manager, row.0),
+        Step::RemoveParts => {
+            let parts = KeyParts {
+                primary: [row.0; 16],
+                variance: None,
+                user_tag: "",
+            };
+            manager.remove_parts(rt, parts) == Ok(())
+        }
         Step::Weighs(weight, items) => {
             manager.shard_weight(rt, 0) == Ok(weight)
                 && manager.shard_len(0) == items
@@ -171,17 +156,13 @@ fn does<R: Wait>(rt: &R, alloc: Global, manager: &Manager<1>, row: Row) -> bool 
     }
 }
 
+/// Whether all calls do, and one shard has a weight of 4 then, and nothing was evicted.
 fn all_do<R: Wait>(rt: &R, alloc: Global, manager: &Manager<1>, rows: &[Row]) -> bool {
     for &row in rows {
         if !does(rt, alloc, manager, row) {
             return false;
         }
     }
-    true
-}
-
-/// Whether one shard has a weight of 4 then, and nothing was evicted.
-fn is_left(alloc: Global, manager: &Manager<1>) -> bool {
     manager.get_shard_for_key(&entry(alloc, 1, None)) == 0
         && manager.shards() == 1
         && manager.total_size() == 4
@@ -191,71 +172,41 @@ fn is_left(alloc: Global, manager: &Manager<1>) -> bool {
 
 /// Whether a manager without entries, of limit 100, answers the calls as it must. It ends then.
 fn answers<R: Threads + Wait>(rt: &R, alloc: Global, manager: Manager<1>, rows: &[Row]) -> bool {
-    let all = all_do(rt, alloc, &manager, rows) && is_left(alloc, &manager);
+    let all = all_do(rt, alloc, &manager, rows);
     manager.shutdown(rt);
     all
 }
 
-/// A generator for one eviction worker.
-fn generators(alloc: Global) -> Option<Vec<Pcg64>> {
-    let mut generators = Vec::new(alloc);
-    generators.push(Pcg64::seed_from_u64(0)).ok()?;
-    Some(generators)
-}
-
-/// Whether a manager that was built does.
+/// Whether a manager that was built does, of which all is set or, of a manager with a start of the caller's for its tables, that alone.
 fn built_answers<R: Threads + Wait + Copy + Send + 'static>(
     rt: &R,
     alloc: Global,
-    rows: &[Row],
+    start: Option<SeededState>,
 ) -> Option<bool> {
-    let manager = Manager::builder(100, |_: CacheEntryKey, _: usize| {})
-        .capacity(4)
-        .len_watermark(10)
-        .num_eviction_workers(1)
-        .num_callback_workers(2)
-        .build(rt, alloc, generators(alloc)?)
-        .ok()?;
-    Some(answers(rt, alloc, manager, rows))
-}
-
-/// Whether a manager does whose tables have a start of the caller's.
-fn own_start_answers<R: Threads + Wait + Copy + Send + 'static>(
-    rt: &R,
-    alloc: Global,
-    rows: &[Row],
-) -> Option<bool> {
-    let manager = Manager::builder(100, |_: CacheEntryKey, _: usize| {})
-        .with_hasher(SeededState { word: 7 })
-        .build(rt, alloc, generators(alloc)?)
-        .ok()?;
-    Some(answers(rt, alloc, manager, rows))
+    let builder = Manager::builder(100, |_: CacheEntryKey, _: usize| {});
+    let builder = match start {
+        Some(start) => builder.with_hasher(start),
+        None => {
+            builder
+                .capacity(4)
+                .len_watermark(10)
+                .num_eviction_workers(1)
+                .num_callback_workers(2)
+        }
+    };
+    let manager = builder.build(rt, alloc, generators(alloc, 1)?).ok()?;
+    Some(answers(rt, alloc, manager, CALLS))
 }
 
 /// Whether a manager of lists that run does.
-fn lists_answer<R: Threads + Wait + Copy + Send + 'static>(
-    rt: &R,
-    alloc: Global,
-    rows: &[Row],
-) -> Option<bool> {
-    let lists = AsyncLru::builder(100, |_: CacheEntryKey, _: usize| {})
-        .build(rt, alloc, generators(alloc)?)
-        .ok()?;
-    Some(answers(rt, alloc, Manager::from_lru(lists), rows))
-}
-
-/// Whether each of the three does.
-fn all_answer<R: Threads + Wait + Copy + Send + 'static>(
-    rt: &R,
-    alloc: Global,
-    rows: &[Row],
-) -> bool {
-    built_answers(rt, alloc, rows) == Some(true)
-        && own_start_answers(rt, alloc, rows) == Some(true)
-        && lists_answer(rt, alloc, rows) == Some(true)
+fn lists_answer<R: Threads + Wait + Copy + Send + 'static>(rt: &R, alloc: Global) -> Option<bool> {
+    let lists = called(rt, alloc, limited(100, None, 1), generators(alloc, 1)?)?;
+    Some(answers(rt, alloc, Manager::from_lru(lists), CALLS))
 }
 
 #[test]
 fn entries_are_tracked(rt: HostRuntime) {
-    assert!(rt; all_answer(&rt, rt.alloc(), CALLS));
+    assert!(rt; built_answers(&rt, rt.alloc(), None) == Some(true));
+    assert!(rt; built_answers(&rt, rt.alloc(), Some(SeededState { word: 7 })) == Some(true));
+    assert!(rt; lists_answer(&rt, rt.alloc()) == Some(true));
 }

@@ -1,13 +1,11 @@
 //! Calls of lists with their threads running, and what they answer.
 
+use crate::made::{Plan, comes_to, generators, received};
+use crate::worlds;
 use async_lru::{AsyncLru, Event, Message, World, hash_key};
 use crossbeam_channel::Receiver;
-use lru_core::SeededState;
-use rand_core::SeedableRng;
-use rand_pcg::Pcg64;
 use std::alloc::Global;
 use std::sync::Wait;
-use std::thread;
 use std::thread::Threads;
 
 type List = AsyncLru<u32, 1>;
@@ -72,36 +70,16 @@ fn built<R: Threads + Wait + Copy + Send + 'static>(
     rt: &R,
     alloc: Global,
     limit: usize,
-    own: Option<u64>,
+    start: Option<u64>,
 ) -> Option<(List, Receiver<(u32, usize)>)> {
-    let mut generators = Vec::new(alloc);
-    generators.push(Pcg64::seed_from_u64(0)).ok()?;
-    let builder = AsyncLru::builder(limit, |_: u32, _: usize| {})
-        .capacity(4)
-        .num_eviction_workers(1);
-    let built = match own {
-        Some(word) => {
-            builder
-                .with_hasher(SeededState { word })
-                .build_with_eviction_receiver(rt, alloc, generators)
-        }
-        None => builder.build_with_eviction_receiver(rt, alloc, generators),
+    let plan = Plan {
+        limit,
+        mark: None,
+        capacity: 4,
+        workers: 1,
+        start,
     };
-    built.ok()
-}
-
-/// Whether a message is sent.
-fn sends<R: Wait>(rt: &R, list: &List, step: Step) -> bool {
-    match step {
-        Step::Admit(key, weight) => list.admit(rt, key, weight) == Ok(0),
-        Step::InsertTail(key, weight) => list.insert_tail(rt, key, weight) == Ok(0),
-        Step::Increment(key, delta, cap) => {
-            list.increment_weight(rt, &key, delta, Some(cap)) == Ok(())
-        }
-        Step::Remove(key) => list.remove(rt, &key) == Ok(()),
-        Step::RemoveByHash(key) => list.remove_by_hash(rt, hash_key(&key)) == Ok(()),
-        _ => false,
-    }
+    received(rt, alloc, plan, generators(alloc, 1)?)
 }
 
 fn has_rows<R: Wait>(rt: &R, list: &List, rows: &[(u32, usize)]) -> bool {
@@ -111,25 +89,26 @@ fn has_rows<R: Wait>(rt: &R, list: &List, rows: &[(u32, usize)]) -> bool {
     }
 }
 
-/// Whether a question is answered so.
-fn answers_so<R: Wait>(rt: &R, list: &List, step: Step) -> bool {
+/// Whether a call answers what it must.
+fn does<R: Wait>(rt: &R, list: &List, step: Step) -> bool {
     match step {
+        Step::Admit(key, weight) => list.admit(rt, key, weight) == Ok(0),
+        Step::InsertTail(key, weight) => list.insert_tail(rt, key, weight) == Ok(0),
         Step::InsertChecked(key, weight, is_new) => {
             list.insert_tail_checked(rt, key, weight).ok() == Some(is_new)
         }
+        Step::Increment(key, delta, cap) => {
+            list.increment_weight(rt, &key, delta, Some(cap)) == Ok(())
+        }
+        Step::Remove(key) => list.remove(rt, &key) == Ok(()),
+        Step::RemoveByHash(key) => list.remove_by_hash(rt, hash_key(&key)) == Ok(()),
         Step::Promote(key, found) => list.promote(rt, &key) == Ok(found),
         Step::Peek(key, found) => list.peek(rt, &key) == Ok(found),
         Step::PeekWeight(key, weight) => list.peek_weight(rt, &key) == Ok(weight),
         Step::PeekLru(last) => list.peek_lru(rt, 0) == Ok(last),
         Step::Rows(rows) => has_rows(rt, list, rows),
         Step::Weight(weight) => list.shard_weight(rt, 0) == Ok(weight),
-        _ => false,
     }
-}
-
-/// Whether a call answers what it must: each of these is false of the calls that it doesn't do.
-fn does<R: Wait>(rt: &R, list: &List, step: Step) -> bool {
-    sends(rt, list, step) || answers_so(rt, list, step)
 }
 
 /// Whether each call of a table answers what it must.
@@ -142,143 +121,99 @@ fn all_do<R: Wait>(rt: &R, list: &List, steps: &[Step]) -> bool {
     true
 }
 
-/// Sends the message of a call to a world, and has its actor apply it.
-fn applies(world: &mut World<u32, 1>, step: Step) -> bool {
-    let message = match step {
-        Step::Admit(key, weight) => Message::Admit(hash_key(&key), key, weight),
-        Step::Promote(key, _) => Message::Promote(hash_key(&key)),
-        Step::Remove(key) => Message::Remove(hash_key(&key)),
-        _ => return false,
-    };
-    world.step(Event::Send(message)).is_ok() && world.step(Event::Act(0)).is_ok()
+/// The message of a call, of those that a world gets too.
+fn message_of(step: Step) -> Option<Message<u32>> {
+    match step {
+        Step::Admit(key, weight) => Some(Message::Admit(hash_key(&key), key, weight)),
+        Step::Promote(key, _) => Some(Message::Promote(hash_key(&key))),
+        Step::Remove(key) => Some(Message::Remove(hash_key(&key))),
+        _ => None,
+    }
 }
 
-/// Whether both do the same messages.
-fn both_do<R: Wait>(rt: &R, list: &List, world: &mut World<u32, 1>, steps: &[Step]) -> bool {
+/// Whether a world, whose actor applies each message once it is sent, has these rows after the messages.
+fn world_has(world: &mut World<u32, 1>, steps: &[Step], rows: &[(u32, usize)]) -> bool {
     for &step in steps {
-        if !does(rt, list, step) || !applies(world, step) {
+        let is_applied = match message_of(step) {
+            Some(message) => {
+                world.step(Event::Send(message)).is_ok() && world.step(Event::Act(0)).is_ok()
+            }
+            None => false,
+        };
+        if !is_applied {
             return false;
         }
     }
-    true
+    worlds::has_rows(world, 0, rows)
 }
 
-/// Whether a world has these rows.
-fn world_has(world: &World<u32, 1>, rows: &[(u32, usize)]) -> bool {
-    let mut there = world.core().iter(0);
-    for pair in rows {
-        match there.next() {
-            Some((key, weight)) => {
-                if *key != pair.0 || weight != pair.1 {
-                    return false;
-                }
-            }
-            None => return false,
-        }
-    }
-    there.next().is_none()
-}
-
-/// Whether the rows of a list are those of a world after the same messages, which are these.
-fn is_as_a_world<R: Wait>(rt: &R, alloc: Global, list: &List, rows: &[(u32, usize)]) -> bool {
+/// Whether a new world has these rows after the messages.
+fn new_world_has(alloc: Global, steps: &[Step], rows: &[(u32, usize)]) -> bool {
     match World::new(alloc, 100, None) {
-        Ok(mut world) => {
-            both_do(rt, list, &mut world, ORDER)
-                && world_has(&world, rows)
-                && has_rows(rt, list, rows)
-                && list.shard_weight(rt, 0) == Ok(2)
-        }
+        Ok(mut world) => world_has(&mut world, steps, rows),
         Err(_) => false,
     }
 }
 
-/// Waits until a condition holds, for so many turns at most, and returns whether it did.
-fn holds<F: Fn() -> bool>(condition: F) -> bool
-    requires { F.IsAlwaysCallable condition }
-{
-    for _ in 0..10_000_000 {
-        if condition() {
-            return true;
-        }
-        thread::yield_now();
-    }
-    false
+/// Whether the rows of a list, which weigh 2, are those of a world after the same messages, which are these.
+fn is_as_a_world<R: Threads + Wait + Copy + Send + 'static>(
+    rt: &R,
+    alloc: Global,
+    rows: &[(u32, usize)],
+) -> Option<bool> {
+    let (list, _pairs) = built(rt, alloc, 100, None)?;
+    let is_same = all_do(rt, &list, ORDER)
+        && has_rows(rt, &list, rows)
+        && list.shard_weight(rt, 0) == Ok(2);
+    list.shutdown(rt);
+    Some(is_same && new_world_has(alloc, ORDER, rows))
 }
 
-/// Whether a list has one row then that weighs 1, and nothing was evicted.
-fn is_left(list: &List) -> bool {
-    holds(|| list.weight() == 1 && list.len() == 1 && list.shard_len(0) == 1)
-        && !list.is_empty()
-        && !list.over_limit()
-        && list.shards() == 1
-        && list.weight_limit() == 100
-        && list.evicted_len() == 0
-        && list.evicted_weight() == 0
-}
-
-/// Whether a list, whose tables may have a start of the caller's, answers its calls as it must.
+/// Whether a list, whose tables may have a start of the caller's, answers its calls as it must, and has one row then that weighs 1, and
+/// nothing was evicted.
 fn answers<R: Threads + Wait + Copy + Send + 'static>(
     rt: &R,
     alloc: Global,
-    own: Option<u64>,
+    start: Option<u64>,
     steps: &[Step],
 ) -> Option<bool> {
-    let (list, _pairs) = built(rt, alloc, 100, own)?;
+    let (list, _pairs) = built(rt, alloc, 100, start)?;
     let all = all_do(rt, &list, steps);
     list.trigger_eviction(rt);
-    let left = is_left(&list);
+    let left = comes_to(&list, (1, 1), (0, 0))
+        && list.shard_len(0) == 1
+        && !list.is_empty()
+        && !list.over_limit()
+        && list.shards() == 1
+        && list.weight_limit() == 100;
     list.shutdown(rt);
     Some(all && left)
 }
 
-/// Whether one with a fixed start does, and one with the caller's.
-fn both_answer<R: Threads + Wait + Copy + Send + 'static>(
-    rt: &R,
-    alloc: Global,
-    steps: &[Step],
-) -> bool {
-    answers(rt, alloc, None, steps) == Some(true)
-        && answers(rt, alloc, Some(7), steps) == Some(true)
+const PASSING: &[Step] = &[Step::Admit(1, 1), Step::Admit(2, 2), Step::Admit(3, 2)];
+
+/// Whether the rows past a limit are evicted in order, and those that the closed channel refuses count too.
+fn evicts<R: Threads + Wait + Copy + Send + 'static>(rt: &R, alloc: Global) -> Option<bool> {
+    let (list, pairs) = built(rt, alloc, 2, Some(7))?;
+    let in_order = all_do(rt, &list, PASSING)
+        && pairs.recv(rt).ok() == Some((1, 1))
+        && pairs.recv(rt).ok() == Some((2, 2));
+    drop(pairs);
+    let counted = list.admit(rt, 4, 1) == Ok(0)
+        && comes_to(&list, (1, 1), (5, 3))
+        && list.peek_lru(rt, 0) == Ok(Some((4, 1)));
+    list.shutdown(rt);
+    Some(in_order && counted)
 }
 
 #[test]
 fn async_ignores_messages(rt: HostRuntime) {
-    let built = built(&rt, rt.alloc(), 100, None);
-    assert!(rt; built.is_some());
-    if let Some((list, _pairs)) = built {
-        assert!(rt; is_as_a_world(&rt, rt.alloc(), &list, &[(1, 1), (3, 1)]));
-        list.shutdown(&rt);
-    }
+    assert!(rt; is_as_a_world(&rt, rt.alloc(), &[(1, 1), (3, 1)]) == Some(true));
 }
 
 #[test]
-fn calls_answer(rt: HostRuntime) {
-    assert!(rt; both_answer(&rt, rt.alloc(), CALLS));
-}
-
-const PASSING: &[Step] = &[Step::Admit(1, 1), Step::Admit(2, 2), Step::Admit(3, 2)];
-
-/// Whether two pairs are evicted in order.
-fn come_in_order<R: Wait>(rt: &R, pairs: &Receiver<(u32, usize)>) -> bool {
-    pairs.recv(rt).ok() == Some((1, 1)) && pairs.recv(rt).ok() == Some((2, 2))
-}
-
-/// Whether a row that the closed channel refuses counts too.
-fn counts_on<R: Wait>(rt: &R, list: &List) -> bool {
-    list.admit(rt, 4, 1) == Ok(0)
-        && holds(|| list.evicted_len() == 3 && list.evicted_weight() == 5)
-        && list.peek_lru(rt, 0) == Ok(Some((4, 1)))
-}
-
-/// The rows past a limit are evicted in order, and those that the closed channel refuses count too.
-#[test]
-fn evicted_pairs_come_in_order(rt: HostRuntime) {
-    let built = built(&rt, rt.alloc(), 2, Some(7));
-    assert!(rt; built.is_some());
-    if let Some((list, pairs)) = built {
-        assert!(rt; all_do(&rt, &list, PASSING) && come_in_order(&rt, &pairs));
-        drop(pairs);
-        assert!(rt; counts_on(&rt, &list));
-        list.shutdown(&rt);
-    }
+fn calls_answer_and_evicted_pairs_come_in_order(rt: HostRuntime) {
+    assert!(rt; answers(&rt, rt.alloc(), None, CALLS) == Some(true));
+    assert!(rt; answers(&rt, rt.alloc(), Some(7), CALLS) == Some(true));
+    assert!(rt; evicts(&rt, rt.alloc()) == Some(true));
 }

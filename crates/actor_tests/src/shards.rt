@@ -2,11 +2,10 @@
 
 ghost use Rattle.std.specs.Prelude.{◌<◌};
 
+use crate::made::{called, generators, limited, received};
 use async_lru::{AsyncLru, TailFault};
 use crossbeam_channel::Receiver;
 use lru_core::lru_unit::LruFault;
-use rand_core::SeedableRng;
-use rand_pcg::Pcg64;
 use std::alloc::Global;
 use std::sync::Wait;
 use std::thread;
@@ -109,79 +108,19 @@ const BOTH: &[Step] = &[
     Step::Weighs(3, 9, 2),
 ];
 
+/// What two callers do at once, and what is asked then.
+type Tables = (&'static [Step], &'static [Step], &'static [Step]);
+
+const CALLED: Tables = (&[], &[], CALLS);
+
+const WEIGHTY: Tables = (&[], &[], HEAVY);
+
+const SHARED: Tables = (FIRST, SECOND, BOTH);
+
 /// A limit on the weight, perhaps a watermark, and how many of eight rows of weight 2 go.
 type Limits = (usize, Option<usize>, usize);
 
 const LIMITS: &[Limits] = &[(7, None, 5), (100, Some(3), 5), (100, None, 0)];
-
-/// A generator for one eviction worker.
-fn generators(alloc: Global) -> Option<Vec<Pcg64>> {
-    let mut generators = Vec::new(alloc);
-    generators.push(Pcg64::seed_from_u64(0)).ok()?;
-    Some(generators)
-}
-
-/// Returns a list without callbacks, and the receiver of its evicted pairs.
-fn received<R: Threads + Wait + Copy + Send + 'static>(
-    rt: &R,
-    alloc: Global,
-    limit: usize,
-    mark: Option<usize>,
-) -> Option<(List, Receiver<(u32, usize)>)> {
-    let builder = AsyncLru::builder(limit, |_: u32, _: usize| {});
-    let builder = match mark {
-        Some(mark) => builder.len_watermark(mark),
-        None => builder,
-    };
-    builder
-        .build_with_eviction_receiver(rt, alloc, generators(alloc)?)
-        .ok()
-}
-
-/// Returns a list with a callback that does nothing.
-fn called<R: Threads + Wait + Copy + Send + 'static>(
-    rt: &R,
-    alloc: Global,
-    limit: usize,
-    mark: Option<usize>,
-) -> Option<List> {
-    let builder = AsyncLru::builder(limit, |_: u32, _: usize| {});
-    let builder = match mark {
-        Some(mark) => builder.len_watermark(mark),
-        None => builder,
-    };
-    builder.build(rt, alloc, generators(alloc)?).ok()
-}
-
-fn is_too_heavy<R: Wait>(rt: &R, list: &List, key: u32, weight: usize) -> bool {
-    match list.insert_tail_checked(rt, key, weight) {
-        Err(TailFault::Refused(LruFault::Weight(back))) => back == key,
-        _ => false,
-    }
-}
-
-/// Whether a shard shows what it must.
-fn shows<R: Wait>(rt: &R, list: &List, step: Step) -> bool {
-    match step {
-        Step::Last(shard, last) => shard < 4 && list.peek_lru(rt, shard) == Ok(last),
-        Step::Rows(shard, rows) => shard < 4 && has_rows(rt, list, shard, rows),
-        Step::Weighs(shard, weight, len) => {
-            shard < 4 && list.shard_weight(rt, shard) == Ok(weight) && list.shard_len(shard) == len
-        }
-        _ => false,
-    }
-}
-
-/// Whether a call answers what it must.
-fn does<R: Wait>(rt: &R, list: &List, step: Step) -> bool {
-    match step {
-        Step::Admit(key, weight, shard) => list.admit(rt, key, weight) == Ok(shard),
-        Step::TooHeavy(key, weight) => is_too_heavy(rt, list, key, weight),
-        Step::Promote(key, found) => list.promote(rt, &key) == Ok(found),
-        Step::PeekWeight(key, weight) => list.peek_weight(rt, &key) == Ok(weight),
-        Step::Last(..) | Step::Rows(..) | Step::Weighs(..) => shows(rt, list, step),
-    }
-}
 
 fn has_rows<R: Wait>(rt: &R, list: &List, shard: usize, rows: &[(u32, usize)]) -> bool
     requires { shard < 4 }
@@ -189,6 +128,24 @@ fn has_rows<R: Wait>(rt: &R, list: &List, shard: usize, rows: &[(u32, usize)]) -
     match list.snapshot_shard(rt, shard) {
         Ok(pairs) => pairs.as_slice() == rows,
         Err(_) => false,
+    }
+}
+
+/// Whether a call answers what it must.
+fn does<R: Wait>(rt: &R, list: &List, step: Step) -> bool {
+    match step {
+        Step::Admit(key, weight, shard) => list.admit(rt, key, weight) == Ok(shard),
+        Step::TooHeavy(key, weight) => match list.insert_tail_checked(rt, key, weight) {
+            Err(TailFault::Refused(LruFault::Weight(back))) => back == key,
+            _ => false,
+        },
+        Step::Promote(key, found) => list.promote(rt, &key) == Ok(found),
+        Step::PeekWeight(key, weight) => list.peek_weight(rt, &key) == Ok(weight),
+        Step::Last(shard, last) => shard < 4 && list.peek_lru(rt, shard) == Ok(last),
+        Step::Rows(shard, rows) => shard < 4 && has_rows(rt, list, shard, rows),
+        Step::Weighs(shard, weight, len) => {
+            shard < 4 && list.shard_weight(rt, shard) == Ok(weight) && list.shard_len(shard) == len
+        }
     }
 }
 
@@ -202,18 +159,13 @@ fn all_do<R: Wait>(rt: &R, list: &List, steps: &[Step]) -> bool {
     true
 }
 
-/// Admits eight rows of weight 2, and returns whether none is refused.
-fn admits<R: Wait>(rt: &R, list: &List) -> bool {
+/// Whether eight rows of weight 2 are admitted, and so many go, for so many turns at most, and no more.
+fn evicts<R: Wait>(rt: &R, list: &List, gone: usize) -> bool {
     for key in 0..8 {
         if list.admit(rt, key, 2).is_err() {
             return false;
         }
     }
-    true
-}
-
-/// Whether so many of the eight rows go, for so many turns at most, and no more.
-fn so_many_go<R: Wait>(rt: &R, list: &List, gone: usize) -> bool {
     for _ in 0..1_000_000 {
         let evicted = list.evicted_len();
         if evicted >= gone && list.len().wrapping_add(evicted) == 8 {
@@ -225,81 +177,68 @@ fn so_many_go<R: Wait>(rt: &R, list: &List, gone: usize) -> bool {
     false
 }
 
-fn evicts<R: Wait>(rt: &R, list: &List, gone: usize) -> bool {
-    admits(rt, list) && so_many_go(rt, list, gone)
-}
-
+/// Whether limits hold where what is evicted is called back with, and where it is received.
 fn limit_holds<R: Threads + Wait + Copy + Send + 'static>(
     rt: &R,
     alloc: Global,
     limits: Limits,
 ) -> Option<bool> {
-    let list = called(rt, alloc, limits.0, limits.1)?;
+    let plan = limited(limits.0, limits.1, 4);
+    let list: List = called(rt, alloc, plan, generators(alloc, 1)?)?;
     let holds = evicts(rt, &list, limits.2);
     list.shutdown(rt);
-    Some(holds)
-}
-
-/// The same where what is evicted is received.
-fn limit_holds_received<R: Threads + Wait + Copy + Send + 'static>(
-    rt: &R,
-    alloc: Global,
-    limits: Limits,
-) -> Option<bool> {
-    let (list, pairs) = received(rt, alloc, limits.0, limits.1)?;
-    let holds = evicts(rt, &list, limits.2);
+    let (list, _pairs): (List, Receiver<(u32, usize)>) = received(
+        rt,
+        alloc,
+        plan,
+        generators(alloc, 1)?,
+    )?;
+    let holds_received = evicts(rt, &list, limits.2);
     list.shutdown(rt);
-    drop(pairs);
-    Some(holds)
+    Some(holds && holds_received)
 }
 
-fn answers<R: Threads + Wait + Copy + Send + 'static>(
-    rt: &R,
-    alloc: Global,
-    steps: &[Step],
-) -> Option<bool> {
-    let list = called(rt, alloc, usize::MAX, None)?;
-    let all = all_do(rt, &list, steps);
-    list.shutdown(rt);
-    Some(all)
+fn limits_hold<R: Threads + Wait + Copy + Send + 'static>(rt: &R, alloc: Global) -> bool {
+    for &limits in LIMITS {
+        if limit_holds(rt, alloc, limits) != Some(true) {
+            return false;
+        }
+    }
+    true
 }
 
-/// Whether two callers at once get their answers, and leave both their rows.
-fn two_do<R: Threads + Wait + Sync>(rt: &R, list: &List, tables: [&[Step]; 3]) -> bool {
-    let [first, second, both] = tables;
+/// Whether two callers at once get their answers, and what is asked then is answered too.
+fn two_do<R: Threads + Wait + Sync>(rt: &R, list: &List, tables: Tables) -> bool {
+    let (first, second, both) = tables;
     let (one, two) = thread::join(rt, || all_do(rt, list, first), || all_do(rt, list, second));
     one && two && all_do(rt, list, both)
 }
 
-fn two_call<R: Threads + Wait + Copy + Send + Sync + 'static>(
+/// Whether a list without a limit answers two callers at once, and then one.
+fn answers<R: Threads + Wait + Copy + Send + Sync + 'static>(
     rt: &R,
     alloc: Global,
+    tables: Tables,
 ) -> Option<bool> {
-    let list = called(rt, alloc, usize::MAX, None)?;
-    let done = two_do(rt, &list, [FIRST, SECOND, BOTH]);
+    let list: List = called(
+        rt,
+        alloc,
+        limited(usize::MAX, None, 4),
+        generators(alloc, 1)?,
+    )?;
+    let all = two_do(rt, &list, tables);
     list.shutdown(rt);
-    Some(done)
+    Some(all)
 }
 
 #[test]
-fn calls_go_to_their_shards(rt: HostRuntime) {
-    assert!(rt; answers(&rt, rt.alloc(), CALLS) == Some(true));
-}
-
-#[test]
-fn heavy_messages_are_dropped(rt: HostRuntime) {
-    assert!(rt; answers(&rt, rt.alloc(), HEAVY) == Some(true));
+fn calls_go_to_their_shards_and_two_callers_share_a_list(rt: HostRuntime) {
+    assert!(rt; answers(&rt, rt.alloc(), CALLED) == Some(true));
+    assert!(rt; answers(&rt, rt.alloc(), WEIGHTY) == Some(true));
+    assert!(rt; answers(&rt, rt.alloc(), SHARED) == Some(true));
 }
 
 #[test]
 fn limits_take_effect(rt: HostRuntime) {
-    for &limits in LIMITS {
-        assert!(rt; limit_holds(&rt, rt.alloc(), limits) == Some(true));
-        assert!(rt; limit_holds_received(&rt, rt.alloc(), limits) == Some(true));
-    }
-}
-
-#[test]
-fn two_callers_share_a_list(rt: HostRuntime) {
-    assert!(rt; two_call(&rt, rt.alloc()) == Some(true));
+    assert!(rt; limits_hold(&rt, rt.alloc()));
 }

@@ -2,9 +2,8 @@
 
 ghost use Rattle.std.specs.Prelude.{◌<◌};
 
-use async_lru::{Event, Message, Outcome, World};
+use async_lru::{Event, Message, Outcome, StepFault, World};
 use lru_core::SeededState;
-use lru_core::lru_unit::LruUnitIter;
 use std::alloc::Global;
 use std::hash::BuildHasher;
 
@@ -152,79 +151,62 @@ const TWO: &[Row] = &[
     },
 ];
 
-/// What came of a step, as a plain value.
-#[derive(Clone, Copy, PartialEq, Eq)]
-enum Told {
-    Sent(usize),
-    Applied,
-    Evicted,
-    Called(u32, usize),
-    Nothing,
-    Refused,
-}
-
-fn outcome_of<const N: usize, S: BuildHasher>(
-    world: &mut World<u32, N, S>,
-    event: Event<u32>,
-) -> Told {
-    match world.step(event) {
-        Ok(Outcome::Sent(shard)) => Told::Sent(shard),
-        Ok(Outcome::Applied) => Told::Applied,
-        Ok(Outcome::Evicted) => Told::Evicted,
-        Ok(Outcome::Called(key, weight)) => Told::Called(key, weight),
-        Ok(Outcome::Nothing) => Told::Nothing,
-        Err(_) => Told::Refused,
+/// The event of a step, if it is one: a key's hash is the key itself.
+fn event_of(step: Step) -> Option<Event<u32>> {
+    match step {
+        Step::Admit(key, weight, _) => Some(Event::Send(Message::Admit(key as u64, key, weight))),
+        Step::InsertTail(key, weight) => {
+            Some(Event::Send(Message::InsertTail(key as u64, key, weight)))
+        }
+        Step::Promote(key) => Some(Event::Send(Message::Promote(key as u64))),
+        Step::Remove(key) => Some(Event::Send(Message::Remove(key as u64))),
+        Step::Increment(key, delta, cap) => {
+            Some(Event::Send(Message::IncrementWeight(key as u64, key, delta, Some(cap))))
+        }
+        Step::Act(shard, _) => Some(Event::Act(shard)),
+        Step::Evict(a, b, _) => Some(Event::Evict(a, b)),
+        Step::CallBack(..) | Step::NoCallBack => Some(Event::CallBack),
+        Step::Rows(..) => None,
     }
 }
 
-/// Whether an actor, an eviction or a callback does a step as it must.
-fn acts<const N: usize, S: BuildHasher>(world: &mut World<u32, N, S>, step: Step) -> bool {
-    match step {
-        Step::Act(shard, true) => outcome_of(world, Event::Act(shard)) == Told::Applied,
-        Step::Act(shard, false) => outcome_of(world, Event::Act(shard)) == Told::Nothing,
-        Step::Evict(a, b, true) => outcome_of(world, Event::Evict(a, b)) == Told::Evicted,
-        Step::Evict(a, b, false) => outcome_of(world, Event::Evict(a, b)) == Told::Nothing,
-        Step::CallBack(key, weight) => outcome_of(world, Event::CallBack)
-            == Told::Called(key, weight),
-        Step::NoCallBack => outcome_of(world, Event::CallBack) == Told::Nothing,
-        Step::Rows(shard, rows) => has_rows(world, shard, rows),
-        _ => false,
+/// Whether this must come of a step.
+fn is_told(found: Result<Outcome<u32>, StepFault<u32>>, step: Step) -> bool {
+    match found {
+        Ok(Outcome::Sent(shard)) => match step {
+            Step::Admit(_, _, to) => shard == to,
+            Step::InsertTail(..) | Step::Promote(_) | Step::Remove(_) | Step::Increment(..) => true,
+            _ => false,
+        },
+        Ok(Outcome::Applied) => matches!(step, Step::Act(_, true)),
+        Ok(Outcome::Evicted) => matches!(step, Step::Evict(_, _, true)),
+        Ok(Outcome::Called(key, weight)) => match step {
+            Step::CallBack(wanted, heavy) => key == wanted && weight == heavy,
+            _ => false,
+        },
+        Ok(Outcome::Nothing) => {
+            matches!(
+                step,
+                Step::Act(_, false) | Step::Evict(_, _, false) | Step::NoCallBack
+            )
+        }
+        Err(_) => false,
     }
 }
 
 /// Whether a world does a step as it must.
 fn does<const N: usize, S: BuildHasher>(world: &mut World<u32, N, S>, step: Step) -> bool {
-    match step {
-        Step::Admit(key, weight, to) => {
-            let message = Message::Admit(key as u64, key, weight);
-            outcome_of(world, Event::Send(message)) == Told::Sent(to)
-        }
-        Step::InsertTail(key, weight) => sends(world, Message::InsertTail(key as u64, key, weight)),
-        Step::Promote(key) => sends(world, Message::Promote(key as u64)),
-        Step::Remove(key) => sends(world, Message::Remove(key as u64)),
-        Step::Increment(key, delta, cap) => {
-            sends(
-                world,
-                Message::IncrementWeight(key as u64, key, delta, Some(cap)),
-            )
-        }
-        _ => acts(world, step),
+    if let Step::Rows(shard, rows) = step {
+        return has_rows(world, shard, rows);
     }
-}
-
-/// Whether a message is sent, to whichever shard.
-fn sends<const N: usize, S: BuildHasher>(
-    world: &mut World<u32, N, S>,
-    message: Message<u32>,
-) -> bool {
-    match outcome_of(world, Event::Send(message)) {
-        Told::Sent(_) => true,
-        _ => false,
+    match event_of(step) {
+        Some(event) => is_told(world.step(event), step),
+        None => false,
     }
 }
 
 /// Whether a shard of the world has these rows.
-fn has_rows<const N: usize, S: BuildHasher>(
+pub fn has_rows<const N: usize, S: BuildHasher>(
     world: &World<u32, N, S>,
     shard: usize,
     rows: &[(u32, usize)],
@@ -233,10 +215,7 @@ fn has_rows<const N: usize, S: BuildHasher>(
     if shard >= core.shards() {
         return false;
     }
-    are_all(core.iter(shard), rows)
-}
-
-fn are_all(mut there: LruUnitIter<'_, u32>, rows: &[(u32, usize)]) -> bool {
+    let mut there = core.iter(shard);
     for pair in rows {
         match there.next() {
             Some((key, weight)) => {
@@ -250,66 +229,44 @@ fn are_all(mut there: LruUnitIter<'_, u32>, rows: &[(u32, usize)]) -> bool {
     there.next().is_none()
 }
 
-/// Whether the world has these rows in shard 0, and these pairs wait for their callbacks.
-fn shows<const N: usize, S: BuildHasher>(world: &World<u32, N, S>, row: &Row) -> bool {
-    has_rows(world, 0, row.rows) && wait(world, row.dispatch)
-}
-
-fn wait<const N: usize, S: BuildHasher>(world: &World<u32, N, S>, pairs: &[(u32, usize)]) -> bool {
-    let mut there = world.dispatch().iter();
-    for pair in pairs {
-        if there.next() != Some(pair) {
-            return false;
-        }
-    }
-    there.next().is_none()
-}
-
-/// Whether a world does the steps of a row and shows what they leave.
+/// Whether a world does the steps of a row, and has then the rows in shard 0 and the pairs that wait for their callbacks.
 fn goes<const N: usize, S: BuildHasher + Drop>(mut world: World<u32, N, S>, row: &Row) -> bool {
     for &step in row.steps {
         if !does(&mut world, step) {
             return false;
         }
     }
-    shows(&world, row)
-}
-
-fn fixed_goes<const N: usize>(alloc: Global, row: &Row) -> bool
-    requires { 0 < N }
-{
-    match World::<u32, N>::new(alloc, 1, None) {
-        Ok(world) => goes(world, row),
-        Err(_) => false,
+    let mut there = world.dispatch().iter();
+    for pair in row.dispatch {
+        if there.next() != Some(pair) {
+            return false;
+        }
     }
+    there.next().is_none() && has_rows(&world, 0, row.rows)
 }
 
-fn own_goes<const N: usize>(alloc: Global, row: &Row) -> bool
+/// Whether a world of N shards of limit 1 does each row, under hashes with a fixed start and with one of the caller's.
+fn all_go<const N: usize>(alloc: Global, rows: &[Row]) -> bool
     requires { 0 < N }
 {
-    match World::<u32, N, SeededState>::with_hasher(alloc, OWN, 1, None) {
-        Ok(world) => goes(world, row),
-        Err(_) => false,
+    for row in rows {
+        let fixed = match World::<u32, N>::new(alloc, 1, None) {
+            Ok(world) => goes(world, row),
+            Err(_) => false,
+        };
+        let own = match World::<u32, N, SeededState>::with_hasher(alloc, OWN, 1, None) {
+            Ok(world) => goes(world, row),
+            Err(_) => false,
+        };
+        if !fixed || !own {
+            return false;
+        }
     }
-}
-
-/// Whether a world of N shards of limit 1 does, under hashes with a fixed start and with one of the caller's.
-fn both_go<const N: usize>(alloc: Global, row: &Row) -> bool
-    requires { 0 < N }
-{
-    fixed_goes::<N>(alloc, row) && own_goes::<N>(alloc, row)
+    true
 }
 
 #[test]
-fn a_tight_world_evicts_the_last(rt: HostRuntime) {
-    for row in TIGHT {
-        assert!(rt; both_go::<1>(rt.alloc(), row));
-    }
-}
-
-#[test]
-fn two_words_pick_the_shard(rt: HostRuntime) {
-    for row in TWO {
-        assert!(rt; both_go::<2>(rt.alloc(), row));
-    }
+fn a_tight_world_evicts_the_last_and_two_words_pick_the_shard(rt: HostRuntime) {
+    assert!(rt; all_go::<1>(rt.alloc(), TIGHT));
+    assert!(rt; all_go::<2>(rt.alloc(), TWO));
 }

@@ -10,17 +10,16 @@ mod variance;
 mod writing;
 
 use std::alloc::{AllocError, Global};
-use std::collections::HashMap;
 use std::fmt;
-use std::hash::Hash;
+use std::hash::{DefaultHasher, Hash, Hasher};
 
-// Whether so many of the keys differ, as a map counts them.
-fn are_distinct<K: Hash + Eq + Drop>(alloc: Global, keys: Vec<K>, count: usize) -> bool {
-    let mut counts = HashMap::new(alloc);
-    for key in keys {
-        let _ = counts.insert(key, ());
-    }
-    counts.len() == count
+// Whether two values hash alike.
+pub(crate) fn hash_alike<A: Hash, B: Hash>(a: &A, b: &B) -> bool {
+    let mut first = DefaultHasher::new();
+    a.hash(&mut first);
+    let mut second = DefaultHasher::new();
+    b.hash(&mut second);
+    first.finish() == second.finish()
 }
 
 // Whether this is the text.

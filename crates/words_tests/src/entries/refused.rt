@@ -1,9 +1,9 @@
 //! Each call that takes memory, with a look at what a refusal leaves. These tests pass whichever allocation fails.
 use crate::entries::values::entry;
-use cache_entries::entry::{CacheEntryKey, CacheEntryKeyRef};
+use cache_entries::entry::{CacheEntryId, CacheEntryKey, CacheEntryKeyRef};
 use cache_entries::pack::{put_entry, put_row, take_entry};
 use cache_words::pack::{Cursor, PackWriteFault};
-use std::alloc::Global;
+use std::alloc::{AllocError, Global};
 
 #[derive(Clone, Copy)]
 enum Put {
@@ -27,42 +27,58 @@ fn adds_or_keeps(alloc: Global, owned: &CacheEntryKey, put: Put) -> bool {
     }
 }
 
+fn writes_add_or_keep(alloc: Global, id: Option<u64>) -> bool {
+    match entry(alloc, b"aa", id) {
+        Ok(owned) => {
+            adds_or_keeps(alloc, &owned, Put::Entry) && adds_or_keeps(alloc, &owned, Put::Row)
+        }
+        Err(AllocError) => true,
+    }
+}
+
 #[test]
 fn refused_writes_leave_the_bytes(rt: HostRuntime) {
-    for id in [None, Some(7)] {
-        let Ok(owned) = entry(rt.alloc(), b"aa", id) else {
-            return;
-        };
-        for put in [Put::Entry, Put::Row] {
-            assert!(rt; adds_or_keeps(rt.alloc(), &owned, put));
+    assert!(rt; writes_add_or_keep(rt.alloc(), None));
+    assert!(rt; writes_add_or_keep(rt.alloc(), Some(7)));
+}
+
+// Whether an outcome is a copy of the entry, or refused.
+fn is_copy(found: Result<CacheEntryKey, AllocError>, owned: &CacheEntryKey) -> bool {
+    match found {
+        Ok(copy) => copy == *owned,
+        Err(AllocError) => true,
+    }
+}
+
+// Whether an entry of id 7 stays, copied or not.
+fn entry_is_left(alloc: Global) -> bool {
+    match entry(alloc, b"aa", Some(7)) {
+        Ok(owned) => {
+            is_copy(owned.clone(), &owned)
+                && is_copy(CacheEntryKeyRef::from(&owned).to_entry(), &owned)
+                && owned.entry_id() == Some(CacheEntryId::new(7))
         }
+        Err(AllocError) => true,
     }
 }
 
-#[test]
-fn refused_copies_leave_the_entry(rt: HostRuntime) {
-    let Ok(owned) = entry(rt.alloc(), b"aa", Some(7)) else {
-        return;
+const TEXT: &[u8] = b"\x92\x93\xdc\x00\x10\0\0\0\0\0\0\0\0\0\0\0\0\0\0\0\0\xc0\xa1x\x07";
+
+// Whether the text is read to its end, and a copy of what was read has the id 7, or is refused.
+fn is_read_and_copied(alloc: Global) -> bool {
+    let mut cursor = Cursor { rest: TEXT };
+    let Ok(read) = take_entry(&mut cursor) else {
+        return false;
     };
-    if let Ok(copy) = owned.clone() {
-        assert!(rt; copy == owned);
-    }
-    if let Ok(copy) = CacheEntryKeyRef::from(&owned).to_entry() {
-        assert!(rt; copy == owned);
-    }
-    assert!(rt; owned.entry_id().is_some());
+    let is_right = match read.to_entry(alloc) {
+        Ok(owned) => owned.entry_id() == Some(CacheEntryId::new(7)),
+        Err(AllocError) => true,
+    };
+    is_right && cursor.rest.is_empty()
 }
 
 #[test]
-fn a_refused_copy_of_what_was_read(rt: HostRuntime) {
-    let text = b"\x92\x93\xdc\x00\x10\0\0\0\0\0\0\0\0\0\0\0\0\0\0\0\0\xc0\xa1x\x07";
-    let mut cursor = Cursor { rest: text };
-    let read = take_entry(&mut cursor);
-    assert!(rt; read.is_ok() && cursor.rest.is_empty());
-    let Ok(read) = read else {
-        return;
-    };
-    if let Ok(owned) = read.to_entry(rt.alloc()) {
-        assert!(rt; owned.entry_id().map(|id| id.get()) == Some(7));
-    }
+fn refused_copies_leave_the_entry_and_what_was_read(rt: HostRuntime) {
+    assert!(rt; entry_is_left(rt.alloc()));
+    assert!(rt; is_read_and_copied(rt.alloc()));
 }

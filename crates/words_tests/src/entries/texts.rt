@@ -2,7 +2,7 @@
 use crate::entries::values::item;
 use cache_entries::entry::{CacheEntryKey, CacheEntryKeyRef};
 use cache_entries::laws;
-use cache_entries::pack::{BorrowedEntry, entry_hash, put_entry, put_row, take_entry, take_row};
+use cache_entries::pack::{entry_hash, put_entry, put_row, take_entry, take_row};
 use cache_words::pack::{Cursor, PackFault, writing};
 use std::alloc::Global;
 
@@ -14,8 +14,12 @@ pub(crate) enum Key {
     Wide,
 }
 
-fn key_text(key: Key) -> &'static [u8] {
-    match key {
+// Bytes, a key, and bytes after it.
+type Text = (&'static [u8], Key, &'static [u8]);
+
+fn bytes_of(alloc: Global, text: Text) -> Option<Vec<u8>> {
+    let (before, key, rest) = text;
+    let key: &[u8] = match key {
         Key::No => b"",
         Key::Short => {
             b"\x93\xdc\x00\x10\xcc\xac\x10\xcc\xf2\xcc\xae\xcc\xf1\x17\x72\xcc\x9f\xcc\x8d\xcc\xad\x05\x6b\x30\x59\xcc\xeb\x7e\xc0\xa1\x31"
@@ -23,16 +27,10 @@ fn key_text(key: Key) -> &'static [u8] {
         Key::Wide => {
             b"\xdc\x00\x03\xdd\x00\x00\x00\x10\xcd\x00\xac\xce\x00\x00\x00\x10\xcf\x00\x00\x00\x00\x00\x00\x00\xf2\xcc\xae\xcc\xf1\x17\x72\xcc\x9f\xcc\x8d\xcc\xad\x05\x6b\x30\x59\xcc\xeb\x7e\xc0\xda\x00\x01\x31"
         }
-    }
-}
-
-// Bytes, a key, and bytes after it.
-type Text = (&'static [u8], Key, &'static [u8]);
-
-fn bytes_of(alloc: Global, text: Text) -> Option<Vec<u8>> {
-    let mut bytes = Vec::from_slice(alloc, text.0).ok()?;
-    bytes.extend_from_slice(key_text(text.1)).ok()?;
-    bytes.extend_from_slice(text.2).ok()?;
+    };
+    let mut bytes = Vec::from_slice(alloc, before).ok()?;
+    bytes.extend_from_slice(key).ok()?;
+    bytes.extend_from_slice(rest).ok()?;
     Some(bytes)
 }
 
@@ -88,18 +86,14 @@ const FAULTS: &[(Text, PackFault)] = &[
     ),
 ];
 
-fn is_owned(alloc: Global, found: BorrowedEntry<'_>, id: Option<u64>) -> bool {
-    match found.to_entry(alloc) {
-        Ok(owned) => owned == item(alloc, b"aa", id),
-        Err(_) => false,
-    }
-}
-
 // Whether an entry is read, which must be of `aa`, or this fault is reported. After a fault the cursor is where it was.
 fn is_read(alloc: Global, bytes: &[u8], want: Read) -> bool {
     let mut cursor = Cursor { rest: bytes };
     match (take_entry(&mut cursor), want) {
-        (Ok(found), Ok((id, left))) => cursor.rest.len() == left && is_owned(alloc, found, id),
+        (Ok(found), Ok((id, left))) => match found.to_entry(alloc) {
+            Ok(owned) => cursor.rest.len() == left && owned == item(alloc, b"aa", id),
+            Err(_) => false,
+        },
         (Err(fault), Err(wanted)) => fault == wanted && cursor.rest.len() == bytes.len(),
         _ => false,
     }
@@ -112,18 +106,18 @@ fn text_is_read(alloc: Global, text: Text, want: Read) -> bool {
     }
 }
 
-#[test]
-fn entries_are_read(rt: HostRuntime) {
+fn are_read(alloc: Global) -> bool {
     for &(text, want) in READ {
-        assert!(rt; text_is_read(rt.alloc(), text, want));
+        if !text_is_read(alloc, text, want) {
+            return false;
+        }
     }
-}
-
-#[test]
-fn faults_of_entries_are_told(rt: HostRuntime) {
     for &(text, fault) in FAULTS {
-        assert!(rt; text_is_read(rt.alloc(), text, Err(fault)));
+        if !text_is_read(alloc, text, Err(fault)) {
+            return false;
+        }
     }
+    true
 }
 
 // An id of an entry of `aa`, the bytes around the key where it is written, and its hash. The hashes are Python's, by
@@ -143,49 +137,44 @@ const WRITTEN: &[(Option<u64>, Text, u64)] = &[
     ),
 ];
 
-// Whether an entry is written so.
-fn is_written(alloc: Global, borrowed: CacheEntryKeyRef<'_>, text: &[u8]) -> bool {
+// Whether the entry of `aa` with that id is written so, and has this hash.
+fn is_spelled(alloc: Global, id: Option<u64>, text: Text, hash: u64) -> bool {
+    let owned = item(alloc, b"aa", id);
+    let borrowed = CacheEntryKeyRef::from(&owned);
     let mut out = Vec::new(alloc);
-    put_entry(&mut out, borrowed).is_ok() && out.as_slice() == text
+    put_entry(&mut out, borrowed).is_ok()
+        && bytes_of(alloc, text) == Some(out)
+        && entry_hash(borrowed) == hash
 }
 
-// Whether the entry of `aa` is written so, and has this hash.
-fn is_spelled(alloc: Global, owned: &CacheEntryKey, text: Text, hash: u64) -> bool {
-    let borrowed = CacheEntryKeyRef::from(owned);
-    match bytes_of(alloc, text) {
-        Some(bytes) => {
-            is_written(alloc, borrowed, bytes.as_slice()) && entry_hash(borrowed) == hash
+fn are_spelled(alloc: Global) -> bool {
+    for &(id, text, hash) in WRITTEN {
+        if !is_spelled(alloc, id, text, hash) {
+            return false;
         }
-        None => false,
     }
+    entry_hash(CacheEntryKeyRef::from(&CacheEntryKey::empty(alloc))) == 0xe2e934a731fcf75e
 }
 
 #[test]
-fn entries_are_written_and_hashed(rt: HostRuntime) {
+fn entries_are_read_written_and_hashed(rt: HostRuntime) {
     laws::written_is_spelled();
     laws::one_spelling();
-    for &(id, text, hash) in WRITTEN {
-        let owned = item(rt.alloc(), b"aa", id);
-        assert!(rt; is_spelled(rt.alloc(), &owned, text, hash));
-    }
-    let empty = CacheEntryKey::empty(rt.alloc());
-    assert!(rt; entry_hash(CacheEntryKeyRef::from(&empty)) == 0xe2e934a731fcf75e);
+    assert!(rt; are_read(rt.alloc()));
+    assert!(rt; are_spelled(rt.alloc()));
 }
 
-// Whether rows are read that weigh so much together until one can't be read, how many they are, and the fault then.
-fn are_read(bytes: &[u8], weight: usize, count: usize, fault: Option<PackFault>) -> bool {
+// Rows are read until one can't be: what they weigh together, how many they are, and the fault then.
+fn rows_of(bytes: &[u8]) -> (usize, usize, Option<PackFault>) {
     let mut cursor = Cursor { rest: bytes };
-    match cursor.array() {
-        Ok(rows) => are_taken(&mut cursor, rows) == (weight, count, fault),
-        Err(found) => weight == 0 && count == 0 && fault == Some(found),
-    }
-}
-
-fn are_taken(cursor: &mut Cursor<'_>, rows: u64) -> (usize, usize, Option<PackFault>) {
     let mut weight = 0usize;
     let mut found = 0usize;
+    let rows = match cursor.array() {
+        Ok(rows) => rows,
+        Err(fault) => return (0, 0, Some(fault)),
+    };
     for _ in 0..rows {
-        match take_row(cursor) {
+        match take_row(&mut cursor) {
             Ok(row) => weight = weight.wrapping_add(row.weight),
             Err(fault) => return (weight, found, Some(fault)),
         }
@@ -254,40 +243,26 @@ const ROWS: &[(Text, usize, usize, Option<PackFault>)] = &[
     ((b"\xc0", Key::No, b""), 0, 0, Some(PackFault::Kind)),
 ];
 
-fn rows_are_so(
-    alloc: Global,
-    text: Text,
-    weight: usize,
-    count: usize,
-    fault: Option<PackFault>,
-) -> bool {
-    match bytes_of(alloc, text) {
-        Some(bytes) => are_read(bytes.as_slice(), weight, count, fault),
-        None => false,
-    }
-}
-
-#[test]
-fn rows_are_read(rt: HostRuntime) {
-    laws::rows_are_spelled();
+fn rows_are_read(alloc: Global) -> bool {
     for &(text, weight, count, fault) in ROWS {
-        assert!(rt; rows_are_so(rt.alloc(), text, weight, count, fault));
+        let is_right = match bytes_of(alloc, text) {
+            Some(bytes) => rows_of(bytes.as_slice()) == (weight, count, fault),
+            None => false,
+        };
+        if !is_right {
+            return false;
+        }
     }
+    true
 }
 
-// Whether an order of use of one row is written so.
-fn is_row_written(alloc: Global, owned: &CacheEntryKey, weight: usize, text: &[u8]) -> bool {
+// Whether an order of use of one row, of an entry of `aa` with that id, is written so.
+fn is_row_written(alloc: Global, id: Option<u64>, weight: usize, text: Text) -> bool {
+    let owned = item(alloc, b"aa", id);
     let mut out = Vec::new(alloc);
     writing::put_array(&mut out, 1).is_ok()
-        && put_row(&mut out, CacheEntryKeyRef::from(owned), weight).is_ok()
-        && out.as_slice() == text
-}
-
-fn is_row_text(alloc: Global, owned: &CacheEntryKey, weight: usize, text: Text) -> bool {
-    match bytes_of(alloc, text) {
-        Some(bytes) => is_row_written(alloc, owned, weight, bytes.as_slice()),
-        None => false,
-    }
+        && put_row(&mut out, CacheEntryKeyRef::from(&owned), weight).is_ok()
+        && bytes_of(alloc, text) == Some(out)
 }
 
 const WRITTEN_ROWS: &[(Option<u64>, usize, Text)] = &[
@@ -299,10 +274,18 @@ const WRITTEN_ROWS: &[(Option<u64>, usize, Text)] = &[
     ),
 ];
 
-#[test]
-fn rows_are_written(rt: HostRuntime) {
+fn rows_are_written(alloc: Global) -> bool {
     for &(id, weight, text) in WRITTEN_ROWS {
-        let owned = item(rt.alloc(), b"aa", id);
-        assert!(rt; is_row_text(rt.alloc(), &owned, weight, text));
+        if !is_row_written(alloc, id, weight, text) {
+            return false;
+        }
     }
+    true
+}
+
+#[test]
+fn rows_are_read_and_written(rt: HostRuntime) {
+    laws::rows_are_spelled();
+    assert!(rt; rows_are_read(rt.alloc()));
+    assert!(rt; rows_are_written(rt.alloc()));
 }

@@ -25,6 +25,8 @@ fn bytes_of(len: usize) -> [u8; 1000] {
     bytes
 }
 
+const PIECES: &[usize] = &[1, 7, 63, 64, 127, 128, 129, 1000];
+
 fn digest_in_pieces(bytes: &[u8], piece_len: usize) -> [u8; DIGEST_LEN] {
     let mut hasher = Blake2b128::new();
     for piece in bytes.chunks(piece_len.max(1)) {
@@ -33,14 +35,20 @@ fn digest_in_pieces(bytes: &[u8], piece_len: usize) -> [u8; DIGEST_LEN] {
     hasher.finalize()
 }
 
-#[test]
-fn digests_in_any_cut(rt: HostRuntime) {
-    let bytes = bytes_of(1000);
+// Whether the bytes have their digests, whatever the pieces.
+fn are_digests(bytes: &[u8; 1000]) -> bool {
     for &(len, digest) in DIGESTS {
-        let digest = str2hex(digest);
-        for piece_len in [1, 7, 63, 64, 127, 128, 129, 1000] {
+        for &piece_len in PIECES {
             let found = digest_in_pieces(&bytes[..len.min(1000)], piece_len);
-            assert!(rt; Some(found) == digest);
+            if Some(found) != str2hex(digest) {
+                return false;
+            }
         }
     }
+    true
+}
+
+#[test]
+fn digests_in_any_cut(rt: HostRuntime) {
+    assert!(rt; are_digests(&bytes_of(1000)));
 }

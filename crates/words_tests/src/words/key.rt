@@ -1,5 +1,5 @@
 //! Keys, their hashes and their texts.
-use crate::words::{are_distinct, bytes, is_shown, is_text, string};
+use crate::words::{bytes, hash_alike, is_shown, is_text, string};
 use cache_words::key::{CacheHashKey, CacheKey, CompactCacheKey, HashBinary, hash_key, str2hex};
 use std::alloc::{AllocError, Global};
 use std::fmt;
@@ -93,22 +93,17 @@ fn key_of(alloc: Global, primary: &[u8], tag: &str) -> CacheKey {
     CacheKey::new(bytes(alloc, primary), string(alloc, tag))
 }
 
-fn set(key: &mut CacheKey, case: &Case) {
+fn made(alloc: Global, case: &Case) -> CacheKey {
+    let mut key = match hex::decode(alloc, case.primary) {
+        Ok(primary) => CacheKey::new(primary, string(alloc, case.tag)),
+        Err(_) => key_of(alloc, b"", case.tag),
+    };
     if let Some(variance) = hash_of(case.variance) {
         key.set_variance_key(variance);
     }
     if let Some(over) = hash_of(case.over) {
         key.set_primary_bin_override(over);
     }
-}
-
-fn made(alloc: Global, case: &Case) -> CacheKey {
-    let primary = match hex::decode(alloc, case.primary) {
-        Ok(primary) => primary,
-        Err(_) => Vec::new(alloc),
-    };
-    let mut key = CacheKey::new(primary, string(alloc, case.tag));
-    set(&mut key, case);
     key
 }
 
@@ -124,27 +119,38 @@ fn shows<K: CacheHashKey + fmt::Display>(alloc: Global, key: &K, case: &Case) ->
         && is_shown(alloc, key, case.display)
 }
 
-fn kept_shows(alloc: Global, key: &CacheKey, case: &Case) -> bool {
-    match key.to_compact() {
+// Whether a key and the kept key are as the case says.
+fn is_case(alloc: Global, key: &CacheKey, case: &Case) -> bool {
+    let is_kept = match key.to_compact() {
         Ok(kept) => shows(alloc, &kept, case),
         Err(AllocError) => false,
-    }
-}
-
-fn is_case(alloc: Global, key: &CacheKey, case: &Case) -> bool {
-    shows(alloc, key, case)
-        && kept_shows(alloc, key, case)
+    };
+    is_kept
+        && shows(alloc, key, case)
         && Some(hash_key(key.primary_key())) == str2hex(case.hash)
         && key.primary_key_str().is_some() == case.text
         && is_text(key.combined(alloc), case.combined)
 }
 
-#[test]
-fn keys_as_the_original(rt: HostRuntime) {
+fn are_cases(alloc: Global) -> bool {
     for case in CASES {
-        let key = made(rt.alloc(), case);
-        assert!(rt; is_case(rt.alloc(), &key, case));
+        if !is_case(alloc, &made(alloc, case), case) {
+            return false;
+        }
     }
+    true
+}
+
+// Primary bytes, and whether they are text.
+const TEXTS: &[(&[u8], Option<&str>)] = &[(b"aa", Some("aa")), (&[0x66, 0x6f, 0x6f, 0xff], None)];
+
+fn are_texts(alloc: Global) -> bool {
+    for &(primary, text) in TEXTS {
+        if key_of(alloc, primary, "1").primary_key_str() != text {
+            return false;
+        }
+    }
+    true
 }
 
 // What is done to the key of `aa`.
@@ -199,77 +205,50 @@ const STEPS: &[Row] = &[
     ),
 ];
 
-fn take(key: &mut CacheKey, step: Step) {
-    match step {
-        Step::SetVariance => key.set_variance_key([0; 16]),
-        Step::RemoveVariance => key.remove_variance_key(),
-        Step::Override(hash) => {
-            if let Some(hash) = str2hex(hash) {
-                key.set_primary_bin_override(hash);
+fn after(alloc: Global, primary: &[u8], steps: &[Step]) -> CacheKey {
+    let mut key = key_of(alloc, primary, "1");
+    for &step in steps {
+        match step {
+            Step::SetVariance => key.set_variance_key([0; 16]),
+            Step::RemoveVariance => key.remove_variance_key(),
+            Step::Override(hash) => {
+                key.set_primary_bin_override(str2hex(hash).unwrap_or([0; 16]));
             }
         }
     }
-}
-
-fn take_all(key: &mut CacheKey, steps: &[Step]) {
-    for &step in steps {
-        take(key, step);
-    }
-}
-
-fn after(alloc: Global, primary: &[u8], steps: &[Step]) -> CacheKey {
-    let mut key = key_of(alloc, primary, "1");
-    take_all(&mut key, steps);
     key
-}
-
-fn is_variance(text: Result<Option<String>, AllocError>, want: Option<&str>) -> bool {
-    match text {
-        Ok(text) => text.as_ref().map(String::as_str) == want,
-        Err(AllocError) => false,
-    }
-}
-
-fn kept_combined(key: &CacheKey) -> Option<HashBinary> {
-    match key.to_compact() {
-        Ok(kept) => Some(kept.combined_bin()),
-        Err(AllocError) => None,
-    }
 }
 
 fn is_after(alloc: Global, key: &CacheKey, row: Row) -> bool {
     let (_, _, hash, variance, combined) = row;
-    is_text(key.primary(alloc), hash)
-        && is_variance(key.variance(alloc), variance)
+    let is_variance = match key.variance(alloc) {
+        Ok(Some(text)) => variance == Some(text.as_str()),
+        Ok(None) => variance.is_none(),
+        Err(AllocError) => false,
+    };
+    let is_kept = match key.to_compact() {
+        Ok(kept) => Some(kept.combined_bin()) == str2hex(combined),
+        Err(AllocError) => false,
+    };
+    is_variance
+        && is_kept
+        && is_text(key.primary(alloc), hash)
         && is_text(key.combined(alloc), combined)
         && key.get_variance_key().copied() == hash_of(variance)
-        && kept_combined(key) == str2hex(combined)
 }
 
-// The same of a copy of the key.
-fn copy_is_after(alloc: Global, row: Row) -> bool {
-    match after(alloc, row.0, row.1).clone() {
-        Ok(key) => is_after(alloc, &key, row),
-        Err(AllocError) => false,
-    }
-}
-
-#[test]
-fn steps_on_a_key(rt: HostRuntime) {
+// Whether copies of the keys are as the steps leave them.
+fn copies_are_after(alloc: Global) -> bool {
     for &row in STEPS {
-        assert!(rt; copy_is_after(rt.alloc(), row));
+        let is_right = match after(alloc, row.0, row.1).clone() {
+            Ok(key) => is_after(alloc, &key, row),
+            Err(AllocError) => false,
+        };
+        if !is_right {
+            return false;
+        }
     }
-}
-
-// Primary bytes, and whether they are text.
-const TEXTS: &[(&[u8], Option<&str>)] = &[(b"aa", Some("aa")), (&[0x66, 0x6f, 0x6f, 0xff], None)];
-
-#[test]
-fn bytes_that_are_text(rt: HostRuntime) {
-    for &(primary, text) in TEXTS {
-        let key = key_of(rt.alloc(), primary, "1");
-        assert!(rt; key.primary_key_str() == text);
-    }
+    true
 }
 
 // A kept key, or the empty one when out of memory.
@@ -280,37 +259,40 @@ fn kept(alloc: Global, primary: &[u8], steps: &[Step]) -> CompactCacheKey {
     }
 }
 
-// Whether a key is its copy, and is not one with a variance, and before that.
-fn are_in_order(plain: &CompactCacheKey, varied: &CompactCacheKey) -> bool {
-    let is_copy = match plain.clone() {
-        Ok(copy) => *plain == copy,
+// Whether two keys differ, and hash so.
+fn differ(key: &CompactCacheKey, other: &CompactCacheKey) -> bool {
+    *key != *other && !hash_alike(key, other)
+}
+
+// Whether a key is its copy, and one with a variance, of other bytes, or empty is another.
+fn is_told_apart(alloc: Global, key: &CompactCacheKey, other: &CompactCacheKey) -> bool {
+    let varied = kept(alloc, b"aa", &[Step::SetVariance]);
+    let empty = CompactCacheKey::empty(alloc);
+    let is_copied = match key.clone() {
+        Ok(copy) => *key == copy && hash_alike(key, &copy),
         Err(AllocError) => false,
     };
-    is_copy && *plain != *varied && *plain < *varied
+    is_copied
+        && differ(key, &varied)
+        && *key < varied
+        && differ(key, other)
+        && differ(key, &empty)
+        && differ(other, &empty)
+        && empty.primary_bin() == [0; 16]
+        && empty.variance_bin().is_none()
+        && empty.user_tag() == ""
 }
 
-fn hash_alike(alloc: Global) -> bool {
-    let keys = vec![in alloc;
-        kept(alloc, b"aa", &[]),
-        kept(alloc, b"bb", &[]),
-        kept(alloc, b"aa", &[]),
-        CompactCacheKey::empty(alloc),
-    ];
-    match keys {
-        Ok(keys) => are_distinct(alloc, keys, 3),
-        Err(_) => false,
-    }
-}
-
-fn is_empty(key: &CompactCacheKey) -> bool {
-    key.primary_bin() == [0; 16] && key.variance_bin().is_none() && key.user_tag() == ""
+fn kept_keys_compare_and_hash(alloc: Global) -> bool {
+    let key = kept(alloc, b"aa", &[]);
+    let again = kept(alloc, b"aa", &[]);
+    key == again && hash_alike(&key, &again) && is_told_apart(alloc, &key, &kept(alloc, b"bb", &[]))
 }
 
 #[test]
-fn kept_keys_compare_and_hash(rt: HostRuntime) {
-    let plain = kept(rt.alloc(), b"aa", &[]);
-    let varied = kept(rt.alloc(), b"aa", &[Step::SetVariance]);
-    assert!(rt; are_in_order(&plain, &varied));
-    assert!(rt; hash_alike(rt.alloc()));
-    assert!(rt; is_empty(&CompactCacheKey::empty(rt.alloc())));
+fn keys_as_the_original(rt: HostRuntime) {
+    assert!(rt; are_cases(rt.alloc()));
+    assert!(rt; are_texts(rt.alloc()));
+    assert!(rt; copies_are_after(rt.alloc()));
+    assert!(rt; kept_keys_compare_and_hash(rt.alloc()));
 }

@@ -7,22 +7,26 @@ use cache_words::text::Text;
 use cache_words::variance::VarianceBuilder;
 use std::alloc::{AllocError, Global};
 
-// Whether a writer added the text to the byte that was there, or was refused and left that byte alone.
-fn adds_or_keeps(alloc: Global, value: Put, text: &[u8]) -> bool {
-    let Ok(mut out) = Vec::from_slice(alloc, &[9]) else {
-        return true;
-    };
-    match write_value(alloc, &mut out, value) {
-        Ok(()) => out.get(..1) == Some(&[9]) && out.get(1..) == Some(text),
-        Err(fault) => fault == PackWriteFault::Memory && out.as_slice() == [9].as_slice(),
+// Whether a writer adds each text to the byte that was there, or is refused and leaves that byte alone.
+fn add_or_keep(alloc: Global) -> bool {
+    for &(value, text) in WRITTEN {
+        let Ok(mut out) = Vec::from_slice(alloc, &[9]) else {
+            return true;
+        };
+        let is_right = match write_value(alloc, &mut out, value) {
+            Ok(()) => out.get(..1) == Some(&[9]) && out.get(1..) == Some(text),
+            Err(fault) => fault == PackWriteFault::Memory && out.as_slice() == [9].as_slice(),
+        };
+        if !is_right {
+            return false;
+        }
     }
+    true
 }
 
 #[test]
 fn refused_writes_add_nothing(rt: HostRuntime) {
-    for &(value, text) in WRITTEN {
-        assert!(rt; adds_or_keeps(rt.alloc(), value, text));
-    }
+    assert!(rt; add_or_keep(rt.alloc()));
 }
 
 #[derive(Clone, Copy)]
@@ -34,6 +38,14 @@ enum Call {
     Combined,
 }
 
+const CALLS: &[Call] = &[
+    Call::ToCompact,
+    Call::Clone,
+    Call::Primary,
+    Call::Variance,
+    Call::Combined,
+];
+
 fn full_key(alloc: Global) -> Result<CacheKey, AllocError> {
     let primary = Vec::from_slice(alloc, b"aa")?;
     let mut key = CacheKey::new(primary, String::from_str(alloc, "1")?);
@@ -41,56 +53,64 @@ fn full_key(alloc: Global) -> Result<CacheKey, AllocError> {
     Ok(key)
 }
 
+const PRIMARY: &str = "ac10f2aef117729f8dad056b3059eb7e";
+
 // Whether what the call made is right.
 fn is_right(alloc: Global, key: &CacheKey, call: Call) -> Result<bool, AllocError> {
-    Ok(match call {
-        Call::ToCompact => key.to_compact()?.variance == Some([7; 16]),
-        Call::Clone => key.clone()?.variance_bin() == Some([7; 16]),
-        Call::Primary => key.primary(alloc)?.as_str() == "ac10f2aef117729f8dad056b3059eb7e",
-        Call::Variance => key.variance(alloc)?.is_some(),
-        Call::Combined => key.combined(alloc)?.as_str().len() == 32,
-    })
-}
-
-#[test]
-fn refused_calls_keep_the_key(rt: HostRuntime) {
-    let calls = [
-        Call::ToCompact,
-        Call::Clone,
-        Call::Primary,
-        Call::Variance,
-        Call::Combined,
-    ];
-    for step in calls {
-        if let Ok(key) = full_key(rt.alloc()) {
-            assert!(rt; is_right(rt.alloc(), &key, step) != Ok(false));
-            assert!(rt; key.variance_bin() == Some([7; 16]));
-        }
+    match call {
+        Call::ToCompact => Ok(key.to_compact()?.variance == Some([7; 16])),
+        Call::Clone => Ok(key.clone()?.variance_bin() == Some([7; 16])),
+        Call::Primary => Ok(key.primary(alloc)?.as_str() == PRIMARY),
+        Call::Variance => Ok(key.variance(alloc)?.is_some()),
+        Call::Combined => Ok(key.combined(alloc)?.as_str().len() == 32),
     }
 }
 
-#[test]
-fn refused_tags_stay_borrowed(rt: HostRuntime) {
-    let key = BorrowedKey {
-        primary: [7; 16],
-        variance: None,
-        user_tag: "tag",
+// Whether each call is right or refused, and leaves the variance.
+fn calls_keep_the_key(alloc: Global) -> bool {
+    for &call in CALLS {
+        let is_right = match full_key(alloc) {
+            Ok(key) => {
+                is_right(alloc, &key, call) != Ok(false) && key.variance_bin() == Some([7; 16])
+            }
+            Err(AllocError) => true,
+        };
+        if !is_right {
+            return false;
+        }
+    }
+    true
+}
+
+const BORROWED: BorrowedKey<'static> = BorrowedKey {
+    primary: [7; 16],
+    variance: None,
+    user_tag: "tag",
+};
+
+fn has_tag(alloc: Global, key: BorrowedKey<'_>) -> bool {
+    match key.to_compact(alloc) {
+        Ok(compact) => compact.user_tag() == "tag",
+        Err(AllocError) => key.user_tag == "tag",
+    }
+}
+
+fn text_is_copied_or_left(alloc: Global) -> bool {
+    let Ok(string) = String::from_str(alloc, "tag") else {
+        return true;
     };
-    match key.to_compact(rt.alloc()) {
-        Ok(compact) => assert!(rt; compact.user_tag() == "tag"),
-        Err(AllocError) => assert!(rt; key.user_tag == "tag"),
+    let text = Text::from_string(string);
+    match text.clone() {
+        Ok(copy) => copy == text,
+        Err(AllocError) => text.as_str() == "tag",
     }
 }
 
 #[test]
-fn refused_text_clone(rt: HostRuntime) {
-    if let Ok(string) = String::from_str(rt.alloc(), "tag") {
-        let text = Text::from_string(string);
-        match text.clone() {
-            Ok(copy) => assert!(rt; copy == text),
-            Err(AllocError) => assert!(rt; text.as_str() == "tag"),
-        }
-    }
+fn refused_calls_keep_keys_tags_and_texts(rt: HostRuntime) {
+    assert!(rt; calls_keep_the_key(rt.alloc()));
+    assert!(rt; has_tag(rt.alloc(), BORROWED));
+    assert!(rt; text_is_copied_or_left(rt.alloc()));
 }
 
 #[derive(Clone, Copy)]
@@ -99,6 +119,8 @@ enum Add {
     OwnedValue,
     OwnedBoth,
 }
+
+const WAYS: &[Add] = &[Add::Borrowed, Add::OwnedValue, Add::OwnedBoth];
 
 fn add_value(
     alloc: Global,
@@ -114,11 +136,19 @@ fn add_value(
     }
 }
 
+// Whether builders have a variance just where the value was added.
+fn are_added_or_not(alloc: Global) -> bool {
+    for &way in WAYS {
+        let mut builder = VarianceBuilder::new(alloc);
+        let is_added = add_value(alloc, &mut builder, way).is_ok();
+        if builder.has_variance() != is_added {
+            return false;
+        }
+    }
+    true
+}
+
 #[test]
 fn refused_values_are_not_added(rt: HostRuntime) {
-    for way in [Add::Borrowed, Add::OwnedValue, Add::OwnedBoth] {
-        let mut builder = VarianceBuilder::new(rt.alloc());
-        let result = add_value(rt.alloc(), &mut builder, way);
-        assert!(rt; builder.has_variance() == result.is_ok());
-    }
+    assert!(rt; are_added_or_not(rt.alloc()));
 }

@@ -1,5 +1,5 @@
 //! Moments and durations.
-use crate::words::are_distinct;
+use crate::words::hash_alike;
 use cache_words::laws;
 use cache_words::time::{Duration, Moment};
 use std::cmp::Ordering;
@@ -27,32 +27,28 @@ const SUMS: &[(Parts, Length, Option<Parts>, Option<Parts>)] = &[
     ((i64::MIN, 0), (0, 1), Some((i64::MIN, 1)), None),
 ];
 
-fn moment(parts: Parts) -> Option<Moment> {
-    Moment::new(parts.0, parts.1)
-}
-
-fn duration(length: Length) -> Option<Duration> {
-    Duration::new(length.0, length.1)
-}
-
-fn parts_of(moment: Moment) -> Parts {
-    (moment.seconds(), moment.nanoseconds())
-}
-
-fn later_and_earlier(start: Parts, span: Length) -> Option<(Option<Parts>, Option<Parts>)> {
-    let start = moment(start)?;
-    let span = duration(span)?;
-    Some((
-        start.checked_add(span).map(parts_of),
-        start.checked_sub(span).map(parts_of),
-    ))
-}
-
-#[test]
-fn later_and_earlier_moments(rt: HostRuntime) {
-    for &(start, span, later, earlier) in SUMS {
-        assert!(rt; later_and_earlier(start, span) == Some((later, earlier)));
+fn parts_of(moment: Option<Moment>) -> Option<Parts> {
+    match moment {
+        Some(moment) => Some((moment.seconds(), moment.nanoseconds())),
+        None => None,
     }
+}
+
+fn length_of(duration: Duration) -> Length {
+    (duration.seconds(), duration.nanoseconds())
+}
+
+fn are_later_and_earlier() -> Option<bool> {
+    for &(start, span, later, earlier) in SUMS {
+        let start = Moment::new(start.0, start.1)?;
+        let span = Duration::new(span.0, span.1)?;
+        if parts_of(start.checked_add(span)) != later
+            || parts_of(start.checked_sub(span)) != earlier
+        {
+            return Some(false);
+        }
+    }
+    Some(true)
 }
 
 // Two moments, and the time from the first to the second.
@@ -63,34 +59,21 @@ const ELAPSED: &[(Parts, Parts, Length)] = &[
     ((i64::MIN, 0), (i64::MAX, 0), (u64::MAX, 0)),
 ];
 
-fn elapsed(from: Parts, to: Parts) -> Option<Length> {
-    let elapsed = moment(to)?.elapsed_since(moment(from)?);
-    Some((elapsed.seconds(), elapsed.nanoseconds()))
-}
-
-#[test]
-fn elapsed_times(rt: HostRuntime) {
+fn are_elapsed() -> Option<bool> {
     for &(from, to, want) in ELAPSED {
-        assert!(rt; elapsed(from, to) == Some(want));
+        let from = Moment::new(from.0, from.1)?;
+        let to = Moment::new(to.0, to.1)?;
+        if length_of(to.elapsed_since(from)) != want {
+            return Some(false);
+        }
     }
+    Some(true)
 }
 
 // Two moments, the first no later than the second.
 const IN_ORDER: &[(Parts, Parts)] = &[((1, 2), (1, 2)), ((1, 2), (1, 3)), ((-1, 9), (0, 0))];
 
-fn compared(first: Parts, second: Parts) -> Option<(bool, bool, Ordering)> {
-    let first = moment(first)?;
-    let second = moment(second)?;
-    Some((
-        first.is_at_most(&second),
-        second.is_at_most(&first),
-        first.cmp(&second),
-    ))
-}
-
-#[test]
-fn order_of_moments(rt: HostRuntime) {
-    laws::order_is_by_time();
+fn are_in_order() -> Option<bool> {
     for &(first, second) in IN_ORDER {
         let is_same = first == second;
         let order = if is_same {
@@ -98,14 +81,25 @@ fn order_of_moments(rt: HostRuntime) {
         } else {
             Ordering::Less
         };
-        assert!(rt; compared(first, second) == Some((true, is_same, order)));
+        let first = Moment::new(first.0, first.1)?;
+        let second = Moment::new(second.0, second.1)?;
+        if !first.is_at_most(&second)
+            || second.is_at_most(&first) != is_same
+            || first.cmp(&second) != order
+        {
+            return Some(false);
+        }
     }
+    Some(true)
 }
 
 #[test]
-fn bounds_of_moments(rt: HostRuntime) {
-    assert!(rt; moment((0, 1_000_000_000)).is_none());
-    assert!(rt; duration((0, 1_000_000_000)).is_none());
+fn moments_are_added_to_and_compared(rt: HostRuntime) {
+    laws::order_is_by_time();
+    assert!(rt; are_later_and_earlier() == Some(true));
+    assert!(rt; are_elapsed() == Some(true));
+    assert!(rt; are_in_order() == Some(true));
+    assert!(rt; Moment::new(0, 1_000_000_000).is_none());
     assert!(rt; Moment::from_seconds(-1).is_before_epoch());
     assert!(rt; !Moment::from_seconds(0).is_before_epoch());
 }
@@ -124,30 +118,23 @@ const LENGTHS: &[(Length, Length, Option<Length>, Length)] = &[
     ((5, 5), (5, 5), Some((10, 10)), (0, 0)),
 ];
 
-fn length_of(duration: Duration) -> Length {
-    (duration.seconds(), duration.nanoseconds())
-}
-
-fn sum_and_rest(first: Length, second: Length) -> Option<(Option<Length>, Length)> {
-    let first = duration(first)?;
-    let second = duration(second)?;
-    Some((
-        first.checked_add(second).map(length_of),
-        length_of(first.saturating_sub(second)),
-    ))
-}
-
-fn stopping_sum(first: Length, second: Length) -> Option<Length> {
-    Some(length_of(duration(first)?.saturating_add(duration(second)?)))
-}
-
-#[test]
-fn sums_and_differences_of_durations(rt: HostRuntime) {
+fn are_sums_and_differences() -> Option<bool> {
     let greatest = (u64::MAX, 999_999_999);
     for &(first, second, sum, rest) in LENGTHS {
-        assert!(rt; sum_and_rest(first, second) == Some((sum, rest)));
-        assert!(rt; stopping_sum(first, second) == Some(sum.unwrap_or(greatest)));
+        let first = Duration::new(first.0, first.1)?;
+        let second = Duration::new(second.0, second.1)?;
+        let found = match first.checked_add(second) {
+            Some(found) => Some(length_of(found)),
+            None => None,
+        };
+        if found != sum
+            || length_of(first.saturating_sub(second)) != rest
+            || length_of(first.saturating_add(second)) != sum.unwrap_or(greatest)
+        {
+            return Some(false);
+        }
     }
+    Some(true)
 }
 
 // Two times, the first longer than the second.
@@ -157,34 +144,36 @@ const LONGER: &[(Length, Length)] = &[
     ((1, 9), (1, 8)),
 ];
 
-fn lengths_compared(first: Length, second: Length) -> Option<(bool, bool, bool)> {
-    let first = duration(first)?;
-    let second = duration(second)?;
-    Some((
-        first.is_at_least(&second),
-        second.is_at_least(&first),
-        first > second,
-    ))
-}
-
-#[test]
-fn order_of_durations(rt: HostRuntime) {
+// The longer one is as long as itself, too.
+fn are_longer() -> Option<bool> {
     for &(longer, shorter) in LONGER {
-        assert!(rt; lengths_compared(longer, shorter) == Some((true, false, true)));
-        assert!(rt; lengths_compared(longer, longer) == Some((true, true, false)));
+        let longer = Duration::new(longer.0, longer.1)?;
+        let shorter = Duration::new(shorter.0, shorter.1)?;
+        if !longer.is_at_least(&shorter)
+            || shorter.is_at_least(&longer)
+            || !(longer > shorter)
+            || !longer.is_at_least(&longer)
+            || longer > longer
+        {
+            return Some(false);
+        }
     }
-    assert!(rt; Duration::zero() == Duration::from_seconds(0));
+    Some(true)
 }
 
-fn at(seconds: i64) -> (Moment, Duration) {
-    (Moment::from_seconds(seconds), Duration::zero())
+// Whether the times of so many seconds, each a moment and no time, hash alike.
+fn times_hash_alike(first: i64, second: i64) -> bool {
+    let first = (Moment::from_seconds(first), Duration::zero());
+    let second = (Moment::from_seconds(second), Duration::zero());
+    (first == second) && hash_alike(&first, &second)
 }
 
 #[test]
-fn equal_times_hash_alike(rt: HostRuntime) {
-    let times = vec![in rt.alloc(); at(1), at(2), at(1)];
-    assert!(rt; times.is_ok());
-    if let Ok(times) = times {
-        assert!(rt; are_distinct(rt.alloc(), times, 2));
-    }
+fn durations_are_added_and_compared_and_times_hash_alike(rt: HostRuntime) {
+    assert!(rt; are_sums_and_differences() == Some(true));
+    assert!(rt; are_longer() == Some(true));
+    assert!(rt; Duration::new(0, 1_000_000_000).is_none());
+    assert!(rt; Duration::zero() == Duration::from_seconds(0));
+    assert!(rt; times_hash_alike(1, 1));
+    assert!(rt; !times_hash_alike(1, 2));
 }

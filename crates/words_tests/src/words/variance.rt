@@ -64,57 +64,44 @@ const OTHER_ORDER: &[Row] = &[
     ("a", "1", Given::OwnedBoth),
 ];
 
-fn is_added(alloc: Global, builder: &mut VarianceBuilder<'static>, row: Row) -> bool {
-    let (name, value, given) = row;
-    match given {
-        Given::Borrowed => builder.add_value(name, value).is_ok(),
-        Given::OwnedValue => builder
-            .add_owned_value(name, bytes(alloc, value.as_bytes()))
-            .is_ok(),
-        Given::OwnedBoth => builder
-            .add_owned_name_value(string(alloc, name), bytes(alloc, value.as_bytes()))
-            .is_ok(),
+// The variance of rows; `None` where memory is refused.
+fn variance_of(alloc: Global, rows: &[Row]) -> Option<Option<HashBinary>> {
+    let mut builder = VarianceBuilder::new(alloc);
+    for &(name, value, given) in rows {
+        let is_added = match given {
+            Given::Borrowed => builder.add_value(name, value).is_ok(),
+            Given::OwnedValue => {
+                builder
+                    .add_owned_value(name, bytes(alloc, value.as_bytes()))
+                    .is_ok()
+            }
+            Given::OwnedBoth => {
+                builder
+                    .add_owned_name_value(string(alloc, name), bytes(alloc, value.as_bytes()))
+                    .is_ok()
+            }
+        };
+        if !is_added {
+            return None;
+        }
     }
+    Some(builder.finalize())
 }
 
-fn are_added(alloc: Global, builder: &mut VarianceBuilder<'static>, rows: &[Row]) -> bool {
-    for &row in rows {
-        if !is_added(alloc, builder, row) {
+fn are_hashes(alloc: Global) -> bool {
+    for &(rows, hash) in CASES {
+        if variance_of(alloc, rows) != Some(str2hex(hash)) {
             return false;
         }
     }
-    true
+    variance_of(alloc, &[]) == Some(None)
 }
 
-// Whether rows have this hash.
-fn is_hash(alloc: Global, rows: &[Row], hash: Option<HashBinary>) -> bool {
-    let mut builder = VarianceBuilder::new(alloc);
-    are_added(alloc, &mut builder, rows) && builder.finalize() == hash
-}
-
-// The hash of rows; none where memory is refused, too.
-fn hash_of(alloc: Global, rows: &[Row]) -> Option<HashBinary> {
-    let mut builder = VarianceBuilder::new(alloc);
-    if are_added(alloc, &mut builder, rows) {
-        builder.finalize()
-    } else {
-        None
+fn are_one_hash(alloc: Global, rows: &[Row], others: &[Row]) -> bool {
+    match variance_of(alloc, rows) {
+        Some(Some(hash)) => variance_of(alloc, others) == Some(Some(hash)),
+        _ => false,
     }
-}
-
-#[test]
-fn variances_as_the_original(rt: HostRuntime) {
-    laws::any_order();
-    for &(rows, hash) in CASES {
-        assert!(rt; is_hash(rt.alloc(), rows, str2hex(hash)));
-    }
-    assert!(rt; is_hash(rt.alloc(), &[], None));
-}
-
-#[test]
-fn orders_make_no_difference(rt: HostRuntime) {
-    let hash = hash_of(rt.alloc(), ORDER);
-    assert!(rt; hash.is_some() && is_hash(rt.alloc(), OTHER_ORDER, hash));
 }
 
 const LENT: &[Row] = &[
@@ -124,22 +111,25 @@ const LENT: &[Row] = &[
     ("d", "1", Given::Borrowed),
 ];
 
-// Whether values of each type are added, and then there is a variance, which there wasn't before, with this hash.
-fn are_lent(alloc: Global, vec: &Vec<u8>, string: &String, hash: Option<HashBinary>) -> bool {
+// Whether values of each type are added, and then there is a variance, which there wasn't before: that of rows.
+fn are_lent(alloc: Global, rows: &[Row]) -> bool {
+    let vec = bytes(alloc, b"1");
+    let string = string(alloc, "1");
     let mut builder = VarianceBuilder::new(alloc);
     let before = builder.has_variance();
     !before
         && builder.add_value("a", vec.as_slice()).is_ok()
         && builder.add_value("b", b"1").is_ok()
-        && builder.add_value("c", vec).is_ok()
-        && builder.add_value("d", string).is_ok()
+        && builder.add_value("c", &vec).is_ok()
+        && builder.add_value("d", &string).is_ok()
         && builder.has_variance()
-        && builder.finalize() == hash
+        && Some(builder.finalize()) == variance_of(alloc, rows)
 }
 
 #[test]
-fn a_builder_takes_whatever_lends_bytes(rt: HostRuntime) {
-    let (vec, string) = (bytes(rt.alloc(), b"1"), string(rt.alloc(), "1"));
-    let hash = hash_of(rt.alloc(), LENT);
-    assert!(rt; hash.is_some() && are_lent(rt.alloc(), &vec, &string, hash));
+fn variances_as_the_original(rt: HostRuntime) {
+    laws::any_order();
+    assert!(rt; are_hashes(rt.alloc()));
+    assert!(rt; are_one_hash(rt.alloc(), ORDER, OTHER_ORDER));
+    assert!(rt; are_lent(rt.alloc(), LENT));
 }

@@ -6,7 +6,7 @@ use cache_words::laws;
 use cache_words::pack::{Cursor, PackFault, PackWriteFault, Sink, writing};
 use cache_words::text::Text;
 use cache_words::time::Moment;
-use std::alloc::Global;
+use std::alloc::{AllocError, Global};
 
 // What is written, and its text.
 #[derive(Clone, Copy)]
@@ -20,7 +20,16 @@ pub(super) enum Put {
     OptionalHash(Option<HashBinary>),
     Moment(i64),
     EmptyKey,
+    Key(Row),
 }
+
+// A kept key and its text, made by the original cache's own code: primary hash, variance, tag, text in hex.
+type Row = (
+    &'static str,
+    Option<&'static str>,
+    &'static str,
+    &'static str,
+);
 
 const SEVENS: &[u8] =
     b"\xdc\x00\x10\x07\x07\x07\x07\x07\x07\x07\x07\x07\x07\x07\x07\x07\x07\x07\x07";
@@ -60,59 +69,59 @@ pub(super) const WRITTEN: &[(Put, &[u8])] = &[
     ),
 ];
 
+// What is refused only where memory is.
+fn write_short<S: Sink>(out: &mut S, value: Put) -> Result<(), AllocError> {
+    match value {
+        Put::Number(number) => writing::put_number(out, number),
+        Put::Array(count) => writing::put_array(out, count),
+        Put::Hash(hash) => writing::put_hash(out, &hash),
+        Put::OptionalHash(hash) => writing::put_optional_hash(out, hash),
+        Put::Moment(seconds) => {
+            let moment = Moment::from_seconds(seconds);
+            if moment.is_before_epoch() {
+                return Ok(());
+            }
+            writing::put_moment(out, moment)
+        }
+        _ => writing::put_nil(out),
+    }
+}
+
 pub(super) fn write_value<S: Sink>(
     alloc: Global,
     out: &mut S,
     value: Put,
 ) -> Result<(), PackWriteFault> {
     match value {
-        Put::Number(number) => writing::put_number(out, number)?,
-        Put::Array(count) => writing::put_array(out, count)?,
-        Put::Text(text) => writing::put_text(out, text)?,
-        Put::Bytes(bytes) => writing::put_byte_string(out, bytes)?,
-        Put::Nil => writing::put_nil(out)?,
-        Put::Hash(hash) => writing::put_hash(out, &hash)?,
-        Put::OptionalHash(hash) => writing::put_optional_hash(out, hash)?,
-        Put::Moment(seconds) => {
-            let moment = Moment::from_seconds(seconds);
-            if !moment.is_before_epoch() {
-                writing::put_moment(out, moment)?;
-            }
-        }
-        Put::EmptyKey => writing::put_key(out, &CompactCacheKey::empty(alloc))?,
+        Put::Text(text) => writing::put_text(out, text),
+        Put::Bytes(bytes) => writing::put_byte_string(out, bytes),
+        Put::EmptyKey => writing::put_key(out, &CompactCacheKey::empty(alloc)),
+        Put::Key(row) => writing::put_key(out, &kept_key(alloc, row)),
+        _ => match write_short(out, value) {
+            Ok(()) => Ok(()),
+            Err(AllocError) => Err(PackWriteFault::Memory),
+        },
     }
-    Ok(())
 }
 
 // Whether this is its text, and its digest without a copy of the text that of the text.
 fn is_written(alloc: Global, value: Put, text: &[u8]) -> bool {
     let mut out = Vec::new(alloc);
-    let written = write_value(alloc, &mut out, value);
     let mut hasher = Blake2b128::new();
-    let hashed = write_value(alloc, &mut hasher, value);
-    written == Ok(())
-        && hashed == Ok(())
+    write_value(alloc, &mut out, value).is_ok()
+        && write_value(alloc, &mut hasher, value).is_ok()
         && out.as_slice() == text
         && hasher.finalize() == hash_key(text)
 }
 
-#[test]
-fn values_are_written_and_hashed(rt: HostRuntime) {
-    laws::written_is_spelled();
-    laws::one_spelling();
-    laws::shortest_is_shortest();
+fn are_written(alloc: Global) -> bool {
     for &(value, text) in WRITTEN {
-        assert!(rt; is_written(rt.alloc(), value, text));
+        if !is_written(alloc, value, text) {
+            return false;
+        }
     }
+    true
 }
-
-// Kept keys and their texts, made by the original cache's own code: primary hash, variance, tag, text in hex.
-type Row = (
-    &'static str,
-    Option<&'static str>,
-    &'static str,
-    &'static str,
-);
 
 const KEYS: &[Row] = &[
     (
@@ -129,51 +138,52 @@ const KEYS: &[Row] = &[
     ),
 ];
 
-fn kept_key(alloc: Global, row: Row) -> Option<CompactCacheKey> {
+// A row's key; of bytes that aren't a hash it is that of zeros.
+fn kept_key(alloc: Global, row: Row) -> CompactCacheKey {
     let (primary, variance, tag, _) = row;
-    Some(CompactCacheKey {
-        primary: str2hex(primary)?,
-        variance: variance.and_then(str2hex),
+    CompactCacheKey {
+        primary: str2hex(primary).unwrap_or([0; 16]),
+        variance: match variance {
+            Some(variance) => str2hex(variance),
+            None => None,
+        },
         user_tag: Text::from_string(string(alloc, tag)),
-    })
+    }
 }
 
-fn is_key_written(alloc: Global, key: &CompactCacheKey, text: &[u8]) -> bool {
-    let mut out = Vec::new(alloc);
-    let written = writing::put_key(&mut out, key);
-    let mut hasher = Blake2b128::new();
-    let hashed = writing::put_key(&mut hasher, key);
-    written == Ok(())
-        && hashed == Ok(())
-        && out.as_slice() == text
-        && hasher.finalize() == hash_key(text)
-}
-
-fn is_key_read(alloc: Global, key: &CompactCacheKey, text: &[u8]) -> bool {
+fn is_key_read(alloc: Global, row: Row, text: &[u8]) -> bool {
     match (Cursor { rest: text }.key()) {
         Ok(read) => match read.to_compact(alloc) {
-            Ok(kept) => kept == *key,
+            Ok(kept) => kept == kept_key(alloc, row),
             Err(_) => false,
         },
         Err(_) => false,
     }
 }
 
-fn is_both(alloc: Global, key: &CompactCacheKey, text: &str) -> bool {
-    match hex::decode(alloc, text) {
-        Ok(text) => {
-            is_key_written(alloc, key, text.as_slice()) && is_key_read(alloc, key, text.as_slice())
+fn keys_are_written_and_read(alloc: Global) -> bool {
+    for &row in KEYS {
+        let is_right = match hex::decode(alloc, row.3) {
+            Ok(text) => {
+                is_written(alloc, Put::Key(row), text.as_slice())
+                    && is_key_read(alloc, row, text.as_slice())
+            }
+            Err(_) => false,
+        };
+        if !is_right {
+            return false;
         }
-        Err(_) => false,
     }
+    true
 }
 
 #[test]
-fn keys_are_written_and_read(rt: HostRuntime) {
-    for &row in KEYS {
-        let key = kept_key(rt.alloc(), row);
-        assert!(rt; key.is_some_and(|key| is_both(rt.alloc(), &key, row.3)));
-    }
+fn values_and_keys_are_written_and_hashed(rt: HostRuntime) {
+    laws::written_is_spelled();
+    laws::one_spelling();
+    laws::shortest_is_shortest();
+    assert!(rt; are_written(rt.alloc()));
+    assert!(rt; keys_are_written_and_read(rt.alloc()));
 }
 
 const FAULTS: &[(PackFault, &str)] = &[
@@ -184,11 +194,18 @@ const FAULTS: &[(PackFault, &str)] = &[
     (PackFault::Length, "an array of another length"),
 ];
 
+fn are_shown(alloc: Global) -> bool {
+    for &(fault, text) in FAULTS {
+        if !is_shown(alloc, &fault, text) {
+            return false;
+        }
+    }
+    true
+}
+
 #[test]
 fn faults_are_shown(rt: HostRuntime) {
-    for &(fault, text) in FAULTS {
-        assert!(rt; is_shown(rt.alloc(), &fault, text));
-    }
+    assert!(rt; are_shown(rt.alloc()));
     let text = "a text or byte string of 2^32 bytes or more";
     assert!(rt; is_shown(rt.alloc(), &PackWriteFault::TooLong, text));
 }
