@@ -1,10 +1,11 @@
 //! The store in memory: writes, readers before and after their pieces, purges, other metas, tags, and what is kept of finished bodies.
 mod bench;
 mod names;
+mod reading;
 mod rows;
 
 use bench::run;
-use rows::{COUNTED, ENDED, ELSEWHERE, PURGED, RENEWED, SOUGHT, STREAMED, TAGGED, WHOLE};
+use rows::{COUNTED, ELSEWHERE, ENDED, PURGED, RENEWED, SOUGHT, STREAMED, TAGGED, WHOLE};
 
 #[test]
 fn steps_give_what_they_must(rt: HostRuntime) {

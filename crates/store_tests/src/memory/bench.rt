@@ -1,45 +1,26 @@
 //! A store with writers and readers, and what is done with them.
 use super::names::Names;
+use super::reading::{Want, finish};
 use super::rows::{Step, Target};
 use crate::samples::{known, meta};
 use bytes::Bytes;
-use cache_heads::CacheMeta;
 use cache_store::storage::{
-    HandleHit, HandleMiss, MissFault, MissFinishType, PurgeOutcome, PurgeType, ReadStep, Storage,
-    StoreFault,
+    HandleMiss, MissFault, MissFinishType, PurgeOutcome, PurgeType, Storage, StoreFault,
 };
-use cache_words::key::{CacheHashKey, CacheKey};
+use cache_words::key::CacheHashKey;
 use cache_words::time::Moment;
 use mem_cache::MemCache;
 use mem_cache::handlers::{MemHitHandler, MemMissHandler};
 use std::alloc::Global;
 use std::hash::BuildHasherDefault;
 
-struct Bench {
-    store: MemCache,
+pub(super) struct Bench {
+    pub(super) store: MemCache,
     writer: Option<MemMissHandler>,
     // The writer before.
     aside: Option<MemMissHandler>,
-    early: Option<MemHitHandler>,
-    late: Option<MemHitHandler>,
-}
-
-// What a look-up must find.
-#[derive(Clone, Copy)]
-enum Want {
-    Nothing,
-    // A reader, which is kept as the later one or the earlier one, of a finished body or of a write.
-    Reader(bool, bool),
-    // A body that is stale.
-    Stale,
-}
-
-// What a reader must read.
-#[derive(Clone, Copy)]
-enum Read {
-    Bytes(&'static [u8]),
-    Pending,
-    End,
+    pub(super) early: Option<MemHitHandler>,
+    pub(super) late: Option<MemHitHandler>,
 }
 
 fn leave(store: &mut MemCache, writer: Option<MemMissHandler>) {
@@ -48,48 +29,11 @@ fn leave(store: &mut MemCache, writer: Option<MemMissHandler>) {
     }
 }
 
-fn finish(store: &mut MemCache, reader: Option<MemHitHandler>) {
-    if let Some(reader) = reader {
-        reader.finish(store);
-    }
-}
-
 // Whether a call is refused so, or done where no fault is named.
-fn is_so(done: Result<(), StoreFault>, fault: Option<StoreFault>) -> bool {
+pub(super) fn is_so(done: Result<(), StoreFault>, fault: Option<StoreFault>) -> bool {
     match done {
         Ok(()) => fault.is_none(),
         Err(found) => fault == Some(found),
-    }
-}
-
-// Whether the handler answers as one of a finished body does, or as one of a write.
-fn answers_alike(handler: &MemHitHandler, complete: bool) -> bool {
-    matches!(handler, MemHitHandler::Complete(_)) == complete
-        && handler.can_seek() == complete
-        && <MemHitHandler as HandleHit<MemCache>>::can_seek(handler) == complete
-        && <MemHitHandler as HandleHit<MemCache>>::can_seek_multipart(handler) == complete
-        && <MemHitHandler as HandleHit<MemCache>>::should_count_access(handler) == complete
-        && <MemHitHandler as HandleHit<MemCache>>::entry_id(handler).is_none()
-}
-
-// Whether a meta is stale from 1001 on, and may then be served on errors.
-fn goes_stale(meta: &CacheMeta) -> bool {
-    let next = Moment::from_seconds(1001);
-    meta.is_fresh(Moment::from_seconds(1000))
-        && !meta.is_fresh(next)
-        && meta.serve_stale_if_error(next)
-}
-
-// Whether a reader read what it must.
-fn is_read(step: Result<ReadStep, StoreFault>, want: Read) -> bool {
-    match step {
-        Ok(ReadStep::Bytes(bytes)) => match want {
-            Read::Bytes(want) => bytes.as_slice() == want,
-            Read::Pending | Read::End => false,
-        },
-        Ok(ReadStep::Pending) => matches!(want, Read::Pending),
-        Ok(ReadStep::End) => matches!(want, Read::End),
-        Err(_) => false,
     }
 }
 
@@ -183,102 +127,6 @@ impl Bench {
         }
     }
 
-    fn look(&mut self, names: &Names, want: Want) -> bool {
-        match self.store.lookup(&names.aa) {
-            Ok(Some((meta, reader))) => self.sees(&meta, reader, want),
-            Ok(None) => matches!(want, Want::Nothing),
-            Err(_) => false,
-        }
-    }
-
-    // Keeps a reader that is wanted, and finishes the one before.
-    fn sees(&mut self, meta: &CacheMeta, reader: MemHitHandler, want: Want) -> bool {
-        let is_right = match want {
-            Want::Reader(_, complete) => answers_alike(&reader, complete),
-            Want::Stale => goes_stale(meta),
-            Want::Nothing => false,
-        };
-        let before = match want {
-            Want::Reader(true, _) => self.late.replace(reader),
-            Want::Reader(false, _) => self.early.replace(reader),
-            Want::Stale | Want::Nothing => Some(reader),
-        };
-        finish(&mut self.store, before);
-        is_right
-    }
-
-    // Looks a key up by a tag, and reads these bytes if any.
-    fn asks(&mut self, key: &CacheKey, tag: Option<&[u8]>, want: Option<&'static [u8]>) -> bool {
-        match self.store.lookup_streaming_write(key, tag) {
-            Ok(Some((_meta, mut reader))) => {
-                let step = reader.read_body(&mut self.store);
-                reader.finish(&mut self.store);
-                match want {
-                    Some(want) => is_read(step, Read::Bytes(want)),
-                    None => false,
-                }
-            }
-            Ok(None) => tag.is_none() && want.is_none(),
-            Err(fault) => fault == StoreFault::WriteRemoved && want.is_none(),
-        }
-    }
-
-    // The later reader is read as any store's, the earlier one by its own calls.
-    fn read(&mut self, late: bool) -> Result<ReadStep, StoreFault> {
-        if late {
-            match self.late.as_mut() {
-                Some(reader) => reader.read_body(&mut self.store),
-                None => Err(StoreFault::Memory),
-            }
-        } else {
-            match self.early.as_mut() {
-                Some(MemHitHandler::Complete(hit)) => hit.read(),
-                Some(MemHitHandler::Partial(hit)) => hit.read(&self.store),
-                None => Err(StoreFault::Memory),
-            }
-        }
-    }
-
-    fn reads(&mut self, late: bool, want: Read) -> bool {
-        is_read(self.read(late), want)
-    }
-
-    fn weighs(&self, late: bool, weight: usize) -> bool {
-        let reader = if late { &self.late } else { &self.early };
-        match reader {
-            Some(reader) => {
-                let len = match reader {
-                    MemHitHandler::Complete(hit) => hit.len(),
-                    MemHitHandler::Partial(_) => 0,
-                };
-                let weighed = <MemHitHandler as HandleHit<MemCache>>::get_eviction_weight(reader);
-                len == weight && weighed == weight
-            }
-            None => false,
-        }
-    }
-
-    // Sets what the earlier reader reads next, as a range or as one of several.
-    fn seek(
-        &mut self,
-        is_part: bool,
-        start: usize,
-        end: Option<usize>,
-        fault: Option<StoreFault>,
-    ) -> bool {
-        match self.early.as_mut() {
-            Some(early) => {
-                let done = if is_part {
-                    <MemHitHandler as HandleHit<MemCache>>::seek_multipart(early, start, end)
-                } else {
-                    early.seek(start, end)
-                };
-                is_so(done, fault)
-            }
-            None => false,
-        }
-    }
-
     fn purge(&mut self, names: &Names, target: Target, outcome: PurgeOutcome) -> bool {
         let cause = match target {
             Target::Key => PurgeType::Invalidation,
@@ -325,12 +173,10 @@ impl Bench {
             Step::Look(late, complete) => self.look(names, Want::Reader(late, complete)),
             Step::Misses => self.look(names, Want::Nothing),
             Step::Stale => self.look(names, Want::Stale),
-            Step::Asks(primary, tag, want) => {
-                self.asks(&known(names.alloc, primary), tag, want)
-            }
-            Step::Bytes(late, want) => self.reads(late, Read::Bytes(want)),
-            Step::Pending(late) => self.reads(late, Read::Pending),
-            Step::End(late) => self.reads(late, Read::End),
+            Step::Asks(primary, tag, want) => { self.asks(&known(names.alloc, primary), tag, want) }
+            Step::Bytes(late, want) => self.reads(late, Some(want), false),
+            Step::Pending(late) => self.reads(late, None, true),
+            Step::End(late) => self.reads(late, None, false),
             Step::Seek(start, end, fault) => self.seek(false, start, end, fault),
             Step::SeekPart(start, end, fault) => self.seek(true, start, end, fault),
             Step::Weighs(late, weight) => self.weighs(late, weight),

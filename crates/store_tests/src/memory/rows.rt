@@ -19,11 +19,7 @@ pub(super) enum Step {
     Stale,
     // A look-up of a key by a tag, and what a reader of the found write reads; nothing where none is found. A tag that names no number
     // asks for the key.
-    Asks(
-        &'static [u8],
-        Option<&'static [u8]>,
-        Option<&'static [u8]>,
-    ),
+    Asks(&'static [u8], Option<&'static [u8]>, Option<&'static [u8]>),
     Bytes(bool, &'static [u8]),
     Pending(bool),
     End(bool),

@@ -8,9 +8,7 @@ use pingora_cache::eviction::lru::Manager;
 use pingora_cache::put::{CachePut, CachePutCtx, PutFault, PutOutcome, cacheable_by_headers};
 use pingora_cache::storage::{HandleHit, ReadStep, Storage};
 use pingora_cache::time::Moment;
-use pingora_cache::{
-    CacheMetaDefaults, MemCache, NoCacheReason, NoPolicy, Parts, RespCacheable,
-};
+use pingora_cache::{CacheMetaDefaults, MemCache, NoCacheReason, NoPolicy, Parts, RespCacheable};
 use rand_pcg::Pcg32;
 use std::alloc::{AllocError, Global};
 
@@ -106,7 +104,7 @@ fn joined(alloc: Global, put: Put) -> Option<Bytes> {
     Bytes::from_vec(all).ok()
 }
 
-fn cut(alloc: Global, pieces: &mut Vec<Bytes>, put: Put) -> Option<()> {
+fn cut_into(alloc: Global, pieces: &mut Vec<Bytes>, put: Put) -> Option<()> {
     match put.cut {
         Cut::HeadAndBody => {
             pieces.push(Bytes::from_static(put.head)).ok()?;
@@ -161,9 +159,9 @@ fn put_pieces(
     Some((got, ctx.cache_put.lines))
 }
 
-pub(crate) fn put(alloc: Global, cache: &mut Cache, put: Put) -> Option<(Got, usize)> {
+pub(crate) fn put_in(alloc: Global, cache: &mut Cache, put: Put) -> Option<(Got, usize)> {
     let mut pieces = Vec::new(alloc);
-    match cut(alloc, &mut pieces, put) {
+    match cut_into(alloc, &mut pieces, put) {
         Some(()) => put_pieces(alloc, cache, put, pieces.as_slice()),
         None => None,
     }

@@ -1,5 +1,5 @@
 //! Puts that evict, and puts that memory cuts short.
-use crate::puts::bench::{Cache, Cut, Got, Put, cache, holds, put};
+use crate::puts::bench::{Cache, Cut, Got, Put, cache, holds, put_in};
 use std::alloc::Global;
 use std::test::*;
 
@@ -52,7 +52,11 @@ fn put_at(name: u8, body: &'static [u8], second: i64) -> Put {
 
 fn is_done(alloc: Global, cache: &mut Cache, step: Step) -> bool {
     match step {
-        Step::Put(name, body, second, want) => match put(alloc, cache, put_at(name, body, second)) {
+        Step::Put(name, body, second, want) => match put_in(
+            alloc,
+            cache,
+            put_at(name, body, second),
+        ) {
             Some((got, _)) => got == want,
             None => false,
         },
@@ -93,10 +97,10 @@ fn is_left_so(alloc: Global, cache: &mut Cache, got: Got) -> Option<bool> {
 }
 
 fn put_two(alloc: Global, cache: &mut Cache) -> Option<bool> {
-    if let (Got::CutShort(_), _) = put(alloc, cache, put_at(b'a', b"aaa", 1000))? {
+    if let (Got::CutShort(_), _) = put_in(alloc, cache, put_at(b'a', b"aaa", 1000))? {
         return None;
     }
-    let (got, _) = put(alloc, cache, put_at(b'b', b"bbb", 1000))?;
+    let (got, _) = put_in(alloc, cache, put_at(b'b', b"bbb", 1000))?;
     is_left_so(alloc, cache, got)
 }
 

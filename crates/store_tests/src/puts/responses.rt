@@ -1,5 +1,5 @@
 //! Responses, whole and in pieces, and what comes of a put of each.
-use crate::puts::bench::{Cache, Cut, Got, Put, cache, holds, put};
+use crate::puts::bench::{Cache, Cut, Got, Put, cache, holds, put_in};
 use pingora_cache::NoCacheReason;
 use std::alloc::Global;
 use std::test::*;
@@ -54,7 +54,14 @@ const ROWS: &[Row] = &[
     (NO_STORE, b"ab", None, 2, SHORT, None),
     (NO_STORE, b"abc", Some(2), 2, NOT_KEPT, None),
     (NO_CONTENT, b"rust", None, 2, Got::Stored(0, 0), Some(b"")),
-    (PUBLIC, b"rustabcdef", None, 3, Got::Stored(4, 0), Some(b"rust")),
+    (
+        PUBLIC,
+        b"rustabcdef",
+        None,
+        3,
+        Got::Stored(4, 0),
+        Some(b"rust"),
+    ),
     (FOUR, b"rust", Some(3), 2, ANNOUNCED, None),
     (FOUR, b"rus", Some(3), 2, SHORT, None),
     (FOUR, b"rus", Some(2), 2, SHORT, None),
@@ -63,7 +70,14 @@ const ROWS: &[Row] = &[
     (NO_STORE, b"ab", Some(1), 2, SHORT, None),
     (FOUR, b"rust", Some(4), 2, Got::Stored(4, 0), Some(b"rust")),
     (NO_LENGTH, b"rust", Some(3), 1, LARGE, None),
-    (NO_LENGTH, b"rus", Some(3), 1, Got::Stored(3, 0), Some(b"rus")),
+    (
+        NO_LENGTH,
+        b"rus",
+        Some(3),
+        1,
+        Got::Stored(3, 0),
+        Some(b"rus"),
+    ),
     (STRIPPED, b"rust", Some(3), 2, LARGE, None),
     (BAD, b"rust", Some(3), 0, Got::Refused("bad head"), None),
     (NINE, b"abc", None, 2, Got::Stored(3, 0), Some(b"abc")),
@@ -85,7 +99,8 @@ fn gives(alloc: Global, cache: &mut Cache, row: Row, cut: Cut) -> bool {
         limit,
         second: 1000,
     };
-    put(alloc, cache, made) == Some((want, lines)) && holds(alloc, cache, b'a', found) == Some(true)
+    put_in(alloc, cache, made) == Some((want, lines))
+        && holds(alloc, cache, b'a', found) == Some(true)
 }
 
 fn is_so(alloc: Global, row: Row, cut: Cut) -> bool {
