@@ -69,13 +69,13 @@ struct Shared {
     value: HeaderValue,
 }
 
+fn letter(i: u16) -> u8 {
+    b'a' + (i % 16) as u8
+}
+
 // The name of that number.
 fn name_of(i: u16) -> [u8; 3] {
-    [
-        b'a' + (i / 256 % 16) as u8,
-        b'a' + (i / 16 % 16) as u8,
-        b'a' + (i % 16) as u8,
-    ]
+    [letter(i / 256), letter(i / 16), letter(i)]
 }
 
 // Appends the field of that number.

@@ -152,7 +152,7 @@ fn is_nothing_there(alloc: Global, key: &CacheKey, compact: &CompactCacheKey) ->
     let outcome = Nothing.expire(PurgeTarget::Active(compact), Moment::from_seconds(1000));
     begun.is_err()
         && matches!(found, Ok(None))
-        && outcome == Ok(PurgeOutcome::NotFound)
+        && matches!(outcome, Ok(PurgeOutcome::NotFound))
         && !Nothing.support_streaming_partial_write()
 }
 
@@ -165,8 +165,8 @@ fn is_asked(alloc: Global) -> bool {
 }
 
 fn is_nobody(mut hit: Nobody) -> bool {
-    hit.seek(0, None) == Err(StoreFault::SeekRange)
-        && hit.seek_multipart(0, None) == Err(StoreFault::SeekRange)
+    matches!(hit.seek(0, None), Err(StoreFault::SeekRange))
+        && matches!(hit.seek_multipart(0, None), Err(StoreFault::SeekRange))
         && !hit.can_seek()
         && !hit.can_seek_multipart()
         && hit.should_count_access()

@@ -2,7 +2,7 @@
 use crate::samples::meta;
 use cache_heads::CacheMeta;
 use cache_words::time::Moment;
-use http_header::{HeaderMap, HeaderValue};
+use http_header::HeaderValue;
 use packed_meta::PackedMeta;
 use std::alloc::Global;
 
@@ -42,23 +42,17 @@ const ROWS: &[Row] = &[
     },
 ];
 
-fn append(
-    alloc: Global,
-    headers: &mut HeaderMap,
-    name: &str,
-    line: &[u8],
-    sensitive: bool,
-) -> Option<()> {
+fn value(alloc: Global, line: &[u8], sensitive: bool) -> Option<HeaderValue> {
     let mut value = HeaderValue::from_bytes(alloc, line).ok()?;
     value.set_sensitive(sensitive);
-    headers.append(name, value).ok()?;
-    Some(())
+    Some(value)
 }
 
 fn fill(alloc: Global, sample: &mut CacheMeta, row: Row) -> Option<()> {
-    let headers = &mut sample.header.headers;
-    append(alloc, headers, "set-cookie", b"a=1", row.sensitive)?;
-    append(alloc, headers, "content-type", b"text/plain", false)?;
+    let cookie = value(alloc, b"a=1", row.sensitive)?;
+    sample.header.headers.append("set-cookie", cookie).ok()?;
+    let plain = value(alloc, b"text/plain", false)?;
+    sample.header.headers.append("content-type", plain).ok()?;
     if row.renewed {
         sample.update_freshness(Moment::from_seconds(1300), 5, 6, Moment::from_seconds(1000));
     }
