@@ -110,58 +110,47 @@ fn chosen_values_hash_apart(rt: HostRuntime) {
 /// How many chosen keys are put: were they hashed alike, the tests would take minutes.
 const KEYS: u64 = 30_000;
 
-fn fill_map<R: Wait>(rt: &R, map: &ConcurrentHashTable<u64, 4, SeededState>) -> Option<()> {
+fn map_holds_all<R: Wait>(rt: &R, map: &ConcurrentHashTable<u64, 4, SeededState>) -> bool {
     for number in 0..KEYS {
         let key = wide(MULTIPLIER, number);
-        map.write(rt, key).insert(key, number).ok()?;
-    }
-    Some(())
-}
-
-fn found_in_map<R: Wait>(rt: &R, map: &ConcurrentHashTable<u64, 4, SeededState>) -> u64 {
-    let mut found: u64 = 0;
-    for number in 0..KEYS {
-        let key = wide(MULTIPLIER, number);
-        if map.read(rt, key).get(&key) == Some(&number) {
-            found = found.wrapping_add(1);
+        if map.write(rt, key).insert(key, number).is_err() {
+            return false;
         }
     }
-    found
+    for number in 0..KEYS {
+        let key = wide(MULTIPLIER, number);
+        if map.read(rt, key).get(&key) != Some(&number) {
+            return false;
+        }
+    }
+    true
+}
+
+fn lists_hold_all<R: Wait>(rt: &R, lists: &ConcurrentLruCache<u64, 4, SeededState>) -> bool {
+    for number in 0..KEYS {
+        let key = wide(MULTIPLIER, number);
+        if lists.write(rt, key).put(key, number).is_err() {
+            return false;
+        }
+    }
+    for number in 0..KEYS {
+        let key = wide(MULTIPLIER, number);
+        if lists.read(rt, key).peek(key) != Some(&number) {
+            return false;
+        }
+    }
+    true
 }
 
 #[test]
-fn maps_hold_chosen_keys(rt: HostRuntime) {
-    let map = ConcurrentHashTable::with_hasher(rt.alloc(), HASHER).ok();
-    let filled = map.as_ref().and_then(|map| fill_map(&rt, map));
-    assert!(rt; filled == Some(()));
-    let found = map.as_ref().map(|map| found_in_map(&rt, map));
-    assert!(rt; found == Some(KEYS));
-}
-
-fn fill_lists<R: Wait>(rt: &R, lists: &ConcurrentLruCache<u64, 4, SeededState>) -> Option<()> {
-    for number in 0..KEYS {
-        let key = wide(MULTIPLIER, number);
-        lists.write(rt, key).put(key, number).ok()?;
-    }
-    Some(())
-}
-
-fn found_in_lists<R: Wait>(rt: &R, lists: &ConcurrentLruCache<u64, 4, SeededState>) -> u64 {
-    let mut found: u64 = 0;
-    for number in 0..KEYS {
-        let key = wide(MULTIPLIER, number);
-        if lists.read(rt, key).peek(key) == Some(&number) {
-            found = found.wrapping_add(1);
-        }
-    }
-    found
-}
-
-#[test]
-fn lists_hold_chosen_keys(rt: HostRuntime) {
-    let lists = ConcurrentLruCache::with_hasher(rt.alloc(), 100_000, HASHER).ok();
-    let filled = lists.as_ref().and_then(|lists| fill_lists(&rt, lists));
-    assert!(rt; filled == Some(()));
-    let found = lists.as_ref().map(|lists| found_in_lists(&rt, lists));
-    assert!(rt; found == Some(KEYS));
+fn maps_and_lists_hold_chosen_keys(rt: HostRuntime) {
+    let map = match ConcurrentHashTable::with_hasher(rt.alloc(), HASHER) {
+        Ok(map) => map_holds_all(&rt, &map),
+        Err(_) => false,
+    };
+    let lists = match ConcurrentLruCache::with_hasher(rt.alloc(), 100_000, HASHER) {
+        Ok(lists) => lists_hold_all(&rt, &lists),
+        Err(_) => false,
+    };
+    assert!(rt; (map, lists) == (true, true));
 }

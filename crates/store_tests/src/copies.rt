@@ -1,8 +1,6 @@
 //! Which heads are packed, and that one of at most 256 names shares no buffer with the meta that came; of neither a clause speaks.
-use cache_headers::ResponseHeader;
-use cache_heads::CacheMeta;
+use crate::samples::meta;
 use cache_words::time::Moment;
-use http::StatusCode;
 use http_header::{HeaderMap, HeaderName, HeaderValue};
 use packed_meta::PackedMeta;
 use std::alloc::Global;
@@ -71,69 +69,85 @@ struct Shared {
     value: HeaderValue,
 }
 
-// The name of that number.
-fn name_of(i: u16) -> [u8; 3] {
-    [
-        b'a' + (i / 256 % 16) as u8,
-        b'a' + (i / 16 % 16) as u8,
-        b'a' + (i % 16) as u8,
-    ]
+fn letter(i: u16) -> u8 {
+    b'a' + (i % 16) as u8
 }
 
-fn meta(alloc: Global, row: Row, shared: &Shared) -> Option<CacheMeta> {
-    let mut headers = HeaderMap::new(alloc);
-    for i in 0..row.names {
-        let name = match i {
-            0 => shared.name.clone().ok()?,
-            _ => HeaderName::from_bytes(alloc, &name_of(i)).ok()?,
-        };
-        let mut value = shared.value.clone().ok()?;
-        value.set_sensitive(row.sensitive);
-        headers.append(name, value).ok()?;
-    }
-    let header = ResponseHeader {
-        status: StatusCode::OK,
-        headers,
+// The name of that number.
+fn name_of(i: u16) -> [u8; 3] {
+    [letter(i / 256), letter(i / 16), letter(i)]
+}
+
+// Appends the field of that number.
+fn append(
+    alloc: Global,
+    headers: &mut HeaderMap,
+    i: u16,
+    sensitive: bool,
+    shared: &Shared,
+) -> Option<()> {
+    let name = match i {
+        0 => shared.name.clone().ok()?,
+        _ => HeaderName::from_bytes(alloc, &name_of(i)).ok()?,
     };
-    let moment = Moment::from_seconds(1000);
-    let mut meta = CacheMeta::new(moment, moment, 1, 2, header);
+    let mut value = shared.value.clone().ok()?;
+    value.set_sensitive(sensitive);
+    headers.append(name, value).ok()?;
+    Some(())
+}
+
+fn packed(alloc: Global, row: Row, shared: &Shared) -> Option<PackedMeta> {
+    let mut meta = meta(alloc, 1000);
+    for i in 0..row.names {
+        append(alloc, &mut meta.header.headers, i, row.sensitive, shared)?;
+    }
     if row.renewed {
         meta.internal.updated = Moment::from_seconds(1001);
     }
-    Some(meta)
+    PackedMeta::pack(alloc, &meta).ok()
 }
 
-// The first value of the head that is read.
-fn first_value(alloc: Global, packed: &PackedMeta) -> Option<Option<HeaderValue>> {
-    let mut read = packed.unpack(alloc).ok()?;
-    Some(read.header.headers.remove("x-name"))
+// The first value of the head that is read, if it has one.
+fn first_value(alloc: Global, packed: &PackedMeta) -> Option<HeaderValue> {
+    match packed.unpack(alloc) {
+        Ok(mut read) => read.header.headers.remove("x-name"),
+        Err(_) => None,
+    }
 }
 
 // Whether its head is packed, if it has a value: no value that is read then shares its buffer with one that is kept.
-fn is_packed(alloc: Global, packed: &PackedMeta) -> Option<Option<bool>> {
-    let value = first_value(alloc, packed)?;
-    Some(value.map(|value| value.as_shared().is_unique()))
+fn is_packed(alloc: Global, packed: &PackedMeta) -> Option<bool> {
+    match first_value(alloc, packed) {
+        Some(value) => Some(value.as_shared().is_unique()),
+        None => None,
+    }
 }
 
-fn row_holds(alloc: Global, row: Row) -> Option<bool> {
-    let shared = Shared {
-        name: HeaderName::from_bytes(alloc, b"x-name").ok()?,
-        value: HeaderValue::from_bytes(alloc, b"a value").ok()?,
-    };
-    let packed = PackedMeta::pack(alloc, &meta(alloc, row, &shared)?).ok()?;
-    let is_packed = is_packed(alloc, &packed)?;
-    let value_is_own = shared.value.as_shared().is_unique();
-    let name_is_own = HeaderValue::from_name(shared.name).as_shared().is_unique();
-    Some(is_packed == row.packed && value_is_own == row.own && name_is_own == row.own)
+fn is_so(alloc: Global, row: Row, shared: Shared) -> bool {
+    match packed(alloc, row, &shared) {
+        Some(packed) => {
+            let is_packed = is_packed(alloc, &packed);
+            let value_is_own = shared.value.as_shared().is_unique();
+            let name_is_own = HeaderValue::from_name(shared.name).as_shared().is_unique();
+            is_packed == row.packed && value_is_own == row.own && name_is_own == row.own
+        }
+        None => false,
+    }
+}
+
+fn make_shared(alloc: Global) -> Option<Shared> {
+    let name = HeaderName::from_bytes(alloc, b"x-name").ok()?;
+    let value = HeaderValue::from_bytes(alloc, b"a value").ok()?;
+    Some(Shared { name, value })
 }
 
 #[test]
 fn metas_are_kept_in_little_memory(rt: HostRuntime) {
-    let mut failed: Option<usize> = None;
-    for (i, &row) in ROWS.iter().enumerate() {
-        if row_holds(rt.alloc(), row) != Some(true) {
-            failed = Some(i);
-        }
+    for &row in ROWS {
+        let is_so = match make_shared(rt.alloc()) {
+            Some(shared) => is_so(rt.alloc(), row, shared),
+            None => false,
+        };
+        assert!(rt; is_so);
     }
-    assert!(rt; failed == None);
 }

@@ -1,6 +1,7 @@
 //! Admission, and the limit on the size of a body.
 ghost use Rattle.std.specs.Prelude.{⊤};
 
+use crate::samples::known;
 use cache_heads::ErrorType;
 use cache_store::admission::{AdmissionPolicy, Decision};
 use cache_store::max_file_size::{ERR_RESPONSE_TOO_LARGE, MaxFileSizeTracker};
@@ -26,22 +27,10 @@ impl AdmissionPolicy for LongKeys {
     }
 }
 
-fn observed(policy: &dyn AdmissionPolicy, key: &CacheKey) -> (u32, bool) {
-    let decision = policy.observe(key);
-    (decision.observed(), decision.is_deferred())
-}
-
 // What such a policy decides on a key of two bytes.
-fn decided(alloc: Global, least: usize) -> Option<(u32, bool)> {
-    let primary = Vec::from_slice(alloc, b"aa").ok()?;
-    let key = CacheKey::new(primary, String::new(alloc));
-    Some(observed(&LongKeys { least }, &key))
-}
-
-#[test]
-fn policies_decide(rt: HostRuntime) {
-    assert!(rt; decided(rt.alloc(), 2) == Some((4, false)));
-    assert!(rt; decided(rt.alloc(), 3) == Some((3, true)));
+fn decided(alloc: Global, policy: &dyn AdmissionPolicy) -> (u32, bool) {
+    let decision = policy.observe(&known(alloc, b"aa"));
+    (decision.observed(), decision.is_deferred())
 }
 
 // A limit, bytes that are added twice, and whether they are within the limit each time.
@@ -54,14 +43,24 @@ const SIZES: &[(usize, usize, bool, bool)] = &[
     (usize::MAX, usize::MAX, true, true),
 ];
 
+fn is_counted(limit: usize, bytes: usize, first: bool, second: bool) -> bool {
+    let mut tracker = MaxFileSizeTracker::new(limit);
+    let before = tracker.allow_caching();
+    let added = [tracker.add_body_bytes(bytes), tracker.add_body_bytes(bytes)];
+    let after = tracker.allow_caching();
+    [before, added[0], added[1], after] == [true, first, second, second]
+        && tracker.max_file_size_bytes() == limit
+}
+
 #[test]
-fn sizes_are_counted(rt: HostRuntime) {
+fn policies_decide_and_sizes_are_counted(rt: HostRuntime) {
+    let decided = [
+        decided(rt.alloc(), &LongKeys { least: 2 }),
+        decided(rt.alloc(), &LongKeys { least: 3 }),
+    ];
+    assert!(rt; decided == [(4, false), (3, true)]);
     for &(limit, bytes, first, second) in SIZES {
-        let mut tracker = MaxFileSizeTracker::new(limit);
-        assert!(rt; tracker.allow_caching());
-        assert!(rt; tracker.add_body_bytes(bytes) == first);
-        assert!(rt; tracker.add_body_bytes(bytes) == second);
-        assert!(rt; (tracker.allow_caching(), tracker.max_file_size_bytes()) == (second, limit));
+        assert!(rt; is_counted(limit, bytes, first, second));
     }
     assert!(rt; ERR_RESPONSE_TOO_LARGE == ErrorType::Custom("response too large"));
 }

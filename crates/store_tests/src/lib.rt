@@ -8,8 +8,6 @@ mod copies;
 #[cfg(test)]
 mod decisions;
 #[cfg(test)]
-mod finished;
-#[cfg(test)]
 mod memory;
 #[cfg(test)]
 mod nothing;
@@ -19,8 +17,6 @@ mod packed;
 mod puts;
 #[cfg(test)]
 mod samples;
-#[cfg(test)]
-mod streaming;
 #[cfg(test)]
 mod targets;
 #[cfg(test)]

@@ -4,7 +4,7 @@ ghost use Rattle.cache_changes.specs.Store.{empty_store};
 ghost use Rattle.cache_store.specs.Readers.{whole};
 ghost use Rattle.cache_store.specs.declared.storage.MissFinishType.TheVariants.{Created};
 
-use crate::samples::{key, meta};
+use crate::samples::{known, meta};
 use bytes::Bytes;
 use cache_entries::entry::CacheEntryId;
 use cache_heads::CacheMeta;
@@ -12,9 +12,9 @@ use cache_store::storage::{
     Contents, Found, HandleHit, HandleMiss, MissFault, MissFinishType, PurgeOutcome, PurgeTarget,
     PurgeType, ReadStep, Storage, StoreFault,
 };
-use cache_words::key::CacheKey;
+use cache_words::key::{CacheKey, CompactCacheKey};
 use cache_words::time::Moment;
-use std::alloc::Global;
+use std::alloc::{AllocError, Global};
 use std::test::*;
 
 #[derive(Clone, Copy)]
@@ -145,35 +145,38 @@ impl HandleMiss<Nothing> for Nobody {
     }
 }
 
-// What the calls of a store with default bodies answer: whether a write begins or a look-up of one finds any, what came of an
-// expiry, and whether writes are read while they are written.
-fn asked(alloc: Global) -> Option<(bool, PurgeOutcome, bool)> {
-    let key = key(alloc, b"aa")?;
-    let begun = Nothing.get_miss_handler_owned(&key, meta(alloc, 1300));
-    let compact = key.to_compact().ok()?;
-    let found = Nothing.lookup_streaming_write(&key, Some(&[0])).ok()?;
-    let moment = Moment::from_seconds(1000);
-    let outcome = Nothing.expire(PurgeTarget::Active(&compact), moment).ok()?;
-    let streams = Nothing.support_streaming_partial_write();
-    Some((found.is_some() || begun.is_ok(), outcome, streams))
+// Whether no write begins, a look-up of one finds none, an expiry meets nothing, and no write is read while it is written.
+fn is_nothing_there(alloc: Global, key: &CacheKey, compact: &CompactCacheKey) -> bool {
+    let begun = Nothing.get_miss_handler_owned(key, meta(alloc, 1300));
+    let found = Nothing.lookup_streaming_write(key, Some(&[0]));
+    let outcome = Nothing.expire(PurgeTarget::Active(compact), Moment::from_seconds(1000));
+    begun.is_err()
+        && matches!(found, Ok(None))
+        && matches!(outcome, Ok(PurgeOutcome::NotFound))
+        && !Nothing.support_streaming_partial_write()
+}
+
+fn is_asked(alloc: Global) -> bool {
+    let key = known(alloc, b"aa");
+    match key.to_compact() {
+        Ok(compact) => is_nothing_there(alloc, &key, &compact),
+        Err(AllocError) => false,
+    }
+}
+
+fn is_nobody(mut hit: Nobody) -> bool {
+    matches!(hit.seek(0, None), Err(StoreFault::SeekRange))
+        && matches!(hit.seek_multipart(0, None), Err(StoreFault::SeekRange))
+        && !hit.can_seek()
+        && !hit.can_seek_multipart()
+        && hit.should_count_access()
+        && hit.get_eviction_weight() == 0
+        && <Nobody as HandleHit<Nothing>>::entry_id(&hit).is_none()
+        && <Nobody as HandleMiss<Nothing>>::entry_id(&hit).is_none()
+        && hit.streaming_write_tag().is_none()
 }
 
 #[test]
 fn calls_have_default_bodies(rt: HostRuntime) {
-    let answers = asked(rt.alloc());
-    assert!(rt; answers == Some((false, PurgeOutcome::NotFound, false)));
-    let mut hit = Nobody;
-    let sought = hit.seek(0, None) == Err(StoreFault::SeekRange)
-        && hit.seek_multipart(0, None) == Err(StoreFault::SeekRange);
-    let asked = (
-        hit.can_seek(),
-        hit.can_seek_multipart(),
-        hit.should_count_access(),
-        hit.get_eviction_weight(),
-    );
-    let hit_id = <Nobody as HandleHit<Nothing>>::entry_id(&hit).is_none();
-    let miss_id = <Nobody as HandleMiss<Nothing>>::entry_id(&hit).is_none();
-    let is_tagged = hit.streaming_write_tag().is_some();
-    assert!(rt; sought && hit_id && miss_id && !is_tagged);
-    assert!(rt; asked == (false, false, true, 0));
+    assert!(rt; is_asked(rt.alloc()) && is_nobody(Nobody));
 }

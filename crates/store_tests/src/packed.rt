@@ -1,5 +1,5 @@
 //! Metas that are packed and read again.
-use super::samples::meta;
+use crate::samples::meta;
 use cache_heads::CacheMeta;
 use cache_words::time::Moment;
 use http_header::HeaderValue;
@@ -42,12 +42,16 @@ const ROWS: &[Row] = &[
     },
 ];
 
-fn sample(alloc: Global, row: Row) -> Option<CacheMeta> {
-    let mut sample = meta(alloc, 1300);
-    let mut value = HeaderValue::from_bytes(alloc, b"a=1").ok()?;
-    value.set_sensitive(row.sensitive);
-    sample.header.headers.append("set-cookie", value).ok()?;
-    let plain = HeaderValue::from_bytes(alloc, b"text/plain").ok()?;
+fn value(alloc: Global, line: &[u8], sensitive: bool) -> Option<HeaderValue> {
+    let mut value = HeaderValue::from_bytes(alloc, line).ok()?;
+    value.set_sensitive(sensitive);
+    Some(value)
+}
+
+fn fill(alloc: Global, sample: &mut CacheMeta, row: Row) -> Option<()> {
+    let cookie = value(alloc, b"a=1", row.sensitive)?;
+    sample.header.headers.append("set-cookie", cookie).ok()?;
+    let plain = value(alloc, b"text/plain", false)?;
     sample.header.headers.append("content-type", plain).ok()?;
     if row.renewed {
         sample.update_freshness(Moment::from_seconds(1300), 5, 6, Moment::from_seconds(1000));
@@ -55,14 +59,7 @@ fn sample(alloc: Global, row: Row) -> Option<CacheMeta> {
     if row.varies {
         sample.set_variance([7; 16]);
     }
-    Some(sample)
-}
-
-fn is_same(one: &CacheMeta, other: &CacheMeta) -> bool {
-    one.internal == other.internal
-        && one.header.status == other.header.status
-        && one.header.headers == other.header.headers
-        && is_sensitive(one) == is_sensitive(other)
+    Some(())
 }
 
 fn is_sensitive(meta: &CacheMeta) -> bool {
@@ -72,30 +69,46 @@ fn is_sensitive(meta: &CacheMeta) -> bool {
     }
 }
 
+// Whether the meta is read as it was.
+fn is_read(alloc: Global, packed: &PackedMeta, sample: &CacheMeta) -> bool {
+    match packed.unpack(alloc) {
+        Ok(read) => {
+            read.internal == sample.internal
+                && packed.internal() == sample.internal
+                && read.header.status == sample.header.status
+                && read.header.headers == sample.header.headers
+                && is_sensitive(&read) == is_sensitive(sample)
+        }
+        Err(_) => false,
+    }
+}
+
 // The meta is read as it was, also after it goes stale earlier.
-fn row_holds(alloc: Global, row: Row) -> Option<bool> {
-    let mut sample = sample(alloc, row)?;
-    let mut packed = PackedMeta::pack(alloc, &sample).ok()?;
-    let read = packed.unpack(alloc).ok()?;
-    let holds = is_same(&read, &sample)
-        && is_sensitive(&read) == row.sensitive
-        && packed.internal() == sample.internal
-        && packed.fresh_until() == Moment::from_seconds(1300);
+fn is_kept(alloc: Global, packed: &mut PackedMeta, sample: &mut CacheMeta, row: Row) -> bool {
+    let fresh = packed.fresh_until();
+    let holds = is_read(alloc, packed, sample) && is_sensitive(sample) == row.sensitive;
     packed.expire_at(Moment::from_seconds(1400));
-    let stays = packed.fresh_until() == Moment::from_seconds(1300);
+    let stays = packed.fresh_until();
     packed.expire_at(Moment::from_seconds(1200));
     sample.expire_at(Moment::from_seconds(1200));
-    let expired = packed.unpack(alloc).ok()?;
-    Some(holds && stays && is_same(&expired, &sample) && packed.internal() == sample.internal)
+    let until = Moment::from_seconds(1300);
+    holds && fresh == until && stays == until && is_read(alloc, packed, sample)
+}
+
+fn row_holds(alloc: Global, row: Row) -> bool {
+    let mut sample = meta(alloc, 1300);
+    if fill(alloc, &mut sample, row).is_none() {
+        return false;
+    }
+    match PackedMeta::pack(alloc, &sample) {
+        Ok(mut packed) => is_kept(alloc, &mut packed, &mut sample, row),
+        Err(_) => false,
+    }
 }
 
 #[test]
 fn packed_metas_are_read_as_they_were(rt: HostRuntime) {
-    let mut failed: Option<usize> = None;
-    for (i, &row) in ROWS.iter().enumerate() {
-        if row_holds(rt.alloc(), row) != Some(true) {
-            failed = Some(i);
-        }
+    for &row in ROWS {
+        assert!(rt; row_holds(rt.alloc(), row));
     }
-    assert_eq!(&rt; failed, None);
 }

@@ -2,4 +2,3 @@
 mod bench;
 mod evictions;
 mod responses;
-mod traced;

@@ -5,107 +5,118 @@ use cache_store::storage::streaming_write::{U32WriteId, U64WriteId};
 use cache_store::storage::{
     MissFinishType, PurgeAction, PurgeOutcome, PurgeTarget, PurgeType, ReadStep, StoreFault,
 };
-use cache_words::key::{CacheKey, CompactCacheKey};
+use cache_words::key::CacheKey;
 use std::alloc::{AllocError, Global};
 use std::test::*;
 
-fn kept(alloc: Global) -> Result<CompactCacheKey, AllocError> {
-    let primary = Vec::from_slice(alloc, b"aa")?;
-    CacheKey::new(primary, String::from_str(alloc, "1")?).to_compact()
-}
+// Whether an exact entry is the target or a key, the entry's id or that by which a purge of the key is answered, the target's text, and
+// the id of what a purge removes.
+type Row = (bool, Option<u64>, &'static str, Option<u64>);
 
-// The id of an exact entry, the text of the target, and the id that a purge of it removes.
-type Exact = (Option<u64>, &'static str, Option<u64>);
+const ACTIVE: &str = "active entry for ac10f2aef117729f8dad056b3059eb7e, user_tag: 1";
 
-const EXACT: &[Exact] = &[
-    (None, "ac10f2aef117729f8dad056b3059eb7e, user_tag: 1", None),
+const TARGETS: &[Row] = &[
     (
+        true,
+        None,
+        "ac10f2aef117729f8dad056b3059eb7e, user_tag: 1",
+        None,
+    ),
+    (
+        true,
         Some(255),
         "ac10f2aef117729f8dad056b3059eb7e, user_tag: 1, entry ID: ff",
         Some(255),
     ),
+    (false, None, ACTIVE, None),
+    (false, Some(7), ACTIVE, Some(7)),
 ];
 
-// The text of an exact target, and the id of what a purge of it removes.
-fn exact(alloc: Global, id: Option<u64>) -> Option<(String, Option<u64>)> {
-    let key = kept(alloc).ok()?;
-    let entry = CacheEntryKey::from_entry_id(kept(alloc).ok()?, id.map(CacheEntryId::new));
-    let target = PurgeTarget::Exact(&entry);
-    let text = format!(in alloc; "{target}").ok()?;
-    let removed = target.removed_entry(None);
-    let is_right = *target.key() == key
-        && removed == CacheEntryKeyRef::from(&entry)
-        && target == PurgeTarget::Exact(&entry)
-        && target != PurgeTarget::Active(&key);
-    is_right.then_some((text, removed.entry_id().map(|id| id.get())))
-}
-
-// The text of a key as target, and the id of what a purge of it removes that was answered with this id.
-fn active(alloc: Global, id: Option<u64>) -> Option<(String, Option<u64>)> {
-    let key = kept(alloc).ok()?;
-    let target = PurgeTarget::Active(&key);
-    let text = format!(in alloc; "{target}").ok()?;
-    let removed = target.removed_entry(id.map(CacheEntryId::new));
-    let is_right = *target.key() == key && *removed.key() == key;
-    is_right.then_some((text, removed.entry_id().map(|id| id.get())))
-}
-
-#[test]
-fn targets_are_shown_and_removed(rt: HostRuntime) {
-    for &(id, text, removed) in EXACT {
-        let found = exact(rt.alloc(), id);
-        let is_right = found.is_some_and(|(shown, id)| shown.as_str() == text && id == removed);
-        assert!(rt; is_right);
-    }
-    let text = "active entry for ac10f2aef117729f8dad056b3059eb7e, user_tag: 1";
-    for id in [None, Some(7)] {
-        let found = active(rt.alloc(), id);
-        let is_right = found.is_some_and(|(shown, removed)| shown.as_str() == text
-            && removed == id);
-        assert!(rt; is_right);
+fn id_of(number: Option<u64>) -> Option<CacheEntryId> {
+    match number {
+        Some(number) => Some(CacheEntryId::new(number)),
+        None => None,
     }
 }
 
-// Numbers, and the bytes of their tags.
-const WIDE: &[(u64, &[u8])] = &[
-    (0, b"\0\0\0\0\0\0\0\0"),
-    (0x0102_0304_0506_0708, b"\x01\x02\x03\x04\x05\x06\x07\x08"),
-    (u64::MAX, b"\xff\xff\xff\xff\xff\xff\xff\xff"),
+fn entry(alloc: Global, id: Option<CacheEntryId>) -> Option<CacheEntryKey> {
+    let primary = Vec::from_slice(alloc, b"aa").ok()?;
+    let tag = String::from_str(alloc, "1").ok()?;
+    match CacheKey::new(primary, tag).to_compact() {
+        Ok(key) => Some(CacheEntryKey::from_entry_id(key, id)),
+        Err(AllocError) => None,
+    }
+}
+
+fn is_target(alloc: Global, entry: &CacheEntryKey, row: Row) -> bool {
+    let (is_exact, _, text, id) = row;
+    let key = entry.key();
+    let (target, removed) = if is_exact {
+        let target = PurgeTarget::Exact(entry);
+        (target, target.removed_entry(None))
+    } else {
+        let target = PurgeTarget::Active(key);
+        (target, target.removed_entry(entry.entry_id()))
+    };
+    is_shown(alloc, target, text)
+        && *target.key() == *key
+        && removed == CacheEntryKeyRef::from(entry)
+        && removed.entry_id() == id_of(id)
+        && (target == PurgeTarget::Exact(entry)) == is_exact
+        && (target == PurgeTarget::Active(key)) != is_exact
+}
+
+fn is_shown(alloc: Global, target: PurgeTarget<'_>, text: &str) -> bool {
+    match format!(in alloc; "{target}") {
+        Ok(shown) => shown.as_str() == text,
+        Err(_) => false,
+    }
+}
+
+fn row_holds(alloc: Global, row: Row) -> bool {
+    match entry(alloc, id_of(row.1)) {
+        Some(entry) => is_target(alloc, &entry, row),
+        None => false,
+    }
+}
+
+// Bytes of tags, and their numbers as wide and as narrow ones.
+type Tag = (&'static [u8], Option<u64>, Option<u32>);
+
+const TAGS: &[Tag] = &[
+    (b"\0\0\0\0\0\0\0\0", Some(0), None),
+    (
+        b"\x01\x02\x03\x04\x05\x06\x07\x08",
+        Some(0x0102_0304_0506_0708),
+        None,
+    ),
+    (b"\xff\xff\xff\xff\xff\xff\xff\xff", Some(u64::MAX), None),
+    (b"\0\0\0\0", None, Some(0)),
+    (b"\x01\x02\x03\x04", None, Some(0x0102_0304)),
+    (b"\xff\xff\xff\xff", None, Some(u32::MAX)),
+    (b"", None, None),
+    (b"\0\0\0", None, None),
+    (b"\0\0\0\0\0\0\0", None, None),
+    (b"\0\0\0\0\0\0\0\0\0", None, None),
 ];
 
-const NARROW: &[(u32, &[u8])] = &[
-    (0, b"\0\0\0\0"),
-    (0x0102_0304, b"\x01\x02\x03\x04"),
-    (u32::MAX, b"\xff\xff\xff\xff"),
-];
-
-fn wide_of(bytes: &[u8]) -> Option<u64> {
-    U64WriteId::try_from(bytes).ok().map(u64::from)
+fn is_wide(bytes: &[u8], number: Option<u64>) -> bool {
+    match U64WriteId::try_from(bytes) {
+        Ok(id) => {
+            let found = u64::from(id);
+            number == Some(found) && U64WriteId::from(found).as_bytes() == bytes
+        }
+        Err(_) => number.is_none(),
+    }
 }
 
-fn narrow_of(bytes: &[u8]) -> Option<u32> {
-    U32WriteId::try_from(bytes).ok().map(u32::from)
-}
-
-#[test]
-fn tags_of_writes(rt: HostRuntime) {
-    for &(number, bytes) in WIDE {
-        assert!(rt; U64WriteId::from(number).as_bytes() == bytes);
-        assert!(rt; wide_of(bytes) == Some(number));
-        assert!(rt; narrow_of(bytes) == None);
-    }
-    for &(number, bytes) in NARROW {
-        assert!(rt; U32WriteId::from(number).as_bytes() == bytes);
-        assert!(rt; narrow_of(bytes) == Some(number));
-        assert!(rt; wide_of(bytes) == None);
-    }
-    for bytes in [
-        b"".as_slice(),
-        b"\0\0\0",
-        b"\0\0\0\0\0\0\0",
-        b"\0\0\0\0\0\0\0\0\0",
-    ] {
-        assert!(rt; (wide_of(bytes), narrow_of(bytes)) == (None, None));
+fn is_narrow(bytes: &[u8], number: Option<u32>) -> bool {
+    match U32WriteId::try_from(bytes) {
+        Ok(id) => {
+            let found = u32::from(id);
+            number == Some(found) && U32WriteId::from(found).as_bytes() == bytes
+        }
+        Err(_) => number.is_none(),
     }
 }
 
@@ -131,19 +142,27 @@ const FAULTS: &[(StoreFault, &str)] = &[
     ),
 ];
 
-fn is_shown(alloc: Global, fault: StoreFault, text: &str) -> Option<bool> {
-    let shown = format!(in alloc; "{fault}").ok()?;
-    Some(shown.as_str() == text)
-}
-
-#[test]
-fn faults_are_shown(rt: HostRuntime) {
-    for &(fault, text) in FAULTS {
-        assert!(rt; is_shown(rt.alloc(), fault, text) == Some(true));
+fn is_said(alloc: Global, fault: StoreFault, text: &str) -> bool {
+    match format!(in alloc; "{fault}") {
+        Ok(shown) => shown.as_str() == text,
+        Err(_) => false,
     }
 }
 
-fn left_of(step: &ReadStep) -> Option<usize> {
+#[test]
+fn targets_tags_and_faults(rt: HostRuntime) {
+    for &row in TARGETS {
+        assert!(rt; row_holds(rt.alloc(), row));
+    }
+    for &(bytes, wide, narrow) in TAGS {
+        assert!(rt; is_wide(bytes, wide) && is_narrow(bytes, narrow));
+    }
+    for &(fault, text) in FAULTS {
+        assert!(rt; is_said(rt.alloc(), fault, text));
+    }
+}
+
+fn left_of(step: ReadStep) -> Option<usize> {
     match step {
         ReadStep::Bytes(bytes) => Some(bytes.len()),
         ReadStep::Pending | ReadStep::End => None,
@@ -152,17 +171,17 @@ fn left_of(step: &ReadStep) -> Option<usize> {
 
 #[test]
 fn outcomes_compare(rt: HostRuntime) {
-    let id = CacheEntryId::new(7);
-    assert!(rt; PurgeOutcome::Purged(Some(id)) != PurgeOutcome::Purged(None));
-    assert!(rt; PurgeOutcome::NotFound != PurgeOutcome::Expired);
-    assert!(rt; PurgeType::Eviction != PurgeType::Invalidation);
-    assert!(rt; PurgeAction::Delete != PurgeAction::Expire);
-    assert!(rt; MissFinishType::Created(3) != MissFinishType::Appended(3, None));
-    let steps = [
-        ReadStep::Bytes(Bytes::from_static(b"abc")),
-        ReadStep::Pending,
-        ReadStep::End,
+    let differ = [
+        PurgeOutcome::Purged(Some(CacheEntryId::new(7))) != PurgeOutcome::Purged(None),
+        PurgeOutcome::NotFound != PurgeOutcome::Expired,
+        PurgeType::Eviction != PurgeType::Invalidation,
+        PurgeAction::Delete != PurgeAction::Expire,
+        MissFinishType::Created(3) != MissFinishType::Appended(3, None),
     ];
-    let [bytes, pending, end] = &steps;
-    assert!(rt; (left_of(bytes), left_of(pending), left_of(end)) == (Some(3), None, None));
+    let left = [
+        left_of(ReadStep::Bytes(Bytes::from_static(b"abc"))),
+        left_of(ReadStep::Pending),
+        left_of(ReadStep::End),
+    ];
+    assert!(rt; differ == [true; 5] && left == [Some(3), None, None]);
 }

@@ -1,17 +1,25 @@
 //! What is done in a store, step by step, and what comes of it.
 use cache_store::storage::{PurgeOutcome, StoreFault};
 
-// What is done under one key, by one writer and two readers, of which the later one is named by `true`, and what comes of it.
+// What is done under one key, by writers and two readers, of which the later one is named by `true`, and what comes of it.
 #[derive(Clone, Copy)]
 pub(super) enum Step {
-    Begin,
+    // A write of a meta that is fresh until that second, one of a meta that can't be written, and one under a key that takes its meta.
+    Begin(i64),
     Unwritable,
+    BeginOwned(&'static [u8]),
     Piece(&'static [u8], bool, Option<StoreFault>),
     Finish(Option<usize>),
-    Whole(&'static [u8]),
     Leave,
+    // The writer lends this tag.
+    Lends(&'static [u8]),
     Look(bool, bool),
     Misses,
+    // The body is stale at 1001, when a stale one may be served.
+    Stale,
+    // A look-up of a key by a tag, and what a reader of the found write reads; nothing where none is found. A tag that names no number
+    // asks for the key.
+    Asks(&'static [u8], Option<&'static [u8]>, Option<&'static [u8]>),
     Bytes(bool, &'static [u8]),
     Pending(bool),
     End(bool),
@@ -20,11 +28,16 @@ pub(super) enum Step {
     Weighs(bool, usize),
     Purge(Target, PurgeOutcome),
     Expire(Target, PurgeOutcome),
-    Update(Option<StoreFault>),
+    // Another meta, which is fresh until that second.
+    Update(i64, Option<StoreFault>),
+    // How many bodies are finished, how many bytes they have, and the body of the key.
+    Counts(usize, u64, Option<&'static [u8]>),
+    // Another store takes the place of the first.
+    MoveOn,
 }
 
 // The key, its entry without an id, or one with an id.
-#[derive(Clone, Copy, PartialEq, Eq)]
+#[derive(Clone, Copy)]
 pub(super) enum Target {
     Key,
     Entry,
@@ -32,7 +45,7 @@ pub(super) enum Target {
 }
 
 pub(super) const STREAMED: &[Step] = &[
-    Step::Begin,
+    Step::Begin(1300),
     Step::Look(false, false),
     Step::Weighs(false, 0),
     Step::Seek(0, None, Some(StoreFault::SeekRange)),
@@ -54,14 +67,14 @@ pub(super) const STREAMED: &[Step] = &[
 ];
 
 pub(super) const ENDED: &[Step] = &[
-    Step::Begin,
+    Step::Begin(1300),
     Step::Look(false, false),
     Step::Piece(b"ab", true, None),
     Step::Piece(b"c", false, Some(StoreFault::AfterEnd)),
     Step::Bytes(false, b"ab"),
     Step::End(false),
     Step::Finish(Some(2)),
-    Step::Begin,
+    Step::Begin(1300),
     Step::Look(true, false),
     Step::Piece(b"x", false, None),
     Step::Leave,
@@ -74,10 +87,10 @@ pub(super) const ENDED: &[Step] = &[
 pub(super) const PURGED: &[Step] = &[
     Step::Misses,
     Step::Purge(Target::Key, PurgeOutcome::NotFound),
-    Step::Begin,
+    Step::Begin(1300),
     Step::Leave,
     Step::Purge(Target::Key, PurgeOutcome::NotFound),
-    Step::Begin,
+    Step::Begin(1300),
     Step::Look(false, false),
     Step::Purge(Target::Id, PurgeOutcome::NotFound),
     Step::Purge(Target::Key, PurgeOutcome::Purged(None)),
@@ -89,7 +102,7 @@ pub(super) const PURGED: &[Step] = &[
     Step::Finish(None),
     Step::End(false),
     Step::Misses,
-    Step::Begin,
+    Step::Begin(1300),
     Step::Piece(b"new", true, None),
     Step::Finish(Some(3)),
     Step::Look(false, true),
@@ -99,7 +112,7 @@ pub(super) const PURGED: &[Step] = &[
 ];
 
 pub(super) const SOUGHT: &[Step] = &[
-    Step::Begin,
+    Step::Begin(1300),
     Step::Piece(b"test1test2", true, None),
     Step::Finish(Some(10)),
     Step::Look(false, true),
@@ -122,17 +135,19 @@ pub(super) const SOUGHT: &[Step] = &[
 pub(super) const RENEWED: &[Step] = &[
     Step::Unwritable,
     Step::Expire(Target::Entry, PurgeOutcome::NotFound),
-    Step::Update(Some(StoreFault::NoMeta)),
-    Step::Begin,
+    Step::Update(1300, Some(StoreFault::NoMeta)),
+    Step::Begin(1300),
     Step::Piece(b"abc", true, None),
     Step::Expire(Target::Key, PurgeOutcome::NotFound),
-    Step::Update(Some(StoreFault::NoMeta)),
+    Step::Update(1300, Some(StoreFault::NoMeta)),
     Step::Finish(Some(3)),
     Step::Expire(Target::Id, PurgeOutcome::NotFound),
     Step::Expire(Target::Entry, PurgeOutcome::Expired),
-    Step::Update(None),
-    Step::Update(Some(StoreFault::MetaMoment)),
+    Step::Stale,
+    Step::Update(1300, None),
+    Step::Update(-1, Some(StoreFault::MetaMoment)),
     Step::Expire(Target::Key, PurgeOutcome::Expired),
+    Step::Stale,
     Step::Look(false, true),
     Step::Bytes(false, b"abc"),
     Step::End(false),
@@ -140,15 +155,79 @@ pub(super) const RENEWED: &[Step] = &[
 
 pub(super) const WHOLE: &[Step] = &[
     Step::Misses,
-    Step::Whole(b"abc"),
+    Step::Begin(1300),
+    Step::Piece(b"abc", true, None),
+    Step::Finish(Some(3)),
     Step::Look(false, true),
     Step::Bytes(false, b"abc"),
     Step::End(false),
-    Step::Whole(b"de"),
+    Step::Begin(1300),
+    Step::Piece(b"de", true, None),
+    Step::Finish(Some(2)),
     Step::Look(true, true),
     Step::Bytes(true, b"de"),
-    Step::Whole(b""),
+    Step::Begin(1300),
+    Step::Piece(b"", true, None),
+    Step::Finish(Some(0)),
     Step::Look(true, true),
     Step::Bytes(true, b""),
     Step::End(true),
+];
+
+const ZERO: &[u8] = &[0, 0, 0, 0, 0, 0, 0, 0];
+
+const ONE: &[u8] = &[0, 0, 0, 0, 0, 0, 0, 1];
+
+const TWO: &[u8] = &[0, 0, 0, 0, 0, 0, 0, 2];
+
+// Two writes of one key in flight.
+pub(super) const TAGGED: &[Step] = &[
+    Step::Begin(1300),
+    Step::Piece(b"first", false, None),
+    Step::Begin(1300),
+    Step::Piece(b"second", false, None),
+    Step::Asks(b"aa", Some(ZERO), Some(b"first")),
+    Step::Asks(b"aa", Some(ONE), Some(b"second")),
+    Step::Asks(b"aa", Some(TWO), None),
+    Step::Asks(b"aa", Some(&[0]), Some(b"first")),
+    Step::Asks(b"aa", None, Some(b"first")),
+    Step::Asks(b"bb", None, None),
+    Step::Asks(b"bb", Some(ZERO), None),
+    Step::Lends(ONE),
+];
+
+// Another store ends what this one gave out.
+pub(super) const ELSEWHERE: &[Step] = &[
+    Step::Begin(1300),
+    Step::Piece(b"first", false, None),
+    Step::Look(true, false),
+    Step::MoveOn,
+    Step::End(true),
+    Step::Finish(None),
+];
+
+// What is counted while another write of the key is in flight.
+pub(super) const COUNTED: &[Step] = &[
+    Step::BeginOwned(b"bb"),
+    Step::Piece(b"de", true, None),
+    Step::Finish(Some(2)),
+    Step::Begin(1400),
+    Step::Counts(1, 2, None),
+    Step::Leave,
+    Step::BeginOwned(b"aa"),
+    Step::Piece(b"abc", true, None),
+    Step::Finish(Some(3)),
+    Step::Begin(1400),
+    Step::Counts(2, 5, Some(b"abc")),
+    Step::Leave,
+    Step::BeginOwned(b"aa"),
+    Step::Piece(b"f", true, None),
+    Step::Finish(Some(1)),
+    Step::Begin(1400),
+    Step::Counts(2, 3, Some(b"f")),
+    Step::Leave,
+    Step::Purge(Target::Key, PurgeOutcome::Purged(None)),
+    Step::Begin(1400),
+    Step::Counts(1, 2, None),
+    Step::Leave,
 ];

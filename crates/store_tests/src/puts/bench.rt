@@ -1,22 +1,21 @@
 //! A cache, and puts into it under keys of one byte.
 ghost use Rattle.store_tests.specs.Lines.{one_second, by_lines};
 
+use crate::samples::key;
 use bytes::Bytes;
 use cache_heads::meta::{NeverByStatus, ResponseHeader};
 use pingora_cache::eviction::lru::Manager;
 use pingora_cache::put::{CachePut, CachePutCtx, PutFault, PutOutcome, cacheable_by_headers};
 use pingora_cache::storage::{HandleHit, ReadStep, Storage};
 use pingora_cache::time::Moment;
-use pingora_cache::{
-    CacheKey, CacheMetaDefaults, MemCache, NoCacheReason, NoPolicy, Parts, RespCacheable,
-};
+use pingora_cache::{CacheMetaDefaults, MemCache, NoCacheReason, NoPolicy, Parts, RespCacheable};
 use rand_pcg::Pcg32;
 use std::alloc::{AllocError, Global};
 
 // Keeps what the lines of a header allow, and counts the lines of the heads that it notes.
 #[derive(Drop)]
-pub(crate) struct ByLines {
-    pub(crate) lines: usize,
+struct ByLines {
+    lines: usize,
 }
 
 impl CachePut for ByLines {
@@ -50,6 +49,27 @@ impl CachePut for ByLines {
 
 pub(crate) type Cache = Parts<MemCache, Manager<1>, (), ()>;
 
+// How a response is cut.
+#[derive(Clone, Copy)]
+pub(crate) enum Cut {
+    Whole,
+    HeadAndBody,
+    Bytes,
+    // Its first bytes, so many, in one piece.
+    First(usize),
+}
+
+// A put under a key of one byte of a head and what comes after it, with a limit on the body's size, at a second.
+#[derive(Clone, Copy)]
+pub(crate) struct Put {
+    pub(crate) name: u8,
+    pub(crate) head: &'static [u8],
+    pub(crate) body: &'static [u8],
+    pub(crate) cut: Cut,
+    pub(crate) limit: Option<usize>,
+    pub(crate) second: i64,
+}
+
 // What came of a put.
 #[derive(Clone, Copy, PartialEq)]
 pub(crate) enum Got {
@@ -58,68 +78,92 @@ pub(crate) enum Got {
     Uncacheable(NoCacheReason),
     // It was refused, which is reported by that text.
     Refused(&'static str),
+    // Memory cut it short, and so many entries were evicted.
+    CutShort(usize),
 }
 
 pub(crate) fn cache(alloc: Global, limit: usize) -> Option<Cache> {
-    Some(Parts {
-        store: MemCache::new(alloc),
-        manager: Manager::<1>::with_capacity(alloc, limit, 0).ok()?,
-        predictor: (),
-        lock: (),
-        policy: NoPolicy,
-    })
-}
-
-pub(crate) fn key(alloc: Global, name: u8) -> Option<CacheKey> {
-    let primary = Vec::from_slice(alloc, &[name]).ok()?;
-    Some(CacheKey::new(primary, String::from_str(alloc, "").ok()?))
-}
-
-// What a fault is called; none out of memory.
-fn refused(fault: &PutFault) -> Option<Got> {
-    match fault {
-        PutFault::BadHead => Some(Got::Refused("bad head")),
-        PutFault::ResponseTooLarge => Some(Got::Refused("too large")),
-        PutFault::Incomplete => Some(Got::Refused("incomplete")),
-        PutFault::MetaMoment => Some(Got::Refused("meta moment")),
-        PutFault::WriteNumbersSpent => Some(Got::Refused("write numbers")),
-        PutFault::Weight(_) => Some(Got::Refused("weight")),
-        PutFault::Length(_) => Some(Got::Refused("length")),
-        PutFault::NumbersSpent(_) => Some(Got::Refused("numbers")),
-        PutFault::Memory(_) => None,
+    match Manager::<1>::with_capacity(alloc, limit, 0) {
+        Ok(manager) => Some(Parts {
+            store: MemCache::new(alloc),
+            manager,
+            predictor: (),
+            lock: (),
+            policy: NoPolicy,
+        }),
+        Err(_) => None,
     }
 }
 
-pub(crate) fn put_into(
+fn joined(alloc: Global, put: Put) -> Option<Bytes> {
+    let mut all = Vec::from_slice(alloc, put.head).ok()?;
+    all.extend_from_slice(put.body).ok()?;
+    if let Cut::First(n) = put.cut {
+        all.truncate(n);
+    }
+    Bytes::from_vec(all).ok()
+}
+
+fn cut_into(alloc: Global, pieces: &mut Vec<Bytes>, put: Put) -> Option<()> {
+    match put.cut {
+        Cut::HeadAndBody => {
+            pieces.push(Bytes::from_static(put.head)).ok()?;
+            pieces.push(Bytes::from_static(put.body)).ok()
+        }
+        Cut::Bytes => {
+            for i in 0..put.head.len() {
+                pieces.push(Bytes::from_static(&put.head[i..i + 1])).ok()?;
+            }
+            for i in 0..put.body.len() {
+                pieces.push(Bytes::from_static(&put.body[i..i + 1])).ok()?;
+            }
+            Some(())
+        }
+        Cut::Whole | Cut::First(_) => pieces.push(joined(alloc, put)?).ok(),
+    }
+}
+
+// What a fault is called.
+fn refused(fault: &PutFault) -> Got {
+    match fault {
+        PutFault::BadHead => Got::Refused("bad head"),
+        PutFault::ResponseTooLarge => Got::Refused("too large"),
+        PutFault::Incomplete => Got::Refused("incomplete"),
+        PutFault::MetaMoment => Got::Refused("meta moment"),
+        PutFault::WriteNumbersSpent => Got::Refused("write numbers"),
+        PutFault::Weight(_) => Got::Refused("weight"),
+        PutFault::Length(_) => Got::Refused("length"),
+        PutFault::NumbersSpent(_) => Got::Refused("numbers"),
+        PutFault::Memory(done) => Got::CutShort(done.evicted.len()),
+    }
+}
+
+// What comes of a put of these pieces, and how many lines of heads are noted; none out of memory before it.
+fn put_pieces(
     alloc: Global,
     cache: &mut Cache,
-    name: u8,
-    limit: Option<usize>,
-    second: i64,
+    put: Put,
     pieces: &[Bytes],
-) -> Option<Result<PutOutcome, PutFault>> {
-    let mut ctx = CachePutCtx::new(ByLines { lines: 0 }, key(alloc, name)?);
-    if let Some(limit) = limit {
+) -> Option<(Got, usize)> {
+    let mut ctx = CachePutCtx::new(ByLines { lines: 0 }, key(alloc, &[put.name])?);
+    if let Some(limit) = put.limit {
         ctx.set_max_file_size_bytes(limit);
     }
     let mut rng = Pcg32::new(1, 1);
-    let moment = Moment::from_seconds(second);
-    Some(ctx.cache_put(alloc, cache, &mut rng, pieces, moment))
+    let moment = Moment::from_seconds(put.second);
+    let got = match ctx.cache_put(alloc, cache, &mut rng, pieces, moment) {
+        Ok(PutOutcome::Stored { size, evicted }) => Got::Stored(size, evicted.len()),
+        Ok(PutOutcome::Uncacheable(reason)) => Got::Uncacheable(reason),
+        Err(fault) => refused(&fault),
+    };
+    Some((got, ctx.cache_put.lines))
 }
 
-// What comes of a put; none out of memory.
-pub(crate) fn put(
-    alloc: Global,
-    cache: &mut Cache,
-    name: u8,
-    limit: Option<usize>,
-    second: i64,
-    pieces: &[Bytes],
-) -> Option<Got> {
-    match put_into(alloc, cache, name, limit, second, pieces)? {
-        Ok(PutOutcome::Stored { size, evicted }) => Some(Got::Stored(size, evicted.len())),
-        Ok(PutOutcome::Uncacheable(reason)) => Some(Got::Uncacheable(reason)),
-        Err(fault) => refused(&fault),
+pub(crate) fn put_in(alloc: Global, cache: &mut Cache, put: Put) -> Option<(Got, usize)> {
+    let mut pieces = Vec::new(alloc);
+    match cut_into(alloc, &mut pieces, put) {
+        Some(()) => put_pieces(alloc, cache, put, pieces.as_slice()),
+        None => None,
     }
 }
 
@@ -130,14 +174,18 @@ pub(crate) fn holds(
     name: u8,
     body: Option<&[u8]>,
 ) -> Option<bool> {
-    let key = key(alloc, name)?;
-    let Some((_meta, mut hit)) = cache.store.lookup(&key).ok()? else {
-        return Some(body.is_none());
-    };
-    let step = hit.read_body(&mut cache.store);
-    hit.finish(&mut cache.store);
-    match (step.ok()?, body) {
-        (ReadStep::Bytes(bytes), Some(body)) => Some(bytes.as_slice() == body),
-        _ => Some(false),
+    let key = key(alloc, &[name])?;
+    match cache.store.lookup(&key) {
+        Ok(Some((_meta, mut hit))) => {
+            let step = hit.read_body(&mut cache.store);
+            hit.finish(&mut cache.store);
+            match step {
+                Ok(ReadStep::Bytes(bytes)) => Some(body == Some(bytes.as_slice())),
+                Ok(_) => Some(false),
+                Err(_) => None,
+            }
+        }
+        Ok(None) => Some(body.is_none()),
+        Err(_) => None,
     }
 }

@@ -1,7 +1,5 @@
 //! Puts that evict, and puts that memory cuts short.
-use crate::puts::bench::{Cache, Got, cache, holds, put, put_into};
-use bytes::Bytes;
-use pingora_cache::put::{Done, PutFault};
+use crate::puts::bench::{Cache, Cut, Got, Put, cache, holds, put_in};
 use std::alloc::Global;
 use std::test::*;
 
@@ -41,56 +39,76 @@ const LIMITED: &[Step] = &[
 
 const HEAD: &[u8] = b"HTTP/1.1 200 OK\r\nCache-Control: max-age=100\r\n\r\n";
 
-fn is_done(alloc: Global, cache: &mut Cache, step: Step) -> Option<bool> {
-    match step {
-        Step::Put(name, body, second, want) => {
-            let pieces = [Bytes::from_static(HEAD), Bytes::from_static(body)];
-            Some(put(alloc, cache, name, None, second, &pieces)? == want)
-        }
-        Step::Find(name, body) => holds(alloc, cache, name, body),
+fn put_at(name: u8, body: &'static [u8], second: i64) -> Put {
+    Put {
+        name,
+        head: HEAD,
+        body,
+        cut: Cut::HeadAndBody,
+        limit: None,
+        second,
     }
+}
+
+fn is_done(alloc: Global, cache: &mut Cache, step: Step) -> bool {
+    match step {
+        Step::Put(name, body, second, want) => match put_in(
+            alloc,
+            cache,
+            put_at(name, body, second),
+        ) {
+            Some((got, _)) => got == want,
+            None => false,
+        },
+        Step::Find(name, body) => holds(alloc, cache, name, body) == Some(true),
+    }
+}
+
+fn all_done(alloc: Global, cache: &mut Cache, steps: &[Step]) -> bool {
+    for &step in steps {
+        if !is_done(alloc, cache, step) {
+            return false;
+        }
+    }
+    true
 }
 
 #[test]
 fn puts_evict_and_purge(rt: HostRuntime) {
-    let Some(mut cache) = cache(rt.alloc(), 4) else {
-        return;
+    let done = match cache(rt.alloc(), 4) {
+        Some(mut cache) => all_done(rt.alloc(), &mut cache, LIMITED),
+        None => false,
     };
-    for &step in LIMITED {
-        let done = is_done(rt.alloc(), &mut cache, step);
-        assert!(rt; done == Some(true));
-    }
+    assert!(rt; done);
 }
 
-// Whether, after a put of `b` that memory cut short, `a` and `b` are found as what was done says.
-fn is_left_so(alloc: Global, cache: &mut Cache, done: &Done) -> Option<bool> {
-    let a: Option<&[u8]> = if done.evicted.is_empty() {
-        Some(b"aaa")
-    } else {
-        None
-    };
-    Some(holds(alloc, cache, b'a', a)? && holds(alloc, cache, b'b', None)?)
+// Whether, after a put of `b` with a limit of 4, `a` and `b` are found as what came of it says.
+fn is_left_so(alloc: Global, cache: &mut Cache, got: Got) -> Option<bool> {
+    match got {
+        Got::Stored(..) => Some(
+            holds(alloc, cache, b'a', None)? && holds(alloc, cache, b'b', Some(b"bbb"))?,
+        ),
+        Got::CutShort(evicted) => {
+            let kept: Option<&[u8]> = if evicted == 0 { Some(b"aaa") } else { None };
+            Some(holds(alloc, cache, b'a', kept)? && holds(alloc, cache, b'b', None)?)
+        }
+        _ => Some(false),
+    }
 }
 
 fn put_two(alloc: Global, cache: &mut Cache) -> Option<bool> {
-    let first = [Bytes::from_static(HEAD), Bytes::from_static(b"aaa")];
-    put(alloc, cache, b'a', None, 1000, &first)?;
-    let second = [Bytes::from_static(HEAD), Bytes::from_static(b"bbb")];
-    match put_into(alloc, cache, b'b', None, 1000, &second)? {
-        Ok(_) => {
-            let stored: Option<&[u8]> = Some(b"bbb");
-            Some(holds(alloc, cache, b'a', None)? && holds(alloc, cache, b'b', stored)?)
-        }
-        Err(PutFault::Memory(done)) => is_left_so(alloc, cache, &done),
-        Err(_) => Some(false),
+    if let (Got::CutShort(_), _) = put_in(alloc, cache, put_at(b'a', b"aaa", 1000))? {
+        return None;
     }
+    let (got, _) = put_in(alloc, cache, put_at(b'b', b"bbb", 1000))?;
+    is_left_so(alloc, cache, got)
 }
 
 #[test]
 fn a_put_that_memory_cuts_short_is_taken_back(rt: HostRuntime) {
-    let Some(mut cache) = cache(rt.alloc(), 4) else {
-        return;
+    let left = match cache(rt.alloc(), 4) {
+        Some(mut cache) => put_two(rt.alloc(), &mut cache),
+        None => None,
     };
-    let left = put_two(rt.alloc(), &mut cache);
     assert!(rt; left != Some(false));
 }
