@@ -19,8 +19,10 @@ enum Step {
     Use(&'static [u8]),
     /// How many shards are saved, or none by the fault of a file.
     Save(Option<usize>),
-    /// How many shards are loaded, missing and errored, and how many temporary files went, or none by the fault of a file.
-    Load(Option<[usize; 4]>),
+    /// How many shards are loaded, missing and errored, and how many temporary files went.
+    Load([usize; 4]),
+    /// A load is the fault of a file.
+    NoLoad,
     /// The number of all entries.
     Holds(usize),
     /// An entry of that weight is admitted, for which this one goes alone.
@@ -57,22 +59,23 @@ fn is_saved(
     }
 }
 
-fn is_loaded(
-    loaded: Result<ShardLoadReport<LoadFault>, EvictFault>,
-    wanted: Option<[usize; 4]>,
-) -> bool {
+fn is_loaded(loaded: Result<ShardLoadReport<LoadFault>, EvictFault>, wanted: [usize; 4]) -> bool {
+    let [loads, missing, errored, removed] = wanted;
     match loaded {
-        Ok(report) => match wanted {
-            Some([loaded, missing, errored, removed]) => {
-                report.loaded == loaded
-                    && report.missing == missing
-                    && report.errored.len() == errored
-                    && report.cleanup.removed == removed
-            }
-            None => false,
-        },
-        Err(EvictFault::File(gone)) => wanted.is_none() && gone.is_empty(),
+        Ok(report) => {
+            report.loaded == loads
+                && report.missing == missing
+                && report.errored.len() == errored
+                && report.cleanup.removed == removed
+        }
         Err(_) => false,
+    }
+}
+
+fn is_no_file(loaded: Result<ShardLoadReport<LoadFault>, EvictFault>) -> bool {
+    match loaded {
+        Err(EvictFault::File(gone)) => gone.is_empty(),
+        _ => false,
     }
 }
 
@@ -107,6 +110,7 @@ fn all_done<M: EvictionManager, F: Folder>(
             Step::Use(keys) => uses(alloc, manager, keys),
             Step::Save(wanted) => is_saved(manager.save(alloc, folder, "dir", words), wanted),
             Step::Load(wanted) => is_loaded(manager.load(alloc, folder, "dir"), wanted),
+            Step::NoLoad => is_no_file(manager.load(alloc, folder, "dir")),
             Step::Holds(items) => manager.total_items() == items,
             Step::Admit(key, size, gone) => evicts(alloc, manager, key, size, gone),
         };
@@ -166,7 +170,7 @@ fn text_of_three(alloc: Global) -> Option<Vec<u8>> {
 fn is_cut(alloc: Global, text: &[u8], cut: usize, wanted: [usize; 4]) -> bool {
     let [loaded, missing, errored, items] = wanted;
     let steps = [
-        Step::Load(Some([loaded, missing, errored, 0])),
+        Step::Load([loaded, missing, errored, 0]),
         Step::Holds(items),
     ];
     let mut folder = MemFolder::new(alloc);
@@ -191,7 +195,7 @@ fn rows_before_a_fault_stay(rt: HostRuntime) {
 /// Calls of two shards that are saved, and of others that are loaded from their files, where a temporary file goes.
 const SAVED: &[Step] = &[Step::Use(&[1, 2, 3, 4, 5, 2]), Step::Save(Some(2))];
 
-const LOADED: &[Step] = &[Step::Load(Some([2, 0, 0, 1])), Step::Holds(5)];
+const LOADED: &[Step] = &[Step::Load([2, 0, 0, 1]), Step::Holds(5)];
 
 /// Whether the first has the same texts as the second.
 fn round_trip(alloc: Global) -> Option<bool> {
@@ -215,7 +219,7 @@ fn shards_are_as_they_were_saved(rt: HostRuntime) {
 /// Calls of a list that is saved, and of one that is loaded from its file.
 const SAVED_LIST: &[Step] = &[Step::Use(&[1, 2, 3, 1]), Step::Save(Some(1))];
 
-const LOADED_LIST: &[Step] = &[Step::Load(Some([1, 0, 0, 0])), Step::Admit(4, 2, 2)];
+const LOADED_LIST: &[Step] = &[Step::Load([1, 0, 0, 0]), Step::Admit(4, 2, 2)];
 
 fn evicts_next(alloc: Global) -> bool {
     let mut folder = MemFolder::new(alloc);
@@ -230,9 +234,9 @@ fn a_loaded_list_evicts_what_was_used_longest_ago(rt: HostRuntime) {
 /// Calls where each rename fails, of shards and of a list, and of a list whose file is faulty.
 const UNSAVED: &[Step] = &[Step::Use(&[1]), Step::Save(None)];
 
-const UNSAVED_LIST: &[Step] = &[Step::Use(&[1]), Step::Save(None), Step::Load(None)];
+const UNSAVED_LIST: &[Step] = &[Step::Use(&[1]), Step::Save(None), Step::NoLoad];
 
-const FAULTY_LIST: &[Step] = &[Step::Use(&[1]), Step::Load(None)];
+const FAULTY_LIST: &[Step] = &[Step::Use(&[1]), Step::NoLoad];
 
 fn shards_are_unsaved(alloc: Global) -> bool {
     let mut folder = TestFolder::renames_fail(MemFolder::new(alloc));
