@@ -14,6 +14,8 @@ mod managers;
 #[cfg(test)]
 mod running;
 #[cfg(test)]
+mod saved;
+#[cfg(test)]
 mod shards;
 #[cfg(test)]
 mod worlds;

@@ -15,7 +15,7 @@ use std::thread::Threads;
 
 /// A call on the entry of a key and perhaps an id, and what it must answer.
 #[derive(Clone, Copy)]
-enum Step {
+pub enum Step {
     Admit(usize),
     /// At the back; whether it is newly tracked.
     InsertTail(usize, bool),
@@ -36,7 +36,7 @@ enum Step {
 }
 
 /// A key, perhaps an id, and a call.
-type Row = (u8, Option<u64>, Step);
+pub type Row = (u8, Option<u64>, Step);
 
 const CALLS: &[Row] = &[
     (1, None, Step::Text(1, 0)),
@@ -133,7 +133,7 @@ fn uses<R: Wait>(rt: &R, manager: &Manager<1>, item: &CacheEntryKey, step: Step)
 }
 
 /// Whether a call answers what it must.
-fn does<R: Wait>(rt: &R, alloc: Global, manager: &Manager<1>, row: Row) -> bool {
+pub fn does<R: Wait>(rt: &R, alloc: Global, manager: &Manager<1>, row: Row) -> bool {
     match row.2 {
         Step::Admit(_) | Step::InsertTail(..) | Step::Last => {
             puts(rt, manager, entry(alloc, row.0, row.1), row.2)

@@ -10,6 +10,8 @@ mod numbers;
 #[cfg(test)]
 mod refused;
 #[cfg(test)]
+mod saved;
+#[cfg(test)]
 mod shards;
 #[cfg(test)]
 mod steps;
