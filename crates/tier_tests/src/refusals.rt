@@ -2,7 +2,7 @@
 use crate::asks::Ask;
 use crate::outcomes::Outcome;
 use crate::runs::{ASKS, FOUR};
-use crate::trials::{Held, Row, Trial, held};
+use crate::trials::{Held, Row, Trial, try_out};
 use std::alloc::Global;
 use tier_model::event::LockGiven;
 
@@ -146,7 +146,7 @@ const FREE: &[(Ask, Outcome)] = &[
 ];
 
 fn row_held(alloc: Global, row: Row) -> Held {
-    held(alloc, row.limit, Trial::Call(row))
+    try_out(alloc, row.limit, Trial::Call(row))
 }
 
 #[test]
@@ -187,7 +187,7 @@ fn a_refused_finish_leaves_all(rt: HostRuntime) {
 
 #[test]
 fn polls_reads_and_drops_take_no_memory(rt: HostRuntime) {
-    let held = held(rt.alloc(), 4, Trial::Steps(WAITING, FREE));
+    let held = try_out(rt.alloc(), 4, Trial::Steps(WAITING, FREE));
     assert!(rt; matches!(held, Held::Answered | Held::Refused));
 }
 
@@ -195,6 +195,6 @@ fn polls_reads_and_drops_take_no_memory(rt: HostRuntime) {
 // it meets a refusal: so a run with one allocation failing in which it passes met none.
 #[test]
 fn ample_memory_meets_no_refusal(rt: HostRuntime) {
-    let ran = held(rt.alloc(), 8, Trial::Run(FOUR, ASKS));
+    let ran = try_out(rt.alloc(), 8, Trial::Run(FOUR, ASKS));
     assert!(rt; ran == Held::Answered && row_held(rt.alloc(), FINISH) == Held::Answered);
 }

@@ -1,19 +1,19 @@
 //! Runs of events, tiers that start from a folder, and what a tier lends.
 use crate::asks::Ask;
 use crate::outcomes::Outcome;
-use crate::trials::{Held, Trial, held};
+use crate::trials::{Held, Trial, try_out};
 use tier_model::event::LockGiven;
 
 const LOOK: &[(Ask, Outcome)] = &[(Ask::Look(1), Outcome::NoRequest)];
 
 #[test]
 fn a_run_without_memory_does_nothing(rt: HostRuntime) {
-    assert!(rt; held(rt.alloc(), 4, Trial::Run(&[], LOOK)) != Held::Broken);
+    assert!(rt; try_out(rt.alloc(), 4, Trial::Run(&[], LOOK)) != Held::Broken);
 }
 
 #[test]
 fn a_store_is_lent(rt: HostRuntime) {
-    assert!(rt; held(rt.alloc(), 4, Trial::Store) != Held::Broken);
+    assert!(rt; try_out(rt.alloc(), 4, Trial::Store) != Held::Broken);
 }
 
 // An event that is refused leaves no trace.
@@ -24,7 +24,7 @@ const OPENED: &[(Ask, Outcome)] = &[
 
 #[test]
 fn a_tier_that_started_is_new_until_an_event(rt: HostRuntime) {
-    assert!(rt; held(rt.alloc(), 4, Trial::Start(OPENED)) == Held::Answered);
+    assert!(rt; try_out(rt.alloc(), 4, Trial::Start(OPENED)) == Held::Answered);
 }
 
 pub(crate) const FOUR: &[Ask] = &[

@@ -157,7 +157,7 @@ fn start(alloc: Global, tier: &mut Tier<1>, asks: &[(Ask, Outcome)]) -> Held {
     }
 }
 
-fn trial(alloc: Global, tier: &mut Tier<1>, trial: Trial) -> Held {
+fn try_on(alloc: Global, tier: &mut Tier<1>, trial: Trial) -> Held {
     match trial {
         Trial::Call(row) => {
             if is_ready(alloc, tier, row.before) {
@@ -192,9 +192,9 @@ fn trial(alloc: Global, tier: &mut Tier<1>, trial: Trial) -> Held {
 }
 
 // What comes of a trial of a tier with this limit.
-pub(crate) fn held(alloc: Global, limit: usize, what: Trial) -> Held {
+pub(crate) fn try_out(alloc: Global, limit: usize, what: Trial) -> Held {
     match Tier::<1>::new(alloc, limit, None, Duration::from_seconds(1), None) {
-        Ok(mut tier) => trial(alloc, &mut tier, what),
+        Ok(mut tier) => try_on(alloc, &mut tier, what),
         Err(AllocError) => Held::Refused,
     }
 }

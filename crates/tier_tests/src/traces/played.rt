@@ -57,8 +57,7 @@ impl Read for Source<'_> {
 #[derive(Drop)]
 struct Sink<'a> {
     text: Vec<u8>,
-    room: usize,
-    flushes: bool,
+    way: Way,
     // The lines that wait for a flush.
     held: usize,
     answered: &'a Cell<usize>,
@@ -66,12 +65,15 @@ struct Sink<'a> {
 
 impl Write for Sink<'_> {
     fn write(&mut self, buf: &[u8]) -> io::Result<usize> {
-        if self.room == 0 {
+        let room = match self.way {
+            Way::Writes(room, _) => room.saturating_sub(self.text.len()),
+            _ => usize::MAX,
+        };
+        if room == 0 {
             return Err(io::Error::from(io::ErrorKind::StorageFull));
         }
-        let taken = buf.len().min(self.room);
+        let taken = buf.len().min(room);
         self.text.extend_from_slice(&buf[..taken])?;
-        self.room -= taken;
         for &byte in &buf[..taken] {
             if byte == b'\n' {
                 self.held = self.held.wrapping_add(1);
@@ -81,7 +83,7 @@ impl Write for Sink<'_> {
     }
 
     fn flush(&mut self) -> io::Result<()> {
-        if !self.flushes {
+        if matches!(self.way, Way::Writes(_, false)) {
             return Err(io::Error::from(io::ErrorKind::StorageFull));
         }
         self.answered
@@ -129,13 +131,19 @@ fn is_cut(text: &[u8], whole: &[u8]) -> bool {
     }
 }
 
-fn played(outcome: Result<(), ReplayError>, text: &[u8], replay: Replay<'_>, way: Way) -> Played {
+fn outcome_of(
+    outcome: Result<(), ReplayError>,
+    text: &[u8],
+    replay: Replay<'_>,
+    way: Way,
+) -> Played {
     let is_memory = matches!(&outcome, Err(ReplayError::Memory));
     let is_stream = matches!(&outcome, Err(ReplayError::Stream(_)));
-    let status = match outcome {
-        Ok(()) => status(&Ok(())),
-        Err(error) => status(&Err(Fault::Replay(error))),
+    let outcome = match outcome {
+        Ok(()) => Ok(()),
+        Err(error) => Err(Fault::Replay(error)),
     };
+    let status = status(&outcome);
     let (fails, room) = match way {
         Way::Reads(_) => (true, usize::MAX),
         Way::Writes(room, _) => (replay.status == 1, room),
@@ -149,11 +157,11 @@ fn played(outcome: Result<(), ReplayError>, text: &[u8], replay: Replay<'_>, way
     }
 }
 
-// How a replay goes, with hashes that start at that word; `None` where there was no memory for its options.
+// How a replay goes; `None` where there was no memory for its options.
 pub(crate) fn play(
     alloc: Global,
     folder: Option<&mut TestFolder>,
-    word: u64,
+    hasher: SeededState,
     replay: Replay<'_>,
     way: Way,
 ) -> Option<Played> {
@@ -171,10 +179,6 @@ pub(crate) fn play(
         recency,
     };
     let answered = Cell::new(0);
-    let (room, flushes) = match way {
-        Way::Writes(room, flushes) => (room, flushes),
-        _ => (usize::MAX, true),
-    };
     let mut source = Source {
         trace: replay.trace,
         way,
@@ -183,15 +187,13 @@ pub(crate) fn play(
     };
     let mut sink = Sink {
         text: Vec::new(alloc),
-        room,
-        flushes,
+        way,
         held: 0,
         answered: &answered,
     };
-    let hasher = SeededState { word };
     let outcome = match folder {
         Some(folder) => run_in(alloc, hasher, folder, &mut source, &mut sink, &options),
         None => run(alloc, hasher, &mut source, &mut sink, &options),
     };
-    Some(played(outcome, sink.text.as_slice(), replay, way))
+    Some(outcome_of(outcome, sink.text.as_slice(), replay, way))
 }

@@ -2,9 +2,12 @@
 mod early_ends;
 
 use crate::traces::played::{Played, Replay, Way, play};
+use lru_core::SeededState;
 use lru_files::persistence::{Folder, MemFolder, TestFolder};
 use std::alloc::Global;
 use trace_replay::options::ShardCount;
+
+const HASHER: SeededState = SeededState { word: 3 };
 
 // The file of the first shard, and the name under which a save with the first word of seed 0 writes it.
 const FILE: &str = "dir/lru.data.0";
@@ -80,7 +83,7 @@ fn has(folder: &mut MemFolder, files: &[(&str, &[u8])], count: usize) -> bool {
 }
 
 // How a replay goes over a folder, and what is left; `None` where memory was refused before.
-fn played(alloc: Global, folder: MemFolder, row: &Row) -> (Option<Played>, MemFolder) {
+fn leave(alloc: Global, folder: MemFolder, row: &Row) -> (Option<Played>, MemFolder) {
     let mut folder = folder;
     if !are_put(&mut folder, row.before) {
         return (None, folder);
@@ -91,7 +94,7 @@ fn played(alloc: Global, folder: MemFolder, row: &Row) -> (Option<Played>, MemFo
         Fails::Once(call) => TestFolder::fails_once(folder, call),
         Fails::After(calls) => TestFolder::stops_after(folder, calls, 0),
     };
-    let played = play(alloc, Some(&mut folder), 3, row.replay, row.way);
+    let played = play(alloc, Some(&mut folder), HASHER, row.replay, row.way);
     (played, folder.into_inner())
 }
 
@@ -100,7 +103,7 @@ fn all_hold(alloc: Global, rows: &[Row], go_on: bool) -> bool {
     let mut all = true;
     let mut folder = MemFolder::new(alloc);
     for row in rows {
-        let (played, mut left) = played(alloc, folder, row);
+        let (played, mut left) = leave(alloc, folder, row);
         all = match played {
             Some(played) => {
                 all && played.ends && played.is_written && has(&mut left, row.after, row.count)

@@ -1,5 +1,6 @@
 //! Readers and writers that fail or wait, and memory that runs out, in mid-stream.
 use crate::traces::played::{Replay, Way, play};
+use lru_core::SeededState;
 use std::alloc::Global;
 use trace_replay::options::ShardCount;
 
@@ -7,7 +8,7 @@ use trace_replay::options::ShardCount;
 fn all_hold(alloc: Global, word: u64, replay: Replay<'_>, ways: &[Way]) -> bool {
     let mut all = true;
     for &way in ways {
-        all = match play(alloc, None, word, replay, way) {
+        all = match play(alloc, None, SeededState { word }, replay, way) {
             Some(played) => all && played.ends && played.is_written,
             None => false,
         };
@@ -99,7 +100,7 @@ const PUT: Replay = Replay {
 };
 
 fn put_is_cut(alloc: Global) -> bool {
-    match play(alloc, None, 2, PUT, Way::Parts(176)) {
+    match play(alloc, None, SeededState { word: 2 }, PUT, Way::Parts(176)) {
         Some(played) => played.is_cut,
         None => true,
     }

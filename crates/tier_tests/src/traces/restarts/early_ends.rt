@@ -1,5 +1,5 @@
 //! Replays that end early, and what they leave in the folder.
-use super::{BA, CBA, FILE, Fails, NONE, PUT_C, Row, TEMP, all_hold, played};
+use super::{BA, CBA, FILE, Fails, NONE, PUT_C, Row, TEMP, all_hold, leave};
 use crate::traces::played::{Replay, Way};
 use lru_files::persistence::MemFolder;
 use std::alloc::Global;
@@ -135,7 +135,7 @@ const ROOMY: Row = Row {
 // Whether a file has the text of before, or one of the run: after a load that was refused memory, which counts as errored, the run
 // has the rows before the refusal.
 fn leaves_a_whole_text(alloc: Global) -> bool {
-    let (played, left) = played(alloc, MemFolder::new(alloc), &ROOMY);
+    let (played, left) = leave(alloc, MemFolder::new(alloc), &ROOMY);
     match left.bytes(FILE) {
         Some(bytes) => bytes == BA || bytes == CBA || bytes == CB || bytes == C,
         None => played.is_none(),
