@@ -140,13 +140,20 @@ fn run(alloc: Global, tier: &mut Tier<1>, asks: &[(Ask, Outcome)]) -> Held {
     }
 }
 
+// Whether a tier is new, and starts from a folder without a file.
+fn starts(tier: &mut Tier<1>, folder: &mut MemFolder) -> bool {
+    if !tier.is_new() {
+        return false;
+    }
+    match tier.start(folder, "dir") {
+        Ok(report) => report.missing == 1,
+        Err(_) => false,
+    }
+}
+
 fn start(alloc: Global, tier: &mut Tier<1>, asks: &[(Ask, Outcome)]) -> Held {
     let mut folder = MemFolder::new(alloc);
-    let mut holds = tier.is_new();
-    holds = match tier.start(&mut folder, "dir") {
-        Ok(report) => holds && report.missing == 1,
-        Err(_) => return Held::Elsewhere,
-    };
+    let mut holds = starts(tier, &mut folder);
     for &(ask, want) in asks {
         holds = tier.is_new() && step(alloc, tier, ask) == want && holds;
     }
