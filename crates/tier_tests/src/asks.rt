@@ -31,22 +31,18 @@ fn key(alloc: Global, name: u8) -> Option<CacheKey> {
     Some(CacheKey::new(primary, String::new(alloc)))
 }
 
-fn open(alloc: Global, request: u64, name: u8, lock: bool) -> Option<Action> {
-    let key = key(alloc, name)?;
-    Some(Action::Open { request, key, lock })
-}
-
-fn put(alloc: Global, name: u8, body: &'static [u8]) -> Option<Action> {
-    let key = key(alloc, name)?;
-    let pieces = vec![in alloc; Bytes::from_static(HEAD), Bytes::from_static(body)].ok()?;
-    let pieces = Pieces::from_vec(pieces);
-    Some(Action::Put { key, pieces })
-}
-
 fn action(alloc: Global, ask: Ask) -> Option<Action> {
     match ask {
-        Ask::Open(request, name) => open(alloc, request, name, false),
-        Ask::OpenLocked(request, name) => open(alloc, request, name, true),
+        Ask::Open(request, name) => Some(Action::Open {
+            request,
+            key: key(alloc, name)?,
+            lock: false,
+        }),
+        Ask::OpenLocked(request, name) => Some(Action::Open {
+            request,
+            key: key(alloc, name)?,
+            lock: true,
+        }),
         Ask::Look(request) => Some(Action::LookUp { request }),
         Ask::Poll(request) => Some(Action::Poll { request }),
         Ask::Begin(request) => Some(Action::Begin {
@@ -64,20 +60,19 @@ fn action(alloc: Global, ask: Ask) -> Option<Action> {
         Ask::Purge(name) => Some(Action::Purge {
             key: key(alloc, name)?,
         }),
-        Ask::Put(name, body) => put(alloc, name, body),
+        Ask::Put(name, body) => {
+            let key = key(alloc, name)?;
+            let pieces = vec![in alloc; Bytes::from_static(HEAD), Bytes::from_static(body)].ok()?;
+            let pieces = Pieces::from_vec(pieces);
+            Some(Action::Put { key, pieces })
+        }
     }
 }
 
 pub(crate) fn event(alloc: Global, ask: Ask) -> Option<Event> {
-    let moment = Moment::from_seconds(7);
     let action = action(alloc, ask)?;
-    Some(Event { moment, action })
-}
-
-pub(crate) fn events(alloc: Global, asks: &[Ask]) -> Option<Vec<Event>> {
-    let mut all = Vec::new(alloc);
-    for &ask in asks {
-        all.push(event(alloc, ask)?).ok()?;
-    }
-    Some(all)
+    Some(Event {
+        moment: Moment::from_seconds(7),
+        action,
+    })
 }

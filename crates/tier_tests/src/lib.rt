@@ -13,6 +13,6 @@ mod refusals;
 #[cfg(test)]
 mod runs;
 #[cfg(test)]
-mod starts;
-#[cfg(test)]
 mod traces;
+#[cfg(test)]
+mod trials;

@@ -6,7 +6,8 @@ use cache_words::text::Text;
 use std::alloc::Global;
 use tier_model::event::{Entries, Pieces};
 
-fn entry(alloc: Global, last: u8) -> CacheEntryKey {
+// The entry of a primary hash of this byte alone.
+pub(crate) fn entry(alloc: Global, last: u8) -> CacheEntryKey {
     CacheEntryKey::key_only(CompactCacheKey {
         primary: [last; 16],
         variance: None,
@@ -14,29 +15,24 @@ fn entry(alloc: Global, last: u8) -> CacheEntryKey {
     })
 }
 
-// How many pieces there are, and whether the first is as it was put in.
-fn pieces(alloc: Global) -> Option<(usize, bool)> {
-    let all = vec![in alloc; Bytes::from_static(b"ab"), Bytes::from_static(b"c")].ok()?;
-    let pieces = Pieces::from_vec(all);
-    let first = pieces.as_slice().first()?;
-    Some((
-        pieces.as_slice().len(),
-        first.as_slice() == b"ab".as_slice(),
-    ))
-}
-
-// The same of entries.
-fn entries(alloc: Global) -> Option<(usize, bool)> {
-    let all = vec![in alloc; entry(alloc, 1), entry(alloc, 2)].ok()?;
-    let entries = Entries::from_vec(all);
-    let first = entries.as_slice().first()?;
-    let is_first = *first == entry(alloc, 1);
-    Some((entries.as_slice().len(), is_first))
+// Whether two pieces, and two entries, stay two, with the first as it was put in.
+fn are_kept(alloc: Global) -> Option<bool> {
+    let pieces = vec![in alloc; Bytes::from_static(b"ab"), Bytes::from_static(b"c")].ok()?;
+    let pieces = Pieces::from_vec(pieces);
+    let entries = vec![in alloc; entry(alloc, 1), entry(alloc, 2)].ok()?;
+    let entries = Entries::from_vec(entries);
+    let pieces = match pieces.as_slice() {
+        [first, _] => first.as_slice() == b"ab".as_slice(),
+        _ => false,
+    };
+    let entries = match entries.as_slice() {
+        [first, _] => *first == entry(alloc, 1),
+        _ => false,
+    };
+    Some(pieces && entries && Entries::new(alloc).as_slice().is_empty())
 }
 
 #[test]
 fn pieces_and_entries_keep_their_order(rt: HostRuntime) {
-    assert!(rt; pieces(rt.alloc()) == Some((2, true)));
-    assert!(rt; entries(rt.alloc()) == Some((2, true)));
-    assert!(rt; Entries::new(rt.alloc()).as_slice().is_empty());
+    assert!(rt; are_kept(rt.alloc()) == Some(true));
 }

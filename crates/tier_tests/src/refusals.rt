@@ -1,84 +1,10 @@
 //! Each refused growth in turn.
 use crate::asks::Ask;
-use crate::outcomes::{Outcome, empty_tier, is_answer, is_ready, step};
-use crate::runs::goes_through;
-use cache_tier::tier::Tier;
-use std::alloc::{AllocError, Global};
+use crate::outcomes::Outcome;
+use crate::runs::{ASKS, FOUR};
+use crate::trials::{Held, Row, Trial, try_out};
+use std::alloc::Global;
 use tier_model::event::LockGiven;
-
-// A call on a tier of which something was asked before.
-#[derive(Clone, Copy)]
-struct Row {
-    limit: usize,
-    before: &'static [Ask],
-    ask: Ask,
-    // What comes of it where memory is there, and what comes of what is asked then.
-    want: Outcome,
-    after: &'static [(Ask, Outcome)],
-    // What comes of what is asked after a refusal that did nothing, and after one that took a body back.
-    refused: &'static [(Ask, Outcome)],
-    taken_back: &'static [(Ask, Outcome)],
-}
-
-// What came of a row.
-#[derive(Clone, Copy, PartialEq, Eq)]
-enum Held {
-    Answered,
-    // Memory was refused, and what is left is as before.
-    Refused,
-    // Memory was refused before the call or after it.
-    Elsewhere,
-    Broken,
-}
-
-// Whether what is asked has these outcomes; `held` where it does.
-fn follow(alloc: Global, tier: &mut Tier<1>, asks: &[(Ask, Outcome)], held: Held) -> Held {
-    for &(ask, want) in asks {
-        let outcome = step(alloc, tier, ask);
-        if outcome != want {
-            return if is_answer(outcome) || outcome == Outcome::Else {
-                Held::Broken
-            } else {
-                Held::Elsewhere
-            };
-        }
-    }
-    held
-}
-
-// What comes of the row's call, by a tier of which was asked what comes before it.
-fn call(alloc: Global, tier: &mut Tier<1>, row: &Row) -> Held {
-    let before = tier.report();
-    let outcome = step(alloc, tier, row.ask);
-    let is_same = tier.report() == before;
-    match outcome {
-        Outcome::Unasked => Held::Elsewhere,
-        Outcome::Refused if is_same => follow(alloc, tier, row.refused, Held::Refused),
-        Outcome::TakenBack if is_same => follow(alloc, tier, row.taken_back, Held::Refused),
-        outcome => {
-            if outcome == row.want {
-                follow(alloc, tier, row.after, Held::Answered)
-            } else {
-                Held::Broken
-            }
-        }
-    }
-}
-
-fn row_on(alloc: Global, tier: &mut Tier<1>, row: &Row) -> Held {
-    if is_ready(alloc, tier, row.before) {
-        call(alloc, tier, row)
-    } else {
-        Held::Elsewhere
-    }
-}
-
-fn row_holds(alloc: Global, row: &Row) -> Held {
-    match empty_tier(alloc, row.limit) {
-        Ok(mut tier) => row_on(alloc, &mut tier, row),
-        Err(AllocError) => Held::Elsewhere,
-    }
-}
 
 const PUT: Row = Row {
     limit: 4,
@@ -219,68 +145,56 @@ const FREE: &[(Ask, Outcome)] = &[
     (Ask::Drop(1), Outcome::Dropped),
 ];
 
+fn row_held(alloc: Global, row: Row) -> Held {
+    try_out(alloc, row.limit, Trial::Call(row))
+}
+
 #[test]
 fn a_refused_put_leaves_all(rt: HostRuntime) {
-    assert!(rt; row_holds(rt.alloc(), &PUT) != Held::Broken);
+    assert!(rt; row_held(rt.alloc(), PUT) != Held::Broken);
 }
 
 #[test]
 fn a_refused_open_leaves_all(rt: HostRuntime) {
-    assert!(rt; row_holds(rt.alloc(), &OPEN) != Held::Broken);
+    assert!(rt; row_held(rt.alloc(), OPEN) != Held::Broken);
 }
 
 #[test]
 fn a_refused_look_leaves_all(rt: HostRuntime) {
-    assert!(rt; row_holds(rt.alloc(), &LOOK) != Held::Broken);
-    assert!(rt; row_holds(rt.alloc(), &LOOK_LOCKED) != Held::Broken);
+    let looked = row_held(rt.alloc(), LOOK);
+    assert!(rt; looked != Held::Broken && row_held(rt.alloc(), LOOK_LOCKED) != Held::Broken);
 }
 
 #[test]
 fn a_refused_begin_leaves_all(rt: HostRuntime) {
-    assert!(rt; row_holds(rt.alloc(), &BEGIN) != Held::Broken);
+    assert!(rt; row_held(rt.alloc(), BEGIN) != Held::Broken);
 }
 
 #[test]
 fn a_refused_piece_leaves_all(rt: HostRuntime) {
-    assert!(rt; row_holds(rt.alloc(), &PIECE) != Held::Broken);
+    assert!(rt; row_held(rt.alloc(), PIECE) != Held::Broken);
 }
 
 #[test]
 fn a_refused_read_leaves_all(rt: HostRuntime) {
-    assert!(rt; row_holds(rt.alloc(), &READ) != Held::Broken);
+    assert!(rt; row_held(rt.alloc(), READ) != Held::Broken);
 }
 
 #[test]
 fn a_refused_finish_leaves_all(rt: HostRuntime) {
-    assert!(rt; row_holds(rt.alloc(), &FINISH) != Held::Broken);
-}
-
-fn are_free(alloc: Global, tier: &mut Tier<1>) -> bool {
-    for &(ask, want) in FREE {
-        if step(alloc, tier, ask) != want {
-            return false;
-        }
-    }
-    true
-}
-
-fn waits_are_free(alloc: Global) -> bool {
-    match empty_tier(alloc, 4) {
-        Ok(mut tier) => !is_ready(alloc, &mut tier, WAITING) || are_free(alloc, &mut tier),
-        Err(AllocError) => true,
-    }
+    assert!(rt; row_held(rt.alloc(), FINISH) != Held::Broken);
 }
 
 #[test]
 fn polls_reads_and_drops_take_no_memory(rt: HostRuntime) {
-    assert!(rt; waits_are_free(rt.alloc()));
+    let held = try_out(rt.alloc(), 4, Trial::Steps(WAITING, FREE));
+    assert!(rt; matches!(held, Held::Answered | Held::Refused));
 }
 
 // It takes more memory than each test of a refused growth, since its two tiers take more calls than those of any of them, and fails where
 // it meets a refusal: so a run with one allocation failing in which it passes met none.
 #[test]
 fn ample_memory_meets_no_refusal(rt: HostRuntime) {
-    let alloc = rt.alloc();
-    assert!(rt; goes_through(alloc));
-    assert!(rt; row_holds(alloc, &FINISH) == Held::Answered);
+    let ran = try_out(rt.alloc(), 8, Trial::Run(FOUR, ASKS));
+    assert!(rt; ran == Held::Answered && row_held(rt.alloc(), FINISH) == Held::Answered);
 }

@@ -1,7 +1,7 @@
 //! Trace lines and the program that replays them.
 mod answers;
 mod lines;
-mod lockstep;
 mod options;
+mod played;
 mod restarts;
 mod streams;

@@ -1,9 +1,7 @@
-//! The lines that are written for outcomes and for the report. Each helper gives `None` where memory is refused.
+//! The lines that are written for outcomes and for the report.
+use crate::model::entry;
 use bytes::Bytes;
-use cache_entries::entry::CacheEntryKey;
 use cache_lock::LockStatus;
-use cache_words::key::CompactCacheKey;
-use cache_words::text::Text;
 use std::alloc::Global;
 use tier_model::event::{Answer, Done, Entries, LockGiven, TierFault};
 use tier_model::report::Report;
@@ -22,6 +20,8 @@ enum Given {
     // A body of three bytes, with two evictions.
     Finished,
     TooHeavy,
+    // Not an outcome, but REPORT.
+    Report,
 }
 
 const WRITTEN: &[(Given, &[u8])] = &[
@@ -70,63 +70,8 @@ const WRITTEN: &[(Given, &[u8])] = &[
     (Given::Bytes(b""), b"bytes -\n"),
     (Given::Finished, b"finished 3 evicted=2\n"),
     (Given::TooHeavy, b"fault 11 TooHeavy\n"),
+    (Given::Report, REPORT_LINE),
 ];
-
-fn entry(alloc: Global) -> CacheEntryKey {
-    CacheEntryKey::key_only(CompactCacheKey {
-        primary: [1; 16],
-        variance: None,
-        user_tag: Text::from_string(String::new(alloc)),
-    })
-}
-
-fn finished(alloc: Global) -> Option<Answer> {
-    let evicted = vec![in alloc; entry(alloc), entry(alloc)].ok()?;
-    Some(Answer::Finished {
-        length: 3,
-        evicted: Entries::from_vec(evicted),
-    })
-}
-
-fn too_heavy(alloc: Global) -> TierFault {
-    TierFault::TooHeavy(Done {
-        stored: true,
-        admitted: false,
-        evicted: Entries::new(alloc),
-    })
-}
-
-fn outcome(alloc: Global, given: Given) -> Option<Result<Answer, TierFault>> {
-    match given {
-        Given::Found(fresh, complete, lock) => Some(Ok(Answer::Found {
-            fresh,
-            complete,
-            lock,
-        })),
-        Given::Absent(lock) => Some(Ok(Answer::Absent { lock })),
-        Given::Waited(status) => Some(Ok(Answer::Waited(status))),
-        Given::Begun => Some(Ok(Answer::Begun)),
-        Given::Written => Some(Ok(Answer::Written)),
-        Given::Pending => Some(Ok(Answer::Pending)),
-        Given::Bytes(bytes) => Some(Ok(Answer::Bytes(Bytes::from_static(bytes)))),
-        Given::Finished => Some(Ok(finished(alloc)?)),
-        Given::TooHeavy => Some(Err(too_heavy(alloc))),
-    }
-}
-
-fn is_written(alloc: Global, given: Given, want: &[u8]) -> Option<bool> {
-    let outcome = outcome(alloc, given)?;
-    let mut out = Vec::new(alloc);
-    add_outcome_line(alloc, &mut out, &outcome).ok()?;
-    Some(out.as_slice() == want)
-}
-
-#[test]
-fn answers_are_written(rt: HostRuntime) {
-    for &(given, want) in WRITTEN {
-        assert!(rt; is_written(rt.alloc(), given, want) == Some(true));
-    }
-}
 
 const REPORT: Report = Report {
     found: 2,
@@ -141,13 +86,51 @@ const REPORT: Report = Report {
 const REPORT_LINE: &[u8] =
     b"report found=2 absent=18446744073709551615 bodies=4 bytes=3 tracked=5 weight=6 evicted=0\n";
 
-fn report_is_written(alloc: Global) -> Option<bool> {
+fn outcome(alloc: Global, given: Given) -> Option<Result<Answer, TierFault>> {
+    match given {
+        Given::Found(fresh, complete, lock) => Some(Ok(Answer::Found {
+            fresh,
+            complete,
+            lock,
+        })),
+        Given::Absent(lock) => Some(Ok(Answer::Absent { lock })),
+        Given::Waited(status) => Some(Ok(Answer::Waited(status))),
+        Given::Begun => Some(Ok(Answer::Begun)),
+        Given::Written => Some(Ok(Answer::Written)),
+        Given::Pending => Some(Ok(Answer::Pending)),
+        Given::Bytes(bytes) => Some(Ok(Answer::Bytes(Bytes::from_static(bytes)))),
+        Given::Finished => Some(Ok(Answer::Finished {
+            length: 3,
+            evicted: Entries::from_vec(vec![in alloc; entry(alloc, 1), entry(alloc, 1)].ok()?),
+        })),
+        Given::TooHeavy => Some(Err(TierFault::TooHeavy(Done {
+            stored: true,
+            admitted: false,
+            evicted: Entries::new(alloc),
+        }))),
+        Given::Report => None,
+    }
+}
+
+// Whether this is written for an outcome, or for the report.
+fn is_written(alloc: Global, given: Given, want: &[u8]) -> bool {
     let mut out = Vec::new(alloc);
-    add_report_line(alloc, &mut out, &REPORT).ok()?;
-    Some(out.as_slice() == REPORT_LINE)
+    let added = match outcome(alloc, given) {
+        Some(outcome) => add_outcome_line(alloc, &mut out, &outcome),
+        None => add_report_line(alloc, &mut out, &REPORT),
+    };
+    added.is_ok() && out.as_slice() == want
+}
+
+fn all_are_written(alloc: Global) -> bool {
+    let mut all = true;
+    for &(given, want) in WRITTEN {
+        all = all && is_written(alloc, given, want);
+    }
+    all
 }
 
 #[test]
-fn a_report_is_written(rt: HostRuntime) {
-    assert!(rt; report_is_written(rt.alloc()) == Some(true));
+fn answers_and_a_report_are_written(rt: HostRuntime) {
+    assert!(rt; all_are_written(rt.alloc()));
 }

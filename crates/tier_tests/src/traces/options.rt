@@ -1,5 +1,5 @@
 //! The command line: what is read from it, the exit status and the text of a fault.
-use std::alloc::Global;
+use std::alloc::{AllocError, Global};
 use trace_replay::options::{OptionsError, ReplayOptions, ShardCount, options};
 use trace_replay::replay::ReplayError;
 use trace_replay::status::{Fault, status};
@@ -39,29 +39,6 @@ const READ: &[Row] = &[
         wait: Some(0),
     },
 ];
-
-fn is_read(alloc: Global, row: &Row) -> bool {
-    let want = ReplayOptions {
-        limit: row.limit,
-        watermark: row.watermark,
-        shards: ShardCount::One,
-        seed: 0,
-        age: row.age,
-        wait: row.wait,
-        recency: None,
-    };
-    match options(alloc, row.words) {
-        Ok(given) => given == want,
-        Err(_) => false,
-    }
-}
-
-#[test]
-fn options_are_read(rt: HostRuntime) {
-    for row in READ {
-        assert!(rt; is_read(rt.alloc(), row));
-    }
-}
 
 // The words of a command line, its exit status, and how the text begins that is shown for it.
 const ENDS: &[(&[&str], u8, &str)] = &[
@@ -128,40 +105,69 @@ const ENDS: &[(&[&str], u8, &str)] = &[
     (&["tier-replay", "--version"], 0, "tier-replay 0.1.0\n"),
 ];
 
-fn text_of(alloc: Global, fault: &Fault) -> Option<String> {
-    format!(in alloc; "{fault}").ok()
+// Whether a fault has this status, and its text begins so, or is just that.
+fn is_shown(alloc: Global, fault: Fault, want: u8, text: &str, is_whole: bool) -> bool {
+    let shown = format!(in alloc; "{fault}");
+    let ends = status(&Err(fault)) == want;
+    match shown {
+        Ok(shown) if is_whole => ends && shown.as_str() == text,
+        Ok(shown) => ends && shown.as_str().starts_with(text),
+        Err(AllocError) => false,
+    }
 }
 
-// The exit status of a command line that is refused, and whether its text begins so; `None` out of memory.
-fn shown(alloc: Global, words: &[&str], text: &str) -> Option<(u8, bool)> {
-    let outcome = options(alloc, words).map(|_| ()).map_err(Fault::Options);
-    let status = status(&outcome);
-    let shown = text_of(alloc, &outcome.err()?)?;
-    Some((status, shown.as_str().starts_with(text)))
+// Whether the words give the options of a row, or, without a row, a fault with this status and text.
+fn is_read(alloc: Global, words: &[&str], row: Option<&Row>, status: u8, text: &str) -> bool {
+    match (options(alloc, words), row) {
+        (Ok(given), Some(row)) => {
+            given
+                == ReplayOptions {
+                    limit: row.limit,
+                    watermark: row.watermark,
+                    shards: ShardCount::One,
+                    seed: 0,
+                    age: row.age,
+                    wait: row.wait,
+                    recency: None,
+                }
+        }
+        (Err(error), None) => is_shown(alloc, Fault::Options(error), status, text, false),
+        _ => false,
+    }
+}
+
+fn all_are_read(alloc: Global) -> bool {
+    let mut all = true;
+    for row in READ {
+        all = all && is_read(alloc, row.words, Some(row), 0, "");
+    }
+    for &(words, status, text) in ENDS {
+        all = all && is_read(alloc, words, None, status, text);
+    }
+    all
 }
 
 #[test]
-fn command_lines_end_with_a_status_and_a_text(rt: HostRuntime) {
-    for &(words, status, text) in ENDS {
-        let shown = shown(rt.alloc(), words, text);
-        assert!(rt; shown == Some((status, true)));
-    }
+fn command_lines_are_read_or_end_with_a_status_and_a_text(rt: HostRuntime) {
+    assert!(rt; all_are_read(rt.alloc()));
 }
 
-fn is_shown(alloc: Global, fault: &Fault, want: &str) -> bool {
-    match text_of(alloc, fault) {
-        Some(text) => text.as_str() == want,
-        None => false,
-    }
+fn faults_are_shown(alloc: Global) -> bool {
+    let replay = Fault::Replay(ReplayError::Memory);
+    let reads = Fault::Replay(ReplayError::TooManyReads);
+    let options = Fault::Options(OptionsError::Memory);
+    is_shown(alloc, replay, 1, "out of memory", true)
+        & is_shown(
+            alloc,
+            reads,
+            1,
+            "more than 18446744073709551615 reads",
+            true,
+        )
+        & is_shown(alloc, options, 1, "out of memory", true)
 }
 
 #[test]
 fn faults_have_texts(rt: HostRuntime) {
-    let replay = Fault::Replay(ReplayError::Memory);
-    assert!(rt; is_shown(rt.alloc(), &replay, "out of memory"));
-    let reads = Fault::Replay(ReplayError::TooManyReads);
-    let text = "more than 18446744073709551615 reads";
-    assert!(rt; is_shown(rt.alloc(), &reads, text));
-    let options = Fault::Options(OptionsError::Memory);
-    assert!(rt; is_shown(rt.alloc(), &options, "out of memory"));
+    assert!(rt; faults_are_shown(rt.alloc()));
 }

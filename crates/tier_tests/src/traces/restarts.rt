@@ -1,13 +1,11 @@
-//! Replays that load an order of use from a folder and save one to it. Each helper is false where memory is refused.
+//! Replays that load an order of use from a folder and save one to it.
 mod early_ends;
 
+use crate::traces::played::{Played, Replay, Way, play};
 use lru_core::SeededState;
 use lru_files::persistence::{Folder, MemFolder, TestFolder};
-use std::alloc::{AllocError, Global};
-use std::io::{Read, Write};
-use trace_replay::options::{ReplayOptions, ShardCount};
-use trace_replay::restart::run_in;
-use trace_replay::status::{Fault, status};
+use std::alloc::Global;
+use trace_replay::options::ShardCount;
 
 const HASHER: SeededState = SeededState { word: 3 };
 
@@ -45,74 +43,83 @@ const PUT_D_LOOK_ABCD: &[u8] =
 const LOOK_ABC: &[u8] =
     b"{\"op\":\"open\",\"at\":7,\"id\":1,\"key\":\"61\"}\n{\"op\":\"look\",\"at\":7,\"id\":1}\n{\"op\":\"open\",\"at\":7,\"id\":2,\"key\":\"62\"}\n{\"op\":\"look\",\"at\":7,\"id\":2}\n{\"op\":\"open\",\"at\":7,\"id\":3,\"key\":\"63\"}\n{\"op\":\"look\",\"at\":7,\"id\":3}\n";
 
-// A trace, what is written for it, and the exit status.
+// Which calls of a folder fail: none, each rename, this one, or all after so many.
 #[derive(Clone, Copy)]
-struct Replay {
-    limit: u64,
-    shards: ShardCount,
-    trace: &'static [u8],
-    written: &'static [u8],
-    status: u8,
+enum Fails {
+    Never,
+    Renames,
+    Once(usize),
+    After(usize),
 }
 
-fn options(alloc: Global, replay: Replay) -> Result<ReplayOptions, AllocError> {
-    Ok(ReplayOptions {
-        limit: replay.limit,
-        watermark: None,
-        shards: replay.shards,
-        seed: 0,
-        age: 10,
-        wait: None,
-        recency: Some(String::from_str(alloc, "dir")?),
-    })
-}
-
-// The exit status of a replay over a folder.
-fn status_of<F: Folder, R: Read, W: Write>(
-    alloc: Global,
-    folder: &mut F,
-    reader: &mut R,
-    writer: &mut W,
-    options: &ReplayOptions,
-) -> u8 {
-    status(&run_in(alloc, HASHER, folder, reader, writer, options).map_err(Fault::Replay))
-}
-
-fn is_as_told<F: Folder>(alloc: Global, folder: &mut F, replay: Replay) -> bool {
-    let mut reader = replay.trace;
-    let mut written = Vec::new(alloc);
-    match options(alloc, replay) {
-        Ok(options) => {
-            status_of(alloc, folder, &mut reader, &mut written, &options) == replay.status
-                && written.as_slice() == replay.written
-        }
-        Err(AllocError) => false,
-    }
-}
-
-fn has(folder: &MemFolder, path: &str, bytes: &[u8]) -> bool {
-    folder.bytes(path) == Some(bytes)
-}
-
-// Whether the directory has so many files.
-fn counts(folder: &mut MemFolder, count: usize) -> bool {
-    match folder.list("dir") {
-        Ok(names) => names.len() == count,
-        Err(_) => false,
-    }
-}
-
-// A replay over a directory that has a file, or none: its one file has those bytes then.
+// A replay over a directory that has these files: these are among as many then.
 #[derive(Clone, Copy)]
 struct Row {
-    before: Option<&'static [u8]>,
-    replay: Replay,
-    after: &'static [u8],
+    before: &'static [(&'static str, &'static [u8])],
+    fails: Fails,
+    way: Way,
+    replay: Replay<'static>,
+    after: &'static [(&'static str, &'static [u8])],
+    count: usize,
+}
+
+fn are_put(folder: &mut MemFolder, files: &[(&str, &[u8])]) -> bool {
+    let mut all = true;
+    for &(path, bytes) in files {
+        all = folder.put(path, bytes).is_ok() && all;
+    }
+    all
+}
+
+fn has(folder: &mut MemFolder, files: &[(&str, &[u8])], count: usize) -> bool {
+    let mut all = match folder.list("dir") {
+        Ok(names) => names.len() == count,
+        Err(_) => false,
+    };
+    for &(path, bytes) in files {
+        all = all && folder.bytes(path) == Some(bytes);
+    }
+    all
+}
+
+// How a replay goes over a folder, and what is left; `None` where memory was refused before.
+fn leave(alloc: Global, folder: MemFolder, row: &Row) -> (Option<Played>, MemFolder) {
+    let mut folder = folder;
+    if !are_put(&mut folder, row.before) {
+        return (None, folder);
+    }
+    let mut folder = match row.fails {
+        Fails::Never => TestFolder::fails_once(folder, 0),
+        Fails::Renames => TestFolder::renames_fail(folder),
+        Fails::Once(call) => TestFolder::fails_once(folder, call),
+        Fails::After(calls) => TestFolder::stops_after(folder, calls, 0),
+    };
+    let played = play(alloc, Some(&mut folder), HASHER, row.replay, row.way);
+    (played, folder.into_inner())
+}
+
+// Whether each row holds, over a folder of its own, or each over what the one before it left.
+fn all_hold(alloc: Global, rows: &[Row], go_on: bool) -> bool {
+    let mut all = true;
+    let mut folder = MemFolder::new(alloc);
+    for row in rows {
+        let (played, mut left) = leave(alloc, folder, row);
+        all = match played {
+            Some(played) => {
+                all && played.ends && played.is_written && has(&mut left, row.after, row.count)
+            }
+            None => false,
+        };
+        folder = if go_on { left } else { MemFolder::new(alloc) };
+    }
+    all
 }
 
 const ROWS: &[Row] = &[
     Row {
-        before: None,
+        before: &[],
+        fails: Fails::Never,
+        way: Way::Whole,
         replay: Replay {
             limit: 1_000_000,
             shards: ShardCount::One,
@@ -120,10 +127,13 @@ const ROWS: &[Row] = &[
             written: b"recency loaded=0 missing=1 errored=0\nreport found=0 absent=0 bodies=0 bytes=0 tracked=0 weight=0 evicted=0\nrecency saved=1 failed=0\n",
             status: 0,
         },
-        after: NONE,
+        after: &[(FILE, NONE)],
+        count: 1,
     },
     Row {
-        before: Some(NONE),
+        before: &[(FILE, NONE)],
+        fails: Fails::Never,
+        way: Way::Whole,
         replay: Replay {
             limit: 1_000_000,
             shards: ShardCount::One,
@@ -131,10 +141,13 @@ const ROWS: &[Row] = &[
             written: b"recency loaded=1 missing=0 errored=0\nreport found=0 absent=0 bodies=0 bytes=0 tracked=0 weight=0 evicted=0\nrecency saved=1 failed=0\n",
             status: 0,
         },
-        after: NONE,
+        after: &[(FILE, NONE)],
+        count: 1,
     },
     Row {
-        before: Some(CBA),
+        before: &[(FILE, CBA)],
+        fails: Fails::Never,
+        way: Way::Whole,
         replay: Replay {
             limit: 3,
             shards: ShardCount::One,
@@ -142,10 +155,13 @@ const ROWS: &[Row] = &[
             written: b"recency loaded=1 missing=0 errored=0\nfinished 1 evicted=1\nopened\nabsent lock=none\nopened\nabsent lock=none\nopened\nabsent lock=none\nopened\nfound fresh complete lock=none\nreport found=1 absent=3 bodies=1 bytes=1 tracked=3 weight=3 evicted=1\nrecency saved=1 failed=0\n",
             status: 0,
         },
-        after: DCB,
+        after: &[(FILE, DCB)],
+        count: 1,
     },
     Row {
-        before: Some(CUT),
+        before: &[(FILE, CUT)],
+        fails: Fails::Never,
+        way: Way::Whole,
         replay: Replay {
             limit: 1_000_000,
             shards: ShardCount::One,
@@ -153,120 +169,92 @@ const ROWS: &[Row] = &[
             written: b"recency loaded=0 missing=0 errored=1\nreport found=0 absent=0 bodies=0 bytes=0 tracked=1 weight=1 evicted=0\nrecency saved=1 failed=0\n",
             status: 0,
         },
-        after: B,
+        after: &[(FILE, B)],
+        count: 1,
     },
 ];
 
-fn is_put(folder: &mut MemFolder, file: Option<&[u8]>) -> bool {
-    match file {
-        Some(bytes) => folder.put(FILE, bytes).is_ok(),
-        None => true,
-    }
-}
-
-fn row_holds(alloc: Global, row: Row) -> bool {
-    let mut folder = MemFolder::new(alloc);
-    is_put(&mut folder, row.before)
-        && is_as_told(alloc, &mut folder, row.replay)
-        && has(&folder, FILE, row.after)
-        && counts(&mut folder, 1)
-}
-
 #[test]
 fn an_order_of_use_is_loaded_and_saved(rt: HostRuntime) {
-    for &row in ROWS {
-        assert!(rt; row_holds(rt.alloc(), row));
-    }
+    assert!(rt; all_hold(rt.alloc(), ROWS, false));
 }
 
-const NOT_SAVED: Replay = Replay {
-    limit: 1_000_000,
-    shards: ShardCount::One,
-    trace: b"",
-    written: b"recency loaded=0 missing=1 errored=0\nreport found=0 absent=0 bodies=0 bytes=0 tracked=0 weight=0 evicted=0\nrecency saved=0 failed=1\n",
-    status: 1,
-};
-
-// Where each rename fails, the new text stays under its temporary name.
-fn is_not_saved(alloc: Global) -> bool {
-    let mut folder = TestFolder::renames_fail(MemFolder::new(alloc));
-    let told = is_as_told(alloc, &mut folder, NOT_SAVED);
-    let mut left = folder.into_inner();
-    told && has(&left, TEMP, NONE) && counts(&mut left, 1)
-}
-
-const SAVED_BUT_ONE: Replay = Replay {
-    limit: 1_000_000,
-    shards: ShardCount::Four,
-    trace: b"",
-    written: b"recency loaded=0 missing=4 errored=0\nreport found=0 absent=0 bodies=0 bytes=0 tracked=0 weight=0 evicted=0\nrecency saved=3 failed=1\n",
-    status: 0,
-};
-
-// The tenth call is the first rename: one lists the directory, four look for files, one makes it, and three write the first text.
-fn is_saved_but_one(alloc: Global) -> bool {
-    let mut folder = TestFolder::fails_once(MemFolder::new(alloc), 10);
-    let told = is_as_told(alloc, &mut folder, SAVED_BUT_ONE);
-    let mut left = folder.into_inner();
-    told && has(&left, TEMP, NONE)
-        && has(&left, "dir/lru.data.1", NONE)
-        && has(&left, "dir/lru.data.3", NONE)
-        && counts(&mut left, 4)
-}
+// Where each rename fails, the new text stays under its temporary name. The tenth call is the first rename: one lists the directory,
+// four look for files, one makes it, and three write the first text.
+const NOT_SAVED: &[Row] = &[
+    Row {
+        before: &[],
+        fails: Fails::Renames,
+        way: Way::Whole,
+        replay: Replay {
+            limit: 1_000_000,
+            shards: ShardCount::One,
+            trace: b"",
+            written: b"recency loaded=0 missing=1 errored=0\nreport found=0 absent=0 bodies=0 bytes=0 tracked=0 weight=0 evicted=0\nrecency saved=0 failed=1\n",
+            status: 1,
+        },
+        after: &[(TEMP, NONE)],
+        count: 1,
+    },
+    Row {
+        before: &[],
+        fails: Fails::Once(10),
+        way: Way::Whole,
+        replay: Replay {
+            limit: 1_000_000,
+            shards: ShardCount::Four,
+            trace: b"",
+            written: b"recency loaded=0 missing=4 errored=0\nreport found=0 absent=0 bodies=0 bytes=0 tracked=0 weight=0 evicted=0\nrecency saved=3 failed=1\n",
+            status: 0,
+        },
+        after: &[
+            (TEMP, NONE),
+            ("dir/lru.data.1", NONE),
+            ("dir/lru.data.3", NONE),
+        ],
+        count: 4,
+    },
+];
 
 #[test]
 fn shards_that_are_not_saved_are_told(rt: HostRuntime) {
-    assert!(rt; is_not_saved(rt.alloc()));
-    assert!(rt; is_saved_but_one(rt.alloc()));
+    assert!(rt; all_hold(rt.alloc(), NOT_SAVED, false));
 }
 
-const STOPPED: Replay = Replay {
-    limit: 1_000_000,
-    shards: ShardCount::One,
-    trace: PUT_C,
-    written: b"recency loaded=1 missing=0 errored=0\nfinished 1 evicted=0\nreport found=0 absent=0 bodies=1 bytes=1 tracked=3 weight=3 evicted=0\nrecency saved=0 failed=1\n",
-    status: 1,
-};
-
-const NEXT: Row = Row {
-    before: None,
-    replay: Replay {
-        limit: 1_000_000,
-        shards: ShardCount::One,
-        trace: LOOK_ABC,
-        written: b"recency loaded=1 missing=0 errored=0\nopened\nabsent lock=none\nopened\nabsent lock=none\nopened\nabsent lock=none\nreport found=0 absent=3 bodies=0 bytes=0 tracked=2 weight=2 evicted=0\nrecency saved=1 failed=0\n",
-        status: 0,
+// A save that is stopped before its rename leaves the text that was there, and its own under another name. A replay after it goes
+// on from that, finds no key, and clears up.
+const STOPPED: &[Row] = &[
+    Row {
+        before: &[(FILE, BA)],
+        fails: Fails::After(7),
+        way: Way::Whole,
+        replay: Replay {
+            limit: 1_000_000,
+            shards: ShardCount::One,
+            trace: PUT_C,
+            written: b"recency loaded=1 missing=0 errored=0\nfinished 1 evicted=0\nreport found=0 absent=0 bodies=1 bytes=1 tracked=3 weight=3 evicted=0\nrecency saved=0 failed=1\n",
+            status: 1,
+        },
+        after: &[(FILE, BA), (TEMP, CBA)],
+        count: 2,
     },
-    after: BA,
-};
-
-// Whether a save that is stopped before its rename leaves the text that was there, and its own under another name.
-fn is_stopped(alloc: Global, folder: MemFolder) -> Option<MemFolder> {
-    let mut folder = TestFolder::stops_after(folder, 7, 0);
-    let told = is_as_told(alloc, &mut folder, STOPPED);
-    let left = folder.into_inner();
-    if told && has(&left, FILE, BA) && has(&left, TEMP, CBA) {
-        Some(left)
-    } else {
-        None
-    }
-}
-
-// Whether a replay after it goes on from that, finds no key, and clears up.
-fn goes_on(alloc: Global, folder: &mut MemFolder) -> bool {
-    is_as_told(alloc, folder, NEXT.replay) && has(folder, FILE, NEXT.after) && counts(folder, 1)
-}
-
-fn goes_on_after_a_stop(alloc: Global) -> bool {
-    let mut folder = MemFolder::new(alloc);
-    is_put(&mut folder, Some(BA))
-        && match is_stopped(alloc, folder) {
-            Some(mut left) => goes_on(alloc, &mut left),
-            None => false,
-        }
-}
+    Row {
+        before: &[],
+        fails: Fails::Never,
+        way: Way::Whole,
+        replay: Replay {
+            limit: 1_000_000,
+            shards: ShardCount::One,
+            trace: LOOK_ABC,
+            written: b"recency loaded=1 missing=0 errored=0\nopened\nabsent lock=none\nopened\nabsent lock=none\nopened\nabsent lock=none\nreport found=0 absent=3 bodies=0 bytes=0 tracked=2 weight=2 evicted=0\nrecency saved=1 failed=0\n",
+            status: 0,
+        },
+        after: &[(FILE, BA)],
+        count: 1,
+    },
+];
 
 #[test]
 fn a_stopped_save_leaves_the_order_before_it(rt: HostRuntime) {
-    assert!(rt; goes_on_after_a_stop(rt.alloc()));
+    assert!(rt; all_hold(rt.alloc(), STOPPED, true));
 }

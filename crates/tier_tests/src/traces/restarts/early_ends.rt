@@ -1,71 +1,120 @@
 //! Replays that end early, and what they leave in the folder.
-use super::{BA, CBA, FILE, NONE, PUT_C, STOPPED, TEMP, counts, has, is_put, options, status_of};
-use crate::traces::streams::{FailingReader, FailingWriter};
+use super::{BA, CBA, FILE, Fails, NONE, PUT_C, Row, TEMP, all_hold, leave};
+use crate::traces::played::{Replay, Way};
 use lru_files::persistence::MemFolder;
 use std::alloc::Global;
-use std::io::{Read, Write};
+use trace_replay::options::ShardCount;
 
-// A put over a directory with BA, and a temporary file that an earlier run left.
-fn folder_of_two(alloc: Global) -> Option<MemFolder> {
-    let mut folder = MemFolder::new(alloc);
-    if is_put(&mut folder, Some(BA)) && folder.put(TEMP, NONE).is_ok() {
-        Some(folder)
-    } else {
-        None
-    }
-}
+// A directory with BA, and a temporary file that an earlier run left.
+const TWO: &[(&str, &[u8])] = &[(FILE, BA), (TEMP, NONE)];
 
-// How a replay of a put ends over it, and what is in the directory then: one file.
-fn ends<R: Read, W: Write>(
-    alloc: Global,
-    reader: &mut R,
-    writer: &mut W,
-    end: u8,
-    after: &[u8],
-) -> bool {
-    match (options(alloc, STOPPED), folder_of_two(alloc)) {
-        (Ok(options), Some(mut folder)) => {
-            status_of(alloc, &mut folder, reader, writer, &options) == end
-                && has(&folder, FILE, after)
-                && counts(&mut folder, 1)
-        }
-        _ => false,
-    }
-}
+// A put over it: the first line comes before a read, and the answer before the next one.
+const UNREAD: Replay = Replay {
+    limit: 1_000_000,
+    shards: ShardCount::One,
+    trace: PUT_C,
+    written: b"recency loaded=1 missing=0 errored=0\nfinished 1 evicted=0\n",
+    status: 1,
+};
 
-// The first line comes before a read, and the answer before the next one.
-const BEFORE_THE_FAULT: &[u8] = b"recency loaded=1 missing=0 errored=0\nfinished 1 evicted=0\n";
+const READS: &[Row] = &[
+    Row {
+        before: TWO,
+        fails: Fails::Never,
+        way: Way::Reads(10),
+        replay: UNREAD,
+        after: &[(FILE, BA)],
+        count: 1,
+    },
+    Row {
+        before: TWO,
+        fails: Fails::Never,
+        way: Way::Reads(100_000),
+        replay: UNREAD,
+        after: &[(FILE, BA)],
+        count: 1,
+    },
+];
 
 #[test]
 fn a_fault_of_the_reader_saves_nothing(rt: HostRuntime) {
-    for at_once in [10, 100_000] {
-        let mut reader = FailingReader(PUT_C, at_once);
-        let mut written = Vec::new(rt.alloc());
-        assert!(rt; ends(rt.alloc(), &mut reader, &mut written, 1, BA));
-        assert!(rt; written.as_slice() == BEFORE_THE_FAULT);
-    }
+    assert!(rt; all_hold(rt.alloc(), READS, false));
 }
 
-// Until when there is room for the lines, of which the last reports the save, the exit status and the file.
-const ROOMS: &[(usize, u8, &[u8])] = &[
-    (0, 1, BA),
-    (37, 1, BA),
-    (127, 1, BA),
-    (128, 1, CBA),
-    (152, 1, CBA),
-    (153, 0, CBA),
+// All lines, of which the last reports the save.
+const LINES: &[u8] =
+    b"recency loaded=1 missing=0 errored=0\nfinished 1 evicted=0\nreport found=0 absent=0 bodies=1 bytes=1 tracked=3 weight=3 evicted=0\nrecency saved=1 failed=0\n";
+
+const UNWRITTEN: Replay = Replay {
+    limit: 1_000_000,
+    shards: ShardCount::One,
+    trace: PUT_C,
+    written: LINES,
+    status: 1,
+};
+
+const SAVED: Replay = Replay {
+    limit: 1_000_000,
+    shards: ShardCount::One,
+    trace: PUT_C,
+    written: LINES,
+    status: 0,
+};
+
+const WRITES: &[Row] = &[
+    Row {
+        before: TWO,
+        fails: Fails::Never,
+        way: Way::Writes(0, true),
+        replay: UNWRITTEN,
+        after: &[(FILE, BA)],
+        count: 1,
+    },
+    Row {
+        before: TWO,
+        fails: Fails::Never,
+        way: Way::Writes(37, true),
+        replay: UNWRITTEN,
+        after: &[(FILE, BA)],
+        count: 1,
+    },
+    Row {
+        before: TWO,
+        fails: Fails::Never,
+        way: Way::Writes(127, true),
+        replay: UNWRITTEN,
+        after: &[(FILE, BA)],
+        count: 1,
+    },
+    Row {
+        before: TWO,
+        fails: Fails::Never,
+        way: Way::Writes(128, true),
+        replay: UNWRITTEN,
+        after: &[(FILE, CBA)],
+        count: 1,
+    },
+    Row {
+        before: TWO,
+        fails: Fails::Never,
+        way: Way::Writes(152, true),
+        replay: UNWRITTEN,
+        after: &[(FILE, CBA)],
+        count: 1,
+    },
+    Row {
+        before: TWO,
+        fails: Fails::Never,
+        way: Way::Writes(153, true),
+        replay: SAVED,
+        after: &[(FILE, CBA)],
+        count: 1,
+    },
 ];
 
 #[test]
 fn a_fault_of_the_writer_saves_nothing_before_the_last_line(rt: HostRuntime) {
-    for &(room, end, after) in ROOMS {
-        let mut reader = PUT_C;
-        let mut writer = FailingWriter {
-            room,
-            flushes: true,
-        };
-        assert!(rt; ends(rt.alloc(), &mut reader, &mut writer, end, after));
-    }
+    assert!(rt; all_hold(rt.alloc(), WRITES, false));
 }
 
 const CB: &[u8] =
@@ -74,24 +123,22 @@ const CB: &[u8] =
 const C: &[u8] =
     b"\x91\x92\x93\xdc\x00\x10\xcc\xca\xcc\xec\x17\xcc\xf4\xcc\xb8\x15\xcc\x9dHl\xcc\xa3R \xcc\x9a\x0f\xcc\xc2\xcc\xd5\xc0\xa0\x01";
 
+const ROOMY: Row = Row {
+    before: TWO,
+    fails: Fails::Never,
+    way: Way::Writes(1_000, true),
+    replay: SAVED,
+    after: &[],
+    count: 1,
+};
+
 // Whether a file has the text of before, or one of the run: after a load that was refused memory, which counts as errored, the run
 // has the rows before the refusal.
-fn is_whole(folder: &MemFolder) -> bool {
-    has(folder, FILE, BA) || has(folder, FILE, CBA) || has(folder, FILE, CB) || has(folder, FILE, C)
-}
-
 fn leaves_a_whole_text(alloc: Global) -> bool {
-    let mut writer = FailingWriter {
-        room: 1_000,
-        flushes: true,
-    };
-    let mut reader = PUT_C;
-    match (options(alloc, STOPPED), folder_of_two(alloc)) {
-        (Ok(options), Some(mut folder)) => {
-            let _ = status_of(alloc, &mut folder, &mut reader, &mut writer, &options);
-            is_whole(&folder)
-        }
-        _ => true,
+    let (played, left) = leave(alloc, MemFolder::new(alloc), &ROOMY);
+    match left.bytes(FILE) {
+        Some(bytes) => bytes == BA || bytes == CBA || bytes == CB || bytes == C,
+        None => played.is_none(),
     }
 }
 
