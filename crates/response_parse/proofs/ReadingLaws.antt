@@ -1,6 +1,6 @@
 -- Readings of responses: a head that the parser's default options read or begin to read has one; what is read whatever more comes.
 use Rattle.std.proofs.Common.{◌≡◌, ℕ, ◌≤◌, ◌<◌, true, List, [], ◌++◌, length, map, take, drop, refl, ap, ap₂, sym, ◌∙◌, subst, cond, arith, length-append, append_assoc, append-nil, inl, inr}
-use Rattle.std.specs.Prelude.{◌≢◌, ◌==◌, ◌&&◌, ◌||◌, not, false, ◌∷◌, ◌⊎◌, All, Bool, nat_le, Option, Some, None}
+use Rattle.std.specs.Prelude.{◌≢◌, ◌==◌, ◌&&◌, ◌||◌, not, false, ◌∷◌, ◌⊎◌, Bool, nat_le, Option, Some, None}
 use Rattle.std.proofs.lemmas.Bool.{cases_lt, cases_Bool}
 use Rattle.std.proofs.lemmas.List.{take-append-le, take-append-drop}
 use Rattle.std.proofs.Math.Seq.{take-append_seam}
@@ -10,7 +10,7 @@ use Rattle.httparse.specs.Grammar.{ResponseHead, ReadsResponse, HasNoResponse, N
 use Rattle.httparse.specs.Spans.{name_and_value, ResponseOverflows}
 use Rattle.httparse.proofs.GrammarLemmas.{response_unique, response_prefix_free}
 use Rattle.response_parse.specs.declared.response.Parsed.TheVariants.{Incomplete, BadHead}
-use Rattle.response_parse.specs.Response.{IsPlain, IsWellFormed, is_within_bounds, body_length, parsed_by_body, parsed_by_lines, line_from, first_line, BeginsNoHead, HasStatus, IsLineIn, IsLenientHead, IsLenientReading, Reading, whole_head, begun_head, no_head, IsReading, parsed_of}
+use Rattle.response_parse.specs.Response.{IsPlain, IsWellFormed, is_within_bounds, body_length, parsed_by_body, parsed_by_lines, line_from, first_line, BeginsNoHead, HasStatus, IsLenientHead, IsLenientReading, Reading, whole_head, begun_head, no_head, IsReading, parsed_of}
 
 -- a head that stands whole in the first part of some bytes is read there
 pub read_front : (bytes more : List ℕ) (h : ResponseHead) (rest : List ℕ) → ReadsResponse (bytes ++ more) h rest → length (print_response h) ≤ length bytes → ReadsResponse bytes h (drop (length (print_response h)) bytes)

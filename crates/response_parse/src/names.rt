@@ -10,24 +10,38 @@ use http_header::{
 };
 use std::alloc::Global;
 
+// The name in lower case, as it is given, if a name is written like the text.
+fn as_written(name: &[u8], text: &[u8], lower: HeaderName) -> Option<HeaderName>
+    requires lower { lower ≡ lowercase text.now }
+    requires short { length text.now ≤ 65535 }
+    ensures value { IfSome result (λ usual. usual ≡ lowercase name.now) }
+    ensures short { OnSome result (length name.now ≤ 65535) }
+{
+    if name == text { Some(lower) } else { None }
+}
+
 // The name in lower case, if it is one that most heads have, as most servers write it: then no other is tried.
 fn usual_name(name: &[u8]) -> Option<HeaderName>
     ensures value { IfSome result (λ usual. usual ≡ lowercase name.now) }
     ensures short { OnSome result (length name.now ≤ 65535) }
 {
-    match name {
-        b"Age" => Some(AGE),
-        b"Date" => Some(DATE),
-        b"ETag" => Some(ETAG),
-        b"Vary" => Some(VARY),
-        b"Server" => Some(SERVER),
-        b"Expires" => Some(EXPIRES),
-        b"Connection" => Some(CONNECTION),
-        b"Content-Type" => Some(CONTENT_TYPE),
-        b"Accept-Ranges" => Some(ACCEPT_RANGES),
-        b"Cache-Control" => Some(CACHE_CONTROL),
-        b"Last-Modified" => Some(LAST_MODIFIED),
-        b"Content-Length" => Some(CONTENT_LENGTH),
+    match name.len() {
+        3 => as_written(name, b"Age", AGE),
+        4 => match name[0] {
+            b'D' => as_written(name, b"Date", DATE),
+            b'E' => as_written(name, b"ETag", ETAG),
+            _ => as_written(name, b"Vary", VARY),
+        },
+        6 => as_written(name, b"Server", SERVER),
+        7 => as_written(name, b"Expires", EXPIRES),
+        10 => as_written(name, b"Connection", CONNECTION),
+        12 => as_written(name, b"Content-Type", CONTENT_TYPE),
+        13 => match name[0] {
+            b'A' => as_written(name, b"Accept-Ranges", ACCEPT_RANGES),
+            b'C' => as_written(name, b"Cache-Control", CACHE_CONTROL),
+            _ => as_written(name, b"Last-Modified", LAST_MODIFIED),
+        },
+        14 => as_written(name, b"Content-Length", CONTENT_LENGTH),
         _ => None,
     }
 }

@@ -1,4 +1,4 @@
-use Rattle.std.proofs.Common.{◌≡◌, ◌∙◌, sym}
+use Rattle.std.proofs.Common.{◌∙◌, sym}
 use Rattle.http_header.specs.Token.{lowercase}
 use Rattle.response_parse.specs.Heads.{unfolded_line}
 use Rattle.response_parse.proofs.HeadLaws.{names-more, values-more, map_of-more, short-more}
