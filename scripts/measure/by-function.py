@@ -1,11 +1,12 @@
 #!/usr/bin/env python3
-"""Prints what a crate's proof took, by function and by kind of the prover's modules, in seconds of the clock:
+"""Prints what a crate's proof took, by function and by kind of the prover's modules, in seconds of the clock and in megabytes:
 
     (cd crates/NAME && rm -rf out/incremental && rt check --jobs 1)      # with --test for a crate of tests
     python3 scripts/measure/by-function.py NAME [ROWS]
 
 A check keeps each module that it proved as a file of out/incremental. With one job it writes them one after another, so a module took about
-the time since the one before it. That is a guide, not a measurement: checks beside it count too. Unlike dearest.sh it costs no further check."""
+the time since the one before it. That is a guide, not a measurement: checks beside it count too. The sizes of these files are the same on each
+machine, and grow as the prover's work does: compare changes by them. Unlike dearest.sh it costs no further check."""
 import os
 import re
 import sys
@@ -17,10 +18,13 @@ KINDS = ("Answers", "Code", "Given", "Goals", "Key", "Kinds", "Layout", "Link", 
 
 
 def modules_of(crate):
-    """The kept modules of a crate, in the order in which they were written: the time of each, and its name."""
+    """The kept modules of a crate, in the order in which they were written: the time, the name and the size of each."""
     found = []
     for at, _, names in os.walk(os.path.join(TOP, "crates", crate, "out", "incremental")):
-        found += [(os.lstat(os.path.join(at, name)).st_mtime_ns, name) for name in names if name.endswith(".oantt")]
+        for name in names:
+            if name.endswith(".oantt"):
+                file = os.lstat(os.path.join(at, name))
+                found.append((file.st_mtime_ns, name, file.st_size))
     return sorted(found)
 
 
@@ -39,16 +43,17 @@ def main(words):
     if not modules:
         sys.exit(f"nothing is kept of {words[0]}: check it first")
     rows = int(words[1]) if len(words) > 1 else 20
-    functions, kinds, before = Counter(), Counter(), modules[0][0]
-    for time, name in modules:
+    functions, kinds, sizes, before = Counter(), Counter(), Counter(), modules[0][0]
+    for time, name, size in modules:
         function, kind = function_and_kind(words[0], name)
         functions[function, kind] += time - before
         kinds[kind] += time - before
+        sizes[function, kind] += size
         before = time
-    print(f"{words[0]}: {sum(kinds.values()) / 1e9:.0f} s, {len(modules)} modules")
-    print("by kind: " + ", ".join(f"{kind} {took / 1e9:.0f}" for kind, took in kinds.most_common(8)))
+    print(f"{words[0]}: {sum(kinds.values()) / 1e9:.0f} s, {len(modules)} modules of {sum(sizes.values()) / 1e6:.0f} MB")
+    print("seconds by kind: " + ", ".join(f"{kind} {took / 1e9:.0f}" for kind, took in kinds.most_common(8)))
     for (function, kind), took in functions.most_common(rows):
-        print(f"{took / 1e9:8.1f}  {kind:9} {function}")
+        print(f"{took / 1e9:8.1f} s {sizes[function, kind] / 1e6:6.1f} MB  {kind:9} {function}")
 
 
 if __name__ == "__main__":

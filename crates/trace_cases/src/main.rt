@@ -4,9 +4,9 @@
 #![tactic(auto)]
 
 use lru_core::SeededState;
+use replay_options::options::options;
 use std::fs::{self, Files};
 use std::io;
-use trace_replay::options::options;
 use trace_replay::replay::run;
 
 const HASHER: SeededState = SeededState { word: 0 };

@@ -3,6 +3,5 @@ pub mod InputLemmas
 pub mod WindowLemmas
 pub mod OutputLemmas
 pub mod Progress
-pub mod OptionLemmas
 pub mod DrawLaws
 pub mod RestartLaws

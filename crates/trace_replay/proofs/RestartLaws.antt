@@ -22,9 +22,9 @@ use Rattle.tier_model.specs.Shelf.{Readers}
 use Rattle.tier_model.specs.Started.{IsNew}
 use Rattle.tier_model.specs.State.{Request, Settings, State, empty_state}
 use Rattle.cache_tier.specs.Restarts.{SavesOrder, LoadsOrder}
-use Rattle.trace_replay.specs.declared.options.ReplayOptions.{ReplayOptions}
+use Rattle.replay_options.specs.declared.options.ReplayOptions.{ReplayOptions}
 use Rattle.trace_replay.specs.declared.replay.ReplayError.{ReplayError}
-use Rattle.trace_replay.specs.CommandLine.{settings_over}
+use Rattle.trace_replay.specs.Starts.{settings_over}
 use Rattle.trace_lines.specs.declared.line.Line.{Line}
 use Rattle.trace_replay.specs.Outputs.{HasBegun}
 use Rattle.trace_replay.specs.Replays.{EndsReplay, IsBegun, Start, ended, requests_in}

@@ -1,6 +1,6 @@
 pub mod Replays
 pub mod Steps
-pub mod CommandLine
+pub mod Starts
 pub mod Statuses
 pub mod Errors
 pub mod Inputs

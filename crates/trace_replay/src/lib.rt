@@ -1,8 +1,7 @@
-//! Replaying a trace of a cache tier's events: the options, the run and the exit status of the program.
+//! Replaying a trace of a cache tier's events: the run and the exit status of the program.
 #![tactic(auto)]
 
 mod input;
-pub mod options;
 mod output;
 pub mod replay;
 pub mod restart;

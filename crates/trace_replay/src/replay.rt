@@ -8,7 +8,7 @@ ghost use Rattle.tier_model.specs.Reports.{report_of};
 ghost use Rattle.tier_model.specs.State.{empty_state};
 ghost use Rattle.trace_lines.specs.Lines.{line_of};
 ghost use Rattle.trace_lines.specs.Texts.{report_text};
-ghost use Rattle.trace_replay.specs.CommandLine.{settings_over, start_over, start_of};
+ghost use Rattle.trace_replay.specs.Starts.{settings_over, start_over, start_of};
 ghost use Rattle.trace_replay.specs.Replays.{requests_in, lines_in, ended, Start, EndsReplay, IsReplay, IsBegun};
 ghost use Rattle.trace_replay.specs.Words.{pcg_words};
 ghost use Rattle.trace_replay.specs.Errors.{IsOther};
@@ -18,13 +18,13 @@ ghost use Rattle.trace_replay.specs.declared.replay.ReplayError.TheVariants.{Mem
 ghost use Rattle.trace_replay.specs.Steps.{Answers};
 
 use crate::input::Input;
-use crate::options::{ReplayOptions, ShardCount};
 use crate::output::hand_on;
 use cache_tier::tier::Tier;
 use cache_words::time::Duration;
 use lru_core::SeededState;
 use rand_core::{Rng, SeedableRng};
 use rand_pcg::Pcg64;
+use replay_options::options::{ReplayOptions, ShardCount};
 use std::alloc::{AllocError, AllocFailed, Global};
 use std::io;
 use std::io::{Read, Write};

@@ -2,9 +2,8 @@
 ghost use Rattle.std.specs.Prelude.{◌≡◌};
 ghost use Rattle.trace_replay.specs.Statuses.{status_of, fault_status};
 
-use crate::options::OptionsError;
 use crate::replay::ReplayError;
-use clap::error::ErrorKind;
+use replay_options::options::OptionsError;
 use std::alloc::AllocError;
 use std::io;
 use thiserror::Error;
@@ -40,12 +39,6 @@ pub fn status(outcome: &Result<(), Fault>) -> u8
     match outcome {
         Ok(()) => 0,
         Err(Fault::Replay(_)) => 1,
-        Err(Fault::Options(OptionsError::Memory)) => 1,
-        Err(Fault::Options(OptionsError::NoLimit)) => 2,
-        Err(Fault::Options(OptionsError::WrongValue(_, _) | OptionsError::NotUtf8(_))) => 2,
-        Err(Fault::Options(OptionsError::CommandLine(error))) => match error.kind() {
-            ErrorKind::DisplayHelp | ErrorKind::DisplayVersion => 0,
-            _ => 2,
-        },
+        Err(Fault::Options(error)) => error.status(),
     }
 }

@@ -9,11 +9,11 @@ use Rattle.entry_loads.specs.Finds.{IsFront}
 use Rattle.tier_model.specs.declared.event.TierFault.{TierFault}
 use Rattle.tier_model.specs.State.{Settings, State, empty_state}
 use Rattle.tier_loads.specs.Requests.{PlainRequest}
-use Rattle.two_tiers.specs.Serves.{Serves}
+use Rattle.served_requests.specs.Serves.{Serves}
 use Rattle.two_tiers.specs.Two.{ServesBoth, Stops, RunsTwo, AreComparable, AreUniform, AreFound, FindsByLoads, pairs_of, all_seen}
 use Rattle.tier_loads.specs.Uniform.{weight_in}
-use Rattle.two_tiers.specs.declared.request.Request.{Request}
-use Rattle.two_tiers.specs.declared.request.Served.{Served}
+use Rattle.served_requests.specs.declared.request.Request.{Request}
+use Rattle.served_requests.specs.declared.request.Served.{Served}
 use Rattle.two_tiers.specs.declared.side_by_side.Pair.{Pair}
 use Rattle.two_tiers.specs.declared.side_by_side.Side.TheVariants.{Lesser, Greater}
 use Rattle.two_tiers.specs.declared.side_by_side.Stopped.{Stopped}

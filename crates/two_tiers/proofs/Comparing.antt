@@ -21,12 +21,12 @@ use Rattle.tier_loads.specs.Uniform as plain
 use Rattle.tier_loads.proofs.OneRequest.{holds-request}
 use Rattle.tier_loads.proofs.AllRequests.{uniform-held}
 use Rattle.tier_loads.proofs.Chosen.{chosen-uniform}
-use Rattle.two_tiers.specs.Requests.{entry_for, step_for}
+use Rattle.served_requests.specs.Requests.{entry_for, step_for}
 use Rattle.two_tiers.specs.Uniform.{AreSame, IsAlike, IsUniform, IsSeenAs, AreSeenAs, IsPlain, length_of}
-use Rattle.two_tiers.specs.Leaves.{Leaves}
+use Rattle.served_requests.specs.Leaves.{Leaves}
 use Rattle.two_tiers.specs.Two.{ServesBoth, AreComparable, AreUniform, found_by, all_seen, AreFound}
-use Rattle.two_tiers.specs.declared.request.Request.{Request}
-use Rattle.two_tiers.specs.declared.request.Served.{Served}
+use Rattle.served_requests.specs.declared.request.Request.{Request}
+use Rattle.served_requests.specs.declared.request.Served.{Served}
 use Rattle.two_tiers.specs.declared.side_by_side.Pair.{Pair}
 use Rattle.two_tiers.proofs.Doing.{done}
 

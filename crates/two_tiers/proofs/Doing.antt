@@ -26,17 +26,17 @@ use Rattle.tier_model.specs.State.{State, shards_of}
 use Rattle.tier_model.specs.Answers.{IsPutAnswer}
 use Rattle.tier_model.specs.After.{after_purge, after_put, with_counts}
 use Rattle.tier_loads.specs.Requests.{PlainRequest, asks, purges, Stores, Uses, Does, entry_of as plain_entry, step_of}
-use Rattle.two_tiers.specs.Requests.{step_for, step_by}
+use Rattle.served_requests.specs.Requests.{step_for, step_by}
 use Rattle.two_tiers.specs.Uniform.{asks_for, IsSeenBy, IsSeenAs, IsPlainBy, IsPlain}
-use Rattle.two_tiers.specs.Courses.{IsPutTold}
-use Rattle.two_tiers.specs.Leaves.{found_at, looked_up, LeavesPut, LeavesGet, LeavesPurge, LeavesBy, Leaves}
+use Rattle.served_requests.specs.Courses.{IsPutTold}
+use Rattle.served_requests.specs.Leaves.{found_at, looked_up, LeavesPut, LeavesGet, LeavesPurge, LeavesBy, Leaves}
 use Rattle.two_tiers.specs.Two.{found_by}
-use Rattle.two_tiers.specs.declared.request.Request.{Request}
-use Rattle.two_tiers.specs.declared.request.Method.{Method}
-use Rattle.two_tiers.specs.declared.request.Method.TheVariants.{Get, Purge}
-use Rattle.two_tiers.specs.declared.request.Served.{Served}
-use Rattle.two_tiers.specs.declared.request.Served.TheVariants.{Hit, Filled, Purged}
-use Rattle.two_tiers.proofs.Calls.{IsCall, said}
+use Rattle.served_requests.specs.declared.request.Request.{Request}
+use Rattle.served_requests.specs.declared.request.Method.{Method}
+use Rattle.served_requests.specs.declared.request.Method.TheVariants.{Get, Purge}
+use Rattle.served_requests.specs.declared.request.Served.{Served}
+use Rattle.served_requests.specs.declared.request.Served.TheVariants.{Hit, Filled, Purged}
+use Rattle.served_requests.proofs.Calls.{IsCall, said}
 
 told_same : {a b : Served} → ◌≡◌ {A = Result Served TierFault} (Ok a) (Ok b) → a ≡ b
 told_same e = cc

@@ -1,10 +1,3 @@
-pub mod Requests
-pub mod Readers
-pub mod Took
-pub mod Calls
-pub mod Looking
-pub mod LookedUp
-pub mod Serving
 pub mod Alike
 pub mod Lengths
 pub mod Seeing

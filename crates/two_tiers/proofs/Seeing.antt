@@ -13,9 +13,9 @@ use Rattle.tier_loads.specs.Requests.{PlainRequest, purges}
 use Rattle.two_tiers.specs.Uniform.{asks_for, IsSeenBy, IsSeenAs}
 use Rattle.two_tiers.specs.Known.{shown, stored_length}
 use Rattle.two_tiers.specs.declared.seen.Seen.{Seen}
-use Rattle.two_tiers.specs.declared.request.Request.{Request}
-use Rattle.two_tiers.specs.declared.request.Method.{Method}
-use Rattle.two_tiers.specs.declared.request.Method.TheVariants.{Get, Purge}
+use Rattle.served_requests.specs.declared.request.Request.{Request}
+use Rattle.served_requests.specs.declared.request.Method.{Method}
+use Rattle.served_requests.specs.declared.request.Method.TheVariants.{Get, Purge}
 
 -- a key as it is kept is the one that it was made from
 entry-is : (c : Entry) (k : CacheKeyValue) → compact_view c ≡ key_of k → c ≡ entry_of k

@@ -1,8 +1,3 @@
-pub mod Requests
 pub mod Uniform
 pub mod Known
-pub mod Courses
-pub mod Leaves
-pub mod Serves
-pub mod Looks
 pub mod Two

@@ -11,13 +11,13 @@ use Rattle.tier_model.specs.declared.event.TierFault.{TierFault}
 use Rattle.tier_model.specs.State.{Settings, State}
 use Rattle.tier_loads.specs.Requests.{PlainRequest}
 use Rattle.tier_loads.specs.Uniform.{weight_in}
-use Rattle.two_tiers.specs.Requests.{entry_for, step_for}
-use Rattle.two_tiers.specs.Courses.{no_memory}
-use Rattle.two_tiers.specs.Serves.{Serves}
+use Rattle.served_requests.specs.Requests.{entry_for, step_for}
+use Rattle.tier_requests.specs.Faults.{out_of_memory}
+use Rattle.served_requests.specs.Serves.{Serves}
 use Rattle.two_tiers.specs.Uniform.{AreSeenAs, IsUniform, IsPlain}
-use Rattle.two_tiers.specs.declared.request.Request.{Request}
-use Rattle.two_tiers.specs.declared.request.Served.{Served}
-use Rattle.two_tiers.specs.declared.request.Served.TheVariants.{Hit, Filled, Passed, Purged}
+use Rattle.served_requests.specs.declared.request.Request.{Request}
+use Rattle.served_requests.specs.declared.request.Served.{Served}
+use Rattle.served_requests.specs.declared.request.Served.TheVariants.{Hit, Filled, Passed, Purged}
 use Rattle.two_tiers.specs.declared.side_by_side.Pair.{Pair}
 use Rattle.two_tiers.specs.declared.side_by_side.Side.{Side}
 use Rattle.two_tiers.specs.declared.side_by_side.Side.TheVariants.{Lesser, Greater}
@@ -39,7 +39,7 @@ StopsBy (Some Greater) l g s r f l' g' rest = (told : Served) × (left : Stream)
 
 abbrev pub Stops : State → State → Stream → List Request → Stopped → State → State → Stream → Type 0
 Stops l g s requests stopped l' g' rest =
-    ((stopped.side ≡ None) × (stopped.fault ≡ no_memory) × (stopped.pairs.items ≡ []) × (l' ≡ l) × (g' ≡ g) × (rest ≡ s))
+    ((stopped.side ≡ None) × (stopped.fault ≡ out_of_memory) × (stopped.pairs.items ≡ []) × (l' ≡ l) × (g' ≡ g) × (rest ≡ s))
     ⊎ ((done : List Request) × (r : Request) × (more : List Request) × (l1 : State) × (g1 : State) × (left : Stream) × (requests ≡ done ++ r ∷ more)
     × ServesBoth l g s done stopped.pairs.items l1 g1 left × StopsBy stopped.side l1 g1 left r stopped.fault l' g' rest)
 

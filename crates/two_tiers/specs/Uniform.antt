@@ -11,9 +11,9 @@ use Rattle.tier_model.specs.declared.whole.Whole.TheVariants.{Stored}
 use Rattle.tier_model.specs.Keys.{Entry, entry_of}
 use Rattle.tier_model.specs.Response.{whole_of}
 use Rattle.tier_loads.specs.Requests.{PlainRequest, asks, purges, entry_of as plain_entry}
-use Rattle.two_tiers.specs.declared.request.Request.{Request}
-use Rattle.two_tiers.specs.declared.request.Method.{Method}
-use Rattle.two_tiers.specs.declared.request.Method.TheVariants.{Get, Purge}
+use Rattle.served_requests.specs.declared.request.Request.{Request}
+use Rattle.served_requests.specs.declared.request.Method.{Method}
+use Rattle.served_requests.specs.declared.request.Method.TheVariants.{Get, Purge}
 
 -- a request for a body that a response gives, where it is stored
 abbrev pub asks_for : Entry → Whole → Option PlainRequest

@@ -7,9 +7,9 @@ ghost use Rattle.two_tiers.specs.Uniform.{IsSeenAs};
 ghost use Rattle.two_tiers.specs.Known.{shown, fits, fits_all, fitting, AreNoted, Knows};
 
 use crate::length::stored_length;
-use crate::request::{Method, Request};
 use cache_entries::entry::CacheEntryKey;
 use cache_words::key::{CacheHashKey, HashBinary};
+use served_requests::{Method, Request};
 use std::alloc::{AllocError, Global};
 use std::collections::HashMap;
 use std::hash::BuildHasher;

@@ -6,11 +6,11 @@ ghost use Rattle.tier_model.specs.State.{Settings, empty_state};
 ghost use Rattle.tier_loads.specs.Requests.{PlainRequest};
 ghost use Rattle.two_tiers.specs.Two.{RunsTwo, AreComparable, AreUniform, FindsByLoads, pairs_of};
 
-use crate::request::{Request, Served};
-use crate::serve::{Serve, no_memory};
 use rand_core::Rng;
+use served_requests::{Request, Serve, Served};
 use std::alloc::Global;
 use tier_model::event::TierFault;
+use tier_requests::faults::out_of_memory;
 
 /// What both tiers answered to one request.
 #[derive(PartialEq, Eq, Debug, Drop)]
@@ -50,7 +50,7 @@ fn run_both<L: Serve, G: Serve, R: Rng>(
     let Ok(mut pairs) = Vec::with_capacity(alloc, requests.len()) else {
         return Err(Stopped {
             pairs: Vec::new(alloc),
-            fault: no_memory(alloc),
+            fault: out_of_memory(alloc),
             side: None,
         });
     };

@@ -3,8 +3,8 @@ ghost use Rattle.std.specs.Prelude.{◌↔◌, IfOk, IsTrue, List, Option};
 ghost use Rattle.tier_loads.specs.Requests.{PlainRequest};
 ghost use Rattle.two_tiers.specs.Uniform.{AreSeenAs, IsUniform};
 
-use crate::request::Request;
 use crate::seen::{Table, note_next, see};
+use served_requests::Request;
 use std::alloc::{AllocError, Global};
 use std::collections::HashMap;
 use std::hash::BuildHasher;

@@ -1,7 +1,7 @@
 //! Requests from a table.
 use cache_tier::{Bytes, CacheKey, Moment};
+use served_requests::{Method, Request};
 use std::alloc::{AllocError, Global};
-use two_tiers::{Method, Request};
 
 /// The number that a word is, or 0.
 pub fn number(word: &str) -> u64 {

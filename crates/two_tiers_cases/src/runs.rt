@@ -4,9 +4,10 @@ use cache_tier::{Duration, Tier};
 use lru_core::SeededState;
 use rand_core::SeedableRng;
 use rand_pcg::Pcg64;
+use served_requests::{Request, Served};
 use std::alloc::{AllocError, Global};
 use std::fmt::Write;
-use two_tiers::{Pair, Request, Served, run_two, uniform};
+use two_tiers::{Pair, run_two, uniform};
 
 type OneShard = Tier<1, SeededState>;
 

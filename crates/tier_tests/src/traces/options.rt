@@ -1,6 +1,6 @@
 //! The command line: what is read from it, the exit status and the text of a fault.
+use replay_options::options::{OptionsError, ReplayOptions, ShardCount, options};
 use std::alloc::{AllocError, Global};
-use trace_replay::options::{OptionsError, ReplayOptions, ShardCount, options};
 use trace_replay::replay::ReplayError;
 use trace_replay::status::{Fault, status};
 

@@ -1,10 +1,10 @@
 //! Replays by a reader and a writer that may fail, over a folder or over none.
 use lru_core::SeededState;
 use lru_files::persistence::TestFolder;
+use replay_options::options::{ReplayOptions, ShardCount};
 use std::alloc::{AllocError, Global};
 use std::cell::Cell;
 use std::io::{self, Read, Write};
-use trace_replay::options::{ReplayOptions, ShardCount};
 use trace_replay::replay::{ReplayError, run};
 use trace_replay::restart::run_in;
 use trace_replay::status::{Fault, status};

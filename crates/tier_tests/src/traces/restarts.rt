@@ -4,8 +4,8 @@ mod early_ends;
 use crate::traces::played::{Played, Replay, Way, play};
 use lru_core::SeededState;
 use lru_files::persistence::{Folder, MemFolder, TestFolder};
+use replay_options::options::ShardCount;
 use std::alloc::Global;
-use trace_replay::options::ShardCount;
 
 const HASHER: SeededState = SeededState { word: 3 };
 

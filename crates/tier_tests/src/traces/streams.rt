@@ -1,8 +1,8 @@
 //! Readers and writers that fail or wait, and memory that runs out, in mid-stream.
 use crate::traces::played::{Replay, Way, play};
 use lru_core::SeededState;
+use replay_options::options::ShardCount;
 use std::alloc::Global;
-use trace_replay::options::ShardCount;
 
 // Whether a trace goes as told in each way.
 fn all_hold(alloc: Global, word: u64, replay: Replay<'_>, ways: &[Way]) -> bool {

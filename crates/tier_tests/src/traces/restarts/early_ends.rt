@@ -2,8 +2,8 @@
 use super::{BA, CBA, FILE, Fails, NONE, PUT_C, Row, TEMP, all_hold, leave};
 use crate::traces::played::{Replay, Way};
 use lru_files::persistence::MemFolder;
+use replay_options::options::ShardCount;
 use std::alloc::Global;
-use trace_replay::options::ShardCount;
 
 // A directory with BA, and a temporary file that an earlier run left.
 const TWO: &[(&str, &[u8])] = &[(FILE, BA), (TEMP, NONE)];

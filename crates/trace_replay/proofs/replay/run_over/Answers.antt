@@ -1,6 +1,6 @@
 use Rattle.std.proofs.Common.{ap}
 use Rattle.std.proofs.lemmas.Result.{on_ok_weaker}
-use Rattle.trace_replay.specs.CommandLine.{start_over}
+use Rattle.trace_replay.specs.Starts.{start_over}
 use Rattle.trace_replay.specs.Words.{pcg_words}
 use Rattle.trace_replay.proofs.OutputLemmas.{on_err}
 use Rattle.trace_replay.proofs.Progress.{cut_at_start, done_is_replay}

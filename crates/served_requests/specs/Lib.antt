@@ -1,0 +1,5 @@
+pub mod Requests
+pub mod Courses
+pub mod Leaves
+pub mod Serves
+pub mod Looks
