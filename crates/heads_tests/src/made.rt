@@ -1,4 +1,4 @@
-//! Heads that tests make, and texts that they compare. `None` is where memory is refused.
+//! Heads that tests make, and texts that they compare. `None`, or `false`, is where memory is refused.
 use cache_headers::ResponseHeader;
 use http::StatusCode;
 use http_header::{HeaderMap, HeaderName, HeaderValue};
@@ -7,27 +7,48 @@ use std::alloc::{AllocError, Global};
 /// A name and a value.
 pub type Field = (&'static str, &'static [u8]);
 
-pub fn add(alloc: Global, headers: &mut HeaderMap, name: &str, line: &[u8]) -> Option<()> {
-    let name = HeaderName::from_bytes(alloc, name.as_bytes()).ok()?;
-    let value = HeaderValue::from_bytes(alloc, line).ok()?;
-    headers.append(name, value).ok()?;
-    Some(())
+fn append(alloc: Global, headers: &mut HeaderMap, name: HeaderName, line: &[u8]) -> bool {
+    match HeaderValue::from_bytes(alloc, line) {
+        Ok(value) => headers.append(name, value).is_ok(),
+        Err(_) => false,
+    }
+}
+
+pub fn add(alloc: Global, headers: &mut HeaderMap, name: &str, line: &[u8]) -> bool {
+    match HeaderName::from_bytes(alloc, name.as_bytes()) {
+        Ok(name) => append(alloc, headers, name, line),
+        Err(_) => false,
+    }
+}
+
+fn add_all(alloc: Global, headers: &mut HeaderMap, lines: &[(&str, &[u8])]) -> bool {
+    for (name, line) in lines {
+        if !add(alloc, headers, name, line) {
+            return false;
+        }
+    }
+    true
 }
 
 /// A map of these lines.
 pub fn fields(alloc: Global, lines: &[(&str, &[u8])]) -> Option<HeaderMap> {
     let mut headers = HeaderMap::new(alloc);
-    for (name, line) in lines {
-        add(alloc, &mut headers, name, line)?;
+    if add_all(alloc, &mut headers, lines) {
+        Some(headers)
+    } else {
+        None
     }
-    Some(headers)
 }
 
 /// A head of status 200 with these lines.
 pub fn head(alloc: Global, lines: &[(&str, &[u8])]) -> Option<ResponseHeader> {
-    let headers = fields(alloc, lines)?;
-    let status = StatusCode::OK;
-    Some(ResponseHeader { status, headers })
+    match fields(alloc, lines) {
+        Some(headers) => Some(ResponseHeader {
+            status: StatusCode::OK,
+            headers,
+        }),
+        None => None,
+    }
 }
 
 /// A head of status 200 with one line.
