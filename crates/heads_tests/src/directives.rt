@@ -15,20 +15,13 @@ pub const UNREADABLE: Error = Error {
     etype: ErrorType::InternalError,
 };
 
-fn add_lines(alloc: Global, headers: &mut HeaderMap, lines: &[&[u8]]) -> bool {
-    for line in lines {
-        if !add(alloc, headers, "cache-control", line) {
-            return false;
-        }
-    }
-    true
-}
-
 // The directives of these lines; `None` where memory is refused.
 pub fn control(alloc: Global, lines: &[&[u8]]) -> Option<CacheControl> {
     let mut headers = HeaderMap::new(alloc);
-    if !add_lines(alloc, &mut headers, lines) {
-        return None;
+    for line in lines {
+        if !add(alloc, &mut headers, "cache-control", line) {
+            break;
+        }
     }
     CacheControl::from_headers_named(alloc, "Cache-Control", &headers).unwrap_or(None)
 }

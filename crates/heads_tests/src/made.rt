@@ -1,4 +1,5 @@
-//! Heads that tests make, and texts that they compare. `None`, or `false`, is where memory is refused.
+//! Heads that tests make, and texts that they compare. Where memory is refused a head lacks its last lines, so what is asserted of
+//! it fails, or the test of a refusal sees that it does.
 use cache_headers::ResponseHeader;
 use http::StatusCode;
 use http_header::{HeaderMap, HeaderName, HeaderValue};
@@ -7,6 +8,7 @@ use std::alloc::{AllocError, Global};
 /// A name and a value.
 pub type Field = (&'static str, &'static [u8]);
 
+// Returns whether there was memory.
 fn append(alloc: Global, headers: &mut HeaderMap, name: HeaderName, line: &[u8]) -> bool {
     match HeaderValue::from_bytes(alloc, line) {
         Ok(value) => headers.append(name, value).is_ok(),
@@ -21,38 +23,27 @@ pub fn add(alloc: Global, headers: &mut HeaderMap, name: &str, line: &[u8]) -> b
     }
 }
 
-fn add_all(alloc: Global, headers: &mut HeaderMap, lines: &[(&str, &[u8])]) -> bool {
+/// A map of these lines.
+pub fn fields(alloc: Global, lines: &[(&str, &[u8])]) -> HeaderMap {
+    let mut headers = HeaderMap::new(alloc);
     for (name, line) in lines {
-        if !add(alloc, headers, name, line) {
-            return false;
+        if !add(alloc, &mut headers, name, line) {
+            break;
         }
     }
-    true
-}
-
-/// A map of these lines.
-pub fn fields(alloc: Global, lines: &[(&str, &[u8])]) -> Option<HeaderMap> {
-    let mut headers = HeaderMap::new(alloc);
-    if add_all(alloc, &mut headers, lines) {
-        Some(headers)
-    } else {
-        None
-    }
+    headers
 }
 
 /// A head of status 200 with these lines.
-pub fn head(alloc: Global, lines: &[(&str, &[u8])]) -> Option<ResponseHeader> {
-    match fields(alloc, lines) {
-        Some(headers) => Some(ResponseHeader {
-            status: StatusCode::OK,
-            headers,
-        }),
-        None => None,
+pub fn head(alloc: Global, lines: &[(&str, &[u8])]) -> ResponseHeader {
+    ResponseHeader {
+        status: StatusCode::OK,
+        headers: fields(alloc, lines),
     }
 }
 
 /// A head of status 200 with one line.
-pub fn head_of(alloc: Global, name: &str, line: &str) -> Option<ResponseHeader> {
+pub fn head_of(alloc: Global, name: &str, line: &str) -> ResponseHeader {
     head(alloc, &[(name, line.as_bytes())])
 }
 

@@ -17,17 +17,12 @@ enum Head {
 // Copies of heads of one line.
 fn request_of(alloc: Global, field: &str) -> Option<RequestHeader> {
     let method = Method::GET;
-    match fields(alloc, &[(field, b"no-cache")]) {
-        Some(headers) => RequestHeader { method, headers }.clone().ok(),
-        None => None,
-    }
+    let headers = fields(alloc, &[(field, b"no-cache")]);
+    RequestHeader { method, headers }.clone().ok()
 }
 
 fn response_of(alloc: Global, field: &str) -> Option<ResponseHeader> {
-    match head_of(alloc, field, "no-cache") {
-        Some(response) => response.clone().ok(),
-        None => None,
-    }
+    head_of(alloc, field, "no-cache").clone().ok()
 }
 
 // Whether the head that is asked for has the directive of its line.
@@ -111,10 +106,7 @@ fn is_stripped_so(alloc: Global, line: &str, want: (usize, usize, usize)) -> boo
         ("x-a", b"1"),
         ("x-b", b"2"),
     ];
-    match head(alloc, &lines) {
-        Some(mut response) => is_stripped(alloc, &mut response, want),
-        None => false,
-    }
+    is_stripped(alloc, &mut head(alloc, &lines), want)
 }
 
 const STRIPPED: &[(&str, (usize, usize, usize))] = &[

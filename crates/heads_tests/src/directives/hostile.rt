@@ -92,9 +92,11 @@ fn are_read(alloc: Global, headers: &HeaderMap, may_refuse: bool) -> bool {
 
 // Whether a line is read, or memory was refused where it may be: a refusal is reported, and nothing else is.
 fn reads(alloc: Global, line: &str, may_refuse: bool) -> bool {
-    match fields(alloc, &[("cache-control", line.as_bytes())]) {
-        Some(headers) => are_read(alloc, &headers, may_refuse),
-        None => may_refuse,
+    let headers = fields(alloc, &[("cache-control", line.as_bytes())]);
+    if headers.is_empty() {
+        may_refuse
+    } else {
+        are_read(alloc, &headers, may_refuse)
     }
 }
 

@@ -89,10 +89,7 @@ fn answers(header: &ResponseHeader) -> Option<Answers> {
 }
 
 fn is_known(alloc: Global, row: &Row) -> bool {
-    match head(alloc, row.0) {
-        Some(header) => answers(&header) == row.1,
-        None => false,
-    }
+    answers(&head(alloc, row.0)) == row.1
 }
 
 #[test]
@@ -119,22 +116,15 @@ const VERDICTS: &[(&[Field], Option<(i64, usize)>)] = &[
     (&[("cache-control", b"no-store, max-age=10")], None),
 ];
 
-fn is_kept(alloc: Global, header: ResponseHeader, want: Option<(i64, usize)>) -> bool {
+fn is_verdict(alloc: Global, lines: &[Field], want: Option<(i64, usize)>) -> bool {
     let defaults = CacheMetaDefaults::new(NeverByStatus, 0, 0);
     let now = Moment::from_seconds(1000);
-    match resp_cacheable_by_lines(alloc, now, header, &defaults) {
+    match resp_cacheable_by_lines(alloc, now, head(alloc, lines), &defaults) {
         Ok(RespCacheable::Cacheable(meta)) => {
             want == Some((meta.fresh_until().seconds(), meta.header.headers.len()))
         }
         Ok(RespCacheable::Uncacheable(_)) => want.is_none(),
         Err(_) => false,
-    }
-}
-
-fn is_verdict(alloc: Global, lines: &[Field], want: Option<(i64, usize)>) -> bool {
-    match head(alloc, lines) {
-        Some(header) => is_kept(alloc, header, want),
-        None => false,
     }
 }
 

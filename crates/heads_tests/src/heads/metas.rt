@@ -194,10 +194,8 @@ fn lends_and_copies(meta: &mut CacheMeta) -> bool {
 }
 
 fn does(alloc: Global, rows: &[Row]) -> bool {
-    match meta(alloc) {
-        Some(mut meta) => all_done(&mut meta, rows) && lends_and_copies(&mut meta),
-        None => false,
-    }
+    let mut meta = meta(alloc);
+    all_done(&mut meta, rows) && lends_and_copies(&mut meta)
 }
 
 #[test]

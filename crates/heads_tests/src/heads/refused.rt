@@ -26,15 +26,13 @@ fn is_read_or_refused(alloc: Global, kept: &CacheMeta) -> bool {
     }
 }
 
+// The meta lacks its field where memory was refused before.
 fn all_done_or_refused(alloc: Global) -> bool {
-    match meta(alloc) {
-        Some(kept) => {
-            is_copied_or_left(&kept)
-                && is_written_or_refused(alloc, &kept)
-                && is_read_or_refused(alloc, &kept)
-        }
-        None => true,
-    }
+    let kept = meta(alloc);
+    kept.headers().is_empty()
+        || is_copied_or_left(&kept)
+            && is_written_or_refused(alloc, &kept)
+            && is_read_or_refused(alloc, &kept)
 }
 
 #[test]

@@ -66,24 +66,19 @@ fn are_read(alloc: Global, meta: &CacheMeta) -> bool {
 }
 
 // Whether a meta is written and read again, and refused with a moment before 1970.
-fn both_ways(alloc: Global, meta: &mut CacheMeta) -> bool {
-    let is_right = is_written(alloc, meta, INTERNAL, HEADER) == Ok(true) && are_read(alloc, meta);
+fn both_ways(alloc: Global) -> bool {
+    let mut meta = meta(alloc);
+    let is_right = is_written(alloc, &meta, INTERNAL, HEADER) == Ok(true) && are_read(alloc, &meta);
     meta.set_epoch_override(Moment::from_seconds(-1));
-    is_right && is_written(alloc, meta, INTERNAL, HEADER) == Err(MetaFault::MetaMoment)
-}
-
-fn is_right(alloc: Global) -> bool {
-    match meta(alloc) {
-        Some(mut meta) => both_ways(alloc, &mut meta),
-        None => false,
-    }
+    let written = is_written(alloc, &meta, INTERNAL, HEADER);
+    is_right && written == Err(MetaFault::MetaMoment)
 }
 
 #[test]
 fn metas_are_read_again_and_the_first_fault_is_told(rt: HostRuntime) {
     laws::meta_is_read_again();
     laws::one_meta();
-    assert!(rt; is_right(rt.alloc()));
+    assert!(rt; both_ways(rt.alloc()));
 }
 
 fn is_kept(alloc: Global, found: RespCacheable) -> bool {
@@ -99,22 +94,16 @@ fn put(control: Option<&CacheControl>, header: ResponseHeader) -> RespCacheable 
     resp_cacheable(Moment::from_seconds(127), control, header, false, &defaults)
 }
 
-fn is_put(alloc: Global, header: ResponseHeader) -> bool {
+fn is_put(alloc: Global, line: &str) -> bool {
+    let header = head_of(alloc, "cache-control", line);
     match CacheControl::from_resp_headers(alloc, &header) {
         Ok(found) => is_kept(alloc, put(found.as_ref(), header)),
         Err(_) => false,
     }
 }
 
-fn is_put_so(alloc: Global, line: &str) -> bool {
-    match head_of(alloc, "cache-control", line) {
-        Some(header) => is_put(alloc, header),
-        None => false,
-    }
-}
-
 #[test]
 fn the_meta_of_a_put_is_written(rt: HostRuntime) {
     let line = "max-age=46, stale-while-revalidate=70000, stale-if-error=60";
-    assert!(rt; is_put_so(rt.alloc(), line));
+    assert!(rt; is_put(rt.alloc(), line));
 }

@@ -1,5 +1,6 @@
 //! Moments and numbers of metas as bytes.
 use super::original::METAS;
+use crate::made::is_text;
 use cache_metas::fault::MetaFault;
 use cache_metas::versions::{EarlyInternalMeta, InternalMetaV0, InternalMetaV1, InternalMetaV2};
 use cache_metas::{internal, laws};
@@ -115,43 +116,6 @@ fn every_form_of_a_meta_is_read_and_the_first_fault_returned(rt: HostRuntime) {
     }
 }
 
-#[derive(Clone, Copy)]
-enum Field {
-    FreshUntil,
-    Created,
-    Updated,
-    EpochOverride,
-    Provenance,
-}
-
-// A meta with this moment before 1970.
-fn too_early(field: Field) -> InternalMetaV2 {
-    let mut meta = latest();
-    let moment = Moment::from_seconds(-1);
-    match field {
-        Field::FreshUntil => meta.fresh_until = moment,
-        Field::Created => meta.created = moment,
-        Field::Updated => meta.updated = moment,
-        Field::EpochOverride => meta.epoch_override = Some(moment),
-        Field::Provenance => meta.provenance = Some(moment),
-    }
-    meta
-}
-
-#[test]
-fn a_moment_before_1970_is_not_written(rt: HostRuntime) {
-    for field in [
-        Field::FreshUntil,
-        Field::Created,
-        Field::Updated,
-        Field::EpochOverride,
-        Field::Provenance,
-    ] {
-        let fault = internal::write(rt.alloc(), &too_early(field)).err();
-        assert!(rt; fault == Some(MetaFault::MetaMoment));
-    }
-}
-
 fn number(words: &mut SplitWhitespace<'_>) -> Option<i64> {
     words.next()?.parse::<i64>().ok()
 }
@@ -188,26 +152,56 @@ fn parsed(line: &str) -> InternalMetaV2 {
     }
 }
 
-fn is_hex(alloc: Global, bytes: &[u8], want: &str) -> bool {
-    match hex::encode(alloc, bytes) {
-        Ok(text) => text.as_str() == want,
-        Err(_) => false,
+// Whether this is the text of the meta in hex, which is read as the meta again.
+fn is_hex(alloc: Global, meta: &InternalMetaV2, want: &str) -> Result<bool, MetaFault> {
+    match internal::write(alloc, meta) {
+        Ok(text) => Ok(
+            internal::read(text.as_slice()) == Ok(*meta)
+                && is_text(hex::encode(alloc, text.as_slice()), want),
+        ),
+        Err(fault) => Err(fault),
     }
 }
 
-// Whether this is the text of the meta in hex, which is read as the meta again.
-fn is_text(alloc: Global, meta: &InternalMetaV2, want: &str) -> bool {
-    match internal::write(alloc, meta) {
-        Ok(text) => {
-            internal::read(text.as_slice()) == Ok(*meta) && is_hex(alloc, text.as_slice(), want)
-        }
-        Err(_) => false,
+#[derive(Clone, Copy)]
+enum Field {
+    FreshUntil,
+    Created,
+    Updated,
+    EpochOverride,
+    Provenance,
+}
+
+// A meta with this moment before 1970.
+fn too_early(field: Field) -> InternalMetaV2 {
+    let mut meta = latest();
+    let moment = Moment::from_seconds(-1);
+    match field {
+        Field::FreshUntil => meta.fresh_until = moment,
+        Field::Created => meta.created = moment,
+        Field::Updated => meta.updated = moment,
+        Field::EpochOverride => meta.epoch_override = Some(moment),
+        Field::Provenance => meta.provenance = Some(moment),
+    }
+    meta
+}
+
+#[test]
+fn a_moment_before_1970_is_not_written(rt: HostRuntime) {
+    for field in [
+        Field::FreshUntil,
+        Field::Created,
+        Field::Updated,
+        Field::EpochOverride,
+        Field::Provenance,
+    ] {
+        assert!(rt; is_hex(rt.alloc(), &too_early(field), "") == Err(MetaFault::MetaMoment));
     }
 }
 
 fn agrees(alloc: Global, line: &str) -> bool {
     match line.rsplit_once(' ') {
-        Some((_, want)) => is_text(alloc, &parsed(line), want),
+        Some((_, want)) => is_hex(alloc, &parsed(line), want) == Ok(true),
         None => false,
     }
 }
