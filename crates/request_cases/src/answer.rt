@@ -26,6 +26,9 @@ pub const DONE: Answer = Answer::Word("done");
 /// The call answers that there is none.
 pub const NONE: Answer = Answer::Word("none");
 
+/// The call isn't allowed, or there is none of that word.
+pub const REFUSED: Answer = Answer::Word("refused");
+
 /// There was no memory.
 pub const NO_MEMORY: Answer = Answer::Word("memory");
 

@@ -1,8 +1,9 @@
 //! Heads, and their texts.
+use crate::text::Text;
 use cache_heads::meta::ResponseHeader;
 use http::StatusCode;
 use http_header::{HeaderMap, HeaderName, HeaderValue};
-use std::alloc::{AllocError, Global};
+use std::alloc::Global;
 
 /// The fields of each response that is stored.
 pub const STORED: &str = "cache-control=max-age=10 etag=a x-kept=1";
@@ -38,16 +39,15 @@ pub fn head_of(alloc: Global, fields: &str) -> ResponseHeader {
 }
 
 /// Appends the fields of a head in order, each after its name.
-pub fn push_fields(text: &mut String, header: &ResponseHeader) -> Result<(), AllocError> {
+pub fn push_fields(text: &mut Text, header: &ResponseHeader) {
     let mut is_first = true;
     for (name, value) in header.headers.iter() {
         if !is_first {
-            text.push(' ')?;
+            text.push(" ");
         }
         is_first = false;
-        text.push_str(name.as_str())?;
-        text.push('=')?;
-        text.push_str(value.to_str().unwrap_or("?"))?;
+        text.push(name.as_str());
+        text.push("=");
+        text.push(value.to_str().unwrap_or("?"));
     }
-    Ok(())
 }

@@ -2,7 +2,8 @@
 ghost use Rattle.std.specs.Prelude.{◌≡◌, true};
 ghost use Rattle.cache_phases.specs.Locks.{waits};
 
-use crate::answer::{Answer, DONE, NO_MEMORY};
+use crate::answer::{Answer, DONE, NO_MEMORY, REFUSED};
+use crate::call::Call;
 use crate::step::{Step, reason};
 use crate::turns::holds_nothing;
 use cache_heads::NoCacheReason;
@@ -85,9 +86,9 @@ pub fn locked<S: Storage, E, P, L: CacheKeyLock, A>(
     step: Step<'_>,
 ) -> Option<Answer> {
     match step.call {
-        "wait" => wait(alloc, request, parts, step.moment()),
-        "release" => release(request, parts, reason(step.first)),
-        "publish" => match request.lock_publish_fill_tokens(alloc, parts, &[step.number()]) {
+        Call::Wait => wait(alloc, request, parts, step.moment()),
+        Call::Release => release(request, parts, reason(step.first)),
+        Call::Publish => match request.lock_publish_fill_tokens(alloc, parts, &[step.number()]) {
             Ok(()) => Some(DONE),
             Err(_) => Some(NO_MEMORY),
         },
@@ -95,15 +96,14 @@ pub fn locked<S: Storage, E, P, L: CacheKeyLock, A>(
     }
 }
 
-/// Moves the permit to the other request; returns whether it may.
-pub fn move_permit<S: Storage>(request: &mut HttpCache<S>, other: &mut HttpCache<S>) -> bool {
+/// Moves the permit to the other request.
+pub fn move_permit<S: Storage>(request: &mut HttpCache<S>, other: &mut HttpCache<S>) -> Answer {
     if request.phase().is_never_enabled() || !request.is_cache_lock_writer() {
-        return false;
+        return REFUSED;
     }
     if !holds_nothing(other) || !other.is_cache_lock_on() {
-        return false;
+        return REFUSED;
     }
-    let permit = request.take_write_lock();
-    other.set_write_lock(permit);
-    true
+    other.set_write_lock(request.take_write_lock());
+    DONE
 }

@@ -4,6 +4,7 @@ ghost use Rattle.cache_phases.specs.Locks.{holds_permit};
 ghost use Rattle.cache_phases.specs.Phases.{can_look_up};
 
 use crate::answer::{Answer, yes_or_no};
+use crate::call::Call;
 use crate::step::{Step, status, variance};
 use cache_evict::EvictionManager;
 use cache_heads::CacheMeta;
@@ -173,9 +174,9 @@ pub fn looked<S: Storage, E: EvictionManager, P, L: CacheKeyLock, A: AdmissionPo
     }
     let moment = step.moment();
     match step.call {
-        "look" => Some(look(alloc, request, parts, moment, status(step.second))),
-        "look-at" => Some(look_at(alloc, request, parts, moment)),
-        "vary" => match variance(step.second) {
+        Call::Look => Some(look(alloc, request, parts, moment, status(step.second))),
+        Call::LookAt => Some(look_at(alloc, request, parts, moment)),
+        Call::Vary => match variance(step.second) {
             Some(variance) => Some(vary(request, parts, moment, variance)),
             None => None,
         },

@@ -28,6 +28,7 @@
 #![tactic(auto)]
 
 mod answer;
+mod call;
 mod heads;
 mod locks;
 mod looks;
@@ -38,22 +39,28 @@ mod sizes;
 mod stale;
 mod step;
 mod stored;
+mod text;
 mod told;
 mod turns;
 mod world;
 mod writes;
 
+use crate::text::Text;
 use std::alloc::{AllocError, Global};
 use std::{fs, io};
 
-// The lines of a row, each with what its step comes to.
-fn done(alloc: Global, row: &str) -> Result<String, AllocError> {
-    let mut text = String::new(alloc);
+// Writes the lines of a row, each with what its step comes to.
+fn push_done(alloc: Global, row: &str, text: &mut Text) {
     match world::cache(alloc) {
-        Some(mut parts) => rows::push_row(alloc, &mut parts, row, &mut text)?,
-        None => text.push_str("memory")?,
+        Some(mut parts) => rows::push_row(alloc, &mut parts, row, text),
+        None => text.push("memory"),
     }
-    Ok(text)
+}
+
+fn done(alloc: Global, row: &str) -> Result<String, AllocError> {
+    let mut text = Text::new(alloc);
+    push_done(alloc, row, &mut text);
+    text.finish()
 }
 
 fn main(rt: HostRuntime) -> io::Result<()> {

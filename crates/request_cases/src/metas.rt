@@ -1,5 +1,6 @@
 //! The key and the meta of a request.
 use crate::answer::{Answer, NONE, variance_or_none, yes_or_no};
+use crate::call::Call;
 use crate::step::Step;
 use cache_heads::CacheMeta;
 use cache_store::storage::Storage;
@@ -27,11 +28,11 @@ fn key_variance<S: Storage>(request: &HttpCache<S>) -> Answer {
 /// What a request reports of its key.
 pub fn told_of_key<S: Storage>(request: &HttpCache<S>, step: Step<'_>) -> Option<Answer> {
     match step.call {
-        "maybe-key" => Some(letter(request.maybe_cache_key())),
-        "key-lent" if request.maybe_cache_key().is_some() => {
+        Call::MaybeKey => Some(letter(request.maybe_cache_key())),
+        Call::KeyLent if request.maybe_cache_key().is_some() => {
             Some(letter(Some(request.cache_key())))
         }
-        "key-variance" => Some(key_variance(request)),
+        Call::KeyVariance => Some(key_variance(request)),
         _ => None,
     }
 }
@@ -53,17 +54,17 @@ fn meta_variance<S: Storage>(request: &HttpCache<S>) -> Answer {
 /// What it reports of its meta, and whether the stale response may be served at a moment.
 pub fn told_of_meta<S: Storage>(request: &HttpCache<S>, step: Step<'_>) -> Option<Answer> {
     match step.call {
-        "maybe-meta" => Some(until(request.maybe_cache_meta())),
-        "meta-lent" if request.maybe_cache_meta().is_some() => {
+        Call::MaybeMeta => Some(until(request.maybe_cache_meta())),
+        Call::MetaLent if request.maybe_cache_meta().is_some() => {
             Some(until(Some(request.cache_meta())))
         }
-        "meta-variance" => Some(meta_variance(request)),
-        "provenance" => match request.maybe_cache_meta() {
+        Call::MetaVariance => Some(meta_variance(request)),
+        Call::Provenance => match request.maybe_cache_meta() {
             Some(meta) => Some(Answer::Second(meta.provenance().seconds())),
             None => Some(NONE),
         },
-        "serves-on-error" => Some(yes_or_no(request.can_serve_stale_error(step.moment()))),
-        "serves-updating" => Some(yes_or_no(request.can_serve_stale_updating(step.moment()))),
+        Call::ServesOnError => Some(yes_or_no(request.can_serve_stale_error(step.moment()))),
+        Call::ServesUpdating => Some(yes_or_no(request.can_serve_stale_updating(step.moment()))),
         _ => None,
     }
 }

@@ -1,25 +1,20 @@
 //! Readers.
-use crate::answer::{Answer, DONE, NONE};
+use crate::answer::{Answer, DONE, NONE, REFUSED};
+use crate::call::Call;
 use crate::step::Step;
+use crate::text::Text;
 use cache_parts::Parts;
 use cache_store::storage::{HandleHit, ReadStep, Storage};
 use http_cache::HttpCache;
-use std::alloc::AllocError;
 use std::str;
 
 // Appends what a step of reading gives.
-fn push_step<S: Storage>(
-    hit: &mut S::Hit,
-    store: &mut S,
-    text: &mut String,
-) -> Result<(), AllocError> {
+fn push_step<S: Storage>(hit: &mut S::Hit, store: &mut S, text: &mut Text) {
     match hit.read_body(store) {
-        Ok(ReadStep::Bytes(bytes)) => {
-            text.push_str(str::from_utf8(bytes.as_slice()).unwrap_or("?"))
-        }
-        Ok(ReadStep::Pending) => text.push_str("pending"),
-        Ok(ReadStep::End) => text.push_str("end"),
-        Err(_) => text.push_str("fault"),
+        Ok(ReadStep::Bytes(bytes)) => text.push(str::from_utf8(bytes.as_slice()).unwrap_or("?")),
+        Ok(ReadStep::Pending) => text.push("pending"),
+        Ok(ReadStep::End) => text.push("end"),
+        Err(_) => text.push("fault"),
     }
 }
 
@@ -27,23 +22,23 @@ fn push_step<S: Storage>(
 pub fn push_read<S: Storage, E, P, L, A>(
     request: &mut HttpCache<S>,
     parts: &mut Parts<S, E, P, L, A>,
-    text: &mut String,
-) -> Result<(), AllocError> {
+    text: &mut Text,
+) {
     if !request.phase().has_reader_phase() || !request.has_reader() {
-        return text.push_str("refused");
+        return text.push_answer(REFUSED);
     }
-    push_step(request.hit_handler(), &mut parts.store, text)
+    push_step(request.hit_handler(), &mut parts.store, text);
 }
 
 /// The same by the reader of the response that is being stored.
 pub fn push_read_back<S: Storage, E, P, L, A>(
     request: &mut HttpCache<S>,
     parts: &mut Parts<S, E, P, L, A>,
-    text: &mut String,
-) -> Result<(), AllocError> {
+    text: &mut Text,
+) {
     match request.miss_body_reader(&parts.store) {
         Some(hit) => push_step(hit, &mut parts.store, text),
-        None => text.push_str("none"),
+        None => text.push_answer(NONE),
     }
 }
 
@@ -68,8 +63,8 @@ pub fn read<S: Storage, E, P, L, A>(
     step: Step<'_>,
 ) -> Option<Answer> {
     match step.call {
-        "move-reader" => move_reader(request),
-        "finish-reader" if request.phase().can_finish_reader() => {
+        Call::MoveReader => move_reader(request),
+        Call::FinishReader if request.phase().can_finish_reader() => {
             request.finish_hit_handler(parts);
             Some(DONE)
         }

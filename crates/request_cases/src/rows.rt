@@ -1,5 +1,6 @@
 //! Rows of steps.
-use crate::answer::{Answer, DONE};
+use crate::answer::{Answer, REFUSED};
+use crate::call::Call;
 use crate::locks::{locked, move_permit};
 use crate::looks::looked;
 use crate::metas::{told_of_key, told_of_meta};
@@ -8,6 +9,7 @@ use crate::sizes::counted;
 use crate::stale::{push_merged, revalidated};
 use crate::step::Step;
 use crate::stored::{managed, predicted, purged};
+use crate::text::Text;
 use crate::told::{told_of_handlers, told_of_lock, told_of_use, told_of_waits};
 use crate::turns::{led, noted, turned};
 use crate::writes::{begun, written};
@@ -18,7 +20,7 @@ use cache_predictor::CacheablePredictor;
 use cache_store::admission::AdmissionPolicy;
 use cache_store::storage::Storage;
 use http_cache::HttpCache;
-use std::alloc::{AllocError, Global};
+use std::alloc::Global;
 
 // A question that the request alone answers.
 fn told<S: Storage>(request: &HttpCache<S>, step: Step<'_>) -> Option<Answer> {
@@ -66,13 +68,6 @@ fn done_in<
         .or(managed(alloc, parts, step))
 }
 
-fn push(text: &mut String, answer: Option<Answer>) -> Result<(), AllocError> {
-    match answer {
-        Some(answer) => answer.push_to(text),
-        None => text.push_str("refused"),
-    }
-}
-
 // Does a step, and appends what it answers.
 fn push_answer<
     S: Storage,
@@ -86,18 +81,18 @@ fn push_answer<
     other: &mut HttpCache<S>,
     parts: &mut Parts<S, E, P, L, A>,
     step: Step<'_>,
-    text: &mut String,
-) -> Result<(), AllocError> {
+    text: &mut Text,
+) {
     match step.call {
-        "read" => push_read(request, parts, text),
-        "read-back" => push_read_back(request, parts, text),
-        "merge" => push_merged(alloc, request, text),
-        "move-permit" if move_permit(request, other) => push(text, Some(DONE)),
+        Call::Read => push_read(request, parts, text),
+        Call::ReadBack => push_read_back(request, parts, text),
+        Call::Merge => push_merged(alloc, request, text),
+        Call::MovePermit => text.push_answer(move_permit(request, other)),
         _ => {
             let answer = told(request, step)
                 .or(done(request, parts, step))
                 .or(done_in(alloc, request, parts, step));
-            push(text, answer)
+            text.push_answer(answer.unwrap_or(REFUSED));
         }
     }
 }
@@ -115,12 +110,12 @@ fn push_step<
     other: &mut HttpCache<S>,
     parts: &mut Parts<S, E, P, L, A>,
     step: Step<'_>,
-    text: &mut String,
-) -> Result<(), AllocError> {
-    text.push_str(": ")?;
-    push_answer(alloc, request, other, parts, step, text)?;
-    text.push_str(", ")?;
-    text.push_str(request.phase().as_str())
+    text: &mut Text,
+) {
+    text.push(": ");
+    push_answer(alloc, request, other, parts, step, text);
+    text.push(", ");
+    text.push(request.phase().as_str());
 }
 
 // Appends a line, and what its step comes to; a line without a step is a row's name.
@@ -136,15 +131,15 @@ fn push_line<
     second: &mut HttpCache<S>,
     parts: &mut Parts<S, E, P, L, A>,
     line: &str,
-    text: &mut String,
-) -> Result<(), AllocError> {
-    text.push_str(line)?;
+    text: &mut Text,
+) {
+    text.push(line);
     match line.split_once(' ') {
-        Some(("1", call)) => push_step(alloc, first, second, parts, Step::new(call), text)?,
-        Some(("2", call)) => push_step(alloc, second, first, parts, Step::new(call), text)?,
+        Some(("1", call)) => push_step(alloc, first, second, parts, Step::new(call), text),
+        Some(("2", call)) => push_step(alloc, second, first, parts, Step::new(call), text),
         _ => {}
     }
-    text.push('\n')
+    text.push("\n");
 }
 
 fn push_lines<
@@ -159,12 +154,11 @@ fn push_lines<
     second: &mut HttpCache<S>,
     parts: &mut Parts<S, E, P, L, A>,
     row: &str,
-    text: &mut String,
-) -> Result<(), AllocError> {
+    text: &mut Text,
+) {
     for line in row.lines() {
-        push_line(alloc, first, second, parts, line, text)?;
+        push_line(alloc, first, second, parts, line, text);
     }
-    Ok(())
 }
 
 /// Appends the lines of a row, each with what its step comes to, over a cache.
@@ -174,16 +168,10 @@ pub fn push_row<
     P: CacheablePredictor,
     L: CacheKeyLock,
     A: AdmissionPolicy,
->(
-    alloc: Global,
-    parts: &mut Parts<S, E, P, L, A>,
-    row: &str,
-    text: &mut String,
-) -> Result<(), AllocError> {
+>(alloc: Global, parts: &mut Parts<S, E, P, L, A>, row: &str, text: &mut Text) {
     let mut first = HttpCache::new();
     let mut second = HttpCache::new();
-    let pushed = push_lines(alloc, &mut first, &mut second, parts, row, text);
+    push_lines(alloc, &mut first, &mut second, parts, row, text);
     first.end(parts);
     second.end(parts);
-    pushed
 }

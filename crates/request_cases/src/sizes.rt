@@ -1,5 +1,6 @@
 //! The size of a body against its limit.
 use crate::answer::{Answer, DONE, size_or_none, yes_or_no};
+use crate::call::Call;
 use crate::step::Step;
 use cache_store::storage::Storage;
 use http_cache::HttpCache;
@@ -12,13 +13,13 @@ pub fn counted<S: Storage>(request: &mut HttpCache<S>, step: Step<'_>) -> Option
         return None;
     }
     match step.call {
-        "limit" if is_on => {
+        Call::Limit if is_on => {
             request.set_max_file_size_bytes(bytes);
             Some(DONE)
         }
-        "track" => Some(yes_or_no(request.track_body_bytes_for_max_file_size(bytes))),
-        "most-bytes" => Some(size_or_none(request.max_file_size_bytes())),
-        "exceeded" => Some(yes_or_no(request.exceeded_max_file_size())),
+        Call::Track => Some(yes_or_no(request.track_body_bytes_for_max_file_size(bytes))),
+        Call::MostBytes => Some(size_or_none(request.max_file_size_bytes())),
+        Call::Exceeded => Some(yes_or_no(request.exceeded_max_file_size())),
         _ => None,
     }
 }

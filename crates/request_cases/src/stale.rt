@@ -2,9 +2,11 @@
 ghost use Rattle.std.specs.Prelude.{◌≡◌, true, is_some};
 ghost use Rattle.cache_phases.specs.Phases.{is_stale_phase};
 
-use crate::answer::{Answer, DONE, done_or_fault};
+use crate::answer::{Answer, DONE, NO_MEMORY, REFUSED, done_or_fault};
+use crate::call::Call;
 use crate::heads::{SENT, STORED, head_of, push_fields};
 use crate::step::{Step, reason};
+use crate::text::Text;
 use crate::world::meta;
 use cache_heads::NoCacheReason;
 use cache_heads::meta::ResponseHeader;
@@ -12,7 +14,7 @@ use cache_lock::CacheKeyLock;
 use cache_parts::Parts;
 use cache_store::storage::Storage;
 use http_cache::HttpCache;
-use std::alloc::{AllocError, Global};
+use std::alloc::Global;
 
 // Whether the request found a stale response, and has its meta.
 fn is_stale<S: Storage>(request: &HttpCache<S>) -> bool
@@ -46,11 +48,11 @@ pub fn revalidated<S: Storage, E, P, L: CacheKeyLock, A>(
     step: Step<'_>,
 ) -> Option<Answer> {
     match step.call {
-        "revalidate" if is_stale(request) => {
+        Call::Revalidate if is_stale(request) => {
             let confirmed = request.revalidate_cache_meta(parts, meta(alloc, step));
             Some(done_or_fault(confirmed))
         }
-        "uncacheable" => {
+        Call::Uncacheable => {
             let header = head_of(alloc, STORED);
             give_up(request, parts, header, reason(step.first))
         }
@@ -59,16 +61,12 @@ pub fn revalidated<S: Storage, E, P, L: CacheKeyLock, A>(
 }
 
 /// Appends the fields of the stale head once it has taken what a response renews.
-pub fn push_merged<S: Storage>(
-    alloc: Global,
-    request: &HttpCache<S>,
-    text: &mut String,
-) -> Result<(), AllocError> {
+pub fn push_merged<S: Storage>(alloc: Global, request: &HttpCache<S>, text: &mut Text) {
     if !is_stale(request) {
-        return text.push_str("refused");
+        return text.push_answer(REFUSED);
     }
     match request.revalidate_merge_header(&head_of(alloc, SENT)) {
         Ok(merged) => push_fields(text, &merged),
-        Err(_) => text.push_str("memory"),
+        Err(_) => text.push_answer(NO_MEMORY),
     }
 }

@@ -1,12 +1,13 @@
 //! Steps: a call with its arguments.
+use crate::call::Call;
 use cache_heads::NoCacheReason;
 use cache_phases::HitStatus;
 use cache_words::time::Moment;
 
-/// A call, by its word, and the words of its arguments; a word that isn't there is empty.
+/// A call, and the words of its arguments; a word that isn't there is empty.
 #[derive(Clone, Copy)]
 pub struct Step<'a> {
-    pub call: &'a str,
+    pub call: Call,
     pub first: &'a str,
     pub second: &'a str,
 }
@@ -16,7 +17,7 @@ impl<'a> Step<'a> {
     pub fn new(text: &'a str) -> Step<'a> {
         let mut words = text.split(' ');
         Step {
-            call: words.next().unwrap_or(""),
+            call: Call::of(words.next().unwrap_or("")),
             first: words.next().unwrap_or(""),
             second: words.next().unwrap_or(""),
         }

@@ -1,5 +1,6 @@
 //! What is stored under a request's key, and what the predictor and the manager know of it.
 use crate::answer::{Answer, DONE, NO_MEMORY, fault, yes_or_no};
+use crate::call::Call;
 use crate::step::{Step, reason};
 use crate::world::{burden, tracked};
 use cache_evict::EvictionManager;
@@ -25,9 +26,9 @@ pub fn purged<S: Storage, E: EvictionManager, P, L, A>(
 ) -> Option<Answer> {
     let phase = request.phase();
     let found = match step.call {
-        "purge" if phase.is_key_phase() => request.purge(parts),
-        "spawn-purge" if phase.has_key_phase() => request.spawn_async_purge(parts, "cases"),
-        "expire" if phase.is_key_phase() => request.expire(parts, step.moment()),
+        Call::Purge if phase.is_key_phase() => request.purge(parts),
+        Call::SpawnPurge if phase.has_key_phase() => request.spawn_async_purge(parts, "cases"),
+        Call::Expire if phase.is_key_phase() => request.expire(parts, step.moment()),
         _ => return None,
     };
     Some(found_or_fault(found))
@@ -43,12 +44,12 @@ pub fn predicted<S: Storage, E, P: CacheablePredictor, L, A>(
         return None;
     }
     match step.call {
-        "predicted" => Some(yes_or_no(request.cacheable_prediction(parts))),
-        "became-cacheable" => {
+        Call::Predicted => Some(yes_or_no(request.cacheable_prediction(parts))),
+        Call::BecameCacheable => {
             request.response_became_cacheable(parts);
             Some(DONE)
         }
-        "became-uncacheable" => {
+        Call::BecameUncacheable => {
             match request.response_became_uncacheable(parts, reason(step.first)) {
                 Ok(()) => Some(DONE),
                 Err(_) => Some(NO_MEMORY),
@@ -65,11 +66,11 @@ pub fn managed<S: Storage, E: EvictionManager, P, L, A>(
     step: Step<'_>,
 ) -> Option<Answer> {
     match step.call {
-        "tracked" => match tracked(alloc, parts, step.letter()) {
+        Call::Tracked => match tracked(alloc, parts, step.letter()) {
             Some(tracked) => Some(yes_or_no(tracked)),
             None => Some(NO_MEMORY),
         },
-        "burden" => match burden(alloc, parts, step.letter()) {
+        Call::Burden => match burden(alloc, parts, step.letter()) {
             Some(()) => Some(DONE),
             None => Some(NO_MEMORY),
         },

@@ -1,5 +1,6 @@
 //! What a request reports of itself.
 use crate::answer::{Answer, NONE, reason_or_none, size_or_none, yes_or_no};
+use crate::call::Call;
 use crate::step::{Step, reason};
 use cache_parts::Parts;
 use cache_phases::CachePhase;
@@ -20,11 +21,11 @@ fn off_for(phase: CachePhase) -> Answer {
 /// How the request uses the cache.
 pub fn told_of_use<S: Storage>(request: &HttpCache<S>, step: Step<'_>) -> Option<Answer> {
     match step.call {
-        "enabled" => Some(yes_or_no(request.enabled())),
-        "bypassing" => Some(yes_or_no(request.bypassing())),
-        "upstream" => Some(yes_or_no(request.upstream_used())),
-        "off-for" => Some(off_for(request.phase())),
-        "predicted-reason" => Some(reason_or_none(request.predicted_uncacheable_reason())),
+        Call::Enabled => Some(yes_or_no(request.enabled())),
+        Call::Bypassing => Some(yes_or_no(request.bypassing())),
+        Call::Upstream => Some(yes_or_no(request.upstream_used())),
+        Call::OffFor => Some(off_for(request.phase())),
+        Call::PredictedReason => Some(reason_or_none(request.predicted_uncacheable_reason())),
         _ => None,
     }
 }
@@ -36,15 +37,15 @@ pub fn told_of_handlers<S: Storage, E, P, L, A>(
     step: Step<'_>,
 ) -> Option<Answer> {
     match step.call {
-        "has-reader" => Some(yes_or_no(request.has_reader())),
-        "has-writer" => Some(yes_or_no(request.has_writer())),
-        "streams" => match request.support_streaming_partial_write(&parts.store) {
+        Call::HasReader => Some(yes_or_no(request.has_reader())),
+        Call::HasWriter => Some(yes_or_no(request.has_writer())),
+        Call::Streams => match request.support_streaming_partial_write(&parts.store) {
             Some(streams) => Some(yes_or_no(streams)),
             None => Some(NONE),
         },
-        "cache-span" => Some(yes_or_no(request.get_cache_span().is_some())),
-        "hit-span" => Some(yes_or_no(request.get_hit_span().is_some())),
-        "miss-span" => Some(yes_or_no(request.get_miss_span().is_some())),
+        Call::CacheSpan => Some(yes_or_no(request.get_cache_span().is_some())),
+        Call::HitSpan => Some(yes_or_no(request.get_hit_span().is_some())),
+        Call::MissSpan => Some(yes_or_no(request.get_miss_span().is_some())),
         _ => None,
     }
 }
@@ -67,10 +68,10 @@ fn held<S: Storage>(request: &HttpCache<S>) -> &'static str {
 /// What it reports of the lock.
 pub fn told_of_lock<S: Storage>(request: &HttpCache<S>, step: Step<'_>) -> Option<Answer> {
     match step.call {
-        "holds" => Some(Answer::Word(held(request))),
-        "holds-lock" => Some(yes_or_no(request.holds_lock())),
-        "releasable" => Some(yes_or_no(request.is_releasable(reason(step.first)))),
-        "retries" if !request.phase().is_never_enabled() => {
+        Call::Holds => Some(Answer::Word(held(request))),
+        Call::HoldsLock => Some(yes_or_no(request.holds_lock())),
+        Call::Releasable => Some(yes_or_no(request.is_releasable(reason(step.first)))),
+        Call::Retries if !request.phase().is_never_enabled() => {
             Some(size_or_none(request.cache_lock_max_retries()))
         }
         _ => None,
@@ -95,10 +96,10 @@ fn decision(decision: Option<Decision>) -> Answer {
 /// What it reports of its waits and look-ups.
 pub fn told_of_waits<S: Storage>(request: &HttpCache<S>, step: Step<'_>) -> Option<Answer> {
     match step.call {
-        "waited" => Some(seconds(request.lock_duration())),
-        "time" => Some(seconds(request.lookup_duration())),
-        "decided" => Some(decision(request.admission_decision())),
-        "abandoned" => match request.lock_abandon() {
+        Call::Waited => Some(seconds(request.lock_duration())),
+        Call::Time => Some(seconds(request.lookup_duration())),
+        Call::Decided => Some(decision(request.admission_decision())),
+        Call::Abandoned => match request.lock_abandon() {
             Some(abandon) => Some(Answer::Abandoned(abandon.reason.as_str(), abandon.token)),
             None => Some(NONE),
         },

@@ -3,6 +3,7 @@ ghost use Rattle.std.specs.Prelude.{◌≡◌, true, None};
 ghost use Rattle.cache_phases.specs.Locks.{held};
 
 use crate::answer::{Answer, DONE, NO_MEMORY};
+use crate::call::Call;
 use crate::step::{Step, reason};
 use crate::world::key;
 use cache_heads::NoCacheReason;
@@ -55,6 +56,22 @@ pub fn holds_nothing<S: Storage>(request: &HttpCache<S>) -> bool
     !request.holds_lock()
 }
 
+fn set_lock<S: Storage>(request: &mut HttpCache<S>, is_on: bool) -> Option<Answer> {
+    if !holds_nothing(request) || !request.phase().can_set_lock() {
+        return None;
+    }
+    request.set_cache_lock(is_on, None);
+    Some(DONE)
+}
+
+fn set_policy<S: Storage>(request: &mut HttpCache<S>, is_on: bool) -> Option<Answer> {
+    if !request.phase().can_set_policy() {
+        return None;
+    }
+    request.set_admission_policy(is_on);
+    Some(DONE)
+}
+
 /// A call that turns the cache on or off for the request, or a part of it.
 pub fn turned<S: Storage, E, P, L: CacheKeyLock, A>(
     request: &mut HttpCache<S>,
@@ -62,16 +79,10 @@ pub fn turned<S: Storage, E, P, L: CacheKeyLock, A>(
     step: Step<'_>,
 ) -> Option<Answer> {
     match step.call {
-        "enable" => enable(request, step.first != "lock"),
-        "disable" => disable(request, parts, reason(step.first)),
-        "lock" if holds_nothing(request) && request.phase().can_set_lock() => {
-            request.set_cache_lock(step.first == "on", None);
-            Some(DONE)
-        }
-        "policy" if request.phase().can_set_policy() => {
-            request.set_admission_policy(step.first == "on");
-            Some(DONE)
-        }
+        Call::Enable => enable(request, step.first != "lock"),
+        Call::Disable => disable(request, parts, reason(step.first)),
+        Call::Lock => set_lock(request, step.first == "on"),
+        Call::Policy => set_policy(request, step.first == "on"),
         _ => None,
     }
 }
@@ -98,20 +109,20 @@ pub fn led<S: Storage, E, P: CacheablePredictor, L: CacheKeyLock, A>(
 ) -> Option<Answer> {
     let phase = request.phase();
     match step.call {
-        "key" => set_key(alloc, request, step.letter()),
-        "end" => {
+        Call::Key => set_key(alloc, request, step.letter()),
+        Call::End => {
             mem::replace(request, HttpCache::new()).end(parts);
             Some(DONE)
         }
-        "bypass" if phase.is_key_phase() => {
+        Call::Bypass if phase.is_key_phase() => {
             request.bypass(parts);
             Some(DONE)
         }
-        "miss" if phase.can_miss() => {
+        Call::Miss if phase.can_miss() => {
             request.cache_miss();
             Some(DONE)
         }
-        "updating" if phase.is_stale_phase() => {
+        Call::Updating if phase.is_stale_phase() => {
             request.set_stale_updating();
             Some(DONE)
         }
@@ -122,10 +133,10 @@ pub fn led<S: Storage, E, P: CacheablePredictor, L: CacheKeyLock, A>(
 /// A call that changes no phase and needs no part of the cache.
 pub fn noted<S: Storage>(request: &mut HttpCache<S>, step: Step<'_>) -> Option<Answer> {
     match step.call {
-        "trace" => request.enable_tracing(Span::inactive()),
-        "subrequest" => request.tag_as_subrequest(),
-        "forget" if request.phase().has_reader_phase() => request.forget_cache_meta(),
-        "add-time" => request.add_lookup_duration(Duration::from_seconds(step.number())),
+        Call::Trace => request.enable_tracing(Span::inactive()),
+        Call::Subrequest => request.tag_as_subrequest(),
+        Call::Forget if request.phase().has_reader_phase() => request.forget_cache_meta(),
+        Call::AddTime => request.add_lookup_duration(Duration::from_seconds(step.number())),
         _ => return None,
     }
     Some(DONE)

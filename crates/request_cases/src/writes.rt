@@ -1,5 +1,6 @@
 //! How a response is stored.
 use crate::answer::{Answer, DONE, NO_MEMORY, NONE, done_or_fault};
+use crate::call::Call;
 use crate::step::{Step, variance};
 use crate::world::meta;
 use bytes::Bytes;
@@ -59,13 +60,13 @@ pub fn begun<S: Storage, E, P, L: CacheKeyLock, A>(
     step: Step<'_>,
 ) -> Option<Answer> {
     match step.call {
-        "meta" if request.phase().can_begin() => {
+        Call::Meta if request.phase().can_begin() => {
             request.set_cache_meta(meta(alloc, step));
             Some(DONE)
         }
-        "begin" => begin(request, parts, meta(alloc, step)),
-        "variance" => set_variance(request, parts, variance(step.first)),
-        "writer" => set_writer(request, parts),
+        Call::Begin => begin(request, parts, meta(alloc, step)),
+        Call::Variance => set_variance(request, parts, variance(step.first)),
+        Call::Writer => set_writer(request, parts),
         _ => None,
     }
 }
@@ -149,9 +150,9 @@ pub fn written<S: Storage, E: EvictionManager, P, L: CacheKeyLock, A>(
     step: Step<'_>,
 ) -> Option<Answer> {
     match step.call {
-        "write" => Some(write(alloc, request, parts, step.first)),
-        "finish" => finish(alloc, request, parts),
-        "move-writer" => move_writer(request),
+        Call::Write => Some(write(alloc, request, parts, step.first)),
+        Call::Finish => finish(alloc, request, parts),
+        Call::MoveWriter => move_writer(request),
         _ => None,
     }
 }

@@ -1,11 +1,10 @@
 //! Directives of requests and responses.
-use crate::made::{fields, head};
+use crate::made::{fields, head, head_of};
 use cache_directives::{
     CacheControl, InterpretCacheControl, ListValueIter, RequestHeader, ResponseHeader,
 };
 use http::{Method, StatusCode};
-use http_header::HeaderMap;
-use std::alloc::Global;
+use std::alloc::{AllocError, Global};
 
 #[derive(Clone, Copy)]
 enum Head {
@@ -15,53 +14,41 @@ enum Head {
     ResponseNamed(&'static str),
 }
 
-// Whether what was found has the directive.
-fn has_no_cache<E: Drop>(found: Result<Option<CacheControl>, E>) -> Option<bool> {
+// Copies of heads of one line.
+fn request_of(alloc: Global, field: &str) -> Option<RequestHeader> {
+    let method = Method::GET;
+    let headers = fields(alloc, &[(field, b"no-cache")]);
+    RequestHeader { method, headers }.clone().ok()
+}
+
+fn response_of(alloc: Global, field: &str) -> Option<ResponseHeader> {
+    head_of(alloc, field, "no-cache").clone().ok()
+}
+
+// Whether the head that is asked for has the directive of its line.
+fn finds(
+    alloc: Global,
+    head: Head,
+    request: &RequestHeader,
+    response: &ResponseHeader,
+) -> Option<bool> {
+    let found = match head {
+        Head::Request => CacheControl::from_req_headers(alloc, request),
+        Head::RequestNamed(name) => CacheControl::from_req_headers_named(alloc, name, request),
+        Head::Response => CacheControl::from_resp_headers(alloc, response),
+        Head::ResponseNamed(name) => CacheControl::from_resp_headers_named(alloc, name, response),
+    };
     match found {
         Ok(Some(control)) => Some(control.no_cache()),
         Ok(None) => Some(false),
-        Err(_) => None,
+        Err(AllocError) => None,
     }
 }
 
-fn in_request(alloc: Global, name: Option<&str>, request: &RequestHeader) -> Option<bool> {
-    match name {
-        Some(name) => has_no_cache(CacheControl::from_req_headers_named(alloc, name, request)),
-        None => has_no_cache(CacheControl::from_req_headers(alloc, request)),
-    }
-}
-
-fn in_response(alloc: Global, name: Option<&str>, response: &ResponseHeader) -> Option<bool> {
-    match name {
-        Some(name) => has_no_cache(CacheControl::from_resp_headers_named(alloc, name, response)),
-        None => has_no_cache(CacheControl::from_resp_headers(alloc, response)),
-    }
-}
-
-fn in_copied_request(alloc: Global, name: Option<&str>, headers: HeaderMap) -> Option<bool> {
-    let method = Method::GET;
-    match (RequestHeader { method, headers }).clone() {
-        Ok(request) => in_request(alloc, name, &request),
-        Err(_) => None,
-    }
-}
-
-fn in_copied_response(alloc: Global, name: Option<&str>, headers: HeaderMap) -> Option<bool> {
-    let status = StatusCode::OK;
-    match (ResponseHeader { status, headers }).clone() {
-        Ok(response) => in_response(alloc, name, &response),
-        Err(_) => None,
-    }
-}
-
-// Whether the head has the directive of its one line under the name that is asked for.
-fn finds(alloc: Global, field: &str, head: Head) -> Option<bool> {
-    let headers = fields(alloc, &[(field, b"no-cache")])?;
-    match head {
-        Head::Request => in_copied_request(alloc, None, headers),
-        Head::RequestNamed(name) => in_copied_request(alloc, Some(name), headers),
-        Head::Response => in_copied_response(alloc, None, headers),
-        Head::ResponseNamed(name) => in_copied_response(alloc, Some(name), headers),
+fn is_found(alloc: Global, field: &str, head: Head, want: bool) -> bool {
+    match (request_of(alloc, field), response_of(alloc, field)) {
+        (Some(request), Some(response)) => finds(alloc, head, &request, &response) == Some(want),
+        _ => false,
     }
 }
 
@@ -82,8 +69,8 @@ const HEADS: &[(&str, Head, bool)] = &[
 
 #[test]
 fn heads(rt: HostRuntime) {
-    for &(field, head, expected) in HEADS {
-        assert!(rt; finds(rt.alloc(), field, head) == Some(expected));
+    for &(field, head, want) in HEADS {
+        assert!(rt; is_found(rt.alloc(), field, head, want));
     }
 }
 
@@ -105,21 +92,21 @@ fn strip(found: &CacheControl, response: &mut ResponseHeader) -> (usize, usize, 
     (in_private, in_no_cache, response.headers.len())
 }
 
-fn strip_own(alloc: Global, mut response: ResponseHeader) -> Option<(usize, usize, usize)> {
-    match CacheControl::from_resp_headers(alloc, &response) {
-        Ok(Some(found)) => Some(strip(&found, &mut response)),
-        _ => None,
+fn is_stripped(alloc: Global, response: &mut ResponseHeader, want: (usize, usize, usize)) -> bool {
+    match CacheControl::from_resp_headers(alloc, response) {
+        Ok(Some(found)) => strip(&found, response) == want,
+        _ => false,
     }
 }
 
 // The same of a head with x-a and x-b.
-fn stripped(alloc: Global, line: &str) -> Option<(usize, usize, usize)> {
+fn is_stripped_so(alloc: Global, line: &str, want: (usize, usize, usize)) -> bool {
     let lines: [(&str, &[u8]); 3] = [
         ("cache-control", line.as_bytes()),
         ("x-a", b"1"),
         ("x-b", b"2"),
     ];
-    strip_own(alloc, head(alloc, &lines)?)
+    is_stripped(alloc, &mut head(alloc, &lines), want)
 }
 
 const STRIPPED: &[(&str, (usize, usize, usize))] = &[
@@ -132,7 +119,7 @@ const STRIPPED: &[(&str, (usize, usize, usize))] = &[
 
 #[test]
 fn stripped_heads(rt: HostRuntime) {
-    for &(line, expected) in STRIPPED {
-        assert!(rt; stripped(rt.alloc(), line) == Some(expected));
+    for &(line, want) in STRIPPED {
+        assert!(rt; is_stripped_so(rt.alloc(), line, want));
     }
 }

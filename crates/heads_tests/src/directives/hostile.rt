@@ -1,12 +1,12 @@
 //! Lines that are made to cost much, and memory that is refused.
+use crate::directives::control;
 use crate::directives::lines::is_line;
 use crate::directives::values::{Made, NAMES, make_key};
-use crate::made::{add, fields};
+use crate::made::fields;
 use cache_directives::{CacheControl, DirectiveKey};
 use http_header::HeaderMap;
 use std::alloc::{AllocError, Global};
 use std::hash::BuildHasher;
-use std::process::Abort;
 
 // The worst that a header value can hold: a quote that never closes is read to the line's end, and once, since no second
 // one can begin inside it. Only LF, which is in no header value, would end such a reading earlier.
@@ -18,9 +18,11 @@ fn unclosed(line: &mut Vec<u8>) -> Result<(), AllocError> {
     Ok(())
 }
 
+const UNCLOSED: &str = "CacheControl { directives: {Unknown(\"a\"): None, Unknown(\"b\"): None} }";
+
 fn unclosed_is_read(alloc: Global) -> bool {
     let mut line = Vec::new(alloc);
-    unclosed(&mut line).is_ok() && is_line(alloc, line.as_slice(), "a;b")
+    unclosed(&mut line).is_ok() && is_line(alloc, line.as_slice(), UNCLOSED)
 }
 
 #[test]
@@ -28,43 +30,50 @@ fn unclosed_quote(rt: HostRuntime) {
     assert!(rt; unclosed_is_read(rt.alloc()));
 }
 
-// Ends of heads, after a line of 256 bytes. After each of these the hash of a name starts differently, so names that collide
+const LONG: &[u8] = &[b'a'; 256];
+
+// Heads that begin with a line of 256 bytes. After each of these the hash of a name starts differently, so names that collide
 // cannot be searched for before the lines are there. From a start that is the same for each map they can, and to read n of
 // them then takes n * n comparisons.
-const STARTS: &[&[&str]] = &[
-    &["public"],
-    &["public,"],
-    &["public=1"],
-    &["public", "x"],
-    &["x", "public"],
-    &["public", "y"],
+const STARTS: &[&[&[u8]]] = &[
+    &[LONG, b"public"],
+    &[LONG, b"public,"],
+    &[LONG, b"public=1"],
+    &[LONG, b"public", b"x"],
+    &[LONG, b"x", b"public"],
+    &[LONG, b"public", b"y"],
 ];
 
-fn long_head(alloc: Global, lines: &[&str]) -> Option<HeaderMap> {
-    let mut headers = fields(alloc, &[("cache-control", &[b'a'; 256])])?;
-    for line in lines {
-        add(alloc, &mut headers, "cache-control", line.as_bytes())?;
+fn hash_after(alloc: Global, lines: &[&[u8]]) -> Option<u64> {
+    match control(alloc, lines) {
+        Some(found) => Some(found.directives.hasher().hash_one(DirectiveKey::Public)),
+        None => None,
     }
-    Some(headers)
 }
 
-fn hash_after(alloc: Global, lines: &[&str]) -> Option<u64> {
-    let headers = long_head(alloc, lines)?;
-    match CacheControl::from_headers_named(alloc, "cache-control", &headers) {
-        Ok(Some(found)) => Some(found.directives.hasher().hash_one(DirectiveKey::Public)),
-        _ => None,
+// Whether a hash is the same each time, and none of the earlier ones.
+fn is_new(alloc: Global, lines: &[&[u8]], earlier: &[&[&[u8]]]) -> bool {
+    let hash = hash_after(alloc, lines);
+    for other in earlier {
+        if hash == hash_after(alloc, other) {
+            return false;
+        }
     }
+    hash.is_some() && hash == hash_after(alloc, lines)
+}
+
+fn are_new(alloc: Global, starts: &[&[&[u8]]]) -> bool {
+    for i in 0..starts.len() {
+        if !is_new(alloc, starts[i], &starts[..i]) {
+            return false;
+        }
+    }
+    true
 }
 
 #[test]
 fn names_chosen_to_collide(rt: HostRuntime) {
-    for (i, lines) in STARTS.iter().enumerate() {
-        let hash = hash_after(rt.alloc(), lines);
-        assert!(rt; hash.is_some() && hash == hash_after(rt.alloc(), lines));
-        for earlier in &STARTS[..i] {
-            assert!(rt; hash != hash_after(rt.alloc(), earlier));
-        }
-    }
+    assert!(rt; are_new(rt.alloc(), STARTS));
 }
 
 // Lines that are read, and keys that are made, with memory or without.
@@ -83,9 +92,11 @@ fn are_read(alloc: Global, headers: &HeaderMap, may_refuse: bool) -> bool {
 
 // Whether a line is read, or memory was refused where it may be: a refusal is reported, and nothing else is.
 fn reads(alloc: Global, line: &str, may_refuse: bool) -> bool {
-    match fields(alloc, &[("cache-control", line.as_bytes())]) {
-        Some(headers) => are_read(alloc, &headers, may_refuse),
-        None => may_refuse,
+    let headers = fields(alloc, &[("cache-control", line.as_bytes())]);
+    if headers.is_empty() {
+        may_refuse
+    } else {
+        are_read(alloc, &headers, may_refuse)
     }
 }
 
@@ -96,23 +107,28 @@ fn has_text(alloc: Global, name: &str, may_refuse: bool) -> bool {
     }
 }
 
-fn check_memory(rt: &impl Abort, alloc: Global, may_refuse: bool) {
+fn all_read(alloc: Global, may_refuse: bool) -> bool {
     for line in READ {
-        assert!(rt; reads(alloc, line, may_refuse));
+        if !reads(alloc, line, may_refuse) {
+            return false;
+        }
     }
     for (name, _) in NAMES {
-        assert!(rt; has_text(alloc, name, may_refuse));
+        if !has_text(alloc, name, may_refuse) {
+            return false;
+        }
     }
+    true
 }
 
 #[test]
 fn refused_memory(rt: HostRuntime) {
-    check_memory(&rt, rt.alloc(), true);
+    assert!(rt; all_read(rt.alloc(), true));
 }
 
 #[test]
 fn ample_memory_meets_no_refusal(rt: HostRuntime) {
     for _ in 0..2 {
-        check_memory(&rt, rt.alloc(), false);
+        assert!(rt; all_read(rt.alloc(), false));
     }
 }

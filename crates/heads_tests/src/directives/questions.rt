@@ -89,7 +89,7 @@ fn answers(control: &CacheControl, asked: Asked) -> bool {
 }
 
 fn is_answered(alloc: Global, line: &str, asked: Asked) -> bool {
-    match control(alloc, line.as_bytes()) {
+    match control(alloc, &[line.as_bytes()]) {
         Some(control) => answers(&control, asked),
         None => false,
     }
@@ -143,15 +143,14 @@ const QUESTIONS: &[(&str, Asked)] = &[
 ];
 
 // Whether directives that are made by hand have public, and private.
-fn made_by_hand(alloc: Global) -> Option<(bool, bool)> {
-    let mut directives = DirectiveMap::with_hasher(alloc, BuildDirectiveHasher::default());
-    let put = directives.insert(DirectiveKey::Public, None).is_ok();
-    let control = CacheControl { directives };
-    if put {
-        Some((control.public(), control.private()))
-    } else {
-        None
-    }
+fn made_by_hand(alloc: Global) -> (bool, bool) {
+    let directives = DirectiveMap::with_hasher(alloc, BuildDirectiveHasher::default());
+    let mut control = CacheControl { directives };
+    let put = control
+        .directives
+        .insert(DirectiveKey::Public, None)
+        .is_ok();
+    (put && control.public(), control.private())
 }
 
 #[test]
@@ -161,5 +160,5 @@ fn questions_storing_and_seconds(rt: HostRuntime) {
     }
     let most = u64::from(DELTA_SECONDS_OVERFLOW_VALUE);
     assert!(rt; DELTA_SECONDS_OVERFLOW_DURATION.seconds() == most);
-    assert!(rt; made_by_hand(rt.alloc()) == Some((true, false)));
+    assert!(rt; made_by_hand(rt.alloc()) == (true, false));
 }

@@ -1,5 +1,5 @@
 //! Names, values and printed texts.
-use crate::directives::{UNREADABLE, control};
+use crate::directives::UNREADABLE;
 use crate::made::is_text;
 use cache_directives::{DirectiveKey, DirectiveValue, Error, ErrorType};
 use std::alloc::{AllocError, Global};
@@ -124,19 +124,9 @@ fn is_shown(alloc: Global, etype: ErrorType, want: &str) -> bool {
     is_text(format!(in alloc; "{}", Error { etype }), want)
 }
 
-fn is_control(alloc: Global, line: &[u8], want: &str) -> bool {
-    match control(alloc, line) {
-        Some(found) => is_text(format!(in alloc; "{found:?}"), want),
-        None => false,
-    }
-}
-
 #[test]
-fn shown_texts(rt: HostRuntime) {
+fn errors_are_shown(rt: HostRuntime) {
     for &(etype, expected) in ERRORS {
         assert!(rt; is_shown(rt.alloc(), etype, expected));
     }
-    let expected =
-        "CacheControl { directives: {Public: None, MaxAge: Some(DirectiveValue([51]))} }";
-    assert!(rt; is_control(rt.alloc(), b"public, max-age=3", expected));
 }

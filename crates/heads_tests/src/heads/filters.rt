@@ -12,7 +12,7 @@ use cache_heads::meta::{
     ResponseHeader,
 };
 use cache_heads::{NoCacheReason, RespCacheable};
-use cache_words::time::Moment;
+use cache_words::time::{Duration, Moment};
 use http::{Method, StatusCode};
 use http_header::HeaderMap;
 use std::alloc::Global;
@@ -85,10 +85,9 @@ fn is_kept(header: ResponseHeader, row: &Row) -> bool {
 }
 
 fn is_right(alloc: Global, row: &Row) -> bool {
-    match head_of(alloc, row.0, row.1) {
-        Some(header) => are_seconds(&header, row) && is_kept(header, row),
-        None => false,
-    }
+    let header = head_of(alloc, row.0, row.1);
+    let are_right = are_seconds(&header, row);
+    is_kept(header, row) && are_right
 }
 
 #[test]
@@ -98,15 +97,24 @@ fn expires_gives_a_moment(rt: HostRuntime) {
     }
 }
 
+// What the defaults give without a response: no freshness by its status, and the windows.
+fn given() -> (Option<Duration>, Option<Duration>, [u32; 2], (u32, u32)) {
+    let defaults = defaults();
+    let windows = [
+        defaults.serve_stale_while_revalidate_sec(),
+        defaults.serve_stale_if_error_sec(),
+    ];
+    (
+        NeverByStatus.fresh_duration(StatusCode::OK),
+        defaults.fresh_sec(StatusCode::OK),
+        windows,
+        calculate_serve_stale_durations(None::<&CacheControl>, &defaults),
+    )
+}
+
 #[test]
 fn defaults_are_shown(rt: HostRuntime) {
-    let defaults = defaults();
-    assert!(rt; NeverByStatus.fresh_duration(StatusCode::OK).is_none());
-    assert!(rt; defaults.fresh_sec(StatusCode::OK).is_none());
-    assert!(rt; defaults.serve_stale_while_revalidate_sec() == 7);
-    assert!(rt; defaults.serve_stale_if_error_sec() == 8);
-    let windows = calculate_serve_stale_durations(None::<&CacheControl>, &defaults);
-    assert!(rt; windows == (7, 8));
+    assert!(rt; given() == (None, None, [7, 8], (7, 8)));
 }
 
 fn is_cacheable(alloc: Global, method: Method) -> bool {
@@ -114,41 +122,52 @@ fn is_cacheable(alloc: Global, method: Method) -> bool {
     request_cacheable(&RequestHeader { method, headers })
 }
 
-#[test]
-fn methods_are_cacheable_and_reasons_have_names(rt: HostRuntime) {
-    assert!(rt; is_cacheable(rt.alloc(), Method::GET));
-    assert!(rt; is_cacheable(rt.alloc(), Method::HEAD));
-    assert!(rt; !is_cacheable(rt.alloc(), Method::POST));
-    assert!(rt; NoCacheReason::OriginNotCache.as_str() == "OriginNotCache");
-    assert!(rt; NoCacheReason::Custom("mine").as_str() == "mine");
+fn are_cacheable(alloc: Global) -> [bool; 3] {
+    [
+        is_cacheable(alloc, Method::GET),
+        is_cacheable(alloc, Method::HEAD),
+        is_cacheable(alloc, Method::POST),
+    ]
 }
 
-// A HEAD request with a range; `None` when out of memory.
-fn ranged(alloc: Global) -> Option<RequestHeader> {
+fn names() -> [&'static str; 2] {
+    [
+        NoCacheReason::OriginNotCache.as_str(),
+        NoCacheReason::Custom("mine").as_str(),
+    ]
+}
+
+#[test]
+fn methods_are_cacheable_and_reasons_have_names(rt: HostRuntime) {
+    assert!(rt; are_cacheable(rt.alloc()) == [true, true, false]);
+    assert!(rt; names() == ["OriginNotCache", "mine"]);
+}
+
+// A HEAD request with a range.
+fn ranged(alloc: Global) -> RequestHeader {
     let lines: [(&str, &[u8]); 2] = [("range", b"bytes=0-1"), ("if-none-match", b"\"b\"")];
-    let headers = fields(alloc, &lines)?;
-    let method = Method::HEAD;
-    Some(RequestHeader { method, headers })
+    RequestHeader {
+        method: Method::HEAD,
+        headers: fields(alloc, &lines),
+    }
 }
 
 // Sends it on. Without memory it stays as it was.
-fn is_sent_or_kept(kept: &CacheMeta, mut request: RequestHeader) -> bool {
-    let is_sent = request_filter(&mut request, Some(kept)).is_ok();
-    (request.method == Method::GET) == is_sent
+fn is_sent_or_kept(kept: &CacheMeta, request: &mut RequestHeader) -> bool {
+    let is_sent = request_filter(request, Some(kept)).is_ok();
+    (request.method.as_str() == "GET") == is_sent
         && request.headers.contains_key("range") != is_sent
         && request.headers.contains_key("if-none-match")
 }
 
-fn is_filtered(alloc: Global, kept: &CacheMeta) -> bool {
-    match ranged(alloc) {
-        Some(request) => is_sent_or_kept(kept, request),
-        None => true,
-    }
+// The meta or the request lacks a field where memory was refused before.
+fn is_filtered(alloc: Global) -> bool {
+    let kept = meta(alloc);
+    let mut request = ranged(alloc);
+    kept.headers().is_empty() || request.headers.len() < 2 || is_sent_or_kept(&kept, &mut request)
 }
 
 #[test]
 fn refused_request_is_unchanged(rt: HostRuntime) {
-    if let Some(kept) = meta(rt.alloc()) {
-        assert!(rt; is_filtered(rt.alloc(), &kept));
-    }
+    assert!(rt; is_filtered(rt.alloc()));
 }

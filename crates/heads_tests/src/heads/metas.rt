@@ -114,13 +114,6 @@ fn all_done(meta: &mut CacheMeta, rows: &[Row]) -> bool {
     true
 }
 
-fn does(alloc: Global, rows: &[Row]) -> bool {
-    match meta(alloc) {
-        Some(mut meta) => all_done(&mut meta, rows),
-        None => false,
-    }
-}
-
 const MADE: [i64; 5] = [1000, 1000, 1000, 1000, 1010];
 
 const LASTING: [u64; 3] = [10, 5, 60];
@@ -200,11 +193,9 @@ fn lends_and_copies(meta: &mut CacheMeta) -> bool {
     }
 }
 
-fn lent_and_copied(alloc: Global) -> bool {
-    match meta(alloc) {
-        Some(mut meta) => lends_and_copies(&mut meta),
-        None => false,
-    }
+fn does(alloc: Global, rows: &[Row]) -> bool {
+    let mut meta = meta(alloc);
+    all_done(&mut meta, rows) && lends_and_copies(&mut meta)
 }
 
 #[test]
@@ -212,5 +203,4 @@ fn metas_change_and_lend_their_heads(rt: HostRuntime) {
     assert!(rt; does(rt.alloc(), CHANGES));
     assert!(rt; does(rt.alloc(), SET));
     assert!(rt; does(rt.alloc(), SERVED));
-    assert!(rt; lent_and_copied(rt.alloc()));
 }

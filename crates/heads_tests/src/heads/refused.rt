@@ -1,7 +1,7 @@
 //! Calls that take memory. Nothing here makes an allocation fail: a run that makes the n-th one
 //! fail shows the other arm.
 use super::meta;
-use super::texts::{HEADER, INTERNAL};
+use super::texts::{HEADER, INTERNAL, is_read, is_written};
 use cache_heads::meta::{CacheMeta, MetaFault, MetaReadFault};
 use std::alloc::Global;
 
@@ -13,28 +13,29 @@ fn is_copied_or_left(kept: &CacheMeta) -> bool {
 }
 
 fn is_written_or_refused(alloc: Global, kept: &CacheMeta) -> bool {
-    match kept.serialize(alloc) {
-        Ok((internal, header)) => internal.as_slice() == INTERNAL && header.as_slice() == HEADER,
+    match is_written(alloc, kept, INTERNAL, HEADER) {
+        Ok(is_right) => is_right,
         Err(fault) => fault == MetaFault::Memory,
     }
 }
 
-fn is_read_or_refused(alloc: Global) -> bool {
-    match CacheMeta::deserialize(alloc, INTERNAL, HEADER) {
-        Ok(read) => read.headers().len() == 1,
+fn is_read_or_refused(alloc: Global, kept: &CacheMeta) -> bool {
+    match is_read(alloc, kept, INTERNAL, HEADER) {
+        Ok(is_right) => is_right,
         Err(fault) => fault == MetaReadFault::Memory,
     }
 }
 
-#[test]
-fn refused_copy_and_write_of_a_meta(rt: HostRuntime) {
-    if let Some(kept) = meta(rt.alloc()) {
-        assert!(rt; is_copied_or_left(&kept));
-        assert!(rt; is_written_or_refused(rt.alloc(), &kept));
-    }
+// The meta lacks its field where memory was refused before.
+fn all_done_or_refused(alloc: Global) -> bool {
+    let kept = meta(alloc);
+    kept.headers().is_empty()
+        || is_copied_or_left(&kept)
+            && is_written_or_refused(alloc, &kept)
+            && is_read_or_refused(alloc, &kept)
 }
 
 #[test]
-fn refused_read_of_a_meta(rt: HostRuntime) {
-    assert!(rt; is_read_or_refused(rt.alloc()));
+fn refused_copy_write_and_read_of_a_meta(rt: HostRuntime) {
+    assert!(rt; all_done_or_refused(rt.alloc()));
 }

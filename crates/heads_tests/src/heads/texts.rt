@@ -23,79 +23,87 @@ const PUT_INTERNAL: &[u8] =
 const PUT_HEADER: &[u8] =
     b"\x92\xcc\xc8\x91\x92\xadcache-control\xc4\x3bmax-age=46, stale-while-revalidate=70000, stale-if-error=60";
 
-fn is_written(alloc: Global, meta: &CacheMeta, internal: &[u8], header: &[u8]) -> bool {
+/// Whether a meta is written so.
+pub(super) fn is_written(
+    alloc: Global,
+    meta: &CacheMeta,
+    internal: &[u8],
+    header: &[u8],
+) -> Result<bool, MetaFault> {
     match meta.serialize(alloc) {
-        Ok(found) => found.0.as_slice() == internal && found.1.as_slice() == header,
-        Err(_) => false,
+        Ok(found) => Ok(found.0.as_slice() == internal && found.1.as_slice() == header),
+        Err(fault) => Err(fault),
     }
 }
 
-fn is_read(alloc: Global, meta: &CacheMeta, internal: &[u8], header: &[u8]) -> bool {
+/// Whether this meta is read.
+pub(super) fn is_read(
+    alloc: Global,
+    meta: &CacheMeta,
+    internal: &[u8],
+    header: &[u8],
+) -> Result<bool, MetaReadFault> {
     match CacheMeta::deserialize(alloc, internal, header) {
-        Ok(read) => read.internal == meta.internal && *read.headers() == *meta.headers(),
-        Err(_) => false,
+        Ok(read) => Ok(read.internal == meta.internal && *read.headers() == *meta.headers()),
+        Err(fault) => Err(fault),
     }
+}
+
+// Bytes, and whether a meta is read from them: its moments and numbers are read before the head.
+const READ: &[(&[u8], &[u8], Result<bool, MetaReadFault>)] = &[
+    (INTERNAL, HEADER, Ok(true)),
+    (b"\x96", b"\xc0", Err(MetaReadFault::Pack(PackFault::Short))),
+    (INTERNAL, b"\xc0", Err(MetaReadFault::Pack(PackFault::Kind))),
+];
+
+fn are_read(alloc: Global, meta: &CacheMeta) -> bool {
+    for &(internal, header, want) in READ {
+        if is_read(alloc, meta, internal, header) != want {
+            return false;
+        }
+    }
+    true
 }
 
 // Whether a meta is written and read again, and refused with a moment before 1970.
-fn both_ways(alloc: Global) -> Option<[bool; 3]> {
-    let mut meta = meta(alloc)?;
-    let is_written = is_written(alloc, &meta, INTERNAL, HEADER);
-    let is_read = is_read(alloc, &meta, INTERNAL, HEADER);
+fn both_ways(alloc: Global) -> bool {
+    let mut meta = meta(alloc);
+    let is_right = is_written(alloc, &meta, INTERNAL, HEADER) == Ok(true) && are_read(alloc, &meta);
     meta.set_epoch_override(Moment::from_seconds(-1));
-    let is_refused = matches!(meta.serialize(alloc), Err(MetaFault::MetaMoment));
-    Some([is_written, is_read, is_refused])
+    let written = is_written(alloc, &meta, INTERNAL, HEADER);
+    is_right && written == Err(MetaFault::MetaMoment)
 }
 
 #[test]
-fn metas_are_read_again(rt: HostRuntime) {
+fn metas_are_read_again_and_the_first_fault_is_told(rt: HostRuntime) {
     laws::meta_is_read_again();
     laws::one_meta();
-    assert!(rt; both_ways(rt.alloc()) == Some([true, true, true]));
+    assert!(rt; both_ways(rt.alloc()));
 }
 
 fn is_kept(alloc: Global, found: RespCacheable) -> bool {
-    if found.is_cacheable() {
-        let meta = found.unwrap_meta();
-        return is_written(alloc, &meta, PUT_INTERNAL, PUT_HEADER);
+    if !found.is_cacheable() {
+        return false;
     }
-    false
+    is_written(alloc, &found.unwrap_meta(), PUT_INTERNAL, PUT_HEADER) == Ok(true)
 }
 
-// Whether a response that came at 127 is kept so.
-fn is_put(alloc: Global, header: ResponseHeader) -> bool {
+// Puts a response that came at 127.
+fn put(control: Option<&CacheControl>, header: ResponseHeader) -> RespCacheable {
     let defaults = CacheMetaDefaults::new(NeverByStatus, 0, 0);
-    let now = Moment::from_seconds(127);
-    match CacheControl::from_resp_headers(alloc, &header) {
-        Ok(found) => is_kept(
-            alloc,
-            resp_cacheable(now, found.as_ref(), header, false, &defaults),
-        ),
-        Err(_) => false,
-    }
+    resp_cacheable(Moment::from_seconds(127), control, header, false, &defaults)
 }
 
-fn is_put_so(alloc: Global, line: &str) -> bool {
-    match head_of(alloc, "cache-control", line) {
-        Some(header) => is_put(alloc, header),
-        None => false,
+fn is_put(alloc: Global, line: &str) -> bool {
+    let header = head_of(alloc, "cache-control", line);
+    match CacheControl::from_resp_headers(alloc, &header) {
+        Ok(found) => is_kept(alloc, put(found.as_ref(), header)),
+        Err(_) => false,
     }
 }
 
 #[test]
 fn the_meta_of_a_put_is_written(rt: HostRuntime) {
     let line = "max-age=46, stale-while-revalidate=70000, stale-if-error=60";
-    assert!(rt; is_put_so(rt.alloc(), line));
-}
-
-// The moments and numbers are read before the head.
-#[test]
-fn the_first_fault_is_told(rt: HostRuntime) {
-    for (internal, fault) in [
-        (b"\x96".as_slice(), PackFault::Short),
-        (INTERNAL, PackFault::Kind),
-    ] {
-        let read = CacheMeta::deserialize(rt.alloc(), internal, b"\xc0");
-        assert!(rt; read.err() == Some(MetaReadFault::Pack(fault)));
-    }
+    assert!(rt; is_put(rt.alloc(), line));
 }

@@ -42,12 +42,8 @@ fn is_written_as(alloc: Global, text: &[u8], header: &ResponseHeader) -> bool {
 }
 
 fn is_head(alloc: Global, fields: &[Field], text: &[u8], written: bool) -> bool {
-    match made::head(alloc, fields) {
-        Some(header) => {
-            is_read_as(alloc, text, &header) && (!written || is_written_as(alloc, text, &header))
-        }
-        None => false,
-    }
+    let header = made::head(alloc, fields);
+    is_read_as(alloc, text, &header) && (!written || is_written_as(alloc, text, &header))
 }
 
 #[test]
@@ -79,11 +75,18 @@ const FAULTS: &[(&[u8], PackFault)] = &[
     (b"\x92\xcc\xc8\xdd\xff\xff\xff\xff", PackFault::Short),
 ];
 
+/// How many names are read.
+pub(super) fn names_of(alloc: Global, text: &[u8]) -> Result<usize, MetaReadFault> {
+    match head::read(alloc, text) {
+        Ok(header) => Ok(header.headers.keys_len()),
+        Err(fault) => Err(fault),
+    }
+}
+
 #[test]
 fn the_first_fault_of_a_head_is_returned(rt: HostRuntime) {
     for &(bytes, fault) in FAULTS {
-        let found = head::read(rt.alloc(), bytes).err();
-        assert!(rt; found == Some(MetaReadFault::Pack(fault)));
+        assert!(rt; names_of(rt.alloc(), bytes) == Err(MetaReadFault::Pack(fault)));
     }
 }
 
@@ -96,31 +99,26 @@ fn put_names(text: &mut Vec<u8>, count: u32) -> Result<(), AllocError> {
     text.extend_from_slice(b"\x92\xcc\xc8\xdd")?;
     text.extend_from_slice(&count.to_be_bytes())?;
     for i in 0..count {
-        let name = [
+        let third = letter(i / 26);
+        let pair = [
+            0x92,
+            0xa4,
             letter(i / 17576),
             letter(i / 676),
-            letter(i / 26),
+            third,
             letter(i),
+            0xc4,
+            0,
         ];
-        text.extend_from_slice(b"\x92\xa4")?;
-        text.extend_from_slice(&name)?;
-        text.extend_from_slice(b"\xc4\0")?;
+        text.extend_from_slice(&pair)?;
     }
     Ok(())
 }
 
-// Whether so many names are read.
-fn are_read(alloc: Global, text: &[u8], want: Result<usize, MetaReadFault>) -> bool {
-    match head::read(alloc, text) {
-        Ok(header) => want == Ok(header.headers.keys_len()),
-        Err(fault) => want == Err(fault),
-    }
-}
-
-// The same of a head of this many.
+// Whether so many names are read of a head of this many.
 fn names_are_read(alloc: Global, count: u32, want: Result<usize, MetaReadFault>) -> bool {
     let mut text = Vec::new(alloc);
-    put_names(&mut text, count).is_ok() && are_read(alloc, text.as_slice(), want)
+    put_names(&mut text, count).is_ok() && names_of(alloc, text.as_slice()) == want
 }
 
 #[test]

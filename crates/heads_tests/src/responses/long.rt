@@ -1,66 +1,56 @@
 //! Heads of many lines, and long ones.
-use crate::responses::pieces::{is_by_bytes, is_read_so};
+use crate::responses::pieces::{Want, are_read_so};
 use std::alloc::{AllocError, Global};
 
-// Writes a start, a text so many times, and what comes after it.
-fn put(
-    bytes: &mut Vec<u8>,
-    start: &str,
-    text: &str,
-    times: usize,
-    after: &str,
-) -> Result<(), AllocError> {
-    bytes.extend_from_slice(start.as_bytes())?;
-    for _ in 0..times {
-        bytes.extend_from_slice(text.as_bytes())?;
-    }
-    bytes.extend_from_slice(after.as_bytes())
-}
+// A start, a text, how many times it comes, what comes after it, and what that gives.
+type Row = (&'static str, &'static str, usize, &'static str, Want);
 
-fn lines_are_read(alloc: Global, lines: usize, after: &str, want: &str) -> bool {
-    let mut bytes = Vec::new(alloc);
-    let made = put(&mut bytes, "HTTP/1.1 200 OK\r\n", "a: b\r\n", lines, after);
-    is_read_so(alloc, made, bytes.as_slice(), want)
-}
+const OK: &str = "HTTP/1.1 200 OK\r\n";
 
-// The number of lines, what comes after them, and what that gives.
-const LINES: &[(usize, &str, &str)] = &[
-    (64, "\r\n", "200 64 []"),
-    (65, "\r\n", "200 65 []"),
-    (256, "", "incomplete"),
-    (256, "\r\n", "200 256 []"),
-    (256, "\r\nc", "200 256 [99]"),
-    (257, "", "incomplete"),
-    (257, "c", "bad head"),
-    (257, "\r\n", "bad head"),
-    (300, "\r\n", "bad head"),
+// A head has at most 256 lines.
+const LINES: &[Row] = &[
+    (OK, "a: b\r\n", 64, "\r\n", Want::Whole(200, 64, "")),
+    (OK, "a: b\r\n", 65, "\r\n", Want::Whole(200, 65, "")),
+    (OK, "a: b\r\n", 256, "", Want::Begun),
+    (OK, "a: b\r\n", 256, "\r\n", Want::Whole(200, 256, "")),
+    (OK, "a: b\r\n", 256, "\r\nc", Want::Whole(200, 256, "c")),
+    (OK, "a: b\r\n", 257, "", Want::Begun),
+    (OK, "a: b\r\n", 257, "c", Want::BadHead),
+    (OK, "a: b\r\n", 257, "\r\n", Want::BadHead),
+    (OK, "a: b\r\n", 300, "\r\n", Want::BadHead),
+    // One line that is long, or has many blank lines before it: with a parse for each byte these would take minutes.
+    (
+        "HTTP/1.1 200 OK\r\na: ",
+        "b",
+        65536,
+        "\r\n\r\n",
+        Want::Whole(200, 1, ""),
+    ),
+    (
+        "",
+        "\n",
+        65536,
+        "HTTP/1.1 200 OK\r\na: b\r\n\r\n",
+        Want::Whole(200, 1, ""),
+    ),
 ];
 
-#[test]
-fn a_head_has_at_most_256_lines(rt: HostRuntime) {
-    for &(lines, after, want) in LINES {
-        assert!(rt; lines_are_read(rt.alloc(), lines, after, want));
+fn put(bytes: &mut Vec<u8>, row: &Row) -> Result<(), AllocError> {
+    bytes.extend_from_slice(row.0.as_bytes())?;
+    for _ in 0..row.2 {
+        bytes.extend_from_slice(row.1.as_bytes())?;
     }
+    bytes.extend_from_slice(row.3.as_bytes())
 }
 
-// A start, a text, how many times it comes, and what comes after it: a head of one line that is long, or has many blank lines before
-// it. With a parse for each byte these would take minutes.
-const LONG: &[(&str, &str, usize, &str)] = &[
-    ("HTTP/1.1 200 OK\r\na: ", "b", 65536, "\r\n\r\n"),
-    ("", "\n", 65536, "HTTP/1.1 200 OK\r\na: b\r\n\r\n"),
-];
-
-fn is_read_by_bytes(alloc: Global, start: &str, text: &str, times: usize, after: &str) -> bool {
+fn is_read_so(alloc: Global, row: &Row) -> bool {
     let mut bytes = Vec::new(alloc);
-    match put(&mut bytes, start, text, times, after) {
-        Ok(()) => is_by_bytes(alloc, bytes.as_slice(), "200 1 []"),
-        Err(AllocError) => true,
-    }
+    put(&mut bytes, row).is_ok() && are_read_so(alloc, bytes.as_slice(), row.4)
 }
 
 #[test]
-fn long_heads_are_read_byte_by_byte(rt: HostRuntime) {
-    for &(start, text, times, after) in LONG {
-        assert!(rt; is_read_by_bytes(rt.alloc(), start, text, times, after));
+fn heads_of_many_lines_and_long_ones(rt: HostRuntime) {
+    for row in LINES {
+        assert!(rt; is_read_so(rt.alloc(), row));
     }
 }

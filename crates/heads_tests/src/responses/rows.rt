@@ -1,54 +1,55 @@
 //! Pieces of responses, how far they have come after each piece, and what they give at the end.
+use crate::responses::pieces::Want;
 
 // The pieces, the answers after each, and what the joined pieces give.
-pub(crate) const ROWS: &[(&[&str], &str, &str)] = &[
-    (&[], "", "incomplete"),
-    (&[""], "Head ", "incomplete"),
+pub(crate) const ROWS: &[(&[&str], &str, Want)] = &[
+    (&[], "", Want::Begun),
+    (&[""], "Head ", Want::Begun),
     (
         &["HTTP/1.1 200 OK\r\n\r\n", "abc"],
         "Body(0) Body(3) ",
-        "200 0 [97, 98, 99]",
+        Want::Whole(200, 0, "abc"),
     ),
     (
         &["HTTP/1.1 200 OK\r\n", "Server: nijpdra\r\n\r\n"],
         "Head Body(0) ",
-        "200 1 []",
+        Want::Whole(200, 1, ""),
     ),
     (
         &["HTTP/1.1 200 OK\r\nServer: nijpdra\r\n"],
         "Head ",
-        "incomplete",
+        Want::Begun,
     ),
     (
         &["HTP/1.1 200 OK\r\nServer: nijpdra\r\n\r\n", "abc"],
         "BadHead BadHead ",
-        "bad head",
+        Want::BadHead,
     ),
-    (&["HTP/1.1 200 OK\r\n"], "BadHead ", "bad head"),
+    (&["HTP/1.1 200 OK\r\n"], "BadHead ", Want::BadHead),
     (
         &["H", "TP/1.1 200 OK\r\n", "\r\n"],
         "Head Head BadHead ",
-        "bad head",
+        Want::BadHead,
     ),
     (
         &["HTTP/1.1 200 OK\r\nContent-Length: 6\r\n\r\nabc", "def"],
         "Body(3) Done(6) ",
-        "200 1 [97, 98, 99, 100, 101, 102]",
+        Want::Whole(200, 1, "abcdef"),
     ),
     (
         &["HTTP/1.1 200 OK\r\nContent-Length: 6\r\n\r\nabc"],
         "Body(3) ",
-        "incomplete, 200 and 3 bytes",
+        Want::Short(200, 3),
     ),
     (
         &["HTTP/1.1 200 OK\r\nContent-Length: 6\r\n\r\nabc", "de"],
         "Body(3) Body(5) ",
-        "incomplete, 200 and 5 bytes",
+        Want::Short(200, 5),
     ),
     (
         &["HTTP/1.1 200 OK\r\nContent-Length: 2\r\n\r\nabc", "d"],
         "Done(2) Done(2) ",
-        "200 1 [97, 98]",
+        Want::Whole(200, 1, "ab"),
     ),
     (
         &[
@@ -59,7 +60,7 @@ pub(crate) const ROWS: &[(&[&str], &str, &str)] = &[
             "ef",
         ],
         "Head Body(1) Body(2) Body(4) Done(5) ",
-        "200 1 [97, 98, 99, 100, 101]",
+        Want::Whole(200, 1, "abcde"),
     ),
     (
         &[
@@ -67,17 +68,17 @@ pub(crate) const ROWS: &[(&[&str], &str, &str)] = &[
             "st\r\n",
         ],
         "Body(2) Body(6) ",
-        "200 1 [114, 117, 115, 116, 13, 10]",
+        Want::Whole(200, 1, "rust\r\n"),
     ),
     (
         &["HTTP/1.1 200 OK\r\nContent-Length: 0\r\n\r\n", "rust"],
         "Done(0) Done(0) ",
-        "200 1 []",
+        Want::Whole(200, 1, ""),
     ),
     (
         &["HTTP/1.1 304 Not Modified\r\nCache-Control: public, max-age=10\r\n\r\n"],
         "Done(0) ",
-        "304 1 []",
+        Want::Whole(304, 1, ""),
     ),
     (
         &[
@@ -85,7 +86,7 @@ pub(crate) const ROWS: &[(&[&str], &str, &str)] = &[
             "4\r\nrust\r\n0\r\n\r\n",
         ],
         "Done(0) Done(0) ",
-        "204 1 []",
+        Want::Whole(204, 1, ""),
     ),
     (
         &[
@@ -93,39 +94,44 @@ pub(crate) const ROWS: &[(&[&str], &str, &str)] = &[
             "rust",
         ],
         "Done(0) Done(0) ",
-        "204 1 []",
+        Want::Whole(204, 1, ""),
     ),
     (
         &["\r\n\n", "\r\nHTTP/1.1 200 OK\n\n", "a"],
         "Head Body(0) Body(1) ",
-        "200 0 [97]",
+        Want::Whole(200, 0, "a"),
     ),
-    (&["\r\rHTTP/1.1 200 OK\n\n"], "BadHead ", "bad head"),
-    (&["HTTP/1.1 099 OK\r\n"], "Head ", "incomplete"),
+    (&["\r\rHTTP/1.1 200 OK\n\n"], "BadHead ", Want::BadHead),
+    (&["HTTP/1.1 099 OK\r\n"], "Head ", Want::Begun),
     (
         &["HTTP/1.1 099 OK\r\n", "\r\n"],
         "Head BadHead ",
-        "bad head",
+        Want::BadHead,
     ),
     (
         &["HTTP/1.1 200 OK\r\nA : b\r\n", "C: d\r\n e\r\n", "\r\nf"],
         "Head Head Body(1) ",
-        "200 2 [102]",
+        Want::Whole(200, 2, "f"),
     ),
     (
         &["HTTP/1.1 404 Not Found\r\nA : b\r\n\r\nc"],
         "Body(1) ",
-        "404 1 [99]",
+        Want::Whole(404, 1, "c"),
     ),
-    (&["HTTP/2.0 200 OK\r\nA : b\r\n"], "BadHead ", "bad head"),
+    (&["HTTP/2.0 200 OK\r\nA : b\r\n"], "BadHead ", Want::BadHead),
     (
         &["HTTP/1.1 200 OK\r\nContent-Length: +2\r\ncontent-length: 1\r\n\r\nab"],
         "Done(2) ",
-        "200 2 [97, 98]",
+        Want::Whole(200, 2, "ab"),
     ),
     (
         &["HTTP/1.1 200 OK\r\nContent-Length: 1 2\r\n\r\nab"],
         "Body(2) ",
-        "200 1 [97, 98]",
+        Want::Whole(200, 1, "ab"),
+    ),
+    (
+        &["HTTP/1.1 200 OK\r\n\r\n", "a"],
+        "Body(0) Body(1) ",
+        Want::Whole(200, 0, "a"),
     ),
 ];
