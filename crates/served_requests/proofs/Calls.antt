@@ -33,7 +33,7 @@ use Rattle.cache_tier.specs.Draws.{AreDrawn, finished_of}
 use Rattle.served_requests.specs.Requests.{event_at}
 use Rattle.tier_requests.specs.Faults.{out_of_memory}
 use Rattle.served_requests.specs.Leaves.{found_at, IsAside, joined_by, looked_up}
-use Rattle.served_requests.specs.Looks.{opened_for, IsNew}
+use Rattle.served_requests.specs.Looks.{opened_for, IsNew, IsAnswerOfPut}
 use Rattle.served_requests.proofs.Took.{StepsBy}
 
 none_of : {X : Type 0} (o : Option X) → is_some o ≡ false → o ≡ None
@@ -45,11 +45,6 @@ answered_not a f h = cc
 
 refused_as : (f g : TierFault) → ◌≡◌ {A = Outcome} (Err f) (Err g) → f ≡ g
 refused_as f g h = cc
-
-abbrev pub IsAnswerOfPut : Answer → Type 0
-IsAnswerOfPut (Finished n evicted) = Unit {0}
-IsAnswerOfPut (Uncacheable reason) = Unit {0}
-IsAnswerOfPut _ = ⊥
 
 -- a call of an action with an outcome
 abbrev pub IsCall : State → MomentValue → Action → Outcome → State → Type 0

@@ -30,8 +30,8 @@ use Rattle.tier_requests.specs.Faults.{out_of_memory}
 use Rattle.served_requests.specs.Courses.{is_found, is_hit, AreAllOpen, IsUnopened}
 use Rattle.served_requests.specs.Leaves.{found_at, gives_hit, joined_by, came_and_went, looked_up}
 use Rattle.served_requests.specs.Looks.{opened_for, IsNew, is_in_use, AreOpenAbove, IsOpened, OpensAt, IsUnread, Reads, IsLooked, Looks, Ends, Finds}
-use Rattle.served_requests.specs.declared.serve.Looked.{Looked}
-use Rattle.served_requests.specs.declared.serve.Looked.TheVariants.{Fresh, Missed}
+use Rattle.served_requests.specs.declared.look_ups.Looked.{Looked}
+use Rattle.served_requests.specs.declared.look_ups.Looked.TheVariants.{Fresh, Missed}
 use Rattle.served_requests.proofs.Requests.{put_twice, there, come_and_gone}
 use Rattle.served_requests.proofs.Took.{StepsBy-takes, Takes-then}
 use Rattle.served_requests.proofs.Calls.{IsCall, is_call, undrawn, open_ok, open_err, look_ok, look_err, read_ok, drop_ok}

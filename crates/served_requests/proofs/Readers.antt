@@ -1,10 +1,10 @@
 -- A reader that comes to a write and goes again leaves its readers as they were.
-use Rattle.std.proofs.Common.{◌≡◌, ℕ, ◌+◌, ◌-◌, ◌<◌, Bool, true, false, cond, Option, Some, None, refl, ap, sym, ◌∙◌, subst, arith}
+use Rattle.std.proofs.Common.{◌≡◌, ℕ, ◌+◌, ◌-◌, ◌<◌, Bool, false, cond, Option, Some, None, refl, ap, ◌∙◌, arith}
 use Rattle.std.specs.Prelude.{nat_le}
 use Rattle.std.specs.Ordering.{nat_cmp}
 use Rattle.std.specs.FinMap.{FinMap, get, insert, remove}
 use Rattle.std.proofs.lemmas.Bool.{lt-leb}
-use Rattle.tier_model.specs.Shelf.{Readers, Shelf, Look, absent, in_flight, finished, one_more, one_less, joined, parted}
+use Rattle.tier_model.specs.Shelf.{Readers, Look, absent, in_flight, finished, one_more, one_less, joined, parted}
 use Rattle.tier_model.specs.State.{State}
 use Rattle.tier_model.specs.Past.{HasAPast}
 use Rattle.served_requests.specs.Leaves.{came_and_went}

@@ -25,8 +25,8 @@ use Rattle.served_requests.specs.declared.request.Method.{Method}
 use Rattle.served_requests.specs.declared.request.Method.TheVariants as method
 use Rattle.served_requests.specs.declared.request.Served.{Served}
 use Rattle.served_requests.specs.declared.request.Served.TheVariants.{Hit}
-use Rattle.served_requests.specs.declared.serve.Looked.{Looked}
-use Rattle.served_requests.specs.declared.serve.Looked.TheVariants.{Fresh, Missed}
+use Rattle.served_requests.specs.declared.look_ups.Looked.{Looked}
+use Rattle.served_requests.specs.declared.look_ups.Looked.TheVariants.{Fresh, Missed}
 use Rattle.served_requests.proofs.Took.{StepsBy, StepsBy-takes, Takes-then}
 use Rattle.served_requests.proofs.Calls.{is_call, put_aside}
 

@@ -1,5 +1,5 @@
 -- What the steps of a get answer and leave. It serves private contracts.
-use Rattle.std.specs.Prelude.{◌≡◌, ◌<◌, ◌^◌, ℕ, Bool, true, false, ◌⊎◌, List, [], ◌∷◌, Some, None, is_some, Result, Ok, Err, ⊤}
+use Rattle.std.specs.Prelude.{◌≡◌, ◌<◌, ◌^◌, ℕ, Bool, true, false, ◌&&◌, ◌⊎◌, List, [], ◌∷◌, Option, Some, None, is_some, Result, Ok, Err, ⊤}
 use Rattle.std.specs.FinMap.{get}
 use Rattle.rand_core.specs.Stream.{Stream}
 use Rattle.cache_words.specs.Time.{MomentValue}
@@ -8,7 +8,7 @@ use Rattle.cache_lock.specs.State.{after_all}
 use Rattle.tier_model.specs.declared.state.Body.{Body}
 use Rattle.tier_model.specs.declared.event.Action.TheVariants.{Open, LookUp, Read, Drop, Put}
 use Rattle.tier_model.specs.declared.event.Answer.{Answer}
-use Rattle.tier_model.specs.declared.event.Answer.TheVariants.{Opened, Found, Bytes, Dropped}
+use Rattle.tier_model.specs.declared.event.Answer.TheVariants.{Opened, Found, Bytes, Dropped, Finished, Uncacheable}
 use Rattle.tier_model.specs.declared.event.LockGiven.TheVariants as lock
 use Rattle.tier_model.specs.declared.event.TierFault.{TierFault}
 use Rattle.tier_model.specs.declared.event.TierFault.TheVariants.{IdInUse}
@@ -23,8 +23,8 @@ use Rattle.served_requests.specs.Requests.{event_at}
 use Rattle.tier_requests.specs.Faults.{out_of_memory}
 use Rattle.served_requests.specs.Courses.{is_found, is_hit, IsPutTold, IsUnopened}
 use Rattle.served_requests.specs.Leaves.{found_at, gives_hit, joined_by, looked_up}
-use Rattle.served_requests.specs.declared.serve.Looked.{Looked}
-use Rattle.served_requests.specs.declared.serve.Looked.TheVariants.{Fresh, Missed}
+use Rattle.served_requests.specs.declared.look_ups.Looked.{Looked}
+use Rattle.served_requests.specs.declared.look_ups.Looked.TheVariants.{Fresh, Missed}
 use Rattle.served_requests.specs.declared.request.Served.{Served}
 
 -- a request that was opened for an entry, and asks for no lock
@@ -56,6 +56,17 @@ is_in_use _ = false
 -- a request is open of each greater number
 abbrev pub AreOpenAbove : State → ℕ → Type 0
 AreOpenAbove s id = (j : ℕ) → id < j → j < 2 ^ 64 → is_some (get s.requests j) ≡ true
+
+-- whether a look-up found all of a fresh body; nothing where it found nothing
+abbrev pub hit_of : Answer → Option Bool
+hit_of (Found fresh complete given) = Some (fresh && complete)
+hit_of _ = None
+
+-- a put that isn't refused is answered so
+abbrev pub IsAnswerOfPut : Answer → Type 0
+IsAnswerOfPut (Finished n evicted) = Unit {0}
+IsAnswerOfPut (Uncacheable reason) = Unit {0}
+IsAnswerOfPut _ = ⊥
 
 -- the request has all of these bytes to read
 abbrev pub IsUnread : State → ℕ → List ℕ → Type 0

@@ -4,7 +4,9 @@
 //! removed. To serve it is to give a tier its events, one after another: see [`Serve`].
 #![tactic(auto)]
 
+mod events;
 pub mod laws;
+mod look_ups;
 pub mod request;
 mod serve;
 

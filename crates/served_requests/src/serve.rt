@@ -1,17 +1,17 @@
 //! Requests as events of a tier.
-ghost use Rattle.std.specs.Prelude.{◌≡◌, ◌∷◌, [], ℕ, List, is_some, true, IfOk};
-ghost use Rattle.std.specs.FinMap.{get};
+ghost use Rattle.std.specs.Prelude.{◌≡◌, ◌∷◌, [], IfOk, Ok};
 ghost use Rattle.rand_core.specs.Stream.{Stream};
 ghost use Rattle.tier_model.specs.State.{State};
-ghost use Rattle.tier_model.specs.Keys.{Entry};
+ghost use Rattle.tier_model.specs.declared.event.Action.TheVariants as action;
 ghost use Rattle.cache_tier.specs.Takes.{Takes};
-ghost use Rattle.served_requests.specs.Courses.{TakesBy};
-ghost use Rattle.tier_requests.specs.Faults.{out_of_memory};
+ghost use Rattle.served_requests.specs.Courses.{TakesBy, IsPutTold};
 ghost use Rattle.served_requests.specs.Leaves.{LeavesBy, IsAside};
 ghost use Rattle.served_requests.specs.Serves.{Serves};
-ghost use Rattle.served_requests.specs.Looks.{is_in_use, IsNew, Opens, OpensAt, IsUnread, Reads, Looks, Ends, Finds, Fills};
+ghost use Rattle.served_requests.specs.Looks.{Fills, IsAnswerOfPut};
 ghost use Rattle.served_requests.specs.declared.request.Method.TheVariants as method;
 
+use crate::events::take_at;
+use crate::look_ups::{Looked, find};
 use crate::request::{Method, Request, Served};
 use bytes::Bytes;
 use cache_tier::Tier;
@@ -65,134 +65,6 @@ impl<const N: usize, S: BuildHasher> Serve for Tier<N, S> {
     }
 }
 
-// What a look-up gave.
-#[derive(Drop)]
-pub(crate) enum Looked {
-    // All bytes of a fresh body.
-    Fresh(Bytes),
-    // No such body; whether the key was found.
-    Missed(bool),
-}
-
-// Whether a request of that number is open.
-fn is_in_use(fault: &TierFault) -> bool
-    ensures { result ≡ is_in_use fault.now }
-{
-    matches!(fault, TierFault::IdInUse)
-}
-
-// Opens a request of that number.
-fn open_at<T: Serve, R: Rng>(
-    tier: &mut T,
-    alloc: Global,
-    rng: &mut R,
-    moment: Moment,
-    key: &CacheKey,
-    id: u64,
-) -> Result<(), TierFault>
-    ensures { OpensAt (T.state tier.old) (R.stream rng.old) moment key.now id result (T.state tier.new) (R.stream rng.new) }
-{
-    let Ok(key) = key.clone() else {
-        return Err(out_of_memory(alloc));
-    };
-    let action = Action::Open {
-        request: id,
-        key,
-        lock: false,
-    };
-    tier.take(rng, &Event { moment, action })?;
-    Ok(())
-}
-
-// Opens a request of a number of which none is open, and returns the number.
-fn open<T: Serve, R: Rng>(
-    tier: &mut T,
-    alloc: Global,
-    rng: &mut R,
-    moment: Moment,
-    key: &CacheKey,
-) -> Result<u64, TierFault>
-    ensures { Opens (T.state tier.old) (R.stream rng.old) moment key.now result (T.state tier.new) (R.stream rng.new) }
-{
-    let mut id = u64::MAX;
-    loop {
-        let Err(fault) = open_at(tier, alloc, rng, moment, key, id) else {
-            return Ok(id);
-        };
-        if id == 0 {
-            return Err(fault);
-        }
-        if !is_in_use(&fault) {
-            return Err(fault);
-        }
-        id -= 1;
-    }
-}
-
-// Reads all of what was found.
-fn read<T: Serve, R: Rng>(tier: &mut T, rng: &mut R, moment: Moment, id: u64) -> Bytes
-    requires { (bytes : List ℕ) × IsUnread (T.state tier.old) id bytes }
-    ensures { Reads (T.state tier.old) (R.stream rng.old) moment id result (T.state tier.new) (R.stream rng.new) }
-{
-    let action = Action::Read { request: id };
-    match tier.take(rng, &Event { moment, action }) {
-        Ok(Answer::Bytes(body)) => body,
-        _ => unreachable!(),
-    }
-}
-
-// Looks up what is stored for an open request, and reads it where it is fresh and complete.
-fn look_up<T: Serve, R: Rng>(
-    tier: &mut T,
-    rng: &mut R,
-    moment: Moment,
-    id: u64,
-) -> Result<Looked, TierFault>
-    requires { (e : Entry) × IsNew (T.state tier.old) id e }
-    ensures { (e : Entry) → IsNew (T.state tier.old) id e → Looks (T.state tier.old) (R.stream rng.old) moment id e result (T.state tier.new) (R.stream rng.new) }
-{
-    let action = Action::LookUp { request: id };
-    match tier.take(rng, &Event { moment, action })? {
-        Answer::Found {
-            fresh,
-            complete,
-            lock: _,
-        } => {
-            if fresh && complete {
-                Ok(Looked::Fresh(read(tier, rng, moment, id)))
-            } else {
-                Ok(Looked::Missed(true))
-            }
-        }
-        _ => Ok(Looked::Missed(false)),
-    }
-}
-
-// Ends an open request.
-fn end<T: Serve, R: Rng>(tier: &mut T, rng: &mut R, moment: Moment, id: u64)
-    requires { is_some (get (T.state tier.old).requests id) ≡ true }
-    ensures { Ends (T.state tier.old) (R.stream rng.old) moment id (T.state tier.new) (R.stream rng.new) }
-{
-    let action = Action::Drop { request: id };
-    let _dropped = tier.take(rng, &Event { moment, action });
-}
-
-// Looks up what is stored for a key.
-fn find<T: Serve, R: Rng>(
-    tier: &mut T,
-    alloc: Global,
-    rng: &mut R,
-    moment: Moment,
-    key: &CacheKey,
-) -> Result<Looked, TierFault>
-    ensures { Finds (T.state tier.old) (R.stream rng.old) moment key.now result (T.state tier.new) (R.stream rng.new) }
-{
-    let id = open(tier, alloc, rng, moment, key)?;
-    let looked = look_up(tier, rng, moment, id);
-    end(tier, rng, moment, id);
-    looked
-}
-
 // A response in one piece, which is shared.
 fn one_piece(alloc: Global, response: &Bytes) -> Result<Pieces, AllocError>
     ensures { IfOk result (λ pieces. pieces ≡ response.now ∷ []) }
@@ -200,6 +72,31 @@ fn one_piece(alloc: Global, response: &Bytes) -> Result<Pieces, AllocError>
     let mut items = Vec::with_capacity(alloc, 1)?;
     items.push(response.clone()?)?;
     Ok(Pieces::from_vec(items))
+}
+
+// The put of a response.
+fn put_of(alloc: Global, key: &CacheKey, response: &Bytes) -> Result<Action, AllocError>
+    ensures { IfOk result (λ put. put ≡ action.Put key.now (response.now ∷ [])) }
+{
+    let key = key.clone()?;
+    let pieces = one_piece(alloc, response)?;
+    Ok(Action::Put { key, pieces })
+}
+
+// What the answer to a put tells of a get.
+fn filled(found: bool, answer: Answer) -> Served
+    requires { IsAnswerOfPut answer }
+    ensures { IsPutTold found (Ok answer) (Ok result) }
+{
+    match answer {
+        Answer::Finished { length, evicted } => Served::Filled {
+            found,
+            length,
+            evicted,
+        },
+        Answer::Uncacheable(reason) => Served::Passed { found, reason },
+        _ => unreachable!(),
+    }
 }
 
 // Stores a response, where it may be kept.
@@ -214,22 +111,11 @@ fn fill<T: Serve, R: Rng>(
 ) -> Result<Served, TierFault>
     ensures { Fills (T.state tier.old) (R.stream rng.old) moment key.now response.now found result (T.state tier.new) (R.stream rng.new) }
 {
-    let Ok(key) = key.clone() else {
+    let Ok(action) = put_of(alloc, key, response) else {
         return Err(out_of_memory(alloc));
     };
-    let Ok(pieces) = one_piece(alloc, response) else {
-        return Err(out_of_memory(alloc));
-    };
-    let action = Action::Put { key, pieces };
-    match tier.take(rng, &Event { moment, action })? {
-        Answer::Finished { length, evicted } => Ok(Served::Filled {
-            found,
-            length,
-            evicted,
-        }),
-        Answer::Uncacheable(reason) => Ok(Served::Passed { found, reason }),
-        _ => unreachable!(),
-    }
+    let answer = take_at(tier, rng, moment, action)?;
+    Ok(filled(found, answer))
 }
 
 // Serves a get.
@@ -266,8 +152,7 @@ fn purge<T: Serve, R: Rng>(
     let Ok(key) = key.clone() else {
         return Err(out_of_memory(alloc));
     };
-    let action = Action::Purge { key };
-    match tier.take(rng, &Event { moment, action }) {
+    match take_at(tier, rng, moment, Action::Purge { key }) {
         Ok(Answer::Purged(found)) => Ok(Served::Purged(found)),
         _ => unreachable!(),
     }

@@ -1,6 +1,6 @@
 use Rattle.tier_model.specs.Keys.{entry_of}
 use Rattle.served_requests.proofs.Looking.{is_new, still_open, finds}
-use Rattle.served_requests.proofs.serve.find.Goals as goal
+use Rattle.served_requests.proofs.look_ups.find.Goals as goal
 
 pub look_up-looked-requires : goal.look_up-looked-requires
 look_up-looked-requires g c = (

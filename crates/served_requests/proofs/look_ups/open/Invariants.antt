@@ -1,6 +1,6 @@
 use Rattle.std.proofs.Common.{◌≡◌}
 use Rattle.served_requests.specs.Looks.{AreOpenAbove}
-use Rattle.served_requests.proofs.serve.open.Given as goal
+use Rattle.served_requests.proofs.look_ups.open.Given as goal
 
 abbrev pub invariant-loop-fault : goal.invariant-loop-fault
 invariant-loop-fault g l =
