@@ -1,7 +1,7 @@
 //! The calls, and their words.
 
-/// A call of a step; the table of `main.rs` says what each means.
-#[derive(Clone, Copy, PartialEq, Eq)]
+/// A call of a step; the page of the crate says what each means.
+#[derive(Clone, Copy)]
 pub enum Call {
     Read,
     ReadBack,
