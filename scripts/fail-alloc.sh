@@ -7,7 +7,7 @@
 # whichever allocation fails. ample_memory_meets_no_refusal is the canary: it takes a refusal as a failure, so a run of it must fail.
 set -eu
 cd "$(dirname "$0")/.."
-[ $# -gt 0 ] || set -- tier_tests heads_tests lru_tests words_tests evict_tests store_tests
+[ $# -gt 0 ] || set -- tier_tests lru_tests words_tests store_tests
 names='refused::\|refusals::\|refused_memory\|out_of_memory\|without_memory\|no_memory\|memory_cuts_short'
 work=$(mktemp -d)
 trap 'rm -rf "$work"' EXIT

@@ -1,5 +1,5 @@
 #!/usr/bin/env python3
-"""Replays the traces of crates/trace_cases/data/restarts by tier-replay over a real directory, and compares what is written, the exit status and
+"""Replays the traces of traces/restarts by tier-replay over a real directory, and compares what is written, the exit status and
 what is left in the directory. With the path of a binary it runs that one, else the one that the last run of the gate or of rt run left.
 
 A line of their index is a trace's name and the words of its options. NAME.before and NAME.after are the directory's files by name, in hex. Traces
@@ -12,7 +12,7 @@ import sys
 import tempfile
 
 TOP = os.path.join(os.path.dirname(os.path.abspath(__file__)), "..")
-DATA = os.path.join(TOP, "crates", "trace_cases", "data", "restarts")
+DATA = os.path.join(TOP, "traces", "restarts")
 failures = []
 
 

@@ -7,7 +7,7 @@
 
 A row is an element of a table (a constant slice or array, or the array that a loop goes over) as `TABLE: ROW`, a test as
 `test NAME`, or what a test asserts as `NAME asserts WHAT`. White space, the crate and the file are left out, and the lines are sorted, so a
-row that moved is the same row. Tables are those of crates named *_tests; traces of trace_cases are counted as lines of events."""
+row that moved is the same row. Tables are those of crates named *_tests; traces are counted as lines of events."""
 import glob
 import os
 import re
@@ -75,7 +75,7 @@ lines = []
 for path in glob.glob(os.path.join(glob.escape(top), "crates", "*_tests", "src", "**", "*.rt"), recursive=True):
     with open(path, encoding="utf-8") as it:
         lines += rows_of(bare(it.read()))
-for path in glob.glob(os.path.join(glob.escape(top), "crates", "trace_cases", "data", "*.jsonl")):
-    with open(path, encoding="utf-8") as it:
+for path in glob.glob(os.path.join(glob.escape(top), "traces", "**", "*.jsonl"), recursive=True):
+    with open(path, "rb") as it:
         lines.append(f"trace {os.path.basename(path)}: {sum(1 for _ in it)} lines")
 print("\n".join(sorted(lines)))

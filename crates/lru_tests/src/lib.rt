@@ -1,12 +1,16 @@
-//! Tests of lists, shards and cores, and of the files that keep them.
+//! Tests of lists, shards and cores, of the files that keep them, of lists under locks, and of actors.
 #![tactic(auto)]
 
+#[cfg(test)]
+mod actors;
 #[cfg(test)]
 mod cores;
 #[cfg(test)]
 mod files;
 #[cfg(test)]
 mod lists;
+#[cfg(test)]
+mod locked;
 #[cfg(test)]
 mod refused;
 #[cfg(test)]

@@ -1,12 +1,6 @@
 //! What a request does with the lock.
-ghost use Rattle.std.specs.Prelude.{◌≡◌, true};
-ghost use Rattle.cache_phases.specs.Locks.{waits};
-
 use crate::answer::{Answer, DONE, NO_MEMORY, REFUSED};
-use crate::call::Call;
-use crate::step::{Step, reason};
 use crate::turns::holds_nothing;
-use cache_heads::NoCacheReason;
 use cache_lock::{CacheKeyLock, LockWaitOutcome, UnusableFill, UnusableFills};
 use cache_parts::Parts;
 use cache_store::storage::Storage;
@@ -25,74 +19,47 @@ fn fills(alloc: Global) -> Option<UnusableFills> {
     Some(UnusableFills::new(list))
 }
 
-fn told_of_wait(outcome: LockWaitOutcome) -> Answer {
+fn told_of_wait(outcome: Option<LockWaitOutcome>) -> Answer {
     match outcome {
-        LockWaitOutcome::Done => DONE,
-        LockWaitOutcome::TransientError => Answer::Word("transient-error"),
-        LockWaitOutcome::Dangling => Answer::Word("dangling"),
-        LockWaitOutcome::WaitTimeout => Answer::Word("wait-timeout"),
-        LockWaitOutcome::AgeTimeout => Answer::Word("age-timeout"),
-        LockWaitOutcome::GiveUp => Answer::Word("give-up"),
-        LockWaitOutcome::Abandoned { reason, token } => Answer::Abandoned(reason.as_str(), token),
-    }
-}
-
-fn wait_on<S: Storage, E, P, L: CacheKeyLock, A>(
-    request: &mut HttpCache<S>,
-    parts: &mut Parts<S, E, P, L, A>,
-    fills: &UnusableFills,
-    moment: Moment,
-) -> Answer
-    requires { waits request.old.lock ≡ true }
-{
-    match request.cache_lock_wait(parts, fills, moment) {
-        Some(outcome) => told_of_wait(outcome),
         None => Answer::Word("waits"),
+        Some(LockWaitOutcome::Done) => DONE,
+        Some(LockWaitOutcome::TransientError) => Answer::Word("transient-error"),
+        Some(LockWaitOutcome::Dangling) => Answer::Word("dangling"),
+        Some(LockWaitOutcome::WaitTimeout) => Answer::Word("wait-timeout"),
+        Some(LockWaitOutcome::AgeTimeout) => Answer::Word("age-timeout"),
+        Some(LockWaitOutcome::GiveUp) => Answer::Word("give-up"),
+        Some(LockWaitOutcome::Abandoned { reason, token }) => {
+            Answer::Abandoned(reason.as_str(), token)
+        }
     }
 }
 
-fn wait<S: Storage, E, P, L: CacheKeyLock, A>(
+/// Waits for the permit of another request.
+pub fn wait<S: Storage, E, P, L: CacheKeyLock, A>(
     alloc: Global,
     request: &mut HttpCache<S>,
     parts: &mut Parts<S, E, P, L, A>,
     moment: Moment,
-) -> Option<Answer> {
+) -> Answer {
     if request.phase().is_never_enabled() || !request.is_cache_locked() {
-        return None;
+        return REFUSED;
     }
     match fills(alloc) {
-        Some(fills) => Some(wait_on(request, parts, &fills, moment)),
-        None => Some(NO_MEMORY),
+        Some(fills) => told_of_wait(request.cache_lock_wait(parts, &fills, moment)),
+        None => NO_MEMORY,
     }
 }
 
-fn release<S: Storage, E, P, L: CacheKeyLock, A>(
-    request: &mut HttpCache<S>,
-    parts: &mut Parts<S, E, P, L, A>,
-    reason: NoCacheReason,
-) -> Option<Answer> {
-    if !request.is_releasable(reason) {
-        return None;
-    }
-    request.release_write_lock(parts, reason);
-    Some(DONE)
-}
-
-/// A call of the lock.
-pub fn locked<S: Storage, E, P, L: CacheKeyLock, A>(
+/// Says what is filled.
+pub fn publish<S: Storage, E, P, L: CacheKeyLock, A>(
     alloc: Global,
     request: &mut HttpCache<S>,
     parts: &mut Parts<S, E, P, L, A>,
-    step: Step<'_>,
-) -> Option<Answer> {
-    match step.call {
-        Call::Wait => wait(alloc, request, parts, step.moment()),
-        Call::Release => release(request, parts, reason(step.first)),
-        Call::Publish => match request.lock_publish_fill_tokens(alloc, parts, &[step.number()]) {
-            Ok(()) => Some(DONE),
-            Err(_) => Some(NO_MEMORY),
-        },
-        _ => None,
+    token: u64,
+) -> Answer {
+    match request.lock_publish_fill_tokens(alloc, parts, &[token]) {
+        Ok(()) => DONE,
+        Err(_) => NO_MEMORY,
     }
 }
 

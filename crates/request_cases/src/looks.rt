@@ -3,9 +3,7 @@ ghost use Rattle.std.specs.Prelude.{◌≡◌, true, false};
 ghost use Rattle.cache_phases.specs.Locks.{holds_permit};
 ghost use Rattle.cache_phases.specs.Phases.{can_look_up};
 
-use crate::answer::{Answer, yes_or_no};
-use crate::call::Call;
-use crate::step::{Step, status, variance};
+use crate::answer::{Answer, REFUSED, yes_or_no};
 use cache_evict::EvictionManager;
 use cache_heads::CacheMeta;
 use cache_lock::CacheKeyLock;
@@ -49,11 +47,11 @@ fn take<S: Storage, E: EvictionManager, P, L: CacheKeyLock, A>(
     alloc: Global,
     request: &mut HttpCache<S>,
     parts: &mut Parts<S, E, P, L, A>,
-    found: (CacheMeta, S::Hit),
+    meta: CacheMeta,
+    hit: S::Hit,
     status: HitStatus,
     moment: Moment,
 ) -> Answer {
-    let (meta, hit) = found;
     let length = hit.get_eviction_weight();
     if !may_look(request) {
         hit.finish(&mut parts.store);
@@ -61,24 +59,6 @@ fn take<S: Storage, E: EvictionManager, P, L: CacheKeyLock, A>(
     }
     let taken = request.cache_found(alloc, parts, meta, hit, status, moment);
     told_of_found(taken, status.is_treated_as_miss(), length)
-}
-
-// Looks up, and takes what is found with that status.
-fn look<S: Storage, E: EvictionManager, P, L: CacheKeyLock, A: AdmissionPolicy>(
-    alloc: Global,
-    request: &mut HttpCache<S>,
-    parts: &mut Parts<S, E, P, L, A>,
-    moment: Moment,
-    status: HitStatus,
-) -> Answer
-    requires phase { can_look_up request.old.phase ≡ true }
-    requires no_permit { holds_permit request.old.lock ≡ false }
-{
-    match request.cache_lookup(parts, moment) {
-        Ok(Some(found)) => take(alloc, request, parts, found, status, moment),
-        Ok(None) => ABSENT,
-        Err(_) => FAULT,
-    }
 }
 
 fn take_fresh<S: Storage, E: EvictionManager, P, L: CacheKeyLock, A>(
@@ -97,6 +77,43 @@ fn take_fresh<S: Storage, E: EvictionManager, P, L: CacheKeyLock, A>(
     told_of_found(taken, false, length)
 }
 
+// Goes on to a variant of what was found, which is left in the store.
+fn vary_found<S: Storage, E, P, L, A>(
+    request: &mut HttpCache<S>,
+    parts: &mut Parts<S, E, P, L, A>,
+    meta: CacheMeta,
+    hit: S::Hit,
+    variance: [u8; 16],
+) -> Answer {
+    hit.finish(&mut parts.store);
+    if !request.phase().can_vary() {
+        return FAULT;
+    }
+    yes_or_no(request.cache_vary_lookup(variance, &meta))
+}
+
+/// Looks up: what is found is taken with a status, or left for a variant of it.
+pub fn looked<S: Storage, E: EvictionManager, P, L: CacheKeyLock, A: AdmissionPolicy>(
+    alloc: Global,
+    request: &mut HttpCache<S>,
+    parts: &mut Parts<S, E, P, L, A>,
+    moment: Moment,
+    status: HitStatus,
+    variance: Option<[u8; 16]>,
+) -> Answer {
+    if !may_look(request) {
+        return REFUSED;
+    }
+    match request.cache_lookup(parts, moment) {
+        Ok(Some((meta, hit))) => match variance {
+            Some(variance) => vary_found(request, parts, meta, hit, variance),
+            None => take(alloc, request, parts, meta, hit, status, moment),
+        },
+        Ok(None) => ABSENT,
+        Err(_) => FAULT,
+    }
+}
+
 fn take_at<S: Storage, E: EvictionManager, P, L: CacheKeyLock, A>(
     alloc: Global,
     request: &mut HttpCache<S>,
@@ -107,79 +124,24 @@ fn take_at<S: Storage, E: EvictionManager, P, L: CacheKeyLock, A>(
     match found {
         FoundAt::Fresh(until, hit) => take_fresh(alloc, request, parts, hit, until),
         FoundAt::Stale(meta, hit) => {
-            let found = (meta, hit);
-            take(alloc, request, parts, found, HitStatus::Expired, moment)
+            take(alloc, request, parts, meta, hit, HitStatus::Expired, moment)
         }
     }
 }
 
-// Looks up at a moment, and takes what is found as it is then.
-fn look_at<S: Storage, E: EvictionManager, P, L: CacheKeyLock, A: AdmissionPolicy>(
+/// Looks up at a moment, and takes what is found as it is then.
+pub fn looked_at<S: Storage, E: EvictionManager, P, L: CacheKeyLock, A: AdmissionPolicy>(
     alloc: Global,
     request: &mut HttpCache<S>,
     parts: &mut Parts<S, E, P, L, A>,
     moment: Moment,
-) -> Answer
-    requires phase { can_look_up request.old.phase ≡ true }
-    requires no_permit { holds_permit request.old.lock ≡ false }
-{
+) -> Answer {
+    if !may_look(request) {
+        return REFUSED;
+    }
     match request.cache_lookup_at(parts, moment) {
         Ok(Some(found)) => take_at(alloc, request, parts, found, moment),
         Ok(None) => ABSENT,
         Err(_) => FAULT,
-    }
-}
-
-// Goes on to a variant of what was found, which is left in the store.
-fn vary_found<S: Storage, E, P, L, A>(
-    request: &mut HttpCache<S>,
-    parts: &mut Parts<S, E, P, L, A>,
-    found: (CacheMeta, S::Hit),
-    variance: [u8; 16],
-) -> Answer {
-    let (meta, hit) = found;
-    hit.finish(&mut parts.store);
-    if !request.phase().can_vary() {
-        return FAULT;
-    }
-    yes_or_no(request.cache_vary_lookup(variance, &meta))
-}
-
-// Looks up, and goes on to a variant of what is found.
-fn vary<S: Storage, E, P, L: CacheKeyLock, A: AdmissionPolicy>(
-    request: &mut HttpCache<S>,
-    parts: &mut Parts<S, E, P, L, A>,
-    moment: Moment,
-    variance: [u8; 16],
-) -> Answer
-    requires phase { can_look_up request.old.phase ≡ true }
-    requires no_permit { holds_permit request.old.lock ≡ false }
-{
-    match request.cache_lookup(parts, moment) {
-        Ok(Some(found)) => vary_found(request, parts, found, variance),
-        Ok(None) => ABSENT,
-        Err(_) => FAULT,
-    }
-}
-
-/// A look-up.
-pub fn looked<S: Storage, E: EvictionManager, P, L: CacheKeyLock, A: AdmissionPolicy>(
-    alloc: Global,
-    request: &mut HttpCache<S>,
-    parts: &mut Parts<S, E, P, L, A>,
-    step: Step<'_>,
-) -> Option<Answer> {
-    if !may_look(request) {
-        return None;
-    }
-    let moment = step.moment();
-    match step.call {
-        Call::Look => Some(look(alloc, request, parts, moment, status(step.second))),
-        Call::LookAt => Some(look_at(alloc, request, parts, moment)),
-        Call::Vary => match variance(step.second) {
-            Some(variance) => Some(vary(request, parts, moment, variance)),
-            None => None,
-        },
-        _ => None,
     }
 }

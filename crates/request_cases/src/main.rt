@@ -25,6 +25,9 @@
 //! | `add-time SECONDS`, `time` | how long look-ups took |
 //! | `limit`, `track` `BYTES` | the most bytes that a body may have, and bytes that come |
 //! | `tracked KEY`, `burden KEY` | no calls of a request: whether the manager tracks the key's entry; it goes, and another comes that leaves room for one byte |
+//!
+//! Then two tiers serve requests side by side, and what they answer is compared with a table of runs, whose outcomes come from another program or were
+//! worked by hand. A line of `runs.txt` is a run, ` => ` and its outcome; lines that differ are shown.
 #![tactic(auto)]
 
 mod answer;
@@ -35,7 +38,8 @@ mod looks;
 mod metas;
 mod reads;
 mod rows;
-mod sizes;
+mod runs;
+mod served;
 mod stale;
 mod step;
 mod stored;
@@ -63,11 +67,37 @@ fn done(alloc: Global, row: &str) -> Result<String, AllocError> {
     text.finish()
 }
 
-fn main(rt: HostRuntime) -> io::Result<()> {
-    let rows = fs::read_to_string(&rt, "rows.txt")?;
+// Does all rows.
+fn do_rows(rt: &HostRuntime) -> io::Result<()> {
+    let rows = fs::read_to_string(rt, "rows.txt")?;
     for row in rows.as_str().split("\n\n") {
         let text = done(rt.alloc(), row)?;
         println!(rt; "{text}")?;
     }
     Ok(())
+}
+
+// Compares each run with its outcome, shows those that differ, and says how many agree.
+fn compare_runs(rt: &HostRuntime) -> io::Result<()> {
+    let text = fs::read_to_string(rt, "runs.txt")?;
+    let mut agree: u64 = 0;
+    let mut differ: u64 = 0;
+    for line in text.as_str().lines() {
+        let Some((case, expected)) = line.split_once(" => ") else {
+            continue;
+        };
+        let found = runs::outcome(rt.alloc(), case)?;
+        if found.as_str() == expected {
+            agree = agree.saturating_add(1);
+        } else {
+            differ = differ.saturating_add(1);
+            println!(rt; "{line}\n    {found}")?;
+        }
+    }
+    println!(rt; "runs: {agree} agree, {differ} differ")
+}
+
+fn main(rt: HostRuntime) -> io::Result<()> {
+    do_rows(&rt)?;
+    compare_runs(&rt)
 }

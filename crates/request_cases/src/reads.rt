@@ -1,7 +1,5 @@
 //! Readers.
 use crate::answer::{Answer, DONE, NONE, REFUSED};
-use crate::call::Call;
-use crate::step::Step;
 use crate::text::Text;
 use cache_parts::Parts;
 use cache_store::storage::{HandleHit, ReadStep, Storage};
@@ -18,56 +16,40 @@ fn push_step<S: Storage>(hit: &mut S::Hit, store: &mut S, text: &mut Text) {
     }
 }
 
-/// Appends what a step of reading gives by the reader of the response that was found, in its place.
+/// Appends what a step of reading gives by the reader of the response that was found, in its place, or of the one that is being stored.
 pub fn push_read<S: Storage, E, P, L, A>(
     request: &mut HttpCache<S>,
     parts: &mut Parts<S, E, P, L, A>,
+    back: bool,
     text: &mut Text,
 ) {
-    if !request.phase().has_reader_phase() || !request.has_reader() {
-        return text.push_answer(REFUSED);
-    }
-    push_step(request.hit_handler(), &mut parts.store, text);
-}
-
-/// The same by the reader of the response that is being stored.
-pub fn push_read_back<S: Storage, E, P, L, A>(
-    request: &mut HttpCache<S>,
-    parts: &mut Parts<S, E, P, L, A>,
-    text: &mut Text,
-) {
-    match request.miss_body_reader(&parts.store) {
-        Some(hit) => push_step(hit, &mut parts.store, text),
-        None => text.push_answer(NONE),
+    if back {
+        match request.miss_body_reader(&parts.store) {
+            Some(hit) => push_step(hit, &mut parts.store, text),
+            None => text.push_answer(NONE),
+        }
+    } else if request.phase().has_reader_phase() && request.has_reader() {
+        push_step(request.hit_handler(), &mut parts.store, text)
+    } else {
+        text.push_answer(REFUSED)
     }
 }
 
-// Takes the reader out, and puts it in again.
-fn move_reader<S: Storage>(request: &mut HttpCache<S>) -> Option<Answer> {
+/// Takes the reader or the writer out, and puts it in again.
+pub fn moved<S: Storage>(request: &mut HttpCache<S>, writer: bool) -> Answer {
     if request.phase().is_disabled() {
-        return None;
+        return REFUSED;
     }
-    match request.take_reader() {
-        Some(hit) => {
-            request.put_reader(hit);
-            Some(DONE)
+    if writer {
+        match request.take_writer() {
+            Some(miss) => request.put_writer(miss),
+            None => return NONE,
         }
-        None => Some(NONE),
-    }
-}
-
-/// A call of the reader.
-pub fn read<S: Storage, E, P, L, A>(
-    request: &mut HttpCache<S>,
-    parts: &mut Parts<S, E, P, L, A>,
-    step: Step<'_>,
-) -> Option<Answer> {
-    match step.call {
-        Call::MoveReader => move_reader(request),
-        Call::FinishReader if request.phase().can_finish_reader() => {
-            request.finish_hit_handler(parts);
-            Some(DONE)
+    } else {
+        match request.take_reader() {
+            Some(hit) => request.put_reader(hit),
+            None => return NONE,
         }
-        _ => None,
     }
+    DONE
 }

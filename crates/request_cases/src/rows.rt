@@ -1,53 +1,29 @@
 //! Rows of steps.
-use crate::answer::{Answer, REFUSED};
+use crate::answer::{Answer, REFUSED, yes_or_no};
 use crate::call::Call;
-use crate::locks::{locked, move_permit};
-use crate::looks::looked;
-use crate::metas::{told_of_key, told_of_meta};
-use crate::reads::{push_read, push_read_back, read};
-use crate::sizes::counted;
-use crate::stale::{push_merged, revalidated};
-use crate::step::Step;
-use crate::stored::{managed, predicted, purged};
+use crate::locks::{move_permit, publish, wait};
+use crate::looks::{looked, looked_at};
+use crate::reads::{moved, push_read};
+use crate::stale::push_merged;
+use crate::step::{Step, reason, status, variance};
+use crate::stored::{became_uncacheable, found};
 use crate::text::Text;
-use crate::told::{told_of_handlers, told_of_lock, told_of_use, told_of_waits};
-use crate::turns::{led, noted, turned};
-use crate::writes::{begun, written};
+use crate::told::{is_so, streams, told};
+use crate::turns::{led, set_key, turned};
+use crate::world::{burden, tracked};
+use crate::writes::{finish, kept, write};
 use cache_evict::EvictionManager;
 use cache_lock::CacheKeyLock;
 use cache_parts::Parts;
+use cache_phases::HitStatus;
 use cache_predictor::CacheablePredictor;
 use cache_store::admission::AdmissionPolicy;
 use cache_store::storage::Storage;
 use http_cache::HttpCache;
 use std::alloc::Global;
 
-// A question that the request alone answers.
-fn told<S: Storage>(request: &HttpCache<S>, step: Step<'_>) -> Option<Answer> {
-    told_of_use(request, step)
-        .or(told_of_lock(request, step))
-        .or(told_of_waits(request, step))
-        .or(told_of_key(request, step))
-        .or(told_of_meta(request, step))
-}
-
-// A call that needs no memory.
-fn done<S: Storage, E: EvictionManager, P: CacheablePredictor, L: CacheKeyLock, A>(
-    request: &mut HttpCache<S>,
-    parts: &mut Parts<S, E, P, L, A>,
-    step: Step<'_>,
-) -> Option<Answer> {
-    turned(request, parts, step)
-        .or(noted(request, step))
-        .or(read(request, parts, step))
-        .or(purged(request, parts, step))
-        .or(predicted(request, parts, step))
-        .or(counted(request, step))
-        .or(told_of_handlers(request, parts, step))
-}
-
-// A call that may need memory.
-fn done_in<
+// Does a call of the lock, of the writer or of a part of the cache, and says what it answers.
+fn part_answer<
     S: Storage,
     E: EvictionManager,
     P: CacheablePredictor,
@@ -58,18 +34,23 @@ fn done_in<
     request: &mut HttpCache<S>,
     parts: &mut Parts<S, E, P, L, A>,
     step: Step<'_>,
-) -> Option<Answer> {
-    led(alloc, request, parts, step)
-        .or(looked(alloc, request, parts, step))
-        .or(begun(alloc, request, parts, step))
-        .or(written(alloc, request, parts, step))
-        .or(locked(alloc, request, parts, step))
-        .or(revalidated(alloc, request, parts, step))
-        .or(managed(alloc, parts, step))
+) -> Answer {
+    match step.call {
+        Call::Keep(keep) => kept(alloc, request, parts, keep, step),
+        Call::Streams => streams(request.support_streaming_partial_write(&parts.store)),
+        Call::Write => write(alloc, request, parts, step.first),
+        Call::Finish => finish(alloc, request, parts),
+        Call::Wait => wait(alloc, request, parts, step.moment()),
+        Call::Publish => publish(alloc, request, parts, step.number()),
+        Call::BecameUncacheable => became_uncacheable(request, parts, reason(step.first)),
+        Call::Tracked => tracked(alloc, parts, step.letter()),
+        Call::Burden => burden(alloc, parts, step.letter()),
+        _ => REFUSED,
+    }
 }
 
-// Does a step, and appends what it answers.
-fn push_answer<
+// Does a step, and says what it answers.
+fn answer_of<
     S: Storage,
     E: EvictionManager,
     P: CacheablePredictor,
@@ -81,19 +62,27 @@ fn push_answer<
     other: &mut HttpCache<S>,
     parts: &mut Parts<S, E, P, L, A>,
     step: Step<'_>,
-    text: &mut Text,
-) {
+) -> Answer {
     match step.call {
-        Call::Read => push_read(request, parts, text),
-        Call::ReadBack => push_read_back(request, parts, text),
-        Call::Merge => push_merged(alloc, request, text),
-        Call::MovePermit => text.push_answer(move_permit(request, other)),
-        _ => {
-            let answer = told(request, step)
-                .or(done(request, parts, step))
-                .or(done_in(alloc, request, parts, step));
-            text.push_answer(answer.unwrap_or(REFUSED));
+        Call::Flag(flag) => yes_or_no(is_so(request, flag, step)),
+        Call::Told(question) => told(request, question),
+        Call::Turn(turn) => turned(request, turn, step),
+        Call::Lead(lead) => led(alloc, request, parts, lead, reason(step.first)),
+        Call::Find(find) => found(request, parts, find, step),
+        Call::Look => {
+            let status = status(step.second);
+            looked(alloc, request, parts, step.moment(), status, None)
         }
+        Call::Vary => match variance(step.second) {
+            None => REFUSED,
+            some => looked(alloc, request, parts, step.moment(), HitStatus::Fresh, some),
+        },
+        Call::LookAt => looked_at(alloc, request, parts, step.moment()),
+        Call::Key => set_key(alloc, request, step.letter()),
+        Call::MoveReader => moved(request, false),
+        Call::MoveWriter => moved(request, true),
+        Call::MovePermit => move_permit(request, other),
+        _ => part_answer(alloc, request, parts, step),
     }
 }
 
@@ -113,35 +102,17 @@ fn push_step<
     text: &mut Text,
 ) {
     text.push(": ");
-    push_answer(alloc, request, other, parts, step, text);
+    match step.call {
+        Call::Read => push_read(request, parts, false, text),
+        Call::ReadBack => push_read(request, parts, true, text),
+        Call::Merge => push_merged(alloc, request, text),
+        _ => text.push_answer(answer_of(alloc, request, other, parts, step)),
+    }
     text.push(", ");
     text.push(request.phase().as_str());
 }
 
-// Appends a line, and what its step comes to; a line without a step is a row's name.
-fn push_line<
-    S: Storage,
-    E: EvictionManager,
-    P: CacheablePredictor,
-    L: CacheKeyLock,
-    A: AdmissionPolicy,
->(
-    alloc: Global,
-    first: &mut HttpCache<S>,
-    second: &mut HttpCache<S>,
-    parts: &mut Parts<S, E, P, L, A>,
-    line: &str,
-    text: &mut Text,
-) {
-    text.push(line);
-    match line.split_once(' ') {
-        Some(("1", call)) => push_step(alloc, first, second, parts, Step::new(call), text),
-        Some(("2", call)) => push_step(alloc, second, first, parts, Step::new(call), text),
-        _ => {}
-    }
-    text.push("\n");
-}
-
+// Appends lines, each with what its step comes to; a line without a step is a row's name.
 fn push_lines<
     S: Storage,
     E: EvictionManager,
@@ -157,7 +128,14 @@ fn push_lines<
     text: &mut Text,
 ) {
     for line in row.lines() {
-        push_line(alloc, first, second, parts, line, text);
+        let step = Step::new(line);
+        text.push(line);
+        match step.request {
+            1 => push_step(alloc, first, second, parts, step, text),
+            2 => push_step(alloc, second, first, parts, step, text),
+            _ => {}
+        }
+        text.push("\n");
     }
 }
 

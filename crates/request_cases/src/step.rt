@@ -4,19 +4,22 @@ use cache_heads::NoCacheReason;
 use cache_phases::HitStatus;
 use cache_words::time::Moment;
 
-/// A call, and the words of its arguments; a word that isn't there is empty.
+/// A call of a request, and the words of its arguments; a word that isn't there is empty.
 #[derive(Clone, Copy)]
 pub struct Step<'a> {
+    /// The first or the second request; a line that is no step, but a row's name, is of none.
+    pub request: u8,
     pub call: Call,
     pub first: &'a str,
     pub second: &'a str,
 }
 
 impl<'a> Step<'a> {
-    /// The step that a text names.
-    pub fn new(text: &'a str) -> Step<'a> {
-        let mut words = text.split(' ');
+    /// The step that a line names.
+    pub fn new(line: &'a str) -> Step<'a> {
+        let mut words = line.split(' ');
         Step {
+            request: words.next().unwrap_or("").parse().unwrap_or(0),
             call: Call::of(words.next().unwrap_or("")),
             first: words.next().unwrap_or(""),
             second: words.next().unwrap_or(""),

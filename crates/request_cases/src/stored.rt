@@ -1,14 +1,13 @@
-//! What is stored under a request's key, and what the predictor and the manager know of it.
-use crate::answer::{Answer, DONE, NO_MEMORY, fault, yes_or_no};
-use crate::call::Call;
-use crate::step::{Step, reason};
-use crate::world::{burden, tracked};
+//! What is stored under a request's key, and what the predictor knows of it.
+use crate::answer::{Answer, DONE, NO_MEMORY, REFUSED, fault, yes_or_no};
+use crate::call::Find;
+use crate::step::Step;
 use cache_evict::EvictionManager;
+use cache_heads::NoCacheReason;
 use cache_parts::Parts;
 use cache_predictor::CacheablePredictor;
 use cache_store::storage::{Storage, StoreFault};
 use http_cache::HttpCache;
-use std::alloc::Global;
 
 // Whether something was found, but where the store refuses.
 fn found_or_fault(found: Result<bool, StoreFault>) -> Answer {
@@ -18,62 +17,40 @@ fn found_or_fault(found: Result<bool, StoreFault>) -> Answer {
     }
 }
 
-/// A call that removes what is stored, or lets it go stale.
-pub fn purged<S: Storage, E: EvictionManager, P, L, A>(
-    request: &HttpCache<S>,
+/// Removes what is stored, or lets it go stale; asks the predictor; counts the bytes of a body.
+pub fn found<S: Storage, E: EvictionManager, P: CacheablePredictor, L, A>(
+    request: &mut HttpCache<S>,
     parts: &mut Parts<S, E, P, L, A>,
+    find: Find,
     step: Step<'_>,
-) -> Option<Answer> {
+) -> Answer {
     let phase = request.phase();
-    let found = match step.call {
-        Call::Purge if phase.is_key_phase() => request.purge(parts),
-        Call::SpawnPurge if phase.has_key_phase() => request.spawn_async_purge(parts, "cases"),
-        Call::Expire if phase.is_key_phase() => request.expire(parts, step.moment()),
-        _ => return None,
+    let found = match find {
+        Find::Purge if phase.is_key_phase() => request.purge(parts),
+        Find::SpawnPurge if phase.has_key_phase() => request.spawn_async_purge(parts, "cases"),
+        Find::Expire if phase.is_key_phase() => request.expire(parts, step.moment()),
+        Find::Predicted if !phase.is_never_enabled() && request.maybe_cache_key().is_some() => {
+            Ok(request.cacheable_prediction(parts))
+        }
+        Find::Track if !phase.is_never_enabled() => {
+            Ok(request.track_body_bytes_for_max_file_size(step.number() as usize))
+        }
+        _ => return REFUSED,
     };
-    Some(found_or_fault(found))
+    found_or_fault(found)
 }
 
-/// A call of the predictor.
-pub fn predicted<S: Storage, E, P: CacheablePredictor, L, A>(
+/// Tells the predictor that a response wasn't kept.
+pub fn became_uncacheable<S: Storage, E, P: CacheablePredictor, L, A>(
     request: &HttpCache<S>,
     parts: &mut Parts<S, E, P, L, A>,
-    step: Step<'_>,
-) -> Option<Answer> {
+    reason: NoCacheReason,
+) -> Answer {
     if request.phase().is_never_enabled() || request.maybe_cache_key().is_none() {
-        return None;
+        return REFUSED;
     }
-    match step.call {
-        Call::Predicted => Some(yes_or_no(request.cacheable_prediction(parts))),
-        Call::BecameCacheable => {
-            request.response_became_cacheable(parts);
-            Some(DONE)
-        }
-        Call::BecameUncacheable => {
-            match request.response_became_uncacheable(parts, reason(step.first)) {
-                Ok(()) => Some(DONE),
-                Err(_) => Some(NO_MEMORY),
-            }
-        }
-        _ => None,
-    }
-}
-
-/// What is done to the manager itself.
-pub fn managed<S: Storage, E: EvictionManager, P, L, A>(
-    alloc: Global,
-    parts: &mut Parts<S, E, P, L, A>,
-    step: Step<'_>,
-) -> Option<Answer> {
-    match step.call {
-        Call::Tracked => match tracked(alloc, parts, step.letter()) {
-            Some(tracked) => Some(yes_or_no(tracked)),
-            None => Some(NO_MEMORY),
-        },
-        Call::Burden => match burden(alloc, parts, step.letter()) {
-            Some(()) => Some(DONE),
-            None => Some(NO_MEMORY),
-        },
-        _ => None,
+    match request.response_became_uncacheable(parts, reason) {
+        Ok(()) => DONE,
+        Err(_) => NO_MEMORY,
     }
 }

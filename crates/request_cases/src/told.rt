@@ -1,13 +1,31 @@
 //! What a request reports of itself.
-use crate::answer::{Answer, NONE, reason_or_none, size_or_none, yes_or_no};
-use crate::call::Call;
+use crate::answer::{Answer, NONE, REFUSED, reason_or_none, size_or_none, yes_or_no};
+use crate::call::{Flag, Told};
+use crate::metas::{key_variance, letter, meta_variance, provenance, until};
 use crate::step::{Step, reason};
-use cache_parts::Parts;
-use cache_phases::CachePhase;
+use cache_phases::{CachePhase, LockAbandon};
 use cache_store::admission::Decision;
 use cache_store::storage::Storage;
 use cache_words::time::Duration;
 use http_cache::HttpCache;
+
+/// Whether it is so.
+pub fn is_so<S: Storage>(request: &HttpCache<S>, flag: Flag, step: Step<'_>) -> bool {
+    match flag {
+        Flag::Enabled => request.enabled(),
+        Flag::Bypassing => request.bypassing(),
+        Flag::Upstream => request.upstream_used(),
+        Flag::HoldsLock => request.holds_lock(),
+        Flag::Releasable => request.is_releasable(reason(step.first)),
+        Flag::ServesOnError => request.can_serve_stale_error(step.moment()),
+        Flag::ServesUpdating => request.can_serve_stale_updating(step.moment()),
+        Flag::HasReader => request.has_reader(),
+        Flag::HasWriter => request.has_writer(),
+        Flag::CacheSpan => request.get_cache_span().is_some(),
+        Flag::HitSpan => request.get_hit_span().is_some(),
+        Flag::MissSpan => request.get_miss_span().is_some(),
+    }
+}
 
 // For which reason the cache is off, or its response isn't kept.
 fn off_for(phase: CachePhase) -> Answer {
@@ -18,63 +36,18 @@ fn off_for(phase: CachePhase) -> Answer {
     }
 }
 
-/// How the request uses the cache.
-pub fn told_of_use<S: Storage>(request: &HttpCache<S>, step: Step<'_>) -> Option<Answer> {
-    match step.call {
-        Call::Enabled => Some(yes_or_no(request.enabled())),
-        Call::Bypassing => Some(yes_or_no(request.bypassing())),
-        Call::Upstream => Some(yes_or_no(request.upstream_used())),
-        Call::OffFor => Some(off_for(request.phase())),
-        Call::PredictedReason => Some(reason_or_none(request.predicted_uncacheable_reason())),
-        _ => None,
-    }
-}
-
-/// What it holds of the store, and the spans that it has.
-pub fn told_of_handlers<S: Storage, E, P, L, A>(
-    request: &HttpCache<S>,
-    parts: &Parts<S, E, P, L, A>,
-    step: Step<'_>,
-) -> Option<Answer> {
-    match step.call {
-        Call::HasReader => Some(yes_or_no(request.has_reader())),
-        Call::HasWriter => Some(yes_or_no(request.has_writer())),
-        Call::Streams => match request.support_streaming_partial_write(&parts.store) {
-            Some(streams) => Some(yes_or_no(streams)),
-            None => Some(NONE),
-        },
-        Call::CacheSpan => Some(yes_or_no(request.get_cache_span().is_some())),
-        Call::HitSpan => Some(yes_or_no(request.get_hit_span().is_some())),
-        Call::MissSpan => Some(yes_or_no(request.get_miss_span().is_some())),
-        _ => None,
-    }
-}
-
 // What it holds of the lock.
-fn held<S: Storage>(request: &HttpCache<S>) -> &'static str {
+fn held<S: Storage>(request: &HttpCache<S>) -> Answer {
     if request.phase().is_never_enabled() || !request.is_cache_lock_on() {
-        return "off";
+        return Answer::Word("off");
     }
     if request.is_cache_lock_writer() {
-        return "permit";
+        return Answer::Word("permit");
     }
     if request.is_cache_locked() {
-        "read"
+        Answer::Word("read")
     } else {
-        "nothing"
-    }
-}
-
-/// What it reports of the lock.
-pub fn told_of_lock<S: Storage>(request: &HttpCache<S>, step: Step<'_>) -> Option<Answer> {
-    match step.call {
-        Call::Holds => Some(Answer::Word(held(request))),
-        Call::HoldsLock => Some(yes_or_no(request.holds_lock())),
-        Call::Releasable => Some(yes_or_no(request.is_releasable(reason(step.first)))),
-        Call::Retries if !request.phase().is_never_enabled() => {
-            Some(size_or_none(request.cache_lock_max_retries()))
-        }
-        _ => None,
+        Answer::Word("nothing")
     }
 }
 
@@ -93,16 +66,49 @@ fn decision(decision: Option<Decision>) -> Answer {
     }
 }
 
-/// What it reports of its waits and look-ups.
-pub fn told_of_waits<S: Storage>(request: &HttpCache<S>, step: Step<'_>) -> Option<Answer> {
-    match step.call {
-        Call::Waited => Some(seconds(request.lock_duration())),
-        Call::Time => Some(seconds(request.lookup_duration())),
-        Call::Decided => Some(decision(request.admission_decision())),
-        Call::Abandoned => match request.lock_abandon() {
-            Some(abandon) => Some(Answer::Abandoned(abandon.reason.as_str(), abandon.token)),
-            None => Some(NONE),
-        },
-        _ => None,
+fn abandoned(abandon: Option<LockAbandon>) -> Answer {
+    match abandon {
+        Some(abandon) => Answer::Abandoned(abandon.reason.as_str(), abandon.token),
+        None => NONE,
+    }
+}
+
+/// What it tells.
+pub fn told<S: Storage>(request: &HttpCache<S>, told: Told) -> Answer {
+    match told {
+        Told::OffFor => off_for(request.phase()),
+        Told::PredictedReason => reason_or_none(request.predicted_uncacheable_reason()),
+        Told::Holds => held(request),
+        Told::Waited => seconds(request.lock_duration()),
+        Told::Time => seconds(request.lookup_duration()),
+        Told::Decided => decision(request.admission_decision()),
+        Told::Abandoned => abandoned(request.lock_abandon()),
+        Told::MaybeKey => letter(request.maybe_cache_key()),
+        Told::KeyLent if request.maybe_cache_key().is_some() => letter(Some(request.cache_key())),
+        Told::KeyVariance => key_variance(request.maybe_cache_key()),
+        Told::MaybeMeta => until(request.maybe_cache_meta()),
+        Told::MetaLent if request.maybe_cache_meta().is_some() => {
+            until(Some(request.cache_meta()))
+        }
+        Told::MetaVariance => meta_variance(request.maybe_cache_meta()),
+        Told::Provenance => provenance(request.maybe_cache_meta()),
+        Told::Retries if !request.phase().is_never_enabled() => {
+            size_or_none(request.cache_lock_max_retries())
+        }
+        Told::MostBytes if !request.phase().is_never_enabled() => {
+            size_or_none(request.max_file_size_bytes())
+        }
+        Told::Exceeded if !request.phase().is_never_enabled() => {
+            yes_or_no(request.exceeded_max_file_size())
+        }
+        _ => REFUSED,
+    }
+}
+
+/// Whether what is being written can be read, if a store is used.
+pub fn streams(streams: Option<bool>) -> Answer {
+    match streams {
+        Some(streams) => yes_or_no(streams),
+        None => NONE,
     }
 }

@@ -2,9 +2,10 @@
 ghost use Rattle.std.specs.Prelude.{◌≡◌, true, None};
 ghost use Rattle.cache_phases.specs.Locks.{held};
 
-use crate::answer::{Answer, DONE, NO_MEMORY};
-use crate::call::Call;
-use crate::step::{Step, reason};
+use crate::answer::{Answer, DONE, NO_MEMORY, REFUSED};
+use crate::call::{Lead, Turn};
+use crate::heads::{STORED, head_of};
+use crate::step::Step;
 use crate::world::key;
 use cache_heads::NoCacheReason;
 use cache_lock::CacheKeyLock;
@@ -18,34 +19,20 @@ use http_cache::{HttpCache, Uses};
 use std::alloc::Global;
 use std::mem;
 
-// Turns the cache on, with all of its parts or with the lock alone.
-fn enable<S: Storage>(request: &mut HttpCache<S>, all: bool) -> Option<Answer> {
-    if !request.phase().is_disabled() {
-        return None;
-    }
-    let uses = Uses {
+// All parts of the cache, or the lock alone.
+fn uses(all: bool) -> Uses {
+    Uses {
         eviction: all,
         predictor: all,
         lock: true,
-    };
-    let overrides = CacheOptionOverrides {
-        wait_timeout: Some(Duration::from_seconds(3)),
-        max_lock_retries: Some(2),
-    };
-    request.enable(uses, Some(overrides));
-    Some(DONE)
+    }
 }
 
-fn disable<S: Storage, E, P, L: CacheKeyLock, A>(
-    request: &mut HttpCache<S>,
-    parts: &mut Parts<S, E, P, L, A>,
-    reason: NoCacheReason,
-) -> Option<Answer> {
-    if CachePhase::Disabled(reason).is_never_enabled() || !request.is_releasable(reason) {
-        return None;
-    }
-    request.disable(parts, reason);
-    Some(DONE)
+fn overrides() -> Option<CacheOptionOverrides> {
+    Some(CacheOptionOverrides {
+        wait_timeout: Some(Duration::from_seconds(3)),
+        max_lock_retries: Some(2),
+    })
 }
 
 /// Whether the request holds nothing of the lock.
@@ -56,88 +43,78 @@ pub fn holds_nothing<S: Storage>(request: &HttpCache<S>) -> bool
     !request.holds_lock()
 }
 
-fn set_lock<S: Storage>(request: &mut HttpCache<S>, is_on: bool) -> Option<Answer> {
-    if !holds_nothing(request) || !request.phase().can_set_lock() {
-        return None;
+/// Does what changes the request alone.
+pub fn turned<S: Storage>(request: &mut HttpCache<S>, turn: Turn, step: Step<'_>) -> Answer {
+    let phase = request.phase();
+    match turn {
+        Turn::Enable if phase.is_disabled() => {
+            request.enable(uses(step.first != "lock"), overrides())
+        }
+        Turn::Lock if phase.can_set_lock() && holds_nothing(request) => {
+            request.set_cache_lock(step.first == "on", None)
+        }
+        Turn::Policy if phase.can_set_policy() => request.set_admission_policy(step.first == "on"),
+        Turn::Trace => request.enable_tracing(Span::inactive()),
+        Turn::Subrequest => request.tag_as_subrequest(),
+        Turn::Forget if phase.has_reader_phase() => request.forget_cache_meta(),
+        Turn::AddTime => request.add_lookup_duration(Duration::from_seconds(step.number())),
+        Turn::Miss if phase.can_miss() => request.cache_miss(),
+        Turn::Updating if phase.is_stale_phase() => request.set_stale_updating(),
+        Turn::Limit if !phase.is_disabled() => {
+            request.set_max_file_size_bytes(step.number() as usize)
+        }
+        _ => return REFUSED,
     }
-    request.set_cache_lock(is_on, None);
-    Some(DONE)
+    DONE
 }
 
-fn set_policy<S: Storage>(request: &mut HttpCache<S>, is_on: bool) -> Option<Answer> {
-    if !request.phase().can_set_policy() {
-        return None;
-    }
-    request.set_admission_policy(is_on);
-    Some(DONE)
-}
-
-/// A call that turns the cache on or off for the request, or a part of it.
-pub fn turned<S: Storage, E, P, L: CacheKeyLock, A>(
+// Ends the request, and begins another in its place.
+fn end<S: Storage, E, P, L: CacheKeyLock, A>(
     request: &mut HttpCache<S>,
     parts: &mut Parts<S, E, P, L, A>,
-    step: Step<'_>,
-) -> Option<Answer> {
-    match step.call {
-        Call::Enable => enable(request, step.first != "lock"),
-        Call::Disable => disable(request, parts, reason(step.first)),
-        Call::Lock => set_lock(request, step.first == "on"),
-        Call::Policy => set_policy(request, step.first == "on"),
-        _ => None,
-    }
+) {
+    mem::replace(request, HttpCache::new()).end(parts)
 }
 
-fn set_key<S: Storage>(alloc: Global, request: &mut HttpCache<S>, letter: u8) -> Option<Answer> {
-    if !request.phase().can_set_key() {
-        return None;
-    }
-    match key(alloc, letter) {
-        Some(key) => {
-            request.set_cache_key(key);
-            Some(DONE)
-        }
-        None => Some(NO_MEMORY),
-    }
-}
-
-/// A call that leads the request from phase to phase.
+/// Does what changes the request and a part of the cache.
 pub fn led<S: Storage, E, P: CacheablePredictor, L: CacheKeyLock, A>(
     alloc: Global,
     request: &mut HttpCache<S>,
     parts: &mut Parts<S, E, P, L, A>,
-    step: Step<'_>,
-) -> Option<Answer> {
+    lead: Lead,
+    reason: NoCacheReason,
+) -> Answer {
     let phase = request.phase();
-    match step.call {
-        Call::Key => set_key(alloc, request, step.letter()),
-        Call::End => {
-            mem::replace(request, HttpCache::new()).end(parts);
-            Some(DONE)
+    let may_release = request.is_releasable(reason);
+    match lead {
+        Lead::Disable if !CachePhase::Disabled(reason).is_never_enabled() && may_release => {
+            request.disable(parts, reason)
         }
-        Call::Bypass if phase.is_key_phase() => {
-            request.bypass(parts);
-            Some(DONE)
+        Lead::Release if may_release => request.release_write_lock(parts, reason),
+        Lead::FinishReader if phase.can_finish_reader() => { request.finish_hit_handler(parts) }
+        Lead::Bypass if phase.is_key_phase() => request.bypass(parts),
+        Lead::BecameCacheable if !phase.is_never_enabled() && request.maybe_cache_key().is_some() =>
+            { request.response_became_cacheable(parts) }
+        Lead::Uncacheable
+            if may_release && phase.is_stale_phase() && request.maybe_cache_meta().is_some() => {
+            request.revalidate_uncacheable(parts, head_of(alloc, STORED), reason)
         }
-        Call::Miss if phase.can_miss() => {
-            request.cache_miss();
-            Some(DONE)
-        }
-        Call::Updating if phase.is_stale_phase() => {
-            request.set_stale_updating();
-            Some(DONE)
-        }
-        _ => None,
+        Lead::End => end(request, parts),
+        _ => return REFUSED,
     }
+    DONE
 }
 
-/// A call that changes no phase and needs no part of the cache.
-pub fn noted<S: Storage>(request: &mut HttpCache<S>, step: Step<'_>) -> Option<Answer> {
-    match step.call {
-        Call::Trace => request.enable_tracing(Span::inactive()),
-        Call::Subrequest => request.tag_as_subrequest(),
-        Call::Forget if request.phase().has_reader_phase() => request.forget_cache_meta(),
-        Call::AddTime => request.add_lookup_duration(Duration::from_seconds(step.number())),
-        _ => return None,
+/// Sets the key of a letter.
+pub fn set_key<S: Storage>(alloc: Global, request: &mut HttpCache<S>, letter: u8) -> Answer {
+    if !request.phase().can_set_key() {
+        return REFUSED;
     }
-    Some(DONE)
+    match key(alloc, letter) {
+        Some(key) => {
+            request.set_cache_key(key);
+            DONE
+        }
+        None => NO_MEMORY,
+    }
 }

@@ -1,6 +1,7 @@
 //! A cache, its keys and metas.
 ghost use Rattle.std.specs.Prelude.{◌≡◌};
 
+use crate::answer::{Answer, DONE, NO_MEMORY, yes_or_no};
 use crate::heads::{STORED, head_of};
 use crate::step::Step;
 use cache_evict::lru::Manager;
@@ -39,10 +40,12 @@ const LIMIT: usize = 10;
 
 /// The cache; its lock's permits may be held for 5 seconds.
 pub fn cache(alloc: Global) -> Option<Cache> {
+    let predictor = Predictor::<1>::new(alloc, 4, None).ok()?;
+    let manager = Manager::<1>::with_capacity(alloc, LIMIT, 0).ok()?;
     Some(Parts {
         store: MemCache::new(alloc),
-        manager: Manager::<1>::with_capacity(alloc, LIMIT, 0).ok()?,
-        predictor: Predictor::<1>::new(alloc, 4, None).ok()?,
+        manager,
+        predictor,
         lock: CacheLock::new(alloc, Duration::from_seconds(5)),
         policy: DefersD,
     })
@@ -64,14 +67,37 @@ fn compact(alloc: Global, letter: u8) -> Option<CompactCacheKey> {
     key(alloc, letter)?.to_compact().ok()
 }
 
-/// Whether the entry of a key is tracked; none out of memory.
+/// Whether the entry of a key is tracked.
 pub fn tracked<S: Storage, E: EvictionManager, P, L, A>(
     alloc: Global,
     parts: &Parts<S, E, P, L, A>,
     letter: u8,
-) -> Option<bool> {
-    let entry = CacheEntryKey::from_entry_id(compact(alloc, letter)?, None);
-    Some(parts.manager.peek(&entry))
+) -> Answer {
+    match compact(alloc, letter) {
+        Some(key) => yes_or_no(parts.manager.peek(&CacheEntryKey::from_entry_id(key, None))),
+        None => NO_MEMORY,
+    }
+}
+
+// Tracks an entry that leaves room for one byte.
+fn weigh_down<E: EvictionManager>(alloc: Global, manager: &mut E, key: CompactCacheKey) -> Answer {
+    let entry = CacheEntryKey::from_entry_id(key, None);
+    let moment = Moment::from_seconds(1000);
+    match manager.access(alloc, &entry, usize::MAX - 1, moment) {
+        Ok(_) => DONE,
+        Err(_) => NO_MEMORY,
+    }
+}
+
+// Takes the entry of a key out, and tracks a heavy one.
+fn replace<E: EvictionManager>(alloc: Global, manager: &mut E, key: &CompactCacheKey) -> Answer {
+    match compact(alloc, b'z') {
+        Some(heavy) => {
+            manager.remove(PurgeTarget::Active(key).removed_entry(None));
+            weigh_down(alloc, manager, heavy)
+        }
+        None => NO_MEMORY,
+    }
 }
 
 /// Takes the entry of a key out of the order of use, and tracks another there that leaves room for one byte.
@@ -79,16 +105,9 @@ pub fn burden<S: Storage, E: EvictionManager, P, L, A>(
     alloc: Global,
     parts: &mut Parts<S, E, P, L, A>,
     letter: u8,
-) -> Option<()> {
-    let key = compact(alloc, letter)?;
-    let heavy = CacheEntryKey::from_entry_id(compact(alloc, b'z')?, None);
-    parts
-        .manager
-        .remove(PurgeTarget::Active(&key).removed_entry(None));
-    let moment = Moment::from_seconds(1000);
-    let _was_tracked = parts
-        .manager
-        .access(alloc, &heavy, usize::MAX - 1, moment)
-        .ok()?;
-    Some(())
+) -> Answer {
+    match compact(alloc, letter) {
+        Some(key) => replace(alloc, &mut parts.manager, &key),
+        None => NO_MEMORY,
+    }
 }

@@ -5,3 +5,6 @@ pub mod Calls
 pub mod Looking
 pub mod LookedUp
 pub mod Serving
+pub mod Alike
+pub mod Lengths
+pub mod Seeing

@@ -1,4 +1,4 @@
-//! Tests of stores, and of puts into them.
+//! Tests of stores, and of puts into them; of managers; and of locks.
 #![tactic(auto)]
 
 #[cfg(test)]
@@ -7,6 +7,10 @@ mod chosen;
 mod copies;
 #[cfg(test)]
 mod decisions;
+#[cfg(test)]
+mod locks;
+#[cfg(test)]
+mod managers;
 #[cfg(test)]
 mod memory;
 #[cfg(test)]

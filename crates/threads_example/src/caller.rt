@@ -6,9 +6,11 @@ use crate::mix::{asked, event};
 use crate::outcome::{Tally, Trouble};
 use cache_tier::{Answer, Event, TierFault};
 use std::alloc::Global;
+use std::rt::Clock;
 use std::sync::Wait;
 use std::thread;
 use std::thread::Threads;
+use std::time::{Duration, Instant};
 
 /// A tier that threads share.
 pub trait Shared {
@@ -71,8 +73,8 @@ fn worked<T: Shared, W: Wait>(
     (pass, tally)
 }
 
-/// Lets four threads make so many calls each: the passes with which they were made, and what came of all.
-pub fn four_at_work<T: Shared + Sync, W: Threads + Wait + Sync>(
+// Lets four threads make so many calls each: the passes with which they were made, and what came of all.
+fn four_at_work<T: Shared + Sync, W: Threads + Wait + Sync>(
     rt: &W,
     alloc: Global,
     tier: &T,
@@ -111,4 +113,22 @@ where
     passes.push_reserved(d.0);
     let tally = a.1?.with(b.1?).with(c.1?).with(d.1?);
     Ok((passes, tally))
+}
+
+/// The same, and how long the threads took.
+pub fn four_timed<T: Shared + Sync, W: Threads + Wait + Clock + Sync>(
+    rt: &W,
+    alloc: Global,
+    tier: &T,
+    calls: u32,
+) -> Result<(Vec<T::Pass>, Tally, Duration), Trouble>
+where
+    T::Pass: Send,
+    ensures passes { IfOk result (λ back. (length back.0.items ≡ 4) × All (λ pass. T.made pass ≡ calls) back.0.items) }
+    ensures counted { IfOk result (λ back. back.1.calls ≡ 4 * calls) }
+{
+    let start = Instant::now(rt)?;
+    let (passes, tally) = four_at_work(rt, alloc, tier, calls)?;
+    let took = start.elapsed(rt)?;
+    Ok((passes, tally, took))
 }

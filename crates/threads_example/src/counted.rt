@@ -1,10 +1,10 @@
 //! The tier for production: its calls are counted, and none is kept.
 ghost use Rattle.std.specs.Prelude.{◌≡◌, ◌*◌, IfOk};
 
-use crate::caller::{Shared, four_at_work};
-use crate::outcome::{Day, Trouble};
-use crate::setting::settings;
-use cache_tier::{Answer, Event, Tier, TierFault};
+use crate::caller::{Shared, four_timed};
+use crate::outcome::{Day, Tally, Trouble};
+use crate::setting::empty;
+use cache_tier::{Answer, Event, TierFault};
 use counted_tier::{CallPass, CountedTier};
 use rand_core::SeedableRng;
 use rand_pcg::Pcg64;
@@ -13,7 +13,7 @@ use std::rt::Clock;
 use std::sync::Wait;
 use std::sync::ledger::{Blank, Ledger};
 use std::thread::Threads;
-use std::time::Instant;
+use std::time::Duration;
 
 type Counted<L> = CountedTier<4, Pcg64, L>;
 
@@ -43,13 +43,26 @@ impl<L: Ledger> Shared for CountedTier<4, Pcg64, L> {
 fn shared<L: Ledger>(alloc: Global, blank: Blank) -> Result<Counted<L>, Trouble>
     requires { (blank.name ≡ L.name) × (blank.parts ≡ L.parts) × (L.parts ≡ 4294967296) }
 {
-    let set = settings();
-    let Ok(tier) = Tier::<4>::new(alloc, set.limit, set.watermark, set.age, set.wait) else {
-        return Err(Trouble::Memory);
-    };
+    let (set, tier) = empty(alloc)?;
     match CountedTier::new(alloc, blank, set, tier, Pcg64::seed_from_u64(1)) {
         Ok(tier) => Ok(tier),
         Err(back) => Err(Trouble::NotShared(back.fault)),
+    }
+}
+
+// Closes the tier, once all passes are gathered.
+fn closed<L: Ledger>(tier: Counted<L>, tally: Tally, took: Duration) -> Result<Day, Trouble>
+    ensures { IfOk result (λ day. day.tally ≡ tally) }
+{
+    match tier.close() {
+        Ok(counted) => Ok(Day {
+            tally,
+            recorded: counted.calls(),
+            report: counted.tier().report(),
+            replayed: None,
+            took,
+        }),
+        Err((outstanding, _)) => Err(Trouble::Outstanding(outstanding)),
     }
 }
 
@@ -64,20 +77,9 @@ pub fn counted_day<L: Ledger + Send + Sync, W: Threads + Wait + Clock + Sync>(
     ensures { IfOk result (λ day. day.tally.calls ≡ 4 * calls) }
 {
     let tier: Counted<L> = shared(alloc, blank)?;
-    let start = Instant::now(rt)?;
-    let (passes, tally) = four_at_work(rt, alloc, &tier, calls)?;
-    let took = start.elapsed(rt)?;
+    let (passes, tally, took) = four_timed(rt, alloc, &tier, calls)?;
     for pass in passes {
         tier.gather(rt, pass);
     }
-    match tier.close() {
-        Ok(counted) => Ok(Day {
-            tally,
-            recorded: counted.calls(),
-            report: counted.tier().report(),
-            replayed: None,
-            took,
-        }),
-        Err((outstanding, _)) => Err(Trouble::Outstanding(outstanding)),
-    }
+    closed(tier, tally, took)
 }

@@ -1,9 +1,9 @@
 //! The tier for tests: all its calls are kept, and can be replayed.
 ghost use Rattle.std.specs.Prelude.{◌≡◌, ◌*◌, IfOk, length};
 
-use crate::caller::{Shared, four_at_work};
-use crate::outcome::{Day, Trouble};
-use crate::setting::settings;
+use crate::caller::{Shared, four_timed};
+use crate::outcome::{Day, Tally, Trouble};
+use crate::setting::empty;
 use cache_tier::{Answer, Event, Tier, TierFault};
 use rand_core::SeedableRng;
 use rand_pcg::Pcg64;
@@ -13,7 +13,7 @@ use std::rt::Clock;
 use std::sync::Wait;
 use std::sync::ledger::{Blank, Ledger};
 use std::thread::Threads;
-use std::time::Instant;
+use std::time::Duration;
 
 type Kept<L> = SharedTier<4, Pcg64, L>;
 
@@ -41,10 +41,7 @@ impl<L: Ledger> Shared for SharedTier<4, Pcg64, L> {
 fn shared<L: Ledger>(alloc: Global, blank: Blank) -> Result<Kept<L>, Trouble>
     requires { (blank.name ≡ L.name) × (blank.parts ≡ L.parts) × (L.parts ≡ 4294967296) }
 {
-    let set = settings();
-    let Ok(tier) = Tier::<4>::new(alloc, set.limit, set.watermark, set.age, set.wait) else {
-        return Err(Trouble::Memory);
-    };
+    let (set, tier) = empty(alloc)?;
     match SharedTier::new(alloc, blank, set, tier, Pcg64::seed_from_u64(1)) {
         Ok(tier) => Ok(tier),
         Err(back) => Err(Trouble::NotShared(back.fault)),
@@ -78,6 +75,40 @@ fn replayed_if_short<L: Ledger>(
     Ok(Some(replayed(alloc, recorded)?))
 }
 
+// The day of a tier that was closed.
+fn day_of<L: Ledger>(
+    alloc: Global,
+    recorded: &Recorded<4, Pcg64, L>,
+    tally: Tally,
+    took: Duration,
+) -> Result<Day, Trouble>
+    ensures { IfOk result (λ day. day.tally ≡ tally) }
+{
+    let replayed = replayed_if_short(alloc, recorded)?;
+    Ok(Day {
+        tally,
+        recorded: recorded.history().len() as u64,
+        report: recorded.tier().report(),
+        replayed,
+        took,
+    })
+}
+
+// Closes the tier, once all passes are gathered.
+fn closed<L: Ledger>(
+    alloc: Global,
+    tier: Kept<L>,
+    tally: Tally,
+    took: Duration,
+) -> Result<Day, Trouble>
+    ensures { IfOk result (λ day. day.tally ≡ tally) }
+{
+    match tier.close() {
+        Ok(recorded) => day_of(alloc, &recorded, tally, took),
+        Err((outstanding, _)) => Err(Trouble::Outstanding(outstanding)),
+    }
+}
+
 /// Lets four threads share a new tier, for so many calls each. `blank` is the tier's ledger, and `L` names it.
 pub fn kept_day<L: Ledger + Send + Sync, W: Threads + Wait + Clock + Sync>(
     rt: &W,
@@ -89,20 +120,9 @@ pub fn kept_day<L: Ledger + Send + Sync, W: Threads + Wait + Clock + Sync>(
     ensures { IfOk result (λ day. day.tally.calls ≡ 4 * calls) }
 {
     let tier: Kept<L> = shared(alloc, blank)?;
-    let start = Instant::now(rt)?;
-    let (passes, tally) = four_at_work(rt, alloc, &tier, calls)?;
-    let took = start.elapsed(rt)?;
+    let (passes, tally, took) = four_timed(rt, alloc, &tier, calls)?;
     if let Err(back) = tier.gather(rt, passes) {
         return Err(Trouble::NotGathered(back.fault));
     }
-    match tier.close() {
-        Ok(recorded) => Ok(Day {
-            tally,
-            recorded: recorded.history().len() as u64,
-            report: recorded.tier().report(),
-            replayed: replayed_if_short(alloc, &recorded)?,
-            took,
-        }),
-        Err((outstanding, _)) => Err(Trouble::Outstanding(outstanding)),
-    }
+    closed(alloc, tier, tally, took)
 }

@@ -41,7 +41,7 @@ use std::thread::Threads;
 use std::{env, io};
 
 // Which tier the threads share.
-#[derive(Clone, Copy, PartialEq, Eq, Debug)]
+#[derive(Clone, Copy)]
 enum Mode {
     Kept,
     Counted,

@@ -20,7 +20,7 @@ const RESPONSE: &[u8] =
     0123456789012345678901234567890123456789012345678901234567890123456789012345678901234567890123456789";
 
 /// What is asked: of which request, and of which key.
-#[derive(Clone, Copy, PartialEq, Eq, Debug)]
+#[derive(Clone, Copy)]
 pub enum Ask {
     Put { key: u64 },
     Open { request: u64, key: u64 },

@@ -10,7 +10,7 @@ use std::io;
 use std::time::Duration;
 
 /// What came of calls. The counts stop at 2^64 - 1.
-#[derive(Clone, Copy, PartialEq, Eq, Debug)]
+#[derive(Clone, Copy)]
 pub struct Tally {
     /// The calls that were made.
     pub calls: u64,
@@ -97,7 +97,7 @@ pub struct Day {
 }
 
 /// What can't be done.
-#[derive(Clone, Copy, PartialEq, Eq, Debug)]
+#[derive(Clone, Copy)]
 pub enum Trouble {
     CommandLine,
     Io,

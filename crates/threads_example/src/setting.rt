@@ -1,15 +1,27 @@
 //! What the tier is made with.
-ghost use Rattle.std.specs.Prelude.{◌≡◌};
+ghost use Rattle.std.specs.Prelude.{◌≡◌, IfOk};
+ghost use Rattle.tier_model.specs.Started.{IsNew, settings_of};
+ghost use Rattle.recorded_tier.specs.Openings.{settings_with};
 
-use cache_tier::Duration;
+use cache_tier::{Duration, Tier};
 use shared_tier::TierOptions;
+use std::alloc::{AllocError, Global};
 
-/// Room for all bodies of four threads, 400,000 bytes, so that nothing is evicted.
-pub fn settings() -> TierOptions {
+// Room for all bodies of four threads, 400,000 bytes, so that nothing is evicted.
+fn settings() -> TierOptions {
     TierOptions {
         limit: 1_000_000,
         watermark: None,
         age: Duration::from_seconds(10),
         wait: None,
     }
+}
+
+/// Returns an empty tier of four shards, and the options that it was made with.
+pub fn empty(alloc: Global) -> Result<(TierOptions, Tier<4>), AllocError>
+    ensures { IfOk result (λ made. IsNew made.1 × (settings_of made.1 ≡ settings_with 4 made.0)) }
+{
+    let set = settings();
+    let tier = Tier::<4>::new(alloc, set.limit, set.watermark, set.age, set.wait)?;
+    Ok((set, tier))
 }

@@ -1,9 +1,10 @@
-//! Tests of the tier without memory, of what its definitions stand on, and of trace lines and the program that replays them. What the tier answers
-//! with memory is in the traces of `trace_cases`.
+//! Tests of the tier without memory, of a tier that threads share, of what its definitions stand on, and of trace lines and the program that replays
+//! them. What the tier answers with memory is in the traces of `traces`.
 #![tactic(auto)]
 
 #[cfg(test)]
 mod asks;
+mod drops;
 #[cfg(test)]
 mod model;
 #[cfg(test)]
@@ -12,6 +13,8 @@ mod outcomes;
 mod refusals;
 #[cfg(test)]
 mod runs;
+#[cfg(test)]
+mod shared;
 #[cfg(test)]
 mod traces;
 #[cfg(test)]

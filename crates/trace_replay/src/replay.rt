@@ -15,7 +15,7 @@ ghost use Rattle.trace_replay.specs.Errors.{IsOther};
 ghost use Rattle.trace_replay.specs.Inputs.{IsLineBefore};
 ghost use Rattle.trace_replay.specs.Outputs.{Passes, HasBegun};
 ghost use Rattle.trace_replay.specs.declared.replay.ReplayError.TheVariants.{Memory};
-ghost use Rattle.trace_replay.specs.Steps.{Answers};
+ghost use Rattle.trace_replay.specs.Steps.{Answers, RepliesTo};
 
 use crate::input::Input;
 use crate::output::hand_on;
@@ -29,6 +29,7 @@ use std::alloc::{AllocError, AllocFailed, Global};
 use std::io;
 use std::io::{Read, Write};
 use thiserror::Error;
+use tier_model::event::Event;
 use trace_lines::line::Line;
 use trace_lines::read::LineReader;
 use trace_lines::text::{add_outcome_line, add_refusal_line, add_report_line};
@@ -246,6 +247,22 @@ fn without_line_feed(line: &[u8]) -> &[u8]
     }
 }
 
+// Has the tier take an event, and adds the line for its outcome to what is waiting.
+fn add_reply<G: Rng, const N: usize>(
+    alloc: Global,
+    tier: &mut Tier<N, SeededState>,
+    rng: &mut G,
+    event: &Event,
+    waiting: &mut Vec<u8>,
+) -> Result<(), AllocError>
+    ensures answered { OnOk result ((text : List ℕ) × (waiting.new.items ≡ waiting.old.items ++ ended text)
+        × RepliesTo (record { state = tier.old; words = G.stream rng.old }) (record { state = tier.new; words = G.stream rng.new }) event.now text) }
+    ensures err { OnErr result (waiting.new.items ≡ waiting.old.items) }
+{
+    let outcome = tier.step(rng, event);
+    add_outcome_line(alloc, waiting, &outcome)
+}
+
 // Adds the line that answers a line to what is waiting.
 fn add_answer<G: Rng, const N: usize>(
     alloc: Global,
@@ -261,10 +278,7 @@ fn add_answer<G: Rng, const N: usize>(
 {
     match lines.read(alloc, line)? {
         Line::Refused(refusal) => add_refusal_line(waiting, &refusal)?,
-        Line::Accepted(event) => {
-            let outcome = tier.step(rng, &event);
-            add_outcome_line(alloc, waiting, &outcome)?;
-        }
+        Line::Accepted(event) => add_reply(alloc, tier, rng, &event, waiting)?,
     }
     Ok(())
 }

@@ -167,13 +167,9 @@ fn save<F: Folder, W: Write, const N: usize>(
     ensures too_many { result ≡ Err ReplayError.TooManyReads → ⊥ }
 {
     match tier.save(folder, dir, words) {
-        Ok(report) => {
-            let line = saved_line(alloc, report.saved, report.failed.len())?;
-            write_line(alloc, line.as_str(), writer)
-        }
+        Ok(report) => write_saved(alloc, report.saved, report.failed.len(), writer),
         Err(TierFault::Folder) => {
-            let line = saved_line(alloc, 0, N)?;
-            write_line(alloc, line.as_str(), writer)?;
+            write_saved(alloc, 0, N, writer)?;
             Err(ReplayError::Folder)
         }
         Err(_) => Err(ReplayError::Memory),
@@ -193,6 +189,21 @@ fn saved_line(alloc: Global, saved: usize, failed: usize) -> Result<String, Allo
     ensures { IfOk result (λ line. string_bytes line ≡ counts_text saved failed) }
 {
     format!(in alloc; "recency saved={saved} failed={failed}")
+}
+
+// Writes the line that reports a save.
+fn write_saved<W: Write>(
+    alloc: Global,
+    saved: usize,
+    failed: usize,
+    writer: &mut W,
+) -> Result<(), ReplayError>
+    ensures written { OnOk result (Appends (W.contents writer.old) (W.contents writer.new) (ended (counts_text saved failed))) }
+    ensures begun { OnErr result (HasBegun (W.contents writer.old) (W.contents writer.new) (ended (counts_text saved failed))) }
+    ensures other { IfErr result IsOther }
+{
+    let line = saved_line(alloc, saved, failed)?;
+    write_line(alloc, line.as_str(), writer)
 }
 
 // Writes a line, and hands it on.

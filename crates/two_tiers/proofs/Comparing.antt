@@ -22,7 +22,7 @@ use Rattle.tier_loads.proofs.OneRequest.{holds-request}
 use Rattle.tier_loads.proofs.AllRequests.{uniform-held}
 use Rattle.tier_loads.proofs.Chosen.{chosen-uniform}
 use Rattle.served_requests.specs.Requests.{entry_for, step_for}
-use Rattle.two_tiers.specs.Uniform.{AreSame, IsAlike, IsUniform, IsSeenAs, AreSeenAs, IsPlain, length_of}
+use Rattle.served_requests.specs.Uniform.{AreSame, IsAlike, IsUniform, IsSeenAs, AreSeenAs, IsPlain, length_of}
 use Rattle.served_requests.specs.Leaves.{Leaves}
 use Rattle.two_tiers.specs.Two.{ServesBoth, AreComparable, AreUniform, found_by, all_seen, AreFound}
 use Rattle.served_requests.specs.declared.request.Request.{Request}

@@ -27,7 +27,7 @@ use Rattle.tier_model.specs.Answers.{IsPutAnswer}
 use Rattle.tier_model.specs.After.{after_purge, after_put, with_counts}
 use Rattle.tier_loads.specs.Requests.{PlainRequest, asks, purges, Stores, Uses, Does, entry_of as plain_entry, step_of}
 use Rattle.served_requests.specs.Requests.{step_for, step_by}
-use Rattle.two_tiers.specs.Uniform.{asks_for, IsSeenBy, IsSeenAs, IsPlainBy, IsPlain}
+use Rattle.served_requests.specs.Uniform.{asks_for, IsSeenBy, IsSeenAs, IsPlainBy, IsPlain}
 use Rattle.served_requests.specs.Courses.{IsPutTold}
 use Rattle.served_requests.specs.Leaves.{found_at, looked_up, LeavesPut, LeavesGet, LeavesPurge, LeavesBy, Leaves}
 use Rattle.two_tiers.specs.Two.{found_by}

@@ -1,3 +1,1 @@
-pub mod Uniform
-pub mod Known
 pub mod Two

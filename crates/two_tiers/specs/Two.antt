@@ -14,7 +14,7 @@ use Rattle.tier_loads.specs.Uniform.{weight_in}
 use Rattle.served_requests.specs.Requests.{entry_for, step_for}
 use Rattle.tier_requests.specs.Faults.{out_of_memory}
 use Rattle.served_requests.specs.Serves.{Serves}
-use Rattle.two_tiers.specs.Uniform.{AreSeenAs, IsUniform, IsPlain}
+use Rattle.served_requests.specs.Uniform.{AreSeenAs, IsUniform, IsPlain}
 use Rattle.served_requests.specs.declared.request.Request.{Request}
 use Rattle.served_requests.specs.declared.request.Served.{Served}
 use Rattle.served_requests.specs.declared.request.Served.TheVariants.{Hit, Filled, Passed, Purged}

@@ -5,10 +5,7 @@
 //! limits finds: see [`run_two`].
 #![tactic(auto)]
 
-mod length;
-mod seen;
 mod side_by_side;
-mod uniformity;
 
+pub use served_requests::uniform;
 pub use side_by_side::{Pair, Side, Stopped, run_two};
-pub use uniformity::uniform;

@@ -1,8 +1,0 @@
-use Rattle.std.proofs.Common.{rules, ◌≡◌, sym, subst}
-use Rattle.recorded_tier.proofs.NewLaws.{empty-new, empty-made}
-use Rattle.tier_model.specs.Started.{IsNew, settings_of}
-use Rattle.recorded_tier.specs.Openings.{settings_with}
-use Rattle.shared_tests.proofs.threads.shared.Goals as goal
-
-pub new-requires-2 : goal.new-requires-2
-new-requires-2 g c = (search rules, (search rules, (search rules, (subst IsNew (sym c.in-Ok.ensures.state) (empty-new (settings_with 4 c.options-set.result)), (subst (λ t. settings_of t ≡ settings_with 4 c.options-set.result) (sym c.in-Ok.ensures.state) (empty-made (settings_with 4 c.options-set.result)), (search rules, c.requires))))))

@@ -1,0 +1,11 @@
+//! Managers, numbers of entries and recency texts.
+mod cases;
+mod names;
+mod numbers;
+mod refused;
+mod saved;
+mod shards;
+mod steps;
+mod texts;
+mod uses;
+mod weights;

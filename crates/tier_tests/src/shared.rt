@@ -1,0 +1,4 @@
+//! A tier that threads share.
+mod asks;
+mod meeting;
+mod threads;
