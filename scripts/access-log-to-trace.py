@@ -6,7 +6,8 @@
     access-log-to-trace.py --cases FOLDER --limits 100000,400000 < access.log    and then --answers FILE < access.log
     access-log-to-trace.py < access.log > trace.jsonl
 
-It reads nginx's and Apache's combined and common log formats, also after the name of a virtual host, and plain lines
+It reads nginx's and Apache's combined and common log formats, also after the name of a virtual host, with a port or without one, or
+before it at the line's end by --host-last, and plain lines
 'time key bytes' (time in seconds since 1970). Each request becomes four events: open, look, put, drop. The put follows whether
 or not the body was found, since a trace can't know: so after each request its key is the one used last, as in a cache that fills
 what it lacks, and the look-ups found are those of such a cache. What this changes is freshness, which each put renews.
@@ -181,6 +182,7 @@ def options_of(words):
     parser.add_argument("--lifetime", type=int, default=3600, help="how long a response is fresh, in seconds (default 3600)")
     parser.add_argument("--methods", default="GET,HEAD", help="the request methods to take, with commas (default GET,HEAD)")
     parser.add_argument("--statuses", default="200,206,304", help="the statuses to take, with commas (default 200,206,304)")
+    parser.add_argument("--host-last", action="store_true", help="the last word of a log line is the host, which the key begins with")
     parser.add_argument("--no-query", action="store_true", help="leave the query out of the key")
     options = parser.parse_args(words)
     if not options.scale > 0 or options.lifetime < 0 or options.sample < 1:
