@@ -126,6 +126,12 @@ response 'HTTP/1.1 200 OK\r\nTransfer-Encoding: chunked\r\n\r\n3\r\nabc\r\n0\r\n
 [ ! -s "$room/told" ]
 response 'HTTP/1.1 200 OK\r\ntransfer-encoding: gzip, chunked\r\n\r\nabc' > "$room/trace"
 grep -qx "the body isn't in chunks, as its Transfer-Encoding says: 3 bytes, as curl decodes them, stand for it" "$room/told"
+# which line of a head decides
+explained() { printf "$1" | python3 scripts/response-to-trace.py --at 1000 --explain /a | tr '\n' '|'; }
+[ "$(explained 'HTTP/1.1 200 OK\r\nCache-Control: max-age=60\r\nAge: 50\r\n\r\n')" = "decided by Cache-Control: max-age=60 (the lifetime)|fresh up to second 1060|not looked at: age|" ]
+[ "$(explained 'HTTP/1.1 206 P\r\nExpires: 0\r\n\r\n')" = "decided by Expires: 0 (the last moment)|stale from second 1000 on|status 206: what is stored is a part, and is served as the whole|" ]
+[ "$(explained 'HTTP/1.1 200 OK\r\nCache-Control: private, max-age=9\r\n\r\n')" = "decided by Cache-Control: private (not stored: the cache is shared)|" ]
+[ "$(explained 'HTTP/1.1 200 OK\r\nCache-Control: max-age=9, s-maxage=x\r\n\r\n')" = "decided by no line (not stored: nothing gives a lifetime, and none is guessed)|" ]
 if python3 scripts/response-to-trace.py /a < /dev/null 2> "$room/told"; then exit 1; fi
 grep -qx "the input is empty" "$room/told"
 echo "access-log-to-trace.py, response-to-trace.py: as expected"
