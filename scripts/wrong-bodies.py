@@ -80,9 +80,8 @@ def shown_by_traces(room):
     cases = os.path.join(room, "cases")
     write_cases(cases)
     status, said = tried(room, "tier_replay", ["--seconds", "600", "--cases", cases])
-    names = sorted(it for it in os.listdir(cases) if "." not in it)
-    wrong = [it for it in names if re.search(rf"(?m)^.*\b{re.escape(it)}\b.*(wrong|differ)", said)]
-    return status != 0 and wrong, f"{len(wrong)} traces answer otherwise, as {wrong[0].replace('--', '/')}" if wrong else said[-600:]
+    wrong = re.findall(r"(?m)^case=(\S+) .*\boutput=differs\b", said)
+    return status == 5 and wrong, f"{len(wrong)} traces are answered otherwise, as {wrong[0].replace('--', '/')}" if wrong else said[-600:]
 
 
 def shown_by_test(room, crate, test):
