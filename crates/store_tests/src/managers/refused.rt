@@ -4,6 +4,7 @@ ghost use Rattle.std.specs.Prelude.{◌<◌};
 
 use crate::managers::names::{A, B, C, D, Name, entry};
 use crate::managers::numbers::{Given, give};
+use cache_entries::entry::CacheEntryKeyRef;
 use cache_evict::numbers::Numbers;
 use cache_evict::{EvictFault, EvictionManager, LoadFault, PackWriteFault, lru, simple_lru};
 use cache_words::time::Moment;
@@ -49,7 +50,10 @@ fn fault_of<M: EvictionManager>(
     let item = entry(alloc, name).ok()?;
     match call {
         Call::Admit => manager.admit(alloc, item, 1, moment, rng).err(),
-        Call::Access => manager.access(alloc, &item, 1, moment).err(),
+        Call::Access => {
+            let item = CacheEntryKeyRef::from(&item);
+            manager.access(alloc, item, 1, moment).err()
+        }
         Call::Raise => manager.increment_weight(alloc, &item, 1, None, rng).err(),
     }
 }

@@ -2,7 +2,7 @@
 
 ghost use Rattle.std.specs.Prelude.{◌≡◌, ◌<◌, length};
 
-use cache_entries::entry::CacheEntryKey;
+use cache_entries::entry::{CacheEntryKey, CacheEntryKeyRef};
 use cache_evict::{EvictFault, EvictionManager, LoadFault, PackWriteFault, lru, simple_lru};
 use cache_words::key::CompactCacheKey;
 use cache_words::text::Text;
@@ -25,8 +25,8 @@ enum Step {
     NoLoad,
     /// The number of all entries.
     Holds(usize),
-    /// An entry of that weight is admitted, for which this one goes alone.
-    Admit(u8, usize, u8),
+    /// An entry of that weight is admitted, for which this one goes alone, or none.
+    Admit(u8, usize, Option<u8>),
 }
 
 fn entry(alloc: Global, key: u8) -> CacheEntryKey {
@@ -40,7 +40,9 @@ fn entry(alloc: Global, key: u8) -> CacheEntryKey {
 fn uses<M: EvictionManager>(alloc: Global, manager: &mut M, keys: &[u8]) -> bool {
     let moment = Moment::from_seconds(0);
     for &key in keys {
-        let used = manager.access(alloc, &entry(alloc, key), usize::from(key), moment);
+        let item = entry(alloc, key);
+        let size = usize::from(key);
+        let used = manager.access(alloc, CacheEntryKeyRef::from(&item), size, moment);
         if used.is_err() {
             return false;
         }
@@ -79,18 +81,21 @@ fn is_no_file(loaded: Result<ShardLoadReport<LoadFault>, EvictFault>) -> bool {
     }
 }
 
-/// Whether the admission of an entry evicts this one alone.
+/// Whether the admission of an entry evicts this one alone, or none.
 fn evicts<M: EvictionManager>(
     alloc: Global,
     manager: &mut M,
     key: u8,
     size: usize,
-    gone: u8,
+    gone: Option<u8>,
 ) -> bool {
     let mut rng = Pcg64::seed_from_u64(0);
     let moment = Moment::from_seconds(0);
     match manager.admit(alloc, entry(alloc, key), size, moment, &mut rng) {
-        Ok(evicted) => evicted.len() == 1 && evicted.first() == Some(&entry(alloc, gone)),
+        Ok(evicted) => match gone {
+            Some(gone) => evicted.len() == 1 && evicted.first() == Some(&entry(alloc, gone)),
+            None => evicted.is_empty(),
+        },
         Err(_) => false,
     }
 }
@@ -123,7 +128,7 @@ fn all_done<M: EvictionManager, F: Folder>(
 
 /// Whether all calls of one list come true, with this word for the name of a save; false when out of memory.
 fn list_does<F: Folder>(alloc: Global, folder: &mut F, word: u32, steps: &[Step]) -> bool {
-    match simple_lru::Manager::new(alloc, 6) {
+    match simple_lru::Manager::new(alloc, 4) {
         Ok(mut list) => all_done(alloc, &mut list, folder, &[word], steps),
         Err(_) => false,
     }
@@ -230,10 +235,57 @@ fn shards_are_as_they_were_saved(rt: HostRuntime) {
     assert!(rt; round_trip(rt.alloc()) == Some(true));
 }
 
-/// Calls of a list that is saved, and of one that is loaded from its file.
-const SAVED_LIST: &[Step] = &[Step::Use(&[1, 2, 3, 1]), Step::Save(Some(1))];
+/// A call of a folder that fails while two shards are saved, and how many shards are loaded then, missing and errored, and how many
+/// temporary files went.
+const PARTS: &[(usize, [usize; 4])] = &[
+    (2, [1, 1, 0, 0]),
+    (3, [1, 1, 0, 1]),
+    (5, [1, 1, 0, 1]),
+    (6, [1, 1, 0, 0]),
+    (9, [1, 1, 0, 1]),
+];
 
-const LOADED_LIST: &[Step] = &[Step::Load([1, 0, 0, 0]), Step::Admit(4, 2, 2)];
+const SAVED_IN_PART: &[Step] = &[Step::Use(&[1, 2, 3, 4, 5, 2]), Step::Save(Some(1))];
+
+/// Whether the shard that was saved is loaded as it was, and the other one is empty.
+fn part_is_loaded(alloc: Global, call: usize, wanted: [usize; 4]) -> Option<bool> {
+    let mut folder = TestFolder::fails_once(MemFolder::new(alloc), call);
+    let old = sharded::<2, TestFolder>(alloc, &mut folder, &[7, 8], SAVED_IN_PART)?;
+    let new = sharded::<2, TestFolder>(alloc, &mut folder, &[7, 8], &[Step::Load(wanted)])?;
+    let (saved, other) = if call <= 5 { (1, 0) } else { (0, 1) };
+    Some(have_same_text(alloc, &old, &new, saved) && new.shard_len(other) == 0)
+}
+
+/// Whether of the first shard's file the rows before a fault are loaded, and all of the second's.
+fn faulty_part_is_loaded(alloc: Global) -> Option<bool> {
+    let mut folder = MemFolder::new(alloc);
+    let old = sharded::<2, MemFolder>(alloc, &mut folder, &[7, 8], SAVED)?;
+    let text = old.serialize_shard(alloc, 0).ok()?;
+    let (_last, left) = text.as_slice().split_last()?;
+    folder.put("dir/lru.data.0", left).ok()?;
+    let loads = [Step::Load([1, 0, 1, 0]), Step::Holds(4)];
+    let new = sharded::<2, MemFolder>(alloc, &mut folder, &[7, 8], &loads)?;
+    Some(have_same_text(alloc, &old, &new, 1))
+}
+
+#[test]
+fn a_shard_that_fails_leaves_the_others(rt: HostRuntime) {
+    for &(call, wanted) in PARTS {
+        assert!(rt; part_is_loaded(rt.alloc(), call, wanted) == Some(true));
+    }
+    assert!(rt; faulty_part_is_loaded(rt.alloc()) == Some(true));
+}
+
+/// Calls of a list that is saved, and of one that is loaded from its file.
+const SAVED_LIST: &[Step] = &[
+    Step::Admit(1, 1, None),
+    Step::Admit(2, 2, None),
+    Step::Admit(3, 1, None),
+    Step::Use(&[1]),
+    Step::Save(Some(1)),
+];
+
+const LOADED_LIST: &[Step] = &[Step::Load([1, 0, 0, 0]), Step::Admit(4, 2, Some(2))];
 
 fn evicts_next(alloc: Global) -> bool {
     let mut folder = MemFolder::new(alloc);
