@@ -4,3 +4,4 @@ mod permit_rows;
 mod permits;
 mod predictors;
 mod tables;
+mod told;
