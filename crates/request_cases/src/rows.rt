@@ -4,7 +4,7 @@ use crate::call::Call;
 use crate::locks::{move_permit, publish, wait};
 use crate::looks::{looked, looked_at};
 use crate::reads::{moved, push_read};
-use crate::stale::push_merged;
+use crate::stale::{push_head, push_merged};
 use crate::step::{Step, reason, status, variance};
 use crate::stored::{became_uncacheable, found};
 use crate::text::Text;
@@ -106,6 +106,7 @@ fn push_step<
         Call::Read => push_read(request, parts, false, text),
         Call::ReadBack => push_read(request, parts, true, text),
         Call::Merge => push_merged(alloc, request, text),
+        Call::Head => push_head(request, text),
         _ => text.push_answer(answer_of(alloc, request, other, parts, step)),
     }
     text.push(", ");
