@@ -135,8 +135,8 @@ pub trait EvictionManager {
     ///
     /// # Errors
     ///
-    /// `File` where no shard was saved, and not for want of memory alone. `Memory` where there is no memory for the report, and
-    /// then nothing was done, or for the text of any shard.
+    /// `File` where no shard was saved, whatever each failed for. `Memory` where there is no memory for the report, or in a manager
+    /// of one list for the names of its file: no call of the folder was made.
     fn save<F: Folder>(
         &self,
         alloc: Global,
