@@ -113,6 +113,7 @@ pub enum Call {
     Wait,
     Publish,
     Tracked,
+    ToldUntil,
     Burden,
     /// A word that names none: it is refused.
     Unknown,
@@ -193,6 +194,7 @@ const CALLS: &[(&str, Call)] = &[
     ("revalidate", Call::Keep(Keep::Revalidate)),
     ("uncacheable", Call::Lead(Lead::Uncacheable)),
     ("tracked", Call::Tracked),
+    ("told-until", Call::ToldUntil),
     ("burden", Call::Burden),
 ];
 

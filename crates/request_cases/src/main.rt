@@ -1,7 +1,7 @@
 //! Does rows of calls of requests to a cache, and writes after each call what it answers and the phase that it leaves.
 //!
 //! A row of `rows.txt` is a name and then a step a line, of the first or the second of two requests; an empty line ends it. Both use one cache, which begins
-//! empty with each row: a store in memory, a manager of one shard that may hold 10 bytes, a predictor of 4 keys, a lock whose permits may be held for 5
+//! empty with each row: a store in memory, a manager of one shard that may hold 10 bytes and notes what it is told, a predictor of 4 keys, a lock whose permits may be held for 5
 //! seconds, and a boxed policy that defers the key `d` and counts how often it is asked. A call that isn't allowed is `refused`: what it requires is tested first, by the public tests of it.
 //!
 //! | Step | Means |
@@ -26,6 +26,7 @@
 //! | `maybe-key`, `key-lent`, `maybe-meta`, `meta-lent` | the letter of the key, and until when the meta is fresh, as an option or lent |
 //! | `add-time SECONDS`, `time` | how long look-ups took |
 //! | `limit`, `track` `BYTES` | the most bytes that a body may have, and bytes that come |
+//! | `told-until` | no call of a request: until when the response was fresh of which the manager was told last |
 //! | `tracked KEY`, `burden KEY` | no calls of a request: whether the manager tracks the key's entry; it goes, and another comes that leaves room for one byte |
 //!
 //! Then two tiers serve requests side by side, and what they answer is compared with a table of runs, whose outcomes come from another program or were
@@ -38,6 +39,7 @@ mod heads;
 mod locks;
 mod looks;
 mod metas;
+mod noting;
 mod reads;
 mod rows;
 mod runs;

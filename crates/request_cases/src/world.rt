@@ -1,8 +1,9 @@
 //! A cache, its keys and metas.
 ghost use Rattle.std.specs.Prelude.{◌≡◌};
 
-use crate::answer::{Answer, DONE, NO_MEMORY, yes_or_no};
+use crate::answer::{Answer, DONE, NO_MEMORY, NONE, yes_or_no};
 use crate::heads::{STORED, head_of};
+use crate::noting::{Notes, Noting};
 use crate::step::Step;
 use cache_evict::lru::Manager;
 use cache_evict::{CacheEntryKey, CacheEntryKeyRef, EvictionManager};
@@ -46,7 +47,7 @@ impl AdmissionPolicy for DefersD {
     }
 }
 
-type Cache<A> = Parts<MemCache, Manager<1>, Predictor<1>, CacheLock, A>;
+type Cache<A> = Parts<MemCache, Noting, Predictor<1>, CacheLock, A>;
 
 // The most that bodies may weigh in all.
 const LIMIT: usize = 10;
@@ -57,7 +58,10 @@ pub fn cache<A: Drop>(alloc: Global, policy: A) -> Option<Cache<A>> {
     let manager = Manager::<1>::with_capacity(alloc, LIMIT, 0).ok()?;
     Some(Parts {
         store: MemCache::new(alloc),
-        manager,
+        manager: Noting {
+            manager,
+            until: None,
+        },
         predictor,
         lock: CacheLock::new(alloc, Duration::from_seconds(5)),
         policy,
@@ -89,6 +93,14 @@ pub fn tracked<S: Storage, E: EvictionManager, P, L, A>(
     match compact(alloc, letter) {
         Some(key) => yes_or_no(parts.manager.peek(&CacheEntryKey::from_entry_id(key, None))),
         None => NO_MEMORY,
+    }
+}
+
+/// Until when the response was fresh of which the manager was told last.
+pub fn told_until<S, E: Notes, P, L, A>(parts: &Parts<S, E, P, L, A>) -> Answer {
+    match parts.manager.told_until() {
+        Some(until) => Answer::Second(until.seconds()),
+        None => NONE,
     }
 }
 
