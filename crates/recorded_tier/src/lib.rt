@@ -17,4 +17,5 @@ pub mod snapshot;
 pub use gather::{GatherFault, Gathered, NotGathered};
 pub use pass::{Pass, PassFault, SpentPass};
 pub use recorded::Recorded;
-pub use snapshot::{ShardTexts, Snapshot, TierOptions};
+pub use cache_tier::TierOptions;
+pub use snapshot::{ShardTexts, Snapshot};

@@ -2,6 +2,7 @@
 use crate::asks::Ask;
 use crate::outcomes::Outcome;
 use crate::trials::{Held, Trial, try_out};
+use std::alloc::Global;
 use tier_model::event::LockGiven;
 
 const LOOK: &[(Ask, Outcome)] = &[(Ask::Look(1), Outcome::NoRequest)];
@@ -25,6 +26,39 @@ const OPENED: &[(Ask, Outcome)] = &[
 #[test]
 fn a_tier_that_started_is_new_until_an_event(rt: HostRuntime) {
     assert!(rt; try_out(rt.alloc(), 4, Trial::Start(OPENED)) == Held::Answered);
+}
+
+// What is asked of an empty tier, and whether it is new then, and holds nothing but its order of use.
+const NEW: &[(&[Ask], bool, bool)] = &[
+    (&[], true, true),
+    (&[Ask::Open(1, b'a')], false, false),
+    (&[Ask::Open(1, b'a'), Ask::Drop(1)], true, true),
+    (
+        &[Ask::Open(1, b'a'), Ask::Look(1), Ask::Drop(1)],
+        false,
+        false,
+    ),
+    (&[Ask::Put(b'a', b"xx")], false, false),
+    (&[Ask::Put(b'a', b"xx"), Ask::Purge(b'a')], true, true),
+    (
+        &[Ask::Put(b'a', b"xx"), Ask::PurgeTagged(b'a')],
+        false,
+        true,
+    ),
+];
+
+fn are_as_told(alloc: Global) -> bool {
+    let mut all = true;
+    for &(asks, is_new, has_only_order) in NEW {
+        all = try_out(alloc, 4, Trial::New(asks, is_new, has_only_order)) == Held::Answered && all;
+    }
+    all
+}
+
+// An entry that stays tracked after its body went under another tag is a past.
+#[test]
+fn a_new_tier_tracks_nothing(rt: HostRuntime) {
+    assert!(rt; are_as_told(rt.alloc()));
 }
 
 pub(crate) const FOUR: &[Ask] = &[
