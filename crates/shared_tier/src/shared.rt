@@ -1,5 +1,5 @@
 //! The shared tier.
-ghost use Rattle.std.specs.Prelude.{◌≡◌, ℕ, ◌<◌, ◌∷◌, ◌++◌, [], IfOk, IfErr};
+ghost use Rattle.std.specs.Prelude.{◌≡◌, ℕ, ◌<◌, ◌≤◌, ◌∷◌, ◌++◌, [], IfOk, IfErr};
 ghost use Rattle.cache_words.specs.declared.pack.fault.PackWriteFault.{PackWriteFault};
 ghost use Rattle.cache_evict.specs.Loads.{CantBeWritten};
 ghost use Rattle.cache_evict.specs.Managed.{rows_at};
@@ -7,6 +7,7 @@ ghost use Rattle.tier_model.specs.Started.{HasOnlyOrder, settings_of};
 ghost use Rattle.recorded_tier.specs.Histories.{own, HasTurns};
 ghost use Rattle.cache_tier.specs.Options.{settings_with};
 ghost use Rattle.recorded_tier.specs.Recorded.{MatchRecorded, IsClosed, IsReplayed};
+ghost use Rattle.recorded_tier.specs.Seats.{total};
 
 use cache_evict::PackWriteFault;
 use cache_tier::{Answer, Event, Tier, TierFault};
@@ -118,12 +119,14 @@ impl<const N: usize, R: Rng, L: Ledger, S: BuildHasher> SharedTier<N, R, L, S> {
         pass.step(&mut *self.lock.lock(rt), event)
     }
 
-    /// Takes passes back, and keeps their records, if each is what the history has of its caller.
+    /// Takes passes back, and keeps their records, if each is what the history has of its caller. So the history has no fewer records than
+    /// these passes together.
     ///
     /// # Errors
     ///
     /// `PassDiffers` where a pass isn't, and `Memory`. All passes come back.
     pub fn gather<W: Wait>(&self, rt: &W, passes: Vec<Pass<L>>) -> Result<Gathered, NotGathered<L>>
+        ensures held { IfOk result (λ now. total passes.items ≤ now.records) }
         ensures back { IfErr result (λ back. back.passes.items ≡ passes.items) }
     {
         self.lock.lock(rt).gather(passes)

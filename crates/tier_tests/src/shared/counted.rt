@@ -56,7 +56,7 @@ fn is_found<L: Ledger, W: Wait>(
     let put = call(rt, alloc, tier, pass, Ask::Put(b'a'));
     let open = call(rt, alloc, tier, pass, Ask::Open(1, b'a'));
     let look = call(rt, alloc, tier, pass, Ask::Look(1));
-    put.0 && open.0 && look.1
+    put.0 && open.0 && look.1 && tier.report(rt).found == 1
 }
 
 // Whether the key was found, how many passes are out before the last is gathered, and how many calls were counted.
