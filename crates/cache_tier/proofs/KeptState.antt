@@ -179,5 +179,5 @@ module _ (n : ℕ) (mark : Option ℕ) (age : DurationValue) where
       let made = (stands-past past.0 s past.1 past.2).made in
       let watermark : s.managed.watermark ≡ mark = made.watermark ∙ past.3 in
       let aged : s.lock.age ≡ age =
-          ap (λ (x : LockState). x.age) past.2.matches.lock ∙ age_is past.0.settings.age past.0.first_core (lock_changes_of past.0 past.1) ∙ past.4 in
+      ap (λ (x : LockState). x.age) past.2.matches.lock ∙ age_is past.0.settings.age past.0.first_core (lock_changes_of past.0 past.1) ∙ past.4 in
       λ i. record { shards = kept.0.count i; limit = s.managed.limit; watermark = watermark i; age = aged i; wait = s.wait }

@@ -13,6 +13,8 @@ pub(crate) enum Ask {
     Open(u64, u8),
     // The same, with look-ups that ask for the permit to write.
     OpenLocked(u64, u8),
+    // The same as the first, under the user tag `b`. All else is under the empty one.
+    OpenTagged(u64, u8),
     Look(u64),
     Poll(u64),
     // A write of what is fresh for 100 seconds.
@@ -22,7 +24,7 @@ pub(crate) enum Ask {
     Read(u64),
     Drop(u64),
     Purge(u8),
-    // The same under the user tag `b`. All else is under the empty one.
+    // The same under the user tag `b`.
     PurgeTagged(u8),
     // A body that is fresh for 100 seconds.
     Put(u8, &'static [u8]),
@@ -51,6 +53,11 @@ fn action(alloc: Global, ask: Ask) -> Option<Action> {
             request,
             key: key(alloc, name)?,
             lock: true,
+        }),
+        Ask::OpenTagged(request, name) => Some(Action::Open {
+            request,
+            key: tagged_key(alloc, name, "b")?,
+            lock: false,
         }),
         Ask::Look(request) => Some(Action::LookUp { request }),
         Ask::Poll(request) => Some(Action::Poll { request }),

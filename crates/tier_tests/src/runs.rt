@@ -61,6 +61,47 @@ fn a_new_tier_tracks_nothing(rt: HostRuntime) {
     assert!(rt; are_as_told(rt.alloc()));
 }
 
+// A reader that comes before a write's pieces, and one that comes after them.
+const READERS: &[(Ask, Outcome)] = &[
+    (Ask::Open(1, b'a'), Outcome::Opened),
+    (Ask::Look(1), Outcome::Absent(LockGiven::None)),
+    (Ask::Begin(1), Outcome::Begun),
+    (Ask::Open(2, b'a'), Outcome::Opened),
+    (Ask::Look(2), Outcome::Partial),
+    (Ask::Read(2), Outcome::Pending),
+    (Ask::Piece(1, b"xx"), Outcome::Written),
+    (Ask::Read(2), Outcome::Read(true)),
+    (Ask::Read(2), Outcome::Pending),
+    (Ask::Piece(1, b"xx"), Outcome::Written),
+    (Ask::Read(2), Outcome::Read(true)),
+    (Ask::Read(2), Outcome::Pending),
+    (Ask::Open(3, b'a'), Outcome::Opened),
+    (Ask::Look(3), Outcome::Partial),
+    (Ask::Finish(1), Outcome::Finished(4, 0)),
+    (Ask::Read(2), Outcome::Ended),
+    (Ask::Read(3), Outcome::Read(false)),
+    (Ask::Read(3), Outcome::Ended),
+];
+
+#[test]
+fn a_reader_waits_for_each_piece(rt: HostRuntime) {
+    assert!(rt; try_out(rt.alloc(), 4, Trial::Steps(&[], READERS)) == Held::Answered);
+}
+
+// A body that is hit under another tag: what is tracked weighs its bytes twice. By what weighs too much then the first is evicted.
+const WEIGHTS: &[(Ask, Outcome, u64, usize)] = &[
+    (Ask::Put(b'a', b"xxx"), Outcome::Finished(3, 0), 3, 0),
+    (Ask::OpenTagged(1, b'a'), Outcome::Opened, 3, 0),
+    (Ask::Look(1), Outcome::Found, 6, 0),
+    (Ask::Read(1), Outcome::Read(false), 6, 0),
+    (Ask::Put(b'b', b"x"), Outcome::Finished(1, 1), 4, 3),
+];
+
+#[test]
+fn an_entry_weighs_what_its_body_does(rt: HostRuntime) {
+    assert!(rt; try_out(rt.alloc(), 4, Trial::Weights(WEIGHTS)) == Held::Answered);
+}
+
 pub(crate) const FOUR: &[Ask] = &[
     Ask::Put(b'a', b"xx"),
     Ask::Put(b'b', b"xx"),

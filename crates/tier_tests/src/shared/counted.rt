@@ -7,11 +7,11 @@ use cache_tier::Answer;
 use counted_tier::{CallPass, CountedTier};
 use rand_core::SeedableRng;
 use rand_pcg::Pcg64;
+use shared_tier::LEDGER_PARTS;
 use std::alloc::Global;
 use std::marker::Brand;
 use std::sync::Wait;
 use std::sync::ledger::{Blank, Ledger};
-use shared_tier::LEDGER_PARTS;
 
 type Counted<L> = CountedTier<4, Pcg64, L>;
 

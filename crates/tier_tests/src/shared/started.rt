@@ -3,7 +3,7 @@ ghost use Rattle.std.specs.Prelude.{◌≡◌};
 
 use crate::shared::asks::{Ask, event};
 use crate::shared::threads::{Shared, call};
-use cache_tier::{Answer, Tier, TierFault};
+use cache_tier::Tier;
 use cache_words::time::Duration;
 use lru_files::persistence::MemFolder;
 use rand_core::SeedableRng;
@@ -98,10 +98,12 @@ fn day<L: Ledger, W: Wait>(rt: &W, alloc: Global, blank: Blank) -> Option<(bool,
     let found = looked(rt, alloc, &tier, &mut pass)?;
     let gathered = tier.gather(rt, vec![in alloc; pass].ok()?).ok()?;
     let recorded = tier.close().ok()?;
-    if recorded.history().len() as u64 != gathered.records {
+    let records = recorded.history().len() as u64;
+    let report = recorded.into_tier().report();
+    if records != gathered.records || report.absent != 1 {
         return None;
     }
-    Some((found, gathered.records))
+    Some((found, records))
 }
 
 #[test]

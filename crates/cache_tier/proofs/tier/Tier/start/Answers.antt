@@ -49,7 +49,7 @@ returns-clause-loads g c =
       c.load-came.result,
       c.told_of_files.ensures,
       subst (λ (m : Managed). LoadsStored g.F.Folder.did g.F.Folder.failures_of g.F.Folder.keeps g.F.Folder.files g.row.N lru_stored c.args.dir.now m c.load-came.new.self c.args.folder.now
-      c.load-came.new.folder c.load-came.result) fresh_now c.load-came.ensures,
+          c.load-came.new.folder c.load-came.result) fresh_now c.load-came.ensures,
     )
 
 pub returns-clause-settings : goal.returns-clause-settings
