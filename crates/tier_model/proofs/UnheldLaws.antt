@@ -1,14 +1,14 @@
 -- A lock of which nobody holds a core is as it was made, but for the number that comes next.
-use Rattle.std.proofs.Common.{◌≡◌, ℕ, ◌<◌, ◌==◌, refl, ap, sym, ◌∙◌, true, false, subst, cond, List, [], ◌∷◌, ◌++◌, arith}
+use Rattle.std.proofs.Common.{◌≡◌, ℕ, ◌<◌, refl, ap, sym, ◌∙◌, true, false, subst, cond, List, [], ◌∷◌, ◌++◌, arith}
 use Rattle.std.specs.Prelude.{Bool, Option, Some, None, nat_le, option_map}
 use Rattle.std.specs.FinMap.{FinMap, empty, get, insert, remove, len, empty_of_len, get-empty, get-remove, same_map, nat_cmp-IsAntisymmetric, slice_cmp-IsAntisymmetric}
 use Rattle.std.specs.Ordering.{nat_cmp, eq_by_cmp}
 use Rattle.std.specs.Cmp.Lexicographic.{slice_cmp, nat_list_cmp_total}
-use Rattle.std.proofs.lemmas.Bool.{eqb-true, eq-eqb}
+use Rattle.std.proofs.lemmas.Bool.{eq-eqb}
 use Rattle.std.proofs.lemmas.Cmp.{nat_cmp_total}
 use Rattle.cache_words.specs.Time.{MomentValue}
-use Rattle.cache_lock.specs.Answers.{to_wait_for, locked_by, lock_change, leave_changes, poll_changes, release_changes, wait_outcome, reason_stored}
-use Rattle.cache_lock.specs.Changes.{Change, Changes, gives, lends, stores, takes_out, publishes, spends}
+use Rattle.cache_lock.specs.Answers.{to_wait_for, locked_by, lock_change, leave_changes, poll_changes, wait_outcome, reason_stored}
+use Rattle.cache_lock.specs.Changes.{Changes, gives, lends, stores, takes_out, spends}
 use Rattle.cache_lock.specs.State.{LockState, IsSound, named, unnamed, with_status, with_core, without_core, spent, is_number, status_of, after as changed, after_all, empty_lock}
 use Rattle.cache_lock.specs.Status.{is_aged}
 use Rattle.cache_lock.specs.Waits.{same_key}
@@ -16,16 +16,14 @@ use Rattle.cache_lock.specs.declared.fills.WaitOutcome.{WaitOutcome}
 use Rattle.cache_lock.specs.declared.fills.WaitOutcome.TheVariants as wait
 use Rattle.cache_lock.specs.declared.lock_core.HeldCore.{HeldCore}
 use Rattle.cache_lock.specs.declared.status.LockStatus.{LockStatus}
-use Rattle.cache_lock.specs.declared.tokens.Locked.{Locked}
-use Rattle.cache_lock.specs.declared.tokens.Locked.TheVariants as locked
 use Rattle.cache_lock.proofs.ChangeLaws.{get-out, key-put, key-out}
 use Rattle.tier_model.specs.declared.event.Action.{Action}
-use Rattle.tier_model.specs.Calls.{Call, History, Outcome}
+use Rattle.tier_model.specs.Calls.{History, Outcome}
 use Rattle.tier_model.specs.Histories.{Opening}
 use Rattle.tier_model.specs.State.{State}
 use Rattle.tier_model.specs.Answers.{key_for}
 use Rattle.tier_model.specs.After.{lock_changes}
-use Rattle.tier_model.specs.Past.{HasPast, IsLawful, state_of, lock_changes_of}
+use Rattle.tier_model.specs.Past.{HasPast, IsLawful, state_of}
 use Rattle.tier_model.proofs.EffectLaws.{hold_at, Effect, quiet, given, lent, back, polled, left, dropped, released}
 use Rattle.tier_model.proofs.GripLaws.{key_in, key_at, key-given, key-kept, key-true, key-itself, differ}
 use Rattle.tier_model.proofs.GrantedLaws.{LocksFit-lawful, effect-lawful, none_holds}

@@ -20,7 +20,5 @@ pub returns : goal.returns
 returns g c =
     let i = c.self.inside in
     let s : State = state_by i.parts.manager i.wait (shelf_of i.parts.store) i.parts.lock i.requests i.found i.absent in
-    rw (← c.self.view_is) (
-      kept-settings g.row.N i.watermark i.age s c.self.invariant
-      ∙ ap (λ (limit : ℕ). record { shards = g.row.N; limit = limit; watermark = i.watermark; age = i.age; wait = i.wait }) (sym c.weight_limit.ensures),
-    )
+    let limit : i.parts.manager.limit ≡ c.weight_limit.result = sym c.weight_limit.ensures in
+    rw (← c.self.view_is) (kept-settings g.row.N i.watermark i.age s c.self.invariant ∙ (λ j. record { shards = g.row.N; limit = limit j; watermark = i.watermark; age = i.age; wait = i.wait }))
