@@ -13,6 +13,8 @@ pub(crate) enum Ask {
     Open(u64, u8),
     // The same, with look-ups that ask for the permit to write.
     OpenLocked(u64, u8),
+    // The same as the first, under the user tag `b`. All else is under the empty one.
+    OpenTagged(u64, u8),
     Look(u64),
     Poll(u64),
     // A write of what is fresh for 100 seconds.
@@ -22,13 +24,22 @@ pub(crate) enum Ask {
     Read(u64),
     Drop(u64),
     Purge(u8),
+    // The same under the user tag `b`.
+    PurgeTagged(u8),
     // A body that is fresh for 100 seconds.
     Put(u8, &'static [u8]),
 }
 
 fn key(alloc: Global, name: u8) -> Option<CacheKey> {
-    let primary = Vec::from_slice(alloc, &[name]).ok()?;
-    Some(CacheKey::new(primary, String::new(alloc)))
+    tagged_key(alloc, name, "")
+}
+
+fn tagged_key(alloc: Global, name: u8, tag: &str) -> Option<CacheKey> {
+    let tag = String::from_str(alloc, tag).ok()?;
+    match Vec::from_slice(alloc, &[name]) {
+        Ok(primary) => Some(CacheKey::new(primary, tag)),
+        Err(_) => None,
+    }
 }
 
 fn action(alloc: Global, ask: Ask) -> Option<Action> {
@@ -42,6 +53,11 @@ fn action(alloc: Global, ask: Ask) -> Option<Action> {
             request,
             key: key(alloc, name)?,
             lock: true,
+        }),
+        Ask::OpenTagged(request, name) => Some(Action::Open {
+            request,
+            key: tagged_key(alloc, name, "b")?,
+            lock: false,
         }),
         Ask::Look(request) => Some(Action::LookUp { request }),
         Ask::Poll(request) => Some(Action::Poll { request }),
@@ -59,6 +75,9 @@ fn action(alloc: Global, ask: Ask) -> Option<Action> {
         Ask::Drop(request) => Some(Action::Drop { request }),
         Ask::Purge(name) => Some(Action::Purge {
             key: key(alloc, name)?,
+        }),
+        Ask::PurgeTagged(name) => Some(Action::Purge {
+            key: tagged_key(alloc, name, "b")?,
         }),
         Ask::Put(name, body) => {
             let key = key(alloc, name)?;

@@ -12,6 +12,8 @@ mod outcomes;
 #[cfg(test)]
 mod refusals;
 #[cfg(test)]
+mod restarts;
+#[cfg(test)]
 mod runs;
 #[cfg(test)]
 mod shared;

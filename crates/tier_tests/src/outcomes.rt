@@ -7,6 +7,8 @@ pub(crate) enum Outcome {
     Opened,
     // Fresh and complete.
     Found,
+    // Fresh, of a write in flight.
+    Partial,
     Absent(LockGiven),
     // A wait or a read has nothing yet.
     Pending,
@@ -14,6 +16,8 @@ pub(crate) enum Outcome {
     Written,
     // Whether the bytes are `xx`.
     Read(bool),
+    // All is read.
+    Ended,
     // A body of so many bytes, with so many evictions.
     Finished(usize, usize),
     Dropped,
@@ -39,11 +43,19 @@ pub(crate) fn outcome_of(answer: &Result<Answer, TierFault>) -> Outcome {
                 lock: LockGiven::None,
             },
         ) => Outcome::Found,
+        Ok(
+            Answer::Found {
+                fresh: true,
+                complete: false,
+                lock: LockGiven::None,
+            },
+        ) => Outcome::Partial,
         Ok(Answer::Absent { lock }) => Outcome::Absent(*lock),
         Ok(Answer::Waited(None) | Answer::Pending) => Outcome::Pending,
         Ok(Answer::Begun) => Outcome::Begun,
         Ok(Answer::Written) => Outcome::Written,
         Ok(Answer::Bytes(bytes)) => Outcome::Read(bytes.as_slice() == b"xx".as_slice()),
+        Ok(Answer::End) => Outcome::Ended,
         Ok(Answer::Finished { length, evicted }) => {
             Outcome::Finished(*length, evicted.as_slice().len())
         }

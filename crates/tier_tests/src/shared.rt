@@ -1,4 +1,6 @@
 //! A tier that threads share.
 mod asks;
+mod counted;
 mod meeting;
+mod started;
 mod threads;

@@ -1,6 +1,7 @@
 //! Trials of a tier without a file: what is asked of it, and how that goes.
 use crate::asks::{Ask, event};
 use crate::outcomes::{Outcome, is_answer, outcome_of};
+use cache_evict::EvictionManager;
 use cache_store::storage::Storage;
 use cache_tier::tier::Tier;
 use cache_words::time::Duration;
@@ -32,6 +33,10 @@ pub(crate) enum Trial {
     Run(&'static [Ask], &'static [(Ask, Outcome)]),
     // A start from a folder without a file, and then what has these outcomes: before each of them the tier is new, and after them it isn't.
     Start(&'static [(Ask, Outcome)]),
+    // What is asked, and whether the tier is new then, and holds nothing but its order of use.
+    New(&'static [Ask], bool, bool),
+    // What has these outcomes, with what is tracked then weighs, and what was evicted.
+    Weights(&'static [(Ask, Outcome, u64, usize)]),
     // The store is lent: it shows writes in flight.
     Store,
 }
@@ -65,7 +70,12 @@ fn differs(outcome: Outcome) -> Held {
 }
 
 // Whether what is asked has these outcomes; `held` where it does.
-fn follow(alloc: Global, tier: &mut Tier<1>, asks: &[(Ask, Outcome)], held: Held) -> Held {
+pub(crate) fn follow(
+    alloc: Global,
+    tier: &mut Tier<1>,
+    asks: &[(Ask, Outcome)],
+    held: Held,
+) -> Held {
     for &(ask, want) in asks {
         let outcome = step(alloc, tier, ask);
         if outcome != want {
@@ -76,7 +86,7 @@ fn follow(alloc: Global, tier: &mut Tier<1>, asks: &[(Ask, Outcome)], held: Held
 }
 
 // Asks all this of a tier, and says whether memory was there for it.
-fn is_ready(alloc: Global, tier: &mut Tier<1>, asks: &[Ask]) -> bool {
+pub(crate) fn is_ready(alloc: Global, tier: &mut Tier<1>, asks: &[Ask]) -> bool {
     for &ask in asks {
         if !is_answer(step(alloc, tier, ask)) {
             return false;
@@ -164,6 +174,19 @@ fn start(alloc: Global, tier: &mut Tier<1>, asks: &[(Ask, Outcome)]) -> Held {
     }
 }
 
+fn weigh(alloc: Global, tier: &mut Tier<1>, asks: &[(Ask, Outcome, u64, usize)]) -> Held {
+    for &(ask, want, weight, evicted) in asks {
+        let outcome = step(alloc, tier, ask);
+        if outcome != want {
+            return differs(outcome);
+        }
+        if tier.report().weight != weight || tier.manager().evicted_size() != evicted {
+            return Held::Broken;
+        }
+    }
+    Held::Answered
+}
+
 fn try_on(alloc: Global, tier: &mut Tier<1>, trial: Trial) -> Held {
     match trial {
         Trial::Call(row) => {
@@ -188,6 +211,16 @@ fn try_on(alloc: Global, tier: &mut Tier<1>, trial: Trial) -> Held {
             }
         }
         Trial::Start(asks) => start(alloc, tier, asks),
+        Trial::Weights(asks) => weigh(alloc, tier, asks),
+        Trial::New(asks, is_new, has_only_order) => {
+            if !is_ready(alloc, tier, asks) {
+                Held::Elsewhere
+            } else if tier.is_new() == is_new && tier.has_only_order() == has_only_order {
+                Held::Answered
+            } else {
+                Held::Broken
+            }
+        }
         Trial::Store => {
             if tier.store().support_streaming_partial_write() {
                 Held::Answered

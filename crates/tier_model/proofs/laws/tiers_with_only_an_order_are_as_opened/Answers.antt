@@ -1,5 +1,5 @@
 use Rattle.tier_model.proofs.StartedLaws.{opening_past, finds_nothing}
-use Rattle.tier_model.proofs.laws.new_tiers_are_as_opened.Goals as goal
+use Rattle.tier_model.proofs.laws.tiers_with_only_an_order_are_as_opened.Goals as goal
 
 pub returns-clause-past : goal.returns-clause-past
 returns-clause-past c = opening_past
