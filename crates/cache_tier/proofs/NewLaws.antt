@@ -1,11 +1,12 @@
 -- In a state with a history in which no request is open, nothing flies, no write has readers and nothing is held of the lock.
-use Rattle.std.proofs.Common.{◌≡◌, ℕ, ◌<◌, List, [], ◌∷◌, Option, Some, None, cond, refl, ap, sym, ◌∙◌, subst, arith, eq-eqb}
+use Rattle.std.proofs.Common.{◌≡◌, ℕ, ◌+◌, ◌<◌, List, [], ◌∷◌, Option, Some, None, cond, refl, ap, sym, ◌∙◌, subst, arith, eq-eqb}
 use Rattle.std.specs.Prelude.{Bool, MatchOption, find, length, map}
 use Rattle.std.specs.FinMap.{FinMap, empty, entries, get, len, empty_of_len, get-empty, len-empty, len-entries, same_map, nat_cmp-IsAntisymmetric}
 use Rattle.std.specs.List.{sum_by}
 use Rattle.std.specs.Ordering.{nat_cmp}
 use Rattle.std.proofs.lemmas.Cmp.{nat_cmp_total}
 use Rattle.std.proofs.lemmas.List.{nil_from_length}
+use Rattle.std.proofs.lemmas.List.Sums.{sum_by-cons}
 use Rattle.cache_entries.specs.declared.rows.Tracked.{Tracked}
 use Rattle.cache_changes.specs.Changes.{Write, Changes}
 use Rattle.cache_changes.specs.Store.{Flying, Store, IsStateOf, has_number, store_of}
@@ -86,12 +87,17 @@ idle-alone start s h past none =
 
 -- ---- rows
 
+abbrev more : List Tracked → List (List Tracked) → Type 0
+more rows shards = sum_by length (rows ∷ shards) ≡ length rows + sum_by length shards
+
 pub untracked : (shards : List (List Tracked)) → sum_by length shards ≡ 0 → all_rows shards ≡ []
 untracked [] e = refl
-untracked ([] ∷ shards) e = untracked shards e
-untracked ((r ∷ rows) ∷ shards) e = absurd cc
+untracked ([] ∷ shards) e = let sum : more [] shards = sum_by-cons length [] shards in untracked shards (omega (arith, sum, e))
+untracked ((r ∷ rows) ∷ shards) e =
+    let sum : more (r ∷ rows) shards = sum_by-cons length (r ∷ rows) shards in
+    absurd (omega (arith, sum, e))
 
 pub none_counted : (shards : List (List Tracked)) → all_rows shards ≡ [] → sum_by length shards ≡ 0
 none_counted [] e = refl
-none_counted ([] ∷ shards) e = none_counted shards e
+none_counted ([] ∷ shards) e = let sum : more [] shards = sum_by-cons length [] shards in omega (arith, sum, none_counted shards e)
 none_counted ((r ∷ rows) ∷ shards) e = absurd cc
