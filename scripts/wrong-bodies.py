@@ -3,12 +3,15 @@
 
 usage: scripts/wrong-bodies.py [NAME..]
 
-A wrong body is an edit of crates/*/must-fail, or of wrong-bodies/, where the bodies lie that no contract refuses and a test does. A line of
-wrong-bodies/index.txt names an edit and what fails under it: 'traces', which are replayed by tier-replay and of which some answer otherwise, or 'test' with a
-crate of tests and the name of one of its tests. Without names all lines are tried; each takes two to four processor minutes. Every named wrong body must have a line.
+A wrong body is a named one, an edit of crates/*/must-fail, of which a line of wrong-bodies/index.txt says what fails; or one that no contract refuses and a test does,
+an edit of wrong-bodies/ with two lines more: 'crate: NAME', and 'test: ' with what fails. That is
 
-It prints a line for each, and fails where one is not shown. A proof that is refused says only that the contract or its proof no longer fits; an
-answer that is wrong shows that the body is.
+    traces                of traces/, replayed by tier-replay, some are answered otherwise
+    CRATE stdout          the program CRATE writes something else than its file stdout
+    CRATE TEST            of the crate of tests CRATE that test
+
+Without names all are tried; each takes two to four processor minutes. It prints a line for each, and fails where one is not shown or a named wrong body has no line.
+A proof that is refused says that contract and proof no longer fit; an answer that is wrong shows that the body is.
 """
 import os
 import re
@@ -28,11 +31,16 @@ TRACES = os.path.join(TOP, "traces")
 
 
 def rows():
-    """Gives of each line of the index the crate that is edited, the edit's name and path, and the words of what fails."""
+    """Gives of each wrong body the crate that is edited, its name, the text of its edit and the words of what fails."""
     for line in sources.read(os.path.join(BODIES, "index.txt")).splitlines():
         crate, name, *how = line.split()
-        path = os.path.join(TOP, "crates", crate, "must-fail", name + ".edit")
-        yield crate, name, path if os.path.exists(path) else os.path.join(BODIES, name + ".edit"), how
+        yield crate, name, sources.read(os.path.join(TOP, "crates", crate, "must-fail", name + ".edit")), how
+    for file in sorted(os.listdir(BODIES)):
+        if file.endswith(".edit"):
+            lines = sources.read(os.path.join(BODIES, file)).splitlines()
+            said = dict(it.split(": ", 1) for it in lines if it.startswith(("crate: ", "test: ")))
+            edit = "\n".join(it for it in lines if not it.startswith(("crate: ", "test: ")))
+            yield said["crate"], file[: -len(".edit")], edit, said["test"].split()
 
 
 def missing():
@@ -52,7 +60,7 @@ def copied(room, crate, edit):
     shutil.copytree(os.path.join(TOP, "crates"), os.path.join(room, "crates"), ignore=left_out)
     for name in ("crates.txt", "HANDLES"):
         shutil.copy(os.path.join(TOP, name), room)
-    pairs = sources.pairs_of(sources.read(edit))
+    pairs = sources.pairs_of(edit)
     folder = os.path.join(room, "crates", crate)
     texts = {path: sources.read(os.path.join(folder, path)) for path, _, _ in pairs}
     for path, text in sources.applied(pairs, texts).items():
@@ -84,10 +92,23 @@ def shown_by_traces(room):
     return status == 5 and wrong, f"{len(wrong)} traces are answered otherwise, as {wrong[0].replace('--', '/')}" if wrong else said[-600:]
 
 
+def shown_by_output(room, crate):
+    wanted = sources.read(os.path.join(TOP, "crates", crate, "stdout"))
+    ran = subprocess.run(["rt", "try", "--seconds", "600"], cwd=os.path.join(room, "crates", crate), stdin=subprocess.DEVNULL, stdout=subprocess.PIPE, stderr=subprocess.PIPE, text=True)
+    lines = [it for it in wanted.splitlines() if it not in ran.stdout]
+    return ran.returncode not in (1, 2, 3) and lines, f"{crate} doesn't write: {lines[0]}" if lines else ran.stderr[-600:]
+
+
 def shown_by_test(room, crate, test):
     status, said = tried(room, crate, ["--test"])
     failed = re.search(rf"(?m)^.*\b{re.escape(test)}\b.*$", said)
     return status not in (0, 1, 2, 3) and failed, f"{crate}: {test} fails" if failed else said[-600:]
+
+
+def shown(room, how):
+    if how == ["traces"]:
+        return shown_by_traces(room)
+    return shown_by_output(room, how[0]) if how[1] == "stdout" else shown_by_test(room, *how)
 
 
 def main():
@@ -100,7 +121,7 @@ def main():
             continue
         with tempfile.TemporaryDirectory() as room:
             copied(room, crate, edit)
-            is_shown, what = shown_by_traces(room) if how == ["traces"] else shown_by_test(room, *how[1:])
+            is_shown, what = shown(room, how)
         unshown += not is_shown
         print(f"{crate} {name}: {'shown' if is_shown else 'NOT SHOWN'}: {what}", flush=True)
     sys.exit(bool(lost or unshown))
