@@ -216,15 +216,6 @@ module _ (n : ℕ) (weighed : ℕ → ℕ) (t : MomentValue) (r : Driven) (asks 
         lock-left t q l s s' kept,
       )
 
-  -- no memory was left to count the use
-  pub found-uncounted : (m m' : Managed) (s s' : LockState) (r' : Driven) → r' ≡ r → s' ≡ given_back (status_by v) t r s → m' ≡ m → FoundAnswer n weighed t q l m s (Err out_of_memory) (plain_of r' asks wait gave bytes) m' s'
-  found-uncounted m m' s s' r' unchanged back same = (
-    inl (refl, inl there),
-    ap (λ (x : Driven). plain_of x asks wait gave bytes) unchanged,
-    same,
-    handed-back t q l s (found_given (status_by v) r s) (found_asked (status_by v) t r s) s' (asked s) back,
-  )
-
   -- the use can't be counted
   pub found-unused : (hit : MemHitHandler) (took : Option (List ℕ)) (m m' : Managed) (s s' : LockState) (r' : Driven) (fault : EvictFault) → TakeAnswer before (Ok took) hit → r' ≡ r → s' ≡ given_back (status_by v) t r s
       → UseAnswer n (is_counted is_complete hit (status_by v) r) (entry_at r.key None) (weighed (weight_of hit)) m (Err (Evict fault)) m' → weight_of_entry (entry_at r.key None) (rows_of n (entry_at r.key None) m) ≡ None
