@@ -42,7 +42,7 @@ running-bumped h w f b (x ∷ bs) zero d l below above =
 running-bumped h w f b (x ∷ bs) (suc i) d l below above =
     let head : Row = record { limit = x.limit; finds = f + x.finds; bytes = b + x.bytes } in
     let rest = running-bumped h w (f + x.finds) (b + x.bytes) bs i d (omega (arith, l)) (λ k d l. below (suc k) d (omega (arith, l)))
-                 (λ k d m l. above (suc k) d (omega (arith, m)) (omega (arith, l))) in
+    (λ k d m l. above (suc k) d (omega (arith, m)) (omega (arith, l))) in
     ap₂ (λ (r : Row) (l : List Row). r ∷ l) (sym (found-below h w head (below 0 x (omega arith)))) rest
 
 pub running-same : (h w f b : ℕ) (bs : List Row) → ((k : ℕ) (d : Row) → k < length bs → (get_or bs k d).limit < h) → running f b bs ≡ found_at h w (running f b bs)
