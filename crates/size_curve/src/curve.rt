@@ -82,7 +82,8 @@ impl SizeCurve {
         let is_past = is_past_mark(&self.watermark, entry);
         count(&mut self.table, height, is_past, own)?;
         self.by_weight.ask(alloc, entry, own)?;
-        ask_marked(alloc, &mut self.watermark, entry)
+        ask_marked(alloc, &mut self.watermark, entry)?;
+        Ok(())
     }
 
     /// Counts the removal of an entry that was asked for.
@@ -93,7 +94,8 @@ impl SizeCurve {
     {
         add_removal(&mut self.totals)?;
         self.by_weight.remove(alloc, entry)?;
-        remove_marked(alloc, &mut self.watermark, entry)
+        remove_marked(alloc, &mut self.watermark, entry)?;
+        Ok(())
     }
 }
 
