@@ -75,6 +75,8 @@ impl SizeCurve {
         requires { entry ≤ length self.old.weights.items }
         ensures fed { OnOk result ((requests : List Request) → IsFed self.old requests → IsFed self.new (asks (numbered entry) weight ∷ requests)) }
         ensures mark { OnOk result (mark_of self.new.watermark ≡ mark_of self.old.watermark) }
+        ensures known { entry < length self.old.weights.items → OnOk result (self.new.weights.items ≡ self.old.weights.items) }
+        ensures next { entry ≡ length self.old.weights.items → OnOk result (self.new.weights.items ≡ self.old.weights.items ++ weight ∷ []) }
     {
         let own = own_weight(&mut self.weights, entry, weight)?;
         add_ask(&mut self.totals, own, weight)?;
@@ -91,6 +93,7 @@ impl SizeCurve {
         requires { entry < length self.old.weights.items }
         ensures fed { OnOk result ((requests : List Request) → IsFed self.old requests → IsFed self.new (removes (numbered entry) ∷ requests)) }
         ensures mark { OnOk result (mark_of self.new.watermark ≡ mark_of self.old.watermark) }
+        ensures same { OnOk result (self.new.weights.items ≡ self.old.weights.items) }
     {
         add_removal(&mut self.totals)?;
         self.by_weight.remove(alloc, entry)?;

@@ -10,7 +10,7 @@ pub enum CurveFault {
     Memory,
     /// The weights would add up to 2^64 or more.
     TooHeavy,
-    /// More than 2^64 - 1 requests.
+    /// More than 2^64 - 1 requests, or 2^32 keys.
     TooMany,
 }
 
