@@ -12,7 +12,7 @@ use Rattle.size_curve.specs.declared.totals.Totals.{Totals}
 use Rattle.size_curve.specs.Requests.{Request, asks, removes, steps_of, is_among, AreFirst, AreFound, asked_in, odd_in, bytes_in}
 use Rattle.size_curve.specs.Numbers.{numbered, number_in, mark_of, Shows, Agrees, IsFed}
 use Rattle.curve_lines.specs.declared.keyed.KeyedCurve.{KeyedCurve}
-use Rattle.curve_lines.specs.Keys.{keyed, number_of, AreRenamed, none, ask, removal, unknown, AreKeyed, IsFedKeys, IsNumbered}
+use Rattle.curve_lines.specs.Keys.{keyed, number_of, AreRenamed, none, ask, removal, unknown, AreKeyed, IsFedKeys, IsNumbered, Counts}
 use Rattle.curve_lines.proofs.Renaming.{same-keyed, finds-same, found-same, odd-same, bytes-same, asked-same}
 
 pub none-some : (n : ℕ) (o : Option ℕ) → o ≡ None → o ≡ Some n → ⊥
@@ -31,12 +31,12 @@ still-none key other w requests f h = rw (same-keyed key other ∙ f, h) refl
 pub keyed-known : (old new : List ℕ → Option ℕ) (ws : List ℕ) (requests numbers : List Request) (key : List ℕ) (w n : ℕ) → ((other : List ℕ) → new other ≡ old other) → old key ≡ Some n
     → AreKeyed old ws requests numbers → AreKeyed new ws (asks (keyed key) w ∷ requests) (asks (numbered n) w ∷ numbers)
 keyed-known old new ws requests numbers key w n same has k = record {
-    renamed = ask key w n requests numbers (same key ∙ has) (renamed-more old new (λ other m h. same other ∙ h) requests numbers k.renamed);
-    apart = λ a b m p q. k.apart a b m (sym (same a) ∙ p) (sym (same b) ∙ q);
-    below = λ a m p. k.below a m (sym (same a) ∙ p);
-    first = λ weight a other m h. k.first weight a.1 other m (sym (same other) ∙ h);
-    others = λ other h. still-none key other w requests (differs other (same_bytes key other) refl (sym (same other) ∙ h)) (k.others other (sym (same other) ∙ h))
-  }
+  renamed = ask key w n requests numbers (same key ∙ has) (renamed-more old new (λ other m h. same other ∙ h) requests numbers k.renamed);
+  apart = λ a b m p q. k.apart a b m (sym (same a) ∙ p) (sym (same b) ∙ q);
+  below = λ a m p. k.below a m (sym (same a) ∙ p);
+  first = λ weight a other m h. k.first weight a.1 other m (sym (same other) ∙ h);
+  others = λ other h. still-none key other w requests (differs other (same_bytes key other) refl (sym (same other) ∙ h)) (k.others other (sym (same other) ∙ h));
+}
   where
     differs : (other : List ℕ) (t : Bool) → same_bytes key other ≡ t → old other ≡ None → t ≡ false
     differs other true t h = absurd (none-some n (old other) h (subst (λ (x : List ℕ). old x ≡ Some n) (same_bytes-tells.equal key other t) has))
@@ -46,12 +46,12 @@ pub keyed-next : (old new : List ℕ → Option ℕ) (ws : List ℕ) (requests n
     → ((other : List ℕ) → new other ≡ cond (same_bytes key other) (Some (length ws)) (old other)) → old key ≡ None
     → AreKeyed old ws requests numbers → AreKeyed new (ws ++ w ∷ []) (asks (keyed key) w ∷ requests) (asks (numbered (length ws)) w ∷ numbers)
 keyed-next old new ws requests numbers key w is has k = record {
-    renamed = ask key w (length ws) requests numbers at-key (renamed-more old new more requests numbers k.renamed);
-    apart = λ a b m p q. apart-by a b m (back a m p) (back b m q);
-    below = λ a m p. below-by a m (back a m p);
-    first = λ weight a other m h. first-by weight a other m (back other m h);
-    others = λ other h. let d = differs other h (same_bytes key other) refl in still-none key other w requests d (k.others other (sym (ap (λ (b : Bool). cond b (Some (length ws)) (old other)) d) ∙ sym (is other) ∙ h))
-  }
+  renamed = ask key w (length ws) requests numbers at-key (renamed-more old new more requests numbers k.renamed);
+  apart = λ a b m p q. apart-by a b m (back a m p) (back b m q);
+  below = λ a m p. below-by a m (back a m p);
+  first = λ weight a other m h. first-by weight a other m (back other m h);
+  others = λ other h. let d = differs other h (same_bytes key other) refl in still-none key other w requests d (k.others other (sym (ap (λ (b : Bool). cond b (Some (length ws)) (old other)) d) ∙ sym (is other) ∙ h));
+}
   where
     at-key : new key ≡ Some (length ws)
     at-key = is key ∙ ap (λ (b : Bool). cond b (Some (length ws)) (old key)) (same_bytes-tells.itself key)
@@ -99,22 +99,32 @@ keyed-asked old new ws ws' requests numbers key w n i known next k = by_case (ol
         → AreKeyed new ws' (asks (keyed key) w ∷ requests) (asks (numbered n) w ∷ numbers)
     by_case None q h =
         subst (λ (m : ℕ). AreKeyed new ws' (asks (keyed key) w ∷ requests) (asks (numbered m) w ∷ numbers)) (sym h.0)
-          (subst (λ (l : List ℕ). AreKeyed new l (asks (keyed key) w ∷ requests) (asks (numbered (length ws)) w ∷ numbers)) (sym (next h.0))
-            (keyed-next old new ws requests numbers key w h.1 q k))
+        (subst (λ (l : List ℕ). AreKeyed new l (asks (keyed key) w ∷ requests) (asks (numbered (length ws)) w ∷ numbers)) (sym (next h.0))
+        (keyed-next old new ws requests numbers key w h.1 q k))
     by_case (Some m) q h =
         let has : old key ≡ Some n = q ∙ ap (λ (x : ℕ). Some x) (sym h.0) in
         subst (λ (l : List ℕ). AreKeyed new l (asks (keyed key) w ∷ requests) (asks (numbered n) w ∷ numbers)) (sym (known (k.below key n has)))
-          (keyed-known old new ws requests numbers key w n h.1 has k)
+        (keyed-known old new ws requests numbers key w n h.1 has k)
 
 pub keyed-removed : (number : List ℕ → Option ℕ) (ws : List ℕ) (requests numbers : List Request) (key : List ℕ) (n : ℕ) → number key ≡ Some n
     → AreKeyed number ws requests numbers → AreKeyed number ws (removes (keyed key) ∷ requests) (removes (numbered n) ∷ numbers)
 keyed-removed number ws requests numbers key n has k = record {
-    renamed = removal key n requests numbers has k.renamed; apart = k.apart; below = k.below; first = λ weight a other m h. k.first weight a other m h; others = λ other h. k.others other h }
+  renamed = removal key n requests numbers has k.renamed;
+  apart = k.apart;
+  below = k.below;
+  first = λ weight a other m h. k.first weight a other m h;
+  others = λ other h. k.others other h;
+}
 
 pub keyed-unknown : (number : List ℕ → Option ℕ) (ws : List ℕ) (requests numbers : List Request) (key : List ℕ) → number key ≡ None
     → AreKeyed number ws requests numbers → AreKeyed number ws (removes (keyed key) ∷ requests) numbers
 keyed-unknown number ws requests numbers key has k = record {
-    renamed = unknown key requests numbers (k.others key has) k.renamed; apart = k.apart; below = k.below; first = λ weight a other m h. k.first weight a other m h; others = λ other h. k.others other h }
+  renamed = unknown key requests numbers (k.others key has) k.renamed;
+  apart = k.apart;
+  below = k.below;
+  first = λ weight a other m h. k.first weight a other m h;
+  others = λ other h. k.others other h;
+}
 
 -- ---- what the curve shows
 
@@ -125,21 +135,18 @@ rows-found : (number : List ℕ → Option ℕ) (weight : CacheEntryKey → ℕ)
     → AreFound (weight_by ws) mark (steps_of numbers) rows → AreFound weight mark (steps_of requests) rows
 rows-found number weight ws mark requests numbers [] a k h = tt
 rows-found number weight ws mark requests numbers (r ∷ rows) a k h = (
-    (h.0.0 ∙ sym (finds-same number k.apart weight (weight_by ws) (k.first weight a) r.limit mark requests numbers k.renamed),
-     h.0.1 ∙ sym (found-same number k.apart weight (weight_by ws) (k.first weight a) r.limit mark requests numbers k.renamed)),
-    rows-found number weight ws mark requests numbers rows a k h.1)
+  (
+    h.0.0 ∙ sym (finds-same number k.apart weight (weight_by ws) (k.first weight a) r.limit mark requests numbers k.renamed),
+    h.0.1 ∙ sym (found-same number k.apart weight (weight_by ws) (k.first weight a) r.limit mark requests numbers k.renamed),
+  ),
+  rows-found number weight ws mark requests numbers rows a k h.1,
+)
 
 pub keyed-found : (c : KeyedCurve) (requests : List Request) (weight : CacheEntryKey → ℕ) → IsFedKeys c requests → AreFirst weight requests
     → AreFound weight (mark_of c.curve.watermark) (steps_of requests) c.curve.table
 keyed-found c requests weight f a =
     let s = f.fed.shown (weight_by c.curve.weights.items) (λ n l. refl) in
     rows-found (number_of c.numbers) weight c.curve.weights.items (mark_of c.curve.watermark) requests f.numbers c.curve.table a f.keys s.rows
-
--- the totals but for removals
-pub record Counts (weight : CacheEntryKey → ℕ) (t : Totals) (requests : List Request) : Type 0 where
-  pub asked : t.asks ≡ asked_in requests
-  pub odd : t.odd ≡ odd_in weight requests
-  pub bytes : t.bytes ≡ bytes_in weight requests
 
 pub keyed-counts : (c : KeyedCurve) (requests : List Request) (weight : CacheEntryKey → ℕ) → IsFedKeys c requests → AreFirst weight requests → Counts weight c.curve.totals requests
 keyed-counts c requests weight f a =
@@ -149,5 +156,5 @@ keyed-counts c requests weight f a =
     record {
       asked = s.totals.asked ∙ sym (asked-same (number_of c.numbers) k.apart requests f.numbers k.renamed);
       odd = s.totals.odd ∙ sym (odd-same (number_of c.numbers) k.apart weight (weight_by ws) (k.first weight a) 0 None requests f.numbers k.renamed);
-      bytes = s.totals.bytes ∙ sym (bytes-same (number_of c.numbers) k.apart weight (weight_by ws) (k.first weight a) 0 None requests f.numbers k.renamed)
+      bytes = s.totals.bytes ∙ sym (bytes-same (number_of c.numbers) k.apart weight (weight_by ws) (k.first weight a) 0 None requests f.numbers k.renamed);
     }

@@ -21,13 +21,14 @@ numbered-next old new owned key next e n u = rw n (refl, λ other. by_test other
   where
     test : List ℕ → Vec ℕ Global → Bool
     test bytes = λ k. same_bytes bytes k.items
+
     by_test : (other : List ℕ) (t : Bool) → same_bytes key other ≡ t → number_of new other ≡ cond t (Some next) (number_of old other)
     by_test other true t =
         ap (λ (x : List ℕ). number_of new x) (sym (e ∙ same_bytes-tells.equal key other t)) ∙ u.1
     by_test other false t =
         u.3 (λ k. same_bytes other k.items)
-          (λ x y h. ap (λ (b : List ℕ). same_bytes b y.items) (same_bytes-tells.equal other x.items h))
-          (λ k h. apart-bytes key other k.items t (ap (λ (b : List ℕ). same_bytes b k.items) (sym e) ∙ h))
+        (λ x y h. ap (λ (b : List ℕ). same_bytes b y.items) (same_bytes-tells.equal other x.items h))
+        (λ k h. apart-bytes key other k.items t (ap (λ (b : List ℕ). same_bytes b k.items) (sym e) ∙ h))
 
 pub numbered-known : (number : List ℕ → Option ℕ) (key : List ℕ) (next n : ℕ) → number key ≡ Some n → IsNumbered number number key next n
 numbered-known number key next n s = rw s (refl, λ other. refl)

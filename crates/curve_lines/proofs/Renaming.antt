@@ -80,7 +80,7 @@ module _ (number : List ℕ → Option ℕ) (apart : (key other : List ℕ) (n :
   rows-kept limit mark w n (r ∷ rs) (s ∷ ss) h =
       let more = rows-kept limit mark (w + r.weight) (n + 1) rs ss h.2 in
       subst (λ (x : ℕ). AreSameRows (kept_after limit mark w n (r ∷ rs)) (cond (exceeds limit mark (w + x) (n + 1)) [] (s ∷ kept_after limit mark (w + x) (n + 1) ss))) h.1
-        (by_test (exceeds limit mark (w + r.weight) (n + 1)) more)
+      (by_test (exceeds limit mark (w + r.weight) (n + 1)) more)
     where
       by_test : (t : Bool) → AreSameRows (kept_after limit mark (w + r.weight) (n + 1) rs) (kept_after limit mark (w + r.weight) (n + 1) ss)
           → AreSameRows (cond t [] (r ∷ kept_after limit mark (w + r.weight) (n + 1) rs)) (cond t [] (s ∷ kept_after limit mark (w + r.weight) (n + 1) ss))
@@ -131,7 +131,7 @@ module _ (number : List ℕ → Option ℕ) (apart : (key other : List ℕ) (n :
     held-among [] = tt
     held-among (asks e w ∷ requests) =
         among-kept (asks e w ∷ requests) 0 0 (put_first weight e (held weight limit mark (steps_of requests)))
-          (ap (λ (b : Bool). b || is_among e requests) (same_entry-tells.itself e), among-more requests e w (without_row e (held weight limit mark (steps_of requests))) (among-without requests e (held weight limit mark (steps_of requests)) (held-among requests)))
+        (ap (λ (b : Bool). b || is_among e requests) (same_entry-tells.itself e), among-more requests e w (without_row e (held weight limit mark (steps_of requests))) (among-without requests e (held weight limit mark (steps_of requests)) (held-among requests)))
     held-among (removes e ∷ requests) = among-without requests e (held weight limit mark (steps_of requests)) (held-among requests)
 
     -- an entry that wasn't asked for has no row to lose
@@ -153,18 +153,18 @@ module _ (number : List ℕ → Option ℕ) (apart : (key other : List ℕ) (n :
         let before = held weight limit mark (steps_of requests) in
         let after = held weight' limit mark (steps_of numbers) in
         rows-kept limit mark 0 0 (put_first weight (keyed key) before) (put_first weight' (numbered n) after)
-          (at-number key n h, weighs key n h, rows-without (keyed key) (numbered n) before after (at-number key n h) (rows-same requests numbers r))
+        (at-number key n h, weighs key n h, rows-without (keyed key) (numbered n) before after (at-number key n h) (rows-same requests numbers r))
     rows-same _ _ (removal key n requests numbers h r) =
         rows-without (keyed key) (numbered n) (held weight limit mark (steps_of requests)) (held weight' limit mark (steps_of numbers)) (at-number key n h) (rows-same requests numbers r)
     rows-same _ _ (unknown key requests numbers h r) =
         subst (λ (rows : List Tracked). AreSameRows rows (held weight' limit mark (steps_of numbers))) (sym (without-stranger requests (keyed key) (held weight limit mark (steps_of requests)) h (held-among requests)))
-          (rows-same requests numbers r)
+        (rows-same requests numbers r)
 
     pub finds-same : (requests numbers : List Request) → AreRenamed number requests numbers → finds weight limit mark (steps_of requests) ≡ finds weight' limit mark (steps_of numbers)
     finds-same _ _ none = refl
     finds-same _ _ (ask key w n requests numbers h r) =
         ap₂ (λ (b : Bool) (m : ℕ). cond b 1 0 + m) (rows-have (keyed key) (numbered n) (held weight limit mark (steps_of requests)) (held weight' limit mark (steps_of numbers)) (at-number key n h) (rows-same requests numbers r))
-          (finds-same requests numbers r)
+        (finds-same requests numbers r)
     finds-same _ _ (removal key n requests numbers h r) = finds-same requests numbers r
     finds-same _ _ (unknown key requests numbers h r) = finds-same requests numbers r
 
@@ -172,7 +172,7 @@ module _ (number : List ℕ → Option ℕ) (apart : (key other : List ℕ) (n :
     found-same _ _ none = refl
     found-same _ _ (ask key w n requests numbers h r) =
         ap₂ (λ (b : Bool) (m : ℕ). cond b (weight (keyed key)) 0 + m) (rows-have (keyed key) (numbered n) (held weight limit mark (steps_of requests)) (held weight' limit mark (steps_of numbers)) (at-number key n h) (rows-same requests numbers r))
-          (found-same requests numbers r)
+        (found-same requests numbers r)
         ∙ ap (λ (v : ℕ). cond (has_row (numbered n) (held weight' limit mark (steps_of numbers))) v 0 + found_bytes weight' limit mark (steps_of numbers)) (weighs key n h)
     found-same _ _ (removal key n requests numbers h r) = found-same requests numbers r
     found-same _ _ (unknown key requests numbers h r) = found-same requests numbers r

@@ -6,8 +6,9 @@ use Rattle.lru_core.specs.declared.seeded_state.SeededState.{SeededState}
 use Rattle.cache_entries.specs.declared.entry.CacheEntryKey.{CacheEntryKey}
 use Rattle.cache_entries.specs.declared.entry.CacheEntryKey.TheVariants.{KeyOnly}
 use Rattle.cache_entries.specs.Keys.{same_bytes}
-use Rattle.size_curve.specs.Requests.{Request, asks, removes, is_among, steps_of, AreFirst, AreFound, removed_in}
+use Rattle.size_curve.specs.Requests.{Request, asks, removes, is_among, steps_of, AreFirst, AreFound, asked_in, odd_in, bytes_in}
 use Rattle.size_curve.specs.Numbers.{numbered, mark_of, IsFed}
+use Rattle.size_curve.specs.declared.totals.Totals.{Totals}
 use Rattle.curve_lines.specs.declared.keyed.KeyedCurve.{KeyedCurve}
 
 -- the entry of a key
@@ -46,4 +47,10 @@ pub record IsFedKeys (c : KeyedCurve) (requests : List Request) : Type 0 where
 abbrev pub IsNumbered : (old new : List ℕ → Option ℕ) → List ℕ → ℕ → ℕ → Type 0
 IsNumbered old new key next n =
     MatchOption (old key) ((n ≡ next) × ((other : List ℕ) → new other ≡ (if same_bytes key other then Some next else old other)))
-      (λ m. (n ≡ m) × ((other : List ℕ) → new other ≡ old other))
+    (λ m. (n ≡ m) × ((other : List ℕ) → new other ≡ old other))
+
+-- how many requests ask, how many of them by another weight than the entry's own, and what the entries weigh that are asked for
+pub record Counts (weight : CacheEntryKey → ℕ) (t : Totals) (requests : List Request) : Type 0 where
+  pub asked : t.asks ≡ asked_in requests
+  pub odd : t.odd ≡ odd_in weight requests
+  pub bytes : t.bytes ≡ bytes_in weight requests

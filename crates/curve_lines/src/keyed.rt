@@ -1,7 +1,7 @@
 //! A curve that is fed requests by their keys.
 ghost use Rattle.std.specs.Prelude.{◌≡◌, ℕ, ◌<◌, ◌≤◌, List, [], ◌∷◌, length, slice_index_or, map, IfOk, OnOk};
 ghost use Rattle.size_curve.specs.Requests.{Request, asks, removes};
-ghost use Rattle.size_curve.specs.Rows.{empty_row};
+ghost use Rattle.size_curve.specs.Rows.{empty_row, limits_of};
 ghost use Rattle.size_curve.specs.Numbers.{mark_of};
 ghost use Rattle.curve_lines.specs.Keys.{keyed, number_of, IsFedKeys, IsNumbered};
 
@@ -40,6 +40,7 @@ impl KeyedCurve {
         requires { (requests : List Request) × IsFedKeys self.old requests }
         ensures fed { OnOk result ((requests : List Request) → IsFedKeys self.old requests → IsFedKeys self.new (asks (keyed key.now) weight ∷ requests)) }
         ensures mark { OnOk result (mark_of self.new.curve.watermark ≡ mark_of self.old.curve.watermark) }
+        ensures limits { OnOk result (limits_of self.new.curve.table ≡ limits_of self.old.curve.table) }
     {
         let number = number_for(&mut self.numbers, alloc, key, self.curve.entries())?;
         self.curve.ask(alloc, number, weight)?;
@@ -51,6 +52,7 @@ impl KeyedCurve {
         requires { (requests : List Request) × IsFedKeys self.old requests }
         ensures fed { OnOk result ((requests : List Request) → IsFedKeys self.old requests → IsFedKeys self.new (removes (keyed key.now) ∷ requests)) }
         ensures mark { OnOk result (mark_of self.new.curve.watermark ≡ mark_of self.old.curve.watermark) }
+        ensures limits { OnOk result (limits_of self.new.curve.table ≡ limits_of self.old.curve.table) }
     {
         if let Some(number) = self.numbers.get(key) {
             self.curve.remove(alloc, *number)?;

@@ -1,9 +1,9 @@
 -- Buckets and the rows that they stand for.
-use Rattle.std.proofs.Common.{◌≡◌, ℕ, zero, suc, ◌+◌, ◌≤◌, ◌<◌, ltb, Bool, true, false, List, [], ◌∷◌, map, refl, ap, ap₂, sym, ◌∙◌, arith, drop, take, length, get_or, set}
+use Rattle.std.proofs.Common.{◌≡◌, ℕ, zero, suc, ◌+◌, ◌≤◌, ◌<◌, ltb, cond, Bool, true, false, List, [], ◌∷◌, map, refl, ap, ap₂, sym, ◌∙◌, arith, drop, take, length, get_or, set}
 use Rattle.std.proofs.lemmas.Bool.{lt-ltb, le-ltb}
 use Rattle.std.proofs.lemmas.List.{length-set, length-map, get_or-map}
 use Rattle.size_curve.specs.declared.row.Row.{Row}
-use Rattle.size_curve.specs.Rows.{running, empty_row, found_row, found_at, AreRising, all_finds, all_bytes}
+use Rattle.size_curve.specs.Rows.{running, empty_row, found_row, found_at, limits_of, AreRising, all_finds, all_bytes}
 
 abbrev pub bumped : ℕ → Row → Row
 bumped w r = record r { finds = r.finds + 1; bytes = r.bytes + w }
@@ -108,3 +108,11 @@ rising-empty ls r = λ a b e le l.
     let q = ap (λ (x : Row). x.limit) (get_or-map empty_row ls b 0 e h) in
     let o = r a b 0 le h in
     omega (arith, o, p, q)
+
+pub limits-found : (h w : ℕ) (rows : List Row) → limits_of (found_at h w rows) ≡ limits_of rows
+limits-found h w [] = refl
+limits-found h w (r ∷ rows) = by_test (ltb r.limit h) (limits-found h w rows)
+  where
+    by_test : (t : Bool) → limits_of (found_at h w rows) ≡ limits_of rows → limits_of (cond t r (bumped w r) ∷ found_at h w rows) ≡ limits_of (r ∷ rows)
+    by_test true i = ap (λ (l : List ℕ). r.limit ∷ l) i
+    by_test false i = ap (λ (l : List ℕ). r.limit ∷ l) i

@@ -5,6 +5,9 @@ use Rattle.size_curve.specs.declared.row.Row.{Row}
 abbrev pub empty_row : ℕ → Row
 empty_row limit = record { limit = limit; finds = 0; bytes = 0 }
 
+abbrev pub limits_of : List Row → List ℕ
+limits_of rows = map (λ r. r.limit) rows
+
 -- one more find of that height and weight: each limit that is at least the height has it
 abbrev pub found_row : ℕ → ℕ → Row → Row
 found_row height weight r = if nat_lt r.limit height then r else record r { finds = r.finds + 1; bytes = r.bytes + weight }

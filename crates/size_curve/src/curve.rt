@@ -2,7 +2,7 @@
 ghost use Rattle.std.specs.Prelude.{◌≡◌, ℕ, ◌<◌, ◌≤◌, List, [], ◌∷◌, ◌++◌, length, map, slice_index, slice_index_or, IfOk, OnOk};
 ghost use Rattle.size_curve.specs.Numbers.{IsFed, numbered, rows_after, mark_of};
 ghost use Rattle.size_curve.specs.Requests.{Request, asks, removes};
-ghost use Rattle.size_curve.specs.Rows.{empty_row};
+ghost use Rattle.size_curve.specs.Rows.{empty_row, limits_of};
 
 use crate::fault::CurveFault;
 use crate::row::Row;
@@ -75,6 +75,7 @@ impl SizeCurve {
         requires { entry ≤ length self.old.weights.items }
         ensures fed { OnOk result ((requests : List Request) → IsFed self.old requests → IsFed self.new (asks (numbered entry) weight ∷ requests)) }
         ensures mark { OnOk result (mark_of self.new.watermark ≡ mark_of self.old.watermark) }
+        ensures limits { OnOk result (limits_of self.new.table ≡ limits_of self.old.table) }
         ensures known { entry < length self.old.weights.items → OnOk result (self.new.weights.items ≡ self.old.weights.items) }
         ensures next { entry ≡ length self.old.weights.items → OnOk result (self.new.weights.items ≡ self.old.weights.items ++ weight ∷ []) }
     {
@@ -93,6 +94,7 @@ impl SizeCurve {
         requires { entry < length self.old.weights.items }
         ensures fed { OnOk result ((requests : List Request) → IsFed self.old requests → IsFed self.new (removes (numbered entry) ∷ requests)) }
         ensures mark { OnOk result (mark_of self.new.watermark ≡ mark_of self.old.watermark) }
+        ensures limits { OnOk result (limits_of self.new.table ≡ limits_of self.old.table) }
         ensures same { OnOk result (self.new.weights.items ≡ self.old.weights.items) }
     {
         add_removal(&mut self.totals)?;
@@ -122,7 +124,8 @@ fn count(
     is_past: bool,
     weight: u64,
 ) -> Result<(), CurveFault>
-    ensures { OnOk result (table.new ≡ rows_after height is_past weight table.old) }
+    ensures rows { OnOk result (table.new ≡ rows_after height is_past weight table.old) }
+    ensures limits { OnOk result (limits_of table.new ≡ limits_of table.old) }
 {
     match height {
         None => Ok(()),

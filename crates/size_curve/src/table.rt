@@ -1,6 +1,6 @@
 //! Counts at named limits.
 ghost use Rattle.std.specs.Prelude.{◌≡◌, ℕ, ◌+◌, ◌<◌, ◌≤◌, ◌*◌, ◌^◌, List, length, map, slice_index_or, IfOk, OnOk, OnErr, IsTrue, ◌↔◌};
-ghost use Rattle.size_curve.specs.Rows.{running, empty_row, found_at, AreRising, all_finds, all_bytes};
+ghost use Rattle.size_curve.specs.Rows.{running, empty_row, found_at, limits_of, AreRising, all_finds, all_bytes};
 
 use crate::row::Row;
 use std::alloc::{AllocError, Global};
@@ -50,6 +50,7 @@ impl Table {
     /// `TableFault` once 2^64 - 1 finds were counted.
     pub fn count(&mut self, height: u64, weight: u64) -> Result<(), TableFault>
         ensures ok { OnOk result (self.new ≡ found_at height weight self.old) }
+        ensures limits { limits_of self.new ≡ limits_of self.old }
         ensures err { OnErr result (self.new ≡ self.old) }
     {
         if self.counted == u64::MAX {

@@ -14,7 +14,7 @@ returns-clause-fed c =
         apart = λ a b n p q. absurd (none-some n (number_of c.with_hasher-numbers.result a) (empty a) p);
         below = λ a n p. absurd (none-some n (number_of c.with_hasher-numbers.result a) (empty a) p);
         first = λ weight f a n p. absurd (none-some n (number_of c.with_hasher-numbers.result a) (empty a) p);
-        others = λ key h. refl
+        others = λ key h. refl;
       };
-      fed = c.in_ok-curve.ensures.fed
+      fed = c.in_ok-curve.ensures.fed;
     }

@@ -1,7 +1,7 @@
 use Rattle.std.proofs.Common.{◌≡◌, ℕ, ◌+◌, ◌<◌, ◌≤◌, ◌*◌, ◌^◌, length, get_or, set, arith, rules, ap, sym, ◌∙◌}
 use Rattle.size_curve.specs.declared.row.Row.{Row}
-use Rattle.size_curve.specs.Rows.{running, found_at, AreRising, all_finds, all_bytes}
-use Rattle.size_curve.proofs.TableLaws.{bumped, running-bumped, running-same, finds-bumped, bytes-bumped, one-finds, one-bytes, rising-bumped}
+use Rattle.size_curve.specs.Rows.{running, found_at, limits_of, AreRising, all_finds, all_bytes}
+use Rattle.size_curve.proofs.TableLaws.{bumped, running-bumped, running-same, finds-bumped, bytes-bumped, one-finds, one-bytes, rising-bumped, limits-found}
 use Rattle.size_curve.proofs.table.Table.count.Goals as goal
 
 pub add_to-requires-clause-finds : goal.add_to-requires-clause-finds
@@ -54,3 +54,6 @@ returns-else-at-len-clause-ok c =
     let r = rw c.as_slice.ensures.value at c.bucket_of-at.ensures in
     let l : length bs ≤ i = search rules in
     rw (← c.self.view_is) (running-same c.args.height c.args.weight 0 0 bs (λ k d h. r.lesser k d (omega (arith, h, l))))
+
+pub returns-then-at-len-clause-limits : goal.returns-then-at-len-clause-limits
+returns-then-at-len-clause-limits c = ap limits_of (returns-then-at-len-clause-ok c) ∙ limits-found c.args.height c.args.weight c.args.self.now
