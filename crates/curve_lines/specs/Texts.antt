@@ -42,5 +42,5 @@ kind_text odd =
     if odd == 0 then codes "# exact: one shard, each entry has one length\n"
     else codes "# estimate: one shard; requests by another length than their entry's first: " ++ (decimal odd ++ codes "\n")
 
-abbrev pub curve_text : List Row → Totals → ℕ → ℕ → List ℕ
+unfoldable pub curve_text : List Row → Totals → ℕ → ℕ → List ℕ
 curve_text rows t entries wrong = head_text ++ (rows_text t.asks t.bytes rows ++ (totals_text t entries wrong ++ kind_text t.odd))

@@ -5,9 +5,11 @@ mod fault;
 mod keyed;
 mod line;
 mod read;
+mod sizes;
 mod text;
 
 pub use fault::RunFault;
 pub use keyed::KeyedCurve;
 pub use read::{Found, curve};
+pub use sizes::{is_rising, size};
 pub use text::report;

@@ -73,7 +73,7 @@ fn word_of(text: &[u8]) -> &[u8]
 }
 
 // The number that digits give.
-fn number(word: &[u8]) -> Option<u64>
+pub(crate) fn number(word: &[u8]) -> Option<u64>
     ensures { result ≡ number_from 0 word.now }
 {
     let mut number: u64 = 0;
