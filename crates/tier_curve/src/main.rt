@@ -3,7 +3,7 @@
 
 mod options;
 
-use crate::options::{Fault, Options, options};
+use crate::options::{Fault, Options, read_options};
 use curve_lines::{RunFault, curve, is_rising, report};
 use log::{Log, warn};
 use lru_core::SeededState;
@@ -28,7 +28,7 @@ fn random_start<R: RandomSource>(rt: &R) -> Result<SeededState, io::Error> {
 
 // Runs by the options of the command line.
 fn run<R: Env + Input + Print + AllocGlobal + RandomSource>(rt: &R) -> Result<(), Fault> {
-    let options = options(rt)?;
+    let options = read_options(rt)?;
     run_with(rt, &options).map_err(Fault::Run)
 }
 
@@ -61,13 +61,7 @@ fn status(outcome: &Result<(), Fault>) -> u8 {
     match outcome {
         Ok(()) => 0,
         Err(Fault::Run(_)) => 1,
-        Err(Fault::CommandLine(error)) => {
-            if error.use_stderr() {
-                2
-            } else {
-                0
-            }
-        }
+        Err(Fault::CommandLine(error)) => { if error.use_stderr() { 2 } else { 0 } }
         Err(Fault::Wrong(_)) => 2,
     }
 }

@@ -70,7 +70,10 @@ fn option<'a>(
     value: &'static str,
     help: &'static str,
 ) -> Arg<'a> {
-    Arg::new(alloc, name).long(name).value_name(value).help(help)
+    Arg::new(alloc, name)
+        .long(name)
+        .value_name(value)
+        .help(help)
 }
 
 fn command<'a>(alloc: Global) -> Result<Command<'a>, AllocError> {
@@ -101,7 +104,8 @@ fn size_of(
     }
 }
 
-const WRONG_LIMITS: &str = "--limits: sizes such as 1M,10M,1G are wanted, from the least to the greatest";
+const WRONG_LIMITS: &str =
+    "--limits: sizes such as 1M,10M,1G are wanted, from the least to the greatest";
 
 // The sizes of a list, apart by commas.
 fn sizes(alloc: Global, text: &str) -> Result<Vec<u64>, Fault> {
@@ -130,7 +134,7 @@ fn options_in(alloc: Global, matches: &ArgMatches<'_>) -> Result<Options, Fault>
 }
 
 /// The options of the program's own command line.
-pub fn options<R: Env + AllocGlobal>(rt: &R) -> Result<Options, Fault> {
+pub fn read_options<R: Env + AllocGlobal>(rt: &R) -> Result<Options, Fault> {
     let alloc = rt.alloc();
     let words: Vec<String> = env::args(rt)?.collect(alloc)?;
     let matches = command(alloc)?.try_get_matches_from(words.as_slice())?;
