@@ -2,7 +2,6 @@ use Rattle.std.proofs.Common.{rules, ◌≡◌, ◌+◌, arith, ◌∙◌, add-o
 use Rattle.trace_heights.specs.declared.place.Place.{Place}
 use Rattle.trace_heights.specs.Places.{filled, all_sizes}
 use Rattle.trace_heights.proofs.PlaceLaws.{fill-places, fill-sizes}
-use Rattle.trace_heights.proofs.SlotLaws.{height-slot, without-slot}
 use Rattle.trace_heights.proofs.heights.fill.Goals as goal
 
 pub loop-i-preserved : goal.loop-i-preserved
