@@ -4,6 +4,7 @@
     access-log-to-trace.py --count < access.log
     access-log-to-trace.py --drive "tier-replay --limit 1000000" < access.log
     access-log-to-trace.py --cases FOLDER --limits 100000,400000 < access.log    and then --answers FILE < access.log
+    access-log-to-trace.py --requests < access.log | tier_curve --limits 1M,10M,100M
     access-log-to-trace.py < access.log > trace.jsonl
 
 It reads nginx's and Apache's combined and common log formats, also after the name of a virtual host, with a port or without one, or
@@ -58,6 +59,12 @@ def write_trace(asked, options, out):
         out.write(text_of({"op": "drop", "at": moment, "id": number}))
         count = number + 1
     return count
+
+
+def write_requests(asked, out):
+    """Writes a line 'time key bytes' for each request, with the key in hex."""
+    for moment, key, size in asked:
+        out.write(f"{moment} {key or '-'} {size}\n")
 
 
 def write_cases(asked, options):
@@ -172,6 +179,7 @@ def options_of(words):
     parser = argparse.ArgumentParser(description=__doc__, formatter_class=argparse.RawDescriptionHelpFormatter)
     what = parser.add_mutually_exclusive_group()
     what.add_argument("--count", action="store_true", help="only count the lines: write no trace")
+    what.add_argument("--requests", action="store_true", help="write lines 'time key bytes' for tier_curve, in place of a trace")
     what.add_argument("--drive", metavar="COMMAND", help="run this tier-replay command over the requests, and print hit ratios")
     what.add_argument("--cases", metavar="FOLDER", help="write the trace for each of --limits into this new folder, for `rt try --cases`")
     what.add_argument("--answers", metavar="FILE", help="read what the runs of the cases wrote, and print hit ratios")
@@ -211,6 +219,9 @@ def main():
         print(f"requests={write_cases(asked, options)}")
     elif options.answers:
         read_answers(asked, options.answers)
+    elif options.requests:
+        signal.signal(signal.SIGPIPE, signal.SIG_DFL)
+        write_requests(asked, sys.stdout)
     else:
         # ends quietly where the reader of a pipe has enough
         signal.signal(signal.SIGPIPE, signal.SIG_DFL)
