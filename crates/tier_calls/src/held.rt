@@ -36,6 +36,14 @@ pub struct Held {
     evicted: Entries,
 }
 
+/// Bytes that are lent to a program in C.
+#[repr(C)]
+#[derive(Drop)]
+pub struct Lent {
+    pub at: *const u8,
+    pub len: usize,
+}
+
 // The number that all bits mean is none.
 fn some(number: u64) -> Option<u64> {
     if number == numbers::NONE {

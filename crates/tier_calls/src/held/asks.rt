@@ -12,8 +12,7 @@ fn of_report(report: &Report, op: u64) -> u64 {
         numbers::REPORT_BYTES => report.bytes,
         numbers::REPORT_TRACKED => report.tracked,
         numbers::REPORT_WEIGHT => report.weight,
-        numbers::REPORT_EVICTED => report.evicted,
-        _ => numbers::BAD_CALL,
+        _ => report.evicted,
     }
 }
 
@@ -33,10 +32,15 @@ impl Held {
             numbers::THIRD => told.third,
             numbers::STATE => self.tier.status(),
             numbers::VERSION => numbers::THE_VERSION,
-            _ => match self.tier.report() {
-                Some(report) => of_report(&report, op),
-                None => self.tier.status(),
-            },
+            numbers::REPORT_FOUND..=numbers::REPORT_EVICTED => self.ask_report(op),
+            _ => numbers::BAD_CALL,
+        }
+    }
+
+    fn ask_report(&self, op: u64) -> u64 {
+        match self.tier.report() {
+            Some(report) => of_report(&report, op),
+            None => self.tier.status(),
         }
     }
 }

@@ -1,18 +1,10 @@
 //! Bytes that are handed in, lent and copied out.
-use super::Held;
+use super::{Held, Lent};
 use crate::numbers;
 use bytes::Bytes;
 use cache_words::key::CacheHashKey;
 use std::alloc::AllocError;
 use std::str;
-
-/// Bytes that are lent to a program in C.
-#[repr(C)]
-#[derive(Drop)]
-pub struct Lent {
-    pub at: *const u8,
-    pub len: usize,
-}
 
 // How handing in ended.
 fn status_of(handed: Result<(), AllocError>) -> u64 {
