@@ -1,8 +1,10 @@
-//! A cache tier for programs that aren't written in Rattle. `cache_tier.h` has the declarations.
+//! A cache tier for programs that aren't written in Rattle, as a static library. `embed/cache_tier.h` has the declarations, and what each call is
+//! for. All that is done here is that the caller's memory is taken as a held tier, and given back.
 #![tactic(auto)]
 
 ghost use Rattle.std.specs.Borrow.{full_share, sem};
 ghost use Rattle.std.specs.Ptr.{lies_at, room_at};
+ghost use Rattle.tier_calls.specs.Called.{IsCall, IsHand, IsCopy, IsLend, IsMade};
 ghost use Rattle.tier_calls.specs.declared.held.Held.{Held};
 ghost use Rattle.tier_calls.specs.contracts.held.Held.{the_row};
 
@@ -27,7 +29,7 @@ pub unsafe extern "C" fn cache_tier_init(
     hash_start: u64,
 )
     requires* { sem 𝓛 (room_at the_row at) }
-    ensures* { ∃ₛ λ (h : Held). sem 𝓛 (lies_at the_row full_share at h) }
+    ensures* { ∃ₛ λ (h : Held). ⌜ IsMade limit watermark age wait shards seed hash_start h ⌝ ∗ sem 𝓛 (lies_at the_row full_share at h) }
 {
     let held = make(alloc, limit, watermark, age, wait, shards, seed, hash_start);
     unsafe { std::ptr::write(at as *mut Held, held) };
@@ -52,7 +54,7 @@ pub unsafe extern "C" fn cache_tier_call(
 ) -> u64
     ghost h: { Held }
     requires* { sem 𝓛 (lies_at the_row full_share at h) }
-    ensures* { ∃ₛ λ (h' : Held). sem 𝓛 (lies_at the_row full_share at h') }
+    ensures* { ∃ₛ λ (h' : Held). ⌜ IsCall h op seconds nanoseconds id result h' ⌝ ∗ sem 𝓛 (lies_at the_row full_share at h') }
 {
     let held = unsafe { &mut *(at as *mut Held) };
     held.call(op, seconds, nanoseconds, id)
@@ -62,7 +64,7 @@ pub unsafe extern "C" fn cache_tier_call(
 pub unsafe extern "C" fn cache_tier_hand(at: *mut u8, which: u64, bytes: &[u8]) -> u64
     ghost h: { Held }
     requires* { sem 𝓛 (lies_at the_row full_share at h) }
-    ensures* { ∃ₛ λ (h' : Held). sem 𝓛 (lies_at the_row full_share at h') }
+    ensures* { ∃ₛ λ (h' : Held). ⌜ IsHand h which bytes.now result h' ⌝ ∗ sem 𝓛 (lies_at the_row full_share at h') }
 {
     let held = unsafe { &mut *(at as *mut Held) };
     held.hand(which, bytes)
@@ -72,7 +74,7 @@ pub unsafe extern "C" fn cache_tier_hand(at: *mut u8, which: u64, bytes: &[u8]) 
 pub unsafe extern "C" fn cache_tier_copy(at: *mut u8, offset: u64, out: &mut [u8]) -> u64
     ghost h: { Held }
     requires* { sem 𝓛 (lies_at the_row full_share at h) }
-    ensures* { ∃ₛ λ (h' : Held). sem 𝓛 (lies_at the_row full_share at h') }
+    ensures* { ∃ₛ λ (h' : Held). ⌜ IsCopy h offset out.old out.new result h' ⌝ ∗ sem 𝓛 (lies_at the_row full_share at h') }
 {
     let held = unsafe { &mut *(at as *mut Held) };
     held.copy(offset, out)
@@ -82,7 +84,7 @@ pub unsafe extern "C" fn cache_tier_copy(at: *mut u8, offset: u64, out: &mut [u8
 pub unsafe extern "C" fn cache_tier_lend(at: *mut u8, request: u64, out: &mut Lent) -> u64
     ghost h: { Held }
     requires* { sem 𝓛 (lies_at the_row full_share at h) }
-    ensures* { ∃ₛ λ (h' : Held). sem 𝓛 (lies_at the_row full_share at h') }
+    ensures* { ∃ₛ λ (h' : Held). ⌜ IsLend h request out.old out.new result h' ⌝ ∗ sem 𝓛 (lies_at the_row full_share at h') }
 {
     let held = unsafe { &mut *(at as *mut Held) };
     held.lend(request, out)

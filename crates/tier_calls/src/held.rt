@@ -1,10 +1,14 @@
 //! A tier as a program in C holds it, with what was handed in and what is lent.
+ghost use Rattle.std.specs.Prelude.{◌≡◌};
+ghost use Rattle.tier_calls.specs.Called.{some_of, IsCall, IsMade};
+
 mod asks;
 mod events;
 mod files;
 mod lends;
 
 use crate::numbers;
+use crate::reads::Reads;
 use crate::shards::{Settings, Shards};
 use crate::staged::Staged;
 use crate::told::{Told, plain};
@@ -26,7 +30,7 @@ pub struct Held {
     rng: Pcg64,
     staged: Staged,
     // What each open request read last.
-    reads: HashMap<u64, Bytes, SeededState>,
+    reads: Reads,
     // What is shown, to be copied.
     shown: Bytes,
     // The files of the shards: those handed in, then those of the last save.
@@ -45,7 +49,9 @@ pub struct Lent {
 }
 
 // The number that all bits mean is none.
-fn some(number: u64) -> Option<u64> {
+fn some(number: u64) -> Option<u64>
+    ensures { result ≡ some_of number }
+{
     if number == numbers::NONE {
         return None;
     }
@@ -62,7 +68,9 @@ pub fn make(
     shards: u64,
     seed: u64,
     hash_start: u64,
-) -> Held {
+) -> Held
+    ensures { IsMade limit watermark age wait shards seed hash_start result }
+{
     let hasher = SeededState { word: hash_start };
     let settings = Settings {
         hasher,
@@ -92,7 +100,9 @@ pub fn finish(held: Held) {
 impl Held {
     /// Does what the number asks for, at a moment, of the request or shard of that number: an event, a save or a start, a
     /// question. Returns how it ended, or the number that was asked for.
-    pub fn call(&mut self, op: u64, seconds: u64, nanoseconds: u64, id: u64) -> u64 {
+    pub fn call(&mut self, op: u64, seconds: u64, nanoseconds: u64, id: u64) -> u64
+        ensures { IsCall self.old op seconds nanoseconds id result self.new }
+    {
         match op {
             ..=numbers::PUT => self.take(op, seconds, nanoseconds, id),
             numbers::SAVE => self.save(),

@@ -3,6 +3,7 @@
 
 pub mod held;
 pub mod numbers;
+mod reads;
 pub mod shards;
 pub mod staged;
 #[cfg(test)]

@@ -1,6 +1,9 @@
 //! A tier of one, four or sixteen shards.
-ghost use Rattle.std.specs.Prelude.{◌≡◌, ◌<◌, None, IfSome, IfNone, length, option_map};
-ghost use Rattle.tier_calls.specs.Tiers.{state_of, Steps};
+ghost use Rattle.std.specs.Prelude.{◌≡◌, ◌<◌, ◌⊎◌, [], Some, None, IfSome, IfNone, length, option_map};
+ghost use Rattle.tier_calls.specs.Tiers.{state_of, made_with, Steps, StartsAs};
+ghost use Rattle.tier_model.specs.Histories.{empty_opening};
+ghost use Rattle.tier_model.specs.Past.{HasPast};
+ghost use Rattle.tier_model.specs.State.{State, empty_state};
 ghost use Rattle.tier_model.specs.Reports.{report_of};
 
 use crate::numbers;
@@ -61,7 +64,9 @@ pub enum Shards {
 
 impl Shards {
     /// Makes an empty tier of so many shards.
-    pub fn new(alloc: Global, shards: u64, settings: &Settings) -> Shards {
+    pub fn new(alloc: Global, shards: u64, settings: &Settings) -> Shards
+        ensures { (s : State) → state_of result ≡ Some s → (s ≡ empty_state (made_with shards settings.now)) × HasPast (empty_opening (made_with shards settings.now)) s [] }
+    {
         match shards {
             1 => match made::<1>(alloc, settings) {
                 Some(tier) => Shards::One(tier),
@@ -80,7 +85,9 @@ impl Shards {
     }
 
     /// Whether a tier is there: `READY`, `MEMORY` or `BAD_CALL`.
-    pub fn status(&self) -> u64 {
+    pub fn status(&self) -> u64
+        ensures { (result ≡ 0) ⊎ ((state_of self.now ≡ None) × ((result ≡ 13) ⊎ (result ≡ 16))) }
+    {
         match self {
             Shards::NoMemory => numbers::MEMORY,
             Shards::NoSuchCount => numbers::BAD_CALL,
@@ -124,7 +131,9 @@ impl Shards {
     }
 
     /// Loads the order of use from the files in `DIR`, of a tier that is new.
-    pub fn start(&mut self, folder: &mut MemFolder) -> Option<Result<Loaded, StartFault>> {
+    pub fn start(&mut self, folder: &mut MemFolder) -> Option<Result<Loaded, StartFault>>
+        ensures { (self.new ≡ self.old) ⊎ ((a : State) × (b : State) × (state_of self.old ≡ Some a) × (state_of self.new ≡ Some b) × StartsAs a b) }
+    {
         match self {
             Shards::NoMemory | Shards::NoSuchCount => None,
             Shards::One(tier) => Some(start_one(tier, folder)),
@@ -136,6 +145,7 @@ impl Shards {
 
 fn made<const N: usize>(alloc: Global, settings: &Settings) -> Option<Tier<N, SeededState>>
     requires { 0 < N }
+    ensures { IfSome result (λ tier. (tier ≡ empty_state (made_with N settings.now)) × HasPast (empty_opening (made_with N settings.now)) tier []) }
 {
     let Settings {
         hasher,
@@ -166,7 +176,9 @@ fn save_one<const N: usize>(
 fn start_one<const N: usize>(
     tier: &mut Tier<N, SeededState>,
     folder: &mut MemFolder,
-) -> Result<Loaded, StartFault> {
+) -> Result<Loaded, StartFault>
+    ensures { (tier.new ≡ tier.old) ⊎ StartsAs tier.old tier.new }
+{
     if !tier.is_new() {
         return Err(StartFault::NotNew);
     }

@@ -1,16 +1,27 @@
 //! Events.
+ghost use Rattle.std.specs.Prelude.{◌≡◌, ◌<◌, ◌⊎◌, ℕ};
+ghost use Rattle.std.specs.HashMap.{spare};
+ghost use Rattle.tier_calls.specs.Answered.{plain};
+ghost use Rattle.tier_calls.specs.Called.{moment_at, read_by, read_after, IsTaken, IsRefused};
+
 use super::Held;
-use crate::numbers;
 use crate::told::{plain, told_of};
+use crate::{numbers, reads};
 use cache_tier::Moment;
 use std::alloc::Global;
 use tier_model::event::{Answer, Done, Entries, Event, TierFault};
 
+// The first second that no moment has.
+const END: u64 = 1 << 63;
+
 // The moment of these numbers, if there is one.
-fn moment_at(seconds: u64, nanoseconds: u64) -> Option<Moment> {
-    let seconds = i64::try_from(seconds).ok()?;
-    let nanoseconds = u32::try_from(nanoseconds).ok()?;
-    Moment::new(seconds, nanoseconds)
+fn moment_at(seconds: u64, nanoseconds: u64) -> Option<Moment>
+    ensures { result ≡ moment_at seconds nanoseconds }
+{
+    if seconds >= END || nanoseconds >= 1_000_000_000 {
+        return None;
+    }
+    Moment::new(seconds as i64, nanoseconds as u32)
 }
 
 // The entries that were evicted before a refusal.
@@ -33,44 +44,50 @@ fn evicted_before(alloc: Global, fault: TierFault) -> Entries {
 
 impl Held {
     // Has the tier take an event.
-    pub(super) fn take(&mut self, op: u64, seconds: u64, nanoseconds: u64, id: u64) -> u64 {
+    pub(super) fn take(&mut self, op: u64, seconds: u64, nanoseconds: u64, id: u64) -> u64
+        requires { op < 12 }
+        ensures { IsTaken self.old op seconds nanoseconds id result self.new ⊎ IsRefused self.old seconds nanoseconds result self.new }
+    {
         let Some(moment) = moment_at(seconds, nanoseconds) else {
             return self.refuse(numbers::BAD_CALL);
         };
-        // A read is lent, which must not fail after it.
-        if op == numbers::READ && self.reads.reserve(1).is_err() {
+        // What is read is lent, which must not fail after the read.
+        let Ok(()) = reads::make_room(&mut self.reads) else {
             return self.refuse(numbers::MEMORY);
-        }
+        };
         let action = match self.staged.action(op, id) {
             Ok(action) => action,
             Err(status) => return self.refuse(status),
         };
         match self.tier.step(&mut self.rng, &Event { moment, action }) {
             Some(outcome) => {
-                self.told = told_of(&outcome);
+                let told = told_of(&outcome);
+                self.told = told;
                 self.keep(id, outcome);
-                self.told.status
+                told.status
             }
             None => self.refuse(self.tier.status()),
         }
     }
 
     // Nothing was done, for this reason.
-    pub(super) fn refuse(&mut self, status: u64) -> u64 {
+    pub(super) fn refuse(&mut self, status: u64) -> u64
+        ensures status { result ≡ status }
+        ensures told { self.new ≡ record self.old { told = plain status } }
+    {
         self.told = plain(status);
         status
     }
 
     // Keeps what a request read and which entries went; a request that ended is lent nothing more.
-    fn keep(&mut self, id: u64, outcome: Result<Answer, TierFault>) {
+    fn keep(&mut self, id: u64, outcome: Result<Answer, TierFault>)
+        requires { 0 < spare self.old.reads }
+        ensures reads { (request : ℕ) → read_by self.new request ≡ read_after id outcome self.old request }
+        ensures others { self.new ≡ record self.old { reads = self.new.reads; evicted = self.new.evicted } }
+    {
         match outcome {
-            Ok(Answer::Bytes(bytes)) => {
-                let kept: Result<_, _> = self.reads.insert(id, bytes);
-                let _before = kept.unwrap();
-            }
-            Ok(Answer::Dropped) => {
-                let _last = self.reads.remove(&id);
-            }
+            Ok(Answer::Bytes(bytes)) => reads::put(&mut self.reads, id, bytes),
+            Ok(Answer::Dropped) => reads::remove(&mut self.reads, id),
             Ok(Answer::Finished { length: _, evicted }) => self.evicted = evicted,
             Ok(_) => self.evicted = Entries::new(self.alloc),
             Err(fault) => self.evicted = evicted_before(self.alloc, fault),

@@ -1,4 +1,7 @@
 //! Restarts: the files of the shards are handed over as bytes, and the caller writes them.
+ghost use Rattle.std.specs.Prelude.{◌≡◌, OnErr};
+ghost use Rattle.tier_calls.specs.Called.{IsStarted};
+
 use super::Held;
 use crate::numbers;
 use crate::shards::{DIR, StartFault};
@@ -14,7 +17,9 @@ fn path_of(alloc: Global, shard: u64) -> Result<String, AllocError> {
 
 impl Held {
     // Saves the order of use, so that each shard's file can be shown.
-    pub(super) fn save(&mut self) -> u64 {
+    pub(super) fn save(&mut self) -> u64
+        ensures { self.new ≡ record self.old { folder = self.new.folder; told = self.new.told } }
+    {
         let mut folder = MemFolder::new(self.alloc);
         match self.tier.save(&mut folder) {
             Some(Ok(report)) => {
@@ -32,7 +37,9 @@ impl Held {
     }
 
     // Starts a new tier from the files that were handed in.
-    pub(super) fn start(&mut self) -> u64 {
+    pub(super) fn start(&mut self) -> u64
+        ensures { IsStarted self.old result self.new }
+    {
         match self.tier.start(&mut self.folder) {
             Some(Ok(report)) => {
                 self.told = Told {
@@ -50,13 +57,17 @@ impl Held {
     }
 
     // Keeps the file of a shard.
-    pub(super) fn hand_file(&mut self, shard: u64, bytes: &[u8]) -> Result<(), AllocError> {
+    pub(super) fn hand_file(&mut self, shard: u64, bytes: &[u8]) -> Result<(), AllocError>
+        ensures { self.new ≡ record self.old { folder = self.new.folder } }
+    {
         let path = path_of(self.alloc, shard)?;
         self.folder.put(path.as_str(), bytes)
     }
 
     // Shows the file of a shard.
-    pub(super) fn show_file(&mut self, shard: u64) -> u64 {
+    pub(super) fn show_file(&mut self, shard: u64) -> u64
+        ensures { self.new ≡ record self.old { shown = self.new.shown } }
+    {
         let Ok(path) = path_of(self.alloc, shard) else {
             return numbers::MEMORY;
         };

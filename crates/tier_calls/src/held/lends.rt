@@ -1,6 +1,9 @@
 //! Bytes that are handed in, lent and copied out.
+ghost use Rattle.std.specs.Prelude.{◌≡◌};
+ghost use Rattle.tier_calls.specs.Called.{IsHand, IsLend, IsCopy};
+
 use super::{Held, Lent};
-use crate::numbers;
+use crate::{numbers, reads};
 use bytes::Bytes;
 use cache_words::key::CacheHashKey;
 use std::alloc::AllocError;
@@ -16,7 +19,9 @@ fn status_of(handed: Result<(), AllocError>) -> u64 {
 
 impl Held {
     /// Keeps a copy of bytes, which are what the number says.
-    pub fn hand(&mut self, which: u64, bytes: &[u8]) -> u64 {
+    pub fn hand(&mut self, which: u64, bytes: &[u8]) -> u64
+        ensures { IsHand self.old which bytes.now result self.new }
+    {
         match which {
             numbers::KEY => status_of(self.staged.hand_key(bytes)),
             numbers::TAG => match str::from_utf8(bytes) {
@@ -33,8 +38,10 @@ impl Held {
 
     /// Lends what a request read last: it stays where it is until that request reads bytes again or is dropped. Of no bytes `at` stays as it
     /// was.
-    pub fn lend(&mut self, request: u64, out: &mut Lent) -> u64 {
-        match self.reads.get(&request) {
+    pub fn lend(&mut self, request: u64, out: &mut Lent) -> u64
+        ensures { IsLend self.old request out.old out.new result self.new }
+    {
+        match reads::get(&self.reads, request) {
             Some(bytes) => {
                 let bytes = bytes.as_slice();
                 out.len = bytes.len();
@@ -49,7 +56,9 @@ impl Held {
 
     /// Copies what is shown, from an offset on, as far as there is room. Returns how many bytes there were from there on, also where they
     /// were more than the room.
-    pub fn copy(&mut self, offset: u64, out: &mut [u8]) -> u64 {
+    pub fn copy(&mut self, offset: u64, out: &mut [u8]) -> u64
+        ensures { IsCopy self.old offset out.old out.new result self.new }
+    {
         let shown = self.shown.as_slice();
         let Some(rest) = shown.get(offset as usize..) else {
             return 0;
@@ -60,8 +69,10 @@ impl Held {
     }
 
     // Shows what a request read last.
-    pub(super) fn show_read(&mut self, request: u64) -> u64 {
-        let Some(bytes) = self.reads.get(&request) else {
+    pub(super) fn show_read(&mut self, request: u64) -> u64
+        ensures { self.new ≡ record self.old { shown = self.new.shown } }
+    {
+        let Some(bytes) = reads::get(&self.reads, request) else {
             return numbers::NOTHING_SHOWN;
         };
         let shared: Result<_, _> = bytes.clone();
@@ -75,7 +86,9 @@ impl Held {
     }
 
     // Shows the stored key of an evicted entry.
-    pub(super) fn show_evicted(&mut self, place: u64) -> u64 {
+    pub(super) fn show_evicted(&mut self, place: u64) -> u64
+        ensures { self.new ≡ record self.old { shown = self.new.shown } }
+    {
         let Some(entry) = self.evicted.as_slice().get(place as usize) else {
             return numbers::NOTHING_SHOWN;
         };
