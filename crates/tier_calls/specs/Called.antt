@@ -1,5 +1,5 @@
 -- What the calls of a held tier do.
-use Rattle.std.specs.Prelude.{◌≡◌, ◌⊎◌, ◌≤◌, ◌<◌, ◌==◌, ◌&&◌, ◌^◌, ◌-◌, ◌++◌, ℕ, pos, List, [], length, take, drop, min, nat_lt, nat_eq, cond, if◌then◌else◌, Option, Some, None, option_map, Ok}
+use Rattle.std.specs.Prelude.{◌≡◌, ◌⊎◌, ◌≤◌, ◌<◌, ◌==◌, ◌&&◌, ◌^◌, ◌-◌, ◌++◌, ℕ, pos, Bool, List, [], length, take, drop, min, nat_lt, nat_eq, cond, if◌then◌else◌, Option, Some, None, option_map, Ok}
 use Rattle.std.specs.HashMap.{get}
 use Rattle.rand_core.specs.Stream.{Stream}
 use Rattle.rand_core.specs.Steps.{stream_of, steps_u64_low}
@@ -34,15 +34,23 @@ words_of state = stream_of (steps_u64_low pcg64) state
 abbrev pub read_by : Held → ℕ → Option (List ℕ)
 read_by h id = get nat_eq h.reads id
 
--- what each request read last, after one had this outcome
-abbrev pub read_after : ℕ → Outcome → Held → ℕ → Option (List ℕ)
-read_after id (Ok (Bytes bytes)) old request = cond (nat_eq id request) (Some bytes) (read_by old request)
-read_after id (Ok Dropped) old request = cond (nat_eq id request) None (read_by old request)
-read_after id _ old request = read_by old request
+-- what an outcome says of what its request read last, if anything: these bytes, or that it has ended
+abbrev pub read_in : Outcome → Option (Option (List ℕ))
+read_in (Ok (Bytes bytes)) = Some (Some bytes)
+read_in (Ok Dropped) = Some None
+read_in _ = None
 
--- the tier and its generator are as they were
+abbrev pub read_with : Option (Option (List ℕ)) → Bool → Option (List ℕ) → Option (List ℕ)
+read_with None this before = before
+read_with (Some read) this before = cond this read before
+
+-- what each request read last, after that of this number had this outcome
+abbrev pub read_after : ℕ → Outcome → Held → ℕ → Option (List ℕ)
+read_after id outcome old request = read_with (read_in outcome) (nat_eq id request) (read_by old request)
+
+-- the tier is as it was, and so are the words to come
 abbrev pub IsSameTier : Held → Held → Type 0
-IsSameTier old new = (new.tier ≡ old.tier) × (new.rng ≡ old.rng)
+IsSameTier old new = (new.tier ≡ old.tier) × (words_of new.rng ≡ words_of old.rng)
 
 -- the event of that number was taken, of what was handed in: the answer is its outcome's, and so is all that is told; words are drawn from
 -- the held generator alone

@@ -1,6 +1,8 @@
 //! A tier as a program in C holds it, with what was handed in and what is lent.
-ghost use Rattle.std.specs.Prelude.{◌≡◌};
-ghost use Rattle.tier_calls.specs.Called.{some_of, IsCall, IsMade};
+ghost use Rattle.std.specs.Prelude.{◌≡◌, ℕ, option_map};
+ghost use Rattle.cache_words.specs.Time.{span_of};
+ghost use Rattle.tier_calls.specs.Called.{some_of, settings_for, IsCall, IsMade};
+ghost use Rattle.tier_calls.specs.Tiers.{made_with};
 
 mod asks;
 mod events;
@@ -48,14 +50,37 @@ pub struct Lent {
     pub len: usize,
 }
 
-// The number that all bits mean is none.
-fn some(number: u64) -> Option<u64>
+// The watermark of this number: all bits set are none.
+fn watermark_of(number: u64) -> Option<usize>
     ensures { result ≡ some_of number }
 {
     if number == numbers::NONE {
         return None;
     }
-    Some(number)
+    Some(number as usize)
+}
+
+// The longest wait of this number of seconds: all bits set are none.
+fn wait_of(number: u64) -> Option<Duration>
+    ensures { result ≡ option_map span_of (some_of number) }
+{
+    if number == numbers::NONE {
+        return None;
+    }
+    Some(Duration::from_seconds(number))
+}
+
+// What a tier is made with, by these numbers.
+fn settings_for(limit: u64, watermark: u64, age: u64, wait: u64, hash_start: u64) -> Settings
+    ensures { (n : ℕ) → made_with n result ≡ settings_for limit watermark age wait n }
+{
+    Settings {
+        hasher: SeededState { word: hash_start },
+        limit: limit as usize,
+        watermark: watermark_of(watermark),
+        age: Duration::from_seconds(age),
+        wait: wait_of(wait),
+    }
 }
 
 /// Makes a tier, if there is memory for it and tiers have so many shards: `STATE` tells.
@@ -71,20 +96,13 @@ pub fn make(
 ) -> Held
     ensures { IsMade limit watermark age wait shards seed hash_start result }
 {
-    let hasher = SeededState { word: hash_start };
-    let settings = Settings {
-        hasher,
-        limit: limit as usize,
-        watermark: some(watermark).map(|entries| entries as usize),
-        age: Duration::from_seconds(age),
-        wait: some(wait).map(Duration::from_seconds),
-    };
+    let settings = settings_for(limit, watermark, age, wait, hash_start);
     Held {
         alloc,
         tier: Shards::new(alloc, shards, &settings),
         rng: Pcg64::seed_from_u64(seed),
         staged: Staged::new(alloc),
-        reads: HashMap::with_hasher(alloc, hasher),
+        reads: HashMap::with_hasher(alloc, settings.hasher),
         shown: Bytes::new(),
         folder: MemFolder::new(alloc),
         told: plain(numbers::READY),

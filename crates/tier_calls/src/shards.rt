@@ -86,7 +86,7 @@ impl Shards {
 
     /// Whether a tier is there: `READY`, `MEMORY` or `BAD_CALL`.
     pub fn status(&self) -> u64
-        ensures { (result ≡ 0) ⊎ ((state_of self.now ≡ None) × ((result ≡ 13) ⊎ (result ≡ 16))) }
+        ensures { state_of self.now ≡ None → (result ≡ 13) ⊎ (result ≡ 16) }
     {
         match self {
             Shards::NoMemory => numbers::MEMORY,

@@ -1,5 +1,5 @@
 //! What is handed in before the event that uses it.
-ghost use Rattle.std.specs.Prelude.{◌≡◌, ◌⊎◌, ◌×◌, [], None, Some, IfOk, IfErr, OnOk, OnErr, string_bytes};
+ghost use Rattle.std.specs.Prelude.{◌≡◌, ◌⊎◌, ◌∷◌, [], None, Some, IfOk, IfErr, OnOk, OnErr, string_bytes};
 ghost use Rattle.tier_calls.specs.Events.{key_in, action_for};
 
 use crate::numbers;

@@ -1,8 +1,9 @@
 //! Events.
-ghost use Rattle.std.specs.Prelude.{◌≡◌, ◌<◌, ◌⊎◌, ℕ};
+ghost use Rattle.std.specs.Prelude.{◌≡◌, ◌<◌, ◌⊎◌, ℕ, None};
 ghost use Rattle.std.specs.HashMap.{spare};
 ghost use Rattle.tier_calls.specs.Answered.{plain};
 ghost use Rattle.tier_calls.specs.Called.{moment_at, read_by, read_after, IsTaken, IsRefused};
+ghost use Rattle.tier_calls.specs.Tiers.{state_of};
 
 use super::Held;
 use crate::told::{plain, told_of};
@@ -66,8 +67,17 @@ impl Held {
                 self.keep(id, outcome);
                 told.status
             }
-            None => self.refuse(self.tier.status()),
+            None => self.refuse_without(),
         }
+    }
+
+    // Nothing was done, since no tier is there.
+    pub(super) fn refuse_without(&mut self) -> u64
+        ensures told { self.new ≡ record self.old { told = plain result } }
+        ensures status { state_of self.old.tier ≡ None → (result ≡ 13) ⊎ (result ≡ 16) }
+    {
+        let status = self.tier.status();
+        self.refuse(status)
     }
 
     // Nothing was done, for this reason.

@@ -32,7 +32,7 @@ impl Held {
                 numbers::SAVED
             }
             Some(Err(_)) => self.refuse(numbers::MEMORY),
-            None => self.refuse(self.tier.status()),
+            None => self.refuse_without(),
         }
     }
 
@@ -52,7 +52,7 @@ impl Held {
             }
             Some(Err(StartFault::NotNew)) => self.refuse(numbers::NOT_NEW),
             Some(Err(StartFault::Memory)) => self.refuse(numbers::MEMORY),
-            None => self.refuse(self.tier.status()),
+            None => self.refuse_without(),
         }
     }
 
