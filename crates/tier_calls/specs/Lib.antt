@@ -1,0 +1,4 @@
+pub mod Answered
+pub mod Events
+pub mod Tiers
+pub mod Called
