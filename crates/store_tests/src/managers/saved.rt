@@ -14,7 +14,7 @@ use std::alloc::Global;
 
 /// A call, with what it must return. A key is that of an entry.
 #[derive(Clone, Copy)]
-enum Step {
+pub enum Step {
     /// Uses in order; each entry weighs as much as its key says.
     Use(&'static [u8]),
     /// How many shards are saved, or none by the fault of a file.
@@ -135,7 +135,7 @@ fn list_does<F: Folder>(alloc: Global, folder: &mut F, word: u32, steps: &[Step]
 }
 
 /// A manager of N shards of which all calls came true, with these words for the names of a save; none when out of memory.
-fn sharded<const N: usize, F: Folder>(
+pub fn sharded<const N: usize, F: Folder>(
     alloc: Global,
     folder: &mut F,
     words: &[u32],
@@ -195,85 +195,6 @@ fn rows_before_a_fault_stay(rt: HostRuntime) {
     for &(cut, wanted) in CUTS {
         assert!(rt; is_cut(rt.alloc(), text.as_slice(), cut, wanted));
     }
-}
-
-/// Calls of two shards that are saved, and of others that are loaded from their files, where a temporary file goes.
-const SAVED: &[Step] = &[Step::Use(&[1, 2, 3, 4, 5, 2]), Step::Save(Some(2))];
-
-const LOADED: &[Step] = &[Step::Load([2, 0, 0, 1]), Step::Holds(5)];
-
-/// Whether both have the same text of a shard.
-fn have_same_text(
-    alloc: Global,
-    one: &lru::Manager<2>,
-    other: &lru::Manager<2>,
-    shard: usize,
-) -> bool {
-    if shard >= 2 {
-        return false;
-    }
-    match (
-        one.serialize_shard(alloc, shard),
-        other.serialize_shard(alloc, shard),
-    ) {
-        (Ok(one), Ok(other)) => one == other,
-        _ => false,
-    }
-}
-
-/// Whether shards that are saved and loaded by another manager have the same texts there.
-fn round_trip(alloc: Global) -> Option<bool> {
-    let mut folder = MemFolder::new(alloc);
-    folder.put("dir/lru.data.9.tmp", &[]).ok()?;
-    let old = sharded::<2, MemFolder>(alloc, &mut folder, &[7, 8], SAVED)?;
-    let new = sharded::<2, MemFolder>(alloc, &mut folder, &[7, 8], LOADED)?;
-    Some(have_same_text(alloc, &old, &new, 0) && have_same_text(alloc, &old, &new, 1))
-}
-
-#[test]
-fn shards_are_as_they_were_saved(rt: HostRuntime) {
-    assert!(rt; round_trip(rt.alloc()) == Some(true));
-}
-
-/// A call of a folder that fails while two shards are saved, and how many shards are loaded then, missing and errored, and how many
-/// temporary files went.
-const PARTS: &[(usize, [usize; 4])] = &[
-    (2, [1, 1, 0, 0]),
-    (3, [1, 1, 0, 1]),
-    (5, [1, 1, 0, 1]),
-    (6, [1, 1, 0, 0]),
-    (9, [1, 1, 0, 1]),
-];
-
-const SAVED_IN_PART: &[Step] = &[Step::Use(&[1, 2, 3, 4, 5, 2]), Step::Save(Some(1))];
-
-/// Whether the shard that was saved is loaded as it was, and the other one is empty.
-fn part_is_loaded(alloc: Global, call: usize, wanted: [usize; 4]) -> Option<bool> {
-    let mut folder = TestFolder::fails_once(MemFolder::new(alloc), call);
-    let old = sharded::<2, TestFolder>(alloc, &mut folder, &[7, 8], SAVED_IN_PART)?;
-    let new = sharded::<2, TestFolder>(alloc, &mut folder, &[7, 8], &[Step::Load(wanted)])?;
-    let (saved, other) = if call <= 5 { (1, 0) } else { (0, 1) };
-    Some(have_same_text(alloc, &old, &new, saved) && new.shard_len(other) == 0)
-}
-
-/// Whether of the first shard's file the rows before a fault are loaded, and all of the second's.
-fn faulty_part_is_loaded(alloc: Global) -> Option<bool> {
-    let mut folder = MemFolder::new(alloc);
-    let old = sharded::<2, MemFolder>(alloc, &mut folder, &[7, 8], SAVED)?;
-    let text = old.serialize_shard(alloc, 0).ok()?;
-    let (_last, left) = text.as_slice().split_last()?;
-    folder.put("dir/lru.data.0", left).ok()?;
-    let loads = [Step::Load([1, 0, 1, 0]), Step::Holds(4)];
-    let new = sharded::<2, MemFolder>(alloc, &mut folder, &[7, 8], &loads)?;
-    Some(have_same_text(alloc, &old, &new, 1))
-}
-
-#[test]
-fn a_shard_that_fails_leaves_the_others(rt: HostRuntime) {
-    for &(call, wanted) in PARTS {
-        assert!(rt; part_is_loaded(rt.alloc(), call, wanted) == Some(true));
-    }
-    assert!(rt; faulty_part_is_loaded(rt.alloc()) == Some(true));
 }
 
 /// Calls of a list that is saved, and of one that is loaded from its file.

@@ -95,7 +95,10 @@ fn finds<M: EvictionManager>(
     let borrowed = CacheEntryKeyRef::from(item);
     match step {
         Step::AccessTwice(_, size) => {
-            is_used(use_twice(alloc, manager, borrowed, size, moment), Some(true))
+            is_used(
+                use_twice(alloc, manager, borrowed, size, moment),
+                Some(true),
+            )
         }
         Step::Remove(_) => {
             manager.remove(borrowed);
