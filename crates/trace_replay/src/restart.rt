@@ -35,7 +35,7 @@ use std::io::{Read, Write};
 /// # Errors
 ///
 /// Those of `run`. Nothing is saved where they come before the last line: the directory is as it was before, or as the loading left it,
-/// without temporary files. `Folder` where no shard was saved, and not for want of memory alone: the last line is written all the same.
+/// without temporary files. `Folder` where no shard was saved: the last line is written all the same.
 pub fn run_in<F: Folder, R: Read, W: Write>(
     alloc: Global,
     hasher: SeededState,

@@ -53,8 +53,7 @@ impl<const N: usize, S: BuildHasher> Tier<N, S> {
     ///
     /// # Errors
     ///
-    /// `Folder` where no shard was saved, and not for want of memory alone. `Memory` where there is no memory for the report, and
-    /// then nothing was done, or for the text of any shard.
+    /// `Folder` where no shard was saved. `Memory` where there is no memory for the paths or the report, and then nothing was done.
     pub fn save<F: Folder>(
         &self,
         folder: &mut F,
