@@ -88,10 +88,13 @@ fn a_refused_start_leaves_a_tier_that_starts(rt: HostRuntime) {
     assert!(rt; has_rows && came != Came::Else && came != Came::Short);
 }
 
+// A length of 2^32 - 1 rows, and no row.
+const STATED: &[u8] = b"\xdd\xff\xff\xff\xff";
+
 // Nothing is taken by the length that a file states: it ends too early, whichever allocation fails.
 #[test]
 fn a_refused_start_asks_for_no_stated_length(rt: HostRuntime) {
-    let (came, _) = starts(rt.alloc(), b"\xdd\xff\xff\xff\xff");
+    let (came, _) = starts(rt.alloc(), STATED);
     assert!(rt; matches!(came, Came::Short | Came::Cut | Came::Refused));
 }
 
@@ -124,4 +127,10 @@ fn is_saved(alloc: Global) -> bool {
 #[test]
 fn a_refused_save_leaves_the_file_old_or_whole(rt: HostRuntime) {
     assert!(rt; is_saved(rt.alloc()));
+}
+
+#[test]
+fn ample_memory_meets_no_refusal(rt: HostRuntime) {
+    assert!(rt; starts(rt.alloc(), BA) == (Came::Loaded, true));
+    assert!(rt; starts(rt.alloc(), STATED).0 == Came::Short);
 }

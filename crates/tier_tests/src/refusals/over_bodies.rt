@@ -3,6 +3,7 @@ use super::row_held;
 use crate::asks::Ask;
 use crate::outcomes::Outcome;
 use crate::trials::{Held, Row};
+use std::alloc::Global;
 use tier_model::event::LockGiven;
 
 // The body that is there is kept, and then replaced.
@@ -136,4 +137,19 @@ fn a_refused_begin_over_something_stale_leaves_all(rt: HostRuntime) {
 #[test]
 fn a_finish_that_memory_cuts_short_lists_what_it_evicted(rt: HostRuntime) {
     assert!(rt; row_held(rt.alloc(), FINISH_OVER_EIGHT) != Held::Broken);
+}
+
+const ROWS: &[Row] = &[PUT_OVER, LOOK_STALE, BEGIN_STALE, FINISH_OVER_EIGHT];
+
+fn are_answered(alloc: Global) -> bool {
+    let mut all = true;
+    for &row in ROWS {
+        all = row_held(alloc, row) == Held::Answered && all;
+    }
+    all
+}
+
+#[test]
+fn ample_memory_meets_no_refusal(rt: HostRuntime) {
+    assert!(rt; are_answered(rt.alloc()));
 }

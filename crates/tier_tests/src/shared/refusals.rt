@@ -98,3 +98,9 @@ fn refused_calls_leave_a_history_that_closes(rt: HostRuntime) {
     let day = day::<Brand, HostRuntime>(&rt, rt.alloc(), Blank::new(LEDGER_PARTS));
     assert!(rt; day != Some(false));
 }
+
+#[test]
+fn ample_memory_meets_no_refusal(rt: HostRuntime) {
+    let day = day::<Brand, HostRuntime>(&rt, rt.alloc(), Blank::new(LEDGER_PARTS));
+    assert!(rt; day == Some(true));
+}
