@@ -183,7 +183,8 @@ fn saved<const N: usize>(alloc: Global, words: &[u32], names: &[u8]) -> MemFolde
     }
 }
 
-// What a tier saves that starts from a folder and finds no key there; nothing where it doesn't start as told.
+// What a tier saves that starts from a folder, holds nothing but its order of use, and finds none of these keys; nothing where that
+// isn't so.
 fn goes_on<const N: usize>(
     alloc: Global,
     folder: &mut MemFolder,
@@ -196,7 +197,8 @@ fn goes_on<const N: usize>(
     let empty = MemFolder::new(alloc);
     match Tier::<N>::new(alloc, LIMIT, None, age(), None) {
         Ok(mut tier) => {
-            if starts(&mut tier, folder, removed) && finds_nothing(alloc, &mut tier, names) {
+            let is_started = starts(&mut tier, folder, removed) && tier.has_only_order();
+            if is_started && finds_nothing(alloc, &mut tier, names) {
                 save(&tier, empty, words, Plan::Never).1
             } else {
                 empty
