@@ -7,6 +7,8 @@ use tier_model::event::{Action, Event, Pieces};
 
 const HEAD: &[u8] = b"HTTP/1.1 200 OK\r\nCache-Control: max-age=100\r\n\r\n";
 
+const STALE_HEAD: &[u8] = b"HTTP/1.1 200 OK\r\nCache-Control: no-cache\r\n\r\n";
+
 // What is asked.
 #[derive(Clone, Copy)]
 pub(crate) enum Ask {
@@ -28,6 +30,8 @@ pub(crate) enum Ask {
     PurgeTagged(u8),
     // A body that is fresh for 100 seconds.
     Put(u8, &'static [u8]),
+    // A body that is stale at once.
+    PutStale(u8, &'static [u8]),
 }
 
 fn key(alloc: Global, name: u8) -> Option<CacheKey> {
@@ -40,6 +44,13 @@ fn tagged_key(alloc: Global, name: u8, tag: &str) -> Option<CacheKey> {
         Ok(primary) => Some(CacheKey::new(primary, tag)),
         Err(_) => None,
     }
+}
+
+fn put(alloc: Global, name: u8, head: &'static [u8], body: &'static [u8]) -> Option<Action> {
+    let key = key(alloc, name)?;
+    let pieces = vec![in alloc; Bytes::from_static(head), Bytes::from_static(body)].ok()?;
+    let pieces = Pieces::from_vec(pieces);
+    Some(Action::Put { key, pieces })
 }
 
 fn action(alloc: Global, ask: Ask) -> Option<Action> {
@@ -79,12 +90,8 @@ fn action(alloc: Global, ask: Ask) -> Option<Action> {
         Ask::PurgeTagged(name) => Some(Action::Purge {
             key: tagged_key(alloc, name, "b")?,
         }),
-        Ask::Put(name, body) => {
-            let key = key(alloc, name)?;
-            let pieces = vec![in alloc; Bytes::from_static(HEAD), Bytes::from_static(body)].ok()?;
-            let pieces = Pieces::from_vec(pieces);
-            Some(Action::Put { key, pieces })
-        }
+        Ask::Put(name, body) => put(alloc, name, HEAD, body),
+        Ask::PutStale(name, body) => put(alloc, name, STALE_HEAD, body),
     }
 }
 

@@ -18,6 +18,8 @@ mod runs;
 #[cfg(test)]
 mod shared;
 #[cfg(test)]
+mod stops;
+#[cfg(test)]
 mod traces;
 #[cfg(test)]
 mod trials;

@@ -129,3 +129,34 @@ fn all_hold(alloc: Global) -> bool {
 fn a_tier_starts_from_what_another_saved(rt: HostRuntime) {
     assert!(rt; all_hold(rt.alloc()));
 }
+
+// A file with one row, of the key `a` and the greatest weight.
+const GREATEST: &[u8] =
+    b"\x91\x92\x93\xdc\x00\x10'\xcc\xc3^n\xcc\x93s\xcc\x87\x7f)\xcc\xe5bFNFI~\xc0\xa0\xcf\xff\xff\xff\xff\xff\xff\xff\xff";
+
+// A body that is stored, whose entry then weighs too much to be admitted.
+const TOO_HEAVY: &[(Ask, Outcome)] = &[
+    (Ask::Put(b'b', b"x"), Outcome::TooHeavy(true, false, 0)),
+    (Ask::Open(1, b'b'), Outcome::Opened),
+    (Ask::Look(1), NOT_FOUND),
+];
+
+fn is_refused(alloc: Global, tier: &mut Tier<1>) -> bool {
+    let mut folder = MemFolder::new(alloc);
+    let is_started = folder.put(FILE, GREATEST).is_ok() && starts(tier, &mut folder);
+    let is_told = follow(alloc, tier, TOO_HEAVY, Held::Answered) == Held::Answered;
+    let report = tier.report();
+    is_started && is_told && report.tracked == 1 && report.weight == u64::MAX && report.bodies == 0
+}
+
+fn greatest_is_refused(alloc: Global) -> bool {
+    match Tier::<1>::new(alloc, EVER, None, Duration::from_seconds(1), None) {
+        Ok(mut tier) => is_refused(alloc, &mut tier),
+        Err(_) => false,
+    }
+}
+
+#[test]
+fn a_row_of_the_greatest_weight_leaves_no_room(rt: HostRuntime) {
+    assert!(rt; greatest_is_refused(rt.alloc()));
+}

@@ -2,5 +2,6 @@
 mod asks;
 mod counted;
 mod meeting;
+mod refusals;
 mod started;
 mod threads;

@@ -21,6 +21,9 @@ pub(crate) struct Row {
     // What comes of what is asked after a refusal that did nothing, and after one that took a body back.
     pub(crate) refused: &'static [(Ask, Outcome)],
     pub(crate) taken_back: &'static [(Ask, Outcome)],
+    // After how many evictions memory may run out, and what comes of what is asked then.
+    pub(crate) evicted: usize,
+    pub(crate) cut_short: &'static [(Ask, Outcome)],
 }
 
 // What is done with a tier that is empty.
@@ -52,7 +55,7 @@ pub(crate) enum Held {
     Broken,
 }
 
-fn step(alloc: Global, tier: &mut Tier<1>, ask: Ask) -> Outcome {
+pub(crate) fn step<const N: usize>(alloc: Global, tier: &mut Tier<N>, ask: Ask) -> Outcome {
     let mut rng = Pcg32::new(1, 1);
     match event(alloc, ask) {
         Some(event) => outcome_of(&tier.step(&mut rng, &event)),
@@ -104,6 +107,7 @@ fn call(alloc: Global, tier: &mut Tier<1>, row: &Row) -> Held {
         Outcome::Unasked => return Held::Elsewhere,
         Outcome::Refused if is_same => (row.refused, Held::Refused),
         Outcome::TakenBack if is_same => (row.taken_back, Held::Refused),
+        Outcome::CutShort(evicted) if evicted == row.evicted => (row.cut_short, Held::Refused),
         outcome if outcome == row.want => (row.after, Held::Answered),
         _ => return Held::Broken,
     };
