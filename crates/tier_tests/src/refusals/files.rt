@@ -1,6 +1,8 @@
-//! Starts of a tier that memory is refused: what the tier is then, and that the next one is whole.
+//! Starts and saves of a tier that memory is refused: what the tier and the files are then, and that the next one is whole.
+use crate::asks::Ask;
 use crate::stops::{LIMIT, Plan, Told, age, save};
-use crate::traces::restarts::{B, BA, FILE, NONE};
+use crate::traces::restarts::{B, BA, CBA, FILE, NONE};
+use crate::trials::is_ready;
 use cache_evict::LoadFault;
 use cache_tier::tier::Tier;
 use cache_words::pack::PackFault;
@@ -94,6 +96,38 @@ const STATED: &[u8] = b"\xdd\xff\xff\xff\xff";
 fn a_refused_start_asks_for_no_stated_length(rt: HostRuntime) {
     let (came, _) = starts(rt.alloc(), STATED);
     assert!(rt; matches!(came, Came::Short | Came::Cut | Came::Refused));
+}
+
+// Whether the file is old or whole after a save that may be refused, and whole after the next, under another word: no save writes over
+// a temporary file.
+fn saves(tier: &Tier<1>, folder: MemFolder) -> bool {
+    let (told, folder) = save(tier, folder, &[7], Plan::Never);
+    let is_old = told != Told::Report(1, 0) && folder.bytes(FILE) == Some(BA);
+    let is_left = is_old || folder.bytes(FILE) == Some(CBA);
+    let (_, folder) = save(tier, folder, &[8], Plan::Never);
+    is_left && folder.bytes(FILE) == Some(CBA)
+}
+
+const THREE: &[Ask] = &[
+    Ask::Put(b'a', b"x"),
+    Ask::Put(b'b', b"x"),
+    Ask::Put(b'c', b"x"),
+];
+
+fn is_saved(alloc: Global) -> bool {
+    let mut folder = MemFolder::new(alloc);
+    if folder.put(FILE, BA).is_err() {
+        return true;
+    }
+    match Tier::<1>::new(alloc, LIMIT, None, age(), None) {
+        Ok(mut tier) => !is_ready(alloc, &mut tier, THREE) || saves(&tier, folder),
+        Err(_) => true,
+    }
+}
+
+#[test]
+fn a_refused_save_leaves_the_file_old_or_whole(rt: HostRuntime) {
+    assert!(rt; is_saved(rt.alloc()));
 }
 
 #[test]
