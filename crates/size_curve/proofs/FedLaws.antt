@@ -95,7 +95,7 @@ pub asked-at : (e : CacheEntryKey) (w : ℕ) (cells : List Cell) → IsNumber e 
     → asked (number_in e) w (places_of 0 cells) ≡ places_of 0 (taken e w ∷ cells_filled w (emptied e cells))
 asked-at e w cells n h =
     ap (λ (l : List Place). record { holes = 0; entry = number_in e; weight = w } ∷ l)
-       (ap (filled w) (removed-at e cells n h) ∙ sym (places-filled w (emptied e cells)))
+    (ap (filled w) (removed-at e cells n h) ∙ sym (places-filled w (emptied e cells)))
 
 pub numbers-steps : (n : ℕ) (requests : List Request) → AreNumbered n requests → StepsHaveNumbers (steps_of requests)
 numbers-steps n [] a = tt
@@ -115,6 +115,7 @@ not-among n (asks e w ∷ requests) a = rw (other, not-among n requests a.1) ref
     by_test : (t : Bool) → eqb (number_in e) n ≡ t → t ≡ false
     by_test true i = absurd (omega (arith, a.0.1, eqb-true (number_in e) n i))
     by_test false i = refl
+
     other : same_entry e (numbered n) ≡ false
     other = ap (λ (x : CacheEntryKey). same_entry x (numbered n)) a.0.0 ∙ same-numbered (number_in e) n ∙ by_test (eqb (number_in e) n) refl
 

@@ -87,8 +87,12 @@ weighs ws ws' entry w le old new = by_test (ltb entry (length ws)) refl
         let e = new q in
         let n = ap (λ (l : List ℕ). length l) e in
         let p = length_push ws w in
-        record { below = omega (arith, q, n, p); longer = omega (arith, n, p); before = λ weight a. agrees-before weight ws w (subst (Agrees weight) e a);
-                 after = λ weight a f. subst (Agrees weight) (sym e) (agrees-push weight ws w a (ap (λ (k : ℕ). weight (numbered k)) (sym q) ∙ f q)) }
+        record {
+          below = omega (arith, q, n, p);
+          longer = omega (arith, n, p);
+          before = λ weight a. agrees-before weight ws w (subst (Agrees weight) e a);
+          after = λ weight a f. subst (Agrees weight) (sym e) (agrees-push weight ws w a (ap (λ (k : ℕ). weight (numbered k)) (sym q) ∙ f q));
+        }
 
 asked-shows : (c c' : SizeCurve) (entry w own : ℕ) (requests : List Request) (n : ℕ) (weight : CacheEntryKey → ℕ) → Asked c c' entry w own → AreNumbered n requests
     → own ≡ weight (numbered entry) → Shows weight c requests → Shows weight c' (asks (numbered entry) w ∷ requests)
@@ -99,23 +103,23 @@ asked-shows c c' entry w own requests n weight k numbers o s =
     let hc = numbers-cells weight steps hs in
     let tall : height entry c.by_weight ≡ option_map (λ most. most.0) (peak weight e steps) = ap (height entry) s.places ∙ height-at e (cells_of weight steps) refl hc ∙ high-peak weight e steps in
     let table : c'.table ≡ rows_after (option_map (λ most. most.0) (peak weight e steps)) (is_past_mark c.watermark entry) (weight e) c.table
-            = k.table ∙ ap₂ (λ (h : Option ℕ) (m : ℕ). rows_after h (is_past_mark c.watermark entry) m c.table) tall o in
+    = k.table ∙ ap₂ (λ (h : Option ℕ) (m : ℕ). rows_after h (is_past_mark c.watermark entry) m c.table) tall o in
     let rows = rows-asked weight (mark_of c.watermark) e steps c.table (peak weight e steps) (is_past_mark c.watermark entry) refl
-                 (past-at c.watermark weight e steps (peak weight e steps) refl hs s.marked refl) s.rows in
+    (past-at c.watermark weight e steps (peak weight e steps) refl hs s.marked refl) s.rows in
     let mark = mark-same c.watermark c'.watermark (λ m. asked entry 1 m.heights) k.none k.some in
     let t = s.totals in
     record {
       places = k.places ∙ ap₂ (asked entry) o s.places ∙ asked-at e (weight e) (cells_of weight steps) refl hc;
       marked = marked-next c.watermark c'.watermark (asked entry 1) (places_of 0 (cells_of one_each steps)) (places_of 0 (cells_of one_each (plain.asks e ∷ steps)))
-                 (asked-at e 1 (cells_of one_each steps) refl (numbers-cells one_each steps hs)) k.none k.some s.marked;
+          (asked-at e 1 (cells_of one_each steps) refl (numbers-cells one_each steps hs)) k.none k.some s.marked;
       rows = subst (λ (m : Option ℕ). AreFound weight m (plain.asks e ∷ steps) c'.table) (sym mark)
-               (subst (AreFound weight (mark_of c.watermark) (plain.asks e ∷ steps)) (sym table) rows);
+          (subst (AreFound weight (mark_of c.watermark) (plain.asks e ∷ steps)) (sym table) rows);
       totals = record {
         asked = k.asks_are ∙ ap (λ (m : ℕ). 1 + m) t.asked;
         removed = k.removed_are ∙ t.removed;
         odd = k.odd_are ∙ ap₂ (λ (m p : ℕ). cond (eqb w m) 0 1 + p) o t.odd;
-        bytes = k.bytes_are ∙ ap₂ (λ (m p : ℕ). m + p) o t.bytes
-      }
+        bytes = k.bytes_are ∙ ap₂ (λ (m p : ℕ). m + p) o t.bytes;
+      };
     }
 
 pub asked-fed : (c c' : SizeCurve) (entry w own : ℕ) → Asked c c' entry w own → (requests : List Request) → IsFed c requests → IsFed c' (asks (numbered entry) w ∷ requests)
@@ -124,7 +128,7 @@ asked-fed c c' entry w own k requests f =
     record {
       numbers = ((refl, v.below), numbers-more (length c.weights.items) (length c'.weights.items) requests v.longer f.numbers);
       first = λ weight a. v.after weight (f.first weight a.1) (λ q. a.0 (ap (λ (n : ℕ). is_among (numbered n) requests) q ∙ not-among (length c.weights.items) requests f.numbers));
-      shown = λ weight a. asked-shows c c' entry w own requests (length c.weights.items) weight k f.numbers (k.own_is ∙ sym (a entry v.below)) (f.shown weight (v.before weight a))
+      shown = λ weight a. asked-shows c c' entry w own requests (length c.weights.items) weight k f.numbers (k.own_is ∙ sym (a entry v.below)) (f.shown weight (v.before weight a));
     }
 
 -- ---- a removal
@@ -153,15 +157,15 @@ removed-shows c c' entry requests n weight k numbers s =
     record {
       places = k.places ∙ ap (removed entry) s.places ∙ removed-at e (cells_of weight steps) refl hc;
       marked = marked-next c.watermark c'.watermark (removed entry) (places_of 0 (cells_of one_each steps)) (places_of 0 (cells_of one_each (plain.removes e ∷ steps)))
-                 (removed-at e (cells_of one_each steps) refl (numbers-cells one_each steps hs)) k.none k.some s.marked;
+          (removed-at e (cells_of one_each steps) refl (numbers-cells one_each steps hs)) k.none k.some s.marked;
       rows = subst (λ (m : Option ℕ). AreFound weight m (plain.removes e ∷ steps) c'.table) (sym mark)
-               (subst (AreFound weight (mark_of c.watermark) (plain.removes e ∷ steps)) (sym k.table) (removed-rows weight (mark_of c.watermark) e steps c.table s.rows));
+          (subst (AreFound weight (mark_of c.watermark) (plain.removes e ∷ steps)) (sym k.table) (removed-rows weight (mark_of c.watermark) e steps c.table s.rows));
       totals = record {
         asked = k.asks_are ∙ t.asked;
         removed = k.removed_are ∙ ap (λ (m : ℕ). 1 + m) t.removed;
         odd = k.odd_are ∙ t.odd;
-        bytes = k.bytes_are ∙ t.bytes
-      }
+        bytes = k.bytes_are ∙ t.bytes;
+      };
     }
   where
     removed-rows : (weight : CacheEntryKey → ℕ) (mark : Option ℕ) (e : CacheEntryKey) (before : List Step) (rows : List Row)
@@ -174,5 +178,5 @@ removed-fed c c' entry k requests f =
     record {
       numbers = ((refl, omega (arith, n, k.within)), numbers-more (length c.weights.items) (length c'.weights.items) requests (omega (arith, n)) f.numbers);
       first = λ weight a. subst (Agrees weight) (sym k.weights) (f.first weight a);
-      shown = λ weight a. removed-shows c c' entry requests (length c.weights.items) weight k f.numbers (f.shown weight (subst (Agrees weight) k.weights a))
+      shown = λ weight a. removed-shows c c' entry requests (length c.weights.items) weight k f.numbers (f.shown weight (subst (Agrees weight) k.weights a));
     }

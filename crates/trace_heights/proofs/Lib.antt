@@ -1,1 +1,3 @@
-pub mod PlaceLaws
+pub mod SlotLaws
+pub mod KeptLaws
+pub mod BuiltLaws

@@ -1,8 +1,10 @@
 //! Places of entries.
-ghost use Rattle.std.specs.Prelude.{◌≡◌, ◌+◌, ◌<◌, ◌≤◌, ◌^◌, [], OnOk, OnErr, IfOk};
-ghost use Rattle.trace_heights.specs.Places.{height, asked, removed, filled, all_sizes};
+ghost use Rattle.std.specs.Prelude.{◌≡◌, [], OnOk, OnErr};
+ghost use Rattle.trace_heights.specs.Places.{height, asked, removed};
 
-use crate::place::Place;
+use crate::renumber::{Renumbered, number_anew};
+use crate::slots::{NOBODY, enter, fill, grow, leave, slot_of};
+use block_sums::BlockSums;
 use std::alloc::{AllocError, AllocFailed, Global};
 use std::marker::Model;
 
@@ -30,20 +32,28 @@ impl<T: Drop> From<AllocFailed<T>> for HeightFault {
 /// Entries in the order of use, with the holes between them. A clause sees their places.
 #[derive(Drop)]
 pub struct TraceHeights {
-    places: Vec<Place>,
-    total: u64,
+    // By slot, who stands there; nobody in a hole, and in a free slot.
+    owners: Vec<u32>,
+    // By slot, what the entry or the hole weighs.
+    sums: BlockSums,
+    // By slot, what the hole weighs.
+    gaps: BlockSums,
+    // By entry, its slot.
+    slots: Vec<u32>,
+    // The slots before this one are free.
+    next: usize,
 }
 
 impl Model for TraceHeights {
-    ghost use Rattle.std.specs.Prelude.{List, ◌≤◌, ◌<◌, ◌^◌};
+    ghost use Rattle.std.specs.Prelude.{List};
     ghost use Rattle.trace_heights.specs.declared.place.Place.{Place};
-    ghost use Rattle.trace_heights.specs.Places.{all_sizes};
+    ghost use Rattle.trace_heights.specs.Slots.{places_in, IsKept};
 
     ghost Value = { List Place };
 
-    ghost view = { λ h. h.places.items };
+    ghost view = { λ h. places_in 0 h.owners.items h.sums };
 
-    ghost invariant = { λ h. (all_sizes h.places.items ≤ h.total) × (h.total < 2 ^ 64) };
+    ghost invariant = { λ h. IsKept h.owners.items h.sums h.gaps h.slots.items h.next };
 }
 
 impl TraceHeights {
@@ -52,8 +62,11 @@ impl TraceHeights {
         ensures { result ≡ [] }
     {
         TraceHeights {
-            places: Vec::new(alloc),
-            total: 0,
+            owners: Vec::new(alloc),
+            sums: BlockSums::new(alloc),
+            gaps: BlockSums::new(alloc),
+            slots: Vec::new(alloc),
+            next: 0,
         }
     }
 
@@ -61,85 +74,124 @@ impl TraceHeights {
     pub fn height(&self, entry: u32) -> Option<u64>
         ensures { result ≡ height entry self.now }
     {
-        let mut more = 0;
-        for place in &self.places {
-            more += place.holes + place.weight;
-            if place.entry == entry {
-                return Some(more);
-            }
+        match slot_of(self.slots.as_slice(), entry) {
+            None => None,
+            Some(slot) => Some(self.sums.through(slot)),
         }
-        None
     }
 
-    /// Puts an entry first that is asked for.
+    /// Puts an entry first that is asked for. On average over many asks it takes one step for each level of the sums.
+    ///
+    /// # Errors
+    ///
+    /// `Memory` also where there are 2^32 - 1 slots or entries.
     pub fn ask(&mut self, alloc: Global, entry: u32, weight: u64) -> Result<(), HeightFault>
         ensures ok { OnOk result (self.new ≡ asked entry weight self.old) }
         ensures err { OnErr result (self.new ≡ self.old) }
     {
-        if self.total.checked_add(weight).is_none() {
-            return Err(HeightFault::TooHeavy);
-        }
-        let mut places = without(alloc, self.places.as_slice(), entry)?;
-        places.reserve(1)?;
-        let left = fill(places.as_mut_slice(), weight);
-        places.insert(
-            0,
-            Place {
-                holes: 0,
-                entry,
-                weight,
-            },
-        )?;
-        self.places = places;
-        self.total += left;
-        Ok(())
+        self.make_room(alloc)?;
+        self.grow(entry)?;
+        self.put_first(entry, weight)
     }
 
     /// Removes an entry.
-    pub fn remove(&mut self, alloc: Global, entry: u32) -> Result<(), HeightFault>
+    pub fn remove(&mut self, _alloc: Global, entry: u32) -> Result<(), HeightFault>
         ensures ok { OnOk result (self.new ≡ removed entry self.old) }
         ensures err { OnErr result (self.new ≡ self.old) }
     {
-        self.places = without(alloc, self.places.as_slice(), entry)?;
+        leave(
+            &mut self.owners,
+            &self.sums,
+            &mut self.gaps,
+            &mut self.slots,
+            self.next,
+            entry,
+        );
         Ok(())
     }
-}
 
-// The places once an entry has left.
-fn without(alloc: Global, places: &[Place], entry: u32) -> Result<Vec<Place>, AllocError>
-    requires { all_sizes places.now < 2 ^ 64 }
-    ensures places { IfOk result (λ made. made.items ≡ removed entry places.now) }
-    ensures sizes { IfOk result (λ made. all_sizes made.items ≤ all_sizes places.now) }
-{
-    let mut made = Vec::with_capacity(alloc, places.len())?;
-    let mut before = 0;
-    for place in places {
-        if place.entry == entry {
-            before += place.holes + place.weight;
-        } else {
-            made.push(Place {
-                holes: before + place.holes,
-                entry: place.entry,
-                weight: place.weight,
-            })?;
-            before = 0;
+    // Sees to it that a slot is free.
+    fn make_room(&mut self, alloc: Global) -> Result<(), HeightFault>
+        ensures { self.new ≡ self.old }
+    {
+        if self.next > 0 {
+            return Ok(());
         }
+        self.renumber(alloc)
     }
-    Ok(made)
-}
 
-// Takes a weight from the holes, and returns what is left of it.
-fn fill(places: &mut [Place], weight: u64) -> u64
-    requires { all_sizes places.old < 2 ^ 64 }
-    ensures places { places.new ≡ filled weight places.old }
-    ensures sizes { all_sizes places.new + weight ≡ all_sizes places.old + result }
-    ensures part { result ≤ weight }
-{
-    let mut left = weight;
-    for i in 0..places.len() {
-        let taken = places[i].holes.min(left);
-        places[i].holes -= taken;
-        left -= taken;
+    // Numbers the slots anew.
+    fn renumber(&mut self, alloc: Global) -> Result<(), HeightFault>
+        ensures { self.new ≡ self.old }
+    {
+        let made = number_anew(
+            alloc,
+            self.owners.as_slice(),
+            &self.sums,
+            self.slots.as_slice(),
+        )?;
+        let Renumbered {
+            owners,
+            cells,
+            gaps,
+            slots,
+            free,
+        } = made;
+        self.owners = owners;
+        self.sums = BlockSums::of(cells);
+        self.gaps = BlockSums::of(gaps);
+        self.slots = slots;
+        self.next = free;
+        Ok(())
     }
-    left
+
+    // Sees to it that an entry can have a slot.
+    fn grow(&mut self, entry: u32) -> Result<(), HeightFault>
+        ensures { self.new ≡ self.old }
+    {
+        if entry == NOBODY {
+            return Err(HeightFault::Memory);
+        }
+        grow(&mut self.slots, entry)?;
+        Ok(())
+    }
+
+    // Puts an entry first, where a slot is free.
+    fn put_first(&mut self, entry: u32, weight: u64) -> Result<(), HeightFault>
+        ensures ok { OnOk result (self.new ≡ asked entry weight self.old) }
+        ensures err { OnErr result (self.new ≡ self.old) }
+    {
+        if self.next == 0 || entry as usize >= self.slots.len() {
+            return Err(HeightFault::Memory);
+        }
+        if self.sums.total().checked_add(weight).is_none() {
+            return Err(HeightFault::TooHeavy);
+        }
+        leave(
+            &mut self.owners,
+            &self.sums,
+            &mut self.gaps,
+            &mut self.slots,
+            self.next,
+            entry,
+        );
+        fill(
+            self.owners.as_slice(),
+            &mut self.sums,
+            &mut self.gaps,
+            self.slots.as_slice(),
+            self.next,
+            weight,
+        );
+        enter(
+            &mut self.owners,
+            &mut self.sums,
+            &mut self.slots,
+            self.next,
+            entry,
+            weight,
+        );
+        self.next -= 1;
+        Ok(())
+    }
 }

@@ -3,9 +3,14 @@
 //! Entries stand in the order of use. One that leaves its place, by a removal or because it is asked for again, leaves a hole of
 //! its weight there, and an ask takes its weight from the holes, the latest first. The height of an entry, what it and all in front
 //! of it weigh, holes too, is the least limit that holds it (see `load_heights`).
+//!
+//! Entries and holes stand at slots, over which there are sums: the latest slot is the first, and each ask takes the one before. Where
+//! none is free the slots are numbered anew, so memory goes with the entries.
 #![tactic(auto)]
 
 mod heights;
 pub mod place;
+mod renumber;
+mod slots;
 
 pub use heights::{HeightFault, TraceHeights};

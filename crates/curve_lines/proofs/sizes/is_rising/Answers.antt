@@ -13,4 +13,4 @@ pub returns : goal.returns
 returns c = λ t.
     let xs = c.args.limits.now in
     at-true c.is_sorted.result (IsNonDecreasing xs) ((k : ℕ) × (k + 1 < length xs) × ((d : ℕ) → get_or xs (k + 1) d < get_or xs k d))
-      (non_decreasing_from_is_sorted xs c.is_sorted.result c.is_sorted.ensures.cases) t
+    (non_decreasing_from_is_sorted xs c.is_sorted.result c.is_sorted.ensures.cases) t

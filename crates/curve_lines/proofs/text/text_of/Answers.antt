@@ -20,8 +20,8 @@ unfolding curve_text
 returns c =
     let t = c.args.totals in
     joined c.new-text.result.items c.add.new.text.items c.add_rows.new.text.items c.add-2.new.text.items c.add-3.new.text.items c.add-4.new.text.items
-      head_text (rows_text t.asks t.bytes c.args.rows.now) (requests_text t c.args.entries) (lines_text t c.args.wrong) (kind_text t.odd)
-      c.new-text.ensures.items c.in_ok-add.ensures c.in_ok-add_rows.ensures
-      (onto c.add-2.new.text.items c.add_rows.new.text.items c.as_str.result.now (requests_text t c.args.entries) c.in_ok-add-2.ensures (c.as_str.ensures.value ∙ c.in_ok-requests_line.ensures))
-      (onto c.add-3.new.text.items c.add-2.new.text.items c.as_str-2.result.now (lines_text t c.args.wrong) c.in_ok-add-3.ensures (c.as_str-2.ensures.value ∙ c.in_ok-lines_line.ensures))
-      (onto c.add-4.new.text.items c.add-3.new.text.items c.as_str-3.result.now (kind_text t.odd) c.in_ok-add-4.ensures (c.as_str-3.ensures.value ∙ c.in_ok-kind_line.ensures))
+    head_text (rows_text t.asks t.bytes c.args.rows.now) (requests_text t c.args.entries) (lines_text t c.args.wrong) (kind_text t.odd)
+    c.new-text.ensures.items c.in_ok-add.ensures c.in_ok-add_rows.ensures
+    (onto c.add-2.new.text.items c.add_rows.new.text.items c.as_str.result.now (requests_text t c.args.entries) c.in_ok-add-2.ensures (c.as_str.ensures.value ∙ c.in_ok-requests_line.ensures))
+    (onto c.add-3.new.text.items c.add-2.new.text.items c.as_str-2.result.now (lines_text t c.args.wrong) c.in_ok-add-3.ensures (c.as_str-2.ensures.value ∙ c.in_ok-lines_line.ensures))
+    (onto c.add-4.new.text.items c.add-3.new.text.items c.as_str-3.result.now (kind_text t.odd) c.in_ok-add-4.ensures (c.as_str-3.ensures.value ∙ c.in_ok-kind_line.ensures))

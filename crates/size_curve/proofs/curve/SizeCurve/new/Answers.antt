@@ -14,12 +14,12 @@ nothing weight mark (l ∷ limits) = ((refl, refl), nothing weight mark limits)
 
 pub returns-clause-fed : goal.returns-clause-fed
 returns-clause-fed c = record {
-    numbers = tt;
-    first = λ weight a n l. absurd (omega (arith, l, ap (λ (xs : List ℕ). length xs) c.new-3.ensures.items));
-    shown = λ weight a. record {
-      places = c.new-2.ensures;
-      marked = c.marked.ensures.none;
-      rows = subst (AreFound weight (mark_of c.marked.result) []) (sym c.in_ok-new.ensures) (nothing weight (mark_of c.marked.result) c.args.limits.now);
-      totals = record { asked = refl; removed = refl; odd = refl; bytes = refl }
-    }
-  }
+  numbers = tt;
+  first = λ weight a n l. absurd (omega (arith, l, ap (λ (xs : List ℕ). length xs) c.new-3.ensures.items));
+  shown = λ weight a. record {
+    places = c.new-2.ensures;
+    marked = c.marked.ensures.none;
+    rows = subst (AreFound weight (mark_of c.marked.result) []) (sym c.in_ok-new.ensures) (nothing weight (mark_of c.marked.result) c.args.limits.now);
+    totals = record { asked = refl; removed = refl; odd = refl; bytes = refl };
+  };
+}

@@ -1,0 +1,6 @@
+//! Numbers with sums over them.
+#![tactic(auto)]
+
+mod sums;
+
+pub use sums::BlockSums;
