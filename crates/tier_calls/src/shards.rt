@@ -7,12 +7,14 @@ ghost use Rattle.tier_model.specs.State.{State, empty_state};
 ghost use Rattle.tier_model.specs.Reports.{report_of};
 
 use crate::numbers;
+use cache_heads::CacheMeta;
 use cache_tier::tier::Tier;
+use cache_words::key::CacheKey;
 use cache_words::time::Duration;
 use lru_core::SeededState;
 use lru_files::persistence::MemFolder;
 use rand_core::Rng;
-use std::alloc::Global;
+use std::alloc::{AllocError, Global};
 use tier_model::event::{Answer, Event, TierFault};
 use tier_model::report::Report;
 
@@ -117,6 +119,16 @@ impl Shards {
             Shards::One(tier) => Some(tier.report()),
             Shards::Four(tier) => Some(tier.report()),
             Shards::Sixteen(tier) => Some(tier.report()),
+        }
+    }
+
+    /// Returns the meta of what a look-up of a key shows now.
+    pub fn shown_meta(&mut self, key: &CacheKey) -> Option<Result<Option<CacheMeta>, AllocError>> {
+        match self {
+            Shards::NoMemory | Shards::NoSuchCount => None,
+            Shards::One(tier) => Some(tier.shown_meta(key)),
+            Shards::Four(tier) => Some(tier.shown_meta(key)),
+            Shards::Sixteen(tier) => Some(tier.shown_meta(key)),
         }
     }
 
