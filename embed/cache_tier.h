@@ -90,12 +90,9 @@ uint64_t cache_tier_copy(cache_tier *, uint64_t offset, uint8_t *out, size_t roo
 /* Lends what a request read last, until it reads bytes again or is dropped: SHOWN or NOTHING_SHOWN. Of no bytes `at` stays as it was. */
 uint64_t cache_tier_lend(cache_tier *, uint64_t id, cache_tier_lent *out);
 
-/* Lends a line of the head that was shown last, until the next head is shown: SHOWN or NOTHING_SHOWN. Of no bytes `value` stays as it was. */
+/* Lends a line of the head that was shown last, until the next head is shown: SHOWN or NOTHING_SHOWN. Of no bytes `at` stays as it was. */
 typedef struct {
-    const uint8_t *name;
-    size_t name_len;
-    const uint8_t *value;
-    size_t value_len;
+    cache_tier_lent name, value;
 } cache_tier_line;
 uint64_t cache_tier_head_line(cache_tier *, uint64_t place, cache_tier_line *out);
 

@@ -39,11 +39,11 @@ static void day(void) {
         is(cache_tier_finish(tier, 1001, 0, 1), CACHE_TIER_FINISHED, "finish");
     }
     if (is(cache_tier_head(tier, "/a", 2), CACHE_TIER_SHOWN, "head")) {
-        cache_tier_line line = {NULL, 0, NULL, 0};
+        cache_tier_line line = {{NULL, 0}, {NULL, 0}};
         is(cache_tier_number(tier), 200, "status"), is(cache_tier_second(tier), 2, "lines"), is(cache_tier_fresh_until(tier), 1060, "fresh until");
         is(cache_tier_created(tier), 1000, "created"), is(cache_tier_stale_if_error(tier), 5, "stale if error");
         is(cache_tier_head_line(tier, 1, &line), CACHE_TIER_SHOWN, "line");
-        if (line.name_len != 3 || memcmp(line.name, "x-a", 3) || line.value_len != 1 || *line.value != '1') wrong++, fprintf(stderr, "a wrong line\n");
+        if (line.name.len != 3 || memcmp(line.name.at, "x-a", 3) || line.value.len != 1 || *line.value.at != '1') wrong++, fprintf(stderr, "a wrong line\n");
         is(cache_tier_head_line(tier, 2, &line), CACHE_TIER_NOTHING_SHOWN, "no line");
     }
     int late_found = is(cache_tier_open(tier, 1002, 0, 3, "/a", 2, 0), CACHE_TIER_OPENED, "open") && is(cache_tier_look_up(tier, 1002, 0, 3), CACHE_TIER_FOUND, "look up") &&

@@ -57,7 +57,7 @@ static int shown_head(cache_tier *tier, const text *key, text *head) {
     if (cache_tier_head(tier, key->at, key->len) != CACHE_TIER_SHOWN) return 0;
     add(head, status, sprintf(status, "HTTP/1.1 %d OK\r\n", (int)cache_tier_number(tier)));
     for (uint64_t i = 0; cache_tier_head_line(tier, i, &l) == CACHE_TIER_SHOWN; i++)
-        add_line(head, (const char *)l.name, l.name_len, l.value_len ? (const char *)l.value : "", l.value_len);
+        add_line(head, (const char *)l.name.at, l.name.len, l.value.len ? (const char *)l.value.at : "", l.value.len);
     return 1;
 }
 /* Adds a field of a request to a list, but for those that are not handed on. */

@@ -58,10 +58,8 @@ pub struct Lent {
 #[repr(C)]
 #[derive(Drop)]
 pub struct HeadLine {
-    pub name_at: *const u8,
-    pub name_len: usize,
-    pub value_at: *const u8,
-    pub value_len: usize,
+    pub name: Lent,
+    pub value: Lent,
 }
 
 // The watermark of this number: all bits set are none.

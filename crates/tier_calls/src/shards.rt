@@ -1,5 +1,7 @@
 //! A tier of one, four or sixteen shards.
-ghost use Rattle.std.specs.Prelude.{◌≡◌, ◌<◌, ◌⊎◌, [], Some, None, IfSome, IfNone, length, option_map};
+ghost use Rattle.std.specs.Prelude.{◌≡◌, ◌<◌, ◌⊎◌, [], Some, None, IfOk, IfSome, IfNone, length, option_map};
+ghost use Rattle.cache_tier.specs.Shown.{meta_shown};
+ghost use Rattle.tier_requests.specs.Shelves.{own_meta};
 ghost use Rattle.tier_calls.specs.Tiers.{state_of, made_with, Steps, StartsAs};
 ghost use Rattle.tier_model.specs.Histories.{empty_opening};
 ghost use Rattle.tier_model.specs.Past.{HasPast};
@@ -123,7 +125,11 @@ impl Shards {
     }
 
     /// Returns the meta of what a look-up of a key shows now.
-    pub fn shown_meta(&mut self, key: &CacheKey) -> Option<Result<Option<CacheMeta>, AllocError>> {
+    pub fn shown_meta(&mut self, key: &CacheKey) -> Option<Result<Option<CacheMeta>, AllocError>>
+        ensures none { IfNone result (state_of self.old ≡ None) }
+        ensures meta { IfSome result (λ came. IfOk came (λ found. (s : State) → state_of self.old ≡ Some s → option_map own_meta found ≡ meta_shown s key.now)) }
+        ensures same { self.new ≡ self.old }
+    {
         match self {
             Shards::NoMemory | Shards::NoSuchCount => None,
             Shards::One(tier) => Some(tier.shown_meta(key)),

@@ -1,9 +1,16 @@
 //! The head of what is found.
+ghost use Rattle.std.specs.Prelude.{◌≡◌, option_map, slice_get};
+ghost use Rattle.http_header.specs.HeaderMap.{pairs};
+ghost use Rattle.tier_calls.specs.Heads.{IsHead, IsLine};
+ghost use Rattle.tier_calls.specs.Called.{IsSameTier};
+
+use super::lends::lend_out;
 use super::{HeadLine, Held};
 use crate::numbers;
 use crate::told::{Told, plain};
 use cache_heads::CacheMeta;
 use cache_words::time::Moment;
+use http_header::{HeaderMap, HeaderName, HeaderValue};
 
 // The seconds of a moment; 0 before 1970.
 fn seconds_of(moment: Moment) -> u64 {
@@ -23,9 +30,19 @@ fn of_head(meta: &CacheMeta, op: u64) -> u64 {
     }
 }
 
+// The line of a head that stands in that place.
+fn line_at(headers: &HeaderMap, place: usize) -> Option<(&HeaderName, &HeaderValue)>
+    ensures { option_map (λ l. (l.0.now, l.1.now)) result ≡ slice_get (pairs headers.now) place }
+{
+    headers.iter().nth(place)
+}
+
 impl Held {
     // Shows the head of what a look-up of the staged key shows now, which is kept until the next head is shown.
-    pub(super) fn show_head(&mut self) -> u64 {
+    pub(super) fn show_head(&mut self) -> u64
+        ensures head { IsHead self.old result self.new }
+        ensures same { IsSameTier self.old self.new }
+    {
         let key = self.staged.take_key();
         match self.tier.shown_meta(&key) {
             Some(Ok(Some(meta))) => {
@@ -39,7 +56,7 @@ impl Held {
             }
             Some(Ok(None)) => self.refuse(numbers::NOTHING_SHOWN),
             Some(Err(_)) => self.refuse(numbers::MEMORY),
-            None => self.refuse(self.tier.status()),
+            None => self.refuse_without(),
         }
     }
 
@@ -52,22 +69,17 @@ impl Held {
     }
 
     /// Lends a line of the head that was shown last, until the next head is shown. Of no bytes `value_at` stays as it was.
-    pub fn line(&mut self, place: u64, out: &mut HeadLine) -> u64 {
+    pub fn line(&mut self, place: u64, out: &mut HeadLine) -> u64
+        ensures { IsLine self.old place out.old out.new result self.new }
+    {
         let Some(meta) = &self.head else {
             return numbers::NOTHING_SHOWN;
         };
-        let Some((name, value)) = meta.header.headers.iter().nth(place as usize) else {
+        let Some((name, value)) = line_at(&meta.header.headers, place as usize) else {
             return numbers::NOTHING_SHOWN;
         };
-        let (name, value) = (name.as_str().as_bytes(), value.as_bytes());
-        out.name_len = name.len();
-        if let Some(first) = name.first() {
-            out.name_at = std::ptr::from_ref(first);
-        }
-        out.value_len = value.len();
-        if let Some(first) = value.first() {
-            out.value_at = std::ptr::from_ref(first);
-        }
+        lend_out(name.as_str().as_bytes(), &mut out.name);
+        lend_out(value.as_bytes(), &mut out.value);
         numbers::SHOWN
     }
 }
