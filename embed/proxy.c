@@ -14,7 +14,7 @@ typedef struct fetch {
     char *url, *method, *key, *vary; /* the key of its place in the tier; the Vary of the list of variants that it was found by */
     text head, old, body, sent; /* the response's head; that of the body which it may confirm; bytes that aren't stored, until they are taken */
     cache_tier_lent stale;      /* the body which it may confirm, lent by its request */
-    uint64_t id;                /* the request that writes; 0: nothing is stored */
+    uint64_t id, made;          /* the request that writes; 0: nothing is stored. The moment of its write */
     struct curl_slist *fields; struct fetch *next; size_t taken; long status, age;
     int users, judged, stores, over, failed, spare; /* spare: where it fails something stale serves */
 } fetch;
@@ -63,12 +63,12 @@ static ssize_t more(void *cls, uint64_t at, char *out, size_t most) { /* reads o
 }
 static fetch *fetch_of(const char *key, fetch *f) { return f && (!f->stores || strcmp(f->key, key)) ? fetch_of(key, f->next) : f; }
 /* Sends what its last look-up found. A whole body goes from the memory that the tier lends, which its request keeps until it is dropped. */
-static enum MHD_Result hit(client *c, const text *head, int complete, const char *how) {
-    uint64_t made = cache_tier_created(tier), t = now(); long age = t > made ? (long)(t - made) : 0, status = atol(head->at + 9);
+static enum MHD_Result hit(client *c, const text *head, uint64_t made, fetch *flies, const char *how) {
+    uint64_t t = now(); long age = t > made ? (long)(t - made) : 0, status = atol(head->at + 9);
     unsigned long long from = 0, to = UINT64_MAX; const char *range = asked(c->at, "Range"); char part[96];
     if (unchanged(c->at, head)) return reply(c->at, 304, head, MHD_create_response_from_buffer(0, "", MHD_RESPMEM_PERSISTENT), how, age);
-    if (!complete || cache_tier_read(tier, t, 0, c->id) != CACHE_TIER_BYTES) {
-        if (!complete && (c->from = fetch_of(c->key.at, flying))) c->from->users++;
+    if (flies || cache_tier_read(tier, t, 0, c->id) != CACHE_TIER_BYTES) {
+        if ((c->from = flies)) flies->users++;
         return reply(c->at, status, head, MHD_create_response_from_callback(MHD_SIZE_UNKNOWN, 1 << 16, more, c, NULL), how, age);
     }
     c->lent.at = (const uint8_t *)""; cache_tier_lend(tier, c->id, &c->lent);
@@ -89,9 +89,8 @@ static void release(fetch *f) {
     free(f->url), free(f->method), free(f->key), free(f->vary), free(f->head.at), free(f->old.at), free(f->body.at), free(f->sent.at), free(f);
 }
 static int begin(fetch *f, const text *head) {
-    uint64_t t = now();
-    t = t > (uint64_t)f->age ? t - f->age : 0; /* the age that it came with shortens its freshness */
-    return cache_tier_begin(tier, t, 0, f->id, head->at, head->len) == CACHE_TIER_BEGUN;
+    f->made = now() > (uint64_t)f->age ? now() - f->age : 0; /* the age that it came with shortens its freshness */
+    return cache_tier_begin(tier, f->made, 0, f->id, head->at, head->len) == CACHE_TIER_BEGUN;
 }
 /* Under the first key the list of variants is stored: a head with its Vary, and a token that is part of the keys of just these variants. */
 static void store_variant(fetch *f, const char *vary) {
@@ -200,8 +199,7 @@ static enum MHD_Result pass(client *c, const char *method) {
 }
 /* The client's request in the tier: it is open, and asks for the permit but where something stale is to serve. */
 static int opens(client *c) {
-    if (!c->id) c->id = ids++; else return 1;
-    return cache_tier_open(tier, now(), 0, c->id, c->key.at, c->key.len, c->passes != 2) == CACHE_TIER_OPENED || (c->id = 0);
+    return c->id || cache_tier_open(tier, now(), 0, c->id = ids++, c->key.at, c->key.len, c->passes != 2) == CACHE_TIER_OPENED || (c->id = 0);
 }
 static void to_variant(client *c, const char *vary) { /* what was found is a list of variants */
     char token[64] = ""; struct curl_slist *fields = NULL;
@@ -211,7 +209,7 @@ static void to_variant(client *c, const char *vary) { /* what was found is a lis
     MHD_get_connection_values(c->at, MHD_HEADER_KIND, each, &fields); add_variant(&c->key, token, vary, fields), curl_slist_free_all(fields);
 }
 static enum MHD_Result find(client *c, const char *method) {
-    static text head; /* under the lock */
+    static text head;
     for (char vary[LINE];;) {
         if (!opens(c)) return pass(c, method);
         if (c->waits) {
@@ -223,12 +221,15 @@ static enum MHD_Result find(client *c, const char *method) {
         uint64_t s = cache_tier_look_up(tier, now(), 0, c->id), permit = cache_tier_permit(tier), t = now();
         int fresh = cache_tier_is_fresh(tier), complete = cache_tier_is_complete(tier);
         if (s != CACHE_TIER_FOUND && s != CACHE_TIER_ABSENT) return pass(c, method);
-        int found = s == CACHE_TIER_FOUND && shown_head(tier, &c->key, &head), lists = found && !c->vary && field(&head, "vary", vary, sizeof vary);
+        fetch *from = s == CACHE_TIER_FOUND && !complete ? fetch_of(c->key.at, flying) : NULL; /* the tier tells the heads of whole bodies */
+        if (from) head.len = 0, add(&head, from->head.at, from->head.len);
+        int found = s == CACHE_TIER_FOUND && (complete ? shown_head(tier, &c->key, &head) : from != NULL);
+        int lists = found && complete && !c->vary && field(&head, "vary", vary, sizeof vary);
         uint64_t until = cache_tier_fresh_until(tier), waits = permit == CACHE_TIER_READ_WAIT;
         int whole = found && complete && !lists, serves = whole && t <= until + cache_tier_stale_while_revalidate(tier);
         int spare = whole && t <= until + cache_tier_stale_if_error(tier);
-        if (lists && fresh && complete) { to_variant(c, vary); continue; }
-        if (found && (fresh || c->passes == 2 || (serves && waits))) return hit(c, &head, complete, fresh ? "hit" : "stale");
+        if (lists && fresh) { to_variant(c, vary); continue; }
+        if (found && (fresh || c->passes == 2 || (serves && waits))) return hit(c, &head, from ? from->made : cache_tier_created(tier), from, fresh ? "hit" : "stale");
         if (c->passes == 2) return plain(c->at, 502, "the origin gave no response\n");
         if (!strcmp(method, "HEAD")) return pass(c, method);
         if (waits) { c->waits = 1; continue; }
@@ -242,7 +243,7 @@ static enum MHD_Result answer(void *cls, struct MHD_Connection *at, const char *
                               size_t *up_len, void **con) {
     (void)cls, (void)url, (void)version; client *c = *con;
     if (!c->seen) return c->seen = 1, c->at = at, adds(&c->key, c->url), MHD_YES;
-    if (*up_len && c->sent.len + *up_len > MOST_SENT) c->passes = 3;
+    if (c->sent.len + *up_len > MOST_SENT) c->passes = 3;
     else if (*up_len) add(&c->sent, up, *up_len);
     if (*up_len) return *up_len = 0, MHD_YES;
     const char *control = asked(c->at, "Cache-Control");
@@ -265,7 +266,6 @@ static void *ticks(void *none) { /* polls have times */
     for (int on = 1; on; usleep(100000)) pthread_mutex_lock(&lock), wake(), on = !stopping, pthread_mutex_unlock(&lock);
     return none;
 }
-
 int main(int argc, char **argv) {
     const char *usage = "--listen PORT --origin URL --limit BYTES [--threads COUNT] [--state FOLDER]", *end = "";
     unsigned long long port = 0, limit = 0, threads = 4, *number = NULL, limited = 0;
@@ -294,8 +294,7 @@ int main(int argc, char **argv) {
     pthread_t ticker;
     if (!d || pthread_create(&ticker, NULL, ticks, NULL)) fail("the port can't be listened on");
     int stop; sigwait(&stops, &stop);
-    pthread_mutex_lock(&lock), stopping = 1, pthread_mutex_unlock(&lock), pthread_join(ticker, NULL), MHD_stop_daemon(d);
-    pthread_mutex_lock(&lock);
+    pthread_mutex_lock(&lock), stopping = 1, pthread_mutex_unlock(&lock), pthread_join(ticker, NULL), MHD_stop_daemon(d), pthread_mutex_lock(&lock);
     if (folder && !cache_tier_save_files(tier, folder, SHARDS)) fail("the order of use can't be saved");
     exit(0); /* a fetch may still run, with its request open */
 }

@@ -7,4 +7,3 @@ pub mod Acts
 pub mod Counts
 pub mod Takes
 pub mod Restarts
-pub mod Shown

@@ -21,7 +21,6 @@ mod purge;
 mod put;
 mod read;
 mod restarts;
-mod shown;
 
 use crate::bodies::{all_bytes, count};
 use cache_evict::EvictionManager;

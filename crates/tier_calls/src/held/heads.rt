@@ -38,13 +38,13 @@ fn line_at(headers: &HeaderMap, place: usize) -> Option<(&HeaderName, &HeaderVal
 }
 
 impl Held {
-    // Shows the head of what a look-up of the staged key shows now, which is kept until the next head is shown.
+    // Shows the head of the finished body of the staged key, which is kept until the next head is shown.
     pub(super) fn show_head(&mut self) -> u64
         ensures head { IsHead self.old result self.new }
         ensures same { IsSameTier self.old self.new }
     {
         let key = self.staged.take_key();
-        match self.tier.shown_meta(&key) {
+        match self.tier.meta_of(self.alloc, &key) {
             Some(Ok(Some(meta))) => {
                 self.told = Told {
                     number: u64::from(meta.header.status.as_u16()),
