@@ -4,9 +4,11 @@
     access-log-to-trace.py --count < access.log
     access-log-to-trace.py --drive "tier-replay --limit 1000000" < access.log
     access-log-to-trace.py --cases FOLDER --limits 100000,400000 < access.log    and then --answers FILE < access.log
+    access-log-to-trace.py --requests < access.log | tier_curve --limits 1M,10M,100M
     access-log-to-trace.py < access.log > trace.jsonl
 
-It reads nginx's and Apache's combined and common log formats, also after the name of a virtual host, and plain lines
+It reads nginx's and Apache's combined and common log formats, also after the name of a virtual host, with a port or without one, or
+before it at the line's end by --host-last, and plain lines
 'time key bytes' (time in seconds since 1970). Each request becomes four events: open, look, put, drop. The put follows whether
 or not the body was found, since a trace can't know: so after each request its key is the one used last, as in a cache that fills
 what it lacks, and the look-ups found are those of such a cache. What this changes is freshness, which each put renews.
@@ -57,6 +59,12 @@ def write_trace(asked, options, out):
         out.write(text_of({"op": "drop", "at": moment, "id": number}))
         count = number + 1
     return count
+
+
+def write_requests(asked, out):
+    """Writes a line 'time key bytes' for each request, with the key in hex."""
+    for moment, key, size in asked:
+        out.write(f"{moment} {key or '-'} {size}\n")
 
 
 def write_cases(asked, options):
@@ -171,6 +179,7 @@ def options_of(words):
     parser = argparse.ArgumentParser(description=__doc__, formatter_class=argparse.RawDescriptionHelpFormatter)
     what = parser.add_mutually_exclusive_group()
     what.add_argument("--count", action="store_true", help="only count the lines: write no trace")
+    what.add_argument("--requests", action="store_true", help="write lines 'time key bytes' for tier_curve, in place of a trace")
     what.add_argument("--drive", metavar="COMMAND", help="run this tier-replay command over the requests, and print hit ratios")
     what.add_argument("--cases", metavar="FOLDER", help="write the trace for each of --limits into this new folder, for `rt try --cases`")
     what.add_argument("--answers", metavar="FILE", help="read what the runs of the cases wrote, and print hit ratios")
@@ -181,6 +190,7 @@ def options_of(words):
     parser.add_argument("--lifetime", type=int, default=3600, help="how long a response is fresh, in seconds (default 3600)")
     parser.add_argument("--methods", default="GET,HEAD", help="the request methods to take, with commas (default GET,HEAD)")
     parser.add_argument("--statuses", default="200,206,304", help="the statuses to take, with commas (default 200,206,304)")
+    parser.add_argument("--host-last", action="store_true", help="the last word of a log line is the host, which the key begins with")
     parser.add_argument("--no-query", action="store_true", help="leave the query out of the key")
     options = parser.parse_args(words)
     if not options.scale > 0 or options.lifetime < 0 or options.sample < 1:
@@ -209,6 +219,9 @@ def main():
         print(f"requests={write_cases(asked, options)}")
     elif options.answers:
         read_answers(asked, options.answers)
+    elif options.requests:
+        signal.signal(signal.SIGPIPE, signal.SIG_DFL)
+        write_requests(asked, sys.stdout)
     else:
         # ends quietly where the reader of a pipe has enough
         signal.signal(signal.SIGPIPE, signal.SIG_DFL)

@@ -2,14 +2,16 @@
 which lines are requests; lines that are none are counted by reason."""
 import collections
 import datetime
+import ipaddress
 import re
 import zlib
 
 LOGGED = re.compile(
-    r'(?:(?P<host>[^\s:]+:\d+) )?\S+ \S+ (?:[^"\[]+|"[^"\[]*") \[(?P<time>[^\]]+)\] "(?P<request>(?:[^"\\]|\\.)*)"'
-    r" (?P<status>\d{3}) (?P<bytes>\d+|-)(?: .*)?$",
+    r'(?P<who>\S+ \S+ (?:[^"\[]+|[^"\[]*"[^"\[]*")) \[(?P<time>[^\]]+)\] "(?P<request>(?:[^"\\]|\\.)*)"'
+    r" (?P<status>\d{3}) (?P<bytes>\d+|-)(?: (?P<rest>.*))?$",
     re.ASCII,
 )
+HOST_WITH_PORT = re.compile(r"[^\s:]+:\d+$", re.ASCII)
 REQUEST = re.compile(r"(?P<method>[A-Za-z_-]+) +(?P<target>\S.*?)(?: +HTTP/[\d.]+)?$", re.ASCII)
 TIME = re.compile(r"(\d{2})/(\w{3})/(\d{4}):(\d{2}):(\d{2}):(\d{2}) ([+-])(\d{2})(\d{2})$", re.ASCII)
 MONTHS = "Jan Feb Mar Apr May Jun Jul Aug Sep Oct Nov Dec".split()
@@ -51,6 +53,31 @@ def partial_of(method, status):
     return "method HEAD" if method == "HEAD" else None
 
 
+def is_address(word):
+    try:
+        ipaddress.ip_address(word)
+    except ValueError:
+        return False
+    return True
+
+
+def host_before(who):
+    """Returns the host that a line begins with, before the client's address, or the empty text. The client is followed by its identity,
+    '-' as a rule, and by its user, whose name may have blanks."""
+    words = who.split(" ")
+    is_host = HOST_WITH_PORT.match(words[0]) or is_address(words[1]) or (len(words) > 3 and words[1] != "-" and words[2] == "-")
+    return words[0] if is_host else ""
+
+
+def host_after(rest):
+    """Returns the host that a line ends with, with or without quotes."""
+    words = (rest or "").split()
+    host = words[-1].strip('"') if words else ""
+    if host in ("", "-"):
+        raise PassedOver("no host at its end")
+    return host
+
+
 def request_of(line, options):
     """Returns the request of a line."""
     plain = PLAIN.match(line)
@@ -70,7 +97,8 @@ def request_of(line, options):
     partial = partial_of(method, status)
     if not partial and found["bytes"] == "-":
         raise PassedOver("no length")
-    key = (found["host"] or "") + (target.split("?")[0] if options.no_query else target)
+    host = host_after(found["rest"]) if options.host_last else host_before(found["who"])
+    key = host + (target.split("?")[0] if options.no_query else target)
     return Request(seconds_of(found["time"]), key, None if partial else int(found["bytes"]), partial)
 
 

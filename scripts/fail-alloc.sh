@@ -3,12 +3,15 @@
 # name crates of tests. It takes the proved program crates/NAME/out/NAME_tests that `rt ci` or `rt test` left there, and proves nothing.
 #
 # Tried are the tests of refused memory, by their names: of a module `refused` or `refusals`, or with out_of_memory, without_memory,
-# no_memory, refused_memory or memory_cuts_short in it. Each takes a refusal as an answer and looks at what is left, so it passes
+# no_memory, refused_memory, refused_request or memory_cuts_short in it. Each takes a refusal as an answer and looks at what is left, so it passes
 # whichever allocation fails. ample_memory_meets_no_refusal is the canary: it takes a refusal as a failure, so a run of it must fail.
+#
+# scripts/fail-alloc.list names tests that must be there, with the calls that they make; what is missing fails the run. At the end a table says of each test how
+# many allocations it makes and how many runs left a wrong answer.
 set -eu
 cd "$(dirname "$0")/.."
 [ $# -gt 0 ] || set -- tier_tests lru_tests words_tests store_tests
-names='refused::\|refusals::\|refused_memory\|out_of_memory\|without_memory\|no_memory\|memory_cuts_short'
+names='refused::\|refusals::\|refused_memory\|refused_request\|out_of_memory\|without_memory\|no_memory\|memory_cuts_short'
 work=$(mktemp -d)
 trap 'rm -rf "$work"' EXIT
 cat > "$work/fail.c" <<'C'
@@ -61,12 +64,18 @@ one() {
 
 passed=0
 failed=0
+: > "$work/table"
 for crate in "$@"; do
     program=$PWD/crates/$crate/out/${crate}_tests
     [ -x "$program" ] || { echo "fail-alloc: there is no $program: run 'rt ci $crate' or 'rt test' in the crate first"; exit 1; }
-    for name in $("$program" --list | sed -n 's/: test$//p' | grep "$names"); do
+    "$program" --list | sed -n 's/: test$//p' > "$work/tests"
+    for wanted in $(sed -n "s/^$crate \([^ ]*\).*/\1/p" scripts/fail-alloc.list); do
+        grep "$names" "$work/tests" | grep -q "\(^\|::\)$wanted\$" || { echo "$crate: there is no test $wanted"; failed=$((failed + 1)); }
+    done
+    for name in $(grep "$names" "$work/tests"); do
         n=1
         refusals=0
+        wrong=0
         while :; do
             status=0
             one "$program" "$name" "$n" || status=$?
@@ -76,6 +85,7 @@ for crate in "$@"; do
                 echo "$crate: $name fails where allocation $n fails"
                 tail -n 3 "$work/said"
                 failed=$((failed + 1))
+                wrong=$((wrong + 1))
             fi
             n=$((n + 1))
         done
@@ -87,9 +97,13 @@ for crate in "$@"; do
             failed=$((failed + 1))
         else
             passed=$((passed + n))
-            echo "$crate: $name: each of $((n - 1)) allocations failed in turn"
         fi
+        calls=$(sed -n "s/^$crate ${name##*::} //p" scripts/fail-alloc.list)
+        echo "| $crate | $name${calls:+: $calls} | $((n - 1)) | $wrong |" >> "$work/table"
     done
 done
+echo "| Crate | Test and its calls | Allocations that failed in turn | Wrong answers |"
+echo "|---|---|---|---|"
+cat "$work/table"
 echo "$passed passed, $failed failed"
 [ "$failed" -eq 0 ] && [ "$passed" -gt 0 ]

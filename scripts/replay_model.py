@@ -805,7 +805,7 @@ def options_of(words):
     options, rest = {}, list(words)
     while rest:
         name, _, value = rest.pop(0).partition("=")
-        options[name.removeprefix("--")] = value or rest.pop(0)
+        options[name[2:]] = value or rest.pop(0)
     options.pop("recency", None)
     return {name: int(value) for name, value in options.items()}
 

@@ -3,9 +3,13 @@
 
     curl -sSi https://example.org/a.js | response-to-trace.py /a.js > trace.jsonl
     response-to-trace.py --at 1000 --look 5 --look 60 /a.js < response.txt > trace.jsonl
+    response-to-trace.py --explain /a.js < response.txt
 
 The first line is a put of the response under the key at the moment --at (now, if left out). Each --look SECONDS adds a look-up so
 many seconds after it: three lines, open, look and drop.
+
+With --explain it prints no trace, and says instead, by the plain model of the tier (replay_model.py), which line of the head decides whether the response is
+stored and until when it is fresh, and which lines the tier doesn't look at.
 
 What is changed is reported on standard error:
 - A status line of HTTP/2 or HTTP/3, which has no reason and no minor version, is written as HTTP/1.1, since the tier reads HTTP/1.x alone.
@@ -19,8 +23,14 @@ chunks' framing isn't there is reported.
 import argparse
 import json
 import re
+import os
 import sys
 import time
+
+sys.dont_write_bytecode = True
+sys.path.insert(0, os.path.dirname(os.path.realpath(__file__)))
+
+import replay_model  # noqa: E402
 
 STATUS = re.compile(rb"HTTP/(\d)(?:\.(\d))? (\d{3})[^\r\n]*\r?\n")
 HEAD = re.compile(rb".*?\n\r?\n", re.DOTALL)
@@ -93,6 +103,50 @@ def response_of(data):
     return with_body(as_http_1(data))
 
 
+def shown(name, value):
+    """A directive as it stands in a line."""
+    return (name if value is None else name + b"=" + value).decode("utf-8", "backslashreplace")
+
+
+def decided_by(head):
+    """Returns the line that says whether and how long the response is kept, by the order of RFC 9111, 4.2.1, and its meaning."""
+    found = replay_model.directives(head.values("cache-control"))
+    for name, meaning in ((b"no-store", "not stored"), (b"private", "not stored: the cache is shared"), (b"no-cache", "stored, and stale at once")):
+        if name in found and (name == b"no-store" or found[name] is None):
+            return f"Cache-Control: {shown(name, found[name])}", meaning
+    for name in (b"s-maxage", b"max-age"):
+        if found.get(name) is not None:
+            if replay_model.seconds(found[name]) is not None:
+                return f"Cache-Control: {shown(name, found[name])}", "the lifetime"
+            break
+    if len(head.values("expires")) == 1:
+        return f"Expires: {head.values('expires')[0].decode('ascii', 'backslashreplace')}", "the last moment"
+    return "no line", "not stored: nothing gives a lifetime, and none is guessed"
+
+
+def explain(data, now):
+    """Says what the tier makes of a response that comes at that moment."""
+    try:
+        head = replay_model.head_of(data)
+    except (replay_model.Bad, replay_model.Short) as why:
+        print("no response head that the tier reads" if isinstance(why, replay_model.Bad) else "the head isn't complete")
+        return
+    by, meaning = decided_by(head)
+    print(f"decided by {by} ({meaning})")
+    until = replay_model.kept_until(head, now)
+    if until is not None:
+        print(f"fresh up to second {until}" if until >= now else f"stale from second {now} on")
+    found = replay_model.directives(head.values("cache-control"))
+    for name in (b"stale-while-revalidate", b"stale-if-error"):
+        if until is not None and found.get(name) is not None:
+            print(f"{shown(name, found[name])}: whether to use it stale is the caller's decision")
+    for name in ("age", "date", "vary", "set-cookie", "pragma", "transfer-encoding", "content-range"):
+        if head.values(name):
+            print(f"not looked at: {name}")
+    if head.status == 206:
+        print("status 206: what is stored is a part, and is served as the whole")
+
+
 def line(event):
     print(json.dumps(event, separators=(",", ":")))
 
@@ -102,8 +156,12 @@ def main():
     parser.add_argument("key", help="the key under which the response is put")
     parser.add_argument("--at", type=int, default=int(time.time()), help="the moment of the put, in seconds since 1970 (default now)")
     parser.add_argument("--look", type=int, action="append", default=[], metavar="SECONDS", help="look the key up so many seconds later")
+    parser.add_argument("--explain", action="store_true", help="say which line of the head decides, in place of a trace")
     options = parser.parse_args()
     data = response_of(sys.stdin.buffer.read())
+    if options.explain:
+        explain(data, options.at)
+        return
     key = options.key.encode("utf-8", "surrogateescape").hex()
     line({"op": "put", "at": options.at, "key": key, "pieces": [data.hex()]})
     for number, after in enumerate(options.look):

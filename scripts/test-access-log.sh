@@ -57,6 +57,17 @@ print(*(bytes.fromhex(json.loads(line)["key"]).decode() for line in sys.stdin if
 [ "$(keys < "$room/odd")" = "www.example.org:443/a|/b|/c d|/e" ]
 grep -qx "lines passed over: 2 time not read, 1 no request in it, 1 longer than 67108864" "$room/told"
 [ "$(python3 scripts/access-log-to-trace.py --count < "$room/odd" 2> "$room/told")" = "requests=4" ]
+# a host before the client without a port, and one at the line's end: two sites stay two
+{
+    logged 'a.example 192.0.2.1 - -' '01/Jan/1970:00:00:01 +0000' 'GET / HTTP/1.1' '200 5'
+    logged 'b.example 2001:db8::1 - john doe' '01/Jan/1970:00:00:02 +0000' 'GET / HTTP/1.1' '200 5'
+    logged '192.0.2.7 client.example.net - "john doe"' '01/Jan/1970:00:00:03 +0000' 'GET / HTTP/1.1' '200 5'
+    logged 'client.example.net - john doe' '01/Jan/1970:00:00:04 +0000' 'GET /alone HTTP/1.1' '200 5'
+} > "$room/hosts"
+[ "$(keys < "$room/hosts")" = "a.example/|b.example/|192.0.2.7/|/alone" ]
+{ sed 's/$/ c.example/' "$room/hosts"; sed 's/$/ "d.example"/;q' "$room/hosts"; cat "$room/hosts"; } > "$room/last"
+[ "$(keys --host-last < "$room/last")" = "c.example/|c.example/|c.example/|c.example/alone|d.example/" ]
+grep -qx "lines passed over: 4 no host at its end" "$room/told"
 # cases for several limits, and what their answers say
 printf '%s\n' '1 a 1000' '2 b 500' '3 a 1000' > "$room/plain"
 python3 scripts/access-log-to-trace.py --scale 10 --cases "$room/cases" --limits 1000,20000 < "$room/plain" > /dev/null 2> "$room/told"
@@ -115,6 +126,12 @@ response 'HTTP/1.1 200 OK\r\nTransfer-Encoding: chunked\r\n\r\n3\r\nabc\r\n0\r\n
 [ ! -s "$room/told" ]
 response 'HTTP/1.1 200 OK\r\ntransfer-encoding: gzip, chunked\r\n\r\nabc' > "$room/trace"
 grep -qx "the body isn't in chunks, as its Transfer-Encoding says: 3 bytes, as curl decodes them, stand for it" "$room/told"
+# which line of a head decides
+explained() { printf "$1" | python3 scripts/response-to-trace.py --at 1000 --explain /a | tr '\n' '|'; }
+[ "$(explained 'HTTP/1.1 200 OK\r\nCache-Control: max-age=60\r\nAge: 50\r\n\r\n')" = "decided by Cache-Control: max-age=60 (the lifetime)|fresh up to second 1060|not looked at: age|" ]
+[ "$(explained 'HTTP/1.1 206 P\r\nExpires: 0\r\n\r\n')" = "decided by Expires: 0 (the last moment)|stale from second 1000 on|status 206: what is stored is a part, and is served as the whole|" ]
+[ "$(explained 'HTTP/1.1 200 OK\r\nCache-Control: private, max-age=9\r\n\r\n')" = "decided by Cache-Control: private (not stored: the cache is shared)|" ]
+[ "$(explained 'HTTP/1.1 200 OK\r\nCache-Control: max-age=9, s-maxage=x\r\n\r\n')" = "decided by no line (not stored: nothing gives a lifetime, and none is guessed)|" ]
 if python3 scripts/response-to-trace.py /a < /dev/null 2> "$room/told"; then exit 1; fi
 grep -qx "the input is empty" "$room/told"
 echo "access-log-to-trace.py, response-to-trace.py: as expected"

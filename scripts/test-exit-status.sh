@@ -29,6 +29,8 @@ for words in "" "--limit" "--limit x" "--limit 1 --shards 3" "--limit 1 --age x"
     got=0; "$program" $words < "$trace" > /dev/null 2>&1 || got=$?
     wanted 2 "options '$words'"
 done
+got=0; "$program" --limit 100 --recency "" < "$trace" > /dev/null 2>&1 || got=$?
+wanted 2 "an empty text as the directory"
 got=0; "$program" --limit "$(printf '\377')" < "$trace" > /dev/null 2>&1 || got=$?
 wanted 2 "a word that is not UTF-8"
 got=0; "$program" --limit 100 < / > /dev/null 2>&1 || got=$?

@@ -43,7 +43,7 @@ def kind_of(words, folder):
     if "rt-edit" in folder:
         return "edits", name
     if "--test" in words or any(it.endswith("_tests.o") for it in words):
-        return "tests", name if os.path.isdir(f"crates/{name}") else name.removesuffix("_tests")
+        return "tests", name if os.path.isdir(f"crates/{name}") else re.sub("_tests$", "", name)
     if "--crate-checked" in words:
         return "runs", name
     return "proofs", name

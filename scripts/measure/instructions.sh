@@ -29,7 +29,7 @@ def put(i, size, chosen):
     if chosen.random() < 0.7:
         lines.append(f"Content-Length: {size}")
     head = "\r\n".join(lines) + "\r\n\r\n"
-    return line(op="put", at=1000, key=key(i), pieces=[head.encode().hex() + chosen.randbytes(size).hex()])
+    return line(op="put", at=1000, key=key(i), pieces=[head.encode().hex() + bytes(chosen.getrandbits(8) for _ in range(size)).hex()])
 
 
 def puts(size):

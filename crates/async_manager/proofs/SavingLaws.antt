@@ -1,21 +1,18 @@
--- Saves by what serializing gives, and what their fault reports of calls.
-use Rattle.std.proofs.Common.{◌≡◌, ◌⊎◌, inl, inr, ℕ, ◌<◌, Bool, true, false, true≢false, List, [], ◌∷◌, length, Option, Some, Result, Ok, Err, Vec, refl, subst, arith}
-use Rattle.std.specs.Prelude.{slice_index, if◌then◌else◌}
+-- Saves by what serializing gives, and which made no call.
+use Rattle.std.proofs.Common.{◌≡◌, ◌⊎◌, inl, inr, ℕ, ◌<◌, List, Option, Some, Result, Ok, Err, Vec, subst}
+use Rattle.std.specs.Prelude.{slice_index}
 use Rattle.std.specs.declared.alloc.Global.{Global}
 use Rattle.lru_files.specs.Folder.{Files, Call, Outcome, StopsLeave}
 use Rattle.lru_files.specs.Names.{shard_path, temp_path}
-use Rattle.lru_files.specs.Save.{AreOldOrNew, Gives, SaveLeft, SaveTells, ShardLeft, ShardsLeft, file_errors, outcome_of}
-use Rattle.lru_files.specs.Told.{Tells, raised}
+use Rattle.lru_files.specs.Save.{AreOldOrNew, Gives, SaveLeft, SaveTells, ShardLeft, ShardsLeft, outcome_of}
 use Rattle.lru_files.specs.declared.fault.ShardSaveFailure.{ShardSaveFailure}
 use Rattle.lru_files.specs.declared.fault.ShardSaveFailure.TheVariants.{Serialize, Io, Memory}
 use Rattle.lru_files.specs.declared.fault.ShardSaveError.{ShardSaveError}
 use Rattle.lru_files.specs.declared.fault.ShardSaveError.TheVariants.{Setup, AllShardsFailed}
 use Rattle.lru_files.specs.declared.fault.ShardSaveReport.{ShardSaveReport}
 use Rattle.lru_files.specs.declared.fault.ShardSaveSetupError.TheVariants.{CreateDir, Memory as NoMemory}
-use Rattle.cache_entries.specs.declared.entry.CacheEntryKey.{CacheEntryKey}
 use Rattle.cache_evict.specs.declared.fault.EvictFault.{EvictFault}
-use Rattle.cache_evict.specs.declared.fault.EvictFault.TheVariants as fault
-use Rattle.async_manager.specs.Files.{Answers, IsFile, are_without_call}
+use Rattle.async_manager.specs.Files.{Answers, IsMemory}
 use Rattle.async_manager.specs.declared.fault.TextFault.{TextFault}
 
 module _ {E : Type 0} (P Q : Result (Vec ℕ Global) E → Type 0) (turn : (r : Result (Vec ℕ Global) E) → P r → Q r) where
@@ -53,33 +50,13 @@ pub left-by : {E : Type 0} (dir file_name words : List ℕ) (n : ℕ) {P : ℕ �
 left-by dir file_name words n {P} Q did keeps opened files old new ended stops left turn kept =
     save_left-by dir file_name words n P Q turn (files old) (files new) ended (left kept)
 
--- ---- the fault of a file
+-- ---- out of memory
 
--- where a call failed for some shard, a call is reported
-some_call-first : (i : ℕ) (failure : ShardSaveFailure TextFault) (rest : List (ℕ × ShardSaveFailure TextFault)) → (are_without_call rest ≡ false → 0 < length (file_errors rest))
-    → are_without_call ((i, failure) ∷ rest) ≡ false → 0 < length (file_errors ((i, failure) ∷ rest))
-some_call-first i (Serialize error) rest more some = more some
-some_call-first i (Io call) rest more some = omega arith
-some_call-first i Memory rest more some = more some
-
-some_call : (failed : List (ℕ × ShardSaveFailure TextFault)) → are_without_call failed ≡ false → 0 < length (file_errors failed)
-some_call [] none = absurd (true≢false none)
-some_call (failed ∷ rest) some = some_call-first failed.0 failed.1 rest (some_call rest) some
-
-module _ {D : Type 0} (did : D → Call → Outcome → D → Type 0) (failures : D → ℕ) (dir : List ℕ) (old new : D) where
-  abbrev HasFailed : Type 0
-  HasFailed = (failed : ℕ) × (0 < failed) × (failures new ≡ raised (failures old) failed)
-
-  failed-by : (failed : List (ℕ × ShardSaveFailure TextFault)) (v : Vec CacheEntryKey Global) (without : Bool) → are_without_call failed ≡ without
-      → Tells did failures (file_errors failed) old new → IsFile {X = ShardSaveReport TextFault} (Err (if without then fault.Memory v else fault.File v)) → HasFailed
-  failed-by failed v true same told file = absurd file
-  failed-by failed v false same told file = (length (file_errors failed), some_call failed same, told.counted)
-
-  -- where the answer is the fault of a file, calls failed and were counted
-  pub file_has_failed : (ended : Result (ShardSaveReport TextFault) (ShardSaveError TextFault)) (result : Result (ShardSaveReport TextFault) EvictFault)
-      → Answers ended result → SaveTells did failures dir old new ended → IsFile result → HasFailed
-  file_has_failed (Ok report) result answer told file = absurd (subst IsFile answer file)
-  file_has_failed (Err (Setup NoMemory)) result answer told file = absurd (subst IsFile answer.1 file)
-  file_has_failed (Err (Setup CreateDir)) result answer told file = (1, omega arith, told.1)
-  file_has_failed (Err (AllShardsFailed failed)) result answer told file =
-      failed-by failed.items answer.0 (are_without_call failed.items) refl told (subst IsFile answer.1 file)
+-- where the answer is out of memory, nothing was done
+pub memory_is_uncalled : {D : Type 0} (did : D → Call → Outcome → D → Type 0) (failures : D → ℕ) (dir : List ℕ) (old new : D)
+    (ended : Result (ShardSaveReport TextFault) (ShardSaveError TextFault)) (result : Result (ShardSaveReport TextFault) EvictFault)
+    → Answers ended result → SaveTells did failures dir old new ended → IsMemory result → new ≡ old
+memory_is_uncalled did failures dir old new (Ok report) result answer told memory = absurd (subst IsMemory answer memory)
+memory_is_uncalled did failures dir old new (Err (Setup NoMemory)) result answer told memory = told
+memory_is_uncalled did failures dir old new (Err (Setup CreateDir)) result answer told memory = absurd (subst IsMemory answer.1 memory)
+memory_is_uncalled did failures dir old new (Err (AllShardsFailed failed)) result answer told memory = absurd (subst IsMemory answer.1 memory)

@@ -1,6 +1,5 @@
 -- What saves and loads over actors do to the files.
-use Rattle.std.specs.Prelude.{◌≡◌, ◌<◌, ◌+◌, ℕ, Bool, true, false, if◌then◌else◌, List, [], ◌++◌, length, codes, Some, None, Result, Ok, Err, Vec}
-use Rattle.std.specs.List.{list_all}
+use Rattle.std.specs.Prelude.{◌≡◌, ◌<◌, ◌+◌, ℕ, List, [], ◌++◌, length, codes, Some, None, Result, Ok, Err, Vec}
 use Rattle.std.specs.declared.alloc.Global.{Global}
 use Rattle.lru_files.specs.Folder.{Files, Call, Outcome, IsSame}
 use Rattle.lru_files.specs.Load.{CleansUp, load_errors}
@@ -11,8 +10,6 @@ use Rattle.lru_files.specs.Told.{Tells}
 use Rattle.lru_files.specs.declared.fault.ShardLoadReport.{ShardLoadReport}
 use Rattle.lru_files.specs.declared.fault.ShardSaveError.{ShardSaveError}
 use Rattle.lru_files.specs.declared.fault.ShardSaveError.TheVariants.{Setup, AllShardsFailed}
-use Rattle.lru_files.specs.declared.fault.ShardSaveFailure.{ShardSaveFailure}
-use Rattle.lru_files.specs.declared.fault.ShardSaveFailure.TheVariants.{Serialize, Io, Memory as Unnamed}
 use Rattle.lru_files.specs.declared.fault.ShardSaveReport.{ShardSaveReport}
 use Rattle.lru_files.specs.declared.fault.ShardSaveSetupError.TheVariants.{CreateDir, Memory as NoMemory}
 use Rattle.cache_entries.specs.declared.entry.CacheEntryKey.{CacheEntryKey}
@@ -30,27 +27,18 @@ abbrev pub IsSomeText : Result (Vec ℕ Global) TextFault → Type 0
 IsSomeText (Ok text) = (rows : List Tracked) × (text.items ≡ recency_text rows) × (CantBeWritten rows → ⊥)
 IsSomeText (Err fault) = Unit {0}
 
--- no call on the shard's files failed: it has no text, or there was no memory for the files' names
-abbrev pub is_without_call : ShardSaveFailure TextFault → Bool
-is_without_call (Serialize fault) = true
-is_without_call (Io call) = false
-is_without_call Unnamed = true
-
-abbrev pub are_without_call : List (ℕ × ShardSaveFailure TextFault) → Bool
-are_without_call = list_all (λ failed. is_without_call failed.1)
-
--- the manager's answer to a save that ended so: the fault of a file is one of the folder's
+-- the manager's answer to a save that ended so: out of memory only where nothing was done
 abbrev pub Answers : Result (ShardSaveReport TextFault) (ShardSaveError TextFault) → Result (ShardSaveReport TextFault) EvictFault → Type 0
 Answers (Ok report) result = result ≡ Ok report
 Answers (Err (Setup NoMemory)) result = (v : Vec CacheEntryKey Global) × (result ≡ Err (fault.Memory v)) × (v.items ≡ [])
 Answers (Err (Setup CreateDir)) result = (v : Vec CacheEntryKey Global) × (result ≡ Err (fault.File v)) × (v.items ≡ [])
 Answers (Err (AllShardsFailed failed)) result =
-    (v : Vec CacheEntryKey Global) × (result ≡ Err (if are_without_call failed.items then fault.Memory v else fault.File v)) × (v.items ≡ [])
+    (v : Vec CacheEntryKey Global) × (result ≡ Err (fault.File v)) × (v.items ≡ [])
 
--- it is the fault of a file
-abbrev pub IsFile : {X : Type 0} → Result X EvictFault → Type 0
-IsFile (Err (fault.File v)) = Unit {0}
-IsFile _ = ⊥
+-- it is out of memory
+abbrev pub IsMemory : {X : Type 0} → Result X EvictFault → Type 0
+IsMemory (Err (fault.Memory v)) = Unit {0}
+IsMemory _ = ⊥
 
 -- the fault of a row, and not of the text
 abbrev pub IsOfRow : RowsFault → Type 0

@@ -1,11 +1,10 @@
 //! Entries in files.
 
-ghost use Rattle.std.specs.Prelude.{◌≡◌, ◌<◌, ℕ, None, Some, length, codes, IfErr, OnOk};
+ghost use Rattle.std.specs.Prelude.{◌≡◌, ◌<◌, None, Some, length, codes, IfErr, OnOk};
 ghost use Rattle.lru_files.specs.Folder.{StopsLeave};
 ghost use Rattle.lru_files.specs.Save.{AreOldOrNew};
-ghost use Rattle.lru_files.specs.Told.{raised};
 ghost use Rattle.cache_entries.specs.RowText.{recency_at};
-ghost use Rattle.async_manager.specs.Files.{Answers, IsFile, IsOfRow, IsRead, IsSomeText, LoadsTexts, SavesTexts, are_without_call, is_without_call};
+ghost use Rattle.async_manager.specs.Files.{Answers, IsMemory, IsOfRow, IsRead, IsSomeText, LoadsTexts, SavesTexts};
 
 use crate::fault::{RowsFault, TextFault};
 use crate::manager::Manager;
@@ -13,8 +12,8 @@ use cache_entries::pack::take_row;
 use cache_evict::EvictFault;
 use cache_words::pack::{Cursor, PackFault};
 use lru_files::persistence::{
-    Folder, ShardLoadReport, ShardSaveError, ShardSaveFailure, ShardSaveReport,
-    ShardSaveSetupError, load_shards, save_shards,
+    Folder, ShardLoadReport, ShardSaveError, ShardSaveReport, ShardSaveSetupError, load_shards,
+    save_shards,
 };
 use std::alloc::Global;
 use std::sync::Wait;
@@ -26,8 +25,8 @@ impl<const N: usize> Manager<N> {
     ///
     /// # Errors
     ///
-    /// `File` where no shard was saved and a call of the folder failed. `Memory` where no shard was saved and no call failed, since no
-    /// shard had a text or its files' names; or where there is no memory for the report, and then nothing was done.
+    /// `File` where no shard was saved, whatever each failed for. `Memory` where there is no memory for the report: no call of the
+    /// folder was made.
     pub fn save<R: Wait, F: Folder>(
         &self,
         rt: &R,
@@ -40,7 +39,7 @@ impl<const N: usize> Manager<N> {
         ensures saved { SavesTexts F.did F.failures_of F.keeps F.files N dir.now words.now folder.old folder.new result }
         ensures stops { F.keeps → StopsLeave F.did F.opened F.files
             (AreOldOrNew dir.now (codes "lru.data") words.now (λ shard. IsSomeText) N (F.files folder.old)) folder.old folder.new }
-        ensures counted { IsFile result → (failed : ℕ) × (0 < failed) × (F.failures_of folder.new ≡ raised (F.failures_of folder.old) failed) }
+        ensures uncalled { IsMemory result → folder.new ≡ folder.old }
     {
         let text = move |shard: usize| -> Result<Vec<u8>, TextFault>
             requires { shard < N }
@@ -123,29 +122,7 @@ fn answered(
         Err(ShardSaveError::Setup(ShardSaveSetupError::CreateDir)) => {
             Err(EvictFault::File(Vec::new(alloc)))
         }
-        Err(ShardSaveError::AllShardsFailed(failed)) => {
-            if are_without_call(failed.as_slice()) {
-                return Err(EvictFault::Memory(Vec::new(alloc)));
-            }
-            Err(EvictFault::File(Vec::new(alloc)))
-        }
-    }
-}
-
-// Whether each of the shards failed without a call that failed.
-fn are_without_call(failed: &[(usize, ShardSaveFailure<TextFault>)]) -> bool
-    ensures { result ≡ are_without_call failed.now }
-{
-    failed.iter().all(|failed| is_without_call(&failed.1))
-}
-
-fn is_without_call(failure: &ShardSaveFailure<TextFault>) -> bool
-    ensures { result ≡ is_without_call failure.now }
-{
-    match failure {
-        ShardSaveFailure::Serialize(_fault) => true,
-        ShardSaveFailure::Io(_call) => false,
-        ShardSaveFailure::Memory => true,
+        Err(ShardSaveError::AllShardsFailed(_failed)) => Err(EvictFault::File(Vec::new(alloc))),
     }
 }
 

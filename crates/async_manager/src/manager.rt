@@ -176,18 +176,18 @@ impl<const N: usize> Manager<N> {
     ///
     /// # Errors
     ///
-    /// A message was not sent.
+    /// A message was not sent, or there is no memory for the copy of an entry that isn't tracked.
     pub fn access<R: Wait>(
         &self,
         rt: &R,
-        item: &CacheEntryKey,
+        item: CacheEntryKeyRef<'_>,
         size: usize,
         _fresh_until: Moment,
     ) -> Result<bool, SendFault<()>> {
-        if self.lru.promote(rt, item)? {
+        if self.lru.promote_by_hash(rt, hash_key(&item))? {
             return Ok(true);
         }
-        match self.lru.admit(rt, item.clone()?, size) {
+        match self.lru.admit(rt, item.to_entry()?, size) {
             Ok(_) => Ok(false),
             Err(SendFault::Memory(_)) => Err(SendFault::Memory(())),
             Err(SendFault::Closed(_)) => Err(SendFault::Closed(())),

@@ -1,5 +1,5 @@
 //! How the directives of a head are read.
-ghost use Rattle.std.specs.Prelude.{◌≡◌, map, codes, IfOk, IfSome, OnOk, option_map};
+ghost use Rattle.std.specs.Prelude.{◌≡◌, [], map, codes, Ok, None, IfOk, IfSome, OnOk, option_map};
 ghost use Rattle.cache_directives.specs.Found.{written};
 ghost use Rattle.cache_directives.specs.Entries.{entries_of, HasOwnKeys};
 ghost use Rattle.cache_directives.specs.Keeps.{keep, keep_line, keep_lines, kept, IsKept};
@@ -15,7 +15,7 @@ use http_header::{GetAll, HeaderMap, HeaderValue};
 use std::alloc::{AllocError, Global};
 
 impl CacheControl {
-    /// The directives of all lines under a name, whatever its case; `None` without such a line.
+    /// The directives of all lines under a name, whatever its case; `None` without such a line, which takes no memory.
     /// A name that comes again takes its last value: RFC 9111, 4.2.1 would take the first, or none.
     ///
     /// # Errors
@@ -27,6 +27,7 @@ impl CacheControl {
         headers: &HeaderMap,
     ) -> Result<Option<Self>, AllocError>
         ensures is { IfOk result (λ o. option_map directives_of o ≡ named (lines_under header_name.now headers.now)) }
+        ensures absent { lines_under header_name.now headers.now ≡ [] → result ≡ Ok None }
         ensures read { IfOk result (λ o. IfSome o (λ c. IsKept (lines_under header_name.now headers.now) (directives_of c))) }
         ensures own { IfOk result (λ o. IfSome o HasOwnVariants) }
     {
@@ -42,7 +43,7 @@ impl CacheControl {
     }
 
     /// The directives of a request's lines under a name, whatever its case; `None` without such a
-    /// line.
+    /// line, which takes no memory.
     ///
     /// # Errors
     ///
@@ -53,12 +54,13 @@ impl CacheControl {
         req_header: &RequestHeader,
     ) -> Result<Option<Self>, AllocError>
         ensures is { IfOk result (λ o. option_map directives_of o ≡ named (lines_under header_name.now req_header.now.headers)) }
+        ensures absent { lines_under header_name.now req_header.now.headers ≡ [] → result ≡ Ok None }
         ensures own { IfOk result (λ o. IfSome o HasOwnVariants) }
     {
         CacheControl::from_headers_named(alloc, header_name, &req_header.headers)
     }
 
-    /// The directives of a request's Cache-Control; `None` without one.
+    /// The directives of a request's Cache-Control; `None` without one, which takes no memory.
     ///
     /// # Errors
     ///
@@ -68,13 +70,14 @@ impl CacheControl {
         req_header: &RequestHeader,
     ) -> Result<Option<Self>, AllocError>
         ensures is { IfOk result (λ o. option_map directives_of o ≡ named (lines_under (codes "cache-control") req_header.now.headers)) }
+        ensures absent { lines_under (codes "cache-control") req_header.now.headers ≡ [] → result ≡ Ok None }
         ensures own { IfOk result (λ o. IfSome o HasOwnVariants) }
     {
         CacheControl::from_req_headers_named(alloc, "cache-control", req_header)
     }
 
     /// The directives of a response's lines under a name, whatever its case; `None` without such a
-    /// line.
+    /// line, which takes no memory.
     ///
     /// # Errors
     ///
@@ -85,12 +88,13 @@ impl CacheControl {
         resp_header: &ResponseHeader,
     ) -> Result<Option<Self>, AllocError>
         ensures is { IfOk result (λ o. option_map directives_of o ≡ named (lines_under header_name.now resp_header.now.headers)) }
+        ensures absent { lines_under header_name.now resp_header.now.headers ≡ [] → result ≡ Ok None }
         ensures own { IfOk result (λ o. IfSome o HasOwnVariants) }
     {
         CacheControl::from_headers_named(alloc, header_name, &resp_header.headers)
     }
 
-    /// The directives of a response's Cache-Control; `None` without one.
+    /// The directives of a response's Cache-Control; `None` without one, which takes no memory.
     ///
     /// # Errors
     ///
@@ -100,6 +104,7 @@ impl CacheControl {
         resp_header: &ResponseHeader,
     ) -> Result<Option<Self>, AllocError>
         ensures is { IfOk result (λ o. option_map directives_of o ≡ named (lines_under (codes "cache-control") resp_header.now.headers)) }
+        ensures absent { lines_under (codes "cache-control") resp_header.now.headers ≡ [] → result ≡ Ok None }
         ensures own { IfOk result (λ o. IfSome o HasOwnVariants) }
     {
         CacheControl::from_resp_headers_named(alloc, "cache-control", resp_header)

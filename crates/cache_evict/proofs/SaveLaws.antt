@@ -1,6 +1,6 @@
 -- Saves of a manager, from those of its shards' files.
-use Rattle.std.proofs.Common.{◌≡◌, ◌≢◌, ◌⊎◌, inl, inr, ℕ, ◌<◌, Bool, true, false, List, [], ◌∷◌, ◌++◌, length, Option, Some, Result, Ok, Err, Vec, sym, refl, ap, ◌∙◌, subst, arith}
-use Rattle.std.specs.Prelude.{codes, if◌then◌else◌}
+use Rattle.std.proofs.Common.{◌≡◌, ◌≢◌, ◌⊎◌, inl, inr, ℕ, ◌<◌, List, [], ◌∷◌, ◌++◌, length, Option, Some, Result, Ok, Err, Vec, sym, refl, ap, ◌∙◌, subst, arith}
+use Rattle.std.specs.Prelude.{codes}
 use Rattle.std.proofs.lemmas.List.{append-nil, length-append}
 use Rattle.std.specs.declared.alloc.Global.{Global}
 use Rattle.lru_files.specs.Folder.{Files, Call, Outcome, IsSame, StopsLeave, StoppedIn, path_in}
@@ -21,12 +21,12 @@ use Rattle.lru_files.proofs.Told.{tells_call, tells_nothing, tells_then}
 use Rattle.cache_entries.specs.declared.entry.CacheEntryKey.{CacheEntryKey}
 use Rattle.cache_entries.specs.declared.rows.Tracked.{Tracked}
 use Rattle.cache_words.specs.declared.pack.fault.PackWriteFault.{PackWriteFault}
-use Rattle.cache_words.specs.declared.pack.fault.PackWriteFault.TheVariants.{TooLong}
+use Rattle.cache_words.specs.declared.pack.fault.PackWriteFault.TheVariants.{Memory as NoText}
 use Rattle.cache_evict.specs.declared.fault.EvictFault.{EvictFault}
 use Rattle.cache_evict.specs.declared.fault.EvictFault.TheVariants as fault
 use Rattle.cache_evict.specs.Managed.{Managed, rows_at}
 use Rattle.cache_evict.specs.Saves.{AreLeft, AreOldOrWhole, IsUnwritten, Saves, Tries}
-use Rattle.cache_evict.specs.Stored.{Answers, Failures, IsText, Serializes, are_for_memory, file_at, temp_at, single_temp}
+use Rattle.cache_evict.specs.Stored.{Answers, Failures, IsText, Serializes, file_at, temp_at, single_temp}
 use Rattle.cache_evict.specs.Stored.Stored.{Sharded}
 
 -- what a shard's save leaves, by what its serializing gives
@@ -80,19 +80,14 @@ module _ (dir file_name words : List ℕ) (n : ℕ) (m : Managed) (P : ℕ → R
     abbrev saves : Result (ShardSaveReport PackWriteFault) EvictFault → Type 0
     saves = Saves did failures keeps files m n at temp dir old new
 
-    saves-failed : (failed : Failures) (b : Bool) → are_for_memory failed ≡ b → (v : Vec CacheEntryKey Global) → v.items ≡ []
-        → Tries did failures keeps files m n at temp dir old new failed → length failed ≡ n → saves (Err (if b then fault.Memory v else fault.File v))
-    saves-failed failed true e v none tried count = (none, inr (failed, tried, count, e))
-    saves-failed failed false e v none tried count = (none, inr (failed, tried, count, e))
-
     saves-answered : (ended : Result (ShardSaveReport PackWriteFault) (ShardSaveError PackWriteFault)) (result : Result (ShardSaveReport PackWriteFault) EvictFault) → 0 < n
         → Answers ended result → SaveCounts n ended → SaveTells did failures dir old new ended → (keeps → SaveLeft dir file_name words P n (files old) (files new) ended) → saves result
     saves-answered (Ok report) result some answer counts told left = subst saves (sym answer) (tries report.failed.items counts.1 told left, counts.0, counts.2 some)
-    saves-answered (Err (Setup NoMemory)) result some answer counts told left = subst saves (sym answer.1) (answer.2, inl told)
+    saves-answered (Err (Setup NoMemory)) result some answer counts told left = subst saves (sym answer.1) (answer.2, told)
     saves-answered (Err (Setup CreateDir)) result some answer counts told left =
         subst saves (sym answer.1) (answer.2, inl (record { make = told.0; counted = told.1; same = left }))
     saves-answered (Err (AllShardsFailed failed)) result some answer counts told left =
-        subst saves (sym answer.1) (saves-failed failed.items (are_for_memory failed.items) refl answer.0 answer.2 (tries failed.items counts.1 told left) counts.0)
+        subst saves (sym answer.1) (answer.2, inr (failed.items, tries failed.items counts.1 told left, counts.0))
 
 -- the same, where what serializing gives is known from what each stop leaves
 pub saves-by : (dir file_name words : List ℕ) (n : ℕ) (m : Managed) {P : ℕ → Result (Vec ℕ Global) PackWriteFault → Type 0}
@@ -165,20 +160,19 @@ module _ (m : Managed) (n : ℕ) (one : n ≡ 1) (at temp : ℕ → List ℕ) wh
     }
 
     -- nothing was done, since there is no text or no name of a file
-    pub unwritten_saves : (old : D) (fault : EvictFault) → IsUnwritten (rows_at m.shards 0) fault → Saves did failures keeps files m n at temp dir old old (Err fault)
-    unwritten_saves old (fault.Memory v) h = (h, inl refl)
+    pub unwritten_saves : (old : D) (fault : EvictFault) → IsUnwritten fault → Saves did failures keeps files m n at temp dir old old (Err fault)
+    unwritten_saves old (fault.Memory v) h = (h, refl)
     unwritten_saves old (fault.File v) h = (
-      h.0,
+      h,
       inr (
-        (0, Serialize TooLong) ∷ [],
+        (0, Serialize NoText) ∷ [],
         record {
           numbered = (omega arith, omega (arith, one), tt);
           told = tells_nothing old;
-          left = λ kept. one_left (files old) (files old) (files old) ((0, Serialize TooLong) ∷ []) (λ path. refl)
-              (record { shard = (h.1, refl, refl); others = λ path away_from_at away. refl });
+          left = λ kept. one_left (files old) (files old) (files old) ((0, Serialize NoText) ∷ []) (λ path. refl)
+              (record { shard = (tt, refl, refl); others = λ path away_from_at away. refl });
         },
         omega (arith, one),
-        refl,
       ),
     )
     unwritten_saves old (fault.Weight v) h = absurd h

@@ -1,5 +1,5 @@
 -- What a save of a manager's shards leaves, and what it reports.
-use Rattle.std.specs.Prelude.{◌≡◌, ◌⊎◌, ◌<◌, ◌+◌, ℕ, Bool, true, false, List, [], length, Some, Result, Ok, Err}
+use Rattle.std.specs.Prelude.{◌≡◌, ◌⊎◌, ◌<◌, ◌+◌, ℕ, List, [], length, Some, Result, Ok, Err}
 use Rattle.lru_files.specs.Folder.{Files, Call, Outcome, IsSame}
 use Rattle.lru_files.specs.Folder.Call.{Make}
 use Rattle.lru_files.specs.Folder.Outcome.{Failed}
@@ -10,9 +10,8 @@ use Rattle.cache_words.specs.declared.pack.fault.PackWriteFault.{PackWriteFault}
 use Rattle.cache_evict.specs.declared.fault.EvictFault.{EvictFault}
 use Rattle.cache_evict.specs.declared.fault.EvictFault.TheVariants.{Memory, Weight, Length, NumbersSpent, File}
 use Rattle.cache_entries.specs.declared.rows.Tracked.{Tracked}
-use Rattle.cache_evict.specs.Loads.{CantBeWritten}
 use Rattle.cache_evict.specs.Managed.{Managed, rows_at}
-use Rattle.cache_evict.specs.Stored.{Failures, IsText, OthersStay, Serializes, are_for_memory}
+use Rattle.cache_evict.specs.Stored.{Failures, IsText, OthersStay, Serializes}
 
 -- each shard's file is as before or has the whole text of the shard's rows, each by itself, and nothing but the save's temporary files is beside them
 pub record AreOldOrWhole (m : Managed) (n : ℕ) (at temp : ℕ → List ℕ) (old new : Files) : Type 0 where
@@ -24,13 +23,13 @@ pub record AreLeft (m : Managed) (n : ℕ) (at temp : ℕ → List ℕ) (old new
   pub each : (i : ℕ) → i < n → ShardLeft (Serializes (rows_at m.shards i)) (old (at i)) (old (temp i)) (new (at i)) (new (temp i)) (outcome_of failed i)
   pub others : OthersStay at temp n old new
 
--- as what it is reported that there is no text of the rows, or no name for its file
-abbrev pub IsUnwritten : List Tracked → EvictFault → Type 0
-IsUnwritten rows (Memory v) = v.items ≡ []
-IsUnwritten rows (File v) = (v.items ≡ []) × CantBeWritten rows
-IsUnwritten rows (Weight v) = ⊥
-IsUnwritten rows (Length v) = ⊥
-IsUnwritten rows (NumbersSpent v) = ⊥
+-- as what it is reported that there is no name for the rows' file, or no text of them
+abbrev pub IsUnwritten : EvictFault → Type 0
+IsUnwritten (Memory v) = v.items ≡ []
+IsUnwritten (File v) = v.items ≡ []
+IsUnwritten (Weight v) = ⊥
+IsUnwritten (Length v) = ⊥
+IsUnwritten (NumbersSpent v) = ⊥
 
 module _ {D : Type 0} (did : D → Call → Outcome → D → Type 0) (failures : D → ℕ) (keeps : Type 0) (files : D → Files) (m : Managed) (n : ℕ) (at temp : ℕ → List ℕ) (dir : List ℕ) where
   -- each of n shards was tried; these failed, and the others are saved
@@ -45,15 +44,15 @@ module _ {D : Type 0} (did : D → Call → Outcome → D → Type 0) (failures 
     pub counted : failures new ≡ raised (failures old) 1
     pub same : keeps → IsSame (files old) (files new)
 
-  -- each of n shards was tried, and all failed: all for memory, or not
-  abbrev pub Fails : D → D → Bool → Type 0
-  Fails old new for_memory = (failed : Failures) × Tries old new failed × (length failed ≡ n) × (are_for_memory failed ≡ for_memory)
+  -- each of n shards was tried, and all failed
+  abbrev pub Fails : D → D → Type 0
+  Fails old new = (failed : Failures) × Tries old new failed × (length failed ≡ n)
 
-  -- What a save does, by its result. One that saved no shard is the fault of a file, unless each failed for memory; without memory for the report, nothing was done.
+  -- What a save does, by its result. One that saved no shard is the fault of a file; it is out of memory only where it made no call of the folder.
   abbrev pub Saves : D → D → Result (ShardSaveReport PackWriteFault) EvictFault → Type 0
   Saves old new (Ok report) = Tries old new report.failed.items × (report.saved + length report.failed.items ≡ n) × (0 < report.saved)
-  Saves old new (Err (File v)) = (v.items ≡ []) × (IsUnmade old new ⊎ Fails old new false)
-  Saves old new (Err (Memory v)) = (v.items ≡ []) × ((new ≡ old) ⊎ Fails old new true)
+  Saves old new (Err (File v)) = (v.items ≡ []) × (IsUnmade old new ⊎ Fails old new)
+  Saves old new (Err (Memory v)) = (v.items ≡ []) × (new ≡ old)
   Saves old new (Err (Weight v)) = ⊥
   Saves old new (Err (Length v)) = ⊥
   Saves old new (Err (NumbersSpent v)) = ⊥

@@ -1,12 +1,10 @@
 -- Where a manager's rows are stored.
-use Rattle.std.specs.Prelude.{◌≡◌, ◌≢◌, ◌<◌, ◌++◌, ℕ, Bool, true, false, if◌then◌else◌, List, [], codes, slice_index, Result, Ok, Err, Vec}
-use Rattle.std.specs.List.{list_all}
+use Rattle.std.specs.Prelude.{◌≡◌, ◌≢◌, ◌<◌, ◌++◌, ℕ, List, [], codes, slice_index, Result, Ok, Err, Vec}
 use Rattle.std.specs.declared.alloc.Global.{Global}
 use Rattle.lru_files.specs.Folder.{Files, path_in}
 use Rattle.lru_files.specs.Names.{hex_word, shard_path, temp_path}
 use Rattle.lru_files.specs.declared.fault.ShardSaveError.{ShardSaveError}
 use Rattle.lru_files.specs.declared.fault.ShardSaveFailure.{ShardSaveFailure}
-use Rattle.lru_files.specs.declared.fault.ShardSaveFailure.TheVariants.{Serialize, Io, Memory as Unnamed}
 use Rattle.lru_files.specs.declared.fault.ShardSaveError.TheVariants.{Setup, AllShardsFailed}
 use Rattle.lru_files.specs.declared.fault.ShardSaveReport.{ShardSaveReport}
 use Rattle.lru_files.specs.declared.fault.ShardSaveSetupError.TheVariants.{CreateDir, Memory as NoMemory}
@@ -63,23 +61,10 @@ Serializes rows (Err TooLong) = CantBeWritten rows
 abbrev pub Failures : Type 0
 Failures = List (ℕ × ShardSaveFailure PackWriteFault)
 
-abbrev pub is_no_memory : PackWriteFault → Bool
-is_no_memory Memory = true
-is_no_memory TooLong = false
-
--- there was no memory for the shard's text or for the names of its files
-abbrev pub is_for_memory : ShardSaveFailure PackWriteFault → Bool
-is_for_memory (Serialize fault) = is_no_memory fault
-is_for_memory (Io call) = false
-is_for_memory Unnamed = true
-
-abbrev pub are_for_memory : Failures → Bool
-are_for_memory = list_all (λ failed. is_for_memory failed.1)
-
--- the manager's answer to a save that ended so
+-- the manager's answer to a save that ended so: out of memory only where nothing was done
 abbrev pub Answers : Result (ShardSaveReport PackWriteFault) (ShardSaveError PackWriteFault) → Result (ShardSaveReport PackWriteFault) EvictFault → Type 0
 Answers (Ok report) result = result ≡ Ok report
 Answers (Err (Setup NoMemory)) result = (v : Vec CacheEntryKey Global) × (result ≡ Err (fault.Memory v)) × (v.items ≡ [])
 Answers (Err (Setup CreateDir)) result = (v : Vec CacheEntryKey Global) × (result ≡ Err (fault.File v)) × (v.items ≡ [])
 Answers (Err (AllShardsFailed failed)) result =
-    (v : Vec CacheEntryKey Global) × (result ≡ Err (if are_for_memory failed.items then fault.Memory v else fault.File v)) × (v.items ≡ [])
+    (v : Vec CacheEntryKey Global) × (result ≡ Err (fault.File v)) × (v.items ≡ [])

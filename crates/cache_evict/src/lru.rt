@@ -254,7 +254,7 @@ impl<const N: usize, S: BuildHasher> EvictionManager for Manager<N, S> {
     fn access(
         &mut self,
         alloc: Global,
-        item: &CacheEntryKey,
+        item: CacheEntryKeyRef<'_>,
         size: usize,
         _fresh_until: Moment,
     ) -> Result<bool, EvictFault> {

@@ -106,7 +106,7 @@ pub trait EvictionManager {
 
     /// A use of an entry: a tracked one moves to the front of its shard, and the answer is `true`; another one is put there
     /// with that weight, or the least that the manager gives, and the answer is `false`. It evicts nothing. `fresh_until` is
-    /// ignored.
+    /// ignored. It takes no memory for a tracked entry: one that isn't tracked alone is copied.
     ///
     /// # Errors
     ///
@@ -114,15 +114,15 @@ pub trait EvictionManager {
     fn access(
         &mut self,
         alloc: Global,
-        item: &CacheEntryKey,
+        item: CacheEntryKeyRef<'_>,
         size: usize,
         fresh_until: Moment,
     ) -> Result<bool, EvictFault>
-        ensures ok { OnOk result (managed self.new ≡ use_first shard_count item.now (weighed size) (managed self.old)) }
-        ensures found { IfOk result (λ b. b ≡ is_some (weight_of item.now (rows_of shard_count item.now (managed self.old)))) }
-        ensures tracked { weight_of item.now (rows_of shard_count item.now (managed self.old)) ≢ None → IsOk result }
+        ensures ok { OnOk result (managed self.new ≡ use_first shard_count (owned_of item.entry) (weighed size) (managed self.old)) }
+        ensures found { IfOk result (λ b. b ≡ is_some (weight_of (owned_of item.entry) (rows_of shard_count (owned_of item.entry) (managed self.old)))) }
+        ensures tracked { weight_of (owned_of item.entry) (rows_of shard_count (owned_of item.entry) (managed self.old)) ≢ None → IsOk result }
         ensures err { OnErr result (managed self.new ≡ managed self.old) }
-        ensures refused { IfErr result (λ fault. IsPutRefused shard_count item.now (weighed size) (managed self.old) fault) }
+        ensures refused { IfErr result (λ fault. IsPutRefused shard_count (owned_of item.entry) (weighed size) (managed self.old) fault) }
         ensures none { IfErr result (λ fault. evicted_of fault ≡ []) };
 
     /// Takes an entry out.
@@ -135,8 +135,8 @@ pub trait EvictionManager {
     ///
     /// # Errors
     ///
-    /// `File` where no shard was saved, and not for want of memory alone. `Memory` where there is no memory for the report, and
-    /// then nothing was done, or for the text of any shard.
+    /// `File` where no shard was saved, whatever each failed for. `Memory` where there is no memory for the report, or in a manager
+    /// of one list for the names of its file: no call of the folder was made.
     fn save<F: Folder>(
         &self,
         alloc: Global,

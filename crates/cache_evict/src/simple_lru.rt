@@ -210,7 +210,7 @@ impl<const N: usize, S: BuildHasher> EvictionManager for OneList<N, S> {
     fn access(
         &mut self,
         alloc: Global,
-        item: &CacheEntryKey,
+        item: CacheEntryKeyRef<'_>,
         size: usize,
         _fresh_until: Moment,
     ) -> Result<bool, EvictFault> {

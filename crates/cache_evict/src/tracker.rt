@@ -91,16 +91,16 @@ impl<const N: usize, S: BuildHasher> Tracker<N, S> {
         }
     }
 
-    /// Moves a tracked entry to the front of its shard, and returns `true`, or puts another one there with that weight, and
-    /// returns `false`. A refusal changes nothing, and comes only for an entry that isn't tracked.
-    pub fn access(&mut self, entry: &CacheEntryKey, weight: usize) -> Result<bool, Refusal>
-        ensures ok { OnOk result (self.new ≡ use_first N entry.now weight self.old) }
-        ensures found { IfOk result (λ b. b ≡ is_some (weight_of entry.now (rows_of N entry.now self.old))) }
-        ensures tracked { weight_of entry.now (rows_of N entry.now self.old) ≢ None → IsOk result }
+    /// Moves a tracked entry to the front of its shard, and returns `true`, or puts a copy of another one there with that weight,
+    /// and returns `false`. A refusal changes nothing, and comes only for an entry that isn't tracked.
+    pub fn access(&mut self, entry: CacheEntryKeyRef<'_>, weight: usize) -> Result<bool, Refusal>
+        ensures ok { OnOk result (self.new ≡ use_first N (owned_of entry.entry) weight self.old) }
+        ensures found { IfOk result (λ b. b ≡ is_some (weight_of (owned_of entry.entry) (rows_of N (owned_of entry.entry) self.old))) }
+        ensures tracked { weight_of (owned_of entry.entry) (rows_of N (owned_of entry.entry) self.old) ≢ None → IsOk result }
         ensures err { OnErr result (self.new ≡ self.old) }
-        ensures why { IfErr result (IsRefusal N entry.now weight self.old) }
+        ensures why { IfErr result (IsRefusal N (owned_of entry.entry) weight self.old) }
     {
-        if self.touch(CacheEntryKeyRef::from(entry)) {
+        if self.touch(entry) {
             return Ok(true);
         }
         self.put_copy(entry, weight)?;
@@ -121,7 +121,7 @@ impl<const N: usize, S: BuildHasher> Tracker<N, S> {
     {
         match self.numbers.number_of(CacheEntryKeyRef::from(entry)) {
             Some(number) => raise_first(&mut self.core, number, delta, cap),
-            None => self.put_copy(entry, weight_of_new(delta, cap)),
+            None => self.put_copy(CacheEntryKeyRef::from(entry), weight_of_new(delta, cap)),
         }
     }
 

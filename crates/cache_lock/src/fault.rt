@@ -10,9 +10,9 @@ use std::fmt;
 #[derive(Clone, Copy, PartialEq, Eq, Debug)]
 pub enum LockFault {
     /// There is no memory.
-    Memory,
+    Memory = 1,
     /// Each number of a core was given, or 2^64 - 1 permits and read locks name the key's core.
-    CoreNumbersSpent,
+    CoreNumbersSpent = 2,
 }
 
 impl fmt::Display for LockFault {

@@ -1,5 +1,5 @@
 -- How the entry of a stored body is admitted to the order of use, and how a refused admission is taken back with the body.
-use Rattle.std.specs.Prelude.{◌≡◌, ℕ, max, Bool, true, false, not, ◌||◌, is_some, List, [], ◌∷◌, Option}
+use Rattle.std.specs.Prelude.{◌≡◌, ℕ, Bool, true, false, not, ◌||◌, is_some, List, [], ◌∷◌, Option}
 use Rattle.rand_core.specs.Stream.{Stream}
 use Rattle.cache_words.specs.Key.{Key}
 use Rattle.cache_words.specs.declared.key.CompactCacheKey.{CompactCacheKey}
@@ -52,14 +52,10 @@ cache_of store managed words = record { store = store; managed = managed; words 
 abbrev pub compact : Key → CompactCacheKey
 compact k = record { primary = k.primary; variance = k.variance; user_tag = k.user_tag }
 
--- what an entry weighs in the order of use whose body has that weight in its store
-abbrev pub weight_for : ℕ → ℕ
-weight_for weight = max 1 weight
-
--- the weight of an entry in n shards once a finish is reported to it: that of its body, or where something was added to the body that much
--- more than it weighed
+-- the weight of an entry in n shards once a finish is reported to it: what the manager makes of the store's number, or where something was
+-- added to the body that much more than it weighed
 abbrev pub weight_then : ℕ → (ℕ → ℕ) → MissFinishType → CacheEntryKey → Managed → ℕ
-weight_then n weighed (Created weight) e m = weighed (weight_for weight)
+weight_then n weighed (Created weight) e m = weighed weight
 weight_then n weighed (Appended delta cap) e m = weight_after n e delta cap m
 
 abbrev pub is_empty : {A : Type 0} → List A → Bool

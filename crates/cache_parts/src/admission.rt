@@ -6,7 +6,7 @@ ghost use Rattle.cache_evict.specs.Managed.{Evicts, put_first, taken_out, is_ove
 ghost use Rattle.cache_evict.specs.Faults.{StopsAt, evicted_of};
 ghost use Rattle.cache_changes.specs.Changes.{stored_key};
 ghost use Rattle.cache_parts.specs.Stored.{Purged, Removed};
-ghost use Rattle.cache_parts.specs.Admissions.{IsDone, IsTold, IsWithoutFile, IsAdmitted, IsTakenBack, was_admitted, rules_of, cache_of, weight_for, weight_then};
+ghost use Rattle.cache_parts.specs.Admissions.{IsDone, IsTold, IsWithoutFile, IsAdmitted, IsTakenBack, was_admitted, rules_of, cache_of, weight_then};
 
 use crate::done::{AdmitFault, Done};
 use crate::parts::Parts;
@@ -40,13 +40,6 @@ fn told(fault: EvictFault, admitted: bool) -> AdmitFault
         EvictFault::NumbersSpent(evicted) => AdmitFault::NumbersSpent(done(admitted, evicted)),
         EvictFault::File(_) => unreachable!(),
     }
-}
-
-// What an entry weighs whose body has that weight in its store.
-fn weight_for(weight: usize) -> usize
-    ensures { result ≡ weight_for weight }
-{
-    if weight == 0 { 1 } else { weight }
 }
 
 // Whether an entry was admitted before a fault.
@@ -93,8 +86,8 @@ fn take_back<S: Storage, E: EvictionManager, P, L, A>(
     told(fault, admitted)
 }
 
-// Tells the order of use of an entry as its finish says: with the weight of its body, or with what was added to that. `again` is the
-// entry once more.
+// Tells the order of use of an entry as its finish says: with the weight of its body as the store reports it, of which the manager makes
+// what its own rule says, or with what was added to that. `again` is the entry once more.
 fn follow<E: EvictionManager, R: Rng>(
     alloc: Global,
     manager: &mut E,
@@ -113,9 +106,7 @@ fn follow<E: EvictionManager, R: Rng>(
         IfErr result (λ fault. StopsAt E.pick E.shard_count entry w (E.managed manager.old) (R.stream rng.old) fault (E.managed manager.new) (R.stream rng.new)) }
 {
     match finish {
-        MissFinishType::Created(weight) => {
-            manager.admit(alloc, entry, weight_for(weight), fresh_until, rng)
-        }
+        MissFinishType::Created(weight) => { manager.admit(alloc, entry, weight, fresh_until, rng) }
         MissFinishType::Appended(delta, cap) => {
             manager.increment_weight(alloc, again, delta, cap, rng)
         }

@@ -1,5 +1,5 @@
 -- Readers: of a whole body, and of a write as it comes.
-use Rattle.std.specs.Prelude.{◌≡◌, ℕ, ◌==◌, ◌+◌, ◌-◌, ◌<◌, min, Bool, true, false, nat_lt, List, [], ◌++◌, drop, length, slice_range, Option, Some, None, option_map, option_and_then, Result, Ok, Err, find, if◌then◌else◌}
+use Rattle.std.specs.Prelude.{◌≡◌, ◌≢◌, ℕ, ◌==◌, ◌+◌, ◌-◌, ◌<◌, min, Bool, true, false, nat_lt, List, [], ◌++◌, drop, length, slice_range, Option, Some, None, option_map, option_and_then, Result, Ok, Err, find, if◌then◌else◌}
 use Rattle.cache_heads.specs.declared.meta.CacheMeta.{CacheMeta}
 use Rattle.cache_changes.specs.Store.{Flying, flying_at}
 use Rattle.cache_store.specs.declared.storage.ReadStep.{ReadStep}
@@ -56,12 +56,13 @@ abbrev pub ahead : Reader → Held → List ℕ × Bool
 ahead (whole n body bytes) h = (bytes, true)
 ahead (streaming s) h = past_place s.place (readable s.number h)
 
--- a step of reading, by what was ahead and what is: the next bytes; nothing where all was read, and the end once no more comes
+-- a step of reading, by what was ahead and what is: the next bytes; nothing where all was read, and the end once no more comes. Memory runs out only where bytes
+-- are ahead
 abbrev pub IsStep : List ℕ × Bool → Result ReadStep StoreFault → List ℕ × Bool → Type 0
 IsStep old (Ok (Bytes bytes)) new = (old.0 ≡ bytes ++ new.0) × (new.1 ≡ old.1)
 IsStep old (Ok Pending) new = (old ≡ ([], false)) × (new ≡ old)
 IsStep old (Ok End) new = (old ≡ ([], true)) × (new ≡ old)
-IsStep old (Err f) new = (f ≡ Memory) × (new ≡ old)
+IsStep old (Err f) new = (f ≡ Memory) × (new ≡ old) × (old.0 ≢ [])
 
 -- what a reader set to a range reads next: that part of a body. A reader of a write can't be set
 abbrev pub IsSought : ℕ → Option ℕ → Reader → Reader → Type 0

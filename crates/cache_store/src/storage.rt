@@ -114,19 +114,19 @@ impl<'a> fmt::Display for PurgeTarget<'a> {
 #[derive(Clone, Copy, PartialEq, Eq, Debug)]
 pub enum StoreFault {
     /// There is no memory.
-    Memory,
+    Memory = 1,
     /// The write's key was purged since the write began.
-    WriteRemoved,
+    WriteRemoved = 2,
     /// The write's end was already marked.
-    AfterEnd,
+    AfterEnd = 3,
     /// The range to read isn't within the body.
-    SeekRange,
+    SeekRange = 4,
     /// No meta is stored under the key.
-    NoMeta,
+    NoMeta = 5,
     /// Each number of a write has been used.
-    WriteNumbersSpent,
+    WriteNumbersSpent = 6,
     /// A moment of the meta can't be written.
-    MetaMoment,
+    MetaMoment = 7,
 }
 
 impl fmt::Display for StoreFault {

@@ -30,7 +30,7 @@ use Rattle.cache_tier.proofs.StoredLaws.{shelf-purged, shelf-taken}
 abbrev pub rules : ℕ → Rules Held
 rules n = rules_of (λ h. h) (λ h k. None) (λ h cause h'. ⊤) are_numbers_spent (λ x. Created (length x.bytes)) n (λ size. max size 1) (pick_by_draws n)
 
-weighed : (len : ℕ) → max (max 1 len) 1 ≡ max 1 len
+weighed : (len : ℕ) → max len 1 ≡ max 1 len
 weighed len = omega arith
 
 -- a state with what a cache holds
@@ -47,7 +47,7 @@ module _ (n : ℕ) (s : State) (b : FinishedBody) (k : IsSharded n s.managed) (s
       → IsAdmitted (rules n) (Created (length b.body.bytes)) (alone b.entry) es (cache_of mid s.managed st) c → IsKept (Ok (Finished size es)) c
   kept-admitted size es c sized a =
       let gone : shelf_of c.store ≡ shelf.cleared es (stored b s.shelf) = shelf-purged es mid c.store a.purged ∙ ap (shelf.cleared es) shelved in
-      let h : HasEvicted n s b false es c.managed st c.words = has_evicted n (max (max 1 (length b.body.bytes)) 1) s b false es c.managed st c.words k (weighed (length b.body.bytes)) a.fits a.evicts a.within in
+      let h : HasEvicted n s b false es c.managed st c.words = has_evicted n (max (length b.body.bytes) 1) s b false es c.managed st c.words k (weighed (length b.body.bytes)) a.fits a.evicts a.within in
       record {
         stores = stores-kept s b st size es (with_cache s c) c.words n c.managed sized h (ap (λ (x : Shelf). record s { shelf = x; managed = c.managed }) gone);
         sharded = h.kept;
@@ -57,7 +57,7 @@ module _ (n : ℕ) (s : State) (b : FinishedBody) (k : IsSharded n s.managed) (s
       → (back : IsTakenBack (rules n) tells (Created (length b.body.bytes)) (alone b.entry) fault (cache_of mid s.managed st) c)
       → f ≡ fault_for back.cause (record { stored = true; admitted = was_admitted n (alone b.entry) back.cause back.left; evicted = evicted_of back.cause }) → IsKept (Err f) c
   kept-back tells fault f c back told =
-      let w : ℕ = max (max 1 (length b.body.bytes)) 1 in
+      let w : ℕ = max (length b.body.bytes) 1 in
       let weighs : w ≡ max 1 (length b.body.bytes) = weighed (length b.body.bytes) in
       let es : List CacheEntryKey = evicted_of back.cause in
       let gone : shelf_of back.purged ≡ shelf.cleared es (stored b s.shelf) = shelf-purged es mid back.purged back.purges ∙ ap (shelf.cleared es) shelved in

@@ -6,7 +6,7 @@ use Rattle.std.specs.FinMap.{get}
 use Rattle.std.proofs.lemmas.Bool.{eqb-true, cases_lt}
 use Rattle.std.proofs.lemmas.List.{get_or_past}
 use Rattle.rand_core.specs.Stream.{Stream}
-use Rattle.cache_words.specs.Time.{MomentValue}
+use Rattle.cache_words.specs.Time.{DurationValue, MomentValue}
 use Rattle.cache_entries.specs.declared.entry.CacheEntryKey.{CacheEntryKey}
 use Rattle.cache_entries.specs.declared.rows.Tracked.{Tracked}
 use Rattle.cache_entries.specs.Entry.{same_entry}
@@ -20,6 +20,7 @@ use Rattle.cache_changes.proofs.OrderLaws.{number_of, Rising, flights-rise}
 use Rattle.cache_changes.proofs.WriteLaws.{life, fresh_life, all_begin_less}
 use Rattle.cache_changes.proofs.RowLaws.{row_of-without}
 use Rattle.cache_evict.specs.Managed.{Managed, rows_at, IsSharded}
+use Rattle.cache_lock.specs.State.{LockState}
 use Rattle.tier_model.specs.declared.event.Action.{Action}
 use Rattle.tier_model.specs.declared.event.Event.{Event}
 use Rattle.tier_model.specs.Calls.{Call, Outcome, History}
@@ -28,12 +29,15 @@ use Rattle.tier_model.specs.Shelf.{InFlight, Readers}
 use Rattle.tier_model.specs.State.{State}
 use Rattle.tier_model.specs.Step.{Allows}
 use Rattle.tier_model.specs.After.{after}
-use Rattle.tier_model.specs.Past.{plain, streamers, HasPast, HasAPast}
+use Rattle.tier_model.specs.Past.{plain, streamers, lock_changes_of, HasPast}
+use Rattle.tier_model.specs.Started.{settings_of}
+use Rattle.tier_model.proofs.BeganLaws.{age_is}
 use Rattle.tier_model.proofs.ReaderLaws.{CountFits}
 use Rattle.tier_model.proofs.StandLaws.{Stands, Stands-lawful}
 use Rattle.tier_model.proofs.Carried.{more_past}
 use Rattle.tier_requests.specs.Shelves.{IsBelow}
 use Rattle.cache_tier.specs.Acts.{Took, StepsBy}
+use Rattle.cache_tier.specs.States.{HasAPastOf}
 use Rattle.cache_tier.proofs.ShardLaws.{distinct-without}
 
 -- ---- the order of use is in shards
@@ -140,29 +144,40 @@ below-stands start s h past =
 stands-past : (start : Opening) (s : State) (h : History) → HasPast start s h → Stands start s h
 stands-past start s h p = subst (λ (x : State). Stands start x h) (sym p.state) (Stands-lawful start h p.lawful)
 
--- what is so of the state of each tier of n shards
-abbrev pub IsKept : ℕ → State → Type 0
-IsKept n s = IsSharded n s.managed × IsBelow s.shelf × HasAPast s
+-- what is so of the state of each tier of n shards that was made with that watermark and that age
+abbrev pub IsKept : ℕ → Option ℕ → DurationValue → State → Type 0
+IsKept n mark age s = IsSharded n s.managed × IsBelow s.shelf × HasAPastOf mark age s
 
--- a state with a history that began with n shards
-pub kept-past : (n : ℕ) (start : Opening) (s : State) (h : History) → start.settings.shards ≡ n → HasPast start s h → IsKept n s
-kept-past n start s h count past =
+-- a state with a history that began with these settings
+pub kept-past : (n : ℕ) (mark : Option ℕ) (age : DurationValue) (start : Opening) (s : State) (h : History)
+    → start.settings.shards ≡ n → start.settings.watermark ≡ mark → start.settings.age ≡ age → HasPast start s h → IsKept n mark age s
+kept-past n mark age start s h count marked aged past =
     let stands = stands-past start s h past in
     let leaves = stands.holds.leaves in (
       subst (λ (k : ℕ). IsSharded k s.managed) (stands.made.shards ∙ count) (sharded-by (length s.managed.shards) s.managed (changes_of start h) leaves.some leaves.rows),
       below-stands start s h stands,
-      (start, h, past),
+      (start, h, past, marked, aged),
     )
 
-pub kept-call : (n : ℕ) (old : State) (c : Call) (new : State) → Allows old c → new ≡ after old c → IsKept n old → IsKept n new
-kept-call n old c new allowed is kept =
-    let start = kept.2.0 in
-    let h = kept.2.1 in
-    kept-past n start new (c ∷ h) (sym (stands-past start old h kept.2.2).made.shards ∙ kept.0.count) (more_past start old h c new allowed is kept.2.2)
+module _ (n : ℕ) (mark : Option ℕ) (age : DurationValue) where
+  pub kept-call : (old : State) (c : Call) (new : State) → Allows old c → new ≡ after old c → IsKept n mark age old → IsKept n mark age new
+  kept-call old c new allowed is kept =
+      let past = kept.2 in
+      kept-past n mark age past.0 new (c ∷ past.1) (sym (stands-past past.0 old past.1 past.2).made.shards ∙ kept.0.count) past.3 past.4 (more_past past.0 old past.1 c new allowed is past.2)
 
--- an event that was taken, at any moment
-pub kept-took : (n : ℕ) (old : State) (t : MomentValue) (a : Action) (o : Outcome) (new : State) → IsKept n old → Took old t a o new → IsKept n new
-kept-took n old t a o new kept took = kept-call n old took.0 new took.3 took.4 kept
+  -- an event that was taken, at any moment
+  pub kept-took : (old : State) (t : MomentValue) (a : Action) (o : Outcome) (new : State) → IsKept n mark age old → Took old t a o new → IsKept n mark age new
+  kept-took old t a o new kept took = kept-call old took.0 new took.3 took.4 kept
 
-pub kept-steps : (n : ℕ) (old : State) (s : Stream) (e : Event) (o : Outcome) (new : State) (rest : Stream) → IsKept n old → StepsBy old s e o new rest → IsKept n new
-kept-steps n old s e o new rest kept step = kept-call n old step.0 new step.3 step.4 kept
+  pub kept-steps : (old : State) (s : Stream) (e : Event) (o : Outcome) (new : State) (rest : Stream) → IsKept n mark age old → StepsBy old s e o new rest → IsKept n mark age new
+  kept-steps old s e o new rest kept step = kept-call old step.0 new step.3 step.4 kept
+
+  -- what it was made with
+  pub kept-settings : (s : State) → IsKept n mark age s → settings_of s ≡ record { shards = n; limit = s.managed.limit; watermark = mark; age = age; wait = s.wait }
+  kept-settings s kept =
+      let past = kept.2 in
+      let made = (stands-past past.0 s past.1 past.2).made in
+      let watermark : s.managed.watermark ≡ mark = made.watermark ∙ past.3 in
+      let aged : s.lock.age ≡ age =
+      ap (λ (x : LockState). x.age) past.2.matches.lock ∙ age_is past.0.settings.age past.0.first_core (lock_changes_of past.0 past.1) ∙ past.4 in
+      λ i. record { shards = kept.0.count i; limit = s.managed.limit; watermark = watermark i; age = aged i; wait = s.wait }

@@ -1,22 +1,27 @@
--- In a state with a history in which no request is open, nothing flies and no write has readers.
-use Rattle.std.proofs.Common.{◌≡◌, ℕ, ◌<◌, List, [], ◌∷◌, Option, Some, None, cond, refl, ap, sym, ◌∙◌, subst, arith, eq-eqb}
-use Rattle.std.specs.Prelude.{Bool, MatchOption, find, map}
+-- In a state with a history in which no request is open, nothing flies, no write has readers and nothing is held of the lock.
+use Rattle.std.proofs.Common.{◌≡◌, ℕ, ◌+◌, ◌<◌, List, [], ◌∷◌, Option, Some, None, cond, refl, ap, sym, ◌∙◌, subst, arith, eq-eqb}
+use Rattle.std.specs.Prelude.{Bool, MatchOption, find, length, map}
 use Rattle.std.specs.FinMap.{FinMap, empty, entries, get, len, empty_of_len, get-empty, len-empty, len-entries, same_map, nat_cmp-IsAntisymmetric}
 use Rattle.std.specs.List.{sum_by}
 use Rattle.std.specs.Ordering.{nat_cmp}
 use Rattle.std.proofs.lemmas.Cmp.{nat_cmp_total}
 use Rattle.std.proofs.lemmas.List.{nil_from_length}
+use Rattle.std.proofs.lemmas.List.Sums.{sum_by-cons}
+use Rattle.cache_entries.specs.declared.rows.Tracked.{Tracked}
 use Rattle.cache_changes.specs.Changes.{Write, Changes}
 use Rattle.cache_changes.specs.Store.{Flying, Store, IsStateOf, has_number, store_of}
 use Rattle.cache_changes.specs.Writes.{IsInFlight}
 use Rattle.cache_changes.proofs.FoundLaws.{store_of-is}
+use Rattle.cache_lock.specs.State.{empty_lock}
 use Rattle.tier_model.specs.Calls.{History, opened_for}
 use Rattle.tier_model.specs.Histories.{Kept, Opening, changes_of}
 use Rattle.tier_model.specs.Keys.{Entry}
-use Rattle.tier_model.specs.Past.{HasAPast, HasPast, IsRequestOf, count_of, plain, streamers, streams}
+use Rattle.tier_model.specs.Past.{HasPast, IsRequestOf, count_of, plain, streamers, streams}
 use Rattle.tier_model.specs.Shelf.{Readers}
 use Rattle.tier_model.specs.State.{Request, State}
+use Rattle.tier_model.specs.Started.{all_rows}
 use Rattle.tier_model.proofs.StandLaws.{Stands-lawful, IsOrderly-lawful}
+use Rattle.tier_model.proofs.UnheldLaws.{unheld-past}
 use Rattle.tier_model.proofs.WriteLaws.{IsWriteOf}
 
 -- ---- writes in flight
@@ -70,5 +75,29 @@ module _ (start : Opening) (s : State) (h : History) (past : HasPast start s h) 
       none_read s.shelf.readers
       (λ n. past.matches.counted n ∙ ap (streamers n) (empty_of_len s.requests none) ∙ none_streams n) past.matches.kept
 
-pub idle-alone : (s : State) → HasAPast s → len s.requests ≡ 0 → (s.shelf.flying ≡ []) × (len s.shelf.readers ≡ 0)
-idle-alone s past none = (nothing_flies past.0 s past.1 past.2 none, nobody_reads past.0 s past.1 past.2 none)
+-- such a state: nothing flies, no write has readers, and nothing is held of the lock
+pub record IsIdle (s : State) : Type 0 where
+  pub flying : s.shelf.flying ≡ []
+  pub readers : len s.shelf.readers ≡ 0
+  pub lock : s.lock ≡ record (empty_lock s.lock.age) { next = s.lock.next }
+
+pub idle-alone : (start : Opening) (s : State) (h : History) → HasPast start s h → len s.requests ≡ 0 → IsIdle s
+idle-alone start s h past none =
+    record { flying = nothing_flies start s h past none; readers = nobody_reads start s h past none; lock = unheld-past start s h past none }
+
+-- ---- rows
+
+abbrev more : List Tracked → List (List Tracked) → Type 0
+more rows shards = sum_by length (rows ∷ shards) ≡ length rows + sum_by length shards
+
+pub untracked : (shards : List (List Tracked)) → sum_by length shards ≡ 0 → all_rows shards ≡ []
+untracked [] e = refl
+untracked ([] ∷ shards) e = let sum : more [] shards = sum_by-cons length [] shards in untracked shards (omega (arith, sum, e))
+untracked ((r ∷ rows) ∷ shards) e =
+    let sum : more (r ∷ rows) shards = sum_by-cons length (r ∷ rows) shards in
+    absurd (omega (arith, sum, e))
+
+pub none_counted : (shards : List (List Tracked)) → all_rows shards ≡ [] → sum_by length shards ≡ 0
+none_counted [] e = refl
+none_counted ([] ∷ shards) e = let sum : more [] shards = sum_by-cons length [] shards in omega (arith, sum, none_counted shards e)
+none_counted ((r ∷ rows) ∷ shards) e = absurd cc

@@ -1,6 +1,6 @@
 -- A tier that starts from files is as an opening with what they have gives it.
 use Rattle.std.proofs.Common.{◌≡◌, inl, inr, ℕ, List, [], ◌∷◌, Option, Result, Ok, Err, sym, refl, ap, ◌∙◌, subst}
-use Rattle.std.specs.Prelude.{codes}
+use Rattle.std.specs.Prelude.{codes, length}
 use Rattle.lru_files.specs.Folder.{Files, Call, Outcome, IsSame}
 use Rattle.lru_files.specs.Load.{Loads}
 use Rattle.lru_files.specs.Load.Loads.{NoShard, Taken, Missing, Refused, Unread}
@@ -21,27 +21,34 @@ use Rattle.cache_evict.specs.Saves.{Saves}
 use Rattle.cache_evict.specs.Stored.{file_at, temp_at, lru_stored}
 use Rattle.cache_evict.proofs.TurnLaws.{shards_again}
 use Rattle.tier_model.specs.Past.{HasPast}
-use Rattle.tier_model.specs.Started.{IsNew, opening_of}
+use Rattle.tier_model.specs.Started.{HasOnlyOrder, opening_of, settings_of}
 use Rattle.tier_model.specs.State.{State}
 use Rattle.tier_model.proofs.StartedLaws.{opening_past}
 use Rattle.cache_tier.specs.Restarts.{IsToldOfFiles, SavesOrder, LoadsOrder}
 
 -- ---- what stays of a manager under a load
 
-record Stays (m m' : Managed) : Type 0 where
-  size : m'.evicted_size ≡ m.evicted_size
-  items : m'.evicted_items ≡ m.evicted_items
+pub record Stays (m m' : Managed) : Type 0 where
+  pub limit : m'.limit ≡ m.limit
+  pub watermark : m'.watermark ≡ m.watermark
+  pub size : m'.evicted_size ≡ m.evicted_size
+  pub items : m'.evicted_items ≡ m.evicted_items
 
 stays-both : (a b c : Managed) → Stays a b → Stays b c → Stays a c
-stays-both a b c h k = record { size = k.size ∙ h.size; items = k.items ∙ h.items }
+stays-both a b c h k = record { limit = k.limit ∙ h.limit; watermark = k.watermark ∙ h.watermark; size = k.size ∙ h.size; items = k.items ∙ h.items }
 
 stays-same : (m m' : Managed) → m' ≡ m → Stays m m'
-stays-same m m' e = record { size = ap (λ (x : Managed). x.evicted_size) e; items = ap (λ (x : Managed). x.evicted_items) e }
+stays-same m m' e = record {
+  limit = ap (λ (x : Managed). x.limit) e;
+  watermark = ap (λ (x : Managed). x.watermark) e;
+  size = ap (λ (x : Managed). x.evicted_size) e;
+  items = ap (λ (x : Managed). x.evicted_items) e;
+}
 
 module _ (n : ℕ) where
   stays-put : (done : List Tracked) (m : Managed) → Stays m (rows.all_put (rows.appended n) done m)
-  stays-put [] m = record { size = refl; items = refl }
-  stays-put (r ∷ done) m = let rest = stays-put done (rows.appended n r m) in record { size = rest.size; items = rest.items }
+  stays-put [] m = stays-same m m refl
+  stays-put (r ∷ done) m = let rest = stays-put done (rows.appended n r m) in record { limit = rest.limit; watermark = rest.watermark; size = rest.size; items = rest.items }
 
   stays-after : (done : List Tracked) (m m' : Managed) → m' ≡ rows.all_put (rows.appended n) done m → Stays m m'
   stays-after done m m' e = stays-both m (rows.all_put (rows.appended n) done m) m' (stays-put done m) (stays-same (rows.all_put (rows.appended n) done m) m' e)
@@ -53,7 +60,7 @@ module _ (n : ℕ) where
 
   stays-each : {keeps : Type 0} {file_of : ℕ → Option (List ℕ)} (k loaded missing : ℕ) (errored : List (ℕ × ShardLoadFailure LoadFault)) (m m' : Managed)
       → Loads keeps file_of (TakesShard n) k loaded missing errored m m' → Stays m m'
-  stays-each _ _ _ _ _ _ (NoShard start) = record { size = refl; items = refl }
+  stays-each _ _ _ _ _ _ (NoShard start) = stays-same start start refl
   stays-each _ _ _ _ _ _ (Taken k loaded missing errored start now next bytes before file took) =
       stays-both start now next (stays-each k loaded missing errored start now before) (stays-read (recency_at bytes) now next (Ok tt) took)
   stays-each _ _ _ _ _ _ (Missing k loaded missing errored start now before file) = stays-each k loaded missing errored start now before
@@ -62,7 +69,7 @@ module _ (n : ℕ) where
   stays-each _ _ _ _ _ _ (Unread k loaded missing errored start now failure before unread) = stays-each k loaded missing errored start now before
 
 module _ {D : Type 0} (did : D → Call → Outcome → D → Type 0) (failures : D → ℕ) (keeps : Type 0) (files : D → Files) (n : ℕ) (dir : List ℕ) where
-  stays : (m m' : Managed) (old new : D) (came : Result (ShardLoadReport LoadFault) EvictFault) → LoadsStored did failures keeps files n lru_stored dir m m' old new came → Stays m m'
+  pub stays : (m m' : Managed) (old new : D) (came : Result (ShardLoadReport LoadFault) EvictFault) → LoadsStored did failures keeps files n lru_stored dir m m' old new came → Stays m m'
   stays m m' old new (Ok report) h = stays-each n n report.loaded report.missing report.errored.items m m' h.loads
   stays m m' old new (Err (fault.Memory v)) h = stays-same m m' h.1.manager
   stays m m' old new (Err (fault.File v)) h = absurd h
@@ -70,23 +77,32 @@ module _ {D : Type 0} (did : D → Call → Outcome → D → Type 0) (failures 
   stays m m' old new (Err (fault.Length v)) h = absurd h
   stays m m' old new (Err (fault.NumbersSpent v)) h = absurd h
 
-  -- a new tier after a load is new, and its past is that of the opening with these rows
-  pub started : (s : State) (m' : Managed) (old new : D) (came : Result (ShardLoadReport LoadFault) EvictFault) → IsNew s → LoadsStored did failures keeps files n lru_stored dir s.managed m' old new came
-      → IsSharded n m' → IsNew (record s { managed = m' }) × HasPast (opening_of (record s { managed = m' })) (record s { managed = m' }) []
-  started s m' old new came is_new loads sharded =
+  -- a tier that holds nothing but its order of use still does after a load, and its past is that of the opening with these rows
+  pub started : (s : State) (m' : Managed) (old new : D) (came : Result (ShardLoadReport LoadFault) EvictFault) → HasOnlyOrder s
+      → LoadsStored did failures keeps files n lru_stored dir s.managed m' old new came
+      → IsSharded n m' → HasOnlyOrder (record s { managed = m' }) × HasPast (opening_of (record s { managed = m' })) (record s { managed = m' }) []
+  started s m' old new came held loads sharded =
       let kept = stays s.managed m' old new came loads in
-      let still : IsNew (record s { managed = m' }) = record {
-        bodies = is_new.bodies;
-        flying = is_new.flying;
-        readers = is_new.readers;
-        lock = is_new.lock;
-        requests = is_new.requests;
-        found = is_new.found;
-        absent = is_new.absent;
-        evicted_size = kept.size ∙ is_new.evicted_size;
-        evicted_items = kept.items ∙ is_new.evicted_items;
+      let still : HasOnlyOrder (record s { managed = m' }) = record {
+        bodies = held.bodies;
+        flying = held.flying;
+        readers = held.readers;
+        lock = held.lock;
+        requests = held.requests;
+        found = held.found;
+        absent = held.absent;
+        evicted_size = kept.size ∙ held.evicted_size;
+        evicted_items = kept.items ∙ held.evicted_items;
       } in
       (still, opening_past (record s { managed = m' }) still (subst (λ (k : ℕ). IsSharded k m') (sym sharded.count) sharded))
+
+  -- what it was made with stays
+  pub settings_stay : (s : State) (m' : Managed) (old new : D) (came : Result (ShardLoadReport LoadFault) EvictFault) → LoadsStored did failures keeps files n lru_stored dir s.managed m' old new came
+      → IsSharded n s.managed → IsSharded n m' → settings_of (record s { managed = m' }) ≡ settings_of s
+  settings_stay s m' old new came loads before sharded =
+      let kept = stays s.managed m' old new came loads in
+      let count : length m'.shards ≡ length s.managed.shards = sharded.count ∙ sym before.count in
+      λ i. record { shards = count i; limit = kept.limit i; watermark = kept.watermark i; age = s.lock.age; wait = s.wait }
 
 -- ---- what was saved is loaded
 

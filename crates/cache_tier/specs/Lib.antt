@@ -7,3 +7,4 @@ pub mod Acts
 pub mod Counts
 pub mod Takes
 pub mod Restarts
+pub mod Options

@@ -11,16 +11,14 @@ use Rattle.cache_evict.specs.FileLoads.{LoadsStored}
 use Rattle.cache_evict.specs.Managed.{Managed}
 use Rattle.cache_evict.specs.Saves.{Saves}
 use Rattle.cache_evict.specs.Stored.{file_at, temp_at, lru_stored}
-use Rattle.cache_lock.specs.State.{LockState, empty_lock}
 use Rattle.tier_model.specs.declared.event.TierFault.{TierFault}
 use Rattle.tier_model.specs.Calls.{nothing_done}
 use Rattle.tier_model.specs.Rows.{Bodies}
 use Rattle.tier_requests.specs.Faults.{fault_for}
 
--- nothing is stored, no permit was ever given, and no eviction was counted
-pub record IsUnused (stored : Bodies) (m : Managed) (locks : LockState) : Type 0 where
+-- nothing is stored, and no eviction was counted
+pub record IsUnused (stored : Bodies) (m : Managed) : Type 0 where
   pub bodies : len stored ≡ 0
-  pub lock : locks ≡ empty_lock locks.age
   pub evicted_size : m.evicted_size ≡ 0
   pub evicted_items : m.evicted_items ≡ 0
 

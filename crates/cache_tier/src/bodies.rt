@@ -2,6 +2,7 @@
 ghost use Rattle.std.specs.Prelude.{◌≡◌, length};
 ghost use Rattle.std.specs.List.{sum_by};
 ghost use Rattle.std.specs.FinMap.{len, values};
+ghost use Rattle.cache_store.specs.Purges.{PurgeAnswer, id_at, target_key};
 ghost use Rattle.tier_model.specs.Shelf.{look, is_there, removed};
 ghost use Rattle.tier_model.specs.After.{counted};
 ghost use Rattle.tier_requests.specs.Shelves.{bodies_in, shelf_of};
@@ -21,6 +22,14 @@ fn is_purged(outcome: PurgeOutcome) -> bool
     matches!(outcome, PurgeOutcome::Purged(_))
 }
 
+// Removes what any store has of a target, as no longer valid.
+fn invalidate<T: Storage>(store: &mut T, target: PurgeTarget<'_>) -> PurgeOutcome
+    ensures purged { let k = target_key (T.ids store.old) target.entry in PurgeAnswer k (id_at (T.ids store.old) k) (T.held store.old) result (T.held store.new) }
+    ensures cause { T.purged_as store.old PurgeType.Invalidation store.new }
+{
+    store.purge(target, PurgeType::Invalidation)
+}
+
 // Removes what is stored for a key, and returns whether there was any.
 pub(crate) fn remove<S: BuildHasher>(
     alloc: Global,
@@ -31,7 +40,7 @@ pub(crate) fn remove<S: BuildHasher>(
     ensures after { shelf_of store.new ≡ removed key (shelf_of store.old) }
 {
     let named = named_by(alloc, key);
-    let outcome = store.purge(PurgeTarget::Active(&named), PurgeType::Invalidation);
+    let outcome = invalidate(store, PurgeTarget::Active(&named));
     is_purged(outcome)
 }
 

@@ -4,6 +4,7 @@
 mod bodies;
 mod keys;
 pub mod laws;
+pub mod options;
 mod put;
 pub mod tier;
 
@@ -11,6 +12,7 @@ pub use bytes::Bytes;
 pub use cache_lock::LockStatus;
 pub use cache_words::key::CacheKey;
 pub use cache_words::time::{Duration, Moment};
+pub use options::TierOptions;
 pub use tier::Tier;
 pub use tier_model::event::{Action, Answer, Done, Entries, Event, LockGiven, Pieces, TierFault};
 pub use tier_model::report::Report;

@@ -9,6 +9,8 @@ ghost use Rattle.cache_tier.specs.Takes.{Takes};
 ghost use Rattle.cache_tier.specs.Acts.{StepsBy};
 ghost use Rattle.tier_requests.specs.Shelves.{shelf_of};
 ghost use Rattle.cache_tier.specs.Bodies.{ShowsBodies};
+ghost use Rattle.cache_tier.specs.Options.{settings_with};
+ghost use Rattle.tier_model.specs.Started.{settings_of};
 
 mod begin;
 mod faults;
@@ -23,6 +25,7 @@ mod read;
 mod restarts;
 
 use crate::bodies::{all_bytes, count};
+use crate::options::TierOptions;
 use cache_evict::EvictionManager;
 use cache_evict::lru::Manager;
 use cache_lock::CacheLock;
@@ -52,6 +55,9 @@ pub struct Tier<const N: usize, S: BuildHasher = BuildHasherDefault<FoldHasher>>
     requests: Requests<S>,
     found: u64,
     absent: u64,
+    // What the order of use and the lock were made with.
+    watermark: Option<usize>,
+    age: Duration,
 }
 
 impl<const N: usize, S: BuildHasher> Model for Tier<N, S> {
@@ -59,8 +65,7 @@ impl<const N: usize, S: BuildHasher> Model for Tier<N, S> {
     ghost use Rattle.tier_requests.specs.Codes.{state_code};
     ghost use Rattle.tier_requests.specs.Shelves.{shelf_of, IsBelow};
     ghost use Rattle.cache_evict.specs.Managed.{IsSharded};
-    ghost use Rattle.tier_model.specs.Past.{HasAPast};
-    ghost use Rattle.cache_tier.specs.States.{state_by};
+    ghost use Rattle.cache_tier.specs.States.{state_by, HasAPastOf};
 
     ghost Value = { State };
 
@@ -77,7 +82,7 @@ impl<const N: usize, S: BuildHasher> Model for Tier<N, S> {
     } };
 
     ghost invariant = { λ t. IsSharded N t.parts.manager × IsBelow (shelf_of t.parts.store)
-        × HasAPast (state_by t.parts.manager t.wait (shelf_of t.parts.store) t.parts.lock t.requests t.found t.absent) };
+        × HasAPastOf t.watermark t.age (state_by t.parts.manager t.wait (shelf_of t.parts.store) t.parts.lock t.requests t.found t.absent) };
 }
 
 impl<const N: usize> Tier<N, BuildHasherDefault<FoldHasher>> {
@@ -142,11 +147,25 @@ impl<const N: usize, S: BuildHasher + Copy> Tier<N, S> {
             requests: Requests::with_hasher(alloc, hasher),
             found: 0,
             absent: 0,
+            watermark,
+            age,
         })
     }
 }
 
 impl<const N: usize, S: BuildHasher> Tier<N, S> {
+    /// Returns what the tier was made with. It has N shards.
+    pub fn options(&self) -> TierOptions
+        ensures { settings_of self.now ≡ settings_with N result }
+    {
+        TierOptions {
+            limit: self.parts.manager.weight_limit(),
+            watermark: self.watermark,
+            age: self.age,
+            wait: self.wait,
+        }
+    }
+
     /// Returns what tracks the entries: in shards, each in the order of use, latest first, with their weights in bytes.
     pub fn manager(&self) -> &Manager<N, S>
         ensures same { result.now ≡ self.now.managed }
@@ -241,6 +260,8 @@ impl<const N: usize, S: BuildHasher + Drop> Drop for Tier<N, S> {
             requests,
             found: _,
             absent: _,
+            watermark: _,
+            age: _,
         } = self;
         requests.end_all(&mut parts);
     }

@@ -25,4 +25,4 @@ pub counted-headline : {R : Type 0} (n : ℕ) (a : CountedState R) (s rest : Str
 counted-headline n a s rest is =
     let sharded : IsSharded (shards_of is.first) is.first.managed = subst (λ (k : ℕ). IsSharded k is.first.managed) (sym is.opens.sharded.count) is.opens.sharded in
     let many = calls-as-many is.events is.outcomes is.takes.calls is.takes.are_of ∙ is.count in
-    (is.first, is.opens, (is.takes.calls, many, is.takes.headline (opening_of is.first) [] (opening_past is.first is.opens.is_new sharded)))
+    (is.first, is.opens, (is.takes.calls, many, is.takes.headline (opening_of is.first) [] (opening_past is.first is.opens.only_order sharded)))

@@ -3,7 +3,7 @@ use Rattle.std.specs.Prelude.{ℕ, refl}
 use Rattle.std.specs.Coded.{Coded, code_by, coded×, coded_ℕ}
 use Rattle.tier_model.specs.State.{State}
 use Rattle.tier_requests.specs.Codes.{state_code}
-use Rattle.recorded_tier.specs.declared.snapshot.TierOptions.{TierOptions}
+use Rattle.cache_tier.specs.declared.options.TierOptions.{TierOptions}
 use Rattle.recorded_tier.specs.declared.snapshot.Snapshot.{Snapshot}
 use Rattle.recorded_tier.specs.Codes.{snapshot_code}
 use Rattle.counted_tier.specs.Counted.{CountedState}

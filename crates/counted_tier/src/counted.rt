@@ -80,7 +80,7 @@ impl<const N: usize, R: Rng, L: Ledger, S: BuildHasher> Model for Counted<N, R, 
     ghost use Rattle.std.specs.Prelude.{◌≡◌, ◌+◌, ◌≤◌};
     ghost use Rattle.counted_tier.specs.Counted.{CountedState, IsCounted};
     ghost use Rattle.counted_tier.specs.Codes.{counted_code};
-    ghost use Rattle.recorded_tier.specs.contracts.snapshot.TierOptions.{the_row as options_row};
+    ghost use Rattle.cache_tier.specs.contracts.options.TierOptions.{the_row as options_row};
 
     ghost Value = { CountedState R };
 

@@ -3,9 +3,9 @@ ghost use Rattle.std.specs.Prelude.{◌≡◌, ℕ, ◌+◌, ◌<◌, IfOk, IfEr
 ghost use Rattle.cache_words.specs.declared.pack.fault.PackWriteFault.{PackWriteFault};
 ghost use Rattle.cache_evict.specs.Loads.{CantBeWritten};
 ghost use Rattle.cache_evict.specs.Managed.{rows_at};
-ghost use Rattle.tier_model.specs.Started.{IsNew, settings_of};
+ghost use Rattle.tier_model.specs.Started.{HasOnlyOrder, settings_of};
 ghost use Rattle.recorded_tier.specs.declared.pass.PassFault.TheVariants.{PassesSpent};
-ghost use Rattle.recorded_tier.specs.Openings.{settings_with};
+ghost use Rattle.cache_tier.specs.Options.{settings_with};
 ghost use Rattle.recorded_tier.specs.Recorded.{MatchRecorded};
 ghost use Rattle.counted_tier.specs.Counted.{IsCounted};
 
@@ -34,7 +34,8 @@ pub struct CountedTier<
 }
 
 impl<const N: usize, R: Rng + Clone, L: Ledger, S: BuildHasher> CountedTier<N, R, L, S> {
-    /// Shares a tier that was made with these options and has seen no event (`is_new` is asked for), and its generator. `blank` is the
+    /// Shares a tier that was made with these options (`tier.options()` returns them) and holds nothing but its order of use
+    /// (`has_only_order` is asked for), and its generator. `blank` is the
     /// tier's ledger, of 4294967296 parts.
     ///
     /// # Errors
@@ -48,7 +49,7 @@ impl<const N: usize, R: Rng + Clone, L: Ledger, S: BuildHasher> CountedTier<N, R
         tier: Tier<N, S>,
         rng: R,
     ) -> Result<CountedTier<N, R, L, S>, NotShared<N, R, S>>
-        requires new { IsNew tier }
+        requires only_order { HasOnlyOrder tier }
         requires made { settings_of tier ≡ settings_with N options }
         requires words { (copy : R) → R.is_clone rng copy → R.stream copy ≡ R.stream rng }
         requires blank { (blank.name ≡ L.name) × (blank.parts ≡ L.parts) × (L.parts ≡ 4294967296) }

@@ -124,11 +124,11 @@ impl<const N: usize, S: BuildHasher> Numbers<N, S> {
 
     /// Returns the hash of an entry by the tables' hasher: it is where the search for a free number may begin. A clause sees that
     /// the entry's parts are hashed from some start.
-    pub fn hash_of(&self, entry: &CacheEntryKey) -> u64
-        ensures { (start : S) × (result ≡ S.Hasher.finish (fold S.Hasher.write (S.build_hasher start) (table_writes entry.now))) }
+    pub fn hash_of(&self, entry: CacheEntryKeyRef<'_>) -> u64
+        ensures { (start : S) × (result ≡ S.Hasher.finish (fold S.Hasher.write (S.build_hasher start) (table_writes (owned_of entry.entry)))) }
     {
         let mut state = self.entries.hasher().build_hasher();
-        Query::of(CacheEntryKeyRef::from(entry)).hash(&mut state);
+        Query::of(entry).hash(&mut state);
         state.finish()
     }
 

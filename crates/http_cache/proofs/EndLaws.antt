@@ -1,5 +1,5 @@
--- A request that is disabled already.
-use Rattle.std.proofs.Common.{◌≡◌, ℕ, refl, ap, sym, subst, List, Option, Some, None, true, false}
+-- A request that is disabled already, or was just enabled.
+use Rattle.std.proofs.Common.{◌≡◌, ℕ, refl, ap, sym, subst, Bool, List, Option, Some, None, true, false}
 use Rattle.std.proofs.lemmas.Bool.{false≢true}
 use Rattle.cache_heads.specs.declared.reason.NoCacheReason.{NoCacheReason}
 use Rattle.cache_heads.specs.declared.reason.NoCacheReason.TheVariants.{NeverEnabled}
@@ -12,7 +12,8 @@ use Rattle.cache_phases.specs.declared.phase.CachePhase.{CachePhase}
 use Rattle.cache_phases.specs.declared.phase.CachePhase.TheVariants.{Disabled}
 use Rattle.cache_phases.specs.declared.request_lock.RequestLock.{RequestLock}
 use Rattle.cache_phases.specs.Phases.{is_disabled, is_never_enabled}
-use Rattle.cache_phases.specs.Locks.{held, left_by, let_go, lock_off, holds_permit}
+use Rattle.cache_phases.specs.declared.lock_ctx.CacheOptionOverrides.{CacheOptionOverrides}
+use Rattle.cache_phases.specs.Locks.{held, left_by, let_go, lock_off, lock_set, holds_permit}
 use Rattle.cache_phases.specs.Releases.{lock_released_for, released_in, status_for, key_in}
 use Rattle.http_cache.specs.Request.{Request, HoldsNothing, emptied, disabled_in, disabled_for}
 use Rattle.request_store.specs.Spends.{Spends, Leaves, Ends}
@@ -21,6 +22,12 @@ use Rattle.http_cache.specs.Points.{point, IsDisabledFor}
 pub off_when_never : (p : CachePhase) → is_never_enabled p ≡ true → is_disabled p ≡ true
 off_when_never (Disabled reason) e = refl
 off_when_never _ e = absurd (false≢true e)
+
+-- a lock that was just set holds nothing
+pub nothing_held_yet : (on : Bool) (overrides : Option CacheOptionOverrides) → held (lock_set on overrides) ≡ None
+nothing_held_yet true None = refl
+nothing_held_yet true (Some o) = refl
+nothing_held_yet false overrides = refl
 
 -- a lock that is off stays so
 pub off-let-go : (l : RequestLock) → l ≡ lock_off → let_go l ≡ lock_off

@@ -17,7 +17,7 @@ use Rattle.cache_phases.specs.HitStatuses.{is_fresh, is_treated_as_miss, found_p
 use Rattle.cache_phases.specs.Phases.{is_stale_phase}
 use Rattle.cache_phases.specs.Locks.{is_on, given_by, asked, left_by, now_holding, lock_held}
 use Rattle.request_store.specs.declared.faults.FoundFault.{FoundFault}
-use Rattle.request_store.specs.declared.faults.FoundFault.TheVariants.{Memory, Lock, Evict}
+use Rattle.request_store.specs.declared.faults.FoundFault.TheVariants.{Lock, Evict}
 use Rattle.http_cache.specs.Request.{Request, stored_at}
 use Rattle.request_store.specs.Spends.{Spends}
 use Rattle.http_cache.specs.Points.{Point}
@@ -71,18 +71,17 @@ pub record IsGivenUp {H M : Type 0} (reader : H → Reader) (moment : MomentValu
 abbrev pub is_counted : {H M : Type 0} → (H → Bool) → H → HitStatus → Request H M → Bool
 is_counted counts hit status r = not (is_treated_as_miss status) && (r.evicts && counts hit)
 
--- the order of use after a response was found, in n shards: a use of the entry e is counted, or isn't; a refusal changes nothing
+-- the order of use after a response was found, in n shards: a use of the entry e is counted, or isn't; a refusal changes nothing, and
+-- the manager's reason is told, which is Memory only where nothing else is in the way
 abbrev pub UseAnswer : ℕ → Bool → CacheEntryKey → ℕ → Managed → Result (Unit {0}) FoundFault → Managed → Type 0
 UseAnswer n counted e w old (Ok done) new = new ≡ (if counted then use_first n e w old else old)
 UseAnswer n counted e w old (Err (Evict f)) new = IsPutRefused n e w old f × (evicted_of f ≡ []) × (counted ≡ true) × (new ≡ old)
-UseAnswer n counted e w old (Err Memory) new = (counted ≡ true) × (new ≡ old)
 UseAnswer n counted e w old (Err (Lock f)) new = new ≡ old
 
--- the same of the count alone, which is refused where there is no memory for the entry
-abbrev pub CountAnswer : ℕ → Bool → CacheEntryKey → ℕ → Managed → Result (Unit {0}) (Option EvictFault) → Managed → Type 0
+-- the same of the count alone
+abbrev pub CountAnswer : ℕ → Bool → CacheEntryKey → ℕ → Managed → Result (Unit {0}) EvictFault → Managed → Type 0
 CountAnswer n counted e w old (Ok done) new = new ≡ (if counted then use_first n e w old else old)
-CountAnswer n counted e w old (Err (Some f)) new = IsPutRefused n e w old f × (evicted_of f ≡ []) × (counted ≡ true) × (new ≡ old)
-CountAnswer n counted e w old (Err None) new = (counted ≡ true) × (new ≡ old)
+CountAnswer n counted e w old (Err f) new = IsPutRefused n e w old f × (evicted_of f ≡ []) × (counted ≡ true) × (new ≡ old)
 
 -- a use is refused only of an entry that isn't tracked
 abbrev pub IsUntracked : ℕ → CacheEntryKey → FoundFault → Managed → Type 0

@@ -1,5 +1,5 @@
 //! A response that was found.
-ghost use Rattle.std.specs.Prelude.{◌≡◌, true, false, is_some, Some, None, OnOk, OnErr, IfOk, IfErr, IfSome, MatchResult};
+ghost use Rattle.std.specs.Prelude.{◌≡◌, true, false, is_some, Some, None, OnOk, OnErr, IfOk, IfErr, MatchResult};
 ghost use Rattle.cache_lock.specs.Answers.{to_wait_for, IsRefused, IsAsBefore};
 ghost use Rattle.cache_entries.specs.Rows.{weight_of};
 ghost use Rattle.cache_evict.specs.Managed.{rows_of};
@@ -14,14 +14,14 @@ ghost use Rattle.http_cache.specs.Points.{point};
 ghost use Rattle.http_cache.specs.Founds.{entry_at, found_given, found_asked, with_found, FoundSpends, IsTaken, IsGivenUp, is_counted, CountAnswer, UseAnswer, IsUntracked};
 
 use crate::request::HttpCache;
-use cache_evict::{CacheEntryKey, EvictFault, EvictionManager};
+use cache_evict::{EvictFault, EvictionManager};
 use cache_heads::CacheMeta;
 use cache_lock::{CacheKeyLock, LockFault, Locked};
 use cache_parts::Parts;
 use cache_phases::{CachePhase, HitStatus, give_back};
 use cache_store::storage::{HandleHit, HitHandler, Storage};
 use cache_words::time::Moment;
-use request_store::{FoundFault, finish_reader};
+use request_store::{FoundFault, finish_reader, use_entry};
 use std::alloc::Global;
 
 impl<S: Storage> HttpCache<S> {
@@ -74,32 +74,29 @@ impl<S: Storage> HttpCache<S> {
         self.question_as(lock, stale, moment)
     }
 
-    // Counts a use of the entry of a response that was found. An `Err(None)` is out of memory.
+    // Counts a use of the entry of a response that was found. Of an entry that is tracked it takes no memory.
     pub(crate) fn count_use<E: EvictionManager>(
-        &self,
+        &mut self,
         alloc: Global,
         manager: &mut E,
         fresh_until: Moment,
         hit: &S::Hit,
         status: HitStatus,
-    ) -> Result<(), Option<EvictFault>>
-        requires { is_some self.now.key ≡ true }
-        ensures counted { CountAnswer E.shard_count (is_counted S.Hit.counts hit.now status self.now) (entry_at self.now.key (S.Hit.id hit.now)) (E.weighed (S.Hit.weight hit.now))
+    ) -> Result<(), EvictFault>
+        requires { is_some self.old.key ≡ true }
+        ensures request { self.new ≡ self.old }
+        ensures counted { CountAnswer E.shard_count (is_counted S.Hit.counts hit.now status self.old) (entry_at self.old.key (S.Hit.id hit.now)) (E.weighed (S.Hit.weight hit.now))
             (E.managed manager.old) result (E.managed manager.new) }
-        ensures untracked { let e = entry_at self.now.key (S.Hit.id hit.now) in IfErr result (λ fault. IfSome fault (λ _. weight_of e (rows_of E.shard_count e (E.managed manager.old)) ≡ None)) }
+        ensures untracked { let e = entry_at self.old.key (S.Hit.id hit.now) in OnErr result (weight_of e (rows_of E.shard_count e (E.managed manager.old)) ≡ None) }
     {
         if status.is_treated_as_miss() || !self.evicts || !hit.should_count_access() {
             return Ok(());
         }
-        let Some(key) = &self.key else { unreachable!() };
-        let Ok(compact) = key.to_compact() else {
-            return Err(None);
+        let Some(key) = &mut self.key else {
+            unreachable!()
         };
-        let entry = CacheEntryKey::from_entry_id(compact, hit.entry_id());
-        match manager.access(alloc, &entry, hit.get_eviction_weight(), fresh_until) {
-            Ok(_) => Ok(()),
-            Err(fault) => Err(Some(fault)),
-        }
+        let weight = hit.get_eviction_weight();
+        use_entry(alloc, manager, key, hit.entry_id(), weight, fresh_until)
     }
 
     // Takes what was found, and spends the earlier reader.
@@ -157,8 +154,8 @@ impl<S: Storage> HttpCache<S> {
     ///
     /// # Errors
     ///
-    /// `Lock` where the lock refuses, `Memory` and `Evict` where the use can't be counted: the new reader is spent, what the lock gave
-    /// is given back, and all else is as before.
+    /// `Lock` where the lock refuses, `Evict` where the entry isn't tracked and can't be, for the manager's reason: the new reader is spent,
+    /// what the lock gave is given back, and all else is as before.
     pub fn cache_found<E: EvictionManager, P, L: CacheKeyLock, A>(
         &mut self,
         alloc: Global,
@@ -188,15 +185,10 @@ impl<S: Storage> HttpCache<S> {
         };
         match self.count_use(alloc, &mut parts.manager, meta.fresh_until(), &hit, status) {
             Ok(()) => {}
-            Err(None) => {
+            Err(refusal) => {
                 hit.finish(&mut parts.store);
                 give_back(&mut parts.lock, given);
-                return Err(FoundFault::Memory);
-            }
-            Err(Some(fault)) => {
-                hit.finish(&mut parts.store);
-                give_back(&mut parts.lock, given);
-                return Err(FoundFault::Evict(fault));
+                return Err(FoundFault::Evict(refusal));
             }
         }
         self.take_found(&mut parts.store, meta, hit, status);

@@ -57,7 +57,7 @@ impl<S: Storage> HttpCache<S> {
     ///
     /// # Errors
     ///
-    /// `Memory` and `Evict` where the use can't be counted: the new reader is spent, and all else is as before.
+    /// `Evict` where the entry isn't tracked and can't be, for the manager's reason: the new reader is spent, and all else is as before.
     pub fn cache_found_fresh<E: EvictionManager, P, L: CacheKeyLock, A>(
         &mut self,
         alloc: Global,
@@ -86,11 +86,7 @@ impl<S: Storage> HttpCache<S> {
                 self.keep_found(&mut parts.store, None, hit, CachePhase::Hit);
                 Ok(())
             }
-            Err(None) => {
-                hit.finish(&mut parts.store);
-                Err(FoundFault::Memory)
-            }
-            Err(Some(fault)) => {
+            Err(fault) => {
                 hit.finish(&mut parts.store);
                 Err(FoundFault::Evict(fault))
             }

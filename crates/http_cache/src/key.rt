@@ -2,6 +2,7 @@
 ghost use Rattle.std.specs.Prelude.{◌≡◌, Some, None, true, option_map, if◌then◌else◌, is_some};
 ghost use Rattle.cache_phases.specs.declared.phase.CachePhase.TheVariants.{CacheKey as KeyPhase};
 ghost use Rattle.cache_phases.specs.Phases.{can_set_key, may_have_key};
+ghost use Rattle.cache_phases.specs.Locks.{held};
 
 use crate::request::HttpCache;
 use cache_phases::CachePhase;
@@ -9,9 +10,11 @@ use cache_store::storage::Storage;
 use cache_words::key::CacheKey;
 
 impl<S: Storage> HttpCache<S> {
-    /// Sets the key.
+    /// Sets the key. Nothing may be held of the lock then, which `holds_lock` tells: a permit and a read lock are of the key before, and
+    /// under another key they would end what another request holds.
     pub fn set_cache_key(&mut self, key: CacheKey)
-        requires { can_set_key self.old.phase ≡ true }
+        requires phase { can_set_key self.old.phase ≡ true }
+        requires nothing_held { held self.old.lock ≡ None }
         ensures { self.new ≡ record self.old { phase = KeyPhase; key = Some key } }
     {
         self.key = Some(key);

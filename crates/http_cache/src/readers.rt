@@ -31,7 +31,7 @@ impl<S: Storage> HttpCache<S> {
         self.reader.take()
     }
 
-    /// Puts a reader in, where there is none.
+    /// Puts a reader in, where there is none: one that was taken out of this request. A reader doesn't tell its key, so that nothing tests it.
     pub fn put_reader(&mut self, hit: HitHandler<S>)
         requires enabled { is_disabled self.old.phase ≡ false }
         requires none { self.old.reader ≡ None }
@@ -51,7 +51,8 @@ impl<S: Storage> HttpCache<S> {
         self.writer.take()
     }
 
-    /// Puts a writer in, where there is none.
+    /// Puts a writer in, where there is none: one that was taken out of this request. A writer doesn't tell its key, so that nothing tests it:
+    /// the finish of another request's writer would admit the entry of this request's key.
     pub fn put_writer(&mut self, miss: MissHandler<S>)
         requires enabled { is_disabled self.old.phase ≡ false }
         requires none { self.old.writer ≡ None }

@@ -1,7 +1,8 @@
 //! A request, off and on.
-ghost use Rattle.std.specs.Prelude.{◌≡◌, true, false};
+ghost use Rattle.std.specs.Prelude.{◌≡◌, None, true, false};
 ghost use Rattle.cache_phases.specs.Phases.{is_disabled, is_enabled, is_bypass, is_upstream_used};
 ghost use Rattle.cache_phases.specs.Digests.{added};
+ghost use Rattle.cache_phases.specs.Locks.{held};
 ghost use Rattle.http_cache.specs.Request.{unused, enabled_with};
 
 use cache_heads::{CacheMeta, NoCacheReason};
@@ -94,10 +95,12 @@ impl<S: Storage> HttpCache<S> {
         }
     }
 
-    /// Lets the request use a cache, with those parts of it. All is anew but what the request reports of itself.
+    /// Lets the request use a cache, with those parts of it. All is anew but what the request reports of itself; nothing is held of the lock.
+    #[tactic(auto, using(crate::proofs::EndLaws::nothing_held_yet))]
     pub fn enable(&mut self, uses: Uses, overrides: Option<CacheOptionOverrides>)
         requires { is_disabled self.old.phase ≡ true }
-        ensures { self.new ≡ enabled_with uses overrides self.old }
+        ensures enabled { self.new ≡ enabled_with uses overrides self.old }
+        ensures nothing_held { held self.new.lock ≡ None }
     {
         self.phase = CachePhase::Uninit;
         self.key = None;

@@ -1,5 +1,5 @@
 //! A stale response that upstream confirms.
-ghost use Rattle.std.specs.Prelude.{◌≡◌, Some, None, true, is_some, IfOk, IfSome};
+ghost use Rattle.std.specs.Prelude.{◌≡◌, Some, None, true, is_some, IfOk, IfSome, IsErrOf};
 ghost use Rattle.cache_changes.specs.Store.{body_at};
 ghost use Rattle.cache_store.specs.Renewals.{UpdateAnswer};
 ghost use Rattle.cache_lock.specs.declared.status.LockStatus.TheVariants.{Done};
@@ -9,7 +9,7 @@ ghost use Rattle.cache_phases.specs.Locks.{let_go};
 ghost use Rattle.cache_phases.specs.Releases.{is_releasable, lock_released, lock_released_for, status_for, key_in};
 ghost use Rattle.http_cache.specs.Request.{stored_at};
 ghost use Rattle.request_store.specs.Begins.{renewed_from};
-ghost use Rattle.request_store.specs.Merges.{merged};
+ghost use Rattle.request_store.specs.Merges.{renewed_names, merged, Outgrows};
 ghost use Rattle.http_cache.specs.Revalidations.{with_head};
 
 use crate::request::HttpCache;
@@ -58,14 +58,15 @@ impl<S: Storage> HttpCache<S> {
     ///
     /// # Errors
     ///
-    /// Out of memory, or the head has more names than it can count.
+    /// Out of memory; and `MaxSizeReached`, only where the head gets more names or more values than it can count.
     pub fn revalidate_merge_header(
         &self,
         sent: &ResponseHeader,
     ) -> Result<ResponseHeader, HeaderMapError>
         requires phase { is_stale_phase self.now.phase ≡ true }
         requires meta { is_some self.now.meta ≡ true }
-        ensures { IfOk result (λ header. IfSome self.now.meta (λ m. header ≡ merged m.header sent.now)) }
+        ensures ok { IfOk result (λ header. IfSome self.now.meta (λ m. header ≡ merged m.header sent.now)) }
+        ensures full { IsErrOf result HeaderMapError.MaxSizeReached → IfSome self.now.meta (λ m. Outgrows sent.now.headers renewed_names m.header.headers) }
     {
         let Some(meta) = &self.meta else {
             unreachable!()

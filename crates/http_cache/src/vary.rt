@@ -1,7 +1,7 @@
 //! What a response varies by.
 ghost use Rattle.std.specs.Prelude.{◌≡◌, Some, None, true, is_some, if◌then◌else◌};
 ghost use Rattle.cache_heads.specs.Meta.{provenance_of};
-ghost use Rattle.cache_phases.specs.Locks.{let_go};
+ghost use Rattle.cache_phases.specs.Locks.{held, let_go};
 ghost use Rattle.cache_phases.specs.Phases.{can_vary, is_write_phase};
 ghost use Rattle.request_store.specs.Variants.{same_variance};
 ghost use Rattle.http_cache.specs.Variants.{variance_of, varying, variance_then, begins_family, leaves_key, with_variance, lock_varied};
@@ -18,9 +18,11 @@ use request_store::{same_variance, variance_of, vary_meta};
 impl<S: Storage> HttpCache<S> {
     /// Goes on to the variant with that variance of the response that was found, whose meta this is; variants that are older than that aren't
     /// found then. Returns whether the response is that variant. Where it is, and the key has no variance yet, the key keeps none, since the
-    /// first of the variants is stored under the key alone.
+    /// first of the variants is stored under the key alone. Nothing may be held of the lock, which `holds_lock` tells: what is held is held
+    /// under the key as it was, and would end under another.
     pub fn cache_vary_lookup(&mut self, variance: HashBinary, meta: &CacheMeta) -> bool
-        requires { can_vary self.old.phase ≡ true }
+        requires phase { can_vary self.old.phase ≡ true }
+        requires nothing_held { held self.old.lock ≡ None }
         ensures found { result ≡ same_variance meta.now.internal.variance (Some variance) }
         ensures request { self.new ≡ record self.old { valid_after = Some (provenance_of meta.now.internal); key = varying (variance_then result variance (variance_of self.old.key)) self.old.key } }
     {

@@ -1,6 +1,6 @@
 pub mod Slots
 pub mod Links
-pub mod Nodes
+pub mod Columns
 pub mod Lends
 pub mod BothEnds
 pub mod FaultTexts

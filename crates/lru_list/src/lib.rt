@@ -1,4 +1,4 @@
-//! A doubly linked list whose nodes are in one vector and are named by their indexes.
+//! A doubly linked list whose items are in one vector and whose links are in another; an item is named by its index in both.
 #![tactic(auto)]
 
 pub mod laws;

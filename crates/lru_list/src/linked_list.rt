@@ -1,4 +1,4 @@
-//! A doubly linked list in a vector: each item has an index that names it until it is removed.
+//! A doubly linked list in two vectors, of items and of links: each item has an index that names it until it is removed.
 //!
 //! Indexes 0 and 1 are the sentinels before the first item and after the last. Items begin at index 2.
 
@@ -15,10 +15,12 @@ pub use iter::LinkedListIter;
 mod edits;
 mod fault;
 mod iter;
-mod nodes;
+mod slots;
+#[cfg(test)]
+mod tests;
 
-use nodes::{
-    HEAD, NO_LINK, Node, TAIL, free_slot, link_head, link_tail, next_at, prev_at, swap_item,
+use slots::{
+    HEAD, Link, NO_LINK, TAIL, free_slot, link_head, link_tail, next_at, prev_at, swap_item,
     take_slot, unlink,
 };
 use std::alloc::AllocError;
@@ -36,7 +38,9 @@ pub const MOST_ITEMS: usize = 4294967293;
 /// A doubly linked list whose items are named by indexes.
 #[derive(Drop)]
 pub struct LinkedList<K = u64> {
-    nodes: Vec<Node<K>>,
+    // What each slot holds, and apart from that its links: as many as there are slots, at the same indexes.
+    items: Vec<K>,
+    links: Vec<Link>,
     // The freed slots, the one freed last at the end: it is reused next. There is room for all slots, so that a
     // removal needs no memory.
     free: Vec<u32>,
@@ -47,13 +51,13 @@ impl<K> Model for LinkedList<K> {
 
     ghost Value = { Slots K };
 
-    ghost use Rattle.std.specs.Prelude.{◌+◌, ◌≤◌, [], vec_len, vec_capacity};
+    ghost use Rattle.std.specs.Prelude.{◌≡◌, ◌+◌, ◌≤◌, [], vec_len, vec_capacity};
     ghost use Rattle.lru_list.specs.Links.{IsChained};
-    ghost use Rattle.lru_list.specs.Nodes.{items_of, nexts, prevs, order_in};
+    ghost use Rattle.lru_list.specs.Columns.{nexts, prevs, order_in};
 
-    ghost view = { λ l. record { order = order_in l.nodes.items l.free.items; items = items_of l.nodes.items; free = l.free.items } };
+    ghost view = { λ l. record { order = order_in l.links.items l.free.items; items = l.items.items; free = l.free.items } };
 
-    ghost invariant = { λ l. IsChained (nexts l.nodes.items) (prevs l.nodes.items) (order_in l.nodes.items l.free.items) l.free.items [] × (vec_len l.nodes ≤ vec_capacity l.free + 2) };
+    ghost invariant = { λ l. IsChained (nexts l.links.items) (prevs l.links.items) (order_in l.links.items l.free.items) l.free.items [] × ((vec_len l.items ≡ vec_len l.links) × (vec_len l.links ≤ vec_capacity l.free + 2)) };
 }
 
 impl<K> LinkedList<K> {
@@ -61,20 +65,20 @@ impl<K> LinkedList<K> {
     pub fn len(&self) -> usize
         ensures { result ≡ length self.now.order }
     {
-        self.nodes.len() - 2 - self.free.len()
+        self.links.len() - 2 - self.free.len()
     }
 
     /// Returns whether `i` names an item.
     pub fn is_live(&self, i: Index) -> bool
         ensures { IsTrue result ↔ (has self.now.order i ≡ true) }
     {
-        if i >= self.nodes.len() {
+        if i >= self.items.len() {
             return false;
         }
         if i < 2 {
             return false;
         }
-        next_at(&self.nodes, i) != NO_LINK
+        next_at(&self.links, i) != NO_LINK
     }
 
     /// Returns the item of slot `i`, or the default if the slot is free; `None` for a sentinel and past the last slot.
@@ -84,8 +88,7 @@ impl<K> LinkedList<K> {
         if i < 2 {
             return None;
         }
-        let node = self.nodes.get(i)?;
-        Some(&node.item)
+        self.items.get(i)
     }
 
     /// Returns the item of slot `i` for a change, or the default if the slot is free; `None` for a sentinel and past
@@ -94,7 +97,7 @@ impl<K> LinkedList<K> {
         ensures* writes_back { sem 𝓛 (lends_slot K.row self.entry i result) }
         ensures value { option_copied_mut result ≡ (if nat_lt i 2 then None else slice_get self.old.items i) }
     {
-        if i >= self.nodes.len() {
+        if i >= self.items.len() {
             return None;
         }
         if i < 2 {
@@ -108,7 +111,7 @@ impl<K> LinkedList<K> {
         ensures* writes_back { sem 𝓛 (lends_item K.row self.entry i result) }
         ensures value { slice_get self.old.items i ≡ Some result.now }
     {
-        &mut self.nodes[i].item
+        &mut self.items[i]
     }
 
     /// Returns the item that `i` names.
@@ -116,14 +119,14 @@ impl<K> LinkedList<K> {
         requires { has self.now.order i ≡ true }
         ensures { slice_get self.now.items i ≡ Some result.now }
     {
-        &self.nodes[i].item
+        &self.items[i]
     }
 
     /// Returns the index of the first item.
     pub fn head(&self) -> Option<Index>
         ensures { result ≡ slice_get self.now.order 0 }
     {
-        let i = next_at(&self.nodes, HEAD) as usize;
+        let i = next_at(&self.links, HEAD) as usize;
         if i == TAIL { None } else { Some(i) }
     }
 
@@ -131,7 +134,7 @@ impl<K> LinkedList<K> {
     pub fn tail(&self) -> Option<Index>
         ensures { result ≡ slice_get self.now.order (length self.now.order - 1) }
     {
-        let i = prev_at(&self.nodes, TAIL) as usize;
+        let i = prev_at(&self.links, TAIL) as usize;
         if i == HEAD { None } else { Some(i) }
     }
 
@@ -142,7 +145,7 @@ impl<K> LinkedList<K> {
         ensures freed { has self.now.free i ≡ true → result ≡ 2 ^ 32 - 1 }
         ensures last { i ≡ 1 → result ≡ 2 ^ 32 - 1 }
     {
-        next_at(&self.nodes, i) as usize
+        next_at(&self.links, i) as usize
     }
 
     /// Returns the index before that of a slot or a sentinel, `u32::MAX` if there is none.
@@ -152,14 +155,14 @@ impl<K> LinkedList<K> {
         ensures freed { has self.now.free i ≡ true → result ≡ 2 ^ 32 - 1 }
         ensures first { i ≡ 0 → result ≡ 2 ^ 32 - 1 }
     {
-        prev_at(&self.nodes, i) as usize
+        prev_at(&self.links, i) as usize
     }
 
     /// Returns whether `i` names one of the first `search_limit` items. It looks at no others.
     pub fn is_near_head(&self, i: Index, search_limit: usize) -> bool
         ensures { result ≡ has (take search_limit self.now.order) i }
     {
-        let mut at = next_at(&self.nodes, HEAD) as usize;
+        let mut at = next_at(&self.links, HEAD) as usize;
         for _ in 0..search_limit {
             if at == TAIL {
                 return false;
@@ -167,7 +170,7 @@ impl<K> LinkedList<K> {
             if at == i {
                 return true;
             }
-            at = next_at(&self.nodes, at) as usize;
+            at = next_at(&self.links, at) as usize;
         }
         false
     }
@@ -179,8 +182,8 @@ impl<K> LinkedList<K> {
         let left = self.len();
         LinkedListIter {
             list: self,
-            front: next_at(&self.nodes, HEAD) as usize,
-            back: prev_at(&self.nodes, TAIL) as usize,
+            front: next_at(&self.links, HEAD) as usize,
+            back: prev_at(&self.links, TAIL) as usize,
             from: 0,
             left,
         }
@@ -191,7 +194,7 @@ impl<K> LinkedList<K> {
         requires { has self.now.order i ≡ true }
         ensures { (k : ℕ) → k < length self.now.order → slice_index self.now.order k ≡ i → result ≡ slice_index (self.now.order ++ 1 ∷ []) (k + 1) }
     {
-        let after = next_at(&self.nodes, i);
+        let after = next_at(&self.links, i);
         after as usize
     }
 
@@ -200,7 +203,7 @@ impl<K> LinkedList<K> {
         requires { has self.now.order i ≡ true }
         ensures { (k : ℕ) → k < length self.now.order → slice_index self.now.order k ≡ i → result ≡ slice_index (0 ∷ self.now.order) k }
     {
-        let before = prev_at(&self.nodes, i);
+        let before = prev_at(&self.links, i);
         before as usize
     }
 
@@ -209,8 +212,9 @@ impl<K> LinkedList<K> {
         ensures same { self.new ≡ self.old }
         ensures refused { OnErr result (0 < additional) }
     {
-        let unused = self.nodes.len() - self.free.len() - 2;
-        self.nodes.reserve(additional)?;
+        let unused = self.links.len() - self.free.len() - 2;
+        self.items.reserve(additional)?;
+        self.links.reserve(additional)?;
         self.free.reserve(additional.saturating_add(unused))
     }
 
@@ -219,8 +223,8 @@ impl<K> LinkedList<K> {
         requires { has self.old.order i ≡ true }
         ensures { self.new ≡ record self.old { order = i ∷ without i self.old.order } }
     {
-        unlink(&mut self.nodes, i);
-        link_head(&mut self.nodes, i);
+        unlink(&mut self.links, i);
+        link_head(&mut self.links, i);
     }
 
     /// Replaces the item that `i` names, and returns the old one.
@@ -229,7 +233,7 @@ impl<K> LinkedList<K> {
         ensures value { slice_get self.old.items i ≡ Some result }
         ensures after { self.new ≡ record self.old { items = slice_set self.old.items i item } }
     {
-        swap_item(&mut self.nodes, i, item)
+        swap_item(&mut self.items, i, item)
     }
 }
 

@@ -2,9 +2,11 @@
 mod bounds;
 mod callbacks;
 mod endings;
+mod handed;
 mod made;
 mod managers;
 mod running;
 mod saved;
+mod sharded;
 mod shards;
 mod worlds;

@@ -2,4 +2,5 @@
 mod calls;
 mod folders;
 mod loads;
+mod mixed;
 mod stops;

@@ -1,8 +1,7 @@
 -- Writes that land: given up, or finished.
 use Rattle.std.proofs.Common.{◌≡◌, ℕ, refl, ap, sym, ◌∙◌, true, false, subst, cond, [], ◌∷◌, nat_eq}
-use Rattle.std.specs.Prelude.{Bool, List, Option, Some, None, option_map, not, find, is_some, length, ◌&&◌}
+use Rattle.std.specs.Prelude.{Bool, List, Option, Some, None, option_map, not, find, length, ◌&&◌}
 use Rattle.std.specs.Map.{lookup, remove_entry}
-use Rattle.std.specs.List.Sorted.{IsStrictlySortedBy}
 use Rattle.std.specs.BTreeMap as tree
 use Rattle.std.specs.BTreeMap.{BTreeMap, is_at}
 use Rattle.std.specs.Ordering.{nat_cmp}
@@ -16,9 +15,8 @@ use Rattle.cache_store.specs.Agree.{Agree}
 use Rattle.cache_store.specs.Held.{Reading, Held, left_with}
 use Rattle.cache_store.specs.Answers.{alive_key, left_behind, left, FinishesWith}
 use Rattle.mem_cache.specs.Alive.{is_pair}
-use Rattle.mem_cache.specs.Kept.{bytes_in, seen, flights_of, body_of, bodies_of, key_at, ChangesAt}
+use Rattle.mem_cache.specs.Kept.{seen, flights_of, body_of, bodies_of, key_at}
 use Rattle.mem_cache.proofs.HeldLaws.{held}
-use Rattle.mem_cache.proofs.FlightLaws.{seen-unchanged}
 use Rattle.mem_cache.proofs.RowLaws.{ascends}
 use Rattle.mem_cache.proofs.SeenLaws.{Alive, seen-landed}
 use Rattle.mem_cache.proofs.FirstLaws.{flying-seen}
@@ -95,49 +93,33 @@ pub alive-flight : (alive : Alive) (n : ℕ) (k : StoredKey) (flights : BTreeMap
     → (f : Flight) × (tree.get nat_cmp flights n ≡ Some f) × (f.key ≡ k)
 alive-flight alive n k flights e = alive-option alive n k (tree.get nat_cmp flights n) (sym (ap alive_key (flying-seen alive n flights.entries)) ∙ e)
 
-pub there-still : (n : ℕ) (k : StoredKey) (flights : BTreeMap ℕ Flight) → key_at flights n ≡ Some k → is_some (tree.get nat_cmp flights n) ≡ true
-there-still n k flights e = by_option (tree.get nat_cmp flights n) e
-  where
-    by_option : (o : Option Flight) → option_map (λ f. f.key) o ≡ Some k → is_some o ≡ true
-    by_option None e = absurd cc
-    by_option (Some f) e = refl
-
--- a write that was alive is finished: its bytes were shared, it was taken out, and its readers are left with its bytes
-pub finished-is : (a b : Alive) (n : ℕ) (key : StoredKey) (flights shared rest : BTreeMap ℕ Flight) (taken : Flight) (meta : CacheMeta) (bytes : List ℕ) (size next : ℕ) (olds news : List (StoredKey × Body)) (rs after_rs : List Reading)
-    → tree.IsOrdered nat_cmp flights → alive_key (find (has_number n) (flights_of a flights.entries)) ≡ Some key → ChangesAt n (λ f. f) flights shared
-    → ((f : Flight) → tree.get nat_cmp flights n ≡ Some f → bytes ≡ bytes_in f.buffer) → tree.get nat_cmp shared n ≡ Some taken → meta ≡ taken.meta → rest.entries ≡ remove_entry (is_at (nat_cmp n)) shared.entries
-    → ((j : StoredKey) (m : ℕ) → b j m ≡ (a j m && not (is_pair key n j m))) → after_rs ≡ left_with n (bytes_in taken.buffer) rs
+-- a write that was alive is finished: its bytes were joined, it was taken out, and its readers are left with what was joined
+pub finished-is : (a b : Alive) (n : ℕ) (key : StoredKey) (flights rest : BTreeMap ℕ Flight) (taken : Flight) (meta : CacheMeta) (bytes : List ℕ) (size next : ℕ) (olds news : List (StoredKey × Body)) (rs after_rs : List Reading)
+    → tree.IsOrdered nat_cmp flights → alive_key (find (has_number n) (flights_of a flights.entries)) ≡ Some key
+    → bytes ≡ taken.pieces → tree.get nat_cmp flights n ≡ Some taken → meta ≡ taken.meta → rest.entries ≡ remove_entry (is_at (nat_cmp n)) flights.entries
+    → ((j : StoredKey) (m : ℕ) → b j m ≡ (a j m && not (is_pair key n j m))) → after_rs ≡ left_with n bytes rs
     → ((k : StoredKey) → lookup (pointwise nat_eq k) news ≡ cond (pointwise nat_eq key k) (Some (record { number = n; meta = meta; bytes = bytes })) (lookup (pointwise nat_eq k) olds)) → size ≡ length bytes
     → FinishesWith n size (held (bodies_of olds) (flights_of a flights.entries) next rs) (held (bodies_of news) (flights_of b rest.entries) next after_rs)
-finished-is a b n key flights shared rest taken meta bytes size next olds news rs after_rs ordered alive kept value there same_meta removed gone leaving put sized = (
+finished-is a b n key flights rest taken meta bytes size next olds news rs after_rs ordered alive bytes_are there same_meta removed gone leaving put sized = (
   (seen a (n, taken)).stored,
   sized ∙ ap length bytes_are,
   record {
     shown = ap (option_map (λ (f : Flying CacheMeta). f.stored)) flight;
     store = finished-agree n key (record { number = n; meta = taken.meta; bytes = bytes }) olds news (flights_of a flights.entries) (flights_of b rest.entries) (seen a (n, taken)) flight stored put_taken
-        (ap (flights_of b) removed ∙ seen-landed a b key n shared.entries gone (ascends shared.entries (subst (λ (ks : List ℕ). IsStrictlySortedBy nat_cmp ks) (sym kept.keys) ordered)) ∙ ap (landed n) unchanged);
+        (ap (flights_of b) removed ∙ seen-landed a b key n flights.entries gone (ascends flights.entries ordered));
     next = refl;
-    readings = leaving ∙ ap (λ (o : Option (Flying CacheMeta)). left_behind n o rs) (sym flight);
+    readings = leaving ∙ ap (λ (bs : List ℕ). left_with n bs rs) bytes_are ∙ ap (λ (o : Option (Flying CacheMeta)). left_behind n o rs) (sym flight);
   },
 )
   where
-    unchanged : flights_of a shared.entries ≡ flights_of a flights.entries
-    unchanged = seen-unchanged n flights shared kept a
-
     flight : find (has_number n) (flights_of a flights.entries) ≡ Some (seen a (n, taken))
-    flight = sym (ap (find (has_number n)) unchanged) ∙ seen-at a n taken shared there
+    flight = seen-at a n taken flights there
 
     first : (f : Flight) × (tree.get nat_cmp flights n ≡ Some f) × (f.key ≡ key)
     first = alive-flight a n key flights alive
 
-    same : seen a (n, taken) ≡ seen a (n, first.0)
-    same = let one : Some (seen a (n, taken)) ≡ Some (seen a (n, first.0)) = sym flight ∙ seen-at a n first.0 flights first.1 in cc
-
-    bytes_are : bytes ≡ bytes_in taken.buffer
-    bytes_are = value first.0 first.1 ∙ sym (ap (λ (x : Flying CacheMeta). x.stored.bytes) same)
-
     key_is : taken.key ≡ key
-    key_is = ap (λ (x : Flying CacheMeta). x.stored.write.key) same ∙ first.2
+    key_is = let one : Some taken ≡ Some first.0 = sym there ∙ first.1 in ap (λ (f : Flight). f.key) (let same : taken ≡ first.0 = cc in same) ∙ first.2
 
     put_taken : (k : StoredKey) → lookup (pointwise nat_eq k) news ≡ cond (pointwise nat_eq key k) (Some (record { number = n; meta = taken.meta; bytes = bytes })) (lookup (pointwise nat_eq k) olds)
     put_taken k = put k ∙ ap (λ (m : CacheMeta). cond (pointwise nat_eq key k) (Some (record { number = n; meta = m; bytes = bytes })) (lookup (pointwise nat_eq k) olds)) same_meta
@@ -145,7 +127,8 @@ finished-is a b n key flights shared rest taken meta bytes size next olds news r
     stored : (seen a (n, taken)).stored ≡ body_of (key, record { number = n; meta = taken.meta; bytes = bytes })
     stored = λ i. record { write = record { number = n; key = key_is i; meta = taken.meta }; meta = taken.meta; bytes = sym bytes_are i }
 
-pub key-kept : (a : Alive) (n : ℕ) (key : StoredKey) (flights shared : BTreeMap ℕ Flight) → alive_key (find (has_number n) (flights_of a flights.entries)) ≡ Some key → ChangesAt n (λ f. f) flights shared → key_at shared n ≡ Some key
-key-kept a n key flights shared alive kept =
+-- the key of such a write
+pub key-alive : (a : Alive) (n : ℕ) (key : StoredKey) (flights : BTreeMap ℕ Flight) → alive_key (find (has_number n) (flights_of a flights.entries)) ≡ Some key → key_at flights n ≡ Some key
+key-alive a n key flights alive =
     let first = alive-flight a n key flights alive in
-    kept.known n ∙ ap (option_map (λ (f : Flight). f.key)) first.1 ∙ ap (λ (k : StoredKey). Some k) first.2
+    ap (option_map (λ (f : Flight). f.key)) first.1 ∙ ap (λ (k : StoredKey). Some k) first.2

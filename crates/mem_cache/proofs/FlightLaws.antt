@@ -10,8 +10,7 @@ use Rattle.cache_heads.specs.declared.meta.CacheMeta.{CacheMeta}
 use Rattle.cache_changes.specs.Changes.{StoredKey}
 use Rattle.cache_changes.specs.Store.{Flying, has_number, on_flying, with_bytes, ended}
 use Rattle.mem_cache.specs.declared.flight.Flight.{Flight}
-use Rattle.mem_cache.specs.declared.flight.Buffer.{Buffer}
-use Rattle.mem_cache.specs.Kept.{bytes_in, seen, flights_of, written, ChangesAt}
+use Rattle.mem_cache.specs.Kept.{seen, flights_of, written, ChangesAt}
 use Rattle.mem_cache.proofs.RowLaws.{ascends, seen-set}
 
 key-set : (n : ℕ) (v w : Flight) → w.key ≡ v.key → (m : ℕ) (es : List (ℕ × Flight)) → lookup (is_at (nat_cmp n)) es ≡ Some v
@@ -35,17 +34,16 @@ changes_at n change old new v w o e s k h = record {
   seen = λ alive. ap (flights_of alive) s ∙ seen-set (seen alive) n (has_number n) (λ x. refl) change v w (h alive) old.entries (ascends old.entries o) e;
 }
 
--- another buffer with the same bytes, and with more bytes
-pub rebuffered : (n : ℕ) (old new : BTreeMap ℕ Flight) (v : Flight) (b : Buffer) → tree.IsOrdered nat_cmp old → tree.get nat_cmp old n ≡ Some v
-    → new.entries ≡ set_value (is_at (nat_cmp n)) old.entries (record v { buffer = b }) → bytes_in b ≡ bytes_in v.buffer → ChangesAt n (λ f. f) old new
-rebuffered n old new v b o e s h = changes_at n (λ f. f) old new v (record v { buffer = b }) o e s refl (λ alive i. record (seen alive (n, v)) { stored = record (seen alive (n, v)).stored { bytes = h i } })
+-- the same write put back, and with more bytes
+pub put_back : (n : ℕ) (old new : BTreeMap ℕ Flight) (v : Flight) → tree.IsOrdered nat_cmp old → tree.get nat_cmp old n ≡ Some v
+    → new.entries ≡ set_value (is_at (nat_cmp n)) old.entries v → ChangesAt n (λ f. f) old new
+put_back n old new v o e s = changes_at n (λ f. f) old new v v o e s refl (λ alive. refl)
 
-pub appended : (n : ℕ) (more : List ℕ) (eof : Bool) (old new : BTreeMap ℕ Flight) (v : Flight) (b : Buffer) → tree.IsOrdered nat_cmp old → tree.get nat_cmp old n ≡ Some v → v.ended ≡ false
-    → new.entries ≡ set_value (is_at (nat_cmp n)) old.entries (record v { buffer = b; ended = eof }) → bytes_in b ≡ bytes_in v.buffer ++ more → ChangesAt n (written more eof) old new
-appended n more true old new v b o e t s h =
-    changes_at n (written more true) old new v (record v { buffer = b; ended = true }) o e s refl (λ alive i. record (seen alive (n, v)) { stored = record (seen alive (n, v)).stored { bytes = h i }; ended = true })
-appended n more false old new v b o e t s h =
-    changes_at n (written more false) old new v (record v { buffer = b; ended = false }) o e s refl (λ alive i. record (seen alive (n, v)) { stored = record (seen alive (n, v)).stored { bytes = h i }; ended = sym t i })
+pub appended : (n : ℕ) (more : List ℕ) (eof : Bool) (old new : BTreeMap ℕ Flight) (v : Flight) → tree.IsOrdered nat_cmp old → tree.get nat_cmp old n ≡ Some v → v.ended ≡ false
+    → new.entries ≡ set_value (is_at (nat_cmp n)) old.entries (record v { pieces = v.pieces ++ more; ended = eof }) → ChangesAt n (written more eof) old new
+appended n more true old new v o e t s = changes_at n (written more true) old new v (record v { pieces = v.pieces ++ more; ended = true }) o e s refl (λ alive. refl)
+appended n more false old new v o e t s =
+    changes_at n (written more false) old new v (record v { pieces = v.pieces ++ more; ended = false }) o e s refl (λ alive i. record (seen alive (n, v)) { stored = record (seen alive (n, v)).stored { bytes = v.pieces ++ more }; ended = sym t i })
 
 -- nothing changed
 same_list : (n : ℕ) (fs : List (Flying CacheMeta)) → on_flying n (λ f. f) fs ≡ fs

@@ -1,5 +1,5 @@
 -- A look-up at a moment that finds a fresh body.
-use Rattle.std.proofs.Common.{◌≡◌, refl, ap, sym, ◌∙◌, subst, Option, Some, None, true, false, Ok, Err}
+use Rattle.std.proofs.Common.{◌≡◌, refl, ap, sym, ◌∙◌, subst, Option, Some, true, Ok, Err}
 use Rattle.std.specs.Prelude.{Bool, Result, MatchResult, if◌then◌else◌}
 use Rattle.cache_words.specs.Time.{MomentValue}
 use Rattle.cache_heads.specs.Fresh.{is_fresh_at}

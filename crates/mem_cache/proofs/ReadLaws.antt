@@ -33,7 +33,7 @@ pub left-nowhere : (n : ℕ) (readers : BTreeMap ℕ Readers) → tree.get nat_c
 left-nowhere n readers e = ap (option_and_then (λ (r : Reading). r.left)) (reading-found n readers.entries ∙ ap (option_map (λ x. reading_of (n, x))) e)
 
 pub readable-flight : (alive : Alive) (n : ℕ) (f : Flight) (flights : BTreeMap ℕ Flight) (left : Option (List ℕ)) → tree.get nat_cmp flights n ≡ Some f
-    → readable_of (find (has_number n) (flights_of alive flights.entries)) left ≡ Some (bytes_in f.buffer, f.ended)
+    → readable_of (find (has_number n) (flights_of alive flights.entries)) left ≡ Some (f.pieces, f.ended)
 readable-flight alive n f flights left e = ap (λ (o : Option (Flying CacheMeta)). readable_of o left) (seen-at alive n f flights e)
 
 pub readable-left : (alive : Alive) (n : ℕ) (flights : BTreeMap ℕ Flight) (left o : Option (List ℕ)) → tree.get nat_cmp flights n ≡ None → left ≡ o

@@ -13,9 +13,8 @@ use Rattle.cache_entries.specs.SameEntry.{same_bytes-tells}
 use Rattle.cache_changes.specs.Changes.{StoredKey}
 use Rattle.cache_changes.specs.Store.{Flying, has_number, landed, begun, marked}
 use Rattle.mem_cache.specs.declared.flight.Flight.{Flight}
-use Rattle.mem_cache.specs.declared.flight.Buffer.{Buffer}
 use Rattle.mem_cache.specs.Alive.{is_pair}
-use Rattle.mem_cache.specs.Kept.{bytes_in, seen, flights_of}
+use Rattle.mem_cache.specs.Kept.{seen, flights_of}
 use Rattle.mem_cache.proofs.RowLaws.{Ascends, above_apart, seen-removed, removed-apart}
 
 abbrev pub Alive : Type 0
@@ -71,13 +70,13 @@ or_true : (v : Bool) → (v || true) ≡ true
 or_true true = refl
 or_true false = refl
 
-pub seen-push : (a b : Alive) (k : StoredKey) (n : ℕ) (meta : CacheMeta) (buffer : Buffer) (es : List (ℕ × Flight)) → ((j : StoredKey) (m : ℕ) → b j m ≡ (a j m || is_pair k n j m))
-    → AllByRecursion (λ m. m < n) (keys_of es) → bytes_in buffer ≡ []
-    → flights_of b (es ++ (n, record { key = k; meta = meta; buffer = buffer; ended = false }) ∷ []) ≡ flights_of a es ++ begun (record { number = n; key = k; meta = meta }) ∷ []
-seen-push a b k n meta buffer es h below empty =
+pub seen-push : (a b : Alive) (k : StoredKey) (n : ℕ) (meta : CacheMeta) (pieces : List ℕ) (es : List (ℕ × Flight)) → ((j : StoredKey) (m : ℕ) → b j m ≡ (a j m || is_pair k n j m))
+    → AllByRecursion (λ m. m < n) (keys_of es) → pieces ≡ []
+    → flights_of b (es ++ (n, record { key = k; meta = meta; pieces = pieces; ended = false }) ∷ []) ≡ flights_of a es ++ begun (record { number = n; key = k; meta = meta }) ∷ []
+seen-push a b k n meta pieces es h below empty =
     let alive : b k n ≡ true = h k n ∙ ap (λ (v : Bool). a k n || v) (pair_itself k n) ∙ or_true (a k n) in
-    seen-append b (n, record { key = k; meta = meta; buffer = buffer; ended = false }) es
-    ∙ λ i. seen-begun a b k n (record { key = k; meta = meta; buffer = buffer; ended = false }) es h below i
+    seen-append b (n, record { key = k; meta = meta; pieces = pieces; ended = false }) es
+    ∙ λ i. seen-begun a b k n (record { key = k; meta = meta; pieces = pieces; ended = false }) es h below i
     ++ record (begun (record { number = n; key = k; meta = meta })) { stored = record { write = record { number = n; key = k; meta = meta }; meta = meta; bytes = empty i }; removed = not (alive i) } ∷ []
 
 -- a write lands

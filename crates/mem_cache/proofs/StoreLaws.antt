@@ -12,7 +12,7 @@ use Rattle.cache_store.specs.Held.{Held}
 use Rattle.cache_store.specs.Looks.{IsFoundAs, LookAnswer, StreamAnswer, TagAnswer, Tells}
 use Rattle.cache_store.specs.declared.storage.ReadStep.{ReadStep}
 use Rattle.cache_store.specs.declared.storage.ReadStep.TheVariants.{Bytes, Pending, End}
-use Rattle.cache_store.specs.Readers.{Reader, whole, streaming, ReadsSame}
+use Rattle.cache_store.specs.Readers.{whole, streaming, ReadsSame}
 use Rattle.mem_cache.specs.declared.flight.Flight.{Flight}
 use Rattle.mem_cache.specs.declared.handlers.MemHitHandler.{MemHitHandler}
 use Rattle.mem_cache.specs.Hits.{unread}

@@ -9,17 +9,17 @@ use Rattle.cache_changes.specs.Changes.{StoredKey}
 use Rattle.cache_changes.specs.Store.{Stored, Flying, on_flying, with_bytes, ended}
 use Rattle.cache_store.specs.Held.{Reading}
 use Rattle.mem_cache.specs.declared.flight.Buffer.{Buffer}
-use Rattle.mem_cache.specs.declared.flight.Buffer.TheVariants.{Open, Shared}
+use Rattle.mem_cache.specs.declared.flight.Buffer.TheVariants.{InPieces, Whole}
 use Rattle.mem_cache.specs.declared.flight.Flight.{Flight}
 use Rattle.mem_cache.specs.declared.flight.Body.{Body}
 use Rattle.mem_cache.specs.declared.flight.Readers.{Readers}
 
 abbrev pub bytes_in : Buffer → List ℕ
-bytes_in (Open bytes) = bytes.items
-bytes_in (Shared bytes) = bytes
+bytes_in (InPieces bytes) = bytes
+bytes_in (Whole bytes) = bytes
 
 abbrev pub stored_flight : ℕ × Flight → Stored CacheMeta
-stored_flight e = record { write = record { number = e.0; key = e.1.key; meta = e.1.meta }; meta = e.1.meta; bytes = bytes_in e.1.buffer }
+stored_flight e = record { write = record { number = e.0; key = e.1.key; meta = e.1.meta }; meta = e.1.meta; bytes = e.1.pieces }
 
 -- a write in flight, where `alive` says which are
 abbrev pub seen : (StoredKey → ℕ → Bool) → ℕ × Flight → Flying CacheMeta

@@ -1,5 +1,6 @@
 pub mod Alive
 pub mod Hits
+pub mod Pieces
 pub mod Kept
 pub mod Laws
 pub mod Looks

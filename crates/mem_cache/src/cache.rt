@@ -26,6 +26,8 @@ use std::marker::Model;
 
 mod finished;
 mod renewals;
+#[cfg(test)]
+mod tests;
 mod wholes;
 mod writes;
 
@@ -118,10 +120,10 @@ impl<S: BuildHasher> MemCache<S> {
     {
         if let Some(kept) = self.flights.get(&number) {
             let flight = kept.flight();
-            return flight.buffer.read_from(self.alloc, place, flight.ended);
+            return flight.pieces.read_from(self.alloc, place, flight.ended);
         }
         match readers::left_of(&self.readers, number) {
-            Some(buffer) => buffer.read_from(self.alloc, place, true),
+            Some(buffer) => buffer.read_from(self.alloc, place),
             None => Ok(ReadStep::End),
         }
     }

@@ -1,8 +1,8 @@
 //! What is kept of writes.
 ghost use Rattle.std.specs.Prelude.{◌≡◌, ◌++◌, IfOk, OnOk, OnErr};
 ghost use Rattle.cache_store.specs.Renewals.{expired};
-ghost use Rattle.mem_cache.specs.Kept.{bytes_in};
 
+use crate::pieces::Pieces;
 use bytes::Bytes;
 use cache_heads::CacheMeta;
 use cache_words::key::HashBinary;
@@ -11,15 +11,15 @@ use packed_meta::PackedMeta;
 use std::alloc::{AllocError, Global};
 use std::marker::Model;
 
-mod bytes_in;
+mod left;
 
-// The bytes of a write.
+// The bytes that readers of a write are left with.
 #[derive(Drop)]
 pub(crate) enum Buffer {
-    // More may come.
-    Open(Vec<u8>),
-    // Shared with a body.
-    Shared(Bytes),
+    // Of a write that was given up.
+    InPieces(Pieces),
+    // Shared with the body that the write became.
+    Whole(Bytes),
 }
 
 // A write in flight.
@@ -27,7 +27,7 @@ pub(crate) enum Buffer {
 pub(crate) struct Flight {
     pub(crate) key: HashBinary,
     pub(crate) meta: CacheMeta,
-    pub(crate) buffer: Buffer,
+    pub(crate) pieces: Pieces,
     pub(crate) ended: bool,
 }
 
@@ -72,21 +72,13 @@ impl InFlight {
     }
 
     // Adds bytes, and marks the end where they are the last.
-    pub(crate) fn append(&mut self, alloc: Global, more: &[u8], eof: bool) -> Result<(), AllocError>
-        ensures ok { OnOk result ((self.new ≡ record self.old { buffer = self.new.buffer; ended = eof }) × (bytes_in self.new.buffer ≡ bytes_in self.old.buffer ++ more.now)) }
-        ensures err { OnErr result ((self.new ≡ record self.old { buffer = self.new.buffer }) × (bytes_in self.new.buffer ≡ bytes_in self.old.buffer)) }
+    pub(crate) fn append(&mut self, alloc: Global, more: Bytes, eof: bool) -> Result<(), AllocError>
+        ensures ok { OnOk result (self.new ≡ record self.old { pieces = self.old.pieces ++ more; ended = eof }) }
+        ensures err { OnErr result (self.new ≡ self.old) }
     {
-        self.flight.buffer.append(alloc, more)?;
+        self.flight.pieces.push(alloc, more)?;
         self.flight.ended = eof;
         Ok(())
-    }
-
-    // Shares the bytes.
-    pub(crate) fn share(&mut self, alloc: Global) -> Result<Bytes, AllocError>
-        ensures value { IfOk result (λ bytes. bytes ≡ bytes_in self.old.buffer) }
-        ensures kept { (self.new ≡ record self.old { buffer = self.new.buffer }) × (bytes_in self.new.buffer ≡ bytes_in self.old.buffer) }
-    {
-        self.flight.buffer.share(alloc)
     }
 }
 

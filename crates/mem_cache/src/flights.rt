@@ -6,7 +6,7 @@ ghost use Rattle.std.specs.Map.{remove_entry};
 ghost use Rattle.std.specs.List.{AllByRecursion};
 ghost use Rattle.cache_store.specs.declared.storage.StoreFault.{StoreFault as Fault};
 ghost use Rattle.mem_cache.specs.declared.flight.Flight.{Flight as FlightValue};
-ghost use Rattle.mem_cache.specs.Kept.{bytes_in, key_at, written, ChangesAt};
+ghost use Rattle.mem_cache.specs.Kept.{key_at, written, ChangesAt};
 ghost use Rattle.cache_store.specs.Answers.{WriteAnswer};
 
 use crate::flight::{Flight, InFlight};
@@ -45,11 +45,11 @@ pub(crate) fn append(
     flights: &mut Flights,
     alloc: Global,
     number: u64,
-    more: &[u8],
+    more: Bytes,
     eof: bool,
 ) -> Result<(), StoreFault>
     ensures answer { WriteAnswer (option_map (λ f. f.ended) (get nat_cmp flights.old number)) result }
-    ensures ok { OnOk result (ChangesAt number (written more.now eof) flights.old flights.new) }
+    ensures ok { OnOk result (ChangesAt number (written more eof) flights.old flights.new) }
     ensures err { OnErr result (ChangesAt number (λ f. f) flights.old flights.new) }
 {
     match flights.get(&number) {
@@ -67,23 +67,23 @@ fn add_bytes(
     flights: &mut Flights,
     alloc: Global,
     number: u64,
-    more: &[u8],
+    more: Bytes,
     eof: bool,
 ) -> Result<(), AllocError>
     requires { (f : FlightValue) × (get nat_cmp flights.old number ≡ Some f) × (f.ended ≡ false) }
-    ensures ok { OnOk result (ChangesAt number (written more.now eof) flights.old flights.new) }
+    ensures ok { OnOk result (ChangesAt number (written more eof) flights.old flights.new) }
     ensures err { OnErr result (ChangesAt number (λ f. f) flights.old flights.new) }
 {
     flights.get_mut(&number).unwrap().append(alloc, more, eof)
 }
 
-// Shares the bytes of a write.
-pub(crate) fn share(flights: &mut Flights, alloc: Global, number: u64) -> Result<Bytes, AllocError>
-    requires { is_some (get nat_cmp flights.old number) ≡ true }
-    ensures value { IfOk result (λ bytes. (f : FlightValue) → get nat_cmp flights.old number ≡ Some f → bytes ≡ bytes_in f.buffer) }
-    ensures kept { ChangesAt number (λ f. f) flights.old flights.new }
+// Joins the bytes of a write, whose pieces stay.
+pub(crate) fn join(flights: &Flights, alloc: Global, number: u64) -> Result<Bytes, AllocError>
+    requires { is_some (get nat_cmp flights.now number) ≡ true }
+    ensures { IfOk result (λ bytes. (f : FlightValue) → get nat_cmp flights.now number ≡ Some f → bytes ≡ f.pieces) }
 {
-    flights.get_mut(&number).unwrap().share(alloc)
+    let kept = flights.get(&number).unwrap();
+    kept.flight().pieces.join(alloc)
 }
 
 // Packs the meta of a write.

@@ -1,6 +1,6 @@
 //! Readers and writers of the store in memory.
-ghost use Rattle.std.specs.Prelude.{◌≡◌, length};
-ghost use Rattle.mem_cache.specs.Hits.{unread, WholeAnswer, after_read, SeekAnswer};
+ghost use Rattle.std.specs.Prelude.{◌≡◌, ◌≢◌, [], length, OnErr};
+ghost use Rattle.mem_cache.specs.Hits.{unread, WholeAnswer, after_read, next_bytes, SeekAnswer};
 
 use bytes::Bytes;
 use cache_store::storage::{ReadStep, StoreFault};
@@ -78,6 +78,7 @@ impl CompleteHit {
     /// `Memory` when out of memory; then it may be read again.
     pub fn read(&mut self) -> Result<ReadStep, StoreFault>
         ensures answer { WholeAnswer self.old.done self.old result }
+        ensures ahead { OnErr result (next_bytes self.old ≢ []) }
         ensures after { self.new ≡ after_read self.old result }
     {
         if self.done {

@@ -10,6 +10,7 @@ pub mod handlers;
 pub mod laws;
 mod lookup;
 mod meta;
+mod pieces;
 mod readers;
 mod storage;
 mod stored_key;

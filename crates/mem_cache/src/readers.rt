@@ -55,7 +55,7 @@ pub(crate) fn leave_share(readers: &mut AllReaders, number: u64, share: Option<B
     let Some(bytes) = share else {
         return;
     };
-    leave_bytes(readers, number, Buffer::Shared(bytes));
+    leave_bytes(readers, number, Buffer::Whole(bytes));
 }
 
 // Returns the bytes that readers of a write were left with.

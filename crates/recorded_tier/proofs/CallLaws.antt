@@ -45,4 +45,4 @@ pub replay-headline : {R : Type 0} (n : ℕ) (opening : Snapshot R) (first : Sta
 replay-headline n opening first s history tier rest opens replay =
     let calls = replay-calls first s history tier rest replay in
     let sharded : IsSharded (shards_of first) first.managed = subst (λ (k : ℕ). IsSharded k first.managed) (sym opens.sharded.count) opens.sharded in
-    (calls.0, calls.1, calls.2 (opening_of first) [] (opening_past first opens.is_new sharded))
+    (calls.0, calls.1, calls.2 (opening_of first) [] (opening_past first opens.only_order sharded))

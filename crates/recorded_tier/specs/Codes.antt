@@ -6,7 +6,7 @@ use Rattle.tier_requests.specs.Codes.{state_code}
 use Rattle.recorded_tier.specs.declared.history.Record.{Record}
 use Rattle.recorded_tier.specs.declared.history.Own.{Own}
 use Rattle.recorded_tier.specs.declared.history.Seat.{Seat}
-use Rattle.recorded_tier.specs.declared.snapshot.TierOptions.{TierOptions}
+use Rattle.cache_tier.specs.declared.options.TierOptions.{TierOptions}
 use Rattle.recorded_tier.specs.declared.snapshot.Snapshot.{Snapshot}
 use Rattle.recorded_tier.specs.Seats.{PassState}
 use Rattle.recorded_tier.specs.Recorded.{RecordedState}

@@ -3,24 +3,20 @@ use Rattle.std.specs.Prelude.{◌≡◌, ◌<◌, ℕ, List, [], length, slice_i
 use Rattle.cache_entries.specs.declared.rows.Tracked.{Tracked}
 use Rattle.cache_evict.specs.Managed.{IsSharded, rows_at}
 use Rattle.cache_evict.specs.Stored.{IsText}
-use Rattle.tier_model.specs.State.{State, Settings}
-use Rattle.tier_model.specs.Started.{IsNew, settings_of}
-use Rattle.recorded_tier.specs.declared.snapshot.TierOptions.{TierOptions}
+use Rattle.tier_model.specs.State.{State}
+use Rattle.tier_model.specs.Started.{HasOnlyOrder, settings_of}
+use Rattle.cache_tier.specs.Options.{settings_with}
 use Rattle.recorded_tier.specs.declared.snapshot.Snapshot.{Snapshot}
-
--- the settings of a tier of n shards that is made with these options
-abbrev pub settings_with : ℕ → TierOptions → Settings
-settings_with n options = record { shards = n; limit = options.limit; watermark = options.watermark; age = options.age; wait = options.wait }
 
 -- the texts are those of the shards' rows, shard by shard
 pub record AreTexts (shards : List (List Tracked)) (texts : List (List ℕ)) : Type 0 where
   pub count : length texts ≡ length shards
   pub each : (i : ℕ) → i < length shards → IsText (rows_at shards i) (slice_index_or texts i [])
 
--- a tier of n shards that a snapshot describes began in this state: no event had left a trace in it, it was made with these options, and
--- its shards, each with rows of its own entries alone, have these texts
+-- a tier of n shards that a snapshot describes began in this state: it held nothing but its order of use and had counted nothing, it was
+-- made with these options, and its shards, each with rows of its own entries alone, have these texts
 pub record Opens {R : Type 0} (n : ℕ) (opening : Snapshot R) (first : State) : Type 0 where
-  pub is_new : IsNew first
+  pub only_order : HasOnlyOrder first
   pub made : settings_of first ≡ settings_with n opening.options
   pub sharded : IsSharded n first.managed
   pub texts : AreTexts first.managed.shards opening.texts

@@ -14,7 +14,8 @@ pub mod same;
 pub mod same_note;
 pub mod snapshot;
 
+pub use cache_tier::TierOptions;
 pub use gather::{GatherFault, Gathered, NotGathered};
 pub use pass::{Pass, PassFault, SpentPass};
 pub use recorded::Recorded;
-pub use snapshot::{ShardTexts, Snapshot, TierOptions};
+pub use snapshot::{ShardTexts, Snapshot};

@@ -77,7 +77,7 @@ impl<const N: usize, R: Rng, L: Ledger, S: BuildHasher> Model for Recorded<N, R,
     ghost use Rattle.recorded_tier.specs.Seats.{AreSeated, total};
     ghost use Rattle.recorded_tier.specs.Recorded.{RecordedState, IsReplayed};
     ghost use Rattle.recorded_tier.specs.Codes.{recorded_code};
-    ghost use Rattle.recorded_tier.specs.contracts.snapshot.TierOptions.{the_row as options_row};
+    ghost use Rattle.cache_tier.specs.contracts.options.TierOptions.{the_row as options_row};
     ghost use Rattle.recorded_tier.specs.contracts.history.Record.{the_row as record_row};
     ghost use Rattle.recorded_tier.specs.contracts.history.Own.{the_row as own_row};
     ghost use Rattle.recorded_tier.specs.contracts.history.Seat.{the_row as seat_row};

@@ -4,31 +4,18 @@ ghost use Rattle.cache_evict.specs.Loads.{CantBeWritten};
 ghost use Rattle.cache_evict.specs.Managed.{IsSharded, rows_at};
 ghost use Rattle.cache_evict.specs.Stored.{IsText};
 ghost use Rattle.cache_words.specs.declared.pack.fault.PackWriteFault.{PackWriteFault};
-ghost use Rattle.tier_model.specs.Started.{IsNew, settings_of};
-ghost use Rattle.recorded_tier.specs.Openings.{AreTexts, Opens, settings_with};
+ghost use Rattle.cache_tier.specs.Options.{settings_with};
+ghost use Rattle.tier_model.specs.Started.{HasOnlyOrder, settings_of};
+ghost use Rattle.recorded_tier.specs.Openings.{AreTexts, Opens};
 
 use bytes::Bytes;
 use cache_evict::PackWriteFault;
 use cache_evict::lru::Manager;
-use cache_tier::Tier;
-use cache_words::time::Duration;
+use cache_tier::{Tier, TierOptions};
 use rand_core::Rng;
 use std::alloc::Global;
 use std::hash::BuildHasher;
 use std::marker::Model;
-
-/// What a tier was made with: the arguments of `Tier::new`.
-#[derive(Clone, Copy, PartialEq, Eq, Debug)]
-pub struct TierOptions {
-    /// The most that the entries may weigh together: the bytes of their bodies, 1 at least for each.
-    pub limit: usize,
-    /// The most entries there may be; any number if `None`.
-    pub watermark: Option<usize>,
-    /// How long others wait for one permit to write.
-    pub age: Duration,
-    /// How long a request waits for permits in all; without bound if `None`.
-    pub wait: Option<Duration>,
-}
 
 /// The texts of a tier's shards, in order: of each the entries with their weights, most recent first.
 #[derive(Debug, Drop)]
@@ -98,7 +85,8 @@ fn texts_of<const N: usize, S: BuildHasher>(
 }
 
 impl<R: Rng + Clone> Snapshot<R> {
-    /// Keeps how a tier begins that was made with these options and has seen no event (`is_new` is asked for), and its generator.
+    /// Keeps how a tier begins that was made with these options (`tier.options()` returns them) and holds nothing but its order of use
+    /// (`has_only_order` is asked for), and its generator.
     ///
     /// # Errors
     ///
@@ -109,7 +97,7 @@ impl<R: Rng + Clone> Snapshot<R> {
         tier: &Tier<N, S>,
         rng: &R,
     ) -> Result<Snapshot<R>, PackWriteFault>
-        requires new { IsNew tier.now }
+        requires only_order { HasOnlyOrder tier.now }
         requires made { settings_of tier.now ≡ settings_with N options }
         requires words { (copy : R) → R.is_clone rng.now copy → R.stream copy ≡ R.stream rng.now }
         ensures opens { IfOk result (λ opening. Opens N opening tier.now) }

@@ -8,11 +8,11 @@ use Rattle.clap.specs.Walk.{Text, first_of}
 use Rattle.clap.specs.declared.parser.matches.ArgMatches.{ArgMatches}
 use Rattle.clap.proofs.OnLiterals.{clap_on_literals}
 use Rattle.clap.proofs.WalkLemmas.{first_value-rows}
-use Rattle.replay_options.specs.CommandLine.{app, name_of, value_of, IsGiven, IsWrong, IsFirstWrong, IsFault, IsReadNumber, IsReadShards, shards_in}
+use Rattle.replay_options.specs.CommandLine.{app, name_of, value_of, IsGiven, IsWrong, IsFirstWrong, IsFault, IsReadNumber, IsReadShards, IsReadDirectory, shards_in}
 use Rattle.replay_options.specs.declared.options.ShardCount.{ShardCount}
 use Rattle.std.specs.Prelude.{codes}
 use Rattle.replay_options.specs.declared.options.OptionName.{OptionName}
-use Rattle.replay_options.specs.declared.options.OptionName.TheVariants.{Shards}
+use Rattle.replay_options.specs.declared.options.OptionName.TheVariants.{Shards, Recency}
 use Rattle.replay_options.specs.declared.options.OptionsError.{OptionsError}
 use Rattle.replay_options.specs.declared.options.OptionsError.TheVariants.{CommandLine, NoLimit, WrongValue, NotUtf8, Memory}
 
@@ -58,3 +58,16 @@ shards_fault_by_words m words (NotUtf8 error) free h first none = absurd none
 shards_fault_by_words m words (WrongValue shown error) free h first found =
     (free, subst (IsFirstWrong words) (sym found.0) (first (subst (λ v. shards_in v ≡ None) (first_value-words (codes "shards") m words h) found.2)), found.1)
 shards_fault_by_words m words Memory free h first none = tt
+
+-- the directory
+pub directory_fault_by_words : (m : ArgMatches) (words : List Text) (error : OptionsError) → fault_of app words ≡ [] → HasMatchesOf app words m
+    → (value_of (codes "recency") words ≡ Some [] → IsFirstWrong words Recency) → IsReadDirectory (first_value (found_of m) (codes "recency")) (Err error) → IsFault words error
+directory_fault_by_words m words (CommandLine error) free h first none = absurd none
+directory_fault_by_words m words NoLimit free h first none = absurd none
+directory_fault_by_words m words (NotUtf8 error) free h first none = absurd none
+directory_fault_by_words m words (WrongValue shown error) free h first found =
+    (free, subst (IsFirstWrong words) (sym found.0) (first (sym (first_value-words (codes "recency") m words h) ∙ found.2)), found.1)
+directory_fault_by_words m words Memory free h first none = tt
+
+pub named_by_words : (m : ArgMatches) (words : List Text) → HasMatchesOf app words m → (first_value (found_of m) (codes "recency") ≡ Some [] → ⊥) → value_of (codes "recency") words ≡ Some [] → ⊥
+named_by_words m words h named e = named (first_value-words (codes "recency") m words h ∙ e)

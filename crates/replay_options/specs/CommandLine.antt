@@ -1,5 +1,5 @@
 -- What the words of a command line give.
-use Rattle.std.specs.Prelude.{◌≡◌, ℕ, Bool, true, false, ◌<◌, ◌^◌, bytes_eq, if◌then◌else◌, List, codes, Option, Some, None, option_map, String, string_bytes, Result, Ok, Err, ⊤, [], ◌∷◌, ◌++◌}
+use Rattle.std.specs.Prelude.{◌≡◌, ◌≢◌, ℕ, Bool, true, false, ◌<◌, ◌^◌, bytes_eq, if◌then◌else◌, List, codes, Option, Some, None, option_map, String, string_bytes, Result, Ok, Err, ⊤, [], ◌∷◌, ◌++◌}
 use Rattle.std.specs.List.{AllByRecursion}
 use Rattle.std.specs.declared.alloc.Global.{Global}
 use Rattle.std.specs.Str.Parse.{IsNumeral, digits_value, without_leading_plus}
@@ -10,7 +10,7 @@ use Rattle.clap.specs.Simple.{App, new_rule, new_app, on_top, with_rule, matches
 use Rattle.clap.specs.Faults.{fault_of}
 use Rattle.clap.specs.Kinds.{IsAmong}
 use Rattle.replay_options.specs.declared.options.OptionName.{OptionName}
-use Rattle.replay_options.specs.declared.options.OptionName.TheVariants.{Limit, Watermark, Shards, Seed, Age, Wait}
+use Rattle.replay_options.specs.declared.options.OptionName.TheVariants.{Limit, Watermark, Shards, Seed, Age, Wait, Recency}
 use Rattle.replay_options.specs.declared.options.ShardCount.{ShardCount}
 use Rattle.replay_options.specs.declared.options.ShardCount.TheVariants.{One, Four, Sixteen}
 use Rattle.replay_options.specs.declared.options.OptionsError.{OptionsError}
@@ -59,6 +59,7 @@ name_of Shards = codes "shards"
 name_of Seed = codes "seed"
 name_of Age = codes "age"
 name_of Wait = codes "wait"
+name_of Recency = codes "recency"
 
 -- a text is given, and is no number
 abbrev pub IsWrong : Option Text → Type 0
@@ -73,20 +74,22 @@ abbrev pub shards_in : Option Text → Option ShardCount
 shards_in None = Some One
 shards_in (Some text) = shards_named text
 
--- the value of an option is wrong
+-- the value of an option is wrong; an empty text is no directory
 abbrev pub IsWrongValueOf : OptionName → Option Text → Type 0
 IsWrongValueOf Shards value = shards_in value ≡ None
+IsWrongValueOf Recency value = value ≡ Some []
 IsWrongValueOf name value = IsWrong value
 
 -- the value of an option is right; the limit has to be given
 abbrev pub IsRightValueOf : OptionName → Option Text → Type 0
 IsRightValueOf Limit value = (n : ℕ) × IsGiven value (Some n)
 IsRightValueOf Shards value = (count : ShardCount) × (shards_in value ≡ Some count)
+IsRightValueOf Recency value = value ≢ Some []
 IsRightValueOf name value = (n : Option ℕ) × IsGiven value n
 
 -- the options in the order in which their values are read
 abbrev pub in_order : List OptionName
-in_order = Limit ∷ Watermark ∷ Shards ∷ Seed ∷ Age ∷ Wait ∷ []
+in_order = Limit ∷ Watermark ∷ Shards ∷ Seed ∷ Age ∷ Wait ∷ Recency ∷ []
 
 -- the option is the first in that order whose value is wrong
 pub record IsFirstWrong (words : List Text) (name : OptionName) : Type 0 where
@@ -130,11 +133,12 @@ IsReadShards value (Err Memory) = Unit {0}
 IsReadShards value (Err (WrongValue shown error)) = (shown ≡ Shards) × (kind_of error ≡ ValueValidation) × (shards_in value ≡ None)
 IsReadShards value (Err _) = ⊥
 
--- what the text of an option was read as
-abbrev pub IsReadText : Option Text → Result (Option (String Global)) OptionsError → Type 0
-IsReadText value (Ok text) = option_map string_bytes text ≡ value
-IsReadText value (Err Memory) = Unit {0}
-IsReadText value (Err _) = ⊥
+-- what the directory was read as: its text, which isn't empty
+abbrev pub IsReadDirectory : Option Text → Result (Option (String Global)) OptionsError → Type 0
+IsReadDirectory value (Ok text) = (option_map string_bytes text ≡ value) × (value ≢ Some [])
+IsReadDirectory value (Err Memory) = Unit {0}
+IsReadDirectory value (Err (WrongValue shown error)) = (shown ≡ Recency) × (kind_of error ≡ ValueValidation) × (value ≡ Some [])
+IsReadDirectory value (Err _) = ⊥
 
 -- how many shards that is
 abbrev pub count_of : ShardCount → ℕ

@@ -1,5 +1,5 @@
 //! The options of a command line.
-ghost use Rattle.std.specs.Prelude.{◌≡◌, [], map, codes, ℕ, Option, Some, unwrap_or, option_map, string_bytes, List, IfOk, IfErr};
+ghost use Rattle.std.specs.Prelude.{◌≡◌, ◌≢◌, [], map, codes, ℕ, Option, Some, unwrap_or, option_map, string_bytes, List, IfOk, IfErr};
 ghost use Rattle.clap.specs.Faults.{fault_of};
 ghost use Rattle.clap.specs.Matches.{found_of, first_value};
 ghost use Rattle.clap.specs.Simple.{HasMatchesOf};
@@ -35,7 +35,8 @@ pub struct ReplayOptions {
     pub age: u64,
     /// The seconds for which a request waits at most, if its waits have a bound.
     pub wait: Option<u64>,
-    /// The directory that the order of use is loaded from and saved to, if there is one.
+    /// The directory that the order of use is loaded from and saved to, if there is one. A command line never gives the empty text,
+    /// under which files would lie at the root of the file system.
     pub recency: Option<String>,
 }
 
@@ -65,6 +66,8 @@ pub enum OptionName {
     Age,
     /// `--wait`
     Wait,
+    /// `--recency`
+    Recency,
 }
 
 impl OptionName {
@@ -79,6 +82,7 @@ impl OptionName {
             OptionName::Seed => "seed",
             OptionName::Age => "age",
             OptionName::Wait => "wait",
+            OptionName::Recency => "recency",
         }
     }
 }
@@ -128,6 +132,7 @@ pub fn options<'a, S: AsStr>(alloc: Global, words: &'a [S]) -> Result<ReplayOpti
     ensures age { IfOk result (λ o. (given : Option ℕ) × IsGiven (value_of (codes "age") (map S.text words.entry.now)) given × (o.age ≡ unwrap_or given 10)) }
     ensures wait { IfOk result (λ o. IsGiven (value_of (codes "wait") (map S.text words.entry.now)) o.wait) }
     ensures recency { IfOk result (λ o. option_map string_bytes o.recency ≡ value_of (codes "recency") (map S.text words.entry.now)) }
+    ensures named { IfOk result (λ _. value_of (codes "recency") (map S.text words.entry.now) ≢ Some []) }
     ensures faultless { IfOk result (λ _. fault_of app (map S.text words.entry.now) ≡ []) }
     ensures refused { IfErr result (IsFault (map S.text words.entry.now)) }
 {
@@ -144,6 +149,7 @@ fn options_in(alloc: Global, matches: &ArgMatches<'_>) -> Result<ReplayOptions, 
     ensures age { IfOk result (λ o. (given : Option ℕ) × IsGiven (first_value (found_of matches.now) (codes "age")) given × (o.age ≡ unwrap_or given 10)) }
     ensures wait { IfOk result (λ o. IsGiven (first_value (found_of matches.now) (codes "wait")) o.wait) }
     ensures recency { IfOk result (λ o. option_map string_bytes o.recency ≡ first_value (found_of matches.now) (codes "recency")) }
+    ensures named { IfOk result (λ _. first_value (found_of matches.now) (codes "recency") ≢ Some []) }
     ensures refused { IfErr result (λ error. (words : List Text) → HasMatchesOf app words matches.now → fault_of app words ≡ [] → IsFault words error) }
 {
     let Some(limit) = number(alloc, matches, OptionName::Limit)? else {

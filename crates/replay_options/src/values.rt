@@ -2,7 +2,7 @@
 ghost use Rattle.std.specs.Prelude.{◌≡◌, codes, IfOk};
 ghost use Rattle.clap.specs.Values.{kind_of};
 ghost use Rattle.clap.specs.Matches.{found_of, first_value};
-ghost use Rattle.replay_options.specs.CommandLine.{name_of, IsWrongValue, IsReadNumber, IsReadShards, IsReadText, shards_named};
+ghost use Rattle.replay_options.specs.CommandLine.{name_of, IsWrongValue, IsReadNumber, IsReadShards, IsReadDirectory, shards_named};
 
 use crate::command::fault;
 use crate::options::{OptionName, OptionsError, ShardCount};
@@ -11,6 +11,8 @@ use clap::error::ErrorKind;
 use std::alloc::{AllocError, Global};
 
 const A_NUMBER: &str = "a number from 0 to 18446744073709551615";
+
+const A_DIRECTORY: &str = "the path of a directory";
 
 pub(crate) fn number(
     alloc: Global,
@@ -32,11 +34,14 @@ pub(crate) fn directory(
     alloc: Global,
     matches: &ArgMatches<'_>,
 ) -> Result<Option<String>, OptionsError>
-    ensures { IsReadText (first_value (found_of matches.now) (codes "recency")) result }
+    ensures { IsReadDirectory (first_value (found_of matches.now) (codes "recency")) result }
 {
     let Some(text) = matches.get_str("recency") else {
         return Ok(None);
     };
+    if text.is_empty() {
+        return Err(wrong_value(alloc, OptionName::Recency, text, A_DIRECTORY));
+    }
     match String::from_str(alloc, text) {
         Ok(copy) => Ok(Some(copy)),
         Err(AllocError) => Err(OptionsError::Memory),

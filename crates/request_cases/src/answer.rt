@@ -16,6 +16,8 @@ pub enum Answer {
     Body(usize),
     /// A body of that size was stored, with so many evictions.
     Created(usize, usize),
+    /// A policy decided so, when it had been asked so often.
+    Decided(&'static str, u32),
     /// A wait was given up for a fill.
     Abandoned(&'static str, u64),
 }
@@ -42,6 +44,7 @@ impl Answer {
             Answer::Letter(letter) => text.push(letter),
             Answer::Body(length) => write!(text, "body {length}"),
             Answer::Created(size, evicted) => write!(text, "created {size} evicted {evicted}"),
+            Answer::Decided(word, observed) => write!(text, "{word} {observed}"),
             Answer::Abandoned(reason, token) => write!(text, "abandoned {reason} {token}"),
         }
     }

@@ -98,6 +98,7 @@ pub enum Call {
     Read,
     ReadBack,
     Merge,
+    Head,
     MovePermit,
     MoveReader,
     BecameUncacheable,
@@ -112,6 +113,7 @@ pub enum Call {
     Wait,
     Publish,
     Tracked,
+    ToldUntil,
     Burden,
     /// A word that names none: it is refused.
     Unknown,
@@ -121,6 +123,7 @@ const CALLS: &[(&str, Call)] = &[
     ("read", Call::Read),
     ("read-back", Call::ReadBack),
     ("merge", Call::Merge),
+    ("head", Call::Head),
     ("move-permit", Call::MovePermit),
     ("enabled", Call::Flag(Flag::Enabled)),
     ("bypassing", Call::Flag(Flag::Bypassing)),
@@ -191,6 +194,7 @@ const CALLS: &[(&str, Call)] = &[
     ("revalidate", Call::Keep(Keep::Revalidate)),
     ("uncacheable", Call::Lead(Lead::Uncacheable)),
     ("tracked", Call::Tracked),
+    ("told-until", Call::ToldUntil),
     ("burden", Call::Burden),
 ];
 

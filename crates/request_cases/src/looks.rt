@@ -4,6 +4,7 @@ ghost use Rattle.cache_phases.specs.Locks.{holds_permit};
 ghost use Rattle.cache_phases.specs.Phases.{can_look_up};
 
 use crate::answer::{Answer, REFUSED, yes_or_no};
+use crate::turns::holds_nothing;
 use cache_evict::EvictionManager;
 use cache_heads::CacheMeta;
 use cache_lock::CacheKeyLock;
@@ -86,8 +87,8 @@ fn vary_found<S: Storage, E, P, L, A>(
     variance: [u8; 16],
 ) -> Answer {
     hit.finish(&mut parts.store);
-    if !request.phase().can_vary() {
-        return FAULT;
+    if !request.phase().can_vary() || !holds_nothing(request) {
+        return REFUSED;
     }
     yes_or_no(request.cache_vary_lookup(variance, &meta))
 }

@@ -1,8 +1,8 @@
 //! Does rows of calls of requests to a cache, and writes after each call what it answers and the phase that it leaves.
 //!
 //! A row of `rows.txt` is a name and then a step a line, of the first or the second of two requests; an empty line ends it. Both use one cache, which begins
-//! empty with each row: a store in memory, a manager of one shard that may hold 10 bytes, a predictor of 4 keys, a lock whose permits may be held for 5
-//! seconds, and a policy that defers the key `d`. A call that isn't allowed is `refused`: what it requires is tested first, by the public tests of it.
+//! empty with each row: a store in memory, a manager of one shard that may hold 10 bytes and notes what it is told, a predictor of 4 keys, a lock whose permits may be held for 5
+//! seconds, and a boxed policy that defers the key `d` and counts how often it is asked. A call that isn't allowed is `refused`: what it requires is tested first, by the public tests of it.
 //!
 //! | Step | Means |
 //! |---|---|
@@ -19,11 +19,14 @@
 //! | `move-permit` | hands the permit to the other request |
 //! | `publish TOKEN` | says what is filled; no request here can use 7 |
 //! | `forget` | lets go of the meta of what was found |
+//! | `head` | the head of what is found or stored |
 //! | `merge` | the stale head, with what a head that confirms it renews |
+//! | `decided` | what the policy decided, and how often it had been asked by then |
 //! | `off-for` | for which reason the cache is off, or the response isn't kept |
 //! | `maybe-key`, `key-lent`, `maybe-meta`, `meta-lent` | the letter of the key, and until when the meta is fresh, as an option or lent |
 //! | `add-time SECONDS`, `time` | how long look-ups took |
 //! | `limit`, `track` `BYTES` | the most bytes that a body may have, and bytes that come |
+//! | `told-until` | no call of a request: until when the response was fresh of which the manager was told last |
 //! | `tracked KEY`, `burden KEY` | no calls of a request: whether the manager tracks the key's entry; it goes, and another comes that leaves room for one byte |
 //!
 //! Then two tiers serve requests side by side, and what they answer is compared with a table of runs, whose outcomes come from another program or were
@@ -36,6 +39,7 @@ mod heads;
 mod locks;
 mod looks;
 mod metas;
+mod noting;
 mod reads;
 mod rows;
 mod runs;
@@ -50,12 +54,15 @@ mod world;
 mod writes;
 
 use crate::text::Text;
+use crate::world::DefersD;
+use cache_parts::BoxedPolicy;
+use cache_store::admission::AdmissionPolicy;
 use std::alloc::{AllocError, Global};
 use std::{fs, io};
 
 // Writes the lines of a row, each with what its step comes to.
-fn push_done(alloc: Global, row: &str, text: &mut Text) {
-    match world::cache(alloc) {
+fn push_done<A: AdmissionPolicy + Drop>(alloc: Global, policy: A, row: &str, text: &mut Text) {
+    match world::cache(alloc, policy) {
         Some(mut parts) => rows::push_row(alloc, &mut parts, row, text),
         None => text.push("memory"),
     }
@@ -63,7 +70,8 @@ fn push_done(alloc: Global, row: &str, text: &mut Text) {
 
 fn done(alloc: Global, row: &str) -> Result<String, AllocError> {
     let mut text = Text::new(alloc);
-    push_done(alloc, row, &mut text);
+    let policy: BoxedPolicy = Box::new(alloc, DefersD::new())?;
+    push_done(alloc, policy, row, &mut text);
     text.finish()
 }
 

@@ -3,14 +3,15 @@ use crate::answer::{Answer, REFUSED, yes_or_no};
 use crate::call::Call;
 use crate::locks::{move_permit, publish, wait};
 use crate::looks::{looked, looked_at};
+use crate::noting::Notes;
 use crate::reads::{moved, push_read};
-use crate::stale::push_merged;
+use crate::stale::{push_head, push_merged};
 use crate::step::{Step, reason, status, variance};
 use crate::stored::{became_uncacheable, found};
 use crate::text::Text;
 use crate::told::{is_so, streams, told};
 use crate::turns::{led, set_key, turned};
-use crate::world::{burden, tracked};
+use crate::world::{burden, told_until, tracked};
 use crate::writes::{finish, kept, write};
 use cache_evict::EvictionManager;
 use cache_lock::CacheKeyLock;
@@ -25,7 +26,7 @@ use std::alloc::Global;
 // Does a call of the lock, of the writer or of a part of the cache, and says what it answers.
 fn part_answer<
     S: Storage,
-    E: EvictionManager,
+    E: EvictionManager + Notes,
     P: CacheablePredictor,
     L: CacheKeyLock,
     A: AdmissionPolicy,
@@ -44,6 +45,7 @@ fn part_answer<
         Call::Publish => publish(alloc, request, parts, step.number()),
         Call::BecameUncacheable => became_uncacheable(request, parts, reason(step.first)),
         Call::Tracked => tracked(alloc, parts, step.letter()),
+        Call::ToldUntil => told_until(parts),
         Call::Burden => burden(alloc, parts, step.letter()),
         _ => REFUSED,
     }
@@ -52,7 +54,7 @@ fn part_answer<
 // Does a step, and says what it answers.
 fn answer_of<
     S: Storage,
-    E: EvictionManager,
+    E: EvictionManager + Notes,
     P: CacheablePredictor,
     L: CacheKeyLock,
     A: AdmissionPolicy,
@@ -89,7 +91,7 @@ fn answer_of<
 // Does a step of a request, and appends what it answers and the phase that it leaves.
 fn push_step<
     S: Storage,
-    E: EvictionManager,
+    E: EvictionManager + Notes,
     P: CacheablePredictor,
     L: CacheKeyLock,
     A: AdmissionPolicy,
@@ -106,6 +108,7 @@ fn push_step<
         Call::Read => push_read(request, parts, false, text),
         Call::ReadBack => push_read(request, parts, true, text),
         Call::Merge => push_merged(alloc, request, text),
+        Call::Head => push_head(request, text),
         _ => text.push_answer(answer_of(alloc, request, other, parts, step)),
     }
     text.push(", ");
@@ -115,7 +118,7 @@ fn push_step<
 // Appends lines, each with what its step comes to; a line without a step is a row's name.
 fn push_lines<
     S: Storage,
-    E: EvictionManager,
+    E: EvictionManager + Notes,
     P: CacheablePredictor,
     L: CacheKeyLock,
     A: AdmissionPolicy,
@@ -142,7 +145,7 @@ fn push_lines<
 /// Appends the lines of a row, each with what its step comes to, over a cache.
 pub fn push_row<
     S: Storage,
-    E: EvictionManager,
+    E: EvictionManager + Notes,
     P: CacheablePredictor,
     L: CacheKeyLock,
     A: AdmissionPolicy,

@@ -1,4 +1,4 @@
-//! What becomes of a stale response once upstream has answered.
+//! The head of a response, and what becomes of a stale one once upstream has answered.
 use crate::answer::{NO_MEMORY, REFUSED};
 use crate::heads::{SENT, head_of, push_fields};
 use crate::text::Text;
@@ -14,5 +14,13 @@ pub fn push_merged<S: Storage>(alloc: Global, request: &HttpCache<S>, text: &mut
     match request.revalidate_merge_header(&head_of(alloc, SENT)) {
         Ok(merged) => push_fields(text, &merged),
         Err(_) => text.push_answer(NO_MEMORY),
+    }
+}
+
+/// Appends the fields of the head of a response.
+pub fn push_head<S: Storage>(request: &HttpCache<S>, text: &mut Text) {
+    match request.maybe_cache_meta() {
+        Some(meta) => push_fields(text, &meta.header),
+        None => text.push_answer(REFUSED),
     }
 }

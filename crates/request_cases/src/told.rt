@@ -60,8 +60,8 @@ fn seconds(time: Option<Duration>) -> Answer {
 
 fn decision(decision: Option<Decision>) -> Answer {
     match decision {
-        Some(Decision::Defer { .. }) => Answer::Word("deferred"),
-        Some(Decision::Ready { .. }) => Answer::Word("ready"),
+        Some(Decision::Defer { observed }) => Answer::Decided("deferred", observed),
+        Some(Decision::Ready { observed }) => Answer::Decided("ready", observed),
         None => NONE,
     }
 }

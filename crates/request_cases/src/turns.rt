@@ -107,7 +107,7 @@ pub fn led<S: Storage, E, P: CacheablePredictor, L: CacheKeyLock, A>(
 
 /// Sets the key of a letter.
 pub fn set_key<S: Storage>(alloc: Global, request: &mut HttpCache<S>, letter: u8) -> Answer {
-    if !request.phase().can_set_key() {
+    if !request.phase().can_set_key() || !holds_nothing(request) {
         return REFUSED;
     }
     match key(alloc, letter) {

@@ -1,11 +1,12 @@
 //! A cache, its keys and metas.
 ghost use Rattle.std.specs.Prelude.{◌≡◌};
 
-use crate::answer::{Answer, DONE, NO_MEMORY, yes_or_no};
+use crate::answer::{Answer, DONE, NO_MEMORY, NONE, yes_or_no};
 use crate::heads::{STORED, head_of};
+use crate::noting::{Notes, Noting};
 use crate::step::Step;
 use cache_evict::lru::Manager;
-use cache_evict::{CacheEntryKey, EvictionManager};
+use cache_evict::{CacheEntryKey, CacheEntryKeyRef, EvictionManager};
 use cache_heads::CacheMeta;
 use cache_lock::CacheLock;
 use cache_parts::Parts;
@@ -16,38 +17,54 @@ use cache_words::key::{CacheHashKey, CacheKey, CompactCacheKey};
 use cache_words::time::{Duration, Moment};
 use mem_cache::MemCache;
 use std::alloc::Global;
+use std::sync::atomic::{AtomicU32, Ordering};
 
-/// Defers the key `d`.
-#[derive(Clone, Copy)]
-pub struct DefersD;
+/// Defers the key `d`, and counts how often it was asked, of any key.
+#[derive(Drop)]
+pub struct DefersD {
+    asked: AtomicU32,
+}
+
+impl DefersD {
+    pub fn new() -> DefersD {
+        DefersD {
+            asked: AtomicU32::new(0),
+        }
+    }
+}
 
 impl AdmissionPolicy for DefersD {
     ghost decides = { λ _ _ _. Unit {0} };
 
     fn observe(&self, key: &CacheKey) -> Decision {
+        let before = self.asked.fetch_add(1, Ordering::Relaxed);
+        let observed = before.wrapping_add(1);
         if key.primary_key() == b"d".as_slice() {
-            Decision::Defer { observed: 3 }
+            Decision::Defer { observed }
         } else {
-            Decision::Ready { observed: 4 }
+            Decision::Ready { observed }
         }
     }
 }
 
-type Cache = Parts<MemCache, Manager<1>, Predictor<1>, CacheLock, DefersD>;
+type Cache<A> = Parts<MemCache, Noting, Predictor<1>, CacheLock, A>;
 
 // The most that bodies may weigh in all.
 const LIMIT: usize = 10;
 
-/// The cache; its lock's permits may be held for 5 seconds.
-pub fn cache(alloc: Global) -> Option<Cache> {
+/// The cache, with a policy; its lock's permits may be held for 5 seconds.
+pub fn cache<A: Drop>(alloc: Global, policy: A) -> Option<Cache<A>> {
     let predictor = Predictor::<1>::new(alloc, 4, None).ok()?;
     let manager = Manager::<1>::with_capacity(alloc, LIMIT, 0).ok()?;
     Some(Parts {
         store: MemCache::new(alloc),
-        manager,
+        manager: Noting {
+            manager,
+            until: None,
+        },
         predictor,
         lock: CacheLock::new(alloc, Duration::from_seconds(5)),
-        policy: DefersD,
+        policy,
     })
 }
 
@@ -79,11 +96,24 @@ pub fn tracked<S: Storage, E: EvictionManager, P, L, A>(
     }
 }
 
+/// Until when the response was fresh of which the manager was told last.
+pub fn told_until<S, E: Notes, P, L, A>(parts: &Parts<S, E, P, L, A>) -> Answer {
+    match parts.manager.told_until() {
+        Some(until) => Answer::Second(until.seconds()),
+        None => NONE,
+    }
+}
+
 // Tracks an entry that leaves room for one byte.
 fn weigh_down<E: EvictionManager>(alloc: Global, manager: &mut E, key: CompactCacheKey) -> Answer {
     let entry = CacheEntryKey::from_entry_id(key, None);
     let moment = Moment::from_seconds(1000);
-    match manager.access(alloc, &entry, usize::MAX - 1, moment) {
+    match manager.access(
+        alloc,
+        CacheEntryKeyRef::from(&entry),
+        usize::MAX - 1,
+        moment,
+    ) {
         Ok(_) => DONE,
         Err(_) => NO_MEMORY,
     }

@@ -1,6 +1,6 @@
 -- The head of a stale response that upstream confirms.
-use Rattle.std.specs.Prelude.{ℕ, List, [], ◌∷◌, codes}
-use Rattle.http_header.specs.HeaderMap.{Entries, update, get_all}
+use Rattle.std.specs.Prelude.{ℕ, ◌<◌, ◌≤◌, ◌^◌, ◌⊎◌, List, [], ◌∷◌, length, codes}
+use Rattle.http_header.specs.HeaderMap.{Entries, update, get_all, value_count}
 use Rattle.cache_headers.specs.declared.header.ResponseHeader.{ResponseHeader}
 
 -- the fields that are taken from the response that confirms it (RFC 9111, 4.3.4; not those by which a response varies)
@@ -20,3 +20,12 @@ with_fields sent (name ∷ names) m = with_fields sent names (with_values name (
 -- the stale response's head with the fields that were sent
 abbrev pub merged : ResponseHeader → ResponseHeader → ResponseHeader
 merged old sent = record old { headers = with_fields sent.headers renewed_names old.headers }
+
+-- more names, or more values, than a map can count
+abbrev pub PassesCount : {X : Type 0} → Entries X → Type 0
+PassesCount m = (24576 < length m) ⊎ (2 ^ 64 ≤ value_count m)
+
+-- the map passes what it can count once what was sent under some of these names is taken, in their order
+abbrev pub Outgrows : {X : Type 0} → Entries X → List (List ℕ) → Entries X → Type 0
+Outgrows sent [] m = ⊥
+Outgrows sent (name ∷ names) m = PassesCount (with_values name (get_all sent name) m) ⊎ Outgrows sent names (with_values name (get_all sent name) m)

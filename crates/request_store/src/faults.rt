@@ -17,8 +17,6 @@ pub enum LookUpFault {
 /// Why a response that was found isn't taken.
 #[derive(Debug, Drop)]
 pub enum FoundFault {
-    /// There is no memory.
-    Memory,
     /// The lock can't answer.
     Lock(LockFault),
     /// The use of the entry can't be counted.

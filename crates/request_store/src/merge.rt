@@ -1,9 +1,9 @@
 //! The head of a stale response that upstream confirms.
-ghost use Rattle.std.specs.Prelude.{◌≡◌, IsTrue, IfOk, OnOk};
+ghost use Rattle.std.specs.Prelude.{◌≡◌, IsTrue, IfOk, OnOk, IsErrOf};
 ghost use Rattle.http_header.specs.FieldName.{is_field_name};
-ghost use Rattle.http_header.specs.HeaderMap.{append, get_all};
+ghost use Rattle.http_header.specs.HeaderMap.{append, get_all, RefusesAppend};
 ghost use Rattle.http_header.specs.Token.{lowercase};
-ghost use Rattle.request_store.specs.Merges.{with_values, merged};
+ghost use Rattle.request_store.specs.Merges.{renewed_names, with_values, merged, PassesCount, Outgrows};
 
 use cache_heads::CacheMeta;
 use cache_heads::meta::ResponseHeader;
@@ -16,7 +16,8 @@ fn append_copy(
     value: &HeaderValue,
 ) -> Result<(), HeaderMapError>
     requires { IsTrue (is_field_name name.now) }
-    ensures { OnOk result (headers.new ≡ append headers.old (lowercase name.now) value.now) }
+    ensures ok { OnOk result (headers.new ≡ append headers.old (lowercase name.now) value.now) }
+    ensures full { IsErrOf result HeaderMapError.MaxSizeReached → RefusesAppend headers.old (lowercase name.now) }
 {
     let Ok(value) = value.clone() else {
         return Err(HeaderMapError::OutOfMemory);
@@ -32,7 +33,8 @@ fn put_values(
     name: &'static str,
 ) -> Result<(), HeaderMapError>
     requires { IsTrue (is_field_name name.now) }
-    ensures { OnOk result (headers.new ≡ with_values (lowercase name.now) (get_all sent.now (lowercase name.now)) headers.old) }
+    ensures ok { OnOk result (headers.new ≡ with_values (lowercase name.now) (get_all sent.now (lowercase name.now)) headers.old) }
+    ensures full { IsErrOf result HeaderMapError.MaxSizeReached → PassesCount (with_values (lowercase name.now) (get_all sent.now (lowercase name.now)) headers.old) }
 {
     let mut values = sent.get_all(name).iter();
     let Some(first) = values.next() else {
@@ -52,12 +54,13 @@ fn put_values(
 ///
 /// # Errors
 ///
-/// Out of memory, or the head has more names than it can count.
+/// Out of memory; and `MaxSizeReached`, only where the head gets more names or more values than it can count.
 pub fn merged_head(
     meta: &CacheMeta,
     sent: &ResponseHeader,
 ) -> Result<ResponseHeader, HeaderMapError>
-    ensures { IfOk result (λ header. header ≡ merged meta.now.header sent.now) }
+    ensures ok { IfOk result (λ header. header ≡ merged meta.now.header sent.now) }
+    ensures full { IsErrOf result HeaderMapError.MaxSizeReached → Outgrows sent.now.headers renewed_names meta.now.header.headers }
 {
     let Ok(mut header) = meta.response_header_copy() else {
         return Err(HeaderMapError::OutOfMemory);

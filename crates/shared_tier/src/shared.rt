@@ -1,12 +1,13 @@
 //! The shared tier.
-ghost use Rattle.std.specs.Prelude.{◌≡◌, ℕ, ◌<◌, ◌∷◌, ◌++◌, [], IfOk, IfErr};
+ghost use Rattle.std.specs.Prelude.{◌≡◌, ℕ, ◌<◌, ◌≤◌, ◌∷◌, ◌++◌, [], IfOk, IfErr};
 ghost use Rattle.cache_words.specs.declared.pack.fault.PackWriteFault.{PackWriteFault};
 ghost use Rattle.cache_evict.specs.Loads.{CantBeWritten};
 ghost use Rattle.cache_evict.specs.Managed.{rows_at};
-ghost use Rattle.tier_model.specs.Started.{IsNew, settings_of};
+ghost use Rattle.tier_model.specs.Started.{HasOnlyOrder, settings_of};
 ghost use Rattle.recorded_tier.specs.Histories.{own, HasTurns};
-ghost use Rattle.recorded_tier.specs.Openings.{settings_with};
+ghost use Rattle.cache_tier.specs.Options.{settings_with};
 ghost use Rattle.recorded_tier.specs.Recorded.{MatchRecorded, IsClosed, IsReplayed};
+ghost use Rattle.recorded_tier.specs.Seats.{total};
 
 use cache_evict::PackWriteFault;
 use cache_tier::{Answer, Event, Tier, TierFault};
@@ -44,7 +45,8 @@ pub struct NotShared<const N: usize, R: Rng, S: BuildHasher = BuildHasherDefault
 }
 
 impl<const N: usize, R: Rng + Clone, L: Ledger, S: BuildHasher> SharedTier<N, R, L, S> {
-    /// Shares a tier that was made with these options and has seen no event (`is_new` is asked for), and its generator. `blank` is the
+    /// Shares a tier that was made with these options (`tier.options()` returns them) and holds nothing but its order of use
+    /// (`has_only_order` is asked for), and its generator. `blank` is the
     /// tier's ledger, of 4294967296 parts.
     ///
     /// # Errors
@@ -58,7 +60,7 @@ impl<const N: usize, R: Rng + Clone, L: Ledger, S: BuildHasher> SharedTier<N, R,
         tier: Tier<N, S>,
         rng: R,
     ) -> Result<SharedTier<N, R, L, S>, NotShared<N, R, S>>
-        requires new { IsNew tier }
+        requires only_order { HasOnlyOrder tier }
         requires made { settings_of tier ≡ settings_with N options }
         requires words { (copy : R) → R.is_clone rng copy → R.stream copy ≡ R.stream rng }
         requires blank { (blank.name ≡ L.name) × (blank.parts ≡ L.parts) × (L.parts ≡ 4294967296) }
@@ -117,12 +119,14 @@ impl<const N: usize, R: Rng, L: Ledger, S: BuildHasher> SharedTier<N, R, L, S> {
         pass.step(&mut *self.lock.lock(rt), event)
     }
 
-    /// Takes passes back, and keeps their records, if each is what the history has of its caller.
+    /// Takes passes back, and keeps their records, if each is what the history has of its caller. So the history has no fewer records than
+    /// these passes together.
     ///
     /// # Errors
     ///
     /// `PassDiffers` where a pass isn't, and `Memory`. All passes come back.
     pub fn gather<W: Wait>(&self, rt: &W, passes: Vec<Pass<L>>) -> Result<Gathered, NotGathered<L>>
+        ensures held { IfOk result (λ now. total passes.items ≤ now.records) }
         ensures back { IfErr result (λ back. back.passes.items ≡ passes.items) }
     {
         self.lock.lock(rt).gather(passes)

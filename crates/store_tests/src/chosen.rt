@@ -1,6 +1,6 @@
 //! Keys, tags and ids that are chosen so that std's hasher multiplies by 0, or nearly so, where it hashes them in one write: 64 such values then have one
 //! place or two of 64. The hashes start with a known word, so that each run gives the same.
-use cache_entries::entry::{CacheEntryId, CacheEntryKey};
+use cache_entries::entry::{CacheEntryId, CacheEntryKey, CacheEntryKeyRef};
 use cache_predictor::{ConcurrentHashTable, ConcurrentLruCache};
 use cache_words::key::CacheKey;
 use entry_numbers::Numbers;
@@ -55,7 +55,8 @@ fn hash_of_entry(alloc: Global, tag: String, id: Option<CacheEntryId>) -> Option
     let primary = Vec::from_slice(alloc, b"k").ok()?;
     let key = CacheKey::new(primary, tag).to_compact().ok()?;
     let numbers: Numbers<1, SeededState> = Numbers::with_hasher(alloc, HASHER);
-    Some(numbers.hash_of(&CacheEntryKey::from_entry_id(key, id)))
+    let entry = CacheEntryKey::from_entry_id(key, id);
+    Some(numbers.hash_of(CacheEntryKeyRef::from(&entry)))
 }
 
 fn hash_of_twenty(number: u64, middle: u64) -> u64 {

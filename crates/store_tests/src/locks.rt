@@ -3,4 +3,6 @@ mod cores;
 mod permit_rows;
 mod permits;
 mod predictors;
+mod refused;
 mod tables;
+mod told;

@@ -3,6 +3,7 @@ mod cases;
 mod names;
 mod numbers;
 mod refused;
+mod restarts;
 mod saved;
 mod shards;
 mod steps;

@@ -1,10 +1,14 @@
 //! The store in memory: writes, readers before and after their pieces, purges, other metas, tags, and what is kept of finished bodies.
 mod bench;
+mod cuts;
 mod names;
 mod reading;
+mod refused;
 mod rows;
 
 use bench::run;
+use cuts::{CUTS, are_alike};
+use refused::keeps_pieces;
 use rows::{COUNTED, ELSEWHERE, ENDED, PURGED, RENEWED, SOUGHT, STREAMED, TAGGED, WHOLE};
 
 #[test]
@@ -18,4 +22,14 @@ fn steps_give_what_they_must(rt: HostRuntime) {
     assert!(rt; run(rt.alloc(), TAGGED));
     assert!(rt; run(rt.alloc(), ELSEWHERE));
     assert!(rt; run(rt.alloc(), COUNTED));
+}
+
+#[test]
+fn each_cut_is_answered_alike(rt: HostRuntime) {
+    assert!(rt; are_alike(rt.alloc(), CUTS));
+}
+
+#[test]
+fn refused_memory_of_a_join_keeps_pieces(rt: HostRuntime) {
+    assert!(rt; keeps_pieces(rt.alloc()));
 }

@@ -1,7 +1,7 @@
 //! What the tier is made with.
 ghost use Rattle.std.specs.Prelude.{◌≡◌, IfOk};
-ghost use Rattle.tier_model.specs.Started.{IsNew, settings_of};
-ghost use Rattle.recorded_tier.specs.Openings.{settings_with};
+ghost use Rattle.tier_model.specs.Started.{HasOnlyOrder, settings_of};
+ghost use Rattle.cache_tier.specs.Options.{settings_with};
 
 use cache_tier::{Duration, Tier};
 use shared_tier::TierOptions;
@@ -19,7 +19,7 @@ fn settings() -> TierOptions {
 
 /// Returns an empty tier of four shards, and the options that it was made with.
 pub fn empty(alloc: Global) -> Result<(TierOptions, Tier<4>), AllocError>
-    ensures { IfOk result (λ made. IsNew made.1 × (settings_of made.1 ≡ settings_with 4 made.0)) }
+    ensures { IfOk result (λ made. HasOnlyOrder made.1 × (settings_of made.1 ≡ settings_with 4 made.0)) }
 {
     let set = settings();
     let tier = Tier::<4>::new(alloc, set.limit, set.watermark, set.age, set.wait)?;

@@ -51,11 +51,11 @@ cores_told : (n : ℕ) (tokens : List ℕ) (s : LockState) (o : Option HeldCore)
 cores_told n tokens s None = refl
 cores_told n tokens s (Some c) = refl
 
-module _ (age : DurationValue) where
+module _ (age : DurationValue) (first : ℕ) where
   abbrev after_them : Changes → LockState
-  after_them changes = after_all changes (empty_lock age)
+  after_them changes = after_all changes (record (empty_lock age) { next = first })
 
-  age_is : (changes : Changes) → (after_them changes).age ≡ age
+  pub age_is : (changes : Changes) → (after_them changes).age ≡ age
   age_is [] = refl
   age_is (gives m key stale moment ∷ before) = age_is before
   age_is (lends m ∷ before) = age_kept m named (after_them before) (get (after_them before).cores m) ∙ age_is before

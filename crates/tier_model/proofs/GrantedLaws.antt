@@ -60,7 +60,7 @@ pub effect-lawful : (start : Opening) (c : Call) (h : History) → LocksFit star
     → Effect (state_of start h) (state_of start (c ∷ h)) c.event.moment c.event.action c.outcome (lock_changes (state_of start h) c)
 effect-lawful start c h x p = effect-of (state_of start h) c x.fits p
 
-none_holds : (n : ℕ) → holders n (empty {X = Request} {R = nat_cmp}) ≡ 0
+pub none_holds : (n : ℕ) → holders n (empty {X = Request} {R = nat_cmp}) ≡ 0
 none_holds n = ap (λ (l : List (ℕ × Request)). sum_by (holds n) (map (λ e. e.1) l)) (nil_from_length (entries (empty {X = Request} {R = nat_cmp})) (sym (len-entries (empty {X = Request} {R = nat_cmp})) ∙ len-empty nat_cmp Request))
 
 pub LocksFit-lawful : (start : Opening) (h : History) → IsLawful start h → LocksFit start h
@@ -69,7 +69,8 @@ LocksFit-lawful start [] l = record {
   granted = record {
     grants = record {
       orderly = tt;
-      state = state_of-is start.settings.age [] tt;
+      state = let empty = state_of-is start.settings.age [] tt in
+          record { names = empty.names; status = empty.status; current = empty.current; waits = empty.waits; replaced = empty.replaced };
       names = λ n. sym (none_holds n);
       unused = λ n l. refl;
       there = λ i n p k e. absurd (none i p n k e);

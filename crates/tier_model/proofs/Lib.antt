@@ -37,6 +37,7 @@ pub mod RightLaws
 pub mod HeadlineLaws
 pub mod StandLaws
 pub mod GrantedLaws
+pub mod UnheldLaws
 pub mod BeganLaws
 pub mod PermitSteps
 pub mod PermitKept

@@ -5,8 +5,7 @@ use Rattle.std.specs.FinMap.{get, insert}
 use Rattle.std.proofs.lemmas.Bool.{leb-false}
 use Rattle.cache_words.specs.Time.{MomentValue}
 use Rattle.cache_lock.specs.Changes.{Change, gives, lends, stores, takes_out, publishes, spends}
-use Rattle.cache_lock.specs.State.{LockState, IsSound, with_core, named, unnamed, with_status, spent, told, without_core, status_of, after as changed, after_all, empty_lock}
-use Rattle.cache_lock.specs.Waits.{state_of as lock_of}
+use Rattle.cache_lock.specs.State.{LockState, IsSound, with_core, named, unnamed, with_status, spent, told, without_core, status_of, after as changed, after_all}
 use Rattle.cache_lock.specs.Answers.{to_wait_for, locked_by, lock_change, release_changes, leave_changes, poll_changes, wait_outcome, given_back, IsAsBefore, reason_stored}
 use Rattle.cache_lock.specs.Status.{is_aged}
 use Rattle.cache_lock.specs.declared.lock_core.HeldCore.{HeldCore}
@@ -29,7 +28,7 @@ use Rattle.tier_model.specs.Shelf.{Look, is_there}
 use Rattle.tier_model.specs.State.{Held, nothing, permit, waits, Request, State}
 use Rattle.tier_model.specs.Answers.{key_for, look_for, asks_now}
 use Rattle.tier_model.specs.After.{by_request, given_changes, back_changes, release_of, leave_of, poll_of, of_open, lock_changes_in, lock_changes}
-use Rattle.tier_model.specs.Past.{state_of, lock_changes_of}
+use Rattle.tier_model.specs.Past.{lock_from, state_of, lock_changes_of}
 
 -- ---- the changes of the lock, one call after another
 
@@ -37,10 +36,10 @@ all_after : (xs ys : List Change) (s : LockState) → after_all (xs ++ ys) s ≡
 all_after [] ys s = refl
 all_after (c ∷ xs) ys s = ap (changed c) (all_after xs ys s)
 
-pub lock-is : (start : Opening) (h : History) → (state_of start h).lock ≡ lock_of start.settings.age (lock_changes_of start h)
+pub lock-is : (start : Opening) (h : History) → (state_of start h).lock ≡ after_all (lock_changes_of start h) (lock_from start)
 lock-is start [] = refl
 lock-is start (c ∷ h) =
-    ap (after_all (lock_changes (state_of start h) c)) (lock-is start h) ∙ sym (all_after (lock_changes (state_of start h) c) (lock_changes_of start h) (empty_lock start.settings.age))
+    ap (after_all (lock_changes (state_of start h) c)) (lock-is start h) ∙ sym (all_after (lock_changes (state_of start h) c) (lock_changes_of start h) (lock_from start))
 
 -- ---- each core is named, and its number is given
 
@@ -174,7 +173,7 @@ module _ (s : State) (sound : IsSound s.lock) where
   as_before t (Put key pieces) f asked = unchanged s.lock
 
 pub IsSound-of : (start : Opening) (h : History) → IsSound (state_of start h).lock
-IsSound-of start [] = below-empty 0
+IsSound-of start [] = below-empty start.first_core
 IsSound-of start (c ∷ h) = call_sound (state_of start h) (IsSound-of start h) c.event.moment c.event.action c.outcome c.asked
 
 pub refused-as-before : (start : Opening) (c : Call) (h : History) (f : TierFault) → c.outcome ≡ Err f → IsAsBefore (state_of start (c ∷ h)).lock (state_of start h).lock

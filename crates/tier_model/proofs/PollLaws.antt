@@ -113,7 +113,7 @@ module _ (start : Opening) (h : History) (lawful : IsLawful start h) where
           let x = core-of-permit start h lawful k w in
           let both : Some x.0 ≡ Some m = sym x.1.core ∙ (Settled-lawful start h lawful).current r m k grip last in
           let one : x.0 ≡ m = cc in
-          let at = began-there start.settings.age changes m (ages c) (sym (ap (λ (l : LockState). option_map ages (get l.cores m)) (lock-is start h)) ∙ ap (option_map ages) core) in
+          let at = began-there start.settings.age start.first_core changes m (ages c) (sym (ap (λ (l : LockState). option_map ages (get l.cores m)) (lock-is start h)) ∙ ap (option_map ages) core) in
           let same : Some w.call.event.moment ≡ Some c.core.lock_start = sym x.2 ∙ ap (λ (j : ℕ). began_at j changes) one ∙ at.0 in
           let began : c.core.lock_start ≡ w.call.event.moment = cc in
           inl (

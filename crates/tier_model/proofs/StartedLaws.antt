@@ -1,8 +1,10 @@
--- A tier in which no event left a trace is as an opening with its rows gives it.
+-- A tier that holds nothing but its order of use is as an opening with its rows gives it.
 use Rattle.std.proofs.Common.{◌≡◌, ℕ, zero, suc, ◌+◌, ◌<◌, Bool, true, false, cond, List, [], ◌∷◌, ◌++◌, Option, Some, None, sym, refl, ap, ◌∙◌, subst, arith}
-use Rattle.std.specs.Prelude.{◌≢◌, ◌==◌}
-use Rattle.std.specs.FinMap.{empty_of_len}
+use Rattle.std.specs.Prelude.{◌≢◌, ◌==◌, length, replicate}
+use Rattle.std.specs.FinMap.{empty_of_len, len-empty}
+use Rattle.std.specs.Cmp.Lexicographic.{slice_cmp}
 use Rattle.std.specs.List.{AllByRecursion}
+use Rattle.std.specs.Ordering.{nat_cmp}
 use Rattle.std.proofs.lemmas.Bool.{eqb-true}
 use Rattle.std.proofs.lemmas.Bool.Decides.{nat_tests}
 use Rattle.std.proofs.lemmas.List.{append-nil, ext_get_or}
@@ -15,11 +17,13 @@ use Rattle.cache_entries.specs.SameEntry.{same_entry-tells}
 use Rattle.cache_changes.specs.Changes.{StoredKey, Write, Changes, begins}
 use Rattle.cache_changes.specs.Writes.{IsFound}
 use Rattle.cache_changes.specs.Uses.{admissions, in_shard}
-use Rattle.cache_evict.specs.Managed.{Managed, IsSharded, rows_at, shard_of}
+use Rattle.cache_evict.specs.Managed.{Managed, IsSharded, fresh, rows_at, shard_of}
+use Rattle.tier_model.specs.declared.state.Body.{Body}
 use Rattle.tier_model.specs.Histories.{changes_of}
+use Rattle.tier_model.specs.Shelf.{Readers}
 use Rattle.tier_model.specs.Past.{HasPast, in_shards}
-use Rattle.tier_model.specs.Started.{IsNew, all_rows, opening_of}
-use Rattle.tier_model.specs.State.{State, shards_of}
+use Rattle.tier_model.specs.Started.{HasOnlyOrder, IsNew, all_rows, opening_of}
+use Rattle.tier_model.specs.State.{Request, Settings, State, empty_state, shards_of}
 use Rattle.tier_model.proofs.Carried.{HasPast-lawful}
 use Rattle.tier_model.proofs.RowSteps.{in_shards-are}
 
@@ -133,8 +137,8 @@ module _ (n : ℕ) where
     pub rows_distinct : AreDistinct (all_rows m.shards)
     rows_distinct = all_distinct 0 m.shards home sharded.distinct
 
--- a tier in which no event left a trace has the past of its opening: no event
-pub opening_past : (s : State) → IsNew s → IsSharded (shards_of s) s.managed → HasPast (opening_of s) s []
+-- such a tier has the past of its opening: no event
+pub opening_past : (s : State) → HasOnlyOrder s → IsSharded (shards_of s) s.managed → HasPast (opening_of s) s []
 opening_past s new sharded =
     let again = sym (rows_again (shards_of s) s.managed sharded) in
     HasPast-lawful (opening_of s) s [] (sharded.some, rows_distinct (shards_of s) s.managed sharded)
@@ -147,6 +151,45 @@ opening_past s new sharded =
       found = new.found t;
       absent = new.absent t;
     })
+
+-- ---- where no entry is tracked
+
+no_rows : (shards : List (List Tracked)) → all_rows shards ≡ [] → shards ≡ replicate (length shards) []
+no_rows [] e = refl
+no_rows ([] ∷ shards) e = ap (λ (l : List (List Tracked)). [] ∷ l) (no_rows shards e)
+no_rows ((r ∷ rows) ∷ shards) e = absurd cc
+
+-- a tier as it is made is new
+no_row : (n : ℕ) → all_rows (replicate n []) ≡ []
+no_row zero = refl
+no_row (suc n) = no_row n
+
+pub empty-new : (settings : Settings) → IsNew (empty_state settings)
+empty-new settings = record {
+  nothing_else = record {
+    bodies = len-empty (slice_cmp nat_cmp) Body;
+    flying = refl;
+    readers = len-empty nat_cmp Readers;
+    lock = refl;
+    requests = len-empty nat_cmp Request;
+    found = refl;
+    absent = refl;
+    evicted_size = refl;
+    evicted_items = refl;
+  };
+  untracked = no_row settings.shards;
+}
+
+pub tracks_nothing : (s : State) (n : ℕ) → IsNew s → IsSharded n s.managed → s.managed ≡ fresh n s.managed.limit s.managed.watermark
+tracks_nothing s n new sharded =
+    let none : s.managed.shards ≡ replicate n [] = no_rows s.managed.shards new.untracked ∙ ap (λ (k : ℕ). replicate k []) sharded.count in
+    λ i. record {
+      shards = none i;
+      limit = s.managed.limit;
+      watermark = s.managed.watermark;
+      evicted_size = new.nothing_else.evicted_size i;
+      evicted_items = new.nothing_else.evicted_items i;
+    }
 
 -- ---- what was loaded is no write
 

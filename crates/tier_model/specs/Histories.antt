@@ -29,16 +29,17 @@ pub record Kept : Type 0 where
 abbrev pub told_of : Changes Kept → Write Kept → Body
 told_of changes w = record { bytes = bytes_of w.number changes; meta = (meta_of w changes).meta }
 
--- how a tier began: what it was made with, the number of its first write, which is how many began before, and the order of use that
--- it loaded. No body was stored
+-- how a tier began: what it was made with, the numbers of its first write and of the first core of its lock, which tell how many were
+-- used up before, and the order of use that it loaded. No body was stored
 pub record Opening : Type 0 where
   pub settings : Settings
   pub first : ℕ
+  pub first_core : ℕ
   pub loaded : List Tracked
 
--- nothing was loaded, and no write began
+-- nothing was loaded, and no number was used up
 abbrev pub empty_opening : Settings → Opening
-empty_opening settings = record { settings = settings; first = 0; loaded = [] }
+empty_opening settings = record { settings = settings; first = 0; first_core = 0; loaded = [] }
 
 -- how many writes began: the number of the next
 abbrev pub writes_begun : Opening → History → ℕ

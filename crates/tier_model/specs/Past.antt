@@ -25,7 +25,8 @@ use Rattle.tier_model.specs.State.{Held, nothing, permit, waits, Reader, closed,
 use Rattle.tier_model.specs.Step.{Allows}
 use Rattle.tier_model.specs.After.{lock_changes, after}
 use Rattle.cache_lock.specs.Changes.{Changes as LockChanges}
-use Rattle.cache_lock.specs.Waits.{names_of, state_of as lock_of}
+use Rattle.cache_lock.specs.State.{LockState, empty_lock, after_all}
+use Rattle.cache_lock.specs.Waits.{names_of}
 
 -- rows put into n shards
 abbrev pub in_shards : ℕ → List Tracked → List (List Tracked)
@@ -35,9 +36,13 @@ in_shards n rows = map (λ s. in_shard n s rows) (range_with_len 0 n)
 abbrev pub loaded_of : Opening → Managed
 loaded_of start = record (fresh start.settings.shards start.settings.limit start.settings.watermark) { shards = in_shards start.settings.shards start.loaded }
 
+-- the lock that a tier begins with
+abbrev pub lock_from : Opening → LockState
+lock_from start = record (empty_lock start.settings.age) { next = start.first_core }
+
 -- the state of a tier after a history
 abbrev pub state_of : Opening → History → State
-state_of start [] = record (empty_state start.settings) { managed = loaded_of start; shelf = empty_shelf start.first }
+state_of start [] = record (empty_state start.settings) { managed = loaded_of start; shelf = empty_shelf start.first; lock = lock_from start }
 state_of start (c ∷ h) = after (state_of start h) c
 
 -- what a history changed in the lock, the latest change first
@@ -164,7 +169,7 @@ pub record MatchesHistory (s : State) (start : Opening) (h : History) : Type 0 w
   pub counted : (n : ℕ) → count_of (get s.shelf.readers n) ≡ streamers n s.requests
   pub kept : (n : ℕ) (r : Readers) → get s.shelf.readers n ≡ Some r → 0 < r.count
   pub reading : (id n place : ℕ) (q : Request) → get s.requests id ≡ Some q → q.reader ≡ streaming n place → IsReadable s.shelf n (changes_of start h)
-  pub lock : s.lock ≡ lock_of start.settings.age (lock_changes_of start h)
+  pub lock : s.lock ≡ after_all (lock_changes_of start h) (lock_from start)
   pub named : (n : ℕ) → names_of n (lock_changes_of start h) ≡ holders n s.requests
   pub found : s.found ≡ saturated (found_answers h)
   pub absent : s.absent ≡ saturated (absent_answers h)

@@ -15,8 +15,8 @@ ghost use Rattle.cache_words.specs.Time.{MomentValue};
 ghost use Rattle.response_parse.specs.Response.{IsWellFormed, Reading, IsReading, head_of};
 ghost use Rattle.tier_model.specs.Response.{not_read, judged_alone, whole_of, IsOneHead};
 ghost use Rattle.tier_model.specs.State.{State, shards_of};
-ghost use Rattle.tier_model.specs.Started.{IsNew, opening_of};
-ghost use Rattle.cache_evict.specs.Managed.{IsSharded};
+ghost use Rattle.tier_model.specs.Started.{HasOnlyOrder, IsNew, opening_of};
+ghost use Rattle.cache_evict.specs.Managed.{IsSharded, fresh};
 ghost use Rattle.tier_model.specs.Past.{HasPast, IsLawful, MatchesHistory, state_of, lock_changes_of};
 ghost use Rattle.tier_model.specs.Reports.{IsReport, report_of};
 
@@ -65,9 +65,14 @@ pub fn well_formed_heads_are_read()
     ensures { (arrival : MomentValue) (bytes : List ℕ) (r : Reading) → IsOneHead bytes → IsReading bytes r → judged_alone arrival (head_of r) ≢ not_read }
 {}
 
-/// A tier in which no event left a trace is what an opening with its rows gives, so the headline of that opening holds of it;
-/// and it finds no key.
-pub fn new_tiers_are_as_opened()
-    ensures past { (s : State) → IsNew s → IsSharded (shards_of s) s.managed → HasPast (opening_of s) s [] }
+/// A tier that holds nothing but its order of use, and has counted nothing, is what an opening with its rows gives, so the headline of
+/// that opening holds of it; and it finds no key.
+pub fn tiers_with_only_an_order_are_as_opened()
+    ensures past { (s : State) → HasOnlyOrder s → IsSharded (shards_of s) s.managed → HasPast (opening_of s) s [] }
     ensures nothing { (s : State) (k : StoredKey) → ¬ IsFound k (changes_of (opening_of s) []) }
+{}
+
+/// A tier that holds nothing, and has counted nothing, has an order of use as it is made.
+pub fn new_tiers_track_nothing()
+    ensures { (s : State) (n : ℕ) → IsNew s → IsSharded n s.managed → s.managed ≡ fresh n s.managed.limit s.managed.watermark }
 {}

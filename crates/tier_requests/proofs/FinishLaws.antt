@@ -77,6 +77,7 @@ module _ (d : Driven) (asks : Bool) (wait : Option DurationValue) (gave : Bool) 
     writes = λ there. absurd cc;
     released = λ there. let-go-none d.lock;
     waits = λ reads. let never : false ≡ true = sym (ap is_read (let-go-none d.lock)) ∙ reads in absurd cc;
+    gone = i.gone;
   }
 
   pub driven-finished : (status : Option LockStatus) (tag : ℕ → Option (List ℕ)) (new : Driven) → IsLeftBy (λ m. m) (λ m. None) tag status d new → IsDriven new asks wait gave bytes

@@ -27,4 +27,5 @@ module _ (d : Driven) (asks : Bool) (wait : Option DurationValue) (gave : Bool) 
     writes = λ e. same ∙ i.writes e;
     released = i.released;
     waits = λ e. ap (λ (p : Phase). can_begin p gave) same ∙ i.waits e;
+    gone = i.gone;
   }

@@ -194,6 +194,7 @@ module _ (d : Driven) (asks : Bool) (wait : Option DurationValue) (gave : Bool) 
     writes = λ there. plain;
     released = λ there. let-go-none d.lock;
     waits = λ reads. let never : false ≡ true = sym (ap is_read (let-go-none d.lock)) ∙ reads in absurd cc;
+    gone = λ reads. refl;
   }
 
   -- what the store did, as the shelf has it

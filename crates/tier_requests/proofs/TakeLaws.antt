@@ -20,6 +20,7 @@ use Rattle.cache_phases.specs.declared.hit.HitStatus.TheVariants.{Expired}
 use Rattle.cache_phases.specs.Locks.{is_on, is_read, held, now_holding, lock_held}
 use Rattle.cache_store.specs.Held.{Held}
 use Rattle.mem_cache.specs.declared.handlers.MemHitHandler.{MemHitHandler}
+use Rattle.mem_cache.specs.declared.handlers.MemHitHandler.TheVariants.{Complete, Partial}
 use Rattle.mem_cache.specs.Readings.{reader_of, is_complete, weight_of}
 use Rattle.request_store.specs.declared.faults.FoundFault.TheVariants.{Evict}
 use Rattle.request_store.specs.Spends.{Spends}
@@ -39,7 +40,7 @@ use Rattle.tier_model.specs.Answers.{finds_fresh, asks_now, lock_given, look_ans
 use Rattle.tier_model.specs.After.{phase_of, looked}
 use Rattle.tier_requests.specs.Faults.{out_of_memory, fault_for, lock_fault_for}
 use Rattle.tier_requests.specs.Looks.{used_by, UseRefused}
-use Rattle.tier_requests.specs.Plain.{Driven, phase_in, held_in, given_of, reader_in, plain_of, IsDriven}
+use Rattle.tier_requests.specs.Plain.{Driven, phase_in, held_in, given_of, reader_in, plain_of, reads_a_write, IsDriven}
 use Rattle.tier_requests.specs.Finds.{TakeAnswer, IsReadBy, IsFoundBy, FoundAnswer}
 use Rattle.tier_requests.proofs.PlainLaws.{waits-in}
 use Rattle.tier_requests.proofs.FindLaws.{key-stored, taken-from, is_whole, whole-found, whole-taken, weight-found, found-there}
@@ -104,6 +105,11 @@ pub taken-fresh : (t : MomentValue) (hit : MemHitHandler) (r r' : Driven) (h h' 
     → TakesFresh reader_of hit (point r h s) (Ok tt) (point r' h' s') → IsTakenAs true t None hit r r' h h' s s'
 taken-fresh t hit r r' h h' s s' taken = record { request = taken.0; lock = taken.2; store = taken.1 }
 
+-- of a write nothing is taken
+none_taken : (before hit : MemHitHandler) (took : Option (List ℕ)) → TakeAnswer before (Ok took) hit → reads_a_write (Some hit) ≡ true → took ≡ None
+none_taken (Complete h) hit took a e = let no : false ≡ true = sym (ap (λ (x : MemHitHandler). reads_a_write (Some x)) a.1) ∙ e in absurd cc
+none_taken (Partial h) hit took a e = let is : Ok took ≡ Ok None = a.0 in cc
+
 -- the request that took it
 pub driven-found : (t : MomentValue) (r r' : Driven) (asks : Bool) (wait : Option DurationValue) (gave gave' : Bool) (bytes took : Option (List ℕ)) (meta : Option CacheMeta) (before hit : MemHitHandler) (v : Bool) (h h' : Held) (s s' : LockState)
     → IsDriven r asks wait gave bytes → look_refusal (plain_of r asks wait gave bytes) ≡ None → gave' ≡ is_read (held r'.lock) → TakeAnswer before (Ok took) hit
@@ -120,6 +126,7 @@ driven-found t r r' asks wait gave gave' bytes took meta before hit v h h' s s' 
       writes = λ e. let never : true ≡ false = sym e ∙ k.writer in absurd cc;
       released = λ e. let never : true ≡ false = sym e ∙ k.writer in absurd cc;
       waits = λ e. begins_not v (is_some meta) gave' (told ∙ ap (λ (x : Driven). is_read (held x.lock)) taken.request ∙ e);
+      gone = none_taken before hit took take;
     })
   where
     k : IsLooking r asks
@@ -208,15 +215,6 @@ module _ (n : ℕ) (weighed : ℕ → ℕ) (t : MomentValue) (r : Driven) (asks 
         same,
         lock-left t q l s s' kept,
       )
-
-  -- no memory was left to count the use
-  pub found-uncounted : (m m' : Managed) (s s' : LockState) (r' : Driven) → r' ≡ r → s' ≡ given_back (status_by v) t r s → m' ≡ m → FoundAnswer n weighed t q l m s (Err out_of_memory) (plain_of r' asks wait gave bytes) m' s'
-  found-uncounted m m' s s' r' unchanged back same = (
-    inl (refl, inl there),
-    ap (λ (x : Driven). plain_of x asks wait gave bytes) unchanged,
-    same,
-    handed-back t q l s (found_given (status_by v) r s) (found_asked (status_by v) t r s) s' (asked s) back,
-  )
 
   -- the use can't be counted
   pub found-unused : (hit : MemHitHandler) (took : Option (List ℕ)) (m m' : Managed) (s s' : LockState) (r' : Driven) (fault : EvictFault) → TakeAnswer before (Ok took) hit → r' ≡ r → s' ≡ given_back (status_by v) t r s

@@ -80,9 +80,14 @@ pub record IsSet (asks : Bool) (wait : Option DurationValue) (l : RequestLock) :
   pub on : is_on l ≡ asks
   pub timeout : is_on l ≡ true → timeout_of l ≡ wait
 
+-- it reads a write as that comes
+abbrev pub reads_a_write : Option MemHitHandler → Bool
+reads_a_write (Some (Partial h)) = true
+reads_a_write _ = false
+
 -- a request has a key and uses the manager and the lock until it is disabled, when it holds nothing. It has a write only where one
 -- began, and then nothing of the lock. One that waits may not begin a write: its last look-up gave it the wait. No policy is asked, and
--- nothing is hidden from it
+-- nothing is hidden from it. One that reads a write, as its own once it began, has let go of the body that it found before
 pub record IsDriven (r : Driven) (asks : Bool) (wait : Option DurationValue) (gave_read : Bool) (bytes : Option (List ℕ)) : Type 0 where
   pub used : is_never_enabled r.phase ≡ false
   pub key : is_some r.key ≡ true
@@ -94,3 +99,4 @@ pub record IsDriven (r : Driven) (asks : Bool) (wait : Option DurationValue) (ga
   pub writes : is_some r.writer ≡ true → phase_in r.phase (is_some r.meta) ≡ begun
   pub released : is_some r.writer ≡ true → lock_held r.lock ≡ None
   pub waits : is_read (lock_held r.lock) ≡ true → can_begin (phase_in r.phase (is_some r.meta)) gave_read ≡ false
+  pub gone : reads_a_write r.reader ≡ true → bytes ≡ None

@@ -102,7 +102,6 @@ impl<S: BuildHasher> Request<S> {
         };
         match self.cache.cache_found_fresh(alloc, parts, hit, fresh_until) {
             Ok(()) => {}
-            Err(FoundFault::Memory) => return Err(out_of_memory(alloc)),
             Err(FoundFault::Evict(fault)) => return Err(fault_for(fault, nothing_done(alloc))),
             Err(FoundFault::Lock(_)) => unreachable!(),
         }
@@ -145,7 +144,6 @@ impl<S: BuildHasher> Request<S> {
             .cache_found(alloc, parts, meta, hit, HitStatus::Expired, moment)
         {
             Ok(()) => {}
-            Err(FoundFault::Memory) => return Err(out_of_memory(alloc)),
             Err(FoundFault::Lock(fault)) => return Err(lock_fault_for(alloc, fault)),
             Err(FoundFault::Evict(fault)) => return Err(fault_for(fault, nothing_done(alloc))),
         }

@@ -7,12 +7,16 @@ use tier_model::event::{Action, Event, Pieces};
 
 const HEAD: &[u8] = b"HTTP/1.1 200 OK\r\nCache-Control: max-age=100\r\n\r\n";
 
+const STALE_HEAD: &[u8] = b"HTTP/1.1 200 OK\r\nCache-Control: no-cache\r\n\r\n";
+
 // What is asked.
 #[derive(Clone, Copy)]
 pub(crate) enum Ask {
     Open(u64, u8),
     // The same, with look-ups that ask for the permit to write.
     OpenLocked(u64, u8),
+    // The same as the first, under the user tag `b`. All else is under the empty one.
+    OpenTagged(u64, u8),
     Look(u64),
     Poll(u64),
     // A write of what is fresh for 100 seconds.
@@ -22,13 +26,31 @@ pub(crate) enum Ask {
     Read(u64),
     Drop(u64),
     Purge(u8),
+    // The same under the user tag `b`.
+    PurgeTagged(u8),
     // A body that is fresh for 100 seconds.
     Put(u8, &'static [u8]),
+    // A body that is stale at once.
+    PutStale(u8, &'static [u8]),
 }
 
 fn key(alloc: Global, name: u8) -> Option<CacheKey> {
-    let primary = Vec::from_slice(alloc, &[name]).ok()?;
-    Some(CacheKey::new(primary, String::new(alloc)))
+    tagged_key(alloc, name, "")
+}
+
+fn tagged_key(alloc: Global, name: u8, tag: &str) -> Option<CacheKey> {
+    let tag = String::from_str(alloc, tag).ok()?;
+    match Vec::from_slice(alloc, &[name]) {
+        Ok(primary) => Some(CacheKey::new(primary, tag)),
+        Err(_) => None,
+    }
+}
+
+fn put(alloc: Global, name: u8, head: &'static [u8], body: &'static [u8]) -> Option<Action> {
+    let key = key(alloc, name)?;
+    let pieces = vec![in alloc; Bytes::from_static(head), Bytes::from_static(body)].ok()?;
+    let pieces = Pieces::from_vec(pieces);
+    Some(Action::Put { key, pieces })
 }
 
 fn action(alloc: Global, ask: Ask) -> Option<Action> {
@@ -42,6 +64,11 @@ fn action(alloc: Global, ask: Ask) -> Option<Action> {
             request,
             key: key(alloc, name)?,
             lock: true,
+        }),
+        Ask::OpenTagged(request, name) => Some(Action::Open {
+            request,
+            key: tagged_key(alloc, name, "b")?,
+            lock: false,
         }),
         Ask::Look(request) => Some(Action::LookUp { request }),
         Ask::Poll(request) => Some(Action::Poll { request }),
@@ -60,12 +87,11 @@ fn action(alloc: Global, ask: Ask) -> Option<Action> {
         Ask::Purge(name) => Some(Action::Purge {
             key: key(alloc, name)?,
         }),
-        Ask::Put(name, body) => {
-            let key = key(alloc, name)?;
-            let pieces = vec![in alloc; Bytes::from_static(HEAD), Bytes::from_static(body)].ok()?;
-            let pieces = Pieces::from_vec(pieces);
-            Some(Action::Put { key, pieces })
-        }
+        Ask::PurgeTagged(name) => Some(Action::Purge {
+            key: tagged_key(alloc, name, "b")?,
+        }),
+        Ask::Put(name, body) => put(alloc, name, HEAD, body),
+        Ask::PutStale(name, body) => put(alloc, name, STALE_HEAD, body),
     }
 }
 

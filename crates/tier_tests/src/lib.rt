@@ -12,9 +12,13 @@ mod outcomes;
 #[cfg(test)]
 mod refusals;
 #[cfg(test)]
+mod restarts;
+#[cfg(test)]
 mod runs;
 #[cfg(test)]
 mod shared;
+#[cfg(test)]
+mod stops;
 #[cfg(test)]
 mod traces;
 #[cfg(test)]

@@ -1,5 +1,5 @@
 //! What comes of events, as plain values.
-use tier_model::event::{Answer, LockGiven, TierFault};
+use tier_model::event::{Answer, Done, LockGiven, TierFault};
 
 // What came of an event, as a plain value.
 #[derive(Clone, Copy, PartialEq, Eq)]
@@ -7,6 +7,10 @@ pub(crate) enum Outcome {
     Opened,
     // Fresh and complete.
     Found,
+    // Stale and complete.
+    Stale(LockGiven),
+    // Fresh, of a write in flight.
+    Partial,
     Absent(LockGiven),
     // A wait or a read has nothing yet.
     Pending,
@@ -14,6 +18,8 @@ pub(crate) enum Outcome {
     Written,
     // Whether the bytes are `xx`.
     Read(bool),
+    // All is read.
+    Ended,
     // A body of so many bytes, with so many evictions.
     Finished(usize, usize),
     Dropped,
@@ -24,9 +30,23 @@ pub(crate) enum Outcome {
     Refused,
     // Memory ran out before the admission of a body, or before its first eviction, so that it was taken back.
     TakenBack,
+    // Memory ran out after so many evictions for a body that was admitted, so that it was taken back.
+    CutShort(usize),
+    // Whether its body was stored, whether it was admitted, and how many evictions there were.
+    TooHeavy(bool, bool, usize),
     NoRequest,
     WrongPhase,
     Else,
+}
+
+// What memory ran out after.
+fn refused_after(done: &Done) -> Outcome {
+    match (done.stored, done.admitted, done.evicted.as_slice().len()) {
+        (true, _, 0) => Outcome::TakenBack,
+        (true, true, evicted) => Outcome::CutShort(evicted),
+        (false, false, 0) => Outcome::Refused,
+        _ => Outcome::Else,
+    }
 }
 
 pub(crate) fn outcome_of(answer: &Result<Answer, TierFault>) -> Outcome {
@@ -39,22 +59,34 @@ pub(crate) fn outcome_of(answer: &Result<Answer, TierFault>) -> Outcome {
                 lock: LockGiven::None,
             },
         ) => Outcome::Found,
+        Ok(
+            Answer::Found {
+                fresh: true,
+                complete: false,
+                lock: LockGiven::None,
+            },
+        ) => Outcome::Partial,
+        Ok(
+            Answer::Found {
+                fresh: false,
+                complete: true,
+                lock,
+            },
+        ) => Outcome::Stale(*lock),
         Ok(Answer::Absent { lock }) => Outcome::Absent(*lock),
         Ok(Answer::Waited(None) | Answer::Pending) => Outcome::Pending,
         Ok(Answer::Begun) => Outcome::Begun,
         Ok(Answer::Written) => Outcome::Written,
         Ok(Answer::Bytes(bytes)) => Outcome::Read(bytes.as_slice() == b"xx".as_slice()),
+        Ok(Answer::End) => Outcome::Ended,
         Ok(Answer::Finished { length, evicted }) => {
             Outcome::Finished(*length, evicted.as_slice().len())
         }
         Ok(Answer::Dropped) => Outcome::Dropped,
         Ok(Answer::Purged(was)) => Outcome::Purged(*was),
-        Err(TierFault::Memory(done)) if done.evicted.as_slice().is_empty() => {
-            match (done.stored, done.admitted) {
-                (true, _) => Outcome::TakenBack,
-                (false, false) => Outcome::Refused,
-                (false, true) => Outcome::Else,
-            }
+        Err(TierFault::Memory(done)) => refused_after(done),
+        Err(TierFault::TooHeavy(done)) => {
+            Outcome::TooHeavy(done.stored, done.admitted, done.evicted.as_slice().len())
         }
         Err(TierFault::NoRequest) => Outcome::NoRequest,
         Err(TierFault::WrongPhase) => Outcome::WrongPhase,
@@ -65,6 +97,10 @@ pub(crate) fn outcome_of(answer: &Result<Answer, TierFault>) -> Outcome {
 pub(crate) fn is_answer(outcome: Outcome) -> bool {
     !matches!(
         outcome,
-        Outcome::Unasked | Outcome::Refused | Outcome::TakenBack | Outcome::Else
+        Outcome::Unasked
+            | Outcome::Refused
+            | Outcome::TakenBack
+            | Outcome::CutShort(_)
+            | Outcome::Else
     )
 }

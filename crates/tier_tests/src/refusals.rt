@@ -1,4 +1,7 @@
 //! Each refused growth in turn.
+mod files;
+mod over_bodies;
+
 use crate::asks::Ask;
 use crate::outcomes::Outcome;
 use crate::runs::{ASKS, FOUR};
@@ -12,8 +15,17 @@ const PUT: Row = Row {
     ask: Ask::Put(b'b', b"xxxxx"),
     want: Outcome::Finished(5, 2),
     after: &[(Ask::Look(1), Outcome::Absent(LockGiven::None))],
-    refused: &[(Ask::Look(1), Outcome::Found)],
-    taken_back: &[(Ask::Look(1), Outcome::Found)],
+    refused: &[
+        (Ask::Look(1), Outcome::Found),
+        (Ask::Put(b'b', b"xxxxx"), Outcome::Finished(5, 2)),
+    ],
+    taken_back: &[
+        (Ask::Look(1), Outcome::Found),
+        (Ask::Purge(b'b'), Outcome::Purged(false)),
+        (Ask::Put(b'b', b"xxxxx"), Outcome::Finished(5, 2)),
+    ],
+    evicted: 0,
+    cut_short: &[],
 };
 
 const OPEN: Row = Row {
@@ -22,8 +34,14 @@ const OPEN: Row = Row {
     ask: Ask::OpenLocked(1, b'a'),
     want: Outcome::Opened,
     after: &[(Ask::Look(1), Outcome::Absent(LockGiven::Write))],
-    refused: &[(Ask::Look(1), Outcome::NoRequest)],
+    refused: &[
+        (Ask::Look(1), Outcome::NoRequest),
+        (Ask::OpenLocked(1, b'a'), Outcome::Opened),
+        (Ask::Look(1), Outcome::Absent(LockGiven::Write)),
+    ],
     taken_back: &[],
+    evicted: 0,
+    cut_short: &[],
 };
 
 const LOOK: Row = Row {
@@ -34,6 +52,8 @@ const LOOK: Row = Row {
     after: &[(Ask::Look(1), Outcome::WrongPhase)],
     refused: &[(Ask::Look(1), Outcome::Found)],
     taken_back: &[],
+    evicted: 0,
+    cut_short: &[],
 };
 
 // A refused look gives no permit away: the next one gets it.
@@ -51,6 +71,8 @@ const LOOK_LOCKED: Row = Row {
         (Ask::Look(1), Outcome::Absent(LockGiven::Read)),
     ],
     taken_back: &[],
+    evicted: 0,
+    cut_short: &[],
 };
 
 // A refused begin keeps the permit.
@@ -71,6 +93,8 @@ const BEGIN: Row = Row {
         (Ask::Begin(1), Outcome::Begun),
     ],
     taken_back: &[],
+    evicted: 0,
+    cut_short: &[],
 };
 
 const PIECE: Row = Row {
@@ -84,6 +108,8 @@ const PIECE: Row = Row {
         (Ask::Piece(1, b"xx"), Outcome::Written),
     ],
     taken_back: &[],
+    evicted: 0,
+    cut_short: &[],
 };
 
 const READ: Row = Row {
@@ -99,6 +125,8 @@ const READ: Row = Row {
     after: &[(Ask::Read(1), Outcome::Pending)],
     refused: &[(Ask::Read(1), Outcome::Read(true))],
     taken_back: &[],
+    evicted: 0,
+    cut_short: &[],
 };
 
 // After a refusal that did nothing the write goes on; else the request has none any more.
@@ -124,6 +152,8 @@ const FINISH: Row = Row {
         (Ask::Finish(1), Outcome::WrongPhase),
         (Ask::Purge(b'a'), Outcome::Purged(false)),
     ],
+    evicted: 0,
+    cut_short: &[],
 };
 
 // A wait, and a body that was found.

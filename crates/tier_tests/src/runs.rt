@@ -2,6 +2,7 @@
 use crate::asks::Ask;
 use crate::outcomes::Outcome;
 use crate::trials::{Held, Trial, try_out};
+use std::alloc::Global;
 use tier_model::event::LockGiven;
 
 const LOOK: &[(Ask, Outcome)] = &[(Ask::Look(1), Outcome::NoRequest)];
@@ -25,6 +26,80 @@ const OPENED: &[(Ask, Outcome)] = &[
 #[test]
 fn a_tier_that_started_is_new_until_an_event(rt: HostRuntime) {
     assert!(rt; try_out(rt.alloc(), 4, Trial::Start(OPENED)) == Held::Answered);
+}
+
+// What is asked of an empty tier, and whether it is new then, and holds nothing but its order of use.
+const NEW: &[(&[Ask], bool, bool)] = &[
+    (&[], true, true),
+    (&[Ask::Open(1, b'a')], false, false),
+    (&[Ask::Open(1, b'a'), Ask::Drop(1)], true, true),
+    (
+        &[Ask::Open(1, b'a'), Ask::Look(1), Ask::Drop(1)],
+        false,
+        false,
+    ),
+    (&[Ask::Put(b'a', b"xx")], false, false),
+    (&[Ask::Put(b'a', b"xx"), Ask::Purge(b'a')], true, true),
+    (
+        &[Ask::Put(b'a', b"xx"), Ask::PurgeTagged(b'a')],
+        false,
+        true,
+    ),
+];
+
+fn are_as_told(alloc: Global) -> bool {
+    let mut all = true;
+    for &(asks, is_new, has_only_order) in NEW {
+        all = try_out(alloc, 4, Trial::New(asks, is_new, has_only_order)) == Held::Answered && all;
+    }
+    all
+}
+
+// An entry that stays tracked after its body went under another tag is a past.
+#[test]
+fn a_new_tier_tracks_nothing(rt: HostRuntime) {
+    assert!(rt; are_as_told(rt.alloc()));
+}
+
+// A reader that comes before a write's pieces, and one that comes after them.
+const READERS: &[(Ask, Outcome)] = &[
+    (Ask::Open(1, b'a'), Outcome::Opened),
+    (Ask::Look(1), Outcome::Absent(LockGiven::None)),
+    (Ask::Begin(1), Outcome::Begun),
+    (Ask::Open(2, b'a'), Outcome::Opened),
+    (Ask::Look(2), Outcome::Partial),
+    (Ask::Read(2), Outcome::Pending),
+    (Ask::Piece(1, b"xx"), Outcome::Written),
+    (Ask::Read(2), Outcome::Read(true)),
+    (Ask::Read(2), Outcome::Pending),
+    (Ask::Piece(1, b"xx"), Outcome::Written),
+    (Ask::Read(2), Outcome::Read(true)),
+    (Ask::Read(2), Outcome::Pending),
+    (Ask::Open(3, b'a'), Outcome::Opened),
+    (Ask::Look(3), Outcome::Partial),
+    (Ask::Finish(1), Outcome::Finished(4, 0)),
+    (Ask::Read(2), Outcome::Ended),
+    (Ask::Read(3), Outcome::Read(false)),
+    (Ask::Read(3), Outcome::Ended),
+];
+
+#[test]
+fn a_reader_waits_for_each_piece(rt: HostRuntime) {
+    assert!(rt; try_out(rt.alloc(), 4, Trial::Steps(&[], READERS)) == Held::Answered);
+}
+
+// A body that is hit under another tag: what is tracked weighs its bytes twice. By what weighs too much then the first is evicted.
+const WEIGHTS: &[(Ask, Outcome, u64, usize)] = &[
+    (Ask::Put(b'a', b"xxx"), Outcome::Finished(3, 0), 3, 0),
+    (Ask::OpenTagged(1, b'a'), Outcome::Opened, 3, 0),
+    (Ask::Look(1), Outcome::Found, 6, 0),
+    (Ask::Read(1), Outcome::Read(false), 6, 0),
+    (Ask::Put(b'b', b"x"), Outcome::Finished(1, 1), 4, 3),
+];
+
+#[test]
+fn an_entry_weighs_what_its_body_does(rt: HostRuntime) {
+    assert!(rt; try_out(rt.alloc(), 4, Trial::Weights(WEIGHTS)) == Held::Answered);
 }
 
 pub(crate) const FOUR: &[Ask] = &[

@@ -1,4 +1,7 @@
 //! A tier that threads share.
 mod asks;
+mod counted;
 mod meeting;
+mod refusals;
+mod started;
 mod threads;

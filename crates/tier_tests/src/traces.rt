@@ -3,5 +3,5 @@ mod answers;
 mod lines;
 mod options;
 mod played;
-mod restarts;
+pub(crate) mod restarts;
 mod streams;

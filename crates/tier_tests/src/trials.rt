@@ -1,6 +1,7 @@
 //! Trials of a tier without a file: what is asked of it, and how that goes.
 use crate::asks::{Ask, event};
 use crate::outcomes::{Outcome, is_answer, outcome_of};
+use cache_evict::EvictionManager;
 use cache_store::storage::Storage;
 use cache_tier::tier::Tier;
 use cache_words::time::Duration;
@@ -20,6 +21,9 @@ pub(crate) struct Row {
     // What comes of what is asked after a refusal that did nothing, and after one that took a body back.
     pub(crate) refused: &'static [(Ask, Outcome)],
     pub(crate) taken_back: &'static [(Ask, Outcome)],
+    // After how many evictions memory may run out, and what comes of what is asked then.
+    pub(crate) evicted: usize,
+    pub(crate) cut_short: &'static [(Ask, Outcome)],
 }
 
 // What is done with a tier that is empty.
@@ -32,6 +36,10 @@ pub(crate) enum Trial {
     Run(&'static [Ask], &'static [(Ask, Outcome)]),
     // A start from a folder without a file, and then what has these outcomes: before each of them the tier is new, and after them it isn't.
     Start(&'static [(Ask, Outcome)]),
+    // What is asked, and whether the tier is new then, and holds nothing but its order of use.
+    New(&'static [Ask], bool, bool),
+    // What has these outcomes, with what is tracked then weighs, and what was evicted.
+    Weights(&'static [(Ask, Outcome, u64, usize)]),
     // The store is lent: it shows writes in flight.
     Store,
 }
@@ -47,7 +55,7 @@ pub(crate) enum Held {
     Broken,
 }
 
-fn step(alloc: Global, tier: &mut Tier<1>, ask: Ask) -> Outcome {
+pub(crate) fn step<const N: usize>(alloc: Global, tier: &mut Tier<N>, ask: Ask) -> Outcome {
     let mut rng = Pcg32::new(1, 1);
     match event(alloc, ask) {
         Some(event) => outcome_of(&tier.step(&mut rng, &event)),
@@ -65,7 +73,12 @@ fn differs(outcome: Outcome) -> Held {
 }
 
 // Whether what is asked has these outcomes; `held` where it does.
-fn follow(alloc: Global, tier: &mut Tier<1>, asks: &[(Ask, Outcome)], held: Held) -> Held {
+pub(crate) fn follow(
+    alloc: Global,
+    tier: &mut Tier<1>,
+    asks: &[(Ask, Outcome)],
+    held: Held,
+) -> Held {
     for &(ask, want) in asks {
         let outcome = step(alloc, tier, ask);
         if outcome != want {
@@ -76,7 +89,7 @@ fn follow(alloc: Global, tier: &mut Tier<1>, asks: &[(Ask, Outcome)], held: Held
 }
 
 // Asks all this of a tier, and says whether memory was there for it.
-fn is_ready(alloc: Global, tier: &mut Tier<1>, asks: &[Ask]) -> bool {
+pub(crate) fn is_ready(alloc: Global, tier: &mut Tier<1>, asks: &[Ask]) -> bool {
     for &ask in asks {
         if !is_answer(step(alloc, tier, ask)) {
             return false;
@@ -94,6 +107,7 @@ fn call(alloc: Global, tier: &mut Tier<1>, row: &Row) -> Held {
         Outcome::Unasked => return Held::Elsewhere,
         Outcome::Refused if is_same => (row.refused, Held::Refused),
         Outcome::TakenBack if is_same => (row.taken_back, Held::Refused),
+        Outcome::CutShort(evicted) if evicted == row.evicted => (row.cut_short, Held::Refused),
         outcome if outcome == row.want => (row.after, Held::Answered),
         _ => return Held::Broken,
     };
@@ -164,6 +178,19 @@ fn start(alloc: Global, tier: &mut Tier<1>, asks: &[(Ask, Outcome)]) -> Held {
     }
 }
 
+fn weigh(alloc: Global, tier: &mut Tier<1>, asks: &[(Ask, Outcome, u64, usize)]) -> Held {
+    for &(ask, want, weight, evicted) in asks {
+        let outcome = step(alloc, tier, ask);
+        if outcome != want {
+            return differs(outcome);
+        }
+        if tier.report().weight != weight || tier.manager().evicted_size() != evicted {
+            return Held::Broken;
+        }
+    }
+    Held::Answered
+}
+
 fn try_on(alloc: Global, tier: &mut Tier<1>, trial: Trial) -> Held {
     match trial {
         Trial::Call(row) => {
@@ -188,6 +215,16 @@ fn try_on(alloc: Global, tier: &mut Tier<1>, trial: Trial) -> Held {
             }
         }
         Trial::Start(asks) => start(alloc, tier, asks),
+        Trial::Weights(asks) => weigh(alloc, tier, asks),
+        Trial::New(asks, is_new, has_only_order) => {
+            if !is_ready(alloc, tier, asks) {
+                Held::Elsewhere
+            } else if tier.is_new() == is_new && tier.has_only_order() == has_only_order {
+                Held::Answered
+            } else {
+                Held::Broken
+            }
+        }
         Trial::Store => {
             if tier.store().support_streaming_partial_write() {
                 Held::Answered

@@ -1,10 +1,7 @@
 -- A replay between a load and a save.
 use Rattle.std.proofs.Common.{◌≡◌, ◌∙◌, ◌⊎◌, inl, inr, subst, ℕ, zero, suc, List, [], ◌++◌, length, Option, Some, None, Result, Ok, Err, OnOk, refl, sym, append-nil, arith}
 use Rattle.std.specs.Prelude.{IfSome, ⊤}
-use Rattle.std.specs.Cmp.Lexicographic.{slice_cmp}
-use Rattle.std.specs.FinMap.{len-empty}
 use Rattle.std.specs.Io.KnownBytes.{Appends}
-use Rattle.std.specs.Ordering.{nat_cmp}
 use Rattle.std.proofs.KnownBytes.{Appends-trans}
 use Rattle.rand_core.specs.Stream.{Stream, next_u32}
 use Rattle.lru_files.specs.Folder.{Files, Call, Outcome}
@@ -14,12 +11,9 @@ use Rattle.lru_files.specs.declared.fault.ShardSaveReport.{ShardSaveReport}
 use Rattle.cache_words.specs.declared.pack.fault.PackWriteFault.{PackWriteFault}
 use Rattle.cache_evict.specs.declared.fault.EvictFault.TheVariants as evict
 use Rattle.cache_evict.specs.declared.load_fault.LoadFault.{LoadFault}
-use Rattle.cache_evict.specs.Managed.{Managed}
+use Rattle.cache_evict.specs.Managed.{Managed, fresh}
 use Rattle.tier_model.specs.declared.event.TierFault.{TierFault}
-use Rattle.tier_model.specs.declared.state.Body.{Body}
-use Rattle.tier_model.specs.Shelf.{Readers}
-use Rattle.tier_model.specs.Started.{IsNew}
-use Rattle.tier_model.specs.State.{Request, Settings, State, empty_state}
+use Rattle.tier_model.specs.State.{State, empty_state}
 use Rattle.cache_tier.specs.Restarts.{SavesOrder, LoadsOrder}
 use Rattle.replay_options.specs.declared.options.ReplayOptions.{ReplayOptions}
 use Rattle.trace_replay.specs.declared.replay.ReplayError.{ReplayError}
@@ -37,20 +31,6 @@ length_words (suc n) s = let rest = length_words n (next_u32 s).1 in omega (arit
 pub on_ok_is : {E : Type 0} (P : Type 0) (r : Result (Unit {0}) E) → OnOk r P → OnOk r (P × (r ≡ Ok tt))
 on_ok_is P (Ok x) h = (h, refl)
 on_ok_is P (Err e) h = tt
-
--- an empty tier is new
-pub new_empty : (settings : Settings) → IsNew (empty_state settings)
-new_empty settings = record {
-  bodies = len-empty (slice_cmp nat_cmp) Body;
-  flying = refl;
-  readers = len-empty nat_cmp Readers;
-  lock = refl;
-  requests = len-empty nat_cmp Request;
-  found = refl;
-  absent = refl;
-  evicted_size = refl;
-  evicted_items = refl;
-}
 
 -- what answers all lines begins to answer them
 whole_is_begun : (start : Start) (lines : List Line) (text : List ℕ) (state : State) (words : Stream) → EndsReplay start lines text state words → IsBegun start lines text
@@ -187,8 +167,8 @@ module _ {D : Type 0} (did : D → Call → Outcome → D → Type 0) (failures 
   -- what a load that was not reported whole leaves, by a tier that was empty
   pub early_start : (tier : State) → tier ≡ empty_state (settings_over n o) → (input w0 w1 : Option (List ℕ)) (old new : D) (managed : Managed)
       → (IsUntouched did failures keeps files old new [] × Appends w0 w1 [])
-      ⊎ ((report : ShardLoadReport LoadFault) × LoadsOrder did failures keeps files n dir tier.managed managed old new (Ok report) × HasBegun w0 w1 (ended (loaded_text report)))
+      ⊎ ((report : ShardLoadReport LoadFault) × LoadsOrder did failures keeps files n dir (fresh n tier.managed.limit tier.managed.watermark) managed old new (Ok report) × HasBegun w0 w1 (ended (loaded_text report)))
       → Writes input w0 w1 (λ lines text. EndsEarly did failures keeps files n o dir lines old new text)
   early_start tier is input w0 w1 old new managed (inl h) = early_untouched input w0 w1 old new h.0 h.1
   early_start tier is input w0 w1 old new managed (inr h) =
-      early_loaded input w0 w1 old new managed h.0 (subst (λ (x : State). LoadsOrder did failures keeps files n dir x.managed managed old new (Ok h.0)) is h.1) h.2
+      early_loaded input w0 w1 old new managed h.0 (subst (λ (x : State). LoadsOrder did failures keeps files n dir (fresh n x.managed.limit x.managed.watermark) managed old new (Ok h.0)) is h.1) h.2

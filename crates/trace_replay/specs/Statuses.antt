@@ -1,14 +1,19 @@
 -- The exit status of the program.
 use Rattle.std.specs.Prelude.{ℕ, Result, Ok, Err, ⊤}
 use Rattle.replay_options.specs.Statuses as options
+use Rattle.trace_replay.specs.declared.replay.ReplayError.{ReplayError}
 use Rattle.trace_replay.specs.declared.status.Fault.{Fault}
 use Rattle.trace_replay.specs.declared.status.Fault.TheVariants.{Options, Replay}
 
+-- 1 of a replay that ended early or saved nothing
+abbrev pub replay_status : ReplayError → ℕ
+replay_status error = 1
+
 abbrev pub fault_status : Fault → ℕ
 fault_status (Options error) = options.status_of error
-fault_status (Replay error) = 1
+fault_status (Replay error) = replay_status error
 
--- 0 of a whole replay or a help text, 1 of a stream's fault or out of memory, 2 of a mistake in the command line
-abbrev pub status_of : Result ⊤ Fault → ℕ
-status_of (Ok done) = 0
-status_of (Err fault) = fault_status fault
+-- 0 of a success, and else that of the fault
+abbrev pub status_of : {E : Type 0} → (E → ℕ) → Result ⊤ E → ℕ
+status_of of_fault (Ok done) = 0
+status_of of_fault (Err fault) = of_fault fault

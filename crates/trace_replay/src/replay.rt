@@ -11,7 +11,7 @@ ghost use Rattle.trace_lines.specs.Texts.{report_text};
 ghost use Rattle.trace_replay.specs.Starts.{settings_over, start_over, start_of};
 ghost use Rattle.trace_replay.specs.Replays.{requests_in, lines_in, ended, Start, EndsReplay, IsReplay, IsBegun};
 ghost use Rattle.trace_replay.specs.Words.{pcg_words};
-ghost use Rattle.trace_replay.specs.Errors.{IsOther};
+ghost use Rattle.trace_replay.specs.Errors.{IsOther, IsToldAs};
 ghost use Rattle.trace_replay.specs.Inputs.{IsLineBefore};
 ghost use Rattle.trace_replay.specs.Outputs.{Passes, HasBegun};
 ghost use Rattle.trace_replay.specs.declared.replay.ReplayError.TheVariants.{Memory};
@@ -40,7 +40,7 @@ const MOST_WAITING: usize = 65536;
 /// Why a replay ended early, or saved nothing. The first two are faults of a stream.
 #[derive(Debug, Drop, Error)]
 pub enum ReplayError {
-    /// A read or a write failed.
+    /// A read or a write failed, and not since memory was refused.
     #[error("{0}")]
     Stream(io::Error),
     /// The trace has more lines than can be counted.
@@ -55,7 +55,7 @@ pub enum ReplayError {
 }
 
 impl From<io::Error> for ReplayError {
-    ghost from_gives = { λ _ e. IsOther e };
+    ghost from_gives = { λ error e. IsOther e × IsToldAs error e };
 
     fn from(error: io::Error) -> ReplayError {
         match error.kind() {

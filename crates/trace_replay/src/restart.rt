@@ -8,6 +8,7 @@ ghost use Rattle.trace_replay.specs.Restarts.{EndsEarly, IsRestart, IsUntouched,
 ghost use Rattle.trace_replay.specs.Words.{pcg_words};
 ghost use Rattle.trace_replay.specs.Starts.{start_of};
 ghost use Rattle.cache_tier.specs.Restarts.{SavesOrder, LoadsOrder};
+ghost use Rattle.cache_evict.specs.Managed.{fresh};
 ghost use Rattle.cache_words.specs.declared.pack.fault.PackWriteFault.{PackWriteFault};
 ghost use Rattle.lru_files.specs.declared.fault.ShardSaveReport.{ShardSaveReport};
 ghost use Rattle.tier_model.specs.Past.{HasPast};
@@ -34,7 +35,7 @@ use std::io::{Read, Write};
 /// # Errors
 ///
 /// Those of `run`. Nothing is saved where they come before the last line: the directory is as it was before, or as the loading left it,
-/// without temporary files. `Folder` where no shard was saved, and not for want of memory alone: the last line is written all the same.
+/// without temporary files. `Folder` where no shard was saved: the last line is written all the same.
 pub fn run_in<F: Folder, R: Read, W: Write>(
     alloc: Global,
     hasher: SeededState,
@@ -119,10 +120,10 @@ fn start<F: Folder, W: Write, const N: usize>(
 ) -> Result<(), ReplayError>
     requires { IsNew tier.old }
     ensures loaded { OnOk result ((report : ShardLoadReport LoadFault)
-        × LoadsOrder F.did F.failures_of F.keeps F.files N dir.now tier.old.managed tier.new.managed folder.old folder.new (Ok report)
+        × LoadsOrder F.did F.failures_of F.keeps F.files N dir.now (fresh N tier.old.managed.limit tier.old.managed.watermark) tier.new.managed folder.old folder.new (Ok report)
         × Appends (W.contents writer.old) (W.contents writer.new) (ended (loaded_text report))) }
     ensures early { OnErr result ((IsUntouched F.did F.failures_of F.keeps F.files folder.old folder.new [] × Appends (W.contents writer.old) (W.contents writer.new) [])
-        ⊎ ((report : ShardLoadReport LoadFault) × LoadsOrder F.did F.failures_of F.keeps F.files N dir.now tier.old.managed tier.new.managed folder.old folder.new (Ok report)
+        ⊎ ((report : ShardLoadReport LoadFault) × LoadsOrder F.did F.failures_of F.keeps F.files N dir.now (fresh N tier.old.managed.limit tier.old.managed.watermark) tier.new.managed folder.old folder.new (Ok report)
         × HasBegun (W.contents writer.old) (W.contents writer.new) (ended (loaded_text report)))) }
     ensures others { tier.new ≡ record tier.old { managed = tier.new.managed } }
     ensures past { HasPast (opening_of tier.new) tier.new [] }

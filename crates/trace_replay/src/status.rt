@@ -1,6 +1,7 @@
 //! How the program ends.
 ghost use Rattle.std.specs.Prelude.{◌≡◌};
-ghost use Rattle.trace_replay.specs.Statuses.{status_of, fault_status};
+ghost use Rattle.replay_options.specs.Statuses.{status_of as options_status};
+ghost use Rattle.trace_replay.specs.Statuses.{status_of, fault_status, replay_status};
 
 use crate::replay::ReplayError;
 use replay_options::options::OptionsError;
@@ -31,14 +32,51 @@ impl From<AllocError> for Fault {
     }
 }
 
-/// The exit status: 0 on success or if help or the version was requested, 1 on an I/O error or out of memory, 2 on a bad
-/// command line.
-pub fn status(outcome: &Result<(), Fault>) -> u8
-    ensures { result ≡ status_of outcome.now }
+/// A fault that a program ends with.
+pub trait Ends {
+    ghost use Rattle.std.specs.Prelude.{ℕ};
+
+    ghost ends: { Self → ℕ };
+
+    /// Returns the exit status: 0 if help or the version was requested, 1 on an I/O error, out of memory or where no shard was saved,
+    /// 2 on a bad command line.
+    fn exit_status(&self) -> u8
+        ensures { result ≡ ends self.now };
+}
+
+impl Ends for ReplayError {
+    ghost ends = { replay_status };
+
+    fn exit_status(&self) -> u8 {
+        1
+    }
+}
+
+impl Ends for OptionsError {
+    ghost ends = { options_status };
+
+    fn exit_status(&self) -> u8 {
+        self.status()
+    }
+}
+
+impl Ends for Fault {
+    ghost ends = { fault_status };
+
+    fn exit_status(&self) -> u8 {
+        match self {
+            Fault::Replay(error) => error.exit_status(),
+            Fault::Options(error) => error.exit_status(),
+        }
+    }
+}
+
+/// The exit status of what came of a replay, of a command line or of the program: 0 on success, and else that of the fault.
+pub fn status<E: Ends>(outcome: &Result<(), E>) -> u8
+    ensures { result ≡ status_of E.ends outcome.now }
 {
     match outcome {
         Ok(()) => 0,
-        Err(Fault::Replay(_)) => 1,
-        Err(Fault::Options(error)) => error.status(),
+        Err(fault) => fault.exit_status(),
     }
 }

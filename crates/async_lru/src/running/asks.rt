@@ -1,6 +1,6 @@
 //! Calls that ask an actor. A question waits for the messages that were sent to its shard before it.
 
-ghost use Rattle.std.specs.Prelude.{◌%◌, ◌<◌};
+ghost use Rattle.std.specs.Prelude.{◌≡◌, ◌%◌, ◌<◌};
 
 use super::AsyncLru;
 use crate::command::Command;
@@ -18,9 +18,18 @@ impl<K: Hash + Clone, const N: usize> AsyncLru<K, N> {
     ///
     /// The question was not sent.
     pub fn promote<R: Wait>(&self, rt: &R, key: &K) -> Result<bool, SendFault<()>> {
-        let hash = hash_key(key);
+        self.promote_by_hash(rt, hash_key(key))
+    }
+
+    /// Moves the row of a hash to the front of its shard, and returns whether it was there.
+    ///
+    /// # Errors
+    ///
+    /// The question was not sent.
+    pub fn promote_by_hash<R: Wait>(&self, rt: &R, key_hash: u64) -> Result<bool, SendFault<()>> {
         let (to, from) = self.reply()?;
-        self.ask(rt, self.shard_of(hash), Command::Promote(hash, to), from)
+        let question = Command::Promote(key_hash, to);
+        self.ask(rt, self.shard_of(key_hash), question, from)
     }
 
     /// Returns whether a key's hash is there. The order stays.
@@ -59,7 +68,8 @@ impl<K: Hash + Clone, const N: usize> AsyncLru<K, N> {
         Ok(self.ask(rt, shard, Command::PeekLru(to), from)??)
     }
 
-    /// Returns clones of the keys of all rows of a shard with their weights, most recent first.
+    /// Returns the keys of all rows of a shard with their weights, most recent first. The keys are clones, which are to equal what
+    /// they are clones of.
     ///
     /// # Errors
     ///
@@ -69,7 +79,8 @@ impl<K: Hash + Clone, const N: usize> AsyncLru<K, N> {
         rt: &R,
         shard: usize,
     ) -> Result<Vec<(K, usize)>, SendFault<()>>
-        requires { shard < N }
+        requires within { shard < N }
+        requires clones { (key copy : K) → K.is_clone key copy → copy ≡ key }
     {
         let (to, from) = self.reply()?;
         Ok(self.ask(rt, shard, Command::Snapshot(to), from)??)

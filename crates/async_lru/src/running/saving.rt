@@ -1,6 +1,6 @@
 //! Handing out the rows of all shards.
 
-ghost use Rattle.std.specs.Prelude.{◌≤◌};
+ghost use Rattle.std.specs.Prelude.{◌≡◌, ◌≤◌};
 ghost use Rattle.async_lru.specs.Saving.{Writes};
 
 use super::AsyncLru;
@@ -16,13 +16,14 @@ pub struct ShardData<K> {
 
 impl<K: Hash + Clone, const N: usize> AsyncLru<K, N> {
     /// Hands the rows of each shard to `write_shard`, in turn, and returns for how many shards it returned `Ok`. A shard whose question
-    /// is refused, as where there is no memory for the clones, is left out.
+    /// is refused, as where there is no memory for the clones, is left out. Clones are to equal what they are clones of.
     pub fn save<R: Wait, E: Drop, W: FnMut(ShardData<K>) -> Result<(), E>>(
         &self,
         rt: &R,
         write_shard: &mut W,
     ) -> usize
-        requires { (state : W) (rows : _) → W.pre state rows }
+        requires callable { (state : W) (rows : _) → W.pre state rows }
+        requires clones { (key copy : K) → K.is_clone key copy → copy ≡ key }
         ensures writes { Writes (λ before rows r after. W.step before rows r after) N result write_shard.old write_shard.new }
         ensures count { result ≤ N }
     {

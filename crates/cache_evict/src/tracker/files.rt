@@ -5,16 +5,15 @@ ghost use Rattle.lru_files.specs.Folder.{StopsLeave, path_in};
 ghost use Rattle.cache_evict.specs.FileLoads.{IsRowFault, LoadsFile, LoadsStored, TakesText};
 ghost use Rattle.cache_evict.specs.Managed.{rows_at};
 ghost use Rattle.cache_evict.specs.Saves.{AreOldOrWhole, IsUnwritten, Saves};
-ghost use Rattle.cache_evict.specs.Stored.{Answers, IsText, Serializes, are_for_memory, is_for_memory, file_at, temp_at, single_temp, lru_stored, simple_stored};
+ghost use Rattle.cache_evict.specs.Stored.{Answers, IsText, Serializes, file_at, temp_at, single_temp, lru_stored, simple_stored};
 
 use super::{Again, Tracker};
 use crate::fault::EvictFault;
 use crate::load_fault::LoadFault;
 use cache_words::pack::PackWriteFault;
 use lru_files::persistence::{
-    Folder, ShardFileError, ShardLoadFailure, ShardLoadReport, ShardSaveError, ShardSaveFailure,
-    ShardSaveReport, ShardSaveSetupError, TempFileCleanupReport, hex_word, load_shards, replace,
-    save_shards,
+    Folder, ShardFileError, ShardLoadFailure, ShardLoadReport, ShardSaveError, ShardSaveReport,
+    ShardSaveSetupError, TempFileCleanupReport, hex_word, load_shards, replace, save_shards,
 };
 use std::alloc::{AllocError, Global};
 use std::hash::BuildHasher;
@@ -98,7 +97,7 @@ impl<const N: usize, S: BuildHasher> Tracker<N, S> {
         ensures temp { IfOk result (λ r. string_bytes r.0 ≡ path_in dir.now (single_temp (codes "simple_lru.data") word)) }
         ensures path { IfOk result (λ r. string_bytes r.1 ≡ file_at simple_stored dir.now 0) }
         ensures text { IfOk result (λ r. IsText (rows_at self.now.shards 0) r.2.items) }
-        ensures refused { IfErr result (IsUnwritten (rows_at self.now.shards 0)) }
+        ensures refused { IfErr result IsUnwritten }
     {
         let Ok(temp) = temp_path(alloc, dir, "simple_lru.data", word) else {
             return Err(EvictFault::Memory(Vec::new(alloc)));
@@ -108,8 +107,7 @@ impl<const N: usize, S: BuildHasher> Tracker<N, S> {
         };
         match self.text_of(alloc, 0) {
             Ok(bytes) => Ok((temp, path, bytes)),
-            Err(PackWriteFault::Memory) => Err(EvictFault::Memory(Vec::new(alloc))),
-            Err(PackWriteFault::TooLong) => Err(EvictFault::File(Vec::new(alloc))),
+            Err(_fault) => Err(EvictFault::File(Vec::new(alloc))),
         }
     }
 
@@ -182,30 +180,7 @@ fn answered(
         Err(ShardSaveError::Setup(ShardSaveSetupError::CreateDir)) => {
             Err(EvictFault::File(Vec::new(alloc)))
         }
-        Err(ShardSaveError::AllShardsFailed(failed)) => {
-            if are_for_memory(failed.as_slice()) {
-                return Err(EvictFault::Memory(Vec::new(alloc)));
-            }
-            Err(EvictFault::File(Vec::new(alloc)))
-        }
-    }
-}
-
-// Whether each of the shards failed for memory.
-fn are_for_memory(failed: &[(usize, ShardSaveFailure<PackWriteFault>)]) -> bool
-    ensures { result ≡ are_for_memory failed.now }
-{
-    failed.iter().all(|failed| is_for_memory(&failed.1))
-}
-
-fn is_for_memory(failure: &ShardSaveFailure<PackWriteFault>) -> bool
-    ensures { result ≡ is_for_memory failure.now }
-{
-    match failure {
-        ShardSaveFailure::Serialize(PackWriteFault::Memory) => true,
-        ShardSaveFailure::Serialize(PackWriteFault::TooLong) => false,
-        ShardSaveFailure::Io(_call) => false,
-        ShardSaveFailure::Memory => true,
+        Err(ShardSaveError::AllShardsFailed(_failed)) => Err(EvictFault::File(Vec::new(alloc))),
     }
 }
 

@@ -4,11 +4,12 @@ ghost use Rattle.std.specs.Prelude.{◌≡◌, ◌<◌, ◌^◌, ◌++◌, ℕ, 
 ghost use Rattle.cache_words.specs.BorrowedKey.{borrowed_view};
 ghost use Rattle.cache_words.specs.Hasher.{Holds};
 ghost use Rattle.cache_words.specs.Pack.{key_text_of};
+ghost use Rattle.cache_entries.specs.Entry.{owned_of};
 ghost use Rattle.cache_entries.specs.BorrowedEntry.{borrowed_entry};
 ghost use Rattle.cache_entries.specs.EntryText.{entry_hash, entry_text};
 ghost use Rattle.cache_evict.specs.Numbered.{LeadsHome};
 
-use cache_entries::entry::{CacheEntryKey, CacheEntryKeyRef};
+use cache_entries::entry::CacheEntryKeyRef;
 use cache_entries::pack::{BorrowedEntry, entry_hash};
 use cache_words::blake::Blake2b128;
 use cache_words::pack::{BorrowedKey, writing};
@@ -20,14 +21,14 @@ use std::hash::BuildHasher;
 // search for an entry's begins.
 pub(super) fn number_hash<const N: usize, S: BuildHasher>(
     numbers: &Numbers<N, S>,
-    entry: &CacheEntryKey,
+    entry: CacheEntryKeyRef<'_>,
 ) -> u64
-    ensures { LeadsHome N entry.now result }
+    ensures { LeadsHome N (owned_of entry.entry) result }
 {
     if N == 1 {
         return numbers.hash_of(entry);
     }
-    entry_hash(CacheEntryKeyRef::from(entry))
+    entry_hash(entry)
 }
 
 // The hash of the entry that a borrowed one stands for. It takes no memory.

@@ -1,6 +1,7 @@
 //! Room for entries that aren't tracked.
 
 ghost use Rattle.std.specs.Prelude.{◌≡◌, ◌<◌, None, IfOk, IfErr, OnOk, OnErr};
+ghost use Rattle.cache_entries.specs.Entry.{owned_of};
 ghost use Rattle.cache_entries.specs.declared.entry.CacheEntryKey.{CacheEntryKey};
 ghost use Rattle.cache_entries.specs.Rows.{weight_of};
 ghost use Rattle.cache_evict.specs.Managed.{rows_of, put_first, HasNoOtherReason};
@@ -10,7 +11,7 @@ ghost use Rattle.cache_evict.specs.Refusals.{HasRoom, IsRoomRefusal, IsRefusal};
 use super::hashing::number_hash;
 use super::rows::{End, copy_of};
 use super::{Refusal, Tracker};
-use cache_entries::entry::CacheEntryKey;
+use cache_entries::entry::{CacheEntryKey, CacheEntryKeyRef};
 use lru_core::{LruCore, MOST_ROWS};
 use std::hash::BuildHasher;
 
@@ -27,11 +28,11 @@ impl<const N: usize, S: BuildHasher> Tracker<N, S> {
     }
 
     // The same by the entry itself. It returns a hash that leads to its shard.
-    fn look_for(&self, entry: &CacheEntryKey, weight: usize) -> Result<u64, Refusal>
-        requires { weight_of entry.now (rows_of N entry.now self.now) ≡ None }
-        ensures hash { IfOk result (λ hash. LeadsHome N entry.now hash) }
-        ensures room { OnOk result (HasNoOtherReason N entry.now weight self.now) }
-        ensures why { IfErr result (IsRefusal N entry.now weight self.now) }
+    fn look_for(&self, entry: CacheEntryKeyRef<'_>, weight: usize) -> Result<u64, Refusal>
+        requires { weight_of (owned_of entry) (rows_of N (owned_of entry) self.now) ≡ None }
+        ensures hash { IfOk result (λ hash. LeadsHome N (owned_of entry.entry) hash) }
+        ensures room { OnOk result (HasNoOtherReason N (owned_of entry.entry) weight self.now) }
+        ensures why { IfErr result (IsRefusal N (owned_of entry.entry) weight self.now) }
     {
         self.look_for_room(number_hash(&self.numbers, entry), weight)
     }
@@ -39,14 +40,14 @@ impl<const N: usize, S: BuildHasher> Tracker<N, S> {
     // A copy of an entry that isn't tracked, with a hash that leads to its shard, once there is room for it with that weight.
     fn copy_new(
         &self,
-        entry: &CacheEntryKey,
+        entry: CacheEntryKeyRef<'_>,
         weight: usize,
     ) -> Result<(CacheEntryKey, u64), Refusal>
-        requires { weight_of entry.now (rows_of N entry.now self.now) ≡ None }
-        ensures copy { IfOk result (λ new. new.0 ≡ entry.now) }
-        ensures hash { IfOk result (λ new. LeadsHome N entry.now new.1) }
-        ensures room { OnOk result (HasNoOtherReason N entry.now weight self.now) }
-        ensures why { IfErr result (IsRefusal N entry.now weight self.now) }
+        requires { weight_of (owned_of entry) (rows_of N (owned_of entry) self.now) ≡ None }
+        ensures copy { IfOk result (λ new. new.0 ≡ owned_of entry.entry) }
+        ensures hash { IfOk result (λ new. LeadsHome N (owned_of entry.entry) new.1) }
+        ensures room { OnOk result (HasNoOtherReason N (owned_of entry.entry) weight self.now) }
+        ensures why { IfErr result (IsRefusal N (owned_of entry.entry) weight self.now) }
     {
         let hash = self.look_for(entry, weight)?;
         let copy = copy_of(entry)?;
@@ -60,16 +61,20 @@ impl<const N: usize, S: BuildHasher> Tracker<N, S> {
         ensures err { OnErr result (self.new ≡ self.old) }
         ensures why { IfErr result (IsRefusal N entry weight self.old) }
     {
-        let hash = self.look_for(&entry, weight)?;
+        let hash = self.look_for(CacheEntryKeyRef::from(&entry), weight)?;
         self.put_new(entry, hash, weight, End::First)
     }
 
     // Puts a copy of such an entry first.
-    pub(super) fn put_copy(&mut self, entry: &CacheEntryKey, weight: usize) -> Result<(), Refusal>
-        requires { weight_of entry.now (rows_of N entry.now self.old) ≡ None }
-        ensures ok { OnOk result (self.new ≡ put_first N entry.now weight self.old) }
+    pub(super) fn put_copy(
+        &mut self,
+        entry: CacheEntryKeyRef<'_>,
+        weight: usize,
+    ) -> Result<(), Refusal>
+        requires { weight_of (owned_of entry) (rows_of N (owned_of entry) self.old) ≡ None }
+        ensures ok { OnOk result (self.new ≡ put_first N (owned_of entry.entry) weight self.old) }
         ensures err { OnErr result (self.new ≡ self.old) }
-        ensures why { IfErr result (IsRefusal N entry.now weight self.old) }
+        ensures why { IfErr result (IsRefusal N (owned_of entry.entry) weight self.old) }
     {
         let (copy, hash) = self.copy_new(entry, weight)?;
         self.put_new(copy, hash, weight, End::First)

@@ -1,6 +1,7 @@
 //! Rows of numbers in a core.
 
 ghost use Rattle.std.specs.Prelude.{◌≡◌, ℕ, ◌%◌, ◌<◌, ◌∷◌, List, [], length, None, IfOk, IfErr, OnOk, OnErr};
+ghost use Rattle.cache_entries.specs.Entry.{owned_of};
 ghost use Rattle.lru_core.specs.declared.rows.Row.{Row};
 ghost use Rattle.lru_core.specs.Rows.{only, others, promoted, raised, a_row};
 ghost use Rattle.lru_core.specs.Cores.{shard_of, with_shard};
@@ -10,7 +11,7 @@ ghost use Rattle.cache_evict.specs.Numbered.{HasOwnRow, placed};
 ghost use Rattle.cache_evict.specs.Refusals.{IsRowRefusal, IsNewRefusal, refusal_of, row_refusal};
 
 use super::Refusal;
-use cache_entries::entry::CacheEntryKey;
+use cache_entries::entry::{CacheEntryKey, CacheEntryKeyRef};
 use entry_numbers::{Numbers, NumbersFault};
 use lru_core::LruCore;
 use lru_core::lru_unit::LruFault;
@@ -186,11 +187,11 @@ pub(super) fn take_back<const N: usize, S: BuildHasher>(numbers: &mut Numbers<N,
 }
 
 // A copy of an entry.
-pub(super) fn copy_of(entry: &CacheEntryKey) -> Result<CacheEntryKey, Refusal>
-    ensures copy { IfOk result (λ copy. copy ≡ entry.now) }
+pub(super) fn copy_of(entry: CacheEntryKeyRef<'_>) -> Result<CacheEntryKey, Refusal>
+    ensures copy { IfOk result (λ copy. copy ≡ owned_of entry.entry) }
     ensures memory { IfErr result (λ refusal. refusal ≡ Refusal.Memory) }
 {
-    match entry.clone() {
+    match entry.to_entry() {
         Ok(copy) => Ok(copy),
         Err(_) => Err(Refusal::Memory),
     }

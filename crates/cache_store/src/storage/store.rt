@@ -260,7 +260,7 @@ pub trait HandleHit<S: Contents> {
 
     ghost seekable: { Self → Bool };
 
-    /// Does a step of reading.
+    /// Does a step of reading. At an end, or where no more is written yet, it takes no memory.
     ///
     /// # Errors
     ///

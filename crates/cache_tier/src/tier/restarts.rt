@@ -3,11 +3,12 @@ ghost use Rattle.std.specs.Prelude.{◌≡◌, ◌↔◌, [], length, IsTrue};
 ghost use Rattle.lru_files.specs.Folder.{StopsLeave};
 ghost use Rattle.cache_changes.specs.Changes.{StoredKey};
 ghost use Rattle.cache_changes.specs.Writes.{IsFound};
+ghost use Rattle.cache_evict.specs.Managed.{fresh};
 ghost use Rattle.cache_evict.specs.Saves.{AreOldOrWhole};
 ghost use Rattle.cache_evict.specs.Stored.{file_at, temp_at, lru_stored};
 ghost use Rattle.tier_model.specs.Histories.{changes_of};
 ghost use Rattle.tier_model.specs.Past.{HasPast};
-ghost use Rattle.tier_model.specs.Started.{IsNew, opening_of};
+ghost use Rattle.tier_model.specs.Started.{HasOnlyOrder, IsNew, opening_of, settings_of};
 ghost use Rattle.tier_requests.specs.Shelves.{bodies_in};
 ghost use Rattle.cache_tier.specs.Restarts.{IsToldOfFiles, IsUnused, SavesOrder, LoadsOrder};
 
@@ -23,10 +24,22 @@ use tier_requests::TierParts;
 use tier_requests::faults::{fault_for, nothing_done};
 
 impl<const N: usize, S: BuildHasher> Tier<N, S> {
-    /// Returns whether no event left a trace so far: nothing is stored or written, no request is open, no permit was ever given, and
-    /// nothing was counted. What was loaded leaves a tier new, and so does an event that was refused without `stored`.
+    /// Returns whether the tier holds nothing and has counted nothing: nothing is stored or written, no entry is tracked, no request is
+    /// open, and nothing was found, absent or evicted. So after `start` it tracks just what the files have. An event that was refused
+    /// without `stored` leaves a tier new: a number that it used up doesn't count.
     pub fn is_new(&self) -> bool
         ensures { IsTrue result ↔ IsNew self.now }
+    {
+        if !self.has_only_order() {
+            return false;
+        }
+        self.parts.manager.total_items() == 0
+    }
+
+    /// Returns whether the tier holds nothing but its order of use, and has counted nothing. A new tier does so, and one that was
+    /// started from files and was given no event.
+    pub fn has_only_order(&self) -> bool
+        ensures { IsTrue result ↔ HasOnlyOrder self.now }
     {
         if !are_zero(self.found, self.absent) {
             return false;
@@ -40,8 +53,7 @@ impl<const N: usize, S: BuildHasher> Tier<N, S> {
     ///
     /// # Errors
     ///
-    /// `Folder` where no shard was saved, and not for want of memory alone. `Memory` where there is no memory for the report, and
-    /// then nothing was done, or for the text of any shard.
+    /// `Folder` where no shard was saved. `Memory` where there is no memory for the paths or the report, and then nothing was done.
     pub fn save<F: Folder>(
         &self,
         folder: &mut F,
@@ -57,8 +69,8 @@ impl<const N: usize, S: BuildHasher> Tier<N, S> {
         told_of_files(self.alloc, came)
     }
 
-    /// Loads the order of use that was saved to `dir`, of a tier that is new. Nothing else is loaded: no key is found. What it
-    /// does and answers from then on is that of a tier that began with these entries.
+    /// Loads the order of use that was saved to `dir`, into a tier that is new: what it then tracks is what the files have. Nothing else
+    /// is loaded: no key is found. What it does and answers from then on is that of a tier that began with these entries.
     ///
     /// # Errors
     ///
@@ -69,9 +81,11 @@ impl<const N: usize, S: BuildHasher> Tier<N, S> {
         dir: &str,
     ) -> Result<ShardLoadReport<LoadFault>, TierFault>
         requires new { IsNew self.old }
-        ensures loads { LoadsOrder F.did F.failures_of F.keeps F.files N dir.now self.old.managed self.new.managed folder.old folder.new result }
+        ensures loads { LoadsOrder F.did F.failures_of F.keeps F.files N dir.now (fresh N self.old.managed.limit self.old.managed.watermark) self.new.managed
+            folder.old folder.new result }
         ensures others { self.new ≡ record self.old { managed = self.new.managed } }
-        ensures still_new { IsNew self.new }
+        ensures settings { settings_of self.new ≡ settings_of self.old }
+        ensures only_order { HasOnlyOrder self.new }
         ensures past { HasPast (opening_of self.new) self.new [] }
         ensures nothing { (k : StoredKey) → ¬ IsFound k (changes_of (opening_of self.new) []) }
     {
@@ -92,9 +106,9 @@ fn told_of_files<T>(alloc: Global, came: Result<T, EvictFault>) -> Result<T, Tie
     }
 }
 
-// Whether nothing is stored, no permit was ever given, and no eviction was counted.
+// Whether nothing is stored, and no eviction was counted.
 fn are_unused<const N: usize, S: BuildHasher>(parts: &TierParts<S, Manager<N, S>>) -> bool
-    ensures { IsTrue result ↔ IsUnused (bodies_in parts.now.store.store.bodies) parts.now.manager parts.now.lock }
+    ensures { IsTrue result ↔ IsUnused (bodies_in parts.now.store.store.bodies) parts.now.manager }
 {
     let bodies = count(&parts.store);
     let size = parts.manager.evicted_size() as u64;
@@ -102,7 +116,7 @@ fn are_unused<const N: usize, S: BuildHasher>(parts: &TierParts<S, Manager<N, S>
     if !are_zero(size, items) {
         return false;
     }
-    bodies == 0 && parts.lock.is_new()
+    bodies == 0
 }
 
 fn are_zero(a: u64, b: u64) -> bool

@@ -3,8 +3,8 @@
 ghost use Rattle.std.specs.Prelude.{◌≡◌, ◌<◌, ◌++◌, ◌∷◌, ℕ, [], length, true, false, IfSome, IfNone, IfOk, OnErr, slice_get, slice_set};
 ghost use Rattle.lru_list.specs.Slots.{has, freed, IsPopped};
 
-use super::nodes::{
-    HEAD, NO_LINK, Node, TAIL, free_slot, link_head, link_tail, prev_at, take_slot, unlink,
+use super::slots::{
+    HEAD, Link, NO_LINK, TAIL, free_slot, link_head, link_tail, prev_at, take_slot, unlink,
 };
 use super::{Index, LinkedList, ListFault, MOST_ITEMS};
 use std::alloc::{AllocError, Global};
@@ -14,19 +14,21 @@ impl<K: Default + Drop> LinkedList<K> {
     pub fn with_capacity(alloc: Global, capacity: usize) -> Result<Self, AllocError>
         ensures { IfOk result (λ l. (l.order ≡ []) × (length l.items ≡ 2) × (l.free ≡ [])) }
     {
-        let mut nodes = Vec::with_capacity(alloc, capacity.saturating_add(2))?;
+        let slots = capacity.saturating_add(2);
+        let mut items = Vec::with_capacity(alloc, slots)?;
+        let mut links = Vec::with_capacity(alloc, slots)?;
         let free = Vec::with_capacity(alloc, capacity)?;
-        nodes.push_reserved(Node {
-            item: K::default(),
+        items.push_reserved(K::default());
+        links.push_reserved(Link {
             prev: NO_LINK,
             next: TAIL as u32,
         });
-        nodes.push_reserved(Node {
-            item: K::default(),
+        items.push_reserved(K::default());
+        links.push_reserved(Link {
             prev: HEAD as u32,
             next: NO_LINK,
         });
-        Ok(LinkedList { nodes, free })
+        Ok(LinkedList { items, links, free })
     }
 
     /// Inserts an item at the front, and returns the index that names it until it is removed.
@@ -41,8 +43,8 @@ impl<K: Default + Drop> LinkedList<K> {
         ensures memory { (back : K) → result ≡ Err (ListFault.Memory back) → (back ≡ item) × (self.old.free ≡ []) }
         ensures full { (back : K) → result ≡ Err (ListFault.Full back) → (back ≡ item) × (length self.old.order ≡ MOST_ITEMS) }
     {
-        let slot = take_slot(&mut self.nodes, &mut self.free, item)?;
-        link_head(&mut self.nodes, slot);
+        let slot = take_slot(&mut self.items, &mut self.links, &mut self.free, item)?;
+        link_head(&mut self.links, slot);
         Ok(slot)
     }
 
@@ -58,8 +60,8 @@ impl<K: Default + Drop> LinkedList<K> {
         ensures memory { (back : K) → result ≡ Err (ListFault.Memory back) → (back ≡ item) × (self.old.free ≡ []) }
         ensures full { (back : K) → result ≡ Err (ListFault.Full back) → (back ≡ item) × (length self.old.order ≡ MOST_ITEMS) }
     {
-        let slot = take_slot(&mut self.nodes, &mut self.free, item)?;
-        link_tail(&mut self.nodes, slot);
+        let slot = take_slot(&mut self.items, &mut self.links, &mut self.free, item)?;
+        link_tail(&mut self.links, slot);
         Ok(slot)
     }
 
@@ -69,8 +71,14 @@ impl<K: Default + Drop> LinkedList<K> {
         ensures value { slice_get self.old.items i ≡ Some result }
         ensures after { (d : K) × K.is_default d × (self.new ≡ freed self.old i d) }
     {
-        unlink(&mut self.nodes, i);
-        free_slot(&mut self.nodes, &mut self.free, i, K::default())
+        unlink(&mut self.links, i);
+        free_slot(
+            &mut self.items,
+            &mut self.links,
+            &mut self.free,
+            i,
+            K::default(),
+        )
     }
 
     /// Removes the last item, and returns it.
@@ -78,7 +86,7 @@ impl<K: Default + Drop> LinkedList<K> {
         ensures none { IfNone result ((self.old.order ≡ []) × (self.new ≡ self.old)) }
         ensures some { IfSome result (λ x. (i : ℕ) × (d : K) × K.is_default d × IsPopped self.old i x d self.new) }
     {
-        let last = prev_at(&self.nodes, TAIL) as usize;
+        let last = prev_at(&self.links, TAIL) as usize;
         if last == HEAD {
             return None;
         }

@@ -124,6 +124,7 @@ fn uses<R: Wait>(rt: &R, manager: &Manager<1>, item: &CacheEntryKey, step: Step)
         }
         Step::Remove => manager.remove(rt, CacheEntryKeyRef::from(item)) == Ok(()),
         Step::Access(size, found) => {
+            let item = CacheEntryKeyRef::from(item);
             manager.access(rt, item, size, Moment::from_seconds(0)) == Ok(found)
         }
         Step::Peek(found) => manager.peek(rt, item) == Ok(found),

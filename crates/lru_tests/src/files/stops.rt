@@ -5,13 +5,13 @@ use lru_files::persistence::{Folder, MemFolder, ShardFileError, ShardSaveSetupEr
 use std::alloc::Global;
 
 // The words of four shards, and of one.
-const FOUR: &[u32] = &[0x12ab_34cd, 1, 0xffff_ffff, 0];
+pub const FOUR: &[u32] = &[0x12ab_34cd, 1, 0xffff_ffff, 0];
 
 const ONE: &[u32] = &[0x12ab_34cd];
 
-const OLD: Text = Some(b"old");
+pub const OLD: Text = Some(b"old");
 
-const NEW: Text = Some(b"newer");
+pub const NEW: Text = Some(b"newer");
 
 // Which calls of a save fail.
 #[derive(Clone, Copy)]
@@ -39,7 +39,7 @@ fn after(alloc: Global, old: &[u32], new: &[u32], plan: Plan) -> (Answer, MemFol
     (answer, failing.into_inner())
 }
 
-const PATHS: &[&str] = &[
+pub const PATHS: &[&str] = &[
     "dir/lru.data.0",
     "dir/lru.data.1",
     "dir/lru.data.2",

@@ -11,7 +11,9 @@ use super::MemCache;
 use crate::flight::{Body, Buffer, Flight, Kept};
 use crate::handlers::MemMissHandler;
 use crate::meta::{is_writable, written_copy};
+use crate::pieces::Pieces;
 use crate::{alive, bodies, flights, readers};
+use bytes::Bytes;
 use cache_heads::CacheMeta;
 use cache_store::storage::StoreFault;
 use cache_words::key::HashBinary;
@@ -38,7 +40,7 @@ impl<S: BuildHasher> MemCache<S> {
         let flight = Flight {
             key,
             meta,
-            buffer: Buffer::Open(Vec::new(self.alloc)),
+            pieces: Pieces::new(self.alloc),
             ended: false,
         };
         if let Err(fault) = flights::put(&mut self.flights, self.alloc, number, flight) {
@@ -91,9 +93,9 @@ impl<S: BuildHasher> MemCache<S> {
     }
 
     // Adds bytes to a write, and marks its end where they are the last.
-    pub(crate) fn append(&mut self, number: u64, more: &[u8], eof: bool) -> Result<(), StoreFault>
+    pub(crate) fn append(&mut self, number: u64, more: Bytes, eof: bool) -> Result<(), StoreFault>
         ensures answer { WriteAnswer (option_map (λ f. f.ended) (flying_at number self.old.store)) result }
-        ensures ok { OnOk result (self.new ≡ record self.old { store = after_write number more.now eof self.old.store }) }
+        ensures ok { OnOk result (self.new ≡ record self.old { store = after_write number more eof self.old.store }) }
         ensures err { OnErr result (self.new ≡ self.old) }
     {
         if let Err(fault) = flights::append(&mut self.flights, self.alloc, number, more, eof) {
@@ -109,9 +111,9 @@ impl<S: BuildHasher> MemCache<S> {
         let Some(kept) = self.flights.remove(&number) else {
             return;
         };
-        let Flight { key, buffer, .. } = kept.into_flight();
+        let Flight { key, pieces, .. } = kept.into_flight();
         alive::take_out(&mut self.alive, &key, number);
-        readers::leave_bytes(&mut self.readers, number, buffer);
+        readers::leave_bytes(&mut self.readers, number, Buffer::InPieces(pieces));
     }
 
     // Returns the key of a write that no removal met.
@@ -135,7 +137,10 @@ impl<S: BuildHasher> MemCache<S> {
         ensures err { OnErr result (self.new ≡ self.old) }
         ensures ok { IfOk result (λ length. FinishesWith number length self.old self.new) }
     {
-        let Ok(bytes) = flights::share(&mut self.flights, self.alloc, number) else {
+        let Ok(bytes) = flights::join(&self.flights, self.alloc, number) else {
+            return Err(StoreFault::Memory);
+        };
+        let Ok(share) = readers::share_for(&self.readers, number, &bytes) else {
             return Err(StoreFault::Memory);
         };
         let Ok(meta) = flights::packed_meta(&self.flights, self.alloc, number) else {
@@ -153,9 +158,9 @@ impl<S: BuildHasher> MemCache<S> {
         let Ok(()) = bodies::make_room(&mut self.bodies) else {
             return Err(StoreFault::Memory);
         };
-        let Flight { buffer, .. } = flights::take(&mut self.flights, number);
+        let _pieces = flights::take(&mut self.flights, number);
         alive::take_out(&mut self.alive, &key, number);
-        readers::leave_bytes(&mut self.readers, number, buffer);
+        readers::leave_share(&mut self.readers, number, share);
         bodies::put(&mut self.bodies, key, kept);
         Ok(length)
     }

@@ -58,13 +58,15 @@ impl<S: BuildHasher> HandleMiss<MemCache<S>> for MemMissHandler {
 
     ghost told = { λ x. Created (length x.bytes) };
 
+    /// The bytes are kept as they came, with the whole buffer that they share, while the write is in flight; but a later piece of
+    /// fewer than 64 bytes is copied. A finished body takes no more than its length.
     fn write_body(
         &mut self,
         store: &mut MemCache<S>,
         more: Bytes,
         eof: bool,
     ) -> Result<(), StoreFault> {
-        store.append(self.number, more.as_slice(), eof)
+        store.append(self.number, more, eof)
     }
 
     fn finish(self, store: &mut MemCache<S>) -> Result<MissFinishType, MissFault<MemMissHandler>> {

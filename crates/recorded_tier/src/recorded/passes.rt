@@ -2,7 +2,7 @@
 ghost use Rattle.std.specs.Prelude.{◌≡◌, ℕ, ◌+◌, ◌≤◌, ◌<◌, ◌∷◌, ◌++◌, [], IfOk, IfErr, OnOk, OnErr, length};
 ghost use Rattle.recorded_tier.specs.declared.pass.PassFault.TheVariants.{PassesSpent, Memory};
 ghost use Rattle.recorded_tier.specs.declared.gather.GatherFault.TheVariants.{PassDiffers};
-ghost use Rattle.recorded_tier.specs.Seats.{stranger, OneDiffers};
+ghost use Rattle.recorded_tier.specs.Seats.{stranger, total, OneDiffers};
 ghost use Rattle.recorded_tier.specs.Histories.{HasTurns};
 ghost use Rattle.recorded_tier.specs.Recorded.{IsClosed, IsReplayed};
 
@@ -59,6 +59,7 @@ impl<const N: usize, R: Rng, L: Ledger, S: BuildHasher> Recorded<N, R, L, S> {
     pub fn gather(&mut self, passes: Vec<Pass<L>>) -> Result<Gathered, NotGathered<L>>
         ensures gathered { OnOk result (self.new.gathered ≡ self.old.gathered ++ passes.items) }
         ensures counts { IfOk result (λ now. (now.outstanding + length self.new.gathered ≡ length self.new.seats) × (now.records ≡ length self.new.history)) }
+        ensures held { IfOk result (λ now. total passes.items ≤ now.records) }
         ensures same { (self.new.tier ≡ self.old.tier) × (self.new.rng ≡ self.old.rng) × (self.new.history ≡ self.old.history) × (self.new.opening ≡ self.old.opening) }
         ensures seats { length self.new.seats ≡ length self.old.seats }
         ensures err { IfErr result (λ back. (back.passes.items ≡ passes.items) × (self.new ≡ self.old)) }
@@ -81,6 +82,8 @@ impl<const N: usize, R: Rng, L: Ledger, S: BuildHasher> Recorded<N, R, L, S> {
         };
         self.seats = seats;
         spend_all(&mut self.owner, &mut self.gathered, passes);
+        // The gathered passes have no more records than the book.
+        self.book.audit(&mut self.owner);
         Ok(Gathered {
             outstanding: (self.seats.len() - self.gathered.len()) as u64,
             records: self.history.len() as u64,

@@ -25,7 +25,7 @@ fn fills(alloc: Global) -> Option<UnusableFills> {
     }
 }
 
-fn new_lock(alloc: Global) -> CacheLock {
+pub(super) fn new_lock(alloc: Global) -> CacheLock {
     CacheLock::new(alloc, Duration::from_seconds(2))
 }
 
@@ -34,7 +34,7 @@ fn forget(alloc: Global, read: ReadLock) {
     new_lock(alloc).leave(Locked::Read(read));
 }
 
-fn is_given(alloc: Global, locked: Locked, wanted: Given) -> bool {
+pub(super) fn is_given(alloc: Global, locked: Locked, wanted: Given) -> bool {
     match locked {
         Locked::Write(WritePermit { number }) => wanted == Given::Write(number),
         Locked::Read(read) => {

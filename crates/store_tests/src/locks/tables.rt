@@ -152,3 +152,21 @@ fn lists_of_keys(rt: HostRuntime) {
         assert!(rt; lists_have_keys(&rt, &cache));
     }
 }
+
+/// Whether of three keys in one list of two the first is gone.
+fn list_has_two<R: Wait>(rt: &R, cache: &ConcurrentLruCache<u32, 2>) -> bool {
+    cache.write(rt, 5).put(5, 50).is_ok()
+        && put_in_lists(rt, cache)
+        && is_in_lists(rt, cache, 5, None)
+        && is_in_lists(rt, cache, 1, Some(10))
+        && is_in_lists(rt, cache, 3, Some(30))
+}
+
+#[test]
+fn lists_have_their_capacity(rt: HostRuntime) {
+    let cache = ConcurrentLruCache::new(rt.alloc(), 2);
+    assert!(rt; cache.is_ok());
+    if let Ok(cache) = cache {
+        assert!(rt; list_has_two(&rt, &cache));
+    }
+}

@@ -60,6 +60,19 @@ const CASES: &[Case] = &[
             Step::Holds(4, 3),
         ],
     ),
+    // What is admitted again is used last.
+    (
+        4,
+        None,
+        &[
+            Step::Admit(A, 1, &[]),
+            Step::Admit(B, 2, &[]),
+            Step::Admit(C, 1, &[]),
+            Step::Admit(A, 1, &[]),
+            Step::Admit(D, 2, &[B]),
+            Step::Holds(4, 3),
+        ],
+    ),
     (
         4,
         None,

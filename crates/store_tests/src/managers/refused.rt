@@ -4,8 +4,10 @@ ghost use Rattle.std.specs.Prelude.{◌<◌};
 
 use crate::managers::names::{A, B, C, D, Name, entry};
 use crate::managers::numbers::{Given, give};
+use cache_entries::entry::CacheEntryKeyRef;
 use cache_evict::numbers::Numbers;
 use cache_evict::{EvictFault, EvictionManager, LoadFault, PackWriteFault, lru, simple_lru};
+use cache_words::pack::PackFault;
 use cache_words::time::Moment;
 use rand_core::SeedableRng;
 use rand_pcg::Pcg64;
@@ -49,7 +51,10 @@ fn fault_of<M: EvictionManager>(
     let item = entry(alloc, name).ok()?;
     match call {
         Call::Admit => manager.admit(alloc, item, 1, moment, rng).err(),
-        Call::Access => manager.access(alloc, &item, 1, moment).err(),
+        Call::Access => {
+            let item = CacheEntryKeyRef::from(&item);
+            manager.access(alloc, item, 1, moment).err()
+        }
         Call::Raise => manager.increment_weight(alloc, &item, 1, None, rng).err(),
     }
 }
@@ -120,6 +125,29 @@ fn list_takes(alloc: Global) -> bool {
     }
 }
 
+/// A text that states 2^32 - 1 rows, and has none.
+const STATED: &[u8] = b"\xdd\xff\xff\xff\xff";
+
+const SHORT: Result<(), LoadFault> = Err(LoadFault::Text(PackFault::Short));
+
+/// Whether such a text is too short, whichever allocation fails: none goes by the stated number.
+fn stated_rows_take_nothing(alloc: Global) -> bool {
+    match lru::Manager::<1>::with_capacity(alloc, 9, 0) {
+        Ok(mut shard) => {
+            shard.deserialize_shard(alloc, STATED) == SHORT && shard.total_items() == 0
+        }
+        Err(_) => true,
+    }
+}
+
+/// The same of one list.
+fn stated_rows_of_a_list_take_nothing(alloc: Global) -> bool {
+    match simple_lru::Manager::new(alloc, 9) {
+        Ok(mut list) => list.deserialize(alloc, STATED) == SHORT && list.total_items() == 0,
+        Err(_) => true,
+    }
+}
+
 /// Whether calls of N shards stop for want of memory alone.
 fn shards_stop<const N: usize>(alloc: Global, call: Call) -> bool
     requires { 0 < N }
@@ -146,4 +174,10 @@ fn refusals_leave_what_was_there(rt: HostRuntime) {
         assert!(rt; list_stops(rt.alloc(), call));
     }
     assert!(rt; shard_takes(rt.alloc()) && list_takes(rt.alloc()));
+}
+
+#[test]
+fn a_stated_number_of_rows_takes_no_memory(rt: HostRuntime) {
+    assert!(rt; stated_rows_take_nothing(rt.alloc()));
+    assert!(rt; stated_rows_of_a_list_take_nothing(rt.alloc()));
 }

@@ -2,7 +2,7 @@
 
 ghost use Rattle.std.specs.Prelude.{◌<◌};
 
-use crate::managers::names::{A, B, E, Name, is, item};
+use crate::managers::names::{A, B, C, E, Name, is, item};
 use crate::managers::steps::{Step, all_done, is_done};
 use cache_evict::{LoadFault, lru};
 use rand_core::SeedableRng;
@@ -117,6 +117,17 @@ const LAST_GOES: &[Look] = &[
     Look::Any(Step::Evicted(4, 1)),
 ];
 
+/// An entry is admitted under a limit that was lowered.
+const LOWERED: &[Look] = &[
+    Look::Any(Step::Admit(A, 1, &[])),
+    Look::Any(Step::Admit(B, 1, &[])),
+    Look::SetLimit(1),
+    Look::Any(Step::Holds(2, 2)),
+    Look::Any(Step::Admit(C, 1, &[A, B])),
+    Look::SetLimit(10),
+    Look::Any(Step::Holds(1, 1)),
+];
+
 const SIXTEEN: &[Look] = &[Look::ShardOf(AA, 12)];
 
 #[test]
@@ -124,4 +135,5 @@ fn shards_are_shown_and_their_last_goes(rt: HostRuntime) {
     assert!(rt; shards_do::<4>(rt.alloc(), (9, 8, None), None, FOUR, &[]));
     assert!(rt; shards_do::<16>(rt.alloc(), (9, 0, None), None, SIXTEEN, &[]));
     assert!(rt; shards_do::<4>(rt.alloc(), (9, 0, None), None, LAST_GOES, &[]));
+    assert!(rt; shards_do::<1>(rt.alloc(), (4, 10, None), None, LOWERED, &[]));
 }

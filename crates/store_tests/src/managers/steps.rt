@@ -92,19 +92,23 @@ fn finds<M: EvictionManager>(
     step: Step,
 ) -> bool {
     let moment = Moment::from_seconds(0);
+    let borrowed = CacheEntryKeyRef::from(item);
     match step {
         Step::AccessTwice(_, size) => {
-            is_used(use_twice(alloc, manager, item, size, moment), Some(true))
+            is_used(
+                use_twice(alloc, manager, borrowed, size, moment),
+                Some(true),
+            )
         }
         Step::Remove(_) => {
-            manager.remove(CacheEntryKeyRef::from(item));
+            manager.remove(borrowed);
             true
         }
         Step::Peek(_, found) => manager.peek(item) == found,
         Step::Access(_, size, found) => {
-            is_used(manager.access(alloc, item, size, moment), Some(found))
+            is_used(manager.access(alloc, borrowed, size, moment), Some(found))
         }
-        Step::AccessHeavy(_, size) => is_used(manager.access(alloc, item, size, moment), None),
+        Step::AccessHeavy(_, size) => is_used(manager.access(alloc, borrowed, size, moment), None),
         _ => false,
     }
 }

@@ -1,9 +1,10 @@
 //! A caller of any manager.
 
 ghost use Rattle.std.specs.Prelude.{◌≡◌, OnOk};
+ghost use Rattle.cache_entries.specs.Entry.{owned_of};
 ghost use Rattle.cache_evict.specs.Managed.{use_first};
 
-use cache_entries::entry::CacheEntryKey;
+use cache_entries::entry::CacheEntryKeyRef;
 use cache_evict::{EvictFault, EvictionManager};
 use cache_words::time::Moment;
 use std::alloc::Global;
@@ -12,11 +13,11 @@ use std::alloc::Global;
 pub fn use_twice<E: EvictionManager>(
     alloc: Global,
     manager: &mut E,
-    item: &CacheEntryKey,
+    item: CacheEntryKeyRef<'_>,
     size: usize,
     moment: Moment,
 ) -> Result<bool, EvictFault>
-    ensures { let used = use_first E.shard_count item.now (E.weighed size) in OnOk result (E.managed manager.new ≡ used (used (E.managed manager.old))) }
+    ensures { let used = use_first E.shard_count (owned_of item.entry) (E.weighed size) in OnOk result (E.managed manager.new ≡ used (used (E.managed manager.old))) }
 {
     let _was_tracked = manager.access(alloc, item, size, moment)?;
     manager.access(alloc, item, size, moment)

@@ -1,7 +1,7 @@
 //! Four threads at one tier, and a fifth caller.
 ghost use Rattle.std.specs.Prelude.{◌≡◌, IfSome};
-ghost use Rattle.tier_model.specs.Started.{IsNew, settings_of};
-ghost use Rattle.recorded_tier.specs.Openings.{settings_with};
+ghost use Rattle.tier_model.specs.Started.{HasOnlyOrder, settings_of};
+ghost use Rattle.cache_tier.specs.Options.{settings_with};
 
 use crate::shared::asks::{Ask, event};
 use cache_tier::{Answer, Tier};
@@ -30,8 +30,8 @@ fn options() -> TierOptions {
 }
 
 // An empty tier of four shards, and the options that it was made with.
-fn empty(alloc: Global) -> Option<(TierOptions, Tier<4>)>
-    ensures { IfSome result (λ made. IsNew made.1 × (settings_of made.1 ≡ settings_with 4 made.0)) }
+pub(crate) fn empty(alloc: Global) -> Option<(TierOptions, Tier<4>)>
+    ensures { IfSome result (λ made. HasOnlyOrder made.1 × (settings_of made.1 ≡ settings_with 4 made.0)) }
 {
     let set = options();
     match Tier::<4>::new(alloc, set.limit, set.watermark, set.age, set.wait) {

@@ -7,7 +7,7 @@ use std::cell::Cell;
 use std::io::{self, Read, Write};
 use trace_replay::replay::{ReplayError, run};
 use trace_replay::restart::run_in;
-use trace_replay::status::{Fault, status};
+use trace_replay::status::status;
 
 // How the reader gives a trace, and how the writer takes what is written.
 #[derive(Clone, Copy)]
@@ -139,10 +139,6 @@ fn outcome_of(
 ) -> Played {
     let is_memory = matches!(&outcome, Err(ReplayError::Memory));
     let is_stream = matches!(&outcome, Err(ReplayError::Stream(_)));
-    let outcome = match outcome {
-        Ok(()) => Ok(()),
-        Err(error) => Err(Fault::Replay(error)),
-    };
     let status = status(&outcome);
     let (fails, room) = match way {
         Way::Reads(_) => (true, usize::MAX),

@@ -10,27 +10,27 @@ use std::alloc::Global;
 const HASHER: SeededState = SeededState { word: 3 };
 
 // The file of the first shard, and the name under which a save with the first word of seed 0 writes it.
-const FILE: &str = "dir/lru.data.0";
+pub(crate) const FILE: &str = "dir/lru.data.0";
 
 const TEMP: &str = "dir/lru.data.0.d4e2bc53.tmp";
 
 // What a file has: no entry, or those of keys of one letter, each of weight 1, the latest used first.
-const NONE: &[u8] = b"\x90";
+pub(crate) const NONE: &[u8] = b"\x90";
 
-const BA: &[u8] =
+pub(crate) const BA: &[u8] =
     b"\x92\x92\x93\xdc\x00\x10\xcc\x96\x17+LS7,\xcc\xd1\x0f\xcc\xad\xcc\xdc\xcc\x82\x1b\xcc\xfe\x03\x18\xc0\xa0\x01\x92\x93\xdc\x00\x10'\xcc\xc3^n\xcc\x93s\xcc\x87\x7f)\xcc\xe5bFNFI~\xc0\xa0\x01";
 
-const CBA: &[u8] =
+pub(crate) const CBA: &[u8] =
     b"\x93\x92\x93\xdc\x00\x10\xcc\xca\xcc\xec\x17\xcc\xf4\xcc\xb8\x15\xcc\x9dHl\xcc\xa3R \xcc\x9a\x0f\xcc\xc2\xcc\xd5\xc0\xa0\x01\x92\x93\xdc\x00\x10\xcc\x96\x17+LS7,\xcc\xd1\x0f\xcc\xad\xcc\xdc\xcc\x82\x1b\xcc\xfe\x03\x18\xc0\xa0\x01\x92\x93\xdc\x00\x10'\xcc\xc3^n\xcc\x93s\xcc\x87\x7f)\xcc\xe5bFNFI~\xc0\xa0\x01";
 
-const DCB: &[u8] =
+pub(crate) const DCB: &[u8] =
     b"\x93\x92\x93\xdc\x00\x10\x0d\xcc\xf334\xcc\x8b\xcc\xb2\xcc\xc4\xcc\xf0`^\x01\x0bg\x06\xcc\xf5\xcc\xbb\xc0\xa0\x01\x92\x93\xdc\x00\x10\xcc\xca\xcc\xec\x17\xcc\xf4\xcc\xb8\x15\xcc\x9dHl\xcc\xa3R \xcc\x9a\x0f\xcc\xc2\xcc\xd5\xc0\xa0\x01\x92\x93\xdc\x00\x10\xcc\x96\x17+LS7,\xcc\xd1\x0f\xcc\xad\xcc\xdc\xcc\x82\x1b\xcc\xfe\x03\x18\xc0\xa0\x01";
 
 // BA without its last byte, and what is loaded of it.
 const CUT: &[u8] =
     b"\x92\x92\x93\xdc\x00\x10\xcc\x96\x17+LS7,\xcc\xd1\x0f\xcc\xad\xcc\xdc\xcc\x82\x1b\xcc\xfe\x03\x18\xc0\xa0\x01\x92\x93\xdc\x00\x10'\xcc\xc3^n\xcc\x93s\xcc\x87\x7f)\xcc\xe5bFNFI~\xc0\xa0";
 
-const B: &[u8] =
+pub(crate) const B: &[u8] =
     b"\x91\x92\x93\xdc\x00\x10\xcc\x96\x17+LS7,\xcc\xd1\x0f\xcc\xad\xcc\xdc\xcc\x82\x1b\xcc\xfe\x03\x18\xc0\xa0\x01";
 
 // A put of one byte, and looks.
@@ -170,6 +170,49 @@ const ROWS: &[Row] = &[
             status: 0,
         },
         after: &[(FILE, B)],
+        count: 1,
+    },
+    // What comes after the rows is not read. The other files have no rows.
+    Row {
+        before: &[(FILE, b"\x90\0")],
+        fails: Fails::Never,
+        way: Way::Whole,
+        replay: Replay {
+            limit: 1_000_000,
+            shards: ShardCount::One,
+            trace: b"",
+            written: b"recency loaded=1 missing=0 errored=0\nreport found=0 absent=0 bodies=0 bytes=0 tracked=0 weight=0 evicted=0\nrecency saved=1 failed=0\n",
+            status: 0,
+        },
+        after: &[(FILE, NONE)],
+        count: 1,
+    },
+    Row {
+        before: &[(FILE, b"\xc0")],
+        fails: Fails::Never,
+        way: Way::Whole,
+        replay: Replay {
+            limit: 1_000_000,
+            shards: ShardCount::One,
+            trace: b"",
+            written: b"recency loaded=0 missing=0 errored=1\nreport found=0 absent=0 bodies=0 bytes=0 tracked=0 weight=0 evicted=0\nrecency saved=1 failed=0\n",
+            status: 0,
+        },
+        after: &[(FILE, NONE)],
+        count: 1,
+    },
+    Row {
+        before: &[(FILE, b"\xdd\xff\xff\xff\xff")],
+        fails: Fails::Never,
+        way: Way::Whole,
+        replay: Replay {
+            limit: 1_000_000,
+            shards: ShardCount::One,
+            trace: b"",
+            written: b"recency loaded=0 missing=0 errored=1\nreport found=0 absent=0 bodies=0 bytes=0 tracked=0 weight=0 evicted=0\nrecency saved=1 failed=0\n",
+            status: 0,
+        },
+        after: &[(FILE, NONE)],
         count: 1,
     },
 ];

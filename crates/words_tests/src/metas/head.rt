@@ -25,6 +25,11 @@ const HEADS: &[(&[Field], &[u8], bool)] = &[
         true,
     ),
     (&[("a", b"1")], ANY_FORM, false),
+    (
+        &[("a", b"1")],
+        b"\x92\xcc\xc8\xdc\0\x01\x92\xa1a\xc4\x011",
+        false,
+    ),
 ];
 
 fn is_read_as(alloc: Global, text: &[u8], header: &ResponseHeader) -> bool {

@@ -3,7 +3,7 @@ use Rattle.cache_tier.proofs.BodyRows.{purged-shelf}
 use Rattle.cache_tier.proofs.bodies.remove.Goals as goal
 
 pub returns-clause-found : goal.returns-clause-found
-returns-clause-found g c = c.is_purged.ensures ∙ (purged-shelf c.args.key _ _ c.purge-outcome.result c.args.store.now c.purge-outcome.new.self c.named_by-named.ensures c.purge-outcome.ensures.purged).1
+returns-clause-found g c = c.is_purged.ensures ∙ (purged-shelf c.args.key _ _ c.invalidate-outcome.result c.args.store.now c.invalidate-outcome.new.store c.named_by-named.ensures c.invalidate-outcome.ensures.purged).1
 
 pub returns-clause-after : goal.returns-clause-after
-returns-clause-after g c = (purged-shelf c.args.key _ _ c.purge-outcome.result c.args.store.now c.purge-outcome.new.self c.named_by-named.ensures c.purge-outcome.ensures.purged).0
+returns-clause-after g c = (purged-shelf c.args.key _ _ c.invalidate-outcome.result c.args.store.now c.invalidate-outcome.new.store c.named_by-named.ensures c.invalidate-outcome.ensures.purged).0

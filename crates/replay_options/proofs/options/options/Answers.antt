@@ -1,6 +1,6 @@
 use Rattle.std.proofs.Common.{◌∙◌, map, codes, Some}
 use Rattle.std.proofs.lemmas.Result.{IfOk-weaker, IfErr-weaker}
-use Rattle.replay_options.proofs.OptionLemmas.{given_by_words, shards_by_words, first_value-words}
+use Rattle.replay_options.proofs.OptionLemmas.{given_by_words, shards_by_words, first_value-words, named_by_words}
 use Rattle.replay_options.proofs.options.options.Goals as goal
 
 pub returns-clause-limit : goal.returns-clause-limit
@@ -37,6 +37,11 @@ pub returns-clause-recency : goal.returns-clause-recency
 returns-clause-recency g c =
     let words = map g.S.AsStr.text c.args.words.now in
     IfOk-weaker c.options_in.result _ _ (λ o given. given ∙ first_value-words (codes "recency") c.in_ok-matches.matches words c.in_ok-matches.ensures.ok) c.options_in.ensures.recency
+
+pub returns-clause-named : goal.returns-clause-named
+returns-clause-named g c =
+    let words = map g.S.AsStr.text c.args.words.now in
+    IfOk-weaker c.options_in.result _ _ (λ o named. named_by_words c.in_ok-matches.matches words c.in_ok-matches.ensures.ok named) c.options_in.ensures.named
 
 pub returns-clause-refused : goal.returns-clause-refused
 returns-clause-refused g c =

@@ -6,17 +6,19 @@ use Rattle.tier_model.specs.declared.event.TierFault.TheVariants as fault
 use Rattle.tier_model.specs.Past.{HasPast}
 use Rattle.tier_model.specs.Started.{IsNew, opening_of}
 use Rattle.tier_model.specs.State.{State, empty_state}
+use Rattle.tier_model.proofs.StartedLaws.{empty-new}
+use Rattle.cache_evict.specs.Managed.{fresh}
 use Rattle.cache_tier.specs.Restarts.{SavesOrder, LoadsOrder}
 use Rattle.trace_replay.specs.declared.replay.ReplayError.TheVariants.{TooManyReads}
 use Rattle.trace_replay.specs.Starts.{settings_over}
 use Rattle.trace_replay.specs.Restarts.{counts_text, holding, next_words, start_from}
 use Rattle.trace_replay.specs.Words.{pcg_words}
 use Rattle.trace_replay.proofs.OutputLemmas.{on_err, on_err_weaker}
-use Rattle.trace_replay.proofs.RestartLaws.{early_answered, early_begun, early_saved, early_start, early_untouched, length_words, new_empty, on_ok_is, restarted, untouched}
+use Rattle.trace_replay.proofs.RestartLaws.{early_answered, early_begun, early_saved, early_start, early_untouched, length_words, on_ok_is, restarted, untouched}
 use Rattle.trace_replay.proofs.restart.restart.Goals as goal
 
 pub start-requires : goal.start-requires
-start-requires g c = (omega arith, subst IsNew (sym c.in_ok-tier.ensures.state) (new_empty (settings_over g.row.N c.args.options.now)))
+start-requires g c = (omega arith, subst IsNew (sym c.in_ok-tier.ensures.state) (empty-new (settings_over g.row.N c.args.options.now)))
 
 pub save-requires : goal.save-requires
 save-requires g c = (omega arith, ap length (c.as_slice.ensures.value ∙ ap (λ (p : List ℕ × Stream). p.0) c.in_ok-words.ensures.words) ∙ length_words g.row.N (pcg_words c.answer_trace.new.rng))
@@ -34,7 +36,7 @@ returns-clause-restarts g c =
     restarted g.F.Folder.did g.F.Folder.failures_of g.F.Folder.keeps g.F.Folder.files g.row.N o c.args.dir.now
     (g.R.Read.remaining c.args.reader.now) (g.W.Write.contents c.args.writer.now) (g.W.Write.contents c.start.new.writer) (g.W.Write.contents c.answer_trace.new.writer) (g.W.Write.contents c.save.new.writer)
     c.args.folder.now c.start.new.folder c.save.new.folder m loaded.0 c.answer_trace.new.tier (pcg_words c.answer_trace.new.rng) (Ok h.0.0) (counts_text h.0.0.saved (length h.0.0.failed.items)) c.save.result
-    (subst (λ (x : State). LoadsOrder g.F.Folder.did g.F.Folder.failures_of g.F.Folder.keeps g.F.Folder.files g.row.N c.args.dir.now x.managed m c.args.folder.now c.start.new.folder (Ok loaded.0)) c.in_ok-tier.ensures.state loaded.1)
+    (subst (λ (x : State). LoadsOrder g.F.Folder.did g.F.Folder.failures_of g.F.Folder.keeps g.F.Folder.files g.row.N c.args.dir.now (fresh g.row.N x.managed.limit x.managed.watermark) m c.args.folder.now c.start.new.folder (Ok loaded.0)) c.in_ok-tier.ensures.state loaded.1)
     loaded.2
     (c.in_ok-answer_trace.ensures.answered (start_from g.row.N o m) past (ap pcg_words c.seed_from_u64-rng.ensures))
     (subst (λ ws. SavesOrder g.F.Folder.did g.F.Folder.failures_of g.F.Folder.keeps g.F.Folder.files g.row.N c.args.dir.now c.answer_trace.new.tier.managed ws c.start.new.folder c.save.new.folder (Ok h.0.0)) words h.0.1)
@@ -54,7 +56,7 @@ returns-clause-unsaved g c = λ told.
     restarted g.F.Folder.did g.F.Folder.failures_of g.F.Folder.keeps g.F.Folder.files g.row.N o c.args.dir.now
     (g.R.Read.remaining c.args.reader.now) (g.W.Write.contents c.args.writer.now) (g.W.Write.contents c.start.new.writer) (g.W.Write.contents c.answer_trace.new.writer) (g.W.Write.contents c.save.new.writer)
     c.args.folder.now c.start.new.folder c.save.new.folder m loaded.0 c.answer_trace.new.tier (pcg_words c.answer_trace.new.rng) (Err fault.Folder) (counts_text 0 g.row.N) c.save.result
-    (subst (λ (x : State). LoadsOrder g.F.Folder.did g.F.Folder.failures_of g.F.Folder.keeps g.F.Folder.files g.row.N c.args.dir.now x.managed m c.args.folder.now c.start.new.folder (Ok loaded.0)) c.in_ok-tier.ensures.state loaded.1)
+    (subst (λ (x : State). LoadsOrder g.F.Folder.did g.F.Folder.failures_of g.F.Folder.keeps g.F.Folder.files g.row.N c.args.dir.now (fresh g.row.N x.managed.limit x.managed.watermark) m c.args.folder.now c.start.new.folder (Ok loaded.0)) c.in_ok-tier.ensures.state loaded.1)
     loaded.2
     (c.in_ok-answer_trace.ensures.answered (start_from g.row.N o m) past (ap pcg_words c.seed_from_u64-rng.ensures))
     (subst (λ ws. SavesOrder g.F.Folder.did g.F.Folder.failures_of g.F.Folder.keeps g.F.Folder.files g.row.N c.args.dir.now c.answer_trace.new.tier.managed ws c.start.new.folder c.save.new.folder (Err fault.Folder)) words h.0)
@@ -82,7 +84,7 @@ returns-in_err-answer_trace-clause-early g c =
     let past : HasPast (opening_of (holding g.row.N o m)) s [] = subst (λ (x : State). HasPast (opening_of x) s []) is c.start.ensures.past in
     let loaded = c.in_ok-start.ensures.loaded in
     let loads : LoadsOrder g.F.Folder.did g.F.Folder.failures_of g.F.Folder.keeps g.F.Folder.files g.row.N c.args.dir.now (empty_state (settings_over g.row.N o)).managed m c.args.folder.now c.start.new.folder (Ok loaded.0) =
-    subst (λ (x : State). LoadsOrder g.F.Folder.did g.F.Folder.failures_of g.F.Folder.keeps g.F.Folder.files g.row.N c.args.dir.now x.managed m c.args.folder.now c.start.new.folder (Ok loaded.0)) c.in_ok-tier.ensures.state loaded.1 in
+    subst (λ (x : State). LoadsOrder g.F.Folder.did g.F.Folder.failures_of g.F.Folder.keeps g.F.Folder.files g.row.N c.args.dir.now (fresh g.row.N x.managed.limit x.managed.watermark) m c.args.folder.now c.start.new.folder (Ok loaded.0)) c.in_ok-tier.ensures.state loaded.1 in
     on_err c.from_residual-in_err-answer_trace.result
     (early_begun g.F.Folder.did g.F.Folder.failures_of g.F.Folder.keeps g.F.Folder.files g.row.N o c.args.dir.now (g.R.Read.remaining c.args.reader.now)
     (g.W.Write.contents c.args.writer.now) (g.W.Write.contents c.start.new.writer) (g.W.Write.contents c.answer_trace.new.writer) c.args.folder.now c.start.new.folder m loaded.0 loads loaded.2
@@ -97,7 +99,7 @@ returns-in_err-answer_trace-clause-too_many g c = λ many.
     let past : HasPast (opening_of (holding g.row.N o m)) s [] = subst (λ (x : State). HasPast (opening_of x) s []) is c.start.ensures.past in
     let loaded = c.in_ok-start.ensures.loaded in
     let loads : LoadsOrder g.F.Folder.did g.F.Folder.failures_of g.F.Folder.keeps g.F.Folder.files g.row.N c.args.dir.now (empty_state (settings_over g.row.N o)).managed m c.args.folder.now c.start.new.folder (Ok loaded.0) =
-    subst (λ (x : State). LoadsOrder g.F.Folder.did g.F.Folder.failures_of g.F.Folder.keeps g.F.Folder.files g.row.N c.args.dir.now x.managed m c.args.folder.now c.start.new.folder (Ok loaded.0)) c.in_ok-tier.ensures.state loaded.1 in
+    subst (λ (x : State). LoadsOrder g.F.Folder.did g.F.Folder.failures_of g.F.Folder.keeps g.F.Folder.files g.row.N c.args.dir.now (fresh g.row.N x.managed.limit x.managed.watermark) m c.args.folder.now c.start.new.folder (Ok loaded.0)) c.in_ok-tier.ensures.state loaded.1 in
     let was = c.in_err-answer_trace.was in
     let is = c.in_err-answer_trace.is in
     let gives = c.from_residual-in_err-answer_trace.ensures in
@@ -113,7 +115,7 @@ returns-in_err-words-clause-early g c =
     let past : HasPast (opening_of (holding g.row.N o m)) s [] = subst (λ (x : State). HasPast (opening_of x) s []) is c.start.ensures.past in
     let loaded = c.in_ok-start.ensures.loaded in
     let loads : LoadsOrder g.F.Folder.did g.F.Folder.failures_of g.F.Folder.keeps g.F.Folder.files g.row.N c.args.dir.now (empty_state (settings_over g.row.N o)).managed m c.args.folder.now c.start.new.folder (Ok loaded.0) =
-    subst (λ (x : State). LoadsOrder g.F.Folder.did g.F.Folder.failures_of g.F.Folder.keeps g.F.Folder.files g.row.N c.args.dir.now x.managed m c.args.folder.now c.start.new.folder (Ok loaded.0)) c.in_ok-tier.ensures.state loaded.1 in
+    subst (λ (x : State). LoadsOrder g.F.Folder.did g.F.Folder.failures_of g.F.Folder.keeps g.F.Folder.files g.row.N c.args.dir.now (fresh g.row.N x.managed.limit x.managed.watermark) m c.args.folder.now c.start.new.folder (Ok loaded.0)) c.in_ok-tier.ensures.state loaded.1 in
     on_err c.from_residual-in_err-words.result
     (early_answered g.F.Folder.did g.F.Folder.failures_of g.F.Folder.keeps g.F.Folder.files g.row.N o c.args.dir.now (g.R.Read.remaining c.args.reader.now)
     (g.W.Write.contents c.args.writer.now) (g.W.Write.contents c.start.new.writer) (g.W.Write.contents c.answer_trace.new.writer) c.args.folder.now c.start.new.folder m loaded.0
@@ -129,7 +131,7 @@ returns-clause-early g c =
     let past : HasPast (opening_of (holding g.row.N o m)) s [] = subst (λ (x : State). HasPast (opening_of x) s []) is c.start.ensures.past in
     let loaded = c.in_ok-start.ensures.loaded in
     let loads : LoadsOrder g.F.Folder.did g.F.Folder.failures_of g.F.Folder.keeps g.F.Folder.files g.row.N c.args.dir.now (empty_state (settings_over g.row.N o)).managed m c.args.folder.now c.start.new.folder (Ok loaded.0) =
-    subst (λ (x : State). LoadsOrder g.F.Folder.did g.F.Folder.failures_of g.F.Folder.keeps g.F.Folder.files g.row.N c.args.dir.now x.managed m c.args.folder.now c.start.new.folder (Ok loaded.0)) c.in_ok-tier.ensures.state loaded.1 in
+    subst (λ (x : State). LoadsOrder g.F.Folder.did g.F.Folder.failures_of g.F.Folder.keeps g.F.Folder.files g.row.N c.args.dir.now (fresh g.row.N x.managed.limit x.managed.watermark) m c.args.folder.now c.start.new.folder (Ok loaded.0)) c.in_ok-tier.ensures.state loaded.1 in
     let words : c.as_slice.result.now ≡ (next_words g.row.N (pcg_words c.answer_trace.new.rng)).0 = c.as_slice.ensures.value ∙ ap (λ (p : List ℕ × Stream). p.0) c.in_ok-words.ensures.words in
     on_err_weaker c.save.result (λ h.
     early_saved g.F.Folder.did g.F.Folder.failures_of g.F.Folder.keeps g.F.Folder.files g.row.N o c.args.dir.now (g.R.Read.remaining c.args.reader.now)

@@ -2,6 +2,7 @@ use Rattle.std.proofs.Common.{◌∙◌, inl, inr, subst}
 use Rattle.std.proofs.KnownBytes.{Appends-nil}
 use Rattle.std.proofs.lemmas.Result.{on_ok_weaker}
 use Rattle.std.specs.Io.KnownBytes.{Appends}
+use Rattle.cache_evict.specs.Managed.{fresh}
 use Rattle.trace_replay.specs.Outputs.{HasBegun}
 use Rattle.trace_replay.specs.Replays.{ended}
 use Rattle.trace_replay.specs.Restarts.{loaded_text}
@@ -19,7 +20,7 @@ returns-clause-loaded g c =
 
 pub returns-in_default-clause-early : goal.returns-in_default-clause-early
 returns-in_default-clause-early g c = inl (
-  unloaded-unless_ok g.F.Folder.did g.F.Folder.failures_of g.F.Folder.keeps g.F.Folder.files g.row.N c.args.dir.now c.args.tier.now.managed c.start.new.self.managed c.args.folder.now c.start.new.folder c.start.result
+  unloaded-unless_ok g.F.Folder.did g.F.Folder.failures_of g.F.Folder.keeps g.F.Folder.files g.row.N c.args.dir.now (fresh g.row.N c.args.tier.now.managed.limit c.args.tier.now.managed.watermark) c.start.new.self.managed c.args.folder.now c.start.new.folder c.start.result
       c.in_default.not-Ok c.start.ensures.loads,
   Appends-nil (g.W.Write.contents c.args.writer.now),
 )

@@ -2,7 +2,7 @@ use Rattle.std.proofs.Common.{rules}
 use Rattle.std.specs.Prelude.{codes}
 use Rattle.lru_files.proofs.Runs.{weakened}
 use Rattle.async_manager.specs.Files.{IsSomeText}
-use Rattle.async_manager.proofs.SavingLaws.{are_whole-by, file_has_failed, left-by}
+use Rattle.async_manager.proofs.SavingLaws.{are_whole-by, left-by, memory_is_uncalled}
 use Rattle.async_manager.proofs.manager.Manager.save.Goals as goal
 
 pub returns-clause-saved : goal.returns-clause-saved
@@ -20,7 +20,7 @@ returns-clause-stops g c = λ kept.
     weakened _ (λ left h. are_whole-by c.args.dir.now (codes "lru.data") c.args.words.now g.row.N _ (λ i. IsSomeText) (λ i below r post. search rules) (g.F.Folder.files c.args.folder.now) left h)
     (c.save_shards-saved.ensures.stops kept)
 
-pub returns-clause-counted : goal.returns-clause-counted
-returns-clause-counted g c = λ file.
-    file_has_failed g.F.Folder.did g.F.Folder.failures_of c.args.dir.now c.args.folder.now c.save_shards-saved.new.folder c.save_shards-saved.result c.answered.result c.answered.ensures
-    c.save_shards-saved.ensures.told file
+pub returns-clause-uncalled : goal.returns-clause-uncalled
+returns-clause-uncalled g c = λ memory.
+    memory_is_uncalled g.F.Folder.did g.F.Folder.failures_of c.args.dir.now c.args.folder.now c.save_shards-saved.new.folder c.save_shards-saved.result c.answered.result c.answered.ensures
+    c.save_shards-saved.ensures.told memory

@@ -42,17 +42,17 @@ returns-in-Some-clause-why g c =
 pub put_copy-requires : goal.put_copy-requires
 put_copy-requires g c = (
   search rules,
-  rw (← c.self.view_is) (weight_of-none g.row.N (name_at c.self.inside.numbers) c.self.inside.core 0 c.args.entry.now c.self.invariant (rw c.from.ensures at c.in-None.ensures.none)),
+  rw (c.from-in-None.ensures, ← c.self.view_is) (weight_of-none g.row.N (name_at c.self.inside.numbers) c.self.inside.core 0 c.args.entry.now c.self.invariant (rw c.from.ensures at c.in-None.ensures.none)),
 )
 
 pub returns-in-None-clause-ok : goal.returns-in-None-clause-ok
 returns-in-None-clause-ok g c =
     let none : weight_of c.args.entry.now (rows_of g.row.N c.args.entry.now c.args.self.now) ≡ None =
     rw (← c.self.view_is) (weight_of-none g.row.N (name_at c.self.inside.numbers) c.self.inside.core 0 c.args.entry.now c.self.invariant (rw c.from.ensures at c.in-None.ensures.none)) in
-    ok_then c.put_copy.result _ _ (λ s. s ∙ ap (λ (w : ℕ). put_first g.row.N c.args.entry.now w c.args.self.now) (weighs_new g.row.N c.args.entry.now c.weight_of_new.result c.args.delta c.args.cap c.args.self.now none c.weight_of_new.ensures)) c.put_copy.ensures.ok
+    ok_then c.put_copy.result _ _ (λ s. s ∙ ap (λ (w : ℕ). put_first g.row.N c.args.entry.now w c.args.self.now) (weighs_new g.row.N c.args.entry.now c.weight_of_new.result c.args.delta c.args.cap c.args.self.now none c.weight_of_new.ensures)) (rw c.from-in-None.ensures at c.put_copy.ensures.ok)
 
 pub returns-in-None-clause-why : goal.returns-in-None-clause-why
 returns-in-None-clause-why g c =
     let none : weight_of c.args.entry.now (rows_of g.row.N c.args.entry.now c.args.self.now) ≡ None =
     rw (← c.self.view_is) (weight_of-none g.row.N (name_at c.self.inside.numbers) c.self.inside.core 0 c.args.entry.now c.self.invariant (rw c.from.ensures at c.in-None.ensures.none)) in
-    err_then c.put_copy.result _ _ (λ why p. subst (λ (w : ℕ). IsRefusal g.row.N c.args.entry.now w c.args.self.now why) (weighs_new g.row.N c.args.entry.now c.weight_of_new.result c.args.delta c.args.cap c.args.self.now none c.weight_of_new.ensures) p) c.put_copy.ensures.why
+    err_then c.put_copy.result _ _ (λ why p. subst (λ (w : ℕ). IsRefusal g.row.N c.args.entry.now w c.args.self.now why) (weighs_new g.row.N c.args.entry.now c.weight_of_new.result c.args.delta c.args.cap c.args.self.now none c.weight_of_new.ensures) p) (rw c.from-in-None.ensures at c.put_copy.ensures.why)

@@ -60,7 +60,7 @@ returns-clause-saved g c =
     (along_texts (λ t p b. LeftByWriting (g.F.Folder.files c.make.new.self) (g.F.Folder.files c.replace.new.folder) t p b (Err c.in-Err._call))
     (c.as_str.ensures.value ∙ c.in_ok-temp.ensures.temp) (c.as_str-2.ensures.value ∙ c.in_ok-temp.ensures.path) c.as_slice.ensures.value
     (c.in-Err.ensures.left kept))) in
-    (c.new-in-Err.ensures.items, inr (_, tried, omega (arith, c.requires.one), refl))
+    (c.new-in-Err.ensures.items, inr (_, tried, omega (arith, c.requires.one)))
 
 pub returns-clause-stops : goal.returns-clause-stops
 returns-clause-stops g c = λ kept.

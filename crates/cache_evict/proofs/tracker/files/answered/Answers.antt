@@ -1,7 +1,4 @@
-use Rattle.std.proofs.Common.{◌∙◌, Bool, sym, refl, ap}
-use Rattle.std.specs.Prelude.{if◌then◌else◌, Err}
-use Rattle.cache_evict.specs.declared.fault.EvictFault.TheVariants.{Memory, File}
-use Rattle.cache_evict.specs.Stored.{are_for_memory}
+use Rattle.std.proofs.Common.{refl}
 use Rattle.cache_evict.proofs.tracker.files.answered.Goals as goal
 
 pub returns-in-Err-Setup-Memory : goal.returns-in-Err-Setup-Memory
@@ -12,14 +9,6 @@ pub returns-in-Err-Setup-CreateDir : goal.returns-in-Err-Setup-CreateDir
 returns-in-Err-Setup-CreateDir c =
     rw (c.in-Err-Setup-CreateDir.is, c.in-Err-Setup-CreateDir.field-0-is, c.in-Err-Setup-CreateDir.field-0-0-is) (c.new-in-Err-Setup-CreateDir.result, refl, c.new-in-Err-Setup-CreateDir.ensures.items)
 
-pub returns-then-are_for_memory : goal.returns-then-are_for_memory
-returns-then-are_for_memory c =
-    let v = c.new-then-are_for_memory.result in
-    let all = sym (c.are_for_memory.ensures ∙ ap are_for_memory c.as_slice.ensures.value) ∙ c.if-are_for_memory.true in
-    rw (c.in-Err-AllShardsFailed.is, c.in-Err-AllShardsFailed.field-0-is) (v, ap (λ (b : Bool). Err (if b then Memory v else File v)) (sym all), c.new-then-are_for_memory.ensures.items)
-
-pub returns-else-are_for_memory : goal.returns-else-are_for_memory
-returns-else-are_for_memory c =
-    let v = c.new-in-Err-AllShardsFailed.result in
-    let some = sym (c.are_for_memory.ensures ∙ ap are_for_memory c.as_slice.ensures.value) ∙ c.if-are_for_memory.false in
-    rw (c.in-Err-AllShardsFailed.is, c.in-Err-AllShardsFailed.field-0-is) (v, ap (λ (b : Bool). Err (if b then Memory v else File v)) (sym some), c.new-in-Err-AllShardsFailed.ensures.items)
+pub returns-in-Err-AllShardsFailed : goal.returns-in-Err-AllShardsFailed
+returns-in-Err-AllShardsFailed c =
+    rw (c.in-Err-AllShardsFailed.is, c.in-Err-AllShardsFailed.field-0-is) (c.new-in-Err-AllShardsFailed.result, refl, c.new-in-Err-AllShardsFailed.ensures.items)

@@ -49,7 +49,7 @@ invariant_of-self g c =
     λ k. state_by (c.begin.ensures.parts k).manager i.wait (shelf_of (c.begin.ensures.parts k).store) (c.in_err-begin-in-Ok-Kept.ensures.err.1 k) (c.in_err-begin-in-Ok-Kept.ensures.err.0 k) i.found i.absent in
     let took : Took s c.args.moment (Begin c.args.id c.args.head.now) (Err f) left = Took-to s c.args.moment (Begin c.args.id c.args.head.now) (Err f) to left is
     (begin-not s c.args.moment c.args.id c.args.head.now may c.in-Ok-Kept.meta j.0 f (shelf_of c.begin.new.parts.store) c.in_err-begin-in-Ok-Kept.ensures.refused) in
-    kept-took g.row.N s c.args.moment (Begin c.args.id c.args.head.now) (Err f) left c.self.invariant took
+    kept-took g.row.N c.self.inside.watermark c.self.inside.age s c.args.moment (Begin c.args.id c.args.head.now) (Err f) left c.self.invariant took
 
 pub returns-in_err-begin-in-Ok-Kept : goal.returns-in_err-begin-in-Ok-Kept
 returns-in_err-begin-in-Ok-Kept g c =
@@ -78,7 +78,7 @@ invariant_of-self-in-Ok-Kept g c =
     let is : left ≡ to = λ k. state_by (c.begin.ensures.parts k).manager i.wait (shelf_of (c.begin.ensures.parts k).store) (c.begin.ensures.parts k).lock c.begin.new.self i.found i.absent in
     let took : Took s c.args.moment (Begin c.args.id c.args.head.now) (Ok Begun) left = Took-to s c.args.moment (Begin c.args.id c.args.head.now) (Ok Begun) to left is
     (begin-begun s c.args.moment c.args.id c.args.head.now may c.in-Ok-Kept.meta j.0 c.begin.new.self (shelf_of c.begin.new.parts.store) c.begin.new.parts.lock j.1 c.in_ok-begin-in-Ok-Kept.ensures.begun) in
-    kept-took g.row.N s c.args.moment (Begin c.args.id c.args.head.now) (Ok Begun) left c.self.invariant took
+    kept-took g.row.N c.self.inside.watermark c.self.inside.age s c.args.moment (Begin c.args.id c.args.head.now) (Ok Begun) left c.self.invariant took
 
 pub returns-in_ok-begin-in-Ok-Kept : goal.returns-in_ok-begin-in-Ok-Kept
 returns-in_ok-begin-in-Ok-Kept g c =
@@ -105,7 +105,7 @@ invariant_of-self-in-Ok-NotKept g c =
     let is : left ≡ to = λ k. state_by (c.give_up.ensures.parts k).manager i.wait (shelf_of (c.give_up.ensures.parts k).store) (c.give_up.ensures.parts k).lock c.give_up.new.self i.found i.absent in
     let took : Took s c.args.moment (Begin c.args.id c.args.head.now) o left = Took-to s c.args.moment (Begin c.args.id c.args.head.now) o to left is
     (begin-given-up s c.args.moment c.args.id c.args.head.now may c.in-Ok-NotKept.reason c.give_up.new.self (shelf_of c.give_up.new.parts.store) c.give_up.new.parts.lock j.0 c.give_up.ensures.given_up) in
-    kept-took g.row.N s c.args.moment (Begin c.args.id c.args.head.now) o left c.self.invariant took
+    kept-took g.row.N c.self.inside.watermark c.self.inside.age s c.args.moment (Begin c.args.id c.args.head.now) o left c.self.invariant took
 
 pub returns-in-Ok-NotKept : goal.returns-in-Ok-NotKept
 returns-in-Ok-NotKept g c =

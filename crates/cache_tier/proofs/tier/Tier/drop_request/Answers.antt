@@ -19,7 +19,7 @@ invariant_of-self g c =
     let left : State = state_by c.end.new.parts.manager i.wait (shelf_of c.end.new.parts.store) c.end.new.parts.lock c.remove.new.self i.found i.absent in
     let is : left ≡ dropped_to s some_moment c.args.id q =
     λ j. state_by (c.end.ensures.parts j).manager i.wait (c.end.ensures.shelf j) (c.end.ensures.lock j) (c.remove.ensures.left j) i.found i.absent in
-    kept-took g.row.N s some_moment (Drop c.args.id) (Ok Dropped) left c.self.invariant
+    kept-took g.row.N c.self.inside.watermark c.self.inside.age s some_moment (Drop c.args.id) (Ok Dropped) left c.self.invariant
     (Took-to s some_moment (Drop c.args.id) (Ok Dropped) (dropped_to s some_moment c.args.id q) left is (Took-drop s some_moment c.args.id q (sym c.remove.ensures.request ∙ c.in-Some.is)))
 
 pub invariant_of-self-in-None : goal.invariant_of-self-in-None

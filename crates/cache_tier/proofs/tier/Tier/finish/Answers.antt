@@ -39,13 +39,13 @@ invariant_of-self g c =
     let s : State = state_by c.self.inside.parts.manager c.self.inside.wait (shelf_of c.self.inside.parts.store) c.self.inside.parts.lock c.self.inside.requests c.self.inside.found c.self.inside.absent in
     let before : Cache Held = cache_of c.self.inside.parts.store c.self.inside.parts.manager (g.R.Rng.stream c.args.rng.now) in
     let after : Cache Held = cache_of c.finish.new.parts.store c.finish.new.parts.manager (g.R.Rng.stream c.finish.new.rng) in
-    let taken = finish-taken g.row.N s at_any c.args.id before c.self.invariant.0 c.self.invariant.1 (λ q m. flies-for s c.self.invariant.2 c.args.id m q) c.finish.result after c.finish.new.self c.finish.ensures.answer in
-    (taken.sharded, taken.under, rw c.finish.ensures.lock (HasAPast-steps s _ _ _ _ _ c.self.invariant.2 taken.steps))
+    let taken = finish-taken g.row.N s at_any c.args.id before c.self.invariant.0 c.self.invariant.1 (λ q m. flies-for s (c.self.invariant.2.0, c.self.invariant.2.1, c.self.invariant.2.2) c.args.id m q) c.finish.result after c.finish.new.self c.finish.ensures.answer in
+    (taken.sharded, taken.under, rw c.finish.ensures.lock (HasAPast-steps c.self.inside.watermark c.self.inside.age s _ _ _ _ _ c.self.invariant.2 taken.steps))
 
 pub returns : goal.returns
 returns g c t =
     let s : State = state_by c.self.inside.parts.manager c.self.inside.wait (shelf_of c.self.inside.parts.store) c.self.inside.parts.lock c.self.inside.requests c.self.inside.found c.self.inside.absent in
     let before : Cache Held = cache_of c.self.inside.parts.store c.self.inside.parts.manager (g.R.Rng.stream c.args.rng.now) in
     let after : Cache Held = cache_of c.finish.new.parts.store c.finish.new.parts.manager (g.R.Rng.stream c.finish.new.rng) in
-    let taken = finish-taken g.row.N s t c.args.id before c.self.invariant.0 c.self.invariant.1 (λ q m. flies-for s c.self.invariant.2 c.args.id m q) c.finish.result after c.finish.new.self c.finish.ensures.answer in
+    let taken = finish-taken g.row.N s t c.args.id before c.self.invariant.0 c.self.invariant.1 (λ q m. flies-for s (c.self.invariant.2.0, c.self.invariant.2.1, c.self.invariant.2.2) c.args.id m q) c.finish.result after c.finish.new.self c.finish.ensures.answer in
     rw (← c.self.view_is, c.finish.ensures.lock) taken.steps

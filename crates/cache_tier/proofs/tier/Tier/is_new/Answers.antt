@@ -1,46 +1,29 @@
-use Rattle.std.proofs.Common.{◌≡◌, ◌<◌, ◌^◌, true, false, refl, sym, ◌∙◌}
+use Rattle.std.proofs.Common.{◌≡◌, ◌<◌, ◌^◌, ℕ, [], refl, sym, subst, length, ◌∙◌}
 use denote.Param.{layout, number, param}
 use mir.Syntax.{Ty}
 use prog.Memory.{size}
-use Rattle.cache_tier.specs.contracts.tier.Tier.{the_row}
+use Rattle.std.specs.List.{sum_by}
+use Rattle.std.proofs.lemmas.Bool.{eqb-true, eq-eqb}
+use Rattle.tier_model.specs.Started.{HasOnlyOrder, all_rows}
 use Rattle.tier_model.specs.State.{State}
-use Rattle.tier_requests.specs.Shelves.{shelf_of}
-use Rattle.cache_tier.specs.States.{state_by}
-use Rattle.cache_tier.proofs.NewLaws.{idle-alone}
+use Rattle.cache_tier.specs.contracts.tier.Tier.{the_row}
+use Rattle.cache_tier.proofs.NewLaws.{untracked, none_counted}
 use Rattle.cache_tier.proofs.Room.{inner_room}
 use Rattle.cache_tier.proofs.tier.Tier.is_new.Goals as goal
 
-pub are_unused-requires : goal.are_unused-requires
-are_unused-requires g c =
+pub total_items-requires : goal.total_items-requires
+total_items-requires g c =
     let tier : Ty = layout (the_row (param 0 (number g.row.N)) (param 1 g.row.S) (param 2 g.row.S-Hasher) g.S.BuildHasher g.S.Hasher.Hasher) in
     let room : size tier < 2 ^ 63 = assumption in
     inner_room tier 2 1 _ _ refl _ _ refl room
 
-pub returns-then-not-are_zero : goal.returns-then-not-are_zero
-returns-then-not-are_zero g c =
-    rw (← c.self.view_is) ((λ t. let no : false ≡ true = t in absurd cc), (λ new. sym c.if-not-are_zero.true ∙ c.are_zero.ensures.1 (new.found, new.absent)))
-
-pub returns-then-is_empty : goal.returns-then-is_empty
-returns-then-is_empty g c =
-    let s : State = state_by c.self.inside.parts.manager c.self.inside.wait (shelf_of c.self.inside.parts.store) c.self.inside.parts.lock c.self.inside.requests c.self.inside.found c.self.inside.absent in
-    let zero = c.are_zero.ensures.0 c.if-not-are_zero.false in
-    let none = c.is_empty.ensures.0 c.if-is_empty.true in
-    let idle = idle-alone s c.self.invariant.2 none in
-    rw (← c.self.view_is) (
-      (λ t. let unused = c.are_unused.ensures.0 t in record {
-        bodies = unused.bodies;
-        flying = idle.0;
-        readers = idle.1;
-        lock = unused.lock;
-        requests = none;
-        found = zero.0;
-        absent = zero.1;
-        evicted_size = unused.evicted_size;
-        evicted_items = unused.evicted_items;
-      }),
-      (λ new. c.are_unused.ensures.1 (record { bodies = new.bodies; lock = new.lock; evicted_size = new.evicted_size; evicted_items = new.evicted_items })),
+pub returns : goal.returns
+returns g c =
+    let only : HasOnlyOrder c.args.self.now = c.has_only_order.ensures.0 c.if-not-has_only_order.false in
+    let count : c.total_items.result ≡ sum_by length c.self.inside.parts.manager.shards = c.total_items.ensures.sum in (
+      λ t. record {
+        nothing_else = only;
+        untracked = subst (λ (x : State). all_rows x.managed.shards ≡ []) c.self.view_is (untracked c.self.inside.parts.manager.shards (sym count ∙ eqb-true c.total_items.result 0 t));
+      },
+      λ new. eq-eqb c.total_items.result 0 (count ∙ none_counted c.self.inside.parts.manager.shards (subst (λ (x : State). all_rows x.managed.shards ≡ []) (sym c.self.view_is) new.untracked)),
     )
-
-pub returns-else-is_empty : goal.returns-else-is_empty
-returns-else-is_empty g c =
-    rw (← c.self.view_is) ((λ t. let no : c.is_empty.result ≡ true = t in absurd cc), (λ new. c.is_empty.ensures.1 new.requests))

@@ -41,7 +41,7 @@ invariant_of-self g c =
     let is : left ≡ to =
     λ j. state_by n.parts.manager i.wait (shelf_of n.parts.store) n.parts.lock n.self (c.found_after-self-inside.ensures j) (c.absent_after-self-inside.ensures j) in
     let took : Took s t (LookUp c.args.id) o left = Took-to s t (LookUp c.args.id) o to left is (Took-look s t c.args.id g.row.N c.self.invariant.0 o n.self all c.total_size-size.ensures.fits c.look_up-outcome.ensures.answer) in
-    kept-took g.row.N s t (LookUp c.args.id) o left c.self.invariant took
+    kept-took g.row.N c.self.inside.watermark c.self.inside.age s t (LookUp c.args.id) o left c.self.invariant took
 
 pub returns : goal.returns
 returns g c =

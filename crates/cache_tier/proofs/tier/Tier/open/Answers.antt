@@ -40,7 +40,7 @@ invariant_of-self g c =
     let is : left ≡ to =
     λ j. state_by i.parts.manager i.wait (shelf_of i.parts.store) i.parts.lock ((c.in-Ok-insert.ensures.ok ∙ ap (λ (q : Request). insert i.requests c.args.id q) c.in-Ok.ensures) j) i.found i.absent in
     let none = none-open _ (sym c.contains.ensures ∙ c.if-contains.false) in
-    kept-took g.row.N s some_moment (Open c.args.id c.args.key.now c.args.asks) (Ok Opened) left c.self.invariant (Took-to s some_moment (Open c.args.id c.args.key.now c.args.asks) (Ok Opened) to left is (Took-open s some_moment c.args.id c.args.key.now c.args.asks none))
+    kept-took g.row.N c.self.inside.watermark c.self.inside.age s some_moment (Open c.args.id c.args.key.now c.args.asks) (Ok Opened) left c.self.invariant (Took-to s some_moment (Open c.args.id c.args.key.now c.args.asks) (Ok Opened) to left is (Took-open s some_moment c.args.id c.args.key.now c.args.asks none))
 
 pub returns-in-Ok-insert : goal.returns-in-Ok-insert
 returns-in-Ok-insert g c = λ t.
@@ -65,7 +65,7 @@ invariant_of-self-in-Err g c =
     let is : left ≡ s =
     λ j. state_by (c.end.ensures.parts j).manager i.wait ((c.end.ensures.shelf ∙ ap (λ (x : Request). turned x.reader closed (on_write x.write landed (shelf_of i.parts.store))) same) j)
     ((c.end.ensures.lock ∙ ap (λ (x : Request). after_all (leave_of x.held) i.parts.lock) same) j) (c.in-Err.ensures.err.1 j) i.found i.absent in
-    subst (λ (x : State). IsKept g.row.N x) (sym is) c.self.invariant
+    subst (λ (x : State). IsKept g.row.N i.watermark i.age x) (sym is) c.self.invariant
 
 pub returns-in-Err : goal.returns-in-Err
 returns-in-Err g c = λ t.

@@ -16,7 +16,7 @@ invariant_of-self g c =
     let left : State = state_by c.piece.new.parts.manager i.wait (shelf_of c.piece.new.parts.store) c.piece.new.parts.lock c.piece.new.self i.found i.absent in
     let is : left ≡ pieced_to s some_moment c.args.id c.args.bytes.now c.args.end c.piece.new.self (shelf_of c.piece.new.parts.store) =
     λ j. state_by (c.piece.ensures.parts j).manager i.wait (shelf_of (c.piece.ensures.parts j).store) (c.piece.ensures.parts j).lock c.piece.new.self i.found i.absent in
-    kept-took g.row.N s some_moment (Piece c.args.id c.args.bytes.now c.args.end) c.piece.result left c.self.invariant
+    kept-took g.row.N c.self.inside.watermark c.self.inside.age s some_moment (Piece c.args.id c.args.bytes.now c.args.end) c.piece.result left c.self.invariant
     (Took-to s some_moment (Piece c.args.id c.args.bytes.now c.args.end) c.piece.result (pieced_to s some_moment c.args.id c.args.bytes.now c.args.end c.piece.new.self (shelf_of c.piece.new.parts.store)) left is (Took-piece s some_moment c.args.id c.args.bytes.now c.args.end c.piece.result c.piece.new.self (shelf_of c.piece.new.parts.store) c.piece.ensures.answer))
 
 pub returns : goal.returns

@@ -16,7 +16,7 @@ invariant_of-self g c =
     let left : State = state_by c.poll.new.parts.manager i.wait (shelf_of c.poll.new.parts.store) c.poll.new.parts.lock c.poll.new.self i.found i.absent in
     let is : left ≡ polled_to s c.args.moment c.args.id c.poll.new.self c.poll.new.parts.lock =
     λ j. state_by (c.poll.ensures.parts j).manager i.wait (shelf_of (c.poll.ensures.parts j).store) (c.poll.ensures.parts j).lock c.poll.new.self i.found i.absent in
-    kept-took g.row.N s c.args.moment (Poll c.args.id) c.poll.result left c.self.invariant
+    kept-took g.row.N c.self.inside.watermark c.self.inside.age s c.args.moment (Poll c.args.id) c.poll.result left c.self.invariant
     (Took-to s c.args.moment (Poll c.args.id) c.poll.result (polled_to s c.args.moment c.args.id c.poll.new.self c.poll.new.parts.lock) left is (Took-poll s c.args.moment c.args.id c.poll.result c.poll.new.self c.poll.new.parts.lock c.poll.ensures.answer))
 
 pub returns : goal.returns

@@ -35,7 +35,7 @@ invariant_of-self g c =
     let is : left ≡ to = λ j. state_by (c.remove_parts.ensures j) i.wait (c.remove.ensures.after j) i.parts.lock i.requests i.found i.absent in
     let took : Took s some_moment (Purge c.args.key.now) (Ok (Purged true)) left = Took-to s some_moment (Purge c.args.key.now) (Ok (Purged true)) to left is
     (Took-purged s some_moment c.args.key.now g.row.N k (entry_with_parts c.parts_of.result.0) c.self.invariant.0.count c.parts_of.ensures.stored c.parts_of.ensures.entry (sym c.remove.ensures.found ∙ c.if-remove.true)) in
-    kept-took g.row.N s some_moment (Purge c.args.key.now) (Ok (Purged true)) left c.self.invariant took
+    kept-took g.row.N c.self.inside.watermark c.self.inside.age s some_moment (Purge c.args.key.now) (Ok (Purged true)) left c.self.invariant took
 
 pub returns-then-remove : goal.returns-then-remove
 returns-then-remove g c = λ t.
@@ -59,7 +59,7 @@ invariant_of-self-else-remove g c =
     let is : left ≡ s = λ j. state_by i.parts.manager i.wait ((c.remove.ensures.after ∙ removed-none k (shelf_of i.parts.store) none) j) i.parts.lock i.requests i.found i.absent in
     let took : Took s some_moment (Purge c.args.key.now) (Ok (Purged false)) left =
     Took-to s some_moment (Purge c.args.key.now) (Ok (Purged false)) s left is (Took-not-purged s some_moment c.args.key.now k c.parts_of.ensures.stored none) in
-    kept-took g.row.N s some_moment (Purge c.args.key.now) (Ok (Purged false)) left c.self.invariant took
+    kept-took g.row.N c.self.inside.watermark c.self.inside.age s some_moment (Purge c.args.key.now) (Ok (Purged false)) left c.self.invariant took
 
 pub returns : goal.returns
 returns g c = λ t.

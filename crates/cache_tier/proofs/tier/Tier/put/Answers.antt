@@ -45,7 +45,7 @@ invariant_of-self g c =
     let taken = put-taken g.row.N s c.args.moment c.args.key.now c.args.pieces.now before c.self.invariant.0 c.self.invariant.1 c.cache_put-came.result after
     (rw (c.new-put.ensures, c.in-Ok.ensures, c.as_slice.ensures) at c.cache_put-came.ensures.put) in
     let lock : c.cache_put-came.new.parts.lock ≡ c.self.inside.parts.lock = λ i. (c.cache_put-came.ensures.parts i).lock in
-    (taken.sharded, taken.under, rw lock (HasAPast-steps s _ _ _ _ _ c.self.invariant.2 (taken.takes c.told_of.result c.told_of.ensures)))
+    (taken.sharded, taken.under, rw lock (HasAPast-steps c.self.inside.watermark c.self.inside.age s _ _ _ _ _ c.self.invariant.2 (taken.takes c.told_of.result c.told_of.ensures)))
 
 pub returns-in_default : goal.returns-in_default
 returns-in_default g c = rw c.out_of_memory.ensures (Steps-unread c.args.self.now _ c.args.moment c.args.key.now c.args.pieces.now)

@@ -14,7 +14,7 @@ invariant_of-self g c =
     let i = c.self.inside in
     let s : State = state_by i.parts.manager i.wait (shelf_of i.parts.store) i.parts.lock i.requests i.found i.absent in
     let left : State = state_by i.parts.manager i.wait (shelf_of i.parts.store) i.parts.lock c.read.new.self i.found i.absent in
-    kept-took g.row.N s some_moment (Read c.args.id) c.read.result left c.self.invariant
+    kept-took g.row.N c.self.inside.watermark c.self.inside.age s some_moment (Read c.args.id) c.read.result left c.self.invariant
     (Took-read s some_moment c.args.id c.read.result c.read.new.self c.read.ensures)
 
 pub returns : goal.returns

@@ -12,8 +12,8 @@ use Rattle.cache_tier.proofs.tier.Tier.with_hasher.Goals as goal
 
 pub invariant_of-result : goal.invariant_of-result
 invariant_of-result g c = rw (c.with_hasher-2.ensures, c.in_ok-manager.ensures, c.with_hasher-3.ensures, c.with_hasher-4.ensures)
-    (kept-past g.row.N (empty_opening (record { shards = g.row.N; limit = c.args.limit; watermark = c.args.watermark; age = c.args.age; wait = c.args.wait }))
-    (empty_state (record { shards = g.row.N; limit = c.args.limit; watermark = c.args.watermark; age = c.args.age; wait = c.args.wait })) [] refl (empty-past _ c.requires))
+    (kept-past g.row.N c.args.watermark c.args.age (empty_opening (record { shards = g.row.N; limit = c.args.limit; watermark = c.args.watermark; age = c.args.age; wait = c.args.wait }))
+    (empty_state (record { shards = g.row.N; limit = c.args.limit; watermark = c.args.watermark; age = c.args.age; wait = c.args.wait })) [] refl refl refl (empty-past _ c.requires))
 
 pub returns-clause-past : goal.returns-clause-past
 returns-clause-past g c = rw (c.with_hasher-2.ensures, c.in_ok-manager.ensures, c.with_hasher-3.ensures, c.with_hasher-4.ensures) (empty-past _ c.requires)

@@ -6,7 +6,7 @@ use Rattle.lru_list.proofs.linked_list.LinkedList.is_live.Goals as goal
 pub returns : goal.returns
 returns g c =
     let w = c.self.invariant.0 in
-    let n = vec_len-nexts c.self.inside.nodes in
+    let n = vec_len-nexts c.self.inside.links in
     let m = c.next_at.type_inv in
     let e = c.next_at.ensures in
     rw (e, ← c.self.view_is) (live_is _ _ _ _ c.args.i w (omega arith) (omega arith) (omega arith))

@@ -1,5 +1,5 @@
 use Rattle.std.proofs.Common.{◌≡◌, ◌≢◌, ◌<◌, ◌++◌, ◌∷◌, [], length, get_or, arith, sym, ◌∙◌, refl, suc, add-one}
-use Rattle.lru_list.specs.Nodes.{nexts}
+use Rattle.lru_list.specs.Columns.{nexts}
 use Rattle.lru_list.proofs.Columns.{vec_len-nexts}
 use Rattle.lru_list.proofs.Indexes.{has_at}
 use Rattle.lru_list.proofs.Walks.{at_start, at_end, at_item, at_next, has_take, has_take_more, has_take_all}
@@ -37,7 +37,7 @@ next_at-at-requires-in-loop g c =
     let k = rw (← c.self.view_is) at v.place in
     let n : get_or (c.args.self.now.order ++ 1 ∷ []) c.loop.counter 0 ≢ 1 = λ e. c.if-at-eq-TAIL.false (v.standing ∙ e) in
     let s = at_item _ _ _ _ w c.loop.counter k (rw (← c.self.view_is) at n) in
-    rw (vec_len-nexts c.self.inside.nodes, v.standing, ← c.self.view_is, s.1) (w.within _ (has_at _ c.loop.counter 0 s.0)).1
+    rw (vec_len-nexts c.self.inside.links, v.standing, ← c.self.view_is, s.1) (w.within _ (has_at _ c.loop.counter 0 s.0)).1
 
 pub loop-preserved : goal.loop-preserved
 loop-preserved g c =
@@ -48,7 +48,7 @@ loop-preserved g c =
     let s = at_item _ _ _ _ w c.loop.counter k (rw (← c.self.view_is) at n) in
     let l : c.loop.counter < length c.args.self.now.order = rw (← c.self.view_is) s.0 in
     let t : get_or (c.args.self.now.order ++ 1 ∷ []) c.loop.counter 0 ≡ get_or c.args.self.now.order c.loop.counter 0 = rw (← c.self.view_is) s.1 in
-    let m : get_or (nexts c.self.inside.nodes.items) (get_or c.args.self.now.order c.loop.counter 0) 0 ≡ get_or (c.args.self.now.order ++ 1 ∷ []) (suc c.loop.counter) 0 =
+    let m : get_or (nexts c.self.inside.links.items) (get_or c.args.self.now.order c.loop.counter 0) 0 ≡ get_or (c.args.self.now.order ++ 1 ∷ []) (suc c.loop.counter) 0 =
     rw (← c.self.view_is) (at_next _ _ _ _ w c.loop.counter s.0) in
     let d : get_or c.args.self.now.order c.loop.counter 0 ≢ c.args.i = λ e. c.if-at-i.false (v.standing ∙ (t ∙ e)) in
     record {

@@ -1,5 +1,5 @@
 use Rattle.std.proofs.Common.{[], ◌∷◌, arith, ap, ◌∙◌}
-use Rattle.lru_list.specs.Nodes.{nexts, prevs, order_in}
+use Rattle.lru_list.specs.Columns.{nexts, prevs, order_in}
 use Rattle.lru_list.specs.Links.{IsChained}
 use Rattle.lru_list.proofs.Columns.{vec_len-nexts}
 use Rattle.lru_list.proofs.Indexes.{has_here}
@@ -7,13 +7,17 @@ use Rattle.lru_list.proofs.Linked.{link_head, settled, head_within}
 use Rattle.lru_list.proofs.linked_list.LinkedList.push_head.Goals as goal
 
 pub link_head-requires-clause-first : goal.link_head-requires-clause-first
-link_head-requires-clause-first g c = rw (vec_len-nexts c.take_slot.new.nodes) (head_within _ _ _ _ _ c.in_ok-slot.ensures.taken)
+link_head-requires-clause-first g c = rw (vec_len-nexts c.take_slot.new.links) (head_within _ _ _ _ _ c.in_ok-slot.ensures.taken)
 
-after : (g : _) (c : goal.After-link_head g) → IsChained (nexts c.link_head.new.nodes.items) (prevs c.link_head.new.nodes.items) (c.in_ok-slot.slot ∷ order_in c.self.inside.nodes.items c.self.inside.free.items) c.take_slot.new.free.items []
+after : (g : _) (c : goal.After-link_head g) → IsChained (nexts c.link_head.new.links.items) (prevs c.link_head.new.links.items) (c.in_ok-slot.slot ∷ order_in c.self.inside.links.items c.self.inside.free.items) c.take_slot.new.free.items []
 after g c = rw (c.link_head.ensures.next, c.link_head.ensures.prev) (link_head _ _ _ _ c.in_ok-slot.slot c.in_ok-slot.ensures.taken)
 
 pub invariant_of-self-2 : goal.invariant_of-self-2
-invariant_of-self-2 g c = let d = after g c in (rw (settled _ _ _ _ d) d, let r = c.take_slot.ensures.room in let l = c.link_head.ensures.len in omega arith)
+invariant_of-self-2 g c = let d = after g c in
+    let p = c.take_slot.ensures.paired in
+    let r = c.take_slot.ensures.room in
+    let l = c.link_head.ensures.len in
+    (rw (settled _ _ _ _ d) d, (omega arith, omega arith))
 
 pub returns-clause-index : goal.returns-clause-index
 returns-clause-index g c = settled _ _ _ _ (after g c) ∙ ap (λ v. c.in_ok-slot.slot ∷ v.order) c.self.view_is

@@ -1,5 +1,5 @@
 use Rattle.std.proofs.Common.{◌++◌, [], ◌∷◌, arith, ap, ◌∙◌}
-use Rattle.lru_list.specs.Nodes.{nexts, prevs, order_in}
+use Rattle.lru_list.specs.Columns.{nexts, prevs, order_in}
 use Rattle.lru_list.specs.Links.{IsChained}
 use Rattle.lru_list.proofs.Columns.{vec_len-nexts}
 use Rattle.lru_list.proofs.Indexes.{has_here}
@@ -7,13 +7,17 @@ use Rattle.lru_list.proofs.Linked.{link_tail, settled, tail_within}
 use Rattle.lru_list.proofs.linked_list.LinkedList.push_tail.Goals as goal
 
 pub link_tail-requires-clause-last : goal.link_tail-requires-clause-last
-link_tail-requires-clause-last g c = rw (vec_len-nexts c.take_slot.new.nodes) (tail_within _ _ _ _ _ c.in_ok-slot.ensures.taken)
+link_tail-requires-clause-last g c = rw (vec_len-nexts c.take_slot.new.links) (tail_within _ _ _ _ _ c.in_ok-slot.ensures.taken)
 
-after : (g : _) (c : goal.After-link_tail g) → IsChained (nexts c.link_tail.new.nodes.items) (prevs c.link_tail.new.nodes.items) (order_in c.self.inside.nodes.items c.self.inside.free.items ++ c.in_ok-slot.slot ∷ []) c.take_slot.new.free.items []
+after : (g : _) (c : goal.After-link_tail g) → IsChained (nexts c.link_tail.new.links.items) (prevs c.link_tail.new.links.items) (order_in c.self.inside.links.items c.self.inside.free.items ++ c.in_ok-slot.slot ∷ []) c.take_slot.new.free.items []
 after g c = rw (c.link_tail.ensures.next, c.link_tail.ensures.prev) (link_tail _ _ _ _ c.in_ok-slot.slot c.in_ok-slot.ensures.taken)
 
 pub invariant_of-self-2 : goal.invariant_of-self-2
-invariant_of-self-2 g c = let d = after g c in (rw (settled _ _ _ _ d) d, let r = c.take_slot.ensures.room in let l = c.link_tail.ensures.len in omega arith)
+invariant_of-self-2 g c = let d = after g c in
+    let p = c.take_slot.ensures.paired in
+    let r = c.take_slot.ensures.room in
+    let l = c.link_tail.ensures.len in
+    (rw (settled _ _ _ _ d) d, (omega arith, omega arith))
 
 pub returns-clause-index : goal.returns-clause-index
 returns-clause-index g c = settled _ _ _ _ (after g c) ∙ ap (λ v. v.order ++ c.in_ok-slot.slot ∷ []) c.self.view_is

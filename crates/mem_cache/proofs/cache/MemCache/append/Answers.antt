@@ -20,7 +20,7 @@ returns-in-Err-clause-answer g c =
     rw (← c.self.view_is) (rw (ended-seen (has c.self.inside.alive) c.args.number c.self.inside.flights.entries) c.in-Err.ensures.answer)
 
 pub invariant_of-self-2 : goal.invariant_of-self-2
-invariant_of-self-2 g c = sound-changed (has c.self.inside.alive) c.args.number (written c.args.more.now c.args.eof) c.self.inside.flights c.append.new.flights c.self.inside.next c.in_default.ensures.ok c.self.invariant
+invariant_of-self-2 g c = sound-changed (has c.self.inside.alive) c.args.number (written c.args.more c.args.eof) c.self.inside.flights c.append.new.flights c.self.inside.next c.in_default.ensures.ok c.self.invariant
 
 pub returns-clause-answer : goal.returns-clause-answer
 returns-clause-answer g c =
@@ -29,4 +29,4 @@ returns-clause-answer g c =
 pub returns-clause-ok : goal.returns-clause-ok
 returns-clause-ok g c =
     rw (← c.self.view_is) (held-written (bodies_of c.self.inside.bodies.entries) (flights_of (has c.self.inside.alive) c.append.new.flights.entries) (flights_of (has c.self.inside.alive) c.self.inside.flights.entries) c.self.inside.next
-    (readings_of c.self.inside.readers.entries) c.args.number c.args.more.now c.args.eof (c.in_default.ensures.ok.seen (has c.self.inside.alive)))
+    (readings_of c.self.inside.readers.entries) c.args.number c.args.more c.args.eof (c.in_default.ensures.ok.seen (has c.self.inside.alive)))

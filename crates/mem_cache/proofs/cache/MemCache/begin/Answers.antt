@@ -1,7 +1,6 @@
 use Rattle.std.proofs.Common.{◌+◌, refl, ◌∙◌, ap}
 use Rattle.mem_cache.specs.Alive.{has}
 use Rattle.mem_cache.specs.Kept.{flights_of, bodies_of, readings_of}
-use Rattle.mem_cache.specs.declared.flight.Buffer.TheVariants.{Open}
 use Rattle.mem_cache.proofs.HeldLaws.{held-flying, held-next}
 use Rattle.mem_cache.proofs.SeenLaws.{seen-alike, seen-push}
 use Rattle.mem_cache.proofs.StoreLaws.{fresh-number}
@@ -37,7 +36,7 @@ pub returns-clause-begun : goal.returns-clause-begun
 returns-clause-begun g c =
     rw (← c.self.view_is) (held-next (bodies_of c.self.inside.bodies.entries) _ _ (c.self.inside.next + 1) (c.self.inside.next + 1) (readings_of c.self.inside.readers.entries)
     (ap (flights_of (has c.add.new.alive)) c.in_default-put.ensures.ok.0
-    ∙ seen-push (has c.self.inside.alive) (has c.add.new.alive) c.args.key c.self.inside.next c.args.meta (Open c.new.result) c.self.inside.flights.entries c.in_default.ensures.ok c.self.invariant.below c.new.ensures.items)
+    ∙ seen-push (has c.self.inside.alive) (has c.add.new.alive) c.args.key c.self.inside.next c.args.meta c.new.result c.self.inside.flights.entries c.in_default.ensures.ok c.self.invariant.below c.new.ensures)
     refl)
 
 pub returns-clause-fresh : goal.returns-clause-fresh

@@ -31,9 +31,9 @@ invariant_of-self-2 g c =
       c.self.invariant.0,
       c.self.invariant.1,
       marks.1 c.self.inside.gathered.items c.self.invariant.2,
-      c.self.invariant.3,
-      omega (arith, same, long, c.spend_all.ensures.parts, c.self.invariant.4),
-      omega (arith, all, c.spend_all.ensures.amount, c.self.invariant.5),
+      c.audit.ensures.total ∙ c.self.invariant.3,
+      omega (arith, same, long, c.audit.ensures.parts, c.spend_all.ensures.parts, c.self.invariant.4),
+      omega (arith, all, c.audit.ensures.amount, c.spend_all.ensures.amount, c.self.invariant.5),
       c.self.invariant.6,
     )
 
@@ -49,6 +49,9 @@ returns-clause-counts g c =
       omega (arith, most, c.len-2.ensures, c.len-3.ensures, c.in-Ok.seats.ok.0, c.spend_all.new.gathered.ok.0),
       omega (arith, c.len-4.ensures, c.self.inside.history.ok.0),
     )
+
+pub returns-clause-held : goal.returns-clause-held
+returns-clause-held g c = omega (arith, c.spend_all.ensures.amount, c.audit.ensures.bound, c.self.invariant.3, c.len-4.ensures, c.self.inside.history.ok.0)
 
 pub returns-in-Err-clause-differs : goal.returns-in-Err-clause-differs
 returns-in-Err-clause-differs g c =

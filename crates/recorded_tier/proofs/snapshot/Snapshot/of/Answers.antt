@@ -38,7 +38,7 @@ returns-in_err-texts-clause-long g c =
 
 pub returns-clause-opens : goal.returns-clause-opens
 returns-clause-opens g c = record {
-  is_new = c.requires.new;
+  only_order = c.requires.only_order;
   made = c.requires.made;
   sharded = rw c.manager.ensures.same at c.in_ok-texts.ensures.sharded;
   texts = rw c.manager.ensures.same at c.in_ok-texts.ensures.texts;

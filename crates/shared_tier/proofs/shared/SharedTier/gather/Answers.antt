@@ -10,4 +10,4 @@ pub drop-lock-requires-room-T-Destruct : goal.drop-lock-requires-room-T-Destruct
 drop-lock-requires-room-T-Destruct g c = λ κs below. locked_room (param 0 (number g.row.N)) (param 1 g.row.R) (param 2 g.row.L) (param 3 g.row.S) (param 4 g.row.S-Hasher) g.R.Rng g.L.Ledger g.S.BuildHasher g.S.Hasher.Hasher assumption
 
 pub returns : goal.returns
-returns g c = record { back = first-err _ _ c.gather.result c.gather.ensures.err }
+returns g c = record { held = c.gather.ensures.held; back = first-err _ _ c.gather.result c.gather.ensures.err }

@@ -1,21 +1,8 @@
 use Rattle.std.proofs.Common.{refl, false}
 use Rattle.tier_requests.proofs.EndLaws.{shelf-spent}
 use Rattle.tier_requests.proofs.FindLaws.{taken-parts}
-use Rattle.tier_requests.proofs.TakeLaws.{taken-stale, driven-found, found-taken, found-uncounted, found-unlocked, found-unused}
+use Rattle.tier_requests.proofs.TakeLaws.{taken-stale, driven-found, found-taken, found-unlocked, found-unused}
 use Rattle.tier_requests.proofs.request.Request.found_stale.Goals as goal
-
-pub returns-in-Err-Memory-clause-answer : goal.returns-in-Err-Memory-clause-answer
-returns-in-Err-Memory-clause-answer g c = λ l by.
-    let r = c.self.inside in
-    let up = rw c.in-Err-Memory.field-0-is at c.in-Err-Memory.ensures.found in
-    let uses = rw c.in-Err-Memory.field-0-is at c.in-Err-Memory.ensures.used in
-    rw (c.out_of_memory-in-Err-Memory.ensures, ← c.self.view_is) (found-uncounted g.E.EvictionManager.shard_count g.E.EvictionManager.weighed c.args.moment r.cache r.asks r.wait r.gave_read r.unread l c.args.hit false
-    (record { driven = c.self.invariant; may = rw (← c.self.view_is) at c.requires; by = by })
-    (g.E.EvictionManager.managed c.args.parts.now.manager) (g.E.EvictionManager.managed c.cache_found.new.parts.manager)
-    c.args.parts.now.lock c.cache_found.new.parts.lock c.cache_found.new.self up.request up.lock.0 uses.1)
-
-pub returns-in-Err-Memory-clause-shelf : goal.returns-in-Err-Memory-clause-shelf
-returns-in-Err-Memory-clause-shelf g c = taken-parts c.args.hit c.take_body.new.hit c.in-Ok.unread c.args.parts.now.store c.cache_found.new.parts.store c.in-Ok.ensures c.in-Err-Memory.ensures.found.store
 
 pub returns-in-Err-Lock-clause-answer : goal.returns-in-Err-Lock-clause-answer
 returns-in-Err-Lock-clause-answer g c = λ l by.

@@ -1,0 +1,5 @@
+pub mod Numbering
+pub mod Renaming
+pub mod KeyedLaws
+pub mod LineLaws
+pub mod Halfway

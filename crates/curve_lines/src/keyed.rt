@@ -1,0 +1,90 @@
+//! A curve that is fed requests by their keys.
+ghost use Rattle.std.specs.Prelude.{◌≡◌, ℕ, ◌<◌, ◌≤◌, List, [], ◌∷◌, length, slice_index_or, map, IfOk, OnOk};
+ghost use Rattle.size_curve.specs.Requests.{Request, asks, removes};
+ghost use Rattle.size_curve.specs.Rows.{empty_row, limits_of};
+ghost use Rattle.size_curve.specs.Numbers.{mark_of};
+ghost use Rattle.curve_lines.specs.Keys.{keyed, number_of, IsFedKeys, IsNumbered};
+
+use lru_core::SeededState;
+use size_curve::{CurveFault, Row, SizeCurve, Totals};
+use std::alloc::{AllocError, Global};
+use std::collections::HashMap;
+
+/// What caches find of requests by keys, as they go on. Each key has a number; the hashes of the keys start as the caller says.
+#[derive(Drop)]
+pub struct KeyedCurve {
+    curve: SizeCurve,
+    numbers: HashMap<Vec<u8>, u32, SeededState>,
+}
+
+impl KeyedCurve {
+    /// A curve at these limits that was fed nothing.
+    pub fn new(
+        alloc: Global,
+        hasher: SeededState,
+        limits: &[u64],
+        watermark: Option<u64>,
+    ) -> Result<KeyedCurve, AllocError>
+        requires { (i j : ℕ) (d : ℕ) → i ≤ j → j < length limits.now → slice_index_or limits.now i d ≤ slice_index_or limits.now j d }
+        ensures fed { IfOk result (λ c. IsFedKeys c []) }
+        ensures table { IfOk result (λ c. c.curve.table ≡ map empty_row limits.now) }
+        ensures mark { IfOk result (λ c. mark_of c.curve.watermark ≡ watermark) }
+    {
+        let numbers = HashMap::with_hasher(alloc, hasher);
+        let curve = SizeCurve::new(alloc, limits, watermark)?;
+        Ok(KeyedCurve { curve, numbers })
+    }
+
+    /// Counts a request that asks for a key.
+    pub fn ask(&mut self, alloc: Global, key: &[u8], weight: u64) -> Result<(), CurveFault>
+        requires { (requests : List Request) × IsFedKeys self.old requests }
+        ensures fed { OnOk result ((requests : List Request) → IsFedKeys self.old requests → IsFedKeys self.new (asks (keyed key.now) weight ∷ requests)) }
+        ensures mark { OnOk result (mark_of self.new.curve.watermark ≡ mark_of self.old.curve.watermark) }
+        ensures limits { OnOk result (limits_of self.new.curve.table ≡ limits_of self.old.curve.table) }
+    {
+        let number = number_for(&mut self.numbers, alloc, key, self.curve.entries())?;
+        self.curve.ask(alloc, number, weight)?;
+        Ok(())
+    }
+
+    /// Counts the removal of a key. Nothing is done where it wasn't asked for.
+    pub fn remove(&mut self, alloc: Global, key: &[u8]) -> Result<(), CurveFault>
+        requires { (requests : List Request) × IsFedKeys self.old requests }
+        ensures fed { OnOk result ((requests : List Request) → IsFedKeys self.old requests → IsFedKeys self.new (removes (keyed key.now) ∷ requests)) }
+        ensures mark { OnOk result (mark_of self.new.curve.watermark ≡ mark_of self.old.curve.watermark) }
+        ensures limits { OnOk result (limits_of self.new.curve.table ≡ limits_of self.old.curve.table) }
+    {
+        if let Some(number) = self.numbers.get(key) {
+            self.curve.remove(alloc, *number)?;
+        }
+        Ok(())
+    }
+
+    /// The curve by numbers.
+    pub fn curve(&self) -> &SizeCurve
+        ensures { result.now ≡ self.now.curve }
+    {
+        &self.curve
+    }
+}
+
+// The number of a key; the next one where it has none.
+fn number_for(
+    numbers: &mut HashMap<Vec<u8>, u32, SeededState>,
+    alloc: Global,
+    key: &[u8],
+    next: usize,
+) -> Result<u32, CurveFault>
+    ensures { IfOk result (λ n. IsNumbered (number_of numbers.old) (number_of numbers.new) key.now next n) }
+{
+    if let Some(number) = numbers.get(key) {
+        return Ok(*number);
+    }
+    let Ok(number) = u32::try_from(next) else {
+        return Err(CurveFault::TooMany);
+    };
+    let mut owned = Vec::with_capacity(alloc, key.len())?;
+    owned.extend_from_slice(key)?;
+    numbers.insert(owned, number)?;
+    Ok(number)
+}

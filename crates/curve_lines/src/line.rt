@@ -1,0 +1,154 @@
+//! Lines of requests.
+ghost use Rattle.std.specs.Prelude.{◌≡◌, ℕ, List, IfOk, OnOk, is_some, length, ◌≤◌};
+ghost use Rattle.std.specs.List.{prefix_len};
+ghost use Rattle.size_curve.specs.Requests.{Request};
+ghost use Rattle.size_curve.specs.Rows.{limits_of};
+ghost use Rattle.size_curve.specs.Numbers.{mark_of};
+ghost use Rattle.curve_lines.specs.Keys.{keyed, IsFedKeys};
+ghost use Rattle.curve_lines.specs.Lines.{is_blank, is_dark, is_digit, after_blanks, word_of, after_word, words_in, number_from, weighed, size_in, request_for, request_in};
+ghost use Rattle.curve_lines.specs.Runs.{onto};
+
+use crate::keyed::KeyedCurve;
+use size_curve::CurveFault;
+use std::alloc::Global;
+
+// What the size of a line says.
+#[derive(Clone, Copy)]
+pub(crate) enum Size {
+    // The key is removed.
+    Removal,
+    // The key is asked for, and weighs so much.
+    Weight(u64),
+    // No size.
+    Wrong,
+}
+
+fn is_blank(byte: u8) -> bool
+    ensures { result ≡ is_blank byte }
+{
+    byte == b' ' || byte == b'\t' || byte == b'\r'
+}
+
+// A text after its first blanks.
+fn after_blanks(text: &[u8]) -> &[u8]
+    ensures { result.now ≡ after_blanks text.now }
+{
+    let mut count = 0;
+    for byte in text {
+        if !is_blank(*byte) {
+            break;
+        }
+        count += 1;
+    }
+    &text[count..]
+}
+
+// How many bytes the first word has.
+fn word_len(text: &[u8]) -> usize
+    ensures len { result ≡ prefix_len is_dark text.now }
+    ensures within { result ≤ length text.now }
+{
+    let mut count = 0;
+    for byte in text {
+        if is_blank(*byte) {
+            break;
+        }
+        count += 1;
+    }
+    count
+}
+
+// A text after its first word and the blanks that follow.
+fn after_word(text: &[u8]) -> &[u8]
+    ensures { result.now ≡ after_word text.now }
+{
+    after_blanks(&text[word_len(text)..])
+}
+
+// The first word of a text.
+fn word_of(text: &[u8]) -> &[u8]
+    ensures { result.now ≡ word_of text.now }
+{
+    &text[..word_len(text)]
+}
+
+// The number that digits give.
+pub(crate) fn number(word: &[u8]) -> Option<u64>
+    ensures { result ≡ number_from 0 word.now }
+{
+    let mut number: u64 = 0;
+    for digit in word {
+        if *digit < b'0' || *digit > b'9' {
+            return None;
+        }
+        number = number
+            .checked_mul(10)?
+            .checked_add(u64::from(*digit - b'0'))?;
+    }
+    Some(number)
+}
+
+// What an entry of so many bytes weighs.
+fn weighed(overhead: u64, bytes: Option<u64>) -> Size
+    ensures { result ≡ weighed overhead bytes }
+{
+    let Some(bytes) = bytes else {
+        return Size::Wrong;
+    };
+    match overhead.checked_add(bytes) {
+        None => Size::Wrong,
+        Some(weight) => Size::Weight(weight.max(1)),
+    }
+}
+
+fn size_of(overhead: u64, word: &[u8]) -> Size
+    ensures { result ≡ size_in overhead word.now }
+{
+    if word == b"-".as_slice() {
+        return Size::Removal;
+    }
+    weighed(overhead, number(word))
+}
+
+// Feeds a request of that key and size, and returns whether it is one.
+fn add(curve: &mut KeyedCurve, alloc: Global, key: &[u8], size: Size) -> Result<bool, CurveFault>
+    requires { (requests : List Request) × IsFedKeys curve.old requests }
+    ensures fed { OnOk result ((requests : List Request) → IsFedKeys curve.old requests → IsFedKeys curve.new (onto (request_for key.now size) requests)) }
+    ensures told { IfOk result (λ yes. yes ≡ is_some (request_for key.now size)) }
+    ensures mark { OnOk result (mark_of curve.new.curve.watermark ≡ mark_of curve.old.curve.watermark) }
+    ensures limits { OnOk result (limits_of curve.new.curve.table ≡ limits_of curve.old.curve.table) }
+{
+    match size {
+        Size::Wrong => Ok(false),
+        Size::Removal => {
+            curve.remove(alloc, key)?;
+            Ok(true)
+        }
+        Size::Weight(weight) => {
+            curve.ask(alloc, key, weight)?;
+            Ok(true)
+        }
+    }
+}
+
+// Feeds the request of a line, and returns whether it has one.
+pub(crate) fn add_line(
+    curve: &mut KeyedCurve,
+    alloc: Global,
+    overhead: u64,
+    line: &[u8],
+) -> Result<bool, CurveFault>
+    requires { (requests : List Request) × IsFedKeys curve.old requests }
+    ensures fed { OnOk result ((requests : List Request) → IsFedKeys curve.old requests → IsFedKeys curve.new (onto (request_in overhead line.now) requests)) }
+    ensures told { IfOk result (λ yes. yes ≡ is_some (request_in overhead line.now)) }
+    ensures mark { OnOk result (mark_of curve.new.curve.watermark ≡ mark_of curve.old.curve.watermark) }
+    ensures limits { OnOk result (limits_of curve.new.curve.table ≡ limits_of curve.old.curve.table) }
+{
+    let second = after_word(after_blanks(line));
+    let third = after_word(second);
+    if third.is_empty() || !after_word(third).is_empty() {
+        return Ok(false);
+    }
+    let size = size_of(overhead, word_of(third));
+    add(curve, alloc, word_of(second), size)
+}

@@ -1,0 +1,146 @@
+//! The text of what was found.
+ghost use Rattle.std.specs.Prelude.{◌≡◌, ◌++◌, ℕ, IfOk, OnOk, length, string_bytes};
+ghost use Rattle.std.specs.Io.KnownBytes.{Appends};
+ghost use Rattle.curve_lines.specs.Texts.{hundredths, percent_text, counts_text, row_text, rows_text, requests_text, lines_text, kind_text, curve_text};
+
+use crate::fault::RunFault;
+use crate::read::Found;
+use size_curve::{Row, Totals};
+use std::alloc::{AllocError, Global};
+use std::io::Write;
+
+// Hundredths of a percent, cut off.
+fn hundredths(part: u128, whole: u128) -> Result<u128, RunFault>
+    ensures { IfOk result (λ n. n ≡ hundredths part whole) }
+{
+    if whole == 0 {
+        return Ok(0);
+    }
+    match part.checked_mul(10000) {
+        None => Err(RunFault::TooMany),
+        Some(scaled) => Ok(scaled / whole),
+    }
+}
+
+// Hundredths of a percent as a text.
+fn percent(alloc: Global, n: u128) -> Result<String, AllocError>
+    ensures { IfOk result (λ text. string_bytes text ≡ percent_text n) }
+{
+    let whole = n / 100;
+    let tens = n % 100 / 10;
+    let ones = n % 10;
+    format!(in alloc; "{whole}.{tens}{ones}")
+}
+
+// The numbers of a row.
+fn counts(alloc: Global, row: Row) -> Result<String, AllocError>
+    ensures { IfOk result (λ text. string_bytes text ≡ counts_text row) }
+{
+    let limit = row.limit;
+    let finds = row.finds;
+    let bytes = row.bytes;
+    format!(in alloc; "{limit},{finds},{bytes},")
+}
+
+// Adds a text.
+fn add(text: &mut Vec<u8>, more: &str) -> Result<(), AllocError>
+    ensures { OnOk result (text.new.items ≡ text.old.items ++ more.now) }
+{
+    text.extend_from_slice(more.as_bytes())?;
+    Ok(())
+}
+
+// Adds the line of a row.
+fn add_row(alloc: Global, text: &mut Vec<u8>, row: Row, totals: Totals) -> Result<(), RunFault>
+    ensures { OnOk result (text.new.items ≡ text.old.items ++ row_text totals.asks totals.bytes row) }
+{
+    let a = hundredths(u128::from(row.finds), u128::from(totals.asks))?;
+    let b = hundredths(row.bytes, totals.bytes)?;
+    add(text, counts(alloc, row)?.as_str())?;
+    add(text, percent(alloc, a)?.as_str())?;
+    add(text, ",")?;
+    add(text, percent(alloc, b)?.as_str())?;
+    add(text, "\n")?;
+    Ok(())
+}
+
+// Adds the lines of the rows.
+fn add_rows(alloc: Global, text: &mut Vec<u8>, rows: &[Row], totals: Totals) -> Result<(), RunFault>
+    ensures { OnOk result (text.new.items ≡ text.old.items ++ rows_text totals.asks totals.bytes rows.now) }
+{
+    for row in rows {
+        add_row(alloc, text, *row, totals)?;
+    }
+    Ok(())
+}
+
+// How many requests, entries and removals there were.
+fn requests_line(alloc: Global, totals: Totals, entries: usize) -> Result<String, AllocError>
+    ensures { IfOk result (λ text. string_bytes text ≡ requests_text totals entries) }
+{
+    let asks = totals.asks;
+    let removed = totals.removed;
+    format!(in alloc; "# requests={asks} entries={entries} removed={removed}")
+}
+
+// What was odd, and how many bytes were asked for.
+fn lines_line(alloc: Global, totals: Totals, wrong: u64) -> Result<String, AllocError>
+    ensures { IfOk result (λ text. string_bytes text ≡ lines_text totals wrong) }
+{
+    let odd = totals.odd;
+    let bytes = totals.bytes;
+    format!(in alloc; " odd={odd} passed_over={wrong} bytes={bytes}\n")
+}
+
+// The line that says what the rows are.
+fn kind_line(alloc: Global, odd: u64) -> Result<String, AllocError>
+    ensures { IfOk result (λ text. string_bytes text ≡ kind_text odd) }
+{
+    if odd == 0 {
+        return format!(in alloc; "# exact: one shard, each entry has one length\n");
+    }
+    format!(in alloc;
+        "# estimate: one shard; requests by another length than their entry's first: {odd}\n"
+    )
+}
+
+// The text of a curve.
+fn text_of(
+    alloc: Global,
+    rows: &[Row],
+    totals: Totals,
+    entries: usize,
+    wrong: u64,
+) -> Result<Vec<u8>, RunFault>
+    ensures { IfOk result (λ text. text.items ≡ curve_text rows.now totals entries wrong) }
+{
+    let mut text = Vec::new(alloc);
+    add(
+        &mut text,
+        "limit,finds,bytes_found,requests_percent,bytes_percent\n",
+    )?;
+    add_rows(alloc, &mut text, rows, totals)?;
+    add(&mut text, requests_line(alloc, totals, entries)?.as_str())?;
+    add(&mut text, lines_line(alloc, totals, wrong)?.as_str())?;
+    add(&mut text, kind_line(alloc, totals.odd)?.as_str())?;
+    Ok(text)
+}
+
+/// Writes what was found: a head, a line for each limit, the totals, and a last line that says whether the rows are exact.
+pub fn report<W: Write>(alloc: Global, writer: &mut W, found: &Found) -> Result<(), RunFault>
+    ensures { OnOk result (Appends (W.contents writer.old) (W.contents writer.new)
+        (curve_text found.now.curve.curve.table found.now.curve.curve.totals (length found.now.curve.curve.weights.items) found.now.wrong)) }
+{
+    let curve = found.curve.curve();
+    let rows = curve.rows(alloc)?;
+    let text = text_of(
+        alloc,
+        rows.as_slice(),
+        curve.totals(),
+        curve.entries(),
+        found.wrong,
+    )?;
+    writer.write_all(text.as_slice())?;
+    writer.flush()?;
+    Ok(())
+}

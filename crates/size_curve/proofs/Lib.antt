@@ -1,0 +1,4 @@
+pub mod TableLaws
+pub mod CellPlaces
+pub mod FedLaws
+pub mod Feeding

@@ -1,0 +1,25 @@
+use Rattle.std.proofs.Common.{◌≡◌, ℕ, ◌∷◌, [], List, map, Option, Some, None, arith, sym, ap, length, ◌∙◌, refl, subst}
+use Rattle.std.specs.Prelude.{IfSome}
+use Rattle.size_curve.specs.declared.row.Row.{Row}
+use Rattle.size_curve.specs.declared.watermark.Watermark.{Watermark}
+use Rattle.size_curve.specs.Rows.{empty_row}
+use Rattle.size_curve.specs.Requests.{AreFound}
+use Rattle.size_curve.specs.Numbers.{mark_of}
+use Rattle.cache_entries.specs.declared.entry.CacheEntryKey.{CacheEntryKey}
+use Rattle.size_curve.proofs.curve.SizeCurve.new.Goals as goal
+
+nothing : (weight : CacheEntryKey → ℕ) (mark : Option ℕ) (limits : List ℕ) → AreFound weight mark [] (map empty_row limits)
+nothing weight mark [] = tt
+nothing weight mark (l ∷ limits) = ((refl, refl), nothing weight mark limits)
+
+pub returns-clause-fed : goal.returns-clause-fed
+returns-clause-fed c = record {
+    numbers = tt;
+    first = λ weight a n l. absurd (omega (arith, l, ap (λ (xs : List ℕ). length xs) c.new-3.ensures.items));
+    shown = λ weight a. record {
+      places = c.new-2.ensures;
+      marked = c.marked.ensures.none;
+      rows = subst (AreFound weight (mark_of c.marked.result) []) (sym c.in_ok-new.ensures) (nothing weight (mark_of c.marked.result) c.args.limits.now);
+      totals = record { asked = refl; removed = refl; odd = refl; bytes = refl }
+    }
+  }

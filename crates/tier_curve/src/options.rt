@@ -1,0 +1,142 @@
+//! The options of the command line.
+use clap::{Arg, ArgMatches, Command};
+use curve_lines::{RunFault, is_rising, size};
+use std::alloc::{AllocError, AllocFailed, Global};
+use std::rt::Env;
+use std::{env, io};
+use thiserror::Error;
+
+const ABOUT: &str =
+    "Reads requests on standard input, a line each: a time, a key, and the bytes of its body, or a dash where the key is removed. Writes how many requests caches of each limit find, and how many bytes, as CSV.";
+
+const STATUSES: &str =
+    "Exit status: 0; 1 on an I/O error or out of memory; 2 on a bad command line.";
+
+/// What is asked for.
+#[derive(Drop)]
+pub struct Options {
+    /// The limits, none greater than a later one.
+    pub limits: Vec<u64>,
+    /// The most entries that a cache tracks, if their number has a bound.
+    pub watermark: Option<u64>,
+    /// What each entry takes beside its body.
+    pub overhead: u64,
+}
+
+/// Why the program ended early.
+#[derive(Debug, Drop, Error)]
+pub enum Fault {
+    /// The words are no command line of the program, or ask for help or the version.
+    #[error("{0}")]
+    CommandLine(clap::Error),
+    /// The value of an option is none that it may have.
+    #[error("{0}")]
+    Wrong(&'static str),
+    /// The run ended early.
+    #[error("{0}")]
+    Run(RunFault),
+}
+
+impl From<io::Error> for Fault {
+    fn from(error: io::Error) -> Fault {
+        Fault::Run(RunFault::from(error))
+    }
+}
+
+impl From<AllocError> for Fault {
+    fn from(_error: AllocError) -> Fault {
+        Fault::Run(RunFault::Memory)
+    }
+}
+
+impl<T: Drop> From<AllocFailed<T>> for Fault {
+    fn from(_error: AllocFailed<T>) -> Fault {
+        Fault::Run(RunFault::Memory)
+    }
+}
+
+impl From<clap::Error> for Fault {
+    fn from(error: clap::Error) -> Fault {
+        match error.kind() {
+            clap::error::ErrorKind::OutOfMemory => Fault::Run(RunFault::Memory),
+            _ => Fault::CommandLine(error),
+        }
+    }
+}
+
+fn option<'a>(
+    alloc: Global,
+    name: &'static str,
+    value: &'static str,
+    help: &'static str,
+) -> Arg<'a> {
+    Arg::new(alloc, name)
+        .long(name)
+        .value_name(value)
+        .help(help)
+}
+
+fn command<'a>(alloc: Global) -> Result<Command<'a>, AllocError> {
+    let limits = "The limits in bytes, as 1M,10M,1G: from the least to the greatest";
+    let watermark = "The most entries that a cache tracks [default: no bound]";
+    let overhead = "What each entry takes beside its body, in bytes [default: 0]";
+    Command::new(alloc, "tier-curve")
+        .version("0.1.0")
+        .about(ABOUT)
+        .after_help(STATUSES)
+        .arg(option(alloc, "limits", "SIZES", limits).required(true))?
+        .arg(option(alloc, "watermark", "ENTRIES", watermark))?
+        .arg(option(alloc, "overhead", "BYTES", overhead))
+}
+
+// The size that an option says, where it is given.
+fn size_of(
+    matches: &ArgMatches<'_>,
+    name: &'static str,
+    wrong: &'static str,
+) -> Result<Option<u64>, Fault> {
+    let Some(text) = matches.get_str(name) else {
+        return Ok(None);
+    };
+    match size(text.as_bytes()) {
+        Some(number) => Ok(Some(number)),
+        None => Err(Fault::Wrong(wrong)),
+    }
+}
+
+const WRONG_LIMITS: &str =
+    "--limits: sizes such as 1M,10M,1G are wanted, from the least to the greatest";
+
+// The sizes of a list, apart by commas.
+fn sizes(alloc: Global, text: &str) -> Result<Vec<u64>, Fault> {
+    let mut all = Vec::new(alloc);
+    for word in text.as_bytes().split(|byte| *byte == b',') {
+        let Some(number) = size(word) else {
+            return Err(Fault::Wrong(WRONG_LIMITS));
+        };
+        all.push(number)?;
+    }
+    Ok(all)
+}
+
+fn options_in(alloc: Global, matches: &ArgMatches<'_>) -> Result<Options, Fault> {
+    let limits = sizes(alloc, matches.get_str("limits").unwrap_or(""))?;
+    if !is_rising(limits.as_slice()) {
+        return Err(Fault::Wrong(WRONG_LIMITS));
+    }
+    let watermark = size_of(matches, "watermark", "--watermark: a number is wanted")?;
+    let overhead = size_of(matches, "overhead", "--overhead: a number is wanted")?;
+    Ok(Options {
+        limits,
+        watermark,
+        overhead: overhead.unwrap_or(0),
+    })
+}
+
+/// The options of the program's own command line.
+pub fn read_options<R: Env + AllocGlobal>(rt: &R) -> Result<Options, Fault> {
+    let alloc = rt.alloc();
+    let words: Vec<String> = env::args(rt)?.collect(alloc)?;
+    let matches = command(alloc)?.try_get_matches_from(words.as_slice())?;
+    options_in(alloc, &matches)
+}

@@ -1,0 +1,130 @@
+#!/usr/bin/env python3
+"""Shows for wrong bodies an input on which they answer otherwise: applies each to a copy of the sources, builds it without a proof, and runs what is to fail.
+
+usage: scripts/wrong-bodies.py [NAME..]
+
+A wrong body is a named one, an edit of crates/*/must-fail, of which a line of wrong-bodies/index.txt says what fails; or one that no contract refuses and a test does,
+an edit of wrong-bodies/ with two lines more: 'crate: NAME', and 'test: ' with what fails. That is
+
+    traces                of traces/, replayed by tier-replay, some are answered otherwise
+    CRATE stdout          the program CRATE writes something else than its file stdout
+    CRATE TEST            of the crate of tests CRATE that test
+
+Without names all are tried; each takes two to four processor minutes. It prints a line for each, and fails where one is not shown or a named wrong body has no line.
+A proof that is refused says that contract and proof no longer fit; an answer that is wrong shows that the body is.
+"""
+import os
+import re
+import shutil
+import subprocess
+import sys
+import tempfile
+
+sys.dont_write_bytecode = True
+TOP = os.path.dirname(os.path.dirname(os.path.realpath(__file__)))
+sys.path.insert(0, os.path.join(TOP, "scripts", "judge"))
+
+import sources  # noqa: E402
+
+BODIES = os.path.join(TOP, "wrong-bodies")
+TRACES = os.path.join(TOP, "traces")
+
+
+def rows():
+    """Gives of each wrong body the crate that is edited, its name, the text of its edit and the words of what fails."""
+    for line in sources.read(os.path.join(BODIES, "index.txt")).splitlines():
+        crate, name, *how = line.split()
+        yield crate, name, sources.read(os.path.join(TOP, "crates", crate, "must-fail", name + ".edit")), how
+    for file in sorted(os.listdir(BODIES)):
+        if file.endswith(".edit"):
+            lines = sources.read(os.path.join(BODIES, file)).splitlines()
+            said = dict(it.split(": ", 1) for it in lines if it.startswith(("crate: ", "test: ")))
+            edit = "\n".join(it for it in lines if not it.startswith(("crate: ", "test: ")))
+            yield said["crate"], file[: -len(".edit")], edit, said["test"].split()
+
+
+def missing():
+    """The named wrong bodies that no line of the index shows."""
+    listed = {(crate, name) for crate, name, _, _ in rows()}
+    crates = os.path.join(TOP, "crates")
+    for crate in sorted(os.listdir(crates)):
+        folder = os.path.join(crates, crate, "must-fail")
+        for edit in sorted(os.listdir(folder)) if os.path.isdir(folder) else []:
+            if (crate, edit[: -len(".edit")]) not in listed:
+                yield f"{crate} {edit}"
+
+
+def copied(room, crate, edit):
+    """Copies the sources, and applies the edit there."""
+    left_out = shutil.ignore_patterns("out", "must-fail")
+    shutil.copytree(os.path.join(TOP, "crates"), os.path.join(room, "crates"), ignore=left_out)
+    for name in ("crates.txt", "HANDLES"):
+        shutil.copy(os.path.join(TOP, name), room)
+    pairs = sources.pairs_of(edit)
+    folder = os.path.join(room, "crates", crate)
+    texts = {path: sources.read(os.path.join(folder, path)) for path, _, _ in pairs}
+    for path, text in sources.applied(pairs, texts).items():
+        with open(os.path.join(folder, path), "w", encoding="utf-8") as it:
+            it.write(text)
+
+
+def tried(room, crate, words):
+    ran = subprocess.run(["rt", "try", *words], cwd=os.path.join(room, "crates", crate), stdin=subprocess.DEVNULL, stdout=subprocess.PIPE, stderr=subprocess.STDOUT, text=True)
+    return ran.returncode, ran.stdout
+
+
+def write_cases(folder):
+    os.mkdir(folder)
+    for line in sources.read(os.path.join(TRACES, "index.txt")).splitlines():
+        name, *words = line.split()
+        case = os.path.join(folder, name.replace("/", "--"))
+        shutil.copy(os.path.join(TRACES, name + ".jsonl"), case)
+        shutil.copy(os.path.join(TRACES, name + ".out"), case + ".stdout")
+        with open(case + ".args", "w", encoding="ascii") as it:
+            it.write("".join(word + "\n" for word in words))
+
+
+def shown_by_traces(room):
+    cases = os.path.join(room, "cases")
+    write_cases(cases)
+    status, said = tried(room, "tier_replay", ["--seconds", "600", "--cases", cases])
+    wrong = re.findall(r"(?m)^case=(\S+) .*\boutput=differs\b", said)
+    return status == 5 and wrong, f"{len(wrong)} traces are answered otherwise, as {wrong[0].replace('--', '/')}" if wrong else said[-600:]
+
+
+def shown_by_output(room, crate):
+    wanted = sources.read(os.path.join(TOP, "crates", crate, "stdout"))
+    ran = subprocess.run(["rt", "try", "--seconds", "600"], cwd=os.path.join(room, "crates", crate), stdin=subprocess.DEVNULL, stdout=subprocess.PIPE, stderr=subprocess.PIPE, text=True)
+    lines = [it for it in wanted.splitlines() if it not in ran.stdout]
+    return ran.returncode not in (1, 2, 3) and lines, f"{crate} doesn't write: {lines[0]}" if lines else ran.stderr[-600:]
+
+
+def shown_by_test(room, crate, test):
+    status, said = tried(room, crate, ["--test"])
+    failed = re.search(rf"(?m)^.*\b{re.escape(test)}\b.*$", said)
+    return status not in (0, 1, 2, 3) and failed, f"{crate}: {test} fails" if failed else said[-600:]
+
+
+def shown(room, how):
+    if how == ["traces"]:
+        return shown_by_traces(room)
+    return shown_by_output(room, how[0]) if how[1] == "stdout" else shown_by_test(room, *how)
+
+
+def main():
+    lost = list(missing())
+    for it in lost:
+        print(f"{it}: no line of wrong-bodies/index.txt")
+    asked, unshown = set(sys.argv[1:]), 0
+    for crate, name, edit, how in rows():
+        if asked and name not in asked:
+            continue
+        with tempfile.TemporaryDirectory() as room:
+            copied(room, crate, edit)
+            is_shown, what = shown(room, how)
+        unshown += not is_shown
+        print(f"{crate} {name}: {'shown' if is_shown else 'NOT SHOWN'}: {what}", flush=True)
+    sys.exit(bool(lost or unshown))
+
+
+main()
