@@ -101,7 +101,7 @@ def shown_by_output(room, crate):
 
 def shown_by_test(room, crate, test):
     status, said = tried(room, crate, ["--test"])
-    failed = re.search(rf"(?m)^.*\b{re.escape(test)}\b.*$", said)
+    failed = re.search(rf"(?m)\b{re.escape(test)}\b \.\.\. FAILED", said)
     return status not in (0, 1, 2, 3) and failed, f"{crate}: {test} fails" if failed else said[-600:]
 
 

@@ -98,12 +98,13 @@ fn a_refused_start_asks_for_no_stated_length(rt: HostRuntime) {
     assert!(rt; matches!(came, Came::Short | Came::Cut | Came::Refused));
 }
 
-// Whether the file is old or whole after a save that may be refused, and whole after the next.
+// Whether the file is old or whole after a save that may be refused, and whole after the next, under another word: no save writes over
+// a temporary file.
 fn saves(tier: &Tier<1>, folder: MemFolder) -> bool {
     let (told, folder) = save(tier, folder, &[7], Plan::Never);
     let is_old = told != Told::Report(1, 0) && folder.bytes(FILE) == Some(BA);
     let is_left = is_old || folder.bytes(FILE) == Some(CBA);
-    let (_, folder) = save(tier, folder, &[7], Plan::Never);
+    let (_, folder) = save(tier, folder, &[8], Plan::Never);
     is_left && folder.bytes(FILE) == Some(CBA)
 }
 

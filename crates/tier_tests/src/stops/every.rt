@@ -109,5 +109,12 @@ fn every_stop_at_four_shards_leaves_each_file_old_or_whole(rt: HostRuntime) {
 #[test]
 fn every_stop_at_sixteen_shards_leaves_each_file_old_or_whole(rt: HostRuntime) {
     let words = [7, 8, 9, 7, 8, 9, 7, 8, 9, 7, 8, 9, 7, 8, 9, 7];
-    assert!(rt; stops_of_all::<16>(rt.alloc(), &words) == 82 + 110 + 729);
+    assert!(rt; stops::<16>(rt.alloc(), &words, b"") == 82);
+    assert!(rt; stops::<16>(rt.alloc(), &words, b"a") == 110);
+}
+
+#[test]
+fn every_stop_at_sixteen_shards_of_20_rows_leaves_each_file_old_or_whole(rt: HostRuntime) {
+    let words = [7, 8, 9, 7, 8, 9, 7, 8, 9, 7, 8, 9, 7, 8, 9, 7];
+    assert!(rt; stops::<16>(rt.alloc(), &words, b"abcdefghijklmnopqrst") == 729);
 }

@@ -2,18 +2,21 @@ use denote.Param.{layout, number, param}
 use mir.Syntax.{Ty}
 use prog.Memory.{size}
 use Rattle.recorded_tier.specs.contracts.recorded.Recorded.{the_row as recorded_row}
-use Rattle.std.proofs.Common.{◌<◌, ◌^◌, ◌≡◌, ◌+◌, ◌∷◌, ◌++◌, List, [], Err, length, arith, sym, ap, ◌∙◌}
+use Rattle.std.proofs.Common.{ℕ, ◌<◌, ◌^◌, ◌≡◌, ◌+◌, ◌∷◌, ◌++◌, List, [], Err, length, arith, sym, ap, ◌∙◌}
 use Rattle.recorded_tier.specs.declared.history.Own.{Own}
 use Rattle.recorded_tier.specs.Seats.{PassState}
 use Rattle.recorded_tier.proofs.Matched.{matched}
 use Rattle.recorded_tier.proofs.pass.Pass.step.Goals as goal
 
+-- what is one is not none
+some : (n : ℕ) → n ≡ 1 → 0 < n
+some n one = omega (arith, one)
+
 pub record-requires : goal.record-requires
 record-requires g c =
     let whole : Ty = layout (recorded_row (param 1 (number g.row.N)) (param 2 g.row.R) (param 0 g.row.L) (param 3 g.row.S) (param 4 g.row.S-Hasher) g.R.Rng g.L.Ledger g.S.BuildHasher g.S.Hasher.Hasher) in
     let room : size whole < 2 ^ 63 = assumption in
-    let one = c.self.invariant.0 in
-    (room, omega (arith, one))
+    (room, some _ c.self.invariant.0)
 
 pub returns-in-Ok-record-clause-records : goal.returns-in-Ok-record-clause-records
 returns-in-Ok-record-clause-records g c =
