@@ -90,6 +90,12 @@ uint64_t cache_tier_copy(cache_tier *, uint64_t offset, uint8_t *out, size_t roo
 /* Lends what a request read last, until it reads bytes again or is dropped: SHOWN or NOTHING_SHOWN. Of no bytes `at` stays as it was. */
 uint64_t cache_tier_lend(cache_tier *, uint64_t id, cache_tier_lent *out);
 
+/* Lends a line of the head that was shown last, until the next head is shown: SHOWN or NOTHING_SHOWN. Of no bytes `at` stays as it was. */
+typedef struct {
+    cache_tier_lent name, value;
+} cache_tier_line;
+uint64_t cache_tier_head_line(cache_tier *, uint64_t place, cache_tier_line *out);
+
 /* ---- their numbers, by name */
 
 #define CT static inline uint64_t
@@ -147,6 +153,20 @@ CT cache_tier_show_file(cache_tier *t, uint64_t shard) { return cache_tier_call(
 /* The 16 bytes of the stored key of an entry that the last event evicted. */
 CT cache_tier_show_evicted(cache_tier *t, uint64_t place) { return cache_tier_call(t, 15, 0, 0, place); }
 CT cache_tier_show_read(cache_tier *t, uint64_t id) { return cache_tier_call(t, 16, 0, 0, id); }
+
+/* The head of the finished body of this key, which is the head of what was found right after a look-up that was FOUND, complete: SHOWN, `number` is its
+   status and `second` how many lines it has; NOTHING_SHOWN, also while a first response is still written; MEMORY. It is no use of the entry. */
+CT cache_tier_head(cache_tier *t, const void *key, size_t len) {
+    uint64_t r = cache_tier_hand(t, 0, cache_tier_some(key), len);
+    return r ? r : cache_tier_call(t, 17, 0, 0, 0);
+}
+/* Of that head, in seconds: until when it is fresh, when it was made, how long it may serve when it is stale. */
+CT cache_tier_fresh_until(cache_tier *t) { return cache_tier_call(t, 31, 0, 0, 0); }
+CT cache_tier_fresh_until_nanoseconds(cache_tier *t) { return cache_tier_call(t, 32, 0, 0, 0); }
+CT cache_tier_created(cache_tier *t) { return cache_tier_call(t, 33, 0, 0, 0); }
+CT cache_tier_created_nanoseconds(cache_tier *t) { return cache_tier_call(t, 34, 0, 0, 0); }
+CT cache_tier_stale_while_revalidate(cache_tier *t) { return cache_tier_call(t, 35, 0, 0, 0); }
+CT cache_tier_stale_if_error(cache_tier *t) { return cache_tier_call(t, 36, 0, 0, 0); }
 
 /* What the last event or restart told. */
 CT cache_tier_number(cache_tier *t) { return cache_tier_call(t, 20, 0, 0, 0); }

@@ -1,45 +1,27 @@
 /* A caching reverse proxy over the tier: libmicrohttpd in front, libcurl behind, the tier between, under one lock.
    One fetch a key, by the permit; its bytes go to all who ask as they come. docs/embedding.md says what is the tier's and what the proxy's. */
 #define _GNU_SOURCE
-#include "cache_tier.h"
-#include <curl/curl.h>
-#include <microhttpd.h>
+#include "cache_tier_files.h"
+#include "heads.h"
 #include <pthread.h>
 #include <signal.h>
-#include <stdio.h>
-#include <stdlib.h>
-#include <string.h>
-#include <strings.h>
 #include <sys/random.h>
 #include <time.h>
 #include <unistd.h>
 
-enum { MOST_SENT = 1 << 24, MOST_HELD = 1 << 22, SHARDS = 16, LINE = 8192 };
-typedef struct { char *at; size_t len, room; } text;
+enum { MOST_SENT = 1 << 24, MOST_HELD = 1 << 22, SHARDS = 16 };
 typedef struct fetch {
     char *url, *method, *key, *vary; /* the key of its place in the tier; the Vary of the list of variants that it was found by */
-    struct curl_slist *fields;
     text head, old, body, sent; /* the response's head; that of the body which it may confirm; bytes that aren't stored, until they are taken */
-    size_t taken;
-    cache_tier_lent stale; /* the body which it may confirm, lent by its request */
-    uint64_t id;           /* the request that writes; 0: nothing is stored */
-    long status, age;
+    cache_tier_lent stale;      /* the body which it may confirm, lent by its request */
+    uint64_t id, made;          /* the request that writes; 0: nothing is stored. The moment of its write */
+    struct curl_slist *fields; struct fetch *next; size_t taken; long status, age;
     int users, judged, stores, over, failed, spare; /* spare: where it fails something stale serves */
-    struct fetch *next;
 } fetch;
 typedef struct client {
-    struct MHD_Connection *at;
-    char *url;
-    text key, sent;
-    fetch *from;
-    uint64_t id;
-    cache_tier_lent lent;
-    size_t gone;
-    char *vary;
-    int seen, waits, asleep, passes;
-    struct client *next;
+    struct MHD_Connection *at; char *url; text key, sent; fetch *from; uint64_t id; cache_tier_lent lent; size_t gone; char *vary;
+    int seen, waits, asleep, passes; struct client *next;
 } client;
-
 static cache_tier *tier;
 static pthread_mutex_t lock = PTHREAD_MUTEX_INITIALIZER; /* of all that follows, and of the tier */
 static pthread_cond_t changed = PTHREAD_COND_INITIALIZER;
@@ -51,101 +33,16 @@ static uint64_t ids = 1;
 static const char *origin, *folder;
 
 static uint64_t now(void) { return (uint64_t)time(NULL); }
-static void fail(const char *why) { fprintf(stderr, "proxy: %s\n", why), exit(2); }
-static void add(text *t, const void *p, size_t n) {
-    if (t->len + n + 1 > t->room && !(t->at = realloc(t->at, t->room = (t->len + n + 1) * 2))) fail("out of memory");
-    memcpy(t->at + t->len, p, n), t->at[t->len += n] = 0;
-}
-static void adds(text *t, const char *s) { add(t, s, strlen(s)); }
 static char *copied(const char *s) { return (s = strdup(s ? s : "")) ? (char *)s : (fail("out of memory"), NULL); }
 static void sleep_on(client *c) { c->asleep = 1, c->next = sleepers, sleepers = c, MHD_suspend_connection(c->at); }
 static void wake(void) {
-    pthread_cond_broadcast(&changed);
     for (client *c; (c = sleepers); MHD_resume_connection(c->at)) sleepers = c->next, c->asleep = 0;
+    pthread_cond_broadcast(&changed);
 }
 
-/* ---- heads, as text: a status line, then lines of fields */
-
-static int is(const char *p, size_t n, const char *name) { return strlen(name) == n && !strncasecmp(p, name, n); }
-static int listed(const char *p, size_t n, const char *list) { /* among names with commas between */
-    for (size_t len; *list; list += len + (list[len] == ',')) {
-        len = strcspn(list, ",");
-        size_t from = strspn(list, " \t"), to = len;
-        while (to > from && strchr(" \t", list[to - 1])) to--;
-        if (to > from && to - from == n && !strncasecmp(list + from, p, n)) return 1;
-    }
-    return 0;
-}
-static const char HOP[] = "connection,keep-alive,proxy-connection,proxy-authenticate,proxy-authorization,te,trailer,transfer-encoding,upgrade";
-/* Goes from line to line: the name's length and the value, which ends where the line does. */
-static const char *line_after(const char *p, size_t *name, const char **value, size_t *len) {
-    while (p && (p = strchr(p, '\n')) && *++p && *p != '\r') {
-        const char *end = strchr(p, '\r'), *colon = strchr(p, ':');
-        if (!end || !colon || colon > end) continue;
-        *name = colon - p, *value = colon + 1 + strspn(colon + 1, " \t"), *len = end - *value;
-        return p;
-    }
-    return NULL;
-}
-static int field(const text *head, const char *name, char *out, size_t room) { /* the values of all lines of a name, with commas between */
-    size_t n, len, used = 0;
-    const char *value, *p = head->at;
-    for (*out = 0; (p = line_after(p, &n, &value, &len));)
-        if (is(p, n, name) && used + len + 3 < room) used += sprintf(out + used, "%s%.*s", used ? ", " : "", (int)len, value);
-    return used > 0;
-}
-static void add_line(text *head, const char *name, size_t n, const char *value, size_t len) {
-    add(head, name, n), adds(head, ": "), add(head, value, len), adds(head, "\r\n");
-}
-/* The head of what a look-up of this key shows now. */
-static int shown_head(const text *key, text *head) {
-    char status[64];
-    cache_tier_line l;
-    head->len = 0;
-    if (cache_tier_head(tier, key->at, key->len) != CACHE_TIER_SHOWN) return 0;
-    add(head, status, sprintf(status, "HTTP/1.1 %d OK\r\n", (int)cache_tier_number(tier)));
-    for (uint64_t i = 0; cache_tier_head_line(tier, i, &l) == CACHE_TIER_SHOWN; i++)
-        add_line(head, (const char *)l.name, l.name_len, l.value_len ? (const char *)l.value : "", l.value_len);
-    return 1;
-}
-
-/* ---- the answers to clients */
-
-static enum MHD_Result each(void *to, enum MHD_ValueKind kind, const char *name, const char *value) {
-    (void)kind;
-    struct curl_slist **list = to;
-    char line[LINE];
-    if (value && !listed(name, strlen(name), HOP) && !listed(name, strlen(name), "host,content-length,expect") &&
-        snprintf(line, sizeof line, *value ? "%s: %s" : "%s;", name, value) < (int)sizeof line) *list = curl_slist_append(*list, line);
-    return MHD_YES;
-}
-static const char *asked(client *c, const char *name) { return MHD_lookup_connection_value(c->at, MHD_HEADER_KIND, name); }
-static enum MHD_Result reply(client *c, int status, const text *head, struct MHD_Response *r, const char *how, long age) {
-    char name[256], value[LINE], list[LINE];
-    size_t n, len;
-    const char *v, *p = head->at;
-    field(head, "connection", list, sizeof list);
-    while ((p = line_after(p, &n, &v, &len)))
-        if (n < sizeof name && len < sizeof value && !listed(p, n, HOP) && !listed(p, n, list) && !is(p, n, "content-length") && !is(p, n, "age")) {
-            sprintf(name, "%.*s", (int)n, p), sprintf(value, "%.*s", (int)len, v);
-            MHD_add_response_header(r, name, value);
-        }
-    if (age >= 0) sprintf(value, "%ld", age), MHD_add_response_header(r, "Age", value);
-    MHD_add_response_header(r, "X-Cache", how);
-    enum MHD_Result ok = MHD_queue_response(c->at, status, r);
-    MHD_destroy_response(r);
-    return ok;
-}
-static enum MHD_Result plain(client *c, int status, const char *why) {
-    text none = {0};
-    return reply(c, status, &none, MHD_create_response_from_buffer(strlen(why), (void *)why, MHD_RESPMEM_PERSISTENT), "none", -1);
-}
+/* ---- what was found, to its client */
 static ssize_t more(void *cls, uint64_t at, char *out, size_t most) { /* reads on, in the tier or in what its fetch didn't store */
-    (void)at;
-    client *c = cls;
-    fetch *f = c->from;
-    ssize_t n = 0;
-    pthread_mutex_lock(&lock);
+    (void)at; client *c = cls; fetch *f = c->from; ssize_t n = 0; pthread_mutex_lock(&lock);
     uint64_t id = c->id ? c->id : f->id, s = CACHE_TIER_BYTES;
     if (f && f->failed) n = MHD_CONTENT_READER_END_WITH_ERROR;
     else if (!c->id && !f->stores) {
@@ -157,98 +54,61 @@ static ssize_t more(void *cls, uint64_t at, char *out, size_t most) { /* reads o
     } else {
         while (c->gone == c->lent.len && (s = cache_tier_read(tier, now(), 0, id)) == CACHE_TIER_BYTES)
             cache_tier_lend(tier, id, &c->lent), c->gone = 0;
-        if (s == CACHE_TIER_BYTES) {
-            n = c->lent.len - c->gone < most ? c->lent.len - c->gone : most;
-            memcpy(out, c->lent.at + c->gone, n), c->gone += n;
-        } else if (s == CACHE_TIER_PENDING) sleep_on(c);
+        if ((size_t)(n = c->lent.len - c->gone) > most) n = most;
+        if (s == CACHE_TIER_BYTES) memcpy(out, c->lent.at + c->gone, n), c->gone += n;
+        else if (s == CACHE_TIER_PENDING) sleep_on(c);
         else n = s == CACHE_TIER_END ? MHD_CONTENT_READER_END_OF_STREAM : MHD_CONTENT_READER_END_WITH_ERROR;
     }
-    pthread_mutex_unlock(&lock);
-    return n;
+    pthread_mutex_unlock(&lock); return n;
 }
-static int unchanged(client *c, const text *head) { /* by the tag or the date that the client has */
-    char have[LINE];
-    const char *tag = asked(c, "If-None-Match"), *date = asked(c, "If-Modified-Since");
-    if (tag) return !strcmp(tag, "*") || (field(head, "etag", have, sizeof have) && strstr(tag, have + (strncmp(have, "W/", 2) ? 0 : 2)));
-    return date && field(head, "last-modified", have, sizeof have) && curl_getdate(date, NULL) >= curl_getdate(have, NULL);
-}
-static fetch *fetch_of(const char *key) {
-    fetch *f = flying;
-    while (f && (!f->stores || strcmp(f->key, key))) f = f->next;
-    return f;
-}
+static fetch *fetch_of(const char *key, fetch *f) { return f && (!f->stores || strcmp(f->key, key)) ? fetch_of(key, f->next) : f; }
 /* Sends what its last look-up found. A whole body goes from the memory that the tier lends, which its request keeps until it is dropped. */
-static enum MHD_Result hit(client *c, const text *head, int complete, const char *how) {
-    uint64_t made = cache_tier_created(tier), t = now();
-    long age = t > made ? (long)(t - made) : 0, status = atol(head->at + 9);
-    unsigned long long from = 0, to = UINT64_MAX;
-    const char *range = asked(c, "Range");
-    char part[96];
-    if (unchanged(c, head)) return reply(c, 304, head, MHD_create_response_from_buffer(0, "", MHD_RESPMEM_PERSISTENT), how, age);
-    if (!complete || cache_tier_read(tier, t, 0, c->id) != CACHE_TIER_BYTES) {
-        if (!complete && (c->from = fetch_of(c->key.at))) c->from->users++;
-        return reply(c, status, head, MHD_create_response_from_callback(MHD_SIZE_UNKNOWN, 1 << 16, more, c, NULL), how, age);
+static enum MHD_Result hit(client *c, const text *head, uint64_t made, fetch *flies, const char *how) {
+    uint64_t t = now(); long age = t > made ? (long)(t - made) : 0, status = atol(head->at + 9);
+    unsigned long long from = 0, to = UINT64_MAX; const char *range = asked(c->at, "Range"); char part[96];
+    if (unchanged(c->at, head)) return reply(c->at, 304, head, MHD_create_response_from_buffer(0, "", MHD_RESPMEM_PERSISTENT), how, age);
+    if (flies || cache_tier_read(tier, t, 0, c->id) != CACHE_TIER_BYTES) {
+        if ((c->from = flies)) flies->users++;
+        return reply(c->at, status, head, MHD_create_response_from_callback(MHD_SIZE_UNKNOWN, 1 << 16, more, c, NULL), how, age);
     }
-    c->lent.at = (const uint8_t *)"";
-    cache_tier_lend(tier, c->id, &c->lent);
-    int ranged = range && status == 200 && !asked(c, "If-Range") && sscanf(range, "bytes=%llu-%llu", &from, &to) >= 1 && !strchr(range, ',');
-    if (ranged && (from >= c->lent.len || to < from)) return plain(c, 416, "no such part\n");
+    c->lent.at = (const uint8_t *)""; cache_tier_lend(tier, c->id, &c->lent);
+    int ranged = range && status == 200 && !asked(c->at, "If-Range") && sscanf(range, "bytes=%llu-%llu", &from, &to) >= 1 && !strchr(range, ',');
+    if (ranged && (from >= c->lent.len || to < from)) return plain(c->at, 416, "no such part\n");
     if (!ranged || to >= c->lent.len) to = c->lent.len ? c->lent.len - 1 : 0;
     size_t len = ranged ? to - from + 1 : c->lent.len;
     struct MHD_Response *r = MHD_create_response_from_buffer(len, (void *)(c->lent.at + (ranged ? from : 0)), MHD_RESPMEM_PERSISTENT);
     if (ranged) sprintf(part, "bytes %llu-%llu/%zu", from, to, c->lent.len), MHD_add_response_header(r, "Content-Range", part);
-    return reply(c, ranged ? 206 : status, head, r, how, age);
+    return reply(c->at, ranged ? 206 : status, head, r, how, age);
 }
 
 /* ---- fetches: each in a thread of its own, with the lock held but while libcurl waits */
-
 static void release(fetch *f) {
     if (--f->users) return;
     if (f->id) cache_tier_drop(tier, now(), 0, f->id);
     curl_slist_free_all(f->fields);
     free(f->url), free(f->method), free(f->key), free(f->vary), free(f->head.at), free(f->old.at), free(f->body.at), free(f->sent.at), free(f);
 }
-static void add_variant(text *key, const char *token, const char *vary, struct curl_slist *fields) { /* the key of one of the variants */
-    adds(key, "\n"), adds(key, token);
-    for (; fields; fields = fields->next)
-        if (listed(fields->data, strcspn(fields->data, ":;"), vary)) adds(key, "\n"), adds(key, fields->data);
-}
 static int begin(fetch *f, const text *head) {
-    uint64_t t = now();
-    t = t > (uint64_t)f->age ? t - f->age : 0; /* the age that it came with shortens its freshness */
-    return cache_tier_begin(tier, t, 0, f->id, head->at, head->len) == CACHE_TIER_BEGUN;
+    f->made = now() > (uint64_t)f->age ? now() - f->age : 0; /* the age that it came with shortens its freshness */
+    return cache_tier_begin(tier, f->made, 0, f->id, head->at, head->len) == CACHE_TIER_BEGUN;
 }
 /* Under the first key the list of variants is stored: a head with its Vary, and a token that is part of the keys of just these variants. */
 static void store_variant(fetch *f, const char *vary) {
-    char token[32];
-    text key = {0};
+    char token[32]; text key = {0};
     adds(&key, f->key), add_variant(&key, (sprintf(token, "%llx", (unsigned long long)f->id), token), vary, f->fields);
     if (begin(f, &f->head) && cache_tier_piece(tier, now(), 0, f->id, token, strlen(token), 1) == CACHE_TIER_WRITTEN)
         cache_tier_finish(tier, now(), 0, f->id);
-    cache_tier_drop(tier, now(), 0, f->id);
-    f->id = ids++;
-    free(f->key), f->key = key.at;
+    cache_tier_drop(tier, now(), 0, f->id); f->id = ids++; free(f->key), f->key = key.at;
     f->stores = cache_tier_open(tier, now(), 0, f->id, key.at, key.len, 0) == CACHE_TIER_OPENED &&
                 cache_tier_look_up(tier, now(), 0, f->id) == CACHE_TIER_ABSENT && begin(f, &f->head);
 }
 static void confirm(fetch *f) { /* a 304: the old body again, under the old head with the new lines */
-    text head = {0};
-    size_t n, len;
-    char line[LINE], name[256];
-    const char *v, *p = f->old.at;
-    adds(&head, "HTTP/1.1 200 OK\r\n");
-    for (; (p = line_after(p, &n, &v, &len));)
-        if (n < sizeof name && (sprintf(name, "%.*s", (int)n, p), !field(&f->head, name, line, sizeof line))) add_line(&head, p, n, v, len);
-    for (p = f->head.at; (p = line_after(p, &n, &v, &len));) add_line(&head, p, n, v, len);
-    adds(&head, "\r\n"), free(f->head.at), f->head = head, f->status = 200;
-    text body = {0};
+    text head = merged(&f->old, &f->head), body = {0}; free(f->head.at), f->head = head, f->status = 200;
     add(&body, f->stale.at ? (const char *)f->stale.at : "", f->stale.len);
-    if (!(f->stores = begin(f, &f->head))) f->body = body;
-    else cache_tier_piece(tier, now(), 0, f->id, body.at, body.len, 0), free(body.at);
+    if (!(f->stores = begin(f, &f->head))) f->body = body; else cache_tier_piece(tier, now(), 0, f->id, body.at, body.len, 0), free(body.at);
 }
 static void judge(fetch *f) { /* its head is there: is it to be stored? */
-    char vary[LINE], value[LINE];
-    time_t t = time(NULL);
+    char vary[LINE], value[LINE]; time_t t = time(NULL);
     if (!field(&f->head, "date", value, sizeof value))
         strftime(value, sizeof value, "%a, %d %b %Y %H:%M:%S GMT", gmtime(&t)), add_line(&f->head, "Date", 4, value, strlen(value));
     f->judged = 1, adds(&f->head, "\r\n");
@@ -265,84 +125,55 @@ static void judge(fetch *f) { /* its head is there: is it to be stored? */
     wake();
 }
 static size_t on_head(char *p, size_t one, size_t n, void *cls) {
-    fetch *f = cls;
-    n *= one;
-    pthread_mutex_lock(&lock);
-    size_t name = memchr(p, ':', n) ? (size_t)((char *)memchr(p, ':', n) - p) : 0;
+    fetch *f = cls; n *= one; pthread_mutex_lock(&lock); size_t name = memchr(p, ':', n) ? (size_t)((char *)memchr(p, ':', n) - p) : 0;
     if (f->judged) name = 0; /* what comes after the body */
     else if (n > 12 && !strncmp(p, "HTTP/", 5)) {
-        f->status = atol(strchr(p, ' ') ? strchr(p, ' ') : p), f->head.len = 0;
-        char line[64];
+        f->status = atol(strchr(p, ' ') ? strchr(p, ' ') : p), f->head.len = 0; char line[64];
         add(&f->head, line, sprintf(line, "HTTP/1.1 %03ld OK\r\n", f->status));
     } else if (n <= 2 && f->status >= 200) judge(f);
     else if (is(p, name, "age")) f->age = labs(atol(p + 4));
     else if (name && n > 2 && p[n - 2] == '\r' && !is(p, name, "content-length") && (is(p, name, "connection") || !listed(p, name, HOP))) add(&f->head, p, n);
-    pthread_mutex_unlock(&lock);
-    return f->failed ? 0 : n;
+    pthread_mutex_unlock(&lock); return f->failed ? 0 : n;
 }
 static size_t on_body(char *p, size_t one, size_t n, void *cls) {
-    fetch *f = cls;
-    n *= one;
-    pthread_mutex_lock(&lock);
+    fetch *f = cls; n *= one; pthread_mutex_lock(&lock);
     if (f->stores) f->failed = cache_tier_piece(tier, now(), 0, f->id, p, n, 0) != CACHE_TIER_WRITTEN;
     else {
         add(&f->body, p, n);
         while (f->body.len - f->taken > MOST_HELD && f->users > 1) wake(), pthread_cond_wait(&changed, &lock);
         if (f->users < 2) f->failed = 1; /* nobody reads it, and it isn't stored */
     }
-    wake();
-    pthread_mutex_unlock(&lock);
-    return f->failed ? 0 : n;
+    wake(); pthread_mutex_unlock(&lock); return f->failed ? 0 : n;
 }
 static void *run(void *cls) {
-    fetch *f = cls;
-    char url[LINE];
-    pthread_mutex_lock(&lock);
-    CURL *c = idle_count ? idle[--idle_count] : curl_easy_init();
-    pthread_mutex_unlock(&lock);
-    int fits = c && snprintf(url, sizeof url, "%s%s", origin, f->url) < (int)sizeof url;
+    fetch *f = cls; char url[LINE]; pthread_mutex_lock(&lock); CURL *c = idle_count ? idle[--idle_count] : curl_easy_init();
+    pthread_mutex_unlock(&lock); int fits = c && snprintf(url, sizeof url, "%s%s", origin, f->url) < (int)sizeof url;
     if (fits) {
-        curl_easy_setopt(c, CURLOPT_URL, url), curl_easy_setopt(c, CURLOPT_NOSIGNAL, 1L), curl_easy_setopt(c, CURLOPT_CONNECTTIMEOUT, 10L);
+        aims(c, url, f->method, f->fields, &f->sent);
         curl_easy_setopt(c, CURLOPT_HEADERFUNCTION, on_head), curl_easy_setopt(c, CURLOPT_HEADERDATA, f);
         curl_easy_setopt(c, CURLOPT_WRITEFUNCTION, on_body), curl_easy_setopt(c, CURLOPT_WRITEDATA, f);
-        curl_easy_setopt(c, CURLOPT_PATH_AS_IS, 1L), curl_easy_setopt(c, CURLOPT_LOW_SPEED_LIMIT, 1L), curl_easy_setopt(c, CURLOPT_LOW_SPEED_TIME, 60L);
-        if (f->sent.len || !strcmp(f->method, "POST") || !strcmp(f->method, "PUT"))
-            curl_easy_setopt(c, CURLOPT_POSTFIELDSIZE_LARGE, (curl_off_t)f->sent.len), curl_easy_setopt(c, CURLOPT_POSTFIELDS, f->sent.at ? f->sent.at : "");
-        if (!strcmp(f->method, "HEAD")) curl_easy_setopt(c, CURLOPT_NOBODY, 1L);
-        else if (strcmp(f->method, "GET")) curl_easy_setopt(c, CURLOPT_CUSTOMREQUEST, f->method);
-        curl_easy_setopt(c, CURLOPT_HTTPHEADER, f->fields);
     }
-    int ok = fits && curl_easy_perform(c) == CURLE_OK;
-    pthread_mutex_lock(&lock);
-    f->over = 1, f->failed |= !ok;
+    int ok = fits && curl_easy_perform(c) == CURLE_OK; pthread_mutex_lock(&lock); f->over = 1, f->failed |= !ok;
     if (!f->failed && f->stores)
         f->failed = cache_tier_piece(tier, now(), 0, f->id, "", 0, 1) != CACHE_TIER_WRITTEN, cache_tier_finish(tier, now(), 0, f->id);
     if (f->failed && f->id) cache_tier_drop(tier, now(), 0, f->id), f->id = 0; /* nothing of it is stored */
     if (!f->failed && f->status < 400 && !listed(f->method, strlen(f->method), "GET,HEAD,OPTIONS,TRACE"))
         cache_tier_purge(tier, now(), 0, f->key, strlen(f->key));
-    for (fetch **p = &flying; *p; p = &(*p)->next)
-        if (*p == f) { *p = f->next; break; }
-    release(f), wake();
+    fetch **p = &flying;
+    while (*p != f) p = &(*p)->next;
+    *p = f->next, release(f), wake();
     if (c) curl_easy_reset(c);
     if (c && idle_count < 64) idle[idle_count++] = c, c = NULL;
-    pthread_mutex_unlock(&lock);
-    curl_easy_cleanup(c);
-    return NULL;
+    pthread_mutex_unlock(&lock); curl_easy_cleanup(c); return NULL;
 }
 /* Starts a fetch, which takes the request of that number over; `old` is the head of something stale that it may confirm. */
 static int start(client *c, const char *method, uint64_t id, const text *old, int spare) {
-    fetch *f = calloc(1, sizeof *f);
-    pthread_t thread;
-    char value[LINE], line[LINE + 32];
+    fetch *f = calloc(1, sizeof *f); pthread_t thread; char value[LINE], line[LINE + 32];
     if (!f) fail("out of memory");
     f->url = copied(c->url), f->method = copied(method), f->key = copied(c->key.at), f->id = id, f->users = 2, f->spare = spare;
     f->vary = c->vary ? copied(c->vary) : NULL, f->sent = c->sent, c->sent = (text){0};
     MHD_get_connection_values(c->at, MHD_HEADER_KIND, each, &f->fields);
-    for (struct curl_slist **p = &f->fields; id && *p;) { /* what is stored is whole */
-        struct curl_slist *one = *p;
-        if (!listed(one->data, strcspn(one->data, ":;"), "if-none-match,if-modified-since,range,if-range,if-match,if-unmodified-since")) p = &one->next;
-        else *p = one->next, one->next = NULL, curl_slist_free_all(one);
-    }
+    if (id) leave_conditions(&f->fields); /* what is stored is whole */
     if (old && cache_tier_read(tier, now(), 0, id) == CACHE_TIER_BYTES && cache_tier_lend(tier, id, &f->stale) == CACHE_TIER_SHOWN) {
         add(&f->old, old->at, old->len);
         if (field(old, "etag", value, sizeof value)) sprintf(line, "If-None-Match: %s", value), f->fields = curl_slist_append(f->fields, line);
@@ -354,38 +185,31 @@ static int start(client *c, const char *method, uint64_t id, const text *old, in
 }
 
 /* ---- requests */
-
 static enum MHD_Result find(client *c, const char *method);
 static enum MHD_Result follow(client *c, const char *method) { /* answers as its fetch does, once that is known */
     fetch *f = c->from;
     if (!f->judged && !f->over) return sleep_on(c), MHD_YES;
     if (f->failed && f->spare) return c->from = NULL, release(f), c->passes = 2, find(c, method); /* something stale serves */
-    if (!f->judged) return plain(c, 502, "the origin gave no response\n");
-    return reply(c, f->status, &f->head, MHD_create_response_from_callback(MHD_SIZE_UNKNOWN, 1 << 16, more, c, NULL), f->id ? "miss" : "pass", -1);
+    if (!f->judged) return plain(c->at, 502, "the origin gave no response\n");
+    return reply(c->at, f->status, &f->head, MHD_create_response_from_callback(MHD_SIZE_UNKNOWN, 1 << 16, more, c, NULL), f->id ? "miss" : "pass", -1);
 }
 static enum MHD_Result pass(client *c, const char *method) {
     if (c->id) cache_tier_drop(tier, now(), 0, c->id), c->id = 0;
-    start(c, method, 0, NULL, 0);
-    return follow(c, method);
+    start(c, method, 0, NULL, 0); return follow(c, method);
 }
 /* The client's request in the tier: it is open, and asks for the permit but where something stale is to serve. */
 static int opens(client *c) {
-    if (c->id) return 1;
-    c->id = ids++;
-    return cache_tier_open(tier, now(), 0, c->id, c->key.at, c->key.len, c->passes != 2) == CACHE_TIER_OPENED || (c->id = 0);
+    return c->id || cache_tier_open(tier, now(), 0, c->id = ids++, c->key.at, c->key.len, c->passes != 2) == CACHE_TIER_OPENED || (c->id = 0);
 }
-static void to_variant(client *c, const text *head) { /* what was found is a list of variants */
-    char vary[LINE], token[64] = "";
-    struct curl_slist *fields = NULL;
+static void to_variant(client *c, const char *vary) { /* what was found is a list of variants */
+    char token[64] = ""; struct curl_slist *fields = NULL;
     if (cache_tier_read(tier, now(), 0, c->id) == CACHE_TIER_BYTES && cache_tier_lend(tier, c->id, &c->lent) == CACHE_TIER_SHOWN && c->lent.len < 64)
         memcpy(token, c->lent.at, c->lent.len);
-    cache_tier_drop(tier, now(), 0, c->id), c->id = 0, c->lent.len = 0;
-    field(head, "vary", vary, sizeof vary), c->vary = copied(vary);
-    MHD_get_connection_values(c->at, MHD_HEADER_KIND, each, &fields);
-    add_variant(&c->key, token, vary, fields), curl_slist_free_all(fields);
+    cache_tier_drop(tier, now(), 0, c->id), c->id = 0, c->lent.len = 0, c->vary = copied(vary);
+    MHD_get_connection_values(c->at, MHD_HEADER_KIND, each, &fields); add_variant(&c->key, token, vary, fields), curl_slist_free_all(fields);
 }
 static enum MHD_Result find(client *c, const char *method) {
-    static text head; /* under the lock */
+    static text head;
     for (char vary[LINE];;) {
         if (!opens(c)) return pass(c, method);
         if (c->waits) {
@@ -397,87 +221,50 @@ static enum MHD_Result find(client *c, const char *method) {
         uint64_t s = cache_tier_look_up(tier, now(), 0, c->id), permit = cache_tier_permit(tier), t = now();
         int fresh = cache_tier_is_fresh(tier), complete = cache_tier_is_complete(tier);
         if (s != CACHE_TIER_FOUND && s != CACHE_TIER_ABSENT) return pass(c, method);
-        int found = s == CACHE_TIER_FOUND && shown_head(&c->key, &head);
+        fetch *from = s == CACHE_TIER_FOUND && !complete ? fetch_of(c->key.at, flying) : NULL; /* the tier tells the heads of whole bodies */
+        if (from) head.len = 0, add(&head, from->head.at, from->head.len);
+        int found = s == CACHE_TIER_FOUND && (complete ? shown_head(tier, &c->key, &head) : from != NULL);
+        int lists = found && complete && !c->vary && field(&head, "vary", vary, sizeof vary);
         uint64_t until = cache_tier_fresh_until(tier), waits = permit == CACHE_TIER_READ_WAIT;
-        int serves = found && complete && t <= until + cache_tier_stale_while_revalidate(tier);
-        int spare = found && complete && t <= until + cache_tier_stale_if_error(tier);
-        if (found && fresh && complete && !c->vary && field(&head, "vary", vary, sizeof vary)) { to_variant(c, &head); continue; }
-        if (found && (fresh || c->passes == 2 || (serves && waits))) return hit(c, &head, complete, fresh ? "hit" : "stale");
-        if (c->passes == 2) return plain(c, 502, "the origin gave no response\n");
+        int whole = found && complete && !lists, serves = whole && t <= until + cache_tier_stale_while_revalidate(tier);
+        int spare = whole && t <= until + cache_tier_stale_if_error(tier);
+        if (lists && fresh) { to_variant(c, vary); continue; }
+        if (found && (fresh || c->passes == 2 || (serves && waits))) return hit(c, &head, from ? from->made : cache_tier_created(tier), from, fresh ? "hit" : "stale");
+        if (c->passes == 2) return plain(c->at, 502, "the origin gave no response\n");
         if (!strcmp(method, "HEAD")) return pass(c, method);
         if (waits) { c->waits = 1; continue; }
         if (permit != CACHE_TIER_WRITE_PERMIT) return pass(c, method);
-        uint64_t id = c->id;
-        c->id = 0, start(c, method, id, found && complete ? &head : NULL, spare);
+        uint64_t id = c->id; c->id = 0, start(c, method, id, whole ? &head : NULL, spare);
         if (!serves) return follow(c, method);
         release(c->from), c->from = NULL, c->passes = 2; /* it is fetched anew meanwhile */
     }
 }
 static enum MHD_Result answer(void *cls, struct MHD_Connection *at, const char *url, const char *method, const char *version, const char *up,
                               size_t *up_len, void **con) {
-    (void)cls, (void)url, (void)version;
-    client *c = *con;
+    (void)cls, (void)url, (void)version; client *c = *con;
     if (!c->seen) return c->seen = 1, c->at = at, adds(&c->key, c->url), MHD_YES;
-    if (*up_len) {
-        if (c->sent.len + *up_len > MOST_SENT) c->passes = 3;
-        else add(&c->sent, up, *up_len);
-        return *up_len = 0, MHD_YES;
-    }
-    const char *control = asked(c, "Cache-Control");
-    if (c->passes == 3) return plain(c, 413, "too long\n");
+    if (c->sent.len + *up_len > MOST_SENT) c->passes = 3;
+    else if (*up_len) add(&c->sent, up, *up_len);
+    if (*up_len) return *up_len = 0, MHD_YES;
+    const char *control = asked(c->at, "Cache-Control");
+    if (c->passes == 3) return plain(c->at, 413, "too long\n");
     pthread_mutex_lock(&lock);
-    if (!c->passes && (!listed(method, strlen(method), "GET,HEAD") || asked(c, "Authorization") || (control && strstr(control, "no-")))) c->passes = 1;
-    enum MHD_Result r = c->from ? follow(c, method) : c->passes == 1 ? pass(c, method) : find(c, method);
-    pthread_mutex_unlock(&lock);
-    return r;
+    if (!c->passes && (!listed(method, strlen(method), "GET,HEAD") || asked(c->at, "Authorization") || (control && strstr(control, "no-")))) c->passes = 1;
+    enum MHD_Result r = c->from ? follow(c, method) : c->passes == 1 ? pass(c, method) : find(c, method); pthread_mutex_unlock(&lock); return r;
 }
 static void *opened(void *cls, const char *url, struct MHD_Connection *at) {
-    (void)cls, (void)at;
-    client *c = calloc(1, sizeof *c);
-    if (!c) fail("out of memory");
-    return c->url = copied(url), c;
+    client *c = calloc(1, sizeof *c); (void)cls, (void)at;
+    return c ? c->url = copied(url), c : (fail("out of memory"), c);
 }
 static void ended(void *cls, struct MHD_Connection *at, void **con, enum MHD_RequestTerminationCode why) {
-    (void)cls, (void)at, (void)why;
-    client *c = *con;
-    pthread_mutex_lock(&lock);
+    (void)cls, (void)at, (void)why; client *c = *con; pthread_mutex_lock(&lock);
     if (c->id) cache_tier_drop(tier, now(), 0, c->id); /* what it was lent is sent */
     if (c->from) release(c->from), pthread_cond_broadcast(&changed);
-    pthread_mutex_unlock(&lock);
-    free(c->url), free(c->key.at), free(c->sent.at), free(c->vary), free(c);
+    pthread_mutex_unlock(&lock); free(c->url), free(c->key.at), free(c->sent.at), free(c->vary), free(c);
 }
-static void *ticks(void *cls) { /* polls have times */
-    (void)cls;
+static void *ticks(void *none) { /* polls have times */
     for (int on = 1; on; usleep(100000)) pthread_mutex_lock(&lock), wake(), on = !stopping, pthread_mutex_unlock(&lock);
-    return NULL;
-}
-
-/* ---- the order of use outlives a restart: each shard's file is replaced whole */
-
-static void load(void) {
-    static char path[4096], part[1 << 16];
-    for (int i = 0; folder && i < SHARDS; i++) {
-        text file = {0};
-        snprintf(path, sizeof path, "%s/lru.data.%d", folder, i);
-        FILE *in = fopen(path, "rb");
-        for (size_t n; in && (n = fread(part, 1, sizeof part, in));) add(&file, part, n);
-        if (in) cache_tier_file(tier, i, file.at, file.len), fclose(in);
-        free(file.at);
-    }
-    if (folder && cache_tier_start(tier) != CACHE_TIER_STARTED) fail("the order of use can't be loaded");
-}
-static void save(void) {
-    static char path[4096], temp[4200];
-    for (int i = 0; folder && i < SHARDS && (i || cache_tier_save(tier) == CACHE_TIER_SAVED); i++) {
-        if (cache_tier_show_file(tier, i) != CACHE_TIER_SHOWN) continue;
-        uint8_t none[1], *file;
-        size_t len = cache_tier_copy(tier, 0, none, 0);
-        snprintf(path, sizeof path, "%s/lru.data.%d", folder, i), snprintf(temp, sizeof temp, "%s.%ld.tmp", path, (long)getpid());
-        FILE *out = (file = malloc(len + 1)) ? fopen(temp, "wb") : NULL;
-        int ok = out && cache_tier_copy(tier, 0, file, len) == len && fwrite(file, 1, len, out) == len && !fflush(out) && !fsync(fileno(out));
-        if ((out && fclose(out)) || !ok || rename(temp, path)) fprintf(stderr, "proxy: %s can't be written\n", path), unlink(temp);
-        free(file);
-    }
+    return none;
 }
 int main(int argc, char **argv) {
     const char *usage = "--listen PORT --origin URL --limit BYTES [--threads COUNT] [--state FOLDER]", *end = "";
@@ -497,18 +284,17 @@ int main(int argc, char **argv) {
     if (!(tier = aligned_alloc(CACHE_TIER_ALIGN, (cache_tier_size() + 15) / 16 * 16))) fail("out of memory");
     cache_tier_init(tier, limit, CACHE_TIER_NONE, 10, CACHE_TIER_NONE, SHARDS, secret[0], secret[1]);
     if (cache_tier_state(tier) != CACHE_TIER_READY || cache_tier_version(tier) < CACHE_TIER_VERSION) fail("no tier");
-    load();
+    if (folder && !cache_tier_load_files(tier, folder, SHARDS)) fail("the order of use can't be loaded");
     sigset_t stops;
     sigemptyset(&stops), sigaddset(&stops, SIGTERM), sigaddset(&stops, SIGINT), pthread_sigmask(SIG_BLOCK, &stops, NULL), signal(SIGPIPE, SIG_IGN);
     struct MHD_Daemon *d = MHD_start_daemon(
-        MHD_USE_EPOLL_INTERNAL_THREAD | MHD_ALLOW_SUSPEND_RESUME | MHD_USE_SUPPRESS_DATE_NO_CLOCK | MHD_USE_TCP_FASTOPEN * 0, (uint16_t)port, NULL, NULL,
+        MHD_USE_EPOLL_INTERNAL_THREAD | MHD_ALLOW_SUSPEND_RESUME | MHD_USE_SUPPRESS_DATE_NO_CLOCK, (uint16_t)port, NULL, NULL,
         answer, NULL, MHD_OPTION_THREAD_POOL_SIZE, (unsigned)threads, MHD_OPTION_CONNECTION_LIMIT, 4096u, MHD_OPTION_CONNECTION_TIMEOUT, 60u,
         MHD_OPTION_URI_LOG_CALLBACK, opened, NULL, MHD_OPTION_NOTIFY_COMPLETED, ended, NULL, MHD_OPTION_END);
     pthread_t ticker;
     if (!d || pthread_create(&ticker, NULL, ticks, NULL)) fail("the port can't be listened on");
-    int stop;
-    sigwait(&stops, &stop);
-    pthread_mutex_lock(&lock), stopping = 1, pthread_mutex_unlock(&lock), pthread_join(ticker, NULL), MHD_stop_daemon(d);
-    pthread_mutex_lock(&lock), save();
+    int stop; sigwait(&stops, &stop);
+    pthread_mutex_lock(&lock), stopping = 1, pthread_mutex_unlock(&lock), pthread_join(ticker, NULL), MHD_stop_daemon(d), pthread_mutex_lock(&lock);
+    if (folder && !cache_tier_save_files(tier, folder, SHARDS)) fail("the order of use can't be saved");
     exit(0); /* a fetch may still run, with its request open */
 }

@@ -68,6 +68,8 @@ def answer(tier, line):
 
 
 def option(words, name, default=None):
+    """The value of an option, which its word has after '=', or the next word is."""
+    words = [part for word in words for part in word.split("=")]
     return int(words[words.index(name) + 1]) if name in words else default
 
 

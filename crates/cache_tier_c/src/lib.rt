@@ -5,11 +5,12 @@
 ghost use Rattle.std.specs.Borrow.{full_share, sem};
 ghost use Rattle.std.specs.Ptr.{lies_at, room_at};
 ghost use Rattle.tier_calls.specs.Called.{IsCall, IsHand, IsCopy, IsLend, IsMade};
+ghost use Rattle.tier_calls.specs.Heads.{IsLine};
 ghost use Rattle.tier_calls.specs.declared.held.Held.{Held};
 ghost use Rattle.tier_calls.specs.contracts.held.Held.{the_row};
 
 use std::alloc::Global;
-use tier_calls::held::{Held, Lent, finish, make};
+use tier_calls::held::{HeadLine, Held, Lent, finish, make};
 
 #[unsafe(no_mangle)]
 pub extern "C" fn cache_tier_size() -> usize {
@@ -88,4 +89,14 @@ pub unsafe extern "C" fn cache_tier_lend(at: *mut u8, request: u64, out: &mut Le
 {
     let held = unsafe { &mut *(at as *mut Held) };
     held.lend(request, out)
+}
+
+#[unsafe(no_mangle)]
+pub unsafe extern "C" fn cache_tier_head_line(at: *mut u8, place: u64, out: &mut HeadLine) -> u64
+    ghost h: { Held }
+    requires* { sem 𝓛 (lies_at the_row full_share at h) }
+    ensures* { ∃ₛ λ (h' : Held). ⌜ IsLine h place out.old out.new result h' ⌝ ∗ sem 𝓛 (lies_at the_row full_share at h') }
+{
+    let held = unsafe { &mut *(at as *mut Held) };
+    held.line(place, out)
 }

@@ -15,6 +15,7 @@ use Rattle.tier_model.specs.State.{Settings, State, empty_state}
 use Rattle.tier_model.specs.Histories.{empty_opening}
 use Rattle.tier_calls.specs.Answered.{plain, told_of}
 use Rattle.tier_calls.specs.Events.{action_for}
+use Rattle.tier_calls.specs.Heads.{IsHead}
 use Rattle.tier_calls.specs.Tiers.{state_of, Steps, StartsAs}
 use Rattle.tier_calls.specs.declared.held.Held.{Held}
 use Rattle.tier_calls.specs.declared.held.Lent.{Lent}
@@ -75,10 +76,11 @@ IsStarted old status new =
     × ((new.tier ≡ old.tier)
     ⊎ ((a : State) × (b : State) × (state_of old.tier ≡ Some a) × (state_of new.tier ≡ Some b) × StartsAs a b))
 
--- what a call did and answered: numbers below 12 are events, 13 is a start, and nothing else changes the tier
+-- what a call did and answered: numbers below 12 are events, 13 is a start, 17 shows a head, and nothing else changes the tier
 pub record IsCall (old : Held) (op seconds nanoseconds id answer : ℕ) (new : Held) : Type 0 where
   pub event : op < 12 → IsTaken old op seconds nanoseconds id answer new ⊎ IsRefused old seconds nanoseconds answer new
   pub start : op ≡ 13 → IsStarted old answer new
+  pub head : op ≡ 17 → IsHead old answer new
   pub other : 12 ≤ op → (op ≡ 13 → ⊥) → IsSameTier old new
 
 -- bytes were handed in: the tier is as it was, and so is what requests read

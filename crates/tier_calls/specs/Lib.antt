@@ -2,3 +2,4 @@ pub mod Answered
 pub mod Events
 pub mod Tiers
 pub mod Called
+pub mod Heads

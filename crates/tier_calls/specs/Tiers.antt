@@ -4,7 +4,7 @@ use Rattle.rand_core.specs.Stream.{Stream}
 use Rattle.tier_model.specs.declared.event.Event.{Event}
 use Rattle.tier_model.specs.Calls.{Outcome}
 use Rattle.tier_model.specs.Past.{HasPast}
-use Rattle.tier_model.specs.Started.{IsNew, opening_of}
+use Rattle.tier_model.specs.Started.{HasOnlyOrder, IsNew, opening_of, settings_of}
 use Rattle.tier_model.specs.State.{State, Settings}
 use Rattle.cache_tier.specs.Takes.{Takes}
 use Rattle.tier_calls.specs.declared.shards.Settings.{Settings as Given}
@@ -27,6 +27,7 @@ Steps old s event outcome new rest =
 abbrev pub made_with : ℕ → Given → Settings
 made_with n s = record { shards = n; limit = s.limit; watermark = s.watermark; age = s.age; wait = s.wait }
 
--- a new tier started, and is as new as it was: what it does from then on is that of a tier that began with what its order of use holds
+-- a new tier started: it holds nothing but an order of use, under the settings that it had, and what it does from then on is that of a tier that
+-- began with this order of use
 abbrev pub StartsAs : State → State → Type 0
-StartsAs a b = IsNew a × IsNew b × (b ≡ record a { managed = b.managed }) × HasPast (opening_of b) b []
+StartsAs a b = IsNew a × HasOnlyOrder b × (settings_of b ≡ settings_of a) × (b ≡ record a { managed = b.managed }) × HasPast (opening_of b) b []

@@ -7,6 +7,7 @@ ghost use Rattle.tier_calls.specs.Tiers.{made_with};
 mod asks;
 mod events;
 mod files;
+mod heads;
 mod lends;
 
 use crate::numbers;
@@ -15,6 +16,7 @@ use crate::shards::{Settings, Shards};
 use crate::staged::Staged;
 use crate::told::{Told, plain};
 use bytes::Bytes;
+use cache_heads::CacheMeta;
 use cache_words::time::Duration;
 use lru_core::SeededState;
 use lru_files::persistence::MemFolder;
@@ -38,6 +40,8 @@ pub struct Held {
     // The files of the shards: those handed in, then those of the last save.
     folder: MemFolder,
     told: Told,
+    // The head that was shown last.
+    head: Option<CacheMeta>,
     // The entries that the last event evicted.
     evicted: Entries,
 }
@@ -48,6 +52,14 @@ pub struct Held {
 pub struct Lent {
     pub at: *const u8,
     pub len: usize,
+}
+
+/// A line of a head that is lent to a program in C.
+#[repr(C)]
+#[derive(Drop)]
+pub struct HeadLine {
+    pub name: Lent,
+    pub value: Lent,
 }
 
 // The watermark of this number: all bits set are none.
@@ -106,6 +118,7 @@ pub fn make(
         shown: Bytes::new(),
         folder: MemFolder::new(alloc),
         told: plain(numbers::READY),
+        head: None,
         evicted: Entries::new(alloc),
     }
 }
@@ -128,6 +141,7 @@ impl Held {
             numbers::SHOW_FILE => self.show_file(id),
             numbers::SHOW_EVICTED => self.show_evicted(id),
             numbers::SHOW_READ => self.show_read(id),
+            numbers::SHOW_HEAD => self.show_head(),
             _ => self.ask(op),
         }
     }

@@ -31,12 +31,14 @@ pub const SAVE: u64 = 12;
 
 pub const START: u64 = 13;
 
-/// What is shown: the file of a shard, the stored key of an evicted entry, what a request read last.
+/// What is shown: the file of a shard, the stored key of an evicted entry, what a request read last, the head that a look-up shows.
 pub const SHOW_FILE: u64 = 14;
 
 pub const SHOW_EVICTED: u64 = 15;
 
 pub const SHOW_READ: u64 = 16;
+
+pub const SHOW_HEAD: u64 = 17;
 
 /// What the last answer told.
 pub const NUMBER: u64 = 20;
@@ -60,6 +62,19 @@ pub const THIRD: u64 = 28;
 pub const STATE: u64 = 29;
 
 pub const VERSION: u64 = 30;
+
+/// Of the head that was shown last: moments in seconds and nanoseconds, and for how many seconds it may serve when it is stale.
+pub const FRESH_UNTIL: u64 = 31;
+
+pub const FRESH_UNTIL_NANOSECONDS: u64 = 32;
+
+pub const CREATED: u64 = 33;
+
+pub const CREATED_NANOSECONDS: u64 = 34;
+
+pub const STALE_WHILE_REVALIDATE: u64 = 35;
+
+pub const STALE_IF_ERROR: u64 = 36;
 
 /// The report.
 pub const REPORT_FOUND: u64 = 40;

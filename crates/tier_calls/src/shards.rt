@@ -1,5 +1,8 @@
 //! A tier of one, four or sixteen shards.
-ghost use Rattle.std.specs.Prelude.{◌≡◌, ◌<◌, ◌⊎◌, [], Some, None, IfSome, IfNone, length, option_map};
+ghost use Rattle.std.specs.Prelude.{◌≡◌, ◌<◌, ◌⊎◌, [], Some, None, IfOk, IfSome, IfNone, length, option_map};
+ghost use Rattle.cache_words.specs.Key.{key_of, combined};
+ghost use Rattle.cache_changes.specs.Store.{body_at};
+ghost use Rattle.tier_calls.specs.Heads.{IsMetaOf};
 ghost use Rattle.tier_calls.specs.Tiers.{state_of, made_with, Steps, StartsAs};
 ghost use Rattle.tier_model.specs.Histories.{empty_opening};
 ghost use Rattle.tier_model.specs.Past.{HasPast};
@@ -7,12 +10,15 @@ ghost use Rattle.tier_model.specs.State.{State, empty_state};
 ghost use Rattle.tier_model.specs.Reports.{report_of};
 
 use crate::numbers;
+use cache_heads::CacheMeta;
 use cache_tier::tier::Tier;
+use cache_words::key::{CacheHashKey, CacheKey};
 use cache_words::time::Duration;
 use lru_core::SeededState;
 use lru_files::persistence::MemFolder;
+use mem_cache::MemCache;
 use rand_core::Rng;
-use std::alloc::Global;
+use std::alloc::{AllocError, Global};
 use tier_model::event::{Answer, Event, TierFault};
 use tier_model::report::Report;
 
@@ -120,6 +126,23 @@ impl Shards {
         }
     }
 
+    /// Returns the meta of the finished body of a key.
+    pub fn meta_of(
+        &self,
+        alloc: Global,
+        key: &CacheKey,
+    ) -> Option<Result<Option<CacheMeta>, AllocError>>
+        ensures none { IfNone result (state_of self.now ≡ None) }
+        ensures meta { IfSome result (λ came. IfOk came (λ found. (s : State) × (state_of self.now ≡ Some s) × IsMetaOf s key.now found)) }
+    {
+        match self {
+            Shards::NoMemory | Shards::NoSuchCount => None,
+            Shards::One(tier) => Some(meta_in(alloc, tier, key)),
+            Shards::Four(tier) => Some(meta_in(alloc, tier, key)),
+            Shards::Sixteen(tier) => Some(meta_in(alloc, tier, key)),
+        }
+    }
+
     /// Saves the order of use, each shard to a file in `DIR`, in a folder that has no files.
     pub fn save(&self, folder: &mut MemFolder) -> Option<Result<Saved, TierFault>> {
         match self {
@@ -155,6 +178,34 @@ fn made<const N: usize>(alloc: Global, settings: &Settings) -> Option<Tier<N, Se
         wait,
     } = *settings;
     Tier::with_hasher(alloc, hasher, limit, watermark, age, wait).ok()
+}
+
+// The meta of the finished body of a key. The key is hashed once.
+fn meta_in<const N: usize>(
+    alloc: Global,
+    tier: &Tier<N, SeededState>,
+    key: &CacheKey,
+) -> Result<Option<CacheMeta>, AllocError>
+    ensures { IfOk result (IsMetaOf tier.now key.now) }
+{
+    meta_by(alloc, tier.store(), key)
+}
+
+// The same of a store.
+fn meta_by(
+    alloc: Global,
+    store: &MemCache<SeededState>,
+    key: &CacheKey,
+) -> Result<Option<CacheMeta>, AllocError>
+    ensures { IfOk result (λ found. found ≡ option_map (λ x. x.meta) (body_at (combined (key_of key.now)) store.now.store)) }
+{
+    match store.finished(&key.combined_bin()) {
+        Some((packed, _)) => match packed.unpack(alloc) {
+            Ok(meta) => Ok(Some(meta)),
+            Err(fault) => Err(fault),
+        },
+        None => Ok(None),
+    }
 }
 
 fn save_one<const N: usize>(

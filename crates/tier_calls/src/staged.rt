@@ -64,8 +64,8 @@ impl Staged {
         }
     }
 
-    // The staged key, which is spent.
-    fn take_key(&mut self) -> CacheKey
+    /// The staged key, which is spent.
+    pub fn take_key(&mut self) -> CacheKey
         ensures key { result ≡ key_in self.old }
         ensures bytes { self.new.bytes ≡ self.old.bytes }
     {

@@ -3,7 +3,8 @@ use crate::held::{Held, finish, make};
 use crate::numbers;
 use std::alloc::Global;
 
-const RESPONSE: &[u8] = b"HTTP/1.1 200 OK\r\nCache-Control: max-age=60\r\n\r\nabc";
+const RESPONSE: &[u8] =
+    b"HTTP/1.1 200 OK\r\nCache-Control: max-age=60, stale-while-revalidate=7\r\n\r\nabc";
 
 const HEAD: &[u8] = b"HTTP/1.1 200 OK\r\nCache-Control: max-age=60\r\n\r\n";
 
@@ -35,6 +36,35 @@ const DAY: &[Step] = &[
         numbers::FOUND,
     ),
     (numbers::TAG, NOTHING, numbers::FRESH, 0, 0, 1),
+    (
+        numbers::KEY,
+        b"/a",
+        numbers::SHOW_HEAD,
+        0,
+        0,
+        numbers::SHOWN,
+    ),
+    (numbers::TAG, NOTHING, numbers::NUMBER, 0, 0, 200),
+    (numbers::TAG, NOTHING, numbers::SECOND, 0, 0, 1),
+    (numbers::TAG, NOTHING, numbers::FRESH_UNTIL, 0, 0, 1060),
+    (numbers::TAG, NOTHING, numbers::CREATED, 0, 0, 1000),
+    (
+        numbers::TAG,
+        NOTHING,
+        numbers::STALE_WHILE_REVALIDATE,
+        0,
+        0,
+        7,
+    ),
+    (numbers::TAG, NOTHING, numbers::STALE_IF_ERROR, 0, 0, 0),
+    (
+        numbers::KEY,
+        b"/z",
+        numbers::SHOW_HEAD,
+        0,
+        0,
+        numbers::NOTHING_SHOWN,
+    ),
     (
         numbers::TAG,
         NOTHING,

@@ -32,6 +32,7 @@ impl Held {
             numbers::THIRD => told.third,
             numbers::STATE => self.tier.status(),
             numbers::VERSION => numbers::THE_VERSION,
+            numbers::FRESH_UNTIL..=numbers::STALE_IF_ERROR => self.ask_head(op),
             numbers::REPORT_FOUND..=numbers::REPORT_EVICTED => self.ask_report(op),
             _ => numbers::BAD_CALL,
         }

@@ -9,6 +9,7 @@ use crate::told::{Told, plain};
 use bytes::Bytes;
 use lru_files::persistence::MemFolder;
 use std::alloc::{AllocError, Global};
+use tier_model::event::TierFault;
 
 // The path of a shard's file.
 fn path_of(alloc: Global, shard: u64) -> Result<String, AllocError> {
@@ -31,6 +32,7 @@ impl Held {
                 };
                 numbers::SAVED
             }
+            Some(Err(TierFault::Folder)) => self.refuse(numbers::FOLDER),
             Some(Err(_)) => self.refuse(numbers::MEMORY),
             None => self.refuse_without(),
         }

@@ -1,5 +1,5 @@
 //! Bytes that are handed in, lent and copied out.
-ghost use Rattle.std.specs.Prelude.{◌≡◌};
+ghost use Rattle.std.specs.Prelude.{◌≡◌, length};
 ghost use Rattle.tier_calls.specs.Called.{IsHand, IsLend, IsCopy};
 
 use super::{Held, Lent};
@@ -8,6 +8,16 @@ use bytes::Bytes;
 use cache_words::key::CacheHashKey;
 use std::alloc::AllocError;
 use std::str;
+
+// Lends bytes. Of none `at` stays as it was.
+pub(super) fn lend_out(bytes: &[u8], out: &mut Lent)
+    ensures { out.new.len ≡ length bytes.now }
+{
+    out.len = bytes.len();
+    if let Some(first) = bytes.first() {
+        out.at = std::ptr::from_ref(first);
+    }
+}
 
 // How handing in ended.
 fn status_of(handed: Result<(), AllocError>) -> u64 {
@@ -43,11 +53,7 @@ impl Held {
     {
         match reads::get(&self.reads, request) {
             Some(bytes) => {
-                let bytes = bytes.as_slice();
-                out.len = bytes.len();
-                if let Some(first) = bytes.first() {
-                    out.at = std::ptr::from_ref(first);
-                }
+                lend_out(bytes.as_slice(), out);
                 numbers::SHOWN
             }
             None => numbers::NOTHING_SHOWN,
