@@ -1,0 +1,8 @@
+//! What a curve says of tiers.
+//!
+//! A curve counts what caches of one list find of the steps that requests are (`size_curve`). Here stands why that is what a tier of one
+//! shard finds that is new and serves these requests, where they are uniform, have plain heads and none is refused; and why a greater
+//! limit finds no less.
+#![tactic(auto)]
+
+pub mod laws;
