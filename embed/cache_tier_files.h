@@ -2,17 +2,19 @@
 #ifndef CACHE_TIER_FILES_H
 #define CACHE_TIER_FILES_H
 #include "cache_tier.h"
+#include <errno.h>
 #include <stdio.h>
 #include <stdlib.h>
 #include <unistd.h>
 
-/* Hands in the file of each shard that is there, and starts the tier, which is new. */
+/* Hands in the file of each shard that is there, and starts the tier, which is new. False where a file is there but can't be read. */
 static inline int cache_tier_load_files(cache_tier *tier, const char *folder, unsigned shards) {
     char path[4096];
     for (unsigned i = 0; i < shards; i++) {
         snprintf(path, sizeof path, "%s/lru.data.%u", folder, i);
         FILE *in = fopen(path, "rb");
-        if (!in) continue;
+        if (!in && errno == ENOENT) continue;
+        if (!in) return 0;
         long len = fseek(in, 0, SEEK_END) ? -1 : ftell(in);
         char *file = len < 0 ? NULL : (char *)malloc(len + 1);
         rewind(in);
