@@ -35,6 +35,7 @@ static uint64_t ids = 1;
 
 static uint64_t now(void) { return (uint64_t)time(NULL); }
 static char *copied(const char *s) { return (s = strdup(s ? s : "")) ? (char *)s : (fail("out of memory"), NULL); }
+static void ends(uint64_t id) { if (cache_tier_drop(tier, now(), 0, id) == CACHE_TIER_MEMORY) fail("out of memory"); } /* it would stay open */
 static void sleep_on(client *c) { c->asleep = 1, c->next = sleepers, sleepers = c, MHD_suspend_connection(c->at); }
 static void wake(void) {
     for (client *c; (c = sleepers); MHD_resume_connection(c->at)) sleepers = c->next, c->asleep = 0;
@@ -85,7 +86,7 @@ static enum MHD_Result hit(client *c, const char *method, const text *head, uint
 /* ---- fetches: each in a thread of its own, with the lock held but while libcurl waits */
 static void release(fetch *f) {
     if (--f->users) return;
-    if (f->id) cache_tier_drop(tier, now(), 0, f->id);
+    if (f->id) ends(f->id);
     curl_slist_free_all(f->fields);
     free(f->url), free(f->method), free(f->key), free(f->vary), free(f->head.at), free(f->old.at), free(f->body.at), free(f->sent.at), free(f);
 }
@@ -99,7 +100,7 @@ static void store_variant(fetch *f, const char *vary) {
     adds(&key, f->key), add_variant(&key, (sprintf(token, "%llx", (unsigned long long)f->id), token), vary, f->fields);
     if (begin(f, &f->head) && cache_tier_piece(tier, now(), 0, f->id, token, strlen(token), 1) == CACHE_TIER_WRITTEN)
         cache_tier_finish(tier, now(), 0, f->id);
-    cache_tier_drop(tier, now(), 0, f->id); f->id = ids++; free(f->key), f->key = key.at;
+    ends(f->id); f->id = ids++; free(f->key), f->key = key.at;
     f->stores = cache_tier_open(tier, now(), 0, f->id, key.at, key.len, 0) == CACHE_TIER_OPENED &&
                 cache_tier_look_up(tier, now(), 0, f->id) == CACHE_TIER_ABSENT && begin(f, &f->head);
 }
@@ -123,7 +124,7 @@ static void judge(fetch *f) { /* its head is there: is it to be stored? */
         else if (varies && !f->vary) store_variant(f, vary);
         else f->stores = begin(f, &f->head);
     }
-    if (f->id && !f->stores && !f->spare) cache_tier_drop(tier, now(), 0, f->id), f->id = 0; /* who waits for its permit fetches for himself */
+    if (f->id && !f->stores && !f->spare) ends(f->id), f->id = 0; /* who waits for its permit fetches for himself */
     wake();
 }
 static size_t on_head(char *p, size_t one, size_t n, void *cls) {
@@ -161,7 +162,7 @@ static void *run(void *cls) {
     int ok = fits && curl_easy_perform(c) == CURLE_OK; pthread_mutex_lock(&lock); f->over = 1, f->failed |= !ok;
     if (!f->failed && f->stores)
         f->failed = cache_tier_piece(tier, now(), 0, f->id, "", 0, 1) != CACHE_TIER_WRITTEN, cache_tier_finish(tier, now(), 0, f->id);
-    if (f->failed && f->id) cache_tier_drop(tier, now(), 0, f->id), f->id = 0; /* nothing of it is stored */
+    if (f->failed && f->id) ends(f->id), f->id = 0; /* nothing of it is stored */
     if (!f->failed && f->status < 400 && !listed(f->method, strlen(f->method), "GET,HEAD,OPTIONS,TRACE"))
         cache_tier_purge(tier, now(), 0, f->key, strlen(f->key));
     fetch **p = &flying;
@@ -196,7 +197,7 @@ static enum MHD_Result follow(client *c, const char *method) { /* answers as its
     return reply(c->at, f->status, &f->head, MHD_create_response_from_callback(MHD_SIZE_UNKNOWN, 1 << 16, more, c, NULL), f->id ? "miss" : "pass", -1);
 }
 static enum MHD_Result pass(client *c, const char *method) {
-    if (c->id) cache_tier_drop(tier, now(), 0, c->id), c->id = 0;
+    if (c->id) ends(c->id), c->id = 0;
     start(c, method, 0, NULL, 0); return follow(c, method);
 }
 /* The client's request in the tier: it is open, and asks for the permit but where something stale is to serve. */
@@ -207,7 +208,7 @@ static void to_variant(client *c, const char *vary) { /* what was found is a lis
     char token[64] = ""; struct curl_slist *fields = handed_on(&c->lines);
     if (cache_tier_read(tier, now(), 0, c->id) == CACHE_TIER_BYTES && cache_tier_lend(tier, c->id, &c->lent) == CACHE_TIER_SHOWN && c->lent.len < 64)
         memcpy(token, c->lent.at, c->lent.len);
-    cache_tier_drop(tier, now(), 0, c->id), c->id = 0, c->lent.len = 0, c->vary = copied(vary);
+    ends(c->id), c->id = 0, c->lent.len = 0, c->vary = copied(vary);
     add_variant(&c->key, token, vary, fields), curl_slist_free_all(fields);
 }
 static enum MHD_Result find(client *c, const char *method) {
@@ -267,7 +268,7 @@ static void *opened(void *cls, const char *url, struct MHD_Connection *at) {
 }
 static void ended(void *cls, struct MHD_Connection *at, void **con, enum MHD_RequestTerminationCode why) {
     (void)cls, (void)at, (void)why; client *c = *con; pthread_mutex_lock(&lock);
-    if (c->id) cache_tier_drop(tier, now(), 0, c->id); /* what it was lent is sent */
+    if (c->id) ends(c->id); /* what it was lent is sent */
     if (c->from) release(c->from), pthread_cond_broadcast(&changed);
     pthread_mutex_unlock(&lock); free(c->url), free(c->key.at), free(c->lines.at), free(c->sent.at), free(c->vary), free(c);
 }
