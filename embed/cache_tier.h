@@ -182,7 +182,7 @@ CT cache_tier_second(cache_tier *t) { return cache_tier_call(t, 27, 0, 0, 0); }
 CT cache_tier_third(cache_tier *t) { return cache_tier_call(t, 28, 0, 0, 0); }
 
 /* 0 found, 1 absent, 2 bodies, 3 bytes, 4 tracked, 5 weight, 6 evicted */
-CT cache_tier_report(cache_tier *t, unsigned which) { return which > 6 ? CACHE_TIER_BAD_CALL : cache_tier_call(t, 40 + which, 0, 0, 0); }
+CT cache_tier_report(cache_tier *t, unsigned which) { return which > 6 ? (uint64_t)CACHE_TIER_BAD_CALL : cache_tier_call(t, 40 + which, 0, 0, 0); }
 #undef CT
 
 #ifdef __cplusplus

@@ -264,6 +264,10 @@ def restarts(program, origin, folder):
     again = Proxy(program, origin, "--state", state)
     check("absent after a restart", again.get("/minute/a").of("x-cache"), "miss")
     again.stop()
+    os.mkdir(os.path.join(folder, "unreadable")), os.mkdir(os.path.join(folder, "unreadable", "lru.data.0"))
+    for name in ("unreadable", "nginx.conf"):
+        words = ["--listen", str(free_port()), "--origin", origin, "--limit", "1", "--state", os.path.join(folder, name)]
+        check(f"files that can't be read in {name}", subprocess.run([program, *words], stderr=subprocess.DEVNULL, timeout=20).returncode, 2)
 
 
 def main():
