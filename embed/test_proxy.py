@@ -226,7 +226,7 @@ def of_bad_origin(program):
     time.sleep(2.1)
     check("stale if error", [(it.of("x-cache"), it.body) for it in [proxy.get("/error")]], [("stale", b"good")])
     check("a 304 keeps the status", [(it.status, it.body, it.of("x-cache")) for it in [proxy.get("/gone") for _ in range(2)]], [(404, b"body", "miss"), (404, b"body", "hit")])
-    check("a 304 that brings Vary", [(it.status, it.body) for it in [proxy.get("/turns") for _ in range(3)]], [(200, b"body")] * 3)
+    check("a 304 that brings Vary", [(it.status, it.body, it.of("x-cache")) for it in [proxy.get("/turns") for _ in range(3)]], [(200, b"body", "pass")] * 3)
     proxy.stop()
     small = Proxy(program, f"http://127.0.0.1:{origin.port}", "--limit", "30000")
     check("longer than the limit", [(it.of("x-cache"), it.body) for it in [small.get("/slow") for _ in range(2)]], [("pass", b"x" * 50000)] * 2)
