@@ -4,7 +4,7 @@ set -eu
 cd "$(dirname "$0")"
 kit=$(dirname "$(dirname "$(readlink -f "$(command -v rt)")")")
 archive=../crates/cache_tier_c/out/libcache_tier_c.a
-[ -f "$archive" ] || (cd ../crates/cache_tier_c && rt lib)
+(cd ../crates/cache_tier_c && rt lib) # which takes what was proved before, and nothing that has changed since
 mkdir -p out
 cp "$archive" "$kit/c/liblibc_c.a" out/
 gcc -O2 -Wall -Wextra first.c out/libcache_tier_c.a out/liblibc_c.a -o out/first

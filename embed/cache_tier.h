@@ -127,7 +127,7 @@ CT cache_tier_piece(cache_tier *t, uint64_t s, uint64_t ns, uint64_t id, const v
 CT cache_tier_finish(cache_tier *t, uint64_t s, uint64_t ns, uint64_t id) { return cache_tier_call(t, 7, s, ns, id); }
 /* BYTES (lend them), PENDING or END. */
 CT cache_tier_read(cache_tier *t, uint64_t s, uint64_t ns, uint64_t id) { return cache_tier_call(t, 8, s, ns, id); }
-/* What the request was lent is gone with it. */
+/* What the request was lent is gone with it. MEMORY: it is still open, so repeat the drop. */
 CT cache_tier_drop(cache_tier *t, uint64_t s, uint64_t ns, uint64_t id) { return cache_tier_call(t, 9, s, ns, id); }
 CT cache_tier_purge(cache_tier *t, uint64_t s, uint64_t ns, const void *key, size_t len) {
     uint64_t r = cache_tier_hand(t, 0, cache_tier_some(key), len);
@@ -155,7 +155,8 @@ CT cache_tier_show_evicted(cache_tier *t, uint64_t place) { return cache_tier_ca
 CT cache_tier_show_read(cache_tier *t, uint64_t id) { return cache_tier_call(t, 16, 0, 0, id); }
 
 /* The head of the finished body of this key, which is the head of what was found right after a look-up that was FOUND, complete: SHOWN, `number` is its
-   status and `second` how many lines it has; NOTHING_SHOWN, also while a first response is still written; MEMORY. It is no use of the entry. */
+   status and `second` how many lines it has; NOTHING_SHOWN, also while a first response is still written; MEMORY: the head
+   that was shown before stays, so ask again. It is no use of the entry. */
 CT cache_tier_head(cache_tier *t, const void *key, size_t len) {
     uint64_t r = cache_tier_hand(t, 0, cache_tier_some(key), len);
     return r ? r : cache_tier_call(t, 17, 0, 0, 0);
@@ -168,7 +169,7 @@ CT cache_tier_created_nanoseconds(cache_tier *t) { return cache_tier_call(t, 34,
 CT cache_tier_stale_while_revalidate(cache_tier *t) { return cache_tier_call(t, 35, 0, 0, 0); }
 CT cache_tier_stale_if_error(cache_tier *t) { return cache_tier_call(t, 36, 0, 0, 0); }
 
-/* What the last event or restart told. */
+/* What the last event, head, save or start told. */
 CT cache_tier_number(cache_tier *t) { return cache_tier_call(t, 20, 0, 0, 0); }
 CT cache_tier_evicted(cache_tier *t) { return cache_tier_call(t, 21, 0, 0, 0); }
 CT cache_tier_is_fresh(cache_tier *t) { return cache_tier_call(t, 22, 0, 0, 0); }
@@ -181,7 +182,7 @@ CT cache_tier_second(cache_tier *t) { return cache_tier_call(t, 27, 0, 0, 0); }
 CT cache_tier_third(cache_tier *t) { return cache_tier_call(t, 28, 0, 0, 0); }
 
 /* 0 found, 1 absent, 2 bodies, 3 bytes, 4 tracked, 5 weight, 6 evicted */
-CT cache_tier_report(cache_tier *t, unsigned which) { return which > 6 ? CACHE_TIER_BAD_CALL : cache_tier_call(t, 40 + which, 0, 0, 0); }
+CT cache_tier_report(cache_tier *t, unsigned which) { return which > 6 ? (uint64_t)CACHE_TIER_BAD_CALL : cache_tier_call(t, 40 + which, 0, 0, 0); }
 #undef CT
 
 #ifdef __cplusplus

@@ -10,8 +10,10 @@
 One call at a time on one tier. What is lent may be read until its request reads bytes again or is dropped.
 """
 
+import collections
 import ctypes
 import os
+import time
 
 NONE = 2**64 - 1
 READY, MEMORY, BAD_CALL, NOT_NEW, NOTHING_SHOWN = 0, 13, 16, 17, 18
@@ -32,6 +34,14 @@ class Lent(ctypes.Structure):
     _fields_ = [("at", ctypes.c_void_p), ("len", ctypes.c_size_t)]
 
 
+class Line(ctypes.Structure):
+    _fields_ = [("name", Lent), ("value", Lent)]
+
+
+# Moments are seconds and nanoseconds; the last two are seconds that it may serve when it is stale; lines are names and values.
+Head = collections.namedtuple("Head", "status fresh_until created stale_while_revalidate stale_if_error lines")
+
+
 def _load(path):
     lib = ctypes.CDLL(path)
     number, room = ctypes.c_uint64, ctypes.c_void_p
@@ -43,6 +53,7 @@ def _load(path):
         ("hand", number, [room, number, ctypes.c_char_p, ctypes.c_size_t]),
         ("copy", number, [room, number, ctypes.c_char_p, ctypes.c_size_t]),
         ("lend", number, [room, number, ctypes.POINTER(Lent)]),
+        ("head_line", number, [room, number, ctypes.POINTER(Line)]),
     ):
         function = getattr(lib, "cache_tier_" + name)
         function.restype, function.argtypes = result, arguments
@@ -137,6 +148,22 @@ class Tier:
             return None
         return memoryview((ctypes.c_char * lent.len).from_address(lent.at)) if lent.len else memoryview(b"")
 
+    def head(self, key):
+        """A copy of the head of the finished body of a key; None where there is none."""
+        self.hand(0, key)
+        status = self.call(17)
+        if status not in (SHOWN, NOTHING_SHOWN):
+            raise Refused(status)
+        if status == NOTHING_SHOWN:
+            return None
+        code, count, line = self.number(), self.second(), Line()
+        text = lambda it: ctypes.string_at(it.at, it.len) if it.len else b""
+        lines = []
+        for place in range(count):
+            if self._lib.cache_tier_head_line(self._at, place, ctypes.byref(line)) == SHOWN:
+                lines.append((text(line.name), text(line.value)))
+        return Head(code, (self.ask(31), self.ask(32)), (self.ask(33), self.ask(34)), self.ask(35), self.ask(36), lines)
+
     def shown(self):
         """A copy of what is shown."""
         room = ctypes.create_string_buffer(max(1, self._lib.cache_tier_copy(self._at, 0, b"", 0)))
@@ -206,7 +233,8 @@ class Request:
         return self
 
     def __exit__(self, *_):
-        self.tier.drop(self._moment, self.id)
+        while self.tier.drop(self._moment, self.id) == MEMORY:  # it is still open
+            time.sleep(0.01)
 
     def look_up(self, moment):
         return self.tier.look_up(moment, self.id)

@@ -16,6 +16,12 @@ struct Lent {
     len: usize,
 }
 
+#[repr(C)]
+struct Line {
+    name: Lent,
+    value: Lent,
+}
+
 unsafe extern "C" {
     fn cache_tier_size() -> usize;
     fn cache_tier_init(room: *mut Raw, limit: u64, watermark: u64, age: u64, wait: u64, shards: u64, seed: u64, hash_start: u64);
@@ -23,6 +29,7 @@ unsafe extern "C" {
     fn cache_tier_call(at: *mut Raw, op: u64, seconds: u64, nanoseconds: u64, id: u64) -> u64;
     fn cache_tier_hand(at: *mut Raw, which: u64, bytes: *const u8, len: usize) -> u64;
     fn cache_tier_lend(at: *mut Raw, id: u64, out: *mut Lent) -> u64;
+    fn cache_tier_head_line(at: *mut Raw, place: u64, out: *mut Line) -> u64;
 }
 
 /// Why a call was refused: below 16 as the tier refuses it, by the numbers of a trace's answers.
@@ -42,6 +49,17 @@ pub enum Permit {
 pub enum Look {
     Found { fresh: bool, complete: bool, permit: Permit },
     Absent { permit: Permit },
+}
+
+/// A copy of a stored head. Moments are seconds and nanoseconds; the stale times are seconds; lines are names and values.
+#[derive(Clone, Debug, PartialEq, Eq)]
+pub struct Head {
+    pub status: u64,
+    pub fresh_until: (u64, u64),
+    pub created: (u64, u64),
+    pub stale_while_revalidate: u64,
+    pub stale_if_error: u64,
+    pub lines: Vec<(Vec<u8>, Vec<u8>)>,
 }
 
 /// What a tier is made with.
@@ -79,6 +97,16 @@ impl Core {
             0 => Ok(()),
             status => Err(Refused(status)),
         }
+    }
+
+    fn line(&mut self, place: u64) -> Option<(Vec<u8>, Vec<u8>)> {
+        let none = || Lent { at: NonNull::dangling().as_ptr(), len: 0 };
+        let mut line = Line { name: none(), value: none() };
+        if unsafe { cache_tier_head_line(self.at.as_ptr(), place, &mut line) } != 49 {
+            return None;
+        }
+        let copy = |it: &Lent| unsafe { std::slice::from_raw_parts(it.at, it.len) }.to_vec();
+        Some((copy(&line.name), copy(&line.value)))
     }
 
     fn permit(&mut self) -> Permit {
@@ -139,6 +167,25 @@ impl Tier {
         let mut core = self.core();
         core.hand(0, key)?;
         Ok(core.call(10, moment, 0)? == 43)
+    }
+
+    /// The head of the finished body of a key, if there is one.
+    pub fn head(&self, key: &[u8]) -> Result<Option<Head>, Refused> {
+        let mut core = self.core();
+        core.hand(0, key)?;
+        match core.call(17, 0, 0) {
+            Err(Refused(18)) => return Ok(None),
+            other => other?,
+        };
+        let (status, count) = (core.ask(20), core.ask(27));
+        Ok(Some(Head {
+            status,
+            fresh_until: (core.ask(31), core.ask(32)),
+            created: (core.ask(33), core.ask(34)),
+            stale_while_revalidate: core.ask(35),
+            stale_if_error: core.ask(36),
+            lines: (0..count).map_while(|place| core.line(place)).collect(),
+        }))
     }
 
     /// Opens a request, which its `Drop` ends.
@@ -221,6 +268,9 @@ impl Request<'_> {
 
 impl Drop for Request<'_> {
     fn drop(&mut self) {
-        let _ = self.tier.core().call(9, 0, self.id);
+        // Without memory it is still open; the lock is free between the tries.
+        while self.tier.core().call(9, 0, self.id) == Err(Refused(13)) {
+            std::thread::yield_now();
+        }
     }
 }

@@ -9,6 +9,8 @@ fn main() {
     let tier = Tier::new(&options).expect("a tier");
     let response = b"HTTP/1.1 200 OK\r\nCache-Control: max-age=60\r\nContent-Length: 5\r\n\r\nhello";
     assert_eq!(tier.put(1000, b"/a", response), Ok(true));
+    let head = tier.head(b"/a").expect("an answer").expect("a head");
+    assert_eq!((head.status, head.fresh_until.0), (200, 1060));
     let mut request = tier.open(1030, b"/a", false).expect("a request");
     if let Ok(Look::Found { fresh: true, .. }) = request.look_up(1030) {
         // A purge takes nothing from a request that found the body.

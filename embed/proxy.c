@@ -3,6 +3,7 @@
 #define _GNU_SOURCE
 #include "cache_tier_files.h"
 #include "heads.h"
+#include "options.h"
 #include <pthread.h>
 #include <signal.h>
 #include <sys/random.h>
@@ -15,11 +16,12 @@ typedef struct fetch {
     text head, old, body, sent; /* the response's head; that of the body which it may confirm; bytes that aren't stored, until they are taken */
     cache_tier_lent stale;      /* the body which it may confirm, lent by its request */
     uint64_t id, made;          /* the request that writes; 0: nothing is stored. The moment of its write */
+    uint64_t length, wrote;     /* Content-Length, if it came; the bytes that were written. Neither may pass the limit */
     struct curl_slist *fields; struct fetch *next; size_t taken; long status, age;
     int users, judged, stores, over, failed, spare; /* spare: where it fails something stale serves */
 } fetch;
 typedef struct client {
-    struct MHD_Connection *at; char *url; text key, sent; fetch *from; uint64_t id; cache_tier_lent lent; size_t gone; char *vary;
+    struct MHD_Connection *at; char *url; text key, lines, sent; fetch *from; uint64_t id; cache_tier_lent lent; size_t gone; char *vary;
     int seen, waits, asleep, passes; struct client *next;
 } client;
 static cache_tier *tier;
@@ -28,12 +30,12 @@ static pthread_cond_t changed = PTHREAD_COND_INITIALIZER;
 static client *sleepers;
 static fetch *flying;
 static CURL *idle[64];
-static int idle_count, stopping;
+static int idle_count;
 static uint64_t ids = 1;
-static const char *origin, *folder;
 
 static uint64_t now(void) { return (uint64_t)time(NULL); }
 static char *copied(const char *s) { return (s = strdup(s ? s : "")) ? (char *)s : (fail("out of memory"), NULL); }
+static void ends(uint64_t id) { if (cache_tier_drop(tier, now(), 0, id) == CACHE_TIER_MEMORY) fail("out of memory"); } /* it would stay open */
 static void sleep_on(client *c) { c->asleep = 1, c->next = sleepers, sleepers = c, MHD_suspend_connection(c->at); }
 static void wake(void) {
     for (client *c; (c = sleepers); MHD_resume_connection(c->at)) sleepers = c->next, c->asleep = 0;
@@ -63,28 +65,28 @@ static ssize_t more(void *cls, uint64_t at, char *out, size_t most) { /* reads o
 }
 static fetch *fetch_of(const char *key, fetch *f) { return f && (!f->stores || strcmp(f->key, key)) ? fetch_of(key, f->next) : f; }
 /* Sends what its last look-up found. A whole body goes from the memory that the tier lends, which its request keeps until it is dropped. */
-static enum MHD_Result hit(client *c, const text *head, uint64_t made, fetch *flies, const char *how) {
+static enum MHD_Result hit(client *c, const char *method, const text *head, uint64_t made, fetch *flies, const char *how) {
     uint64_t t = now(); long age = t > made ? (long)(t - made) : 0, status = atol(head->at + 9);
-    unsigned long long from = 0, to = UINT64_MAX; const char *range = asked(c->at, "Range"); char part[96];
+    unsigned long long from = 0, to = 0; char part[96];
     if (unchanged(c->at, head)) return reply(c->at, 304, head, MHD_create_response_from_buffer(0, "", MHD_RESPMEM_PERSISTENT), how, age);
     if (flies || cache_tier_read(tier, t, 0, c->id) != CACHE_TIER_BYTES) {
         if ((c->from = flies)) flies->users++;
         return reply(c->at, status, head, MHD_create_response_from_callback(MHD_SIZE_UNKNOWN, 1 << 16, more, c, NULL), how, age);
     }
     c->lent.at = (const uint8_t *)""; cache_tier_lend(tier, c->id, &c->lent);
-    int ranged = range && status == 200 && !asked(c->at, "If-Range") && sscanf(range, "bytes=%llu-%llu", &from, &to) >= 1 && !strchr(range, ',');
-    if (ranged && (from >= c->lent.len || to < from)) return plain(c->at, 416, "no such part\n");
-    if (!ranged || to >= c->lent.len) to = c->lent.len ? c->lent.len - 1 : 0;
-    size_t len = ranged ? to - from + 1 : c->lent.len;
-    struct MHD_Response *r = MHD_create_response_from_buffer(len, (void *)(c->lent.at + (ranged ? from : 0)), MHD_RESPMEM_PERSISTENT);
-    if (ranged) sprintf(part, "bytes %llu-%llu/%zu", from, to, c->lent.len), MHD_add_response_header(r, "Content-Range", part);
-    return reply(c->at, ranged ? 206 : status, head, r, how, age);
+    int in_part = status == 200 && !strcmp(method, "GET") && !asked(c->at, "If-Range") && ranged(asked(c->at, "Range"), &from, &to);
+    if (in_part && from >= c->lent.len) return no_part(c->at, c->lent.len);
+    if (in_part && to >= c->lent.len) to = c->lent.len - 1;
+    size_t len = in_part ? to - from + 1 : c->lent.len;
+    struct MHD_Response *r = MHD_create_response_from_buffer(len, (void *)(c->lent.at + (in_part ? from : 0)), MHD_RESPMEM_PERSISTENT);
+    if (in_part) sprintf(part, "bytes %llu-%llu/%zu", from, to, c->lent.len), MHD_add_response_header(r, "Content-Range", part);
+    return reply(c->at, in_part ? 206 : status, head, r, how, age);
 }
 
 /* ---- fetches: each in a thread of its own, with the lock held but while libcurl waits */
 static void release(fetch *f) {
     if (--f->users) return;
-    if (f->id) cache_tier_drop(tier, now(), 0, f->id);
+    if (f->id) ends(f->id);
     curl_slist_free_all(f->fields);
     free(f->url), free(f->method), free(f->key), free(f->vary), free(f->head.at), free(f->old.at), free(f->body.at), free(f->sent.at), free(f);
 }
@@ -98,46 +100,50 @@ static void store_variant(fetch *f, const char *vary) {
     adds(&key, f->key), add_variant(&key, (sprintf(token, "%llx", (unsigned long long)f->id), token), vary, f->fields);
     if (begin(f, &f->head) && cache_tier_piece(tier, now(), 0, f->id, token, strlen(token), 1) == CACHE_TIER_WRITTEN)
         cache_tier_finish(tier, now(), 0, f->id);
-    cache_tier_drop(tier, now(), 0, f->id); f->id = ids++; free(f->key), f->key = key.at;
+    ends(f->id); f->id = ids++; free(f->key), f->key = key.at;
     f->stores = cache_tier_open(tier, now(), 0, f->id, key.at, key.len, 0) == CACHE_TIER_OPENED &&
                 cache_tier_look_up(tier, now(), 0, f->id) == CACHE_TIER_ABSENT && begin(f, &f->head);
 }
 static void confirm(fetch *f) { /* a 304: the old body again, under the old head with the new lines */
-    text head = merged(&f->old, &f->head), body = {0}; free(f->head.at), f->head = head, f->status = 200;
+    text head = merged(&f->old, &f->head), body = {0}; char vary[LINE]; free(f->head.at), f->head = head, f->status = atol(head.at + 9);
     add(&body, f->stale.at ? (const char *)f->stale.at : "", f->stale.len);
-    if (!(f->stores = begin(f, &f->head))) f->body = body; else cache_tier_piece(tier, now(), 0, f->id, body.at, body.len, 0), free(body.at);
+    f->stores = field(&head, "vary", vary, sizeof vary) >= 0 && !strcmp(vary, f->vary ? f->vary : "") && begin(f, &f->head);
+    if (f->stores) f->failed = cache_tier_piece(tier, now(), 0, f->id, body.at, body.len, 0) != CACHE_TIER_WRITTEN, free(body.at); else f->body = body;
 }
 static void judge(fetch *f) { /* its head is there: is it to be stored? */
-    char vary[LINE], value[LINE]; time_t t = time(NULL);
-    if (!field(&f->head, "date", value, sizeof value))
-        strftime(value, sizeof value, "%a, %d %b %Y %H:%M:%S GMT", gmtime(&t)), add_line(&f->head, "Date", 4, value, strlen(value));
+    char vary[LINE], value[LINE];
+    if (!has(&f->head, "date", 4)) add_date(&f->head);
     f->judged = 1, adds(&f->head, "\r\n");
     if (f->status >= 500 && f->spare) f->failed = 1;
     else if (f->status == 304 && f->old.len) confirm(f);
-    else if (f->id && f->status != 206 && f->status != 304 && f->status < 500 && !field(&f->head, "set-cookie", value, sizeof value)) {
+    else if (f->id && f->status != 206 && f->status != 304 && f->status < 500 && f->length <= given.limit &&
+             !field(&f->head, "set-cookie", value, sizeof value) && field(&f->head, "connection", value, sizeof value) >= 0) {
         int varies = field(&f->head, "vary", vary, sizeof vary);
-        if (varies && listed("*", 1, vary)) f->stores = 0;
+        if (varies < 0 || listed("*", 1, vary)) f->stores = 0;
         else if (f->vary ? strcmp(vary, f->vary) : 0) f->stores = 0; /* it varies by something else than its list says */
         else if (varies && !f->vary) store_variant(f, vary);
         else f->stores = begin(f, &f->head);
     }
-    if (f->id && !f->stores && !f->spare) cache_tier_drop(tier, now(), 0, f->id), f->id = 0; /* who waits for its permit fetches for himself */
+    if (f->id && !f->stores && !f->spare) ends(f->id), f->id = 0; /* who waits for its permit fetches for himself */
     wake();
 }
 static size_t on_head(char *p, size_t one, size_t n, void *cls) {
-    fetch *f = cls; n *= one; pthread_mutex_lock(&lock); size_t name = memchr(p, ':', n) ? (size_t)((char *)memchr(p, ':', n) - p) : 0;
+    fetch *f = cls; static text line; n *= one; pthread_mutex_lock(&lock);
+    line.len = 0, add(&line, p, n), p = line.at; /* with a 0 after it */
+    size_t name = strchr(p, ':') ? (size_t)(strchr(p, ':') - p) : 0;
     if (f->judged) name = 0; /* what comes after the body */
     else if (n > 12 && !strncmp(p, "HTTP/", 5)) {
-        f->status = atol(strchr(p, ' ') ? strchr(p, ' ') : p), f->head.len = 0; char line[64];
-        add(&f->head, line, sprintf(line, "HTTP/1.1 %03ld OK\r\n", f->status));
+        f->status = atol(strchr(p, ' ') ? strchr(p, ' ') : p), f->head.len = 0, f->length = 0; char first[64];
+        add(&f->head, first, sprintf(first, "HTTP/1.1 %03ld OK\r\n", f->status));
     } else if (n <= 2 && f->status >= 200) judge(f);
     else if (is(p, name, "age")) f->age = labs(atol(p + 4));
-    else if (name && n > 2 && p[n - 2] == '\r' && !is(p, name, "content-length") && (is(p, name, "connection") || !listed(p, name, HOP))) add(&f->head, p, n);
+    else if (is(p, name, "content-length")) f->length = strtoull(p + name + 1, NULL, 10);
+    else if (name && n > 2 && p[n - 2] == '\r' && (is(p, name, "connection") || !listed(p, name, HOP))) add(&f->head, p, n);
     pthread_mutex_unlock(&lock); return f->failed ? 0 : n;
 }
 static size_t on_body(char *p, size_t one, size_t n, void *cls) {
     fetch *f = cls; n *= one; pthread_mutex_lock(&lock);
-    if (f->stores) f->failed = cache_tier_piece(tier, now(), 0, f->id, p, n, 0) != CACHE_TIER_WRITTEN;
+    if (f->stores) f->failed = (f->wrote += n) > given.limit || cache_tier_piece(tier, now(), 0, f->id, p, n, 0) != CACHE_TIER_WRITTEN;
     else {
         add(&f->body, p, n);
         while (f->body.len - f->taken > MOST_HELD && f->users > 1) wake(), pthread_cond_wait(&changed, &lock);
@@ -147,7 +153,7 @@ static size_t on_body(char *p, size_t one, size_t n, void *cls) {
 }
 static void *run(void *cls) {
     fetch *f = cls; char url[LINE]; pthread_mutex_lock(&lock); CURL *c = idle_count ? idle[--idle_count] : curl_easy_init();
-    pthread_mutex_unlock(&lock); int fits = c && snprintf(url, sizeof url, "%s%s", origin, f->url) < (int)sizeof url;
+    pthread_mutex_unlock(&lock); int fits = c && snprintf(url, sizeof url, "%s%s", given.origin, f->url) < (int)sizeof url;
     if (fits) {
         aims(c, url, f->method, f->fields, &f->sent);
         curl_easy_setopt(c, CURLOPT_HEADERFUNCTION, on_head), curl_easy_setopt(c, CURLOPT_HEADERDATA, f);
@@ -156,7 +162,7 @@ static void *run(void *cls) {
     int ok = fits && curl_easy_perform(c) == CURLE_OK; pthread_mutex_lock(&lock); f->over = 1, f->failed |= !ok;
     if (!f->failed && f->stores)
         f->failed = cache_tier_piece(tier, now(), 0, f->id, "", 0, 1) != CACHE_TIER_WRITTEN, cache_tier_finish(tier, now(), 0, f->id);
-    if (f->failed && f->id) cache_tier_drop(tier, now(), 0, f->id), f->id = 0; /* nothing of it is stored */
+    if (f->failed && f->id) ends(f->id), f->id = 0; /* nothing of it is stored */
     if (!f->failed && f->status < 400 && !listed(f->method, strlen(f->method), "GET,HEAD,OPTIONS,TRACE"))
         cache_tier_purge(tier, now(), 0, f->key, strlen(f->key));
     fetch **p = &flying;
@@ -168,17 +174,14 @@ static void *run(void *cls) {
 }
 /* Starts a fetch, which takes the request of that number over; `old` is the head of something stale that it may confirm. */
 static int start(client *c, const char *method, uint64_t id, const text *old, int spare) {
-    fetch *f = calloc(1, sizeof *f); pthread_t thread; char value[LINE], line[LINE + 32];
+    fetch *f = calloc(1, sizeof *f); pthread_t thread;
     if (!f) fail("out of memory");
     f->url = copied(c->url), f->method = copied(method), f->key = copied(c->key.at), f->id = id, f->users = 2, f->spare = spare;
     f->vary = c->vary ? copied(c->vary) : NULL, f->sent = c->sent, c->sent = (text){0};
-    MHD_get_connection_values(c->at, MHD_HEADER_KIND, each, &f->fields);
+    f->fields = handed_on(&c->lines);
     if (id) leave_conditions(&f->fields); /* what is stored is whole */
-    if (old && cache_tier_read(tier, now(), 0, id) == CACHE_TIER_BYTES && cache_tier_lend(tier, id, &f->stale) == CACHE_TIER_SHOWN) {
-        add(&f->old, old->at, old->len);
-        if (field(old, "etag", value, sizeof value)) sprintf(line, "If-None-Match: %s", value), f->fields = curl_slist_append(f->fields, line);
-        if (field(old, "last-modified", value, sizeof value)) sprintf(line, "If-Modified-Since: %s", value), f->fields = curl_slist_append(f->fields, line);
-    }
+    if (old && cache_tier_read(tier, now(), 0, id) == CACHE_TIER_BYTES && cache_tier_lend(tier, id, &f->stale) == CACHE_TIER_SHOWN)
+        add(&f->old, old->at, old->len), add_conditions(&f->fields, old);
     f->next = flying, flying = f, c->from = f;
     if (pthread_create(&thread, NULL, run, f)) return flying = f->next, f->users = 1, f->over = f->failed = 1, 0;
     return !pthread_detach(thread);
@@ -194,7 +197,7 @@ static enum MHD_Result follow(client *c, const char *method) { /* answers as its
     return reply(c->at, f->status, &f->head, MHD_create_response_from_callback(MHD_SIZE_UNKNOWN, 1 << 16, more, c, NULL), f->id ? "miss" : "pass", -1);
 }
 static enum MHD_Result pass(client *c, const char *method) {
-    if (c->id) cache_tier_drop(tier, now(), 0, c->id), c->id = 0;
+    if (c->id) ends(c->id), c->id = 0;
     start(c, method, 0, NULL, 0); return follow(c, method);
 }
 /* The client's request in the tier: it is open, and asks for the permit but where something stale is to serve. */
@@ -202,11 +205,11 @@ static int opens(client *c) {
     return c->id || cache_tier_open(tier, now(), 0, c->id = ids++, c->key.at, c->key.len, c->passes != 2) == CACHE_TIER_OPENED || (c->id = 0);
 }
 static void to_variant(client *c, const char *vary) { /* what was found is a list of variants */
-    char token[64] = ""; struct curl_slist *fields = NULL;
+    char token[64] = ""; struct curl_slist *fields = handed_on(&c->lines);
     if (cache_tier_read(tier, now(), 0, c->id) == CACHE_TIER_BYTES && cache_tier_lend(tier, c->id, &c->lent) == CACHE_TIER_SHOWN && c->lent.len < 64)
         memcpy(token, c->lent.at, c->lent.len);
-    cache_tier_drop(tier, now(), 0, c->id), c->id = 0, c->lent.len = 0, c->vary = copied(vary);
-    MHD_get_connection_values(c->at, MHD_HEADER_KIND, each, &fields); add_variant(&c->key, token, vary, fields), curl_slist_free_all(fields);
+    ends(c->id), c->id = 0, c->lent.len = 0, c->vary = copied(vary);
+    add_variant(&c->key, token, vary, fields), curl_slist_free_all(fields);
 }
 static enum MHD_Result find(client *c, const char *method) {
     static text head;
@@ -229,7 +232,8 @@ static enum MHD_Result find(client *c, const char *method) {
         int whole = found && complete && !lists, serves = whole && t <= until + cache_tier_stale_while_revalidate(tier);
         int spare = whole && t <= until + cache_tier_stale_if_error(tier);
         if (lists && fresh) { to_variant(c, vary); continue; }
-        if (found && (fresh || c->passes == 2 || (serves && waits))) return hit(c, &head, from ? from->made : cache_tier_created(tier), from, fresh ? "hit" : "stale");
+        if (found && !lists && (fresh || c->passes == 2 || (serves && waits)))
+            return hit(c, method, &head, from ? from->made : cache_tier_created(tier), from, fresh ? "hit" : "stale");
         if (c->passes == 2) return plain(c->at, 502, "the origin gave no response\n");
         if (!strcmp(method, "HEAD")) return pass(c, method);
         if (waits) { c->waits = 1; continue; }
@@ -241,15 +245,21 @@ static enum MHD_Result find(client *c, const char *method) {
 }
 static enum MHD_Result answer(void *cls, struct MHD_Connection *at, const char *url, const char *method, const char *version, const char *up,
                               size_t *up_len, void **con) {
-    (void)cls, (void)url, (void)version; client *c = *con;
-    if (!c->seen) return c->seen = 1, c->at = at, adds(&c->key, c->url), MHD_YES;
+    (void)cls, (void)url; client *c = *con; char control[LINE];
+    if (!c->seen) {
+        c->seen = 1, c->at = at, adds(&c->key, c->url), adds(&c->lines, version), adds(&c->lines, "\r\n");
+        return MHD_get_connection_values(at, MHD_HEADER_KIND, collect, &c->lines), MHD_YES;
+    }
     if (c->sent.len + *up_len > MOST_SENT) c->passes = 3;
     else if (*up_len) add(&c->sent, up, *up_len);
     if (*up_len) return *up_len = 0, MHD_YES;
-    const char *control = asked(c->at, "Cache-Control");
     if (c->passes == 3) return plain(c->at, 413, "too long\n");
+    if (*c->url != '/') return plain(c->at, 400, "no path\n"); /* it would become a part of the origin's name */
+    if (field(&c->lines, "connection", control, sizeof control) < 0 || field(&c->lines, "cache-control", control, sizeof control) < 0)
+        return plain(c->at, 431, "a field is too long\n");
     pthread_mutex_lock(&lock);
-    if (!c->passes && (!listed(method, strlen(method), "GET,HEAD") || asked(c->at, "Authorization") || (control && strstr(control, "no-")))) c->passes = 1;
+    int past = asked(c->at, "Authorization") || listed("no-cache", 8, control) || listed("no-store", 8, control);
+    if (!c->passes && (past || !listed(method, strlen(method), "GET,HEAD"))) c->passes = 1;
     enum MHD_Result r = c->from ? follow(c, method) : c->passes == 1 ? pass(c, method) : find(c, method); pthread_mutex_unlock(&lock); return r;
 }
 static void *opened(void *cls, const char *url, struct MHD_Connection *at) {
@@ -258,43 +268,32 @@ static void *opened(void *cls, const char *url, struct MHD_Connection *at) {
 }
 static void ended(void *cls, struct MHD_Connection *at, void **con, enum MHD_RequestTerminationCode why) {
     (void)cls, (void)at, (void)why; client *c = *con; pthread_mutex_lock(&lock);
-    if (c->id) cache_tier_drop(tier, now(), 0, c->id); /* what it was lent is sent */
+    if (c->id) ends(c->id); /* what it was lent is sent */
     if (c->from) release(c->from), pthread_cond_broadcast(&changed);
-    pthread_mutex_unlock(&lock); free(c->url), free(c->key.at), free(c->sent.at), free(c->vary), free(c);
+    pthread_mutex_unlock(&lock); free(c->url), free(c->key.at), free(c->lines.at), free(c->sent.at), free(c->vary), free(c);
 }
 static void *ticks(void *none) { /* polls have times */
-    for (int on = 1; on; usleep(100000)) pthread_mutex_lock(&lock), wake(), on = !stopping, pthread_mutex_unlock(&lock);
+    for (;; usleep(100000)) pthread_mutex_lock(&lock), wake(), pthread_mutex_unlock(&lock);
     return none;
 }
 int main(int argc, char **argv) {
-    const char *usage = "--listen PORT --origin URL --limit BYTES [--threads COUNT] [--state FOLDER]", *end = "";
-    unsigned long long port = 0, limit = 0, threads = 4, *number = NULL, limited = 0;
-    for (int i = 1; i < argc; i += 2) {
-        const char *name = argv[i], *value = i + 1 < argc ? argv[i + 1] : "";
-        number = !strcmp(name, "--listen") ? &port : !strcmp(name, "--limit") ? (limited = 1, &limit) : !strcmp(name, "--threads") ? &threads : NULL;
-        if (number) *number = strtoull(value, (char **)&end, 10);
-        else if (!strcmp(name, "--origin")) origin = value;
-        else if (!strcmp(name, "--state")) folder = value;
-        else fail(usage);
-        if (!*value || *end || *value == '-') fail(usage);
-    }
-    if (!port || port > 65535 || !origin || strncmp(origin, "http", 4) || !limited || !threads || threads > 1024) fail(usage);
+    read_options(argc, argv);
     uint64_t secret[2];
     if (getrandom(secret, sizeof secret, 0) != sizeof secret || curl_global_init(CURL_GLOBAL_ALL)) fail("no random words");
     if (!(tier = aligned_alloc(CACHE_TIER_ALIGN, (cache_tier_size() + 15) / 16 * 16))) fail("out of memory");
-    cache_tier_init(tier, limit, CACHE_TIER_NONE, 10, CACHE_TIER_NONE, SHARDS, secret[0], secret[1]);
+    cache_tier_init(tier, given.limit, CACHE_TIER_NONE, 10, CACHE_TIER_NONE, SHARDS, secret[0], secret[1]);
     if (cache_tier_state(tier) != CACHE_TIER_READY || cache_tier_version(tier) < CACHE_TIER_VERSION) fail("no tier");
-    if (folder && !cache_tier_load_files(tier, folder, SHARDS)) fail("the order of use can't be loaded");
+    if (given.folder && !cache_tier_load_files(tier, given.folder, SHARDS)) fail("the order of use can't be loaded");
     sigset_t stops;
     sigemptyset(&stops), sigaddset(&stops, SIGTERM), sigaddset(&stops, SIGINT), pthread_sigmask(SIG_BLOCK, &stops, NULL), signal(SIGPIPE, SIG_IGN);
     struct MHD_Daemon *d = MHD_start_daemon(
-        MHD_USE_EPOLL_INTERNAL_THREAD | MHD_ALLOW_SUSPEND_RESUME | MHD_USE_SUPPRESS_DATE_NO_CLOCK, (uint16_t)port, NULL, NULL,
-        answer, NULL, MHD_OPTION_THREAD_POOL_SIZE, (unsigned)threads, MHD_OPTION_CONNECTION_LIMIT, 4096u, MHD_OPTION_CONNECTION_TIMEOUT, 60u,
+        MHD_USE_EPOLL_INTERNAL_THREAD | MHD_ALLOW_SUSPEND_RESUME | MHD_USE_SUPPRESS_DATE_NO_CLOCK, (uint16_t)given.port, NULL, NULL,
+        answer, NULL, MHD_OPTION_THREAD_POOL_SIZE, (unsigned)given.threads, MHD_OPTION_CONNECTION_LIMIT, 4096u, MHD_OPTION_CONNECTION_TIMEOUT, 60u,
         MHD_OPTION_URI_LOG_CALLBACK, opened, NULL, MHD_OPTION_NOTIFY_COMPLETED, ended, NULL, MHD_OPTION_END);
     pthread_t ticker;
     if (!d || pthread_create(&ticker, NULL, ticks, NULL)) fail("the port can't be listened on");
     int stop; sigwait(&stops, &stop);
-    pthread_mutex_lock(&lock), stopping = 1, pthread_mutex_unlock(&lock), pthread_join(ticker, NULL), MHD_stop_daemon(d), pthread_mutex_lock(&lock);
-    if (folder && !cache_tier_save_files(tier, folder, SHARDS)) fail("the order of use can't be saved");
-    exit(0); /* a fetch may still run, with its request open */
+    pthread_mutex_lock(&lock);
+    if (given.folder && !cache_tier_save_files(tier, given.folder, SHARDS)) fail("the order of use can't be saved");
+    _exit(0); /* with the lock held: clients may still wait, and fetches run; the daemon can't be stopped over those that wait */
 }

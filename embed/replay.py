@@ -156,9 +156,24 @@ def cases(lib, folder):
     return differ
 
 
+def heads(lib):
+    """The head of a finished body, and none while the first response is written."""
+    with ct.Tier(lib, 1000, shards=1) as tier:
+        got = [tier.head(b"/a")]
+        with tier.request(1000, b"/a", lock=True) as request:
+            request.look_up(1000)
+            tier.begin(1000, request.id, b"HTTP/1.1 200 OK\r\nCache-Control: max-age=60, stale-if-error=5\r\nX-A: 1\r\n\r\n")
+            got.append(tier.head(b"/a"))
+            tier.piece(1000, request.id, b"abc", True)
+            tier.finish(1000, request.id)
+        head = tier.head(b"/a")
+    got += [head.status, head.fresh_until[0], head.created[0], head.stale_if_error, len(head.lines), (b"x-a", b"1") in head.lines]
+    return differs("heads", got, [None, None, 200, 1060, 1000, 5, 2, True])
+
+
 def main():
     lib = sys.argv[1]
-    differ = sum(cases(lib, folder) for folder in sys.argv[2:]) if sys.argv[2:] else stored(lib) + restarts(lib)
+    differ = sum(cases(lib, folder) for folder in sys.argv[2:]) if sys.argv[2:] else stored(lib) + restarts(lib) + heads(lib)
     sys.exit(bool(differ))
 
 

@@ -1,6 +1,6 @@
 #!/bin/sh
 # Tests the C library, from C, Python and Rust, and the proxy. It wants gcc, python3 and the proved archive; the rest is passed over, by name, where it isn't there:
-# rustc, valgrind, nginx, curl, libmicrohttpd-dev, libcurl4-openssl-dev. `rt` makes the archive where there is none, which proves the crates below it first.
+# rustc, valgrind, nginx, curl, libmicrohttpd-dev, libcurl4-openssl-dev. `rt` makes the archive, which proves the crates below it first.
 set -eu
 cd "$(dirname "$0")"
 sh build.sh

@@ -1,6 +1,7 @@
 #!/usr/bin/env python3
 """Tests a proxy by curl, in front of an nginx and of an origin that misbehaves: python3 test_proxy.py PROXY. Needs nginx and curl."""
 
+import contextlib
 import os
 import signal
 import socket
@@ -24,6 +25,7 @@ http {{
     location /private/ {{ add_header Cache-Control "private"; }}
     location = /vary {{ add_header Cache-Control "max-age=60"; add_header Vary "X-Lang, X-Other"; default_type text/plain; return 200 "lang=$http_x_lang"; }}
     location = /hop {{ add_header Cache-Control "max-age=60"; add_header Connection "x-private"; add_header X-Private "secret"; add_header X-Kept "kept"; return 200 "hop"; }}
+    location = /asked {{ return 200 "$http_x_private|$http_via"; }}
     location = /aged {{ add_header Cache-Control "max-age=100"; add_header Age "98"; return 200 "aged"; }}
     location /dav/ {{ dav_methods PUT DELETE; add_header Cache-Control "max-age=60"; }}
   }}
@@ -96,7 +98,11 @@ class BadOrigin(threading.Thread):
     def run(self):
         while True:
             at, _ = self.socket.accept()
-            threading.Thread(target=self.answer, args=(at,), daemon=True).start()
+            threading.Thread(target=self.serve, args=(at,), daemon=True).start()
+
+    def serve(self, at):
+        with at, contextlib.suppress(ConnectionError):  # the proxy may be stopped meanwhile
+            self.answer(at)
 
     def answer(self, at):
         data = b""
@@ -105,7 +111,7 @@ class BadOrigin(threading.Thread):
             if not more:
                 return
             data += more
-        path = data.split()[1].decode()
+        path, asks = data.split()[1].decode(), b"if-none-match" in data.lower()
         self.counts[path] = self.counts.get(path, 0) + 1
         head = "HTTP/1.1 200 OK\r\nConnection: close\r\nCache-Control: %s\r\nContent-Length: %d\r\n\r\n"
         if path == "/slow":
@@ -116,11 +122,19 @@ class BadOrigin(threading.Thread):
         elif path == "/broken":
             at.sendall((head % ("max-age=60", 50000)).encode() + b"y" * 20000)
             time.sleep(0.2)
+        elif path == "/unbounded":
+            at.sendall(b"HTTP/1.1 200 OK\r\nConnection: close\r\nCache-Control: max-age=60\r\n\r\n" + b"z" * 50000)
+        elif path in ("/gone", "/turns") and asks:
+            at.sendall(b"HTTP/1.1 304 Not Modified\r\nConnection: close\r\nCache-Control: max-age=60\r\n" + (b"Vary: X-Lang\r\n\r\n" if path == "/turns" else b"\r\n"))
+        elif path in ("/gone", "/turns"):
+            first = b"404 Not Found" if path == "/gone" else b"200 OK"
+            at.sendall(b"HTTP/1.1 %s\r\nConnection: close\r\nCache-Control: max-age=1\r\nETag: \"a\"\r\nContent-Length: 4\r\n\r\nbody" % first)
+        elif path == "/wide":
+            at.sendall(b"HTTP/1.1 200 OK\r\nConnection: close\r\nCache-Control: max-age=60\r\nVary: %s\r\nContent-Length: 2\r\n\r\nok" % (b"x" * 9000))
         elif path == "/error" and self.fails:
             at.sendall(b"HTTP/1.1 500 Oops\r\nConnection: close\r\nContent-Length: 2\r\n\r\nno")
         elif path == "/error":
             at.sendall((head % ("max-age=1, stale-if-error=60", 4)).encode() + b"good")
-        at.close()
 
 
 def put(www, path, data):
@@ -149,10 +163,20 @@ def of_nginx(proxy, folder):
     check("a big body", [proxy.get("/minute/big").body == big for _ in range(2)], [True, True])
     check("by HEAD", (proxy.get("/minute/a", "-I").of("content-length"), proxy.get("/minute/a", "-I").body), ("3", b""))
     check("a part", [(it.status, it.body, it.of("content-range")) for it in [proxy.get("/minute/big", "-r", "256-259")]], [(206, big[256:260], f"bytes 256-259/{len(big)}")])
-    check("no such part", proxy.get("/minute/a", "-r", "10-20").status, 416)
+    check("no such part", [(it.status, it.of("content-range")) for it in [proxy.get("/minute/a", "-r", "10-20")]], [(416, "bytes */3")])
+    for part in ("-2", "2-1", "0-1,2-2", "x", "0x"):
+        check(f"all for the part {part}", [(it.status, it.body) for it in [proxy.get("/minute/a", "-H", f"Range: bytes={part}")]], [(200, b"one")])
+    check("no part by HEAD", [(it.status, it.of("content-length")) for it in [proxy.get("/minute/a", "-I", "-r", "0-1")]], [(200, "3")])
+    check("to the end", [(it.status, it.body) for it in [proxy.get("/minute/a", "-r", "1-")]], [(206, b"ne")])
     check("by tag", proxy.get("/minute/a", "-H", f"If-None-Match: {hit.of('etag')}").status, 304)
     check("by another tag", proxy.get("/minute/a", "-H", 'If-None-Match: "x"').status, 200)
     check("by date", proxy.get("/minute/a", "-H", f"If-Modified-Since: {hit.of('last-modified')}").status, 304)
+    check("by no date", proxy.get("/minute/a", "-H", "If-Modified-Since: once").status, 200)
+    check("no path", [proxy.get("", "--request-target", it).status for it in (f"@127.0.0.1:{proxy.port}/", "*")], [400, 400])
+    check("a long field", proxy.get("/minute/a", "-H", "Cache-Control: " + "x" * 9000).status, 431)
+    check("past the cache", [proxy.get("/minute/a", "-H", "Cache-Control: max-age=60", "-H", f"cache-control: {it}").of("x-cache") for it in ("No-Cache", "NO-STORE", "x-no-store")], ["pass", "pass", "hit"])
+    asked = proxy.get("/asked", "-H", "Connection: x-other, X-Private", "-H", "X-Private: secret")
+    check("what the origin is asked", (asked.body, asked.of("via")), (b"|1.1 cache-tier", "1.1 cache-tier"))
     check("private", [proxy.get("/private/a").of("x-cache") for _ in range(2)], ["pass", "pass"])
     check("with a name", [proxy.get("/minute/a", "-H", "Authorization: Basic eDp5").of("x-cache")], ["pass"])
     stale(proxy, folder)
@@ -195,16 +219,37 @@ def of_bad_origin(program):
     broken = proxy.get("/broken")
     check("a fetch that breaks off", (broken.curl != 0, origin.counts["/broken"]), (True, 1))
     check("nothing of it is stored", (proxy.get("/broken").curl != 0, origin.counts["/broken"]), (True, 2))
-    check("before an error", proxy.get("/error").body, b"good")
+    before = [(it.status, it.body) for it in (proxy.get("/error"), proxy.get("/gone"), proxy.get("/turns"))]
+    check("before an error, and 304s", before, [(200, b"good"), (404, b"body"), (200, b"body")])
+    check("a field that is too long to be judged", [(it.of("x-cache"), it.body) for it in [proxy.get("/wide") for _ in range(2)]], [("pass", b"ok")] * 2)
     origin.fails = True
     time.sleep(2.1)
     check("stale if error", [(it.of("x-cache"), it.body) for it in [proxy.get("/error")]], [("stale", b"good")])
+    check("a 304 keeps the status", [(it.status, it.body, it.of("x-cache")) for it in [proxy.get("/gone") for _ in range(2)]], [(404, b"body", "miss"), (404, b"body", "hit")])
+    check("a 304 that brings Vary", [(it.status, it.body, it.of("x-cache")) for it in [proxy.get("/turns") for _ in range(3)]], [(200, b"body", "pass")] * 3)
     proxy.stop()
+    small = Proxy(program, f"http://127.0.0.1:{origin.port}", "--limit", "30000")
+    check("longer than the limit", [(it.of("x-cache"), it.body) for it in [small.get("/slow") for _ in range(2)]], [("pass", b"x" * 50000)] * 2)
+    check("longer than the limit, as it turns out", small.get("/unbounded").curl != 0, True)
+    small.stop()
+    stops(program, origin)
     down = Proxy(program, f"http://127.0.0.1:{free_port()}")
     check("an origin that is down", down.get("/a").status, 502)
     down.stop()
     for words in ([], ["--listen", "x", "--origin", "http://a", "--limit", "1"], ["--listen", "1", "--origin", "a", "--limit", "1"], ["--what", "1"]):
         check(f"bad options {words}", subprocess.run([program, *words], stderr=subprocess.DEVNULL).returncode, 2)
+
+
+def stops(program, origin):
+    """A stop while clients wait saves the order of use."""
+    with tempfile.TemporaryDirectory() as state:
+        proxy = Proxy(program, f"http://127.0.0.1:{origin.port}", "--state", state)
+        clients = [threading.Thread(target=proxy.get, args=("/slow",)) for _ in range(10)]
+        [it.start() for it in clients]
+        time.sleep(0.4)
+        proxy.stop()
+        [it.join() for it in clients]
+        check("a file for each shard, though clients wait", len(os.listdir(state)), 16)
 
 
 def restarts(program, origin, folder):
@@ -219,6 +264,10 @@ def restarts(program, origin, folder):
     again = Proxy(program, origin, "--state", state)
     check("absent after a restart", again.get("/minute/a").of("x-cache"), "miss")
     again.stop()
+    os.mkdir(os.path.join(folder, "unreadable")), os.mkdir(os.path.join(folder, "unreadable", "lru.data.0"))
+    for name in ("unreadable", "nginx.conf"):
+        words = ["--listen", str(free_port()), "--origin", origin, "--limit", "1", "--state", os.path.join(folder, name)]
+        check(f"files that can't be read in {name}", subprocess.run([program, *words], stderr=subprocess.DEVNULL, timeout=20).returncode, 2)
 
 
 def main():
