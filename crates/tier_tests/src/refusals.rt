@@ -1,5 +1,4 @@
 //! Each refused growth in turn.
-mod files;
 mod over_bodies;
 
 use crate::asks::Ask;
