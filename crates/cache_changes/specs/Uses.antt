@@ -1,5 +1,5 @@
 -- What changes leave of entries: which are tracked, what they weigh, and in which order they were used.
-use Rattle.std.specs.Prelude.{◌≡◌, ℕ, ◌==◌, ◌%◌, ◌<◌, Bool, true, false, List, [], ◌∷◌, ◌++◌, length, Option, Some, None, unwrap_or, filter, map, slice_index_or, slice_set, if◌then◌else◌}
+use Rattle.std.specs.Prelude.{◌≡◌, ℕ, ◌==◌, ◌%◌, ◌<◌, Bool, true, false, List, [], ◌∷◌, ◌++◌, length, Option, Some, None, is_some, unwrap_or, filter, map, slice_index_or, slice_set, if◌then◌else◌}
 use Rattle.cache_entries.specs.declared.entry.CacheEntryKey.{CacheEntryKey}
 use Rattle.cache_entries.specs.declared.rows.Tracked.{Tracked}
 use Rattle.cache_entries.specs.Entry.{same_entry}
@@ -34,6 +34,14 @@ AreInOrder last bound (r ∷ rows) = (n : ℕ) × (last r.entry ≡ Some n) × (
 pub record IsOrderOfUse {M : Type 0} (rows : List Tracked) (changes : Changes M) : Type 0 where
   pub order : AreInOrder (λ e. last_use e changes) (length changes) rows
   pub weights : (e : CacheEntryKey) → weight_of e rows ≡ last_weight e changes
+
+-- the rows, the entry e with that weight and at its place
+abbrev pub with_weight : CacheEntryKey → ℕ → List Tracked → List Tracked
+with_weight e w rows = map (λ (r : Tracked). if same_entry r.entry e then record r { weight = w } else r) rows
+
+-- the entry e weighs that from now on: in place where it is tracked, else it is admitted
+abbrev pub reweighed : CacheEntryKey → ℕ → List Tracked → List Tracked
+reweighed e w rows = if is_some (weight_of e rows) then with_weight e w rows else admitted e w rows
 
 -- what each change does to the rows
 abbrev pub rows_after : {M : Type 0} → Change M → List Tracked → List Tracked
