@@ -1,8 +1,10 @@
 -- What is kept of a response, without its body.
-use Rattle.std.specs.Prelude.{ℕ, Some, None, unwrap_or}
+use Rattle.std.specs.Prelude.{ℕ, ◌+◌, length, Some, None, unwrap_or}
 use Rattle.cache_words.specs.Time.{MomentValue}
 use Rattle.cache_headers.specs.declared.header.ResponseHeader.{ResponseHeader}
 use Rattle.cache_metas.specs.declared.versions.InternalMetaV2.{InternalMetaV2}
+use Rattle.cache_metas.specs.Head.{written_head}
+use Rattle.cache_metas.specs.Internal.{written_meta}
 use Rattle.cache_heads.specs.declared.meta.CacheMeta.{CacheMeta}
 
 -- a new meta: updated when it was created, which is its provenance too
@@ -39,3 +41,7 @@ refreshed m fresh_until revalidate error now =
       stale_while_revalidate_sec = revalidate;
       stale_if_error_sec = error;
     }
+
+-- how many bytes both halves of a meta take as they are written
+abbrev pub meta_length : CacheMeta → ℕ
+meta_length m = length (written_meta m.internal) + length (written_head m.header)

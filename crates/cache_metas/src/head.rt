@@ -1,13 +1,15 @@
 //! The head of a response as MessagePack: its status, and each value with its name.
-ghost use Rattle.std.specs.Prelude.{◌≡◌, ◌+◌, ◌++◌, ◌<◌, ◌≤◌, ◌^◌, [], length, flat_map, All, Ok, IfOk, OnOk, IfErr};
+ghost use Rattle.std.specs.Prelude.{◌≡◌, ◌+◌, ◌++◌, ◌<◌, ◌≤◌, ◌^◌, [], length, flat_map, All, Ok, IfOk, OnOk, IfErr, IfSome, IfNone};
 ghost use Rattle.http_header.specs.HeaderMap.{value_count, pairs};
 ghost use Rattle.cache_headers.specs.declared.header.ResponseHeader.{ResponseHeader};
 ghost use Rattle.cache_metas.specs.Head.{BeginsWithHead, most_names, line_of, lines_of, written_head, IsCountable};
 ghost use Rattle.cache_metas.specs.HeadReading.{Fails, Gives, StepsTo, field_name_of, field_value_of, line_at, with_line, lines_at, status_at, head_at};
 ghost use Rattle.cache_metas.specs.InternalReading.{value_of};
+ghost use Rattle.cache_words.specs.Forms.{shortest, arrays};
 ghost use Rattle.cache_words.specs.Items.{Steps};
 
 use crate::fault::MetaReadFault;
+use crate::lengths::{array_len, byte_string_len, number_len, text_len};
 use cache_headers::ResponseHeader;
 use cache_words::pack::{Cursor, PackFault, PackWriteFault, writing};
 use http::StatusCode;
@@ -170,4 +172,52 @@ pub fn write(alloc: Global, header: &ResponseHeader) -> Result<Vec<u8>, AllocErr
     writing::put_number(&mut out, header.status.as_u16() as u64)?;
     put_lines(&mut out, &header.headers)?;
     Ok(out)
+}
+
+// How many bytes a line takes, where they can be counted.
+fn line_len(name: &HeaderName, value: &HeaderValue) -> Option<usize>
+    ensures some { IfSome result (λ n. n ≡ length (line_of (name.now, value.now))) }
+    ensures none { IfNone result (2 ^ 64 ≤ length (line_of (name.now, value.now))) }
+{
+    let name = text_len(name.as_str().as_bytes())?;
+    let value = byte_string_len(value.as_bytes())?;
+    name.checked_add(value)?.checked_add(1)
+}
+
+// How many bytes the lines of the map take after so many others.
+fn each_len(start: usize, headers: &HeaderMap) -> Option<usize>
+    ensures some { IfSome result (λ n. n ≡ start + length (flat_map line_of (pairs headers.now))) }
+    ensures none { IfNone result (2 ^ 64 ≤ start + length (flat_map line_of (pairs headers.now))) }
+{
+    let mut len = start;
+    'each: for (name, value) in headers.iter() {
+        len = len.checked_add(line_len(name, value)?)?;
+    }
+    Some(len)
+}
+
+// How many bytes come ahead of the lines.
+fn start_len(headers: &HeaderMap) -> usize
+    ensures { result ≡ length (shortest arrays (length (pairs headers.now))) }
+{
+    array_len(headers.len())
+}
+
+// How many bytes the array of the lines takes after so many others.
+fn lines_len(start: usize, headers: &HeaderMap) -> Option<usize>
+    ensures some { IfSome result (λ n. n ≡ start + length (lines_of headers.now)) }
+    ensures none { IfNone result (2 ^ 64 ≤ start + length (lines_of headers.now)) }
+{
+    let start = start.checked_add(start_len(headers))?;
+    each_len(start, headers)
+}
+
+/// Returns how many bytes `write` makes of the head; none where a `usize` can't count them.
+#[tactic(auto, unfolding(crate::specs::Head::written_head))]
+pub fn written_len(header: &ResponseHeader) -> Option<usize>
+    ensures some { IfSome result (λ n. n ≡ length (written_head header.now)) }
+    ensures none { IfNone result (2 ^ 64 ≤ length (written_head header.now)) }
+{
+    let start = 1 + number_len(u64::from(header.status.as_u16()));
+    lines_len(start, &header.headers)
 }

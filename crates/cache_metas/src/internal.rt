@@ -1,11 +1,14 @@
 //! The moments and numbers of a meta as MessagePack. All three forms are read; the latest is written.
-ghost use Rattle.std.specs.Prelude.{◌≡◌, ◌≢◌, ◌++◌, ◌∷◌, ◌↔◌, Ok, IsTrue, IfOk, IfSome, OnOk, IsErrOf};
+ghost use Rattle.std.specs.Prelude.{◌≡◌, ◌≢◌, ◌≤◌, ◌++◌, ◌∷◌, ◌↔◌, length, Ok, IsTrue, IfOk, IfSome, OnOk, IsErrOf};
 ghost use Rattle.cache_metas.specs.declared.versions.InternalMetaV2.{InternalMetaV2};
 ghost use Rattle.cache_words.specs.Items.{Steps};
-ghost use Rattle.cache_metas.specs.Internal.{BeginsWithMeta, IsSinceEpoch, IsWritable, written_meta, item_count, required_of, optional_of};
+ghost use Rattle.cache_words.specs.Forms.{shortest, arrays};
+ghost use Rattle.cache_words.specs.Items.{optional_moment_of};
+ghost use Rattle.cache_metas.specs.Internal.{BeginsWithMeta, IsSinceEpoch, IsWritable, written_meta, item_count, required_of, optional_of, provenance_of};
 ghost use Rattle.cache_metas.specs.InternalReading.{early_at, v2_at, versioned_at, form_at, meta_at, value_of};
 
 use crate::fault::MetaFault;
+use crate::lengths::{moment_len, optional_hash_len, seconds_len};
 use crate::versions::{EarlyInternalMeta, InternalMetaV1, InternalMetaV2};
 use cache_words::pack::{Cursor, PackFault, writing};
 use cache_words::time::Moment;
@@ -203,4 +206,66 @@ pub fn write(alloc: Global, meta: &InternalMetaV2) -> Result<Vec<u8>, MetaFault>
         return Err(MetaFault::MetaMoment);
     }
     Ok(written(alloc, meta)?)
+}
+
+// How many bytes the items take that are always present.
+fn required_len(meta: &InternalMetaV2) -> usize
+    requires { IsWritable meta.now }
+    ensures len { result ≡ length (required_of meta.now) }
+    ensures most { result ≤ 55 }
+{
+    moment_len(&meta.fresh_until)
+        + moment_len(&meta.created)
+        + moment_len(&meta.updated)
+        + seconds_len(meta.stale_while_revalidate_sec)
+        + seconds_len(meta.stale_if_error_sec)
+}
+
+// How many bytes a moment takes that is an item only where it is there.
+fn there_len(moment: &Option<Moment>) -> usize
+    requires { IfSome moment.now IsSinceEpoch }
+    ensures len { result ≡ length (provenance_of moment.now) }
+    ensures most { result ≤ 15 }
+{
+    match moment {
+        Some(moment) => moment_len(moment),
+        None => 0,
+    }
+}
+
+// How many bytes a moment takes, or nil.
+fn nil_or_len(moment: &Option<Moment>) -> usize
+    requires { IfSome moment.now IsSinceEpoch }
+    ensures len { result ≡ length (optional_moment_of moment.now) }
+    ensures most { result ≤ 15 }
+{
+    match moment {
+        Some(moment) => moment_len(moment),
+        None => 1,
+    }
+}
+
+// How many bytes come ahead of the items.
+fn start_len(provenance: &Option<Moment>) -> usize
+    ensures len { result ≡ length (shortest arrays (item_count provenance.now)) }
+    ensures most { result ≤ 1 }
+{
+    match provenance {
+        Some(_) => 1,
+        None => 1,
+    }
+}
+
+/// Returns how many bytes `write` makes of the meta: at most 122.
+#[tactic(auto, unfolding(crate::specs::Internal::written_meta))]
+pub fn written_len(meta: &InternalMetaV2) -> usize
+    requires { IsWritable meta.now }
+    ensures len { result ≡ length (written_meta meta.now) }
+    ensures most { result ≤ 122 }
+{
+    1 + start_len(&meta.provenance)
+        + required_len(meta)
+        + optional_hash_len(&meta.variance)
+        + nil_or_len(&meta.epoch_override)
+        + there_len(&meta.provenance)
 }

@@ -5,4 +5,5 @@ pub mod fault;
 pub mod head;
 pub mod internal;
 pub mod laws;
+mod lengths;
 pub mod versions;

@@ -1,5 +1,5 @@
 -- What gives a body another meta.
-use Rattle.std.specs.Prelude.{◌≡◌, cond, Option, Some, None, option_map, is_some, Result, Err, MatchResult, if◌then◌else◌, ◌⊎◌}
+use Rattle.std.specs.Prelude.{◌≡◌, ℕ, cond, Option, Some, None, option_map, is_some, Result, Err, MatchResult, if◌then◌else◌, ◌⊎◌}
 use Rattle.cache_words.specs.Time.{MomentValue}
 use Rattle.cache_entries.specs.Keys.{same_bytes}
 use Rattle.cache_entries.specs.declared.entry.CacheEntryId.{CacheEntryId}
@@ -47,3 +47,15 @@ Refused meta f = ((f ≡ MetaMoment) × (IsWritable meta.internal → ⊥)) ⊎ 
 abbrev pub UpdateAnswer : Option (Stored CacheMeta) → StoredKey → CacheMeta → Held → Result (Unit {0}) StoreFault → Held → Type 0
 UpdateAnswer None key meta old r new = (r ≡ Err NoMeta) × (new ≡ old)
 UpdateAnswer (Some x) key meta old r new = MatchResult r (λ _. IsWritable meta.internal × IsRenewed key (λ _. meta) old new) (λ f. Refused meta f × (new ≡ old))
+
+-- a meta was made ready for the body of a key, where there is a body, the meta can be written and there is memory; it comes with what the body
+-- weighs with that meta
+pub record IsPrepared {N : Type 0} (key_in : N → StoredKey) (meta_in : N → CacheMeta) (weigh : Stored CacheMeta → ℕ) (x : Stored CacheMeta) (k : StoredKey) (m : CacheMeta) (new : N) (w : ℕ) : Type 0 where
+  pub key : key_in new ≡ k
+  pub meta : meta_in new ≡ m
+  pub moments : IsWritable m.internal
+  pub weight : w ≡ weigh (stored_with (λ _. m) x)
+
+abbrev pub PrepareAnswer : {N : Type 0} → (N → StoredKey) → (N → CacheMeta) → (Stored CacheMeta → ℕ) → Option (Stored CacheMeta) → StoredKey → CacheMeta → Result (N × ℕ) StoreFault → Type 0
+PrepareAnswer key_in meta_in weigh None key meta r = r ≡ Err NoMeta
+PrepareAnswer key_in meta_in weigh (Some x) key meta r = MatchResult r (λ p. IsPrepared key_in meta_in weigh x key meta p.0 p.1) (Refused meta)

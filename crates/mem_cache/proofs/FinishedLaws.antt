@@ -34,3 +34,11 @@ by_option k (Some b) = refl
 
 pub lent-kept : (k : StoredKey) (es : List (StoredKey × Body)) (o : Option Body) → o ≡ lookup (pointwise nat_eq k) es → lent o ≡ shown (find (is_of k) (bodies_of es))
 lent-kept k es o e = ap lent e ∙ by_option k (lookup (pointwise nat_eq k) es) ∙ ap shown (sym (body-found k es))
+
+-- the number of the write of a key's body
+number_by : (k : StoredKey) (o : Option Body) → option_map (λ b. b.number) o ≡ option_map (λ x. x.write.number) (option_map (λ b. body_of (k, b)) o)
+number_by k None = refl
+number_by k (Some b) = refl
+
+pub number-kept : (k : StoredKey) (es : List (StoredKey × Body)) (o : Option Body) → o ≡ lookup (pointwise nat_eq k) es → option_map (λ b. b.number) o ≡ option_map (λ x. x.write.number) (find (is_of k) (bodies_of es))
+number-kept k es o e = ap (option_map (λ (b : Body). b.number)) e ∙ number_by k (lookup (pointwise nat_eq k) es) ∙ ap (option_map (λ (x : Stored CacheMeta). x.write.number)) (sym (body-found k es))

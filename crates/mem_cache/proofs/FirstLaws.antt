@@ -1,6 +1,6 @@
 -- What is found of writes in flight and of bodies.
 use Rattle.std.proofs.Common.{arith, ◌≡◌, ℕ, ◌<◌, ◌≤◌, refl, ap, sym, ◌∙◌, true, false, subst, cond, [], ◌∷◌, nat_eq}
-use Rattle.std.specs.Prelude.{◌==◌, Bool, List, Option, Some, None, option_map, not, ◌&&◌, find}
+use Rattle.std.specs.Prelude.{◌==◌, Bool, List, Option, Some, None, option_map, unwrap_or, length, not, ◌&&◌, find}
 use Rattle.std.specs.Map.{lookup}
 use Rattle.std.specs.BTreeMap.{is_at}
 use Rattle.std.specs.Ordering.{nat_cmp}
@@ -98,3 +98,13 @@ none-seen alive k h (x ∷ xs) = by_test (flies_for k (seen alive x)) refl (none
         let gone : alive k x.0 ≡ false = h x.0 in
         absurd cc
     by_test false u ih = ih
+
+-- how many bytes a write in flight has
+abbrev pub bytes_written : Option (Flying CacheMeta) → ℕ
+bytes_written o = unwrap_or (option_map (λ f. length f.stored.bytes) o) 0
+
+pub written-none : (alive : Alive) (n : ℕ) (es : List (ℕ × Flight)) → None ≡ lookup (is_at (nat_cmp n)) es → 0 ≡ bytes_written (find (has_number n) (flights_of alive es))
+written-none alive n es e = sym (ap bytes_written (flying-seen alive n es ∙ ap (option_map (λ (f : Flight). seen alive (n, f))) (sym e)))
+
+pub written-some : (alive : Alive) (n : ℕ) (f : Flight) (es : List (ℕ × Flight)) → Some f ≡ lookup (is_at (nat_cmp n)) es → length f.pieces ≡ bytes_written (find (has_number n) (flights_of alive es))
+written-some alive n f es e = sym (ap bytes_written (flying-seen alive n es ∙ ap (option_map (λ (f : Flight). seen alive (n, f))) (sym e)))

@@ -7,9 +7,17 @@ ghost use Rattle.cache_store.specs.Renewals.{Refused};
 use cache_heads::CacheMeta;
 use cache_metas::versions::InternalMetaV2;
 use cache_store::storage::StoreFault;
+use cache_words::key::HashBinary;
 use cache_words::time::Moment;
 use packed_meta::PackedMeta;
 use std::alloc::Global;
+
+/// A meta that was made ready to be put beside the body of a key.
+#[derive(Drop)]
+pub struct NewMeta {
+    pub(crate) key: HashBinary,
+    pub(crate) meta: PackedMeta,
+}
 
 // Returns a copy of a meta, whose head shares its values.
 pub(crate) fn copy_of(meta: &CacheMeta) -> Result<CacheMeta, StoreFault>

@@ -13,7 +13,7 @@ ghost use Rattle.mem_cache.specs.Readings.{reader_of, weight_of};
 use crate::MemCache;
 use crate::handlers::{MemHitHandler, MemMissHandler};
 use crate::lookup::number_of;
-use crate::meta::written_copy;
+use crate::meta::{NewMeta, written_copy};
 use bytes::Bytes;
 use cache_entries::entry::{CacheEntryId, CacheEntryKey};
 use cache_heads::CacheMeta;
@@ -39,6 +39,12 @@ impl<S: BuildHasher> Storage for MemCache<S> {
     type Hit = MemHitHandler;
 
     type Miss = MemMissHandler;
+
+    type NewMeta = NewMeta;
+
+    ghost key_in = { λ n. n.key };
+
+    ghost meta_in = { λ n. n.meta };
 
     ghost is_spent = { are_numbers_spent };
 
@@ -145,6 +151,19 @@ impl<S: BuildHasher> Storage for MemCache<S> {
         }
     }
 
+    fn prepare_meta(
+        &self,
+        key: &CacheKey,
+        meta: &CacheMeta,
+    ) -> Result<(NewMeta, usize), StoreFault> {
+        self.prepare(key.combined_bin(), meta)
+    }
+
+    fn install_meta(&mut self, new: NewMeta) {
+        self.install(new);
+    }
+
+    // The key is hashed once.
     fn update_meta(&mut self, key: &CacheKey, meta: &CacheMeta) -> Result<(), StoreFault> {
         self.replace_meta(&key.combined_bin(), meta)
     }

@@ -14,7 +14,7 @@ use Rattle.cache_metas.specs.Head.{IsHead, IsCountable, plain_head, plain_values
 use Rattle.cache_metas.specs.HeadReading.{head_at}
 use Rattle.cache_metas.specs.InternalReading.{value_of}
 use Rattle.cache_metas.proofs.HeadWriting.{written_again}
-use Rattle.packed_meta.specs.Packed.{IsPlainField}
+use Rattle.packed_meta.specs.Packed.{IsPlainField, IsTextOf}
 
 plain_field : (v : FieldValue) → v.is_sensitive ≡ false → plain_value v.bytes ≡ v
 plain_field v h = λ i. record { bytes = v.bytes; is_sensitive = sym h i }
@@ -54,16 +54,19 @@ plain-countable m few all = record {
 
 -- a head of such fields that is written is read as the same head
 written-is : (h : ResponseHeader) (text : List ℕ) → text ≡ written_head h → IsStatusCode h.status → IsHeaderMap h.headers → length (pairs h.headers) < 2 ^ 32
-    → AllByRecursion IsPlainField (pairs h.headers) → value_of (head_at text) ≡ Ok h
-written-is h text t status is few all =
-    ap (λ (x : List ℕ). value_of (head_at x)) (t ∙ sym (append-nil (written_head h)))
-    ∙ ap (λ (r : Result (ResponseHeader × List ℕ) PackFault). value_of r) (written_again h [] (plain-is h status is all) (plain-countable h.headers few all))
-    ∙ ap (λ (x : ResponseHeader). Ok x) (plain-head h all)
+    → AllByRecursion IsPlainField (pairs h.headers) → IsTextOf h text
+written-is h text t status is few all = record {
+  is = t;
+  read =
+      ap (λ (x : List ℕ). value_of (head_at x)) (t ∙ sym (append-nil (written_head h)))
+      ∙ ap (λ (r : Result (ResponseHeader × List ℕ) PackFault). value_of r) (written_again h [] (plain-is h status is all) (plain-countable h.headers few all))
+      ∙ ap (λ (x : ResponseHeader). Ok x) (plain-head h all);
+}
 
 -- the same of a text in two parts: what comes before the fields, and the fields
 pub parts-are : (h : ResponseHeader) (count : ℕ) (none start text : List ℕ) → none ≡ [] → start ≡ none ++ (shortest arrays 2 ++ (shortest numbers h.status ++ shortest arrays count))
     → text ≡ start ++ flat_map line_of (pairs h.headers) → count ≡ value_count h.headers → count < 2 ^ 32 → IsStatusCode h.status → IsHeaderMap h.headers
-    → AllByRecursion IsPlainField (pairs h.headers) → value_of (head_at text) ≡ Ok h
+    → AllByRecursion IsPlainField (pairs h.headers) → IsTextOf h text
 unfolding written_head
 parts-are h count none start text empty begun goes counted small status is all =
     let lines = flat_map line_of (pairs h.headers) in

@@ -4,6 +4,7 @@ use Rattle.http_header.specs.FieldName.{IsHeaderName}
 use Rattle.http_header.specs.FieldValue.{FieldValue, IsFieldValue}
 use Rattle.cache_headers.specs.declared.header.ResponseHeader.{ResponseHeader}
 use Rattle.cache_heads.specs.declared.meta.CacheMeta.{CacheMeta}
+use Rattle.cache_metas.specs.Head.{written_head}
 use Rattle.cache_metas.specs.HeadReading.{head_at}
 use Rattle.cache_metas.specs.InternalReading.{value_of}
 use Rattle.cache_words.specs.declared.pack.fault.PackFault.{PackFault}
@@ -28,7 +29,7 @@ text_head text = read_head (value_of (head_at text))
 
 abbrev pub kept_head : KeptHead → ResponseHeader
 kept_head (Packed text) = text_head text.items
-kept_head (Whole h) = h.value
+kept_head (Whole h) = h.value.header
 
 -- the meta that is kept
 abbrev pub kept_meta : Kept → CacheMeta
@@ -47,18 +48,23 @@ kept_meta (Short s) = record {
 }
 kept_meta (Any m) = record { internal = m.value.internal; header = kept_head m.value.head }
 
--- a head has that text
+-- a text is what is written of a head, and is read as the same head
+pub record IsTextOf (h : ResponseHeader) (text : List ℕ) : Type 0 where
+  pub is : text ≡ written_head h
+  pub read : value_of (head_at text) ≡ Ok h
+
+-- it is the text of a head
 abbrev pub IsHeadText : List ℕ → Type 0
-IsHeadText text = (h : ResponseHeader) × (value_of (head_at text) ≡ Ok h)
+IsHeadText text = (h : ResponseHeader) × IsTextOf h text
 
 abbrev pub IsPacked : KeptHead → Type 0
 IsPacked (Packed _) = Unit {0}
 IsPacked (Whole _) = ⊥
 
--- the text of a packed head is that of a head
+-- the text of a packed head is that of a head; of one that is kept as fields the length of its text is known
 abbrev pub IsKeptHead : KeptHead → Type 0
 IsKeptHead (Packed text) = IsHeadText text.items
-IsKeptHead (Whole _) = Unit {0}
+IsKeptHead (Whole h) = h.value.len ≡ length (written_head h.value.header)
 
 abbrev pub IsKept : Kept → Type 0
 IsKept (Short s) = IsHeadText s.head.items

@@ -1,14 +1,17 @@
 //! Metas of responses, packed: a cache keeps many, and a head takes several times less memory as bytes than as a map of fields.
 #![tactic(auto)]
 
-ghost use Rattle.std.specs.Prelude.{◌≡◌, true, IsOk, IfOk};
+ghost use Rattle.std.specs.Prelude.{◌≡◌, ◌≤◌, ◌^◌, length, true, IsOk, IfOk, IfSome, IfNone};
 ghost use Rattle.cache_heads.specs.Fresh.{earlier_of};
+ghost use Rattle.cache_heads.specs.Meta.{meta_length};
+ghost use Rattle.cache_metas.specs.Head.{written_head};
+ghost use Rattle.cache_metas.specs.Internal.{IsWritable};
 ghost use Rattle.packed_meta.specs.Packed.{in_short, text_head, kept_head, kept_meta, IsHeadText, IsKeptHead, IsKept, IsPacked};
 
 use cache_headers::ResponseHeader;
 use cache_heads::CacheMeta;
-use cache_metas::head;
 use cache_metas::versions::InternalMetaV2;
+use cache_metas::{head, internal};
 use cache_words::time::Moment;
 use std::alloc::{AllocError, Global};
 use std::marker::Model;
@@ -32,7 +35,14 @@ struct ShortMeta {
 #[derive(Drop)]
 enum KeptHead {
     Packed(Vec<u8>),
-    Whole(Box<ResponseHeader>),
+    Whole(Box<WholeHead>),
+}
+
+// A head as fields, and how many bytes its text has.
+#[derive(Drop)]
+struct WholeHead {
+    header: ResponseHeader,
+    len: usize,
 }
 
 // Any other meta.
@@ -95,6 +105,14 @@ fn read_head(alloc: Global, text: &[u8]) -> Result<ResponseHeader, AllocError>
     }
 }
 
+// How many bytes a packed head has: its text is what is written of it.
+fn text_len(text: &[u8]) -> usize
+    requires { IsHeadText text.now }
+    ensures { result ≡ length (written_head (text_head text.now)) }
+{
+    text.len()
+}
+
 impl KeptHead {
     // Keeps a head: packed if it can be, else as a copy.
     fn of(alloc: Global, header: &ResponseHeader) -> Result<KeptHead, AllocError>
@@ -103,8 +121,11 @@ impl KeptHead {
         if let Some(text) = packing::packed(alloc, header) {
             return Ok(KeptHead::Packed(text));
         }
-        let copy = copying::copied(alloc, header)?;
-        let boxed = Box::new(alloc, copy)?;
+        let Some(len) = head::written_len(header) else {
+            return Err(AllocError);
+        };
+        let header = copying::copied(alloc, header)?;
+        let boxed = Box::new(alloc, WholeHead { header, len })?;
         Ok(KeptHead::Whole(boxed))
     }
 
@@ -115,7 +136,18 @@ impl KeptHead {
     {
         match self {
             KeptHead::Packed(text) => read_head(alloc, text.as_slice()),
-            KeptHead::Whole(header) => (**header).clone(),
+            KeptHead::Whole(head) => head.header.clone(),
+        }
+    }
+
+    // Returns how many bytes its text has.
+    fn len(&self) -> usize
+        requires { IsKeptHead self.now }
+        ensures { result ≡ length (written_head (kept_head self.now)) }
+    {
+        match self {
+            KeptHead::Packed(text) => text_len(text.as_slice()),
+            KeptHead::Whole(head) => head.len,
         }
     }
 }
@@ -176,6 +208,17 @@ impl Kept {
         }
     }
 
+    // Returns how many bytes the text of its head has.
+    fn head_len(&self) -> usize
+        requires { IsKept self.now }
+        ensures { result ≡ length (written_head (kept_meta self.now).header) }
+    {
+        match self {
+            Kept::Short(short) => text_len(short.head.as_slice()),
+            Kept::Any(any) => any.head.len(),
+        }
+    }
+
     // Returns until when it is fresh.
     fn fresh_until(&self) -> Moment
         ensures { result ≡ (kept_meta self.now).internal.fresh_until }
@@ -205,7 +248,7 @@ impl PackedMeta {
     ///
     /// # Errors
     ///
-    /// `AllocError` where memory runs out.
+    /// `AllocError` where memory runs out, or where a `usize` can't count the bytes of the head as it is written.
     pub fn pack(alloc: Global, meta: &CacheMeta) -> Result<PackedMeta, AllocError>
         ensures { IfOk result (λ packed. packed ≡ meta.now) }
     {
@@ -226,6 +269,24 @@ impl PackedMeta {
         ensures { result ≡ self.now.internal.fresh_until }
     {
         self.kept.fresh_until()
+    }
+
+    /// Returns how many bytes its head takes as it is written.
+    pub fn head_len(&self) -> usize
+        ensures { result ≡ length (written_head self.now.header) }
+    {
+        self.kept.head_len()
+    }
+
+    /// Returns how many bytes its two halves take as they are written; none where a `usize` can't count them.
+    pub fn written_len(&self) -> Option<usize>
+        requires { IsWritable self.now.internal }
+        ensures some { IfSome result (λ n. n ≡ meta_length self.now) }
+        ensures none { IfNone result (2 ^ 64 ≤ meta_length self.now) }
+    {
+        self.kept
+            .head_len()
+            .checked_add(internal::written_len(&self.kept.internal()))
     }
 
     /// Returns the meta, with its head read.

@@ -1,13 +1,11 @@
 //! Heads as MessagePack: written where what is written is read as the same head.
-ghost use Rattle.std.specs.Prelude.{◌≡◌, ◌++◌, ℕ, List, [], true, flat_map, Ok, IfSome, OnOk};
+ghost use Rattle.std.specs.Prelude.{◌≡◌, ◌++◌, ℕ, List, [], true, flat_map, IfSome, OnOk};
 ghost use Rattle.std.specs.List.{AllByRecursion};
 ghost use Rattle.http_header.specs.HeaderMap.{pairs};
 ghost use Rattle.http.specs.StatusCode.{IsStatusCode};
 ghost use Rattle.cache_words.specs.Forms.{shortest, numbers, arrays};
 ghost use Rattle.cache_metas.specs.Head.{line_of};
-ghost use Rattle.cache_metas.specs.HeadReading.{head_at};
-ghost use Rattle.cache_metas.specs.InternalReading.{value_of};
-ghost use Rattle.packed_meta.specs.Packed.{IsPlainField};
+ghost use Rattle.packed_meta.specs.Packed.{IsPlainField, IsTextOf};
 
 use cache_headers::ResponseHeader;
 use cache_words::pack::{Sink, writing};
@@ -79,7 +77,7 @@ fn put_start<T: Text>(out: &mut T, header: &ResponseHeader, count: u32) -> Resul
 // Writes a head, and returns whether it is read as the same head.
 fn put_head<T: Text>(out: &mut T, header: &ResponseHeader) -> bool
     requires { T.text out.old ≡ [] }
-    ensures { result ≡ true → value_of (head_at (T.text out.new)) ≡ Ok header.now }
+    ensures { result ≡ true → IsTextOf header.now (T.text out.new) }
 {
     let Ok(count) = u32::try_from(header.headers.len()) else {
         return false;
@@ -106,7 +104,7 @@ fn room_for(headers: &HeaderMap) -> usize {
 
 // Writes a head, if it is read as the same head. Nothing says when there is none, since memory may run out.
 pub(crate) fn packed(alloc: Global, header: &ResponseHeader) -> Option<Vec<u8>>
-    ensures { IfSome result (λ text. value_of (head_at text.items) ≡ Ok header.now) }
+    ensures { IfSome result (λ text. IsTextOf header.now text.items) }
 {
     if header.headers.keys_len() > MOST_NAMES {
         return None;

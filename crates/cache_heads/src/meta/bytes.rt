@@ -1,9 +1,10 @@
 //! Metas as bytes.
-ghost use Rattle.std.specs.Prelude.{◌≡◌, ◌≢◌, ◌↔◌, Ok, Err, IfOk, OnOk, IsErrOf};
+ghost use Rattle.std.specs.Prelude.{◌≡◌, ◌≢◌, ◌↔◌, ◌≤◌, ◌^◌, Ok, Err, IfOk, OnOk, IfSome, IfNone, IsErrOf};
 ghost use Rattle.cache_metas.specs.Head.{IsCountable, written_head};
 ghost use Rattle.cache_metas.specs.HeadReading.{Gives};
 ghost use Rattle.cache_metas.specs.Internal.{IsWritable, written_meta};
 ghost use Rattle.cache_heads.specs.declared.meta.CacheMeta.{CacheMeta};
+ghost use Rattle.cache_heads.specs.Meta.{meta_length};
 ghost use Rattle.cache_heads.specs.MetaBytes.{BeginWithMeta, cache_meta_at};
 
 use crate::meta::CacheMeta;
@@ -28,6 +29,15 @@ impl CacheMeta {
         let internal = internal::write(alloc, &self.internal)?;
         let header = head::write(alloc, &self.header)?;
         Ok((internal, header))
+    }
+
+    /// Returns how many bytes the two halves take as they are written; none where a `usize` can't count them.
+    pub fn written_len(&self) -> Option<usize>
+        requires { IsWritable self.now.internal }
+        ensures some { IfSome result (λ n. n ≡ meta_length self.now) }
+        ensures none { IfNone result (2 ^ 64 ≤ meta_length self.now) }
+    {
+        head::written_len(&self.header)?.checked_add(internal::written_len(&self.internal))
     }
 
     /// Returns the meta whose halves these bytes begin with.

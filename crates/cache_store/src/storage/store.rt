@@ -1,5 +1,5 @@
 //! What a store does, and the handlers that it gives out.
-ghost use Rattle.std.specs.Prelude.{◌≡◌, ℕ, Bool, List, Option, Some, true, option_map, IfOk, IfErr, IfSome, OnOk, OnErr, MatchResult};
+ghost use Rattle.std.specs.Prelude.{◌≡◌, ℕ, Bool, List, Option, Some, true, length, option_map, unwrap_or, IfOk, IfErr, IfSome, OnOk, OnErr, MatchResult};
 ghost use Rattle.cache_words.specs.Key.{combined, key_of};
 ghost use Rattle.cache_changes.specs.Changes.{StoredKey};
 ghost use Rattle.cache_changes.specs.Store.{Stored, body_at, flying_at};
@@ -16,7 +16,7 @@ ghost use Rattle.cache_store.specs.Looks.{LookAnswer, LookAtAnswer, TagAnswer, T
 ghost use Rattle.cache_store.specs.Misses.{BeginAnswer, MissAnswer, IsAlike};
 ghost use Rattle.cache_store.specs.Purges.{PurgeAnswer, target_key, id_at};
 ghost use Rattle.cache_store.specs.Readers.{Reader, IsStep, IsSought, Parts, ReadsSame, ahead};
-ghost use Rattle.cache_store.specs.Renewals.{StaleAnswer, UpdateAnswer};
+ghost use Rattle.cache_store.specs.Renewals.{StaleAnswer, UpdateAnswer, PrepareAnswer, IsRenewed};
 ghost use Rattle.cache_store.specs.Wholes.{Stores, IsWriteFault, whole_of};
 
 use super::{MissFinishType, PurgeOutcome, PurgeTarget, PurgeType, ReadStep, StoreFault};
@@ -78,6 +78,13 @@ pub trait Storage: Contents {
 
     /// What writes a body. It is spent by its `finish` or `leave`.
     type Miss: HandleMiss<Self>;
+
+    /// A meta that was made ready to be put beside the body of a key.
+    type NewMeta: Drop;
+
+    ghost key_in: { Self.NewMeta → StoredKey };
+
+    ghost meta_in: { Self.NewMeta → Meta };
 
     ghost is_spent: { Held → Bool };
 
@@ -232,7 +239,25 @@ pub trait Storage: Contents {
         Ok(self.purge(target, PurgeType::Invalidation))
     }
 
-    /// Gives the body of a key another meta.
+    /// Makes another meta ready for the body of a key, and returns it with what that body weighs with it: so that what can fail comes
+    /// before anything changes. `install_meta` gives it to the body.
+    ///
+    /// # Errors
+    ///
+    /// `NoMeta` where there is no body, and then `MetaMoment` where the meta can't be written; `Memory` when out of memory.
+    fn prepare_meta(
+        &self,
+        key: &CacheKey,
+        meta: &CacheMeta,
+    ) -> Result<(Self::NewMeta, usize), StoreFault>
+        ensures prepared { let k = combined (key_of key.now) in PrepareAnswer key_in meta_in Self.weigh (body_at k (Self.held self.now).store) k meta.now result };
+
+    /// Gives the body of its key the meta that was made ready, if that key has a body. It takes no memory.
+    fn install_meta(&mut self, new: Self::NewMeta)
+        ensures installed { IsRenewed (key_in new) (λ _. meta_in new) (Self.held self.old) (Self.held self.new) }
+        ensures ids { Self.ids self.new ≡ Self.ids self.old };
+
+    /// Gives the body of a key another meta. By default that is `prepare_meta` and `install_meta`.
     ///
     /// # Errors
     ///
@@ -240,7 +265,16 @@ pub trait Storage: Contents {
     /// Nothing has changed.
     fn update_meta(&mut self, key: &CacheKey, meta: &CacheMeta) -> Result<(), StoreFault>
         ensures updated { let k = combined (key_of key.now) in UpdateAnswer (body_at k (Self.held self.old).store) k meta.now (Self.held self.old) result (Self.held self.new) }
-        ensures ids { Self.ids self.new ≡ Self.ids self.old };
+        ensures ids { Self.ids self.new ≡ Self.ids self.old }
+    {
+        match self.prepare_meta(key, meta) {
+            Ok((new, _weight)) => {
+                self.install_meta(new);
+                Ok(())
+            }
+            Err(fault) => Err(fault),
+        }
+    }
 
     /// Returns whether a write is read while it is written. A store that shows no write in flight returns `false`.
     fn support_streaming_partial_write(&self) -> bool
@@ -361,6 +395,10 @@ pub trait HandleMiss<S: Contents> {
         ensures finished { MissAnswer number told (alive_key (flying_at (number self) (S.held store.old).store)) (number self) (S.held store.old) result (S.held store.new) }
         ensures ids { MatchResult result (λ _. IsGiven (alive_key (flying_at (number self) (S.held store.old).store)) (id self) (S.ids store.old) (S.ids store.new)) (λ _. S.ids store.new ≡ S.ids store.old) }
         ensures again { IfErr result (IsAlike id tag self) };
+
+    /// Returns how many bytes were written; 0 where the store doesn't have the write.
+    fn len(&self, store: &S) -> usize
+        ensures { result ≡ unwrap_or (option_map (λ f. length f.stored.bytes) (flying_at (number self.now) (S.held store.now).store)) 0 };
 
     /// Gives the write up.
     fn leave(self, store: &mut S)

@@ -23,6 +23,16 @@ impl<S: BuildHasher> MemCache<S> {
         }
     }
 
+    /// Returns the number of the write whose body a stored key has.
+    pub fn body_number(&self, key: &HashBinary) -> Option<u64>
+        ensures { result ≡ option_map (λ x. x.write.number) (body_at key.now self.now.store) }
+    {
+        match bodies::get(&self.bodies, key) {
+            Some(body) => Some(body.number),
+            None => None,
+        }
+    }
+
     /// Returns how many finished bodies there are. No key is there twice.
     pub fn finished_len(&self) -> usize
         ensures count { result ≡ length self.now.store.bodies }

@@ -1,11 +1,11 @@
 //! Other metas for bodies.
-ghost use Rattle.std.specs.Prelude.{◌≡◌, is_some};
+ghost use Rattle.std.specs.Prelude.{◌≡◌, length, is_some};
 ghost use Rattle.cache_changes.specs.Store.{body_at};
-ghost use Rattle.cache_store.specs.Renewals.{expired, IsRenewed, UpdateAnswer};
+ghost use Rattle.cache_store.specs.Renewals.{expired, IsRenewed, PrepareAnswer, UpdateAnswer};
 
 use super::MemCache;
 use crate::bodies;
-use crate::meta::written_packed;
+use crate::meta::{NewMeta, written_packed};
 use cache_heads::CacheMeta;
 use cache_store::storage::StoreFault;
 use cache_words::key::HashBinary;
@@ -55,5 +55,30 @@ impl<S: BuildHasher> MemCache<S> {
             }
             Err(fault) => Err(fault),
         }
+    }
+
+    // Makes a meta ready for the body of a key, and returns it with what that body weighs.
+    pub(crate) fn prepare(
+        &self,
+        key: HashBinary,
+        meta: &CacheMeta,
+    ) -> Result<(NewMeta, usize), StoreFault>
+        ensures { PrepareAnswer (λ n. n.key) (λ n. n.meta) (λ x. length x.bytes) (body_at key self.now.store) key meta.now result }
+    {
+        let Some((_meta, bytes)) = self.finished(&key) else {
+            return Err(StoreFault::NoMeta);
+        };
+        match written_packed(self.alloc, meta) {
+            Ok(meta) => Ok((NewMeta { key, meta }, bytes.len())),
+            Err(fault) => Err(fault),
+        }
+    }
+
+    // Gives the body of its key the meta that was made ready, if there is a body.
+    pub(crate) fn install(&mut self, new: NewMeta)
+        ensures { IsRenewed new.key (λ _. new.meta) self.old self.new }
+    {
+        let NewMeta { key, meta } = new;
+        self.set_meta(&key, meta);
     }
 }

@@ -1,5 +1,5 @@
 //! Writes: how they begin, go on and end.
-ghost use Rattle.std.specs.Prelude.{◌≡◌, ◌+◌, false, Some, None, option_map, IfOk, IfErr, OnOk, OnErr};
+ghost use Rattle.std.specs.Prelude.{◌≡◌, ◌+◌, false, length, Some, None, option_map, unwrap_or, IfOk, IfErr, OnOk, OnErr};
 ghost use Rattle.cache_changes.specs.Changes.{begins};
 ghost use Rattle.cache_changes.specs.Store.{after, flying_at};
 ghost use Rattle.cache_store.specs.declared.storage.StoreFault.{StoreFault as Fault};
@@ -102,6 +102,16 @@ impl<S: BuildHasher> MemCache<S> {
             return Err(fault);
         }
         Ok(())
+    }
+
+    // Returns how many bytes a write in flight has; 0 where there is none of that number.
+    pub(crate) fn written(&self, number: u64) -> usize
+        ensures { result ≡ unwrap_or (option_map (λ f. length f.stored.bytes) (flying_at number self.now.store)) 0 }
+    {
+        match self.flights.get(&number) {
+            Some(kept) => kept.flight().pieces.len(),
+            None => 0,
+        }
     }
 
     // Gives a write up.

@@ -78,6 +78,10 @@ impl<S: BuildHasher> HandleMiss<MemCache<S>> for MemMissHandler {
         }
     }
 
+    fn len(&self, store: &MemCache<S>) -> usize {
+        store.written(self.number)
+    }
+
     fn leave(self, store: &mut MemCache<S>) {
         store.leave(self.spend());
     }

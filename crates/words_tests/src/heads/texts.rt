@@ -23,7 +23,7 @@ const PUT_INTERNAL: &[u8] =
 const PUT_HEADER: &[u8] =
     b"\x92\xcc\xc8\x91\x92\xadcache-control\xc4\x3bmax-age=46, stale-while-revalidate=70000, stale-if-error=60";
 
-/// Whether a meta is written so.
+/// Whether a meta is written so, and takes as many bytes as it says.
 pub(super) fn is_written(
     alloc: Global,
     meta: &CacheMeta,
@@ -31,7 +31,11 @@ pub(super) fn is_written(
     header: &[u8],
 ) -> Result<bool, MetaFault> {
     match meta.serialize(alloc) {
-        Ok(found) => Ok(found.0.as_slice() == internal && found.1.as_slice() == header),
+        Ok((first, second)) => {
+            let is_so = first.as_slice() == internal && second.as_slice() == header;
+            let len = first.len().checked_add(second.len());
+            Ok(is_so && meta.written_len() == len)
+        }
         Err(fault) => Err(fault),
     }
 }
