@@ -16,5 +16,5 @@ mod storage;
 mod stored_key;
 
 pub use cache::MemCache;
-pub use meta::NewMeta;
+pub use meta::{NewMeta, ShownMeta};
 pub use packed_meta::PackedMeta;

@@ -12,6 +12,14 @@ use cache_words::time::Moment;
 use packed_meta::PackedMeta;
 use std::alloc::Global;
 
+/// The meta of what a look-up shows.
+pub enum ShownMeta<'a> {
+    /// Of a write in flight.
+    InFlight(&'a CacheMeta),
+    /// Of a finished body.
+    Finished(&'a PackedMeta),
+}
+
 /// A meta that was made ready to be put beside the body of a key.
 #[derive(Drop)]
 pub struct NewMeta {

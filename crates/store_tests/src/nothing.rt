@@ -12,7 +12,7 @@ use cache_store::storage::{
     Contents, Found, HandleHit, HandleMiss, MissFault, MissFinishType, PurgeOutcome, PurgeTarget,
     PurgeType, ReadStep, Storage, StoreFault,
 };
-use cache_words::key::{CacheKey, CompactCacheKey};
+use cache_words::key::{CacheKey, CompactCacheKey, HashBinary};
 use cache_words::time::Moment;
 use std::alloc::{AllocError, Global};
 use std::test::*;
@@ -38,6 +38,12 @@ impl Storage for Nothing {
     type Hit = Nobody;
 
     type Miss = Nobody;
+
+    type NewMeta = (HashBinary, CacheMeta);
+
+    ghost key_in = { λ n. n.0 };
+
+    ghost meta_in = { λ n. n.1 };
 
     ghost is_spent = { λ _. true };
 
@@ -69,9 +75,15 @@ impl Storage for Nothing {
         PurgeOutcome::NotFound
     }
 
-    fn update_meta(&mut self, _key: &CacheKey, _meta: &CacheMeta) -> Result<(), StoreFault> {
+    fn prepare_meta(
+        &self,
+        _key: &CacheKey,
+        _meta: &CacheMeta,
+    ) -> Result<((HashBinary, CacheMeta), usize), StoreFault> {
         Err(StoreFault::NoMeta)
     }
+
+    fn install_meta(&mut self, _new: (HashBinary, CacheMeta)) {}
 
     fn support_streaming_partial_write(&self) -> bool {
         false
@@ -134,6 +146,10 @@ impl HandleMiss<Nothing> for Nobody {
         Err(MissFault::WriteRemoved)
     }
 
+    fn len(&self, _store: &Nothing) -> usize {
+        0
+    }
+
     fn leave(self, _store: &mut Nothing) {}
 
     fn streaming_write_tag(&self) -> Option<&[u8]> {
@@ -150,7 +166,10 @@ fn is_nothing_there(alloc: Global, key: &CacheKey, compact: &CompactCacheKey) ->
     let begun = Nothing.get_miss_handler_owned(key, meta(alloc, 1300));
     let found = Nothing.lookup_streaming_write(key, Some(&[0]));
     let outcome = Nothing.expire(PurgeTarget::Active(compact), Moment::from_seconds(1000));
-    begun.is_err()
+    Nothing.install_meta(([0; 16], meta(alloc, 1300)));
+    let updated = Nothing.update_meta(key, &meta(alloc, 1300));
+    updated == Err(StoreFault::NoMeta)
+        && begun.is_err()
         && matches!(found, Ok(None))
         && matches!(outcome, Ok(PurgeOutcome::NotFound))
         && !Nothing.support_streaming_partial_write()
@@ -174,6 +193,7 @@ fn is_nobody(mut hit: Nobody) -> bool {
         && <Nobody as HandleHit<Nothing>>::entry_id(&hit).is_none()
         && <Nobody as HandleMiss<Nothing>>::entry_id(&hit).is_none()
         && hit.streaming_write_tag().is_none()
+        && hit.len(&Nothing) == 0
 }
 
 #[test]

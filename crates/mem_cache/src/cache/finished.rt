@@ -2,11 +2,14 @@
 ghost use Rattle.std.specs.Prelude.{◌≡◌, ◌-◌, ◌^◌, List, ℕ, length, map, min, nat_eq, option_map};
 ghost use Rattle.std.specs.Cmp.Lexicographic.{pointwise};
 ghost use Rattle.std.specs.List.{IsDistinct, sum_by};
-ghost use Rattle.cache_changes.specs.Store.{body_at};
+ghost use Rattle.cache_changes.specs.Store.{body_at, shown_at};
 ghost use Rattle.cache_heads.specs.declared.meta.CacheMeta.{CacheMeta as Meta};
+ghost use Rattle.mem_cache.specs.Shown.{meta_shown};
 
 use super::MemCache;
 use crate::bodies;
+use crate::flight::Shown;
+use crate::meta::ShownMeta;
 use bytes::Bytes;
 use cache_words::key::HashBinary;
 use packed_meta::PackedMeta;
@@ -20,6 +23,17 @@ impl<S: BuildHasher> MemCache<S> {
         match bodies::get(&self.bodies, key) {
             Some(body) => Some((&body.meta, &body.bytes)),
             None => None,
+        }
+    }
+
+    /// Lends the meta of what a look-up of a stored key shows: of the write in flight that began first of those that no removal met, and without
+    /// one of the finished body. No memory is taken.
+    pub fn shown_meta(&self, key: &HashBinary) -> Option<ShownMeta<'_>>
+        ensures { option_map meta_shown result ≡ option_map (λ x. x.meta) (shown_at key.now self.now.store) }
+    {
+        match self.shown(key)? {
+            Shown::Flying(_, flight) => Some(ShownMeta::InFlight(&flight.meta)),
+            Shown::Body(body) => Some(ShownMeta::Finished(&body.meta)),
         }
     }
 

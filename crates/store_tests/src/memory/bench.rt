@@ -9,8 +9,8 @@ use cache_store::storage::{
 };
 use cache_words::key::CacheHashKey;
 use cache_words::time::Moment;
-use mem_cache::MemCache;
 use mem_cache::handlers::{MemHitHandler, MemMissHandler};
+use mem_cache::{MemCache, ShownMeta};
 use std::alloc::Global;
 use std::hash::BuildHasherDefault;
 
@@ -144,9 +144,21 @@ impl Bench {
         }
     }
 
+    // Gives the body another meta, once that is ready, and with it the weight that the body has.
     fn update(&mut self, names: &Names, until: i64, fault: Option<StoreFault>) -> bool {
         let meta = meta(names.alloc, until);
-        is_so(self.store.update_meta(&names.aa, &meta), fault)
+        match self.store.prepare_meta(&names.aa, &meta) {
+            Ok((new, weight)) => {
+                let key = names.aa.combined_bin();
+                let has_weight = match self.store.finished(&key) {
+                    Some((_, bytes)) => bytes.len() == weight,
+                    None => false,
+                };
+                self.store.install_meta(new);
+                has_weight && fault.is_none()
+            }
+            Err(refused) => fault == Some(refused),
+        }
     }
 
     // Whether there are so many finished bodies with so many bytes, and this one of the key, of a meta that is fresh until 1300.
@@ -157,7 +169,17 @@ impl Bench {
             }
             None => body.is_none(),
         };
-        is_right && self.store.finished_len() == len && self.store.finished_bytes() == bytes
+        let key = names.aa.combined_bin();
+        let is_shown = match self.store.shown_meta(&key) {
+            Some(ShownMeta::Finished(_)) => body.is_some(),
+            Some(ShownMeta::InFlight(_)) => true,
+            None => body.is_none(),
+        };
+        is_right
+            && is_shown
+            && self.store.body_number(&key).is_some() == body.is_some()
+            && self.store.finished_len() == len
+            && self.store.finished_bytes() == bytes
     }
 
     // Whether a step comes out as said.
