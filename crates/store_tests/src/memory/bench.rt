@@ -95,13 +95,14 @@ impl Bench {
         }
     }
 
-    // Whether a writer that finishes reports this size, or that it was removed.
+    // Whether a writer that finishes reports this size, which it had before, or that it was removed.
     fn finish(&mut self, size: Option<usize>) -> bool {
         let Some(writer) = self.writer.take() else {
             return false;
         };
+        let len = writer.len(&self.store);
         match writer.finish(&mut self.store) {
-            Ok(MissFinishType::Created(created)) => size == Some(created),
+            Ok(MissFinishType::Created(created)) => size == Some(created) && len == created,
             Ok(_) => false,
             Err(MissFault::WriteRemoved) => size.is_none(),
             Err(MissFault::Memory(writer)) => {
