@@ -1,8 +1,9 @@
 #!/usr/bin/env python3
 """Lists what a reader must read to believe the headline, and counts the lines of definitions that it and `Tier::step` rest on.
 
-    scripts/definition-lines.py                       the lines by crate: the first table of docs/definitions.md
-    scripts/definition-lines.py --files               the files of the headline with their lines: its other tables
+    scripts/definition-lines.py                       the lines by crate: the first table of docs/definitions.md, and of which crates
+    scripts/definition-lines.py --files               the files of the headline with their lines, its other table; then what of the code
+                                                      and of the libraries the headline names
     scripts/definition-lines.py --write, --check      puts the tables into docs/definitions.md; compares them with it
     scripts/definition-lines.py CRATE MODULE NAME     the definitions on which another one rests
 
@@ -203,47 +204,55 @@ class Types:
         return seen
 
 
-def lines_table(definitions):
-    """Returns the table of lines, by crate."""
-    rows = ["| What is read | Lines | By crate |", "|---|---|---|"]
+def lines_table(definitions, by_crate=False):
+    """Returns the table of lines, by crate too."""
+    rows = ["| What is read | Lines |" + " By crate |" * by_crate, "|---|---|" + "---|" * by_crate]
     for title, root, beside, without in TABLE:
-        by_crate = {}
+        lines = {}
         for place in definitions.reached(root, without, beside):
-            by_crate[place[0]] = by_crate.get(place[0], 0) + definitions.lines(place)
-        parts = ", ".join(f"`{crate}` {by_crate[crate]}" for crate in sorted(by_crate))
-        rows.append(f"| {title} | {sum(by_crate.values())} | {parts} |")
+            lines[place[0]] = lines.get(place[0], 0) + definitions.lines(place)
+        parts = ", ".join(f"`{crate}` {lines[crate]}" for crate in sorted(lines))
+        rows.append(f"| {title} | {sum(lines.values())} |" + f" {parts} |" * by_crate)
+    code = sum(lines for its in types_of(definitions)[0].values() for _, lines in its)
+    rows.append(f"| types and constants of the code that the headline names | {code} |" + " |" * by_crate)
     return rows
 
 
-def files_tables(definitions):
-    """Returns the tables of files: definitions, types of the code, words of libraries."""
-    reached = definitions.reached(HEADLINE, (), CITES)
-    types, words = definitions.outside(reached)
-    files = {}
-    for place in reached:
-        files.setdefault(place[:2], []).append(definitions.lines(place))
-    rows = ["| File of definitions | Lines to read | Lines of definitions in it |", "|---|---|---|"]
-    for (crate, module), lines in sorted(files.items(), key=lambda it: (it[0][0] in GRAMMARS, it[0])):
-        whole = sum(map(len, definitions.file(crate, module)[2].values()))
-        rows.append(f"| `{crate}/specs/{module}.antt` | {sum(lines)} | {whole} |")
+def types_of(definitions):
+    """Returns the types and constants of the code that the headline names, each file's with their lines, and the words of libraries."""
+    types, words = definitions.outside(definitions.reached(HEADLINE, (), CITES))
     crates = set(os.listdir(os.path.join(ROOT, "crates")))
     by_file = {}
     for (_, name), (path, lines) in Types().reached(crates, types).items():
         by_file.setdefault(path, []).append((name, len(lines)))
-    rows += ["", "| File of the code | Types and constants | Lines to read |", "|---|---|---|"]
+    return by_file, {it for it in words if it[0] not in crates}
+
+
+def files_tables(definitions):
+    """Returns the three tables of files: definitions, types of the code, words of libraries."""
+    reached = definitions.reached(HEADLINE, (), CITES)
+    by_file, words = types_of(definitions)
+    files = {}
+    for place in reached:
+        files.setdefault(place[:2], []).append(definitions.lines(place))
+    rows = ["| Files in `specs` of | Lines to read |", "|---|---|"]
+    by_crate = {}
+    for (crate, module), lines in sorted(files.items(), key=lambda it: (it[0][0] in GRAMMARS, it[0])):
+        by_crate.setdefault(crate, []).append(f"`{module}` {sum(lines)}")
+    specs = rows + [f"| `{crate}` | {', '.join(its)} |" for crate, its in by_crate.items()]
+    code = ["| File of the code | Lines of its types and constants |", "|---|---|"]
     for path, its in sorted(by_file.items()):
-        names = ", ".join(f"`{name}`" for name, _ in sorted(its))
-        rows.append(f"| `{path[len('crates/'):]}` | {names} | {sum(lines for _, lines in its)} |")
-    rows += ["", "| Library | Words, by module |", "|---|---|"]
-    for library in sorted({it[0] for it in words} - crates):
+        code.append(f"| `{path[len('crates/'):]}` | " + ", ".join(f"`{name}` {lines}" for name, lines in sorted(its)) + " |")
+    library_words = ["| Library | Words, by module |", "|---|---|"]
+    for library in sorted({it[0] for it in words}):
         modules = {}
         for crate, module, word in words:
             if crate == library:
                 modules.setdefault(module, set()).add(word)
         # std's words of lists, numbers and texts are many: its modules are enough
         told = {it: "" if library == "std" else ": " + ", ".join(f"`{word}`" for word in sorted(modules[it])) for it in sorted(modules)}
-        rows.append(f"| `{library}` | {'; '.join(f'`{it}`{words}' for it, words in told.items())} |")
-    return rows
+        library_words.append(f"| `{library}` | {'; '.join(f'`{it}`{words}' for it, words in told.items())} |")
+    return specs, code, library_words
 
 
 def with_tables(page, tables):
@@ -259,14 +268,14 @@ def with_tables(page, tables):
 def main(words):
     definitions = Definitions()
     if not words:
-        print("\n".join(lines_table(definitions)))
+        print("\n".join(lines_table(definitions, by_crate=True)))
         return 0
     if words == ["--files"]:
-        print("\n".join(files_tables(definitions)))
+        print("\n\n".join("\n".join(it) for it in files_tables(definitions)))
         return 0
     if words in (["--write"], ["--check"]):
         old = read(PAGE)
-        new = with_tables(old, {"lines": lines_table(definitions), "files": files_tables(definitions)})
+        new = with_tables(old, {"lines": lines_table(definitions), "files": files_tables(definitions)[0]})
         if words == ["--check"]:
             same = "docs/definitions.md has these tables"
             print(same if new == old else "docs/definitions.md has other tables: run scripts/definition-lines.py --write")

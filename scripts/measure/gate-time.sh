@@ -1,5 +1,5 @@
 #!/bin/sh
-# Runs the gate (rt ci) and prints what it took, by crate and by kind, as docs/gate.md shows it:
+# Runs the gate (rt ci) and prints what it took, by crate and by kind; docs/gate.md shows the sums:
 #
 #     sh scripts/measure/gate-time.sh [LOG]
 #     GATE=PROCESS sh scripts/measure/gate-time.sh LOG

@@ -1,0 +1,199 @@
+#!/usr/bin/env python3
+"""Checks the pages: README.md and docs/*.md.
+
+    scripts/test-pages.py           fails where one of these doesn't hold
+    scripts/test-pages.py --words   prints the words of each page
+
+- Each link leads to a file of the repository, and its anchor to a heading of that page. A path in backticks that begins with a
+  folder of the repository is there.
+- No line is longer than LONGEST but in tables, code and pictures. README.md has at most README_LINES lines; the pages of docs/ have
+  at most MOST_WORDS words together: what has a letter or a digit between white space, so no bar of a table.
+- A figure that several pages quote is the same on each, and the one that the repository gives where it can be counted.
+- The picture of docs/map.md has each crate of crates.txt once, and each uses only crates to its right or below.
+"""
+
+import glob
+import os
+import re
+import sys
+
+TOP = os.path.dirname(os.path.dirname(os.path.abspath(__file__)))
+LONGEST = 120
+README_LINES = 120
+MOST_WORDS = 25_000
+
+
+def read(path):
+    with open(os.path.join(TOP, path), encoding="utf-8") as it:
+        return it.read()
+
+
+PAGES = {it: read(it) for it in ["README.md", *(f"docs/{it}" for it in sorted(os.listdir(os.path.join(TOP, "docs"))) if it.endswith(".md"))]}
+
+
+# What several pages quote, and what the repository says of it.
+
+def crates():
+    """The crates of crates.txt, each with those that it uses."""
+    rows = [it.split(":") for it in read("crates.txt").splitlines() if it and not it.startswith("#")]
+    return {name: [it for it in used.split() if it in {row[0] for row in rows}] for name, used in rows}
+
+
+def below(name):
+    used, found = crates(), set()
+    open_ = [name]
+    while open_:
+        new = set(used[open_.pop()]) - found
+        found |= new
+        open_ += new
+    return len(found)
+
+
+def files(pattern):
+    return len(glob.glob(os.path.join(TOP, pattern)))
+
+
+def rows_of(path):
+    return len(read(path).splitlines())
+
+
+# A figure: what it is, the number that the repository gives (or none), and the pages that quote it, each with the texts around it.
+FIGURES = (
+    ("traces", lambda: rows_of("traces/index.txt"), (
+        ("docs/map.md", r"replays (\d+) traces"), ("docs/gate.md", r"(\d+) traces"), ("docs/proved.md", r"(\d+) traces of `traces`"))),
+    ("restarts", lambda: rows_of("traces/restarts/index.txt"), (("docs/proved.md", r"(\d+) restarts"),)),
+    ("named wrong bodies", lambda: files("crates/*/must-fail/*.edit"), (("docs/gate.md", r"(\d+) named wrong bodies"),)),
+    ("crates below tier_replay", lambda: below("tier_replay"), (("docs/gate.md", r"the (\d+) crates below it"),)),
+    ("rows of requests", lambda: len([it for it in read("crates/request_cases/data/rows.txt").split("\n\n") if it.strip()]), (
+        ("docs/map.md", r"over (\d+) rows of calls"), ("docs/proved.md", r"(\d+) rows of calls"))),
+    ("runs of two tiers", lambda: rows_of("crates/request_cases/data/runs.txt"), (
+        ("docs/map.md", r"over (\d+) runs"), ("docs/proved.md", r"(\d+) runs, with"))),
+    ("minutes of the whole test", None, (
+        ("README.md", r"([\d.]+) processor minutes from nothing"), ("docs/gate.md", r"([\d.]+) processor minutes from nothing"))),
+    ("instructions of a hit", None, (
+        ("README.md", r"A hit takes ([\d,]+) instructions"), ("docs/performance.md", r"hits: [^|]*\| ([\d,]+)"))),
+    ("bytes an entry", None, (
+        ("README.md", r"some (\d+) bytes an entry"), ("docs/trace-format.md", r"an entry takes some (\d+) bytes"))),
+    ("bytes an open request", None, (
+        ("README.md", r"bytes an entry and (\d+)"), ("docs/trace-format.md", r"open request takes some (\d+) bytes"))),
+    ("most entries", lambda: 2415919104, (
+        ("docs/trace-format.md", r"([\d,]{10,}) entries are tracked"),)),
+    ("lines of a head", None, (
+        ("docs/trace-format.md", r"more than (\d+) header lines"),
+        ("docs/DIFFERENCES.md", r"at most (\d+) lines, names of"))),
+    ("bytes of a name", None, (
+        ("docs/trace-format.md", r"a name past ([\d,]+) bytes"),
+        ("docs/DIFFERENCES.md", r"names of at most ([\d,]+) bytes"))),
+)
+
+
+def words_of(text):
+    return sum(any(it.isalnum() for it in word) for word in text.split())
+
+
+def unwrapped(text):
+    return re.sub(r"\s+", " ", text)
+
+
+def figures():
+    for what, counted, places in FIGURES:
+        told = {} if counted is None else {"counted": counted()}
+        for page, pattern in places:
+            found = {int(it.replace(",", "")) for it in re.findall(pattern, unwrapped(PAGES.get(page, "")))}
+            if len(found) != 1:
+                yield f"{page}: {what}: " + ("not quoted as scripts/test-pages.py expects" if not found else f"quoted as {sorted(found)}")
+            else:
+                told[page] = found.pop()
+        if len(set(told.values())) > 1:
+            yield f"{what}: " + ", ".join(f"{where} {number}" for where, number in told.items())
+
+
+# Links, paths, lines and words.
+
+def without_code(text):
+    """The text of a page without its blocks of code, and with their lines left empty."""
+    lines, fenced = [], False
+    for line in text.splitlines():
+        fence = line.startswith("```")
+        fenced ^= fence
+        code = fence or fenced or (line.startswith("    ") and not re.match(r"\s+([-*]|\d+\.) ", line))
+        lines.append("" if code else line)
+    return lines
+
+
+def anchors(text):
+    found, seen = set(), {}
+    for line in without_code(text):
+        heading = re.match(r"#+ (.*)", line)
+        if heading:
+            slug = re.sub(r"[^\w\- ]", "", heading[1].replace("`", "").lower()).strip().replace(" ", "-")
+            number = seen.get(slug, 0)
+            seen[slug] = number + 1
+            found.add(slug if number == 0 else f"{slug}-{number}")
+    return found
+
+
+def links(page, text):
+    plain = "\n".join(without_code(text))
+    for target in re.findall(r"\]\(([^)\s]+)\)", plain):
+        path, _, anchor = target.partition("#")
+        if re.match(r"\w+:", path):
+            continue
+        where = os.path.normpath(os.path.join(os.path.dirname(page), path)) if path else page
+        if not os.path.exists(os.path.join(TOP, where)):
+            yield f"{page}: link to {target}: there is no {where}"
+        elif anchor and anchor not in anchors(PAGES.get(where) or read(where)):
+            yield f"{page}: link to {target}: {where} has no such heading"
+    for path in re.findall(r"`((?:scripts|docs|examples|traces|crates|edits|embed)/[\w./-]+)", plain):
+        named = re.search(r"\b[A-Z]+\b|/out\b|/my_", path)  # a name to fill in, what is built, what a reader makes
+        if not named and not os.path.exists(os.path.join(TOP, path.rstrip("."))):
+            yield f"{page}: there is no {path}"
+
+
+def lines(page, text):
+    for number, line in enumerate(without_code(text), 1):
+        if len(line) > LONGEST and not line.startswith(("|", "[![", "![")):
+            yield f"{page}:{number}: {len(line)} characters"
+
+
+def sizes():
+    if PAGES["README.md"].count("\n") > README_LINES:
+        yield f"README.md has {PAGES['README.md'].count(chr(10))} lines, of at most {README_LINES}"
+    words = sum(words_of(text) for page, text in PAGES.items() if page.startswith("docs/"))
+    if words > MOST_WORDS:
+        yield f"docs/ has {words} words, of at most {MOST_WORDS}"
+
+
+# The picture of the crates.
+
+def picture():
+    used = crates()
+    block = re.search(r"(?:^    .*\n)+", PAGES["docs/map.md"], re.M)
+    order = [name for line in block[0].splitlines() for name in line[18:].split()]
+    for name in sorted(set(used) ^ set(order)):
+        yield f"docs/map.md: the picture {'lacks' if name in used else 'has what crates.txt lacks:'} {name}"
+    for name in {it for it in order if order.count(it) > 1}:
+        yield f"docs/map.md: the picture has {name} twice"
+    for name in set(used) & set(order):
+        for other in used[name]:
+            if other in order and order.index(other) < order.index(name):
+                yield f"docs/map.md: {name} uses {other}, which stands before it"
+
+
+def main(words):
+    if words == ["--words"]:
+        for page, text in PAGES.items():
+            print(f"{words_of(text):6} {page}")
+        return 0
+    if words:
+        print(__doc__.strip(), file=sys.stderr)
+        return 2
+    faults = [*sizes(), *picture(), *figures()]
+    for page, text in PAGES.items():
+        faults += [*links(page, text), *lines(page, text)]
+    print("\n".join([*faults, f"pages: {len(PAGES)}, {len(faults)} faults"]))
+    return int(bool(faults))
+
+
+if __name__ == "__main__":
+    sys.exit(main(sys.argv[1:]))
