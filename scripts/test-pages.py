@@ -1,5 +1,5 @@
 #!/usr/bin/env python3
-"""Checks the pages: README.md and docs/*.md.
+"""Checks the pages: README.md, docs/*.md and docs/proved/*.md.
 
     scripts/test-pages.py           fails where one of these doesn't hold
     scripts/test-pages.py --words   prints the words of each page
@@ -28,7 +28,12 @@ def read(path):
         return it.read()
 
 
-PAGES = {it: read(it) for it in ["README.md", *(f"docs/{it}" for it in sorted(os.listdir(os.path.join(TOP, "docs"))) if it.endswith(".md"))]}
+def pages():
+    for pattern in ("README.md", "docs/*.md", "docs/proved/*.md"):
+        yield from sorted(glob.glob(pattern, root_dir=TOP))
+
+
+PAGES = {it: read(it) for it in pages()}
 
 
 # What several pages quote, and what the repository says of it.
@@ -60,14 +65,14 @@ def rows_of(path):
 # A figure: what it is, the number that the repository gives (or none), and the pages that quote it, each with the texts around it.
 FIGURES = (
     ("traces", lambda: rows_of("traces/index.txt"), (
-        ("docs/map.md", r"replays (\d+) traces"), ("docs/gate.md", r"(\d+) traces"), ("docs/proved.md", r"(\d+) traces of `traces`"))),
-    ("restarts", lambda: rows_of("traces/restarts/index.txt"), (("docs/proved.md", r"(\d+) restarts"),)),
+        ("docs/map.md", r"replays (\d+) traces"), ("docs/gate.md", r"(\d+) traces"), ("docs/proved/traces.md", r"(\d+) traces of `traces`"))),
+    ("restarts", lambda: rows_of("traces/restarts/index.txt"), (("docs/proved/traces.md", r"(\d+) restarts"),)),
     ("named wrong bodies", lambda: files("crates/*/must-fail/*.edit"), (("docs/gate.md", r"(\d+) named wrong bodies"),)),
     ("crates below tier_replay", lambda: below("tier_replay"), (("docs/gate.md", r"the (\d+) crates below it"),)),
     ("rows of requests", lambda: len([it for it in read("crates/request_cases/data/rows.txt").split("\n\n") if it.strip()]), (
-        ("docs/map.md", r"over (\d+) rows of calls"), ("docs/proved.md", r"(\d+) rows of calls"))),
+        ("docs/map.md", r"over (\d+) rows of calls"), ("docs/proved/requests.md", r"(\d+) rows of calls"))),
     ("runs of two tiers", lambda: rows_of("crates/request_cases/data/runs.txt"), (
-        ("docs/map.md", r"over (\d+) runs"), ("docs/proved.md", r"(\d+) runs, with"))),
+        ("docs/map.md", r"over (\d+) runs"), ("docs/proved/planning.md", r"(\d+) runs, with"))),
     ("minutes of the whole test", None, (
         ("README.md", r"([\d.]+) processor minutes from nothing"), ("docs/gate.md", r"([\d.]+) processor minutes from nothing"))),
     ("instructions of a hit", None, (
