@@ -10,6 +10,7 @@
   at most MOST_WORDS words together: what has a letter or a digit between white space, so no bar of a table.
 - A figure that several pages quote is the same on each, and the one that the repository gives where it can be counted.
 - The picture of docs/map.md has each crate of crates.txt once, and each uses only crates to its right or below.
+- Each name in a column 'Clauses' or 'Field' of a table of docs/proved stands in a crate that the page names.
 """
 
 import glob
@@ -185,6 +186,23 @@ def picture():
                 yield f"docs/map.md: {name} uses {other}, which stands before it"
 
 
+# The tables of what is proved.
+
+def sources(named):
+    for crate in named:
+        for path in glob.glob(f"crates/{crate}/s*/**/*.*", root_dir=TOP, recursive=True):
+            if path.endswith((".rt", ".antt")):
+                yield read(path)
+
+
+def clauses(page, text):
+    known = "\n".join(sources(it for it in crates() if f"`{it}`" in text))
+    for table in re.findall(r"^\|.*\| (?:Clauses|Field) \|\n\|[-|]+\|\n((?:\|.*\n?)+)", text, re.M):
+        for law, name in re.findall(r"`(laws::)?(\w+)`", "\n".join(row.split("|")[-2] for row in table.splitlines())):
+            if not re.search(rf"\b(?:{'pub fn' if law else 'ensures|requires|pub|record|fn|ghost'}) {name}\b", known):
+                yield f"{page}: no crate of the page has {law}{name}"
+
+
 def main(words):
     if words == ["--words"]:
         for page, text in PAGES.items():
@@ -195,7 +213,7 @@ def main(words):
         return 2
     faults = [*sizes(), *picture(), *figures()]
     for page, text in PAGES.items():
-        faults += [*links(page, text), *lines(page, text)]
+        faults += [*links(page, text), *lines(page, text), *(clauses(page, text) if page.startswith("docs/proved/") else ())]
     print("\n".join([*faults, f"pages: {len(PAGES)}, {len(faults)} faults"]))
     return int(bool(faults))
 
