@@ -134,6 +134,10 @@ impl HandleMiss<Nothing> for Nobody {
         Err(MissFault::WriteRemoved)
     }
 
+    fn is_removed(&self, _store: &Nothing) -> bool {
+        true
+    }
+
     fn leave(self, _store: &mut Nothing) {}
 
     fn streaming_write_tag(&self) -> Option<&[u8]> {
@@ -174,6 +178,7 @@ fn is_nobody(mut hit: Nobody) -> bool {
         && <Nobody as HandleHit<Nothing>>::entry_id(&hit).is_none()
         && <Nobody as HandleMiss<Nothing>>::entry_id(&hit).is_none()
         && hit.streaming_write_tag().is_none()
+        && hit.is_removed(&Nothing)
 }
 
 #[test]

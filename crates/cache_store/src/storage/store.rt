@@ -1,5 +1,5 @@
 //! What a store does, and the handlers that it gives out.
-ghost use Rattle.std.specs.Prelude.{◌≡◌, ℕ, Bool, List, Option, Some, true, option_map, IfOk, IfErr, IfSome, OnOk, OnErr, MatchResult};
+ghost use Rattle.std.specs.Prelude.{◌≡◌, ℕ, Bool, List, Option, Some, true, is_none, option_map, IfOk, IfErr, IfSome, OnOk, OnErr, MatchResult};
 ghost use Rattle.cache_words.specs.Key.{combined, key_of};
 ghost use Rattle.cache_changes.specs.Changes.{StoredKey};
 ghost use Rattle.cache_changes.specs.Store.{Stored, body_at, flying_at};
@@ -176,7 +176,7 @@ pub trait Storage: Contents {
     ///
     /// # Errors
     ///
-    /// Those of `get_miss_handler`; at `Memory` the write may have used a number. The bodies are as before.
+    /// Those of `get_miss_handler`, in their order; at `Memory` the write may have used a number. The bodies are as before.
     fn store_whole(
         &mut self,
         key: &CacheKey,
@@ -361,6 +361,11 @@ pub trait HandleMiss<S: Contents> {
         ensures finished { MissAnswer number told (alive_key (flying_at (number self) (S.held store.old).store)) (number self) (S.held store.old) result (S.held store.new) }
         ensures ids { MatchResult result (λ _. IsGiven (alive_key (flying_at (number self) (S.held store.old).store)) (id self) (S.ids store.old) (S.ids store.new)) (λ _. S.ids store.new ≡ S.ids store.old) }
         ensures again { IfErr result (IsAlike id tag self) };
+
+    /// Returns whether a removal met the write, or the store doesn't have it, so that `finish` would be refused as `WriteRemoved`. It takes
+    /// no memory.
+    fn is_removed(&self, store: &S) -> bool
+        ensures { result ≡ is_none (alive_key (flying_at (number self.now) (S.held store.now).store)) };
 
     /// Gives the write up.
     fn leave(self, store: &mut S)

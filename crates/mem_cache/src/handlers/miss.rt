@@ -78,6 +78,10 @@ impl<S: BuildHasher> HandleMiss<MemCache<S>> for MemMissHandler {
         }
     }
 
+    fn is_removed(&self, store: &MemCache<S>) -> bool {
+        store.key_of(self.number).is_none()
+    }
+
     fn leave(self, store: &mut MemCache<S>) {
         store.leave(self.spend());
     }
