@@ -5,7 +5,7 @@ use Rattle.std.specs.Option.{option_or}
 use Rattle.std.proofs.lemmas.Bool.{eqb-true}
 use Rattle.std.proofs.lemmas.List.Folds.{find-append}
 use Rattle.cache_entries.specs.declared.entry.CacheEntryKey.{CacheEntryKey}
-use Rattle.cache_changes.specs.Changes.{Write, Change, Changes, StoredKey, begins, appends, ends, finishes, leaves, renews, removes, admits, uses, departs, evicts, key_alone, is_key}
+use Rattle.cache_changes.specs.Changes.{Write, Change, Changes, StoredKey, begins, appends, ends, finishes, leaves, renews, removes, admits, uses, reweighs, departs, evicts, key_alone, is_key}
 use Rattle.cache_changes.specs.Writes.{has_ended, MayCome, IsOrderly}
 use Rattle.cache_changes.specs.Store.{Stored, Flying, Store, stored_of, has_number, flying_at, begun, with_bytes, renewed, renewed_flying, ended, marked, landed, after, store_of}
 use Rattle.cache_changes.proofs.RowLaws.{not_true, not_false, find-map, find-kept, find-gone}
@@ -165,6 +165,11 @@ flying-after {M = M} n (admits e x) before s may o h = h ∙ moved n (admits e x
 flying-after {M = M} n (uses e x) before s may o h = h ∙ moved n (uses e x) before (λ x. x) refl (λ w a t. by_flag w a) (life n before) (life_number n before)
   where
     by_flag : (w : Write M) (a : Bool) → Some (flight w a before) ≡ flying_of (uses e x ∷ before) (Some (lived (uses e x) (live w a)))
+    by_flag w true = refl
+    by_flag w false = refl
+flying-after {M = M} n (reweighs e x) before s may o h = h ∙ moved n (reweighs e x) before (λ x. x) refl (λ w a t. by_flag w a) (life n before) (life_number n before)
+  where
+    by_flag : (w : Write M) (a : Bool) → Some (flight w a before) ≡ flying_of (reweighs e x ∷ before) (Some (lived (reweighs e x) (live w a)))
     by_flag w true = refl
     by_flag w false = refl
 flying-after {M = M} n (departs e) before s may o h = h ∙ moved n (departs e) before (λ x. x) refl (λ w a t. by_flag w a) (life n before) (life_number n before)

@@ -8,8 +8,8 @@ use Rattle.cache_entries.specs.SameEntry.{same_bytes-tells}
 use Rattle.cache_changes.specs.Changes.{StoredKey, Write, Change, Changes, finishes, leaves}
 use Rattle.cache_changes.specs.Writes.{finished_by, body_chosen, body_now, removes_key, lands, leaves_write, IsFound, IsAliveInFlight, IsShown, MayCome, IsOrderly}
 use Rattle.cache_changes.specs.Store.{Stored, Flying, IsStateOf, stored_of, has_number, body_at, flying_at, flies_for, shown_at, is_found_at, store_of}
-use Rattle.cache_changes.proofs.RowLaws.{find-passes, find-some}
-use Rattle.cache_changes.proofs.WriteLaws.{Life, life, life_by, begun_by, life-flies, life-alive, and_true, both_true, neither, was_false}
+use Rattle.cache_changes.proofs.RowLaws.{find-passes, find-some, was_false}
+use Rattle.cache_changes.proofs.WriteLaws.{Life, life, life_by, begun_by, life-flies, life-alive, and_true, both_true, neither}
 use Rattle.cache_changes.proofs.FlightLaws.{live, flight, flying_of, flying_at-is}
 use Rattle.cache_changes.proofs.BodyLaws.{body_at-is, life-both, one_life, back}
 use Rattle.cache_changes.proofs.StateLaws.{flying-tells, flights-are, bodies-are, was_true}

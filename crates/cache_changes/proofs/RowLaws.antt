@@ -6,9 +6,14 @@ use Rattle.cache_entries.specs.declared.rows.Tracked.{Tracked}
 use Rattle.cache_entries.specs.Entry.{same_entry}
 use Rattle.cache_entries.specs.Rows.{row_of, weight_of, without_row, admitted}
 use Rattle.cache_entries.specs.SameEntry.{same_entry-tells, same-sym}
+use Rattle.cache_changes.specs.Uses.{with_weight}
 
 pub not_false : (v : Bool) → v ≡ false → not v ≡ true
 not_false v e = rw e refl
+
+pub was_false : (v : Bool) → not v ≡ true → v ≡ false
+was_false true e = absurd cc
+was_false false e = refl
 
 pub not_true : (v : Bool) → v ≡ true → not v ≡ false
 not_true v e = rw e refl
@@ -124,3 +129,33 @@ without_none e (r ∷ rows) h = by_test (same_entry r.entry e) (without_none e r
     by_test : (v : Bool) → (row_of e rows ≡ None → without_row e rows ≡ rows) → cond v (Some r) (row_of e rows) ≡ None → cond (not v) (r ∷ without_row e rows) (without_row e rows) ≡ r ∷ rows
     by_test true ih h = absurd cc
     by_test false ih h = ap (λ (l : List Tracked). r ∷ l) (ih h)
+
+-- an entry that is weighed anew at its place keeps its entry
+weighed_entry : (e k : CacheEntryKey) (w : ℕ) (r : Tracked) → same_entry (cond (same_entry r.entry k) (record r { weight = w }) r).entry e ≡ same_entry r.entry e
+weighed_entry e k w r = by_test (same_entry r.entry k)
+  where
+    by_test : (v : Bool) → same_entry (cond v (record r { weight = w }) r).entry e ≡ same_entry r.entry e
+    by_test true = refl
+    by_test false = refl
+
+-- what an entry weighs where k, which has a row, is weighed anew
+pub weight_of-with : (e k : CacheEntryKey) (w x : ℕ) (rows : List Tracked) → weight_of k rows ≡ Some x → weight_of e (with_weight k w rows) ≡ cond (same_entry k e) (Some w) (weight_of e rows)
+weight_of-with e k w x rows is =
+    ap (option_map (λ r. r.weight)) (find-map (λ r. same_entry r.entry e) (λ r. cond (same_entry r.entry k) (record r { weight = w }) r) rows (weighed_entry e k w))
+    ∙ by_row (row_of e rows) refl
+  where
+    by_key : (r : Tracked) → same_entry r.entry e ≡ true → (v : Bool) → same_entry k e ≡ v
+        → Some (cond (same_entry r.entry k) (record r { weight = w }) r).weight ≡ cond v (Some w) (Some r.weight)
+    by_key r t true h = rw (same_rest r.entry k e h ∙ t) refl
+    by_key r t false h = rw (was_false (same_entry r.entry k) (apart k e r.entry h t)) refl
+
+    by_row : (o : Option Tracked) → row_of e rows ≡ o
+        → option_map (λ r. r.weight) (option_map (λ r. cond (same_entry r.entry k) (record r { weight = w }) r) o) ≡ cond (same_entry k e) (Some w) (option_map (λ r. r.weight) o)
+    by_row (Some r) h = by_key r (find-passes (λ r. same_entry r.entry e) rows r h) (same_entry k e) refl
+    by_row None h = ap (λ (v : Bool). cond v (Some w) None) (sym (by_same (same_entry k e) refl))
+      where
+        by_same : (v : Bool) → same_entry k e ≡ v → v ≡ false
+        by_same false t = refl
+        by_same true t =
+            let none : weight_of k rows ≡ None = ap (λ (j : CacheEntryKey). weight_of j rows) (same_entry-tells.equal k e t) ∙ ap (option_map (λ r. r.weight)) h in
+            absurd cc

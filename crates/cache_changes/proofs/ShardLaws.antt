@@ -1,14 +1,14 @@
 -- What a change does to the rows of one shard: the same to that list alone, or nothing.
-use Rattle.std.proofs.Common.{◌≡◌, ℕ, refl, ap, sym, ◌∙◌, true, false, subst, ◌∷◌}
-use Rattle.std.specs.Prelude.{Bool, ◌==◌, List, Option, option_map, unwrap_or, not}
+use Rattle.std.proofs.Common.{◌≡◌, ℕ, refl, ap, sym, ◌∙◌, true, false, subst, cond, [], ◌∷◌}
+use Rattle.std.specs.Prelude.{Bool, ◌==◌, List, Option, Some, None, option_map, unwrap_or, is_some, not}
 use Rattle.cache_entries.specs.declared.entry.CacheEntryKey.{CacheEntryKey}
 use Rattle.cache_entries.specs.declared.rows.Tracked.{Tracked}
 use Rattle.cache_entries.specs.Entry.{same_entry}
 use Rattle.cache_entries.specs.Rows.{weight_of, without_row, admitted, used}
 use Rattle.cache_entries.specs.SameEntry.{same_entry-tells}
-use Rattle.cache_changes.specs.Changes.{Change, admits, uses, departs, evicts}
-use Rattle.cache_changes.specs.Uses.{rows_after, shard_of, in_shard, changes_shard}
-use Rattle.cache_changes.proofs.RowLaws.{not_false, filter-swap, filter-kept, find-kept}
+use Rattle.cache_changes.specs.Changes.{Change, admits, uses, reweighs, departs, evicts}
+use Rattle.cache_changes.specs.Uses.{with_weight, reweighed, rows_after, shard_of, in_shard, changes_shard}
+use Rattle.cache_changes.proofs.RowLaws.{not_false, was_false, filter-swap, filter-kept, find-kept}
 
 module _ (n s : ℕ) (e : CacheEntryKey) where
   in_shard-without : (rows : List Tracked) → in_shard n s (without_row e rows) ≡ without_row e (in_shard n s rows)
@@ -41,10 +41,55 @@ module _ (n s : ℕ) (e : CacheEntryKey) where
   in_shard-admitted_other : (w : ℕ) → (shard_of n e == s) ≡ false → (rows : List Tracked) → in_shard n s (admitted e w rows) ≡ in_shard n s rows
   in_shard-admitted_other w other rows = rw other (in_shard-other other rows)
 
+  -- weighed anew at its place
+  weighed_here : (w : ℕ) (r : Tracked) → (shard_of n (cond (same_entry r.entry e) (record r { weight = w }) r).entry == s) ≡ (shard_of n r.entry == s)
+  weighed_here w r = by_test (same_entry r.entry e)
+    where
+      by_test : (v : Bool) → (shard_of n (cond v (record r { weight = w }) r).entry == s) ≡ (shard_of n r.entry == s)
+      by_test true = refl
+      by_test false = refl
+
+  in_shard-weighed : (w : ℕ) (rows : List Tracked) → in_shard n s (with_weight e w rows) ≡ with_weight e w (in_shard n s rows)
+  in_shard-weighed w [] = refl
+  in_shard-weighed w (r ∷ rows) = rw (weighed_here w r) (by_test (shard_of n r.entry == s) (in_shard-weighed w rows))
+    where
+      by_test : (v : Bool) → in_shard n s (with_weight e w rows) ≡ with_weight e w (in_shard n s rows)
+          → cond v (cond (same_entry r.entry e) (record r { weight = w }) r ∷ in_shard n s (with_weight e w rows)) (in_shard n s (with_weight e w rows))
+          ≡ with_weight e w (cond v (r ∷ in_shard n s rows) (in_shard n s rows))
+      by_test true ih = ap (λ (l : List Tracked). cond (same_entry r.entry e) (record r { weight = w }) r ∷ l) ih
+      by_test false ih = ih
+
+  in_shard-weighed_other : (w : ℕ) → (shard_of n e == s) ≡ false → (rows : List Tracked) → in_shard n s (with_weight e w rows) ≡ in_shard n s rows
+  in_shard-weighed_other w other [] = refl
+  in_shard-weighed_other w other (r ∷ rows) = rw (weighed_here w r) (by_test (shard_of n r.entry == s) refl (in_shard-weighed_other w other rows))
+    where
+      by_test : (v : Bool) → (shard_of n r.entry == s) ≡ v → in_shard n s (with_weight e w rows) ≡ in_shard n s rows
+          → cond v (cond (same_entry r.entry e) (record r { weight = w }) r ∷ in_shard n s (with_weight e w rows)) (in_shard n s (with_weight e w rows))
+          ≡ cond v (r ∷ in_shard n s rows) (in_shard n s rows)
+      by_test true here ih = rw (was_false (same_entry r.entry e) (apart other r here)) (ap (λ (l : List Tracked). r ∷ l) ih)
+      by_test false here ih = ih
+
+  in_shard-reweighed : (w : ℕ) → (shard_of n e == s) ≡ true → (rows : List Tracked) → in_shard n s (reweighed e w rows) ≡ reweighed e w (in_shard n s rows)
+  in_shard-reweighed w same rows =
+      by_weight (weight_of e rows) ∙ ap (λ (o : Option ℕ). cond (is_some o) (with_weight e w (in_shard n s rows)) (admitted e w (in_shard n s rows))) (sym (in_shard-weight same rows))
+    where
+      by_weight : (o : Option ℕ) → in_shard n s (cond (is_some o) (with_weight e w rows) (admitted e w rows))
+          ≡ cond (is_some o) (with_weight e w (in_shard n s rows)) (admitted e w (in_shard n s rows))
+      by_weight None = in_shard-admitted w same rows
+      by_weight (Some x) = in_shard-weighed w rows
+
+  in_shard-reweighed_other : (w : ℕ) → (shard_of n e == s) ≡ false → (rows : List Tracked) → in_shard n s (reweighed e w rows) ≡ in_shard n s rows
+  in_shard-reweighed_other w other rows = by_weight (weight_of e rows)
+    where
+      by_weight : (o : Option ℕ) → in_shard n s (cond (is_some o) (with_weight e w rows) (admitted e w rows)) ≡ in_shard n s rows
+      by_weight None = in_shard-admitted_other w other rows
+      by_weight (Some x) = in_shard-weighed_other w other rows
+
 -- a change of an entry of the shard
 pub in_shard-same : {M : Type 0} (n s : ℕ) (c : Change M) (rows : List Tracked) → changes_shard n s c ≡ true → in_shard n s (rows_after c rows) ≡ rows_after c (in_shard n s rows)
 in_shard-same n s (admits e w) rows h = in_shard-admitted n s e w h rows
 in_shard-same n s (uses e w) rows h = in_shard-used n s e w h rows
+in_shard-same n s (reweighs e w) rows h = in_shard-reweighed n s e w h rows
 in_shard-same n s (departs e) rows h = in_shard-without n s e rows
 in_shard-same n s (evicts e) rows h = in_shard-without n s e rows
 in_shard-same n s _ rows h = refl
@@ -53,6 +98,7 @@ in_shard-same n s _ rows h = refl
 pub in_shard-unchanged : {M : Type 0} (n s : ℕ) (c : Change M) (rows : List Tracked) → changes_shard n s c ≡ false → in_shard n s (rows_after c rows) ≡ in_shard n s rows
 in_shard-unchanged n s (admits e w) rows h = in_shard-admitted_other n s e w h rows
 in_shard-unchanged n s (uses e w) rows h = in_shard-admitted_other n s e (unwrap_or (weight_of e rows) w) h rows
+in_shard-unchanged n s (reweighs e w) rows h = in_shard-reweighed_other n s e w h rows
 in_shard-unchanged n s (departs e) rows h = in_shard-other n s e h rows
 in_shard-unchanged n s (evicts e) rows h = in_shard-other n s e h rows
 in_shard-unchanged n s _ rows h = refl

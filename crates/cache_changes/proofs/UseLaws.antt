@@ -6,9 +6,9 @@ use Rattle.cache_entries.specs.declared.rows.Tracked.{Tracked}
 use Rattle.cache_entries.specs.Entry.{same_entry}
 use Rattle.cache_entries.specs.Rows.{row_of, weight_of, without_row, admitted, used, AreDistinct, is_over}
 use Rattle.cache_entries.specs.SameEntry.{same_entry-tells, same-sym}
-use Rattle.cache_changes.specs.Changes.{Change, Changes, admits, uses, departs, evicts}
-use Rattle.cache_changes.specs.Uses.{last_use, last_weight, AreInOrder, IsOrderOfUse, IsLast, IsLawfulEviction, shard_of, in_shard, rows_after, rows_of, admissions}
-use Rattle.cache_changes.proofs.RowLaws.{weight_of-without, weight_of-admitted, without_none}
+use Rattle.cache_changes.specs.Changes.{Change, Changes, admits, uses, reweighs, departs, evicts}
+use Rattle.cache_changes.specs.Uses.{last_use, last_weight, unless_tracked, with_weight, reweighed, AreInOrder, IsOrderOfUse, IsLast, IsLawfulEviction, shard_of, in_shard, rows_after, rows_of, admissions}
+use Rattle.cache_changes.proofs.RowLaws.{weight_of-without, weight_of-admitted, weight_of-with, without_none}
 
 -- rows in an order, over any account of last uses and weights
 record Ordered (last weight : CacheEntryKey → Option ℕ) (bound : ℕ) (rows : List Tracked) : Type 0 where
@@ -59,6 +59,50 @@ used_ordered f g k w n rows o =
       weights = λ e. done.weights e ∙ ap (λ (x : Option ℕ). cond (same_entry k e) (Some (unwrap_or x w)) (g e)) (o.weights k) ∙ used_weight g k e w (same_entry k e) refl;
     }
 
+-- over another account that tells the same
+in_order-same : (f g : CacheEntryKey → Option ℕ) (n : ℕ) (rows : List Tracked) → ((e : CacheEntryKey) → g e ≡ f e) → AreInOrder f n rows → AreInOrder g n rows
+in_order-same f g n [] h o = tt
+in_order-same f g n (r ∷ rows) h o = (o.0, h r.entry ∙ o.1, o.2, in_order-same f g o.0 rows h o.3)
+
+-- each row at its place, with another weight or not
+in_order-weights : (f : CacheEntryKey → Option ℕ) (k : CacheEntryKey) (w n : ℕ) (rows : List Tracked) → AreInOrder f n rows → AreInOrder f n (with_weight k w rows)
+in_order-weights f k w n [] o = tt
+in_order-weights f k w n (r ∷ rows) o = by_key (same_entry r.entry k) (in_order-weights f k w o.0 rows o.3)
+  where
+    by_key : (v : Bool) → AreInOrder f o.0 (with_weight k w rows) → AreInOrder f n (cond v (record r { weight = w }) r ∷ with_weight k w rows)
+    by_key true rest = (o.0, o.1, o.2, rest)
+    by_key false rest = (o.0, o.1, o.2, rest)
+
+-- the last use of an entry as k is weighed anew, by what k weighs
+weighed_use : (f g : CacheEntryKey → Option ℕ) (k e : CacheEntryKey) (n : ℕ) (x : Option ℕ) → g k ≡ x → (v : Bool) → same_entry k e ≡ v
+    → cond v (unless_tracked (g e) (f e) n) (f e) ≡ cond v (unless_tracked x (f e) n) (f e)
+weighed_use f g k e n x is true h = ap (λ (y : Option ℕ). unless_tracked y (f e) n) (ap g (sym (same_entry-tells.equal k e h)) ∙ is)
+weighed_use f g k e n x is false h = refl
+
+same_use : (v : Bool) (x : Option ℕ) → cond v x x ≡ x
+same_use true x = refl
+same_use false x = refl
+
+reweighed_ordered : (f g : CacheEntryKey → Option ℕ) (k : CacheEntryKey) (w n : ℕ) (rows : List Tracked) → Ordered f g n rows
+    → Ordered (λ e. cond (same_entry k e) (unless_tracked (g e) (f e) n) (f e)) (λ e. cond (same_entry k e) (Some w) (g e)) (n + 1) (reweighed k w rows)
+reweighed_ordered f g k w n rows o = by_weight (weight_of k rows) refl
+  where
+    by_weight : (x : Option ℕ) → weight_of k rows ≡ x
+        → Ordered (λ e. cond (same_entry k e) (unless_tracked (g e) (f e) n) (f e)) (λ e. cond (same_entry k e) (Some w) (g e)) (n + 1) (cond (is_some x) (with_weight k w rows) (admitted k w rows))
+    by_weight None is =
+        let done = admitted_ordered f g k w n rows o in
+        record {
+          order = in_order-same (λ e. cond (same_entry k e) (Some n) (f e)) (λ e. cond (same_entry k e) (unless_tracked (g e) (f e) n) (f e)) (n + 1) (admitted k w rows)
+              (λ e. weighed_use f g k e n None (sym (o.weights k) ∙ is) (same_entry k e) refl) done.order;
+          weights = done.weights;
+        }
+    by_weight (Some x) is = record {
+      order = in_order-same f (λ e. cond (same_entry k e) (unless_tracked (g e) (f e) n) (f e)) (n + 1) (with_weight k w rows)
+          (λ e. weighed_use f g k e n (Some x) (sym (o.weights k) ∙ is) (same_entry k e) refl ∙ same_use (same_entry k e) (f e))
+          (earlier f n (n + 1) (with_weight k w rows) (omega arith) (in_order-weights f k w n rows o.order));
+      weights = λ e. weight_of-with e k w x rows is ∙ ap (cond (same_entry k e) (Some w)) (o.weights e);
+    }
+
 idle_ordered : (f g : CacheEntryKey → Option ℕ) (n : ℕ) (rows : List Tracked) → Ordered f g n rows → Ordered f g (n + 1) rows
 idle_ordered f g n rows o = record { order = earlier f n (n + 1) rows (omega arith) o.order; weights = o.weights }
 
@@ -66,6 +110,7 @@ ordered_after : {M : Type 0} (c : Change M) (before : Changes M) (rows : List Tr
     → Ordered (λ e. last_use e (c ∷ before)) (λ e. last_weight e (c ∷ before)) (length before + 1) (rows_after c rows)
 ordered_after (admits x w) before rows o = admitted_ordered (λ e. last_use e before) (λ e. last_weight e before) x w (length before) rows o
 ordered_after (uses x w) before rows o = used_ordered (λ e. last_use e before) (λ e. last_weight e before) x w (length before) rows o
+ordered_after (reweighs x w) before rows o = reweighed_ordered (λ e. last_use e before) (λ e. last_weight e before) x w (length before) rows o
 ordered_after (departs x) before rows o = without_ordered (λ e. last_use e before) (λ e. last_weight e before) x (length before) rows o
 ordered_after (evicts x) before rows o = without_ordered (λ e. last_use e before) (λ e. last_weight e before) x (length before) rows o
 ordered_after _ before rows o = idle_ordered (λ e. last_use e before) (λ e. last_weight e before) (length before) rows o

@@ -6,7 +6,7 @@ use Rattle.std.proofs.lemmas.Bool.{eqb-true}
 use Rattle.std.proofs.lemmas.Bool.Decides.{nat_tests}
 use Rattle.cache_changes.specs.Changes.{Write, Change, Changes, begins, appends, ends, renews}
 use Rattle.cache_changes.specs.Writes.{bytes_of, has_ended, meta_of, removes_key, lands, leaves_write, IsInFlight, IsAlive, BeginsBelow, IsNumberInFlight, MayCome, IsOrderly, HasBegun}
-use Rattle.cache_changes.proofs.RowLaws.{not_false}
+use Rattle.cache_changes.proofs.RowLaws.{not_false, was_false}
 
 -- the write of a number, whether it is in flight, and whether it is alive
 pub record Life (M : Type 0) : Type 0 where
@@ -58,10 +58,6 @@ neither false false e = (refl, refl)
 
 pub not_either : (x y : Bool) → x ≡ false → y ≡ false → not (x || y) ≡ true
 not_either x y e f = rw (e, f) refl
-
-pub was_false : (x : Bool) → not x ≡ true → x ≡ false
-was_false true e = absurd cc
-was_false false e = refl
 
 abbrev pub flight_began : {M : Type 0} (w : Write M) (changes : Changes M) → IsInFlight w changes → HasBegun w changes
 flight_began w changes f = record { since = f.since; before = f.before; split = f.split }

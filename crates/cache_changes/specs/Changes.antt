@@ -39,6 +39,8 @@ pub data Change (M : Type 0) : Type 0 where
   admits : CacheEntryKey → ℕ → Change M
   -- an entry is used: put first with the weight that it has, or, where it isn't tracked, with that one
   uses : CacheEntryKey → ℕ → Change M
+  -- an entry is weighed anew: with that weight at its place, or, where it isn't tracked, put first
+  reweighs : CacheEntryKey → ℕ → Change M
   -- an entry is no longer tracked
   departs : CacheEntryKey → Change M
   -- an entry is evicted: no longer tracked, and, if it has no id, what is stored under its key is removed

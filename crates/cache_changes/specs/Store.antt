@@ -2,7 +2,7 @@
 use Rattle.std.specs.Prelude.{◌≡◌, ◌↔◌, ℕ, ◌==◌, Bool, true, false, ◌||◌, ◌&&◌, not, List, [], ◌∷◌, ◌++◌, Option, Some, None, option_map, is_some, find, filter, map, if◌then◌else◌}
 use Rattle.std.specs.Option.{option_or}
 use Rattle.cache_entries.specs.Keys.{same_bytes}
-use Rattle.cache_changes.specs.Changes.{StoredKey, Write, Change, Changes, begins, appends, ends, finishes, leaves, renews, removes, admits, uses, departs, evicts, key_alone, is_key}
+use Rattle.cache_changes.specs.Changes.{StoredKey, Write, Change, Changes, begins, appends, ends, finishes, leaves, renews, removes, admits, uses, reweighs, departs, evicts, key_alone, is_key}
 use Rattle.cache_changes.specs.Writes.{bytes_of, has_ended, meta_of, IsInFlight, IsAlive, IsFound, IsBody, IsShown}
 
 -- a write with what is stored of it: its meta now, and its bytes so far
@@ -123,6 +123,7 @@ after (removes k) s = removed_from (Some k) s
 after (evicts e) s = removed_from (key_alone e) s
 after (admits e w) s = s
 after (uses e w) s = s
+after (reweighs e w) s = s
 after (departs e) s = s
 
 -- the state that changes leave

@@ -5,25 +5,32 @@ use Rattle.cache_entries.specs.declared.rows.Tracked.{Tracked}
 use Rattle.cache_entries.specs.Entry.{same_entry}
 use Rattle.cache_entries.specs.EntryText.{entry_hash}
 use Rattle.cache_entries.specs.Rows.{weight_of, without_row, admitted, used, is_over}
-use Rattle.cache_changes.specs.Changes.{Change, Changes, admits, uses, departs, evicts}
+use Rattle.cache_changes.specs.Changes.{Change, Changes, admits, uses, reweighs, departs, evicts}
+
+-- what e weighs: what it was last admitted or weighed anew with since its last departure, or without either what the use gave that found it untracked
+abbrev pub last_weight : {M : Type 0} → CacheEntryKey → Changes M → Option ℕ
+last_weight e [] = None
+last_weight e (admits x w ∷ before) = if same_entry x e then Some w else last_weight e before
+last_weight e (uses x w ∷ before) = if same_entry x e then Some (unwrap_or (last_weight e before) w) else last_weight e before
+last_weight e (reweighs x w ∷ before) = if same_entry x e then Some w else last_weight e before
+last_weight e (departs x ∷ before) = if same_entry x e then None else last_weight e before
+last_weight e (evicts x ∷ before) = if same_entry x e then None else last_weight e before
+last_weight e (_ ∷ before) = last_weight e before
+
+-- the last use of an entry with that weight; of one that has none, a use now
+abbrev pub unless_tracked : Option ℕ → Option ℕ → ℕ → Option ℕ
+unless_tracked None last now = Some now
+unless_tracked (Some w) last now = last
 
 -- how many changes stood before the last use of e since its last departure; none where e isn't tracked
 abbrev pub last_use : {M : Type 0} → CacheEntryKey → Changes M → Option ℕ
 last_use e [] = None
 last_use e (admits x w ∷ before) = if same_entry x e then Some (length before) else last_use e before
 last_use e (uses x w ∷ before) = if same_entry x e then Some (length before) else last_use e before
+last_use e (reweighs x w ∷ before) = if same_entry x e then unless_tracked (last_weight e before) (last_use e before) (length before) else last_use e before
 last_use e (departs x ∷ before) = if same_entry x e then None else last_use e before
 last_use e (evicts x ∷ before) = if same_entry x e then None else last_use e before
 last_use e (_ ∷ before) = last_use e before
-
--- what e weighs: what its last admission since its last departure gave it, or without one what the use gave that found it untracked
-abbrev pub last_weight : {M : Type 0} → CacheEntryKey → Changes M → Option ℕ
-last_weight e [] = None
-last_weight e (admits x w ∷ before) = if same_entry x e then Some w else last_weight e before
-last_weight e (uses x w ∷ before) = if same_entry x e then Some (unwrap_or (last_weight e before) w) else last_weight e before
-last_weight e (departs x ∷ before) = if same_entry x e then None else last_weight e before
-last_weight e (evicts x ∷ before) = if same_entry x e then None else last_weight e before
-last_weight e (_ ∷ before) = last_weight e before
 
 -- along the rows the last uses lie further and further back, all of them before a bound
 abbrev pub AreInOrder : (CacheEntryKey → Option ℕ) → ℕ → List Tracked → Type 0
@@ -47,6 +54,7 @@ reweighed e w rows = if is_some (weight_of e rows) then with_weight e w rows els
 abbrev pub rows_after : {M : Type 0} → Change M → List Tracked → List Tracked
 rows_after (admits e w) rows = admitted e w rows
 rows_after (uses e w) rows = used e w rows
+rows_after (reweighs e w) rows = reweighed e w rows
 rows_after (departs e) rows = without_row e rows
 rows_after (evicts e) rows = without_row e rows
 rows_after _ rows = rows
@@ -69,10 +77,11 @@ shard_of n e = entry_hash e % n
 abbrev pub in_shard : ℕ → ℕ → List Tracked → List Tracked
 in_shard n s rows = filter (λ r. shard_of n r.entry == s) rows
 
--- the entry that a change puts first or takes out
+-- the entry that a change puts first, weighs anew or takes out
 abbrev pub entry_changed : {M : Type 0} → Change M → Option CacheEntryKey
 entry_changed (admits e w) = Some e
 entry_changed (uses e w) = Some e
+entry_changed (reweighs e w) = Some e
 entry_changed (departs e) = Some e
 entry_changed (evicts e) = Some e
 entry_changed _ = None

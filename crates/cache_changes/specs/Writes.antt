@@ -37,6 +37,11 @@ abbrev pub leaves_write : {M : Type 0} → ℕ → Change M → Bool
 leaves_write n (leaves m) = m == n
 leaves_write n _ = false
 
+-- the change gives the write of that number another meta
+abbrev pub renews_write : {M : Type 0} → ℕ → Change M → Bool
+renews_write n (renews m meta) = m == n
+renews_write n _ = false
+
 -- the change finishes a write of k
 abbrev pub finishes_key : {M : Type 0} → StoredKey → Change M → Bool
 finishes_key k (finishes w) = same_bytes w.key k

@@ -79,11 +79,14 @@ pub fn lawful_evictions_take_the_last<M>()
         ↔ ((is_over limit watermark (rows_of before) ≡ true) × IsLast e (in_shard n (shard_of n e) (rows_of before))) }
 {}
 
-/// Where each write that finishes is admitted at once under an entry of its key, or its key removed; where an admission weighs at
-/// least the body that its key has; and where an entry departs only when its key has no body: there the entry under which a
-/// body was admitted is tracked, with at least the body's length. So, while the rows keep the limit and the watermark, the bodies do.
+/// A meta counts what `size` says, and a body its bytes and its meta. Where each write that finishes is admitted at once under an
+/// entry of its key, and each body that gets another meta has such an entry weighed anew at once, or the key is removed; where an
+/// entry is put with at least what the body of its key counts; and where it departs only when its key has no body: there the
+/// entry that was last put for a body is tracked, with at least what the body counts. So, while the rows keep the limit and the
+/// watermark, the bodies do.
 pub fn tracked_bodies_keep_the_limits<M>()
-    ensures tracked { (changes : Changes M) → IsOrderly changes → TracksBodies changes → is_settled changes ≡ true → (w : Write M) → IsBody w.key w changes → IsTrackedBody w changes }
-    ensures within { (changes : Changes M) → IsOrderly changes → TracksBodies changes → is_settled changes ≡ true → (limit : ℕ) (watermark : Option ℕ) (rows : List Tracked)
-        → IsOrderOfUse rows changes → is_over limit watermark rows ≡ false → AreWithin limit watermark changes }
+    ensures tracked { (size : M → ℕ) (changes : Changes M) → IsOrderly changes → TracksBodies size changes → is_settled changes ≡ true → (w : Write M) → IsBody w.key w changes
+        → IsTrackedBody size w changes }
+    ensures within { (size : M → ℕ) (changes : Changes M) → IsOrderly changes → TracksBodies size changes → is_settled changes ≡ true → (limit : ℕ) (watermark : Option ℕ) (rows : List Tracked)
+        → IsOrderOfUse rows changes → is_over limit watermark rows ≡ false → AreWithin size limit watermark changes }
 {}

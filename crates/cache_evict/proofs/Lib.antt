@@ -19,3 +19,4 @@ pub mod SaveLaws
 pub mod FileLoadLaws
 pub mod RecoveryLaws
 pub mod TurnLaws
+pub mod AnewLaws

@@ -32,7 +32,7 @@ evict_fault_text (Length v) = codes "there is no room for one more entry"
 evict_fault_text (NumbersSpent v) = codes "no number is left for the entry's hash"
 evict_fault_text (File v) = codes "a file could not be read or written"
 
--- why e isn't put first with weight w, of n shards, where nothing has changed
+-- why e, of n shards, doesn't get weight w, in its row or in a new one, where nothing has changed
 abbrev pub IsPutRefused : ℕ → CacheEntryKey → ℕ → Managed → EvictFault → Type 0
 IsPutRefused n e w m (Memory v) = HasNoOtherReason n e w m
 IsPutRefused n e w m (Weight v) = IsHeavy n e w m

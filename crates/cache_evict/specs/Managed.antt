@@ -86,6 +86,10 @@ weight_after n e delta cap m = added (weight_of e (rows_of n e m)) delta cap
 abbrev pub weighed_first : ℕ → CacheEntryKey → ℕ → Option ℕ → Managed → Managed
 weighed_first n e delta cap m = put_first n e (weight_after n e delta cap m) m
 
+-- e weighs w: in place where it has a row, else at the front of its shard
+abbrev pub weighed_anew : ℕ → CacheEntryKey → ℕ → Managed → Managed
+weighed_anew n e w m = with_rows n e (uses.reweighed e w (rows_of n e m)) m
+
 -- e last in its shard with weight w, unless it has a row
 abbrev pub put_last : ℕ → CacheEntryKey → ℕ → Managed → Managed
 put_last n e w m = with_rows n e (with_last e w (rows_of n e m)) m

@@ -6,7 +6,7 @@ ghost use Rattle.cache_entries.specs.Rows.{weight_of, all_weights};
 ghost use Rattle.cache_entries.specs.RowText.{SpellsRecency, recency_at, recency_text};
 ghost use Rattle.cache_entries.specs.declared.rows.Tracked.{Tracked};
 ghost use Rattle.cache_evict.specs.Loads.{Loads, LoadsText, CantBeWritten};
-ghost use Rattle.cache_evict.specs.Managed.{Evicts, IsLast, IsSharded, fresh, rows_at, rows_of, shard_of, put_first, use_first, taken_out, weight_after, is_over, pick_by_draws, total_size, total_items};
+ghost use Rattle.cache_evict.specs.Managed.{Evicts, IsLast, IsSharded, rows_at, rows_of, shard_of, put_first, use_first, taken_out, weight_after, is_over, pick_by_draws, total_size, total_items};
 ghost use Rattle.cache_evict.specs.Faults.{evicted_of, IsPutRefused, StopsAt};
 ghost use Rattle.cache_evict.specs.Stored.{lru_stored};
 ghost use Rattle.entry_numbers.specs.Parts.{entry_with_parts};
@@ -24,7 +24,7 @@ use cache_words::time::Moment;
 use entry_numbers::KeyParts;
 use lru_files::persistence::{Folder, ShardLoadReport, ShardSaveReport};
 use rand_core::Rng;
-use std::alloc::{AllocError, Global};
+use std::alloc::Global;
 use std::fmt;
 use std::hash::{BuildHasher, BuildHasherDefault, FoldHasher};
 use std::marker::Model;
@@ -55,27 +55,6 @@ impl<const N: usize, S: BuildHasher> fmt::Debug for Manager<N, S> {
             .field("total_size", &self.tracker.total_size())
             .field("total_items", &self.tracker.total_items())
             .finish_non_exhaustive()
-    }
-}
-
-impl<const N: usize, S: BuildHasher + Copy> Manager<N, S> {
-    /// The same, with hashes of that start.
-    ///
-    /// # Errors
-    ///
-    /// Those of `with_capacity`.
-    pub fn with_hasher(
-        alloc: Global,
-        hasher: S,
-        limit: usize,
-        capacity: usize,
-        watermark: Option<usize>,
-    ) -> Result<Self, AllocError>
-        requires { 0 < N }
-        ensures { IfOk result (λ m. m ≡ fresh N limit watermark) }
-    {
-        let tracker = Tracker::new(alloc, hasher, limit, capacity, watermark)?;
-        Ok(Manager { tracker })
     }
 }
 
@@ -263,6 +242,31 @@ impl<const N: usize, S: BuildHasher> EvictionManager for Manager<N, S> {
             Err(refusal) => refusal,
         };
         Err(EvictFault::of(alloc, refusal))
+    }
+
+    fn reweigh(
+        &mut self,
+        alloc: Global,
+        item: &CacheEntryKey,
+        size: usize,
+    ) -> Result<Option<usize>, EvictFault> {
+        let refusal = match self.tracker.reweigh(item, size.max(1)) {
+            Ok(old) => {
+                let _size = self.tracker.total_size();
+                return Ok(old);
+            }
+            Err(refusal) => refusal,
+        };
+        Err(EvictFault::of(alloc, refusal))
+    }
+
+    fn evict<R: Rng>(
+        &mut self,
+        alloc: Global,
+        rng: &mut R,
+    ) -> Result<Vec<CacheEntryKey>, EvictFault> {
+        // Two words go for each eviction, and none otherwise.
+        self.tracker.evict_by_draws(alloc, rng)
     }
 
     fn remove(&mut self, item: CacheEntryKeyRef<'_>) {

@@ -5,9 +5,9 @@ ghost use Rattle.rand_core.specs.Stream.{Stream};
 ghost use Rattle.cache_entries.specs.declared.rows.Tracked.{Tracked};
 ghost use Rattle.cache_entries.specs.Entry.{owned_of};
 ghost use Rattle.cache_entries.specs.Rows.{weight_of};
-ghost use Rattle.cache_evict.specs.Faults.{evicted_of, IsPutRefused, StopsAt};
+ghost use Rattle.cache_evict.specs.Faults.{evicted_of, IsPutRefused, RunsOut, StopsAt};
 ghost use Rattle.cache_evict.specs.FileLoads.{LoadsStored};
-ghost use Rattle.cache_evict.specs.Managed.{Managed, Evicts, IsSharded, rows_of, put_first, use_first, taken_out, weight_after, weighed_first, is_over, total_size, total_items, Fits};
+ghost use Rattle.cache_evict.specs.Managed.{Managed, Evicts, IsSharded, rows_of, put_first, use_first, taken_out, weight_after, weighed_first, weighed_anew, is_over, total_size, total_items, Fits};
 ghost use Rattle.cache_evict.specs.Saves.{AreOldOrWhole, Saves};
 ghost use Rattle.cache_evict.specs.Stored.{Stored, file_at, temp_at};
 ghost use Rattle.lru_files.specs.Folder.{StopsLeave};
@@ -124,6 +124,41 @@ pub trait EvictionManager {
         ensures err { OnErr result (managed self.new ≡ managed self.old) }
         ensures refused { IfErr result (λ fault. IsPutRefused shard_count (owned_of item.entry) (weighed size) (managed self.old) fault) }
         ensures none { IfErr result (λ fault. evicted_of fault ≡ []) };
+
+    /// Gives an entry that weight, or the least that the manager gives: a tracked one in place, and another one is put at the
+    /// front of its shard. Returns what it weighed, if it was tracked. It evicts nothing, also where a limit is passed then.
+    /// It takes no memory for a tracked entry.
+    ///
+    /// # Errors
+    ///
+    /// `Weight`, or for an entry that isn't tracked `Length`, `NumbersSpent` or `Memory`: all is as before.
+    fn reweigh(
+        &mut self,
+        alloc: Global,
+        item: &CacheEntryKey,
+        size: usize,
+    ) -> Result<Option<usize>, EvictFault>
+        ensures ok { OnOk result (managed self.new ≡ weighed_anew shard_count item.now (weighed size) (managed self.old)) }
+        ensures before { IfOk result (λ old. old ≡ weight_of item.now (rows_of shard_count item.now (managed self.old))) }
+        ensures fits { OnOk result (Fits shard_count (managed self.new)) }
+        ensures err { OnErr result (managed self.new ≡ managed self.old) }
+        ensures refused { IfErr result (λ fault. IsPutRefused shard_count item.now (weighed size) (managed self.old) fault) }
+        ensures none { IfErr result (λ fault. evicted_of fault ≡ []) };
+
+    /// Evicts until neither limit is passed, as `admit` does once its entry is put, by as many words. Returns the evicted entries,
+    /// in order.
+    ///
+    /// # Errors
+    ///
+    /// `Memory` where there is none for the evicted entries: those in the fault are gone, and a limit is still passed.
+    fn evict<R: Rng>(
+        &mut self,
+        alloc: Global,
+        rng: &mut R,
+    ) -> Result<Vec<CacheEntryKey>, EvictFault>
+        ensures ok { IfOk result (λ v. Evicts pick (managed self.old) v.items (R.stream rng.old) (managed self.new) (R.stream rng.new)) }
+        ensures within { OnOk result (is_over (managed self.new) ≡ false) }
+        ensures refused { IfErr result (λ fault. RunsOut pick (managed self.old) (R.stream rng.old) fault (managed self.new) (R.stream rng.new)) };
 
     /// Takes an entry out.
     fn remove(&mut self, item: CacheEntryKeyRef<'_>)

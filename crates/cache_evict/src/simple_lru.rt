@@ -221,6 +221,31 @@ impl<const N: usize, S: BuildHasher> EvictionManager for OneList<N, S> {
         Err(EvictFault::of(alloc, refusal))
     }
 
+    fn reweigh(
+        &mut self,
+        alloc: Global,
+        item: &CacheEntryKey,
+        size: usize,
+    ) -> Result<Option<usize>, EvictFault> {
+        let refusal = match self.tracker.reweigh(item, size) {
+            Ok(old) => {
+                let _size = self.tracker.total_size();
+                return Ok(old);
+            }
+            Err(refusal) => refusal,
+        };
+        Err(EvictFault::of(alloc, refusal))
+    }
+
+    fn evict<R: Rng>(
+        &mut self,
+        alloc: Global,
+        _rng: &mut R,
+    ) -> Result<Vec<CacheEntryKey>, EvictFault> {
+        // Nothing is drawn.
+        self.tracker.evict_in_order(alloc)
+    }
+
     fn remove(&mut self, item: CacheEntryKeyRef<'_>) {
         self.tracker.remove(item);
     }

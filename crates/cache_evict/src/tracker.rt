@@ -3,7 +3,7 @@
 ghost use Rattle.std.specs.Prelude.{◌≡◌, ◌≢◌, ℕ, None, true, false, is_some, IsOk, IfOk, IfErr, OnOk, OnErr};
 ghost use Rattle.cache_entries.specs.Entry.{owned_of};
 ghost use Rattle.cache_entries.specs.Rows.{weight_of};
-ghost use Rattle.cache_evict.specs.Managed.{rows_of, put_at, put_first, use_first, taken_out, weight_after, HasNoOtherReason};
+ghost use Rattle.cache_evict.specs.Managed.{rows_of, put_at, put_first, use_first, taken_out, weight_after, weighed_anew, HasNoOtherReason};
 ghost use Rattle.cache_evict.specs.Numbered.{LeadsHome};
 ghost use Rattle.entry_numbers.specs.Parts.{entry_with_parts};
 ghost use Rattle.cache_evict.specs.Refusals.{IsRefusal};
@@ -24,7 +24,7 @@ pub use loading::Again;
 use lru_core::LruCore;
 pub use refusal::Refusal;
 pub use rows::End;
-use rows::{discard, put_first, put_new, raise_first, take_back, weight_of_new};
+use rows::{discard, put_first, put_new, raise_first, take_back, weigh_row, weight_of_new};
 use std::hash::BuildHasher;
 use std::marker::Model;
 
@@ -122,6 +122,27 @@ impl<const N: usize, S: BuildHasher> Tracker<N, S> {
         match self.numbers.number_of(CacheEntryKeyRef::from(entry)) {
             Some(number) => raise_first(&mut self.core, number, delta, cap),
             None => self.put_copy(CacheEntryKeyRef::from(entry), weight_of_new(delta, cap)),
+        }
+    }
+
+    /// Gives an entry that weight: a tracked one in place, and a copy of another one is put at the front of its shard. Returns
+    /// what it weighed, if it was tracked. A refusal changes nothing.
+    pub fn reweigh(
+        &mut self,
+        entry: &CacheEntryKey,
+        weight: usize,
+    ) -> Result<Option<usize>, Refusal>
+        ensures ok { OnOk result (self.new ≡ weighed_anew N entry.now weight self.old) }
+        ensures before { IfOk result (λ old. old ≡ weight_of entry.now (rows_of N entry.now self.old)) }
+        ensures err { OnErr result (self.new ≡ self.old) }
+        ensures why { IfErr result (IsRefusal N entry.now weight self.old) }
+    {
+        match self.numbers.number_of(CacheEntryKeyRef::from(entry)) {
+            Some(number) => weigh_row(&mut self.core, number, weight),
+            None => {
+                self.put_copy(CacheEntryKeyRef::from(entry), weight)?;
+                Ok(None)
+            }
         }
     }
 

@@ -17,7 +17,7 @@ use Rattle.cache_lock.specs.declared.fills.WaitOutcome.TheVariants.{Released, Ag
 use Rattle.cache_lock.specs.Status.{is_waiting, is_aged, is_replaced}
 use Rattle.cache_lock.specs.Fills.{fill_among}
 use Rattle.cache_lock.specs.Changes.{Change, gives, lends, stores, takes_out, spends}
-use Rattle.cache_lock.specs.State.{LockState, after, after_all, status_of, tokens_of}
+use Rattle.cache_lock.specs.State.{LockState, after, after_all, is_number, status_of, tokens_of}
 
 -- the core that who asks for a key is to wait for: the key's, unless its status is Dangling or AgeTimeout
 abbrev pub waited_for : LockState → Option ℕ → Option ℕ
@@ -59,17 +59,15 @@ read_lock_of n o = if is_lendable o then Some (record { number = n }) else None
 abbrev pub lend_changes : ℕ → Option HeldCore → List Change
 lend_changes n o = if is_lendable o then lends n ∷ [] else []
 
--- what a release stores: its reason, where the key has a core
-abbrev pub reason_stored : LockStatus → Option ℕ → LockStatus
-reason_stored reason None = Dangling
-reason_stored reason (Some n) = reason
+-- what the release of the permit of core n changes, by whether a poll found it past its age, and whether that core is the key's: a
+-- permit past its age keeps that status, and its key keeps its core. One whose core isn't the key's is dropped
+abbrev pub released_by : Bool → Bool → List ℕ → ℕ → LockStatus → List Change
+released_by true own key n reason = spends n ∷ []
+released_by false true key n reason = spends n ∷ stores n reason ∷ takes_out key ∷ []
+released_by false false key n reason = spends n ∷ stores n Dangling ∷ []
 
--- a permit past its age keeps that status, and its key keeps its core
 abbrev pub release_changes : List ℕ → ℕ → LockStatus → LockState → List Change
-release_changes key n reason s =
-    if is_aged (status_of n s)
-    then spends n ∷ []
-    else spends n ∷ stores n (reason_stored reason (get s.current key)) ∷ takes_out key ∷ []
+release_changes key n reason s = released_by (is_aged (status_of n s)) (is_number n (get s.current key)) key n reason
 
 abbrev pub unlock_changes : ℕ → LockStatus → List Change
 unlock_changes n reason = spends n ∷ stores n reason ∷ []

@@ -57,8 +57,9 @@ pub trait CacheKeyLock {
         ensures answer { result ≡ is_lendable (finite.get (state self.old).cores number) }
         ensures change { state self.new ≡ after_all (lend_changes number (finite.get (state self.old).cores number)) (state self.old) };
 
-    /// Spends a permit: its key has no core any more, and the reason is stored in the permit's, or `Dangling` where
-    /// the key has none. Where a poll found the permit past its age, the key's core and that status stay.
+    /// Spends a permit: its key has no core any more, and the reason is stored in the permit's. A permit whose core isn't that of the key,
+    /// as one of another key, is dropped: it is `Dangling`, and the key's core stays. Where a poll found the permit past its age, the
+    /// key's core and that status stay.
     fn release(&mut self, key: &CacheKey, permit: WritePermit, reason: LockStatus)
         requires { is_end reason ≡ true }
         ensures { state self.new ≡ after_all (release_changes (combined (key_of key.now)) permit.number reason (state self.old)) (state self.old) };

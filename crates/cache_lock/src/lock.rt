@@ -119,10 +119,10 @@ impl<S: BuildHasher> CacheKeyLock for CacheLock<S> {
         let WritePermit { number } = permit;
         if !matches!(self.status_of(number), LockStatus::AgeTimeout) {
             let key = key.combined_bin();
-            let reason = match self.current.get(&key) {
-                Some(_) => reason,
-                None => LockStatus::Dangling,
-            };
+            if !self.is_core_of(&key, number) {
+                self.leave(Locked::Write(WritePermit { number }));
+                return;
+            }
             self.take_out(&key);
             self.store(number, reason);
         }

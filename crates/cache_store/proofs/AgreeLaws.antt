@@ -2,7 +2,7 @@
 use Rattle.std.proofs.Common.{◌≡◌, ℕ, refl, ap, sym, ◌∙◌, true, false, cond, [], ◌∷◌, ◌++◌}
 use Rattle.std.specs.Prelude.{◌==◌, Bool, List, Option, Some, None, option_map, not, find, filter, map}
 use Rattle.cache_entries.specs.Keys.{same_bytes}
-use Rattle.cache_changes.specs.Changes.{StoredKey, Write, Change, begins, appends, ends, finishes, leaves, renews, removes, admits, uses, departs, evicts, key_alone, is_key}
+use Rattle.cache_changes.specs.Changes.{StoredKey, Write, Change, begins, appends, ends, finishes, leaves, renews, removes, admits, uses, reweighs, departs, evicts, key_alone, is_key}
 use Rattle.cache_changes.specs.Store.{Stored, Flying, Store, is_of, has_number, body_at, flying_at, begun, with_bytes, ended, renewed, renewed_flying, marked, landed, with_body, removed_from, after}
 use Rattle.cache_changes.proofs.RowLaws.{find-map}
 use Rattle.cache_store.specs.Agree.{settled, settled_flying, Agree}
@@ -133,4 +133,5 @@ module _ {M : Type 0} where
   agree-after (evicts e) s t a = removed-agree (key_alone e) s t a
   agree-after (admits e w) s t a = a
   agree-after (uses e w) s t a = a
+  agree-after (reweighs e w) s t a = a
   agree-after (departs e) s t a = a

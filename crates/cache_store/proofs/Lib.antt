@@ -3,4 +3,4 @@ pub mod BodyLaws
 pub mod LeftLaws
 mod LookLaws
 mod SameLaws
-mod WholeLaws
+pub mod WholeLaws

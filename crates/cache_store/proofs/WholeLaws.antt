@@ -18,7 +18,7 @@ use Rattle.cache_store.specs.Held.{Held, left_with}
 use Rattle.cache_store.specs.Ids.{IsGiven}
 use Rattle.cache_store.specs.Looks.{asked}
 use Rattle.cache_store.specs.Misses.{IsBegun, BeginAnswer, MissAnswer}
-use Rattle.cache_store.specs.Wholes.{Stores, GivenUp, IsWriteFault, with_whole, whole_of}
+use Rattle.cache_store.specs.Wholes.{Stores, IsWriteFault, with_whole, whole_of}
 
 own-number : (n : ℕ) → (n == n) ≡ true
 own-number n = grind (arith, nat_tests)
@@ -140,8 +140,19 @@ not-begun number true key meta h0 h1 f a =
     subst (λ (f : StoreFault). IsWriteFault true meta f h0 h1) (sym spent) (refl, a.1)
 not-begun number false key meta h0 h1 f a = elim a.0 [
   | inl moment ↦ subst (λ (f : StoreFault). IsWriteFault false meta f h0 h1) (sym moment.0) (refl, moment.1, a.1)
-  | inr memory ↦ subst (λ (f : StoreFault). IsWriteFault false meta f h0 h1) (sym memory.0) (inl a.1)
+  | inr memory ↦ subst (λ (f : StoreFault). IsWriteFault false meta f h0 h1) (sym memory.0) (refl, memory.1, inl a.1)
 ]
+
+-- a write that began and is given up at once is as one that memory ran out for
+pub left-begun : {H : Type 0} (number : H → ℕ) (spent : Bool) (key : StoredKey) (meta : CacheMeta) (m : H) (h0 h1 h2 : Held) → BeginAnswer number spent key meta h0 (Ok m) h1 → h2 ≡ left (number m) h1
+    → IsWriteFault spent meta store_fault.Memory h0 h2
+left-begun number spent key meta m h0 h1 h2 a l =
+    let began = begun-by number spent key meta m h0 h1 a in
+    let b = began.1 in (
+      began.0,
+      b.written,
+      inr ([], began.0, l ∙ ap (λ (n : ℕ). left n h1) b.number ∙ ap (left h0.next) b.begun ∙ leave-last (begun (record { number = h0.next; key = key; meta = meta })) h0 (subst (λ (n : ℕ). flying_at n h0.store ≡ None) b.number b.fresh) (own-number h0.next)),
+    )
 
 module _ {H : Type 0} (number : H → ℕ) (told : Stored CacheMeta → MissFinishType) (spent : Bool) (key : StoredKey) (meta : CacheMeta) (bytes : List ℕ) (m m2 : H) (h0 h1 h2 h3 : Held) where
   abbrev first : Flying CacheMeta
@@ -181,10 +192,8 @@ module _ {H : Type 0} (number : H → ℕ) (told : Stored CacheMeta → MissFini
   pub given-up : (f : StoreFault) (a : BeginAnswer number spent key meta h0 (Ok m) h1) → WriteAnswer {X = Unit {0}} (option_map (λ f. f.ended) (flying_at (number m) h1.store)) (Err f)
       → number m2 ≡ number m → h2 ≡ h1 → h3 ≡ left (number m2) h2 → IsWriteFault spent meta f h0 h3
   given-up f a answer same e l =
-      let begun = begun-by number spent key meta m h0 h1 a in
-      let b = begun.1 in
       subst (λ (f : StoreFault). IsWriteFault spent meta f h0 h3) (sym (write-refused a f answer))
-      (inr ([], begun.0, l ∙ ap (λ (n : ℕ). left n h2) (same ∙ b.number) ∙ ap (left h0.next) (e ∙ b.begun) ∙ leave-last first h0 (at-first a) (own-number h0.next)))
+      (left-begun number spent key meta m h0 h1 h3 a (l ∙ ap (λ (n : ℕ). left n h2) same ∙ ap (left (number m)) e))
 
   flies : IsFilled → flying_at (number m2) h2.store ≡ Some full
   flies f =
@@ -236,12 +245,12 @@ module _ {H : Type 0} (number : H → ℕ) (told : Stored CacheMeta → MissFini
   never-removed f a = not-removed (alive_key (flying_at (number m2) h2.store)) (number m2) (of-key f) a
 
   pub handed-back : IsFilled → (h : H) (h4 : Held) → MissAnswer number told (alive_key (flying_at (number m2) h2.store)) (number m2) h2 (Err (Memory h)) h3 → h4 ≡ left (number h) h3
-      → GivenUp spent h0 h4
+      → IsWriteFault spent meta store_fault.Memory h0 h4
   handed-back f h h4 a l =
       let begun = begun-by number spent key meta m h0 h1 f.began in
       let b = begun.1 in
       let back = handed-by (alive_key (flying_at (number m2) h2.store)) (number m2) h a in
-      inr (bytes, begun.0, l ∙ ap (λ (n : ℕ). left n h3) (back.0 ∙ f.same ∙ b.number) ∙ ap (left h0.next) (back.1 ∙ in-flight f) ∙ leave-last full h0 (at-first f.began) (own-number h0.next))
+      (begun.0, b.written, inr (bytes, begun.0, l ∙ ap (λ (n : ℕ). left n h3) (back.0 ∙ f.same ∙ b.number) ∙ ap (left h0.next) (back.1 ∙ in-flight f) ∙ leave-last full h0 (at-first f.began) (own-number h0.next)))
 
 -- the id of the key's write is the key's
 pub given-to : (key : StoredKey) (o : Option StoredKey) (i j : Option CacheEntryId) (was mid now : StoredKey → Option CacheEntryId) → o ≡ Some key → i ≡ j → mid ≡ was → IsGiven o j mid now

@@ -31,9 +31,9 @@ pub record Stores (spent : Bool) (k : StoredKey) (meta : CacheMeta) (bytes : Lis
 abbrev pub GivenUp : Bool → Held → Held → Type 0
 GivenUp spent old new = (new ≡ old) ⊎ ((bytes : List ℕ) × (spent ≡ false) × (new ≡ record old { next = old.next + 1; readings = left_with old.next bytes old.readings }))
 
--- why a body isn't stored
+-- why a body isn't stored; memory is reported only where a number is left and the meta can be written
 abbrev pub IsWriteFault : Bool → CacheMeta → StoreFault → Held → Held → Type 0
 IsWriteFault spent meta WriteNumbersSpent old new = (spent ≡ true) × (new ≡ old)
 IsWriteFault spent meta MetaMoment old new = (spent ≡ false) × (IsWritable meta.internal → ⊥) × (new ≡ old)
-IsWriteFault spent meta Memory old new = GivenUp spent old new
+IsWriteFault spent meta Memory old new = (spent ≡ false) × IsWritable meta.internal × GivenUp spent old new
 IsWriteFault spent meta _ old new = ⊥

@@ -21,7 +21,7 @@ use Rattle.tier_model.specs.Shelf.{Shelf}
 use Rattle.tier_model.specs.State.{Reader, closed, streaming, nothing, disabled, Request, State}
 use Rattle.tier_model.specs.Checks.{refusal, unless, unless_open, can_begin}
 use Rattle.tier_model.specs.Answers.{IsBeginAnswer, IsBeginFault}
-use Rattle.tier_model.specs.Step.{AllowsBy, Allows, BeginsWrite, may_begin, is_kept}
+use Rattle.tier_model.specs.Step.{AllowsBy, Allows, BeginTakes, BeginsWrite, may_begin, is_kept}
 use Rattle.tier_model.specs.After.{by_request, turned, release_of, after_begin, with_counts, after}
 use Rattle.tier_requests.specs.Faults.{out_of_memory}
 use Rattle.tier_requests.specs.Shelves.{own_meta}
@@ -129,29 +129,29 @@ module _ (s : State) (t : MomentValue) (id : ℕ) (head : List ℕ) where
                   (by_request s o (λ p. after_begin s id p (Some (judged_alone t (head_of r)))))) (sym there),
             )
 
-        memory_then : (began : Bool) (shelf : Shelf) → (began ≡ true → s.shelf.writes ≢ 2 ^ 64 - 1) → record s { shelf = shelf } ≡ after s (call (Err out_of_memory) began) → Took s t (Begin id head) (Err out_of_memory) (record s { shelf = shelf })
+        memory_then : (began : Bool) (shelf : Shelf) → s.shelf.writes ≢ 2 ^ 64 - 1 → record s { shelf = shelf } ≡ after s (call (Err out_of_memory) began) → Took s t (Begin id head) (Err out_of_memory) (record s { shelf = shelf })
         memory_then began shelf number is = (
           call (Err out_of_memory) began,
           refl,
           refl,
           record {
             read = reads;
-            outcome = subst (λ x. AllowsBy x s t (Begin id head) (call (Err out_of_memory) began) (Err out_of_memory)) (sym passed) (inl (refl, tt));
-            begins = begins began number;
+            outcome = subst (λ x. AllowsBy x s t (Begin id head) (call (Err out_of_memory) began) (Err out_of_memory)) (sym passed) (inl (refl, subst (λ (j : Judged). BeginTakes s (Some j)) (sym judged) number));
+            begins = begins began;
             asks = tt;
           },
           is,
         )
           where
-            begins : (v : Bool) → (v ≡ true → s.shelf.writes ≢ 2 ^ 64 - 1) → BeginsWrite s (may_begin s (call (Err out_of_memory) v)) false v
-            begins true number = (may, number refl)
-            begins false number = refl
+            begins : (v : Bool) → BeginsWrite s (may_begin s (call (Err out_of_memory) v)) false v
+            begins true = (may, number)
+            begins false = refl
 
         pub Took-not-begun : (f : TierFault) (shelf : Shelf) → BeginsNot s.shelf f shelf → Took s t (Begin id head) (Err f) (record s { shelf = shelf })
         Took-not-begun f shelf b = elim b [
           | inl spent ↦ rw (spent.0, spent.2) (told_fault (NumbersSpent nothing_done) (kept meta) judged (refl, spent.1))
-          | inr out ↦ rw out.0 (elim out.1 [
-            | inl same ↦ rw same (memory_then false s.shelf (λ e. absurd cc) refl)
-            | inr began ↦ rw began.1 (memory_then true (record s.shelf { writes = s.shelf.writes + 1 }) (λ e. began.0) refl)
+          | inr out ↦ rw out.0 (elim out.2 [
+            | inl same ↦ rw same (memory_then false s.shelf out.1 refl)
+            | inr began ↦ rw began (memory_then true (record s.shelf { writes = s.shelf.writes + 1 }) out.1 refl)
           ])
         ]

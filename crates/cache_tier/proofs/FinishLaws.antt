@@ -162,14 +162,29 @@ module _ (n : ℕ) (s : State) (t : MomentValue) (id : ℕ) (c0 : Cache Held) (k
             by_removed true e = refl
             by_removed false e = absurd cc
 
-    unread : (d : StoreDone) → IsDone false false [] d → (c : Cache Held) → OnlyHolds (rules n) number no_id c0.store c0 c → IsTaken (told_of (Err (finish.Memory d))) c (insert s.requests id (cond (is_some (finish_status (Err (finish.Memory d)))) (record q { write = None }) q))
-    unread d nothing c h =
+    -- a write that no removal met has a body to finish
+    alive_body : is_some (alive_key (store.flying_at m c0.store.store)) ≡ true → (b : FinishedBody) × (finishing q old.shelf ≡ Some b)
+    alive_body alive = by_flight (store.flying_at m c0.store.store) refl alive
+      where
+        by_flight : (o : Option (Flying CacheMeta)) → store.flying_at m c0.store.store ≡ o → is_some (alive_key o) ≡ true → (b : FinishedBody) × (finishing q old.shelf ≡ Some b)
+        by_flight None at e = absurd cc
+        by_flight (Some g) at e = by_removed g.removed refl e
+          where
+            body : FinishedBody
+            body = record { entry = key_of q.entry; body = found_in g.stored }
+
+            by_removed : (v : Bool) → g.removed ≡ v → is_some (cond v None (Some g.stored.write.key)) ≡ true → (b : FinishedBody) × (finishing q old.shelf ≡ Some b)
+            by_removed true was e = absurd cc
+            by_removed false was e = (body, finishing_by (Some g) at ∙ ap (λ (w : Bool). cond {A = Option FinishedBody} w None (Some body)) was)
+
+    unread : (b : FinishedBody) → finishing q old.shelf ≡ Some b → (d : StoreDone) → IsDone false false [] d → (c : Cache Held) → OnlyHolds (rules n) number no_id c0.store c0 c → IsTaken (told_of (Err (finish.Memory d))) c (insert s.requests id (cond (is_some (finish_status (Err (finish.Memory d)))) (record q { write = None }) q))
+    unread b is d nothing c h =
         rw (nothing.stored, nothing.admitted, nothing.evicted, insert-same s.requests id q there)
         (record {
           sharded = subst (λ m. IsSharded n m) (sym h.managed) kept;
           under = subst (λ x. IsBelow (shelf_of x)) (sym h.store) below;
           steps = subst (λ x. Steps old c0.words t id (Err (tier.Memory nothing_done)) x c.words) (sym same) (subst (λ w. Steps old c0.words t id (Err (tier.Memory nothing_done)) old w) (sym h.words)
-              (Steps-memory old c0.words t id q m there writes));
+              (Steps-memory old c0.words t id q m there writes b is));
         })
       where
         same : with_left c s.requests ≡ old
@@ -207,10 +222,10 @@ module _ (n : ℕ) (s : State) (t : MomentValue) (id : ℕ) (c0 : Cache Held) (k
     abbrev left_by : Result (Option Finished) FinishFault → FinMap nat_cmp Request
     left_by came = insert s.requests id (cond (is_some (finish_status came)) (record q { write = None }) q)
 
-    not_stored : (came : Result (Option Finished) FinishFault) (c : Cache Held) → NotStoredAnswer (rules n) number no_id m true came c0 c → IsTaken (told_of came) c (left_by came)
+    not_stored : (came : Result (Option Finished) FinishFault) (c : Cache Held) → NotStoredAnswer (rules n) number no_id m came c0 c → IsTaken (told_of came) c (left_by came)
     not_stored (Ok x) c a = absurd a
     not_stored (Err finish.WriteRemoved) c a = removed c a.1 a.0
-    not_stored (Err (finish.Memory d)) c a = let same : d ≡ a.0.0 = cc in unread d (subst (IsDone false false []) (sym same) a.0.2) c a.2
+    not_stored (Err (finish.Memory d)) c a = let same : d ≡ a.0.0 = cc in let b = alive_body a.1 in unread b.0 b.1 d (subst (IsDone false false []) (sym same) a.0.2) c a.2
     not_stored (Err (finish.Weight d)) c a = let clash : finish.Weight d ≡ finish.Memory a.0.0 = a.0.1 in absurd cc
     not_stored (Err (finish.Length d)) c a = let clash : finish.Length d ≡ finish.Memory a.0.0 = a.0.1 in absurd cc
     not_stored (Err (finish.NumbersSpent d)) c a = let clash : finish.NumbersSpent d ≡ finish.Memory a.0.0 = a.0.1 in absurd cc

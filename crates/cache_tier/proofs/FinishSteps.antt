@@ -124,15 +124,11 @@ module _ (s : State) (st : Stream) (t : MomentValue) (id : ℕ) where
 
     -- it met a removal, or isn't there
     pub Steps-removed : finishing q s.shelf ≡ None → Steps (Err WriteRemoved) flown st
-    Steps-removed is = steps_of None (Err WriteRemoved) flown st is (record { outcome = inl refl; begins = refl; after = refl; drawn = refl })
+    Steps-removed is = steps_of None (Err WriteRemoved) flown st is (record { outcome = refl; begins = refl; after = refl; drawn = refl })
 
     -- memory ran out before anything was done
-    pub Steps-memory : Steps (Err (Memory nothing_done)) s st
-    Steps-memory = by_body (finishing q s.shelf) refl
-      where
-        by_body : (b : Option FinishedBody) → finishing q s.shelf ≡ b → Steps (Err (Memory nothing_done)) s st
-        by_body None is = steps_of None (Err (Memory nothing_done)) s st is (record { outcome = inr refl; begins = refl; after = refl; drawn = refl })
-        by_body (Some b) is = steps_of (Some b) (Err (Memory nothing_done)) s st is (record { outcome = inl refl; begins = refl; after = refl; drawn = (admitted s b, (refl, refl)) })
+    pub Steps-memory : (b : FinishedBody) → finishing q s.shelf ≡ Some b → Steps (Err (Memory nothing_done)) s st
+    Steps-memory b is = steps_of (Some b) (Err (Memory nothing_done)) s st is (record { outcome = inl refl; begins = refl; after = refl; drawn = (admitted s b, (refl, refl)) })
 
     -- its body is stored, and admitted or taken back
     pub Steps-stored : (b : FinishedBody) → finishing q s.shelf ≡ Some b → (o : Outcome) (new : State) (rest : Stream) → StoresOver flown st b o new rest → Steps o new rest

@@ -19,7 +19,7 @@ use Rattle.tier_model.specs.Calls.{Call, Outcome, nothing_done, done_of, finishe
 use Rattle.tier_model.specs.Rows.{FinishedBody}
 use Rattle.tier_model.specs.State.{State, shards_of}
 use Rattle.tier_model.specs.Answers.{admitted, IsPutAnswer, IsPutFault}
-use Rattle.tier_model.specs.Step.{BeginsWrite}
+use Rattle.tier_model.specs.Step.{PutTakes, BeginsWrite}
 use Rattle.tier_model.specs.After.{after_put, emptied, taken, until, taken_back, undone, with_counts}
 use Rattle.cache_tier.specs.Draws.{AreDrawn}
 use Rattle.cache_tier.specs.Acts.{StepsBy}
@@ -48,7 +48,7 @@ module _ (s : State) (st : Stream) (t : MomentValue) (key : CacheKeyValue) (piec
   body_in w = finished_in (Put key pieces) (Some w)
 
   abbrev IsOutcome : Whole → Outcome → Type 0
-  IsOutcome w o = MatchResult o (IsPutAnswer s (body_in w) (Some w)) (λ f. ((f ≡ fault.Memory nothing_done) × Unit {0}) ⊎ IsPutFault s (body_in w) (Some w) f)
+  IsOutcome w o = MatchResult o (IsPutAnswer s (body_in w) (Some w)) (λ f. ((f ≡ fault.Memory nothing_done) × PutTakes s (body_in w) (Some w)) ⊎ IsPutFault s (body_in w) (Some w) f)
 
   abbrev then_is : Whole → Outcome → State
   then_is w (Ok a) = after_put s (body_in w) a
@@ -87,11 +87,11 @@ module _ (s : State) (st : Stream) (t : MomentValue) (key : CacheKeyValue) (piec
       abbrev b : FinishedBody
       b = record { entry = entry_of key; body = body }
 
-      -- nothing is stored of it, where a write may have begun
-      pub Steps-ran-out : (began : Bool) → BeginsWrite s true false began → Steps (Err (fault.Memory nothing_done)) (record s { shelf = record s.shelf { writes = writes_after s.shelf.writes began } }) st
-      Steps-ran-out began begins =
+      -- nothing is stored of it, where a write may have begun, for which a number was left
+      pub Steps-ran-out : s.shelf.writes ≢ 2 ^ 64 - 1 → (began : Bool) → BeginsWrite s true false began → Steps (Err (fault.Memory nothing_done)) (record s { shelf = record s.shelf { writes = writes_after s.shelf.writes began } }) st
+      Steps-ran-out number began begins =
           steps_of (whole.Stored body) is began (Err (fault.Memory nothing_done)) (record s { shelf = record s.shelf { writes = writes_after s.shelf.writes began } }) st
-          (record { outcome = inl (refl, tt); begins = begins; after = refl; drawn = (admitted s b, (refl, refl)) })
+          (record { outcome = inl (refl, number); begins = begins; after = refl; drawn = (admitted s b, (refl, refl)) })
 
       pub Steps-spent : s.shelf.writes ≡ 2 ^ 64 - 1 → Steps (Err (fault.NumbersSpent nothing_done)) s st
       Steps-spent spent =

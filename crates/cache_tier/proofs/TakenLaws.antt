@@ -120,7 +120,7 @@ module _ (n : ℕ) (s : State) (t : MomentValue) (key : CacheKeyValue) (pieces :
       new_readers = below.readers c0.store.next (omega arith)
 
       -- memory ran out before it was stored
-      ran_out : (fault : PutFault) (c : Cache Held) → RanOut (rules n) fault c0 c → IsTaken (Err fault) c
+      ran_out : (fault : PutFault) (c : Cache Held) → RanOut (rules n) meta fault c0 c → IsTaken (Err fault) c
       ran_out fault c out =
           let told = memory_told fault out.told in
           let sp = spared c0.store c.store new_readers out.store in
@@ -130,7 +130,7 @@ module _ (n : ℕ) (s : State) (t : MomentValue) (key : CacheKeyValue) (pieces :
             tellable = told.0;
             takes = told_one fault (tier.Memory nothing_done) c told.1
                 (moved (Err (tier.Memory nothing_done)) (with_cache s c) c.words _ (λ i. record s { managed = out.managed i; shelf = sp.shelf i }) out.words
-                (Steps-ran-out old c0.words t key pieces r reads (record { bytes = body; meta = meta }) is sp.began (begins sp.began sp.can)));
+                (Steps-ran-out old c0.words t key pieces r reads (record { bytes = body; meta = meta }) is (some-left c0.store.next out.left) sp.began (begins sp.began sp.can)));
           }
         where
           begun_below : (v : Bool) → IsBelow (record (shelf_of c0.store) { writes = writes_after c0.store.next v })

@@ -41,9 +41,9 @@ status-unstored fault out = ap (λ (f : FinishFault). finish_status (Err f)) out
 -- memory ran out before a write was stored
 pub out-of-memory : {S M : Type 0} (rules : Rules S) (number : M → ℕ) (id : M → Option CacheEntryId) (tag : M → Option (List ℕ)) (m again : M) (w : Option M) (key : Option CacheKeyValue)
     (evicts : Bool) (fault : FinishFault) (s t : S) (managed : Managed) (words : Stream)
-    → w ≡ Some m → IsOutOfMemory fault → IsUnstored rules.held rules.ids number id tag evicts m (miss.Memory again) s t → FinishAnswer rules number id w key evicts (Err fault) (cache_of s managed words) (cache_of t managed words)
+    → w ≡ Some m → IsOutOfMemory fault → IsUnstored rules.held rules.ids number id tag m (miss.Memory again) s t → FinishAnswer rules number id w key evicts (Err fault) (cache_of s managed words) (cache_of t managed words)
 out-of-memory {S} {M} rules number id tag m again w key evicts fault s t managed words e out un =
     let holds : OnlyHolds rules number id (rules.held s) (cache_of s managed words) (cache_of t managed words) = record { store = un.2; ids = un.3; managed = refl; words = refl } in
-    let not_stored : NotStoredAnswer rules number id m evicts (Err fault) (cache_of s managed words) (cache_of t managed words) =
-    subst (λ (f : FinishFault). NotStoredAnswer rules number id m evicts (Err f) (cache_of s managed words) (cache_of t managed words)) (sym out.1) ((out.0, refl, out.2), un.0, holds) in
+    let not_stored : NotStoredAnswer rules number id m (Err fault) (cache_of s managed words) (cache_of t managed words) =
+    subst (λ (f : FinishFault). NotStoredAnswer rules number id m (Err f) (cache_of s managed words) (cache_of t managed words)) (sym out.1) ((out.0, refl, out.2), un.0, holds) in
     subst (λ (o : Option M). FinishAnswer rules number id o key evicts (Err fault) (cache_of s managed words) (cache_of t managed words)) (sym e) (inl not_stored)

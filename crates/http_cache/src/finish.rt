@@ -30,8 +30,8 @@ impl<S: Storage> HttpCache<S> {
     ///
     /// # Errors
     ///
+    /// `WriteRemoved` exactly where the write was removed: it is given up, and the permit is released for another request to try.
     /// `Memory` where memory runs out before anything is stored: nothing has changed, and the write may be finished again.
-    /// `WriteRemoved` where the write was removed: it is given up, and the permit is released for another request to try.
     /// `Weight`, `Length`, `NumbersSpent` and `Memory` where the entry isn't admitted or memory runs out in the evictions: what was evicted
     /// until then is purged, and all that is stored under the key is removed with its entry; the permit is released as done.
     pub fn finish_miss_handler<E: EvictionManager, P, L: CacheKeyLock, A, R: Rng>(

@@ -1,8 +1,10 @@
-//! Tests of lists, shards and cores, of the files that keep them, of lists under locks, and of actors.
+//! Tests of lists, shards and cores, of the files that keep them, of lists under locks, of actors, and of entries weighed anew.
 #![tactic(auto)]
 
 #[cfg(test)]
 mod actors;
+#[cfg(test)]
+mod anew;
 #[cfg(test)]
 mod cores;
 #[cfg(test)]

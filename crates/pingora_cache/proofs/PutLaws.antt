@@ -59,7 +59,7 @@ module _ {S : Type 0} (rules : Rules S) (key : Key) where
     refused store_fault.MetaMoment told p e =
         let P : PutFault → Type 0 = λ f. IsPut rules key meta body (Err f) (cache_of s0 m0 w0) (cache_of s1 m0 w0) in
         subst P (sym e) (inr (inl (p.0, p.1, record { store = p.2; managed = refl; words = refl })))
-    refused store_fault.Memory told p t = inl (record { told = t; store = p; managed = refl; words = refl })
+    refused store_fault.Memory told p t = inl (record { told = t; left = p.0; written = p.1; store = p.2; managed = refl; words = refl })
     refused store_fault.WriteRemoved told p t = absurd p
     refused store_fault.AfterEnd told p t = absurd p
     refused store_fault.SeekRange told p t = absurd p

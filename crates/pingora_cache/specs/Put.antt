@@ -56,9 +56,11 @@ module _ {S : Type 0} (rules : Rules S) where
     pub managed : new.managed ≡ old.managed
     pub words : new.words ≡ old.words
 
-  -- memory ran out before a body that may be kept was stored
-  pub record RanOut (fault : PutFault) (old new : Cache S) : Type 0 where
+  -- memory ran out before a body was stored that may be kept, and of which the store takes a write
+  pub record RanOut (meta : CacheMeta) (fault : PutFault) (old new : Cache S) : Type 0 where
     pub told : IsOutOfMemory fault
+    pub left : rules.is_spent (rules.held old.store) ≡ false
+    pub written : IsWritable meta.internal
     pub store : GivenUp (rules.is_spent (rules.held old.store)) (rules.held old.store) (rules.held new.store)
     pub managed : new.managed ≡ old.managed
     pub words : new.words ≡ old.words
@@ -87,7 +89,7 @@ module _ {S : Type 0} (rules : Rules S) where
   IsPut key meta body (Ok (Stored size evicted)) old new = (size ≡ length body) × IsStoredThen key meta body (λ finish e mid. IsAdmitted rules finish e evicted.items mid new) old
   IsPut key meta body (Ok (Uncacheable reason)) old new = ⊥
   IsPut key meta body (Err fault) old new =
-      RanOut fault old new ⊎ (IsWriteRefused meta fault old new ⊎ IsStoredThen key meta body (λ finish e mid. IsTakenBack finish e fault mid new) old)
+      RanOut meta fault old new ⊎ (IsWriteRefused meta fault old new ⊎ IsStoredThen key meta body (λ finish e mid. IsTakenBack finish e fault mid new) old)
 
   -- what comes of a response that gives this
   abbrev pub IsOutcome : Key → Whole → Result PutOutcome PutFault → Cache S → Cache S → Type 0

@@ -63,7 +63,7 @@ begin-fault s (Some (not_kept reason)) f p = absurd p
 begin-fault s None f p = absurd p
 
 finish-fault : (s : State) (b : Option FinishedBody) (f : TierFault) → IsFinishFault s b f → is_unrecorded f ≡ false
-finish-fault s None f p = elim p [ inl gone ↦ ap is_unrecorded gone | inr memory ↦ ap is_unrecorded memory ]
+finish-fault s None f p = ap is_unrecorded p
 finish-fault s (Some b) f p = elim p [ inl memory ↦ ap is_unrecorded memory | inr store ↦ store-fault s b f store ]
 
 use-fault : (s : State) (q : Request) (l : Look) (f : TierFault) → IsUseFault s q l f → is_unrecorded f ≡ false

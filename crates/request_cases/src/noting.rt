@@ -100,6 +100,23 @@ impl EvictionManager for Noting {
         self.manager.access(alloc, item, size, fresh_until)
     }
 
+    fn reweigh(
+        &mut self,
+        alloc: Global,
+        item: &CacheEntryKey,
+        size: usize,
+    ) -> Result<Option<usize>, EvictFault> {
+        self.manager.reweigh(alloc, item, size)
+    }
+
+    fn evict<R: Rng>(
+        &mut self,
+        alloc: Global,
+        rng: &mut R,
+    ) -> Result<Vec<CacheEntryKey>, EvictFault> {
+        self.manager.evict(alloc, rng)
+    }
+
     fn remove(&mut self, item: CacheEntryKeyRef<'_>) {
         self.manager.remove(item);
     }

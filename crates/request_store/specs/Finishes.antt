@@ -63,14 +63,14 @@ module _ {S M : Type 0} (held : S → Held) (ids : S → StoredKey → Option Ca
     pub answer : MissAnswer number told (key_alive m old) (number m) (held old) (Ok kind) (held new)
     pub given : IsGiven (key_alive m old) (id m) (ids old) (ids new)
 
-  -- memory may run out for the entry, which is made where the manager is on, and for a body that no removal met
-  abbrev pub MayRunOut : Bool → M → S → Type 0
-  MayRunOut evicts m s = evicts ≡ false → is_some (key_alive m s) ≡ true
+  -- no removal met the write
+  abbrev pub IsAlive : M → S → Type 0
+  IsAlive m s = is_some (key_alive m s) ≡ true
 
-  -- it isn't stored: out of memory the writer is handed back and nothing was done, or it was removed and is given up
-  abbrev pub IsUnstored : (M → Option (List ℕ)) → Bool → M → MissFault M → S → S → Type 0
-  IsUnstored tag evicts m (miss.Memory again) old new = MayRunOut evicts m old × SameWriter number id tag (Some m) (Some again) × (held new ≡ held old) × (ids new ≡ ids old)
-  IsUnstored tag evicts m miss.WriteRemoved old new = (key_alive m old ≡ None) × (held new ≡ left (number m) (held old)) × (ids new ≡ ids old)
+  -- it isn't stored: it was removed and is given up, or else, out of memory, the writer is handed back and nothing was done
+  abbrev pub IsUnstored : (M → Option (List ℕ)) → M → MissFault M → S → S → Type 0
+  IsUnstored tag m (miss.Memory again) old new = IsAlive m old × SameWriter number id tag (Some m) (Some again) × (held new ≡ held old) × (ids new ≡ ids old)
+  IsUnstored tag m miss.WriteRemoved old new = (key_alive m old ≡ None) × (held new ≡ left (number m) (held old)) × (ids new ≡ ids old)
 
 -- the entry of a body, twice, where the manager is on
 abbrev pub AreEntries : Bool → CacheEntryKey → Option (CacheEntryKey × CacheEntryKey) → Type 0
@@ -87,12 +87,12 @@ module _ {S M : Type 0} (rules : Rules S) (number : M → ℕ) (id : M → Optio
     pub words : new.words ≡ old.words
 
   -- nothing is stored
-  abbrev pub NotStoredAnswer : M → Bool → Result (Option Finished) FinishFault → Cache S → Cache S → Type 0
-  NotStoredAnswer m evicts (Ok finished) old new = ⊥
-  NotStoredAnswer m evicts (Err WriteRemoved) old new =
+  abbrev pub NotStoredAnswer : M → Result (Option Finished) FinishFault → Cache S → Cache S → Type 0
+  NotStoredAnswer m (Ok finished) old new = ⊥
+  NotStoredAnswer m (Err WriteRemoved) old new =
       (key_alive rules.held rules.ids number id m old.store ≡ None) × OnlyHolds (left (number m) (rules.held old.store)) old new
-  NotStoredAnswer m evicts (Err fault) old new =
-      IsOutOfMemory fault × MayRunOut rules.held rules.ids number id evicts m old.store × OnlyHolds (rules.held old.store) old new
+  NotStoredAnswer m (Err fault) old new =
+      IsOutOfMemory fault × IsAlive rules.held rules.ids number id m old.store × OnlyHolds (rules.held old.store) old new
 
   -- a body that was stored is admitted, where the manager is on, or taken back
   abbrev pub AdmitAnswer : Bool → MissFinishType → CacheEntryKey → Result (Option Finished) FinishFault → Cache S → Cache S → Type 0
@@ -105,7 +105,7 @@ module _ {S M : Type 0} (rules : Rules S) (number : M → ℕ) (id : M → Optio
   -- the finish of a write under a key, by whether the manager is on: nothing is stored, or a body, which is admitted or taken back
   abbrev pub Finishes : M → Option CacheKeyValue → Bool → Result (Option Finished) FinishFault → Cache S → Cache S → Type 0
   Finishes m key evicts r old new =
-      NotStoredAnswer m evicts r old new
+      NotStoredAnswer m r old new
       ⊎ ((mid : S) × (kind : MissFinishType) × IsStored rules.held rules.ids number id rules.told m kind old.store mid
       × AdmitAnswer evicts kind (entry_at key (id m)) r (record old { store = mid }) new)
 

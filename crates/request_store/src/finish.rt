@@ -74,11 +74,23 @@ fn entries_of(
     Ok(Some((entry, again)))
 }
 
+// What is told where memory ran out for the entry: the writer is handed back, but a write that was removed is given up, as its finish
+// would do.
+fn unstored<S: Storage>(store: &mut S, writer: S::Miss) -> MissFault<S::Miss>
+    ensures { IsUnstored S.held S.ids S.Miss.number S.Miss.id S.Miss.tag writer result store.old store.new }
+{
+    if writer.is_removed(store) {
+        writer.leave(store);
+        return MissFault::WriteRemoved;
+    }
+    MissFault::Memory(writer)
+}
+
 /// Stores a body, once there is memory for its entry, which is wanted where the manager is on.
 ///
 /// # Errors
 ///
-/// `Memory`, with the writer, and nothing has changed; `WriteRemoved` where a removal met the write, which is given up.
+/// `WriteRemoved` exactly where a removal met the write, which is given up; `Memory`, with the writer, and nothing has changed.
 pub fn store_body<S: Storage>(
     store: &mut S,
     key: &CacheKey,
@@ -87,10 +99,10 @@ pub fn store_body<S: Storage>(
 ) -> Result<Stored, MissFault<S::Miss>>
     ensures { MatchResult result
         (λ done. IsStored S.held S.ids S.Miss.number S.Miss.id S.Miss.told writer done.kind store.old store.new × AreEntries evicts (entry_at (Some key.now) (S.Miss.id writer)) done.entries)
-        (λ fault. IsUnstored S.held S.ids S.Miss.number S.Miss.id S.Miss.tag evicts writer fault store.old store.new) }
+        (λ fault. IsUnstored S.held S.ids S.Miss.number S.Miss.id S.Miss.tag writer fault store.old store.new) }
 {
     let Ok(entries) = entries_of(evicts, key, writer.entry_id()) else {
-        return Err(MissFault::Memory(writer));
+        return Err(unstored(store, writer));
     };
     match writer.finish(store) {
         Ok(kind) => Ok(Stored { kind, entries }),

@@ -150,6 +150,10 @@ impl HandleMiss<Nothing> for Nobody {
         0
     }
 
+    fn is_removed(&self, _store: &Nothing) -> bool {
+        true
+    }
+
     fn leave(self, _store: &mut Nothing) {}
 
     fn streaming_write_tag(&self) -> Option<&[u8]> {
@@ -194,6 +198,7 @@ fn is_nobody(mut hit: Nobody) -> bool {
         && <Nobody as HandleMiss<Nothing>>::entry_id(&hit).is_none()
         && hit.streaming_write_tag().is_none()
         && hit.len(&Nothing) == 0
+        && hit.is_removed(&Nothing)
 }
 
 #[test]

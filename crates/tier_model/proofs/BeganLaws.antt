@@ -4,9 +4,9 @@ use Rattle.std.specs.Prelude.{Bool, List, Option, Some, None, option_map, if◌t
 use Rattle.std.specs.FinMap.{get, get-empty, insert}
 use Rattle.std.specs.Ordering.{nat_cmp}
 use Rattle.cache_words.specs.Time.{MomentValue, DurationValue}
-use Rattle.cache_lock.specs.Answers.{to_wait_for, locked_by, lock_change, reason_stored, leave_changes, wait_outcome, poll_changes}
+use Rattle.cache_lock.specs.Answers.{to_wait_for, locked_by, lock_change, leave_changes, wait_outcome, poll_changes, released_by}
 use Rattle.cache_lock.specs.Changes.{Changes, gives, lends, stores, takes_out, publishes, spends}
-use Rattle.cache_lock.specs.State.{LockState, given_core, named, unnamed, with_status, with_core, without_core, spent, told, status_of, after_all, empty_lock}
+use Rattle.cache_lock.specs.State.{LockState, given_core, named, unnamed, with_status, with_core, without_core, spent, told, status_of, after_all, empty_lock, is_number}
 use Rattle.cache_lock.specs.Status.{is_aged}
 use Rattle.cache_lock.specs.declared.fills.WaitOutcome.{WaitOutcome}
 use Rattle.cache_lock.specs.declared.fills.WaitOutcome.TheVariants as wait
@@ -103,9 +103,10 @@ module _ (s new : State) (t : MomentValue) (action : Action) (o : Outcome) (chan
   by_wait m (Some _) = refl
   by_wait m None = refl
 
-  by_aged : (m : ℕ) (key : List ℕ) (v : Bool) (core : Option ℕ) (reason : LockStatus) → Same (cond v (spends m ∷ []) (spends m ∷ stores m (reason_stored reason core) ∷ takes_out key ∷ []))
-  by_aged m key true core reason = refl
-  by_aged m key false core reason = refl
+  by_case : (m : ℕ) (key : List ℕ) (aged own : Bool) (reason : LockStatus) → Same (released_by aged own key m reason)
+  by_case m key true own reason = refl
+  by_case m key false true reason = refl
+  by_case m key false false reason = refl
 
   pub began-step : (cs : Changes) → Effect s new t action o cs → Same cs
   began-step cs (quiet same none says) = subst Same (sym none) refl
@@ -115,4 +116,4 @@ module _ (s new : State) (t : MomentValue) (action : Action) (o : Outcome) (chan
   began-step cs (polled r m key over outcome moves is act out over_is) = subst Same (sym is) (by_wait m (wait_outcome m [] t s.lock))
   began-step cs (left r m key moves is says) = subst Same (sym is) refl
   began-step cs (dropped r m key moves is says) = subst Same (sym is) refl
-  began-step cs (released r m key reason lasts moves is says) = subst Same (sym is) (by_aged m key (is_aged (status_of m s.lock)) (get s.lock.current key) reason)
+  began-step cs (released r m key reason lasts moves is says) = subst Same (sym is) (by_case m key (is_aged (status_of m s.lock)) (is_number m (get s.lock.current key)) reason)

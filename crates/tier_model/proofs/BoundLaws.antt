@@ -5,8 +5,8 @@ use Rattle.std.specs.List.{AllByRecursion, sum_by}
 use Rattle.std.proofs.lemmas.List.Sums.{sum_by-cons}
 use Rattle.cache_entries.specs.Keys.{same_bytes}
 use Rattle.cache_changes.specs.Changes.{StoredKey, stored_key, key_alone, is_key, Write, Changes, begins, appends, ends, finishes, leaves, removes, departs, uses, evicts}
-use Rattle.cache_changes.specs.Writes.{bytes_of, has_ended, IsOrderly, IsInFlight, IsAlive, IsBody, body_now, body_chosen}
-use Rattle.cache_changes.specs.Bound.{AreWithin}
+use Rattle.cache_changes.specs.Writes.{bytes_of, has_ended, meta_of, IsOrderly, IsInFlight, IsAlive, IsBody, body_now, body_chosen}
+use Rattle.cache_changes.specs.Bound.{measure_of, AreWithin}
 use Rattle.cache_changes.proofs.BodyLaws.{body_now-is, body_now-of, not_appended}
 use Rattle.cache_changes.proofs.BoundLaws.{bodies-within}
 use Rattle.cache_changes.proofs.WriteLaws.{above_apart, alive_began, began_below}
@@ -17,7 +17,7 @@ use Rattle.cache_evict.specs.Managed.{Managed, is_over, put_first, use_first, ta
 use Rattle.tier_model.specs.Keys.{Entry, alone}
 use Rattle.tier_model.specs.Calls.{extended}
 use Rattle.tier_model.specs.Evictions.{gone, all_gone, GoInTurn}
-use Rattle.tier_model.specs.Histories.{Kept, write_of, goes, settles, stores, clears}
+use Rattle.tier_model.specs.Histories.{Kept, counts, write_of, goes, settles, stores, clears}
 use Rattle.tier_model.specs.Shelf.{InFlight, has_number, on_flying, marked, marked_all}
 use Rattle.tier_model.specs.Rows.{Bodies, FinishedBody, with_body, without_body, without_bodies, weight_for}
 use Rattle.tier_model.proofs.RowSteps.{over-rows}
@@ -27,26 +27,26 @@ use Rattle.tier_model.proofs.WrittenLaws.{leaves-begun, leaves-appended, leaves-
 -- what the changes leave, with bodies that keep both limits
 pub record Keeps (N n : ℕ) (held : Bodies) (fs : List InFlight) (m : Managed) (changes : Changes Kept) : Type 0 where
   pub leaves : Leaves N n held fs m changes
-  pub within : AreWithin m.limit m.watermark changes
+  pub within : AreWithin counts m.limit m.watermark changes
 
--- each body after some changes was one before, with the same bytes
+-- each body after some changes was one before, and counts the same
 abbrev AreFewer : Changes Kept → Changes Kept → Type 0
-AreFewer old new = (k : StoredKey) (w : Write Kept) → body_now k new ≡ Some w → (body_now k old ≡ Some w) × (bytes_of w.number new ≡ bytes_of w.number old)
+AreFewer old new = (k : StoredKey) (w : Write Kept) → body_now k new ≡ Some w → (body_now k old ≡ Some w) × (measure_of counts w new ≡ measure_of counts w old)
 
 module _ (limit : ℕ) (mark : Option ℕ) (old new : Changes Kept) (o : IsOrderly old) (p : IsOrderly new) (fewer : AreFewer old new) where
   bodies_before : (ws : List (Write Kept)) → AllByRecursion (λ w. IsBody w.key w new) ws
-      → AllByRecursion (λ w. IsBody w.key w old) ws × (sum_by (λ w. length (bytes_of w.number new)) ws ≡ sum_by (λ w. length (bytes_of w.number old)) ws)
+      → AllByRecursion (λ w. IsBody w.key w old) ws × (sum_by (λ w. measure_of counts w new) ws ≡ sum_by (λ w. measure_of counts w old) ws)
   bodies_before [] all = (tt, refl)
   bodies_before (w ∷ ws) all =
       let was = fewer w.key w (body_now-of w.key new w p all.0) in
       let rest = bodies_before ws all.1 in (
         (body_now-is w.key old w o was.0, rest.0),
-        sum_by-cons (λ (x : Write Kept). length (bytes_of x.number new)) w ws
-            ∙ ap (λ (l : List ℕ). length l + sum_by (λ x. length (bytes_of x.number new)) ws) was.1 ∙ ap (λ m. length (bytes_of w.number old) + m) rest.1
-            ∙ sym (sum_by-cons (λ (x : Write Kept). length (bytes_of x.number old)) w ws),
+        sum_by-cons (λ (x : Write Kept). measure_of counts x new) w ws
+            ∙ ap (λ (n : ℕ). n + sum_by (λ x. measure_of counts x new) ws) was.1 ∙ ap (λ m. measure_of counts w old + m) rest.1
+            ∙ sym (sum_by-cons (λ (x : Write Kept). measure_of counts x old) w ws),
       )
 
-  within_fewer : AreWithin limit mark old → AreWithin limit mark new
+  within_fewer : AreWithin counts limit mark old → AreWithin counts limit mark new
   within_fewer h ws d all =
       let was = bodies_before ws all in
       let kept = h ws d was.0 in
@@ -74,7 +74,7 @@ gone-limit N (e ∷ es) m = gone-limit N es (gone N e m)
 
 -- a body is finished after some changes, and the other keys have what they had
 abbrev pub ChangesKey : StoredKey → Changes Kept → Changes Kept → Type 0
-ChangesKey j old new = (k : StoredKey) (w : Write Kept) → same_bytes j k ≡ false → body_now k new ≡ Some w → (body_now k old ≡ Some w) × (bytes_of w.number new ≡ bytes_of w.number old)
+ChangesKey j old new = (k : StoredKey) (w : Write Kept) → same_bytes j k ≡ false → body_now k new ≡ Some w → (body_now k old ≡ Some w) × (measure_of counts w new ≡ measure_of counts w old)
 
 module _ (N n : ℕ) (bodies : Bodies) (fs : List InFlight) (m : Managed) (changes : Changes Kept) (l : Keeps N n bodies fs m changes) where
   pub keeps-later : (k : ℕ) → n ≤ k → Keeps N k bodies fs m changes
@@ -102,8 +102,8 @@ module _ (N n : ℕ) (bodies : Bodies) (fs : List InFlight) (m : Managed) (chang
 
   module _ (w : Write Kept) (flies : IsInFlight w changes) where
     -- its bytes are those of no body
-    apart_bytes : (bytes : List ℕ) (k : StoredKey) (v : Write Kept) → body_now k changes ≡ Some v → bytes_of v.number (appends w.number bytes ∷ changes) ≡ bytes_of v.number changes
-    apart_bytes bytes k v e = ap (λ t. cond t (bytes_of v.number changes ++ bytes) (bytes_of v.number changes)) (not_appended k w.number changes l.leaves.orderly (w, refl, flies) v e)
+    apart_bytes : (bytes : List ℕ) (k : StoredKey) (v : Write Kept) → body_now k changes ≡ Some v → measure_of counts v (appends w.number bytes ∷ changes) ≡ measure_of counts v changes
+    apart_bytes bytes k v e = ap (λ t. length (cond t (bytes_of v.number changes ++ bytes) (bytes_of v.number changes)) + counts (meta_of v changes)) (not_appended k w.number changes l.leaves.orderly (w, refl, flies) v e)
 
     pub keeps-appended : (bytes : List ℕ) → has_ended w.number changes ≡ false → Keeps N n bodies (on_flying w.number (more_bytes bytes) fs) m (appends w.number bytes ∷ changes)
     keeps-appended bytes more =
@@ -136,7 +136,7 @@ module _ (N n : ℕ) (bodies : Bodies) (fs : List InFlight) (m : Managed) (chang
       fewer k v is = by_key (same_bytes (stored_key e) k) refl is
         where
           by_key : (u : Bool) → same_bytes (stored_key e) k ≡ u → body_chosen u None (body_now k (finishes w ∷ changes)) ≡ Some v
-              → (body_now k changes ≡ Some v) × (bytes_of v.number changes ≡ bytes_of v.number changes)
+              → (body_now k changes ≡ Some v) × (measure_of counts v changes ≡ measure_of counts v changes)
           by_key true t is = absurd cc
           by_key false t is = (ap (λ u. body_chosen false (cond u (Some w) None) (body_now k changes)) (sym (ap (λ (j : StoredKey). same_bytes j k) key ∙ t)) ∙ is, refl)
 
@@ -158,7 +158,7 @@ module _ (N n : ℕ) (bodies : Bodies) (fs : List InFlight) (m : Managed) (chang
             → Keeps N i (without_bodies es (with_body b bodies)) (marked_all es gs) (all_gone N es (admitted b)) (extended now (goes es))
         kept after = record {
           leaves = after;
-          within = bodies-within (extended now (goes es)) after.orderly after.tracks after.settled (all_gone N es (admitted b)).limit (all_gone N es (admitted b)).watermark
+          within = bodies-within counts (extended now (goes es)) after.orderly after.tracks after.settled (all_gone N es (admitted b)).limit (all_gone N es (admitted b)).watermark
               (rows_of (extended now (goes es))) (IsOrderOfUse-rows_of (extended now (goes es)))
               (over-rows N (all_gone N es (admitted b)) (rows_of (extended now (goes es))) after.some after.rows ∙ ends-over N false es (admitted b) h);
         }
@@ -168,7 +168,7 @@ module _ (N n : ℕ) (bodies : Bodies) (fs : List InFlight) (m : Managed) (chang
     fewer_back other es k w e = by_key (same_bytes (stored_key b.entry) k) refl e
       where
         by_key : (v : Bool) → same_bytes (stored_key b.entry) k ≡ v → body_chosen v None (body_now k (extended now (goes es))) ≡ Some w
-            → (body_now k changes ≡ Some w) × (bytes_of w.number (extended now (goes es)) ≡ bytes_of w.number changes)
+            → (body_now k changes ≡ Some w) × (measure_of counts w (extended now (goes es)) ≡ measure_of counts w changes)
         by_key true t e = absurd cc
         by_key false t e =
             let left = fewer_gone es now k w e in
@@ -181,11 +181,11 @@ module _ (N n : ℕ) (bodies : Bodies) (fs : List InFlight) (m : Managed) (chang
     keeps-back other over es h =
         let last : Changes Kept = extended (extended now (goes es)) (clears b.entry) in
         let after = leaves-back N i b es bodies (marked_all es gs) (all_gone N es (admitted b)) (extended now (goes es)) (leaves-room over es h) in
-        let fewer : AreWithin m.limit m.watermark last = within_fewer m.limit m.watermark changes last l.leaves.orderly after.orderly (fewer_back other es) l.within in
+        let fewer : AreWithin counts m.limit m.watermark last = within_fewer m.limit m.watermark changes last l.leaves.orderly after.orderly (fewer_back other es) l.within in
         let limits = gone-limit N es (admitted b) in
         record {
           leaves = after;
-          within = subst (λ (x : ℕ). AreWithin x (all_gone N es (admitted b)).watermark last) (sym limits.0) (subst (λ (x : Option ℕ). AreWithin m.limit x last) (sym limits.1) fewer);
+          within = subst (λ (x : ℕ). AreWithin counts x (all_gone N es (admitted b)).watermark last) (sym limits.0) (subst (λ (x : Option ℕ). AreWithin counts m.limit x last) (sym limits.1) fewer);
         }
 
   -- a body that is written at once changes its key alone
@@ -194,7 +194,7 @@ module _ (N n : ℕ) (bodies : Bodies) (fs : List InFlight) (m : Managed) (chang
       let there : body_now k changes ≡ Some w = ap (λ v. body_chosen false (cond v (Some (write_of n b)) None) (body_now k changes)) (sym t) ∙ e in
       let body = body_now-is k changes w l.leaves.orderly there in
       let other : (n == w.number) ≡ false = above_apart w.number n (began_below n w changes l.leaves.below (alive_began w changes body.alive)) in
-      (there, ap (λ v. cond v (bytes_of w.number changes ++ b.body.bytes) (bytes_of w.number changes)) other)
+      (there, ap (λ v. length (cond v (bytes_of w.number changes ++ b.body.bytes) (bytes_of w.number changes)) + counts (meta_of w changes)) other)
 
   -- and so does one that is finished
   pub finish_changes_key : (v : Write Kept) (e : Entry) → v.key ≡ stored_key e → (b : FinishedBody) → ChangesKey (stored_key e) changes (extended changes (finishes v ∷ settles b []))

@@ -25,7 +25,7 @@ use Rattle.tier_model.specs.declared.whole.Whole.{Whole}
 use Rattle.tier_model.specs.declared.whole.Whole.TheVariants as whole
 use Rattle.tier_model.specs.Headline.{AreRight, Headline}
 use Rattle.tier_model.specs.Answers.{IsPutAnswer}
-use Rattle.tier_model.specs.Histories.{Kept, Opening, empty_opening, told_of, writes_begun, changes_of}
+use Rattle.tier_model.specs.Histories.{Kept, Opening, empty_opening, counts, told_of, writes_begun, changes_of}
 use Rattle.tier_model.specs.Rows.{FinishedBody, body_of}
 use Rattle.tier_model.specs.Reports.{IsReport, report_of}
 use Rattle.tier_model.specs.State.{Settings, Request, State, shards_of, empty_state}
@@ -117,9 +117,9 @@ Headline-lawful start h l =
       readings = readings-lawful start h l;
       numbers = numbers-lawful start h l;
       answers = AreRight-lawful start h l;
-      within = subst (λ (x : ℕ). AreWithin x start.settings.watermark (changes_of start h)) past.made.limit
-          (subst (λ (x : Option ℕ). AreWithin (state_of start h).managed.limit x (changes_of start h)) past.made.watermark past.holds.within);
-      tracked = bodies-tracked (changes_of start h) past.holds.leaves.orderly past.holds.leaves.tracks past.holds.leaves.settled;
+      within = subst (λ (x : ℕ). AreWithin counts x start.settings.watermark (changes_of start h)) past.made.limit
+          (subst (λ (x : Option ℕ). AreWithin counts (state_of start h).managed.limit x (changes_of start h)) past.made.watermark past.holds.within);
+      tracked = bodies-tracked counts (changes_of start h) past.holds.leaves.orderly past.holds.leaves.tracks past.holds.leaves.settled;
       evictions = lawfully (shards_of (state_of start h)) (state_of start h).managed.limit (state_of start h).managed.watermark past.made.shards past.made.limit past.made.watermark past.holds.leaves.lawful;
     }
   where

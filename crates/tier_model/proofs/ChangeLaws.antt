@@ -4,7 +4,7 @@ use Rattle.std.specs.Prelude.{Bool, List, Option, Some, None, option_map, map, �
 use Rattle.std.specs.List.{AllByRecursion}
 use Rattle.cache_entries.specs.declared.entry.CacheEntryKey.{CacheEntryKey}
 use Rattle.cache_entries.specs.Keys.{same_bytes}
-use Rattle.cache_changes.specs.Changes.{StoredKey, stored_key, key_alone, is_key, Write, Change, Changes, begins, finishes, removes, uses, departs, evicts}
+use Rattle.cache_changes.specs.Changes.{StoredKey, stored_key, key_alone, is_key, Write, Change, Changes, begins, finishes, renews, removes, uses, departs, evicts}
 use Rattle.cache_changes.specs.Writes.{BeginsBelow, IsOrderly, IsInFlight, IsBody}
 use Rattle.cache_changes.specs.Store.{Flying, Store, store_of, removed_from, marked, body_at, stored_of}
 use Rattle.cache_changes.specs.Bound.{SettlesAtOnce, TracksBodies, is_settled}
@@ -18,7 +18,7 @@ use Rattle.cache_evict.specs.Managed as managed
 use Rattle.tier_model.specs.Keys.{Entry, alone}
 use Rattle.tier_model.specs.Calls.{extended}
 use Rattle.tier_model.specs.Evictions.{gone, all_gone, GoInTurn}
-use Rattle.tier_model.specs.Histories.{Kept, goes, clears}
+use Rattle.tier_model.specs.Histories.{Kept, counts, goes, clears}
 use Rattle.tier_model.specs.Shelf.{InFlight, marked as put_mark, marked_all}
 use Rattle.tier_model.specs.Past.{plain}
 use Rattle.tier_model.proofs.FlightLaws.{plain-marked}
@@ -41,13 +41,14 @@ pub record Leaves (N n : ℕ) (held : Bodies) (fs : List InFlight) (m : Managed)
   pub some : 0 < N
   pub rows : AreShardsOf N m.shards (rows_of changes)
   pub lawful : EvictsLawfully N m.limit m.watermark changes
-  pub tracks : TracksBodies changes
+  pub tracks : TracksBodies counts changes
   pub settled : is_settled changes ≡ true
 
 -- after what is settled anything may come
 pub unbound : (c : Change Kept) (before : Changes Kept) → is_settled before ≡ true → SettlesAtOnce c before
 unbound c [] e = tt
 unbound c (finishes w ∷ before) e = absurd cc
+unbound c (renews n meta ∷ before) e = absurd cc
 unbound c (_ ∷ before) e = tt
 
 -- a write that just began

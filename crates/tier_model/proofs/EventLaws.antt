@@ -177,12 +177,9 @@ module _ (start : Opening) (s : State) (h : History) (l : Holds start s h) (coun
       is = finishing-is start r q h s.shelf x (f t i r q x)
 
       by_removed : (v : Bool) → (f t i r q x).flight.removed ≡ v → IsFinishFault s (cond v None (Some b)) g → Next (on_request s r (λ q. finished_state s r q (Err g))) (call_at t (Finish r) i (Err g))
-      by_removed true e p = elim p [
-        | inl gone ↦
-            rw (gone, there, landed_is t i r q x, is, e, x.held)
-            (gone_holds s (writes_begun start h) (changes_of start h) l x.write (key_of q.entry) x.flies x.of_key (x.of_entry ∙ opens.entry) i.began (rs t i r q x))
-        | inr memory ↦ quiet_finish_holds t i r g (ap (λ (y : TierFault). is_landing (Err y)) memory)
-      ]
+      by_removed true e gone =
+          rw (gone, there, landed_is t i r q x, is, e, x.held)
+          (gone_holds s (writes_begun start h) (changes_of start h) l x.write (key_of q.entry) x.flies x.of_key (x.of_entry ∙ opens.entry) i.began (rs t i r q x))
       by_removed false e p = elim p [
         | inl memory ↦ quiet_finish_holds t i r g (ap (λ (y : TierFault). is_landing (Err y)) memory)
         | inr late ↦

@@ -5,9 +5,9 @@ use Rattle.std.specs.FinMap.{get}
 use Rattle.std.proofs.lemmas.Bool.{eq-eqb}
 use Rattle.cache_words.specs.Time.{MomentValue}
 use Rattle.cache_lock.specs.Changes.{Changes, lends, stores, takes_out, spends}
-use Rattle.cache_lock.specs.State.{LockState, IsSound, status_of, after, after_all}
+use Rattle.cache_lock.specs.State.{LockState, IsSound, status_of, after, after_all, is_number}
 use Rattle.cache_lock.specs.Status.{is_aged}
-use Rattle.cache_lock.specs.Answers.{to_wait_for, locked_by, lock_change, reason_stored, release_changes, leave_changes, poll_changes}
+use Rattle.cache_lock.specs.Answers.{to_wait_for, locked_by, lock_change, release_changes, leave_changes, poll_changes, released_by}
 use Rattle.cache_lock.specs.Waits.{same_key, names_of, last_status, core_of, IsOfKey}
 use Rattle.cache_lock.specs.declared.status.LockStatus.{LockStatus}
 use Rattle.cache_lock.specs.declared.status.LockStatus.TheVariants.{Waiting, Dangling, AgeTimeout}
@@ -189,16 +189,10 @@ module _ (lock : LockState) (g : ℕ → Grip) (hold : ℕ → ℕ) (changes : C
         permits = λ i m k e. let old = other_core i m k e in stands m k old.0 (x.permits i m k old.1);
       }
 
-    not_waiting : (reason : LockStatus) (o : Option ℕ) → (reason ≡ Waiting → ⊥) → reason_stored reason o ≡ Waiting → ⊥
-    not_waiting reason None ends e = absurd cc
-    not_waiting reason (Some m) ends e = ends e
-
     pub released-step : (reason : LockStatus) → (reason ≡ Waiting → ⊥) → Granted (after_all (release_changes key n reason lock) lock) new more (release_changes key n reason lock ++ changes)
-    released-step reason ends = by_aged (is_aged (status_of n lock)) refl
+    released-step reason ends = by_case (is_aged (status_of n lock)) (is_number n (get lock.current key)) refl
       where
-        all : Bool → Changes
-        all v = cond v (spends n ∷ []) (spends n ∷ stores n (reason_stored reason (get lock.current key)) ∷ takes_out key ∷ [])
-
-        by_aged : (v : Bool) → is_aged (status_of n lock) ≡ v → Granted (after_all (all v) lock) new more (all v ++ changes)
-        by_aged true aged = released_aged aged
-        by_aged false lasts = released_taken (reason_stored reason (get lock.current key)) (not_waiting reason (get lock.current key) ends) lasts
+        by_case : (aged own : Bool) → is_aged (status_of n lock) ≡ aged → Granted (after_all (released_by aged own key n reason) lock) new more (released_by aged own key n reason ++ changes)
+        by_case true own aged = released_aged aged
+        by_case false true lasts = released_taken reason ends lasts
+        by_case false false lasts = dropped-step

@@ -88,12 +88,9 @@ module _ (start : Opening) (s : State) (h : History) (made : IsMade start.settin
     finish_late g p = by_removed f.flight.removed refl (subst (λ (o : Option FinishedBody). IsFinishFault s o g) is p)
       where
         by_removed : (v : Bool) → f.flight.removed ≡ v → IsFinishFault s (cond v None (Some b)) g → FinishIsRight start.settings (write_held start r h) (Err g) changes
-        by_removed true e p = elim p [
-          | inl gone ↦
-              subst (λ (y : TierFault). FinishIsRight start.settings (write_held start r h) (Err y) changes) (sym gone)
-              (x.write, x.held, λ alive. let not_removed : f.flight.removed ≡ false = f.alive.1 alive in absurd cc)
-          | inr m ↦ subst (λ (y : TierFault). FinishIsRight start.settings (write_held start r h) (Err y) changes) (sym m) (refl, refl)
-        ]
+        by_removed true e gone =
+            subst (λ (y : TierFault). FinishIsRight start.settings (write_held start r h) (Err y) changes) (sym gone)
+            (x.write, x.held, λ alive. let not_removed : f.flight.removed ≡ false = f.alive.1 alive in absurd cc)
         by_removed false e p = elim p [
           | inl m ↦ subst (λ (y : TierFault). FinishIsRight start.settings (write_held start r h) (Err y) changes) (sym m) (refl, refl)
           | inr late ↦ elim late [

@@ -5,8 +5,8 @@ use Rattle.std.specs.FinMap.{get, insert}
 use Rattle.std.proofs.lemmas.Bool.{leb-false}
 use Rattle.cache_words.specs.Time.{MomentValue}
 use Rattle.cache_lock.specs.Changes.{Change, gives, lends, stores, takes_out, publishes, spends}
-use Rattle.cache_lock.specs.State.{LockState, IsSound, with_core, named, unnamed, with_status, spent, told, without_core, status_of, after as changed, after_all}
-use Rattle.cache_lock.specs.Answers.{to_wait_for, locked_by, lock_change, release_changes, leave_changes, poll_changes, wait_outcome, given_back, IsAsBefore, reason_stored}
+use Rattle.cache_lock.specs.State.{LockState, IsSound, with_core, named, unnamed, with_status, spent, told, without_core, status_of, after as changed, after_all, is_number}
+use Rattle.cache_lock.specs.Answers.{to_wait_for, locked_by, lock_change, release_changes, leave_changes, poll_changes, wait_outcome, given_back, IsAsBefore, released_by}
 use Rattle.cache_lock.specs.Status.{is_aged}
 use Rattle.cache_lock.specs.declared.lock_core.HeldCore.{HeldCore}
 use Rattle.cache_lock.specs.declared.status.LockStatus.{LockStatus}
@@ -89,13 +89,14 @@ asked_sound true key stale t s o sound = given_sound key stale t s o sound
 asked_sound false key stale t s o sound = sound
 
 released_sound : (key : List ℕ) (n : ℕ) (reason : LockStatus) (s : LockState) → IsSound s → IsSound (after_all (release_changes key n reason s) s)
-released_sound key n reason s sound = by_aged (is_aged (status_of n s))
+released_sound key n reason s sound = by_case (is_aged (status_of n s)) (is_number n (get s.current key))
   where
-    by_aged : (v : Bool) → IsSound (after_all (cond v (spends n ∷ []) (spends n ∷ stores n (reason_stored reason (get s.current key)) ∷ takes_out key ∷ [])) s)
-    by_aged true = change_sound (spends n) s refl sound
-    by_aged false =
-        change_sound (spends n) (changed (stores n (reason_stored reason (get s.current key))) (changed (takes_out key) s)) refl
-        (change_sound (stores n (reason_stored reason (get s.current key))) (changed (takes_out key) s) refl (change_sound (takes_out key) s refl sound))
+    by_case : (aged own : Bool) → IsSound (after_all (released_by aged own key n reason) s)
+    by_case true own = change_sound (spends n) s refl sound
+    by_case false true =
+        change_sound (spends n) (changed (stores n reason) (changed (takes_out key) s)) refl
+        (change_sound (stores n reason) (changed (takes_out key) s) refl (change_sound (takes_out key) s refl sound))
+    by_case false false = leave_sound (locked.Write (record { number = n })) s sound
 
 release_sound : (reason : LockStatus) (q : Request) (held : Held) (s : LockState) → IsSound s → IsSound (after_all (release_of reason q held s) s)
 release_sound reason q nothing s sound = sound

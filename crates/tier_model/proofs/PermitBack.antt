@@ -8,8 +8,8 @@ use Rattle.cache_entries.specs.Keys.{same_bytes}
 use Rattle.cache_entries.specs.SameEntry.{same_bytes-tells}
 use Rattle.cache_changes.specs.Changes.{StoredKey}
 use Rattle.cache_lock.specs.Changes.{Changes, stores, takes_out, spends}
-use Rattle.cache_lock.specs.Answers.{to_wait_for, locked_by, lock_change, reason_stored, release_changes, leave_changes, wait_outcome, poll_changes}
-use Rattle.cache_lock.specs.State.{IsSound, status_of}
+use Rattle.cache_lock.specs.Answers.{to_wait_for, locked_by, lock_change, release_changes, leave_changes, wait_outcome, poll_changes, released_by}
+use Rattle.cache_lock.specs.State.{IsSound, status_of, is_number}
 use Rattle.cache_lock.specs.Status.{is_aged}
 use Rattle.cache_lock.specs.Waits.{same_key, last_status, core_of}
 use Rattle.cache_lock.specs.declared.fills.WaitOutcome.{WaitOutcome}
@@ -166,26 +166,20 @@ module _ (s new : State) (t : MomentValue) (action : Action) (o : Outcome) (chan
       by_core true is waiting = absurd cc
       by_core false is waiting = stays_ended r m true key was says (λ e. is) core waiting
 
-  not_waiting : (reason : LockStatus) (core : Option ℕ) → (reason ≡ Waiting → ⊥) → reason_stored reason core ≡ Waiting → ⊥
-  not_waiting reason None ends e = absurd cc
-  not_waiting reason (Some m) ends e = ends e
-
   by_released : (r m : ℕ) (key : StoredKey) (reason : LockStatus) → (reason ≡ Waiting → ⊥) → grip_at s r ≡ grips true m key → SaysEnded r action o → From (release_changes key m reason s.lock)
-  by_released r m key reason lasts was says = by_aged (is_aged (status_of m s.lock)) refl
+  by_released r m key reason lasts was says = by_case (is_aged (status_of m s.lock)) (is_number m (get s.lock.current key)) refl
     where
-      st : LockStatus
-      st = reason_stored reason (get s.lock.current key)
-
-      taken : (v w : Bool) → (n == m) ≡ w → cond v None (core_of k changes) ≡ Some n → cond w st (last_status n changes) ≡ Waiting → Back
+      taken : (v w : Bool) → (n == m) ≡ w → cond v None (core_of k changes) ≡ Some n → cond w reason (last_status n changes) ≡ Waiting → Back
       taken true w is core waiting = absurd cc
-      taken false true is core waiting = absurd (not_waiting reason (get s.lock.current key) lasts waiting)
+      taken false true is core waiting = absurd (lasts waiting)
       taken false false is core waiting = stays_ended r m true key was says (λ e. is) core waiting
 
-      by_aged : (v : Bool) → is_aged (status_of m s.lock) ≡ v → From (cond v (spends m ∷ []) (spends m ∷ stores m st ∷ takes_out key ∷ []))
-      by_aged true old core waiting = stays_ended r m true key was says (λ e. differ n m (λ same.
+      by_case : (aged own : Bool) → is_aged (status_of m s.lock) ≡ aged → From (released_by aged own key m reason)
+      by_case true own old core waiting = stays_ended r m true key was says (λ e. differ n m (λ same.
           let clash : AgeTimeout ≡ Waiting = sym (only_aged (status_of m s.lock) old) ∙ status-held s.lock (grip_at s) (hold_at s) changes x r m true key was ∙ ap (λ (j : ℕ). last_status j changes) (sym same) ∙ waiting in
           absurd cc)) core waiting
-      by_aged false old core waiting = taken (same_key k key) (n == m) refl core waiting
+      by_case false true old core waiting = taken (same_key k key) (n == m) refl core waiting
+      by_case false false old core waiting = by_dropped r m key was says core waiting
 
   pub back-step : (cs : Changes) → Effect s new t action o cs → From cs
   back-step cs (quiet same none says) = subst From (sym none) (stays_little says)

@@ -8,8 +8,8 @@ use Rattle.cache_entries.specs.Keys.{same_bytes}
 use Rattle.cache_entries.specs.SameEntry.{same_bytes-tells}
 use Rattle.cache_changes.specs.Changes.{StoredKey}
 use Rattle.cache_lock.specs.Changes.{Changes, stores, takes_out, spends}
-use Rattle.cache_lock.specs.Answers.{to_wait_for, reason_stored, release_changes, wait_outcome, poll_changes}
-use Rattle.cache_lock.specs.State.{IsSound, status_of}
+use Rattle.cache_lock.specs.Answers.{to_wait_for, release_changes, wait_outcome, poll_changes, released_by}
+use Rattle.cache_lock.specs.State.{IsSound, status_of, is_number}
 use Rattle.cache_lock.specs.Status.{is_aged}
 use Rattle.cache_lock.specs.Waits.{same_key, last_status, core_of}
 use Rattle.cache_lock.specs.declared.fills.WaitOutcome.{WaitOutcome}
@@ -97,13 +97,14 @@ module _ (s new : State) (t : MomentValue) (action : Action) (o : Outcome) (chan
     ]
 
     by_released : (reason : LockStatus) → Kept (release_changes key m reason s.lock)
-    by_released reason = by_aged (is_aged (status_of m s.lock)) refl
+    by_released reason = by_case (is_aged (status_of m s.lock)) (is_number m (get s.lock.current key)) refl
       where
-        by_aged : (v : Bool) → is_aged (status_of m s.lock) ≡ v → Kept (cond v (spends m ∷ []) (spends m ∷ stores m (reason_stored reason (get s.lock.current key)) ∷ takes_out key ∷ []))
-        by_aged true old = ended r m true key (spends m ∷ []) moves apart says.given c.core refl
-        by_aged false lasts =
-            ended r m true key (spends m ∷ stores m (reason_stored reason (get s.lock.current key)) ∷ takes_out key ∷ []) moves apart says.given (core_stays lasts (same_key k key) refl)
-            (ap (λ (v : Bool). cond v (reason_stored reason (get s.lock.current key)) (last_status n changes)) other)
+        by_case : (aged own : Bool) → is_aged (status_of m s.lock) ≡ aged → Kept (released_by aged own key m reason)
+        by_case true own old = ended r m true key (spends m ∷ []) moves apart says.given c.core refl
+        by_case false true lasts =
+            ended r m true key (spends m ∷ stores m reason ∷ takes_out key ∷ []) moves apart says.given (core_stays lasts (same_key k key) refl)
+            (ap (λ (v : Bool). cond v reason (last_status n changes)) other)
+        by_case false false lasts = by_dropped
 
   pub core-step : (cs : Changes) → Effect s new t action o cs → is_end_of_permit id action o ≡ false → Kept cs
   core-step cs (quiet same none says) ends =

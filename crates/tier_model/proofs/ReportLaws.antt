@@ -121,7 +121,7 @@ nothing_finished s r q f true d =
 
 finish_fault_counts : (s : State) (r : ℕ) (q : Request) (f : TierFault) (b : Option FinishedBody) → finishing q s.shelf ≡ b → IsFinishFault s b f → Counts s (finished_state s r q (Err f)) (Err f)
 finish_fault_counts s r q f None e p =
-    nothing_finished s r q f (is_landing (Err f)) (elim p [ inl gone ↦ ap done_of gone | inr m ↦ ap done_of m ])
+    nothing_finished s r q f (is_landing (Err f)) (ap done_of p)
 finish_fault_counts s r q f (Some b) e p = elim p [
   | inl m ↦ nothing_finished s r q f (is_landing (Err f)) (ap done_of m)
   | inr late ↦ by_landing (is_landing (Err f)) (landing-stored f (fault-stored s b f late))

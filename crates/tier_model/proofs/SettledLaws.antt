@@ -7,8 +7,8 @@ use Rattle.std.proofs.lemmas.Bool.{eq-eqb}
 use Rattle.cache_words.specs.Time.{MomentValue}
 use Rattle.cache_changes.specs.Changes.{StoredKey}
 use Rattle.cache_lock.specs.Changes.{Changes, gives, lends, stores, takes_out, spends}
-use Rattle.cache_lock.specs.Answers.{to_wait_for, locked_by, lock_change, reason_stored, release_changes, leave_changes, wait_outcome, poll_changes}
-use Rattle.cache_lock.specs.State.{IsSound, status_of}
+use Rattle.cache_lock.specs.Answers.{to_wait_for, locked_by, lock_change, release_changes, leave_changes, wait_outcome, poll_changes, released_by}
+use Rattle.cache_lock.specs.State.{IsSound, status_of, is_number}
 use Rattle.cache_lock.specs.Status.{is_aged, is_end}
 use Rattle.cache_lock.specs.Waits.{same_key, last_status, core_of}
 use Rattle.cache_lock.specs.declared.fills.WaitOutcome.{WaitOutcome}
@@ -118,25 +118,8 @@ module _ (s new : State) (t : MomentValue) (action : Action) (o : Outcome) (chan
 
   by_released : (r m : ℕ) (key : StoredKey) (reason : LockStatus) → is_end reason ≡ true → Moves (grip_at s) (grip_at new) (hold_at s) (hold_at new) r (grips true m key) free
       → From (release_changes key m reason s.lock)
-  by_released r m key reason ends moves = by_aged (is_aged (status_of m s.lock)) refl
+  by_released r m key reason ends moves = by_case (is_aged (status_of m s.lock)) (is_number m (get s.lock.current key)) refl
     where
-      st : LockStatus
-      st = reason_stored reason (get s.lock.current key)
-
-      not_waiting : st ≡ Waiting → ⊥
-      not_waiting e = by_core (get s.lock.current key) e
-        where
-          by_core : (core : Option ℕ) → reason_stored reason core ≡ Waiting → ⊥
-          by_core None e = absurd cc
-          by_core (Some n) e = end-not-waiting reason ends e
-
-      not_timeout : st ≡ WaitTimeout → ⊥
-      not_timeout e = by_core (get s.lock.current key) e
-        where
-          by_core : (core : Option ℕ) → reason_stored reason core ≡ WaitTimeout → ⊥
-          by_core None e = absurd cc
-          by_core (Some n) e = end-not-timeout reason ends e
-
       -- the core of the permit is its key's, and is another
       taken : is_aged (status_of m s.lock) ≡ false → (n : ℕ) (k : StoredKey) → (n == m) ≡ false → core_of k changes ≡ Some n → (v : Bool) → same_key k key ≡ v → cond v None (core_of k changes) ≡ Some n
       taken lasts n k differs core false is = core
@@ -149,17 +132,18 @@ module _ (s new : State) (t : MomentValue) (action : Action) (o : Outcome) (chan
             absurd cc
       ]
 
-      by_core : is_aged (status_of m s.lock) ≡ false → (i n : ℕ) (k : StoredKey) → grip_at new i ≡ grips false n k → (v : Bool) → (n == m) ≡ v → cond v st (last_status n changes) ≡ Waiting
+      by_core : is_aged (status_of m s.lock) ≡ false → (i n : ℕ) (k : StoredKey) → grip_at new i ≡ grips false n k → (v : Bool) → (n == m) ≡ v → cond v reason (last_status n changes) ≡ Waiting
           → cond (same_key k key) None (core_of k changes) ≡ Some n
-      by_core lasts i n k e true is w = absurd (not_waiting w)
+      by_core lasts i n k e true is w = absurd (end-not-waiting reason ends w)
       by_core lasts i n k e false is w = taken lasts n k is (old.current i n k (was_held r m true key moves i n k e) w) (same_key k key) refl
 
-      by_aged : (v : Bool) → is_aged (status_of m s.lock) ≡ v → From (cond v (spends m ∷ []) (spends m ∷ stores m st ∷ takes_out key ∷ []))
-      by_aged true aged = by_spent r m true key moves
-      by_aged false lasts = record {
+      by_case : (aged own : Bool) → is_aged (status_of m s.lock) ≡ aged → From (released_by aged own key m reason)
+      by_case true own aged = by_spent r m true key moves
+      by_case false true lasts = record {
         current = λ i n k e w. by_core lasts i n k e (n == m) refl w;
-        told = λ n e. or_told (n == m) st (last_status n changes) not_timeout (old.told n) e;
+        told = λ n e. or_told (n == m) reason (last_status n changes) (end-not-timeout reason ends) (old.told n) e;
       }
+      by_case false false lasts = by_stored r m true key moves Dangling (λ e. absurd cc) (λ e. absurd cc)
 
   settled-step : (cs : Changes) → Effect s new t action o cs → From cs
   settled-step cs (quiet same none says) = subst From (sym none) (record { current = λ i n k e w. old.current i n k (sym (same.grip i) ∙ e) w; told = old.told })

@@ -8,8 +8,8 @@ use Rattle.std.specs.Option.{option_or}
 use Rattle.cache_changes.specs.Store.{Stored, Flying, store_of, body_at, shown_at, is_found_at, flying_at, flies_for, stored_of, has_number as held_number, IsFlight}
 use Rattle.cache_changes.proofs.FoundLaws.{store_of-is}
 use Rattle.cache_changes.proofs.OrderLaws.{flights-rise, found_number}
-use Rattle.cache_changes.proofs.RowLaws.{find-some, find-passes}
-use Rattle.cache_changes.proofs.WriteLaws.{and_true, both_true, was_false}
+use Rattle.cache_changes.proofs.RowLaws.{find-some, find-passes, was_false}
+use Rattle.cache_changes.proofs.WriteLaws.{and_true, both_true}
 use Rattle.cache_evict.specs.Managed.{Managed}
 use Rattle.tier_model.specs.declared.state.Body.{Body}
 use Rattle.tier_model.specs.Histories.{Kept, told_of}

@@ -19,7 +19,7 @@ use Rattle.tier_model.specs.declared.event.Answer.{Answer}
 use Rattle.tier_model.specs.declared.event.TierFault.{TierFault}
 use Rattle.tier_model.specs.declared.event.TierFault.TheVariants.{IdInUse}
 use Rattle.tier_model.specs.Calls.{Call, History, Outcome, writes_after}
-use Rattle.tier_model.specs.Histories.{Kept, Opening, writes_begun, changes_of}
+use Rattle.tier_model.specs.Histories.{Kept, Opening, counts, writes_begun, changes_of}
 use Rattle.tier_model.specs.State.{Request, State, shards_of}
 use Rattle.tier_model.specs.Shelf.{Readers}
 use Rattle.tier_model.specs.Checks.{refusal, unless}
@@ -57,7 +57,7 @@ none_held N n m changes l w i =
     let there : None ≡ Some x.0 = sym (get-empty (slice_cmp nat_cmp) w.key) ∙ x.1 in
     absurd cc
 
-none_within : (N n : ℕ) (m : Managed) (changes : Changes Kept) → Leaves N n empty [] m changes → AreWithin m.limit m.watermark changes
+none_within : (N n : ℕ) (m : Managed) (changes : Changes Kept) → Leaves N n empty [] m changes → AreWithin counts m.limit m.watermark changes
 none_within N n m changes l [] d all = (omega arith, none_past m.watermark)
 none_within N n m changes l (w ∷ ws) d all = absurd (none_held N n m changes l w all.0)
 
@@ -181,5 +181,5 @@ Stands-lawful start (c ∷ h) l =
 pub IsOrderly-lawful : (start : Opening) (h : History) → IsLawful start h → IsOrderly (changes_of start h)
 IsOrderly-lawful start h l = (Stands-lawful start h l).holds.leaves.orderly
 
-pub TracksBodies-lawful : (start : Opening) (h : History) → IsLawful start h → TracksBodies (changes_of start h)
+pub TracksBodies-lawful : (start : Opening) (h : History) → IsLawful start h → TracksBodies counts (changes_of start h)
 TracksBodies-lawful start h l = (Stands-lawful start h l).holds.leaves.tracks

@@ -205,12 +205,9 @@ module _ (start : Opening) (s : State) (h : History) (l : Holds start s h) (open
     late_finish : (t : MomentValue) (i : Inside) (r : ℕ) (q : Request) (f : TierFault) (b : Option FinishedBody) → get s.requests r ≡ Some q → IsOpen start r q h → Written start r q h
         → IsFinishFault s b f
         → IsOrderly (changes_of start (call_at t (Finish r) i (Err f) ∷ h)) → Next start s h l opened fits counts (call_at t (Finish r) i (Err f)) (after s (call_at t (Finish r) i (Err f)))
-    late_finish t i r q f None e opens x p orderly = elim p [
-      | inl gone ↦
-          finish_lands start s h l opened fits counts t i r q (Err f) e opens x (ap (λ (y : TierFault). is_landing (Err y)) gone)
-          (subst (λ (y : TierFault). Landing start s h l opened fits counts x.write (Err y)) (sym gone) (removed_landing x.write)) orderly
-      | inr m ↦ finish_stays start s h l opened fits counts t i r f (ap (λ (y : TierFault). is_landing (Err y)) m) orderly
-    ]
+    late_finish t i r q f None e opens x gone orderly =
+        finish_lands start s h l opened fits counts t i r q (Err f) e opens x (ap (λ (y : TierFault). is_landing (Err y)) gone)
+        (subst (λ (y : TierFault). Landing start s h l opened fits counts x.write (Err y)) (sym gone) (removed_landing x.write)) orderly
     late_finish t i r q f (Some b) e opens x p orderly = elim p [
       | inl m ↦ finish_stays start s h l opened fits counts t i r f (ap (λ (y : TierFault). is_landing (Err y)) m) orderly
       | inr late ↦ finish_lands start s h l opened fits counts t i r q (Err f) e opens x (landing-stored f (fault-stored s b f late)) (back_landing x.write f (fault-stored s b f late)) orderly

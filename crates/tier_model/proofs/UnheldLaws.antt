@@ -7,7 +7,7 @@ use Rattle.std.specs.Cmp.Lexicographic.{slice_cmp, nat_list_cmp_total}
 use Rattle.std.proofs.lemmas.Bool.{eq-eqb}
 use Rattle.std.proofs.lemmas.Cmp.{nat_cmp_total}
 use Rattle.cache_words.specs.Time.{MomentValue}
-use Rattle.cache_lock.specs.Answers.{to_wait_for, locked_by, lock_change, leave_changes, poll_changes, wait_outcome, reason_stored}
+use Rattle.cache_lock.specs.Answers.{to_wait_for, locked_by, lock_change, leave_changes, poll_changes, wait_outcome, released_by}
 use Rattle.cache_lock.specs.Changes.{Changes, gives, lends, stores, takes_out, spends}
 use Rattle.cache_lock.specs.State.{LockState, IsSound, named, unnamed, with_status, with_core, without_core, spent, is_number, status_of, after as changed, after_all, empty_lock}
 use Rattle.cache_lock.specs.Status.{is_aged}
@@ -130,9 +130,10 @@ module _ (s new : State) (t : MomentValue) (action : Action) (o : Outcome) (soun
   by_wait n (Some _) = back_tidy n s.lock tidy
   by_wait n None = back_tidy n s.lock tidy
 
-  by_aged : (n : ℕ) (key : List ℕ) (st : LockStatus) (v : Bool) → Now (cond v (spends n ∷ []) (spends n ∷ stores n st ∷ takes_out key ∷ []))
-  by_aged n key st true = back_tidy n s.lock tidy
-  by_aged n key st false = back_tidy n _ (stored_tidy n st _ (taken_tidy key s.lock tidy))
+  by_case : (n : ℕ) (key : List ℕ) (reason : LockStatus) (aged own : Bool) → Now (released_by aged own key n reason)
+  by_case n key reason true own = back_tidy n s.lock tidy
+  by_case n key reason false true = back_tidy n _ (stored_tidy n reason _ (taken_tidy key s.lock tidy))
+  by_case n key reason false false = back_tidy n _ (stored_tidy n _ s.lock tidy)
 
   tidy-step : (cs : Changes) → Effect s new t action o cs → Now cs
   tidy-step cs (quiet same none says) = subst Now (sym none) tidy
@@ -142,7 +143,7 @@ module _ (s new : State) (t : MomentValue) (action : Action) (o : Outcome) (soun
   tidy-step cs (polled r n key over outcome moves is act out over_is) = subst Now (sym is) (by_wait n (wait_outcome n [] t s.lock))
   tidy-step cs (left r n key moves is says) = subst Now (sym is) (back_tidy n s.lock tidy)
   tidy-step cs (dropped r n key moves is says) = subst Now (sym is) (back_tidy n _ (stored_tidy n _ s.lock tidy))
-  tidy-step cs (released r n key reason lasts moves is says) = subst Now (sym is) (by_aged n key (reason_stored reason (get s.lock.current key)) (is_aged (status_of n s.lock)))
+  tidy-step cs (released r n key reason lasts moves is says) = subst Now (sym is) (by_case n key reason (is_aged (status_of n s.lock)) (is_number n (get s.lock.current key)))
 
 tidy-of : (start : Opening) (h : History) → IsLawful start h → IsTidy (state_of start h).lock
 tidy-of start [] l = record { keyed = λ k n e. let no : None ≡ Some n = sym (get-empty (slice_cmp nat_cmp) k) ∙ e in absurd cc; untold = refl }

@@ -9,6 +9,7 @@ use Rattle.cache_changes.specs.Changes.{StoredKey, stored_key, Write, Changes, b
 use Rattle.cache_changes.specs.Writes.{bytes_of, has_ended, meta_of, IsOrderly, IsInFlight, IsAlive, IsBody}
 use Rattle.cache_changes.specs.Store.{Stored, Flying, store_of, with_body, with_bytes, begun, ended, body_at, flying_at, stored_of, is_of, has_number as held_number}
 use Rattle.cache_changes.specs.Uses.{rows_of}
+use Rattle.cache_changes.specs.Bound.{measure_of}
 use Rattle.cache_changes.proofs.FoundLaws.{store_of-is}
 use Rattle.cache_changes.proofs.FlightLaws.{flying_of, flying_at-is}
 use Rattle.cache_changes.proofs.ManyShards.{AreShardsOf-after}
@@ -17,7 +18,7 @@ use Rattle.cache_evict.specs.Managed.{Managed, put_first, taken_out}
 use Rattle.tier_model.specs.declared.state.Body.{Body}
 use Rattle.tier_model.specs.Keys.{Entry, alone}
 use Rattle.tier_model.specs.Calls.{extended}
-use Rattle.tier_model.specs.Histories.{Kept, kept_of, told_of, write_of, settles, stores, clears, finished_of}
+use Rattle.tier_model.specs.Histories.{Kept, counts, kept_of, told_of, write_of, settles, stores, clears, finished_of}
 use Rattle.tier_model.specs.Shelf.{InFlight, has_number, on_flying, marked as put_mark}
 use Rattle.tier_model.specs.Past.{plain}
 use Rattle.cache_entries.specs.Entry.{key_of}
@@ -25,6 +26,10 @@ use Rattle.tier_model.proofs.FlightLaws.{plain-append, plain-on, plain-landed, f
 use Rattle.tier_model.specs.Rows.{Bodies, FinishedBody, body_of, with_body as put_body, without_body, without_bodies, weight_for}
 use Rattle.tier_model.proofs.BodyLaws.{has_key, body_of-without, body_of-with, body_of-without_all, body_at-without, body_at-with, view, both_gone, both_there}
 use Rattle.tier_model.proofs.ChangeLaws.{more_bytes, no_more, Leaves, unbound, just_began, no_body, leaves-same, marked_same, leaves-cleared}
+
+-- a body counts no more than it weighs
+counted_fits : (x : Stored Kept) → length x.bytes + counts x.meta ≤ weight_for (record { bytes = x.bytes; meta = x.meta.meta })
+counted_fits x = omega (arith, le-max_right 1 (length x.bytes))
 
 module _ (N : ℕ) where
   -- a write begins, under the next number
@@ -133,12 +138,12 @@ module _ (N : ℕ) where
           ap (λ (f : Option (Flying Kept)). find (is_of k) (with_body (option_map (λ g. g.stored) f) (store_of changes).bodies)) there.1
           ∙ ap (λ (y : Stored Kept). find (is_of k) (with_body (Some y) (store_of changes).bodies)) there.2 ∙ body_at-with k x (store_of changes).bodies
 
-      enough : (v : Write Kept) → same_bytes (stored_key b.entry) v.key ≡ true → IsBody v.key v (finishes w ∷ changes) → length (bytes_of v.number (finishes w ∷ changes)) ≤ weight_for b.body
+      enough : (v : Write Kept) → same_bytes (stored_key b.entry) v.key ≡ true → IsBody v.key v (finishes w ∷ changes) → measure_of counts v (finishes w ∷ changes) ≤ weight_for b.body
       enough v t i =
           let there : body_at v.key (store_of (finishes w ∷ changes)) ≡ Some (stored_of v (finishes w ∷ changes)) = ((store_of-is (finishes w ∷ changes) orderly).bodies v.key (stored_of v (finishes w ∷ changes))).1 (i, refl) in
           let here : body_at v.key (store_of (finishes w ∷ changes)) ≡ Some x = left v.key ∙ ap (λ t. cond t (Some x) (body_at v.key (store_of changes))) (ap (λ (j : StoredKey). same_bytes j v.key) key ∙ t) in
           let same : x ≡ stored_of v (finishes w ∷ changes) = cc in
-          subst (λ (y : Stored Kept). length y.bytes ≤ weight_for b.body) same (le-max_right 1 (length x.bytes))
+          subst (λ (y : Stored Kept). length y.bytes + counts y.meta ≤ weight_for b.body) same (counted_fits x)
 
   -- a write is finished, and its key removed at once
   pub leaves-withdrawn : (n : ℕ) (w : Write Kept) (e : Entry) (bodies : Bodies) (fs : List InFlight) (m : Managed) (changes : Changes Kept) → IsInFlight w changes → IsAlive w changes

@@ -194,8 +194,8 @@ flight_of (Some n) shelf = flying_at n shelf.flying
 abbrev pub finishing : Request → Shelf → Option FinishedBody
 finishing q shelf = body_under q.entry (flight_of q.write shelf)
 
--- why a finish is refused: the write was removed, or, with nothing done, for the memory that an entry takes, also of one that was, or
--- else as a put of its body
+-- why a finish is refused: the write was removed; or else, with nothing done, for the memory that its body and its entry take, which
+-- comes before the entry is admitted; or as a put of its body
 abbrev pub IsFinishFault : State → Option FinishedBody → TierFault → Type 0
-IsFinishFault s None f = (f ≡ fault.WriteRemoved) ⊎ (f ≡ Memory nothing_done)
+IsFinishFault s None f = f ≡ fault.WriteRemoved
 IsFinishFault s (Some b) f = (f ≡ Memory nothing_done) ⊎ IsStoreFault s b f

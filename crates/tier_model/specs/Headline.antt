@@ -21,7 +21,7 @@ use Rattle.tier_model.specs.declared.event.TierFault.TheVariants as fault
 use Rattle.tier_model.specs.Keys.{Entry, stored_key_of}
 use Rattle.tier_model.specs.Response.{not_kept, too_early, not_read, IsRead}
 use Rattle.tier_model.specs.Calls.{Call, History, Outcome, CountsItsWrite, extended, nothing_done, done_of, judged_of, read_by, finished_by, opened_for, asks_lock}
-use Rattle.tier_model.specs.Histories.{Kept, Opening, writes_begun, stores, changes_of, begun_by, write_held, finished_of, settles}
+use Rattle.tier_model.specs.Histories.{Kept, Opening, counts, writes_begun, stores, changes_of, begun_by, write_held, finished_of, settles}
 use Rattle.tier_model.specs.Reads.{ReadsRight}
 use Rattle.tier_model.specs.Locks.{LocksRight}
 use Rattle.tier_model.specs.Polls.{PollsRight}
@@ -126,6 +126,6 @@ pub record Headline (start : Opening) (h : History) : Type 0 where
   pub readings : AllByRecursion (λ c. IsRead c.event.action c.reading) h
   pub numbers : AllByRecursion CountsItsWrite h
   pub answers : AreRight start h
-  pub within : AreWithin start.settings.limit start.settings.watermark (changes_of start h)
-  pub tracked : (w : Write Kept) → IsBody w.key w (changes_of start h) → IsTrackedBody w (changes_of start h)
+  pub within : AreWithin counts start.settings.limit start.settings.watermark (changes_of start h)
+  pub tracked : (w : Write Kept) → IsBody w.key w (changes_of start h) → IsTrackedBody counts w (changes_of start h)
   pub evictions : EvictsLawfully start.settings.shards start.settings.limit start.settings.watermark (changes_of start h)

@@ -25,6 +25,10 @@ pub record Kept : Type 0 where
   pub entry : CacheEntryKey
   pub meta : CacheMeta
 
+-- what a body counts for beside its bytes: its meta counts for nothing
+abbrev pub counts : Kept → ℕ
+counts k = 0
+
 -- the body that changes say of a write
 abbrev pub told_of : Changes Kept → Write Kept → Body
 told_of changes w = record { bytes = bytes_of w.number changes; meta = (meta_of w changes).meta }

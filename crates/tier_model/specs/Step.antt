@@ -15,7 +15,8 @@ use Rattle.tier_model.specs.declared.event.TierFault.{TierFault}
 use Rattle.tier_model.specs.declared.event.TierFault.TheVariants.{NumbersSpent, Memory}
 use Rattle.tier_model.specs.Response.{Judged, kept, IsRead}
 use Rattle.tier_model.specs.Calls.{Call, Outcome, nothing_done, judged_of, read_by, finished_by, has_stored, is_begun}
-use Rattle.tier_model.specs.Rows.{weight_for}
+use Rattle.tier_model.specs.Rows.{FinishedBody, weight_for}
+use Rattle.tier_model.specs.declared.whole.Whole.{Whole}
 use Rattle.tier_model.specs.Shelf.{Shelf, Look, finished, look, is_there, readable, past_place}
 use Rattle.tier_model.specs.State.{Reader, streaming, Request, State, shards_of}
 use Rattle.tier_model.specs.Checks.{refusal}
@@ -50,19 +51,32 @@ abbrev pub HasNews : Reader → Shelf → Type 0
 HasNews (streaming n place) shelf = (past_place place (readable n shelf)).0 ≢ []
 HasNews _ shelf = ⊥
 
--- a look-up takes memory only where it finds something, or is due a new permit
+-- a look-up takes memory only where it finds something, before the lock and the order of use are asked, or for a new permit, for which
+-- a number is left
 abbrev pub IsDue : State → MomentValue → Request → Look → Type 0
-IsDue s t q l = (is_there l ≡ true) ⊎ (lock_given t q l s.lock ≡ lock.Write)
+IsDue s t q l = (is_there l ≡ true) ⊎ ((lock_given t q l s.lock ≡ lock.Write) × (s.lock.next ≢ 2 ^ 64 - 1))
 
--- the events for which a growth may be refused, with nothing done
-abbrev pub MayTakeMemory : State → MomentValue → Action → Type 0
-MayTakeMemory s t (Open id key asks) = Unit {0}
-MayTakeMemory s t (LookUp id) = OfRequest s id (λ q. IsDue s t q (look_for q s.shelf))
-MayTakeMemory s t (Begin id head) = Unit {0}
-MayTakeMemory s t (Piece id bytes last) = Unit {0}
-MayTakeMemory s t (Read id) = OfRequest s id (λ q. HasNews q.reader s.shelf)
-MayTakeMemory s t (Put key pieces) = Unit {0}
-MayTakeMemory s t _ = ⊥
+-- a begin takes memory until its head is known, and then only of one that is kept, for a write, for which a number is left
+abbrev pub BeginTakes : State → Option Judged → Type 0
+BeginTakes s None = Unit {0}
+BeginTakes s (Some (kept meta)) = s.shelf.writes ≢ 2 ^ 64 - 1
+BeginTakes s (Some _) = ⊥
+
+-- a put takes memory until its response is known, and then only for a body, where a number is left for its write
+abbrev pub PutTakes : State → Option FinishedBody → Option Whole → Type 0
+PutTakes s b None = Unit {0}
+PutTakes s (Some b) (Some w) = s.shelf.writes ≢ 2 ^ 64 - 1
+PutTakes s None (Some w) = ⊥
+
+-- where a growth may be refused, with nothing done: no refusal that comes before it in the order of work holds
+abbrev pub MayTakeMemory : State → MomentValue → Action → Call → Type 0
+MayTakeMemory s t (Open id key asks) c = Unit {0}
+MayTakeMemory s t (LookUp id) c = OfRequest s id (λ q. IsDue s t q (look_for q s.shelf))
+MayTakeMemory s t (Begin id head) c = BeginTakes s (judged_of c)
+MayTakeMemory s t (Piece id bytes last) c = Unit {0}
+MayTakeMemory s t (Read id) c = OfRequest s id (λ q. HasNews q.reader s.shelf)
+MayTakeMemory s t (Put key pieces) c = PutTakes s (finished_by c) (read_by c)
+MayTakeMemory s t _ c = ⊥
 
 -- why the entry of what a request found isn't used: it isn't tracked, and is kept out
 abbrev pub IsUseFault : State → Request → Look → TierFault → Type 0
@@ -73,7 +87,7 @@ IsUseFault s q _ f = ⊥
 abbrev pub IsLockFault : State → MomentValue → Request → TierFault → Type 0
 IsLockFault s t q f = (f ≡ NumbersSpent nothing_done) × (asks_now t q (look_for q s.shelf) ≡ true) × IsSpent s.lock (to_wait_for (key_for q) s.lock)
 
--- the faults that come after the checks, but for memory
+-- the faults that come after the checks, but for memory that is refused with nothing done
 abbrev pub IsLateFault : State → MomentValue → Action → Call → TierFault → Type 0
 IsLateFault s t (LookUp id) c f = OfRequest s id (λ q. IsUseFault s q (look_for q s.shelf) f ⊎ IsLockFault s t q f)
 IsLateFault s t (Begin id head) c f = IsBeginFault s (judged_of c) f
@@ -82,7 +96,7 @@ IsLateFault s t (Put key pieces) c f = IsPutFault s (finished_by c) (read_by c) 
 IsLateFault s t _ c f = ⊥
 
 abbrev pub IsFault : State → MomentValue → Action → Call → TierFault → Type 0
-IsFault s t action c f = ((f ≡ Memory nothing_done) × MayTakeMemory s t action) ⊎ IsLateFault s t action c f
+IsFault s t action c f = ((f ≡ Memory nothing_done) × MayTakeMemory s t action c) ⊎ IsLateFault s t action c f
 
 -- the first refusal, exactly where one holds, and else an answer of the event's row or a fault after the checks
 abbrev pub AllowsBy : Option TierFault → State → MomentValue → Action → Call → Outcome → Type 0

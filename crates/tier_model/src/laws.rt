@@ -4,7 +4,7 @@ ghost use Rattle.tier_model.specs.declared.event.TierFault.{TierFault};
 ghost use Rattle.cache_lock.specs.Answers.{IsAsBefore};
 ghost use Rattle.cache_lock.specs.Waits as locks;
 ghost use Rattle.tier_model.specs.Headline.{Headline};
-ghost use Rattle.tier_model.specs.Histories.{Opening, changes_of};
+ghost use Rattle.tier_model.specs.Histories.{Opening, counts, changes_of};
 ghost use Rattle.tier_model.specs.Locks.{PermitWaits};
 ghost use Rattle.cache_changes.specs.Changes.{StoredKey};
 ghost use Rattle.cache_changes.specs.Bound.{TracksBodies};
@@ -30,7 +30,7 @@ pub fn lawful_histories_hold_the_headline()
 /// lock is orderly too: permits come from the lock alone, and each is released under its own key or left.
 pub fn lawful_histories_are_orderly()
     ensures orderly { (start : Opening) (h : History) → IsLawful start h → IsOrderly (changes_of start h) }
-    ensures tracks { (start : Opening) (h : History) → IsLawful start h → TracksBodies (changes_of start h) }
+    ensures tracks { (start : Opening) (h : History) → IsLawful start h → TracksBodies counts (changes_of start h) }
     ensures locks { (start : Opening) (h : History) → IsLawful start h → locks.IsOrderly (lock_changes_of start h) }
 {}
 

@@ -192,5 +192,5 @@ lock-refused n weighed t q l m s f asks h = by_fault (to_wait_for (key_for q) s)
     by_fault : (o : Option ℕ) → to_wait_for (key_for q) s ≡ o → (f : LockFault) → IsRefused s o f
         → RunsOut n weighed t q l s (lock_fault_for f) ⊎ (UseRefused n weighed q l m (lock_fault_for f) ⊎ LockRefused n weighed t q l s (lock_fault_for f))
     by_fault o e lock_fault.CoreNumbersSpent h = inr (inr (refl, asks, subst (IsSpent s) (sym e) h))
-    by_fault None e lock_fault.Memory h = inl (refl, inr (ap (λ v. given_if v (to_wait_for (key_for q) s)) asks ∙ ap given_for e))
+    by_fault None e lock_fault.Memory h = inl (refl, inr (ap (λ v. given_if v (to_wait_for (key_for q) s)) asks ∙ ap given_for e, h))
     by_fault (Some k) e lock_fault.Memory h = absurd h

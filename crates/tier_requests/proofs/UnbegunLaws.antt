@@ -100,12 +100,12 @@ module _ (k : StoredKey) (meta : CacheMeta) (f : StoreFault) (h0 h : Held) (belo
 
   -- and else there was no memory
   refused-else : (f ≡ fault.WriteNumbersSpent → ⊥) → IsRefused → BeginsNot (shelf_of h0) out_of_memory (shelf_of h)
-  refused-else other (inl a) = by_spent (are_numbers_spent h0) a
+  refused-else other (inl a) = by_spent (are_numbers_spent h0) refl a
     where
-      by_spent : (t : Bool) → BeginAnswer {H = ℕ} (λ m. m) t k meta h0 (Err f) h → BeginsNot (shelf_of h0) out_of_memory (shelf_of h)
-      by_spent true a = absurd (other (let e = a.0 in cc))
-      by_spent false a = inr (refl, inl (ap shelf_of a.1))
-  refused-else other (inr a) = inr (refl, inr (unspent h0 (begun-in k meta a.miss (are_numbers_spent h0) h0 a.mid a.begun).1, left-again a))
+      by_spent : (t : Bool) → are_numbers_spent h0 ≡ t → BeginAnswer {H = ℕ} (λ m. m) t k meta h0 (Err f) h → BeginsNot (shelf_of h0) out_of_memory (shelf_of h)
+      by_spent true e a = absurd (other (let e = a.0 in cc))
+      by_spent false e a = inr (refl, unspent h0 e, inl (ap shelf_of a.1))
+  refused-else other (inr a) = inr (refl, unspent h0 (begun-in k meta a.miss (are_numbers_spent h0) h0 a.mid a.begun).1, inr (left-again a))
 
 module _ (k : StoredKey) (meta : CacheMeta) (h0 h : Held) (below : IsBelow (shelf_of h0)) where
   pub refused-as : (f : StoreFault) → IsNotBegun readings.reader_of (λ m. m) tagged true (are_numbers_spent h0) k meta f h0 h → BeginsNot (shelf_of h0) (begin_fault_for f) (shelf_of h)

@@ -1,5 +1,5 @@
 -- What a look-up of a request answers, and what it leaves of it and of what it is lent.
-use Rattle.std.specs.Prelude.{◌≡◌, ◌⊎◌, ℕ, Bool, true, length, if◌then◌else◌, None, Ok, Err, MatchOption}
+use Rattle.std.specs.Prelude.{◌≡◌, ◌≢◌, ◌⊎◌, ℕ, ◌-◌, ◌^◌, Bool, true, length, if◌then◌else◌, None, Ok, Err, MatchOption}
 use Rattle.cache_words.specs.Time.{MomentValue}
 use Rattle.cache_entries.specs.Rows.{weight_of}
 use Rattle.cache_evict.specs.Managed.{Managed, rows_of, use_first}
@@ -48,9 +48,10 @@ module _ (n : ℕ) (weighed : ℕ → ℕ) where
   abbrev pub LockRefused : MomentValue → Request → Look → LockState → TierFault → Type 0
   LockRefused t q l s f = (f ≡ NumbersSpent nothing_done) × (asks_now t q l ≡ true) × IsSpent s (to_wait_for (key_for q) s)
 
-  -- memory runs out only where something is found, or a new permit is due
+  -- memory runs out only where something is found, before the lock and the order of use are asked, or a new permit is due, for which a
+  -- number is left
   abbrev pub RunsOut : MomentValue → Request → Look → LockState → TierFault → Type 0
-  RunsOut t q l s f = (f ≡ out_of_memory) × ((is_there l ≡ true) ⊎ (lock_given t q l s ≡ given.Write))
+  RunsOut t q l s f = (f ≡ out_of_memory) × ((is_there l ≡ true) ⊎ ((lock_given t q l s ≡ given.Write) × (s.next ≢ 2 ^ 64 - 1)))
 
   abbrev pub LooksBy : MomentValue → Request → Look → Lent → Outcome → Request → Lent → Type 0
   LooksBy t q l old (Ok a) new left =

@@ -54,11 +54,11 @@ pub record GivesUp (q : Request) (old : Shelf) (s : LockState) (new : Request) (
   pub shelf : left ≡ turned q.reader closed old
   pub lock : s' ≡ after_all (release_of status.GiveUp q q.held s) s
 
--- no number is left, or no memory: then the write may have begun, and been given up
+-- no number is left, or, where one is, no memory: then the write may have begun, and been given up
 abbrev pub BeginsNot : Shelf → TierFault → Shelf → Type 0
 BeginsNot shelf f shelf' =
     ((f ≡ NumbersSpent nothing_done) × (shelf.writes ≡ 2 ^ 64 - 1) × (shelf' ≡ shelf))
-    ⊎ ((f ≡ out_of_memory) × ((shelf' ≡ shelf) ⊎ ((shelf.writes ≢ 2 ^ 64 - 1) × (shelf' ≡ record shelf { writes = shelf.writes + 1 }))))
+    ⊎ ((f ≡ out_of_memory) × (shelf.writes ≢ 2 ^ 64 - 1) × ((shelf' ≡ shelf) ⊎ (shelf' ≡ record shelf { writes = shelf.writes + 1 })))
 
 -- an event of one of the open requests: reported as not open where it isn't, and else the request is put back as the event left it
 abbrev pub OnOpen : ℕ → FinMap nat_cmp Request → Type 0 → (Request → Request → Type 0) → FinMap nat_cmp Request → Type 0

@@ -1,11 +1,12 @@
-// Managers whose hashes have the default start.
+// Managers without entries, whose hashes have the default start or another.
 
 ghost use Rattle.std.specs.Prelude.{◌≡◌, ◌<◌, None, IfOk};
 ghost use Rattle.cache_evict.specs.Managed.{fresh};
 
 use super::Manager;
+use crate::tracker::Tracker;
 use std::alloc::{AllocError, Global};
-use std::hash::{BuildHasherDefault, FoldHasher};
+use std::hash::{BuildHasher, BuildHasherDefault, FoldHasher};
 
 impl<const N: usize> Manager<N, BuildHasherDefault<FoldHasher>> {
     /// Returns N shards without entries, which may weigh `limit` together, in the unit of the sizes, as bytes. Room for `capacity`
@@ -36,5 +37,26 @@ impl<const N: usize> Manager<N, BuildHasherDefault<FoldHasher>> {
         ensures { IfOk result (λ m. m ≡ fresh N limit watermark) }
     {
         Manager::with_hasher(alloc, BuildHasherDefault::new(), limit, capacity, watermark)
+    }
+}
+
+impl<const N: usize, S: BuildHasher + Copy> Manager<N, S> {
+    /// The same, with hashes of that start.
+    ///
+    /// # Errors
+    ///
+    /// Those of `with_capacity`.
+    pub fn with_hasher(
+        alloc: Global,
+        hasher: S,
+        limit: usize,
+        capacity: usize,
+        watermark: Option<usize>,
+    ) -> Result<Self, AllocError>
+        requires { 0 < N }
+        ensures { IfOk result (λ m. m ≡ fresh N limit watermark) }
+    {
+        let tracker = Tracker::new(alloc, hasher, limit, capacity, watermark)?;
+        Ok(Manager { tracker })
     }
 }

@@ -1,9 +1,10 @@
 //! Rows of numbers in a core.
 
 ghost use Rattle.std.specs.Prelude.{◌≡◌, ℕ, ◌%◌, ◌<◌, ◌∷◌, List, [], length, None, IfOk, IfErr, OnOk, OnErr};
+ghost use Rattle.std.specs.Option.{option_map};
 ghost use Rattle.cache_entries.specs.Entry.{owned_of};
 ghost use Rattle.lru_core.specs.declared.rows.Row.{Row};
-ghost use Rattle.lru_core.specs.Rows.{only, others, promoted, raised, a_row};
+ghost use Rattle.lru_core.specs.Rows.{only, others, promoted, reweighed, row_of, raised, a_row};
 ghost use Rattle.lru_core.specs.Cores.{shard_of, with_shard};
 ghost use Rattle.cache_evict.specs.Managed.{added};
 ghost use Rattle.entry_numbers.specs.Names.{name_at, HasNoNumber, with_name, without_name, IsFirstFree};
@@ -116,6 +117,23 @@ pub(super) fn raise_first<const N: usize, S: BuildHasher>(
     match core.increment_weight(number, move || number, delta, cap) {
         Ok(_) => Ok(()),
         Err(fault) => Err(row_refusal(fault)),
+    }
+}
+
+// Gives the row of a number that weight, where it stands. Returns what it weighed.
+pub(super) fn weigh_row<const N: usize, S: BuildHasher>(
+    core: &mut LruCore<u64, N, S>,
+    number: u64,
+    weight: usize,
+) -> Result<Option<usize>, Refusal>
+    ensures before { IfOk result (λ old. old ≡ option_map (λ r. r.weight) (row_of number (shard_of N core.old number))) }
+    ensures ok { OnOk result (core.new ≡ with_shard N core.old number (reweighed number weight (shard_of N core.old number))) }
+    ensures err { OnErr result (core.new ≡ core.old) }
+    ensures why { IfErr result (IsRowRefusal N number weight core.old) }
+{
+    match core.set_weight(number, weight) {
+        Ok(old) => Ok(old),
+        Err(_) => Err(Refusal::Weight),
     }
 }
 

@@ -2,7 +2,7 @@
 ghost use Rattle.std.specs.Prelude.{◌≡◌, OnOk, OnErr, IfOk, IfErr, IfSome, IsSome, Some};
 ghost use Rattle.std.specs.FinMap as finite;
 ghost use Rattle.cache_lock.specs.Changes.{gives, lends, stores, takes_out, spends};
-ghost use Rattle.cache_lock.specs.State.{after, after_all, status_of, without_core};
+ghost use Rattle.cache_lock.specs.State.{after, after_all, is_number, status_of, without_core};
 ghost use Rattle.cache_lock.specs.Answers.{to_wait_for, locked_by, IsRefused, is_lendable, lend_changes, wait_outcome};
 
 use super::CacheLock;
@@ -24,6 +24,16 @@ impl<S: BuildHasher> CacheLock<S> {
         match self.cores.get(number) {
             Some(held) => held.core.status,
             None => LockStatus::Dangling,
+        }
+    }
+
+    // Whether that core is the key's.
+    pub(super) fn is_core_of(&self, key: &HashBinary, number: u64) -> bool
+        ensures { result ≡ is_number number (finite.get self.now.current key.now) }
+    {
+        match self.current.get(key) {
+            Some(current) => current == number,
+            None => false,
         }
     }
 

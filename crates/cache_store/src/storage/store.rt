@@ -1,5 +1,5 @@
 //! What a store does, and the handlers that it gives out.
-ghost use Rattle.std.specs.Prelude.{◌≡◌, ℕ, Bool, List, Option, Some, true, length, option_map, unwrap_or, IfOk, IfErr, IfSome, OnOk, OnErr, MatchResult};
+ghost use Rattle.std.specs.Prelude.{◌≡◌, ℕ, Bool, List, Option, Some, true, length, option_map, unwrap_or, is_none, IfOk, IfErr, IfSome, OnOk, OnErr, MatchResult};
 ghost use Rattle.cache_words.specs.Key.{combined, key_of};
 ghost use Rattle.cache_changes.specs.Changes.{StoredKey};
 ghost use Rattle.cache_changes.specs.Store.{Stored, body_at, flying_at};
@@ -183,7 +183,7 @@ pub trait Storage: Contents {
     ///
     /// # Errors
     ///
-    /// Those of `get_miss_handler`; at `Memory` the write may have used a number. The bodies are as before.
+    /// Those of `get_miss_handler`, in their order; at `Memory` the write may have used a number. The bodies are as before.
     fn store_whole(
         &mut self,
         key: &CacheKey,
@@ -399,6 +399,11 @@ pub trait HandleMiss<S: Contents> {
     /// Returns how many bytes were written; 0 where the store doesn't have the write.
     fn len(&self, store: &S) -> usize
         ensures { result ≡ unwrap_or (option_map (λ f. length f.stored.bytes) (flying_at (number self.now) (S.held store.now).store)) 0 };
+
+    /// Returns whether a removal met the write, or the store doesn't have it, so that `finish` would be refused as `WriteRemoved`. It takes
+    /// no memory.
+    fn is_removed(&self, store: &S) -> bool
+        ensures { result ≡ is_none (alive_key (flying_at (number self.now) (S.held store.now).store)) };
 
     /// Gives the write up.
     fn leave(self, store: &mut S)

@@ -127,7 +127,7 @@ impl<S: BuildHasher> MemCache<S> {
     }
 
     // Returns the key of a write that no removal met.
-    fn key_of(&self, number: u64) -> Option<HashBinary>
+    pub(crate) fn key_of(&self, number: u64) -> Option<HashBinary>
         ensures { result ≡ alive_key (flying_at number self.now.store) }
     {
         let Some(key) = flights::key_of(&self.flights, number) else {

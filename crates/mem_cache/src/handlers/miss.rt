@@ -82,6 +82,10 @@ impl<S: BuildHasher> HandleMiss<MemCache<S>> for MemMissHandler {
         store.written(self.number)
     }
 
+    fn is_removed(&self, store: &MemCache<S>) -> bool {
+        store.key_of(self.number).is_none()
+    }
+
     fn leave(self, store: &mut MemCache<S>) {
         store.leave(self.spend());
     }

@@ -1,7 +1,10 @@
 //! A body is stored, its entry is admitted to the order of use, and what that evicts is purged.
 
-ghost use Rattle.std.specs.Prelude.{◌≡◌};
+ghost use Rattle.std.specs.Prelude.{◌≡◌, IfOk};
 ghost use Rattle.cache_words.specs.Key.{key_of};
+ghost use Rattle.cache_words.specs.CompactKey.{compact_view};
+ghost use Rattle.cache_store.specs.declared.storage.StoreFault.{StoreFault as Fault};
+ghost use Rattle.cache_store.specs.Wholes.{IsWriteFault};
 ghost use Rattle.cache_parts.specs.Admissions.{rules_of, cache_of};
 ghost use Rattle.pingora_cache.specs.Put.{IsOutOfMemory, IsStoreFaultTold, IsPut, fault_of_admission};
 
@@ -10,10 +13,10 @@ use bytes::Bytes;
 use cache_evict::{CacheEntryKey, EvictionManager};
 use cache_heads::CacheMeta;
 use cache_parts::{AdmitFault, Parts, admit};
-use cache_store::storage::{Storage, StoreFault};
-use cache_words::key::CacheKey;
+use cache_store::storage::{HandleMiss, Storage, StoreFault};
+use cache_words::key::{CacheKey, CompactCacheKey};
 use rand_core::Rng;
-use std::alloc::Global;
+use std::alloc::{AllocError, Global};
 
 // Memory ran out before anything was done.
 pub(super) fn out_of_memory(alloc: Global) -> PutFault
@@ -49,6 +52,29 @@ fn told_of_admission(fault: AdmitFault) -> PutFault
     }
 }
 
+// Returns the key of an entry, twice.
+fn copies_of(key: &CacheKey) -> Result<(CompactCacheKey, CompactCacheKey), AllocError>
+    ensures { IfOk result (λ both. (compact_view both.0 ≡ key_of key.now) × (both.1 ≡ both.0)) }
+{
+    let compact = key.to_compact()?;
+    let again = key.to_compact()?;
+    Ok((compact, again))
+}
+
+// Why a body isn't stored for whose entry there is no memory: the store is asked still whether it takes a write of that meta, which
+// then is given up.
+fn unstored<S: Storage>(alloc: Global, store: &mut S, key: &CacheKey, meta: CacheMeta) -> PutFault
+    ensures { (fault : Fault) × IsWriteFault (S.is_spent (S.held store.old)) meta fault (S.held store.old) (S.held store.new) × IsStoreFaultTold fault result }
+{
+    match store.get_miss_handler_owned(key, meta) {
+        Ok(miss) => {
+            miss.leave(store);
+            told_of_store(alloc, StoreFault::Memory)
+        }
+        Err(fault) => told_of_store(alloc, fault),
+    }
+}
+
 // Stores a body under a key, admits its entry, and purges what that evicts.
 pub(super) fn put_body<S: Storage, E: EvictionManager, P, L, A, R: Rng>(
     alloc: Global,
@@ -63,11 +89,8 @@ pub(super) fn put_body<S: Storage, E: EvictionManager, P, L, A, R: Rng>(
         IsPut rules (key_of key.now) meta body result old new }
     ensures parts { parts.new ≡ record parts.old { store = parts.new.store; manager = parts.new.manager } }
 {
-    let Ok(compact) = key.to_compact() else {
-        return Err(out_of_memory(alloc));
-    };
-    let Ok(again) = key.to_compact() else {
-        return Err(out_of_memory(alloc));
+    let Ok((compact, again)) = copies_of(key) else {
+        return Err(unstored(alloc, &mut parts.store, key, meta));
     };
     let size = body.len();
     let fresh_until = meta.fresh_until();

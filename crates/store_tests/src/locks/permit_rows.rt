@@ -142,6 +142,21 @@ pub(super) const OTHERS: &[Step] = &[
     Step::Lock(10, 1, Given::Write(1)),
 ];
 
+/// A permit that is released under another key is dropped, and the permit of that key stays.
+const ANOTHER_KEY: &[Step] = &[
+    Step::Lock(10, 1, Given::Write(0)),
+    Step::Lock(10, 1, Given::Read(0)),
+    Step::Lock(10, 3, Given::Write(1)),
+    Step::Release(3, 0, LockStatus::Done),
+    Step::Status(10, 0, LockStatus::Dangling),
+    Step::Lock(10, 3, Given::Read(1)),
+    Step::Lock(10, 1, Given::Write(2)),
+    Step::Release(1, 2, LockStatus::Done),
+    Step::Lock(10, 1, Given::Write(3)),
+    Step::Release(3, 1, LockStatus::Done),
+    Step::Lock(10, 3, Given::Write(4)),
+];
+
 /// A stub's read lock is counted: handing it back leaves the permit. A stub of no core gives none.
 const STUBS: &[Step] = &[
     Step::Stub(0, false),
@@ -155,4 +170,13 @@ const STUBS: &[Step] = &[
     Step::Stub(0, false),
 ];
 
-pub(super) const ROWS: &[&[Step]] = &[GET_RELEASE, DANGLING, LATE, LATE_DROP, ORDER, OTHERS, STUBS];
+pub(super) const ROWS: &[&[Step]] = &[
+    GET_RELEASE,
+    DANGLING,
+    LATE,
+    LATE_DROP,
+    ORDER,
+    OTHERS,
+    ANOTHER_KEY,
+    STUBS,
+];

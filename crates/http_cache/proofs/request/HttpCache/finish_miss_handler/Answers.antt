@@ -1,7 +1,4 @@
-use Rattle.std.proofs.Common.{ap, sym, subst, ◌∙◌}
-use Rattle.std.specs.Prelude.{Bool}
-use Rattle.cache_store.specs.declared.storage.store.MissFault.TheVariants as miss
-use Rattle.request_store.specs.Finishes.{IsUnstored}
+use Rattle.std.proofs.Common.{ap, sym, ◌∙◌}
 use Rattle.cache_parts.specs.Admissions.{rules_of}
 use Rattle.http_cache.specs.Request.{Request}
 use Rattle.http_cache.proofs.FinishLaws.{out-of-memory}
@@ -14,5 +11,4 @@ returns-in-None-clause-finished g c =
     c.args.parts.now.store c.store_body.new.store (g.E.EvictionManager.managed c.args.parts.now.manager) (g.R.Rng.stream c.args.rng.now)
     (ap (λ (r : Request g.row.S-Hit.Denot g.row.S-Miss.Denot). r.writer) (sym c.self.view_is) ∙ (let taken = c.take.ensures.value in let some = c.in-Some-take.is in cc))
     c.out_of_memory.ensures
-    (subst (λ (b : Bool). IsUnstored g.S.Contents.held g.S.Contents.ids g.S.Miss.HandleMiss.number g.S.Miss.HandleMiss.id g.S.Miss.HandleMiss.tag b c.in-Some-take.writer (miss.Memory c.in-Err-Memory.writer)
-    c.args.parts.now.store c.store_body.new.store) (ap (λ (r : Request g.row.S-Hit.Denot g.row.S-Miss.Denot). r.evicts) c.self.view_is) (rw c.in-Err-Memory.field-0-is at c.in-Err-Memory.ensures))
+    (rw c.in-Err-Memory.field-0-is at c.in-Err-Memory.ensures)
