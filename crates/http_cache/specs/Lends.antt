@@ -8,15 +8,15 @@ use Rattle.cache_store.specs.declared.storage.store.HandleMiss as miss
 use Rattle.http_cache.specs.Request.{Request}
 use Rattle.http_cache.specs.contracts.request.HttpCache.{the_row}
 
-module _ (S H M : RattleType) (st : storage.Ghosts S.Denot H.Denot M.Denot) (c : contents.Ghosts S.Denot) (h : hit.Ghosts H.Denot S.Denot) (m : miss.Ghosts M.Denot S.Denot) (s : MutBor (Request H.Denot M.Denot)) where
+module _ (S H M N : RattleType) (st : storage.Ghosts S.Denot H.Denot M.Denot N.Denot) (c : contents.Ghosts S.Denot) (h : hit.Ghosts H.Denot S.Denot) (m : miss.Ghosts M.Denot S.Denot) (s : MutBor (Request H.Denot M.Denot)) where
   -- once the borrow r ends, the request has the reader last written through r
   abbrev pub lends_hit : MutBor H.Denot → Fml
-  lends_hit r = Lends (the_row S H M st c h m) H s r (λ w. record s.now { reader = Some w })
+  lends_hit r = Lends (the_row S H M N st c h m) H s r (λ w. record s.now { reader = Some w })
 
   -- the same where r is a reference, and at `None` the request stays as it is
   abbrev pub lends_reader : Option (MutBor H.Denot) → Fml
-  lends_reader r = LendsIf (the_row S H M st c h m) H s r (λ w. record s.now { reader = Some w }) s.now
+  lends_reader r = LendsIf (the_row S H M N st c h m) H s r (λ w. record s.now { reader = Some w }) s.now
 
   -- the same of its writer
   abbrev pub lends_writer : Option (MutBor M.Denot) → Fml
-  lends_writer r = LendsIf (the_row S H M st c h m) M s r (λ w. record s.now { writer = Some w }) s.now
+  lends_writer r = LendsIf (the_row S H M N st c h m) M s r (λ w. record s.now { writer = Some w }) s.now
