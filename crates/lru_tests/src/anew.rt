@@ -163,13 +163,7 @@ fn is_done<M: EvictionManager>(
 ) -> bool {
     match step {
         Step::Put(key, size) => {
-            let put = manager.admit(
-                alloc,
-                entry(alloc, key),
-                size,
-                Moment::from_seconds(0),
-                rng,
-            );
+            let put = manager.admit(alloc, entry(alloc, key), size, Moment::from_seconds(0), rng);
             are_evicted(alloc, put, &[])
         }
         Step::Anew(key, size, old) => {
