@@ -14,6 +14,6 @@ mod watermark;
 pub use curve::SizeCurve;
 pub use fault::CurveFault;
 pub use row::Row;
-pub use table::{Table, TableFault};
+pub use table::Table;
 pub use totals::Totals;
 pub use watermark::Watermark;
