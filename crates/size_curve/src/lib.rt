@@ -6,6 +6,7 @@
 
 mod curve;
 mod fault;
+pub mod laws;
 pub mod row;
 mod table;
 mod totals;
