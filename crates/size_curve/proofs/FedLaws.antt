@@ -1,9 +1,7 @@
 -- What a curve shows once it was fed one request more.
-use Rattle.std.proofs.Common.{◌≡◌, ℕ, ◌+◌, ◌-◌, ◌≤◌, ◌<◌, ◌||◌, ltb, eqb, Bool, true, false, cond, List, [], ◌∷◌, ◌++◌, Option, Some, None, refl, ap, ap₂, sym, ◌∙◌, arith, rules, subst, length, get_or, inl, inr, ◌⊎◌}
+use Rattle.std.proofs.Common.{◌≡◌, ℕ, ◌+◌, ◌≤◌, ◌||◌, ltb, eqb, Bool, true, false, cond, List, [], ◌∷◌, Option, Some, None, refl, ap, sym, ◌∙◌, arith}
 use Rattle.std.specs.Prelude.{option_map, not, IfSome}
-use Rattle.std.specs.List.{AllByRecursion}
-use Rattle.std.proofs.lemmas.Bool.{false≢true, eqb-true}
-use Rattle.std.proofs.lemmas.List.{length_push, get_or_push, get_or_append_left}
+use Rattle.std.proofs.lemmas.Bool.{eqb-true}
 use Rattle.cache_entries.specs.declared.entry.CacheEntryKey.{CacheEntryKey}
 use Rattle.cache_entries.specs.Entry.{same_entry}
 use Rattle.entry_loads.specs.Steps.{Step, has_row, held, passes, exceeds}
@@ -12,17 +10,16 @@ use Rattle.entry_loads.specs.Finds.{finds}
 use Rattle.entry_loads.specs.Peaks.{peak, keeps}
 use Rattle.entry_loads.proofs.PeakLaws.{held-keeps}
 use Rattle.load_heights.specs.Cells.{Cell, taken, emptied, height_of, cells_of, one_each, filled as cells_filled}
-use Rattle.load_heights.proofs.Heights.{high-peak}
 use Rattle.load_heights.proofs.Numbers.{high-number}
 use Rattle.trace_heights.specs.declared.place.Place.{Place}
-use Rattle.trace_heights.specs.Places.{height, asked, removed, filled, without}
+use Rattle.trace_heights.specs.Places.{height, asked, removed, filled}
 use Rattle.size_curve.specs.declared.row.Row.{Row}
 use Rattle.size_curve.specs.declared.watermark.Watermark.{Watermark}
-use Rattle.size_curve.specs.Rows.{found_at, found_row}
-use Rattle.size_curve.specs.Requests.{Request, asks, removes, entry_of, steps_of, is_among, AreFirst, AreFound, found_bytes}
-use Rattle.size_curve.specs.Numbers.{numbered, number_in, places_of, AreNumbered, Agrees, mark_of, past, is_past_mark, rows_after}
+use Rattle.size_curve.specs.Rows.{found_at}
+use Rattle.size_curve.specs.Requests.{Request, asks, removes, steps_of, is_among, AreFound, found_bytes}
+use Rattle.size_curve.specs.Numbers.{numbered, number_in, places_of, AreNumbered, mark_of, past, is_past_mark, rows_after}
 use Rattle.size_curve.proofs.TableLaws.{bumped}
-use Rattle.size_curve.proofs.CellPlaces.{IsNumber, HasNumbers, StepsHaveNumbers, numbers-cells, numbers-emptied, places-emptied, places-filled, places-height, same-numbered}
+use Rattle.size_curve.proofs.CellPlaces.{IsNumber, HasNumbers, StepsHaveNumbers, numbers-cells, places-emptied, places-filled, places-height, same-numbered}
 
 -- ---- rows
 
@@ -62,7 +59,7 @@ or-false : (b : Bool) → (b || false) ≡ b
 or-false true = refl
 or-false false = refl
 
-or-true : (b : Bool) → (b || true) ≡ true
+pub or-true : (b : Bool) → (b || true) ≡ true
 or-true true = refl
 or-true false = refl
 

@@ -7,16 +7,17 @@ use Rattle.cache_entries.specs.declared.entry.CacheEntryKey.{CacheEntryKey}
 use Rattle.entry_loads.specs.Steps.{Step}
 use Rattle.entry_loads.specs.Steps as plain
 use Rattle.entry_loads.specs.Peaks.{peak}
-use Rattle.load_heights.specs.Cells.{height_of, cells_of, one_each}
+use Rattle.load_heights.specs.Cells.{cells_of, one_each}
 use Rattle.load_heights.proofs.Heights.{high-peak}
 use Rattle.trace_heights.specs.declared.place.Place.{Place}
 use Rattle.trace_heights.specs.Places.{height, asked, removed}
 use Rattle.size_curve.specs.declared.row.Row.{Row}
 use Rattle.size_curve.specs.declared.curve.SizeCurve.{SizeCurve}
 use Rattle.size_curve.specs.declared.watermark.Watermark.{Watermark}
-use Rattle.size_curve.specs.Requests.{Request, asks, removes, steps_of, is_among, AreFirst, AreFound, odd_in}
-use Rattle.size_curve.specs.Numbers.{numbered, number_in, places_of, AreNumbered, Agrees, mark_of, is_past_mark, rows_after, Shows, IsFed}
+use Rattle.size_curve.specs.Requests.{Request, asks, removes, steps_of, is_among, AreFound}
+use Rattle.size_curve.specs.Numbers.{numbered, places_of, AreNumbered, Agrees, mark_of, is_past_mark, rows_after, Shows, IsFed}
 use Rattle.size_curve.proofs.CellPlaces.{numbers-cells}
+use Rattle.size_curve.proofs.EntryLaws.{entries-next, known-next}
 use Rattle.size_curve.proofs.FedLaws.{rows-asked, height-at, removed-at, asked-at, numbers-steps, numbers-more, not-among, past-at}
 
 -- ---- weights
@@ -52,6 +53,7 @@ marked-next (Some m) new next before after e n s h = subst (λ (o : Option Water
 -- ---- an ask
 
 pub record Asked (c c' : SizeCurve) (entry w own : ℕ) : Type 0 where
+  pub whole : c'.is_broken ≡ c.is_broken
   pub within : entry ≤ length c.weights.items
   pub old : entry < length c.weights.items → c'.weights.items ≡ c.weights.items
   pub new : entry ≡ length c.weights.items → c'.weights.items ≡ c.weights.items ++ w ∷ []
@@ -126,6 +128,9 @@ pub asked-fed : (c c' : SizeCurve) (entry w own : ℕ) → Asked c c' entry w ow
 asked-fed c c' entry w own k requests f =
     let v = weighs c.weights.items c'.weights.items entry w k.within k.old k.new in
     record {
+      whole = k.whole ∙ f.whole;
+      entries = entries-next c.weights.items c'.weights.items entry w requests k.within k.old k.new f.numbers f.known f.entries;
+      known = known-next c.weights.items c'.weights.items entry w requests k.within k.old k.new f.numbers f.known;
       numbers = ((refl, v.below), numbers-more (length c.weights.items) (length c'.weights.items) requests v.longer f.numbers);
       first = λ weight a. v.after weight (f.first weight a.1) (λ q. a.0 (ap (λ (n : ℕ). is_among (numbered n) requests) q ∙ not-among (length c.weights.items) requests f.numbers));
       shown = λ weight a. asked-shows c c' entry w own requests (length c.weights.items) weight k f.numbers (k.own_is ∙ sym (a entry v.below)) (f.shown weight (v.before weight a));
@@ -134,6 +139,7 @@ asked-fed c c' entry w own k requests f =
 -- ---- a removal
 
 pub record Removed (c c' : SizeCurve) (entry : ℕ) : Type 0 where
+  pub whole : c'.is_broken ≡ c.is_broken
   pub within : entry < length c.weights.items
   pub weights : c'.weights.items ≡ c.weights.items
   pub table : c'.table ≡ c.table
@@ -176,6 +182,9 @@ pub removed-fed : (c c' : SizeCurve) (entry : ℕ) → Removed c c' entry → (r
 removed-fed c c' entry k requests f =
     let n = ap (λ (l : List ℕ). length l) k.weights in
     record {
+      whole = k.whole ∙ f.whole;
+      entries = n ∙ f.entries;
+      known = λ m l. f.known m (omega (arith, l, n));
       numbers = ((refl, omega (arith, n, k.within)), numbers-more (length c.weights.items) (length c'.weights.items) requests (omega (arith, n)) f.numbers);
       first = λ weight a. subst (Agrees weight) (sym k.weights) (f.first weight a);
       shown = λ weight a. removed-shows c c' entry requests (length c.weights.items) weight k f.numbers (f.shown weight (subst (Agrees weight) k.weights a));

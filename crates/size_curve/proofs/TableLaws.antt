@@ -1,9 +1,9 @@
 -- Buckets and the rows that they stand for.
-use Rattle.std.proofs.Common.{◌≡◌, ℕ, zero, suc, ◌+◌, ◌≤◌, ◌<◌, ltb, cond, Bool, true, false, List, [], ◌∷◌, map, refl, ap, ap₂, sym, ◌∙◌, arith, drop, take, length, get_or, set}
+use Rattle.std.proofs.Common.{◌≡◌, ℕ, zero, suc, ◌+◌, ◌≤◌, ◌<◌, ltb, cond, Bool, true, false, List, [], ◌∷◌, map, refl, ap, ap₂, sym, ◌∙◌, arith, length, get_or, set}
 use Rattle.std.proofs.lemmas.Bool.{lt-ltb, le-ltb}
 use Rattle.std.proofs.lemmas.List.{length-set, length-map, get_or-map}
 use Rattle.size_curve.specs.declared.row.Row.{Row}
-use Rattle.size_curve.specs.Rows.{running, empty_row, found_row, found_at, limits_of, AreRising, all_finds, all_bytes}
+use Rattle.size_curve.specs.Rows.{running, empty_row, found_row, found_at, limits_of, AreRising, last_finds, last_bytes, all_finds, all_bytes}
 
 abbrev pub bumped : ℕ → Row → Row
 bumped w r = record r { finds = r.finds + 1; bytes = r.bytes + w }
@@ -63,6 +63,15 @@ finds-empty (l ∷ ls) = let h = finds-empty ls in omega (arith, h)
 pub bytes-empty : (ls : List ℕ) → all_bytes (map empty_row ls) ≡ 0
 bytes-empty [] = refl
 bytes-empty (l ∷ ls) = let h = bytes-empty ls in omega (arith, h)
+
+-- the last row has what all buckets have
+last-running : (f b : ℕ) (x : Row) (bs : List Row) → (last_finds (running f b (x ∷ bs)) ≡ f + all_finds (x ∷ bs)) × (last_bytes (running f b (x ∷ bs)) ≡ b + all_bytes (x ∷ bs))
+last-running f b x [] = (omega arith, omega arith)
+last-running f b x (y ∷ bs) = let h = last-running (f + x.finds) (b + x.bytes) y bs in (omega (arith, h.0), omega (arith, h.1))
+
+pub last-is : (bs : List Row) → (last_finds (running 0 0 bs) ≡ all_finds bs) × (last_bytes (running 0 0 bs) ≡ all_bytes bs)
+last-is [] = (refl, refl)
+last-is (x ∷ bs) = let h = last-running 0 0 x bs in (omega (arith, h.0), omega (arith, h.1))
 
 pub finds-bumped : (w : ℕ) (bs : List Row) (i : ℕ) (d : Row) → i < length bs → all_finds (set bs i (bumped w (get_or bs i d))) ≡ all_finds bs + 1
 finds-bumped w [] i d l = absurd (omega (arith, l))

@@ -1,5 +1,5 @@
 -- Entries by number, and their places among the cells of an order of use.
-use Rattle.std.specs.Prelude.{◌≡◌, ℕ, ◌+◌, ◌<◌, nat_lt, Bool, false, if◌then◌else◌, List, [], ◌∷◌, length, slice_index, Option, Some, None, option_map, IfSome}
+use Rattle.std.specs.Prelude.{◌≡◌, ℕ, ◌+◌, ◌<◌, nat_lt, Bool, true, false, if◌then◌else◌, List, [], ◌∷◌, length, slice_index, Option, Some, None, option_map, IfSome}
 use Rattle.std.specs.List.{AllByRecursion}
 use Rattle.cache_entries.specs.declared.entry.CacheEntryKey.{CacheEntryKey}
 use Rattle.cache_entries.specs.declared.entry.CacheEntryKey.TheVariants.{KeyOnly}
@@ -7,7 +7,7 @@ use Rattle.cache_entries.specs.Entry.{key_of}
 use Rattle.load_heights.specs.Cells.{Cell, taken, hole, cells_of, one_each}
 use Rattle.trace_heights.specs.declared.place.Place.{Place}
 use Rattle.trace_heights.specs.Places.{height}
-use Rattle.size_curve.specs.Requests.{Request, entry_of, steps_of, AreFirst, AreFound, asked_in, removed_in, odd_in, bytes_in}
+use Rattle.size_curve.specs.Requests.{Request, entry_of, steps_of, AreFirst, AreFound, is_among, asked_in, entries_in, removed_in, odd_in, bytes_in}
 use Rattle.size_curve.specs.Rows.{found_at}
 use Rattle.size_curve.specs.declared.row.Row.{Row}
 use Rattle.size_curve.specs.declared.curve.SizeCurve.{SizeCurve}
@@ -69,6 +69,9 @@ pub record Shows (weight : CacheEntryKey → ℕ) (c : SizeCurve) (requests : Li
 
 -- the curve was fed these requests
 pub record IsFed (c : SizeCurve) (requests : List Request) : Type 0 where
+  pub whole : c.is_broken ≡ false
+  pub entries : length c.weights.items ≡ entries_in requests
+  pub known : (n : ℕ) → n < length c.weights.items → is_among (numbered n) requests ≡ true
   pub numbers : AreNumbered (length c.weights.items) requests
   pub first : (weight : CacheEntryKey → ℕ) → AreFirst weight requests → Agrees weight c.weights.items
   pub shown : (weight : CacheEntryKey → ℕ) → Agrees weight c.weights.items → Shows weight c requests

@@ -1,5 +1,5 @@
 -- Requests with the weights that they say, and what caches of one list find of them. Lists of requests have the latest first.
-use Rattle.std.specs.Prelude.{◌≡◌, ℕ, ◌+◌, ◌==◌, Bool, false, ◌||◌, not, if◌then◌else◌, List, [], ◌∷◌, Option}
+use Rattle.std.specs.Prelude.{◌≡◌, ℕ, ◌+◌, ◌==◌, Bool, false, ◌||◌, if◌then◌else◌, List, [], ◌∷◌, Option}
 use Rattle.std.specs.List.{AllByRecursion}
 use Rattle.cache_entries.specs.declared.entry.CacheEntryKey.{CacheEntryKey}
 use Rattle.cache_entries.specs.Entry.{same_entry}
@@ -56,6 +56,12 @@ abbrev pub asked_in : List Request → ℕ
 asked_in [] = 0
 asked_in (asks e w ∷ before) = 1 + asked_in before
 asked_in (removes e ∷ before) = asked_in before
+
+-- entries that are asked for
+abbrev pub entries_in : List Request → ℕ
+entries_in [] = 0
+entries_in (asks e w ∷ before) = (if is_among e before then 0 else 1) + entries_in before
+entries_in (removes e ∷ before) = entries_in before
 
 -- requests that remove
 abbrev pub removed_in : List Request → ℕ

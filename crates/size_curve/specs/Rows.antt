@@ -1,5 +1,5 @@
 -- Rows of a curve: what is found under each limit.
-use Rattle.std.specs.Prelude.{◌≡◌, ℕ, ◌+◌, ◌≤◌, ◌<◌, nat_lt, if◌then◌else◌, List, [], ◌∷◌, map, length, slice_index_or}
+use Rattle.std.specs.Prelude.{◌⊎◌, ℕ, ◌+◌, ◌≤◌, ◌<◌, ◌^◌, nat_lt, if◌then◌else◌, List, [], ◌∷◌, map, length, slice_index_or}
 use Rattle.size_curve.specs.declared.row.Row.{Row}
 
 abbrev pub empty_row : ℕ → Row
@@ -14,6 +14,24 @@ found_row height weight r = if nat_lt r.limit height then r else record r { find
 
 abbrev pub found_at : ℕ → ℕ → List Row → List Row
 found_at height weight rows = map (found_row height weight) rows
+
+-- what the last row has found, which has the most; nothing where there is no row
+abbrev pub last_finds : List Row → ℕ
+last_finds [] = 0
+last_finds (r ∷ []) = r.finds
+last_finds (r ∷ s ∷ rows) = last_finds (s ∷ rows)
+
+abbrev pub last_bytes : List Row → ℕ
+last_bytes [] = 0
+last_bytes (r ∷ []) = r.bytes
+last_bytes (r ∷ s ∷ rows) = last_bytes (s ∷ rows)
+
+-- one find more of that weight can be counted
+abbrev pub HasRoom : ℕ → List Row → Type 0
+HasRoom weight rows = (last_finds rows + 1 < 2 ^ 64) × (last_bytes rows + weight < 2 ^ 128)
+
+abbrev pub HasNoRoom : ℕ → List Row → Type 0
+HasNoRoom weight rows = (2 ^ 64 ≤ last_finds rows + 1) ⊎ (2 ^ 128 ≤ last_bytes rows + weight)
 
 -- no limit is greater than a later one
 abbrev pub AreRising : List Row → Type 0

@@ -6,6 +6,7 @@
 
 mod curve;
 mod fault;
+pub mod laws;
 pub mod row;
 mod table;
 mod totals;
@@ -14,6 +15,6 @@ mod watermark;
 pub use curve::SizeCurve;
 pub use fault::CurveFault;
 pub use row::Row;
-pub use table::{Table, TableFault};
+pub use table::Table;
 pub use totals::Totals;
 pub use watermark::Watermark;

@@ -1,26 +1,23 @@
 //! Counts at named limits.
-ghost use Rattle.std.specs.Prelude.{◌≡◌, ℕ, ◌+◌, ◌<◌, ◌≤◌, ◌*◌, ◌^◌, List, length, map, slice_index_or, IfOk, OnOk, OnErr, IsTrue, ◌↔◌};
-ghost use Rattle.size_curve.specs.Rows.{running, empty_row, found_at, limits_of, AreRising, all_finds, all_bytes};
+ghost use Rattle.std.specs.Prelude.{◌≡◌, ℕ, ◌+◌, ◌<◌, ◌≤◌, ◌^◌, true, false, List, length, map, slice_index_or, IfOk};
+ghost use Rattle.size_curve.specs.Rows.{empty_row, found_at, limits_of, HasRoom, HasNoRoom, AreRising};
 
 use crate::row::Row;
 use std::alloc::{AllocError, Global};
 use std::marker::Model;
-
-/// More than 2^64 - 1 finds.
-#[derive(Debug, PartialEq, Eq, Drop)]
-pub struct TableFault;
 
 /// What is found under each limit, as counts go on. A clause sees the rows.
 #[derive(Drop)]
 pub struct Table {
     // What a bucket has is found under its limit and all greater ones.
     buckets: Vec<Row>,
-    // No fewer than the finds.
-    counted: u64,
+    // What all buckets have.
+    finds: u64,
+    bytes: u128,
 }
 
 impl Model for Table {
-    ghost use Rattle.std.specs.Prelude.{List, ◌≤◌, ◌*◌, ◌<◌, ◌^◌};
+    ghost use Rattle.std.specs.Prelude.{◌≡◌, ◌<◌, ◌^◌, List};
     ghost use Rattle.size_curve.specs.declared.row.Row.{Row};
     ghost use Rattle.size_curve.specs.Rows.{running, AreRising, all_finds, all_bytes};
 
@@ -28,7 +25,7 @@ impl Model for Table {
 
     ghost view = { λ t. running 0 0 t.buckets.items };
 
-    ghost invariant = { λ t. AreRising t.buckets.items × (all_finds t.buckets.items ≤ t.counted) × (all_bytes t.buckets.items ≤ t.counted * 2 ^ 64) × (t.counted < 2 ^ 64) };
+    ghost invariant = { λ t. AreRising t.buckets.items × (all_finds t.buckets.items ≡ t.finds) × (all_bytes t.buckets.items ≡ t.bytes) × (t.finds < 2 ^ 64) × (t.bytes < 2 ^ 128) };
 }
 
 impl Table {
@@ -39,29 +36,37 @@ impl Table {
     {
         Ok(Table {
             buckets: empty_buckets(alloc, limits)?,
-            counted: 0,
+            finds: 0,
+            bytes: 0,
         })
     }
 
-    /// Counts a find of an entry of that height and weight.
-    ///
-    /// # Errors
-    ///
-    /// `TableFault` once 2^64 - 1 finds were counted.
-    pub fn count(&mut self, height: u64, weight: u64) -> Result<(), TableFault>
-        ensures ok { OnOk result (self.new ≡ found_at height weight self.old) }
-        ensures limits { limits_of self.new ≡ limits_of self.old }
-        ensures err { OnErr result (self.new ≡ self.old) }
+    /// Whether one find more of that weight can be counted.
+    pub fn has_room(&self, weight: u64) -> bool
+        ensures yes { result ≡ true → HasRoom weight self.now }
+        ensures no { result ≡ false → HasNoRoom weight self.now }
     {
-        if self.counted == u64::MAX {
-            return Err(TableFault);
+        if self.finds == u64::MAX {
+            return false;
         }
-        self.counted += 1;
+        if u128::MAX - u128::from(weight) < self.bytes {
+            return false;
+        }
+        true
+    }
+
+    /// Counts a find of an entry of that height and weight.
+    pub fn count(&mut self, height: u64, weight: u64)
+        requires { HasRoom weight self.old }
+        ensures ok { self.new ≡ found_at height weight self.old }
+        ensures limits { limits_of self.new ≡ limits_of self.old }
+    {
         let at = bucket_of(self.buckets.as_slice(), height);
         if at < self.buckets.len() {
             add_to(&mut self.buckets[at], weight);
+            self.finds += 1;
+            self.bytes += u128::from(weight);
         }
-        Ok(())
     }
 
     /// The rows.

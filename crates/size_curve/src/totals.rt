@@ -1,5 +1,6 @@
 //! How many requests there were.
-ghost use Rattle.std.specs.Prelude.{◌≡◌, ◌+◌, ◌≤◌, ◌*◌, ◌^◌, ◌==◌, if◌then◌else◌, OnOk};
+ghost use Rattle.std.specs.Prelude.{◌≡◌, ◌+◌, ◌-◌, ◌<◌, ◌≤◌, ◌*◌, ◌^◌, ◌==◌, if◌then◌else◌, OnOk, OnErr, IfErr};
+ghost use Rattle.size_curve.specs.declared.fault.CurveFault.TheVariants.{TooMany};
 
 use crate::fault::CurveFault;
 
@@ -18,15 +19,13 @@ pub struct Totals {
 }
 
 // One request more that asks.
-pub(crate) fn add_ask(totals: &mut Totals, own: u64, weight: u64) -> Result<(), CurveFault>
-    ensures asks { OnOk result (totals.new.asks ≡ 1 + totals.old.asks) }
-    ensures removed { OnOk result (totals.new.removed ≡ totals.old.removed) }
-    ensures odd { OnOk result (totals.new.odd ≡ (if weight == own then 0 else 1) + totals.old.odd) }
-    ensures bytes { OnOk result (totals.new.bytes ≡ own + totals.old.bytes) }
+pub(crate) fn add_ask(totals: &mut Totals, own: u64, weight: u64)
+    requires { totals.old.asks < 2 ^ 64 - 1 }
+    ensures asks { totals.new.asks ≡ 1 + totals.old.asks }
+    ensures removed { totals.new.removed ≡ totals.old.removed }
+    ensures odd { totals.new.odd ≡ (if weight == own then 0 else 1) + totals.old.odd }
+    ensures bytes { totals.new.bytes ≡ own + totals.old.bytes }
 {
-    if totals.asks == u64::MAX {
-        return Err(CurveFault::TooMany);
-    }
     let odd = if weight == own { 0 } else { 1 };
     *totals = Totals {
         asks: 1 + totals.asks,
@@ -34,7 +33,6 @@ pub(crate) fn add_ask(totals: &mut Totals, own: u64, weight: u64) -> Result<(), 
         odd: odd + totals.odd,
         bytes: u128::from(own) + totals.bytes,
     };
-    Ok(())
 }
 
 // One request more that removes.
@@ -43,6 +41,9 @@ pub(crate) fn add_removal(totals: &mut Totals) -> Result<(), CurveFault>
     ensures removed { OnOk result (totals.new.removed ≡ 1 + totals.old.removed) }
     ensures odd { OnOk result (totals.new.odd ≡ totals.old.odd) }
     ensures bytes { OnOk result (totals.new.bytes ≡ totals.old.bytes) }
+    ensures err { OnErr result (totals.new ≡ totals.old) }
+    ensures fault { IfErr result (λ fault. (fault ≡ TooMany) × (totals.old.removed ≡ 2 ^ 64 - 1)) }
+    ensures counts { OnOk result (totals.old.removed < 2 ^ 64 - 1) }
 {
     if totals.removed == u64::MAX {
         return Err(CurveFault::TooMany);

@@ -1,11 +1,13 @@
 //! The most entries that a cache tracks.
-ghost use Rattle.std.specs.Prelude.{◌≡◌, [], IfSome, OnOk, None, Some};
+ghost use Rattle.std.specs.Prelude.{◌≡◌, ◌≢◌, [], IfSome, IfErr, IsOk, OnOk, None, Some};
 ghost use Rattle.trace_heights.specs.Places.{asked, removed};
+ghost use Rattle.trace_heights.specs.Slots.{nobody};
+ghost use Rattle.size_curve.specs.Faults.{IsNumberFault, IsMarkFault};
 ghost use Rattle.size_curve.specs.Numbers.{is_past_mark, past, mark_of};
 
 use crate::fault::CurveFault;
 use std::alloc::Global;
-use trace_heights::TraceHeights;
+use trace_heights::{HeightFault, TraceHeights};
 
 /// The most entries that a cache tracks, and the heights by number.
 #[derive(Drop)]
@@ -47,17 +49,32 @@ fn is_past(most: u64, number: Option<u64>) -> bool
     }
 }
 
+// Puts an entry first, by number.
+fn ask_number(alloc: Global, heights: &mut TraceHeights, entry: u32) -> Result<(), CurveFault>
+    requires { entry ≢ nobody }
+    ensures ok { OnOk result (heights.new ≡ asked entry 1 heights.old) }
+    ensures fault { IfErr result (IsNumberFault heights.old entry) }
+{
+    match heights.ask(alloc, entry, 1) {
+        Ok(()) => Ok(()),
+        Err(HeightFault::Memory) => Err(CurveFault::Memory),
+        Err(HeightFault::TooHeavy | HeightFault::TooMany) => Err(CurveFault::TooMany),
+    }
+}
+
 // Puts an entry first among the heights by number.
 pub(crate) fn ask_marked(
     alloc: Global,
     watermark: &mut Option<Watermark>,
     entry: u32,
 ) -> Result<(), CurveFault>
+    requires { entry ≢ nobody }
     ensures none { watermark.old ≡ None → watermark.new ≡ None }
     ensures some { OnOk result (IfSome watermark.old (λ m. watermark.new ≡ Some (record m { heights = asked entry 1 m.heights }))) }
+    ensures fault { IfErr result (IsMarkFault watermark.old entry) }
 {
     if let Some(mark) = watermark {
-        mark.heights.ask(alloc, entry, 1)?;
+        ask_number(alloc, &mut mark.heights, entry)?;
     }
     Ok(())
 }
@@ -70,6 +87,7 @@ pub(crate) fn remove_marked(
 ) -> Result<(), CurveFault>
     ensures none { watermark.old ≡ None → watermark.new ≡ None }
     ensures some { OnOk result (IfSome watermark.old (λ m. watermark.new ≡ Some (record m { heights = removed entry m.heights }))) }
+    ensures done { IsOk result }
 {
     if let Some(mark) = watermark {
         mark.heights.remove(alloc, entry)?;

@@ -1,11 +1,13 @@
 -- New slots are made of old ones.
-use Rattle.std.proofs.Common.{◌≡◌, ◌≢◌, ℕ, zero, suc, ◌+◌, ◌-◌, ◌*◌, ◌≤◌, ◌<◌, eqb, Bool, true, false, cond, List, [], ◌∷◌, ◌++◌, refl, ap, ap₂, sym, ◌∙◌, arith, length, set, subst, sum, drop, replicate, ◌⊎◌, inl, inr}
-use Rattle.std.proofs.lemmas.Bool.{eqb-true, eq-eqb, false≢true}
+use Rattle.std.proofs.Common.{◌≡◌, ◌≢◌, ℕ, zero, suc, ◌+◌, ◌*◌, ◌≤◌, ◌<◌, eqb, Bool, true, false, cond, List, [], ◌∷◌, ◌++◌, refl, ap, ap₂, sym, ◌∙◌, arith, length, set, sum, drop, replicate, ◌⊎◌, inl, inr}
+use Rattle.std.proofs.lemmas.Bool.{eqb-true, eq-eqb}
 use Rattle.std.proofs.lemmas.List.{length-set, length-append, append_assoc, append-nil, get_or_append_left, get_or-append-add, drop_more}
+use Rattle.std.proofs.Math.Seq.{take-length}
 use Rattle.std.proofs.lemmas.List.Sums.{sum_by-append, sum_by-cons}
 use Rattle.trace_heights.specs.declared.place.Place.{Place}
-use Rattle.trace_heights.specs.Slots.{nobody, places_in, gaps_in, IsKept, IsBuilt}
+use Rattle.trace_heights.specs.Slots.{nobody, owned_in, places_in, gaps_in, IsKept, IsBuilt}
 use Rattle.trace_heights.proofs.SlotLaws.{at, size}
+use Rattle.trace_heights.proofs.WeightLaws.{owned-more, owned-same}
 use Rattle.trace_heights.proofs.KeptLaws.{decide, at-same, at-other}
 
 at-replicate : (n x j : ℕ) → j < n → at (replicate n x) j ≡ x
@@ -64,7 +66,7 @@ module _ (os ws : List ℕ) (free q hole entries : ℕ) (os' ws' ss' : List ℕ)
         apart = b.apart;
         places = ap (λ (l : List Place). places_in 0 os' ws' ++ l) (sym p) ∙ b.places;
         lengths = b.lengths;
-        most = omega (arith, b.most);
+        most = let m = owned-same os q lq o in omega (arith, b.most, m);
         least = b.least;
         sums = omega (arith, b.sums, next-sum);
         owned = b.owned;
@@ -174,7 +176,7 @@ module _ (os ws : List ℕ) (free q hole entries : ℕ) (os' ws' ss' : List ℕ)
               ∙ append_assoc (places_in 0 os' ws') (record { holes = hole; entry = at os q; weight = at ws q } ∷ []) (places_in 0 (drop (q + 1) os) (drop (q + 1) ws))
               ∙ ap (λ (l : List Place). places_in 0 os' ws' ++ l) (sym rest) ∙ b.places;
           lengths = omega (arith, lw, len2, b.lengths);
-          most = omega (arith, len2, b.most);
+          most = let m = owned-more os q lq o in omega (arith, len2, b.most, m);
           least = omega (arith, len2, b.least);
           sums = omega (arith, sw, two, b.sums, next-sum);
           owned = owned2;
@@ -197,7 +199,7 @@ nothing-left hole (o ∷ os) [] (suc q) l = no-weights hole (drop q os)
 nothing-left hole (o ∷ os) (w ∷ ws) (suc q) l = nothing-left hole os ws q (omega (arith, l))
 
 -- once all are done
-pub built-all : (os ws : List ℕ) (free hole entries : ℕ) (os' ws' ss' : List ℕ) → IsBuilt os ws free (length os) hole entries os' ws' ss' → free + 2 * length os < 4294967295 → entries ≤ 4294967295
+pub built-all : (os ws : List ℕ) (free hole entries : ℕ) (os' ws' ss' : List ℕ) → IsBuilt os ws free (length os) hole entries os' ws' ss' → free + 2 * owned_in os < 4294967295 → entries ≤ 4294967295
     → IsKept os' ws' (gaps_in os' ws') ss' free × (places_in 0 os' ws' ≡ places_in 0 os ws) × (sum ws' ≤ sum ws)
 built-all os ws free hole entries os' ws' ss' b few fewer = (
   record {
@@ -207,7 +209,7 @@ built-all os ws free hole entries os' ws' ss' b few fewer = (
     placed = b.placed;
     free = b.none;
     within = b.least;
-    few = omega (arith, b.most, few);
+    few = let m = ap owned_in (take-length os) in omega (arith, b.most, few, m);
     fewer = omega (arith, b.entries_are, fewer);
   },
   sym (append-nil (places_in 0 os' ws')) ∙ ap (λ (l : List Place). places_in 0 os' ws' ++ l) (sym (nothing-left hole os ws (length os) (omega arith))) ∙ b.places,

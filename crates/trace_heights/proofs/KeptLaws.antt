@@ -1,11 +1,10 @@
 -- Owners, weights, gaps and slots stay together where an entry leaves, a hole is filled, an entry enters, and slots are added.
-use Rattle.std.proofs.Common.{◌≡◌, ◌≢◌, ℕ, ◌+◌, ◌-◌, ◌≤◌, ◌<◌, eqb, Bool, true, false, List, [], ◌∷◌, ◌++◌, Option, Some, None, refl, ap, ap₂, sym, ◌∙◌, arith, length, set, subst, sum, take, ◌⊎◌, inl, inr, suc}
+use Rattle.std.proofs.Common.{◌≡◌, ◌≢◌, ℕ, ◌+◌, ◌-◌, ◌≤◌, ◌<◌, eqb, Bool, true, false, List, [], ◌∷◌, ◌++◌, Some, None, refl, ap, ap₂, sym, ◌∙◌, arith, length, set, subst, sum, take, ◌⊎◌, inl, inr, suc}
 use Rattle.std.proofs.lemmas.Bool.{eqb-true, eq-eqb, false≢true}
 use Rattle.std.proofs.lemmas.List.{length-set, get_or-set_same, get_or-set_other, length_push, get_or_push, get_or_append_left}
 use Rattle.std.proofs.lemmas.List.Sums.{sum_by-set}
-use Rattle.trace_heights.specs.declared.place.Place.{Place}
 use Rattle.trace_heights.specs.Places.{height, removed, filled}
-use Rattle.trace_heights.specs.Slots.{nobody, places_in, gaps_in, IsKept}
+use Rattle.trace_heights.specs.Slots.{nobody, places_in, IsKept}
 use Rattle.trace_heights.proofs.SlotLaws.{at, size, height-none, height-slot, without-none, without-slot, gaps-left, filled-slot, gaps-filled, gap-at, gap-owned, gaps-length, filled-twice, places-entered, gaps-entered}
 
 pub decide : (p q : ℕ) → (p ≡ q) ⊎ (p ≢ q)
@@ -238,5 +237,5 @@ module _ (os ws gs ss : List ℕ) (next : ℕ) (k : IsKept os ws gs ss next) whe
           let h = k.placed x b (λ z. m (o ∙ z)) in
           (omega (arith, o, h.0), ap (at os) o ∙ h.1)
 
-pub set-less : (xs : List ℕ) (i t : ℕ) → i < length xs → sum (set xs i (at xs i - t)) ≤ sum xs
-set-less xs i t l = let h = sum_by-set size xs i (at xs i - t) 0 l in omega (arith, h)
+pub set-less : (xs : List ℕ) (i t : ℕ) → i < length xs → t ≤ at xs i → sum (set xs i (at xs i - t)) + t ≡ sum xs
+set-less xs i t l m = let s = sum_by-set size xs i (at xs i - t) 0 l in omega (arith, s, m)

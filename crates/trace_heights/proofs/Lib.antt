@@ -1,3 +1,4 @@
 pub mod SlotLaws
 pub mod KeptLaws
 pub mod BuiltLaws
+pub mod WeightLaws

@@ -26,6 +26,11 @@ removed e places = without e 0 places
 abbrev pub asked : ℕ → ℕ → List Place → List Place
 asked e w places = record { holes = 0; entry = e; weight = w } ∷ filled w (removed e places)
 
+-- what the entries weigh
+abbrev pub all_weights : List Place → ℕ
+all_weights [] = 0
+all_weights (p ∷ places) = p.weight + all_weights places
+
 -- what a place weighs with its holes, and all places
 abbrev pub size : Place → ℕ
 size p = p.holes + p.weight

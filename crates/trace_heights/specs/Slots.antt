@@ -1,10 +1,17 @@
 -- Slots: where entries stand, and the places that they stand for. The latest slot is the first.
-use Rattle.std.specs.Prelude.{◌≡◌, ◌≢◌, ℕ, ◌+◌, ◌*◌, ◌==◌, ◌<◌, ◌≤◌, if◌then◌else◌, List, [], ◌∷◌, ◌++◌, length, slice_index, drop, sum}
+use Rattle.std.specs.Prelude.{◌≡◌, ◌≢◌, ℕ, ◌+◌, ◌*◌, ◌==◌, not, Bool, ◌<◌, ◌≤◌, if◌then◌else◌, List, [], ◌∷◌, ◌++◌, length, slice_index, take, drop, sum, count_by}
 use Rattle.trace_heights.specs.declared.place.Place.{Place}
 
 -- nobody stands in a slot; an entry stands nowhere
 abbrev pub nobody : ℕ
 nobody = 4294967295
+
+-- how many slots have an owner
+abbrev pub is_owned : ℕ → Bool
+is_owned o = not (o == nobody)
+
+abbrev pub owned_in : List ℕ → ℕ
+owned_in owners = count_by is_owned owners
 
 -- the places of slots, by their owners and weights, where holes of some weight came before: a slot of nobody's is a hole
 abbrev pub places_in : ℕ → List ℕ → List ℕ → List Place
@@ -36,7 +43,7 @@ pub record IsBuilt (owners weights : List ℕ) (free q hole entries : ℕ) (owne
   pub apart : (os ws : List ℕ) → places_in 0 (owners' ++ os) (weights' ++ ws) ≡ places_in 0 owners' weights' ++ places_in 0 os ws
   pub places : places_in 0 owners' weights' ++ places_in hole (drop q owners) (drop q weights) ≡ places_in 0 owners weights
   pub lengths : length weights' ≡ length owners'
-  pub most : length owners' ≤ free + 2 * q
+  pub most : length owners' ≤ free + 2 * owned_in (take q owners)
   pub least : free ≤ length owners'
   pub sums : sum weights' + (hole + sum (drop q weights)) ≡ sum weights
   pub owned : (j : ℕ) → j < length owners' → slice_index owners' j ≢ nobody → (slice_index owners' j < length slots') × (slice_index slots' (slice_index owners' j) ≡ j)

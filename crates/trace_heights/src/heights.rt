@@ -1,33 +1,16 @@
 //! Places of entries.
-ghost use Rattle.std.specs.Prelude.{◌≡◌, [], OnOk, OnErr};
-ghost use Rattle.trace_heights.specs.Places.{height, asked, removed};
+ghost use Rattle.std.specs.Prelude.{◌≡◌, ◌≢◌, ◌<◌, ◌^◌, true, false, [], length, OnOk, OnErr, IfErr, IsOk};
+ghost use Rattle.trace_heights.specs.Places.{height, asked, removed, all_sizes};
+ghost use Rattle.trace_heights.specs.Slots.{nobody};
+ghost use Rattle.trace_heights.specs.Faults.{IsTooHeavy, IsNoSlot, IsAskFault};
+ghost use Rattle.trace_heights.specs.declared.fault.HeightFault.TheVariants.{Memory};
 
+use crate::fault::HeightFault;
 use crate::renumber::{Renumbered, number_anew};
-use crate::slots::{NOBODY, enter, fill, grow, leave, slot_of};
+use crate::slots::{NOBODY, enter, fill, grow, leave, others, slot_of};
 use block_sums::BlockSums;
-use std::alloc::{AllocError, AllocFailed, Global};
+use std::alloc::Global;
 use std::marker::Model;
-
-/// Why an entry isn't put first.
-#[derive(Debug, PartialEq, Eq, Drop)]
-pub enum HeightFault {
-    /// No memory was left.
-    Memory,
-    /// The weights would add up to 2^64 or more.
-    TooHeavy,
-}
-
-impl From<AllocError> for HeightFault {
-    fn from(_error: AllocError) -> HeightFault {
-        HeightFault::Memory
-    }
-}
-
-impl<T: Drop> From<AllocFailed<T>> for HeightFault {
-    fn from(_error: AllocFailed<T>) -> HeightFault {
-        HeightFault::Memory
-    }
-}
 
 /// Entries in the order of use, with the holes between them. A clause sees their places.
 #[derive(Drop)]
@@ -84,11 +67,20 @@ impl TraceHeights {
     ///
     /// # Errors
     ///
-    /// `Memory` also where there are 2^32 - 1 slots or entries.
+    /// `TooHeavy` where entries and holes would then weigh 2^64 or more, `TooMany` where there is no number for a slot or the entry, and
+    /// `Memory` only where neither holds. Whichever it is, nothing has changed.
     pub fn ask(&mut self, alloc: Global, entry: u32, weight: u64) -> Result<(), HeightFault>
         ensures ok { OnOk result (self.new ≡ asked entry weight self.old) }
+        ensures fits { OnOk result ((all_sizes self.new < 2 ^ 64) × (entry ≢ nobody)) }
         ensures err { OnErr result (self.new ≡ self.old) }
+        ensures fault { IfErr result (IsAskFault entry weight self.old) }
     {
+        if self.is_too_heavy(entry, weight) {
+            return Err(HeightFault::TooHeavy);
+        }
+        if entry == NOBODY {
+            return Err(HeightFault::TooMany);
+        }
         self.make_room(alloc)?;
         self.grow(entry)?;
         self.put_first(entry, weight)
@@ -97,7 +89,7 @@ impl TraceHeights {
     /// Removes an entry.
     pub fn remove(&mut self, _alloc: Global, entry: u32) -> Result<(), HeightFault>
         ensures ok { OnOk result (self.new ≡ removed entry self.old) }
-        ensures err { OnErr result (self.new ≡ self.old) }
+        ensures done { IsOk result }
     {
         leave(
             &mut self.owners,
@@ -110,9 +102,26 @@ impl TraceHeights {
         Ok(())
     }
 
+    // Whether entries and holes weigh 2^64 or more once an entry is asked for.
+    fn is_too_heavy(&self, entry: u32, weight: u64) -> bool
+        ensures yes { result ≡ true → IsTooHeavy entry weight self.now }
+        ensures no { result ≡ false → all_sizes (asked entry weight self.now) < 2 ^ 64 }
+    {
+        let others = others(
+            self.owners.as_slice(),
+            &self.sums,
+            &self.gaps,
+            self.slots.as_slice(),
+            self.next,
+            entry,
+        );
+        u64::MAX - others < weight
+    }
+
     // Sees to it that a slot is free.
     fn make_room(&mut self, alloc: Global) -> Result<(), HeightFault>
-        ensures { self.new ≡ self.old }
+        ensures same { self.new ≡ self.old }
+        ensures fault { IfErr result (IsNoSlot (length self.old)) }
     {
         if self.next > 0 {
             return Ok(());
@@ -122,7 +131,8 @@ impl TraceHeights {
 
     // Numbers the slots anew.
     fn renumber(&mut self, alloc: Global) -> Result<(), HeightFault>
-        ensures { self.new ≡ self.old }
+        ensures same { self.new ≡ self.old }
+        ensures fault { IfErr result (IsNoSlot (length self.old)) }
     {
         let made = number_anew(
             alloc,
@@ -137,9 +147,11 @@ impl TraceHeights {
             slots,
             free,
         } = made;
+        let sums = BlockSums::of(alloc, cells)?;
+        let gaps = BlockSums::of(alloc, gaps)?;
         self.owners = owners;
-        self.sums = BlockSums::of(cells);
-        self.gaps = BlockSums::of(gaps);
+        self.sums = sums;
+        self.gaps = gaps;
         self.slots = slots;
         self.next = free;
         Ok(())
@@ -147,26 +159,25 @@ impl TraceHeights {
 
     // Sees to it that an entry can have a slot.
     fn grow(&mut self, entry: u32) -> Result<(), HeightFault>
-        ensures { self.new ≡ self.old }
+        requires { entry ≢ nobody }
+        ensures same { self.new ≡ self.old }
+        ensures fault { IfErr result (λ fault. fault ≡ Memory) }
     {
-        if entry == NOBODY {
-            return Err(HeightFault::Memory);
-        }
         grow(&mut self.slots, entry)?;
         Ok(())
     }
 
     // Puts an entry first, where a slot is free.
     fn put_first(&mut self, entry: u32, weight: u64) -> Result<(), HeightFault>
+        requires { all_sizes (asked entry weight self.old) < 2 ^ 64 }
         ensures ok { OnOk result (self.new ≡ asked entry weight self.old) }
         ensures err { OnErr result (self.new ≡ self.old) }
+        ensures fault { IfErr result (λ fault. fault ≡ Memory) }
     {
         if self.next == 0 || entry as usize >= self.slots.len() {
             return Err(HeightFault::Memory);
         }
-        if self.sums.total().checked_add(weight).is_none() {
-            return Err(HeightFault::TooHeavy);
-        }
+        let _total = self.sums.total();
         leave(
             &mut self.owners,
             &self.sums,

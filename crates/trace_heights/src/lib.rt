@@ -8,9 +8,11 @@
 //! none is free the slots are numbered anew, so memory goes with the entries.
 #![tactic(auto)]
 
+mod fault;
 mod heights;
 pub mod place;
 mod renumber;
 mod slots;
 
-pub use heights::{HeightFault, TraceHeights};
+pub use fault::HeightFault;
+pub use heights::TraceHeights;

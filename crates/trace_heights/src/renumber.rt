@@ -1,8 +1,9 @@
 //! Numbering the slots anew.
-ghost use Rattle.std.specs.Prelude.{◌≡◌, ◌≢◌, ◌==◌, if◌then◌else◌, ℕ, ◌+◌, ◌*◌, ◌<◌, ◌≤◌, ◌^◌, ◌++◌, ◌∷◌, [], List, length, sum, replicate, slice_set, IfOk, OnOk};
-ghost use Rattle.trace_heights.specs.Slots.{nobody, places_in, gaps_in, IsKept, IsBuilt};
+ghost use Rattle.std.specs.Prelude.{◌≡◌, ◌≢◌, ◌==◌, if◌then◌else◌, ℕ, ◌+◌, ◌*◌, ◌<◌, ◌≤◌, ◌^◌, ◌++◌, ◌∷◌, [], List, length, sum, replicate, slice_set, IfOk, IfErr, OnOk};
+ghost use Rattle.trace_heights.specs.Faults.{IsNoSlot};
+ghost use Rattle.trace_heights.specs.Slots.{nobody, is_owned, owned_in, places_in, gaps_in, IsKept, IsBuilt};
 
-use crate::heights::HeightFault;
+use crate::fault::HeightFault;
 use crate::slots::NOBODY;
 use block_sums::BlockSums;
 use std::alloc::{AllocError, Global};
@@ -17,15 +18,22 @@ pub(crate) struct Renumbered {
     pub(crate) free: usize,
 }
 
+// A slot that has an owner counts as one.
+fn counted(owner: u32) -> usize
+    ensures value { result ≡ (if is_owned owner then 1 else 0) }
+    ensures most { result ≤ 1 }
+{
+    if owner == NOBODY { 0 } else { 1 }
+}
+
 // How many slots have an owner.
 fn in_use(owners: &[u32]) -> usize
-    ensures { result ≤ length owners.now }
+    ensures { result ≡ owned_in owners.now }
 {
     let mut count = 0;
     for owner in owners {
-        if *owner != NOBODY {
-            count += 1;
-        }
+        let one = counted(*owner);
+        count += one;
     }
     count
 }
@@ -91,7 +99,7 @@ fn add(built: &mut Built, hole: u64, owner: u32, weight: u64) -> Result<(), Allo
 
 // A slot, and the hole that is to come then.
 fn step(built: &mut Built, hole: u64, owner: u32, weight: u64) -> Result<u64, AllocError>
-    requires few { length built.old.owners.items + 1 < 4294967295 }
+    requires few { owner ≢ nobody → length built.old.owners.items + 1 < 4294967295 }
     requires within { owner ≢ nobody → owner < length built.old.slots.items }
     requires fits { hole + weight < 2 ^ 64 }
     ensures hole { owner ≡ nobody → IfOk result (λ after. after ≡ hole + weight) }
@@ -118,7 +126,7 @@ fn compacted(
     free: usize,
 ) -> Result<Built, AllocError>
     requires kept { (gaps : List ℕ) × (slots : List ℕ) × (next : ℕ) × IsKept owners.now sums.now gaps slots next × (length slots ≡ entries) }
-    requires few { free + 2 * length owners.now < 4294967295 }
+    requires few { free + 2 * owned_in owners.now < 4294967295 }
     ensures { IfOk result (λ b. (hole : ℕ) × IsBuilt owners.now sums.now free (length owners.now) hole entries b.owners.items b.cells.items b.slots.items) }
 {
     let _total = sums.total();
@@ -142,12 +150,14 @@ pub(crate) fn number_anew(
     requires { (gaps : List ℕ) × (next : ℕ) × IsKept owners.now sums.now gaps slots.now next }
     ensures kept { IfOk result (λ r. IsKept r.owners.items r.cells.items r.gaps.items r.slots.items r.free) }
     ensures places { IfOk result (λ r. places_in 0 r.owners.items r.cells.items ≡ places_in 0 owners.now sums.now) }
+    ensures fault { IfErr result (IsNoSlot (length (places_in 0 owners.now sums.now))) }
     ensures sums { IfOk result (λ r. (sum r.cells.items < 2 ^ 64) × (sum r.gaps.items < 2 ^ 64)) }
 {
     let _total = sums.total();
-    let free = 2 * in_use(owners) + 64;
-    if free + 2 * owners.len() >= NOBODY as usize {
-        return Err(HeightFault::Memory);
+    let used = in_use(owners);
+    let free = 2 * used + 64;
+    if free + 2 * used >= NOBODY as usize {
+        return Err(HeightFault::TooMany);
     }
     let entries = slots.len();
     let built = compacted(alloc, owners, sums, entries, free)?;

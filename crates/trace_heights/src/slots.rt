@@ -1,6 +1,6 @@
 //! Slots of entries, in the order of use: the latest is the first.
 ghost use Rattle.std.specs.Prelude.{◌≡◌, ◌≢◌, ℕ, ◌+◌, ◌-◌, ◌<◌, ◌≤◌, ◌^◌, ◌∷◌, List, length, sum, slice_index, IfSome, None};
-ghost use Rattle.trace_heights.specs.Places.{filled, removed};
+ghost use Rattle.trace_heights.specs.Places.{filled, removed, all_weights, all_sizes};
 ghost use Rattle.trace_heights.specs.Slots.{nobody, places_in, IsKept};
 
 use block_sums::BlockSums;
@@ -60,6 +60,26 @@ pub(crate) fn leave(
     slots[entry as usize] = NOBODY;
 }
 
+// What the entries weigh but for one.
+pub(crate) fn others(
+    owners: &[u32],
+    sums: &BlockSums,
+    gaps: &BlockSums,
+    slots: &[u32],
+    next: usize,
+    entry: u32,
+) -> u64
+    requires { IsKept owners.now sums.now gaps.now slots.now next }
+    ensures weights { result ≡ all_weights (removed entry (places_in 0 owners.now sums.now)) }
+    ensures sizes { all_sizes (removed entry (places_in 0 owners.now sums.now)) < 2 ^ 64 }
+{
+    let all = sums.total() - gaps.total();
+    match slot_of(slots, entry) {
+        None => all,
+        Some(slot) => all - sums.get(slot),
+    }
+}
+
 // Takes a weight from the holes, the latest first, as far as there are any.
 pub(crate) fn fill(
     owners: &[u32],
@@ -72,7 +92,7 @@ pub(crate) fn fill(
     requires { IsKept owners.now sums.old gaps.old slots.now next }
     ensures kept { IsKept owners.now sums.new gaps.new slots.now next }
     ensures places { places_in 0 owners.now sums.new ≡ filled weight (places_in 0 owners.now sums.old) }
-    ensures less { sum sums.new ≤ sum sums.old }
+    ensures spent { 0 < sum gaps.new → sum sums.new + weight ≡ sum sums.old }
 {
     let mut left = weight;
     while left > 0 {

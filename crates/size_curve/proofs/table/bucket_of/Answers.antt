@@ -1,4 +1,4 @@
-use Rattle.std.proofs.Common.{◌≡◌, ℕ, ◌+◌, ◌-◌, ◌/◌, ◌≤◌, ◌<◌, length, get_or, arith, ap}
+use Rattle.std.proofs.Common.{◌+◌, ◌-◌, ◌/◌, ◌≤◌, ◌<◌, length, arith, ap}
 use Rattle.size_curve.specs.declared.row.Row.{Row}
 use Rattle.std.proofs.lemmas.List.{get_or_default}
 use Rattle.size_curve.proofs.table.bucket_of.Goals as goal

@@ -1,4 +1,4 @@
-use Rattle.std.proofs.Common.{◌≡◌, ℕ, ◌-◌, ◌≤◌, ◌<◌, length, slice_index_or}
+use Rattle.std.proofs.Common.{ℕ, ◌-◌, ◌≤◌, ◌<◌, length, slice_index_or}
 use Rattle.size_curve.specs.declared.row.Row.{Row}
 use Rattle.size_curve.proofs.table.bucket_of.Given as goal
 

@@ -1,6 +1,7 @@
-use Rattle.std.proofs.Common.{refl, ◌≡◌, ◌≢◌, ◌+◌, ◌<◌, ◌∙◌, ℕ, List, ap, arith, rules, sym, subst, set, length, ◌++◌, ◌∷◌, [], inl, inr, ◌⊎◌, drop, sum}
-use Rattle.trace_heights.specs.Slots.{nobody, IsBuilt}
+use Rattle.std.proofs.Common.{refl, ◌≡◌, ◌+◌, ◌<◌, arith, length, inl, inr}
+use Rattle.trace_heights.specs.Slots.{nobody}
 use Rattle.trace_heights.proofs.SlotLaws.{at}
+use Rattle.trace_heights.proofs.WeightLaws.{owned-more, owned-le}
 use Rattle.trace_heights.proofs.KeptLaws.{decide, one-slot}
 use Rattle.trace_heights.proofs.BuiltLaws.{built-begin, built-hole, built-entry, next-sum}
 use Rattle.trace_heights.proofs.renumber.compacted.Goals as goal
@@ -11,7 +12,10 @@ loop-at-init c =
     rw (e.0, e.1, e.2) (built-begin c.args.owners.now c.args.sums.now c.args.free c.args.entries)
 
 pub step-requires-clause-few : goal.step-requires-clause-few
-step-requires-clause-few c = omega (arith, c.loop-at.invariant.most, c.requires.few, c.loop-at-test.true)
+step-requires-clause-few c = λ n.
+    let a = owned-more c.args.owners.now c.loop-at.at c.loop-at-test.true n in
+    let b = owned-le c.args.owners.now (c.loop-at.at + 1) in
+    omega (arith, a, b, c.loop-at.invariant.most, c.requires.few)
 
 pub step-requires-clause-within : goal.step-requires-clause-within
 step-requires-clause-within c = λ n.

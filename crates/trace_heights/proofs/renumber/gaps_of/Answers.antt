@@ -1,4 +1,4 @@
-use Rattle.std.proofs.Common.{◌≡◌, ◌∙◌, ap, arith}
+use Rattle.std.proofs.Common.{◌∙◌}
 use Rattle.trace_heights.proofs.BuiltLaws.{gaps-more}
 use Rattle.trace_heights.proofs.renumber.gaps_of.Goals as goal
 

@@ -1,4 +1,3 @@
-use Rattle.std.proofs.Common.{◌≡◌, rules}
 use Rattle.trace_heights.proofs.KeptLaws.{kept-entered, entered}
 use Rattle.trace_heights.proofs.slots.enter.Goals as goal
 

@@ -1,4 +1,4 @@
-use Rattle.std.proofs.Common.{◌≡◌, ◌≤◌, ◌-◌, ℕ, List, arith, rules, sym, ap, ◌∙◌, length, sum, subst, min}
+use Rattle.std.proofs.Common.{◌≡◌, ◌≤◌, ℕ, List, arith, rules, sym, ap, ◌∙◌, sum, subst}
 use Rattle.trace_heights.specs.Places.{filled}
 use Rattle.trace_heights.specs.Slots.{places_in}
 use Rattle.trace_heights.proofs.SlotLaws.{at, filled-none, filled-empty}
@@ -33,11 +33,12 @@ loop-left-preserved c =
     let two : t ≤ c.loop-left.left = omega (arith, c.get.ensures, c.min-taken.ensures) in
     let kept = kept-filled c.args.owners.now c.loop-left.sums c.loop-left.gaps c.args.slots.now c.args.next i.kept h t l c.in-Some.ensures.2 in
     let places = places-filled c.args.owners.now c.loop-left.sums c.loop-left.gaps c.args.slots.now c.args.next i.kept h t c.loop-left.left l c.in-Some.ensures.1 c.in-Some.ensures.2 one two in
-    let less = set-less c.loop-left.sums h t (omega (arith, l, i.kept.lengths)) in
+    let w = hole-weighs c.args.owners.now c.loop-left.sums c.loop-left.gaps c.args.slots.now c.args.next i.kept h l c.in-Some.ensures.2 in
+    let less = set-less c.loop-left.sums h t (omega (arith, l, i.kept.lengths)) (omega (arith, one, w.0)) in
     record {
       kept = rw (c.take-in-loop-left.ensures, c.take.ensures) kept;
       places = rw c.take-in-loop-left.ensures (places ∙ i.places);
-      less = rw c.take-in-loop-left.ensures (omega (arith, less, i.less));
+      spent = rw c.take-in-loop-left.ensures (omega (arith, less, i.spent, two));
     }
 
 pub returns-clause-places : goal.returns-clause-places

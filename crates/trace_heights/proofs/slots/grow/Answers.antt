@@ -1,5 +1,4 @@
-use Rattle.std.proofs.Common.{◌≡◌, ◌<◌, rules, arith, length, subst, sym, List, ℕ}
-use Rattle.trace_heights.specs.Slots.{IsKept}
+use Rattle.std.proofs.Common.{◌<◌, rules, length}
 use Rattle.trace_heights.proofs.KeptLaws.{kept-grown}
 use Rattle.trace_heights.proofs.slots.grow.Goals as goal
 

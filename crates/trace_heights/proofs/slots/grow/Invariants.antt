@@ -1,4 +1,4 @@
-use Rattle.std.proofs.Common.{◌≡◌, ◌<◌, ◌≤◌, ◌+◌, ◌-◌, ℕ, List, length, vec_len}
+use Rattle.std.proofs.Common.{◌+◌, ◌-◌, ℕ, List, length}
 use Rattle.trace_heights.specs.Slots.{IsKept}
 use Rattle.trace_heights.proofs.slots.grow.Given as goal
 

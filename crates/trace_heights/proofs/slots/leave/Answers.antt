@@ -1,5 +1,4 @@
-use Rattle.std.proofs.Common.{◌≡◌, ◌+◌, ◌<◌, ℕ, arith, rules, sym, ap, ◌∙◌, length, sum}
-use Rattle.trace_heights.proofs.SlotLaws.{at}
+use Rattle.std.proofs.Common.{arith, sym, ◌∙◌}
 use Rattle.trace_heights.proofs.KeptLaws.{kept-left, removed-there, removed-gone, stands, gaps-within, gap-room, not-owner}
 use Rattle.trace_heights.proofs.slots.leave.Goals as goal
 

@@ -1,7 +1,4 @@
-use Rattle.std.proofs.Common.{◌≡◌, ℕ, ◌∷◌, [], List, map, Option, Some, None, arith, sym, ap, length, ◌∙◌, refl, subst}
-use Rattle.std.specs.Prelude.{IfSome}
-use Rattle.size_curve.specs.declared.row.Row.{Row}
-use Rattle.size_curve.specs.declared.watermark.Watermark.{Watermark}
+use Rattle.std.proofs.Common.{ℕ, ◌∷◌, [], List, map, Option, arith, sym, ap, length, refl, subst}
 use Rattle.size_curve.specs.Rows.{empty_row}
 use Rattle.size_curve.specs.Requests.{AreFound}
 use Rattle.size_curve.specs.Numbers.{mark_of}
@@ -14,6 +11,9 @@ nothing weight mark (l ∷ limits) = ((refl, refl), nothing weight mark limits)
 
 pub returns-clause-fed : goal.returns-clause-fed
 returns-clause-fed c = record {
+  whole = refl;
+  entries = ap (λ (xs : List ℕ). length xs) c.new-3.ensures.items;
+  known = λ n l. absurd (omega (arith, l, ap (λ (xs : List ℕ). length xs) c.new-3.ensures.items));
   numbers = tt;
   first = λ weight a n l. absurd (omega (arith, l, ap (λ (xs : List ℕ). length xs) c.new-3.ensures.items));
   shown = λ weight a. record {

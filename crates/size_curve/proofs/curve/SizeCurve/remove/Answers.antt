@@ -1,9 +1,10 @@
 use Rattle.std.proofs.Common.{refl}
-use Rattle.size_curve.proofs.Feeding.{removed-fed, Removed}
+use Rattle.size_curve.proofs.Feeding.{removed-fed}
 use Rattle.size_curve.proofs.curve.SizeCurve.remove.Goals as goal
 
 pub returns-clause-fed : goal.returns-clause-fed
 returns-clause-fed c = removed-fed _ _ _ (record {
+  whole = refl;
   within = c.requires;
   weights = refl;
   table = refl;

@@ -1,7 +1,7 @@
-use Rattle.std.proofs.Common.{◌≡◌, ℕ, ◌+◌, ◌<◌, ◌≤◌, ◌*◌, ◌^◌, length, get_or, set, arith, rules, ap, sym, ◌∙◌}
+use Rattle.std.proofs.Common.{◌≡◌, ◌<◌, ◌≤◌, length, get_or, arith, rules, ap, ◌∙◌}
 use Rattle.size_curve.specs.declared.row.Row.{Row}
-use Rattle.size_curve.specs.Rows.{running, found_at, limits_of, AreRising, all_finds, all_bytes}
-use Rattle.size_curve.proofs.TableLaws.{bumped, running-bumped, running-same, finds-bumped, bytes-bumped, one-finds, one-bytes, rising-bumped, limits-found}
+use Rattle.size_curve.specs.Rows.{limits_of, last_finds, last_bytes}
+use Rattle.size_curve.proofs.TableLaws.{bumped, last-is, running-bumped, running-same, finds-bumped, bytes-bumped, one-finds, one-bytes, rising-bumped, limits-found}
 use Rattle.size_curve.proofs.table.Table.count.Goals as goal
 
 pub add_to-requires-clause-finds : goal.add_to-requires-clause-finds
@@ -12,7 +12,10 @@ add_to-requires-clause-finds c =
     let l : i < length bs = search rules in
     let one = one-finds bs i d l in
     let e = ap (λ (r : Row). r.finds) c.index_mut.ensures.value in
-    omega (arith, one, e, c.self.invariant.1, c.self.invariant.3, c.if-self.false)
+    let last = last-is bs in
+    let seen = ap last_finds c.self.view_is in
+    let heard = ap last_bytes c.self.view_is in
+    omega (arith, one, e, last.0, seen, c.requires.0)
 
 pub add_to-requires-clause-bytes : goal.add_to-requires-clause-bytes
 add_to-requires-clause-bytes c =
@@ -22,7 +25,24 @@ add_to-requires-clause-bytes c =
     let l : i < length bs = search rules in
     let one = one-bytes bs i d l in
     let e = ap (λ (r : Row). r.bytes) c.index_mut.ensures.value in
-    omega (arith, one, e, c.self.invariant.2, c.self.invariant.3, c.if-self.false, c.ranges.weight)
+    let last = last-is bs in
+    let seen = ap last_finds c.self.view_is in
+    let heard = ap last_bytes c.self.view_is in
+    omega (arith, one, e, last.1, heard, c.requires.1)
+
+pub overflow_add-self : goal.overflow_add-self
+overflow_add-self c =
+    let last = last-is c.self.inside.buckets.items in
+    let seen = ap last_finds c.self.view_is in
+    let heard = ap last_bytes c.self.view_is in
+    omega (arith, last.0, seen, c.requires.0, c.self.invariant.1)
+
+pub overflow_add-self-then-at-len : goal.overflow_add-self-then-at-len
+overflow_add-self-then-at-len c =
+    let last = last-is c.self.inside.buckets.items in
+    let seen = ap last_finds c.self.view_is in
+    let heard = ap last_bytes c.self.view_is in
+    omega (arith, last.1, heard, c.requires.1, c.self.invariant.2, c.from.ensures)
 
 pub invariant_of-self : goal.invariant_of-self
 invariant_of-self c =
@@ -34,7 +54,16 @@ invariant_of-self c =
     let f = finds-bumped c.args.weight bs i d l in
     let b = bytes-bumped c.args.weight bs i d l in
     let v = c.self.invariant in
-    rw e (rising-bumped c.args.weight bs i d l v.0, omega (arith, f, v.1), omega (arith, b, v.2, c.ranges.weight), omega (arith, v.3, c.if-self.false))
+    let last = last-is bs in
+    let seen = ap last_finds c.self.view_is in
+    let heard = ap last_bytes c.self.view_is in
+    rw e (
+      rising-bumped c.args.weight bs i d l v.0,
+      omega (arith, f, v.1),
+      omega (arith, b, v.2, c.from.ensures),
+      omega (arith, last.0, seen, c.requires.0, v.1),
+      omega (arith, last.1, heard, c.requires.1, v.2, c.from.ensures),
+    )
 
 pub returns-then-at-len-clause-ok : goal.returns-then-at-len-clause-ok
 returns-then-at-len-clause-ok c =

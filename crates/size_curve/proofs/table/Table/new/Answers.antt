@@ -1,5 +1,4 @@
-use Rattle.std.proofs.Common.{◌≡◌, map, arith, rules, ◌∙◌, sym, ap}
-use Rattle.size_curve.specs.Rows.{running, empty_row, all_finds, all_bytes}
+use Rattle.std.proofs.Common.{arith}
 use Rattle.size_curve.proofs.TableLaws.{running-empty, finds-empty, bytes-empty, rising-empty}
 use Rattle.size_curve.proofs.table.Table.new.Goals as goal
 
@@ -8,7 +7,7 @@ invariant_of-result c =
     let ls = c.args.limits.now in
     let f = finds-empty ls in
     let b = bytes-empty ls in
-    rw c.in_ok-empty_buckets.ensures (rising-empty ls c.requires, omega (arith, f), omega (arith, b), omega arith)
+    rw c.in_ok-empty_buckets.ensures (rising-empty ls c.requires, f, b, omega arith, omega arith)
 
 pub returns : goal.returns
 returns c = rw c.in_ok-empty_buckets.ensures (running-empty c.args.limits.now)

@@ -1,4 +1,4 @@
-use Rattle.std.proofs.Common.{◌≡◌, ◌+◌, suc, Some, ◌∙◌, sym, ap, ℕ, List, sum, take, arith}
+use Rattle.std.proofs.Common.{◌≡◌, ◌+◌, suc, Some, ◌∙◌, sym, ap, ℕ, sum, take, arith}
 use Rattle.trace_heights.proofs.KeptLaws.{height-there, height-gone, stands}
 use Rattle.trace_heights.proofs.heights.TraceHeights.height.Goals as goal
 
