@@ -2,4 +2,5 @@ pub mod Numbering
 pub mod Renaming
 pub mod KeyedLaws
 pub mod LineLaws
+pub mod UnitLaws
 pub mod Halfway

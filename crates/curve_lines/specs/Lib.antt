@@ -1,3 +1,4 @@
+pub mod Formats
 pub mod Keys
 pub mod Lines
 pub mod Runs

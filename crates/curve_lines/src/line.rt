@@ -89,7 +89,7 @@ pub(crate) fn number(word: &[u8]) -> Option<u64>
 }
 
 // What an entry of so many bytes weighs.
-fn weighed(overhead: u64, bytes: Option<u64>) -> Size
+pub(crate) fn weighed(overhead: u64, bytes: Option<u64>) -> Size
     ensures { result ≡ weighed overhead bytes }
 {
     let Some(bytes) = bytes else {
@@ -111,7 +111,12 @@ fn size_of(overhead: u64, word: &[u8]) -> Size
 }
 
 // Feeds a request of that key and size, and returns whether it is one.
-fn add(curve: &mut KeyedCurve, alloc: Global, key: &[u8], size: Size) -> Result<bool, CurveFault>
+pub(crate) fn add(
+    curve: &mut KeyedCurve,
+    alloc: Global,
+    key: &[u8],
+    size: Size,
+) -> Result<bool, CurveFault>
     requires { (requests : List Request) × IsFedKeys curve.old requests }
     ensures fed { OnOk result ((requests : List Request) → IsFedKeys curve.old requests → IsFedKeys curve.new (onto (request_for key.now size) requests)) }
     ensures told { IfOk result (λ yes. yes ≡ is_some (request_for key.now size)) }

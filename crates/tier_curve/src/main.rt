@@ -1,4 +1,4 @@
-//! Reads requests on standard input, a line each, and writes what caches of all named limits find of them.
+//! Reads requests on standard input, a line or record each, and writes what caches of all named limits find of them.
 #![tactic(auto)]
 
 mod options;
@@ -50,7 +50,7 @@ fn run_with<R: Input + Print + AllocGlobal + RandomSource>(
         &mut reader,
         limits,
         options.watermark,
-        options.overhead,
+        options.rules,
     )?;
     report(alloc, &mut io::writer(rt), &found)
 }

@@ -1,13 +1,13 @@
 //! The options of the command line.
 use clap::{Arg, ArgMatches, Command};
-use curve_lines::{RunFault, is_rising, size};
+use curve_lines::{Format, Rules, RunFault, is_rising, size};
 use std::alloc::{AllocError, AllocFailed, Global};
 use std::rt::Env;
 use std::{env, io};
 use thiserror::Error;
 
 const ABOUT: &str =
-    "Reads requests on standard input, a line each: a time, a key, and the bytes of its body, or a dash where the key is removed. Writes how many requests caches of each limit find, and how many bytes, as CSV.";
+    "Reads requests on standard input, by default a line each: a time, a key, and the bytes of its body, or a dash where the key is removed. Writes how many requests caches of each limit find, and how many bytes, as CSV.";
 
 const STATUSES: &str =
     "Exit status: 0; 1 on an I/O error or out of memory; 2 on a bad command line.";
@@ -19,8 +19,8 @@ pub struct Options {
     pub limits: Vec<u64>,
     /// The most entries that a cache tracks, if their number has a bound.
     pub watermark: Option<u64>,
-    /// What each entry takes beside its body.
-    pub overhead: u64,
+    /// How the requests are read.
+    pub rules: Rules,
 }
 
 /// Why the program ended early.
@@ -80,13 +80,16 @@ fn command<'a>(alloc: Global) -> Result<Command<'a>, AllocError> {
     let limits = "The limits in bytes, as 1M,10M,1G: from the least to the greatest";
     let watermark = "The most entries that a cache tracks [default: no bound]";
     let overhead = "What each entry takes beside its body, in bytes [default: 0]";
+    let format =
+        "text, records (16 bytes: the key's number, the bytes) or oracle-general (libCacheSim's, 24 bytes) [default: text]";
     Command::new(alloc, "tier-curve")
         .version("0.1.0")
         .about(ABOUT)
         .after_help(STATUSES)
         .arg(option(alloc, "limits", "SIZES", limits).required(true))?
         .arg(option(alloc, "watermark", "ENTRIES", watermark))?
-        .arg(option(alloc, "overhead", "BYTES", overhead))
+        .arg(option(alloc, "overhead", "BYTES", overhead))?
+        .arg(option(alloc, "format", "FORMAT", format))
 }
 
 // The size that an option says, where it is given.
@@ -101,6 +104,16 @@ fn size_of(
     match size(text.as_bytes()) {
         Some(number) => Ok(Some(number)),
         None => Err(Fault::Wrong(wrong)),
+    }
+}
+
+// The format that a word names.
+fn format_of(word: &str) -> Result<Format, Fault> {
+    match word.len() {
+        4 if word == "text" => Ok(Format::Text),
+        7 if word == "records" => Ok(Format::Records),
+        14 if word == "oracle-general" => Ok(Format::OracleGeneral),
+        _ => Err(Fault::Wrong("--format: text, records or oracle-general is wanted")),
     }
 }
 
@@ -126,10 +139,12 @@ fn options_in(alloc: Global, matches: &ArgMatches<'_>) -> Result<Options, Fault>
     }
     let watermark = size_of(matches, "watermark", "--watermark: a number is wanted")?;
     let overhead = size_of(matches, "overhead", "--overhead: a number is wanted")?;
+    let format = format_of(matches.get_str("format").unwrap_or("text"))?;
+    let overhead = overhead.unwrap_or(0);
     Ok(Options {
         limits,
         watermark,
-        overhead: overhead.unwrap_or(0),
+        rules: Rules { format, overhead },
     })
 }
 

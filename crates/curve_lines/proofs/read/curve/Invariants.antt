@@ -9,7 +9,7 @@ use Rattle.curve_lines.proofs.read.curve.Given as goal
 abbrev pub invariant-loop-turn : goal.invariant-loop-turn
 invariant-loop-turn g l = record {
   fed : (requests : List Request) × IsFedKeys l.curve requests;
-  halfway : IsHalfway l.overhead (g.R.Read.remaining l.fn.reader) (g.R.Read.remaining l.reader) l.curve l.wrong;
+  halfway : IsHalfway l.rules (g.R.Read.remaining l.fn.reader) (g.R.Read.remaining l.reader) l.curve l.wrong;
   mark : mark_of l.curve.curve.watermark ≡ l.fn.watermark;
   limits : limits_of l.curve.curve.table ≡ l.limits;
   few : l.wrong ≤ l.turn;
