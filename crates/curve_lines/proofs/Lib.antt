@@ -3,4 +3,5 @@ pub mod Renaming
 pub mod KeyedLaws
 pub mod LineLaws
 pub mod UnitLaws
+pub mod LimitLaws
 pub mod Halfway

@@ -2,4 +2,5 @@ pub mod Formats
 pub mod Keys
 pub mod Lines
 pub mod Runs
+pub mod Sizes
 pub mod Texts

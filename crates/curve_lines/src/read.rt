@@ -6,6 +6,7 @@ ghost use Rattle.curve_lines.specs.Runs.{IsFound};
 use crate::fault::RunFault;
 use crate::format::Rules;
 use crate::keyed::KeyedCurve;
+use crate::limits::Limits;
 use crate::record::add_unit;
 use crate::unit::next_unit;
 use lru_core::SeededState;
@@ -31,15 +32,14 @@ pub fn curve<R: BufRead>(
     alloc: Global,
     hasher: SeededState,
     reader: &mut R,
-    limits: &[u64],
+    limits: &Limits,
     watermark: Option<u64>,
     rules: Rules,
 ) -> Result<Found, RunFault>
-    requires { (i j : ℕ) (d : ℕ) → i ≤ j → j < length limits.now → slice_index_or limits.now i d ≤ slice_index_or limits.now j d }
     ensures found { IfOk result (λ f. IfSome (R.remaining reader.old) (λ text. IsFound rules watermark text f)) }
-    ensures limits { IfOk result (λ f. limits_of f.curve.curve.table ≡ limits.now) }
+    ensures limits { IfOk result (λ f. limits_of f.curve.curve.table ≡ limits.now.all.items) }
 {
-    let mut curve = KeyedCurve::new(alloc, hasher, limits, watermark)?;
+    let mut curve = KeyedCurve::new(alloc, hasher, limits.as_slice(), watermark)?;
     let mut wrong = 0;
     let mut unit = Vec::new(alloc);
     for turn in 0..u64::MAX {

@@ -4,7 +4,7 @@
 mod options;
 
 use crate::options::{Fault, Options, read_options};
-use curve_lines::{RunFault, curve, is_rising, report};
+use curve_lines::{RunFault, curve, report};
 use log::{Log, warn};
 use lru_core::SeededState;
 use std::io::{self, BufReader};
@@ -38,17 +38,13 @@ fn run_with<R: Input + Print + AllocGlobal + RandomSource>(
     options: &Options,
 ) -> Result<(), RunFault> {
     let alloc = rt.alloc();
-    let limits = options.limits.as_slice();
-    if !is_rising(limits) {
-        return Ok(());
-    }
     let hasher = random_start(rt)?;
     let mut reader = BufReader::new(alloc, rt.reader())?;
     let found = curve(
         alloc,
         hasher,
         &mut reader,
-        limits,
+        &options.limits,
         options.watermark,
         options.rules,
     )?;

@@ -1,6 +1,6 @@
 //! The options of the command line.
 use clap::{Arg, ArgMatches, Command};
-use curve_lines::{Format, Rules, RunFault, is_rising, size};
+use curve_lines::{Format, Limits, Rules, RunFault, size};
 use std::alloc::{AllocError, AllocFailed, Global};
 use std::rt::Env;
 use std::{env, io};
@@ -16,7 +16,7 @@ const STATUSES: &str =
 #[derive(Drop)]
 pub struct Options {
     /// The limits, none greater than a later one.
-    pub limits: Vec<u64>,
+    pub limits: Limits,
     /// The most entries that a cache tracks, if their number has a bound.
     pub watermark: Option<u64>,
     /// How the requests are read.
@@ -78,6 +78,7 @@ fn option<'a>(
 
 fn command<'a>(alloc: Global) -> Result<Command<'a>, AllocError> {
     let limits = "The limits in bytes, as 1M,10M,1G: from the least to the greatest";
+    let steps = "How many limits, by equal ratios from the first to the last [default: 40]";
     let watermark = "The most entries that a cache tracks [default: no bound]";
     let overhead = "What each entry takes beside its body, in bytes [default: 0]";
     let format =
@@ -86,7 +87,15 @@ fn command<'a>(alloc: Global) -> Result<Command<'a>, AllocError> {
         .version("0.1.0")
         .about(ABOUT)
         .after_help(STATUSES)
-        .arg(option(alloc, "limits", "SIZES", limits).required(true))?
+        .arg(option(alloc, "limits", "SIZES", limits))?
+        .arg(option(
+            alloc,
+            "from",
+            "SIZE",
+            "The first limit, in place of --limits",
+        ))?
+        .arg(option(alloc, "to", "SIZE", "The last limit"))?
+        .arg(option(alloc, "steps", "COUNT", steps))?
         .arg(option(alloc, "watermark", "ENTRIES", watermark))?
         .arg(option(alloc, "overhead", "BYTES", overhead))?
         .arg(option(alloc, "format", "FORMAT", format))
@@ -120,8 +129,11 @@ fn format_of(word: &str) -> Result<Format, Fault> {
 const WRONG_LIMITS: &str =
     "--limits: sizes such as 1M,10M,1G are wanted, from the least to the greatest";
 
+const WRONG_ENDS: &str =
+    "--limits, or --from and --to with --steps: two sizes, the first not 0 and no greater than the last, and 2 to 100000 steps are wanted";
+
 // The sizes of a list, apart by commas.
-fn sizes(alloc: Global, text: &str) -> Result<Vec<u64>, Fault> {
+fn listed(alloc: Global, text: &str) -> Result<Limits, Fault> {
     let mut all = Vec::new(alloc);
     for word in text.as_bytes().split(|byte| *byte == b',') {
         let Some(number) = size(word) else {
@@ -129,14 +141,37 @@ fn sizes(alloc: Global, text: &str) -> Result<Vec<u64>, Fault> {
         };
         all.push(number)?;
     }
-    Ok(all)
+    Limits::new(all).ok_or(Fault::Wrong(WRONG_LIMITS))
+}
+
+// The limits between two ends.
+fn between(alloc: Global, matches: &ArgMatches<'_>) -> Result<Limits, Fault> {
+    let from = size_of(matches, "from", WRONG_ENDS)?;
+    let to = size_of(matches, "to", WRONG_ENDS)?;
+    let steps = size_of(matches, "steps", WRONG_ENDS)?.unwrap_or(40);
+    let (Some(from), Some(to)) = (from, to) else {
+        return Err(Fault::Wrong(WRONG_ENDS));
+    };
+    Limits::between(alloc, from, to, steps)?.ok_or(Fault::Wrong(WRONG_ENDS))
+}
+
+fn has(matches: &ArgMatches<'_>, name: &'static str) -> bool {
+    matches.get_str(name).is_some()
+}
+
+// The limits, which are listed or between two ends.
+fn limits_in(alloc: Global, matches: &ArgMatches<'_>) -> Result<Limits, Fault> {
+    let Some(text) = matches.get_str("limits") else {
+        return between(alloc, matches);
+    };
+    if has(matches, "from") || has(matches, "to") || has(matches, "steps") {
+        return Err(Fault::Wrong(WRONG_ENDS));
+    }
+    listed(alloc, text)
 }
 
 fn options_in(alloc: Global, matches: &ArgMatches<'_>) -> Result<Options, Fault> {
-    let limits = sizes(alloc, matches.get_str("limits").unwrap_or(""))?;
-    if !is_rising(limits.as_slice()) {
-        return Err(Fault::Wrong(WRONG_LIMITS));
-    }
+    let limits = limits_in(alloc, matches)?;
     let watermark = size_of(matches, "watermark", "--watermark: a number is wanted")?;
     let overhead = size_of(matches, "overhead", "--overhead: a number is wanted")?;
     let format = format_of(matches.get_str("format").unwrap_or("text"))?;

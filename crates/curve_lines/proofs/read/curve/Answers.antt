@@ -11,7 +11,7 @@ loop-turn-init g c = record {
   fed = ([], c.in_ok-curve.ensures.fed);
   halfway = halfway-none c.args.rules (g.R.Read.remaining c.args.reader.now) c.in_ok-curve.curve c.in_ok-curve.ensures.fed;
   mark = c.in_ok-curve.ensures.mark;
-  limits = ap limits_of c.in_ok-curve.ensures.table ∙ limits-empty c.args.limits.now;
+  limits = ap limits_of c.in_ok-curve.ensures.table ∙ limits-empty c.as_slice.result.now ∙ c.as_slice.ensures.value;
   few = omega arith;
 }
 
@@ -31,7 +31,7 @@ pub loop-turn-preserved : goal.loop-turn-preserved
 loop-turn-preserved g c =
     let i = c.loop-turn.invariant in
     let takes = subst (λ (b : Bool). TakesUnit c.args.rules.format (g.R.Read.remaining c.loop-turn.reader) (g.R.Read.remaining c.next_unit.new.reader) c.next_unit.new.unit.items b) c.if-not-more.false c.in_ok-more.ensures in
-    let text : c.as_slice.result.now ≡ c.next_unit.new.unit.items = c.as_slice.ensures.value in
+    let text : c.as_slice-in-loop-turn.result.now ≡ c.next_unit.new.unit.items = c.as_slice-in-loop-turn.ensures.value in
     let fed = rw text at c.in_ok-yes.ensures.fed in
     let told : List ℕ → Bool = λ x. is_some (request_of c.args.rules x) in
     let more : Bool → ℕ = λ b. c.loop-turn.wrong + cond b 0 1 in

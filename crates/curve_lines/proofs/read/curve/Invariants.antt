@@ -11,6 +11,6 @@ invariant-loop-turn g l = record {
   fed : (requests : List Request) × IsFedKeys l.curve requests;
   halfway : IsHalfway l.rules (g.R.Read.remaining l.fn.reader) (g.R.Read.remaining l.reader) l.curve l.wrong;
   mark : mark_of l.curve.curve.watermark ≡ l.fn.watermark;
-  limits : limits_of l.curve.curve.table ≡ l.limits;
+  limits : limits_of l.curve.curve.table ≡ l.limits.all.items;
   few : l.wrong ≤ l.turn;
 }
