@@ -11,16 +11,17 @@ use Rattle.curve_lines.specs.declared.format.Rules.{Rules}
 use Rattle.curve_lines.specs.declared.keyed.KeyedCurve.{KeyedCurve}
 use Rattle.curve_lines.specs.Keys.{IsFedKeys}
 use Rattle.curve_lines.specs.Formats.{units_in, request_of, first_unit, after_unit, TakesUnit}
+use Rattle.curve_lines.specs.Parts.{kept}
 use Rattle.curve_lines.specs.Runs.{onto, requests_after, requests_in, wrong_units, IsHalfway, IsFound}
 use Rattle.curve_lines.proofs.UnitLaws.{units_in-first}
 
-pub halfway-none : (by : Rules) (input : Option (List ℕ)) (curve : KeyedCurve) → IsFedKeys curve [] → IsHalfway by input input curve 0
+pub halfway-none : (by : Rules) (input : Option (List ℕ)) (curve : KeyedCurve) → IsFedKeys curve [] → IsHalfway by input input curve 0 0
 halfway-none by None curve f = tt
-halfway-none by (Some xs) curve f = (xs, [], refl, f, refl, omega arith)
+halfway-none by (Some xs) curve f = (xs, [], refl, f, refl, omega arith, omega arith)
 
 -- what is left begins with a line or record
 more-text : (by : Rules) (done : List Request) (ys : List ℕ) → 0 < length ys
-    → requests_after by done (units_in by.format ys) ≡ requests_after by (onto (request_of by (first_unit by.format ys)) done) (units_in by.format (after_unit by.format ys))
+    → requests_after by done (units_in by.format ys) ≡ requests_after by (onto (kept by.part (request_of by (first_unit by.format ys))) done) (units_in by.format (after_unit by.format ys))
 more-text by done [] l = absurd (omega (arith, l))
 more-text by done (y ∷ ys) l = ap (requests_after by done) (units_in-first by.format y ys)
 
@@ -29,23 +30,29 @@ more-wrong : (by : Rules) (ys : List ℕ) → 0 < length ys
 more-wrong by [] l = absurd (omega (arith, l))
 more-wrong by (y ∷ ys) l = ap (wrong_units by) (units_in-first by.format y ys)
 
-pub halfway-more : (by : Rules) (input rest next : Option (List ℕ)) (curve curve' : KeyedCurve) (wrong wrong' : ℕ) (part : List ℕ) → IsHalfway by input rest curve wrong
+more-read : (by : Rules) (ys : List ℕ) → 0 < length ys → length (units_in by.format ys) ≡ 1 + length (units_in by.format (after_unit by.format ys))
+more-read by [] l = absurd (omega (arith, l))
+more-read by (y ∷ ys) l = let e = ap (λ (x : List (List ℕ)). length x) (units_in-first by.format y ys) in omega (arith, e)
+
+pub halfway-more : (by : Rules) (input rest next : Option (List ℕ)) (curve curve' : KeyedCurve) (wrong wrong' read : ℕ) (part : List ℕ) → IsHalfway by input rest curve wrong read
     → TakesUnit by.format rest next part true
-    → ((requests : List Request) → IsFedKeys curve requests → IsFedKeys curve' (onto (request_of by part) requests))
+    → ((requests : List Request) → IsFedKeys curve requests → IsFedKeys curve' (onto (kept by.part (request_of by part)) requests))
     → wrong' ≡ wrong + cond (is_some (request_of by part)) 0 1
-    → IsHalfway by input next curve' wrong'
-halfway-more by None rest next curve curve' wrong wrong' part h t f w = tt
-halfway-more by (Some xs) rest next curve curve' wrong wrong' part (ys, done, e, fed, q, n) t f w =
+    → IsHalfway by input next curve' wrong' (read + 1)
+halfway-more by None rest next curve curve' wrong wrong' read part h t f w = tt
+halfway-more by (Some xs) rest next curve curve' wrong wrong' read part (ys, done, e, fed, q, n, k) t f w =
     let takes : TakesUnit by.format (Some ys) next part true = subst (λ (o : Option (List ℕ)). TakesUnit by.format o next part true) e t in
     let m = more-wrong by ys takes.0 in
+    let v = more-read by ys takes.0 in
     let count : List ℕ → ℕ = λ x. cond (is_some (request_of by x)) 0 1 in
     let z = ap count takes.1 in (
       after_unit by.format ys,
-      onto (request_of by part) done,
+      onto (kept by.part (request_of by part)) done,
       takes.2,
       f done fed,
-      ap (λ (x : List ℕ). requests_after by (onto (request_of by x) done) (units_in by.format (after_unit by.format ys))) takes.1 ∙ sym (more-text by done ys takes.0) ∙ q,
+      ap (λ (x : List ℕ). requests_after by (onto (kept by.part (request_of by x)) done) (units_in by.format (after_unit by.format ys))) takes.1 ∙ sym (more-text by done ys takes.0) ∙ q,
       omega (arith, n, m, w, z),
+      omega (arith, k, v),
     )
 
 -- no unit is left where no byte is
@@ -54,29 +61,32 @@ none-left Text = refl
 none-left Records = refl
 none-left OracleGeneral = refl
 
-pub halfway-all : (by : Rules) (input rest next : Option (List ℕ)) (curve : KeyedCurve) (wrong : ℕ) (part : List ℕ) → IsHalfway by input rest curve wrong
+pub halfway-all : (by : Rules) (input rest next : Option (List ℕ)) (curve : KeyedCurve) (wrong read : ℕ) (part : List ℕ) → IsHalfway by input rest curve wrong read
     → TakesUnit by.format rest next part false
-    → IfSome input (λ xs. IsFedKeys curve (requests_in by xs) × (wrong ≡ wrong_units by (units_in by.format xs)))
-halfway-all by None rest next curve wrong part h t = tt
-halfway-all by (Some xs) rest next curve wrong part (ys, done, e, fed, q, n) t =
+    → IfSome input (λ xs. IsFedKeys curve (requests_in by xs) × (wrong ≡ wrong_units by (units_in by.format xs)) × (read ≡ length (units_in by.format xs)))
+halfway-all by None rest next curve wrong read part h t = tt
+halfway-all by (Some xs) rest next curve wrong read part (ys, done, e, fed, q, n, k) t =
     let none : ys ≡ [] = subst (λ (o : Option (List ℕ)). TakesUnit by.format o next part false) e t in
     let p = ap (λ (x : List ℕ). requests_after by done (units_in by.format x)) none in
     let m = ap (λ (x : List ℕ). wrong_units by (units_in by.format x)) none in
     let r = ap (requests_after by done) (none-left by.format) in
     let z = ap (wrong_units by) (none-left by.format) in
-    (subst (IsFedKeys curve) (sym r ∙ sym p ∙ q) fed, omega (arith, n, m, z))
+    let u = ap (λ (x : List ℕ). length (units_in by.format x)) none in
+    let o = ap (λ (x : List (List ℕ)). length x) (none-left by.format) in
+    (subst (IsFedKeys curve) (sym r ∙ sym p ∙ q) fed, omega (arith, n, m, z), omega (arith, k, u, o))
 
 pub limits-empty : (ls : List ℕ) → limits_of (map empty_row ls) ≡ ls
 limits-empty [] = refl
 limits-empty (l ∷ ls) = ap (λ (xs : List ℕ). l ∷ xs) (limits-empty ls)
 
 -- what was found of a stream that was read whole
-pub found-all : (by : Rules) (watermark : Option ℕ) (text : Option (List ℕ)) (curve : KeyedCurve) (wrong : ℕ) → mark_of curve.curve.watermark ≡ watermark
-    → IfSome text (λ xs. IsFedKeys curve (requests_in by xs) × (wrong ≡ wrong_units by (units_in by.format xs)))
-    → IfSome text (λ xs. IsFound by watermark xs (record { curve = curve; wrong = wrong }))
-found-all by watermark None curve wrong m h = tt
-found-all by watermark (Some xs) curve wrong m h = record {
+pub found-all : (by : Rules) (watermark : Option ℕ) (text : Option (List ℕ)) (curve : KeyedCurve) (wrong read : ℕ) → mark_of curve.curve.watermark ≡ watermark
+    → IfSome text (λ xs. IsFedKeys curve (requests_in by xs) × (wrong ≡ wrong_units by (units_in by.format xs)) × (read ≡ length (units_in by.format xs)))
+    → IfSome text (λ xs. IsFound by watermark xs (record { curve = curve; wrong = wrong; read = read }))
+found-all by watermark None curve wrong read m h = tt
+found-all by watermark (Some xs) curve wrong read m h = record {
   rows = λ weight a. subst (λ (o : Option ℕ). AreFound weight o (steps_of (requests_in by xs)) curve.curve.table) m (keyed-found curve (requests_in by xs) weight h.0 a);
   counts = λ weight a. keyed-counts curve (requests_in by xs) weight h.0 a;
   wrong = h.1;
+  read = h.2;
 }

@@ -1,5 +1,5 @@
 -- The requests of a stream.
-use Rattle.std.specs.Prelude.{◌≡◌, ℕ, ◌+◌, if◌then◌else◌, List, [], ◌∷◌, Option, Some, None, is_some, IfSome}
+use Rattle.std.specs.Prelude.{◌≡◌, ℕ, ◌+◌, if◌then◌else◌, List, [], ◌∷◌, Option, Some, None, is_some, IfSome, length}
 use Rattle.cache_entries.specs.declared.entry.CacheEntryKey.{CacheEntryKey}
 use Rattle.size_curve.specs.Requests.{Request, steps_of, AreFirst, AreFound}
 use Rattle.curve_lines.specs.declared.format.Rules.{Rules}
@@ -7,15 +7,16 @@ use Rattle.curve_lines.specs.declared.keyed.KeyedCurve.{KeyedCurve}
 use Rattle.curve_lines.specs.declared.read.Found.{Found}
 use Rattle.curve_lines.specs.Keys.{IsFedKeys, Counts}
 use Rattle.curve_lines.specs.Formats.{units_in, request_of}
+use Rattle.curve_lines.specs.Parts.{kept}
 
 abbrev pub onto : Option Request → List Request → List Request
 onto None before = before
 onto (Some request) before = request ∷ before
 
--- the requests of these lines or records after others, the latest first
+-- the requests of these lines or records whose keys are in the part, after others, the latest first
 abbrev pub requests_after : Rules → List Request → List (List ℕ) → List Request
 requests_after by before [] = before
-requests_after by before (l ∷ ls) = requests_after by (onto (request_of by l) before) ls
+requests_after by before (l ∷ ls) = requests_after by (onto (kept by.part (request_of by l)) before) ls
 
 -- how many of the lines or records have no request
 abbrev pub wrong_units : Rules → List (List ℕ) → ℕ
@@ -26,13 +27,15 @@ abbrev pub requests_in : Rules → List ℕ → List Request
 requests_in by text = requests_after by [] (units_in by.format text)
 
 -- while a stream is read: the curve was fed the requests of its first lines or records, and what is left has the others
-abbrev pub IsHalfway : Rules → Option (List ℕ) → Option (List ℕ) → KeyedCurve → ℕ → Type 0
-IsHalfway by input rest curve wrong =
+abbrev pub IsHalfway : Rules → Option (List ℕ) → Option (List ℕ) → KeyedCurve → ℕ → ℕ → Type 0
+IsHalfway by input rest curve wrong read =
     IfSome input (λ xs. (ys : List ℕ) × (done : List Request) × (rest ≡ Some ys) × IsFedKeys curve done
-    × (requests_after by done (units_in by.format ys) ≡ requests_in by xs) × (wrong + wrong_units by (units_in by.format ys) ≡ wrong_units by (units_in by.format xs)))
+    × (requests_after by done (units_in by.format ys) ≡ requests_in by xs) × (wrong + wrong_units by (units_in by.format ys) ≡ wrong_units by (units_in by.format xs))
+    × (read + length (units_in by.format ys) ≡ length (units_in by.format xs)))
 
 -- what a run found is what caches of these limits find of the requests of the stream
 pub record IsFound (by : Rules) (watermark : Option ℕ) (text : List ℕ) (f : Found) : Type 0 where
   pub rows : (weight : CacheEntryKey → ℕ) → AreFirst weight (requests_in by text) → AreFound weight watermark (steps_of (requests_in by text)) f.curve.curve.table
   pub counts : (weight : CacheEntryKey → ℕ) → AreFirst weight (requests_in by text) → Counts weight f.curve.curve.totals (requests_in by text)
   pub wrong : f.wrong ≡ wrong_units by (units_in by.format text)
+  pub read : f.read ≡ length (units_in by.format text)

@@ -1,4 +1,5 @@
 //! The formats of requests.
+use crate::part::Part;
 
 /// What a stream of requests is made of.
 #[derive(Clone, Copy)]
@@ -18,4 +19,6 @@ pub struct Rules {
     pub format: Format,
     /// What each entry takes beside its body.
     pub overhead: u64,
+    /// The part of the keys whose requests count; without one all do.
+    pub part: Option<Part>,
 }

@@ -3,9 +3,12 @@
 
 mod fault;
 mod format;
+mod hash;
 mod keyed;
 mod limits;
 mod line;
+mod part;
+mod progress;
 mod read;
 mod record;
 mod scaled;
@@ -17,6 +20,8 @@ pub use fault::RunFault;
 pub use format::{Format, Rules};
 pub use keyed::KeyedCurve;
 pub use limits::{Limits, MOST_STEPS};
+pub use part::Part;
+pub use progress::{EACH, Progress};
 pub use read::{Found, curve};
 pub use sizes::size;
 pub use text::report;

@@ -7,6 +7,7 @@ use crate::fault::RunFault;
 use crate::format::Rules;
 use crate::keyed::KeyedCurve;
 use crate::limits::Limits;
+use crate::progress::{Progress, tell_at};
 use crate::record::add_unit;
 use crate::unit::next_unit;
 use lru_core::SeededState;
@@ -20,6 +21,8 @@ pub struct Found {
     pub curve: KeyedCurve,
     /// How many lines or records have no request.
     pub wrong: u64,
+    /// How many lines or records there are.
+    pub read: u64,
 }
 
 /// Reads requests, a line or record each, and returns what caches of these limits find of them. The hashes of the keys start as
@@ -28,13 +31,14 @@ pub struct Found {
 /// # Errors
 ///
 /// Where a read fails, memory runs out, or more comes than can be counted.
-pub fn curve<R: BufRead>(
+pub fn curve<R: BufRead, P: Progress>(
     alloc: Global,
     hasher: SeededState,
     reader: &mut R,
     limits: &Limits,
     watermark: Option<u64>,
     rules: Rules,
+    progress: &mut P,
 ) -> Result<Found, RunFault>
     ensures found { IfOk result (λ f. IfSome (R.remaining reader.old) (λ text. IsFound rules watermark text f)) }
     ensures limits { IfOk result (λ f. limits_of f.curve.curve.table ≡ limits.now.all.items) }
@@ -42,13 +46,14 @@ pub fn curve<R: BufRead>(
     let mut curve = KeyedCurve::new(alloc, hasher, limits.as_slice(), watermark)?;
     let mut wrong = 0;
     let mut unit = Vec::new(alloc);
-    for turn in 0..u64::MAX {
+    for read in 0..u64::MAX {
         let more = next_unit(reader, rules.format, &mut unit)?;
         if !more {
-            return Ok(Found { curve, wrong });
+            return Ok(Found { curve, wrong, read });
         }
         let yes = add_unit(&mut curve, alloc, rules, unit.as_slice())?;
         wrong = counted(wrong, yes);
+        tell_at(progress, read, curve.curve().entries());
     }
     Err(RunFault::TooMany)
 }

@@ -6,6 +6,7 @@ ghost use Rattle.size_curve.specs.Rows.{limits_of};
 ghost use Rattle.size_curve.specs.Numbers.{mark_of};
 ghost use Rattle.curve_lines.specs.Keys.{IsFedKeys};
 ghost use Rattle.curve_lines.specs.Formats.{size_of_word, request_in_record, request_in_oracle, request_of};
+ghost use Rattle.curve_lines.specs.Parts.{kept};
 ghost use Rattle.curve_lines.specs.Runs.{onto};
 
 use crate::format::{Format, Rules};
@@ -48,12 +49,12 @@ fn size_of_word(overhead: u64, number: u64) -> Size
 fn add_record(
     curve: &mut KeyedCurve,
     alloc: Global,
-    overhead: u64,
+    rules: Rules,
     record: &[u8],
 ) -> Result<bool, CurveFault>
     requires { (requests : List Request) × IsFedKeys curve.old requests }
-    ensures fed { OnOk result ((requests : List Request) → IsFedKeys curve.old requests → IsFedKeys curve.new (onto (request_in_record overhead record.now) requests)) }
-    ensures told { IfOk result (λ yes. yes ≡ is_some (request_in_record overhead record.now)) }
+    ensures fed { OnOk result ((requests : List Request) → IsFedKeys curve.old requests → IsFedKeys curve.new (onto (kept rules.part (request_in_record rules.overhead record.now)) requests)) }
+    ensures told { IfOk result (λ yes. yes ≡ is_some (request_in_record rules.overhead record.now)) }
     ensures mark { OnOk result (mark_of curve.new.curve.watermark ≡ mark_of curve.old.curve.watermark) }
     ensures limits { OnOk result (limits_of curve.new.curve.table ≡ limits_of curve.old.curve.table) }
 {
@@ -63,19 +64,20 @@ fn add_record(
     let Some(number) = word(&record[8..16]) else {
         return Ok(false);
     };
-    add(curve, alloc, &record[..8], size_of_word(overhead, number))
+    let size = size_of_word(rules.overhead, number);
+    add(curve, alloc, rules.part, &record[..8], size)
 }
 
 // Feeds the request of a record of 24 bytes, and returns whether it has one.
 fn add_oracle(
     curve: &mut KeyedCurve,
     alloc: Global,
-    overhead: u64,
+    rules: Rules,
     record: &[u8],
 ) -> Result<bool, CurveFault>
     requires { (requests : List Request) × IsFedKeys curve.old requests }
-    ensures fed { OnOk result ((requests : List Request) → IsFedKeys curve.old requests → IsFedKeys curve.new (onto (request_in_oracle overhead record.now) requests)) }
-    ensures told { IfOk result (λ yes. yes ≡ is_some (request_in_oracle overhead record.now)) }
+    ensures fed { OnOk result ((requests : List Request) → IsFedKeys curve.old requests → IsFedKeys curve.new (onto (kept rules.part (request_in_oracle rules.overhead record.now)) requests)) }
+    ensures told { IfOk result (λ yes. yes ≡ is_some (request_in_oracle rules.overhead record.now)) }
     ensures mark { OnOk result (mark_of curve.new.curve.watermark ≡ mark_of curve.old.curve.watermark) }
     ensures limits { OnOk result (limits_of curve.new.curve.table ≡ limits_of curve.old.curve.table) }
 {
@@ -85,8 +87,8 @@ fn add_oracle(
     let Some(number) = short_word(&record[12..16]) else {
         return Ok(false);
     };
-    let size = weighed(overhead, Some(u64::from(number)));
-    add(curve, alloc, &record[4..12], size)
+    let size = weighed(rules.overhead, Some(u64::from(number)));
+    add(curve, alloc, rules.part, &record[4..12], size)
 }
 
 // Feeds the request of a line or record, and returns whether it has one.
@@ -97,14 +99,14 @@ pub(crate) fn add_unit(
     unit: &[u8],
 ) -> Result<bool, CurveFault>
     requires { (requests : List Request) × IsFedKeys curve.old requests }
-    ensures fed { OnOk result ((requests : List Request) → IsFedKeys curve.old requests → IsFedKeys curve.new (onto (request_of rules unit.now) requests)) }
+    ensures fed { OnOk result ((requests : List Request) → IsFedKeys curve.old requests → IsFedKeys curve.new (onto (kept rules.part (request_of rules unit.now)) requests)) }
     ensures told { IfOk result (λ yes. yes ≡ is_some (request_of rules unit.now)) }
     ensures mark { OnOk result (mark_of curve.new.curve.watermark ≡ mark_of curve.old.curve.watermark) }
     ensures limits { OnOk result (limits_of curve.new.curve.table ≡ limits_of curve.old.curve.table) }
 {
     match rules.format {
-        Format::Text => add_line(curve, alloc, rules.overhead, unit),
-        Format::Records => add_record(curve, alloc, rules.overhead, unit),
-        Format::OracleGeneral => add_oracle(curve, alloc, rules.overhead, unit),
+        Format::Text => add_line(curve, alloc, rules, unit),
+        Format::Records => add_record(curve, alloc, rules, unit),
+        Format::OracleGeneral => add_oracle(curve, alloc, rules, unit),
     }
 }

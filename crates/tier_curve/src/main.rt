@@ -4,7 +4,7 @@
 mod options;
 
 use crate::options::{Fault, Options, read_options};
-use curve_lines::{RunFault, curve, report};
+use curve_lines::{Progress, RunFault, curve, report};
 use log::{Log, warn};
 use lru_core::SeededState;
 use std::io::{self, BufReader};
@@ -26,14 +26,29 @@ fn random_start<R: RandomSource>(rt: &R) -> Result<SeededState, io::Error> {
     })
 }
 
+// Tells on standard error how far a run has come.
+#[derive(Drop)]
+struct Told<'a, R> {
+    rt: &'a R,
+    quiet: bool,
+}
+
+impl<'a, R: Log> Progress for Told<'a, R> {
+    fn tell(&mut self, read: u64, entries: usize) {
+        if !self.quiet {
+            warn!(self.rt; "{read} lines or records read, {entries} entries");
+        }
+    }
+}
+
 // Runs by the options of the command line.
-fn run<R: Env + Input + Print + AllocGlobal + RandomSource>(rt: &R) -> Result<(), Fault> {
+fn run<R: Env + Input + Print + AllocGlobal + RandomSource + Log>(rt: &R) -> Result<(), Fault> {
     let options = read_options(rt)?;
     run_with(rt, &options).map_err(Fault::Run)
 }
 
 // Reads standard input, and writes what was found.
-fn run_with<R: Input + Print + AllocGlobal + RandomSource>(
+fn run_with<R: Input + Print + AllocGlobal + RandomSource + Log>(
     rt: &R,
     options: &Options,
 ) -> Result<(), RunFault> {
@@ -47,6 +62,10 @@ fn run_with<R: Input + Print + AllocGlobal + RandomSource>(
         &options.limits,
         options.watermark,
         options.rules,
+        &mut Told {
+            rt,
+            quiet: options.quiet,
+        },
     )?;
     report(alloc, &mut io::writer(rt), &found)
 }

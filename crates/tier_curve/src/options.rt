@@ -1,5 +1,5 @@
 //! The options of the command line.
-use clap::{Arg, ArgMatches, Command};
+use clap::{Arg, ArgAction, ArgMatches, Command};
 use curve_lines::{Format, Limits, Rules, RunFault, size};
 use std::alloc::{AllocError, AllocFailed, Global};
 use std::rt::Env;
@@ -21,6 +21,8 @@ pub struct Options {
     pub watermark: Option<u64>,
     /// How the requests are read.
     pub rules: Rules,
+    /// Whether nothing is told of the run while it goes on.
+    pub quiet: bool,
 }
 
 /// Why the program ended early.
@@ -98,7 +100,13 @@ fn command<'a>(alloc: Global) -> Result<Command<'a>, AllocError> {
         .arg(option(alloc, "steps", "COUNT", steps))?
         .arg(option(alloc, "watermark", "ENTRIES", watermark))?
         .arg(option(alloc, "overhead", "BYTES", overhead))?
-        .arg(option(alloc, "format", "FORMAT", format))
+        .arg(option(alloc, "format", "FORMAT", format))?
+        .arg(
+            Arg::new(alloc, "quiet")
+                .long("quiet")
+                .action(ArgAction::SetTrue)
+                .help("Tell nothing on standard error while the requests are read"),
+        )
 }
 
 // The size that an option says, where it is given.
@@ -179,7 +187,12 @@ fn options_in(alloc: Global, matches: &ArgMatches<'_>) -> Result<Options, Fault>
     Ok(Options {
         limits,
         watermark,
-        rules: Rules { format, overhead },
+        rules: Rules {
+            format,
+            overhead,
+            part: None,
+        },
+        quiet: matches.get_flag("quiet"),
     })
 }
 
