@@ -1,8 +1,11 @@
 #!/usr/bin/env python3
-"""What plain lists find, one for each limit: to compare with tier_curve. --make SEED writes requests to try."""
+"""What plain lists find, one for each limit: to compare with tier_curve. --make SEED writes requests to try, in a --format; --part I/K
+takes the keys of one part, and lists of a K-th of each limit."""
 import argparse
 import random
+import struct
 import sys
+from decimal import Decimal, getcontext
 
 
 def make(seed):
@@ -18,6 +21,58 @@ def make(seed):
         else:
             odd = seed == 3 and what > 0.97
             print(f"{number}\t/{key} {sizes[key] + (1 if odd else 0)}")
+
+
+def make_records(seed, form):
+    """Writes records, with odd sizes, sizes that can't be counted, and a last record that is cut short."""
+    draw = random.Random(seed)
+    sizes = [draw.randrange(0, 90) for _ in range(30)]
+    for number in range(600):
+        key = min(draw.randrange(30), draw.randrange(30))
+        what = draw.random()
+        size = sizes[key] + (1 if seed == 3 and what > 0.97 else 0)
+        if form == "records":
+            size = 2**64 - 1 if what < 0.1 else 2**64 - 2 if what < 0.12 else size
+            sys.stdout.buffer.write(struct.pack("<QQ", key << 59 | key, size))
+        else:
+            sys.stdout.buffer.write(struct.pack("<IQIq", number, key << 59 | key, size, -1))
+    sys.stdout.buffer.write(b"short")
+
+
+def requests(form, stream):
+    """Yields a key and its bytes, '-' for a removal, and None for what has no request."""
+    if form == "text":
+        for line in stream:
+            words = line.removesuffix(b"\n").replace(b"\r", b" ").replace(b"\t", b" ").split(b" ")
+            words = [it for it in words if it]
+            yield (words[1], words[2].decode("latin-1")) if len(words) == 3 else None
+        return
+    length = 16 if form == "records" else 24
+    while record := stream.read(length):
+        if len(record) < length:
+            yield None
+        elif form == "records":
+            size = int.from_bytes(record[8:], "little")
+            yield record[:8], "-" if size == 2**64 - 1 else str(size)
+        else:
+            yield record[4:12], str(int.from_bytes(record[12:16], "little"))
+
+
+def part_of(key, parts):
+    """Returns the part of a key: FNV-1a of 64 bits, modulo a prime, modulo the number of parts."""
+    number = 14695981039346656037
+    for byte in key:
+        number = (number ^ byte) * 1099511628211 % 2**64
+    return number % 1000000007 % parts
+
+
+def check_ratios(low, high, steps, limits):
+    """Checks that the limits are low * (high / low) ** (i / (steps - 1)), to the nearest whole number."""
+    getcontext().prec = 60
+    assert len(limits) == steps and limits[0] == low and limits[-1] == high and limits == sorted(limits), limits
+    for at, limit in enumerate(limits):
+        exact = Decimal(low) * (Decimal(high) / low) ** (Decimal(at) / (steps - 1))
+        assert abs(limit - exact) <= Decimal("0.501"), (at, limit, exact)
 
 
 class PlainList:
@@ -57,29 +112,40 @@ def main():
     parser.add_argument("--limits", default="")
     parser.add_argument("--watermark", type=int)
     parser.add_argument("--overhead", type=int, default=0)
+    parser.add_argument("--format", default="text")
+    parser.add_argument("--part")
+    parser.add_argument("--check-ratios", type=int, nargs=3, metavar=("FROM", "TO", "STEPS"), help="check the limits of a curve")
     options = parser.parse_args()
-    if options.make is not None:
-        make(options.make)
+    if options.check_ratios:
+        check_ratios(*options.check_ratios, [int(it.split(",")[0]) for it in sys.stdin if it[:1].isdigit()])
         return
-    lists = [PlainList(int(it), options.watermark) for it in options.limits.split(",")]
+    if options.make is not None:
+        make(options.make) if options.format == "text" else make_records(options.make, options.format)
+        return
+    index, parts = map(int, options.part.split("/")) if options.part else (0, 1)
+    limits = [int(it) for it in options.limits.split(",")]
+    mark = options.watermark if options.watermark is None else options.watermark // parts
+    lists = [PlainList(it // parts, mark) for it in limits]
     weights, asks, removed, odd, wrong, weighed = {}, 0, 0, 0, 0, 0
-    for line in sys.stdin:
-        words = line.split()
-        weight = size_of(words[2], options.overhead) if len(words) == 3 else None
-        if len(words) == 3 and words[2] == "-":
-            removed += words[1] in weights
-            for it in lists:
-                it.remove(words[1])
-        elif weight is None:
+    for request in requests(options.format, sys.stdin.buffer):
+        key, word = request or (b"", "")
+        weight = size_of(word, options.overhead)
+        if weight is None and word != "-":
             wrong += 1
+        elif part_of(key, parts) != index:
+            pass
+        elif word == "-":
+            removed += key in weights
+            for it in lists:
+                it.remove(key)
         else:
-            own = weights.setdefault(words[1], weight)
+            own = weights.setdefault(key, weight)
             asks, odd, weighed = asks + 1, odd + (own != weight), weighed + own
             for it in lists:
-                it.ask(words[1], own)
+                it.ask(key, own)
     print("limit,finds,bytes_found,requests_percent,bytes_percent")
-    for it in lists:
-        print(f"{it.limit},{it.finds},{it.bytes},{percent(it.finds, asks)},{percent(it.bytes, weighed)}")
+    for limit, it in zip(limits, lists):
+        print(f"{limit},{it.finds},{it.bytes},{percent(it.finds, asks)},{percent(it.bytes, weighed)}")
     print(f"# requests={asks} entries={len(weights)} removed={removed} odd={odd} passed_over={wrong} bytes={weighed}")
     if odd:
         print(f"# estimate: one shard; requests by another length than their entry's first: {odd}")

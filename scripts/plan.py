@@ -8,10 +8,11 @@ sizes find, in one pass: the proved program where it is built, else `rt try` of 
 beside the log as CSV and as a picture (SVG), or where --out says.
 
 The curve counts finds of a cache that holds its entries until room is wanted. A response whose lifetime has passed is found and
-not fresh, so a lifetime caps the share of fresh hits whatever the size: --lifetime tells how many requests came within that many
-seconds of the last one for their key, which no size can pass.
+not fresh, so a lifetime caps the share of fresh hits whatever the size. The last line tells how many requests came while a response
+of that lifetime was fresh (--lifetime, an hour by default), which no size can pass.
 """
 import argparse
+import html
 import math
 import os
 import subprocess
@@ -36,13 +37,16 @@ def shown_size(count):
 
 
 def limits_of(text, steps):
-    """Returns the sizes between two ends by equal ratios, or those of a list."""
-    if ".." not in text:
-        return sorted({bytes_of(it) for it in text.split(",")})
-    low, high = (bytes_of(it) for it in text.split("..", 1))
-    if not 0 < low < high or steps < 2:
+    """Returns the options of tier_curve that name the sizes: two ends with equal ratios between them, or a list."""
+    if ".." in text:
+        low, high = (bytes_of(it) for it in text.split("..", 1))
+        if not 0 < low < high < 2**64 or not 2 <= steps <= 100000:
+            raise ValueError
+        return ["--from", str(low), "--to", str(high), "--steps", str(steps)]
+    sizes = sorted({bytes_of(it) for it in text.split(",")})
+    if not 0 < sizes[0] <= sizes[-1] < 2**64:
         raise ValueError
-    return sorted({round(low * (high / low) ** (at / (steps - 1))) for at in range(steps)})
+    return ["--limits", ",".join(map(str, sizes))]
 
 
 def requests_of(path, words):
@@ -56,7 +60,7 @@ def requests_of(path, words):
 def curve_of(requests, limits, options):
     """Returns what tier_curve writes."""
     crate = os.path.join(HERE, "..", "crates", "tier_curve")
-    words = ["--limits", ",".join(map(str, limits))]
+    words = list(limits)
     if options.overhead:
         words += ["--overhead", str(options.overhead)]
     program = options.program or os.path.join(crate, "out", "tier_curve")
@@ -103,7 +107,7 @@ def picture(rows, title):
     y = lambda share: top + high * (1 - share / 100)
     out = [f'<svg xmlns="http://www.w3.org/2000/svg" viewBox="0 0 {left + wide + 40} {top + high + 60}" font-family="sans-serif" font-size="12">']
     out.append('<rect width="100%" height="100%" fill="white"/>')
-    out.append(f'<text x="{left}" y="20" font-size="14">{title}</text>')
+    out.append(f'<text x="{left}" y="20" font-size="14">{html.escape(title)}</text>')
     for share in range(0, 101, 20):
         out.append(f'<path d="M{left},{y(share):.1f} h{wide}" stroke="#ddd"/><text x="{left - 8}" y="{y(share) + 4:.1f}" text-anchor="end">{share} %</text>')
     for power in range(math.ceil(math.log10(rows[0][0])), math.floor(math.log10(rows[-1][0])) + 1):
@@ -121,7 +125,7 @@ def options_of(words):
     parser.add_argument("--sizes", required=True, help="the sizes, as 2M..200M or 1M,10M,100M")
     parser.add_argument("--steps", type=int, default=40, help="how many sizes between two ends (default 40)")
     parser.add_argument("--overhead", type=int, default=0, help="what each entry takes beside its body, in bytes (default 0)")
-    parser.add_argument("--lifetime", type=int, help="also tell what share of the requests this lifetime allows to be fresh")
+    parser.add_argument("--lifetime", type=int, help="how long a response is fresh, in seconds (default 3600)")
     parser.add_argument("--whole", action="store_true", help="take bodies of any length; else those past 64 MiB are passed over")
     parser.add_argument("--no-query", action="store_true", help="leave the query out of the key")
     parser.add_argument("--out", help="where to write, without the ending (default: beside the log)")
@@ -130,7 +134,7 @@ def options_of(words):
     try:
         options.limits = limits_of(options.sizes, options.steps)
     except ValueError:
-        parser.error("--sizes are such as 2M..200M or 1M,10M,100M")
+        parser.error("--sizes are such as 2M..200M or 1M,10M,100M, each from 1 byte on, and --steps from 2 to 100000")
     return options
 
 
@@ -144,8 +148,8 @@ def main():
     for size, share, weight in rows:
         print(f"{shown_size(size):>8} {share:>7.2f} % {weight:>7.2f} %")
     print("\n".join(notes))
-    if options.lifetime is not None:
-        print(f"a lifetime of {options.lifetime} s lets {within(requests, options.lifetime):.2f} % of the requests be fresh, at any size")
+    lifetime, word = (3600, " (the default: --lifetime says another)") if options.lifetime is None else (options.lifetime, "")
+    print(f"a lifetime of {lifetime} s{word} lets {within(requests, lifetime):.2f} % of the requests be fresh, at any size")
     out = options.out or options.log
     for ending, content in ((".csv", text), (".svg", picture(rows, os.path.basename(options.log)))):
         with open(out + ending, "w", encoding="utf-8") as made:

@@ -1,16 +1,13 @@
 -- Keys and their numbers, one request after another, and what the curve then shows of the requests by keys.
-use Rattle.std.proofs.Common.{◌≡◌, ℕ, ◌+◌, ◌<◌, ◌≤◌, ◌||◌, Bool, true, false, cond, List, [], ◌∷◌, ◌++◌, Option, Some, None, refl, ap, sym, ◌∙◌, subst, arith, length, get_or, ◌⊎◌, inl, inr, Vec}
-use Rattle.std.specs.Prelude.{IfSome, MatchOption}
-use Rattle.std.proofs.lemmas.Bool.{false≢true}
+use Rattle.std.proofs.Common.{◌≡◌, ℕ, ◌<◌, Bool, true, false, cond, List, [], ◌∷◌, ◌++◌, Option, Some, None, refl, ap, sym, ◌∙◌, subst, arith, length, get_or, ◌⊎◌, inl, inr}
+use Rattle.std.specs.Prelude.{MatchOption}
 use Rattle.std.proofs.lemmas.List.{length_push, get_or_push, get_or_append_left}
 use Rattle.cache_entries.specs.declared.entry.CacheEntryKey.{CacheEntryKey}
-use Rattle.cache_entries.specs.Entry.{same_entry}
 use Rattle.cache_entries.specs.Keys.{same_bytes}
 use Rattle.cache_entries.specs.SameEntry.{same_bytes-tells}
 use Rattle.size_curve.specs.declared.row.Row.{Row}
-use Rattle.size_curve.specs.declared.totals.Totals.{Totals}
-use Rattle.size_curve.specs.Requests.{Request, asks, removes, steps_of, is_among, AreFirst, AreFound, asked_in, odd_in, bytes_in}
-use Rattle.size_curve.specs.Numbers.{numbered, number_in, mark_of, Shows, Agrees, IsFed}
+use Rattle.size_curve.specs.Requests.{Request, asks, removes, steps_of, is_among, AreFirst, AreFound}
+use Rattle.size_curve.specs.Numbers.{numbered, number_in, mark_of}
 use Rattle.curve_lines.specs.declared.keyed.KeyedCurve.{KeyedCurve}
 use Rattle.curve_lines.specs.Keys.{keyed, number_of, AreRenamed, none, ask, removal, unknown, AreKeyed, IsFedKeys, IsNumbered, Counts}
 use Rattle.curve_lines.proofs.Renaming.{same-keyed, finds-same, found-same, odd-same, bytes-same, asked-same}

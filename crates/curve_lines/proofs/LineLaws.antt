@@ -1,7 +1,7 @@
 -- The first line of a text, and the lines after it.
 use Rattle.std.proofs.Common.{◌≡◌, ◌∙◌, ℕ, suc, ◌-◌, ◌==◌, nat_lt, Bool, true, false, ◌&&◌, List, [], ◌∷◌, length, take, slice_index, refl, ap, sym, subst, arith, rules, if◌then◌else◌}
 use Rattle.std.specs.Io.BufRead.{take_through, drop_through, strip_last}
-use Rattle.curve_lines.specs.Runs.{lines_in, onto_first}
+use Rattle.curve_lines.specs.Formats.{lines_in, onto_first}
 
 chosen-cons : (t u e : Bool) (x : ℕ) (p q : List ℕ) → t ≡ true → u ≡ true → (if t && e then x ∷ p else x ∷ q) ≡ x ∷ (if u && e then p else q)
 chosen-cons t u true x p q one two = rw (one, two) refl

@@ -1,5 +1,5 @@
 -- Requests by keys and by numbers find the same.
-use Rattle.std.proofs.Common.{◌≡◌, ℕ, ◌+◌, ◌<◌, ◌&&◌, ◌||◌, eqb, Bool, true, false, cond, List, [], ◌∷◌, Option, Some, None, refl, ap, ap₂, sym, ◌∙◌, subst, arith}
+use Rattle.std.proofs.Common.{◌≡◌, ℕ, ◌+◌, ◌&&◌, ◌||◌, eqb, Bool, true, false, cond, List, [], ◌∷◌, Option, Some, refl, ap, ap₂, sym, ◌∙◌, subst}
 use Rattle.std.specs.Prelude.{not}
 use Rattle.std.specs.List.{AllByRecursion}
 use Rattle.std.proofs.lemmas.Bool.{false≢true, eqb-true, eq-eqb}
@@ -9,9 +9,9 @@ use Rattle.cache_entries.specs.Entry.{same_entry}
 use Rattle.cache_entries.specs.Keys.{same_bytes}
 use Rattle.cache_entries.specs.SameEntry.{same_bytes-tells, same_entry-tells}
 use Rattle.cache_entries.specs.Rows.{without_row}
-use Rattle.entry_loads.specs.Steps.{Step, has_row, held, kept_after, exceeds, row_for, put_first}
+use Rattle.entry_loads.specs.Steps.{has_row, held, kept_after, exceeds, put_first}
 use Rattle.entry_loads.specs.Finds.{finds}
-use Rattle.size_curve.specs.Requests.{Request, asks, removes, steps_of, is_among, found_bytes, asked_in, removed_in, odd_in, bytes_in}
+use Rattle.size_curve.specs.Requests.{Request, asks, removes, steps_of, is_among, found_bytes, asked_in, odd_in, bytes_in}
 use Rattle.size_curve.specs.Numbers.{numbered}
 use Rattle.size_curve.proofs.CellPlaces.{same-numbered}
 use Rattle.curve_lines.specs.Keys.{keyed, AreRenamed, none, ask, removal, unknown}

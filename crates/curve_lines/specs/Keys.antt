@@ -1,13 +1,13 @@
 -- Requests by keys, and a curve that is fed them by numbers of its own.
-use Rattle.std.specs.Prelude.{◌≡◌, ℕ, ◌+◌, ◌==◌, ◌<◌, false, if◌then◌else◌, List, [], ◌∷◌, length, slice_index, Option, Some, None, MatchOption, Vec}
+use Rattle.std.specs.Prelude.{◌≡◌, ℕ, ◌<◌, false, if◌then◌else◌, List, [], ◌∷◌, length, slice_index, Option, Some, None, MatchOption, Vec}
 use Rattle.std.specs.HashMap.{HashMap, get_by}
 use Rattle.std.specs.declared.alloc.Global.{Global}
 use Rattle.lru_core.specs.declared.seeded_state.SeededState.{SeededState}
 use Rattle.cache_entries.specs.declared.entry.CacheEntryKey.{CacheEntryKey}
 use Rattle.cache_entries.specs.declared.entry.CacheEntryKey.TheVariants.{KeyOnly}
 use Rattle.cache_entries.specs.Keys.{same_bytes}
-use Rattle.size_curve.specs.Requests.{Request, asks, removes, is_among, steps_of, AreFirst, AreFound, asked_in, odd_in, bytes_in}
-use Rattle.size_curve.specs.Numbers.{numbered, mark_of, IsFed}
+use Rattle.size_curve.specs.Requests.{Request, asks, removes, is_among, AreFirst, asked_in, odd_in, bytes_in}
+use Rattle.size_curve.specs.Numbers.{numbered, IsFed}
 use Rattle.size_curve.specs.declared.totals.Totals.{Totals}
 use Rattle.curve_lines.specs.declared.keyed.KeyedCurve.{KeyedCurve}
 

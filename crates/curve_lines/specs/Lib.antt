@@ -1,4 +1,7 @@
+pub mod Formats
 pub mod Keys
 pub mod Lines
+pub mod Parts
 pub mod Runs
+pub mod Sizes
 pub mod Texts

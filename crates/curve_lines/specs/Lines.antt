@@ -56,6 +56,11 @@ request_for key Removal = Some (removes (keyed key))
 request_for key (Weight weight) = Some (asks (keyed key) weight)
 request_for key Wrong = None
 
+abbrev pub is_size : Size → Bool
+is_size Removal = true
+is_size (Weight weight) = true
+is_size Wrong = false
+
 abbrev pub request_by : ℕ → Option (List ℕ × List ℕ) → Option Request
 request_by overhead None = None
 request_by overhead (Some words) = request_for words.0 (size_in overhead words.1)

@@ -2,14 +2,26 @@
 #![tactic(auto)]
 
 mod fault;
+mod format;
+mod hash;
 mod keyed;
+mod limits;
 mod line;
+mod part;
+mod progress;
 mod read;
+mod record;
+mod scaled;
 mod sizes;
 mod text;
+mod unit;
 
 pub use fault::RunFault;
+pub use format::{Format, Rules};
 pub use keyed::KeyedCurve;
+pub use limits::{Limits, MOST_STEPS};
+pub use part::Part;
+pub use progress::{EACH, Progress};
 pub use read::{Found, curve};
-pub use sizes::{is_rising, size};
+pub use sizes::size;
 pub use text::report;

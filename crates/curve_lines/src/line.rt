@@ -5,10 +5,14 @@ ghost use Rattle.size_curve.specs.Requests.{Request};
 ghost use Rattle.size_curve.specs.Rows.{limits_of};
 ghost use Rattle.size_curve.specs.Numbers.{mark_of};
 ghost use Rattle.curve_lines.specs.Keys.{keyed, IsFedKeys};
-ghost use Rattle.curve_lines.specs.Lines.{is_blank, is_dark, is_digit, after_blanks, word_of, after_word, words_in, number_from, weighed, size_in, request_for, request_in};
+ghost use Rattle.curve_lines.specs.Lines.{is_blank, is_dark, is_digit, after_blanks, word_of, after_word, words_in, number_from, weighed, size_in, request_for, request_in, is_size};
+ghost use Rattle.curve_lines.specs.Parts.{kept};
 ghost use Rattle.curve_lines.specs.Runs.{onto};
 
+use crate::format::Rules;
+use crate::hash::is_in;
 use crate::keyed::KeyedCurve;
+use crate::part::Part;
 use size_curve::CurveFault;
 use std::alloc::Global;
 
@@ -89,7 +93,7 @@ pub(crate) fn number(word: &[u8]) -> Option<u64>
 }
 
 // What an entry of so many bytes weighs.
-fn weighed(overhead: u64, bytes: Option<u64>) -> Size
+pub(crate) fn weighed(overhead: u64, bytes: Option<u64>) -> Size
     ensures { result ≡ weighed overhead bytes }
 {
     let Some(bytes) = bytes else {
@@ -110,14 +114,33 @@ fn size_of(overhead: u64, word: &[u8]) -> Size
     weighed(overhead, number(word))
 }
 
-// Feeds a request of that key and size, and returns whether it is one.
-fn add(curve: &mut KeyedCurve, alloc: Global, key: &[u8], size: Size) -> Result<bool, CurveFault>
+// Whether a size is one.
+fn is_request(size: Size) -> bool
+    ensures { result ≡ is_size size }
+{
+    match size {
+        Size::Wrong => false,
+        _ => true,
+    }
+}
+
+// Feeds a request of that key and size, if the key is in the part, and returns whether it is a request.
+pub(crate) fn add(
+    curve: &mut KeyedCurve,
+    alloc: Global,
+    part: Option<Part>,
+    key: &[u8],
+    size: Size,
+) -> Result<bool, CurveFault>
     requires { (requests : List Request) × IsFedKeys curve.old requests }
-    ensures fed { OnOk result ((requests : List Request) → IsFedKeys curve.old requests → IsFedKeys curve.new (onto (request_for key.now size) requests)) }
+    ensures fed { OnOk result ((requests : List Request) → IsFedKeys curve.old requests → IsFedKeys curve.new (onto (kept part (request_for key.now size)) requests)) }
     ensures told { IfOk result (λ yes. yes ≡ is_some (request_for key.now size)) }
     ensures mark { OnOk result (mark_of curve.new.curve.watermark ≡ mark_of curve.old.curve.watermark) }
     ensures limits { OnOk result (limits_of curve.new.curve.table ≡ limits_of curve.old.curve.table) }
 {
+    if !is_in(part, key) {
+        return Ok(is_request(size));
+    }
     match size {
         Size::Wrong => Ok(false),
         Size::Removal => {
@@ -135,12 +158,12 @@ fn add(curve: &mut KeyedCurve, alloc: Global, key: &[u8], size: Size) -> Result<
 pub(crate) fn add_line(
     curve: &mut KeyedCurve,
     alloc: Global,
-    overhead: u64,
+    rules: Rules,
     line: &[u8],
 ) -> Result<bool, CurveFault>
     requires { (requests : List Request) × IsFedKeys curve.old requests }
-    ensures fed { OnOk result ((requests : List Request) → IsFedKeys curve.old requests → IsFedKeys curve.new (onto (request_in overhead line.now) requests)) }
-    ensures told { IfOk result (λ yes. yes ≡ is_some (request_in overhead line.now)) }
+    ensures fed { OnOk result ((requests : List Request) → IsFedKeys curve.old requests → IsFedKeys curve.new (onto (kept rules.part (request_in rules.overhead line.now)) requests)) }
+    ensures told { IfOk result (λ yes. yes ≡ is_some (request_in rules.overhead line.now)) }
     ensures mark { OnOk result (mark_of curve.new.curve.watermark ≡ mark_of curve.old.curve.watermark) }
     ensures limits { OnOk result (limits_of curve.new.curve.table ≡ limits_of curve.old.curve.table) }
 {
@@ -149,6 +172,6 @@ pub(crate) fn add_line(
     if third.is_empty() || !after_word(third).is_empty() {
         return Ok(false);
     }
-    let size = size_of(overhead, word_of(third));
-    add(curve, alloc, word_of(second), size)
+    let size = size_of(rules.overhead, word_of(third));
+    add(curve, alloc, rules.part, word_of(second), size)
 }

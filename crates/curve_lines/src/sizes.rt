@@ -1,23 +1,36 @@
 //! Sizes as people write them.
-ghost use Rattle.std.specs.Prelude.{◌≡◌, ℕ, ◌≤◌, ◌<◌, length, slice_index_or, IsTrue};
+ghost use Rattle.std.specs.Prelude.{◌≡◌};
+ghost use Rattle.curve_lines.specs.Sizes.{digits_in, times, size_of_text};
 
 use crate::line::number;
 
-/// The number of bytes that a text says: digits, and after them perhaps `K`, `M`, `G` or `T` for thousands, millions and so on.
-pub fn size(text: &[u8]) -> Option<u64> {
-    match text.split_last() {
-        Some((b'K', digits)) => number(digits)?.checked_mul(1_000),
-        Some((b'M', digits)) => number(digits)?.checked_mul(1_000_000),
-        Some((b'G', digits)) => number(digits)?.checked_mul(1_000_000_000),
-        Some((b'T', digits)) => number(digits)?.checked_mul(1_000_000_000_000),
-        Some(_) => number(text),
-        None => None,
+// The number of one digit or more.
+fn digits(text: &[u8]) -> Option<u64>
+    ensures { result ≡ digits_in text.now }
+{
+    if text.is_empty() {
+        return None;
     }
+    number(text)
 }
 
-/// Whether no limit is greater than a later one.
-pub fn is_rising(limits: &[u64]) -> bool
-    ensures { IsTrue result → (i j : ℕ) (d : ℕ) → i ≤ j → j < length limits.now → slice_index_or limits.now i d ≤ slice_index_or limits.now j d }
+// So many of a unit.
+fn times(each: u64, text: &[u8]) -> Option<u64>
+    ensures { result ≡ times each (digits_in text.now) }
 {
-    limits.is_sorted()
+    digits(text)?.checked_mul(each)
+}
+
+/// The number of bytes that a text says: digits, and after them perhaps `K`, `M`, `G` or `T` for thousands, millions and so on.
+pub fn size(text: &[u8]) -> Option<u64>
+    ensures { result ≡ size_of_text text.now }
+{
+    match text.split_last() {
+        Some((b'K', front)) => times(1_000, front),
+        Some((b'M', front)) => times(1_000_000, front),
+        Some((b'G', front)) => times(1_000_000_000, front),
+        Some((b'T', front)) => times(1_000_000_000_000, front),
+        Some(_) => digits(text),
+        None => None,
+    }
 }

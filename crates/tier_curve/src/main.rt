@@ -1,10 +1,10 @@
-//! Reads requests on standard input, a line each, and writes what caches of all named limits find of them.
+//! Reads requests on standard input, a line or record each, and writes what caches of all named limits find of them.
 #![tactic(auto)]
 
 mod options;
 
 use crate::options::{Fault, Options, read_options};
-use curve_lines::{RunFault, curve, is_rising, report};
+use curve_lines::{Progress, RunFault, curve, report};
 use log::{Log, warn};
 use lru_core::SeededState;
 use std::io::{self, BufReader};
@@ -26,31 +26,46 @@ fn random_start<R: RandomSource>(rt: &R) -> Result<SeededState, io::Error> {
     })
 }
 
+// Tells on standard error how far a run has come.
+#[derive(Drop)]
+struct Told<'a, R> {
+    rt: &'a R,
+    quiet: bool,
+}
+
+impl<'a, R: Log> Progress for Told<'a, R> {
+    fn tell(&mut self, read: u64, entries: usize) {
+        if !self.quiet {
+            warn!(self.rt; "{read} lines or records read, {entries} entries");
+        }
+    }
+}
+
 // Runs by the options of the command line.
-fn run<R: Env + Input + Print + AllocGlobal + RandomSource>(rt: &R) -> Result<(), Fault> {
+fn run<R: Env + Input + Print + AllocGlobal + RandomSource + Log>(rt: &R) -> Result<(), Fault> {
     let options = read_options(rt)?;
     run_with(rt, &options).map_err(Fault::Run)
 }
 
 // Reads standard input, and writes what was found.
-fn run_with<R: Input + Print + AllocGlobal + RandomSource>(
+fn run_with<R: Input + Print + AllocGlobal + RandomSource + Log>(
     rt: &R,
     options: &Options,
 ) -> Result<(), RunFault> {
     let alloc = rt.alloc();
-    let limits = options.limits.as_slice();
-    if !is_rising(limits) {
-        return Ok(());
-    }
     let hasher = random_start(rt)?;
     let mut reader = BufReader::new(alloc, rt.reader())?;
     let found = curve(
         alloc,
         hasher,
         &mut reader,
-        limits,
+        &options.limits,
         options.watermark,
-        options.overhead,
+        options.rules,
+        &mut Told {
+            rt,
+            quiet: options.quiet,
+        },
     )?;
     report(alloc, &mut io::writer(rt), &found)
 }

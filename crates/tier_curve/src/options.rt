@@ -1,13 +1,13 @@
 //! The options of the command line.
-use clap::{Arg, ArgMatches, Command};
-use curve_lines::{RunFault, is_rising, size};
+use clap::{Arg, ArgAction, ArgMatches, Command};
+use curve_lines::{Format, Limits, Rules, RunFault, size};
 use std::alloc::{AllocError, AllocFailed, Global};
 use std::rt::Env;
 use std::{env, io};
 use thiserror::Error;
 
 const ABOUT: &str =
-    "Reads requests on standard input, a line each: a time, a key, and the bytes of its body, or a dash where the key is removed. Writes how many requests caches of each limit find, and how many bytes, as CSV.";
+    "Reads requests on standard input, by default a line each: a time, a key, and the bytes of its body, or a dash where the key is removed. Writes how many requests caches of each limit find, and how many bytes, as CSV.";
 
 const STATUSES: &str =
     "Exit status: 0; 1 on an I/O error or out of memory; 2 on a bad command line.";
@@ -16,11 +16,13 @@ const STATUSES: &str =
 #[derive(Drop)]
 pub struct Options {
     /// The limits, none greater than a later one.
-    pub limits: Vec<u64>,
+    pub limits: Limits,
     /// The most entries that a cache tracks, if their number has a bound.
     pub watermark: Option<u64>,
-    /// What each entry takes beside its body.
-    pub overhead: u64,
+    /// How the requests are read.
+    pub rules: Rules,
+    /// Whether nothing is told of the run while it goes on.
+    pub quiet: bool,
 }
 
 /// Why the program ended early.
@@ -78,15 +80,33 @@ fn option<'a>(
 
 fn command<'a>(alloc: Global) -> Result<Command<'a>, AllocError> {
     let limits = "The limits in bytes, as 1M,10M,1G: from the least to the greatest";
+    let steps = "How many limits, by equal ratios from the first to the last [default: 40]";
     let watermark = "The most entries that a cache tracks [default: no bound]";
     let overhead = "What each entry takes beside its body, in bytes [default: 0]";
+    let format =
+        "text, records (16 bytes: the key's number, the bytes) or oracle-general (libCacheSim's, 24 bytes) [default: text]";
     Command::new(alloc, "tier-curve")
         .version("0.1.0")
         .about(ABOUT)
         .after_help(STATUSES)
-        .arg(option(alloc, "limits", "SIZES", limits).required(true))?
+        .arg(option(alloc, "limits", "SIZES", limits))?
+        .arg(option(
+            alloc,
+            "from",
+            "SIZE",
+            "The first limit, in place of --limits",
+        ))?
+        .arg(option(alloc, "to", "SIZE", "The last limit"))?
+        .arg(option(alloc, "steps", "COUNT", steps))?
         .arg(option(alloc, "watermark", "ENTRIES", watermark))?
-        .arg(option(alloc, "overhead", "BYTES", overhead))
+        .arg(option(alloc, "overhead", "BYTES", overhead))?
+        .arg(option(alloc, "format", "FORMAT", format))?
+        .arg(
+            Arg::new(alloc, "quiet")
+                .long("quiet")
+                .action(ArgAction::SetTrue)
+                .help("Tell nothing on standard error while the requests are read"),
+        )
 }
 
 // The size that an option says, where it is given.
@@ -104,11 +124,24 @@ fn size_of(
     }
 }
 
+// The format that a word names.
+fn format_of(word: &str) -> Result<Format, Fault> {
+    match word.len() {
+        4 if word == "text" => Ok(Format::Text),
+        7 if word == "records" => Ok(Format::Records),
+        14 if word == "oracle-general" => Ok(Format::OracleGeneral),
+        _ => Err(Fault::Wrong("--format: text, records or oracle-general is wanted")),
+    }
+}
+
 const WRONG_LIMITS: &str =
     "--limits: sizes such as 1M,10M,1G are wanted, from the least to the greatest";
 
+const WRONG_ENDS: &str =
+    "--limits, or --from and --to with --steps: two sizes, the first not 0 and no greater than the last, and 2 to 100000 steps are wanted";
+
 // The sizes of a list, apart by commas.
-fn sizes(alloc: Global, text: &str) -> Result<Vec<u64>, Fault> {
+fn listed(alloc: Global, text: &str) -> Result<Limits, Fault> {
     let mut all = Vec::new(alloc);
     for word in text.as_bytes().split(|byte| *byte == b',') {
         let Some(number) = size(word) else {
@@ -116,20 +149,50 @@ fn sizes(alloc: Global, text: &str) -> Result<Vec<u64>, Fault> {
         };
         all.push(number)?;
     }
-    Ok(all)
+    Limits::new(all).ok_or(Fault::Wrong(WRONG_LIMITS))
+}
+
+// The limits between two ends.
+fn between(alloc: Global, matches: &ArgMatches<'_>) -> Result<Limits, Fault> {
+    let from = size_of(matches, "from", WRONG_ENDS)?;
+    let to = size_of(matches, "to", WRONG_ENDS)?;
+    let steps = size_of(matches, "steps", WRONG_ENDS)?.unwrap_or(40);
+    let (Some(from), Some(to)) = (from, to) else {
+        return Err(Fault::Wrong(WRONG_ENDS));
+    };
+    Limits::between(alloc, from, to, steps)?.ok_or(Fault::Wrong(WRONG_ENDS))
+}
+
+fn has(matches: &ArgMatches<'_>, name: &'static str) -> bool {
+    matches.get_str(name).is_some()
+}
+
+// The limits, which are listed or between two ends.
+fn limits_in(alloc: Global, matches: &ArgMatches<'_>) -> Result<Limits, Fault> {
+    let Some(text) = matches.get_str("limits") else {
+        return between(alloc, matches);
+    };
+    if has(matches, "from") || has(matches, "to") || has(matches, "steps") {
+        return Err(Fault::Wrong(WRONG_ENDS));
+    }
+    listed(alloc, text)
 }
 
 fn options_in(alloc: Global, matches: &ArgMatches<'_>) -> Result<Options, Fault> {
-    let limits = sizes(alloc, matches.get_str("limits").unwrap_or(""))?;
-    if !is_rising(limits.as_slice()) {
-        return Err(Fault::Wrong(WRONG_LIMITS));
-    }
+    let limits = limits_in(alloc, matches)?;
     let watermark = size_of(matches, "watermark", "--watermark: a number is wanted")?;
     let overhead = size_of(matches, "overhead", "--overhead: a number is wanted")?;
+    let format = format_of(matches.get_str("format").unwrap_or("text"))?;
+    let overhead = overhead.unwrap_or(0);
     Ok(Options {
         limits,
         watermark,
-        overhead: overhead.unwrap_or(0),
+        rules: Rules {
+            format,
+            overhead,
+            part: None,
+        },
+        quiet: matches.get_flag("quiet"),
     })
 }
 

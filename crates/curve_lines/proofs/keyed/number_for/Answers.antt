@@ -1,7 +1,6 @@
-use Rattle.std.proofs.Common.{◌≡◌, ◌∙◌, sym, ap, List, ℕ, Option, subst, rules, Some, None}
-use Rattle.std.specs.Option.{option_copied}
+use Rattle.std.proofs.Common.{◌≡◌, ℕ, subst, rules, None}
 use Rattle.curve_lines.specs.Keys.{number_of, IsNumbered}
-use Rattle.curve_lines.proofs.Numbering.{numbered-next, numbered-known}
+use Rattle.curve_lines.proofs.Numbering.{numbered-next}
 use Rattle.curve_lines.proofs.keyed.number_for.Goals as goal
 
 pub returns : goal.returns

@@ -1,4 +1,4 @@
-use Rattle.std.proofs.Common.{◌≡◌, ◌<◌, ◌^◌, drop}
+use Rattle.std.proofs.Common.{◌≡◌, drop}
 use Rattle.curve_lines.specs.Lines.{number_from}
 use Rattle.curve_lines.proofs.line.number.Given as goal
 

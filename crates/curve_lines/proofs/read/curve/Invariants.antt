@@ -6,11 +6,11 @@ use Rattle.curve_lines.specs.Keys.{IsFedKeys}
 use Rattle.curve_lines.specs.Runs.{IsHalfway}
 use Rattle.curve_lines.proofs.read.curve.Given as goal
 
-abbrev pub invariant-loop-turn : goal.invariant-loop-turn
-invariant-loop-turn g l = record {
+abbrev pub invariant-loop-read : goal.invariant-loop-read
+invariant-loop-read g l = record {
   fed : (requests : List Request) × IsFedKeys l.curve requests;
-  halfway : IsHalfway l.overhead (g.R.Read.remaining l.fn.reader) (g.R.Read.remaining l.reader) l.curve l.wrong;
+  halfway : IsHalfway l.rules (g.R.Read.remaining l.fn.reader) (g.R.Read.remaining l.reader) l.curve l.wrong l.read;
   mark : mark_of l.curve.curve.watermark ≡ l.fn.watermark;
-  limits : limits_of l.curve.curve.table ≡ l.limits;
-  few : l.wrong ≤ l.turn;
+  limits : limits_of l.curve.curve.table ≡ l.limits.all.items;
+  few : l.wrong ≤ l.read;
 }

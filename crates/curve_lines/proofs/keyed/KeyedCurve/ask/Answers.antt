@@ -1,4 +1,4 @@
-use Rattle.std.proofs.Common.{◌≡◌, ◌∙◌, ◌∷◌, ℕ, length, subst}
+use Rattle.std.proofs.Common.{◌∷◌, ℕ, subst}
 use Rattle.size_curve.specs.Requests.{asks}
 use Rattle.size_curve.specs.Numbers.{numbered}
 use Rattle.curve_lines.specs.Keys.{number_of, IsNumbered}

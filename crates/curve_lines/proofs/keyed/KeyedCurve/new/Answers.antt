@@ -1,5 +1,4 @@
-use Rattle.std.proofs.Common.{◌≡◌, ℕ, [], List, Option, Some, None, rules, sym, ap, ◌∙◌, refl}
-use Rattle.std.specs.HashMap.{HashMap}
+use Rattle.std.proofs.Common.{◌≡◌, ℕ, [], List, None, rules, refl}
 use Rattle.curve_lines.specs.Keys.{number_of, none}
 use Rattle.curve_lines.proofs.KeyedLaws.{none-some}
 use Rattle.curve_lines.proofs.keyed.KeyedCurve.new.Goals as goal

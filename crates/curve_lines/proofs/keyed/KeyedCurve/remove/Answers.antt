@@ -1,4 +1,4 @@
-use Rattle.std.proofs.Common.{◌≡◌, ◌∷◌, Some, None, rules, sym, ap, subst, List, ℕ, ◌∙◌}
+use Rattle.std.proofs.Common.{◌≡◌, ◌∷◌, Some, None, rules, sym, subst, List, ℕ}
 use Rattle.size_curve.specs.Requests.{removes}
 use Rattle.size_curve.specs.Numbers.{numbered}
 use Rattle.curve_lines.specs.Keys.{number_of, AreKeyed, keyed}
