@@ -9,7 +9,7 @@ pub returns-clause-fed : goal.returns-clause-fed
 returns-clause-fed c = λ requests f. record {
   numbers = asks (numbered c.in_ok-number.number) c.args.weight ∷ f.numbers;
   keys = keyed-asked (number_of c.args.self.now.numbers) (number_of c.number_for.new.numbers) c.args.self.now.curve.weights.items c.ask.new.self.weights.items requests f.numbers c.args.key.now c.args.weight c.in_ok-number.number
-      (subst (λ (x : ℕ). IsNumbered (number_of c.args.self.now.numbers) (number_of c.number_for.new.numbers) c.args.key.now x c.in_ok-number.number) c.entries.ensures c.in_ok-number.ensures)
+      (subst (λ (x : ℕ). IsNumbered (number_of c.args.self.now.numbers) (number_of c.number_for.new.numbers) c.args.key.now x c.in_ok-number.number) c.entries.ensures.value c.in_ok-number.ensures)
       c.in_ok-ask.ensures.known c.in_ok-ask.ensures.next f.keys;
   fed = c.in_ok-ask.ensures.fed f.numbers f.fed;
 }
