@@ -1,4 +1,5 @@
 //! Each refused growth in turn.
+mod files;
 mod over_bodies;
 
 use crate::asks::Ask;
