@@ -1,14 +1,16 @@
 //! Requests that are served where memory is refused, by one tier and by two side by side.
 use crate::asks::key;
+use crate::trials::Held;
 use bytes::Bytes;
 use cache_tier::tier::Tier;
 use cache_words::time::{Duration, Moment};
 use lru_core::SeededState;
 use rand_pcg::Pcg32;
-use served_requests::{Method, Request, Serve, Served, uniform};
+use served_requests::{Method, Request, Serve, Served};
 use std::alloc::Global;
 use tier_model::event::TierFault;
 use tier_model::report::Report;
+use two_tiers::{Pair, Side, Stopped, run_two, uniform};
 
 // A key, and the response that the origin would give; none where what is stored is purged.
 type Asked = (u8, &'static [u8]);
@@ -141,6 +143,12 @@ fn a_refused_serve_keeps_its_look_up_alone(rt: HostRuntime) {
 // What is asked of two tiers, of two bytes and of 100.
 const ASKED: &[Asked] = &[(b'a', TWO), (b'b', TWO), (b'a', TWO)];
 
+const WANTED: &[(Gave, Gave)] = &[
+    (Gave::Filled(false, 2, 0), Gave::Filled(false, 2, 0)),
+    (Gave::Filled(false, 2, 1), Gave::Filled(false, 2, 0)),
+    (Gave::Filled(false, 2, 1), Gave::Hit(2)),
+];
+
 fn requests(alloc: Global, all: &[Asked]) -> Option<Vec<Request>> {
     let mut requests = Vec::new(alloc);
     for &asked in all {
@@ -154,6 +162,86 @@ fn requests(alloc: Global, all: &[Asked]) -> Option<Vec<Request>> {
         }
     }
     Some(requests)
+}
+
+fn is_wanted(pair: &Pair, place: usize) -> bool {
+    match WANTED.get(place) {
+        Some(&(lesser, greater)) => {
+            of_served(&pair.lesser) == lesser && of_served(&pair.greater) == greater
+        }
+        None => false,
+    }
+}
+
+fn are_wanted(pairs: &[Pair]) -> bool {
+    let mut all = true;
+    let mut place = 0usize;
+    for pair in pairs {
+        all = is_wanted(pair, place) && all;
+        place = place.wrapping_add(1);
+    }
+    all
+}
+
+// Whether a run that stopped gives the pairs until then, and tells whose fault it was: that tier's look-up is counted or not, the lesser
+// one served as many requests as there are pairs, and one more where the fault is the other's.
+fn is_told(stopped: &Stopped, lesser: u64, greater: u64) -> bool {
+    let served = stopped.pairs.len() as u64;
+    let is_told = match stopped.side {
+        None => served == 0 && lesser == 0 && greater == 0,
+        Some(Side::Lesser) => greater == served && lesser.saturating_sub(served) <= 1,
+        Some(Side::Greater) => lesser.saturating_sub(served) == 1 && greater <= lesser,
+    };
+    is_told && matches!(stopped.fault, TierFault::Memory(_)) && are_wanted(stopped.pairs.as_slice())
+}
+
+fn run(alloc: Global, lesser: &mut Tier<1>, greater: &mut Tier<1>, requests: &[Request]) -> Held {
+    let mut rng = Pcg32::new(1, 1);
+    match run_two(alloc, lesser, greater, &mut rng, requests) {
+        Ok(pairs) if pairs.len() == 3 && are_wanted(pairs.as_slice()) => Held::Answered,
+        Err(stopped) if is_told(&stopped, looked(lesser.report()), looked(greater.report())) => {
+            Held::Refused
+        }
+        _ => Held::Broken,
+    }
+}
+
+fn run_beside(alloc: Global, lesser: &mut Tier<1>, requests: &[Request]) -> Held {
+    match tier(alloc, 100) {
+        Some(mut greater) => run(alloc, lesser, &mut greater, requests),
+        None => Held::Elsewhere,
+    }
+}
+
+// A run of two tiers that are empty.
+fn run_fresh(alloc: Global, requests: &[Request]) -> Held {
+    match tier(alloc, 2) {
+        Some(mut lesser) => run_beside(alloc, &mut lesser, requests),
+        None => Held::Elsewhere,
+    }
+}
+
+// The same, and where that is refused once more.
+fn run_again(alloc: Global, requests: &[Request]) -> Held {
+    match run_fresh(alloc, requests) {
+        Held::Refused => match run_fresh(alloc, requests) {
+            Held::Answered => Held::Refused,
+            _ => Held::Broken,
+        },
+        held => held,
+    }
+}
+
+fn runs(alloc: Global) -> Held {
+    match requests(alloc, ASKED) {
+        Some(requests) => run_again(alloc, requests.as_slice()),
+        None => Held::Elsewhere,
+    }
+}
+
+#[test]
+fn a_refused_run_of_two_gives_the_pairs_before_it(rt: HostRuntime) {
+    assert!(rt; runs(rt.alloc()) != Held::Broken);
 }
 
 const UNLIKE: &[Asked] = &[(b'a', TWO), (b'a', THREE)];
@@ -183,5 +271,5 @@ fn a_refused_question_is_answered_when_asked_again(rt: HostRuntime) {
 
 #[test]
 fn ample_memory_meets_no_refusal(rt: HostRuntime) {
-    assert!(rt; serves(rt.alloc()));
+    assert!(rt; runs(rt.alloc()) == Held::Answered && serves(rt.alloc()));
 }
