@@ -3,14 +3,14 @@
 
 usage: scripts/wrong-bodies.py [NAME..]
 
-A wrong body is a named one, an edit of crates/*/must-fail, of which a line of wrong-bodies/index.txt says what fails; or one that no contract refuses and a test does,
-an edit of wrong-bodies/ with two lines more: 'crate: NAME', and 'test: ' with what fails. That is
+A wrong body is a named one, an edit of crates/*/must-fail, of which lines of wrong-bodies/index.txt say what fails; or one that no contract refuses and a test does,
+an edit of wrong-bodies/ with more lines: 'crate: NAME', and 'test: ' with what fails, one or several. That is
 
     traces                of traces/, replayed by tier-replay, some are answered otherwise
     CRATE stdout          the program CRATE writes something else than its file stdout
     CRATE TEST            of the crate of tests CRATE that test
 
-Without names all are tried; each takes two to four processor minutes. It prints a line for each, and fails where one is not shown or a named wrong body has no line.
+Without names all are tried; each thing that fails takes two to four processor minutes. It prints a line for each, and fails where one is not shown or, without names, a named wrong body has no line.
 A proof that is refused says that contract and proof no longer fit; an answer that is wrong shows that the body is.
 """
 import os
@@ -31,16 +31,17 @@ TRACES = os.path.join(TOP, "traces")
 
 
 def rows():
-    """Gives of each wrong body the crate that is edited, its name, the text of its edit and the words of what fails."""
+    """Gives for each thing that fails under a wrong body the crate that is edited, the body's name, the text of its edit and the words of what fails."""
     for line in sources.read(os.path.join(BODIES, "index.txt")).splitlines():
         crate, name, *how = line.split()
         yield crate, name, sources.read(os.path.join(TOP, "crates", crate, "must-fail", name + ".edit")), how
     for file in sorted(os.listdir(BODIES)):
         if file.endswith(".edit"):
             lines = sources.read(os.path.join(BODIES, file)).splitlines()
-            said = dict(it.split(": ", 1) for it in lines if it.startswith(("crate: ", "test: ")))
+            said = [it.split(": ", 1) for it in lines if it.startswith(("crate: ", "test: "))]
             edit = "\n".join(it for it in lines if not it.startswith(("crate: ", "test: ")))
-            yield said["crate"], file[: -len(".edit")], edit, said["test"].split()
+            for how in (it for word, it in said if word == "test"):
+                yield dict(said)["crate"], file[: -len(".edit")], edit, how.split()
 
 
 def missing():
@@ -112,10 +113,10 @@ def shown(room, how):
 
 
 def main():
-    lost = list(missing())
+    asked, unshown = set(sys.argv[1:]), 0
+    lost = [] if asked else list(missing())
     for it in lost:
         print(f"{it}: no line of wrong-bodies/index.txt")
-    asked, unshown = set(sys.argv[1:]), 0
     for crate, name, edit, how in rows():
         if asked and name not in asked:
             continue

@@ -34,7 +34,7 @@ pub(crate) enum Ask {
     PutStale(u8, &'static [u8]),
 }
 
-fn key(alloc: Global, name: u8) -> Option<CacheKey> {
+pub(crate) fn key(alloc: Global, name: u8) -> Option<CacheKey> {
     tagged_key(alloc, name, "")
 }
 

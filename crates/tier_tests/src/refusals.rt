@@ -1,5 +1,7 @@
 //! Each refused growth in turn.
+mod files;
 mod over_bodies;
+mod served;
 
 use crate::asks::Ask;
 use crate::outcomes::Outcome;

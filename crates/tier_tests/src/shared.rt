@@ -1,4 +1,5 @@
 //! A tier that threads share.
 mod asks;
 mod meeting;
+mod refusals;
 mod threads;
