@@ -9,8 +9,9 @@ an edit of wrong-bodies/ with more lines: 'crate: NAME', and 'test: ' with what 
     traces                of traces/, replayed by tier-replay, some are answered otherwise
     CRATE stdout          the program CRATE writes something else than its file stdout
     CRATE TEST            of the crate of tests CRATE that test
+    CRATE TEST refused    that test, where one of its allocations fails: the first, the second, .., until it fails
 
-Without names all are tried; each thing that fails takes two to four processor minutes. It prints a line for each, and fails where one is not shown or, without names, a named wrong body has no line.
+Without names all are tried; each thing that fails takes two to four processor minutes, the last form as much for each allocation. It prints a line for each, and fails where one is not shown or, without names, a named wrong body has no line.
 A proof that is refused says that contract and proof no longer fit; an answer that is wrong shows that the body is.
 """
 import os
@@ -28,6 +29,8 @@ import sources  # noqa: E402
 
 BODIES = os.path.join(TOP, "wrong-bodies")
 TRACES = os.path.join(TOP, "traces")
+# A test of a refused growth makes fewer allocations than that.
+MOST_ALLOCATIONS = 100
 
 
 def rows():
@@ -100,15 +103,25 @@ def shown_by_output(room, crate):
     return ran.returncode not in (1, 2, 3) and lines, f"{crate} doesn't write: {lines[0]}" if lines else ran.stderr[-600:]
 
 
-def shown_by_test(room, crate, test):
-    status, said = tried(room, crate, ["--test"])
+def shown_by_test(room, crate, test, *words):
+    status, said = tried(room, crate, ["--test", *words])
     failed = re.search(rf"(?m)\b{re.escape(test)}\b \.\.\. FAILED", said)
     return status not in (0, 1, 2, 3) and failed, f"{crate}: {test} fails" if failed else said[-600:]
+
+
+def shown_by_refusals(room, crate, test):
+    for at in range(1, MOST_ALLOCATIONS + 1):
+        is_shown, what = shown_by_test(room, crate, test, "--fail-alloc", str(at))
+        if is_shown:
+            return True, f"{what} where allocation {at} fails"
+    return False, f"{crate}: {test} fails at none of {MOST_ALLOCATIONS} allocations"
 
 
 def shown(room, how):
     if how == ["traces"]:
         return shown_by_traces(room)
+    if how[2:] == ["refused"]:
+        return shown_by_refusals(room, *how[:2])
     return shown_by_output(room, how[0]) if how[1] == "stdout" else shown_by_test(room, *how)
 
 

@@ -1,13 +1,13 @@
 //! Runs of two tiers.
 use crate::served::{number, request};
-use cache_tier::{Duration, Tier};
+use cache_tier::{Duration, Tier, TierFault};
 use lru_core::SeededState;
 use rand_core::SeedableRng;
 use rand_pcg::Pcg64;
 use served_requests::{Request, Served};
 use std::alloc::{AllocError, Global};
 use std::fmt::Write;
-use two_tiers::{Pair, run_two, uniform};
+use two_tiers::{Pair, Side, Stopped, run_two, uniform};
 
 type OneShard = Tier<1, SeededState>;
 
@@ -61,6 +61,25 @@ fn push_pairs(text: &mut String, pairs: &[Pair]) -> Result<(), AllocError> {
     Ok(())
 }
 
+// The name of a fault that a run meets.
+fn fault_name(fault: &TierFault) -> &'static str {
+    match fault {
+        TierFault::BeforeEpoch => "BeforeEpoch",
+        _ => "another",
+    }
+}
+
+// The pairs of a run that stopped, and one more word for where and why it did.
+fn push_stopped(text: &mut String, stopped: &Stopped) -> Result<(), AllocError> {
+    push_pairs(text, stopped.pairs.as_slice())?;
+    let side = match stopped.side {
+        Some(Side::Lesser) => "lesser",
+        Some(Side::Greater) => "greater",
+        None => "nobody",
+    };
+    write!(text, " stopped:{side}:{}", fault_name(&stopped.fault))
+}
+
 // One more word for the order of use.
 fn push_order(alloc: Global, text: &mut String, one: &OneShard) -> Result<(), AllocError> {
     text.push(' ')?;
@@ -81,7 +100,7 @@ fn run(
     let mut text = format!(in alloc; "{}", uniform(alloc, HASHER, requests)?)?;
     match run_two(alloc, lesser, greater, &mut rng, requests) {
         Ok(pairs) => push_pairs(&mut text, pairs.as_slice())?,
-        Err(_) => text.push_str(" fault")?,
+        Err(stopped) => push_stopped(&mut text, &stopped)?,
     }
     push_order(alloc, &mut text, lesser)?;
     push_order(alloc, &mut text, greater)?;

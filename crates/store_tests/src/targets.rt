@@ -66,6 +66,11 @@ fn is_target(alloc: Global, entry: &CacheEntryKey, row: Row) -> bool {
         && (target == PurgeTarget::Active(key)) != is_exact
 }
 
+// Whether the entry that an exact purge removed is the target, where the store answers with the target's own id.
+fn is_removed_by_its_id(entry: &CacheEntryKey) -> bool {
+    PurgeTarget::Exact(entry).removed_entry(entry.entry_id()) == CacheEntryKeyRef::from(entry)
+}
+
 fn is_shown(alloc: Global, target: PurgeTarget<'_>, text: &str) -> bool {
     match format!(in alloc; "{target}") {
         Ok(shown) => shown.as_str() == text,
@@ -75,7 +80,7 @@ fn is_shown(alloc: Global, target: PurgeTarget<'_>, text: &str) -> bool {
 
 fn row_holds(alloc: Global, row: Row) -> bool {
     match entry(alloc, id_of(row.1)) {
-        Some(entry) => is_target(alloc, &entry, row),
+        Some(entry) => is_target(alloc, &entry, row) && is_removed_by_its_id(&entry),
         None => false,
     }
 }

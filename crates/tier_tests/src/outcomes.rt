@@ -36,6 +36,7 @@ pub(crate) enum Outcome {
     TooHeavy(bool, bool, usize),
     NoRequest,
     WrongPhase,
+    WriteRemoved,
     Else,
 }
 
@@ -90,6 +91,7 @@ pub(crate) fn outcome_of(answer: &Result<Answer, TierFault>) -> Outcome {
         }
         Err(TierFault::NoRequest) => Outcome::NoRequest,
         Err(TierFault::WrongPhase) => Outcome::WrongPhase,
+        Err(TierFault::WriteRemoved) => Outcome::WriteRemoved,
         _ => Outcome::Else,
     }
 }

@@ -40,7 +40,7 @@ pub(crate) enum Trial {
     New(&'static [Ask], bool, bool),
     // What has these outcomes, with what is tracked then weighs, and what was evicted.
     Weights(&'static [(Ask, Outcome, u64, usize)]),
-    // The store is lent: it shows writes in flight.
+    // The store is lent: it has the body of a put, and shows writes in flight.
     Store,
 }
 
@@ -226,7 +226,12 @@ fn try_on(alloc: Global, tier: &mut Tier<1>, trial: Trial) -> Held {
             }
         }
         Trial::Store => {
-            if tier.store().support_streaming_partial_write() {
+            let put = step(alloc, tier, Ask::Put(b'a', b"xx"));
+            if put != Outcome::Finished(2, 0) {
+                differs(put)
+            } else if tier.store().support_streaming_partial_write()
+                && tier.store().finished_len() == 1
+            {
                 Held::Answered
             } else {
                 Held::Broken

@@ -1,4 +1,4 @@
-//! Two threads that meet at a barrier.
+//! Two threads that meet at a barrier, and a caller whose call is refused.
 ghost use Rattle.std.specs.Prelude.{◌≡◌};
 
 use crate::shared::asks::Ask;
@@ -62,4 +62,19 @@ fn two_threads_find_each_others_keys(rt: HostRuntime) {
             }
         ))
     );
+}
+
+// Whether a look of a request that isn't open is refused.
+fn is_look_refused<L: Ledger, W: Wait>(rt: &W, alloc: Global, blank: Blank) -> Option<bool>
+    requires { (blank.name ≡ L.name) × (blank.parts ≡ L.parts) × (L.parts ≡ 4294967296) }
+{
+    let tier: Shared<L> = shared(alloc, blank)?;
+    let mut pass = tier.pass(rt).ok()?;
+    Some(call(rt, alloc, &tier, &mut pass, Ask::Look(1)).is_none())
+}
+
+#[test]
+fn a_look_of_no_request_is_refused(rt: HostRuntime) {
+    let refused = is_look_refused::<Brand, HostRuntime>(&rt, rt.alloc(), Blank::new(LEDGER_PARTS));
+    assert!(rt; refused == Some(true));
 }
