@@ -1,10 +1,12 @@
 #!/bin/sh
-# Measures ten million mixed calls on a core of 1,000 and of 1,000,000 rows (half of them promotions, a quarter admissions with
-# the eviction that follows, a quarter look-ups), beside a Rust hash map with an index list on the same machine. It builds a
-# small proved program over lru_core and a Rust program in a temporary folder.
+# Counts the instructions of 100,000 mixed calls on a core of 1,000 and of 100,000 rows (half of them promotions, a quarter admissions with
+# the eviction that follows, a quarter look-ups), beside a Rust hash map with an index list, and the memory of each. It builds a
+# small proved program over lru_core and a Rust program in a temporary folder; an argument names such a program that was built before.
 set -eu
 top=$(cd "$(dirname "$0")/../.." && pwd)
-. "$top/scripts/measure/seconds.sh"
+. "$top/scripts/measure/counted.sh"
+program=$(realpath "${1:-/dev/null}")
+[ $# -gt 0 ] || program=
 work=$(mktemp -d)
 trap 'rm -rf "$work"' EXIT
 mkdir -p "$work/crates/calls/src"
@@ -152,11 +154,12 @@ fn main() {
 R
 cd "$work"
 rustc -O -o rust_calls calls.rs
-(cd crates/calls && rt run -- 10 10) > log 2>&1 || { grep -v ': proved' log | tail -n 30; exit 1; }
-for rows in 1000 1000000; do
-    a=$(seconds crates/calls/out/calls "$rows" 0)
-    b=$(seconds crates/calls/out/calls "$rows" 10000000)
-    c=$(seconds ./rust_calls "$rows" 0)
-    d=$(seconds ./rust_calls "$rows" 10000000)
-    awk -v r="$rows" -v a="$a" -v b="$b" -v c="$c" -v d="$d" 'BEGIN { printf "%d rows: ten million calls %.2f s (and %.2f s to fill), the Rust list %.2f s (and %.2f s)\n", r, b - a, a, d - c, c }'
+built "$program" 10 10
+calls=100000
+for rows in 1000 100000; do
+    for list in crates/calls/out/calls ./rust_calls; do
+        a=$(counted $list "$rows" 0)
+        b=$(counted $list "$rows" "$calls")
+        echo "$rows rows, $(basename "$list"): $(((b - a) / calls)) instructions a call, $(greatest $list "$rows" 0) KiB"
+    done
 done
