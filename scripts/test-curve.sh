@@ -93,7 +93,7 @@ run --limits 8,81 --part 0/8 < /dev/null 2>&1 > /dev/null | grep -q 'each limit 
 # what a tier finds of three traces at three limits, where its program is built
 if [ -x "$replay" ]; then
     for seed in 1 2 4; do
-        python3 scripts/plain_curve.py --make "$seed" | awk 'NF == 3 && $3 ~ /^[0-9]+$/ && length($3) < 9' > "$room/log"
+        python3 scripts/plain_curve.py --make "$seed" | awk 'NF == 3 && $3 ~ /^[1-9][0-9]*$/ && length($3) < 9' > "$room/log"
         python3 scripts/access-log-to-trace.py < "$room/log" > "$room/trace" 2> /dev/null
         python3 scripts/access-log-to-trace.py --requests < "$room/log" > "$room/requests" 2> /dev/null
         run --limits 100,300,1200 < "$room/requests" > "$room/told"
