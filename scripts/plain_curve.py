@@ -126,8 +126,9 @@ def main():
     limits = [int(it) for it in options.limits.split(",")]
     mark = options.watermark if options.watermark is None else options.watermark // parts
     lists = [PlainList(it // parts, mark) for it in limits]
-    weights, asks, removed, odd, wrong, weighed = {}, 0, 0, 0, 0, 0
+    weights, asks, removed, odd, wrong, weighed, read = {}, 0, 0, 0, 0, 0, 0
     for request in requests(options.format, sys.stdin.buffer):
+        read += 1
         key, word = request or (b"", "")
         weight = size_of(word, options.overhead)
         if weight is None and word != "-":
@@ -146,7 +147,12 @@ def main():
     print("limit,finds,bytes_found,requests_percent,bytes_percent")
     for limit, it in zip(limits, lists):
         print(f"{limit},{it.finds},{it.bytes},{percent(it.finds, asks)},{percent(it.bytes, weighed)}")
-    print(f"# requests={asks} entries={len(weights)} removed={removed} odd={odd} passed_over={wrong} bytes={weighed}")
+    counts = f"# requests={asks} entries={len(weights)} removed={removed} odd={odd} passed_over={wrong} bytes={weighed}"
+    if options.part:
+        print(f"{counts} part={index}/{parts} overhead={options.overhead} read={read}")
+        print(f"# estimate: one of {parts} parts of the keys")
+        return
+    print(counts)
     if odd:
         print(f"# estimate: one shard; requests by another length than their entry's first: {odd}")
     else:

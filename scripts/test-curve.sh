@@ -1,12 +1,13 @@
 #!/bin/sh
 # Compares what tier_curve counts with plain lists in Python: random requests with removals, under limits and watermarks, with odd
-# sizes and wrong lines among them, as text and as records; and the limits between two ends with their exact ratios. It needs the
-# program, built or by its path as the first argument; without one `rt try` runs it.
+# sizes and wrong lines among them, as text and as records; eight parts of the keys, their merged curve and what merging refuses; and
+# the limits between two ends with their exact ratios. It needs the program, built or by its path as the first argument; without one `rt try` runs it.
 set -eu
 cd "$(dirname "$0")/.."
 room=$(mktemp -d)
 trap 'rm -rf "$room"' EXIT
 program=${1:-crates/tier_curve/out/tier_curve}
+replay=crates/tier_replay/out/tier_replay
 run() {
     if [ -x "$program" ]; then "$program" "$@"; else (cd crates/tier_curve && rt try --seconds 600 -- "$@" 2> /dev/null); fi
 }
@@ -35,6 +36,73 @@ run --limits 10 --format records < "$room/requests" | grep -q '^10,1,5,33.33,33.
 # libCacheSim's: time 1, key 7, 5 bytes, next use 2; then time 2
 printf '\001\0\0\0\007\0\0\0\0\0\0\0\005\0\0\0\002\0\0\0\0\0\0\0\002\0\0\0\007\0\0\0\0\0\0\0\005\0\0\0\377\377\377\377\377\377\377\377' > "$room/requests"
 run --limits 10 --format oracle-general < "$room/requests" | grep -q '^10,1,5,50.00,50.00$'
+# eight parts of the keys, each a cache of an eighth, and their sums
+refused() {
+    want=$1
+    shift
+    status=0
+    python3 scripts/merge-curves.py "$@" > "$room/told" 2> "$room/why" || status=$?
+    [ "$status" -eq 2 ] && [ ! -s "$room/told" ] && grep -q "$want" "$room/why" || { echo "status $status: $want: $*" >&2; exit 1; }
+}
+sums() {
+    awk -F, '/^[0-9]/ { finds[$1] += $2; bytes[$1] += $3 } END { for (it in finds) print it "," finds[it] "," bytes[it] }' "$@" | sort -n
+}
+limits=8,80,400,1600,80000
+for seed in 1 3; do
+    python3 scripts/plain_curve.py --make "$seed" > "$room/requests"
+    for part in 0 1 2 3 4 5 6 7; do
+        run --limits "$limits" --watermark 40 --overhead 3 --part "$part/8" < "$room/requests" > "$room/part$part"
+        python3 scripts/plain_curve.py --limits "$limits" --watermark 40 --overhead 3 --part "$part/8" < "$room/requests" > "$room/plain$part"
+        diff "$room/plain$part" "$room/part$part"
+    done
+    python3 scripts/merge-curves.py "$room"/part? > "$room/merged"
+    sums "$room"/plain? > "$room/sums"
+    grep '^[0-9]' "$room/merged" | cut -d, -f1-3 | diff "$room/sums" -
+done
+tail -n 1 "$room/merged" | grep -q '^# estimate for 8 caches, keys by hash; '
+rest="$room/part2 $room/part3 $room/part4 $room/part5 $room/part6 $room/part7"
+wrong() {
+    sed "$1" "$room/part1" > "$room/wrong"
+    ! cmp -s "$room/part1" "$room/wrong" || { echo "nothing was changed: $1" >&2; exit 1; }
+    refused "$2" "$room/part0" "$room/wrong" $rest
+}
+wrong 's/^80,/88,/' "the limits differ"
+wrong 's/^80,.*$/&/;/^400,/d' "the limits differ"
+wrong 's|part=1/8|part=1/9|;s/one of 8/one of 9/' "the numbers of parts differ"
+wrong 's/overhead=3/overhead=4/' "the overheads differ"
+wrong 's/read=600/read=601/' "the numbers of lines or records differ"
+wrong 's|part=1/8|part=0/8|' "part 0 is there twice"
+wrong 's|part=1/8|part=8/8|' "there is no part 8 of 8"
+wrong 's/^80000,/80000,1/' "no curve of a part"
+wrong '$d' "no curve of a part"
+wrong 's/estimate/exact/' "no curve of a part"
+refused "part 0 of 8 is missing" "$room/part1" $rest
+run --limits 8 < "$room/requests" > "$room/wrong"
+refused "no curve of a part" "$room/wrong"
+# sums worked by hand
+printf '%s\n' limit,finds,bytes_found,requests_percent,bytes_percent 20,1,5,50.00,50.00 \
+    "# requests=2 entries=1 removed=0 odd=0 passed_over=1 bytes=10 part=0/2 overhead=0 read=8" "# estimate: one of 2 parts of the keys" > "$room/one"
+printf '%s\n' limit,finds,bytes_found,requests_percent,bytes_percent 20,2,4,40.00,40.00 \
+    "# requests=5 entries=3 removed=0 odd=0 passed_over=1 bytes=10 part=1/2 overhead=0 read=8" "# estimate: one of 2 parts of the keys" > "$room/other"
+printf '%s\n' limit,finds,bytes_found,requests_percent,bytes_percent 20,3,9,42.85,45.00 \
+    "# requests=7 entries=4 removed=0 odd=0 passed_over=1 bytes=20 parts=2 overhead=0 read=8" "# exact for 2 caches, keys by hash" > "$room/sum"
+python3 scripts/merge-curves.py "$room/one" "$room/other" | diff "$room/sum" -
+# the limits of a part between two ends are those of all parts together
+run --from 8 --to 8000 --steps 5 --part 3/8 < "$room/requests" | cut -d, -f1 | sed -n 2,6p | tr '\n' ' ' | grep -q '^8 48 256 1424 8000 $'
+run --limits 8,81 --part 0/8 < /dev/null 2>&1 > /dev/null | grep -q 'each limit must be a multiple of K' || [ ! -x "$program" ]
+# what a tier finds of three traces at three limits, where its program is built
+if [ -x "$replay" ]; then
+    for seed in 1 2 4; do
+        python3 scripts/plain_curve.py --make "$seed" | awk 'NF == 3 && $3 ~ /^[1-9][0-9]*$/ && length($3) < 9' > "$room/log"
+        python3 scripts/access-log-to-trace.py < "$room/log" > "$room/trace" 2> /dev/null
+        python3 scripts/access-log-to-trace.py --requests < "$room/log" > "$room/requests" 2> /dev/null
+        run --limits 100,300,1200 < "$room/requests" > "$room/told"
+        for limit in 100 300 1200; do
+            finds=$("$replay" --limit "$limit" < "$room/trace" | grep -c '^found') || true
+            grep -q "^$limit,$finds," "$room/told" || { echo "a tier finds $finds at $limit" >&2; exit 1; }
+        done
+    done
+fi
 # limits by equal ratios
 for ends in "1000000 1000000000000 100" "200000 2000000000 40" "1 5 10" "5 5 2" "1 18446744073709551615 2"; do
     set -- $ends
@@ -57,4 +125,9 @@ ends_with 2 --from 0 --to 5
 ends_with 2 --from 5 --to 1
 ends_with 2 --from 1 --to 5 --steps 1
 ends_with 2
+for part in 8/8 0/0 1 1/2/3 a/2 /2 1/ 1/x; do ends_with 2 --limits 8 --part "$part"; done
+ends_with 2 --limits 8,81 --part 0/8
+ends_with 2 --limits 8 --watermark 9 --part 0/8
+ends_with 2 --from 8 --to 81 --part 0/8
+ends_with 2 --from 0 --to 8 --part 0/8
 echo "the curves are those of plain lists"

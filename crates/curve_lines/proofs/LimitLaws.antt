@@ -1,11 +1,9 @@
 -- Limits that are added one after another, none less than the one before.
-use Rattle.std.proofs.Common.{◌≡◌, ℕ, ◌+◌, ◌-◌, ◌/◌, ◌<◌, ◌≤◌, List, [], ◌∷◌, ◌++◌, refl, ap, sym, ◌∙◌, arith, length, get_or}
-use Rattle.std.proofs.lemmas.List.{length_push, get_or_push, get_or_append_left, get_or-map, length-map}
-use Rattle.std.proofs.lemmas.Nat.{le-div}
-use Rattle.std.proofs.Math.Nat.{div-mul-le_self}
+use Rattle.std.proofs.Common.{◌≡◌, ℕ, ◌+◌, ◌-◌, ◌<◌, ◌≤◌, List, [], ◌∷◌, ◌++◌, refl, ap, sym, ◌∙◌, arith, length, get_or}
+use Rattle.std.proofs.lemmas.List.{length_push, get_or_push, get_or_append_left}
 use Rattle.std.proofs.lemmas.List.Sorted.{IsNonDecreasingBy-push}
 use Rattle.std.specs.List.Sorted.{IsNonDecreasing}
-use Rattle.curve_lines.specs.Sizes.{IsBetween, shares}
+use Rattle.curve_lines.specs.Sizes.{IsBetween}
 
 -- the first limits, before that with the number `next`
 pub record IsBegun (from last next : ℕ) (xs : List ℕ) : Type 0 where
@@ -47,15 +45,3 @@ between-all from to count xs b =
     let c = b.count in
     let same : length xs ≡ count = omega (arith, c) in
     record { long = same; first = b.first; last = ap (λ n. get_or xs (n - 1) 0) (sym same) ∙ b.end 0 }
-
-div_mono : (k a b : ℕ) → 0 < k → a ≤ b → a / k ≤ b / k
-div_mono k a b p l = let m = div-mul-le_self a k in le-div (a / k) b k p (omega (arith, m, l))
-
--- shares rise as the limits do
-pub shares-rising : (k : ℕ) (xs : List ℕ) → 0 < k → IsNonDecreasing xs → IsNonDecreasing (shares k xs)
-shares-rising k xs p r i j d a b =
-    let n : length (shares k xs) ≡ length xs = length-map xs (λ l. l / k) in
-    let one = get_or-map (λ l. l / k) xs i 0 d (omega (arith, n, a, b)) in
-    let two = get_or-map (λ l. l / k) xs j 0 d (omega (arith, n, b)) in
-    let m = div_mono k (get_or xs i 0) (get_or xs j 0) p (r i j 0 a (omega (arith, n, b))) in
-    omega (arith, one, two, m)

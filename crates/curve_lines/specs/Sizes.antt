@@ -1,5 +1,5 @@
 -- Sizes as people write them, and the limits of caches.
-use Rattle.std.specs.Prelude.{◌≡◌, ℕ, ◌-◌, ◌*◌, ◌/◌, ◌^◌, ◌==◌, nat_lt, if◌then◌else◌, List, map, length, take, slice_index, Option, Some, None}
+use Rattle.std.specs.Prelude.{◌≡◌, ℕ, ◌-◌, ◌*◌, ◌^◌, ◌==◌, nat_lt, if◌then◌else◌, List, length, take, slice_index, Option, Some, None}
 use Rattle.curve_lines.specs.Lines.{is_empty, number_from}
 
 -- one digit or more
@@ -28,7 +28,3 @@ pub record IsBetween (from to count : ℕ) (limits : List ℕ) : Type 0 where
   pub long : length limits ≡ count
   pub first : slice_index limits 0 ≡ from
   pub last : slice_index limits (count - 1) ≡ to
-
--- what each of so many caches has of the limits
-abbrev pub shares : ℕ → List ℕ → List ℕ
-shares caches limits = map (λ l. l / caches) limits

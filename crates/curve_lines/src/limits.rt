@@ -1,7 +1,7 @@
 //! The limits of caches.
 ghost use Rattle.std.specs.Prelude.{◌≡◌, ◌↔◌, ◌<◌, ◌≤◌, IfOk, IfSome, IsSome};
 ghost use Rattle.std.specs.List.Sorted.{IsNonDecreasing};
-ghost use Rattle.curve_lines.specs.Sizes.{IsBetween, shares};
+ghost use Rattle.curve_lines.specs.Sizes.{IsBetween};
 
 use crate::scaled::{precise, product, ratio, rounded};
 use std::alloc::{AllocError, Global};
@@ -54,18 +54,6 @@ impl Limits {
         }
         all.push(to)?;
         Ok(Some(Limits { all }))
-    }
-
-    /// What each of so many caches has of the limits.
-    pub fn shares(&self, alloc: Global, caches: u64) -> Result<Limits, AllocError>
-        requires { 0 < caches }
-        ensures { IfOk result (λ l. l.all.items ≡ shares caches self.now.all.items) }
-    {
-        let mut all = Vec::new(alloc);
-        for limit in self.as_slice() {
-            all.push(*limit / caches)?;
-        }
-        Ok(Limits { all })
     }
 
     /// The limits.

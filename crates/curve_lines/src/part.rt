@@ -1,5 +1,5 @@
 //! Parts of the keys.
-ghost use Rattle.std.specs.Prelude.{◌≡◌, ◌↔◌, ◌<◌, IfSome, IsSome};
+ghost use Rattle.std.specs.Prelude.{◌≡◌, ◌↔◌, ◌<◌, ◌*◌, ◌%◌, IfSome, IsSome};
 
 /// One of some parts of the keys. A key's part goes by a fixed hash, the same on all machines, so whoever chooses keys can fill one
 /// part more than the others.
@@ -36,5 +36,16 @@ impl Part {
         ensures some { 0 < result }
     {
         self.of
+    }
+
+    /// What one of so many equal shares is of a whole, where there are such.
+    pub fn share(&self, whole: u64) -> Option<u64>
+        ensures value { IfSome result (λ s. s * self.now.of ≡ whole) }
+        ensures variant { IsSome result ↔ (whole % self.now.of ≡ 0) }
+    {
+        if whole % self.of == 0 {
+            return Some(whole / self.of);
+        }
+        None
     }
 }

@@ -1,9 +1,11 @@
 //! The text of what was found.
 ghost use Rattle.std.specs.Prelude.{◌≡◌, ◌++◌, ℕ, IfOk, OnOk, length, string_bytes};
 ghost use Rattle.std.specs.Io.KnownBytes.{Appends};
-ghost use Rattle.curve_lines.specs.Texts.{hundredths, percent_text, counts_text, row_text, rows_text, requests_text, lines_text, kind_text, curve_text};
+ghost use Rattle.curve_lines.specs.Texts.{hundredths, percent_text, caches_of, counts_text, row_text, rows_text, requests_text, lines_text, part_text, kind_text, curve_text};
 
 use crate::fault::RunFault;
+use crate::format::Rules;
+use crate::part::Part;
 use crate::read::Found;
 use size_curve::{Row, Totals};
 use std::alloc::{AllocError, Global};
@@ -32,11 +34,21 @@ fn percent(alloc: Global, n: u128) -> Result<String, AllocError>
     format!(in alloc; "{whole}.{tens}{ones}")
 }
 
-// The numbers of a row.
-fn counts(alloc: Global, row: Row) -> Result<String, AllocError>
-    ensures { IfOk result (λ text. string_bytes text ≡ counts_text row) }
+// Among how many caches keys are dealt.
+fn caches_of(part: Option<Part>) -> u64
+    ensures { result ≡ caches_of part }
 {
-    let limit = row.limit;
+    match part {
+        None => 1,
+        Some(part) => part.of(),
+    }
+}
+
+// The numbers of a row, whose limit is that of all the caches together.
+fn counts(alloc: Global, caches: u64, row: Row) -> Result<String, AllocError>
+    ensures { IfOk result (λ text. string_bytes text ≡ counts_text caches row) }
+{
+    let limit = u128::from(row.limit) * u128::from(caches);
     let finds = row.finds;
     let bytes = row.bytes;
     format!(in alloc; "{limit},{finds},{bytes},")
@@ -51,12 +63,18 @@ fn add(text: &mut Vec<u8>, more: &str) -> Result<(), AllocError>
 }
 
 // Adds the line of a row.
-fn add_row(alloc: Global, text: &mut Vec<u8>, row: Row, totals: Totals) -> Result<(), RunFault>
-    ensures { OnOk result (text.new.items ≡ text.old.items ++ row_text totals.asks totals.bytes row) }
+fn add_row(
+    alloc: Global,
+    text: &mut Vec<u8>,
+    caches: u64,
+    row: Row,
+    totals: Totals,
+) -> Result<(), RunFault>
+    ensures { OnOk result (text.new.items ≡ text.old.items ++ row_text caches totals.asks totals.bytes row) }
 {
     let a = hundredths(u128::from(row.finds), u128::from(totals.asks))?;
     let b = hundredths(row.bytes, totals.bytes)?;
-    add(text, counts(alloc, row)?.as_str())?;
+    add(text, counts(alloc, caches, row)?.as_str())?;
     add(text, percent(alloc, a)?.as_str())?;
     add(text, ",")?;
     add(text, percent(alloc, b)?.as_str())?;
@@ -65,11 +83,17 @@ fn add_row(alloc: Global, text: &mut Vec<u8>, row: Row, totals: Totals) -> Resul
 }
 
 // Adds the lines of the rows.
-fn add_rows(alloc: Global, text: &mut Vec<u8>, rows: &[Row], totals: Totals) -> Result<(), RunFault>
-    ensures { OnOk result (text.new.items ≡ text.old.items ++ rows_text totals.asks totals.bytes rows.now) }
+fn add_rows(
+    alloc: Global,
+    text: &mut Vec<u8>,
+    caches: u64,
+    rows: &[Row],
+    totals: Totals,
+) -> Result<(), RunFault>
+    ensures { OnOk result (text.new.items ≡ text.old.items ++ rows_text caches totals.asks totals.bytes rows.now) }
 {
     for row in rows {
-        add_row(alloc, text, *row, totals)?;
+        add_row(alloc, text, caches, *row, totals)?;
     }
     Ok(())
 }
@@ -89,13 +113,30 @@ fn lines_line(alloc: Global, totals: Totals, wrong: u64) -> Result<String, Alloc
 {
     let odd = totals.odd;
     let bytes = totals.bytes;
-    format!(in alloc; " odd={odd} passed_over={wrong} bytes={bytes}\n")
+    format!(in alloc; " odd={odd} passed_over={wrong} bytes={bytes}")
+}
+
+// Which part of the keys it is.
+fn part_line(alloc: Global, rules: Rules, read: u64) -> Result<String, AllocError>
+    ensures { IfOk result (λ text. string_bytes text ≡ part_text rules read rules.part) }
+{
+    let Some(part) = rules.part else {
+        return format!(in alloc; "\n");
+    };
+    let index = part.index();
+    let of = part.of();
+    let overhead = rules.overhead;
+    format!(in alloc; " part={index}/{of} overhead={overhead} read={read}\n")
 }
 
 // The line that says what the rows are.
-fn kind_line(alloc: Global, odd: u64) -> Result<String, AllocError>
-    ensures { IfOk result (λ text. string_bytes text ≡ kind_text odd) }
+fn kind_line(alloc: Global, part: Option<Part>, odd: u64) -> Result<String, AllocError>
+    ensures { IfOk result (λ text. string_bytes text ≡ kind_text part odd) }
 {
+    if let Some(part) = part {
+        let of = part.of();
+        return format!(in alloc; "# estimate: one of {of} parts of the keys\n");
+    }
     if odd == 0 {
         return format!(in alloc; "# exact: one shard, each entry has one length\n");
     }
@@ -107,38 +148,52 @@ fn kind_line(alloc: Global, odd: u64) -> Result<String, AllocError>
 // The text of a curve.
 fn text_of(
     alloc: Global,
+    rules: Rules,
     rows: &[Row],
     totals: Totals,
     entries: usize,
     wrong: u64,
+    read: u64,
 ) -> Result<Vec<u8>, RunFault>
-    ensures { IfOk result (λ text. text.items ≡ curve_text rows.now totals entries wrong) }
+    ensures { IfOk result (λ text. text.items ≡ curve_text rules rows.now totals entries wrong read) }
 {
     let mut text = Vec::new(alloc);
     add(
         &mut text,
         "limit,finds,bytes_found,requests_percent,bytes_percent\n",
     )?;
-    add_rows(alloc, &mut text, rows, totals)?;
+    add_rows(alloc, &mut text, caches_of(rules.part), rows, totals)?;
     add(&mut text, requests_line(alloc, totals, entries)?.as_str())?;
     add(&mut text, lines_line(alloc, totals, wrong)?.as_str())?;
-    add(&mut text, kind_line(alloc, totals.odd)?.as_str())?;
+    add(&mut text, part_line(alloc, rules, read)?.as_str())?;
+    add(
+        &mut text,
+        kind_line(alloc, rules.part, totals.odd)?.as_str(),
+    )?;
     Ok(text)
 }
 
-/// Writes what was found: a head, a line for each limit, the totals, and a last line that says whether the rows are exact.
-pub fn report<W: Write>(alloc: Global, writer: &mut W, found: &Found) -> Result<(), RunFault>
+/// Writes what was found by these rules: a head, a line for each limit, the totals, and a last line that says whether the rows are
+/// exact. Of a part of the keys the limits are those of the caches of all parts together.
+pub fn report<W: Write>(
+    alloc: Global,
+    writer: &mut W,
+    rules: Rules,
+    found: &Found,
+) -> Result<(), RunFault>
     ensures { OnOk result (Appends (W.contents writer.old) (W.contents writer.new)
-        (curve_text found.now.curve.curve.table found.now.curve.curve.totals (length found.now.curve.curve.weights.items) found.now.wrong)) }
+        (curve_text rules found.now.curve.curve.table found.now.curve.curve.totals (length found.now.curve.curve.weights.items) found.now.wrong found.now.read)) }
 {
     let curve = found.curve.curve();
     let rows = curve.rows(alloc)?;
     let text = text_of(
         alloc,
+        rules,
         rows.as_slice(),
         curve.totals(),
         curve.entries(),
         found.wrong,
+        found.read,
     )?;
     writer.write_all(text.as_slice())?;
     writer.flush()?;

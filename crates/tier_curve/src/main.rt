@@ -67,7 +67,7 @@ fn run_with<R: Input + Print + AllocGlobal + RandomSource + Log>(
             quiet: options.quiet,
         },
     )?;
-    report(alloc, &mut io::writer(rt), &found)
+    report(alloc, &mut io::writer(rt), options.rules, &found)
 }
 
 // The exit status: 0 on success or if help or the version was requested, 1 on an I/O error or out of memory, 2 on a bad command

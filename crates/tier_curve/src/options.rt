@@ -1,6 +1,6 @@
 //! The options of the command line.
 use clap::{Arg, ArgAction, ArgMatches, Command};
-use curve_lines::{Format, Limits, Rules, RunFault, size};
+use curve_lines::{Format, Limits, Part, Rules, RunFault, size};
 use std::alloc::{AllocError, AllocFailed, Global};
 use std::rt::Env;
 use std::{env, io};
@@ -15,9 +15,9 @@ const STATUSES: &str =
 /// What is asked for.
 #[derive(Drop)]
 pub struct Options {
-    /// The limits, none greater than a later one.
+    /// The limits, none greater than a later one; of a part of the keys, its shares of them.
     pub limits: Limits,
-    /// The most entries that a cache tracks, if their number has a bound.
+    /// The most entries that a cache tracks, if their number has a bound; of a part of the keys, its share.
     pub watermark: Option<u64>,
     /// How the requests are read.
     pub rules: Rules,
@@ -83,6 +83,8 @@ fn command<'a>(alloc: Global) -> Result<Command<'a>, AllocError> {
     let steps = "How many limits, by equal ratios from the first to the last [default: 40]";
     let watermark = "The most entries that a cache tracks [default: no bound]";
     let overhead = "What each entry takes beside its body, in bytes [default: 0]";
+    let part =
+        "Take the keys of part I of K, from 0 on, and a K-th of the limits and of the watermark";
     let format =
         "text, records (16 bytes: the key's number, the bytes) or oracle-general (libCacheSim's, 24 bytes) [default: text]";
     Command::new(alloc, "tier-curve")
@@ -101,6 +103,7 @@ fn command<'a>(alloc: Global) -> Result<Command<'a>, AllocError> {
         .arg(option(alloc, "watermark", "ENTRIES", watermark))?
         .arg(option(alloc, "overhead", "BYTES", overhead))?
         .arg(option(alloc, "format", "FORMAT", format))?
+        .arg(option(alloc, "part", "I/K", part))?
         .arg(
             Arg::new(alloc, "quiet")
                 .long("quiet")
@@ -140,26 +143,62 @@ const WRONG_LIMITS: &str =
 const WRONG_ENDS: &str =
     "--limits, or --from and --to with --steps: two sizes, the first not 0 and no greater than the last, and 2 to 100000 steps are wanted";
 
+const WRONG_PART: &str = "--part: I/K is wanted, two numbers, the first less than the second";
+
+const WRONG_SHARES: &str = "--part I/K: each limit must be a multiple of K, and the watermark too";
+
+// The part that a text such as 3/8 names.
+fn part_of(text: &str) -> Option<Part> {
+    let mut words = text.as_bytes().split(|byte| *byte == b'/');
+    let index = size(words.next()?)?;
+    let of = size(words.next()?)?;
+    if words.next().is_some() {
+        return None;
+    }
+    Part::new(index, of)
+}
+
+// The part of the keys that is wanted; without one all are.
+fn part_in(matches: &ArgMatches<'_>) -> Result<Option<Part>, Fault> {
+    let Some(text) = matches.get_str("part") else {
+        return Ok(None);
+    };
+    match part_of(text) {
+        Some(part) => Ok(Some(part)),
+        None => Err(Fault::Wrong(WRONG_PART)),
+    }
+}
+
+// What a part has of a whole.
+fn share(part: Option<Part>, whole: u64) -> Result<u64, Fault> {
+    let Some(part) = part else {
+        return Ok(whole);
+    };
+    part.share(whole).ok_or(Fault::Wrong(WRONG_SHARES))
+}
+
 // The sizes of a list, apart by commas.
-fn listed(alloc: Global, text: &str) -> Result<Limits, Fault> {
+fn listed(alloc: Global, part: Option<Part>, text: &str) -> Result<Limits, Fault> {
     let mut all = Vec::new(alloc);
     for word in text.as_bytes().split(|byte| *byte == b',') {
         let Some(number) = size(word) else {
             return Err(Fault::Wrong(WRONG_LIMITS));
         };
-        all.push(number)?;
+        all.push(share(part, number)?)?;
     }
     Limits::new(all).ok_or(Fault::Wrong(WRONG_LIMITS))
 }
 
 // The limits between two ends.
-fn between(alloc: Global, matches: &ArgMatches<'_>) -> Result<Limits, Fault> {
+fn between(alloc: Global, part: Option<Part>, matches: &ArgMatches<'_>) -> Result<Limits, Fault> {
     let from = size_of(matches, "from", WRONG_ENDS)?;
     let to = size_of(matches, "to", WRONG_ENDS)?;
     let steps = size_of(matches, "steps", WRONG_ENDS)?.unwrap_or(40);
     let (Some(from), Some(to)) = (from, to) else {
         return Err(Fault::Wrong(WRONG_ENDS));
     };
+    let from = share(part, from)?;
+    let to = share(part, to)?;
     Limits::between(alloc, from, to, steps)?.ok_or(Fault::Wrong(WRONG_ENDS))
 }
 
@@ -168,19 +207,28 @@ fn has(matches: &ArgMatches<'_>, name: &'static str) -> bool {
 }
 
 // The limits, which are listed or between two ends.
-fn limits_in(alloc: Global, matches: &ArgMatches<'_>) -> Result<Limits, Fault> {
+fn limits_in(alloc: Global, part: Option<Part>, matches: &ArgMatches<'_>) -> Result<Limits, Fault> {
     let Some(text) = matches.get_str("limits") else {
-        return between(alloc, matches);
+        return between(alloc, part, matches);
     };
     if has(matches, "from") || has(matches, "to") || has(matches, "steps") {
         return Err(Fault::Wrong(WRONG_ENDS));
     }
-    listed(alloc, text)
+    listed(alloc, part, text)
+}
+
+// The most entries that a cache tracks.
+fn watermark_in(part: Option<Part>, matches: &ArgMatches<'_>) -> Result<Option<u64>, Fault> {
+    match size_of(matches, "watermark", "--watermark: a number is wanted")? {
+        None => Ok(None),
+        Some(most) => Ok(Some(share(part, most)?)),
+    }
 }
 
 fn options_in(alloc: Global, matches: &ArgMatches<'_>) -> Result<Options, Fault> {
-    let limits = limits_in(alloc, matches)?;
-    let watermark = size_of(matches, "watermark", "--watermark: a number is wanted")?;
+    let part = part_in(matches)?;
+    let limits = limits_in(alloc, part, matches)?;
+    let watermark = watermark_in(part, matches)?;
     let overhead = size_of(matches, "overhead", "--overhead: a number is wanted")?;
     let format = format_of(matches.get_str("format").unwrap_or("text"))?;
     let overhead = overhead.unwrap_or(0);
@@ -190,7 +238,7 @@ fn options_in(alloc: Global, matches: &ArgMatches<'_>) -> Result<Options, Fault>
         rules: Rules {
             format,
             overhead,
-            part: None,
+            part,
         },
         quiet: matches.get_flag("quiet"),
     })
