@@ -1,5 +1,5 @@
 -- Which event a number stands for, over what was handed in.
-use Rattle.std.specs.Prelude.{ℕ, true, false, List, [], ◌∷◌, Option, None, slice_get, string_bytes}
+use Rattle.std.specs.Prelude.{◌≡◌, ℕ, ◌==◌, Bool, true, false, ◌||◌, if◌then◌else◌, List, [], ◌∷◌, Option, None, slice_get, string_bytes}
 use Rattle.cache_words.specs.Key.{CacheKeyValue}
 use Rattle.tier_model.specs.declared.event.Action.{Action}
 use Rattle.tier_model.specs.declared.event.Action.TheVariants.{Open, LookUp, Poll, Begin, Piece, Finish, Read, Drop, Purge, Put}
@@ -16,3 +16,21 @@ actions id s =
 
 abbrev pub action_for : ℕ → ℕ → Staged → Option Action
 action_for op id s = slice_get (actions id s) op
+
+abbrev pub is_read : Action → Bool
+is_read (Read id) = true
+is_read _ = false
+
+-- which numbers use a key that was handed in, with its tag: those of an open, a purge, a put
+abbrev pub uses_key : ℕ → Bool
+uses_key op = (op == 0) || (op == 1) || (op == 10) || (op == 11)
+
+-- and which the bytes: those of a begin, a piece, a put
+abbrev pub uses_bytes : ℕ → Bool
+uses_bytes op = (op == 4) || (op == 5) || (op == 6) || (op == 11)
+
+-- what an event uses of what was handed in is spent, and the rest stays
+pub record IsSpent (op : ℕ) (old new : Staged) : Type 0 where
+  pub key : new.key.items ≡ (if uses_key op then [] else old.key.items)
+  pub tag : string_bytes new.tag ≡ (if uses_key op then [] else string_bytes old.tag)
+  pub bytes : new.bytes ≡ (if uses_bytes op then [] else old.bytes)

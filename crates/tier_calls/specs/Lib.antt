@@ -1,5 +1,7 @@
 pub mod Answered
 pub mod Events
 pub mod Tiers
-pub mod Called
+pub mod Restarts
 pub mod Heads
+pub mod Asked
+pub mod Called

@@ -1,5 +1,5 @@
 -- The tier that is there, whatever the number of its shards.
-use Rattle.std.specs.Prelude.{◌≡◌, ℕ, List, [], ◌∷◌, Option, Some, None}
+use Rattle.std.specs.Prelude.{◌≡◌, ◌⊎◌, ℕ, List, [], ◌∷◌, Option, Some, None}
 use Rattle.rand_core.specs.Stream.{Stream}
 use Rattle.tier_model.specs.declared.event.Event.{Event}
 use Rattle.tier_model.specs.Calls.{Outcome}
@@ -17,6 +17,18 @@ state_of NoSuchCount = None
 state_of (One tier) = Some tier
 state_of (Four tier) = Some tier
 state_of (Sixteen tier) = Some tier
+
+-- 0 where a tier is there, 13 where there was no memory for one, 16 where no tier has so many shards
+abbrev pub status_of : Shards → ℕ
+status_of NoMemory = 13
+status_of NoSuchCount = 16
+status_of (One tier) = 0
+status_of (Four tier) = 0
+status_of (Sixteen tier) = 0
+
+-- tiers have so many shards
+abbrev pub IsCount : ℕ → Type 0
+IsCount n = (n ≡ 1) ⊎ (n ≡ 4) ⊎ (n ≡ 16)
 
 -- the tier took an event, with its outcome, and with it the words from s to rest
 abbrev pub Steps : Shards → Stream → Event → Outcome → Shards → Stream → Type 0

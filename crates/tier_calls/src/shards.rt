@@ -1,9 +1,10 @@
 //! A tier of one, four or sixteen shards.
-ghost use Rattle.std.specs.Prelude.{◌≡◌, ◌<◌, ◌⊎◌, [], Some, None, IfOk, IfSome, IfNone, length, option_map};
+ghost use Rattle.std.specs.Prelude.{◌≡◌, ◌<◌, ◌↔◌, [], Some, None, IfOk, IfErr, IfSome, IfNone, IsSome, MatchResult, replicate, option_map};
 ghost use Rattle.cache_words.specs.Key.{key_of, combined};
 ghost use Rattle.cache_changes.specs.Store.{body_at};
-ghost use Rattle.tier_calls.specs.Heads.{IsMetaOf};
-ghost use Rattle.tier_calls.specs.Tiers.{state_of, made_with, Steps, StartsAs};
+ghost use Rattle.tier_calls.specs.Heads.{IsMetaOf, body_for};
+ghost use Rattle.tier_calls.specs.Restarts.{SavesAs, SavesIn, Starts, StartsIn};
+ghost use Rattle.tier_calls.specs.Tiers.{state_of, status_of, IsCount, made_with, Steps};
 ghost use Rattle.tier_model.specs.Histories.{empty_opening};
 ghost use Rattle.tier_model.specs.Past.{HasPast};
 ghost use Rattle.tier_model.specs.State.{State, empty_state};
@@ -71,7 +72,8 @@ pub enum Shards {
 impl Shards {
     /// Makes an empty tier of so many shards.
     pub fn new(alloc: Global, shards: u64, settings: &Settings) -> Shards
-        ensures { (s : State) → state_of result ≡ Some s → (s ≡ empty_state (made_with shards settings.now)) × HasPast (empty_opening (made_with shards settings.now)) s [] }
+        ensures empty { (s : State) → state_of result ≡ Some s → (s ≡ empty_state (made_with shards settings.now)) × HasPast (empty_opening (made_with shards settings.now)) s [] }
+        ensures count { (status_of result ≡ 16) ↔ ¬ (IsCount shards) }
     {
         match shards {
             1 => match made::<1>(alloc, settings) {
@@ -92,7 +94,7 @@ impl Shards {
 
     /// Whether a tier is there: `READY`, `MEMORY` or `BAD_CALL`.
     pub fn status(&self) -> u64
-        ensures { state_of self.now ≡ None → (result ≡ 13) ⊎ (result ≡ 16) }
+        ensures { result ≡ status_of self.now }
     {
         match self {
             Shards::NoMemory => numbers::MEMORY,
@@ -133,7 +135,8 @@ impl Shards {
         key: &CacheKey,
     ) -> Option<Result<Option<CacheMeta>, AllocError>>
         ensures none { IfNone result (state_of self.now ≡ None) }
-        ensures meta { IfSome result (λ came. IfOk came (λ found. (s : State) × (state_of self.now ≡ Some s) × IsMetaOf s key.now found)) }
+        ensures meta { IfSome result (λ came. (s : State) × (state_of self.now ≡ Some s)
+            × MatchResult came (λ found. IsMetaOf s key.now found) (λ e. IsSome (body_for s key.now))) }
     {
         match self {
             Shards::NoMemory | Shards::NoSuchCount => None,
@@ -144,7 +147,10 @@ impl Shards {
     }
 
     /// Saves the order of use, each shard to a file in `DIR`, in a folder that has no files.
-    pub fn save(&self, folder: &mut MemFolder) -> Option<Result<Saved, TierFault>> {
+    pub fn save(&self, folder: &mut MemFolder) -> Option<Result<Saved, TierFault>>
+        ensures none { IfNone result (state_of self.now ≡ None) }
+        ensures some { IfSome result (λ came. SavesIn self.now folder.old came folder.new) }
+    {
         match self {
             Shards::NoMemory | Shards::NoSuchCount => None,
             Shards::One(tier) => Some(save_one(tier, folder, &[0; 1])),
@@ -155,7 +161,8 @@ impl Shards {
 
     /// Loads the order of use from the files in `DIR`, of a tier that is new.
     pub fn start(&mut self, folder: &mut MemFolder) -> Option<Result<Loaded, StartFault>>
-        ensures { (self.new ≡ self.old) ⊎ ((a : State) × (b : State) × (state_of self.old ≡ Some a) × (state_of self.new ≡ Some b) × StartsAs a b) }
+        ensures none { IfNone result ((state_of self.old ≡ None) × (self.new ≡ self.old) × (folder.new ≡ folder.old)) }
+        ensures some { IfSome result (λ came. StartsIn self.old folder.old came self.new folder.new) }
     {
         match self {
             Shards::NoMemory | Shards::NoSuchCount => None,
@@ -186,7 +193,7 @@ fn meta_in<const N: usize>(
     tier: &Tier<N, SeededState>,
     key: &CacheKey,
 ) -> Result<Option<CacheMeta>, AllocError>
-    ensures { IfOk result (IsMetaOf tier.now key.now) }
+    ensures { MatchResult result (λ found. IsMetaOf tier.now key.now found) (λ e. IsSome (body_for tier.now key.now)) }
 {
     meta_by(alloc, tier.store(), key)
 }
@@ -197,7 +204,8 @@ fn meta_by(
     store: &MemCache<SeededState>,
     key: &CacheKey,
 ) -> Result<Option<CacheMeta>, AllocError>
-    ensures { IfOk result (λ found. found ≡ option_map (λ x. x.meta) (body_at (combined (key_of key.now)) store.now.store)) }
+    ensures ok { IfOk result (λ found. found ≡ option_map (λ x. x.meta) (body_at (combined (key_of key.now)) store.now.store)) }
+    ensures err { IfErr result (λ e. IsSome (body_at (combined (key_of key.now)) store.now.store)) }
 {
     match store.finished(&key.combined_bin()) {
         Some((packed, _)) => match packed.unpack(alloc) {
@@ -213,8 +221,11 @@ fn save_one<const N: usize>(
     folder: &mut MemFolder,
     words: &[u32],
 ) -> Result<Saved, TierFault>
-    requires { length words.now ≡ N }
+    requires { words.now ≡ replicate N 0 }
+    ensures { SavesAs tier.now folder.old result folder.new }
 {
+    // There are N shards.
+    let _options = tier.options();
     match tier.save(folder, DIR, words) {
         Ok(report) => Ok(Saved {
             saved: report.saved as u64,
@@ -228,8 +239,10 @@ fn start_one<const N: usize>(
     tier: &mut Tier<N, SeededState>,
     folder: &mut MemFolder,
 ) -> Result<Loaded, StartFault>
-    ensures { (tier.new ≡ tier.old) ⊎ StartsAs tier.old tier.new }
+    ensures { Starts tier.old folder.old result tier.new folder.new }
 {
+    // There are N shards.
+    let _options = tier.options();
     if !tier.is_new() {
         return Err(StartFault::NotNew);
     }

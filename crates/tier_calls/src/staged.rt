@@ -1,6 +1,6 @@
 //! What is handed in before the event that uses it.
-ghost use Rattle.std.specs.Prelude.{◌≡◌, ◌⊎◌, ◌∷◌, [], None, Some, IfOk, IfErr, OnOk, OnErr, string_bytes};
-ghost use Rattle.tier_calls.specs.Events.{key_in, action_for};
+ghost use Rattle.std.specs.Prelude.{◌≡◌, ◌⊎◌, ◌∷◌, ◌==◌, [], None, Some, IfOk, IfErr, OnOk, OnErr, string_bytes};
+ghost use Rattle.tier_calls.specs.Events.{key_in, action_for, is_read, IsSpent};
 
 use crate::numbers;
 use bytes::Bytes;
@@ -67,6 +67,8 @@ impl Staged {
     /// The staged key, which is spent.
     pub fn take_key(&mut self) -> CacheKey
         ensures key { result ≡ key_in self.old }
+        ensures no_key { self.new.key.items ≡ [] }
+        ensures no_tag { string_bytes self.new.tag ≡ [] }
         ensures bytes { self.new.bytes ≡ self.old.bytes }
     {
         let key = mem::replace(&mut self.key, Vec::new(self.alloc));
@@ -84,10 +86,12 @@ impl Staged {
 
     // The whole response that is staged, which is spent.
     fn take_pieces(&mut self) -> Result<Pieces, AllocError>
-        ensures { IfOk result (λ pieces. pieces ≡ self.old.bytes ∷ []) }
+        ensures pieces { IfOk result (λ pieces. pieces ≡ self.old.bytes ∷ []) }
+        ensures rest { self.new ≡ record self.old { bytes = [] } }
     {
+        let bytes = self.take_bytes();
         let mut pieces = Vec::with_capacity(self.alloc, 1)?;
-        pieces.push_reserved(self.take_bytes());
+        pieces.push_reserved(bytes);
         Ok(Pieces::from_vec(pieces))
     }
 
@@ -98,7 +102,9 @@ impl Staged {
     /// `BAD_CALL`: no event has that number. `MEMORY`: there is no memory for the list of a put's pieces.
     pub fn action(&mut self, op: u64, request: u64) -> Result<Action, u64>
         ensures ok { IfOk result (λ action. action_for op request self.old ≡ Some action) }
-        ensures err { IfErr result (λ status. ((status ≡ 16) × (action_for op request self.old ≡ None)) ⊎ (status ≡ 13)) }
+        ensures reads { IfOk result (λ action. is_read action ≡ (op == 8)) }
+        ensures err { IfErr result (λ status. ((status ≡ 16) × (action_for op request self.old ≡ None)) ⊎ ((status ≡ 13) × (op ≡ 11))) }
+        ensures spent { IsSpent op self.old self.new }
     {
         match op {
             numbers::OPEN | numbers::OPEN_WITH_LOCK => Ok(Action::Open {
@@ -131,6 +137,7 @@ impl Staged {
     fn put(&mut self) -> Result<Action, u64>
         ensures ok { IfOk result (λ action. action ≡ Action.Put (key_in self.old) (self.old.bytes ∷ [])) }
         ensures err { IfErr result (λ status. status ≡ 13) }
+        ensures spent { IsSpent 11 self.old self.new }
     {
         let key = self.take_key();
         match self.take_pieces() {

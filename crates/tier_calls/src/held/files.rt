@@ -1,6 +1,9 @@
 //! Restarts: the files of the shards are handed over as bytes, and the caller writes them.
-ghost use Rattle.std.specs.Prelude.{◌≡◌, OnErr};
-ghost use Rattle.tier_calls.specs.Called.{IsStarted};
+ghost use Rattle.std.specs.Prelude.{◌≡◌, OnOk, OnErr, IfOk, string_bytes};
+ghost use Rattle.lru_files.specs.Folder.{IsPut, IsSame};
+ghost use Rattle.lru_files.specs.MemFolder.{files_of};
+ghost use Rattle.tier_calls.specs.Called.{IsSaved, IsStarted, IsShown, file_of};
+ghost use Rattle.tier_calls.specs.Restarts.{file_path};
 
 use super::Held;
 use crate::numbers;
@@ -12,14 +15,16 @@ use std::alloc::{AllocError, Global};
 use tier_model::event::TierFault;
 
 // The path of a shard's file.
-fn path_of(alloc: Global, shard: u64) -> Result<String, AllocError> {
+fn path_of(alloc: Global, shard: u64) -> Result<String, AllocError>
+    ensures { IfOk result (λ path. string_bytes path ≡ file_path shard) }
+{
     format!(in alloc; "{DIR}/lru.data.{shard}")
 }
 
 impl Held {
     // Saves the order of use, so that each shard's file can be shown.
     pub(super) fn save(&mut self) -> u64
-        ensures { self.new ≡ record self.old { folder = self.new.folder; told = self.new.told } }
+        ensures { IsSaved self.old result self.new }
     {
         let mut folder = MemFolder::new(self.alloc);
         match self.tier.save(&mut folder) {
@@ -60,7 +65,9 @@ impl Held {
 
     // Keeps the file of a shard.
     pub(super) fn hand_file(&mut self, shard: u64, bytes: &[u8]) -> Result<(), AllocError>
-        ensures { self.new ≡ record self.old { folder = self.new.folder } }
+        ensures ok { OnOk result (IsPut (files_of self.old.folder) (files_of self.new.folder) (file_path shard) bytes.now) }
+        ensures err { OnErr result (IsSame (files_of self.old.folder) (files_of self.new.folder)) }
+        ensures others { self.new ≡ record self.old { folder = self.new.folder } }
     {
         let path = path_of(self.alloc, shard)?;
         self.folder.put(path.as_str(), bytes)
@@ -68,7 +75,7 @@ impl Held {
 
     // Shows the file of a shard.
     pub(super) fn show_file(&mut self, shard: u64) -> u64
-        ensures { self.new ≡ record self.old { shown = self.new.shown } }
+        ensures { IsShown (file_of self.old shard) self.old result self.new }
     {
         let Ok(path) = path_of(self.alloc, shard) else {
             return numbers::MEMORY;

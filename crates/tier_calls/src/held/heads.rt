@@ -1,8 +1,9 @@
 //! The head of what is found.
-ghost use Rattle.std.specs.Prelude.{◌≡◌, option_map, slice_get};
+ghost use Rattle.std.specs.Prelude.{◌≡◌, ◌≤◌, ◌-◌, option_map, slice_get, slice_index};
 ghost use Rattle.http_header.specs.HeaderMap.{pairs};
-ghost use Rattle.tier_calls.specs.Heads.{IsHead, IsLine};
-ghost use Rattle.tier_calls.specs.Called.{IsSameTier};
+ghost use Rattle.tier_calls.specs.Asked.{seconds_since, head_numbers};
+ghost use Rattle.tier_calls.specs.Called.{IsHeadCall};
+ghost use Rattle.tier_calls.specs.Heads.{IsLine, lines_of};
 
 use super::lends::lend_out;
 use super::{HeadLine, Held};
@@ -13,12 +14,18 @@ use cache_words::time::Moment;
 use http_header::{HeaderMap, HeaderName, HeaderValue};
 
 // The seconds of a moment; 0 before 1970.
-fn seconds_of(moment: Moment) -> u64 {
+fn seconds_of(moment: Moment) -> u64
+    ensures { result ≡ seconds_since moment.seconds }
+{
     u64::try_from(moment.seconds()).unwrap_or(0)
 }
 
 // A number of a head.
-fn of_head(meta: &CacheMeta, op: u64) -> u64 {
+pub(super) fn of_head(meta: &CacheMeta, op: u64) -> u64
+    requires first { 31 ≤ op }
+    requires last { op ≤ 36 }
+    ensures { result ≡ slice_index (head_numbers meta.now) (op - 31) }
+{
     let internal = &meta.internal;
     match op {
         numbers::FRESH_UNTIL => seconds_of(internal.fresh_until),
@@ -38,12 +45,12 @@ fn line_at(headers: &HeaderMap, place: usize) -> Option<(&HeaderName, &HeaderVal
 }
 
 impl Held {
-    // Shows the head of the finished body of the staged key, which is kept until the next head is shown.
+    // Shows the head of the finished body of the staged key, which is kept until the next head is shown. Where none is shown, no line is lent.
     pub(super) fn show_head(&mut self) -> u64
-        ensures head { IsHead self.old result self.new }
-        ensures same { IsSameTier self.old self.new }
+        ensures { IsHeadCall self.old result self.new }
     {
         let key = self.staged.take_key();
+        self.head = None;
         match self.tier.meta_of(self.alloc, &key) {
             Some(Ok(Some(meta))) => {
                 self.told = Told {
@@ -60,15 +67,7 @@ impl Held {
         }
     }
 
-    // A number of the head that was shown last; 0 where none was.
-    pub(super) fn ask_head(&self, op: u64) -> u64 {
-        match &self.head {
-            Some(meta) => of_head(meta, op),
-            None => 0,
-        }
-    }
-
-    /// Lends a line of the head that was shown last, until the next head is shown. Of no bytes `value_at` stays as it was.
+    /// Lends a line of the head that was shown last, until the next head is shown. Of no bytes `at` stays as it was.
     pub fn line(&mut self, place: u64, out: &mut HeadLine) -> u64
         ensures { IsLine self.old place out.old out.new result self.new }
     {

@@ -1,6 +1,6 @@
 //! Bytes that are handed in, lent and copied out.
-ghost use Rattle.std.specs.Prelude.{◌≡◌, length};
-ghost use Rattle.tier_calls.specs.Called.{IsHand, IsLend, IsCopy};
+ghost use Rattle.std.specs.Prelude.{◌≡◌, ◌⊎◌, length, IsOk, IsErr};
+ghost use Rattle.tier_calls.specs.Called.{IsHand, IsLend, IsCopy, IsShown, read_by, evicted_key};
 
 use super::{Held, Lent};
 use crate::{numbers, reads};
@@ -20,7 +20,9 @@ pub(super) fn lend_out(bytes: &[u8], out: &mut Lent)
 }
 
 // How handing in ended.
-fn status_of(handed: Result<(), AllocError>) -> u64 {
+fn status_of(handed: Result<(), AllocError>) -> u64
+    ensures { ((result ≡ 0) × IsOk handed) ⊎ ((result ≡ 13) × IsErr handed) }
+{
     match handed {
         Ok(()) => numbers::READY,
         Err(_) => numbers::MEMORY,
@@ -76,7 +78,7 @@ impl Held {
 
     // Shows what a request read last.
     pub(super) fn show_read(&mut self, request: u64) -> u64
-        ensures { self.new ≡ record self.old { shown = self.new.shown } }
+        ensures { IsShown (read_by self.old request) self.old result self.new }
     {
         let Some(bytes) = reads::get(&self.reads, request) else {
             return numbers::NOTHING_SHOWN;
@@ -93,7 +95,7 @@ impl Held {
 
     // Shows the stored key of an evicted entry.
     pub(super) fn show_evicted(&mut self, place: u64) -> u64
-        ensures { self.new ≡ record self.old { shown = self.new.shown } }
+        ensures { IsShown (evicted_key self.old place) self.old result self.new }
     {
         let Some(entry) = self.evicted.as_slice().get(place as usize) else {
             return numbers::NOTHING_SHOWN;
