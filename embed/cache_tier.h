@@ -127,7 +127,7 @@ CT cache_tier_piece(cache_tier *t, uint64_t s, uint64_t ns, uint64_t id, const v
 CT cache_tier_finish(cache_tier *t, uint64_t s, uint64_t ns, uint64_t id) { return cache_tier_call(t, 7, s, ns, id); }
 /* BYTES (lend them), PENDING or END. */
 CT cache_tier_read(cache_tier *t, uint64_t s, uint64_t ns, uint64_t id) { return cache_tier_call(t, 8, s, ns, id); }
-/* What the request was lent is gone with it. MEMORY: it is still open, so repeat the drop. */
+/* What the request was lent is gone with it. It takes no memory: DROPPED, or NO_REQUEST. */
 CT cache_tier_drop(cache_tier *t, uint64_t s, uint64_t ns, uint64_t id) { return cache_tier_call(t, 9, s, ns, id); }
 CT cache_tier_purge(cache_tier *t, uint64_t s, uint64_t ns, const void *key, size_t len) {
     uint64_t r = cache_tier_hand(t, 0, cache_tier_some(key), len);
@@ -150,13 +150,13 @@ CT cache_tier_file(cache_tier *t, uint64_t shard, const void *bytes, size_t len)
     return cache_tier_hand(t, 256 + shard, cache_tier_some(bytes), len);
 }
 CT cache_tier_show_file(cache_tier *t, uint64_t shard) { return cache_tier_call(t, 14, 0, 0, shard); }
-/* The 16 bytes of the stored key of an entry that the last event evicted. */
+/* The 16 bytes of the stored key of an entry that the last event evicted, also one that was refused. */
 CT cache_tier_show_evicted(cache_tier *t, uint64_t place) { return cache_tier_call(t, 15, 0, 0, place); }
 CT cache_tier_show_read(cache_tier *t, uint64_t id) { return cache_tier_call(t, 16, 0, 0, id); }
 
 /* The head of the finished body of this key, which is the head of what was found right after a look-up that was FOUND, complete: SHOWN, `number` is its
-   status and `second` how many lines it has; NOTHING_SHOWN, also while a first response is still written; MEMORY: the head
-   that was shown before stays, so ask again. It is no use of the entry. */
+   status and `second` how many lines it has; NOTHING_SHOWN, also while a first response is still written; MEMORY. Where it isn't SHOWN, no
+   head is shown from then on. It is no use of the entry. */
 CT cache_tier_head(cache_tier *t, const void *key, size_t len) {
     uint64_t r = cache_tier_hand(t, 0, cache_tier_some(key), len);
     return r ? r : cache_tier_call(t, 17, 0, 0, 0);

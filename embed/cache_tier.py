@@ -13,7 +13,6 @@ One call at a time on one tier. What is lent may be read until its request reads
 import collections
 import ctypes
 import os
-import time
 
 NONE = 2**64 - 1
 READY, MEMORY, BAD_CALL, NOT_NEW, NOTHING_SHOWN = 0, 13, 16, 17, 18
@@ -233,8 +232,7 @@ class Request:
         return self
 
     def __exit__(self, *_):
-        while self.tier.drop(self._moment, self.id) == MEMORY:  # it is still open
-            time.sleep(0.01)
+        self.tier.drop(self._moment, self.id)
 
     def look_up(self, moment):
         return self.tier.look_up(moment, self.id)

@@ -53,9 +53,17 @@ static void day(void) {
     /* What was lent is still there. */
     if (lent.len && (lent.len != 3 || memcmp(lent.at, "abc", 3))) wrong++, fprintf(stderr, "other bytes\n");
     if (late_found && (late.len != 5 || memcmp(late.at, "abcde", 5))) wrong++, fprintf(stderr, "other bytes\n");
+    is(cache_tier_evicted(tier), 0, "evicted"), is(cache_tier_show_evicted(tier, 0), CACHE_TIER_NOTHING_SHOWN, "no evicted entry");
+    if (cache_tier_head(tier, "/z", 2) != CACHE_TIER_SHOWN) { /* from then on no head is shown */
+        cache_tier_line line = {{NULL, 0}, {NULL, 0}};
+        is(cache_tier_head_line(tier, 0, &line), CACHE_TIER_NOTHING_SHOWN, "no head"), is(cache_tier_fresh_until(tier), 0, "no head's moment");
+    } else wrong++, fprintf(stderr, "a head of nothing\n");
     if (is(cache_tier_save(tier), CACHE_TIER_SAVED, "save")) is(cache_tier_show_file(tier, 0), CACHE_TIER_SHOWN, "file");
     is(cache_tier_call(tier, 99, 0, 0, 0), CACHE_TIER_BAD_CALL, "no call"), is(cache_tier_call(tier, 2, UINT64_MAX, 0, 1), CACHE_TIER_BAD_CALL, "no moment");
-    for (uint64_t id = 1; id <= 3; id++) cache_tier_drop(tier, 1004, 0, id);
+    for (uint64_t id = 1; id <= 3; id++) { /* never refused for want of memory */
+        uint64_t s = cache_tier_drop(tier, 1004, 0, id);
+        if (s != CACHE_TIER_DROPPED && s != CACHE_TIER_NO_REQUEST) wrong++, fprintf(stderr, "drop: %llu\n", (unsigned long long)s);
+    }
     cache_tier_end(tier);
 }
 static void *asks(void *from) { /* its own range of numbers, and its own keys beside shared ones */

@@ -114,8 +114,8 @@ abbrev pub IsStartOf : Held → ℕ → Held → Type 0
 IsStartOf old status new =
     ((counts : Loaded) × StartsIn old.tier old.folder (Ok counts) new.tier new.folder × (status ≡ 48)
     × (new.told ≡ record (plain 48) { number = counts.loaded; second = counts.missing; third = counts.errored }))
-    ⊎ (StartsIn old.tier old.folder (Err NotNew) new.tier new.folder × (new.tier ≡ old.tier) × (status ≡ 17) × (new.told ≡ plain 17))
-    ⊎ (StartsIn old.tier old.folder (Err Memory) new.tier new.folder × (new.tier ≡ old.tier) × (status ≡ 13) × (new.told ≡ plain 13))
+    ⊎ (StartsIn old.tier old.folder (Err NotNew) new.tier new.folder × (status ≡ 17) × (new.told ≡ plain 17))
+    ⊎ (StartsIn old.tier old.folder (Err Memory) new.tier new.folder × (status ≡ 13) × (new.told ≡ plain 13))
 
 -- nothing was done, since no tier is there
 abbrev pub IsWithout : Held → ℕ → Held → Type 0
