@@ -55,7 +55,7 @@ answered s t (Open id key asks) c bytes h = absurd (let e : answer.Bytes bytes �
 answered s t (LookUp id) c bytes h = of_some (get s.requests id) _ _ h (λ q found. absurd (no_look t (lock_given t q (look_for q s.shelf) s.lock) (look_for q s.shelf) bytes found.0))
 answered s t (Poll id) c bytes h = of_some (get s.requests id) _ _ h (λ q polled. absurd (cc polled))
 answered s t (Begin id head) c bytes h = absurd (no_begin (judged_of c) bytes h)
-answered s t (Piece id data last) c bytes h = absurd (let e : answer.Bytes bytes ≡ answer.Written = h in cc)
+answered s t (Piece id given last) c bytes h = absurd (let e : answer.Bytes bytes ≡ answer.Written = h in cc)
 answered s t (Finish id) c bytes h = of_some (get s.requests id) _ _ h (λ q done. of_some (finishing q s.shelf) _ _ done (λ b stored. absurd stored))
 answered s t (Read id) c bytes h = refl
 answered s t (Drop id) c bytes h = absurd (let e : answer.Bytes bytes ≡ answer.Dropped = h in cc)
@@ -75,5 +75,5 @@ gives-bytes a s e bytes b rest h = by_calls h.calls h.are_of h.taken
     by_calls [] of taken = absurd of
     by_calls (c ∷ cs) of taken =
         let same : AllowsBy (refusal a c.event.action) a c.event.moment c.event.action c (Ok (answer.Bytes bytes))
-              = subst (λ (o : Outcome). AllowsBy (refusal a c.event.action) a c.event.moment c.event.action c o) of.1 taken.0.outcome in
+        = subst (λ (o : Outcome). AllowsBy (refusal a c.event.action) a c.event.moment c.event.action c o) of.1 taken.0.outcome in
         subst (λ (x : Event). is_read x.action ≡ true) of.0 (allowed (refusal a c.event.action) a c.event.moment c.event.action c bytes same)

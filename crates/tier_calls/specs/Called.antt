@@ -181,10 +181,10 @@ IsOf which bytes = (which ≡ 0) ⊎ ((which ≡ 1) × IsUtf8 bytes) ⊎ (which 
 
 -- the bytes are staged as that, and the rest is as it was
 pub record IsStaged (old : Held) (which : ℕ) (bytes : List ℕ) (new : Held) : Type 0 where
-  pub key : which ≡ 0 → (new.staged.key.items ≡ bytes) × (new ≡ record old { staged = record old.staged { key = new.staged.key } })
-  pub tag : which ≡ 1 → (string_bytes new.staged.tag ≡ bytes) × (new ≡ record old { staged = record old.staged { tag = new.staged.tag } })
-  pub bytes : which ≡ 2 → new ≡ record old { staged = record old.staged { bytes = bytes } }
-  pub file : 256 ≤ which → IsPut (files_of old.folder) (files_of new.folder) (file_path (which - 256)) bytes × (new ≡ record old { folder = new.folder })
+  pub as_key : which ≡ 0 → (new.staged.key.items ≡ bytes) × (new ≡ record old { staged = record old.staged { key = new.staged.key } })
+  pub as_tag : which ≡ 1 → (string_bytes new.staged.tag ≡ bytes) × (new ≡ record old { staged = record old.staged { tag = new.staged.tag } })
+  pub as_bytes : which ≡ 2 → new ≡ record old { staged = record old.staged { bytes = bytes } }
+  pub as_file : 256 ≤ which → IsPut (files_of old.folder) (files_of new.folder) (file_path (which - 256)) bytes × (new ≡ record old { folder = new.folder })
 
 -- bytes were handed in, and are staged; or there is no memory, or nothing that they may be, and what was staged before stays
 abbrev pub IsHand : Held → ℕ → List ℕ → ℕ → Held → Type 0

@@ -10,6 +10,10 @@ const HEAD: &[u8] = b"HTTP/1.1 200 OK\r\nCache-Control: max-age=60\r\n\r\n";
 
 const UNKEPT: &[u8] = b"HTTP/1.1 200 OK\r\nCache-Control: no-store\r\n\r\n";
 
+// Longer than what the limit leaves beside another body.
+const LARGE: &[u8] =
+    b"HTTP/1.1 200 OK\r\nCache-Control: max-age=60\r\n\r\n0123456789012345678901234567890123456789012345678901234567890123456789012345678901234567890123456";
+
 // What is handed in as the bytes of which number, the call, its moment and request, and the answer.
 type Step = (u64, &'static [u8], u64, u64, u64, u64);
 
@@ -65,6 +69,7 @@ const DAY: &[Step] = &[
         0,
         numbers::NOTHING_SHOWN,
     ),
+    (numbers::TAG, NOTHING, numbers::FRESH_UNTIL, 0, 0, 0),
     (
         numbers::TAG,
         NOTHING,
@@ -183,6 +188,40 @@ const DAY: &[Step] = &[
         1031,
         0,
         numbers::NOTHING,
+    ),
+    (numbers::KEY, b"/c", numbers::EVICTED, 0, 0, 0),
+    (
+        numbers::BYTES,
+        LARGE,
+        numbers::PUT,
+        1032,
+        0,
+        numbers::FINISHED,
+    ),
+    (numbers::TAG, NOTHING, numbers::EVICTED, 0, 0, 1),
+    (
+        numbers::TAG,
+        NOTHING,
+        numbers::SHOW_EVICTED,
+        0,
+        0,
+        numbers::SHOWN,
+    ),
+    (
+        numbers::TAG,
+        NOTHING,
+        numbers::DROP,
+        1032,
+        3,
+        numbers::DROPPED,
+    ),
+    (
+        numbers::TAG,
+        NOTHING,
+        numbers::SHOW_EVICTED,
+        0,
+        0,
+        numbers::NOTHING_SHOWN,
     ),
     (
         numbers::TAG,
