@@ -1,5 +1,5 @@
 -- The meta of a finished body in a store is that which the tier's state has.
-use Rattle.std.proofs.Common.{◌≡◌, ℕ, List, Option, Some, None, refl, sym, ap, ◌∙◌, subst}
+use Rattle.std.proofs.Common.{◌≡◌, ℕ, true, false, List, Option, Some, None, refl, sym, ap, ◌∙◌, subst}
 use Rattle.std.specs.Prelude.{option_map, IsSome}
 use Rattle.cache_heads.specs.declared.meta.CacheMeta.{CacheMeta}
 use Rattle.cache_changes.specs.Changes.{StoredKey}
@@ -19,8 +19,8 @@ metas None = refl
 metas (Some x) = refl
 
 some_found : (o : Option (Stored CacheMeta)) → IsSome o → IsSome (option_map found_in o)
-some_found None h = absurd h
-some_found (Some x) h = tt
+some_found None h = absurd (let e : false ≡ true = h in cc)
+some_found (Some x) h = refl
 
 module _ (h : Store) (s : State) (shows : shelf_of h ≡ s.shelf) (key : CacheKeyValue) where
   abbrev at : Option (Stored CacheMeta)

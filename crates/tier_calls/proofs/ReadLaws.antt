@@ -24,6 +24,8 @@ use Rattle.tier_model.specs.declared.event.TierFault.{TierFault}
 use Rattle.tier_model.specs.declared.whole.Whole.{Whole}
 use Rattle.tier_model.specs.declared.whole.Whole.TheVariants as whole
 use Rattle.tier_calls.specs.Events.{is_read}
+use Rattle.tier_calls.specs.Tiers.{Steps}
+use Rattle.tier_calls.specs.declared.shards.Shards.{Shards}
 
 of_some : {X : Type 0} (o : Option X) (P : X → Type 0) (G : Type 0) → MatchOption o ⊥ P → ((x : X) → P x → G) → G
 of_some None P G h f = absurd h
@@ -63,7 +65,7 @@ answered s t (Purge key) c bytes h = absurd (cc h)
 answered s t (Put key pieces) c bytes h = absurd (no_put s (finished_by c) (read_by c) bytes h)
 
 allowed : (f : Option TierFault) (s : State) (t : MomentValue) (a : Action) (c : Call) (bytes : List ℕ) → AllowsBy f s t a c (Ok (answer.Bytes bytes)) → is_read a ≡ true
-allowed (Some f) s t a c bytes h = absurd (let e : Ok {E = TierFault} (answer.Bytes bytes) ≡ Err f = h in cc)
+allowed (Some f) s t a c bytes h = absurd (cc h)
 allowed None s t a c bytes h = answered s t a c bytes h
 
 -- an event that was answered bytes is a read
@@ -77,3 +79,9 @@ gives-bytes a s e bytes b rest h = by_calls h.calls h.are_of h.taken
         let same : AllowsBy (refusal a c.event.action) a c.event.moment c.event.action c (Ok (answer.Bytes bytes))
         = subst (λ (o : Outcome). AllowsBy (refusal a c.event.action) a c.event.moment c.event.action c o) of.1 taken.0.outcome in
         subst (λ (x : Event). is_read x.action ≡ true) of.0 (allowed (refusal a c.event.action) a c.event.moment c.event.action c bytes same)
+
+-- the same of the tier that is there
+pub step-reads : (old : Shards) (s : Stream) (e : Event) (o : Outcome) (new : Shards) (rest : Stream) (bytes : List ℕ)
+    → Steps old s e o new rest → o ≡ Ok (answer.Bytes bytes) → is_read e.action ≡ true
+step-reads old s e o new rest bytes h is =
+    gives-bytes h.0 s e bytes h.1 rest (subst (λ (x : Outcome). Takes h.0 s (e ∷ []) (x ∷ []) h.1 rest) is h.4)

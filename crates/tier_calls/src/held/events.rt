@@ -1,7 +1,6 @@
 //! Events.
-ghost use Rattle.std.specs.Prelude.{◌≡◌, ◌<◌, ◌⊎◌, ℕ, List, None, true, IfOk, IfErr, OnOk, OnErr, IsSome};
+ghost use Rattle.std.specs.Prelude.{◌≡◌, ◌<◌, ◌⊎◌, ℕ, nat_eq, List, Some, None, Ok, Err, true, IfOk, IfErr, OnOk, OnErr, IsSome};
 ghost use Rattle.std.specs.HashMap.{get, spare};
-ghost use Rattle.std.specs.Prelude.{nat_eq};
 ghost use Rattle.tier_calls.specs.Answered.{plain};
 ghost use Rattle.tier_calls.specs.Called.{moment_at, evicted_in, read_by, read_after, IsEvent};
 ghost use Rattle.tier_calls.specs.Events.{is_read};
@@ -40,19 +39,9 @@ fn make_room(reads: &mut Reads, action: &Action) -> Result<(), AllocError>
     }
 }
 
-// The entries that were evicted, also before a refusal.
-fn evicted_in(alloc: Global, outcome: Result<Answer, TierFault>) -> Entries
-    ensures { result ≡ evicted_in outcome }
-{
-    match outcome {
-        Ok(Answer::Finished { length: _, evicted }) => evicted,
-        Ok(_) => Entries::new(alloc),
-        Err(fault) => evicted_before(alloc, fault),
-    }
-}
-
+// The entries that were evicted before a refusal.
 fn evicted_before(alloc: Global, fault: TierFault) -> Entries
-    ensures { result ≡ evicted_in (Result.Err fault) }
+    ensures { result ≡ evicted_in (Err fault) }
 {
     match fault {
         TierFault::NumbersSpent(done)
@@ -102,7 +91,7 @@ impl Held {
 
     // The moment of an event. `BAD_CALL`: there is none of these numbers; then why no tier is there.
     fn moment_for(&self, seconds: u64, nanoseconds: u64) -> Result<Moment, u64>
-        ensures ok { IfOk result (λ t. (moment_at seconds nanoseconds ≡ Option.Some t) × IsSome (state_of self.now.tier)) }
+        ensures ok { IfOk result (λ t. (moment_at seconds nanoseconds ≡ Some t) × IsSome (state_of self.now.tier)) }
         ensures err { IfErr result (λ status. ((status ≡ 16) × (moment_at seconds nanoseconds ≡ None))
             ⊎ (IsSome (moment_at seconds nanoseconds) × (status ≡ status_of self.now.tier) × (state_of self.now.tier ≡ None))) }
     {
@@ -135,21 +124,18 @@ impl Held {
 
     // Keeps what a request read and which entries went; a request that ended is lent nothing more.
     fn keep(&mut self, id: u64, outcome: Result<Answer, TierFault>)
-        requires { (bytes : List ℕ) → outcome ≡ Result.Ok (Answer.Bytes bytes) → 0 < spare self.old.reads }
+        requires { (bytes : List ℕ) → outcome ≡ Ok (Answer.Bytes bytes) → 0 < spare self.old.reads }
         ensures reads { (request : ℕ) → read_by self.new request ≡ read_after id outcome self.old request }
         ensures evicted { self.new.evicted ≡ evicted_in outcome }
         ensures others { self.new ≡ record self.old { reads = self.new.reads; evicted = self.new.evicted } }
     {
+        self.evicted = Entries::new(self.alloc);
         match outcome {
-            Ok(Answer::Bytes(bytes)) => {
-                self.evicted = Entries::new(self.alloc);
-                reads::put(&mut self.reads, id, bytes);
-            }
-            Ok(Answer::Dropped) => {
-                self.evicted = Entries::new(self.alloc);
-                reads::remove(&mut self.reads, id);
-            }
-            other => self.evicted = evicted_in(self.alloc, other),
+            Ok(Answer::Bytes(bytes)) => reads::put(&mut self.reads, id, bytes),
+            Ok(Answer::Dropped) => reads::remove(&mut self.reads, id),
+            Ok(Answer::Finished { length: _, evicted }) => self.evicted = evicted,
+            Ok(_) => {}
+            Err(fault) => self.evicted = evicted_before(self.alloc, fault),
         }
     }
 }
