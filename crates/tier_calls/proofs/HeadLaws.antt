@@ -1,6 +1,6 @@
 -- The meta of a finished body in a store is that which the tier's state has.
 use Rattle.std.proofs.Common.{◌≡◌, ℕ, true, false, List, Option, Some, None, refl, sym, ap, ◌∙◌, subst}
-use Rattle.std.specs.Prelude.{option_map, IsSome}
+use Rattle.std.specs.Prelude.{option_map, IsSome, Result, Ok, Err, IfOk, IfErr, MatchResult}
 use Rattle.cache_heads.specs.declared.meta.CacheMeta.{CacheMeta}
 use Rattle.cache_changes.specs.Changes.{StoredKey}
 use Rattle.cache_changes.specs.Store.{Stored, body_at}
@@ -42,3 +42,11 @@ no-body s key h = by_body (body_for s key) h
     by_body : (o : Option Body) → None ≡ option_map (λ (b : Body). b.meta) o → o ≡ None
     by_body None e = refl
     by_body (Some b) e = absurd cc
+
+-- what is told of a store's meta is told of the tier's
+pub meta-came : {E : Type 0} (h : Store) (s : State) (shows : shelf_of h ≡ s.shelf) (key : CacheKeyValue) (came : Result (Option CacheMeta) E)
+    → IfOk came (λ found. found ≡ option_map (λ x. x.meta) (body_at (combined (key_of key)) h.store))
+    → IfErr came (λ e. IsSome (body_at (combined (key_of key)) h.store))
+    → MatchResult came (λ found. IsMetaOf s key found) (λ e. IsSome (body_for s key))
+meta-came h s shows key (Ok found) ok err = meta-shown h s shows key found ok
+meta-came h s shows key (Err e) ok err = body-shown h s shows key err

@@ -1,22 +1,12 @@
-use Rattle.std.proofs.Common.{rules, ◌≡◌, ◌<◌, ◌⊎◌, [], Some, None, IfOk, IfSome, IfNone, length, option_map, ℕ, ◌+◌, ◌-◌, ◌*◌, ◌≤◌, ◌/◌, ◌%◌, Bool, true, false, nat_eq, nat_lt, List, ◌∷◌, ◌++◌, slice_index_or, slice_set, bit_and, bit_or, Fits, w8, w32, w64, Bor, MutBor}
-use Rattle.cache_words.specs.Key.{key_of, combined}
-use Rattle.cache_changes.specs.Store.{body_at}
-use Rattle.tier_calls.specs.Heads.{IsMetaOf}
-use Rattle.tier_calls.specs.Tiers.{state_of, made_with, Steps, StartsAs}
-use Rattle.tier_model.specs.Histories.{empty_opening}
-use Rattle.tier_model.specs.Past.{HasPast}
-use Rattle.tier_model.specs.State.{State, empty_state}
-use Rattle.tier_model.specs.Reports.{report_of}
+use Rattle.std.proofs.Common.{refl, ap}
+use Rattle.tier_calls.specs.Tiers.{state_of}
 use Rattle.tier_calls.proofs.shards.Shards.step.Goals as goal
 
--- src/shards.rt:105:5
 pub returns-in-One-clause-some : goal.returns-in-One-clause-some
-returns-in-One-clause-some g c = ?
+returns-in-One-clause-some g c = (c.in-One.tier, c.step.new.self, ap state_of c.in-One.is, refl, c.step.ensures)
 
--- src/shards.rt:105:5
 pub returns-in-Four-clause-some : goal.returns-in-Four-clause-some
-returns-in-Four-clause-some g c = ?
+returns-in-Four-clause-some g c = (c.in-Four.tier, c.step-in-Four.new.self, ap state_of c.in-Four.is, refl, c.step-in-Four.ensures)
 
--- src/shards.rt:105:5
 pub returns-in-Sixteen-clause-some : goal.returns-in-Sixteen-clause-some
-returns-in-Sixteen-clause-some g c = ?
+returns-in-Sixteen-clause-some g c = (c.in-Sixteen.tier, c.step-in-Sixteen.new.self, ap state_of c.in-Sixteen.is, refl, c.step-in-Sixteen.ensures)
