@@ -50,3 +50,15 @@ pub meta-came : {E : Type 0} (h : Store) (s : State) (shows : shelf_of h ≡ s.s
     → MatchResult came (λ found. IsMetaOf s key found) (λ e. IsSome (body_for s key))
 meta-came h s shows key (Ok found) ok err = meta-shown h s shows key found ok
 meta-came h s shows key (Err e) ok err = body-shown h s shows key err
+
+module _ {E : Type 0} (s : State) (key other : CacheKeyValue) (same : key ≡ other) (came : Result (Option CacheMeta) E)
+    (tells : MatchResult came (λ found. IsMetaOf s key found) (λ e. IsSome (body_for s key))) where
+  pub told-of : (o meta : Option CacheMeta) → came ≡ Ok o → o ≡ meta → IsMetaOf s other meta
+  told-of o meta is it =
+      let told : IsMetaOf s key o = subst (λ (x : Result (Option CacheMeta) E). MatchResult x (λ found. IsMetaOf s key found) (λ e. IsSome (body_for s key))) is tells in
+      subst (λ (k : CacheKeyValue). IsMetaOf s k meta) same (subst (λ (m : Option CacheMeta). IsMetaOf s key m) it told)
+
+  pub fault-of : (e : E) → came ≡ Err e → IsSome (body_for s other)
+  fault-of e is =
+      let there : IsSome (body_for s key) = subst (λ (x : Result (Option CacheMeta) E). MatchResult x (λ found. IsMetaOf s key found) (λ e. IsSome (body_for s key))) is tells in
+      subst (λ (k : CacheKeyValue). IsSome (body_for s k)) same there

@@ -1,5 +1,5 @@
 -- What the calls of a held tier do.
-use Rattle.std.specs.Prelude.{◌≡◌, ◌≢◌, ◌⊎◌, ◌↔◌, ◌≤◌, ◌<◌, ◌==◌, ◌&&◌, ◌^◌, ◌-◌, ◌+◌, ◌++◌, ℕ, pos, Bool, List, [], length, take, drop, min, nat_lt, nat_eq, cond, if◌then◌else◌, Option, Some, None, option_map, IsSome, slice_get, Result, Ok, Err, string_bytes}
+use Rattle.std.specs.Prelude.{◌≡◌, ◌⊎◌, ◌↔◌, ◌≤◌, ◌<◌, ◌==◌, ◌&&◌, ◌^◌, ◌-◌, ◌+◌, ◌++◌, ℕ, pos, Bool, List, [], length, take, drop, min, nat_lt, nat_eq, cond, if◌then◌else◌, Option, Some, None, option_map, IsSome, slice_get, Result, Ok, Err, string_bytes}
 use Rattle.std.specs.HashMap.{get}
 use Rattle.std.specs.Str.{IsUtf8}
 use Rattle.rand_core.specs.Stream.{Stream}
@@ -17,12 +17,11 @@ use Rattle.cache_changes.specs.Changes.{stored_key}
 use Rattle.tier_model.specs.declared.event.Action.{Action}
 use Rattle.tier_model.specs.declared.event.Answer.TheVariants.{Bytes, Dropped, Finished}
 use Rattle.tier_model.specs.declared.event.TierFault.{TierFault}
-use Rattle.tier_model.specs.declared.event.TierFault.TheVariants.{Folder}
 use Rattle.tier_model.specs.Calls.{Outcome, done_of}
 use Rattle.tier_model.specs.Past.{HasPast}
 use Rattle.tier_model.specs.State.{Settings, State, empty_state}
 use Rattle.tier_model.specs.Histories.{empty_opening}
-use Rattle.tier_calls.specs.Answered.{plain, told_of}
+use Rattle.tier_calls.specs.Answered.{plain, fault_number, told_of}
 use Rattle.tier_calls.specs.Asked.{asked}
 use Rattle.tier_calls.specs.Events.{action_for, IsSpent}
 use Rattle.tier_calls.specs.Heads.{IsHead}
@@ -133,8 +132,8 @@ SavesAnew old came after = (empty : MemFolder) × ((path : List ℕ) → files_o
 abbrev pub IsSaveOf : Held → ℕ → Held → Type 0
 IsSaveOf old status new =
     ((counts : Saved) × SavesAnew old (Ok counts) new.folder × (status ≡ 47) × (new.told ≡ record (plain 47) { number = counts.saved; second = counts.failed }))
-    ⊎ ((fault : TierFault) × (after : MemFolder) × SavesAnew old (Err fault) after × (new.folder ≡ old.folder) × (new.told ≡ plain status)
-    × (((fault ≡ Folder) × (status ≡ 14)) ⊎ ((fault ≢ Folder) × (status ≡ 13))))
+    ⊎ ((fault : TierFault) × (after : MemFolder) × SavesAnew old (Err fault) after × (new.folder ≡ old.folder) × (status ≡ fault_number fault)
+    × (new.told ≡ plain status))
 
 abbrev pub IsSaved : Held → ℕ → Held → Type 0
 IsSaved old status new =

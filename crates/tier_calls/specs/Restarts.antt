@@ -1,5 +1,5 @@
 -- What a start and a save do, over a folder in memory.
-use Rattle.std.specs.Prelude.{◌≡◌, ℕ, List, length, codes, replicate, Unit, Some, Result, Ok, Err}
+use Rattle.std.specs.Prelude.{◌≡◌, ℕ, List, length, codes, replicate, Some, Result, Ok, Err}
 use Rattle.lru_files.specs.Folder.{Call, Outcome, Ends, IsSame}
 use Rattle.lru_files.specs.MemFolder.{files_of, opened_of}
 use Rattle.lru_files.specs.declared.mem_folder.MemFolder.{MemFolder}

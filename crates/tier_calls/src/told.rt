@@ -125,7 +125,7 @@ fn told_done(number: u64, done: &Done) -> Told
 }
 
 // A fault's number, as a trace's answers have it.
-fn fault_number(fault: &TierFault) -> u64
+pub(crate) fn fault_number(fault: &TierFault) -> u64
     ensures { result ≡ fault_number fault.now }
 {
     match fault {

@@ -8,11 +8,10 @@ ghost use Rattle.tier_calls.specs.Restarts.{file_path};
 use super::Held;
 use crate::numbers;
 use crate::shards::{DIR, StartFault};
-use crate::told::{Told, plain};
+use crate::told::{Told, fault_number, plain};
 use bytes::Bytes;
 use lru_files::persistence::MemFolder;
 use std::alloc::{AllocError, Global};
-use tier_model::event::TierFault;
 
 // The path of a shard's file.
 fn path_of(alloc: Global, shard: u64) -> Result<String, AllocError>
@@ -37,8 +36,10 @@ impl Held {
                 };
                 numbers::SAVED
             }
-            Some(Err(TierFault::Folder)) => self.refuse(numbers::FOLDER),
-            Some(Err(_)) => self.refuse(numbers::MEMORY),
+            Some(Err(fault)) => {
+                let status = fault_number(&fault);
+                self.refuse(status)
+            }
             None => self.refuse_without(),
         }
     }
