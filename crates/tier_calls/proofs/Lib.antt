@@ -1,0 +1,3 @@
+mod ReadLaws
+mod HeadLaws
+mod RestartLaws

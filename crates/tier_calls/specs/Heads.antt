@@ -1,0 +1,55 @@
+-- The head that is shown, and its lines.
+use Rattle.std.specs.Prelude.{◌≡◌, ◌⊎◌, ℕ, List, [], length, slice_get, Option, Some, None, option_map, IsSome}
+use Rattle.http_header.specs.HeaderMap.{pairs, value_count}
+use Rattle.http_header.specs.declared.value.HeaderValue.{HeaderValue}
+use Rattle.cache_words.specs.Key.{CacheKeyValue, key_of, combined}
+use Rattle.cache_heads.specs.declared.meta.CacheMeta.{CacheMeta}
+use Rattle.tier_model.specs.declared.state.Body.{Body}
+use Rattle.tier_model.specs.Rows.{body_of}
+use Rattle.tier_model.specs.State.{State}
+use Rattle.tier_requests.specs.Shelves.{own_meta}
+use Rattle.tier_calls.specs.Answered.{plain}
+use Rattle.tier_calls.specs.Events.{key_in}
+use Rattle.tier_calls.specs.Tiers.{state_of, status_of}
+use Rattle.tier_calls.specs.declared.held.Held.{Held}
+use Rattle.tier_calls.specs.declared.held.HeadLine.{HeadLine}
+
+-- the finished body that a tier has under a key, if it has one
+abbrev pub body_for : State → CacheKeyValue → Option Body
+body_for s key = body_of (combined (key_of key)) s.shelf.bodies
+
+-- the meta is that of the key's finished body, but for its provenance, of which a tier's state has nothing; none where there is no body
+abbrev pub IsMetaOf : State → CacheKeyValue → Option CacheMeta → Type 0
+IsMetaOf s key meta = option_map own_meta meta ≡ option_map (λ b. b.meta) (body_for s key)
+
+-- the head of the key's finished body is shown: its status and the count of its lines are told
+abbrev pub ShowsHead : Held → State → ℕ → Held → Type 0
+ShowsHead old s answer new =
+    (meta : CacheMeta) × (answer ≡ 49) × (new.head ≡ Some meta) × IsMetaOf s (key_in old.staged) (Some meta)
+    × (new.told ≡ record (plain 49) { number = meta.header.status; second = value_count meta.header.headers })
+
+-- why no head is shown: the key has no finished body, there is no memory for the head of the one it has, or no tier
+abbrev pub IsHeadRefusal : Held → ℕ → Type 0
+IsHeadRefusal old answer =
+    ((state_of old.tier ≡ None) × (answer ≡ status_of old.tier))
+    ⊎ ((s : State) × (state_of old.tier ≡ Some s)
+    × (((answer ≡ 18) × (body_for s (key_in old.staged) ≡ None)) ⊎ ((answer ≡ 13) × IsSome (body_for s (key_in old.staged)))))
+
+-- the head of the finished body of the key that was handed in is shown, or none is from then on
+abbrev pub IsHead : Held → ℕ → Held → Type 0
+IsHead old answer new =
+    ((s : State) × (state_of old.tier ≡ Some s) × ShowsHead old s answer new)
+    ⊎ (IsHeadRefusal old answer × (new.head ≡ None) × (new.told ≡ plain answer))
+
+-- the lines of the head that is shown
+abbrev pub lines_of : Option CacheMeta → List (List ℕ × HeaderValue)
+lines_of None = []
+lines_of (Some meta) = pairs meta.header.headers
+
+-- a line of the head that was shown last was lent: as many bytes of its name and of its value as they have; or there is no such line
+abbrev pub IsLine : Held → ℕ → HeadLine → HeadLine → ℕ → Held → Type 0
+IsLine old place before out answer new =
+    (new ≡ old)
+    × (((line : List ℕ × HeaderValue) × (slice_get (lines_of old.head) place ≡ Some line) × (answer ≡ 49)
+    × (out.name.len ≡ length line.0) × (out.value.len ≡ length line.1.bytes))
+    ⊎ ((slice_get (lines_of old.head) place ≡ None) × (answer ≡ 18) × (out ≡ before)))

@@ -1,0 +1,45 @@
+-- The tier that is there, whatever the number of its shards.
+use Rattle.std.specs.Prelude.{◌≡◌, ◌⊎◌, ℕ, [], ◌∷◌, Option, Some, None}
+use Rattle.rand_core.specs.Stream.{Stream}
+use Rattle.tier_model.specs.declared.event.Event.{Event}
+use Rattle.tier_model.specs.Calls.{Outcome}
+use Rattle.tier_model.specs.Past.{HasPast}
+use Rattle.tier_model.specs.Started.{HasOnlyOrder, IsNew, opening_of, settings_of}
+use Rattle.tier_model.specs.State.{State, Settings}
+use Rattle.cache_tier.specs.Takes.{Takes}
+use Rattle.tier_calls.specs.declared.shards.Settings.{Settings as Given}
+use Rattle.tier_calls.specs.declared.shards.Shards.{Shards}
+use Rattle.tier_calls.specs.declared.shards.Shards.TheVariants.{NoMemory, NoSuchCount, One, Four, Sixteen}
+
+abbrev pub state_of : Shards → Option State
+state_of NoMemory = None
+state_of NoSuchCount = None
+state_of (One tier) = Some tier
+state_of (Four tier) = Some tier
+state_of (Sixteen tier) = Some tier
+
+-- 0 where a tier is there, 13 where there was no memory for one, 16 where no tier has so many shards
+abbrev pub status_of : Shards → ℕ
+status_of NoMemory = 13
+status_of NoSuchCount = 16
+status_of (One tier) = 0
+status_of (Four tier) = 0
+status_of (Sixteen tier) = 0
+
+-- tiers have so many shards
+abbrev pub IsCount : ℕ → Type 0
+IsCount n = (n ≡ 1) ⊎ (n ≡ 4) ⊎ (n ≡ 16)
+
+-- the tier took an event, with its outcome, and with it the words from s to rest
+abbrev pub Steps : Shards → Stream → Event → Outcome → Shards → Stream → Type 0
+Steps old s event outcome new rest =
+    (a : State) × (b : State) × (state_of old ≡ Some a) × (state_of new ≡ Some b) × Takes a s (event ∷ []) (outcome ∷ []) b rest
+
+-- what a tier of so many shards is made with
+abbrev pub made_with : ℕ → Given → Settings
+made_with n s = record { shards = n; limit = s.limit; watermark = s.watermark; age = s.age; wait = s.wait }
+
+-- a new tier started: it holds nothing but an order of use, under the settings that it had, and what it does from then on is that of a tier that
+-- began with this order of use
+abbrev pub StartsAs : State → State → Type 0
+StartsAs a b = IsNew a × HasOnlyOrder b × (settings_of b ≡ settings_of a) × (b ≡ record a { managed = b.managed }) × HasPast (opening_of b) b []
