@@ -1,7 +1,8 @@
 -- The meta of a finished body in a store is that which the tier's state has.
-use Rattle.std.proofs.Common.{◌≡◌, true, false, Option, Some, None, refl, sym, ap, ◌∙◌, subst}
+use Rattle.std.proofs.Common.{◌≡◌, ℕ, true, false, List, Option, Some, None, refl, sym, ap, ◌∙◌, subst}
 use Rattle.std.specs.Prelude.{option_map, IsSome, Result, Ok, Err, IfOk, IfErr, MatchResult}
 use Rattle.cache_heads.specs.declared.meta.CacheMeta.{CacheMeta}
+use Rattle.cache_changes.specs.Changes.{StoredKey}
 use Rattle.cache_changes.specs.Store.{Stored, body_at}
 use Rattle.cache_store.specs.Held.{Held as Store}
 use Rattle.cache_words.specs.Key.{CacheKeyValue, key_of, combined}
