@@ -41,7 +41,7 @@ PAGES = {it: read(it) for it in pages()}
 
 def crates():
     """The crates of crates.txt, each with those that it uses."""
-    rows = [it.split(":") for it in read("crates.txt").splitlines() if it and not it.startswith("#")]
+    rows = [it.replace(" staticlib:", ":").split(":") for it in read("crates.txt").splitlines() if it and not it.startswith("#")]
     return {name: [it for it in used.split() if it in {row[0] for row in rows}] for name, used in rows}
 
 
