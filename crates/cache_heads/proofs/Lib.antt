@@ -1,2 +1,3 @@
+pub mod MergeLaws
 pub mod MetaLaws
 pub mod Refusals

@@ -2,6 +2,7 @@ pub mod Defaults
 pub mod Directives
 pub mod Fresh
 pub mod FreshUntil
+pub mod Merged
 pub mod Meta
 pub mod MetaBytes
 pub mod MetaLends

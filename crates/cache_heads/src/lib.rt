@@ -5,6 +5,7 @@
 mod defaults;
 pub mod filters;
 pub mod laws;
+pub mod merged;
 pub mod meta;
 mod reason;
 

@@ -12,7 +12,8 @@ use Rattle.cache_phases.specs.Locks.{let_go}
 use Rattle.cache_phases.specs.Releases.{lock_released}
 use Rattle.http_cache.specs.Request.{Request, stored_at}
 use Rattle.request_store.specs.Spends.{Spends}
-use Rattle.request_store.specs.Begins.{with_provenance_of, IsBegun, IsNotBegun}
+use Rattle.cache_heads.specs.Merged.{with_provenance_of}
+use Rattle.request_store.specs.Begins.{IsBegun, IsNotBegun}
 use Rattle.http_cache.specs.Points.{Point}
 
 -- ---- the meta of a response that is to be stored

@@ -8,11 +8,11 @@ ghost use Rattle.cache_phases.specs.Phases.{is_stale_phase};
 ghost use Rattle.cache_phases.specs.Locks.{let_go};
 ghost use Rattle.cache_phases.specs.Releases.{is_releasable, lock_released, lock_released_for, status_for, key_in};
 ghost use Rattle.http_cache.specs.Request.{stored_at};
-ghost use Rattle.request_store.specs.Begins.{renewed_from};
-ghost use Rattle.request_store.specs.Merges.{renewed_names, merged, Outgrows};
+ghost use Rattle.cache_heads.specs.Merged.{renewed_from, renewed_names, merged, Outgrows};
 ghost use Rattle.http_cache.specs.Revalidations.{with_head};
 
 use crate::request::HttpCache;
+use cache_heads::merged::{merged_head, renewed_from};
 use cache_heads::meta::ResponseHeader;
 use cache_heads::{CacheMeta, NoCacheReason};
 use cache_lock::{CacheKeyLock, LockStatus};
@@ -20,7 +20,6 @@ use cache_parts::Parts;
 use cache_phases::CachePhase;
 use cache_store::storage::{Storage, StoreFault};
 use http_header::HeaderMapError;
-use request_store::{merged_head, renewed_from};
 
 impl<S: Storage> HttpCache<S> {
     /// Takes the meta of a response that confirms the stale one, whose moment of creation and provenance stay, and stores it in the place

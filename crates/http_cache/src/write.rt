@@ -12,7 +12,7 @@ use cache_parts::Parts;
 use cache_phases::CachePhase;
 use cache_store::storage::{Storage, StoreFault};
 use cache_words::key::HashBinary;
-use request_store::{begin, finish_reader, with_provenance_of};
+use request_store::{begin, finish_reader};
 
 impl<S: Storage> HttpCache<S> {
     // The meta that is to be stored: of a `Stale` request it keeps the provenance.

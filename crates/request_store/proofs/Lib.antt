@@ -1,4 +1,3 @@
 pub mod LookLaws
 pub mod BeginLaws
 pub mod FinishLaws
-pub mod MergeLaws

@@ -1,7 +1,6 @@
--- How a write begins, and the metas that are stored.
+-- How a write begins.
 use Rattle.std.specs.Prelude.{◌≡◌, ℕ, Bool, true, false, Option, Some, None, Ok, Err, ◌⊎◌}
 use Rattle.cache_heads.specs.declared.meta.CacheMeta.{CacheMeta}
-use Rattle.cache_heads.specs.Meta.{provenance_of}
 use Rattle.cache_changes.specs.Changes.{StoredKey}
 use Rattle.cache_store.specs.declared.storage.StoreFault.{StoreFault}
 use Rattle.cache_store.specs.Answers.{left}
@@ -9,16 +8,6 @@ use Rattle.cache_store.specs.Held.{Held}
 use Rattle.cache_store.specs.Looks.{TagAnswer, asked}
 use Rattle.cache_store.specs.Misses.{BeginAnswer}
 use Rattle.cache_store.specs.Readers.{Reader}
-
--- the new meta has the provenance of the one before, where there is one
-abbrev pub with_provenance_of : Option CacheMeta → CacheMeta → CacheMeta
-with_provenance_of None meta = meta
-with_provenance_of (Some old) meta = record meta { internal = record meta.internal { provenance = Some (provenance_of old.internal) } }
-
--- a new meta with the moment of creation and the provenance of the one before
-abbrev pub renewed_from : Option CacheMeta → CacheMeta → CacheMeta
-renewed_from None meta = meta
-renewed_from (Some old) meta = record meta { internal = record meta.internal { created = old.internal.created; provenance = Some (provenance_of old.internal) } }
 
 module _ {H M : Type 0} (reader : H → Reader) (number : M → ℕ) (tagged : M → Option ℕ) (streams is_spent : Bool) (key : StoredKey) (meta : CacheMeta) where
   -- where the store streams, a look-up by the tag of the write that began gives its own reader

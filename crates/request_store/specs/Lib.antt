@@ -4,5 +4,4 @@ pub mod Looks
 pub mod Begins
 pub mod Finishes
 pub mod Purges
-pub mod Merges
 pub mod Variants

@@ -1,7 +1,7 @@
-//! How a write begins, and the metas that are stored.
+//! How a write begins.
 ghost use Rattle.std.specs.Prelude.{◌≡◌, MatchResult};
 ghost use Rattle.cache_words.specs.Key.{key_of, combined};
-ghost use Rattle.request_store.specs.Begins.{with_provenance_of, renewed_from, IsBegun, IsNotBegun};
+ghost use Rattle.request_store.specs.Begins.{IsBegun, IsNotBegun};
 
 use cache_heads::CacheMeta;
 use cache_store::laws::own_reader;
@@ -42,25 +42,4 @@ pub fn begin<S: Storage>(
             Err(fault)
         }
     }
-}
-
-/// Returns the meta of a new response, with the provenance of the one before, where there is one.
-pub fn with_provenance_of(old: &Option<CacheMeta>, mut meta: CacheMeta) -> CacheMeta
-    ensures { result ≡ with_provenance_of old.now meta }
-{
-    if let Some(old) = old {
-        meta.set_provenance(old.provenance());
-    }
-    meta
-}
-
-/// Returns a new meta with the moment of creation and the provenance of the one before.
-pub fn renewed_from(old: &Option<CacheMeta>, mut meta: CacheMeta) -> CacheMeta
-    ensures { result ≡ renewed_from old.now meta }
-{
-    if let Some(old) = old {
-        meta.internal.created = old.created();
-        meta.set_provenance(old.provenance());
-    }
-    meta
 }

@@ -7,17 +7,15 @@ mod ends;
 mod faults;
 mod finish;
 mod look;
-mod merge;
 mod purge;
 mod uses;
 mod variants;
 
-pub use begins::{Begun, begin, renewed_from, with_provenance_of};
+pub use begins::{Begun, begin};
 pub use ends::{end_handlers, finish_reader};
 pub use faults::{FinishFault, Finished, FoundFault, LookUpFault};
 pub use finish::{Entries, Stored, admit_stored, out_of_memory, store_body};
 pub use look::{look_valid, look_valid_at};
-pub use merge::merged_head;
 pub use purge::{expire_key, purge_key};
 pub use uses::use_entry;
 pub use variants::{same_variance, variance_of, vary_meta};

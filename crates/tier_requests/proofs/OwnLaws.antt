@@ -29,7 +29,7 @@ use Rattle.mem_cache.specs.Looks.{tag_number}
 use Rattle.mem_cache.specs.Misses.{are_numbers_spent}
 use Rattle.mem_cache.specs.Readings as readings
 use Rattle.request_store.specs.Begins as begins
-use Rattle.request_store.specs.Begins.{with_provenance_of}
+use Rattle.cache_heads.specs.Merged.{with_provenance_of}
 use Rattle.request_store.specs.Spends.{Spends}
 use Rattle.http_cache.specs.Request.{stored_at}
 use Rattle.http_cache.specs.Writes as writes

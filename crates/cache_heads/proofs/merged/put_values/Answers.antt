@@ -2,9 +2,9 @@ use Rattle.std.proofs.Common.{rules, ◌≡◌, List, [], ◌∷◌, ◌++◌, r
 use Rattle.http_header.specs.declared.value.HeaderValue.{HeaderValue}
 use Rattle.http_header.specs.HeaderMap.{Entries, append}
 use Rattle.http_header.specs.Token.{lowercase}
-use Rattle.request_store.specs.Merges.{with_values}
-use Rattle.request_store.proofs.MergeLaws.{append-more, more-behind, none-behind, first-passes, more-passes}
-use Rattle.request_store.proofs.merge.put_values.Goals as goal
+use Rattle.cache_heads.specs.Merged.{with_values}
+use Rattle.cache_heads.proofs.MergeLaws.{append-more, more-behind, none-behind, first-passes, more-passes}
+use Rattle.cache_heads.proofs.merged.put_values.Goals as goal
 
 pub loop-value-init : goal.loop-value-init
 loop-value-init c = (c.in-Ok.first, [], search rules, search rules)

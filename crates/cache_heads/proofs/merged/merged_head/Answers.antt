@@ -1,6 +1,6 @@
 use Rattle.std.proofs.Common.{rules, inl, inr}
-use Rattle.request_store.proofs.MergeLaws.{passes-as}
-use Rattle.request_store.proofs.merge.merged_head.Goals as goal
+use Rattle.cache_heads.proofs.MergeLaws.{passes-as}
+use Rattle.cache_heads.proofs.merged.merged_head.Goals as goal
 
 pub returns-in_err-put_values-3-clause-full : goal.returns-in_err-put_values-3-clause-full
 returns-in_err-put_values-3-clause-full c e = inr (inr (inl (search rules)))

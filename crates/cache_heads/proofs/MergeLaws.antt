@@ -7,7 +7,7 @@ use Rattle.http_header.specs.HeaderMap.{Entry, Entries, update, append, get_all,
 use Rattle.http_header.specs.Places.{IsAt, IsAbsent}
 use Rattle.http_header.proofs.HeaderMapLemmas.{get_all-update_same}
 use Rattle.http_header.proofs.PlacesLemmas.{index_of_cases}
-use Rattle.request_store.specs.Merges.{PassesCount, with_values}
+use Rattle.cache_heads.specs.Merged.{PassesCount, with_values}
 
 itself : (name : List ℕ) → bytes_eq name name ≡ true
 itself name = search rules

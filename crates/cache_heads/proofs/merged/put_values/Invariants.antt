@@ -2,7 +2,7 @@ use Rattle.std.proofs.Common.{◌≡◌, List, ◌∷◌, ◌++◌}
 use Rattle.http_header.specs.declared.value.HeaderValue.{HeaderValue}
 use Rattle.http_header.specs.HeaderMap.{update, get_all}
 use Rattle.http_header.specs.Token.{lowercase}
-use Rattle.request_store.proofs.merge.put_values.Given as goal
+use Rattle.cache_heads.proofs.merged.put_values.Given as goal
 
 -- the values that were put, and those to come, are what was sent
 abbrev pub invariant-loop-value : goal.invariant-loop-value

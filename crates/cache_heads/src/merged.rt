@@ -1,12 +1,12 @@
-//! The head of a stale response that upstream confirms.
+//! A response after the stale one of its key: what it takes from it, and the stale head that
+//! upstream confirms.
 ghost use Rattle.std.specs.Prelude.{◌≡◌, IsTrue, IfOk, OnOk, IsErrOf};
 ghost use Rattle.http_header.specs.FieldName.{is_field_name};
 ghost use Rattle.http_header.specs.HeaderMap.{append, get_all, RefusesAppend};
 ghost use Rattle.http_header.specs.Token.{lowercase};
-ghost use Rattle.request_store.specs.Merges.{renewed_names, with_values, merged, PassesCount, Outgrows};
+ghost use Rattle.cache_heads.specs.Merged.{with_provenance_of, renewed_from, renewed_names, with_values, merged, PassesCount, Outgrows};
 
-use cache_heads::CacheMeta;
-use cache_heads::meta::ResponseHeader;
+use crate::meta::{CacheMeta, ResponseHeader};
 use http_header::{HeaderMap, HeaderMapError, HeaderValue};
 
 // Adds a copy of a value to those under a name.
@@ -71,4 +71,25 @@ pub fn merged_head(
     put_values(&mut header.headers, &sent.headers, "cdn-cache-control")?;
     put_values(&mut header.headers, &sent.headers, "etag")?;
     Ok(header)
+}
+
+/// Returns the meta of a new response, with the provenance of the one before, where there is one.
+pub fn with_provenance_of(old: &Option<CacheMeta>, mut meta: CacheMeta) -> CacheMeta
+    ensures { result ≡ with_provenance_of old.now meta }
+{
+    if let Some(old) = old {
+        meta.set_provenance(old.provenance());
+    }
+    meta
+}
+
+/// Returns a new meta with the moment of creation and the provenance of the one before.
+pub fn renewed_from(old: &Option<CacheMeta>, mut meta: CacheMeta) -> CacheMeta
+    ensures { result ≡ renewed_from old.now meta }
+{
+    if let Some(old) = old {
+        meta.internal.created = old.created();
+        meta.set_provenance(old.provenance());
+    }
+    meta
 }

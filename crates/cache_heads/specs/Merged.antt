@@ -1,7 +1,19 @@
--- The head of a stale response that upstream confirms.
-use Rattle.std.specs.Prelude.{ℕ, ◌<◌, ◌≤◌, ◌^◌, ◌⊎◌, List, [], ◌∷◌, length, codes}
+-- A response after the stale one of its key: what it takes from it, and the stale head that upstream confirms.
+use Rattle.std.specs.Prelude.{ℕ, Option, Some, None, ◌<◌, ◌≤◌, ◌^◌, ◌⊎◌, List, [], ◌∷◌, length, codes}
 use Rattle.http_header.specs.HeaderMap.{Entries, update, get_all, value_count}
 use Rattle.cache_headers.specs.declared.header.ResponseHeader.{ResponseHeader}
+use Rattle.cache_heads.specs.declared.meta.CacheMeta.{CacheMeta}
+use Rattle.cache_heads.specs.Meta.{provenance_of}
+
+-- the new meta has the provenance of the one before, where there is one
+abbrev pub with_provenance_of : Option CacheMeta → CacheMeta → CacheMeta
+with_provenance_of None meta = meta
+with_provenance_of (Some old) meta = record meta { internal = record meta.internal { provenance = Some (provenance_of old.internal) } }
+
+-- a new meta with the moment of creation and the provenance of the one before
+abbrev pub renewed_from : Option CacheMeta → CacheMeta → CacheMeta
+renewed_from None meta = meta
+renewed_from (Some old) meta = record meta { internal = record meta.internal { created = old.internal.created; provenance = Some (provenance_of old.internal) } }
 
 -- the fields that are taken from the response that confirms it (RFC 9111, 4.3.4; not those by which a response varies)
 abbrev pub renewed_names : List (List ℕ)
