@@ -154,8 +154,8 @@ CT cache_tier_show_file(cache_tier *t, uint64_t shard) { return cache_tier_call(
 CT cache_tier_show_evicted(cache_tier *t, uint64_t place) { return cache_tier_call(t, 15, 0, 0, place); }
 CT cache_tier_show_read(cache_tier *t, uint64_t id) { return cache_tier_call(t, 16, 0, 0, id); }
 
-/* The head of the finished body of this key, which is the head of what was found right after a look-up that was FOUND, complete: SHOWN, `number` is its
-   status and `second` how many lines it has; NOTHING_SHOWN, also while a first response is still written; MEMORY. Ask no line where it
+/* The head of what a look-up of this key finds now, so right after one that was FOUND the head of what was found: SHOWN, `number` is its status and
+   `second` how many lines it has; NOTHING_SHOWN where nothing is found; MEMORY. Ask no line where it
    isn't SHOWN: no head is shown from then on, but that of before where there was no memory to hand the key in. It is no use of the entry. */
 CT cache_tier_head(cache_tier *t, const void *key, size_t len) {
     uint64_t r = cache_tier_hand(t, 0, cache_tier_some(key), len);

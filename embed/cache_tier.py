@@ -148,7 +148,7 @@ class Tier:
         return memoryview((ctypes.c_char * lent.len).from_address(lent.at)) if lent.len else memoryview(b"")
 
     def head(self, key):
-        """A copy of the head of the finished body of a key; None where there is none."""
+        """A copy of the head of what a look-up of a key finds now; None where it finds nothing."""
         self.hand(0, key)
         status = self.call(17)
         if status not in (SHOWN, NOTHING_SHOWN):

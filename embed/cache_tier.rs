@@ -169,7 +169,7 @@ impl Tier {
         Ok(core.call(10, moment, 0)? == 43)
     }
 
-    /// The head of the finished body of a key, if there is one.
+    /// The head of what a look-up of a key finds now, if it finds something.
     pub fn head(&self, key: &[u8]) -> Result<Option<Head>, Refused> {
         let mut core = self.core();
         core.hand(0, key)?;

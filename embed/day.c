@@ -56,19 +56,19 @@ static void no_head(void) { /* a call that shows no head leaves none */
 static void day(void) {
     cache_tier_lent lent = {NULL, 0}, late = {NULL, 0};
     char before[8] = "";
-    int finished = 0;
+    int begun = 0, finished = 0;
     made(1), *body = 0;
     if (!is(cache_tier_state(tier), CACHE_TIER_READY, "state")) { cache_tier_end(tier); return; }
     if (opens(1000, 1) && is(cache_tier_look_up(tier, 1000, 0, 1), CACHE_TIER_ABSENT, "look up") &&
         is(cache_tier_begin(tier, 1000, 0, 1, HEAD, sizeof HEAD - 1), CACHE_TIER_BEGUN, "begin")) {
-        piece(1000, "abc", 0);
+        begun = 1, piece(1000, "abc", 0);
         if (opens(1001, 2) && is(cache_tier_look_up(tier, 1001, 0, 2), CACHE_TIER_FOUND, "look up") && reads(1001, 2, &lent)) strcpy(before, body);
         piece(1001, "de", 1);
         finished = is(cache_tier_finish(tier, 1001, 0, 1), CACHE_TIER_FINISHED, "finish");
     }
     uint64_t s = cache_tier_head(tier, "/a", 2);
     if (finished ? is(s, CACHE_TIER_SHOWN, "head") : 0) head();
-    if (!finished && s >= 32) wrong++, fprintf(stderr, "a head of an unfinished body\n");
+    if (!begun && s >= 32) wrong++, fprintf(stderr, "a head of nothing\n");
     int found = finished && opens(1002, 3) && is(cache_tier_look_up(tier, 1002, 0, 3), CACHE_TIER_FOUND, "look up") && reads(1002, 3, &late);
     cache_tier_purge(tier, 1003, 0, "/a", 2);
     cache_tier_put(tier, 1003, 0, "/b", 2, HEAD, sizeof HEAD - 1);

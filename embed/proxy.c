@@ -224,7 +224,7 @@ static enum MHD_Result find(client *c, const char *method) {
         uint64_t s = cache_tier_look_up(tier, now(), 0, c->id), permit = cache_tier_permit(tier), t = now();
         int fresh = cache_tier_is_fresh(tier), complete = cache_tier_is_complete(tier);
         if (s != CACHE_TIER_FOUND && s != CACHE_TIER_ABSENT) return pass(c, method);
-        fetch *from = s == CACHE_TIER_FOUND && !complete ? fetch_of(c->key.at, flying) : NULL; /* the tier tells the heads of whole bodies */
+        fetch *from = s == CACHE_TIER_FOUND && !complete ? fetch_of(c->key.at, flying) : NULL; /* of what is still fetched, its own head */
         if (from) head.len = 0, add(&head, from->head.at, from->head.len);
         int found = s == CACHE_TIER_FOUND && (complete ? shown_head(tier, &c->key, &head) : from != NULL);
         int lists = found && complete && !c->vary && field(&head, "vary", vary, sizeof vary);

@@ -25,3 +25,4 @@ pub mod PutSteps
 pub mod TakenLaws
 pub mod FinishSteps
 pub mod FinishLaws
+pub mod ShownLaws

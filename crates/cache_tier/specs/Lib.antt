@@ -8,3 +8,4 @@ pub mod Counts
 pub mod Takes
 pub mod Restarts
 pub mod Options
+pub mod Shown

@@ -23,6 +23,7 @@ mod purge;
 mod put;
 mod read;
 mod restarts;
+mod shown;
 
 use crate::bodies::{all_bytes, count};
 use crate::options::TierOptions;

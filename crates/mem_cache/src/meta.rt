@@ -3,6 +3,7 @@ ghost use Rattle.std.specs.Prelude.{◌≡◌, ◌↔◌, IfOk, IfErr, IfSome, I
 ghost use Rattle.cache_metas.specs.Internal.{IsSinceEpoch, IsWritable};
 ghost use Rattle.cache_store.specs.declared.storage.StoreFault.{StoreFault as Fault};
 ghost use Rattle.cache_store.specs.Renewals.{Refused};
+ghost use Rattle.mem_cache.specs.Shown.{meta_shown};
 
 use cache_heads::CacheMeta;
 use cache_metas::versions::InternalMetaV2;
@@ -10,7 +11,7 @@ use cache_store::storage::StoreFault;
 use cache_words::key::HashBinary;
 use cache_words::time::Moment;
 use packed_meta::PackedMeta;
-use std::alloc::Global;
+use std::alloc::{AllocError, Global};
 
 /// The meta of what a look-up shows.
 pub enum ShownMeta<'a> {
@@ -18,6 +19,28 @@ pub enum ShownMeta<'a> {
     InFlight(&'a CacheMeta),
     /// Of a finished body.
     Finished(&'a PackedMeta),
+}
+
+impl ShownMeta<'_> {
+    /// Returns a copy of the meta; its header values are shared where it is one of a write in flight.
+    ///
+    /// # Errors
+    ///
+    /// `AllocError` where there is no memory for the head.
+    pub fn to_meta(&self, alloc: Global) -> Result<CacheMeta, AllocError>
+        ensures { IfOk result (λ meta. meta ≡ meta_shown self.now) }
+    {
+        match self {
+            ShownMeta::InFlight(meta) => {
+                let header = meta.response_header_copy()?;
+                Ok(CacheMeta {
+                    internal: meta.internal,
+                    header,
+                })
+            }
+            ShownMeta::Finished(packed) => packed.unpack(alloc),
+        }
+    }
 }
 
 /// A meta that was made ready to be put beside the body of a key.

@@ -2,40 +2,41 @@
 use Rattle.std.specs.Prelude.{◌≡◌, ◌⊎◌, ℕ, List, [], length, slice_get, Option, Some, None, option_map, IsSome}
 use Rattle.http_header.specs.HeaderMap.{pairs, value_count}
 use Rattle.http_header.specs.declared.value.HeaderValue.{HeaderValue}
-use Rattle.cache_words.specs.Key.{CacheKeyValue, key_of, combined}
+use Rattle.cache_words.specs.Key.{CacheKeyValue}
 use Rattle.cache_heads.specs.declared.meta.CacheMeta.{CacheMeta}
-use Rattle.tier_model.specs.declared.state.Body.{Body}
-use Rattle.tier_model.specs.Rows.{body_of}
+use Rattle.tier_model.specs.Keys.{stored_key_of}
+use Rattle.tier_model.specs.Shelf.{look}
 use Rattle.tier_model.specs.State.{State}
 use Rattle.tier_requests.specs.Shelves.{own_meta}
+use Rattle.cache_tier.specs.Shown.{meta_found}
 use Rattle.tier_calls.specs.Answered.{plain}
 use Rattle.tier_calls.specs.Events.{key_in}
 use Rattle.tier_calls.specs.Tiers.{state_of, status_of}
 use Rattle.tier_calls.specs.declared.held.Held.{Held}
 use Rattle.tier_calls.specs.declared.held.HeadLine.{HeadLine}
 
--- the finished body that a tier has under a key, if it has one
-abbrev pub body_for : State → CacheKeyValue → Option Body
-body_for s key = body_of (combined (key_of key)) s.shelf.bodies
+-- the meta of what a look-up of a key finds in a tier, if it finds something
+abbrev pub meta_for : State → CacheKeyValue → Option CacheMeta
+meta_for s key = meta_found (look (stored_key_of key) s.shelf)
 
--- the meta is that of the key's finished body, but for its provenance, of which a tier's state has nothing; none where there is no body
+-- the meta is that of what is found, but for its provenance, of which a tier's state has nothing; none where nothing is found
 abbrev pub IsMetaOf : State → CacheKeyValue → Option CacheMeta → Type 0
-IsMetaOf s key meta = option_map own_meta meta ≡ option_map (λ b. b.meta) (body_for s key)
+IsMetaOf s key meta = option_map own_meta meta ≡ meta_for s key
 
--- the head of the key's finished body is shown: its status and the count of its lines are told
+-- the head of what a look-up of the key finds is shown: its status and the count of its lines are told
 abbrev pub ShowsHead : Held → State → ℕ → Held → Type 0
 ShowsHead old s answer new =
     (meta : CacheMeta) × (answer ≡ 49) × (new.head ≡ Some meta) × IsMetaOf s (key_in old.staged) (Some meta)
     × (new.told ≡ record (plain 49) { number = meta.header.status; second = value_count meta.header.headers })
 
--- why no head is shown: the key has no finished body, there is no memory for the head of the one it has, or no tier
+-- why no head is shown: nothing is found under the key, there is no memory for the head of what is found, or no tier
 abbrev pub IsHeadRefusal : Held → ℕ → Type 0
 IsHeadRefusal old answer =
     ((state_of old.tier ≡ None) × (answer ≡ status_of old.tier))
     ⊎ ((s : State) × (state_of old.tier ≡ Some s)
-    × (((answer ≡ 18) × (body_for s (key_in old.staged) ≡ None)) ⊎ ((answer ≡ 13) × IsSome (body_for s (key_in old.staged)))))
+    × (((answer ≡ 18) × (meta_for s (key_in old.staged) ≡ None)) ⊎ ((answer ≡ 13) × IsSome (meta_for s (key_in old.staged)))))
 
--- the head of the finished body of the key that was handed in is shown, or none is from then on
+-- the head of what is found under the key that was handed in is shown, or none is from then on
 abbrev pub IsHead : Held → ℕ → Held → Type 0
 IsHead old answer new =
     ((s : State) × (state_of old.tier ≡ Some s) × ShowsHead old s answer new)

@@ -1,8 +1,6 @@
 //! A tier of one, four or sixteen shards.
-ghost use Rattle.std.specs.Prelude.{◌≡◌, ◌<◌, ◌↔◌, [], Some, None, IfOk, IfErr, IfSome, IfNone, IsSome, MatchResult, replicate, option_map};
-ghost use Rattle.cache_words.specs.Key.{key_of, combined};
-ghost use Rattle.cache_changes.specs.Store.{body_at};
-ghost use Rattle.tier_calls.specs.Heads.{IsMetaOf, body_for};
+ghost use Rattle.std.specs.Prelude.{◌≡◌, ◌<◌, ◌↔◌, [], Some, None, IfOk, IfErr, IfSome, IfNone, IsSome, MatchResult, replicate};
+ghost use Rattle.tier_calls.specs.Heads.{IsMetaOf, meta_for};
 ghost use Rattle.tier_calls.specs.Restarts.{SavesAs, SavesIn, Starts, StartsIn};
 ghost use Rattle.tier_calls.specs.Tiers.{state_of, status_of, IsCount, made_with, Steps};
 ghost use Rattle.tier_model.specs.Histories.{empty_opening};
@@ -13,11 +11,10 @@ ghost use Rattle.tier_model.specs.Reports.{report_of};
 use crate::numbers;
 use cache_heads::CacheMeta;
 use cache_tier::tier::Tier;
-use cache_words::key::{CacheHashKey, CacheKey};
+use cache_words::key::CacheKey;
 use cache_words::time::Duration;
 use lru_core::SeededState;
 use lru_files::persistence::MemFolder;
-use mem_cache::MemCache;
 use rand_core::Rng;
 use std::alloc::{AllocError, Global};
 use tier_model::event::{Answer, Event, TierFault};
@@ -128,7 +125,7 @@ impl Shards {
         }
     }
 
-    /// Returns the meta of the finished body of a key.
+    /// Returns the meta of what a look-up of a key finds now.
     pub fn meta_of(
         &self,
         alloc: Global,
@@ -136,7 +133,7 @@ impl Shards {
     ) -> Option<Result<Option<CacheMeta>, AllocError>>
         ensures none { IfNone result (state_of self.now ≡ None) }
         ensures meta { IfSome result (λ came. (s : State) × (state_of self.now ≡ Some s)
-            × MatchResult came (λ found. IsMetaOf s key.now found) (λ e. IsSome (body_for s key.now))) }
+            × MatchResult came (λ found. IsMetaOf s key.now found) (λ e. IsSome (meta_for s key.now))) }
     {
         match self {
             Shards::NoMemory | Shards::NoSuchCount => None,
@@ -187,32 +184,20 @@ fn made<const N: usize>(alloc: Global, settings: &Settings) -> Option<Tier<N, Se
     Tier::with_hasher(alloc, hasher, limit, watermark, age, wait).ok()
 }
 
-// The meta of the finished body of a key. The key is hashed once.
+// The meta of what a look-up of a key finds. The key is hashed once.
 fn meta_in<const N: usize>(
     alloc: Global,
     tier: &Tier<N, SeededState>,
     key: &CacheKey,
 ) -> Result<Option<CacheMeta>, AllocError>
-    ensures { MatchResult result (λ found. IsMetaOf tier.now key.now found) (λ e. IsSome (body_for tier.now key.now)) }
+    ensures { MatchResult result (λ found. IsMetaOf tier.now key.now found) (λ e. IsSome (meta_for tier.now key.now)) }
 {
-    meta_by(alloc, tier.store(), key)
-}
-
-// The same of a store.
-fn meta_by(
-    alloc: Global,
-    store: &MemCache<SeededState>,
-    key: &CacheKey,
-) -> Result<Option<CacheMeta>, AllocError>
-    ensures ok { IfOk result (λ found. found ≡ option_map (λ x. x.meta) (body_at (combined (key_of key.now)) store.now.store)) }
-    ensures err { IfErr result (λ e. IsSome (body_at (combined (key_of key.now)) store.now.store)) }
-{
-    match store.finished(&key.combined_bin()) {
-        Some((packed, _)) => match packed.unpack(alloc) {
-            Ok(meta) => Ok(Some(meta)),
-            Err(fault) => Err(fault),
-        },
-        None => Ok(None),
+    let Some(shown) = tier.shown(key) else {
+        return Ok(None);
+    };
+    match shown.to_meta(alloc) {
+        Ok(meta) => Ok(Some(meta)),
+        Err(fault) => Err(fault),
     }
 }
 

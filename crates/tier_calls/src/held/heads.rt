@@ -45,7 +45,7 @@ fn line_at(headers: &HeaderMap, place: usize) -> Option<(&HeaderName, &HeaderVal
 }
 
 impl Held {
-    // Shows the head of the finished body of the staged key, which is kept until the next head is shown. Where none is shown, no line is lent.
+    // Shows the head of what a look-up of the staged key finds, which is kept until the next head is shown. Where none is shown, no line is lent.
     pub(super) fn show_head(&mut self) -> u64
         ensures { IsHeadCall self.old result self.new }
     {

@@ -5,7 +5,7 @@ use Rattle.tier_calls.specs.Called.{IsHeadCall}
 use Rattle.tier_calls.specs.Events.{key_in}
 use Rattle.tier_calls.specs.declared.held.Held.{Held}
 use Rattle.tier_calls.specs.declared.told.Told.{Told}
-use Rattle.tier_calls.proofs.HeadLaws.{told-of, fault-of, no-body}
+use Rattle.tier_calls.proofs.HeadLaws.{told-of, fault-of, none-shown}
 use Rattle.tier_calls.proofs.held.Held.show_head.Goals as goal
 
 pub returns-in-Some-Ok-Some : goal.returns-in-Some-Ok-Some
@@ -39,7 +39,7 @@ returns-in-Some-Ok-None c =
           c.in-Some-Ok-None.ensures.meta.1,
           inl (
             c.refuse.ensures.status,
-            no-body c.in-Some-Ok-None.ensures.meta.0 (key_in c.args.self.now.staged)
+            none-shown c.in-Some-Ok-None.ensures.meta.0 (key_in c.args.self.now.staged)
                 (told-of c.in-Some-Ok-None.ensures.meta.0 c.take_key-key.result (key_in c.args.self.now.staged) c.take_key-key.ensures.key c.in-Some-Ok-None.field-0 c.in-Some-Ok-None.ensures.meta.2
                 c.in-Some-Ok-None.field-0-0 None c.in-Some-Ok-None.field-0-is c.in-Some-Ok-None.field-0-0-is),
           ),
