@@ -14,6 +14,7 @@ use packed_meta::PackedMeta;
 use std::alloc::{AllocError, Global};
 
 /// The meta of what a look-up shows.
+#[derive(Clone, Copy)]
 pub enum ShownMeta<'a> {
     /// Of a write in flight.
     InFlight(&'a CacheMeta),
