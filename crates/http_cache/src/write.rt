@@ -7,6 +7,7 @@ ghost use Rattle.http_cache.specs.Writes.{variance_in, meta_for, with_meta, adop
 
 use crate::request::HttpCache;
 use cache_heads::CacheMeta;
+use cache_heads::merged::with_provenance_of;
 use cache_lock::{CacheKeyLock, LockStatus};
 use cache_parts::Parts;
 use cache_phases::CachePhase;
