@@ -1,4 +1,4 @@
--- How the entry of a stored body is admitted to the order of use, and how a refused admission is taken back with the body.
+-- How the entry of a stored body is admitted to the order of use, what that evicts, and how a refusal is taken back with the body.
 use Rattle.std.specs.Prelude.{◌≡◌, ℕ, Bool, true, false, not, ◌||◌, is_some, List, [], ◌∷◌, Option}
 use Rattle.rand_core.specs.Stream.{Stream}
 use Rattle.cache_words.specs.Key.{Key}
@@ -13,7 +13,7 @@ use Rattle.cache_changes.specs.Changes.{StoredKey, stored_key}
 use Rattle.cache_changes.specs.Store as changes
 use Rattle.cache_evict.specs.declared.fault.EvictFault.{EvictFault}
 use Rattle.cache_evict.specs.declared.fault.EvictFault.TheVariants as evict
-use Rattle.cache_evict.specs.Faults.{StopsAt, evicted_of}
+use Rattle.cache_evict.specs.Faults.{RunsOut, StopsAt, evicted_of}
 use Rattle.cache_evict.specs.Managed.{Managed, Evicts, put_first, weight_after, taken_out, rows_of, is_over, Fits}
 use Rattle.cache_store.specs.declared.storage.PurgeType.{PurgeType}
 use Rattle.cache_store.specs.declared.storage.MissFinishType.{MissFinishType}
@@ -91,21 +91,37 @@ module _ {S : Type 0} (rules : Rules S) where
   abbrev pub followed : MissFinishType → CacheEntryKey → Managed → Managed
   followed finish e m = put_first rules.shards e (weight_then rules.shards rules.weighed finish e m) m
 
-  -- an entry was admitted as its finish reports, these were evicted, and what is stored of them was purged
-  pub record IsAdmitted (finish : MissFinishType) (e : CacheEntryKey) (evicted : List CacheEntryKey) (old new : Cache S) : Type 0 where
-    pub evicts : Evicts rules.pick (followed finish e old.managed) evicted old.words new.managed new.words
+  -- from that order of use these were evicted, until neither limit was passed, and what is stored of them was purged
+  pub record IsSettled (start : Managed) (evicted : List CacheEntryKey) (old new : Cache S) : Type 0 where
+    pub evicts : Evicts rules.pick start evicted old.words new.managed new.words
     pub within : is_over new.managed ≡ false
-    pub fits : Fits rules.shards (followed finish e old.managed)
+    pub fits : Fits rules.shards start
     pub purged : Purged rules.held rules.ids rules.purged_as evicted old.store new.store
 
-  -- an entry was not admitted, or memory ran out in the evictions: what was evicted until then is purged, and then what is
-  -- stored under the entry's key is removed with the entry. `tells` says how the fault is reported
-  pub record IsTakenBack {F : Type 0} (tells : Bool → EvictFault → F → Type 0) (finish : MissFinishType) (e : CacheEntryKey) (fault : F) (old new : Cache S) : Type 0 where
+  -- an entry was admitted as its finish reports, these were evicted, and what is stored of them was purged
+  abbrev pub IsAdmitted : MissFinishType → CacheEntryKey → List CacheEntryKey → Cache S → Cache S → Type 0
+  IsAdmitted finish e evicted old new = IsSettled (followed finish e old.managed) evicted old new
+
+  -- the order of use stopped with a fault, which left it and the words so: what was evicted until then is purged, and then what
+  -- is stored under the entry's key is removed with the entry. `stopped` says how, `tells` how that is reported
+  pub record TakesBack {F : Type 0} (stopped : EvictFault → Managed → Stream → Type 0) (tells : EvictFault → Managed → F → Type 0) (e : CacheEntryKey) (fault : F) (old new : Cache S) : Type 0 where
     pub cause : EvictFault
     pub left : Managed
     pub purged : S
-    pub stops : StopsAt rules.pick rules.shards e (weight_then rules.shards rules.weighed finish e old.managed) old.managed old.words cause left new.words
+    pub stops : stopped cause left new.words
     pub purges : Purged rules.held rules.ids rules.purged_as (evicted_of cause) old.store purged
     pub removes : Removed rules.held rules.ids rules.purged_as (stored_key (key_of e)) purged new.store
     pub managed : new.managed ≡ taken_out rules.shards e left
-    pub told : tells (was_admitted rules.shards e cause left) cause fault
+    pub told : tells cause left fault
+
+  -- an entry was not admitted, or memory ran out in the evictions: it is taken back
+  abbrev pub IsTakenBack : {F : Type 0} → (Bool → EvictFault → F → Type 0) → MissFinishType → CacheEntryKey → F → Cache S → Cache S → Type 0
+  IsTakenBack tells finish e fault old new =
+      TakesBack (StopsAt rules.pick rules.shards e (weight_then rules.shards rules.weighed finish e old.managed) old.managed old.words)
+      (λ cause left. tells (was_admitted rules.shards e cause left) cause) e fault old new
+
+  -- memory ran out in the evictions from an order of use that has the entry: it is taken back
+  abbrev pub IsUnsettled : CacheEntryKey → Done → Cache S → Cache S → Type 0
+  IsUnsettled e done old new =
+      TakesBack (λ cause left words. RunsOut rules.pick old.managed old.words cause left words × Fits rules.shards old.managed)
+      (λ cause left. IsDone true true (evicted_of cause)) e done old new

@@ -18,7 +18,7 @@ use rand_core::Rng;
 use std::alloc::Global;
 
 // What was done before a fault of the order of use, after the body was stored.
-fn done(admitted: bool, evicted: Vec<CacheEntryKey>) -> Done
+pub(crate) fn done(admitted: bool, evicted: Vec<CacheEntryKey>) -> Done
     ensures { IsDone true admitted evicted.items result }
 {
     Done {
@@ -65,25 +65,21 @@ fn evicted_of(fault: &EvictFault) -> &[CacheEntryKey]
     }
 }
 
-// Purges what was evicted until a fault of an entry's admission, and removes what is stored under the entry's key with the entry.
-fn take_back<S: Storage, E: EvictionManager, P, L, A>(
+// Purges what was evicted until a fault, and removes what is stored under the entry's key with the entry.
+pub(crate) fn take_back<S: Storage, E: EvictionManager, P, L, A>(
     parts: &mut Parts<S, E, P, L, A>,
     entry: &CacheEntryKey,
-    fault: EvictFault,
-) -> AdmitFault
-    requires { IsWithoutFile fault }
-    ensures store { (purged : S) × Purged S.held S.ids S.purged_as (evicted_of fault) parts.old.store purged
+    fault: &EvictFault,
+)
+    ensures store { (purged : S) × Purged S.held S.ids S.purged_as (evicted_of fault.now) parts.old.store purged
         × Removed S.held S.ids S.purged_as (stored_key (key_of_entry entry.now)) purged parts.new.store }
     ensures managed { E.managed parts.new.manager ≡ taken_out E.shard_count entry.now (E.managed parts.old.manager) }
-    ensures told { IsTold (was_admitted E.shard_count entry.now fault (E.managed parts.old.manager)) fault result }
     ensures parts { parts.new ≡ record parts.old { store = parts.new.store; manager = parts.new.manager } }
 {
-    let admitted = was_admitted(&parts.manager, entry, &fault);
-    purge_all(&mut parts.store, evicted_of(&fault));
+    purge_all(&mut parts.store, evicted_of(fault));
     let target = PurgeTarget::Active(entry.key());
     parts.store.purge(target, PurgeType::Invalidation);
     parts.manager.remove(CacheEntryKeyRef::from(entry));
-    told(fault, admitted)
 }
 
 // Tells the order of use of an entry as its finish says: with the weight of its body as the store reports it, of which the manager makes
@@ -147,6 +143,10 @@ pub fn admit<S: Storage, E: EvictionManager, P, L, A, R: Rng>(
             purge_all(&mut parts.store, &evicted);
             Ok(evicted)
         }
-        Err(fault) => Err(take_back(parts, again, fault)),
+        Err(fault) => {
+            let admitted = was_admitted(&parts.manager, again, &fault);
+            take_back(parts, again, &fault);
+            Err(told(fault, admitted))
+        }
     }
 }

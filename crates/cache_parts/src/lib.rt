@@ -1,5 +1,5 @@
-//! The parts that a cache's calls are lent, and what a put and the finish of a request's write share: entries are admitted,
-//! what that evicts is purged, and an admission that is refused is taken back with its body.
+//! The parts that a cache's calls are lent, and what a put, the finish of a request's write and a revalidation share: entries are admitted
+//! or weighed anew, what that evicts is purged, and what is refused is taken back with its body.
 #![tactic(auto)]
 
 mod admission;
@@ -7,6 +7,7 @@ mod done;
 mod parts;
 mod policy;
 mod purges;
+mod settling;
 
 pub use admission::admit;
 pub use cache_store::admission::BoxedPolicy;
@@ -14,3 +15,4 @@ pub use done::{AdmitFault, Done};
 pub use parts::Parts;
 pub use policy::NoPolicy;
 pub use purges::purge_all;
+pub use settling::settle;

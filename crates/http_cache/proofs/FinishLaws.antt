@@ -26,14 +26,14 @@ status-told a (evict.Length v) (Length done) t = refl
 status-told a (evict.NumbersSpent v) (NumbersSpent done) t = refl
 status-told a _ _ t = absurd t
 
-pub status-admitted : {S M : Type 0} (rules : Rules S) (number : M → ℕ) (id : M → Option CacheEntryId) (evicts : Bool) (kind : MissFinishType) (e : CacheEntryKey) (r : Result (Option Finished) FinishFault) (old new : Cache S)
-    → AdmitAnswer rules number id evicts kind e r old new → finish_status r ≡ Some status.Done
-status-admitted rules number id true kind e (Ok (Some f)) old new a = refl
-status-admitted rules number id false kind e (Ok (Some f)) old new a = refl
-status-admitted rules number id true kind e (Ok None) old new a = absurd a
-status-admitted rules number id false kind e (Ok None) old new a = absurd a
-status-admitted rules number id true kind e (Err fault) old new a = status-told _ a.cause fault a.told
-status-admitted rules number id false kind e (Err fault) old new a = absurd a
+pub status-admitted : {S M : Type 0} (rules : Rules S) (number : M → ℕ) (id : M → Option CacheEntryId) (evicts : Bool) (kind : MissFinishType) (size : ℕ) (e : CacheEntryKey) (r : Result (Option Finished) FinishFault) (old new : Cache S)
+    → AdmitAnswer rules number id evicts kind size e r old new → finish_status r ≡ Some status.Done
+status-admitted rules number id true kind size e (Ok (Some f)) old new a = refl
+status-admitted rules number id false kind size e (Ok (Some f)) old new a = refl
+status-admitted rules number id true kind size e (Ok None) old new a = absurd a
+status-admitted rules number id false kind size e (Ok None) old new a = absurd a
+status-admitted rules number id true kind size e (Err fault) old new a = status-told _ a.cause fault a.told
+status-admitted rules number id false kind size e (Err fault) old new a = absurd a
 
 pub status-unstored : (fault : FinishFault) → IsOutOfMemory fault → finish_status (Err fault) ≡ None
 status-unstored fault out = ap (λ (f : FinishFault). finish_status (Err f)) out.1 ∙ ap (λ (b : Bool). if b then Some status.Done else None) out.2.stored

@@ -1,5 +1,5 @@
 -- What comes of the finish of a write.
-use Rattle.std.specs.Prelude.{◌≡◌, ℕ, Bool, true, false, List, [], Option, Some, None, is_some, Result, Ok, Err, ◌⊎◌, ⊤}
+use Rattle.std.specs.Prelude.{◌≡◌, ℕ, Bool, true, false, List, [], length, Option, Some, None, is_some, Result, Ok, Err, ◌⊎◌, ⊤}
 use Rattle.cache_words.specs.Key.{CacheKeyValue}
 use Rattle.cache_changes.specs.Changes.{StoredKey}
 use Rattle.cache_changes.specs.Store.{Stored, flying_at}
@@ -15,10 +15,9 @@ use Rattle.cache_parts.specs.Admissions.{Rules, Cache, IsDone, IsAdmitted, IsTak
 use Rattle.cache_store.specs.declared.storage.MissFinishType.{MissFinishType}
 use Rattle.cache_store.specs.declared.storage.store.MissFault.{MissFault}
 use Rattle.cache_store.specs.declared.storage.store.MissFault.TheVariants as miss
-use Rattle.cache_store.specs.Answers.{alive_key, left}
+use Rattle.cache_store.specs.Answers.{alive_key, left, IsFinished}
 use Rattle.cache_store.specs.Held.{Held}
 use Rattle.cache_store.specs.Ids.{IsGiven}
-use Rattle.cache_store.specs.Misses.{MissAnswer}
 use Rattle.request_store.specs.declared.faults.Finished.{Finished}
 use Rattle.request_store.specs.declared.faults.FinishFault.{FinishFault}
 use Rattle.request_store.specs.declared.faults.FinishFault.TheVariants.{Memory, WriteRemoved, Weight, Length, NumbersSpent}
@@ -58,14 +57,18 @@ module _ {S M : Type 0} (held : S → Held) (ids : S → StoredKey → Option Ca
   abbrev pub key_alive : M → S → Option StoredKey
   key_alive m s = alive_key (flying_at (number m) (held s).store)
 
-  -- a write is stored, which the store reports as this
-  pub record IsStored (told : Stored CacheMeta → MissFinishType) (m : M) (kind : MissFinishType) (old new : S) : Type 0 where
-    pub answer : MissAnswer number told (key_alive m old) (number m) (held old) (Ok kind) (held new)
-    pub given : IsGiven (key_alive m old) (id m) (ids old) (ids new)
-
   -- no removal met the write
   abbrev pub IsAlive : M → S → Type 0
   IsAlive m s = is_some (key_alive m s) ≡ true
+
+  -- a write is stored as a body of so many bytes, which the store reports as this
+  pub record IsStored (told : Stored CacheMeta → MissFinishType) (m : M) (kind : MissFinishType) (size : ℕ) (old new : S) : Type 0 where
+    pub alive : IsAlive m old
+    pub body : Stored CacheMeta
+    pub told_so : kind ≡ told body
+    pub sized : size ≡ length body.bytes
+    pub finished : IsFinished (number m) body (held old) (held new)
+    pub given : IsGiven (key_alive m old) (id m) (ids old) (ids new)
 
   -- it isn't stored: it was removed and is given up, or else, out of memory, the writer is handed back and nothing was done
   abbrev pub IsUnstored : (M → Option (List ℕ)) → M → MissFault M → S → S → Type 0
@@ -94,20 +97,20 @@ module _ {S M : Type 0} (rules : Rules S) (number : M → ℕ) (id : M → Optio
   NotStoredAnswer m (Err fault) old new =
       IsOutOfMemory fault × IsAlive rules.held rules.ids number id m old.store × OnlyHolds (rules.held old.store) old new
 
-  -- a body that was stored is admitted, where the manager is on, or taken back
-  abbrev pub AdmitAnswer : Bool → MissFinishType → CacheEntryKey → Result (Option Finished) FinishFault → Cache S → Cache S → Type 0
-  AdmitAnswer true kind e (Ok (Some f)) old new = (f.kind ≡ kind) × IsAdmitted rules kind e f.evicted.items old new
-  AdmitAnswer false kind e (Ok (Some f)) old new = (f.kind ≡ kind) × (f.evicted.items ≡ []) × (new ≡ old)
-  AdmitAnswer evicts kind e (Ok None) old new = ⊥
-  AdmitAnswer true kind e (Err fault) old new = IsTakenBack rules IsToldAs kind e fault old new
-  AdmitAnswer false kind e (Err fault) old new = ⊥
+  -- a body of so many bytes that was stored is admitted, where the manager is on, or taken back
+  abbrev pub AdmitAnswer : Bool → MissFinishType → ℕ → CacheEntryKey → Result (Option Finished) FinishFault → Cache S → Cache S → Type 0
+  AdmitAnswer true kind size e (Ok (Some f)) old new = (f.kind ≡ kind) × (f.length ≡ size) × IsAdmitted rules kind e f.evicted.items old new
+  AdmitAnswer false kind size e (Ok (Some f)) old new = (f.kind ≡ kind) × (f.length ≡ size) × (f.evicted.items ≡ []) × (new ≡ old)
+  AdmitAnswer evicts kind size e (Ok None) old new = ⊥
+  AdmitAnswer true kind size e (Err fault) old new = IsTakenBack rules IsToldAs kind e fault old new
+  AdmitAnswer false kind size e (Err fault) old new = ⊥
 
   -- the finish of a write under a key, by whether the manager is on: nothing is stored, or a body, which is admitted or taken back
   abbrev pub Finishes : M → Option CacheKeyValue → Bool → Result (Option Finished) FinishFault → Cache S → Cache S → Type 0
   Finishes m key evicts r old new =
       NotStoredAnswer m r old new
-      ⊎ ((mid : S) × (kind : MissFinishType) × IsStored rules.held rules.ids number id rules.told m kind old.store mid
-      × AdmitAnswer evicts kind (entry_at key (id m)) r (record old { store = mid }) new)
+      ⊎ ((mid : S) × (kind : MissFinishType) × (size : ℕ) × IsStored rules.held rules.ids number id rules.told m kind size old.store mid
+      × AdmitAnswer evicts kind size (entry_at key (id m)) r (record old { store = mid }) new)
 
   -- a request without a writer has nothing to finish
   abbrev pub FinishAnswer : Option M → Option CacheKeyValue → Bool → Result (Option Finished) FinishFault → Cache S → Cache S → Type 0

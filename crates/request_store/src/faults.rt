@@ -28,6 +28,8 @@ pub enum FoundFault {
 pub struct Finished {
     /// What the store reports of the body.
     pub kind: MissFinishType,
+    /// How many bytes the body has.
+    pub length: usize,
     /// The entries that were evicted, in order, perhaps that of the body too.
     pub evicted: Vec<CacheEntryKey>,
 }

@@ -17,11 +17,13 @@ use std::alloc::{AllocError, Global};
 /// An entry, twice.
 pub type Entries = (CacheEntryKey, CacheEntryKey);
 
-/// What a store reports of a body that it stored, and the body's entry where it is to be admitted.
+/// What a store reports of a body that it stored, how long that is, and the body's entry where it is to be admitted.
 #[derive(Drop)]
 pub struct Stored {
     /// What the store reports.
     pub kind: MissFinishType,
+    /// How many bytes the body has.
+    pub length: usize,
     /// The entry, where the manager is on.
     pub entries: Option<Entries>,
 }
@@ -49,8 +51,12 @@ fn told_of_admission(fault: AdmitFault) -> FinishFault
     }
 }
 
-// The entry of a key, with that id.
-fn entry_of(key: &CacheKey, id: Option<CacheEntryId>) -> Result<CacheEntryKey, AllocError>
+/// Returns the entry of a key, with that id.
+///
+/// # Errors
+///
+/// Out of memory.
+pub fn entry_of(key: &CacheKey, id: Option<CacheEntryId>) -> Result<CacheEntryKey, AllocError>
     ensures { IfOk result (λ e. e ≡ entry_at (Some key.now) id) }
 {
     let compact = key.to_compact()?;
@@ -98,14 +104,19 @@ pub fn store_body<S: Storage>(
     writer: S::Miss,
 ) -> Result<Stored, MissFault<S::Miss>>
     ensures { MatchResult result
-        (λ done. IsStored S.held S.ids S.Miss.number S.Miss.id S.Miss.told writer done.kind store.old store.new × AreEntries evicts (entry_at (Some key.now) (S.Miss.id writer)) done.entries)
+        (λ done. IsStored S.held S.ids S.Miss.number S.Miss.id S.Miss.told writer done.kind done.length store.old store.new × AreEntries evicts (entry_at (Some key.now) (S.Miss.id writer)) done.entries)
         (λ fault. IsUnstored S.held S.ids S.Miss.number S.Miss.id S.Miss.tag writer fault store.old store.new) }
 {
     let Ok(entries) = entries_of(evicts, key, writer.entry_id()) else {
         return Err(unstored(store, writer));
     };
+    let length = writer.len(store);
     match writer.finish(store) {
-        Ok(kind) => Ok(Stored { kind, entries }),
+        Ok(kind) => Ok(Stored {
+            kind,
+            length,
+            entries,
+        }),
         Err(fault) => Err(fault),
     }
 }
@@ -117,17 +128,22 @@ fn admit_body<S: Storage, E: EvictionManager, P, L, A, R: Rng>(
     rng: &mut R,
     fresh_until: Moment,
     kind: MissFinishType,
+    length: usize,
     entries: Entries,
 ) -> Result<Option<Finished>, FinishFault>
     requires { entries.1 ≡ entries.0 }
     ensures admitted { let rules = rules_of S.held S.ids S.purged_as S.is_spent S.Miss.told E.shard_count E.weighed E.pick in
         let old = cache_of parts.old.store (E.managed parts.old.manager) (R.stream rng.old) in let new = cache_of parts.new.store (E.managed parts.new.manager) (R.stream rng.new) in
-        AdmitAnswer rules S.Miss.number S.Miss.id true kind entries.0 result old new }
+        AdmitAnswer rules S.Miss.number S.Miss.id true kind length entries.0 result old new }
     ensures parts { parts.new ≡ record parts.old { store = parts.new.store; manager = parts.new.manager } }
 {
     let (entry, again) = entries;
     match admit(alloc, parts, rng, kind, entry, &again, fresh_until) {
-        Ok(evicted) => Ok(Some(Finished { kind, evicted })),
+        Ok(evicted) => Ok(Some(Finished {
+            kind,
+            length,
+            evicted,
+        })),
         Err(fault) => Err(told_of_admission(fault)),
     }
 }
@@ -147,14 +163,19 @@ pub fn admit_stored<S: Storage, E: EvictionManager, P, L, A, R: Rng>(
     requires { (evicts : Bool) × (e : EntryKey) × AreEntries evicts e stored.entries }
     ensures admitted { let rules = rules_of S.held S.ids S.purged_as S.is_spent S.Miss.told E.shard_count E.weighed E.pick in
         let old = cache_of parts.old.store (E.managed parts.old.manager) (R.stream rng.old) in let new = cache_of parts.new.store (E.managed parts.new.manager) (R.stream rng.new) in
-        (evicts : Bool) (e : EntryKey) → AreEntries evicts e stored.entries → AdmitAnswer rules S.Miss.number S.Miss.id evicts stored.kind e result old new }
+        (evicts : Bool) (e : EntryKey) → AreEntries evicts e stored.entries → AdmitAnswer rules S.Miss.number S.Miss.id evicts stored.kind stored.length e result old new }
     ensures parts { parts.new ≡ record parts.old { store = parts.new.store; manager = parts.new.manager } }
 {
-    let Stored { kind, entries } = stored;
+    let Stored {
+        kind,
+        length,
+        entries,
+    } = stored;
     match entries {
-        Some(entries) => admit_body(alloc, parts, rng, fresh_until, kind, entries),
+        Some(entries) => admit_body(alloc, parts, rng, fresh_until, kind, length, entries),
         None => Ok(Some(Finished {
             kind,
+            length,
             evicted: Vec::new(alloc),
         })),
     }

@@ -14,7 +14,7 @@ mod variants;
 pub use begins::{Begun, begin};
 pub use ends::{end_handlers, finish_reader};
 pub use faults::{FinishFault, Finished, FoundFault, LookUpFault};
-pub use finish::{Entries, Stored, admit_stored, out_of_memory, store_body};
+pub use finish::{Entries, Stored, admit_stored, entry_of, out_of_memory, store_body};
 pub use look::{look_valid, look_valid_at};
 pub use purge::{expire_key, purge_key};
 pub use uses::use_entry;

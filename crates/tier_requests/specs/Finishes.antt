@@ -3,8 +3,7 @@ use Rattle.std.specs.Prelude.{◌≡◌, ⊤, ℕ, true, false, List, length, if
 use Rattle.rand_core.specs.Stream.{Stream}
 use Rattle.cache_words.specs.Key.{CacheKeyValue}
 use Rattle.cache_entries.specs.declared.rows.Tracked.{Tracked}
-use Rattle.cache_store.specs.declared.storage.MissFinishType.{MissFinishType}
-use Rattle.cache_store.specs.declared.storage.MissFinishType.TheVariants.{Created, Appended}
+use Rattle.cache_store.specs.declared.storage.MissFinishType.TheVariants.{Created}
 use Rattle.cache_store.specs.Held.{Held}
 use Rattle.mem_cache.specs.Misses.{are_numbers_spent}
 use Rattle.cache_parts.specs.declared.done.Done.{Done as StoreDone}
@@ -26,10 +25,6 @@ use Rattle.tier_model.specs.State.{Request}
 abbrev pub done_as : StoreDone → Done
 done_as done = record { stored = done.stored; admitted = done.admitted; evicted = done.evicted.items }
 
-abbrev pub length_of : MissFinishType → ℕ
-length_of (Created size) = size
-length_of (Appended size bound) = size
-
 -- what the tier reports of a finish's refusal
 abbrev pub told_as : FinishFault → TierFault
 told_as finish.WriteRemoved = WriteRemoved
@@ -41,7 +36,7 @@ told_as (finish.Memory done) = Memory (done_as done)
 -- and of a finish; a request without a write has none to finish
 abbrev pub told_of : Result (Option Finished) FinishFault → Outcome
 told_of (Ok None) = Err WrongPhase
-told_of (Ok (Some finished)) = Ok (answer.Finished (length_of finished.kind) finished.evicted.items)
+told_of (Ok (Some finished)) = Ok (answer.Finished finished.length finished.evicted.items)
 told_of (Err fault) = Err (told_as fault)
 
 module _ (n : ℕ) (weighed : ℕ → ℕ) (pick : List (List Tracked) → Stream → ℕ × Stream) where

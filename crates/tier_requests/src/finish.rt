@@ -1,12 +1,11 @@
 //! How a request's write ends as a body.
 ghost use Rattle.std.specs.Prelude.{◌≡◌};
 ghost use Rattle.cache_parts.specs.Admissions.{cache_of};
-ghost use Rattle.tier_requests.specs.Finishes.{done_as, length_of, told_as, told_of, FinishAnswer};
+ghost use Rattle.tier_requests.specs.Finishes.{done_as, told_as, told_of, FinishAnswer};
 
 use crate::request::{Request, TierParts};
 use cache_evict::EvictionManager;
 use cache_parts::Done as StoreDone;
-use cache_store::storage::MissFinishType;
 use http_cache::{FinishFault, Finished};
 use rand_core::Rng;
 use std::alloc::Global;
@@ -37,23 +36,13 @@ fn told_as(fault: FinishFault) -> TierFault
     }
 }
 
-// How long a body is that was finished.
-fn length_of(kind: MissFinishType) -> usize
-    ensures { result ≡ length_of kind }
-{
-    match kind {
-        MissFinishType::Created(length) => length,
-        MissFinishType::Appended(length, _) => length,
-    }
-}
-
 // What came of a finish.
 fn told_of(came: Result<Option<Finished>, FinishFault>) -> Result<Answer, TierFault>
     ensures { result ≡ told_of came }
 {
     match came {
         Ok(Some(finished)) => Ok(Answer::Finished {
-            length: length_of(finished.kind),
+            length: finished.length,
             evicted: Entries::from_vec(finished.evicted),
         }),
         Ok(None) => Err(TierFault::WrongPhase),

@@ -9,5 +9,5 @@ returns-in-Err-clause-admitted g c = record {
   purges = c.take_back.ensures.store.1;
   removes = rw c.requires at c.take_back.ensures.store.2;
   managed = rw c.requires at c.take_back.ensures.managed;
-  told = rw c.requires at c.take_back.ensures.told;
+  told = rw (c.was_admitted-admitted.ensures, c.requires) at c.told.ensures;
 }
