@@ -2,12 +2,12 @@
 
 use cache_evict::CacheEntryKey;
 
-/// What a put, or the finish of a write, did before it was refused.
+/// What a put, the finish of a write or a revalidation did before it was refused.
 #[derive(Debug, Drop)]
 pub struct Done {
-    /// Whether the body was stored; it is then removed again.
+    /// Whether the body was stored, or its new meta; the body is then removed.
     pub stored: bool,
-    /// Whether its entry was admitted to the order of use; it is then removed again.
+    /// Whether its entry was admitted to the order of use, or weighed anew; it is then removed.
     pub admitted: bool,
     /// The entries evicted, in order.
     pub evicted: Vec<CacheEntryKey>,

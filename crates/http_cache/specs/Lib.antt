@@ -8,6 +8,7 @@ pub mod Sizes
 pub mod Predictions
 pub mod Stale
 pub mod Revalidations
+pub mod Renews
 pub mod Freshes
 pub mod Variants
 pub mod Lends

@@ -14,6 +14,7 @@ mod meta;
 mod predict;
 mod purge;
 mod readers;
+mod renew;
 mod request;
 mod revalidate;
 mod size;
@@ -21,5 +22,6 @@ mod spans;
 mod vary;
 mod write;
 
+pub use renew::RevalidateFault;
 pub use request::{HttpCache, Uses};
 pub use request_store::{FinishFault, Finished, FoundFault, LookUpFault};

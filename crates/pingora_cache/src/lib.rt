@@ -21,7 +21,9 @@ pub use cache_store::{admission, max_file_size, storage, trace};
 pub use cache_words::key::CacheKey;
 pub use cache_words::variance::VarianceBuilder;
 pub use cache_words::{key, time};
-pub use http_cache::{FinishFault, Finished, FoundFault, HttpCache, LookUpFault, Uses};
+pub use http_cache::{
+    FinishFault, Finished, FoundFault, HttpCache, LookUpFault, RevalidateFault, Uses,
+};
 pub use mem_cache::MemCache;
 
 pub mod hashtable;

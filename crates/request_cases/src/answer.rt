@@ -16,6 +16,8 @@ pub enum Answer {
     Body(usize),
     /// A body of that size was stored, with so many evictions.
     Created(usize, usize),
+    /// A stale response was renewed, with so many evictions.
+    Renewed(usize),
     /// A policy decided so, when it had been asked so often.
     Decided(&'static str, u32),
     /// A wait was given up for a fill.
@@ -44,6 +46,7 @@ impl Answer {
             Answer::Letter(letter) => text.push(letter),
             Answer::Body(length) => write!(text, "body {length}"),
             Answer::Created(size, evicted) => write!(text, "created {size} evicted {evicted}"),
+            Answer::Renewed(evicted) => write!(text, "renewed evicted {evicted}"),
             Answer::Decided(word, observed) => write!(text, "{word} {observed}"),
             Answer::Abandoned(reason, token) => write!(text, "abandoned {reason} {token}"),
         }

@@ -76,12 +76,11 @@ pub enum Find {
     Track,
 }
 
-/// What sets a meta or what it varies by, begins a write, or confirms a stale response.
+/// What sets a meta or what it varies by, or begins a write.
 #[derive(Clone, Copy)]
 pub enum Keep {
     Meta,
     Begin,
-    Revalidate,
     Variance,
     Writer,
 }
@@ -98,6 +97,7 @@ pub enum Call {
     Read,
     ReadBack,
     Merge,
+    Revalidate,
     Head,
     MovePermit,
     MoveReader,
@@ -191,7 +191,7 @@ const CALLS: &[(&str, Call)] = &[
     ("wait", Call::Wait),
     ("release", Call::Lead(Lead::Release)),
     ("publish", Call::Publish),
-    ("revalidate", Call::Keep(Keep::Revalidate)),
+    ("revalidate", Call::Revalidate),
     ("uncacheable", Call::Lead(Lead::Uncacheable)),
     ("tracked", Call::Tracked),
     ("told-until", Call::ToldUntil),

@@ -12,6 +12,7 @@
 //! | `look-at SECOND` | the same of what is fresh or stale by itself at that second |
 //! | `vary SECOND VARIANCE` | looks up, leaves what is found and goes on to a variant of it; whether that was found |
 //! | `meta`, `begin`, `revalidate` `UNTIL CREATED` | with a meta that is fresh until a second, made at another (else at 1000), with stale windows of 30 and 60 seconds |
+//! | `revalidate` | the same; `renewed`, and how many entries went then |
 //! | `variance VARIANCE` | what the response varies by: 16 bytes of that value, or nothing for `-` |
 //! | `writer`, `finish` | begins the write with the meta that is set, and finishes it |
 //! | `read`, `read-back` | a step of reading by the reader of what was found, or of what is being written |

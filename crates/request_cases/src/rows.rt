@@ -5,7 +5,7 @@ use crate::locks::{move_permit, publish, wait};
 use crate::looks::{looked, looked_at};
 use crate::noting::Notes;
 use crate::reads::{moved, push_read};
-use crate::stale::{push_head, push_merged};
+use crate::stale::{push_head, push_merged, revalidated};
 use crate::step::{Step, reason, status, variance};
 use crate::stored::{became_uncacheable, found};
 use crate::text::Text;
@@ -38,6 +38,7 @@ fn part_answer<
 ) -> Answer {
     match step.call {
         Call::Keep(keep) => kept(alloc, request, parts, keep, step),
+        Call::Revalidate => revalidated(alloc, request, parts, step),
         Call::Streams => streams(request.support_streaming_partial_write(&parts.store)),
         Call::Write => write(alloc, request, parts, step.first),
         Call::Finish => finish(alloc, request, parts),

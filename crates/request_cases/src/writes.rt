@@ -12,7 +12,7 @@ use http_cache::{FinishFault, Finished, HttpCache};
 use rand_pcg::Pcg32;
 use std::alloc::Global;
 
-/// Sets a meta, or what it varies by, begins a write, or confirms a stale response.
+/// Sets a meta, or what it varies by, or begins a write.
 pub fn kept<S: Storage, E, P, L: CacheKeyLock, A>(
     alloc: Global,
     request: &mut HttpCache<S>,
@@ -30,9 +30,6 @@ pub fn kept<S: Storage, E, P, L: CacheKeyLock, A>(
         }
         Keep::Begin if phase.can_begin() && !has_writer => {
             request.begin_write(parts, meta(alloc, step))
-        }
-        Keep::Revalidate if phase.is_stale_phase() && has_meta => {
-            request.revalidate_cache_meta(parts, meta(alloc, step))
         }
         Keep::Variance if phase.is_write_phase() && has_meta => {
             request.update_variance(parts, variance(step.first));

@@ -104,7 +104,8 @@ pub fn store_body<S: Storage>(
     writer: S::Miss,
 ) -> Result<Stored, MissFault<S::Miss>>
     ensures { MatchResult result
-        (λ done. IsStored S.held S.ids S.Miss.number S.Miss.id S.Miss.told writer done.kind done.length store.old store.new × AreEntries evicts (entry_at (Some key.now) (S.Miss.id writer)) done.entries)
+        (λ done. IsStored S.held S.ids S.Miss.number S.Miss.id S.Miss.told writer done.kind done.length store.old store.new
+        × AreEntries evicts (entry_at (Some key.now) (S.Miss.id writer)) done.entries)
         (λ fault. IsUnstored S.held S.ids S.Miss.number S.Miss.id S.Miss.tag writer fault store.old store.new) }
 {
     let Ok(entries) = entries_of(evicts, key, writer.entry_id()) else {
