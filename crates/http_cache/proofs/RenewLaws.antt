@@ -98,14 +98,17 @@ module _ {S N : Type 0} (rules : Rules S) (key_in : N → StoredKey) (meta_in : 
         → entry ≡ wanted evicts e → ReweighAnswer rules.shards entry (rules.weighed size) old (Ok tt) left → IsRenewed (key_in new) (λ _. meta_in new) (rules.held s) (rules.held t) → rules.ids t ≡ rules.ids s
         → Renews o (Ok entry) (cache_of s old words) (cache_of t left words)
     renewed None entry s t old left words a is r store ids = absurd (let never = a in cc)
-    renewed (Some x) entry s t old left words a is r store ids = (is, record {
-      moments = a.moments;
-      store = subst (λ (m : CacheMeta). IsRenewed key (λ _. m) (rules.held s) (rules.held t)) a.meta (subst (λ (k : StoredKey). IsRenewed k (λ _. meta_in new) (rules.held s) (rules.held t)) a.key store);
-      ids = ids;
-      managed = (by_use evicts by_is).0;
-      fits = (by_use evicts by_is).1;
-      words = refl;
-    })
+    renewed (Some x) entry s t old left words a is r store ids = (
+      is,
+      record {
+        moments = a.moments;
+        store = subst (λ (m : CacheMeta). IsRenewed key (λ _. m) (rules.held s) (rules.held t)) a.meta (subst (λ (k : StoredKey). IsRenewed k (λ _. meta_in new) (rules.held s) (rules.held t)) a.key store);
+        ids = ids;
+        managed = (by_use evicts by_is).0;
+        fits = (by_use evicts by_is).1;
+        words = refl;
+      },
+    )
       where
         by_is : ReweighAnswer rules.shards (wanted evicts e) (rules.weighed size) old (Ok tt) left
         by_is = subst (λ (o : Option CacheEntryKey). ReweighAnswer rules.shards o (rules.weighed size) old (Ok tt) left) is r
