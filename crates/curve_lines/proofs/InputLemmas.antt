@@ -1,5 +1,5 @@
 -- What comes next among the held bytes.
-use Rattle.std.proofs.Common.{◌≡◌, ◌≢◌, ◌∙◌, ℕ, zero, suc, ◌+◌, ◌-◌, ◌==◌, ◌≤◌, ◌<◌, ⊥, Bool, true, false, if◌then◌else◌, List, [], ◌∷◌, ◌++◌, All, length, take, drop, slice_index, get_or, get_or-drop, take_all, take-append-drop, length-drop, length-append, length-take-le, refl, ap, sym, subst, append_assoc, append-nil, eq-eqb, eqb-true, arith, rules}
+use Rattle.std.proofs.Common.{◌≡◌, ◌≢◌, ◌∙◌, ℕ, zero, suc, ◌+◌, ◌-◌, ◌==◌, ◌≤◌, ◌<◌, Bool, true, false, if◌then◌else◌, List, [], ◌∷◌, ◌++◌, All, length, take, drop, slice_index, get_or, get_or-drop, take_all, take-append-drop, length-drop, length-append, length-take-le, refl, ap, sym, subst, append_assoc, append-nil, eq-eqb, eqb-true, arith, rules}
 use Rattle.std.specs.Prelude.{Option, Some, None, IfSome, is_some}
 use Rattle.std.specs.Io.KnownBytes.{Consumes, Keeps, IsAtEnd, prepend_known}
 use Rattle.std.specs.Io.BufRead.{take_through, drop_through, strip_last, ends_with_byte, DropsThrough}
@@ -74,24 +74,24 @@ last_line_at held rest none end =
       ap (drop_through 10) all ∙ (drop_through-append 10 held [] none ∙ sym (ap (λ l. l ++ rest) (drop_all (length held) held (omega arith)) ∙ end)),
     )
 
-nothing_more : (held new bytes : List ℕ) → new ≡ held ++ bytes → length bytes ≡ 0 → new ≡ held
+pub nothing_more : (held new bytes : List ℕ) → new ≡ held ++ bytes → length bytes ≡ 0 → new ≡ held
 nothing_more held new [] more empty = more ∙ append-nil held
 nothing_more held new (b ∷ bs) more empty = let bad : suc (length bs) ≡ 0 = empty in absurd (omega arith)
 
 -- at the end of the stream what is held comes last
 last_any : (first after : List ℕ → List ℕ) (long : Type 0) (held : List ℕ) (rest : Option (List ℕ)) (next : Next) → IsAtEnd rest
     → ((ys : List ℕ) → ys ≡ [] → IsFirstOf first after (length held) held ys)
-    → next ≡ (if length held == 0 then End else Held (length held)) → IsNextBy first after long next held rest
-last_any first after long [] None next end f is = subst (λ (n : Next). IsNextBy first after long n [] None) (sym is) tt
-last_any first after long [] (Some ys) next end f is = subst (λ (n : Next). IsNextBy first after long n [] (Some ys)) (sym is) end
-last_any first after long (x ∷ xs) None next end f is = subst (λ (n : Next). IsNextBy first after long n (x ∷ xs) None) (sym is) (omega arith, omega arith, tt)
-last_any first after long (x ∷ xs) (Some ys) next end f is = subst (λ (n : Next). IsNextBy first after long n (x ∷ xs) (Some ys)) (sym is) (omega arith, omega arith, f ys end)
+    → (length held ≡ 0 → next ≡ End) → (length held ≢ 0 → next ≡ Held (length held)) → IsNextBy first after long next held rest
+last_any first after long [] None next end f none some = subst (λ (n : Next). IsNextBy first after long n [] None) (sym (none refl)) tt
+last_any first after long [] (Some ys) next end f none some = subst (λ (n : Next). IsNextBy first after long n [] (Some ys)) (sym (none refl)) end
+last_any first after long (x ∷ xs) None next end f none some = subst (λ (n : Next). IsNextBy first after long n (x ∷ xs) None) (sym (some (λ e. omega (arith, e)))) (omega arith, omega arith, tt)
+last_any first after long (x ∷ xs) (Some ys) next end f none some = subst (λ (n : Next). IsNextBy first after long n (x ∷ xs) (Some ys)) (sym (some (λ e. omega (arith, e)))) (omega arith, omega arith, f ys end)
 
 pub last_line : (held new bytes : List ℕ) (rest : Option (List ℕ)) (next : Next) → All (λ x. x ≢ 10) held → new ≡ held ++ bytes → length bytes ≡ 0 → IsAtEnd rest
-    → next ≡ (if length held == 0 then End else Held (length held)) → IsNext Text next new rest
-last_line held new bytes rest next none more empty end is =
+    → (length held ≡ 0 → next ≡ End) → (length held ≢ 0 → next ≡ Held (length held)) → IsNext Text next new rest
+last_line held new bytes rest next none more empty end nil some =
     subst (λ (l : List ℕ). IsNext Text next l rest) (sym (nothing_more held new bytes more empty))
-    (last_any (take_through 10) (drop_through 10) (IsTooLong held) held rest next end (λ ys e. last_line_at held ys none e) is)
+    (last_any (take_through 10) (drop_through 10) (IsTooLong held) held rest next end (λ ys e. last_line_at held ys none e) nil some)
 
 pub held_line : (rest : Option (List ℕ)) (n : ℕ) (held : List ℕ) → 0 < n → IsLineOf n held → IsNext Text (Held n) held rest
 held_line None n held some line = (some, line.0, tt)
@@ -107,10 +107,10 @@ last_record_at size held ys fits end =
     )
 
 pub last_record : (size : ℕ) (held new bytes : List ℕ) (rest : Option (List ℕ)) (next : Next) → length held < size → new ≡ held ++ bytes → length bytes ≡ 0 → IsAtEnd rest
-    → next ≡ (if length held == 0 then End else Held (length held)) → IsNextBy (take size) (drop size) ⊥ next new rest
-last_record size held new bytes rest next less more empty end is =
+    → (length held ≡ 0 → next ≡ End) → (length held ≢ 0 → next ≡ Held (length held)) → IsNextBy (take size) (drop size) ⊥ next new rest
+last_record size held new bytes rest next less more empty end nil some =
     subst (λ (l : List ℕ). IsNextBy (take size) (drop size) ⊥ next l rest) (sym (nothing_more held new bytes more empty))
-    (last_any (take size) (drop size) ⊥ held rest next end (λ ys e. last_record_at size held ys (omega (arith, less)) e) is)
+    (last_any (take size) (drop size) ⊥ held rest next end (λ ys e. last_record_at size held ys (omega (arith, less)) e) nil some)
 
 pub held_record : (rest : Option (List ℕ)) (size : ℕ) (held : List ℕ) → 0 < size → size ≤ length held → IsNextBy (take size) (drop size) ⊥ (Held size) held rest
 held_record None size held some fits = (some, fits, tt)

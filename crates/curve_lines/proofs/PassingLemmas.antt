@@ -1,11 +1,12 @@
 -- A line is passed over to its end.
-use Rattle.std.proofs.Common.{◌≡◌, ◌≢◌, ◌∙◌, ℕ, ⊥, List, [], ◌++◌, All, length, drop, refl, ap, sym, subst, append_assoc}
+use Rattle.std.proofs.Common.{◌≡◌, ◌≢◌, ◌∙◌, ℕ, ◌≤◌, arith, List, [], ◌++◌, All, length, drop, refl, ap, sym, subst, append_assoc}
 use Rattle.std.specs.Prelude.{Option, Some, None, IfSome, MatchOption}
 use Rattle.std.specs.Io.KnownBytes.{Consumes, Keeps, IsAtEnd, prepend_known}
 use Rattle.std.specs.Io.BufRead.{drop_through, DropsThrough}
 use Rattle.std.proofs.BufReadLemmas.{drop_through-append}
 use Rattle.curve_lines.specs.Inputs.{IsLineOf}
-use Rattle.curve_lines.proofs.InputLemmas.{prepend_more}
+use Rattle.std.proofs.lemmas.List.{drop_all}
+use Rattle.curve_lines.proofs.InputLemmas.{prepend_more, nothing_more}
 
 -- what is left has the lines after the first one of what there was
 abbrev pub IsPassing : Option (List ℕ) → Option (List ℕ) → Type 0
@@ -55,3 +56,22 @@ passing_line (Some xs) None held n (ys, e, q) line = absurd (unknown ys e)
 passing_line (Some xs) (Some zs) held n (ys, e, q) line =
     let same : held ++ zs ≡ ys = known ys (Some (held ++ zs)) e in
     ap (λ (l : List ℕ). Some l) (sym (q ∙ ap (drop_through 10) (sym same) ∙ (line.1 zs).1))
+
+-- what was held is taken, and more is read
+all_taken : (held empty : List ℕ) (n : ℕ) → n ≡ length held → empty ≡ drop n held → empty ≡ []
+all_taken held empty n all is = is ∙ drop_all n held (omega (arith, all))
+
+pub skip_read : (first before after : Option (List ℕ)) (held empty new bytes : List ℕ) (n : ℕ) → All (λ x. x ≢ 10) held → IsPassing first (prepend_known held before)
+    → n ≡ length held → empty ≡ drop n held → new ≡ empty ++ bytes → Consumes before after bytes → IsPassing first (prepend_known new after)
+skip_read first before after held empty new bytes n none p all is more moved =
+    let gone = all_taken held empty n all is in
+    passing_read first before after empty new bytes (subst (λ (l : List ℕ). IsPassing first (prepend_known l before)) (sym gone) (passing_skip first before held none p)) more moved
+
+pub skip_end : (first before after : Option (List ℕ)) (held empty new bytes : List ℕ) (n : ℕ) → All (λ x. x ≢ 10) held → IsPassing first (prepend_known held before)
+    → n ≡ length held → empty ≡ drop n held → new ≡ empty ++ bytes → Consumes before after bytes → length bytes ≡ 0 → IsAtEnd after
+    → DropsThrough first (prepend_known new after) 10
+skip_end first before after held empty new bytes n none p all is more moved zero end =
+    let q = skip_read first before after held empty new bytes n none p all is more moved in
+    let left : new ≡ [] = nothing_more empty new bytes more zero ∙ all_taken held empty n all is in
+    subst (λ (l : List ℕ). DropsThrough first (prepend_known l after) 10) (sym left)
+    (passing_end first after (subst (λ (l : List ℕ). IsPassing first (prepend_known l after)) left q) end)

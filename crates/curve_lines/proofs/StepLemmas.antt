@@ -1,5 +1,5 @@
 -- What a step takes of a stream.
-use Rattle.std.proofs.Common.{◌≡◌, ◌≢◌, ◌∙◌, ℕ, zero, suc, ◌+◌, ◌-◌, ◌==◌, nat_le, ◌≤◌, ◌<◌, ⊥, Bool, true, false, if◌then◌else◌, List, [], ◌∷◌, ◌++◌, All, length, take, drop, get_or, length-append, length-take, append-nil, refl, ap, sym, subst, eq-eqb, eqb-true, arith, rules}
+use Rattle.std.proofs.Common.{◌≡◌, ◌≢◌, ◌∙◌, ℕ, zero, suc, ◌+◌, ◌-◌, ◌==◌, nat_le, ◌≤◌, ◌<◌, Bool, true, false, if◌then◌else◌, List, [], ◌∷◌, ◌++◌, All, length, take, drop, get_or, length-append, length-take, append-nil, refl, ap, sym, subst, eq-eqb, eqb-true, arith, rules}
 use Rattle.std.specs.Prelude.{Option, Some, None, IfSome, is_some}
 use Rattle.std.specs.Io.KnownBytes.{Keeps, prepend_known}
 use Rattle.std.specs.Io.BufRead.{take_through, drop_through, strip_last, ends_with_byte, DropsThrough}
@@ -9,7 +9,14 @@ use Rattle.curve_lines.specs.declared.format.Format.{Format}
 use Rattle.curve_lines.specs.declared.format.Format.TheVariants.{Text, Records, OracleGeneral}
 use Rattle.curve_lines.specs.declared.input.Next.TheVariants.{End, Held, TooLong}
 use Rattle.curve_lines.specs.Lines.{request_in}
-use Rattle.curve_lines.specs.Formats.{first_line, first_unit, after_unit, request_by_format, TakesUnit}
+use Rattle.curve_lines.specs.declared.format.Rules.{Rules}
+use Rattle.curve_lines.specs.declared.step.Step.{Step}
+use Rattle.curve_lines.specs.declared.step.Step.TheVariants as step
+use Rattle.curve_lines.specs.declared.keyed.KeyedCurve.{KeyedCurve}
+use Rattle.curve_lines.specs.Keys.{IsFedKeys}
+use Rattle.curve_lines.specs.Parts.{kept}
+use Rattle.curve_lines.specs.Runs.{onto, is_more, has_request, Feeds}
+use Rattle.curve_lines.specs.Formats.{first_line, first_unit, after_unit, request_by_format, request_of, TakesUnit}
 use Rattle.curve_lines.specs.Inputs.{IsFirstOf, IsNext, IsNextBy, IsTooLong, bare}
 
 end_by : (first after : List ℕ → List ℕ) (long : Type 0) (old rest : Option (List ℕ)) (held : List ℕ) → Keeps old (prepend_known held rest)
@@ -126,3 +133,31 @@ pub long_none : (format : Format) (rest : Option (List ℕ)) (held : List ℕ) �
 long_none Text rest held long = long.1
 long_none Records rest held long = absurd long
 long_none OracleGeneral rest held long = absurd long
+
+-- ---- steps
+
+-- nothing is fed where there is no request
+unfed : (by : Rules) (part : List ℕ) (curve : KeyedCurve) → request_of by part ≡ None
+    → (requests : List Request) → IsFedKeys curve requests → IsFedKeys curve (onto (kept by.part (request_of by part)) requests)
+unfed by part curve none requests fed = subst (λ (o : Option Request). IsFedKeys curve (onto (kept by.part o) requests)) (sym none) fed
+
+pub feeds_none : (by : Rules) (old rest : Option (List ℕ)) (held : List ℕ) (curve : KeyedCurve) → Keeps old (prepend_known held rest) → IsNext by.format End held rest
+    → Feeds by old (prepend_known held rest) curve curve step.End
+feeds_none by old rest held curve kept next =
+    let none = nothing_asked by.format by.overhead in
+    ([], takes_none by.format old rest held kept next, sym (ap (λ (o : Option Request). is_some o) none), unfed by [] curve none)
+
+pub feeds_held : (by : Rules) (old rest : Option (List ℕ)) (held left : List ℕ) (n : ℕ) (curve curve' : KeyedCurve) (s : Step) → Keeps old (prepend_known held rest)
+    → IsNext by.format (Held n) held rest → left ≡ drop n held → is_more s ≡ true → has_request s ≡ is_some (request_of by (bare by.format (take n held)))
+    → ((requests : List Request) → IsFedKeys curve requests → IsFedKeys curve' (onto (kept by.part (request_of by (bare by.format (take n held)))) requests))
+    → Feeds by old (prepend_known left rest) curve curve' s
+feeds_held by old rest held left n curve curve' s kept next is more told fed =
+    let t = takes_held by.format old rest held n kept next in
+    let u = subst (λ (l : List ℕ). TakesUnit by.format old (prepend_known l rest) (bare by.format (take n held)) true) (sym is) t in
+    (bare by.format (take n held), subst (λ (b : Bool). TakesUnit by.format old (prepend_known left rest) (bare by.format (take n held)) b) (sym more) u, told, fed)
+
+pub feeds_long : (by : Rules) (old rest new : Option (List ℕ)) (held : List ℕ) (curve : KeyedCurve) → Keeps old (prepend_known held rest) → IsNext by.format TooLong held rest
+    → DropsThrough (prepend_known held rest) new 10 → Feeds by old new curve curve step.TooLong
+feeds_long by old rest new held curve kept next passed =
+    let (part, takes, none) = takes_long by.format by.overhead old rest new held kept next passed in
+    (part, takes, sym (ap (λ (o : Option Request). is_some o) none), unfed by part curve none)

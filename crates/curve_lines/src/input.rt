@@ -1,5 +1,5 @@
 //! Lines and records, found in what was read of a stream ahead of them.
-ghost use Rattle.std.specs.Prelude.{◌≡◌, ◌≢◌, ◌==◌, ℕ, List, [], ◌++◌, ◌≤◌, ◌<◌, ◌+◌, ◌-◌, All, None, take, drop, length, if◌then◌else◌, IfOk, OnOk, IfSome};
+ghost use Rattle.std.specs.Prelude.{◌≡◌, ◌≢◌, ℕ, List, [], ◌++◌, ◌≤◌, ◌<◌, ◌+◌, ◌-◌, All, None, take, drop, length, IfOk, OnOk, IfSome};
 ghost use Rattle.std.specs.Io.BufRead.{strip_last, DropsThrough};
 ghost use Rattle.std.specs.Io.KnownBytes.{Consumes, Keeps, IsAtEnd, prepend_known};
 ghost use Rattle.curve_lines.specs.declared.format.Format.TheVariants.{Text};
@@ -181,7 +181,8 @@ impl Input {
 
 // What comes last: the bytes that are held, if there are any.
 fn last(held: usize) -> Next
-    ensures { result ≡ (if held == 0 then End else Held held) }
+    ensures none { held ≡ 0 → result ≡ End }
+    ensures some { held ≢ 0 → result ≡ Held held }
 {
     if held == 0 { Next::End } else { Next::Held(held) }
 }

@@ -1,11 +1,14 @@
 //! A curve of the requests of a stream.
-ghost use Rattle.std.specs.Prelude.{◌≡◌, ℕ, ◌+◌, ◌≤◌, ◌<◌, ◌^◌, if◌then◌else◌, List, length, slice_index_or, IfOk, OnOk, IfSome};
+ghost use Rattle.std.specs.Prelude.{◌≡◌, ℕ, ◌+◌, ◌≤◌, ◌<◌, ◌^◌, true, if◌then◌else◌, List, length, take, drop, slice_index_or, is_some, IfOk, OnOk, IfSome};
 ghost use Rattle.std.specs.Io.KnownBytes.{prepend_known};
 ghost use Rattle.size_curve.specs.Requests.{Request};
 ghost use Rattle.size_curve.specs.Rows.{limits_of};
 ghost use Rattle.size_curve.specs.Numbers.{mark_of};
 ghost use Rattle.curve_lines.specs.Keys.{IsFedKeys};
-ghost use Rattle.curve_lines.specs.Runs.{Feeds, IsFound};
+ghost use Rattle.curve_lines.specs.Formats.{request_of};
+ghost use Rattle.curve_lines.specs.Inputs.{bare};
+ghost use Rattle.curve_lines.specs.Parts.{kept};
+ghost use Rattle.curve_lines.specs.Runs.{onto, is_more, has_request, Feeds, IsFound};
 
 use crate::fault::RunFault;
 use crate::format::Rules;
@@ -14,7 +17,7 @@ use crate::keyed::KeyedCurve;
 use crate::limits::Limits;
 use crate::progress::{Progress, tell_at};
 use crate::record::add_unit;
-use crate::step::{Step, has_request, is_more};
+use crate::step::{Step, has_request, is_more, step_of};
 use lru_core::SeededState;
 use std::alloc::Global;
 use std::io::Read;
@@ -79,15 +82,36 @@ fn feed<R: Read>(
     match input.next(reader, rules.format)? {
         Next::End => Ok(Step::End),
         Next::Held(len) => {
-            let yes = add_unit(curve, alloc, rules, bare(rules.format, input.front(len)))?;
-            input.skip(len);
-            Ok(if yes { Step::Fed } else { Step::Wrong })
+            let step = feed_held(alloc, rules, input, len, curve)?;
+            Ok(step)
         }
         Next::TooLong => {
             input.skip_line(reader)?;
             Ok(Step::TooLong)
         }
     }
+}
+
+// Feeds the request of the line or record of so many bytes that comes first among those held.
+fn feed_held(
+    alloc: Global,
+    rules: Rules,
+    input: &mut Input,
+    len: usize,
+    curve: &mut KeyedCurve,
+) -> Result<Step, RunFault>
+    requires fed { (requests : List Request) × IsFedKeys curve.old requests }
+    requires within { len ≤ length input.old }
+    ensures rest { OnOk result (input.new ≡ drop len input.old) }
+    ensures fed { OnOk result ((requests : List Request) → IsFedKeys curve.old requests → IsFedKeys curve.new (onto (kept rules.part (request_of rules (bare rules.format (take len input.old)))) requests)) }
+    ensures told { IfOk result (λ step. has_request step ≡ is_some (request_of rules (bare rules.format (take len input.old)))) }
+    ensures more { IfOk result (λ step. is_more step ≡ true) }
+    ensures mark { OnOk result (mark_of curve.new.curve.watermark ≡ mark_of curve.old.curve.watermark) }
+    ensures limits { OnOk result (limits_of curve.new.curve.table ≡ limits_of curve.old.curve.table) }
+{
+    let yes = add_unit(curve, alloc, rules, bare(rules.format, input.front(len)))?;
+    input.skip(len);
+    Ok(step_of(yes))
 }
 
 // One line or record more.

@@ -1,5 +1,5 @@
 //! Steps of a run: one line or record each.
-ghost use Rattle.std.specs.Prelude.{◌≡◌};
+ghost use Rattle.std.specs.Prelude.{◌≡◌, true};
 ghost use Rattle.curve_lines.specs.Runs.{is_more, has_request};
 
 // What was read.
@@ -33,4 +33,12 @@ pub(crate) fn has_request(step: Step) -> bool
         Step::Fed => true,
         Step::End | Step::Wrong | Step::TooLong => false,
     }
+}
+
+// What was read is a line or record, with a request or without.
+pub(crate) fn step_of(yes: bool) -> Step
+    ensures request { has_request result ≡ yes }
+    ensures more { is_more result ≡ true }
+{
+    if yes { Step::Fed } else { Step::Wrong }
 }
