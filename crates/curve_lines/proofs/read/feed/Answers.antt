@@ -19,10 +19,10 @@ skip_line-requires g c = long_none c.args.rules.format (g.R.Read.remaining c.nex
 pub returns-in_ok-skip_line-in-TooLong-clause-fed : goal.returns-in_ok-skip_line-in-TooLong-clause-fed
 returns-in_ok-skip_line-in-TooLong-clause-fed g c =
     feeds_long c.args.rules (prepend_known c.args.input.now (g.R.Read.remaining c.args.reader.now)) (g.R.Read.remaining c.next.new.reader)
-    (prepend_known c.skip_line.new.self (g.R.Read.remaining c.skip_line.new.reader)) c.next.new.self c.args.curve.now c.in_ok-next.ensures.kept (subst (λ (n : Next). IsNext c.args.rules.format n c.next.new.self (g.R.Read.remaining c.next.new.reader)) c.in-TooLong.is c.in_ok-next.ensures.next) c.in_ok-skip_line.ensures
+    (prepend_known c.skip_line.new.self (g.R.Read.remaining c.skip_line.new.reader)) c.next.new.self c.args.curve.now c.in_ok-next.ensures.kept (subst (λ (n : Next). IsNext c.args.rules.format n c.next.new.self (g.R.Read.remaining c.next.new.reader)) c.in-TooLong.is c.in_ok-next.ensures.next) c.in_ok-skip_line-in-TooLong.ensures
 
 pub returns-in_ok-step-in-Held-clause-fed : goal.returns-in_ok-step-in-Held-clause-fed
 returns-in_ok-step-in-Held-clause-fed g c =
-    let e = c.in_ok-step.ensures in
+    let e = c.in_ok-step-in-Held.ensures in
     feeds_held c.args.rules (prepend_known c.args.input.now (g.R.Read.remaining c.args.reader.now)) (g.R.Read.remaining c.next.new.reader) c.next.new.self c.feed_held.new.input c.in-Held.len
-    c.args.curve.now c.feed_held.new.curve c.in_ok-step.step c.in_ok-next.ensures.kept (subst (λ (n : Next). IsNext c.args.rules.format n c.next.new.self (g.R.Read.remaining c.next.new.reader)) c.in-Held.is c.in_ok-next.ensures.next) e.rest e.more e.told e.fed
+    c.args.curve.now c.feed_held.new.curve c.in_ok-step-in-Held.step c.in_ok-next.ensures.kept (subst (λ (n : Next). IsNext c.args.rules.format n c.next.new.self (g.R.Read.remaining c.next.new.reader)) c.in-Held.is c.in_ok-next.ensures.next) e.rest e.more e.told e.fed
