@@ -184,7 +184,11 @@ fn last(held: usize) -> Next
     ensures none { held ≡ 0 → result ≡ End }
     ensures some { held ≢ 0 → result ≡ Held held }
 {
-    if held == 0 { Next::End } else { Next::Held(held) }
+    if held == 0 {
+        Next::End
+    } else {
+        Next::Held(held)
+    }
 }
 
 // A line without its line feed, or a record.

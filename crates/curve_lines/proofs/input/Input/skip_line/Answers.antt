@@ -33,5 +33,5 @@ loop-preserved g c =
     let none : All (λ x. x ≢ 10) c.read_more.new.self = search rules in (
       none,
       skip_read (prepend_known c.args.self.now (g.R.Read.remaining c.args.reader.now)) (g.R.Read.remaining c.loop.reader) (g.R.Read.remaining c.read_more.new.reader)
-      c.loop.self c.skip.new.self c.read_more.new.self bytes (length c.bytes.result.now) i.0 i.1 (ap length c.bytes.ensures.value) c.skip.ensures grows moved,
+          c.loop.self c.skip.new.self c.read_more.new.self bytes (length c.bytes.result.now) i.0 i.1 (ap length c.bytes.ensures.value) c.skip.ensures grows moved,
     )

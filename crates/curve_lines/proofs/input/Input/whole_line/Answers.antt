@@ -12,6 +12,8 @@ returns-in_err-at-clause-no_line c =
 
 pub returns-clause-some : goal.returns-clause-some
 returns-clause-some c =
-    let hay : take (length c.args.self.now - c.args.searched) (drop c.args.searched c.args.self.now) ≡ drop c.args.searched c.args.self.now = take_rest c.args.self.now c.args.searched in
-    (omega arith, line_found c.args.self.now c.args.searched c.in_ok-at.at c.requires.within c.requires.none
-    (subst (λ l. IsFirstByte (is_byte 10) l (Some c.in_ok-at.at)) hay (rw c.bytes.ensures.value at c.in_ok-at.ensures)))
+    let hay : take (length c.args.self.now - c.args.searched) (drop c.args.searched c.args.self.now) ≡ drop c.args.searched c.args.self.now = take_rest c.args.self.now c.args.searched in (
+      omega arith,
+      line_found c.args.self.now c.args.searched c.in_ok-at.at c.requires.within c.requires.none
+          (subst (λ l. IsFirstByte (is_byte 10) l (Some c.in_ok-at.at)) hay (rw c.bytes.ensures.value at c.in_ok-at.ensures)),
+    )
