@@ -1,5 +1,5 @@
 //! Numbering the slots anew.
-ghost use Rattle.std.specs.Prelude.{◌≡◌, ◌≢◌, ◌==◌, if◌then◌else◌, ℕ, ◌+◌, ◌*◌, ◌<◌, ◌≤◌, ◌^◌, ◌++◌, ◌∷◌, [], List, length, sum, replicate, slice_set, IfOk, IfErr, OnOk};
+ghost use Rattle.std.specs.Prelude.{◌≡◌, ◌≢◌, ◌==◌, if◌then◌else◌, ℕ, ◌+◌, ◌*◌, ◌/◌, ◌<◌, ◌≤◌, ◌^◌, ◌++◌, ◌∷◌, [], List, length, sum, replicate, slice_set, IfOk, IfErr, OnOk};
 ghost use Rattle.trace_heights.specs.Faults.{IsNoSlot};
 ghost use Rattle.trace_heights.specs.Slots.{nobody, is_owned, owned_in, places_in, gaps_in, IsKept, IsBuilt};
 
