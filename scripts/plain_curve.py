@@ -7,6 +7,9 @@ import struct
 import sys
 from decimal import Decimal, getcontext
 
+# The longest line that can have a request, in bytes.
+LONGEST = 65535
+
 
 def make(seed):
     draw = random.Random(seed)
@@ -43,9 +46,10 @@ def requests(form, stream):
     """Yields a key and its bytes, '-' for a removal, and None for what has no request."""
     if form == "text":
         for line in stream:
-            words = line.removesuffix(b"\n").replace(b"\r", b" ").replace(b"\t", b" ").split(b" ")
+            line = line.removesuffix(b"\n")
+            words = line.replace(b"\r", b" ").replace(b"\t", b" ").split(b" ")
             words = [it for it in words if it]
-            yield (words[1], words[2].decode("latin-1")) if len(words) == 3 else None
+            yield (words[1], words[2].decode("latin-1")) if len(words) == 3 and len(line) <= LONGEST else None
         return
     length = 16 if form == "records" else 24
     while record := stream.read(length):

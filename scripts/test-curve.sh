@@ -36,6 +36,28 @@ run --limits 10 --format records < "$room/requests" | grep -q '^10,1,5,33.33,33.
 # libCacheSim's: time 1, key 7, 5 bytes, next use 2; then time 2
 printf '\001\0\0\0\007\0\0\0\0\0\0\0\005\0\0\0\002\0\0\0\0\0\0\0\002\0\0\0\007\0\0\0\0\0\0\0\005\0\0\0\377\377\377\377\377\377\377\377' > "$room/requests"
 run --limits 10 --format oracle-general < "$room/requests" | grep -q '^10,1,5,50.00,50.00$'
+# a line of 65,535 bytes has a request; a longer one is passed over whole, however its bytes fall into blocks, and the lines around it count
+keys() { head -c "$1" /dev/zero | tr '\0' k; }
+for length in 65530 65531 65532 65533 131068 200000; do
+    for front in 1 2 30000; do
+        { awk -v n="$front" 'BEGIN { for (i = 0; i < n; i++) print i, "/" i % 7, 5 }'; printf '1 '; keys "$length"; printf ' 5\n'; printf '1 /0 5\n2 '; keys "$length"; printf ' 5\n3 /1 5'; } > "$room/requests"
+        run --limits 10,40,100 < "$room/requests" > "$room/told"
+        python3 scripts/plain_curve.py --limits 10,40,100 < "$room/requests" > "$room/plain"
+        diff "$room/plain" "$room/told"
+    done
+done
+# such a line is named, and a stream without a line feed takes no more memory than another
+if [ -x "$program" ]; then
+    { printf '1 /a 5\n2 '; keys 70000; printf ' 5\nwrong\n3 /a 5\n'; } > "$room/requests"
+    "$program" --limits 10 < "$room/requests" 2> "$room/why" | grep -q '^# requests=2 entries=1 removed=0 odd=0 passed_over=2 '
+    grep -q 'line 2 is longer than 65535 bytes: passed over' "$room/why"
+    grep -q 'line or record 3 has no request: passed over' "$room/why"
+    head -c 300000000 /dev/zero | (ulimit -v 100000; "$program" --limits 10 2> "$room/why") | grep -q '^# requests=0 entries=0 removed=0 odd=0 passed_over=1 '
+    grep -q 'line 1 is longer than 65535 bytes: passed over' "$room/why"
+fi
+# entries that are soon removed don't slow the later ones
+awk 'BEGIN { for (i = 0; i < 300000; i++) { print i, "/" i, 5; print i, "/" i, "-" } }' > "$room/requests"
+run --limits 10 < "$room/requests" | grep -q '^# requests=300000 entries=300000 removed=300000 odd=0 passed_over=0 '
 # eight parts of the keys, each a cache of an eighth, and their sums
 refused() {
     want=$1

@@ -1,5 +1,5 @@
 -- A stream is read by its lines or records.
-use Rattle.std.proofs.Common.{◌≡◌, ℕ, ◌+◌, ◌<◌, true, false, cond, List, [], ◌∷◌, Option, Some, None, refl, ap, sym, ◌∙◌, subst, arith, length}
+use Rattle.std.proofs.Common.{◌≡◌, ℕ, ◌+◌, ◌<◌, true, false, cond, List, [], ◌∷◌, Bool, Option, Some, None, refl, ap, sym, ◌∙◌, subst, arith, length}
 use Rattle.std.specs.Prelude.{IfSome, is_some, map}
 use Rattle.size_curve.specs.Requests.{Request, steps_of, AreFound}
 use Rattle.size_curve.specs.Numbers.{mark_of}
@@ -8,11 +8,16 @@ use Rattle.curve_lines.proofs.KeyedLaws.{keyed-found, keyed-counts}
 use Rattle.curve_lines.specs.declared.format.Format.{Format}
 use Rattle.curve_lines.specs.declared.format.Format.TheVariants.{Text, Records, OracleGeneral}
 use Rattle.curve_lines.specs.declared.format.Rules.{Rules}
+use Rattle.curve_lines.specs.declared.part.Part.{Part}
 use Rattle.curve_lines.specs.declared.keyed.KeyedCurve.{KeyedCurve}
 use Rattle.curve_lines.specs.Keys.{IsFedKeys}
 use Rattle.curve_lines.specs.Formats.{units_in, request_of, first_unit, after_unit, TakesUnit}
 use Rattle.curve_lines.specs.Parts.{kept}
-use Rattle.curve_lines.specs.Runs.{onto, requests_after, requests_in, wrong_units, IsHalfway, IsFound}
+use Rattle.std.specs.Bool.{MatchBool}
+use Rattle.std.specs.Io.KnownBytes.{prepend_known}
+use Rattle.curve_lines.specs.declared.step.Step.{Step}
+use Rattle.curve_lines.specs.declared.step.Step.TheVariants.{End, Fed, Wrong, TooLong}
+use Rattle.curve_lines.specs.Runs.{onto, is_more, has_request, requests_after, requests_in, wrong_units, Feeds, IsHalfway, IsFound}
 use Rattle.curve_lines.proofs.UnitLaws.{units_in-first}
 
 pub halfway-none : (by : Rules) (input : Option (List ℕ)) (curve : KeyedCurve) → IsFedKeys curve [] → IsHalfway by input input curve 0 0
@@ -90,3 +95,52 @@ found-all by watermark (Some xs) curve wrong read m h = record {
   wrong = h.1;
   read = h.2;
 }
+
+-- ---- by steps
+
+false-true : false ≡ true → ⊥
+false-true e = subst (λ (b : Bool). MatchBool b ⊥ (⊥ → ⊥)) e (λ x. x)
+
+no-request : (part : Option Part) (o : Option Request) → false ≡ is_some o → kept part o ≡ None
+no-request part None e = refl
+no-request part (Some r) e = absurd (false-true e)
+
+-- the last step feeds nothing
+last-asks : (step : Step) → is_more step ≡ false → has_request step ≡ false
+last-asks End e = refl
+last-asks Fed e = absurd (false-true (sym e))
+last-asks Wrong e = absurd (false-true (sym e))
+last-asks TooLong e = absurd (false-true (sym e))
+
+still-fed : (by : Rules) (input : Option (List ℕ)) (curve curve' : KeyedCurve) (wrong read : ℕ) → ((requests : List Request) → IsFedKeys curve requests → IsFedKeys curve' requests)
+    → IfSome input (λ xs. IsFedKeys curve (requests_in by xs) × (wrong ≡ wrong_units by (units_in by.format xs)) × (read ≡ length (units_in by.format xs)))
+    → IfSome input (λ xs. IsFedKeys curve' (requests_in by xs) × (wrong ≡ wrong_units by (units_in by.format xs)) × (read ≡ length (units_in by.format xs)))
+still-fed by None curve curve' wrong read f h = tt
+still-fed by (Some xs) curve curve' wrong read f (fed, n, k) = (f (requests_in by xs) fed, n, k)
+
+pub step-all : (by : Rules) (watermark : Option ℕ) (input rest next : Option (List ℕ)) (curve curve' : KeyedCurve) (wrong read : ℕ) (step : Step) → mark_of curve'.curve.watermark ≡ watermark
+    → IsHalfway by input rest curve wrong read → Feeds by rest next curve curve' step → is_more step ≡ false
+    → IfSome input (λ xs. IsFound by watermark xs (record { curve = curve'; wrong = wrong; read = read }))
+step-all by watermark input rest next curve curve' wrong read step mark h (part, takes, told, fed) last =
+    let t = subst (λ (b : Bool). TakesUnit by.format rest next part b) last takes in
+    let none = no-request by.part (request_of by part) (sym (last-asks step last) ∙ told) in
+    let f : (requests : List Request) → IsFedKeys curve requests → IsFedKeys curve' requests =
+    λ requests r. subst (λ (o : Option Request). IsFedKeys curve' (onto o requests)) none (fed requests r) in
+    found-all by watermark input curve' wrong read mark (still-fed by input curve curve' wrong read f (halfway-all by input rest next curve wrong read part h t))
+
+pub step-more : (by : Rules) (input rest next : Option (List ℕ)) (curve curve' : KeyedCurve) (wrong wrong' read : ℕ) (step : Step)
+    → IsHalfway by input rest curve wrong read → Feeds by rest next curve curve' step → is_more step ≡ true → wrong' ≡ wrong + cond (has_request step) 0 1
+    → IsHalfway by input next curve' wrong' (read + 1)
+step-more by input rest next curve curve' wrong wrong' read step h (part, takes, told, fed) more w =
+    let t = subst (λ (b : Bool). TakesUnit by.format rest next part b) more takes in
+    let count : Bool → ℕ = λ b. wrong + cond b 0 1 in
+    halfway-more by input rest next curve curve' wrong wrong' read part h t fed (w ∙ ap count told)
+
+pub fed-on : (by : Rules) (rest next : Option (List ℕ)) (curve curve' : KeyedCurve) (step : Step) → Feeds by rest next curve curve' step
+    → (requests : List Request) × IsFedKeys curve requests → (requests : List Request) × IsFedKeys curve' requests
+fed-on by rest next curve curve' step (part, takes, told, fed) (requests, r) = (onto (kept by.part (request_of by part)) requests, fed requests r)
+
+-- nothing is held at first
+pub known-none : (rest : Option (List ℕ)) → prepend_known [] rest ≡ rest
+known-none None = refl
+known-none (Some xs) = refl

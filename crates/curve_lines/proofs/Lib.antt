@@ -4,4 +4,8 @@ pub mod KeyedLaws
 pub mod LineLaws
 pub mod UnitLaws
 pub mod LimitLaws
+pub mod WindowLemmas
+pub mod InputLemmas
+pub mod PassingLemmas
+pub mod StepLemmas
 pub mod Halfway

@@ -1,4 +1,5 @@
 pub mod Formats
+pub mod Inputs
 pub mod Keys
 pub mod Lines
 pub mod Parts

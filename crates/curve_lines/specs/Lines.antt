@@ -1,5 +1,5 @@
 -- Lines of requests: a time, a key and a size, apart by blanks.
-use Rattle.std.specs.Prelude.{ℕ, ◌+◌, ◌-◌, ◌*◌, ◌^◌, ◌==◌, nat_lt, nat_le, max, Bool, true, false, ◌||◌, ◌&&◌, not, if◌then◌else◌, List, [], ◌∷◌, take, drop, Option, Some, None}
+use Rattle.std.specs.Prelude.{ℕ, ◌+◌, ◌-◌, ◌*◌, ◌^◌, ◌==◌, nat_lt, nat_le, max, Bool, true, false, ◌||◌, ◌&&◌, not, if◌then◌else◌, List, [], ◌∷◌, length, take, drop, Option, Some, None}
 use Rattle.std.specs.List.{prefix_len}
 use Rattle.cache_entries.specs.Keys.{same_bytes}
 use Rattle.size_curve.specs.Requests.{Request, asks, removes}
@@ -65,6 +65,10 @@ abbrev pub request_by : ℕ → Option (List ℕ × List ℕ) → Option Request
 request_by overhead None = None
 request_by overhead (Some words) = request_for words.0 (size_in overhead words.1)
 
+-- a longer line has no request
+abbrev pub longest : ℕ
+longest = 65535
+
 -- the request of a line, where it has one
 abbrev pub request_in : ℕ → List ℕ → Option Request
-request_in overhead line = request_by overhead (words_in line)
+request_in overhead line = if nat_le (length line) longest then request_by overhead (words_in line) else None

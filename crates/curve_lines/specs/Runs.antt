@@ -1,12 +1,14 @@
 -- The requests of a stream.
-use Rattle.std.specs.Prelude.{◌≡◌, ℕ, ◌+◌, if◌then◌else◌, List, [], ◌∷◌, Option, Some, None, is_some, IfSome, length}
+use Rattle.std.specs.Prelude.{◌≡◌, ℕ, ◌+◌, if◌then◌else◌, List, [], ◌∷◌, Option, Some, None, is_some, Bool, true, false, IfSome, length}
 use Rattle.cache_entries.specs.declared.entry.CacheEntryKey.{CacheEntryKey}
 use Rattle.size_curve.specs.Requests.{Request, steps_of, AreFirst, AreFound}
 use Rattle.curve_lines.specs.declared.format.Rules.{Rules}
 use Rattle.curve_lines.specs.declared.keyed.KeyedCurve.{KeyedCurve}
 use Rattle.curve_lines.specs.declared.read.Found.{Found}
+use Rattle.curve_lines.specs.declared.step.Step.{Step}
+use Rattle.curve_lines.specs.declared.step.Step.TheVariants.{End, Fed, Wrong, TooLong}
 use Rattle.curve_lines.specs.Keys.{IsFedKeys, Counts}
-use Rattle.curve_lines.specs.Formats.{units_in, request_of}
+use Rattle.curve_lines.specs.Formats.{units_in, request_of, TakesUnit}
 use Rattle.curve_lines.specs.Parts.{kept}
 
 abbrev pub onto : Option Request → List Request → List Request
@@ -25,6 +27,25 @@ wrong_units by (l ∷ ls) = (if is_some (request_of by l) then 0 else 1) + wrong
 
 abbrev pub requests_in : Rules → List ℕ → List Request
 requests_in by text = requests_after by [] (units_in by.format text)
+
+-- a line or record was left
+abbrev pub is_more : Step → Bool
+is_more End = false
+is_more Fed = true
+is_more Wrong = true
+is_more TooLong = true
+
+-- it has a request
+abbrev pub has_request : Step → Bool
+has_request End = false
+has_request Fed = true
+has_request Wrong = false
+has_request TooLong = false
+
+-- a step took the first line or record that was left, and fed its request
+abbrev pub Feeds : Rules → Option (List ℕ) → Option (List ℕ) → KeyedCurve → KeyedCurve → Step → Type 0
+Feeds by old new curve curve' step = (part : List ℕ) × TakesUnit by.format old new part (is_more step) × (has_request step ≡ is_some (request_of by part))
+    × ((requests : List Request) → IsFedKeys curve requests → IsFedKeys curve' (onto (kept by.part (request_of by part)) requests))
 
 -- while a stream is read: the curve was fed the requests of its first lines or records, and what is left has the others
 abbrev pub IsHalfway : Rules → Option (List ℕ) → Option (List ℕ) → KeyedCurve → ℕ → ℕ → Type 0

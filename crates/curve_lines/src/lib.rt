@@ -4,6 +4,7 @@
 mod fault;
 mod format;
 mod hash;
+mod input;
 mod keyed;
 mod limits;
 mod line;
@@ -13,15 +14,16 @@ mod read;
 mod record;
 mod scaled;
 mod sizes;
+mod step;
 mod text;
-mod unit;
 
 pub use fault::RunFault;
 pub use format::{Format, Rules};
+pub use input::LONGEST;
 pub use keyed::KeyedCurve;
 pub use limits::{Limits, MOST_STEPS};
 pub use part::Part;
-pub use progress::{EACH, Progress};
+pub use progress::{EACH, Progress, Refusal};
 pub use read::{Found, curve};
 pub use sizes::size;
 pub use text::report;

@@ -11,6 +11,7 @@ ghost use Rattle.curve_lines.specs.Runs.{onto};
 
 use crate::format::Rules;
 use crate::hash::is_in;
+use crate::input::LONGEST;
 use crate::keyed::KeyedCurve;
 use crate::part::Part;
 use size_curve::CurveFault;
@@ -167,6 +168,9 @@ pub(crate) fn add_line(
     ensures mark { OnOk result (mark_of curve.new.curve.watermark ≡ mark_of curve.old.curve.watermark) }
     ensures limits { OnOk result (limits_of curve.new.curve.table ≡ limits_of curve.old.curve.table) }
 {
+    if line.len() > LONGEST {
+        return Ok(false);
+    }
     let second = after_word(after_blanks(line));
     let third = after_word(second);
     if third.is_empty() || !after_word(third).is_empty() {

@@ -1,18 +1,26 @@
 //! A curve of the requests of a stream.
-ghost use Rattle.std.specs.Prelude.{◌≡◌, ℕ, ◌+◌, ◌≤◌, ◌<◌, ◌^◌, if◌then◌else◌, List, length, slice_index_or, IfOk, IfSome};
+ghost use Rattle.std.specs.Prelude.{◌≡◌, ℕ, ◌+◌, ◌≤◌, ◌<◌, ◌^◌, true, if◌then◌else◌, List, length, take, drop, slice_index_or, is_some, IfOk, OnOk, IfSome};
+ghost use Rattle.std.specs.Io.KnownBytes.{prepend_known};
+ghost use Rattle.size_curve.specs.Requests.{Request};
 ghost use Rattle.size_curve.specs.Rows.{limits_of};
-ghost use Rattle.curve_lines.specs.Runs.{IsFound};
+ghost use Rattle.size_curve.specs.Numbers.{mark_of};
+ghost use Rattle.curve_lines.specs.Keys.{IsFedKeys};
+ghost use Rattle.curve_lines.specs.Formats.{request_of};
+ghost use Rattle.curve_lines.specs.Inputs.{bare};
+ghost use Rattle.curve_lines.specs.Parts.{kept};
+ghost use Rattle.curve_lines.specs.Runs.{onto, is_more, has_request, Feeds, IsFound};
 
 use crate::fault::RunFault;
 use crate::format::Rules;
+use crate::input::{Input, Next, bare};
 use crate::keyed::KeyedCurve;
 use crate::limits::Limits;
 use crate::progress::{Progress, tell_at};
 use crate::record::add_unit;
-use crate::unit::next_unit;
+use crate::step::{Step, has_request, is_more, step_of};
 use lru_core::SeededState;
 use std::alloc::Global;
-use std::io::BufRead;
+use std::io::Read;
 
 /// What caches find of the requests of a stream.
 #[derive(Drop)]
@@ -26,12 +34,13 @@ pub struct Found {
 }
 
 /// Reads requests, a line or record each, and returns what caches of these limits find of them. The hashes of the keys start as
-/// `hasher` says: take it at random where attackers choose the keys.
+/// `hasher` says: take it at random where attackers choose the keys. Beside the table of keys it takes a fixed amount of memory, however
+/// long a line is: those of more than `LONGEST` bytes are passed over.
 ///
 /// # Errors
 ///
 /// Where a read fails, memory runs out, or more comes than can be counted.
-pub fn curve<R: BufRead, P: Progress>(
+pub fn curve<R: Read, P: Progress>(
     alloc: Global,
     hasher: SeededState,
     reader: &mut R,
@@ -45,17 +54,64 @@ pub fn curve<R: BufRead, P: Progress>(
 {
     let mut curve = KeyedCurve::new(alloc, hasher, limits.as_slice(), watermark)?;
     let mut wrong = 0;
-    let mut unit = Vec::new(alloc);
+    let mut input = Input::new(alloc)?;
     for read in 0..u64::MAX {
-        let more = next_unit(reader, rules.format, &mut unit)?;
-        if !more {
+        let step = feed(alloc, rules, reader, &mut input, &mut curve)?;
+        if !is_more(step) {
             return Ok(Found { curve, wrong, read });
         }
-        let yes = add_unit(&mut curve, alloc, rules, unit.as_slice())?;
-        wrong = counted(wrong, yes);
-        tell_at(progress, read, curve.curve().entries());
+        wrong = counted(wrong, has_request(step));
+        tell_at(progress, step, read, curve.curve().entries());
     }
     Err(RunFault::TooMany)
+}
+
+// Feeds the request of the next line or record.
+fn feed<R: Read>(
+    alloc: Global,
+    rules: Rules,
+    reader: &mut R,
+    input: &mut Input,
+    curve: &mut KeyedCurve,
+) -> Result<Step, RunFault>
+    requires { (requests : List Request) × IsFedKeys curve.old requests }
+    ensures fed { IfOk result (λ step. Feeds rules (prepend_known input.old (R.remaining reader.old)) (prepend_known input.new (R.remaining reader.new)) curve.old curve.new step) }
+    ensures mark { OnOk result (mark_of curve.new.curve.watermark ≡ mark_of curve.old.curve.watermark) }
+    ensures limits { OnOk result (limits_of curve.new.curve.table ≡ limits_of curve.old.curve.table) }
+{
+    match input.next(reader, rules.format)? {
+        Next::End => Ok(Step::End),
+        Next::Held(len) => {
+            let step = feed_held(alloc, rules, input, len, curve)?;
+            Ok(step)
+        }
+        Next::TooLong => {
+            input.skip_line(reader)?;
+            Ok(Step::TooLong)
+        }
+    }
+}
+
+// Feeds the request of the line or record of so many bytes that comes first among those held.
+fn feed_held(
+    alloc: Global,
+    rules: Rules,
+    input: &mut Input,
+    len: usize,
+    curve: &mut KeyedCurve,
+) -> Result<Step, RunFault>
+    requires fed { (requests : List Request) × IsFedKeys curve.old requests }
+    requires within { len ≤ length input.old }
+    ensures rest { OnOk result (input.new ≡ drop len input.old) }
+    ensures fed { OnOk result ((requests : List Request) → IsFedKeys curve.old requests → IsFedKeys curve.new (onto (kept rules.part (request_of rules (bare rules.format (take len input.old)))) requests)) }
+    ensures told { IfOk result (λ step. has_request step ≡ is_some (request_of rules (bare rules.format (take len input.old)))) }
+    ensures more { IfOk result (λ step. is_more step ≡ true) }
+    ensures mark { OnOk result (mark_of curve.new.curve.watermark ≡ mark_of curve.old.curve.watermark) }
+    ensures limits { OnOk result (limits_of curve.new.curve.table ≡ limits_of curve.old.curve.table) }
+{
+    let yes = add_unit(curve, alloc, rules, bare(rules.format, input.front(len)))?;
+    input.skip(len);
+    Ok(step_of(yes))
 }
 
 // One line or record more.

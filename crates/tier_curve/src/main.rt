@@ -4,10 +4,10 @@
 mod options;
 
 use crate::options::{Fault, Options, read_options};
-use curve_lines::{Progress, RunFault, curve, report};
+use curve_lines::{LONGEST, Progress, Refusal, RunFault, curve, report};
 use log::{Log, warn};
 use lru_core::SeededState;
-use std::io::{self, BufReader};
+use std::io;
 use std::process::ExitCode;
 use std::random::RandomSource;
 use std::rt::Env;
@@ -26,17 +26,44 @@ fn random_start<R: RandomSource>(rt: &R) -> Result<SeededState, io::Error> {
     })
 }
 
-// Tells on standard error how far a run has come.
+// How many lines or records without a request are named; the others are only counted.
+const MOST_NAMED: u64 = 10;
+
+// Tells on standard error how far a run has come, and what is passed over.
 #[derive(Drop)]
 struct Told<'a, R> {
     rt: &'a R,
     quiet: bool,
+    // How many without a request were named.
+    named: u64,
 }
 
 impl<'a, R: Log> Progress for Told<'a, R> {
     fn tell(&mut self, read: u64, entries: usize) {
         if !self.quiet {
             warn!(self.rt; "{read} lines or records read, {entries} entries");
+        }
+    }
+
+    fn refuse(&mut self, number: u64, why: Refusal) {
+        if self.quiet {
+            return;
+        }
+        match why {
+            Refusal::TooLong => {
+                warn!(self.rt; "line {number} is longer than {LONGEST} bytes: passed over");
+            }
+            Refusal::NoRequest => self.name(number),
+        }
+    }
+}
+
+impl<'a, R: Log> Told<'a, R> {
+    // Names a line or record without a request, if few were named.
+    fn name(&mut self, number: u64) {
+        if self.named < MOST_NAMED {
+            self.named += 1;
+            warn!(self.rt; "line or record {number} has no request: passed over");
         }
     }
 }
@@ -54,7 +81,7 @@ fn run_with<R: Input + Print + AllocGlobal + RandomSource + Log>(
 ) -> Result<(), RunFault> {
     let alloc = rt.alloc();
     let hasher = random_start(rt)?;
-    let mut reader = BufReader::new(alloc, rt.reader())?;
+    let mut reader = rt.reader();
     let found = curve(
         alloc,
         hasher,
@@ -65,6 +92,7 @@ fn run_with<R: Input + Print + AllocGlobal + RandomSource + Log>(
         &mut Told {
             rt,
             quiet: options.quiet,
+            named: 0,
         },
     )?;
     report(alloc, &mut io::writer(rt), options.rules, &found)

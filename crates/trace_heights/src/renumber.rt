@@ -1,5 +1,5 @@
 //! Numbering the slots anew.
-ghost use Rattle.std.specs.Prelude.{◌≡◌, ◌≢◌, ◌==◌, if◌then◌else◌, ℕ, ◌+◌, ◌*◌, ◌<◌, ◌≤◌, ◌^◌, ◌++◌, ◌∷◌, [], List, length, sum, replicate, slice_set, IfOk, IfErr, OnOk};
+ghost use Rattle.std.specs.Prelude.{◌≡◌, ◌≢◌, ◌==◌, if◌then◌else◌, ℕ, ◌+◌, ◌*◌, ◌/◌, ◌<◌, ◌≤◌, ◌^◌, ◌++◌, ◌∷◌, [], List, length, sum, replicate, slice_set, IfOk, IfErr, OnOk};
 ghost use Rattle.trace_heights.specs.Faults.{IsNoSlot};
 ghost use Rattle.trace_heights.specs.Slots.{nobody, is_owned, owned_in, places_in, gaps_in, IsKept, IsBuilt};
 
@@ -140,6 +140,22 @@ fn compacted(
     Ok(built)
 }
 
+// How many slots are left free. Numbering anew goes over all entries that ever had a slot, so their number counts too: else a stream of
+// entries that are soon removed would have them all gone over each few asks.
+fn free_slots(used: usize, entries: usize) -> usize
+    requires { 4 * used + 64 < 4294967295 }
+    ensures fits { result + 2 * used < 4294967295 }
+    ensures least { 2 * used + 64 ≤ result }
+    ensures most { result ≤ 2 * used + 64 + entries / 4 }
+    ensures more { 4 * used + 64 + entries / 4 < 4294967295 → result ≡ 2 * used + 64 + entries / 4 }
+{
+    let least = 2 * used + 64;
+    if entries / 4 < NOBODY as usize - least - 2 * used {
+        return least + entries / 4;
+    }
+    least
+}
+
 // The same entries and holes at new slots, of which about half are free.
 pub(crate) fn number_anew(
     alloc: Global,
@@ -155,11 +171,12 @@ pub(crate) fn number_anew(
 {
     let _total = sums.total();
     let used = in_use(owners);
-    let free = 2 * used + 64;
-    if free + 2 * used >= NOBODY as usize {
+    let least = 4 * used + 64;
+    if least >= NOBODY as usize {
         return Err(HeightFault::TooMany);
     }
     let entries = slots.len();
+    let free = free_slots(used, entries);
     let built = compacted(alloc, owners, sums, entries, free)?;
     let gaps = gaps_of(alloc, built.owners.as_slice(), built.cells.as_slice())?;
     let Built {

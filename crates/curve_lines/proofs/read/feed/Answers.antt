@@ -1,0 +1,28 @@
+use Rattle.std.proofs.Common.{◌≡◌, ◌∙◌, ◌≤◌, Bool, List, [], take, drop, length, ap, sym, subst}
+use Rattle.std.specs.Prelude.{Option, is_some}
+use Rattle.std.specs.Io.KnownBytes.{prepend_known}
+use Rattle.curve_lines.specs.declared.input.Next.{Next}
+use Rattle.curve_lines.specs.Inputs.{bare, IsNext}
+use Rattle.curve_lines.proofs.StepLemmas.{takes_none, takes_held, takes_long, held_fits, long_none, feeds_none, feeds_held, feeds_long}
+use Rattle.curve_lines.proofs.read.feed.Goals as goal
+
+pub returns-in-End-clause-fed : goal.returns-in-End-clause-fed
+returns-in-End-clause-fed g c =
+    feeds_none c.args.rules (prepend_known c.args.input.now (g.R.Read.remaining c.args.reader.now)) (g.R.Read.remaining c.next.new.reader) c.next.new.self c.args.curve.now c.in_ok-next.ensures.kept (subst (λ (n : Next). IsNext c.args.rules.format n c.next.new.self (g.R.Read.remaining c.next.new.reader)) c.in-End.is c.in_ok-next.ensures.next)
+
+pub feed_held-requires-clause-within : goal.feed_held-requires-clause-within
+feed_held-requires-clause-within g c = held_fits c.args.rules.format (g.R.Read.remaining c.next.new.reader) c.next.new.self c.in-Held.len (subst (λ (n : Next). IsNext c.args.rules.format n c.next.new.self (g.R.Read.remaining c.next.new.reader)) c.in-Held.is c.in_ok-next.ensures.next)
+
+pub skip_line-requires : goal.skip_line-requires
+skip_line-requires g c = long_none c.args.rules.format (g.R.Read.remaining c.next.new.reader) c.next.new.self (subst (λ (n : Next). IsNext c.args.rules.format n c.next.new.self (g.R.Read.remaining c.next.new.reader)) c.in-TooLong.is c.in_ok-next.ensures.next)
+
+pub returns-in_ok-skip_line-in-TooLong-clause-fed : goal.returns-in_ok-skip_line-in-TooLong-clause-fed
+returns-in_ok-skip_line-in-TooLong-clause-fed g c =
+    feeds_long c.args.rules (prepend_known c.args.input.now (g.R.Read.remaining c.args.reader.now)) (g.R.Read.remaining c.next.new.reader)
+    (prepend_known c.skip_line.new.self (g.R.Read.remaining c.skip_line.new.reader)) c.next.new.self c.args.curve.now c.in_ok-next.ensures.kept (subst (λ (n : Next). IsNext c.args.rules.format n c.next.new.self (g.R.Read.remaining c.next.new.reader)) c.in-TooLong.is c.in_ok-next.ensures.next) c.in_ok-skip_line-in-TooLong.ensures
+
+pub returns-in_ok-step-in-Held-clause-fed : goal.returns-in_ok-step-in-Held-clause-fed
+returns-in_ok-step-in-Held-clause-fed g c =
+    let e = c.in_ok-step-in-Held.ensures in
+    feeds_held c.args.rules (prepend_known c.args.input.now (g.R.Read.remaining c.args.reader.now)) (g.R.Read.remaining c.next.new.reader) c.next.new.self c.feed_held.new.input c.in-Held.len
+    c.args.curve.now c.feed_held.new.curve c.in_ok-step-in-Held.step c.in_ok-next.ensures.kept (subst (λ (n : Next). IsNext c.args.rules.format n c.next.new.self (g.R.Read.remaining c.next.new.reader)) c.in-Held.is c.in_ok-next.ensures.next) e.rest e.more e.told e.fed
