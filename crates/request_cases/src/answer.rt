@@ -16,6 +16,8 @@ pub enum Answer {
     Body(usize),
     /// A body of that size was stored, with so many evictions.
     Created(usize, usize),
+    /// So much was added to a body, with so many evictions.
+    Appended(usize, usize),
     /// A stale response was renewed, with so many evictions.
     Renewed(usize),
     /// A policy decided so, when it had been asked so often.
@@ -46,6 +48,7 @@ impl Answer {
             Answer::Letter(letter) => text.push(letter),
             Answer::Body(length) => write!(text, "body {length}"),
             Answer::Created(size, evicted) => write!(text, "created {size} evicted {evicted}"),
+            Answer::Appended(size, evicted) => write!(text, "appended {size} evicted {evicted}"),
             Answer::Renewed(evicted) => write!(text, "renewed evicted {evicted}"),
             Answer::Decided(word, observed) => write!(text, "{word} {observed}"),
             Answer::Abandoned(reason, token) => write!(text, "abandoned {reason} {token}"),

@@ -30,6 +30,9 @@
 //! | `told-until` | no call of a request: until when the response was fresh of which the manager was told last |
 //! | `tracked KEY`, `burden KEY` | no calls of a request: whether the manager tracks the key's entry; it goes, and another comes that leaves room for one byte |
 //!
+//! The rows of `one-body.txt` are over a store of one body, which shows no write before its end, gives ids and reports an
+//! addition, with a lock that lets another request try where a permit ends for a custom reason.
+//!
 //! Then two tiers serve requests side by side, and what they answer is compared with a table of runs, whose outcomes come from another program or were
 //! worked by hand. A line of `runs.txt` is a run, ` => ` and its outcome; lines that differ are shown.
 #![tactic(auto)]
@@ -41,6 +44,7 @@ mod locks;
 mod looks;
 mod metas;
 mod noting;
+mod one_body;
 mod reads;
 mod rows;
 mod runs;
@@ -50,37 +54,62 @@ mod step;
 mod stored;
 mod text;
 mod told;
+mod trying_lock;
 mod turns;
 mod world;
 mod writes;
 
+use crate::one_body::OneBody;
 use crate::text::Text;
-use crate::world::DefersD;
+use crate::trying_lock::TryingLock;
+use crate::world::{DefersD, lock};
+use cache_lock::CacheKeyLock;
 use cache_parts::BoxedPolicy;
 use cache_store::admission::AdmissionPolicy;
+use cache_store::storage::Storage;
+use mem_cache::MemCache;
 use std::alloc::{AllocError, Global};
 use std::{fs, io};
 
-// Writes the lines of a row, each with what its step comes to.
-fn push_done<A: AdmissionPolicy + Drop>(alloc: Global, policy: A, row: &str, text: &mut Text) {
-    match world::cache(alloc, policy) {
+// Writes the lines of a row over a store, each with what its step comes to.
+fn push_done<S: Storage + Drop, L: CacheKeyLock + Drop, A: AdmissionPolicy + Drop>(
+    alloc: Global,
+    store: S,
+    lock: L,
+    policy: A,
+    row: &str,
+    text: &mut Text,
+) {
+    match world::cache(alloc, store, lock, policy) {
         Some(mut parts) => rows::push_row(alloc, &mut parts, row, text),
         None => text.push("memory"),
     }
 }
 
-fn done(alloc: Global, row: &str) -> Result<String, AllocError> {
+fn done<S: Storage + Drop, L: CacheKeyLock + Drop>(
+    alloc: Global,
+    store: S,
+    lock: L,
+    row: &str,
+) -> Result<String, AllocError> {
     let mut text = Text::new(alloc);
     let policy: BoxedPolicy = Box::new(alloc, DefersD::new())?;
-    push_done(alloc, policy, row, &mut text);
+    push_done(alloc, store, lock, policy, row, &mut text);
     text.finish()
 }
 
-// Does all rows.
+// Does all rows over a store in memory, and then those over a store of one body.
 fn do_rows(rt: &HostRuntime) -> io::Result<()> {
+    let alloc = rt.alloc();
     let rows = fs::read_to_string(rt, "rows.txt")?;
     for row in rows.as_str().split("\n\n") {
-        let text = done(rt.alloc(), row)?;
+        let text = done(alloc, MemCache::new(alloc), lock(alloc), row)?;
+        println!(rt; "{text}")?;
+    }
+    let rows = fs::read_to_string(rt, "one-body.txt")?;
+    for row in rows.as_str().split("\n\n") {
+        let lock = TryingLock { lock: lock(alloc) };
+        let text = done(alloc, OneBody::new(alloc), lock, row)?;
         println!(rt; "{text}")?;
     }
     Ok(())

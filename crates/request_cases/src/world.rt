@@ -15,7 +15,6 @@ use cache_store::admission::{AdmissionPolicy, Decision};
 use cache_store::storage::{PurgeTarget, Storage};
 use cache_words::key::{CacheHashKey, CacheKey, CompactCacheKey};
 use cache_words::time::{Duration, Moment};
-use mem_cache::MemCache;
 use std::alloc::Global;
 use std::sync::atomic::{AtomicU32, Ordering};
 
@@ -47,23 +46,33 @@ impl AdmissionPolicy for DefersD {
     }
 }
 
-type Cache<A> = Parts<MemCache, Noting, Predictor<1>, CacheLock, A>;
+type Cache<S, L, A> = Parts<S, Noting, Predictor<1>, L, A>;
 
 // The most that bodies may weigh in all.
 const LIMIT: usize = 10;
 
-/// The cache, with a policy; its lock's permits may be held for 5 seconds.
-pub fn cache<A: Drop>(alloc: Global, policy: A) -> Option<Cache<A>> {
+/// The lock whose permits may be held for 5 seconds.
+pub fn lock(alloc: Global) -> CacheLock {
+    CacheLock::new(alloc, Duration::from_seconds(5))
+}
+
+/// The cache over a store, with a lock and a policy.
+pub fn cache<S: Drop, L: Drop, A: Drop>(
+    alloc: Global,
+    store: S,
+    lock: L,
+    policy: A,
+) -> Option<Cache<S, L, A>> {
     let predictor = Predictor::<1>::new(alloc, 4, None).ok()?;
     let manager = Manager::<1>::with_capacity(alloc, LIMIT, 0).ok()?;
     Some(Parts {
-        store: MemCache::new(alloc),
+        store,
         manager: Noting {
             manager,
             until: None,
         },
         predictor,
-        lock: CacheLock::new(alloc, Duration::from_seconds(5)),
+        lock,
         policy,
     })
 }

@@ -63,7 +63,7 @@ pub fn write<S: Storage, E, P, L, A>(
 fn told_of_body(finished: &Finished) -> Answer {
     match finished.kind {
         MissFinishType::Created(size) => Answer::Created(size, finished.evicted.len()),
-        MissFinishType::Appended(_, _) => Answer::Word("appended"),
+        MissFinishType::Appended(size, _) => Answer::Appended(size, finished.evicted.len()),
     }
 }
 
