@@ -1,6 +1,5 @@
 //! Trace lines and the program that replays them.
 mod answers;
-mod hashers;
 mod lines;
 mod options;
 mod played;
