@@ -37,7 +37,7 @@ enum Came {
     Fault,
 }
 
-fn came(outcome: &Result<Answer, TierFault>) -> Came {
+fn told_of(outcome: &Result<Answer, TierFault>) -> Came {
     match outcome {
         Ok(
             Answer::Found {
@@ -61,8 +61,8 @@ fn call<L: Ledger, W: Wait>(
     ask: Ask,
 ) -> Option<Came> {
     let event = event(alloc, ask)?;
-    match came(&tier.step(rt, pass, &event)) {
-        Came::Memory => Some(came(&tier.step(rt, pass, &event))),
+    match told_of(&tier.step(rt, pass, &event)) {
+        Came::Memory => Some(told_of(&tier.step(rt, pass, &event))),
         came => Some(came),
     }
 }
