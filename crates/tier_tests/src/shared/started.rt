@@ -100,7 +100,7 @@ fn is_found<L: Ledger, W: Wait>(
 
 // What came of a started tier that was shared.
 #[derive(Clone, Copy, PartialEq, Eq, Debug)]
-struct Day {
+struct Came {
     // Whether the key that was saved is found.
     found: bool,
     // The length of the history.
@@ -110,12 +110,12 @@ struct Day {
     tracked: u64,
 }
 
-fn closed<L: Ledger>(tier: Shared<L>, found: bool) -> Option<Day> {
+fn closed<L: Ledger>(tier: Shared<L>, found: bool) -> Option<Came> {
     let recorded = tier.close().ok()?;
     let records = recorded.history().len();
     let options = recorded.opening().options;
     let tracked = recorded.into_tier().report().tracked;
-    Some(Day {
+    Some(Came {
         found,
         records,
         options,
@@ -123,7 +123,7 @@ fn closed<L: Ledger>(tier: Shared<L>, found: bool) -> Option<Day> {
     })
 }
 
-fn day<L: Ledger, W: Wait>(rt: &W, alloc: Global, blank: Blank) -> Option<Day>
+fn day<L: Ledger, W: Wait>(rt: &W, alloc: Global, blank: Blank) -> Option<Came>
     requires { (blank.name ≡ L.name) × (blank.parts ≡ L.parts) × (L.parts ≡ 4294967296) }
 {
     let tier: Shared<L> = shared(alloc, blank, restarted(alloc)?)?;
@@ -138,7 +138,7 @@ fn day<L: Ledger, W: Wait>(rt: &W, alloc: Global, blank: Blank) -> Option<Day>
 fn a_tier_that_starts_from_files_is_shared(rt: HostRuntime) {
     let day = day::<Brand, HostRuntime>(&rt, rt.alloc(), Blank::new(LEDGER_PARTS));
     assert!(rt;
-        day == Some(Day {
+        day == Some(Came {
             found: false,
             records: 2,
             options: options(),

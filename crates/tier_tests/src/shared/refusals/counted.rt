@@ -4,7 +4,7 @@ ghost use Rattle.std.specs.Prelude.{◌≡◌};
 use crate::shared::asks::{Ask, event};
 use crate::shared::threads::empty;
 use cache_tier::{Answer, Report, TierFault};
-use counted_tier::{CallPass, CountedTier};
+use counted_tier::{CallPass, CountedTier, NotShared};
 use rand_core::SeedableRng;
 use rand_pcg::Pcg64;
 use shared_tier::LEDGER_PARTS;
@@ -22,7 +22,15 @@ fn counted<L: Ledger>(alloc: Global, blank: Blank) -> Option<Counted<L>>
     let (set, tier) = empty(alloc)?;
     match CountedTier::new(alloc, blank, set, tier, Pcg64::seed_from_u64(1)) {
         Ok(tier) => Some(tier),
-        Err(back) => CountedTier::new(alloc, back.blank, set, back.tier, back.rng).ok(),
+        Err(back) => {
+            let NotShared {
+                blank,
+                tier,
+                rng,
+                ..
+            } = back;
+            CountedTier::new(alloc, blank, set, tier, rng).ok()
+        }
     }
 }
 
@@ -37,7 +45,7 @@ enum Came {
     Fault,
 }
 
-fn came(outcome: &Result<Answer, TierFault>) -> Came {
+fn told_of(outcome: &Result<Answer, TierFault>) -> Came {
     match outcome {
         Ok(
             Answer::Found {
@@ -61,8 +69,8 @@ fn call<L: Ledger, W: Wait>(
     ask: Ask,
 ) -> Option<Came> {
     let event = event(alloc, ask)?;
-    match came(&tier.step(rt, pass, &event)) {
-        Came::Memory => Some(came(&tier.step(rt, pass, &event))),
+    match told_of(&tier.step(rt, pass, &event)) {
+        Came::Memory => Some(told_of(&tier.step(rt, pass, &event))),
         came => Some(came),
     }
 }
