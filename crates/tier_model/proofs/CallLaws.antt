@@ -1,6 +1,6 @@
 -- What a call does to open requests: to the one that it names, and nothing to the others.
-use Rattle.std.proofs.Common.{◌≡◌, ℕ, refl, ap, sym, ◌∙◌, true, false, cond, [], ◌==◌}
-use Rattle.std.specs.Prelude.{Bool, List, Option, Some, None, option_map, Ok, Err, ◌&&◌}
+use Rattle.std.proofs.Common.{◌≡◌, ℕ, refl, ap, sym, ◌∙◌, true, false, cond, ◌==◌}
+use Rattle.std.specs.Prelude.{Bool, List, Option, Some, None, option_map, Ok, Err}
 use Rattle.std.specs.FinMap.{FinMap, get, insert, remove, get-insert, get-remove}
 use Rattle.std.specs.Ordering.{nat_cmp}
 use Rattle.std.specs.Cmp.{unsigned_tied}
@@ -8,25 +8,21 @@ use Rattle.std.proofs.lemmas.Cmp.{nat_cmp_total, eq_by_cmp_equiv}
 use Rattle.std.proofs.lemmas.Bool.{eqb-true, eq-eqb}
 use Rattle.cache_words.specs.Time.{MomentValue}
 use Rattle.cache_words.specs.Key.{CacheKeyValue}
-use Rattle.cache_changes.specs.Changes.{Write, Change, Changes}
-use Rattle.cache_changes.specs.Store.{Stored}
+use Rattle.cache_changes.specs.Changes.{Change, Changes}
 use Rattle.response_parse.specs.Response.{Reading}
 use Rattle.tier_model.specs.declared.event.Action.{Action}
 use Rattle.tier_model.specs.declared.event.Action.TheVariants.{Open, LookUp, Poll, Begin, Piece, Finish, Read, Drop, Purge, Put}
 use Rattle.tier_model.specs.declared.event.Answer.{Answer}
-use Rattle.tier_model.specs.declared.event.Answer.TheVariants.{Opened, Found, Absent, Waited, Begun, Dropped, Finished}
-use Rattle.tier_model.specs.declared.event.Answer.TheVariants as answer
+use Rattle.tier_model.specs.declared.event.Answer.TheVariants.{Waited, Finished}
 use Rattle.tier_model.specs.declared.event.Done.{Done}
 use Rattle.tier_model.specs.declared.event.TierFault.{TierFault}
-use Rattle.tier_model.specs.Keys.{Entry, entry_of, stored_key_of}
+use Rattle.tier_model.specs.Keys.{entry_of, stored_key_of}
 use Rattle.tier_model.specs.Shelf.{is_there, look}
-use Rattle.tier_model.specs.Calls.{Call, History, Outcome, done_of, judged_of, finished_by, entry_after, asks_after, is_end_of_reader, bytes_given, bytes_answered}
-use Rattle.tier_model.specs.Histories.{Kept, Opening, seen_after, is_landing, write_after, changes_with, write_held, begun_by}
+use Rattle.tier_model.specs.Calls.{Call, History, Outcome, done_of, judged_of, finished_by}
+use Rattle.tier_model.specs.Histories.{Kept, Opening, is_landing, changes_in, write_held, begun_by}
 use Rattle.tier_model.specs.Response.{Judged, kept}
 use Rattle.tier_model.specs.Rows.{FinishedBody}
-use Rattle.tier_model.specs.Own.{no_lock, Wait, no_wait, hold_given, wait_polled, wait_after}
-use Rattle.tier_model.specs.Own.{Own, own_opened, own_looked, own_begun, phase_found, phase_absent, reads_found, no_reader, as_it_comes, reads_on, own_after}
-use Rattle.tier_model.specs.State.{begun, disabled, nothing, closed, Request, State}
+use Rattle.tier_model.specs.State.{disabled, nothing, closed, Request, State}
 use Rattle.tier_model.specs.Answers.{look_for, finishing}
 use Rattle.tier_model.specs.After.{by_request, on_request, with_request, opened_request, looked, after_look, after_wait, after_begin, writing, after_flight, on_write, pieced, after_put}
 use Rattle.tier_model.specs.After.{after_finish, finished_state, taken_back, undone, after_purge, without_request, read_on, answered, refused, after_outcome, after}
@@ -41,8 +37,8 @@ abbrev pub call_at : MomentValue → Action → Inside → Outcome → Call
 call_at t action i outcome = record { event = record { moment = t; action = action }; outcome = outcome; reading = i.reading; began = i.began; asked = i.asked }
 
 -- what a call changes, in the light of the calls before it
-abbrev pub changes_in : Opening → Action → Outcome → Call → History → Changes Kept → List (Change Kept)
-changes_in start action o c h before = changes_with start (λ id. begun_by start id c h) (λ id. write_held start id h) action o c h before
+abbrev pub changes_at : Opening → Action → Outcome → Call → History → Changes Kept → List (Change Kept)
+changes_at start action o c h before = changes_in start (λ id. begun_by start id c h) (λ id. write_held start id h) action o c h before
 
 -- the request that an event names
 abbrev pub named_by : Action → Option ℕ

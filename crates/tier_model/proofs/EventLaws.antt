@@ -28,7 +28,7 @@ use Rattle.tier_model.specs.State.{Request, State, shards_of}
 use Rattle.tier_model.specs.Checks.{refusal, unless, unless_open, piece_refusal, has_ended as ended_at}
 use Rattle.tier_model.specs.Answers.{key_for, look_for, lock_given, look_answer, IsStored, IsBeginAnswer, IsFinishFault, finishing}
 use Rattle.tier_model.specs.Step.{UseFits, IsAnswer, IsFault, AllowsBy, BeginsWrite, may_begin, tells_of_write, Allows}
-use Rattle.tier_model.specs.After.{meta_for, by_request, on_request, with_request, on_write, pieced, read_on, after_wait, after_look, after_begin, after_flight, undone, after_finish, finished_state}
+use Rattle.tier_model.specs.After.{meta_for, by_request, on_request, with_request, on_write, pieced, read_on, after_wait, after_look, after_begin, after_flight, after_put, undone, after_finish, finished_state}
 use Rattle.tier_model.specs.After.{after_purge, without_request, answered, refused, after_outcome}
 use Rattle.tier_model.proofs.CallLaws.{Inside, call_at}
 use Rattle.tier_model.proofs.WriteLaws.{WritesFit, flies_on}
@@ -157,10 +157,18 @@ module _ (start : Opening) (s : State) (h : History) (l : Holds start s h) (coun
       is : finishing q s.shelf ≡ cond (f t i r q x).flight.removed None (Some b)
       is = finishing-is start r q h s.shelf x (f t i r q x)
 
+      state_is : (f t i r q x).flight.removed ≡ false
+          → finished_state s r q (Ok a) ≡ after_put (record s { shelf = landed x.write.number s.shelf; requests = rs t i r q x }) (Some x.write.number) (Some b) a
+      state_is e =
+          ap (λ (y : State). after_put y q.write (finishing q s.shelf) a) (landed_is t i r q x)
+          ∙ ap (λ (n : Option ℕ). after_put (record s { shelf = landed x.write.number s.shelf; requests = rs t i r q x }) n (finishing q s.shelf) a) x.number
+          ∙ ap (λ (o : Option FinishedBody). after_put (record s { shelf = landed x.write.number s.shelf; requests = rs t i r q x }) (Some x.write.number) o a)
+          (is ∙ ap (λ v. cond v None (Some b)) e)
+
       by_removed : (v : Bool) → (f t i r q x).flight.removed ≡ v → MatchOption (cond v None (Some b)) ⊥ (λ b. IsStored s b a) → Next (finished_state s r q (Ok a)) (call_at t (Finish r) i (Ok a))
       by_removed true e p = absurd p
       by_removed false e p =
-          rw (landed_is t i r q x, is, e, x.number, x.held)
+          rw (state_is e, x.held)
           (finish_holds s (writes_begun start h) (changes_of start h) l x.write (key_of q.entry) x.flies x.of_key (x.of_entry ∙ opens.entry) (rs t i r q x) a i.began ((f t i r q x).alive.0 e) p)
 
   finish_refused : (t : MomentValue) (i : Inside) (r : ℕ) (q : Request) (g : TierFault) → IsOpen start r q h → (x : Written start r q h) → IsFinishFault s (finishing q s.shelf) g
@@ -232,7 +240,9 @@ module _ (start : Opening) (s : State) (h : History) (l : Holds start s h) (coun
   answer_holds t i (Purge key) a n p x =
       subst (λ (y : Answer). Next (answered s t (Purge key) (call_at t (Purge key) i (Ok y)) y) (call_at t (Purge key) i (Ok y))) (sym p) (purged t i key (is_there (look (stored_key_of key) s.shelf)))
   answer_holds t i (Put key pieces) a n p x =
-      rw count (put_holds s (writes_begun start h) (changes_of start h) l (finished_by (call_at t (Put key pieces) i (Ok a))) (read_by (call_at t (Put key pieces) i (Ok a))) a i.began (may_begin s (call_at t (Put key pieces) i (Ok a))) p x)
+      let c : Call = call_at t (Put key pieces) i (Ok a) in
+      subst (λ (m : ℕ). Next (after_put s (Some m) (finished_by c) a) c) (sym count)
+      (put_holds s (writes_begun start h) (changes_of start h) l (finished_by c) (read_by c) a i.began (may_begin s c) p x)
 
   finish_fault_holds : (t : MomentValue) (i : Inside) (r : ℕ) (g : TierFault) (o : Option TierFault) → refusal s (Finish r) ≡ o → AllowsBy o s t (Finish r) (call_at t (Finish r) i (Err g)) (Err g)
       → Next (on_request s r (λ q. finished_state s r q (Err g))) (call_at t (Finish r) i (Err g))

@@ -106,7 +106,6 @@ module _ (N n : ℕ) (bodies : Bodies) (fs : List InFlight) (m : Managed) (chang
       let x = shows N n bodies fs m changes l b.0 b.1 (get-entries bodies b.0 ∙ h.0) in
       let rest = with_writes bs h.1 in
       (x.write ∷ rest.0, (x.body, same x, rest.1))
-
     where
       same : {k : StoredKey} {y : Numbered} → (x : Shows k y changes) → y ≡ numbered changes x.write
       same {y = y} x = ap (λ (n : ℕ). record { number = n; body = y.body }) (sym x.number) ∙ ap (λ (p : Body). record { number = x.write.number; body = p }) (sym x.tells)

@@ -22,7 +22,7 @@ use Rattle.tier_model.specs.declared.event.TierFault.TheVariants.{TooHeavy, TooL
 use Rattle.tier_model.specs.Keys.{Entry, alone}
 use Rattle.tier_model.specs.Calls.{Call, History, extended, done_of, judged_of, writes_after, opened_for}
 use Rattle.tier_model.specs.Histories.{Kept, Opening, writes_begun, hit_changes, write_begun, begun_by, write_held, seen_by, finished_of, changes_of}
-use Rattle.tier_model.specs.Response.{Judged, kept}
+use Rattle.tier_model.specs.Response.{kept}
 use Rattle.tier_model.specs.Rows.{Numbered, Bodies, weight_for}
 use Rattle.cache_heads.specs.declared.meta.CacheMeta.{CacheMeta}
 use Rattle.tier_model.specs.Shelf.{InFlight, Shelf, has_number, flying_at, absent, in_flight, finished, look_by}
@@ -30,7 +30,7 @@ use Rattle.tier_model.specs.State.{Seen, Request, State, shards_of}
 use Rattle.tier_model.specs.Past.{plain, plain_seen}
 use Rattle.tier_model.specs.Checks.{refusal, unless, unless_open}
 use Rattle.tier_model.specs.Answers.{IsKeptOut, body_under, flight_of, finishing}
-use Rattle.tier_model.specs.After.{seen_meta, meta_for}
+use Rattle.tier_model.specs.After.{meta_for}
 use Rattle.tier_model.specs.Step.{IsAnswer, AllowsBy, BeginsWrite}
 use Rattle.tier_model.proofs.WriteLaws.{WritesFit, IsWriteOf}
 use Rattle.tier_model.proofs.FlightLaws.{find-plain}
@@ -141,7 +141,7 @@ begun-is start id q h c opens meta is =
     ap (λ (e : Option Entry). write_begun (writes_begun start h) e (seen_by start id h) (judged_of c)) opens.key
     ∙ ap (write_begun (writes_begun start h) (Some (key_of q.entry)) (seen_by start id h)) is
     ∙ ap (λ (o : Option CacheMeta). Some (record { number = writes_begun start h; key = stored_key (key_of q.entry); meta = record { entry = alone (key_of q.entry); meta = with_provenance_of o meta } }))
-        (sym (seen_alone q.seen (seen_by start id h) opens.seen))
+    (sym (seen_alone q.seen (seen_by start id h) opens.seen))
 
 -- the write of a request that has one
 pub record Written (start : Opening) (id : ℕ) (q : Request) (h : History) : Type 0 where

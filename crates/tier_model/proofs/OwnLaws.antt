@@ -1,42 +1,27 @@
 -- An open request is what its own calls say.
-use Rattle.std.proofs.Common.{◌≡◌, ℕ, ◌==◌, refl, ap, sym, ◌∙◌, true, false, subst, cond, ◌∷◌}
-use Rattle.std.specs.Prelude.{Bool, List, Option, Some, None, option_map, is_some, Ok, Err, ◌&&◌, not, MatchOption}
+use Rattle.std.proofs.Common.{◌≡◌, ℕ, refl, ap, sym, true, false, subst, cond, ◌∷◌}
+use Rattle.std.specs.Prelude.{Bool, List, Option, Some, None, option_map, is_some, Ok, Err, not, MatchOption}
 use Rattle.std.specs.FinMap.{get}
 use Rattle.std.proofs.lemmas.Bool.{eqb-true}
 use Rattle.cache_words.specs.Time.{MomentValue}
-use Rattle.cache_entries.specs.Entry.{key_of}
-use Rattle.cache_changes.specs.Changes.{stored_key, Write}
-use Rattle.cache_changes.specs.Store.{Stored, store_of, shown_at}
-use Rattle.cache_lock.specs.declared.status.LockStatus.{LockStatus}
 use Rattle.tier_model.specs.declared.event.Action.{Action}
 use Rattle.tier_model.specs.declared.event.Action.TheVariants.{Open, LookUp, Poll, Begin, Piece, Finish, Read, Drop, Purge, Put}
 use Rattle.tier_model.specs.declared.event.Answer.{Answer}
-use Rattle.tier_model.specs.declared.event.Answer.TheVariants.{Opened, Waited, Begun}
+use Rattle.tier_model.specs.declared.event.Answer.TheVariants.{Opened}
 use Rattle.tier_model.specs.declared.event.TierFault.{TierFault}
-use Rattle.tier_model.specs.Keys.{Entry, entry_of, alone}
-use Rattle.tier_model.specs.Response.{Judged, kept, not_kept}
-use Rattle.tier_model.specs.Calls.{Call, History, Outcome, judged_of, opened_for, asks_lock}
-use Rattle.tier_model.specs.Histories.{Kept, Opening, writes_begun, seen_after, shown_for, begun_by, is_landing, write_held, seen_by, changes_of}
-use Rattle.tier_model.specs.Shelf.{Look, absent, in_flight, finished}
-use Rattle.tier_model.specs.Own.{no_lock, Wait, no_wait, hold_given, wait_polled, wait_after, wait_of}
-use Rattle.tier_model.specs.Own.{Own, own_opened, own_looked, own_begun, own_after, own_of, phase_absent, phase_found, no_reader, as_it_comes, reads_on}
-use Rattle.tier_model.specs.State.{Phase, begun, disabled, Held, nothing, permit, waits, Seen, Request, State, shards_of}
+use Rattle.tier_model.specs.Keys.{entry_of}
+use Rattle.tier_model.specs.Calls.{Call, History, Outcome, judged_of, opened_for}
+use Rattle.tier_model.specs.Histories.{Opening, writes_begun, is_landing}
+use Rattle.tier_model.specs.State.{Request, State}
 use Rattle.tier_model.specs.Checks.{refusal, unless}
-use Rattle.cache_words.specs.Key.{CacheKeyValue}
-use Rattle.cache_entries.specs.declared.entry.CacheEntryKey.{CacheEntryKey}
 use Rattle.tier_model.specs.declared.event.TierFault.TheVariants.{IdInUse}
-use Rattle.tier_model.specs.Answers.{key_for, look_for, is_fresh, lock_given, look_answer, polled, IsBeginAnswer}
+use Rattle.tier_model.specs.Answers.{look_for, lock_given, look_answer, IsBeginAnswer}
 use Rattle.tier_model.specs.Step.{UseFits, IsAnswer, AllowsBy, Allows}
-use Rattle.tier_model.specs.After.{meta_for, seen_in, phase_of, reader_of, looked, after_wait, writing, opened_request, after}
-use Rattle.tier_model.specs.Past.{plain_seen, reads_in, own_in, wait_in}
-use Rattle.tier_model.proofs.OtherLaws.{IsOther, other-call, quiet-call}
-use Rattle.tier_model.proofs.CallLaws.{Inside, call_at, named_by, is_named, itself, begin_turn, land_turn, read_turn, turn, requests-after}
-use Rattle.tier_model.proofs.WriteLaws.{WritesFit, IsWriteOf}
-use Rattle.tier_model.proofs.OpenLaws.{Holds, IsOpen, begun-is, unrefused}
-use Rattle.tier_model.proofs.ShownLaws.{IsSeen, sees, seen_found}
-use Rattle.tier_model.specs.declared.event.LockGiven.{LockGiven}
-use Rattle.tier_model.proofs.OwnSteps.{wait_look, own_wait, wait_wait, own_read}
-
+use Rattle.tier_model.specs.After.{looked, opened_request, after}
+use Rattle.tier_model.proofs.OtherLaws.{other-call, quiet-call}
+use Rattle.tier_model.proofs.CallLaws.{Inside, call_at, named_by, is_named, begin_turn, land_turn, read_turn, turn, requests-after}
+use Rattle.tier_model.proofs.WriteLaws.{WritesFit}
+use Rattle.tier_model.proofs.OpenLaws.{Holds, unrefused}
 use Rattle.tier_model.proofs.OwnTurns.{OpenFits, kept_fits, look_fits, begin_fits, finish_fits, open_fits, poll_fits, read_fits}
 
 module _ (start : Opening) where

@@ -16,7 +16,7 @@ use Rattle.tier_model.specs.declared.event.Action.TheVariants.{LookUp, Begin, Re
 use Rattle.tier_model.specs.declared.event.Answer.{Answer}
 use Rattle.tier_model.specs.declared.event.Answer.TheVariants.{Begun, Bytes, End}
 use Rattle.tier_model.specs.declared.event.LockGiven.{LockGiven}
-use Rattle.tier_model.specs.Keys.{Entry, alone}
+use Rattle.tier_model.specs.Keys.{alone}
 use Rattle.tier_model.specs.Response.{Judged, kept, not_kept, too_early, not_read}
 use Rattle.tier_model.specs.Calls.{Call, History, extended, judged_of, ends_reader, bytes_given, bytes_read, bytes_answered}
 use Rattle.tier_model.specs.Histories.{Kept, Opening, writes_begun, changes_of, HasHit}
@@ -30,7 +30,7 @@ use Rattle.tier_model.specs.Past.{plain, streams_by, streams, streamers, IsReada
 use Rattle.tier_model.proofs.PartLaws.{ReadIsRight}
 use Rattle.tier_model.proofs.ShownLaws.{shows, shows_flight, body_shown}
 use Rattle.tier_model.proofs.FlightLaws.{find-plain}
-use Rattle.tier_model.proofs.CallLaws.{Inside, call_at, changes_in, itself, begin_turn}
+use Rattle.tier_model.proofs.CallLaws.{Inside, call_at, changes_at, itself, begin_turn}
 use Rattle.tier_model.proofs.OpenLaws.{Holds, IsOpen, begun-is, flight-at, look_finished, look_flight}
 use Rattle.tier_model.specs.Shelf.{readable_of}
 use Rattle.tier_model.proofs.ReaderLaws.{sum-taken, CountFits, LeftBy}
@@ -76,7 +76,7 @@ module _ (start : Opening) where
   carry id (unread bytes) c h e b fits = (fits.0, c ∷ fits.1, longer_hit id fits.0 fits.1 c h e fits.2, same_bytes_read id fits.1 c b ∙ fits.3, fits.4)
   carry id spent c h e b fits = (fits.0, c ∷ fits.1, longer_hit id fits.0 fits.1 c h e fits.2, same_bytes_read id fits.1 c b ∙ fits.3)
   carry id (streaming n place) c h e b fits =
-      let new = grown n (changes_in start c.event.action c.outcome c h (changes_of start h)) (changes_of start h) in
+      let new = grown n (changes_at start c.event.action c.outcome c h (changes_of start h)) (changes_of start h) in
       let same = same_bytes_read id fits.1 c b in (
         fits.0,
         c ∷ fits.1,

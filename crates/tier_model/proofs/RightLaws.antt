@@ -6,7 +6,7 @@ use Rattle.cache_words.specs.Time.{MomentValue, at_most}
 use Rattle.cache_heads.specs.declared.meta.CacheMeta.{CacheMeta}
 use Rattle.cache_entries.specs.Entry.{key_of}
 use Rattle.cache_changes.specs.Changes.{StoredKey, stored_key, Changes}
-use Rattle.tier_model.specs.Keys.{Entry, alone}
+use Rattle.tier_model.specs.Keys.{alone}
 use Rattle.tier_model.specs.declared.whole.Whole.{Whole}
 use Rattle.tier_model.specs.declared.whole.Whole.TheVariants as whole
 use Rattle.tier_model.specs.declared.state.Body.{Body}

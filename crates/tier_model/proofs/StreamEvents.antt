@@ -26,13 +26,13 @@ use Rattle.tier_model.specs.State.{closed, streaming, Request, State, shards_of}
 use Rattle.tier_model.specs.Checks.{refusal, unless}
 use Rattle.tier_model.specs.Answers.{key_for, look_for, lock_given, look_answer, polled, finishing, IsStored, IsBeginAnswer, IsFinishFault}
 use Rattle.tier_model.specs.Step.{IsAnswer, AllowsBy, Allows}
-use Rattle.tier_model.specs.Keys.{Entry, alone, stored_key_of}
+use Rattle.tier_model.specs.Keys.{alone, stored_key_of}
 use Rattle.tier_model.specs.declared.event.LockGiven.{LockGiven}
 use Rattle.tier_model.proofs.ShownLaws.{shows_flight}
 use Rattle.tier_model.specs.After.{meta_for, with_reader, without_reader, by_request, on_write, without_request, reader_of, after_wait, after_look, after_begin}
 use Rattle.tier_model.specs.After.{after}
 use Rattle.tier_model.specs.Past.{streams_by, streams, streamers}
-use Rattle.tier_model.proofs.CallLaws.{Inside, call_at, changes_in, begin_turn, read_turn, requests-after}
+use Rattle.tier_model.proofs.CallLaws.{Inside, call_at, changes_at, begin_turn, read_turn, requests-after}
 use Rattle.tier_model.proofs.WriteLaws.{WritesFit}
 use Rattle.tier_model.proofs.OpenLaws.{Holds, IsOpen, Written, the-write, no-write, look_flight, passed, unrefused, begun-is}
 use Rattle.tier_model.proofs.EventLaws.{there_open, has_write}
@@ -91,7 +91,7 @@ module _ (start : Opening) (s : State) (h : History) (l : Holds start s h) (open
       begins_it = begun-is start r q h c opens meta is
 
       past : changes_of start (c ∷ h) ≡ begins w ∷ changes_of start h
-      past = ap (λ (y : Answer). extended (changes_of start h) (changes_in start (Begin r head) (Ok y) (call_at t (Begin r head) i (Ok a)) h (changes_of start h))) p
+      past = ap (λ (y : Answer). extended (changes_of start h) (changes_at start (Begin r head) (Ok y) (call_at t (Begin r head) i (Ok a)) h (changes_of start h))) p
           ∙ ap (λ (o : Option (Write Kept)). extended (changes_of start h) (begin_changes o)) begins_it
 
       can : (n : ℕ) → CanStream n (streaming s.shelf.writes 0) (changes_of start (c ∷ h))

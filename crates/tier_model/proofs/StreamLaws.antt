@@ -26,7 +26,7 @@ use Rattle.tier_model.specs.Answers.{finishing}
 use Rattle.tier_model.specs.After.{with_reader, without_reader, by_request, on_write, pieced, after_wait, read_on, after_flight}
 use Rattle.tier_model.specs.After.{after_put, taken_back, undone, after_finish, finished_state, after_purge, after_outcome, after}
 use Rattle.tier_model.specs.Past.{streams_by, streams, streamers}
-use Rattle.tier_model.proofs.CallLaws.{changes_in, Inside, call_at, named_by, is_named, land_turn, turn, requests-after}
+use Rattle.tier_model.proofs.CallLaws.{changes_at, Inside, call_at, named_by, is_named, land_turn, turn, requests-after}
 use Rattle.tier_model.proofs.WriteLaws.{WritesFit, changes_spare}
 use Rattle.tier_model.proofs.LandLaws.{lander}
 use Rattle.tier_model.proofs.OpenLaws.{Holds, IsOpen, Written, FlightAt, flight-at}
@@ -96,7 +96,7 @@ module _ (start : Opening) (s : State) (h : History) (l : Holds start s h) (open
   kept_counts c new o none readers same n =
       subst (λ (m : FinMap nat_cmp Readers). CountFits n (get m n) (streamers n new.requests) (changes_of start (c ∷ h))) (sym readers)
       (subst (λ (k : ℕ). CountFits n (get s.shelf.readers n) k (changes_of start (c ∷ h))) (sym (same n))
-      (count_on n (changes_in start c.event.action c.outcome c h (changes_of start h)) (changes_of start h) (get s.shelf.readers n) (streamers n s.requests) o
+      (count_on n (changes_at start c.event.action c.outcome c h (changes_of start h)) (changes_of start h) (get s.shelf.readers n) (streamers n s.requests) o
       (λ x e. changes_spare start n c.event.action c.outcome c h (known_below n x e) (λ r l. absurd cc)) (counts n)))
 
   -- where nothing lands, and a reader takes the place of another
@@ -106,7 +106,7 @@ module _ (start : Opening) (s : State) (h : History) (l : Holds start s h) (open
   turned_counts c new old fresh o none readers can same n =
       subst (λ (m : FinMap nat_cmp Readers). CountFits n (get m n) (streamers n new.requests) (changes_of start (c ∷ h))) (sym readers)
       (turned_fits n old fresh s.shelf.readers (streamers n s.requests) (streamers n new.requests) (changes_of start (c ∷ h)) (can n) (same n)
-      (count_on n (changes_in start c.event.action c.outcome c h (changes_of start h)) (changes_of start h) (get s.shelf.readers n) (streamers n s.requests) o
+      (count_on n (changes_at start c.event.action c.outcome c h (changes_of start h)) (changes_of start h) (get s.shelf.readers n) (streamers n s.requests) o
       (λ x e. changes_spare start n c.event.action c.outcome c h (known_below n x e) (λ r l. absurd cc)) (counts n)))
 
   -- the sum over the requests, by the one that is named
@@ -160,7 +160,7 @@ module _ (start : Opening) (s : State) (h : History) (l : Holds start s h) (open
             (landed_on n d cs (changes_of start h) (get s.shelf.readers n) (streamers n s.requests) flight.flight.bytes (subst IsOrderly is o) (subst (λ (m : ℕ). lands m d ≡ true) one land) (same n)
             (flight.bytes ∙ ap (λ (m : ℕ). bytes_of m (changes_of start h)) one) (counts n))
         by_number false e =
-            count_on n (changes_in start c.event.action c.outcome c h (changes_of start h)) (changes_of start h) (get s.shelf.readers n) (streamers n s.requests) o
+            count_on n (changes_at start c.event.action c.outcome c h (changes_of start h)) (changes_of start h) (get s.shelf.readers n) (streamers n s.requests) o
             (λ y known. changes_spare start n c.event.action c.outcome c h (known_below n y known)
             (λ k lands_k v held. let one : k ≡ r = let both : Some k ≡ Some r = sym lands_k ∙ lander_is in cc in
             let same_write : v ≡ x.write = let both : Some v ≡ Some x.write = sym held ∙ ap (λ (j : ℕ). write_held start j h) one ∙ x.held in cc in

@@ -72,7 +72,7 @@ answer_wait s t (Finish r) c a = request_wait s (get s.requests r) (λ q. finish
 answer_wait s t (Read r) c a = request_wait s (get s.requests r) _ (λ q. refl)
 answer_wait s t (Drop r) c a = request_wait s (get s.requests r) _ (λ q. refl)
 answer_wait s t (Purge key) c a = purge_wait s key (is_there (look (stored_key_of key) s.shelf))
-answer_wait s t (Put key pieces) c a = put_wait s (finished_by c) a
+answer_wait s t (Put key pieces) c a = put_wait s (Some s.shelf.writes) (finished_by c) a
 
 refused_wait : (s : State) (action : Action) (c : Call) (f : TierFault) → (refused s action c f).wait ≡ s.wait
 refused_wait s (Finish r) c f = request_wait s (get s.requests r) (λ q. finished_state s r q (Err f)) (λ q. landing_wait (is_landing (Err f)) s r q (Err f))

@@ -16,13 +16,13 @@ use Rattle.tier_model.specs.Response.{Judged, kept}
 use Rattle.tier_model.specs.Calls.{Call, History, Outcome, extended, judged_of, finished_by, opened_for, entry_after, is_begin_of}
 use Rattle.cache_changes.specs.Store.{Stored}
 use Rattle.tier_model.specs.Histories.{Kept, Opening, writes_begun, write_begun, begun_by, is_landing, write_after, write_held, seen_by, begin_changes, changes_of}
-use Rattle.tier_model.proofs.CallLaws.{Inside, call_at, changes_in, itself}
+use Rattle.tier_model.proofs.CallLaws.{Inside, call_at, changes_at, itself}
 use Rattle.tier_model.proofs.LandLaws.{Spares, clears_spare, look_spare, begin_spare, piece_spare, IsApart, finish_spare, drop_spare, put_spare, lander}
 
 module _ (start : Opening) where
   -- a call lands no write but that of its request
   pub changes_spare : (n : ℕ) (action : Action) (o : Outcome) (c : Call) (h : History) → n < writes_begun start h → ((r : ℕ) → lander action o ≡ Some r → IsApart n (write_held start r h))
-      → AllByRecursion (Spares n) (changes_in start action o c h (changes_of start h))
+      → AllByRecursion (Spares n) (changes_at start action o c h (changes_of start h))
   changes_spare n (LookUp id) (Ok (Found fresh true given)) c h below apart = look_spare n (opened_for id h) (changes_of start h)
   changes_spare n (Begin id head) (Ok Begun) c h below apart = begin_spare n (begun_by start id c h)
   changes_spare n (Piece id bytes last) (Ok Written) c h below apart = piece_spare n (write_held start id h) bytes last
@@ -156,7 +156,7 @@ module _ (start : Opening) where
             let is : (r == id) ≡ true = ap (λ (x : ℕ). x == id) one ∙ itself id in absurd cc)
 
         on : IsInFlight w (changes_of start h) → IsInFlight w (changes_of start (c ∷ h))
-        on f = flies_on w (changes_of start h) (changes_in start action o c h (changes_of start h)) (changes_spare w.number action o c h (held_below id w was) apart) f
+        on f = flies_on w (changes_of start h) (changes_at start action o c h (changes_of start h)) (changes_spare w.number action o c h (held_below id w was) apart) f
 
         moved : (x : Option Entry) → IsWriteOf w x (changes_of start h) → opened_for id h ≡ x → IsWriteOf w (opened_for id (c ∷ h)) (changes_of start (c ∷ h))
         moved None q is = absurd q

@@ -163,15 +163,15 @@ drop_changes (Some w) = leaves w.number ∷ []
 
 -- what a call changes, in the order in which it happens, where each request would begin that write and has this one; h are the calls before it,
 -- and `before` what those changed
-abbrev pub changes_with : Opening → (ℕ → Option (Write Kept)) → (ℕ → Option (Write Kept)) → Action → Outcome → Call → History → Changes Kept → List (Change Kept)
-changes_with start begun held (LookUp id) (Ok (Found fresh true lock)) c h before = look_changes (opened_for id h) before
-changes_with start begun held (Begin id head) (Ok Begun) c h before = begin_changes (begun id)
-changes_with start begun held (Piece id bytes last) (Ok Written) c h before = piece_changes (held id) bytes last
-changes_with start begun held (Finish id) outcome c h before = finish_changes (held id) outcome before
-changes_with start begun held (Drop id) (Ok answer) c h before = drop_changes (held id)
-changes_with start begun held (Purge key) (Ok (Purged true)) c h before = clears (entry_of key)
-changes_with start begun held (Put key pieces) outcome c h before = put_changes (writes_begun start h) (finished_by c) outcome
-changes_with start begun held _ _ c h before = []
+abbrev pub changes_in : Opening → (ℕ → Option (Write Kept)) → (ℕ → Option (Write Kept)) → Action → Outcome → Call → History → Changes Kept → List (Change Kept)
+changes_in start begun held (LookUp id) (Ok (Found fresh true lock)) c h before = look_changes (opened_for id h) before
+changes_in start begun held (Begin id head) (Ok Begun) c h before = begin_changes (begun id)
+changes_in start begun held (Piece id bytes last) (Ok Written) c h before = piece_changes (held id) bytes last
+changes_in start begun held (Finish id) outcome c h before = finish_changes (held id) outcome before
+changes_in start begun held (Drop id) (Ok answer) c h before = drop_changes (held id)
+changes_in start begun held (Purge key) (Ok (Purged true)) c h before = clears (entry_of key)
+changes_in start begun held (Put key pieces) outcome c h before = put_changes (writes_begun start h) (finished_by c) outcome
+changes_in start begun held _ _ c h before = []
 
 abbrev mutual
   -- what a history changed, the latest change first. What was loaded was admitted before any call
@@ -179,7 +179,7 @@ abbrev mutual
   changes_of start [] = admissions start.loaded
   changes_of start (c ∷ h) =
       extended (changes_of start h)
-      (changes_with start (λ id. begun_from start id (seen_by start id h) c h) (λ id. write_held start id h) c.event.action c.outcome c h (changes_of start h))
+      (changes_in start (λ id. begun_from start id (seen_by start id h) c h) (λ id. write_held start id h) c.event.action c.outcome c h (changes_of start h))
 
   -- the write of a request: it began it, and neither finished nor lost nor left it
   pub write_held : Opening → ℕ → History → Option (Write Kept)
