@@ -182,10 +182,11 @@ after_wait t outcome _ q = q
 abbrev pub writing : ℕ → Request → Request
 writing n q = record q { phase = begun; held = nothing; seen = None; write = Some n; reader = streaming n 0 }
 
--- the meta of a write that it begins: with the provenance of what it has seen
+-- the meta of what it has seen
 abbrev pub seen_meta : Request → Option CacheMeta
 seen_meta q = option_map (λ x. x.meta) q.seen
 
+-- the meta of a write that it begins: with the provenance of what it has seen
 abbrev pub meta_for : Request → CacheMeta → CacheMeta
 meta_for q meta = with_provenance_of (seen_meta q) meta
 

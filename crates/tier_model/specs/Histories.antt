@@ -102,7 +102,7 @@ abbrev pub shown_for : Option Entry → Changes Kept → Option (Stored Kept)
 shown_for None changes = None
 shown_for (Some e) changes = shown_at (stored_key e) (store_of changes)
 
--- a look-up is answered with what is shown; it is seen where it is past its moment, until the next look-up or a begin
+-- what a request has seen: what its look-up showed, where that was past its moment, until it looks up anew or begins
 abbrev pub seen_after : ℕ → Option (Stored Kept) → Action → Outcome → Option (Stored Kept) → Option (Stored Kept)
 seen_after id shown (Open request key asks) (Ok Opened) old = if request == id then None else old
 seen_after id shown (LookUp request) (Ok (Found fresh complete lock)) old = if request == id then (if fresh then None else shown) else old
@@ -186,7 +186,7 @@ abbrev mutual
   write_held start id [] = None
   write_held start id (c ∷ h) = write_after id (begun_from start id (seen_by start id h) c h) c.event.action c.outcome (write_held start id h)
 
-  -- what a request has seen: what its last look-up found that was past its moment, as it was then
+  -- what a request has seen, as it was then: what its last look-up found that was past its moment
   pub seen_by : Opening → ℕ → History → Option (Stored Kept)
   seen_by start id [] = None
   seen_by start id (c ∷ h) = seen_after id (shown_for (opened_for id h) (changes_of start h)) c.event.action c.outcome (seen_by start id h)
