@@ -1,13 +1,14 @@
 -- Lawful histories hold the headline, and runs carry it on.
-use Rattle.std.proofs.Common.{◌≡◌, ℕ, ◌<◌, refl, ap, sym, ◌∙◌, true, false, subst, [], ◌∷◌, arith}
-use Rattle.std.specs.Prelude.{Bool, List, Option, Some, None, option_map, Ok, Err, is_some, cond, MatchOption, replicate}
+use Rattle.std.proofs.Common.{◌≡◌, ℕ, ◌<◌, refl, ap, sym, ◌∙◌, true, false, subst, [], ◌∷◌, length, arith}
+use Rattle.std.specs.Prelude.{Bool, List, Option, Some, None, option_map, Ok, Err, is_some, cond, MatchOption, replicate, map}
 use Rattle.std.proofs.lemmas.List.{ext_get_or}
-use Rattle.std.specs.List.{AllByRecursion}
+use Rattle.std.specs.List.{AllByRecursion, sum_by}
 use Rattle.std.specs.FinMap.{get, entries, len-entries}
 use Rattle.cache_words.specs.Time.{MomentValue}
+use Rattle.cache_heads.specs.Meta.{meta_length}
 use Rattle.cache_entries.specs.declared.rows.Tracked.{Tracked}
 use Rattle.cache_changes.specs.Changes.{StoredKey, Write, Changes}
-use Rattle.cache_changes.specs.Writes.{IsBody}
+use Rattle.cache_changes.specs.Writes.{bytes_of, meta_of, IsBody}
 use Rattle.cache_changes.specs.Uses.{EvictsLawfully, AreShardsOf, rows_of}
 use Rattle.cache_changes.proofs.ManyShards.{AreShardsOf-none, weights-shards, length-shards}
 use Rattle.cache_changes.proofs.UseLaws.{IsOrderOfUse-rows_of}
@@ -199,12 +200,15 @@ CarriesHeadline-taken old (c ∷ calls) new taken start past h = CarriesHeadline
 -- the report of a state that a history says is the history's
 pub IsReport-matches : (s : State) (start : Opening) (h : History) → MatchesHistory s start h → IsReport (report_of s) start h
 IsReport-matches s start h m =
-    let same = sums (changes_of start h) (entries s.shelf.bodies) m.bodies.0 m.bodies.2 in
+    let same = sums (λ b. length b.bytes) (changes_of start h) (entries s.shelf.bodies) m.bodies.0 m.bodies.2 in
+    let bytes : sum_by (λ (x : Numbered). length x.body.bytes) (map (λ e. e.1) (entries s.shelf.bodies)) ≡ sum_by (λ (w : Write Kept). length (bytes_of w.number (changes_of start h))) m.bodies.0 = same.0 in
+    let metas : sum_by (λ (x : Numbered). meta_length x.body.meta) (map (λ e. e.1) (entries s.shelf.bodies)) ≡ sum_by (λ (w : Write Kept). counts (meta_of w (changes_of start h))) m.bodies.0 =
+    (sums (λ b. meta_length b.meta) (changes_of start h) (entries s.shelf.bodies) m.bodies.0 m.bodies.2).0 in
     record {
       found = m.found;
       absent = m.absent;
       evicted = m.evicted;
-      bodies = (m.bodies.0, m.bodies.1, len-entries s.shelf.bodies ∙ same.1, omega (arith, same.0));
+      bodies = (m.bodies.0, m.bodies.1, len-entries s.shelf.bodies ∙ same.1, omega (arith, bytes), omega (arith, metas));
       tracked = (
         m.order.1.0,
         m.order.1.1,

@@ -10,7 +10,7 @@ use Rattle.std.specs.FinMap as finite
 use Rattle.std.proofs.lemmas.List.Sums.{sum_by-cons}
 use Rattle.cache_entries.specs.Keys.{same_bytes}
 use Rattle.cache_changes.specs.Changes.{StoredKey, Write, Changes}
-use Rattle.cache_changes.specs.Writes.{bytes_of, IsBody}
+use Rattle.cache_changes.specs.Writes.{IsBody}
 use Rattle.cache_changes.specs.Bound as writes
 use Rattle.cache_entries.specs.SameEntry.{same_bytes-tells, same-sym}
 use Rattle.cache_evict.specs.Managed.{Managed}
@@ -33,20 +33,20 @@ abbrev numbered : Changes Kept → Write Kept → Numbered
 numbered changes w = record { number = w.number; body = told_of changes w }
 
 -- sums over them
-pub sums : (changes : Changes Kept) (ys : Rows) (ws : List (Write Kept)) → ys ≡ map (told_at changes) ws
-    → (sum_by (λ x. length x.body.bytes) (map (λ e. e.1) ys) ≡ sum_by (λ w. length (bytes_of w.number changes)) ws) × (length ys ≡ length ws)
-sums changes [] [] e = (refl, refl)
-sums changes (b ∷ bs) (w ∷ ws) e =
+pub sums : (f : Body → ℕ) (changes : Changes Kept) (ys : Rows) (ws : List (Write Kept)) → ys ≡ map (told_at changes) ws
+    → (sum_by (λ x. f x.body) (map (λ e. e.1) ys) ≡ sum_by (λ w. f (told_of changes w)) ws) × (length ys ≡ length ws)
+sums f changes [] [] e = (refl, refl)
+sums f changes (b ∷ bs) (w ∷ ws) e =
     let one : b ≡ told_at changes w = cc in
     let more : bs ≡ map (told_at changes) ws = cc in
-    let rest = sums changes bs ws more in (
-      sum_by-cons (λ (x : Numbered). length x.body.bytes) b.1 (map (λ e. e.1) bs) ∙ ap (λ m. length b.1.body.bytes + m) rest.0
-          ∙ ap (λ (x : StoredKey × Numbered). length x.1.body.bytes + sum_by (λ w. length (bytes_of w.number changes)) ws) one
-          ∙ sym (sum_by-cons (λ (x : Write Kept). length (bytes_of x.number changes)) w ws),
+    let rest = sums f changes bs ws more in (
+      sum_by-cons (λ (x : Numbered). f x.body) b.1 (map (λ e. e.1) bs) ∙ ap (λ m. f b.1.body + m) rest.0
+          ∙ ap (λ (x : StoredKey × Numbered). f x.1.body + sum_by (λ w. f (told_of changes w)) ws) one
+          ∙ sym (sum_by-cons (λ (x : Write Kept). f (told_of changes x)) w ws),
       omega (arith, rest.1),
     )
-sums changes [] (w ∷ ws) e = absurd cc
-sums changes (b ∷ bs) [] e = absurd cc
+sums f changes [] (w ∷ ws) e = absurd cc
+sums f changes (b ∷ bs) [] e = absurd cc
 
 -- ---- the keys of a finite map differ
 

@@ -30,7 +30,7 @@ use Rattle.tier_model.proofs.ChangeLaws.{more_bytes, no_more, Leaves, unbound, j
 
 -- a body counts no more than it weighs
 counted_fits : (x : Stored Kept) → length x.bytes + counts x.meta ≤ weight_for (record { bytes = x.bytes; meta = x.meta.meta })
-counted_fits x = omega (arith, le-max_right 1 (length x.bytes))
+counted_fits x = le-max_right 1 (length x.bytes + counts x.meta)
 
 module _ (N : ℕ) where
   -- a write begins, under the next number

@@ -2,6 +2,7 @@
 use Rattle.std.specs.Prelude.{◌≡◌, ℕ, ◌==◌, Bool, true, false, ◌&&◌, List, [], ◌∷◌, ◌++◌, map, if◌then◌else◌, Option, Some, None, option_map, Ok, Err}
 use Rattle.std.specs.List.{AllByRecursion}
 use Rattle.cache_heads.specs.declared.meta.CacheMeta.{CacheMeta}
+use Rattle.cache_heads.specs.Meta.{meta_length}
 use Rattle.cache_heads.specs.Merged.{with_provenance_of}
 use Rattle.cache_entries.specs.declared.entry.CacheEntryKey.{CacheEntryKey}
 use Rattle.cache_entries.specs.declared.rows.Tracked.{Tracked}
@@ -27,9 +28,9 @@ pub record Kept : Type 0 where
   pub entry : CacheEntryKey
   pub meta : CacheMeta
 
--- what a body counts for beside its bytes: its meta counts for nothing
+-- what a body counts for beside its bytes: its meta as it is written
 abbrev pub counts : Kept → ℕ
-counts k = 0
+counts k = meta_length k.meta
 
 -- the body that changes say of a write
 abbrev pub told_of : Changes Kept → Write Kept → Body

@@ -1,8 +1,9 @@
 -- Words on finished bodies, each under its stored key.
-use Rattle.std.specs.Prelude.{ℕ, max, List, [], ◌∷◌, length, Option, Some, None, option_map}
+use Rattle.std.specs.Prelude.{ℕ, ◌+◌, max, List, [], ◌∷◌, length, Option, Some, None, option_map}
 use Rattle.std.specs.Ordering.{nat_cmp}
 use Rattle.std.specs.Cmp.Lexicographic.{slice_cmp}
 use Rattle.std.specs.FinMap.{FinMap, get, insert, remove}
+use Rattle.cache_heads.specs.Meta.{meta_length}
 use Rattle.cache_entries.specs.declared.entry.CacheEntryKey.{CacheEntryKey}
 use Rattle.cache_changes.specs.Changes.{StoredKey, stored_key, key_alone}
 use Rattle.tier_model.specs.declared.state.Body.{Body}
@@ -47,6 +48,6 @@ pub record FinishedBody : Type 0 where
 abbrev pub with_body : ℕ → FinishedBody → Bodies → Bodies
 with_body n b bodies = insert bodies (stored_key b.entry) (record { number = n; body = b.body })
 
--- what a body weighs
+-- what a body weighs: its bytes, and its meta as it is written
 abbrev pub weight_for : Body → ℕ
-weight_for b = max 1 (length b.bytes)
+weight_for b = max 1 (length b.bytes + meta_length b.meta)
