@@ -1,7 +1,6 @@
 use Rattle.std.proofs.Common.{sym, ap, subst, ◌∙◌}
 use Rattle.std.specs.Prelude.{Ok, Err}
 use Rattle.request_store.specs.declared.faults.LookUpFault.TheVariants as fault
-use Rattle.tier_requests.specs.Finds.{is_told_fresh, hit_told}
 use Rattle.tier_requests.specs.Plain.{Driven, IsDriven}
 use Rattle.tier_requests.proofs.LookLaws.{finds-none}
 use Rattle.tier_requests.proofs.ToldLaws.{told-found, told-none, told-fault}
@@ -14,9 +13,9 @@ returns-in-Ok-Some-clause-answer g c =
     let may = rw (← c.self.view_is) at (sym c.look_refusal.ensures ∙ c.in_default.is) in
     let look = rw c.in-Ok-Some.field-0-is at c.in-Ok-Some.ensures.look in
     rw (← c.self.view_is)
-    (look-found g.E.EvictionManager.shard_count g.E.EvictionManager.weighed c.args.moment r.cache r.asks r.wait r.gave_read r.unread c.args.parts.now.store c.cache_lookup_at.new.parts.store c.found.new.parts.store
+    (look-found g.E.EvictionManager.shard_count g.E.EvictionManager.weighed c.args.moment r.cache r.asks r.wait r.gave_read r.seen r.unread c.args.parts.now.store c.cache_lookup_at.new.parts.store c.found.new.parts.store
     (g.E.EvictionManager.managed c.args.parts.now.manager) (g.E.EvictionManager.managed c.cache_lookup_at.new.parts.manager) (g.E.EvictionManager.managed c.found.new.parts.manager)
-    c.args.parts.now.lock c.cache_lookup_at.new.parts.lock c.found.new.parts.lock c.cache_lookup_at.new.self (is_told_fresh c.in-Ok-Some.found) (hit_told c.in-Ok-Some.found) c.found.result c.found.new.self c.self.invariant.shown may
+    c.args.parts.now.lock c.cache_lookup_at.new.parts.lock c.found.new.parts.lock c.cache_lookup_at.new.self c.in-Ok-Some.found c.found.result c.found.new.self c.self.invariant.shown may
     (told-found _ _ _ _ _ _ c.args.moment _ r.cache c.cache_lookup_at.new.self c.args.parts.now.store c.cache_lookup_at.new.parts.store c.args.parts.now.lock c.cache_lookup_at.new.parts.lock
     c.in-Ok-Some.found look)
     (ap (λ p. g.E.EvictionManager.managed p.manager) c.cache_lookup_at.ensures.parts) c.found.ensures.answer c.found.ensures.shelf)
@@ -30,9 +29,10 @@ returns-in-Ok-None-clause-answer g c =
     c.self.invariant.admits c.self.invariant.shown
     (told-none _ _ _ _ _ _ c.args.moment _ r.cache c.cache_lookup_at.new.self c.args.parts.now.store c.cache_lookup_at.new.parts.store c.args.parts.now.lock c.cache_lookup_at.new.parts.lock look) in
     rw (← c.self.view_is)
-    (look-missed g.E.EvictionManager.shard_count g.E.EvictionManager.weighed c.args.moment r.cache r.asks r.wait r.gave_read r.unread c.args.parts.now.store c.cache_lookup_at.new.parts.store c.missed.new.parts.store
+    (look-missed g.E.EvictionManager.shard_count g.E.EvictionManager.weighed c.args.moment r.cache r.asks r.wait r.gave_read r.seen r.unread c.args.parts.now.store c.cache_lookup_at.new.parts.store c.missed.new.parts.store
     (g.E.EvictionManager.managed c.args.parts.now.manager) (g.E.EvictionManager.managed c.missed.new.parts.manager) c.args.parts.now.lock c.cache_lookup_at.new.parts.lock c.missed.new.parts.lock
-    c.cache_lookup_at.new.self c.is_cache_locked-self-inside.result c.missed.result c.missed.new.self c.self.invariant may none c.missed.ensures.answer c.missed.ensures.request c.is_cache_locked-self-inside.ensures
+    c.cache_lookup_at.new.self c.go_without.new.cache c.go_without.result c.missed.result c.missed.new.self c.self.invariant may none c.go_without.ensures.request c.missed.ensures.answer c.missed.ensures.request
+    c.go_without.ensures.waits
     c.missed.ensures.shelf (ap (λ p. g.E.EvictionManager.managed p.manager) (c.missed.ensures.parts) ∙ ap (λ p. g.E.EvictionManager.managed p.manager) c.cache_lookup_at.ensures.parts)
     (ap (λ p. p.lock) c.missed.ensures.parts))
 
@@ -43,7 +43,7 @@ returns-in-Err-Store-clause-answer g c =
     let told = rw c.in-Err-Store.field-0-is at c.in-Err-Store.ensures.look in
     let look = told-fault _ _ _ _ _ _ c.args.moment _ r.cache c.cache_lookup_at.new.self c.args.parts.now.store c.cache_lookup_at.new.parts.store c.args.parts.now.lock c.cache_lookup_at.new.parts.lock _ told in
     rw (c.out_of_memory.ensures, ← c.self.view_is)
-    (look-unshown g.E.EvictionManager.shard_count g.E.EvictionManager.weighed c.args.moment r.cache r.asks r.wait r.gave_read r.unread c.args.parts.now.store c.cache_lookup_at.new.parts.store
+    (look-unshown g.E.EvictionManager.shard_count g.E.EvictionManager.weighed c.args.moment r.cache r.asks r.wait r.gave_read r.seen r.unread c.args.parts.now.store c.cache_lookup_at.new.parts.store
     (g.E.EvictionManager.managed c.args.parts.now.manager) (g.E.EvictionManager.managed c.cache_lookup_at.new.parts.manager) c.args.parts.now.lock c.cache_lookup_at.new.parts.lock c.cache_lookup_at.new.self may look.1 look.2
     (ap (λ p. g.E.EvictionManager.managed p.manager) c.cache_lookup_at.ensures.parts))
 
@@ -56,7 +56,7 @@ returns-in-Err-Lock-clause-answer g c =
     let none = finds-none _ _ c.args.moment _ r.cache c.args.parts.now.store c.args.parts.now.lock (Err c.in-Err-Lock.fault) c.cache_lookup_at.new.self c.cache_lookup_at.new.parts.store c.cache_lookup_at.new.parts.lock
     c.self.invariant.admits c.self.invariant.shown look in
     rw (c.lock_fault_for.ensures, c.in-Err-Lock.field-0-is, ← c.self.view_is)
-    (look-unlocked g.E.EvictionManager.shard_count g.E.EvictionManager.weighed c.args.moment r.cache r.asks r.wait r.gave_read r.unread c.args.parts.now.store c.cache_lookup_at.new.parts.store
+    (look-unlocked g.E.EvictionManager.shard_count g.E.EvictionManager.weighed c.args.moment r.cache r.asks r.wait r.gave_read r.seen r.unread c.args.parts.now.store c.cache_lookup_at.new.parts.store
     (g.E.EvictionManager.managed c.args.parts.now.manager) (g.E.EvictionManager.managed c.cache_lookup_at.new.parts.manager) c.args.parts.now.lock c.cache_lookup_at.new.parts.lock c.cache_lookup_at.new.self c.in-Err-Lock.fault
     c.self.invariant may none (ap (λ p. g.E.EvictionManager.managed p.manager) c.cache_lookup_at.ensures.parts))
 
