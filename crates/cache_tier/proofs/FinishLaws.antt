@@ -111,7 +111,7 @@ module _ (n : ℕ) (s : State) (t : MomentValue) (id : ℕ) (c0 : Cache Held) (k
       body : FinishedBody
       finishes : finishing q old.shelf ≡ Some body
       kind_is : kind ≡ Created (length body.body.bytes)
-      sized : size ≡ length body.body.bytes
+      size_is : size ≡ length body.body.bytes
       entry : alone body.entry ≡ q.entry
       shelf : shelf_of mid ≡ shelf.stored m body (landed m old.shelf)
 
@@ -138,7 +138,7 @@ module _ (n : ℕ) (s : State) (t : MomentValue) (id : ℕ) (c0 : Cache Held) (k
               body = body_for x;
               finishes = finishing_by (Some g) at ∙ ap (λ (v : Bool). cond v None (Some (body_for g.stored))) removed ∙ ap (λ (y : Stored CacheMeta). Some (body_for y)) is;
               kind_is = stores.told_so;
-              sized = stores.sized;
+              size_is = stores.sized;
               entry = sym flies.entry;
               shelf = shelf-finished m (body_for x) x c0.store mid stores.finished key (ap (λ n. held_as n (body_for x)) own);
             }
@@ -208,11 +208,11 @@ module _ (n : ℕ) (s : State) (t : MomentValue) (id : ℕ) (c0 : Cache Held) (k
     admitted : (came : Result (Option Finished) FinishFault) (key : Option CacheKeyValue) → q.entry ≡ entry_at key None → (mid : Held) (kind : MissFinishType) (size : ℕ) (c : Cache Held) → IsShelved kind size mid
         → AdmitAnswer (rules n) number no_id true kind size (entry_at key None) came (record c0 { store = mid }) c → (is_some (finish_status came) ≡ true) × IsTaken (told_of came) c rest
     admitted (Ok (Some f)) key entry mid kind size c x a =
-        let sized : f.length ≡ length x.body.body.bytes = a.1 ∙ x.sized in
+        let told : f.length ≡ length x.body.body.bytes = a.1 ∙ x.size_is in
         let b : IsAdmitted (rules n) (Created (length x.body.body.bytes)) (alone x.body.entry) f.evicted.items (record c0 { store = mid }) c =
         subst (λ (y : MissFinishType). IsAdmitted (rules n) y (alone x.body.entry) f.evicted.items (record c0 { store = mid }) c) x.kind_is
         (subst (λ (e : CacheEntryKey). IsAdmitted (rules n) kind e f.evicted.items (record c0 { store = mid }) c) (sym entry ∙ sym x.entry) a.2) in
-        (refl, kept_so (told_of (Ok (Some f))) c mid kind size x (kept-admitted n over m x.body kept c0.words mid x.shelf f.length f.evicted.items c sized b))
+        (refl, kept_so (told_of (Ok (Some f))) c mid kind size x (kept-admitted n over m x.body kept c0.words mid x.shelf f.length f.evicted.items c told b))
     admitted (Ok None) key entry mid kind size c x a = absurd a
     admitted (Err fault) key entry mid kind size c x a =
         let b : IsTakenBack (rules n) IsToldAs (Created (length x.body.body.bytes)) (alone x.body.entry) fault (record c0 { store = mid }) c =
