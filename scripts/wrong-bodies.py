@@ -9,9 +9,9 @@ an edit of wrong-bodies/ with more lines: 'crate: NAME', and 'test: ' with what 
     traces                of traces/, replayed by tier-replay, some are answered otherwise
     CRATE stdout          the program CRATE writes something else than its file stdout
     CRATE TEST            of the crate of tests CRATE that test
-    CRATE TEST refused    that test, where one of its allocations fails: the first, the second, .., until it fails
+    CRATE TEST refused N  that test, where one of its allocations fails: the Nth, the first, the second, .., until it fails
 
-Without names all are tried; each thing that fails takes two to four processor minutes, the last form as much for each allocation. It prints a line for each, and fails where one is not shown or, without names, a named wrong body has no line.
+Without names all are tried; each thing that fails takes two to four processor minutes, the last form as much for each allocation: so it names one that shows it. It prints a line for each, and fails where one is not shown or, without names, a named wrong body has no line.
 A proof that is refused says that contract and proof no longer fit; an answer that is wrong shows that the body is.
 """
 import os
@@ -96,9 +96,16 @@ def shown_by_traces(room):
     return status == 5 and wrong, f"{len(wrong)} traces are answered otherwise, as {wrong[0].replace('--', '/')}" if wrong else said[-600:]
 
 
+def words_of_data(crate):
+    """The words that lay the files of the crate's data where its program runs."""
+    folder = os.path.join(TOP, "crates", crate, "data")
+    for name in sorted(os.listdir(folder)) if os.path.isdir(folder) else []:
+        yield from ("--data", f"{name}={os.path.join(folder, name)}")
+
+
 def shown_by_output(room, crate):
     wanted = sources.read(os.path.join(TOP, "crates", crate, "stdout"))
-    ran = subprocess.run(["rt", "try", "--seconds", "600"], cwd=os.path.join(room, "crates", crate), stdin=subprocess.DEVNULL, stdout=subprocess.PIPE, stderr=subprocess.PIPE, text=True)
+    ran = subprocess.run(["rt", "try", "--seconds", "600", *words_of_data(crate)], cwd=os.path.join(room, "crates", crate), stdin=subprocess.DEVNULL, stdout=subprocess.PIPE, stderr=subprocess.PIPE, text=True)
     lines = [it for it in wanted.splitlines() if it not in ran.stdout]
     return ran.returncode not in (1, 2, 3) and lines, f"{crate} doesn't write: {lines[0]}" if lines else ran.stderr[-600:]
 
@@ -109,8 +116,8 @@ def shown_by_test(room, crate, test, *words):
     return status not in (0, 1, 2, 3) and failed, f"{crate}: {test} fails" if failed else said[-600:]
 
 
-def shown_by_refusals(room, crate, test):
-    for at in range(1, MOST_ALLOCATIONS + 1):
+def shown_by_refusals(room, crate, test, first="1"):
+    for at in (int(first), *range(1, MOST_ALLOCATIONS + 1)):
         is_shown, what = shown_by_test(room, crate, test, "--fail-alloc", str(at))
         if is_shown:
             return True, f"{what} where allocation {at} fails"
@@ -120,8 +127,8 @@ def shown_by_refusals(room, crate, test):
 def shown(room, how):
     if how == ["traces"]:
         return shown_by_traces(room)
-    if how[2:] == ["refused"]:
-        return shown_by_refusals(room, *how[:2])
+    if how[2:3] == ["refused"]:
+        return shown_by_refusals(room, *how[:2], *how[3:])
     return shown_by_output(room, how[0]) if how[1] == "stdout" else shown_by_test(room, *how)
 
 

@@ -140,7 +140,7 @@ module _ (n : ℕ) (s : State) (t : MomentValue) (id : ℕ) (c0 : Cache Held) (k
               kind_is = stores.told_so;
               size_is = stores.sized;
               entry = sym flies.entry;
-              shelf = shelf-finished m (body_for x) x c0.store mid stores.finished key (ap (λ n. held_as n (body_for x)) own);
+              shelf = shelf-finished m (body_for x) x c0.store mid stores.finished key (ap (λ k. held_as k (body_for x)) own);
             }
 
         by_flight : (o : Option (Flying CacheMeta)) → store.flying_at m c0.store.store ≡ o → option_map flight_of o ≡ Some flies.flight → is_some (alive_key o) ≡ true → IsShelved kind size mid

@@ -1,5 +1,6 @@
 //! Trace lines and the program that replays them.
 mod answers;
+mod hashers;
 mod lines;
 mod options;
 mod played;

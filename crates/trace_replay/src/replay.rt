@@ -21,11 +21,11 @@ use crate::input::Input;
 use crate::output::hand_on;
 use cache_tier::tier::Tier;
 use cache_words::time::Duration;
-use lru_core::SeededState;
 use rand_core::{Rng, SeedableRng};
 use rand_pcg::Pcg64;
 use replay_options::options::{ReplayOptions, ShardCount};
 use std::alloc::{AllocError, AllocFailed, Global};
+use std::hash::BuildHasher;
 use std::io;
 use std::io::{Read, Write};
 use thiserror::Error;
@@ -86,9 +86,9 @@ impl<T: Drop> From<AllocFailed<T>> for ReplayError {
 /// answered is handed on before each read. At most 2^64 - 1 lines are read. An error leaves a beginning of what was to
 /// be written. The hashes of the tier's tables start as `hasher` says: take it at random where attackers choose the keys, who
 /// then can't slow look-ups down.
-pub fn run<R: Read, W: Write>(
+pub fn run<R: Read, W: Write, S: BuildHasher + Copy>(
     alloc: Global,
-    hasher: SeededState,
+    hasher: S,
     reader: &mut R,
     writer: &mut W,
     options: &ReplayOptions,
@@ -103,16 +103,16 @@ pub fn run<R: Read, W: Write>(
     ensures unsaved { result ≡ Err ReplayError.Folder → ⊥ }
 {
     match options.shards {
-        ShardCount::One => run_over::<R, W, 1>(alloc, hasher, reader, writer, options),
-        ShardCount::Four => run_over::<R, W, 4>(alloc, hasher, reader, writer, options),
-        ShardCount::Sixteen => run_over::<R, W, 16>(alloc, hasher, reader, writer, options),
+        ShardCount::One => run_over::<R, W, 1, S>(alloc, hasher, reader, writer, options),
+        ShardCount::Four => run_over::<R, W, 4, S>(alloc, hasher, reader, writer, options),
+        ShardCount::Sixteen => run_over::<R, W, 16, S>(alloc, hasher, reader, writer, options),
     }
 }
 
 // The same by a tier of N shards.
-fn run_over<R: Read, W: Write, const N: usize>(
+fn run_over<R: Read, W: Write, const N: usize, S: BuildHasher + Copy>(
     alloc: Global,
-    hasher: SeededState,
+    hasher: S,
     reader: &mut R,
     writer: &mut W,
     options: &ReplayOptions,
@@ -127,15 +127,15 @@ fn run_over<R: Read, W: Write, const N: usize>(
     ensures too_many { result ≡ Err ReplayError.TooManyReads → IfSome (R.remaining reader.old) (λ input. 2 ^ 64 - 1 ≤ length (lines_in input)) }
     ensures unsaved { result ≡ Err ReplayError.Folder → ⊥ }
 {
-    let mut tier = tier_for::<N>(alloc, hasher, options)?;
+    let mut tier = tier_for::<N, S>(alloc, hasher, options)?;
     let mut rng = Pcg64::seed_from_u64(options.seed);
     answer_trace(alloc, &mut tier, &mut rng, reader, writer)
 }
 
 // Answers each line of a trace by this tier, and reports on it, from whichever beginning the tier and the words are.
-pub(crate) fn answer_trace<R: Read, W: Write, const N: usize>(
+pub(crate) fn answer_trace<R: Read, W: Write, const N: usize, S: BuildHasher>(
     alloc: Global,
-    tier: &mut Tier<N, SeededState>,
+    tier: &mut Tier<N, S>,
     rng: &mut Pcg64,
     reader: &mut R,
     writer: &mut W,
@@ -170,11 +170,11 @@ pub(crate) fn answer_trace<R: Read, W: Write, const N: usize>(
 }
 
 // An empty tier as the options say.
-pub(crate) fn tier_for<const N: usize>(
+pub(crate) fn tier_for<const N: usize, S: BuildHasher + Copy>(
     alloc: Global,
-    hasher: SeededState,
+    hasher: S,
     options: &ReplayOptions,
-) -> Result<Tier<N, SeededState>, AllocError>
+) -> Result<Tier<N, S>, AllocError>
     requires { 0 < N }
     ensures state { IfOk result (λ tier. tier ≡ empty_state (settings_over N options.now)) }
     ensures past { IfOk result (λ tier. HasPast (empty_opening (settings_over N options.now)) tier []) }
@@ -208,9 +208,9 @@ fn next_line<R: Read, W: Write>(
     Ok(input.next_line(reader)?)
 }
 
-fn finish<W: Write, const N: usize>(
+fn finish<W: Write, const N: usize, S: BuildHasher>(
     alloc: Global,
-    tier: &Tier<N, SeededState>,
+    tier: &Tier<N, S>,
     waiting: &mut Vec<u8>,
     writer: &mut W,
 ) -> Result<(), ReplayError>
@@ -226,9 +226,9 @@ fn finish<W: Write, const N: usize>(
 }
 
 // Adds the report to what is waiting.
-fn report<const N: usize>(
+fn report<const N: usize, S: BuildHasher>(
     alloc: Global,
-    tier: &Tier<N, SeededState>,
+    tier: &Tier<N, S>,
     waiting: &mut Vec<u8>,
 ) -> Result<(), AllocError>
     ensures ok { OnOk result (waiting.new.items ≡ waiting.old.items ++ ended (report_text (report_of tier.now))) }
@@ -248,9 +248,9 @@ fn without_line_feed(line: &[u8]) -> &[u8]
 }
 
 // Has the tier take an event, and adds the line for its outcome to what is waiting.
-fn add_reply<G: Rng, const N: usize>(
+fn add_reply<G: Rng, const N: usize, S: BuildHasher>(
     alloc: Global,
-    tier: &mut Tier<N, SeededState>,
+    tier: &mut Tier<N, S>,
     rng: &mut G,
     event: &Event,
     waiting: &mut Vec<u8>,
@@ -264,9 +264,9 @@ fn add_reply<G: Rng, const N: usize>(
 }
 
 // Adds the line that answers a line to what is waiting.
-fn add_answer<G: Rng, const N: usize>(
+fn add_answer<G: Rng, const N: usize, S: BuildHasher>(
     alloc: Global,
-    tier: &mut Tier<N, SeededState>,
+    tier: &mut Tier<N, S>,
     lines: &mut LineReader,
     rng: &mut G,
     line: &[u8],

@@ -20,12 +20,12 @@ use crate::replay::{ReplayError, answer_trace, run, tier_for};
 use cache_evict::LoadFault;
 use cache_tier::TierFault;
 use cache_tier::tier::Tier;
-use lru_core::SeededState;
 use lru_files::persistence::{Folder, ShardLoadReport};
 use rand_core::{Rng, SeedableRng};
 use rand_pcg::Pcg64;
 use replay_options::options::{ReplayOptions, ShardCount};
 use std::alloc::{AllocError, Global};
+use std::hash::BuildHasher;
 use std::io::{Read, Write};
 
 /// Does what [`run`] does, by a tier that starts from the directory of the options, if they name one: what was loaded is reported in a
@@ -36,9 +36,9 @@ use std::io::{Read, Write};
 ///
 /// Those of `run`. Nothing is saved where they come before the last line: the directory is as it was before, or as the loading left it,
 /// without temporary files. `Folder` where no shard was saved: the last line is written all the same.
-pub fn run_in<F: Folder, R: Read, W: Write>(
+pub fn run_in<F: Folder, R: Read, W: Write, S: BuildHasher + Copy>(
     alloc: Global,
-    hasher: SeededState,
+    hasher: S,
     folder: &mut F,
     reader: &mut R,
     writer: &mut W,
@@ -69,21 +69,21 @@ pub fn run_in<F: Folder, R: Read, W: Write>(
     let dir = dir.as_str();
     match options.shards {
         ShardCount::One => {
-            restart::<F, R, W, 1>(alloc, hasher, folder, dir, reader, writer, options)
+            restart::<F, R, W, 1, S>(alloc, hasher, folder, dir, reader, writer, options)
         }
         ShardCount::Four => {
-            restart::<F, R, W, 4>(alloc, hasher, folder, dir, reader, writer, options)
+            restart::<F, R, W, 4, S>(alloc, hasher, folder, dir, reader, writer, options)
         }
         ShardCount::Sixteen => {
-            restart::<F, R, W, 16>(alloc, hasher, folder, dir, reader, writer, options)
+            restart::<F, R, W, 16, S>(alloc, hasher, folder, dir, reader, writer, options)
         }
     }
 }
 
 // The same by a tier of N shards, from this directory.
-fn restart<F: Folder, R: Read, W: Write, const N: usize>(
+fn restart<F: Folder, R: Read, W: Write, const N: usize, S: BuildHasher + Copy>(
     alloc: Global,
-    hasher: SeededState,
+    hasher: S,
     folder: &mut F,
     dir: &str,
     reader: &mut R,
@@ -102,7 +102,7 @@ fn restart<F: Folder, R: Read, W: Write, const N: usize>(
         × EndsEarly F.did F.failures_of F.keeps F.files N options.now dir.now (requests_in input) folder.old folder.new text)) }
     ensures too_many { result ≡ Err ReplayError.TooManyReads → IfSome (R.remaining reader.old) (λ input. 2 ^ 64 - 1 ≤ length (lines_in input)) }
 {
-    let mut tier = tier_for::<N>(alloc, hasher, options)?;
+    let mut tier = tier_for::<N, S>(alloc, hasher, options)?;
     let mut rng = Pcg64::seed_from_u64(options.seed);
     start(alloc, &mut tier, folder, dir, writer)?;
     answer_trace(alloc, &mut tier, &mut rng, reader, writer)?;
@@ -111,9 +111,9 @@ fn restart<F: Folder, R: Read, W: Write, const N: usize>(
 }
 
 // Loads the order of use, and writes what came of it.
-fn start<F: Folder, W: Write, const N: usize>(
+fn start<F: Folder, W: Write, const N: usize, S: BuildHasher>(
     alloc: Global,
-    tier: &mut Tier<N, SeededState>,
+    tier: &mut Tier<N, S>,
     folder: &mut F,
     dir: &str,
     writer: &mut W,
@@ -148,9 +148,9 @@ fn draw(alloc: Global, rng: &mut Pcg64, count: usize) -> Result<Vec<u32>, AllocE
 }
 
 // Saves the order of use, and writes what came of it.
-fn save<F: Folder, W: Write, const N: usize>(
+fn save<F: Folder, W: Write, const N: usize, S: BuildHasher>(
     alloc: Global,
-    tier: &Tier<N, SeededState>,
+    tier: &Tier<N, S>,
     folder: &mut F,
     dir: &str,
     words: &[u32],

@@ -18,10 +18,10 @@ use Rattle.trace_replay.proofs.RestartLaws.{early_answered, early_begun, early_s
 use Rattle.trace_replay.proofs.restart.restart.Goals as goal
 
 pub start-requires : goal.start-requires
-start-requires g c = (omega arith, subst IsNew (sym c.in_ok-tier.ensures.state) (empty-new (settings_over g.row.N c.args.options.now)))
+start-requires g c = (assumption, subst IsNew (sym c.in_ok-tier.ensures.state) (empty-new (settings_over g.row.N c.args.options.now)))
 
 pub save-requires : goal.save-requires
-save-requires g c = (omega arith, ap length (c.as_slice.ensures.value ∙ ap (λ (p : List ℕ × Stream). p.0) c.in_ok-words.ensures.words) ∙ length_words g.row.N (pcg_words c.answer_trace.new.rng))
+save-requires g c = (assumption, ap length (c.as_slice.ensures.value ∙ ap (λ (p : List ℕ × Stream). p.0) c.in_ok-words.ensures.words) ∙ length_words g.row.N (pcg_words c.answer_trace.new.rng))
 
 pub returns-clause-restarts : goal.returns-clause-restarts
 returns-clause-restarts g c =
