@@ -44,7 +44,6 @@ use Rattle.tier_requests.specs.Rows.{OnOpen}
 use Rattle.tier_requests.specs.Shelves.{found_in, flight_of, shelf_of, IsBelow}
 use Rattle.tier_requests.proofs.FlightLaws.{flight-at}
 use Rattle.tier_requests.proofs.ShelfLaws.{shelf-left}
-use Rattle.tier_requests.proofs.OwnLaws.{numbered}
 use Rattle.tier_requests.proofs.BelowLaws.{below-landed}
 use Rattle.cache_tier.proofs.FinishSteps.{Steps, Steps-none, Steps-wrong, flown, Steps-removed, Steps-memory, Steps-stored}
 use Rattle.cache_tier.proofs.FlightLaws.{FliesFor}
@@ -133,7 +132,7 @@ module _ (n : ℕ) (s : State) (t : MomentValue) (id : ℕ) (c0 : Cache Held) (k
         by_removed g at same false removed alive =
             let is : g.stored ≡ x = let both : Some g.stored ≡ Some x = sym (ap (option_map (λ f. f.stored)) at) ∙ stores.finished.shown in cc in
             let key : x.write.key ≡ key_for q = ap (λ (y : Stored CacheMeta). y.write.key) (sym is) ∙ ap (λ (f : InFlight). f.key) same ∙ flies.key in
-            let own : x.write.number ≡ m = ap (λ (y : Stored CacheMeta). y.write.number) (sym is) ∙ numbered m c0.store.store.flying g at in
+            let own : x.write.number ≡ m = ap (λ (y : Stored CacheMeta). y.write.number) (sym is) ∙ ap (λ (f : InFlight). f.number) same ∙ flies.number in
             record {
               body = body_for x;
               finishes = finishing_by (Some g) at ∙ ap (λ (v : Bool). cond v None (Some (body_for g.stored))) removed ∙ ap (λ (y : Stored CacheMeta). Some (body_for y)) is;
