@@ -42,8 +42,8 @@ use Rattle.tier_requests.proofs.GivenLaws.{IsGiven, missed-lock, and-yes, lock-r
 
 -- what is reported of what a look-up found is so of what the state has
 told_by : (t : MomentValue) (l : Look) (meta : CacheMeta) (told : FoundAt MemHitHandler) (h mid : Held) → IsToldAs t meta told → FindsOne t l meta (hit_told told) h mid → IsFoundBy t l told
-told_by t l meta (Fresh until hit) h mid as one = (one.fresh ∙ as, one.reads)
-told_by t l meta (Stale told hit) h mid as one = (one.fresh ∙ as.0, one.meta_is ∙ ap Some as.1, one.reads)
+told_by t l meta (Fresh until hit) h mid is one = (one.fresh ∙ is, one.reads)
+told_by t l meta (Stale told hit) h mid is one = (one.fresh ∙ is.0, one.meta_is ∙ ap Some is.1, one.reads)
 
 module _ (n : ℕ) (weighed : ℕ → ℕ) (t : MomentValue) (r : Driven) (asks : Bool) (wait : Option DurationValue) (gave : Bool) (k : ℕ) (bytes : Option (List ℕ)) where
   abbrev pub plain : Driven → Request

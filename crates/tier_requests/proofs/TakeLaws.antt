@@ -221,7 +221,7 @@ module _ (n : ℕ) (weighed : ℕ → ℕ) (t : MomentValue) (r : Driven) (asks 
   found-unlocked m m' s s' r' fault stale on refused unchanged kept same =
       let asks_it : asks_now t q l ≡ true = ap (λ x. asks && not x) (fresh ∙ stale) ∙ sym (and-yes asks) ∙ sym free.looking.on ∙ on in (
         lock-refused n weighed t q l m s fault asks_it (subst (λ k. IsRefused s (to_wait_for k s) fault) (sym (key-stored r.key)) refused),
-        ap (λ (x : Driven). plain_of x asks wait gave bytes) unchanged,
+        ap (λ (x : Driven). plain_of x asks wait gave k bytes) unchanged,
         same,
         lock-left t q l s s' kept,
       )
@@ -232,7 +232,7 @@ module _ (n : ℕ) (weighed : ℕ → ℕ) (t : MomentValue) (r : Driven) (asks 
       → FoundAnswer n weighed t q l m s (Err (fault_for fault nothing_done)) (plain_of r' asks wait gave k bytes) m' s'
   found-unused hit took m m' s s' r' fault take unchanged back uses untracked = (
     inr (inl (by_look l f.reads refl)),
-    ap (λ (x : Driven). plain_of x asks wait gave bytes) unchanged,
+    ap (λ (x : Driven). plain_of x asks wait gave k bytes) unchanged,
     uses.3,
     handed-back t q l s (found_given (status_by v) r s) (found_asked (status_by v) t r s) s' (asked s) back,
   )

@@ -65,9 +65,9 @@ module _ (weight : MemHitHandler → ℕ) (id : MemHitHandler → Option CacheEn
   Answers res = LookUpAnswer reader_of (λ n. n) custom decides t look (point r h s) res (point r1 mid s1)
 
   found_as : (told : FoundAt MemHitHandler) (meta : CacheMeta) (found : MemHitHandler) → IsToldAs t meta told → hit_told told ≡ found → Answers (Ok (Some (meta, found))) → FindsAs t look told r r1 h mid s s1
-  found_as told meta found as same a = record {
+  found_as told meta found is same a = record {
     meta = meta;
-    told_as = as;
+    told_as = is;
     found = subst (λ (x : MemHitHandler). LookAnswer reader_of (valid_look r.valid_after look) h (Ok (Some (meta, x))) mid) (sym same) a.0;
     request = a.1;
     lock = a.2;

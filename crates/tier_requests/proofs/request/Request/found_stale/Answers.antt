@@ -44,8 +44,8 @@ returns-clause-answer g c = λ l by.
     rw (c.can_seek-complete.ensures, c.given.ensures, ← c.self.view_is) (found-taken g.E.EvictionManager.shard_count g.E.EvictionManager.weighed c.args.moment r.cache r.asks r.wait r.gave_read r.seen r.unread l c.args.hit false
     (record { driven = c.self.invariant; may = rw (← c.self.view_is) at c.requires; freshness = by.0; reads = by.2 })
     (Some c.args.meta) c.take_body.new.hit c.in-Ok.unread c.args.parts.now.store c.cache_found.new.parts.store (g.E.EvictionManager.managed c.args.parts.now.manager) (g.E.EvictionManager.managed c.cache_found.new.parts.manager)
-    c.args.parts.now.lock c.cache_found.new.parts.lock c.cache_found.new.self c.is_cache_locked-self-inside.result c.write_number.result
-    (ap (λ n. Some (as_seen n c.args.meta)) c.write_number.ensures ∙ seen-stale c.args.moment l c.args.meta c.args.hit by.0 by.1 by.2) c.is_cache_locked-self-inside.ensures c.in-Ok.ensures
+    c.args.parts.now.lock c.cache_found.new.parts.lock c.cache_found.new.self c.is_cache_locked-self-inside.result c.write_number-seen.result
+    (ap (λ n. Some (as_seen n c.args.meta)) c.write_number-seen.ensures ∙ seen-stale c.args.moment l c.args.meta c.args.hit by.0 by.1 by.2) c.is_cache_locked-self-inside.ensures c.in-Ok.ensures
     (taken-stale c.args.moment c.args.meta c.take_body.new.hit r.cache c.cache_found.new.self c.args.parts.now.store c.cache_found.new.parts.store
     c.args.parts.now.lock c.cache_found.new.parts.lock c.in-Ok-cache_found.ensures.found)
     c.in-Ok-cache_found.ensures.used)
