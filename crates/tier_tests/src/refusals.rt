@@ -1,7 +1,6 @@
 //! Each refused growth in turn.
 mod files;
 mod over_bodies;
-mod over_tags;
 mod over_writes;
 mod served;
 

@@ -2,5 +2,4 @@
 mod asks;
 mod meeting;
 mod refusals;
-mod started;
 mod threads;
