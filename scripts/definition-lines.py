@@ -42,6 +42,7 @@ TABLE = (
 # A word of antt: letters, digits and signs of names. A dot joins a module's name in this file to a word of it.
 WORD = re.compile(r"[^\s(){}\[\];,.λ∷×→≡⊎¬]+")
 OPENS = re.compile(r"^(?:abbrev|unfoldable|pub|record|data)\s")
+MUTUAL = re.compile(r"^(?:(?:abbrev|unfoldable) )?mutual$")
 
 
 def uncommented(line):
@@ -63,11 +64,16 @@ def imports_of(text):
 
 
 def definitions_of(text):
-    """Returns the definitions of a file: each name with its lines."""
-    found, name = {}, None
+    """Returns the definitions of a file: each name with its lines. Those of a `mutual` block stand two spaces in."""
+    found, name, block = {}, None, False
     for line in map(uncommented, text.splitlines()):
         if not line or line.startswith("use ") or line.startswith("pub use "):
             continue
+        if MUTUAL.match(line):
+            block, name = True, None
+            continue
+        block = block and line.startswith("  ")
+        line = line[2:] if block else line
         if OPENS.match(line):
             words = [it for it in line.split() if it not in ("abbrev", "unfoldable", "pub", "record", "data")]
             name = words[0].rstrip(":")

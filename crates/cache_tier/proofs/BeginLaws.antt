@@ -24,7 +24,6 @@ use Rattle.tier_model.specs.Answers.{IsBeginAnswer, IsBeginFault}
 use Rattle.tier_model.specs.Step.{AllowsBy, Allows, BeginTakes, BeginsWrite, may_begin, is_kept}
 use Rattle.tier_model.specs.After.{by_request, turned, release_of, after_begin, with_counts, after}
 use Rattle.tier_requests.specs.Faults.{out_of_memory}
-use Rattle.tier_requests.specs.Shelves.{own_meta}
 use Rattle.tier_requests.specs.Rows.{Begins, BeginsNot}
 use Rattle.cache_tier.specs.Acts.{Took}
 use Rattle.cache_tier.proofs.TookLaws.{plain_call, Took-refused}
@@ -85,7 +84,7 @@ module _ (s : State) (t : MomentValue) (id : ℕ) (head : List ℕ) where
 
       pub Took-uncacheable : (reason : NoCacheReason) → judged_alone t (head_of r) ≡ not_kept reason → Took s t (Begin id head) (Ok (Uncacheable reason)) (record s {
         shelf = turned q.reader closed s.shelf;
-        requests = insert s.requests id (record q { phase = disabled; held = nothing; reader = closed });
+        requests = insert s.requests id (record q { phase = disabled; held = nothing; seen = None; reader = closed });
         lock = after_all (release_of status.GiveUp q q.held s.lock) s.lock;
       })
       Took-uncacheable reason judged = (
@@ -116,10 +115,10 @@ module _ (s : State) (t : MomentValue) (id : ℕ) (head : List ℕ) where
           asks = tt;
         }
 
-        pub Took-begun : (left : Request) (shelf : Shelf) (lock : LockState) → own_meta meta ≡ meta → Begins meta q s.shelf s.lock left shelf lock
+        pub Took-begun : (left : Request) (shelf : Shelf) (lock : LockState) → Begins meta q s.shelf s.lock left shelf lock
             → Took s t (Begin id head) (Ok Begun) (record s { requests = insert s.requests id left; shelf = shelf; lock = lock })
-        Took-begun left shelf lock own b =
-            rw (b.request, b.shelf, b.lock, own) (
+        Took-begun left shelf lock b =
+            rw (b.request, b.shelf, b.lock) (
               call (Ok Begun) true,
               refl,
               refl,

@@ -16,7 +16,6 @@ use Rattle.tier_model.specs.Shelf.{Shelf}
 use Rattle.tier_model.specs.State.{Request, State}
 use Rattle.tier_model.specs.Checks.{can_begin}
 use Rattle.tier_requests.specs.Faults.{out_of_memory}
-use Rattle.tier_requests.specs.Shelves.{own_meta}
 use Rattle.tier_requests.specs.Rows.{Begins, BeginsNot, GivesUp, OnOpen}
 use Rattle.cache_tier.specs.Acts.{Took}
 use Rattle.cache_tier.specs.Heads.{JudgesTo, IsJudged}
@@ -67,9 +66,9 @@ module _ (s : State) (t : MomentValue) (id : ℕ) (head : List ℕ) where
             rw (h.2, h.1.request, h.1.shelf, h.1.lock) (Took-uncacheable s t id head q there can j.0 j.1 reason j.2)
 
     module _ (meta : CacheMeta) (j : JudgesTo t head (kept meta)) where
-      pub begin-begun : (requests : FinMap nat_cmp Request) (shelf : Shelf) (lock : LockState) → own_meta meta ≡ meta → OnOpen id s.requests ⊥ (λ q left. Begins meta q s.shelf s.lock left shelf lock) requests
+      pub begin-begun : (requests : FinMap nat_cmp Request) (shelf : Shelf) (lock : LockState) → OnOpen id s.requests ⊥ (λ q left. Begins meta q s.shelf s.lock left shelf lock) requests
           → Took s t (Begin id head) (Ok Begun) (record s { requests = requests; shelf = shelf; lock = lock })
-      begin-begun requests shelf lock own h = by_open (get s.requests id) refl h
+      begin-begun requests shelf lock h = by_open (get s.requests id) refl h
         where
           by_open : (x : Option Request) → get s.requests id ≡ x → MatchOption x (⊥ × (requests ≡ s.requests)) (λ q. (left : Request) × Begins meta q s.shelf s.lock left shelf lock × (requests ≡ insert s.requests id left))
               → Took s t (Begin id head) (Ok Begun) (record s { requests = requests; shelf = shelf; lock = lock })
@@ -78,7 +77,7 @@ module _ (s : State) (t : MomentValue) (id : ℕ) (head : List ℕ) where
               let p = some-there (get s.requests id) true may in
               let same : p.0 ≡ q = let both : Some p.0 ≡ Some q = sym p.1 ∙ there in cc in
               let can : can_begin q.phase q.gave_read ≡ true = subst (λ (x : Request). can_begin x.phase x.gave_read ≡ true) same p.2 in
-              rw h.2 (Took-begun s t id head q there can j.0 j.1 meta j.2 h.0 shelf lock own h.1)
+              rw h.2 (Took-begun s t id head q there can j.0 j.1 meta j.2 h.0 shelf lock h.1)
 
       -- the write began not, or was given up at once
       pub begin-not : (f : TierFault) (shelf : Shelf) → BeginsNot s.shelf f shelf → Took s t (Begin id head) (Err f) (record s { shelf = shelf })

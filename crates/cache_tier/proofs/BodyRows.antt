@@ -4,25 +4,27 @@ use Rattle.std.specs.Prelude.{Bool, List, Option, Some, None, option_map, is_som
 use Rattle.std.specs.Option.{option_or}
 use Rattle.std.specs.List.{IsDistinct, sum_by}
 use Rattle.std.specs.Cmp.Lexicographic.{pointwise, nat_list_cmp_total}
-use Rattle.std.specs.FinMap.{len, values}
+use Rattle.std.specs.FinMap.{get, len, values}
 use Rattle.std.specs.Map.{keys_of, values_of}
 use Rattle.std.proofs.lemmas.List.Sums.{sum_by-cons}
 use Rattle.cache_entries.specs.declared.entry.CacheEntryId.{CacheEntryId}
 use Rattle.cache_heads.specs.declared.meta.CacheMeta.{CacheMeta}
-use Rattle.cache_changes.specs.Changes.{StoredKey}
+use Rattle.cache_changes.specs.Changes.{StoredKey, Write}
+use Rattle.cache_changes.specs.Writes.{IsBody}
 use Rattle.cache_changes.specs.Store.{Stored, Flying, flies_for, body_at, is_found_at}
 use Rattle.cache_store.specs.Held.{Held}
 use Rattle.cache_store.specs.Purges.{PurgeAnswer}
 use Rattle.cache_store.specs.declared.storage.PurgeOutcome.{PurgeOutcome}
 use Rattle.cache_store.specs.declared.storage.PurgeOutcome.TheVariants.{Purged, NotFound}
-use Rattle.tier_model.specs.declared.state.Body.{Body}
 use Rattle.tier_model.specs.Calls.{History}
-use Rattle.tier_model.specs.Histories.{Opening}
+use Rattle.tier_model.specs.Histories.{Kept, Opening, told_of, writes_begun, changes_of}
 use Rattle.tier_model.specs.Past.{HasPast}
-use Rattle.tier_model.specs.Rows.{body_of}
+use Rattle.tier_model.specs.Rows.{Numbered, Bodies}
 use Rattle.tier_model.specs.Shelf.{Shelf, look, look_by, is_there, removed}
-use Rattle.tier_model.specs.State.{State}
-use Rattle.tier_model.proofs.Carried.{held-past, body-past}
+use Rattle.tier_model.specs.State.{State, shards_of}
+use Rattle.tier_model.proofs.Carried.{body-past}
+use Rattle.tier_model.proofs.ShownLaws.{is_held}
+use Rattle.tier_model.proofs.StandLaws.{Stands, Stands-lawful}
 use Rattle.tier_model.proofs.Tables.{bytes_tied, sum-keyed, len-keyed}
 use Rattle.tier_requests.specs.Shelves.{found_in, row_of, bodies_in, flight_of, shelf_of}
 use Rattle.tier_requests.proofs.ShelfLaws.{body-found, look-of, shelf-removed}
@@ -38,10 +40,10 @@ rows_many : (xs : List (Stored CacheMeta)) → length (map row_of xs) ≡ length
 rows_many [] = refl
 rows_many (x ∷ xs) = omega (arith, rows_many xs)
 
-rows_sum : (xs : List (Stored CacheMeta)) → sum_by (λ (b : Body). length b.bytes) (values_of (map row_of xs)) ≡ sum_by (λ (x : Stored CacheMeta). length x.bytes) xs
+rows_sum : (xs : List (Stored CacheMeta)) → sum_by (λ (b : Numbered). length b.body.bytes) (values_of (map row_of xs)) ≡ sum_by (λ (x : Stored CacheMeta). length x.bytes) xs
 rows_sum [] = refl
 rows_sum (x ∷ xs) =
-    sum_by-cons (λ (b : Body). length b.bytes) (found_in x) (values_of (map row_of xs)) ∙ ap (λ (n : ℕ). length x.bytes + n) (rows_sum xs) ∙ sym (sum_by-cons (λ (x : Stored CacheMeta). length x.bytes) x xs)
+    sum_by-cons (λ (b : Numbered). length b.body.bytes) (found_in x) (values_of (map row_of xs)) ∙ ap (λ (n : ℕ). length x.bytes + n) (rows_sum xs) ∙ sym (sum_by-cons (λ (x : Stored CacheMeta). length x.bytes) x xs)
 
 module _ (xs : List (Stored CacheMeta)) (unique : IsDistinct (pointwise nat_eq) (map (λ (x : Stored CacheMeta). x.write.key) xs)) where
   rows_unique : IsDistinct (pointwise nat_eq) (keys_of (map row_of xs))
@@ -50,8 +52,8 @@ module _ (xs : List (Stored CacheMeta)) (unique : IsDistinct (pointwise nat_eq) 
   pub bodies-count : len (bodies_in xs) ≡ length xs
   bodies-count = len-keyed (pointwise nat_eq) nat_list_cmp_total bytes_tied (map row_of xs) rows_unique ∙ rows_many xs
 
-  pub bodies-sum : sum_by (λ (b : Body). length b.bytes) (values (bodies_in xs)) ≡ sum_by (λ (x : Stored CacheMeta). length x.bytes) xs
-  bodies-sum = sum-keyed (pointwise nat_eq) nat_list_cmp_total bytes_tied (λ (b : Body). length b.bytes) (map row_of xs) rows_unique ∙ rows_sum xs
+  pub bodies-sum : sum_by (λ (b : Numbered). length b.body.bytes) (values (bodies_in xs)) ≡ sum_by (λ (x : Stored CacheMeta). length x.bytes) xs
+  bodies-sum = sum-keyed (pointwise nat_eq) nat_list_cmp_total bytes_tied (λ (b : Numbered). length b.body.bytes) (map row_of xs) rows_unique ∙ rows_sum xs
 
 -- ---- a purge
 
@@ -77,14 +79,22 @@ purged-shelf k j id outcome h0 h e a =
 
 -- ---- what is shown
 
+-- each body of a past is held, with its number, its bytes and its meta
+held_whole : (start : Opening) (s : State) (past : History) → HasPast start s past → (k : StoredKey) (w : Write Kept) → IsBody k w (changes_of start past)
+    → get s.shelf.bodies k ≡ Some (record { number = w.number; body = told_of (changes_of start past) w })
+held_whole start s past p k w i =
+    let stands : Stands start s past = subst (λ (x : State). Stands start x past) (sym p.state) (Stands-lawful start past p.lawful) in
+    let x = is_held (shards_of s) (writes_begun start past) s.shelf.bodies s.shelf.flying s.managed (changes_of start past) stands.holds.leaves k w i in
+    x.1 ∙ ap (λ (b : Numbered). Some b) x.2
+
 -- the store shows the bodies of a past
 pub shows-bodies : (start : Opening) (s : State) (past : History) (h : Held) → shelf_of h ≡ s.shelf → HasPast start s past → ShowsBodies h start past
 shows-bodies start s past h e p =
     let same : bodies_in h.store.bodies ≡ s.shelf.bodies = ap (λ (x : Shelf). x.bodies) e in
     record {
-      bodies = λ k w i. let x = held-past start s past p k w i in
-          sym (body-found k h.store) ∙ ap (body_of k) same ∙ x.1 ∙ ap (λ (b : Body). Some b) x.2;
-      others = λ k x there. body-past start s past p k (found_in x) (sym (ap (body_of k) same) ∙ body-found k h.store ∙ ap (option_map found_in) there);
+      bodies = λ k w i. sym (body-found k h.store) ∙ ap (λ (m : Bodies). get m k) same ∙ held_whole start s past p k w i;
+      others = λ k x there. body-past start s past p k (found_in x).body
+          (ap (option_map (λ (b : Numbered). b.body)) (sym (ap (λ (m : Bodies). get m k) same) ∙ body-found k h.store ∙ ap (option_map found_in) there));
       flights = ap (λ (x : Shelf). x.flying) e ∙ p.matches.flights;
       writes = ap (λ (x : Shelf). x.writes) e ∙ p.matches.writes;
     }

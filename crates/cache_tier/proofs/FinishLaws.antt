@@ -49,7 +49,7 @@ use Rattle.cache_tier.proofs.FinishSteps.{Steps, Steps-none, Steps-wrong, flown,
 use Rattle.cache_tier.proofs.FlightLaws.{FliesFor}
 use Rattle.cache_tier.proofs.KeptLaws.{rules, with_cache, IsKept, kept-admitted, kept-back, below-store}
 use Rattle.cache_tier.proofs.PutLaws.{done-is}
-use Rattle.cache_tier.proofs.StoredLaws.{shelf-finished}
+use Rattle.cache_tier.proofs.StoredLaws.{held_as, shelf-finished}
 use Rattle.cache_tier.proofs.TookLaws.{insert-same}
 
 -- ---- refusals after a body was stored
@@ -112,10 +112,14 @@ module _ (n : ℕ) (s : State) (t : MomentValue) (id : ℕ) (c0 : Cache Held) (k
       kind_is : kind ≡ Created (length body.body.bytes)
       size_is : size ≡ length body.body.bytes
       entry : alone body.entry ≡ q.entry
-      shelf : shelf_of mid ≡ shelf.stored body (landed m old.shelf)
+      shelf : shelf_of mid ≡ shelf.stored m body (landed m old.shelf)
 
     finishing_by : (o : Option (Flying CacheMeta)) → store.flying_at m c0.store.store ≡ o → finishing q old.shelf ≡ body_under q.entry (option_map flight_of o)
     finishing_by o is = ap (λ (w : Option ℕ). body_under q.entry (flight_in w old.shelf)) writes ∙ ap (body_under q.entry) (flight-at m c0.store.store.flying ∙ ap (option_map flight_of) is)
+
+    -- what a stored write is under the entry of its request
+    abbrev body_for : Stored CacheMeta → FinishedBody
+    body_for x = record { entry = key_of q.entry; body = (found_in x).body }
 
     shelved : (kind : MissFinishType) (size : ℕ) (mid : Held) → IsStored (λ (h : Held). h) (λ h k. None) number no_id (λ x. Created (length x.bytes)) m kind size c0.store mid → IsShelved kind size mid
     shelved kind size mid stores = by_flight (store.flying_at m c0.store.store) refl (sym (flight-at m c0.store.store.flying) ∙ flies.at) stores.alive
@@ -123,26 +127,24 @@ module _ (n : ℕ) (s : State) (t : MomentValue) (id : ℕ) (c0 : Cache Held) (k
         x : Stored CacheMeta
         x = stores.body
 
-        by_removed : (g : Flying CacheMeta) → store.flying_at m c0.store.store ≡ Some g → flight_of g ≡ flies.flight → (v : Bool) → g.removed ≡ v
-            → is_some (cond v None (Some g.stored.write.key)) ≡ true → IsShelved kind size mid
+        by_removed : (g : Flying CacheMeta) → store.flying_at m c0.store.store ≡ Some g → flight_of g ≡ flies.flight → (v : Bool) → g.removed ≡ v → is_some (cond v None (Some g.stored.write.key)) ≡ true → IsShelved kind size mid
         by_removed g at same true removed alive = absurd cc
         by_removed g at same false removed alive =
             let is : g.stored ≡ x = let both : Some g.stored ≡ Some x = sym (ap (option_map (λ f. f.stored)) at) ∙ stores.finished.shown in cc in
             let key : x.write.key ≡ key_for q = ap (λ (y : Stored CacheMeta). y.write.key) (sym is) ∙ ap (λ (f : InFlight). f.key) same ∙ flies.key in
+            let own : x.write.number ≡ m = ap (λ (y : Stored CacheMeta). y.write.number) (sym is) ∙ ap (λ (f : InFlight). f.number) same ∙ flies.number in
             record {
-              body = record { entry = key_of q.entry; body = found_in x };
-              finishes = finishing_by (Some g) at ∙ ap (λ (v : Bool). cond v None (Some (record { entry = key_of q.entry; body = found_in g.stored }))) removed
-                  ∙ ap (λ (y : Stored CacheMeta). Some (record { entry = key_of q.entry; body = found_in y })) is;
+              body = body_for x;
+              finishes = finishing_by (Some g) at ∙ ap (λ (v : Bool). cond v None (Some (body_for g.stored))) removed ∙ ap (λ (y : Stored CacheMeta). Some (body_for y)) is;
               kind_is = stores.told_so;
               size_is = stores.sized;
               entry = sym flies.entry;
-              shelf = shelf-finished m (record { entry = key_of q.entry; body = found_in x }) x c0.store mid stores.finished key refl;
+              shelf = shelf-finished m (body_for x) x c0.store mid stores.finished key (ap (λ k. held_as k (body_for x)) own);
             }
 
-        by_flight : (o : Option (Flying CacheMeta)) → store.flying_at m c0.store.store ≡ o → option_map flight_of o ≡ Some flies.flight
-            → is_some (alive_key o) ≡ true → IsShelved kind size mid
-        by_flight None at same a = absurd cc
-        by_flight (Some g) at same a = by_removed g at (let is : flight_of g ≡ flies.flight = cc in is) g.removed refl a
+        by_flight : (o : Option (Flying CacheMeta)) → store.flying_at m c0.store.store ≡ o → option_map flight_of o ≡ Some flies.flight → is_some (alive_key o) ≡ true → IsShelved kind size mid
+        by_flight None at same alive = absurd cc
+        by_flight (Some g) at same alive = by_removed g at (let is : flight_of g ≡ flies.flight = cc in is) g.removed refl alive
 
     -- ---- nothing is stored
 
@@ -161,7 +163,7 @@ module _ (n : ℕ) (s : State) (t : MomentValue) (id : ℕ) (c0 : Cache Held) (k
         by_flight None at none = finishing_by None at
         by_flight (Some g) at none = finishing_by (Some g) at ∙ by_removed g.removed none
           where
-            by_removed : (v : Bool) → cond v None (Some g.stored.write.key) ≡ None → cond {A = Option FinishedBody} v None (Some (record { entry = key_of q.entry; body = found_in g.stored })) ≡ None
+            by_removed : (v : Bool) → cond v None (Some g.stored.write.key) ≡ None → cond {A = Option FinishedBody} v None (Some (body_for g.stored)) ≡ None
             by_removed true e = refl
             by_removed false e = absurd cc
 
@@ -174,7 +176,7 @@ module _ (n : ℕ) (s : State) (t : MomentValue) (id : ℕ) (c0 : Cache Held) (k
         by_flight (Some g) at e = by_removed g.removed refl e
           where
             body : FinishedBody
-            body = record { entry = key_of q.entry; body = found_in g.stored }
+            body = body_for g.stored
 
             by_removed : (v : Bool) → g.removed ≡ v → is_some (cond v None (Some g.stored.write.key)) ≡ true → (b : FinishedBody) × (finishing q old.shelf ≡ Some b)
             by_removed true was e = absurd cc
@@ -195,10 +197,10 @@ module _ (n : ℕ) (s : State) (t : MomentValue) (id : ℕ) (c0 : Cache Held) (k
 
     -- ---- its body is stored
 
-    kept_so : (o : Outcome) (c : Cache Held) (mid : Held) (kind : MissFinishType) (size : ℕ) (x : IsShelved kind size mid) → IsKept n over x.body kept c0.words mid x.shelf o c → IsTaken o c rest
+    kept_so : (o : Outcome) (c : Cache Held) (mid : Held) (kind : MissFinishType) (size : ℕ) (x : IsShelved kind size mid) → IsKept n over m x.body kept c0.words mid x.shelf o c → IsTaken o c rest
     kept_so o c mid kind size x k = record {
       sharded = k.sharded;
-      under = subst (λ (y : State). IsBelow y.shelf) (sym k.stores.after) (below-store over x.body o (below-landed m old.shelf below));
+      under = subst (λ (y : State). IsBelow y.shelf) (sym k.stores.after) (below-store over m x.body o (below-landed m old.shelf below));
       steps = Steps-stored old c0.words t id q m there writes x.body x.finishes o (with_left c rest) c.words k.stores;
     }
 
@@ -209,7 +211,7 @@ module _ (n : ℕ) (s : State) (t : MomentValue) (id : ℕ) (c0 : Cache Held) (k
         let b : IsAdmitted (rules n) (Created (length x.body.body.bytes)) (alone x.body.entry) f.evicted.items (record c0 { store = mid }) c =
         subst (λ (y : MissFinishType). IsAdmitted (rules n) y (alone x.body.entry) f.evicted.items (record c0 { store = mid }) c) x.kind_is
         (subst (λ (e : CacheEntryKey). IsAdmitted (rules n) kind e f.evicted.items (record c0 { store = mid }) c) (sym entry ∙ sym x.entry) a.2) in
-        (refl, kept_so (told_of (Ok (Some f))) c mid kind size x (kept-admitted n over x.body kept c0.words mid x.shelf f.length f.evicted.items c told b))
+        (refl, kept_so (told_of (Ok (Some f))) c mid kind size x (kept-admitted n over m x.body kept c0.words mid x.shelf f.length f.evicted.items c told b))
     admitted (Ok None) key entry mid kind size c x a = absurd a
     admitted (Err fault) key entry mid kind size c x a =
         let b : IsTakenBack (rules n) IsToldAs (Created (length x.body.body.bytes)) (alone x.body.entry) fault (record c0 { store = mid }) c =
@@ -217,7 +219,7 @@ module _ (n : ℕ) (s : State) (t : MomentValue) (id : ℕ) (c0 : Cache Held) (k
         (subst (λ (e : CacheEntryKey). IsTakenBack (rules n) IsToldAs kind e fault (record c0 { store = mid }) c) (sym entry ∙ sym x.entry) a) in
         let was : Bool = was_admitted n (alone x.body.entry) b.cause b.left in (
           ends-write was b.cause fault b.told,
-          kept_so (told_of (Err fault)) c mid kind size x (kept-back n over x.body kept c0.words mid x.shelf IsToldAs fault (told_as fault) c b (told-finish was b.cause fault b.told)),
+          kept_so (told_of (Err fault)) c mid kind size x (kept-back n over m x.body kept c0.words mid x.shelf IsToldAs fault (told_as fault) c b (told-finish was b.cause fault b.told)),
         )
 
     -- ---- all of them

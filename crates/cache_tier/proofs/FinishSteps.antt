@@ -39,7 +39,7 @@ module _ (s : State) (st : Stream) (t : MomentValue) (id : ℕ) where
   -- nothing was done, by whatever request
   still : (f : TierFault) (x : Option Request) → is_landing (Err f) ≡ false → with_counts s.shelf.writes s.lock (by_request s x (λ q. finished_state s id q (Err f))) ≡ s
   still f None e = refl
-  still f (Some q) e = ap (λ (v : Bool). with_counts s.shelf.writes s.lock (cond v (after_finish (after_flight s id q) (finishing q s.shelf) (Err f)) s)) e
+  still f (Some q) e = ap (λ (v : Bool). with_counts s.shelf.writes s.lock (cond v (after_finish (after_flight s id q) q.write (finishing q s.shelf) (Err f)) s)) e
 
   -- ---- a check fails
 
@@ -74,7 +74,7 @@ module _ (s : State) (st : Stream) (t : MomentValue) (id : ℕ) where
     flown_is = ap (λ (w : Option ℕ). record s { shelf = on_write w landed s.shelf; requests = insert s.requests id (record q { write = None }) }) writes
 
     abbrev then_is : Option FinishedBody → Outcome → State
-    then_is b o = with_counts s.shelf.writes s.lock (cond (is_landing o) (after_finish flown b o) s)
+    then_is b o = with_counts s.shelf.writes s.lock (cond (is_landing o) (after_finish flown (Some m) b o) s)
 
     record ByBody (b : Option FinishedBody) (o : Outcome) (new : State) (rest : Stream) : Type 0 where
       outcome : MatchResult o (λ a. MatchOption b ⊥ (λ b. IsStored s b a)) (IsFinishFault s b)
@@ -84,8 +84,9 @@ module _ (s : State) (st : Stream) (t : MomentValue) (id : ℕ) where
 
     after_so : (b : Option FinishedBody) (o : Outcome) → finishing q s.shelf ≡ b → then_is b o ≡ with_counts s.shelf.writes s.lock (by_request s (get s.requests id) (λ q. finished_state s id q o))
     after_so b o is =
-        ap (λ (x : State). with_counts s.shelf.writes s.lock (cond (is_landing o) (after_finish x b o) s)) (sym flown_is)
-        ∙ ap (λ (y : Option FinishedBody). with_counts s.shelf.writes s.lock (cond (is_landing o) (after_finish (after_flight s id q) y o) s)) (sym is)
+        ap (λ (x : State). with_counts s.shelf.writes s.lock (cond (is_landing o) (after_finish x (Some m) b o) s)) (sym flown_is)
+        ∙ ap (λ (w : Option ℕ). with_counts s.shelf.writes s.lock (cond (is_landing o) (after_finish (after_flight s id q) w b o) s)) (sym writes)
+        ∙ ap (λ (y : Option FinishedBody). with_counts s.shelf.writes s.lock (cond (is_landing o) (after_finish (after_flight s id q) q.write y o) s)) (sym is)
         ∙ ap (λ (x : Option Request). with_counts s.shelf.writes s.lock (by_request s x (λ q. finished_state s id q o))) (sym there)
 
     drawn_so : (b : Option FinishedBody) (o : Outcome) (rest : Stream) → finishing q s.shelf ≡ b → AreDrawn s b o st rest → AreDrawn s (with_body (get s.requests id)) o st rest
@@ -131,7 +132,7 @@ module _ (s : State) (st : Stream) (t : MomentValue) (id : ℕ) where
     Steps-memory b is = steps_of (Some b) (Err (Memory nothing_done)) s st is (record { outcome = inl refl; begins = refl; after = refl; drawn = (admitted s b, (refl, refl)) })
 
     -- its body is stored, and admitted or taken back
-    pub Steps-stored : (b : FinishedBody) → finishing q s.shelf ≡ Some b → (o : Outcome) (new : State) (rest : Stream) → StoresOver flown st b o new rest → Steps o new rest
+    pub Steps-stored : (b : FinishedBody) → finishing q s.shelf ≡ Some b → (o : Outcome) (new : State) (rest : Stream) → StoresOver flown st m b o new rest → Steps o new rest
     Steps-stored b is (Ok (Finished size es)) new rest h =
         steps_of (Some b) (Ok (Finished size es)) new rest is (record { outcome = h.allowed; begins = refl; after = h.after; drawn = h.drawn })
     Steps-stored b is (Ok _) new rest h = absurd h.allowed
@@ -143,4 +144,4 @@ module _ (s : State) (st : Stream) (t : MomentValue) (id : ℕ) where
         back false = refl
 
         lands : then_is (Some b) (Err f) ≡ with_counts s.shelf.writes s.lock (taken_back (done_of f).stored flown b (done_of f))
-        lands = ap (λ (v : Bool). with_counts s.shelf.writes s.lock (cond v (after_finish flown (Some b) (Err f)) s)) (landing-stored f (fault-stored flown b f h.allowed))
+        lands = ap (λ (v : Bool). with_counts s.shelf.writes s.lock (cond v (after_finish flown (Some m) (Some b) (Err f)) s)) (landing-stored f (fault-stored flown b f h.allowed))

@@ -21,6 +21,7 @@ use Rattle.tier_model.proofs.StandLaws.{Stands, Stands-lawful, opened_request}
 pub record FliesFor (s : State) (q : Request) (n : ℕ) : Type 0 where
   pub flight : InFlight
   pub at : flying_at n s.shelf.flying ≡ Some flight
+  pub number : flight.number ≡ n
   pub key : flight.key ≡ key_for q
   pub entry : q.entry ≡ alone (key_of q.entry)
 
@@ -36,7 +37,7 @@ flies_after start s h p id n q there writes =
     let found : flying_at x.write.number s.shelf.flying ≡ Some f = ap (find (has_number x.write.number)) l.flights
     ∙ find-plain (held_number x.write.number) (has_number x.write.number) (store_of (changes_of start h)).flying (λ g. refl) ∙ ap (option_map plain) told in
     let same : x.write.number ≡ n = let both : Some x.write.number ≡ Some n = sym x.number ∙ writes in cc in
-    record { flight = f; at = subst (λ (m : ℕ). flying_at m s.shelf.flying ≡ Some f) same found; key = x.of_key; entry = opens.entry }
+    record { flight = f; at = subst (λ (m : ℕ). flying_at m s.shelf.flying ≡ Some f) same found; number = same; key = x.of_key; entry = opens.entry }
 
 pub flies-for : (s : State) → HasAPast s → (id n : ℕ) (q : Request) → get s.requests id ≡ Some q → q.write ≡ Some n → FliesFor s q n
 flies-for s past id n q there writes = flies_after past.0 s past.1 past.2 id n q there writes

@@ -16,13 +16,12 @@ use Rattle.cache_heads.specs.declared.reason.RespCacheable.{RespCacheable}
 use Rattle.cache_heads.specs.declared.reason.RespCacheable.TheVariants as verdict
 use Rattle.response_parse.specs.Response.{Reading, IsReading, head_of}
 use Rattle.tier_model.specs.Response.{Judged, kept, not_kept, too_early, not_read, judged, judged_by, judged_alone, is_before_epoch}
-use Rattle.tier_requests.specs.Shelves.{own_meta}
 use Rattle.cache_tier.specs.Puts.{since_epoch, kept_by}
 use Rattle.cache_tier.specs.Heads.{JudgesTo, IsJudged, not_kept_by}
 
 -- what the tier's verdict on a header is, by the model's words
 abbrev pub IsVerdict : RespCacheable → Judged → Type 0
-IsVerdict (verdict.Cacheable meta) j = (j ≡ kept meta) × (own_meta meta ≡ meta)
+IsVerdict (verdict.Cacheable meta) j = j ≡ kept meta
 IsVerdict (verdict.Uncacheable StorageError) j = j ≡ too_early
 IsVerdict (verdict.Uncacheable reason) j = j ≡ not_kept reason
 
@@ -36,7 +35,7 @@ by_until t (Some until) ds header = by_test (is_before_epoch t || is_before_epoc
 
     by_test : (v : Bool) → IsVerdict (cond v (verdict.Uncacheable StorageError) (verdict.Cacheable meta)) (cond v too_early (kept meta))
     by_test true = refl
-    by_test false = (refl, refl)
+    by_test false = refl
 
 pub is-verdict : (t : MomentValue) (header : ResponseHeader) → IsVerdict (kept_by t header) (judged t header)
 is-verdict t header =
@@ -60,12 +59,12 @@ judges-read t head header v read is = record {
 pub judges-none : (t : MomentValue) (head : List ℕ) → (r : Reading) × IsReading head r × (head_of r ≡ None) → JudgesTo t head not_read
 judges-none t head read = (read.0, read.1, ap (judged_alone t) read.2)
 
-pub judges-kept : (t : MomentValue) (head : List ℕ) (meta : CacheMeta) → Judges t head (verdict.Cacheable meta) → JudgesTo t head (kept meta) × (own_meta meta ≡ meta)
-judges-kept t head meta j = (subst (λ (x : Judged). JudgesTo t head x) j.verdict.0 j.judges, j.verdict.1)
+pub judges-kept : (t : MomentValue) (head : List ℕ) (meta : CacheMeta) → Judges t head (verdict.Cacheable meta) → JudgesTo t head (kept meta)
+judges-kept t head meta j = subst (λ (x : Judged). JudgesTo t head x) j.verdict j.judges
 
 pub judges-not : (t : MomentValue) (head : List ℕ) (reason : NoCacheReason) → Judges t head (verdict.Uncacheable reason) → IsJudged t head (not_kept_by reason)
 judges-not t head reason j = by_reason reason j.to j.verdict j.judges
   where
     by_reason : (reason : NoCacheReason) (to : Judged) → IsVerdict (verdict.Uncacheable reason) to → JudgesTo t head to → IsJudged t head (not_kept_by reason)
     by_reason StorageError to is judges = subst (λ (x : Judged). JudgesTo t head x) is judges
-    by_reason _ to is judges = (subst (λ (x : Judged). JudgesTo t head x) is judges, tt)
+    by_reason _ to is judges = subst (λ (x : Judged). JudgesTo t head x) is judges

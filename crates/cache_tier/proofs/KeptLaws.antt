@@ -37,19 +37,19 @@ weighed len = omega arith
 abbrev pub with_cache : State → Cache Held → State
 with_cache s c = record s { managed = c.managed; shelf = shelf_of c.store }
 
-module _ (n : ℕ) (s : State) (b : FinishedBody) (k : IsSharded n s.managed) (st : Stream) (mid : Held) (shelved : shelf_of mid ≡ stored b s.shelf) where
+module _ (n : ℕ) (s : State) (m : ℕ) (b : FinishedBody) (k : IsSharded n s.managed) (st : Stream) (mid : Held) (shelved : shelf_of mid ≡ stored m b s.shelf) where
   -- what came of the body that is stored in `mid` over the state
   pub record IsKept (o : Outcome) (c : Cache Held) : Type 0 where
-    pub stores : StoresOver s st b o (with_cache s c) c.words
+    pub stores : StoresOver s st m b o (with_cache s c) c.words
     pub sharded : IsSharded n c.managed
 
   pub kept-admitted : (size : ℕ) (es : List CacheEntryKey) (c : Cache Held) → size ≡ length b.body.bytes
       → IsAdmitted (rules n) (Created (length b.body.bytes)) (alone b.entry) es (cache_of mid s.managed st) c → IsKept (Ok (Finished size es)) c
   kept-admitted size es c sized a =
-      let gone : shelf_of c.store ≡ shelf.cleared es (stored b s.shelf) = shelf-purged es mid c.store a.purged ∙ ap (shelf.cleared es) shelved in
+      let gone : shelf_of c.store ≡ shelf.cleared es (stored m b s.shelf) = shelf-purged es mid c.store a.purged ∙ ap (shelf.cleared es) shelved in
       let h : HasEvicted n s b false es c.managed st c.words = has_evicted n (max (length b.body.bytes) 1) s b false es c.managed st c.words k (weighed (length b.body.bytes)) a.fits a.evicts a.within in
       record {
-        stores = stores-kept s b st size es (with_cache s c) c.words n c.managed sized h (ap (λ (x : Shelf). record s { shelf = x; managed = c.managed }) gone);
+        stores = stores-kept s m b st size es (with_cache s c) c.words n c.managed sized h (ap (λ (x : Shelf). record s { shelf = x; managed = c.managed }) gone);
         sharded = h.kept;
       }
 
@@ -60,19 +60,19 @@ module _ (n : ℕ) (s : State) (b : FinishedBody) (k : IsSharded n s.managed) (s
       let w : ℕ = max (length b.body.bytes) 1 in
       let weighs : w ≡ max 1 (length b.body.bytes) = weighed (length b.body.bytes) in
       let es : List CacheEntryKey = evicted_of back.cause in
-      let gone : shelf_of back.purged ≡ shelf.cleared es (stored b s.shelf) = shelf-purged es mid back.purged back.purges ∙ ap (shelf.cleared es) shelved in
-      let left : shelf_of c.store ≡ removed (stored_key b.entry) (shelf.cleared es (stored b s.shelf)) = shelf-taken (stored_key b.entry) back.purged c.store back.removes ∙ ap (removed (stored_key b.entry)) gone in
-      let after : with_cache s c ≡ cleared n w (put_in s b st) b k weighs es back.left = λ i. record s { managed = back.managed i; shelf = left i } in
+      let gone : shelf_of back.purged ≡ shelf.cleared es (stored m b s.shelf) = shelf-purged es mid back.purged back.purges ∙ ap (shelf.cleared es) shelved in
+      let left : shelf_of c.store ≡ removed (stored_key b.entry) (shelf.cleared es (stored m b s.shelf)) = shelf-taken (stored_key b.entry) back.purged c.store back.removes ∙ ap (removed (stored_key b.entry)) gone in
+      let after : with_cache s c ≡ cleared n w (put_in s m b st) b k weighs es back.left = λ i. record s { managed = back.managed i; shelf = left i } in
       record {
-        stores = stores-refused s b st f (with_cache s c) c.words (refused-put n w (put_in s b st) b k weighs back.left back.cause f (with_cache s c) st c.words back.stops told after);
-        sharded = subst (λ (m : Managed). IsSharded n m) (sym back.managed) (kept-stopped n w s b k weighs back.left back.cause st c.words back.stops);
+        stores = stores-refused s m b st f (with_cache s c) c.words (refused-put n w (put_in s m b st) b k weighs back.left back.cause f (with_cache s c) st c.words back.stops told after);
+        sharded = subst (λ (x : Managed). IsSharded n x) (sym back.managed) (kept-stopped n w s b k weighs back.left back.cause st c.words back.stops);
       }
 
 -- the writes in flight, and those that have readers, have begun still
-pub below-store : (s : State) (b : FinishedBody) (o : Outcome) → IsBelow s.shelf → IsBelow (after_store s b o).shelf
-below-store s b (Ok (Finished size es)) below = below-cleared es (stored b s.shelf) (record { flying = below.flying; readers = below.readers })
-below-store s b (Ok _) below = below
-below-store s b (Err f) below = by_stored (done_of f).stored
+pub below-store : (s : State) (m : ℕ) (b : FinishedBody) (o : Outcome) → IsBelow s.shelf → IsBelow (after_store s m b o).shelf
+below-store s m b (Ok (Finished size es)) below = below-cleared es (stored m b s.shelf) (record { flying = below.flying; readers = below.readers })
+below-store s m b (Ok _) below = below
+below-store s m b (Err f) below = by_stored (done_of f).stored
   where
     by_stored : (v : Bool) → IsBelow (taken_back v s b (done_of f)).shelf
     by_stored true = below-removed (stored_key b.entry) (shelf.cleared (done_of f).evicted s.shelf) (below-cleared (done_of f).evicted s.shelf below)

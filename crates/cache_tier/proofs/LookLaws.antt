@@ -44,17 +44,17 @@ weighs_same n = omega arith
 look_begins : (t : MomentValue) (g : LockGiven) (l : Look) → is_begun (Ok (look_answer t g l)) ≡ false
 look_begins t g absent = refl
 look_begins t g (in_flight f) = refl
-look_begins t g (finished b) = refl
+look_begins t g (finished y) = refl
 
 found_counts : (t : MomentValue) (g : LockGiven) (l : Look) (n : ℕ) → found_after (Ok (look_answer t g l)) n ≡ counted_if (is_there l) n
 found_counts t g absent n = refl
 found_counts t g (in_flight f) n = refl
-found_counts t g (finished b) n = refl
+found_counts t g (finished y) n = refl
 
 absent_counts : (t : MomentValue) (g : LockGiven) (l : Look) (n : ℕ) → absent_after (Ok (look_answer t g l)) n ≡ (if is_there l then n else counted n 1)
 absent_counts t g absent n = refl
 absent_counts t g (in_flight f) n = refl
-absent_counts t g (finished b) n = refl
+absent_counts t g (finished y) n = refl
 
 module _ (s : State) (t : MomentValue) (id : ℕ) where
   abbrev checked : Option Request → Option TierFault
@@ -129,30 +129,30 @@ module _ (s : State) (t : MomentValue) (id : ℕ) where
       used_same : (l : Look) → used_by n least_one q l s.managed ≡ managed_after s q l
       used_same absent = refl
       used_same (in_flight f) = refl
-      used_same (finished b) =
-          ap (λ (w : ℕ). use_first n q.entry w s.managed) (weighs_same (length b.bytes)) ∙ ap (λ (x : ℕ). use_first x q.entry (weight_for b) s.managed) (sym k.count)
+      used_same (finished y) =
+          ap (λ (w : ℕ). use_first n q.entry w s.managed) (weighs_same (length y.body.bytes)) ∙ ap (λ (x : ℕ). use_first x q.entry (weight_for y.body) s.managed) (sym k.count)
 
       use_fits : (l : Look) → Fits n (used_by n least_one q l s.managed) → UseFits s q l
       use_fits absent fits = tt
       use_fits (in_flight f) fits = tt
-      use_fits (finished b) fits = subst (λ (x : ℕ). Fits x (used s q.entry b)) (sym k.count) (subst (Fits n) (used_same (finished b)) fits)
+      use_fits (finished y) fits = subst (λ (x : ℕ). Fits x (used s q.entry y.body)) (sym k.count) (subst (Fits n) (used_same (finished y)) fits)
 
       use_fault : (l : Look) (f : TierFault) → UseRefused n least_one q l s.managed f → ((f ≡ Memory nothing_done) × (is_there l ≡ true)) ⊎ IsUseFault s q l f
       use_fault absent f p = absurd p
       use_fault (in_flight f) g p = absurd p
-      use_fault (finished b) f p = by_fault p.1.0 (at (λ x w. IsPutRefused x q.entry w s.managed p.1.0) p.1.1) p.1.2
+      use_fault (finished y) f p = by_fault p.1.0 (at (λ x w. IsPutRefused x q.entry w s.managed p.1.0) p.1.1) p.1.2
         where
-          at : (P : ℕ → ℕ → Type 0) → P n (max (length b.bytes) 1) → P (shards_of s) (weight_for b)
-          at P h = subst (λ (w : ℕ). P (shards_of s) w) (weighs_same (length b.bytes)) (subst (λ (x : ℕ). P x (max (length b.bytes) 1)) (sym k.count) h)
+          at : (P : ℕ → ℕ → Type 0) → P n (max (length y.body.bytes) 1) → P (shards_of s) (weight_for y.body)
+          at P h = subst (λ (w : ℕ). P (shards_of s) w) (weighs_same (length y.body.bytes)) (subst (λ (x : ℕ). P x (max (length y.body.bytes) 1)) (sym k.count) h)
 
           none : weight_of q.entry (rows_of (shards_of s) q.entry s.managed) ≡ None
           none = at (λ x w. weight_of q.entry (rows_of x q.entry s.managed) ≡ None) p.0
 
-          by_fault : (cause : EvictFault) → IsPutRefused (shards_of s) q.entry (weight_for b) s.managed cause → f ≡ fault_for cause nothing_done → ((f ≡ Memory nothing_done) × (true ≡ true)) ⊎ IsUseFault s q (finished b) f
+          by_fault : (cause : EvictFault) → IsPutRefused (shards_of s) q.entry (weight_for y.body) s.managed cause → f ≡ fault_for cause nothing_done → ((f ≡ Memory nothing_done) × (true ≡ true)) ⊎ IsUseFault s q (finished y) f
           by_fault (evict.Memory v) h is = inl (is, refl)
-          by_fault (evict.Weight v) h is = inr (subst (λ (x : TierFault). IsUseFault s q (finished b) x) (sym is) (none, (refl, h)))
-          by_fault (evict.Length v) h is = inr (subst (λ (x : TierFault). IsUseFault s q (finished b) x) (sym is) (none, (refl, h)))
-          by_fault (evict.NumbersSpent v) h is = inr (subst (λ (x : TierFault). IsUseFault s q (finished b) x) (sym is) (none, (refl, h)))
+          by_fault (evict.Weight v) h is = inr (subst (λ (x : TierFault). IsUseFault s q (finished y) x) (sym is) (none, (refl, h)))
+          by_fault (evict.Length v) h is = inr (subst (λ (x : TierFault). IsUseFault s q (finished y) x) (sym is) (none, (refl, h)))
+          by_fault (evict.NumbersSpent v) h is = inr (subst (λ (x : TierFault). IsUseFault s q (finished y) x) (sym is) (none, (refl, h)))
           by_fault (evict.File v) h is = absurd h
 
       why_of : (f : TierFault) → RunsOut n least_one t q l s.lock f ⊎ (UseRefused n least_one q l s.managed f ⊎ LockRefused n least_one t q l s.lock f)

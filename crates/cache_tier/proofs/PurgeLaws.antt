@@ -3,9 +3,9 @@ use Rattle.std.proofs.Common.{◌≡◌, ℕ, refl, ap, sym, ◌∙◌, Bool, tr
 use Rattle.std.specs.Prelude.{Ok, List, Option, Some, None, ◌||◌, find, map}
 use Rattle.cache_entries.specs.Keys.{same_bytes}
 use Rattle.cache_entries.specs.SameEntry.{same_bytes-tells, same-sym}
-use Rattle.tier_model.specs.declared.state.Body.{Body}
-use Rattle.tier_model.specs.Rows.{Bodies, body_of, without_body}
-use Rattle.tier_model.proofs.BodyLaws.{body_of-without}
+use Rattle.std.specs.FinMap.{get}
+use Rattle.tier_model.specs.Rows.{Numbered, Bodies, without_body}
+use Rattle.tier_model.proofs.BodyLaws.{held-without}
 use Rattle.tier_requests.proofs.ShelfLaws.{same-bodies}
 use Rattle.cache_words.specs.Time.{MomentValue}
 use Rattle.cache_words.specs.Key.{CacheKeyValue}
@@ -50,7 +50,7 @@ module _ (s : State) (t : MomentValue) (key : CacheKeyValue) where
 
 -- ---- a key that has nothing
 
-open_none : (o : Option InFlight) (b : Option Body) → is_there (look_by o b) ≡ false → (o ≡ None) × (b ≡ None)
+open_none : (o : Option InFlight) (b : Option Numbered) → is_there (look_by o b) ≡ false → (o ≡ None) × (b ≡ None)
 open_none None None e = (refl, refl)
 open_none None (Some b) e = absurd cc
 open_none (Some f) b e = absurd cc
@@ -80,15 +80,15 @@ marked-none k (f ∷ fs) e = by_key (same_bytes f.key k) refl f.removed refl e (
             let both : Some f ≡ None = sym (ap (λ (v : Bool). cond v (Some f) (find (flies_for k) fs)) flies) ∙ e in
             absurd cc
 
-without-none : (k : StoredKey) (bodies : Bodies) → body_of k bodies ≡ None → without_body k bodies ≡ bodies
-without-none k bodies none = same-bodies (without_body k bodies) bodies (λ j. body_of-without j k bodies ∙ by_key j (same_bytes k j) refl)
+without-none : (k : StoredKey) (bodies : Bodies) → get bodies k ≡ None → without_body k bodies ≡ bodies
+without-none k bodies none = same-bodies (without_body k bodies) bodies (λ j. held-without j k bodies ∙ by_key j (same_bytes k j) refl)
   where
-    by_key : (j : StoredKey) (v : Bool) → same_bytes k j ≡ v → cond v None (body_of j bodies) ≡ body_of j bodies
-    by_key j true e = sym (ap (λ (i : StoredKey). body_of i bodies) (sym (same_bytes-tells.equal k j e)) ∙ none)
+    by_key : (j : StoredKey) (v : Bool) → same_bytes k j ≡ v → cond v None (get bodies j) ≡ get bodies j
+    by_key j true e = sym (ap (λ (i : StoredKey). get bodies i) (sym (same_bytes-tells.equal k j e)) ∙ none)
     by_key j false e = refl
 
 -- what isn't there leaves nothing when it is removed
 pub removed-none : (k : StoredKey) (shelf : Shelf) → is_there (look k shelf) ≡ false → removed k shelf ≡ shelf
 removed-none k shelf none =
-    let both = open_none (find (flies_for k) shelf.flying) (body_of k shelf.bodies) none in
+    let both = open_none (find (flies_for k) shelf.flying) (get shelf.bodies k) none in
     λ i. record { bodies = without-none k shelf.bodies both.1 i; flying = marked-none k shelf.flying both.0 i; readers = shelf.readers; writes = shelf.writes }

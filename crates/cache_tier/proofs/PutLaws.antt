@@ -39,12 +39,11 @@ use Rattle.tier_model.specs.declared.whole.Whole.{Whole}
 use Rattle.tier_model.specs.declared.whole.Whole.TheVariants as whole
 use Rattle.tier_model.specs.Response.{kept, too_early, is_before_epoch, judged_by, whole_with, whole_by}
 use Rattle.tier_requests.specs.Faults.{fault_for}
-use Rattle.tier_requests.specs.Shelves.{own_meta}
 use Rattle.cache_tier.specs.Puts.{done_as, since_epoch, kept_by, IsToldAs, IsTellable}
 
--- what a response gives a put, and what it gives by the tier's own words. What is kept can be written, and is the meta of a new response
+-- what a response gives a put, and what it gives by the tier's own words. What is kept can be written
 abbrev pub IsWholeFor : Given → Whole → Type 0
-IsWholeFor (given.Cacheable meta body) g = (g ≡ whole.Stored (record { bytes = body; meta = meta })) × IsWritable meta.internal × (own_meta meta ≡ meta)
+IsWholeFor (given.Cacheable meta body) g = (g ≡ whole.Stored (record { bytes = body; meta = meta })) × IsWritable meta.internal
 IsWholeFor (given.Uncacheable reason) g = ((reason ≡ OriginNotCache) × (g ≡ whole.Uncacheable OriginNotCache)) ⊎ ((reason ≡ StorageError) × (g ≡ whole.BeforeEpoch))
 IsWholeFor given.TooLarge g = ⊥
 IsWholeFor given.Incomplete g = g ≡ whole.Incomplete
@@ -85,7 +84,7 @@ module _ (t : MomentValue) where
       by_test false e =
           let both = neither (is_before_epoch t) (is_before_epoch until) e in
           subst (λ (w : Given). IsWholeFor w (whole.Stored (record { bytes = body; meta = meta }))) (sym (judged-kept meta body))
-          (refl, record { fresh_until = since until both.1; created = since t both.0; updated = since t both.0; epoch_override = tt; provenance = since t both.0 }, refl)
+          (refl, record { fresh_until = since until both.1; created = since t both.0; updated = since t both.0; epoch_override = tt; provenance = since t both.0 })
 
   pub whole-for : (p : Parsed) → IsWholeFor (cache.whole_by None (kept_by t) p) (whole_by t p)
   whole-for (parsed.Complete response) =

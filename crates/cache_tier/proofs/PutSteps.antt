@@ -51,7 +51,7 @@ module _ (s : State) (st : Stream) (t : MomentValue) (key : CacheKeyValue) (piec
   IsOutcome w o = MatchResult o (IsPutAnswer s (body_in w) (Some w)) (λ f. ((f ≡ fault.Memory nothing_done) × PutTakes s (body_in w) (Some w)) ⊎ IsPutFault s (body_in w) (Some w) f)
 
   abbrev then_is : Whole → Outcome → State
-  then_is w (Ok a) = after_put s (body_in w) a
+  then_is w (Ok a) = after_put s (Some s.shelf.writes) (body_in w) a
   then_is w (Err f) = undone s (body_in w) (done_of f)
 
   -- what is reported of a response that gives that, by whether a write began
@@ -102,7 +102,7 @@ module _ (s : State) (st : Stream) (t : MomentValue) (key : CacheKeyValue) (piec
       abbrev pub counted : State
       counted = record s { shelf = record s.shelf { writes = s.shelf.writes + 1 } }
 
-      pub Steps-stored : s.shelf.writes ≢ 2 ^ 64 - 1 → (o : Outcome) (new : State) (rest : Stream) → StoresOver counted st b o new rest → Steps o new rest
+      pub Steps-stored : s.shelf.writes ≢ 2 ^ 64 - 1 → (o : Outcome) (new : State) (rest : Stream) → StoresOver counted st s.shelf.writes b o new rest → Steps o new rest
       Steps-stored number (Ok (Finished size es)) new rest h =
           steps_of (whole.Stored body) is true (Ok (Finished size es)) new rest (record { outcome = h.allowed; begins = (refl, number); after = h.after; drawn = h.drawn })
       Steps-stored number (Ok _) new rest h = absurd h.allowed

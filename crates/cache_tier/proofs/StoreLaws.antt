@@ -1,6 +1,7 @@
 -- What the storing of a body leaves: its evictions, and its taking back.
 use Rattle.std.proofs.Common.{◌≡◌, ◌≢◌, ℕ, ◌<◌, ◌^◌, Bool, true, false, List, [], ◌∷◌, refl, ap, sym, ◌∙◌, Some, None, Option, Err, inl, inr, subst, cond, length}
 use Rattle.std.specs.Prelude.{◌⊎◌, ◌||◌, not, is_some, Ok, MatchResult}
+use Rattle.std.specs.FinMap.{get}
 use Rattle.std.specs.Global.{Vec}
 use Rattle.rand_core.specs.Stream.{Stream}
 use Rattle.cache_entries.specs.Keys.{same_bytes}
@@ -19,31 +20,31 @@ use Rattle.tier_model.specs.declared.event.TierFault.{TierFault}
 use Rattle.tier_model.specs.declared.event.TierFault.TheVariants.{Memory, TooHeavy, TooLong, NumbersSpent}
 use Rattle.tier_model.specs.Calls.{Outcome, done_of, evicted_by}
 use Rattle.tier_model.specs.Evictions.{all_gone, GoInTurn}
-use Rattle.tier_model.specs.Rows.{Bodies, FinishedBody, body_of, with_body, without_body, without_bodies, weight_for}
+use Rattle.tier_model.specs.Rows.{Bodies, FinishedBody, with_body, without_body, without_bodies, weight_for}
 use Rattle.tier_model.specs.Shelf as shelf
 use Rattle.tier_model.specs.Shelf.{Shelf, stored, removed}
 use Rattle.tier_model.specs.State.{State, shards_of}
 use Rattle.tier_model.specs.Answers.{admitted, IsStored, IsKeptOut, IsStoreFault, stored_alone, all_done}
 use Rattle.tier_model.specs.After.{after_put, until, taken_back}
-use Rattle.tier_model.proofs.BodyLaws.{has_key, body_of-with, body_of-without, body_of-without_all}
+use Rattle.tier_model.proofs.BodyLaws.{has_key, held-with, held-without, held-without_all}
 use Rattle.tier_model.proofs.OpenLaws.{kept_out-done}
 use Rattle.tier_requests.specs.Faults.{fault_for}
 use Rattle.tier_requests.proofs.ShelfLaws.{same-bodies}
 use Rattle.cache_tier.proofs.ShardLaws.{kept-put, kept-out, put-there, Went, evicts-went}
 
--- the state after the storing of a body
-abbrev pub after_store : State → FinishedBody → Outcome → State
-after_store s b (Ok a) = after_put s (Some b) a
-after_store s b (Err f) = taken_back (done_of f).stored s b (done_of f)
+-- the state after the storing of a body as the write of that number
+abbrev pub after_store : State → ℕ → FinishedBody → Outcome → State
+after_store s m b (Ok a) = after_put s (Some m) (Some b) a
+after_store s m b (Err f) = taken_back (done_of f).stored s b (done_of f)
 
 -- what was evicted was drawn by the words from s to rest
 abbrev pub DrawsFor : State → FinishedBody → Outcome → Stream → Stream → Type 0
 DrawsFor old b outcome s rest = (left : Managed) × Evicts (pick_by_draws (shards_of old)) (admitted old b) (evicted_by outcome) s left rest
 
 -- a body was stored over a state, or was taken back, and with it the words from s to rest were taken
-pub record StoresOver (old : State) (s : Stream) (b : FinishedBody) (outcome : Outcome) (new : State) (rest : Stream) : Type 0 where
+pub record StoresOver (old : State) (s : Stream) (m : ℕ) (b : FinishedBody) (outcome : Outcome) (new : State) (rest : Stream) : Type 0 where
   pub allowed : MatchResult outcome (IsStored old b) (IsStoreFault old b)
-  pub after : new ≡ after_store old b outcome
+  pub after : new ≡ after_store old m b outcome
   pub drawn : DrawsFor old b outcome s rest
 
 -- what the manager evicted after the admission of a body, and left
@@ -168,18 +169,18 @@ both_gone true w o p = refl
 both_gone false w o p = refl
 
 -- a body that was put and taken back leaves what was there, without what went
-back-same : (b : FinishedBody) (es : List CacheEntryKey) (bodies : Bodies) → without_body (stored_key b.entry) (without_bodies es (with_body b bodies)) ≡ without_body (stored_key b.entry) (without_bodies es bodies)
-back-same b es bodies =
-    same-bodies (without_body (stored_key b.entry) (without_bodies es (with_body b bodies))) (without_body (stored_key b.entry) (without_bodies es bodies))
-    (λ k. body_of-without k (stored_key b.entry) (without_bodies es (with_body b bodies))
-    ∙ ap (cond (same_bytes (stored_key b.entry) k) None) (body_of-without_all k es (with_body b bodies) ∙ ap (cond (has_key k es) None) (body_of-with k b bodies))
-    ∙ both_gone (same_bytes (stored_key b.entry) k) (has_key k es) (body_of k bodies) (Some b.body)
-    ∙ sym (body_of-without k (stored_key b.entry) (without_bodies es bodies) ∙ ap (cond (same_bytes (stored_key b.entry) k) None) (body_of-without_all k es bodies)))
+back-same : (m : ℕ) (b : FinishedBody) (es : List CacheEntryKey) (bodies : Bodies) → without_body (stored_key b.entry) (without_bodies es (with_body m b bodies)) ≡ without_body (stored_key b.entry) (without_bodies es bodies)
+back-same m b es bodies =
+    same-bodies (without_body (stored_key b.entry) (without_bodies es (with_body m b bodies))) (without_body (stored_key b.entry) (without_bodies es bodies))
+    (λ k. held-without k (stored_key b.entry) (without_bodies es (with_body m b bodies))
+    ∙ ap (cond (same_bytes (stored_key b.entry) k) None) (held-without_all k es (with_body m b bodies) ∙ ap (cond (has_key k es) None) (held-with k m b bodies))
+    ∙ both_gone (same_bytes (stored_key b.entry) k) (has_key k es) (get bodies k) (Some (record { number = m; body = b.body }))
+    ∙ sym (held-without k (stored_key b.entry) (without_bodies es bodies) ∙ ap (cond (same_bytes (stored_key b.entry) k) None) (held-without_all k es bodies)))
 
-module _ (s : State) (b : FinishedBody) (st : Stream) where
+module _ (s : State) (m : ℕ) (b : FinishedBody) (st : Stream) where
   -- with the body in its place
   abbrev pub put_in : State
-  put_in = record s { shelf = stored b s.shelf }
+  put_in = record s { shelf = stored m b s.shelf }
 
   stored_by : (f : TierFault) → IsStoreFault s b f → (done_of f).stored ≡ true
   stored_by f p = elim p [ inl out ↦ ap (λ (d : Done). d.stored) (kept_out-done s (alone b.entry) (weight_for b.body) stored_alone f out) | inr cut ↦ ap (λ (x : TierFault). (done_of x).stored) cut.1 ]
@@ -189,24 +190,24 @@ module _ (s : State) (b : FinishedBody) (st : Stream) where
   until_same false = refl
 
   -- and taken back
-  pub stores-refused : (f : TierFault) (new : State) (rest : Stream) → IsRefusedPut put_in b f new st rest → StoresOver s st b (Err f) new rest
+  pub stores-refused : (f : TierFault) (new : State) (rest : Stream) → IsRefusedPut put_in b f new st rest → StoresOver s st m b (Err f) new rest
   stores-refused f new rest h = record {
     allowed = h.allowed;
     after = h.after
-        ∙ ap (λ (m : Managed). record s { shelf = removed (stored_key b.entry) (shelf.cleared (done_of f).evicted (stored b s.shelf)); managed = taken_out (shards_of s) (alone b.entry) (all_gone (shards_of s) (done_of f).evicted m) }) (until_same (done_of f).admitted)
+        ∙ ap (λ (left : Managed). record s { shelf = removed (stored_key b.entry) (shelf.cleared (done_of f).evicted (stored m b s.shelf)); managed = taken_out (shards_of s) (alone b.entry) (all_gone (shards_of s) (done_of f).evicted left) }) (until_same (done_of f).admitted)
         ∙ ap (λ (x : Bodies). record s {
           shelf = record (removed (stored_key b.entry) (shelf.cleared (done_of f).evicted s.shelf)) { bodies = x };
           managed = taken_out (shards_of s) (alone b.entry) (all_gone (shards_of s) (done_of f).evicted (until (done_of f).admitted s b));
-        }) (back-same b (done_of f).evicted s.shelf.bodies)
+        }) (back-same m b (done_of f).evicted s.shelf.bodies)
         ∙ ap (λ (v : Bool). taken_back v s b (done_of f)) (sym (stored_by f h.allowed));
     drawn = h.drawn;
   }
 
   -- stored, with these evictions
-  pub stores-kept : (size : ℕ) (es : List CacheEntryKey) (new : State) (rest : Stream) (n : ℕ) (m : Managed) → size ≡ length b.body.bytes → HasEvicted n s b false es m st rest
-      → new ≡ record s { shelf = shelf.cleared es (stored b s.shelf); managed = m } → StoresOver s st b (Ok (Finished size es)) new rest
-  stores-kept size es new rest n m sized h is = record {
+  pub stores-kept : (size : ℕ) (es : List CacheEntryKey) (new : State) (rest : Stream) (n : ℕ) (left : Managed) → size ≡ length b.body.bytes → HasEvicted n s b false es left st rest
+      → new ≡ record s { shelf = shelf.cleared es (stored m b s.shelf); managed = left } → StoresOver s st m b (Ok (Finished size es)) new rest
+  stores-kept size es new rest n left sized h is = record {
     allowed = (sized, h.fits, h.turns);
-    after = is ∙ ap (λ (x : Managed). record s { shelf = shelf.cleared es (stored b s.shelf); managed = x }) h.left;
-    drawn = (m, h.drawn);
+    after = is ∙ ap (λ (x : Managed). record s { shelf = shelf.cleared es (stored m b s.shelf); managed = x }) h.left;
+    drawn = (left, h.drawn);
   }

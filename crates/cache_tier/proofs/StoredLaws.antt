@@ -18,32 +18,34 @@ use Rattle.cache_store.specs.Wholes.{Stores, GivenUp, whole_of}
 use Rattle.cache_store.specs.declared.storage.PurgeOutcome.{PurgeOutcome}
 use Rattle.cache_parts.specs.Stored.{Purged, Removed}
 use Rattle.mem_cache.specs.Misses.{are_numbers_spent}
-use Rattle.tier_model.specs.declared.state.Body.{Body}
 use Rattle.tier_model.specs.Calls.{writes_after}
-use Rattle.tier_model.specs.Rows.{FinishedBody, body_of, with_body, without_key}
+use Rattle.tier_model.specs.Rows.{Numbered, FinishedBody, with_body, without_key}
 use Rattle.tier_model.specs.Shelf as shelf
 use Rattle.tier_model.specs.Shelf.{InFlight, Readers, Shelf, marked, landed, stored, removed, cleared}
-use Rattle.tier_model.proofs.BodyLaws.{body_at-with, body_of-with}
-use Rattle.tier_requests.specs.Shelves.{own_meta, found_in, bodies_in, flight_of, shelf_of}
+use Rattle.tier_model.proofs.BodyLaws.{body_at-with, held-with}
+use Rattle.tier_requests.specs.Shelves.{found_in, bodies_in, flight_of, shelf_of}
 use Rattle.tier_requests.proofs.FlightLaws.{flights-agree, flights-landed}
 use Rattle.tier_requests.proofs.ReadingLaws.{Table, table_of, table-left}
 use Rattle.tier_requests.proofs.ShelfLaws.{same-bodies, body-found, agreed, shelf-left, shelf-removed}
 
 -- ---- a body in the place of what its key had
 
-module _ (b : FinishedBody) (x : Stored CacheMeta) (key : x.write.key ≡ stored_key b.entry) (is : found_in x ≡ b.body) where
-  put_body : (k : StoredKey) (s : Store CacheMeta) → option_map found_in (body_at k (record s { bodies = store.with_body (Some x) s.bodies })) ≡ cond (same_bytes (stored_key b.entry) k) (Some b.body) (body_of k (bodies_in s.bodies))
+abbrev pub held_as : ℕ → FinishedBody → Numbered
+held_as n b = record { number = n; body = b.body }
+
+module _ (n : ℕ) (b : FinishedBody) (x : Stored CacheMeta) (key : x.write.key ≡ stored_key b.entry) (is : found_in x ≡ held_as n b) where
+  put_body : (k : StoredKey) (s : Store CacheMeta) → option_map found_in (body_at k (record s { bodies = store.with_body (Some x) s.bodies })) ≡ cond (same_bytes (stored_key b.entry) k) (Some (held_as n b)) (get (bodies_in s.bodies) k)
   put_body k s =
-      ap (option_map found_in) (body_at-with k x s.bodies) ∙ by_test (is_of k x) ∙ ap (λ (j : StoredKey). cond (same_bytes j k) (Some b.body) (option_map found_in (body_at k s))) key
-      ∙ ap (cond (same_bytes (stored_key b.entry) k) (Some b.body)) (sym (body-found k s))
+      ap (option_map found_in) (body_at-with k x s.bodies) ∙ by_test (is_of k x) ∙ ap (λ (j : StoredKey). cond (same_bytes j k) (Some (held_as n b)) (option_map found_in (body_at k s))) key
+      ∙ ap (cond (same_bytes (stored_key b.entry) k) (Some (held_as n b))) (sym (body-found k s))
     where
-      by_test : (t : Bool) → option_map found_in (cond t (Some x) (body_at k s)) ≡ cond t (Some b.body) (option_map found_in (body_at k s))
-      by_test true = ap (λ (y : Body). Some y) is
+      by_test : (t : Bool) → option_map found_in (cond t (Some x) (body_at k s)) ≡ cond t (Some (held_as n b)) (option_map found_in (body_at k s))
+      by_test true = ap (λ (y : Numbered). Some y) is
       by_test false = refl
 
-  put-bodies : (s t : Store CacheMeta) (fs : List (store.Flying CacheMeta)) → Agree t (record { bodies = store.with_body (Some x) s.bodies; flying = fs }) → bodies_in t.bodies ≡ with_body b (bodies_in s.bodies)
-  put-bodies s t fs agree = same-bodies (bodies_in t.bodies) (with_body b (bodies_in s.bodies))
-      (λ k. body-found k t ∙ agreed t (record { bodies = store.with_body (Some x) s.bodies; flying = fs }) agree k ∙ put_body k s ∙ sym (body_of-with k b (bodies_in s.bodies)))
+  put-bodies : (s t : Store CacheMeta) (fs : List (store.Flying CacheMeta)) → Agree t (record { bodies = store.with_body (Some x) s.bodies; flying = fs }) → bodies_in t.bodies ≡ with_body n b (bodies_in s.bodies)
+  put-bodies s t fs agree = same-bodies (bodies_in t.bodies) (with_body n b (bodies_in s.bodies))
+      (λ k. body-found k t ∙ agreed t (record { bodies = store.with_body (Some x) s.bodies; flying = fs }) agree k ∙ put_body k s ∙ sym (held-with k n b (bodies_in s.bodies)))
 
 -- ---- a body that is stored whole
 
@@ -52,12 +54,12 @@ no-readers : (n : ℕ) (bytes : List ℕ) (h : Held) → get (shelf_of h).reader
 no-readers n bytes h none = table-left n bytes h.readings ∙ ap (λ (o : Option Readers). shelf.left_with n bytes o (table_of h.readings)) none
 
 -- under a number that has no readers
-pub shelf-whole : (spent : Bool) (b : FinishedBody) (h0 h : Held) → Stores spent (stored_key b.entry) b.body.meta b.body.bytes h0 h → own_meta b.body.meta ≡ b.body.meta → get (shelf_of h0).readers h0.next ≡ None
-    → shelf_of h ≡ stored b (record (shelf_of h0) { writes = h0.next + 1 })
-shelf-whole spent b h0 h s own none = λ i. record { bodies = bodies i; flying = flying i; readers = readers i; writes = s.next i }
+pub shelf-whole : (spent : Bool) (b : FinishedBody) (h0 h : Held) → Stores spent (stored_key b.entry) b.body.meta b.body.bytes h0 h → get (shelf_of h0).readers h0.next ≡ None
+    → shelf_of h ≡ stored h0.next b (record (shelf_of h0) { writes = h0.next + 1 })
+shelf-whole spent b h0 h s none = λ i. record { bodies = bodies i; flying = flying i; readers = readers i; writes = s.next i }
   where
-    bodies : bodies_in h.store.bodies ≡ with_body b (bodies_in h0.store.bodies)
-    bodies = put-bodies b (whole_of (stored_key b.entry) b.body.meta b.body.bytes h0) refl (ap (λ (m : CacheMeta). record { bytes = b.body.bytes; meta = m }) own) h0.store h.store h0.store.flying s.store
+    bodies : bodies_in h.store.bodies ≡ with_body h0.next b (bodies_in h0.store.bodies)
+    bodies = put-bodies h0.next b (whole_of (stored_key b.entry) b.body.meta b.body.bytes h0) refl refl h0.store h.store h0.store.flying s.store
 
     flying : map flight_of h.store.flying ≡ map flight_of h0.store.flying
     flying = flights-agree h.store.flying h0.store.flying s.store.flying
@@ -67,8 +69,8 @@ shelf-whole spent b h0 h s own none = λ i. record { bodies = bodies i; flying =
 
 -- ---- a write that is finished
 
-pub shelf-finished : (n : ℕ) (b : FinishedBody) (x : Stored CacheMeta) (h0 h : Held) → IsFinished n x h0 h → x.write.key ≡ stored_key b.entry → found_in x ≡ b.body
-    → shelf_of h ≡ stored b (landed n (shelf_of h0))
+pub shelf-finished : (n : ℕ) (b : FinishedBody) (x : Stored CacheMeta) (h0 h : Held) → IsFinished n x h0 h → x.write.key ≡ stored_key b.entry → found_in x ≡ held_as n b
+    → shelf_of h ≡ stored n b (landed n (shelf_of h0))
 shelf-finished n b x h0 h f key is = λ i. record { bodies = bodies i; flying = flying i; readers = readers i; writes = f.next i }
   where
     fs : List (store.Flying CacheMeta)
@@ -77,8 +79,8 @@ shelf-finished n b x h0 h f key is = λ i. record { bodies = bodies i; flying = 
     agree : Agree h.store (record { bodies = store.with_body (Some x) h0.store.bodies; flying = fs })
     agree = subst (λ (o : Option (Stored CacheMeta)). Agree h.store (record { bodies = store.with_body o h0.store.bodies; flying = fs })) f.shown (f.store (record x.write { number = n }) refl)
 
-    bodies : bodies_in h.store.bodies ≡ with_body b (bodies_in h0.store.bodies)
-    bodies = put-bodies b x key is h0.store h.store fs agree
+    bodies : bodies_in h.store.bodies ≡ with_body n b (bodies_in h0.store.bodies)
+    bodies = put-bodies n b x key is h0.store h.store fs agree
 
     flying : map flight_of h.store.flying ≡ (landed n (shelf_of h0)).flying
     flying = flights-agree h.store.flying fs agree.flying ∙ flights-landed n h0.store.flying

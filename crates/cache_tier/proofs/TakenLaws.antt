@@ -40,7 +40,7 @@ use Rattle.tier_model.specs.Shelf as shelf
 use Rattle.tier_model.specs.State.{State}
 use Rattle.tier_model.specs.Step.{BeginsWrite}
 use Rattle.tier_requests.specs.Faults.{fault_for}
-use Rattle.tier_requests.specs.Shelves.{own_meta, shelf_of, IsBelow}
+use Rattle.tier_requests.specs.Shelves.{shelf_of, IsBelow}
 use Rattle.tier_requests.proofs.BelowLaws.{below-counted}
 use Rattle.cache_tier.specs.Puts.{answer_as, kept_by, IsToldAs, IsTellable, IsToldOf}
 use Rattle.cache_tier.proofs.PutLaws.{IsWholeFor, whole-for, told-tellable, nothing-was, told-so}
@@ -111,7 +111,7 @@ module _ (n : ℕ) (s : State) (t : MomentValue) (key : CacheKeyValue) (pieces :
 
     -- ---- a body that may be kept
 
-    module _ (meta : CacheMeta) (body : List ℕ) (own : own_meta meta ≡ meta) (is : whole_of t r ≡ whole.Stored (record { bytes = body; meta = meta })) where
+    module _ (meta : CacheMeta) (body : List ℕ) (is : whole_of t r ≡ whole.Stored (record { bytes = body; meta = meta })) where
       abbrev b : FinishedBody
       b = record { entry = entry_of key; body = record { bytes = body; meta = meta } }
 
@@ -154,11 +154,11 @@ module _ (n : ℕ) (s : State) (t : MomentValue) (key : CacheKeyValue) (pieces :
       abbrev over : State
       over = counted old c0.words t key pieces r reads (record { bytes = body; meta = meta }) is
 
-      module _ (mid : Held) (shelved : shelf_of mid ≡ shelf.stored b over.shelf) (number : c0.store.next ≢ 2 ^ 64 - 1) where
-        over_below : (o : Outcome) (c : Cache Held) → IsKept n over b kept c0.words mid shelved o c → IsBelow (shelf_of c.store)
-        over_below o c k = subst (λ (x : State). IsBelow x.shelf) (sym k.stores.after) (below-store over b o (below-counted (shelf_of c0.store) below))
+      module _ (mid : Held) (shelved : shelf_of mid ≡ shelf.stored c0.store.next b over.shelf) (number : c0.store.next ≢ 2 ^ 64 - 1) where
+        over_below : (o : Outcome) (c : Cache Held) → IsKept n over c0.store.next b kept c0.words mid shelved o c → IsBelow (shelf_of c.store)
+        over_below o c k = subst (λ (x : State). IsBelow x.shelf) (sym k.stores.after) (below-store over c0.store.next b o (below-counted (shelf_of c0.store) below))
 
-        taken_so : (res : Result PutOutcome PutFault) (o : Outcome) (c : Cache Held) → IfErr res IsTellable → ((x : Outcome) → IsToldOf res x → x ≡ o) → IsKept n over b kept c0.words mid shelved o c → IsTaken res c
+        taken_so : (res : Result PutOutcome PutFault) (o : Outcome) (c : Cache Held) → IfErr res IsTellable → ((x : Outcome) → IsToldOf res x → x ≡ o) → IsKept n over c0.store.next b kept c0.words mid shelved o c → IsTaken res c
         taken_so res o c tellable same k = record {
           sharded = k.sharded;
           under = over_below o c k;
@@ -170,32 +170,32 @@ module _ (n : ℕ) (s : State) (t : MomentValue) (key : CacheKeyValue) (pieces :
         admitted : (size : ℕ) (evicted : Vec CacheEntryKey) (c : Cache Held) → size ≡ length body
             → IsAdmitted (rules n) (Created (length body)) (alone (entry_of key)) evicted.items (record c0 { store = mid }) c → IsTaken (Ok (Stored size evicted)) c
         admitted size evicted c sized a =
-            taken_so (Ok (Stored size evicted)) (Ok (answer.Finished size evicted.items)) c tt (λ x told. told) (kept-admitted n over b kept c0.words mid shelved size evicted.items c sized a)
+            taken_so (Ok (Stored size evicted)) (Ok (answer.Finished size evicted.items)) c tt (λ x told. told) (kept-admitted n over c0.store.next b kept c0.words mid shelved size evicted.items c sized a)
 
         taken_back : (fault : PutFault) (c : Cache Held) → IsTakenBack (rules n) (Created (length body)) (alone (entry_of key)) fault (record c0 { store = mid }) c → IsTaken (Err fault) c
         taken_back fault c back =
             let was : Bool = was_admitted n (alone b.entry) back.cause back.left in
             let f : TierFault = fault_for back.cause (record { stored = true; admitted = was; evicted = evicted_of back.cause }) in
             taken_so (Err fault) (Err f) c (told-tellable was back.cause fault back.told) (λ x told. told.1 ∙ ap (λ (g : TierFault). Err g) (told-so was back.cause fault told.0 back.told told.2))
-            (kept-back n over b kept c0.words mid shelved IsTold fault f c back refl)
+            (kept-back n over c0.store.next b kept c0.words mid shelved IsTold fault f c back refl)
 
       put_kept : (res : Result PutOutcome PutFault) (c : Cache Held) → IsWritable meta.internal → IsPut (rules n) (key_of key) meta body res c0 c → IsTaken res c
       put_kept (Ok (Stored size evicted)) c written p =
           let so = p.1 in
-          admitted so.0 (shelf-whole (are_numbers_spent c0.store) b c0.store so.0 so.2 own new_readers) (some-left c0.store.next so.2.numbered) size evicted c p.0 so.3
+          admitted so.0 (shelf-whole (are_numbers_spent c0.store) b c0.store so.0 so.2 new_readers) (some-left c0.store.next so.2.numbered) size evicted c p.0 so.3
       put_kept (Ok (Uncacheable reason)) c written p = absurd p
       put_kept (Err fault) c written p = elim p [
         | inl out ↦ ran_out fault c out
         | inr late ↦ elim late [
           | inl spent ↦ refused fault c written spent
-          | inr so ↦ taken_back so.0 (shelf-whole (are_numbers_spent c0.store) b c0.store so.0 so.2 own new_readers) (some-left c0.store.next so.2.numbered) fault c so.3
+          | inr so ↦ taken_back so.0 (shelf-whole (are_numbers_spent c0.store) b c0.store so.0 so.2 new_readers) (some-left c0.store.next so.2.numbered) fault c so.3
         ]
       ]
 
     -- ---- all of them
 
     by_whole : (w : Given) → IsWholeFor w (whole_of t r) → (res : Result PutOutcome PutFault) (c : Cache Held) → IsOutcome (rules n) (key_of key) w res c0 c → IsTaken res c
-    by_whole (given.Cacheable meta body) is res c p = put_kept meta body is.2 is.0 res c is.1 p
+    by_whole (given.Cacheable meta body) is res c p = put_kept meta body is.0 res c is.1 p
     by_whole (given.Uncacheable reason) is res c p = subst (λ (x : Result PutOutcome PutFault). IsTaken x c) (sym p.0) (left_so (Ok (Uncacheable reason)) c p.1 (not_kept reason is))
     by_whole given.TooLarge is res c p = absurd is
     by_whole given.Incomplete is res c p = subst (λ (x : Result PutOutcome PutFault). IsTaken x c) (sym p.0) (left_so (Err put.Incomplete) c p.1 (incomplete is))

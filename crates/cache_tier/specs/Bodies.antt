@@ -16,12 +16,12 @@ abbrev pub is_purged : PurgeOutcome → Bool
 is_purged (Purged id) = true
 is_purged _ = false
 
--- the store shows the bodies that a history has, one a key: each under its key with its bytes and the meta that was stored, but for its
--- provenance. Its writes in flight are those that the history has in flight, each as the history says, in the order in which they
+-- the store shows the bodies that a history has, one a key: each under its key with its number, its bytes and the meta that was stored.
+-- Its writes in flight are those that the history has in flight, each as the history says, in the order in which they
 -- began. As many writes began as the history says
 pub record ShowsBodies (h : Held) (start : Opening) (past : History) : Type 0 where
   pub bodies : (k : StoredKey) (w : Write Kept) → IsBody k w (changes_of start past)
-      → option_map found_in (body_at k h.store) ≡ Some (told_of (changes_of start past) w)
+      → option_map found_in (body_at k h.store) ≡ Some (record { number = w.number; body = told_of (changes_of start past) w })
   pub others : (k : StoredKey) (x : Stored CacheMeta) → body_at k h.store ≡ Some x → (w : Write Kept) × IsBody k w (changes_of start past)
   pub flights : map flight_of h.store.flying ≡ map plain (store_of (changes_of start past)).flying
   pub writes : h.next ≡ writes_begun start past

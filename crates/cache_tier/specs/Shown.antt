@@ -7,4 +7,4 @@ use Rattle.tier_model.specs.Shelf.{Look, absent, in_flight, finished}
 abbrev pub meta_found : Look → Option CacheMeta
 meta_found absent = None
 meta_found (in_flight f) = Some f.meta
-meta_found (finished b) = Some b.meta
+meta_found (finished x) = Some x.body.meta

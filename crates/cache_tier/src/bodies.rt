@@ -53,7 +53,7 @@ pub(crate) fn count<S: BuildHasher>(store: &MemCache<S>) -> u64
 
 // The bytes of all bodies, counted up to 2^64 - 1.
 pub(crate) fn all_bytes<S: BuildHasher>(store: &MemCache<S>) -> u64
-    ensures { result ≡ counted 0 (sum_by (λ b. length b.bytes) (values (bodies_in store.now.store.bodies))) }
+    ensures { result ≡ counted 0 (sum_by (λ x. length x.body.bytes) (values (bodies_in store.now.store.bodies))) }
 {
     // No key has two bodies.
     let _count = store.finished_len();

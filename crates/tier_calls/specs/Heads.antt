@@ -1,5 +1,5 @@
 -- The head that is shown, and its lines.
-use Rattle.std.specs.Prelude.{◌≡◌, ◌⊎◌, ℕ, List, [], length, slice_get, Option, Some, None, option_map, IsSome}
+use Rattle.std.specs.Prelude.{◌≡◌, ◌⊎◌, ℕ, List, [], length, slice_get, Option, Some, None, IsSome}
 use Rattle.http_header.specs.HeaderMap.{pairs, value_count}
 use Rattle.http_header.specs.declared.value.HeaderValue.{HeaderValue}
 use Rattle.cache_words.specs.Key.{CacheKeyValue}
@@ -7,7 +7,6 @@ use Rattle.cache_heads.specs.declared.meta.CacheMeta.{CacheMeta}
 use Rattle.tier_model.specs.Keys.{stored_key_of}
 use Rattle.tier_model.specs.Shelf.{look}
 use Rattle.tier_model.specs.State.{State}
-use Rattle.tier_requests.specs.Shelves.{own_meta}
 use Rattle.cache_tier.specs.Shown.{meta_found}
 use Rattle.tier_calls.specs.Answered.{plain}
 use Rattle.tier_calls.specs.Events.{key_in}
@@ -19,9 +18,9 @@ use Rattle.tier_calls.specs.declared.held.HeadLine.{HeadLine}
 abbrev pub meta_for : State → CacheKeyValue → Option CacheMeta
 meta_for s key = meta_found (look (stored_key_of key) s.shelf)
 
--- the meta is that of what is found, but for its provenance, of which a tier's state has nothing; none where nothing is found
+-- the meta is that of what is found; none where nothing is found
 abbrev pub IsMetaOf : State → CacheKeyValue → Option CacheMeta → Type 0
-IsMetaOf s key meta = option_map own_meta meta ≡ meta_for s key
+IsMetaOf s key meta = meta ≡ meta_for s key
 
 -- the head of what a look-up of the key finds is shown: its status and the count of its lines are told
 abbrev pub ShowsHead : Held → State → ℕ → Held → Type 0

@@ -38,20 +38,20 @@ module _ (in_use : Entry → Bool) (apart : AreApart in_use) where
   own-last (x ∷ front) r h = own-last front r h.1
 
   -- a body is stored under an entry that is put first
-  pub agrees-put : (weight : CacheEntryKey → ℕ) (b : FinishedBody) (rows : List Tracked) (bodies : Bodies) → in_use b.entry ≡ true → Agrees in_use rows bodies
-      → Agrees in_use (put_first weight (alone b.entry) rows) (with_body b bodies)
-  agrees-put weight b rows bodies u a = record {
+  pub agrees-put : (weight : CacheEntryKey → ℕ) (n : ℕ) (b : FinishedBody) (rows : List Tracked) (bodies : Bodies) → in_use b.entry ≡ true → Agrees in_use rows bodies
+      → Agrees in_use (put_first weight (alone b.entry) rows) (with_body n b bodies)
+  agrees-put weight n b rows bodies u a = record {
     both = λ j uj. by_test j uj (same_entry (alone b.entry) (alone j)) refl;
     own = ((b.entry, u, refl), own-without (alone b.entry) rows a.own);
   }
     where
       by_test : (j : Entry) → in_use j ≡ true → (t : Bool) → same_entry (alone b.entry) (alone j) ≡ t
-          → is_some (body_of (stored_key j) (with_body b bodies)) ≡ has_row (alone j) (put_first weight (alone b.entry) rows)
+          → is_some (body_of (stored_key j) (with_body n b bodies)) ≡ has_row (alone j) (put_first weight (alone b.entry) rows)
       by_test j uj true t =
-          ap (λ (o : Option Body). is_some o) (body_of-with in_use apart b j u uj bodies ∙ ap (λ v. cond v (Some b.body) (body_of (stored_key j) bodies)) t)
+          ap (λ (o : Option Body). is_some o) (body_of-with in_use apart n b j u uj bodies ∙ ap (λ v. cond v (Some b.body) (body_of (stored_key j) bodies)) t)
           ∙ sym (has-here (alone j) (row_for weight (alone b.entry)) (without_row (alone b.entry) rows) t)
       by_test j uj false t =
-          ap (λ (o : Option Body). is_some o) (body_of-with in_use apart b j u uj bodies ∙ ap (λ v. cond v (Some b.body) (body_of (stored_key j) bodies)) t) ∙ a.both j uj
+          ap (λ (o : Option Body). is_some o) (body_of-with in_use apart n b j u uj bodies ∙ ap (λ v. cond v (Some b.body) (body_of (stored_key j) bodies)) t) ∙ a.both j uj
           ∙ sym (has-further (alone j) (row_for weight (alone b.entry)) (without_row (alone b.entry) rows) t ∙ has-without (alone j) (alone b.entry) rows t)
 
   -- an entry that has a row is put first

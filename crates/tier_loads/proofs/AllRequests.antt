@@ -1,11 +1,10 @@
 -- What is held after all requests, and what the next one finds.
 use Rattle.std.proofs.Common.{◌≡◌, ℕ, ◌≤◌, Bool, true, List, [], ◌∷◌, Option, refl, ap, sym, ◌∙◌, subst}
-use Rattle.std.specs.Prelude.{◌↔◌, is_some}
+use Rattle.std.specs.Prelude.{◌↔◌, is_some, option_map}
 use Rattle.std.specs.List.{AllByRecursion}
 use Rattle.std.specs.Ordering.{nat_cmp}
 use Rattle.std.specs.Cmp.Lexicographic.{slice_cmp}
 use Rattle.std.specs.FinMap.{empty, get-empty}
-use Rattle.tier_model.specs.declared.state.Body.{Body}
 use Rattle.cache_entries.specs.declared.entry.CacheEntryKey.{CacheEntryKey}
 use Rattle.cache_changes.specs.Changes.{stored_key}
 use Rattle.cache_evict.specs.Managed.{Managed, fresh, rows_at}
@@ -17,7 +16,7 @@ use Rattle.entry_loads.proofs.Places.{places-of, test-of}
 use Rattle.entry_loads.proofs.Fronts.{found-held}
 use Rattle.manager_loads.proofs.InTurn.{front-two}
 use Rattle.tier_model.specs.Keys.{Entry, alone}
-use Rattle.tier_model.specs.Rows.{Bodies, body_of}
+use Rattle.tier_model.specs.Rows.{Numbered, Bodies, body_of}
 use Rattle.tier_loads.specs.Holds.{AreApart, Holds}
 use Rattle.tier_loads.specs.Requests.{PlainRequest, entry_of, steps_of, AreServed}
 use Rattle.tier_loads.specs.Uniform.{IsWeighed, AreUniform}
@@ -25,7 +24,7 @@ use Rattle.tier_loads.proofs.OneRequest.{holds-request}
 
 module _ (in_use : Entry → Bool) (weight : CacheEntryKey → ℕ) where
   holds-empty : (limit : ℕ) (watermark : Option ℕ) → Holds in_use weight limit watermark [] (fresh 1 limit watermark) empty
-  holds-empty limit watermark = record { one = record { shards = refl; limit_is = refl; watermark_is = refl }; agrees = record { both = λ k u. ap (λ (o : Option Body). is_some o) (get-empty (slice_cmp nat_cmp) (stored_key k)); own = tt } }
+  holds-empty limit watermark = record { one = record { shards = refl; limit_is = refl; watermark_is = refl }; agrees = record { both = λ k u. ap (λ (o : Option Numbered). is_some (option_map (λ x. x.body) o)) (get-empty (slice_cmp nat_cmp) (stored_key k)); own = tt } }
 
   module _ (apart : AreApart in_use) (limit : ℕ) (watermark : Option ℕ) where
     all-held : (requests : List PlainRequest) (m : Managed) (bodies : Bodies) → AllByRecursion (λ r. in_use (entry_of r) ≡ true) requests → AllByRecursion (λ r. IsWeighed weight r) requests

@@ -50,16 +50,16 @@ module _ (in_use : Entry → Bool) (apart : AreApart in_use) (weight : CacheEntr
         agrees = subst (λ (l : List Tracked). Agrees in_use l bodies) (sym stays) (agrees-use in_use apart weight k (list before) bodies u there h.agrees);
       }
 
-  pub holds-put : (before : List Step) (m : Managed) (bodies : Bodies) (b : FinishedBody) (es : List CacheEntryKey) → Holds in_use weight limit watermark before m bodies → in_use b.entry ≡ true
+  pub holds-put : (before : List Step) (m : Managed) (bodies : Bodies) (n : ℕ) (b : FinishedBody) (es : List CacheEntryKey) → Holds in_use weight limit watermark before m bodies → in_use b.entry ≡ true
       → weight_for b.body ≡ weight (alone b.entry) → GoInTurn 1 false es (put_first 1 (alone b.entry) (weight_for b.body) m)
-      → Holds in_use weight limit watermark (steps.asks (alone b.entry) ∷ before) (all_gone 1 es (put_first 1 (alone b.entry) (weight_for b.body) m)) (without_bodies es (with_body b bodies))
-  holds-put before m bodies b es h u w g =
+      → Holds in_use weight limit watermark (steps.asks (alone b.entry) ∷ before) (all_gone 1 es (put_first 1 (alone b.entry) (weight_for b.body) m)) (without_bodies es (with_body n b bodies))
+  holds-put before m bodies n b es h u w g =
       let e : CacheEntryKey = alone b.entry in
       let new : Managed = put_first 1 e (weight_for b.body) m in
       let put : IsOne limit watermark (admitted e (weight_for b.body) (list before)) new = changed limit watermark (admitted e (weight_for b.body)) e (list before) m h.one in
       let first : IsOne limit watermark (steps.put_first weight e (list before)) new = subst (λ (v : ℕ). IsOne limit watermark (admitted e v (list before)) new) w put in
-      let left = turns-kept in_use apart limit watermark es (steps.put_first weight e (list before)) new (with_body b bodies) first (distinct-put weight e (list before) (distinct-held weight limit watermark before))
-      (agrees-put in_use apart weight b (list before) bodies u h.agrees) g in
+      let left = turns-kept in_use apart limit watermark es (steps.put_first weight e (list before)) new (with_body n b bodies) first (distinct-put weight e (list before) (distinct-held weight limit watermark before))
+      (agrees-put in_use apart weight n b (list before) bodies u h.agrees) g in
       record { one = left.0; agrees = left.1 }
 
   pub holds-purged : (before : List Step) (m : Managed) (bodies : Bodies) (k : Entry) → Holds in_use weight limit watermark before m bodies → in_use k ≡ true
@@ -80,9 +80,9 @@ module _ (in_use : Entry → Bool) (apart : AreApart in_use) (weight : CacheEntr
   stored : (before : List Step) (b : FinishedBody) (es : List CacheEntryKey) (m new : Managed) (bodies after : Bodies) → Holds in_use weight limit watermark before m bodies → in_use b.entry ≡ true
       → weight_for b.body ≡ weight (alone b.entry) → Stores b es m bodies new after → Holds in_use weight limit watermark (steps.asks (alone b.entry) ∷ before) new after
   stored before b es m new bodies after h u w s =
-      let left = holds-put before m bodies b es h u w s.0 in
+      let left = holds-put before m bodies s.2.0 b es h u w s.0 in
       subst (λ (x : Managed). Holds in_use weight limit watermark (steps.asks (alone b.entry) ∷ before) x after) (sym s.1)
-      (subst (λ (x : Bodies). Holds in_use weight limit watermark (steps.asks (alone b.entry) ∷ before) (all_gone 1 es (put_first 1 (alone b.entry) (weight_for b.body) m)) x) (sym s.2) left)
+      (subst (λ (x : Bodies). Holds in_use weight limit watermark (steps.asks (alone b.entry) ∷ before) (all_gone 1 es (put_first 1 (alone b.entry) (weight_for b.body) m)) x) (sym s.2.1) left)
 
   -- two asks of one entry at once are one
   once : (before : List Step) (e : CacheEntryKey) (m : Managed) (bodies : Bodies) → Holds in_use weight limit watermark (steps.asks e ∷ steps.asks e ∷ before) m bodies

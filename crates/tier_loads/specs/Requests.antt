@@ -28,11 +28,11 @@ abbrev pub steps_of : List PlainRequest → List Step
 steps_of [] = []
 steps_of (r ∷ before) = step_of r ∷ steps_of before
 
--- b is stored and put first, and these are evicted
+-- b is stored, as a write of some number, and put first, and these are evicted
 abbrev pub Stores : FinishedBody → List CacheEntryKey → Managed → Bodies → Managed → Bodies → Type 0
 Stores b es m bodies new after =
     GoInTurn 1 false es (put_first 1 (alone b.entry) (weight_for b.body) m) × (new ≡ all_gone 1 es (put_first 1 (alone b.entry) (weight_for b.body) m))
-    × (after ≡ without_bodies es (with_body b bodies))
+    × ((n : ℕ) × (after ≡ without_bodies es (with_body n b bodies)))
 
 -- what was found is used: it is fresh, or b takes its place
 abbrev pub Uses : FinishedBody → Body → Managed → Bodies → Managed → Bodies → Type 0

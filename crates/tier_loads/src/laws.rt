@@ -21,9 +21,9 @@ pub fn changes_are_steps()
         → AreApart in_use → Holds in_use weight limit watermark steps m bodies → in_use k ≡ true → body_of (stored_key k) bodies ≡ Some b
         → Holds in_use weight limit watermark (asks (alone k) ∷ steps) (use_first 1 (alone k) (weight_for b) m) bodies }
     ensures put { (in_use : Entry → Bool) (weight : CacheEntryKey → ℕ) (limit : ℕ) (watermark : Option ℕ) (steps : List Step) (m : Managed) (bodies : Bodies)
-        → (b : FinishedBody) (es : List CacheEntryKey) → AreApart in_use → Holds in_use weight limit watermark steps m bodies → in_use b.entry ≡ true → weight_for b.body ≡ weight (alone b.entry)
+        → (n : ℕ) (b : FinishedBody) (es : List CacheEntryKey) → AreApart in_use → Holds in_use weight limit watermark steps m bodies → in_use b.entry ≡ true → weight_for b.body ≡ weight (alone b.entry)
         → GoInTurn 1 false es (put_first 1 (alone b.entry) (weight_for b.body) m)
-        → Holds in_use weight limit watermark (asks (alone b.entry) ∷ steps) (all_gone 1 es (put_first 1 (alone b.entry) (weight_for b.body) m)) (without_bodies es (with_body b bodies)) }
+        → Holds in_use weight limit watermark (asks (alone b.entry) ∷ steps) (all_gone 1 es (put_first 1 (alone b.entry) (weight_for b.body) m)) (without_bodies es (with_body n b bodies)) }
     ensures purged { (in_use : Entry → Bool) (weight : CacheEntryKey → ℕ) (limit : ℕ) (watermark : Option ℕ) (steps : List Step) (m : Managed) (bodies : Bodies) (k : Entry)
         → AreApart in_use → Holds in_use weight limit watermark steps m bodies → in_use k ≡ true
         → Holds in_use weight limit watermark (removes (alone k) ∷ steps) (taken_out 1 (alone k) m) (without_body (stored_key k) bodies) }

@@ -1,30 +1,31 @@
 -- Bodies found by key after edits, in a tier's state and in what changes leave of writes.
-use Rattle.std.proofs.Common.{◌≡◌, refl, ap, sym, ◌∙◌, true, false, subst, cond, [], ◌∷◌, ◌||◌}
+use Rattle.std.proofs.Common.{◌≡◌, ℕ, refl, ap, sym, ◌∙◌, true, false, subst, cond, [], ◌∷◌, ◌||◌}
 use Rattle.std.specs.Prelude.{Bool, List, Option, Some, None, option_map, not, find, filter}
 use Rattle.std.specs.Ordering.{nat_cmp, eq_by_cmp}
 use Rattle.std.specs.Cmp.Lexicographic.{slice_cmp, texts_ties, nat_list_cmp_total}
-use Rattle.std.specs.FinMap.{get-insert, get-remove}
+use Rattle.std.specs.FinMap.{get, get-insert, get-remove}
 use Rattle.cache_entries.specs.Keys.{same_bytes}
 use Rattle.cache_changes.specs.Changes.{StoredKey, stored_key, key_alone, is_key}
 use Rattle.cache_changes.specs.Store.{Stored, is_of}
 use Rattle.cache_changes.proofs.RowLaws.{not_true, not_false, find-kept, find-gone}
 use Rattle.cache_entries.specs.declared.entry.CacheEntryKey.{CacheEntryKey}
 use Rattle.cache_entries.specs.SameEntry.{same_bytes-tells, same-sym}
-use Rattle.tier_model.specs.declared.state.Body.{Body}
 use Rattle.tier_model.specs.Histories.{Kept}
-use Rattle.tier_model.specs.Rows.{FinishedBody}
-use Rattle.tier_model.specs.Rows.{Bodies, body_of, with_body, without_body, without_key, without_bodies}
+use Rattle.tier_model.specs.Rows.{Numbered, Bodies, FinishedBody, body_of, with_body, without_body, without_key, without_bodies}
 
 -- keys that tie in the order of their bytes are the same
 pub ties-same : (k j : StoredKey) → eq_by_cmp (slice_cmp nat_cmp) k j ≡ same_bytes j k
 ties-same k j = sym (texts_ties k j) ∙ same-sym same_bytes same_bytes-tells k j
 
 -- in a state
-pub body_of-without : (k j : StoredKey) (bodies : Bodies) → body_of k (without_body j bodies) ≡ cond (same_bytes j k) None (body_of k bodies)
-body_of-without k j bodies = get-remove nat_list_cmp_total bodies j k ∙ ap (λ v. cond v None (body_of k bodies)) (ties-same k j)
+pub held-without : (k j : StoredKey) (bodies : Bodies) → get (without_body j bodies) k ≡ cond (same_bytes j k) None (get bodies k)
+held-without k j bodies = get-remove nat_list_cmp_total bodies j k ∙ ap (λ v. cond v None (get bodies k)) (ties-same k j)
 
-pub body_of-with : (k : StoredKey) (b : FinishedBody) (bodies : Bodies) → body_of k (with_body b bodies) ≡ cond (same_bytes (stored_key b.entry) k) (Some b.body) (body_of k bodies)
-body_of-with k b bodies = get-insert nat_list_cmp_total bodies (stored_key b.entry) b.body k ∙ ap (λ v. cond v (Some b.body) (body_of k bodies)) (ties-same k (stored_key b.entry))
+pub held-with : (k : StoredKey) (n : ℕ) (b : FinishedBody) (bodies : Bodies)
+    → get (with_body n b bodies) k ≡ cond (same_bytes (stored_key b.entry) k) (Some (record { number = n; body = b.body })) (get bodies k)
+held-with k n b bodies =
+    get-insert nat_list_cmp_total bodies (stored_key b.entry) (record { number = n; body = b.body }) k
+    ∙ ap (λ v. cond v (Some (record { number = n; body = b.body })) (get bodies k)) (ties-same k (stored_key b.entry))
 
 either_none : {X : Type 0} (x y : Bool) (o : Option X) → cond y None (cond x None o) ≡ cond (x || y) None o
 either_none true true o = refl
@@ -37,14 +38,33 @@ abbrev pub has_key : StoredKey → List CacheEntryKey → Bool
 has_key k [] = false
 has_key k (e ∷ es) = is_key k (key_alone e) || has_key k es
 
-pub body_of-without_key : (k : StoredKey) (j : Option StoredKey) (bodies : Bodies) → body_of k (without_key j bodies) ≡ cond (is_key k j) None (body_of k bodies)
-body_of-without_key k None bodies = refl
-body_of-without_key k (Some j) bodies = body_of-without k j bodies
+pub held-without_key : (k : StoredKey) (j : Option StoredKey) (bodies : Bodies) → get (without_key j bodies) k ≡ cond (is_key k j) None (get bodies k)
+held-without_key k None bodies = refl
+held-without_key k (Some j) bodies = held-without k j bodies
+
+pub held-without_all : (k : StoredKey) (es : List CacheEntryKey) (bodies : Bodies) → get (without_bodies es bodies) k ≡ cond (has_key k es) None (get bodies k)
+held-without_all k [] bodies = refl
+held-without_all k (e ∷ es) bodies =
+    held-without_all k es (without_key (key_alone e) bodies) ∙ ap (cond (has_key k es) None) (held-without_key k (key_alone e) bodies) ∙ either_none (is_key k (key_alone e)) (has_key k es) (get bodies k)
+
+-- the same of the bodies alone
+alone_none : (v : Bool) (o : Option Numbered) → option_map (λ x. x.body) (cond v None o) ≡ cond v None (option_map (λ x. x.body) o)
+alone_none true o = refl
+alone_none false o = refl
+
+alone_some : (v : Bool) (x : Numbered) (o : Option Numbered) → option_map (λ x. x.body) (cond v (Some x) o) ≡ cond v (Some x.body) (option_map (λ x. x.body) o)
+alone_some true x o = refl
+alone_some false x o = refl
+
+pub body_of-without : (k j : StoredKey) (bodies : Bodies) → body_of k (without_body j bodies) ≡ cond (same_bytes j k) None (body_of k bodies)
+body_of-without k j bodies = ap (option_map (λ (x : Numbered). x.body)) (held-without k j bodies) ∙ alone_none (same_bytes j k) (get bodies k)
+
+pub body_of-with : (k : StoredKey) (n : ℕ) (b : FinishedBody) (bodies : Bodies) → body_of k (with_body n b bodies) ≡ cond (same_bytes (stored_key b.entry) k) (Some b.body) (body_of k bodies)
+body_of-with k n b bodies =
+    ap (option_map (λ (x : Numbered). x.body)) (held-with k n b bodies) ∙ alone_some (same_bytes (stored_key b.entry) k) (record { number = n; body = b.body }) (get bodies k)
 
 pub body_of-without_all : (k : StoredKey) (es : List CacheEntryKey) (bodies : Bodies) → body_of k (without_bodies es bodies) ≡ cond (has_key k es) None (body_of k bodies)
-body_of-without_all k [] bodies = refl
-body_of-without_all k (e ∷ es) bodies =
-    body_of-without_all k es (without_key (key_alone e) bodies) ∙ ap (cond (has_key k es) None) (body_of-without_key k (key_alone e) bodies) ∙ either_none (is_key k (key_alone e)) (has_key k es) (body_of k bodies)
+body_of-without_all k es bodies = ap (option_map (λ (x : Numbered). x.body)) (held-without_all k es bodies) ∙ alone_none (has_key k es) (get bodies k)
 
 -- in what changes leave
 of_key : {M : Type 0} (k : StoredKey) (x : Stored M) → is_of k x ≡ true → x.write.key ≡ k
@@ -70,16 +90,16 @@ body_at-with {M = M} k x xs = by_test (is_of k x) refl
     by_test false e = find-kept (is_of k) (λ y. not (is_of x.write.key y)) xs (λ y t. not_false (is_of x.write.key y) (other e y t))
 
 -- the body that changes leave
-abbrev pub view : Stored Kept → Body
-view x = record { bytes = x.bytes; meta = x.meta.meta }
+abbrev pub view : Stored Kept → Numbered
+view x = record { number = x.write.number; body = record { bytes = x.bytes; meta = x.meta.meta } }
 
-abbrev pub AreSame : Option Body → Option (Stored Kept) → Type 0
+abbrev pub AreSame : Option Numbered → Option (Stored Kept) → Type 0
 AreSame o x = o ≡ option_map view x
 
-pub both_gone : (v : Bool) (o : Option Body) (x : Option (Stored Kept)) → AreSame o x → AreSame (cond v None o) (cond v None x)
+pub both_gone : (v : Bool) (o : Option Numbered) (x : Option (Stored Kept)) → AreSame o x → AreSame (cond v None o) (cond v None x)
 both_gone true o x e = refl
 both_gone false o x e = e
 
-pub both_there : (v : Bool) (b : Body) (y : Stored Kept) (o : Option Body) (x : Option (Stored Kept)) → b ≡ view y → AreSame o x → AreSame (cond v (Some b) o) (cond v (Some y) x)
-both_there true b y o x f e = ap (λ (p : Body). Some p) f
+pub both_there : (v : Bool) (b : Numbered) (y : Stored Kept) (o : Option Numbered) (x : Option (Stored Kept)) → b ≡ view y → AreSame o x → AreSame (cond v (Some b) o) (cond v (Some y) x)
+both_there true b y o x f e = ap (λ (p : Numbered). Some p) f
 both_there false b y o x f e = e

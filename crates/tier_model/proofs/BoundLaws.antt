@@ -144,18 +144,18 @@ module _ (N n : ℕ) (bodies : Bodies) (fs : List InFlight) (m : Managed) (chang
   admitted b = put_first N (alone b.entry) (weight_for b.body) m
 
   -- a body was finished and its entry admitted, by changes that leave the other keys
-  module _ (i : ℕ) (b : FinishedBody) (gs : List InFlight) (now : Changes Kept) (s : Leaves N i (with_body b bodies) gs (admitted b) now) where
+  module _ (i j : ℕ) (b : FinishedBody) (gs : List InFlight) (now : Changes Kept) (s : Leaves N i (with_body j b bodies) gs (admitted b) now) where
     -- and those went that made room for it
     pub leaves-room : (over : Bool) (es : List CacheEntryKey) → GoInTurn N over es (admitted b)
-        → Leaves N i (without_bodies es (with_body b bodies)) (marked_all es gs) (all_gone N es (admitted b)) (extended now (goes es))
-    leaves-room over es h = leaves-gone N i over es (with_body b bodies) gs (admitted b) now h s
+        → Leaves N i (without_bodies es (with_body j b bodies)) (marked_all es gs) (all_gone N es (admitted b)) (extended now (goes es))
+    leaves-room over es h = leaves-gone N i over es (with_body j b bodies) gs (admitted b) now h s
 
     pub keeps-room : (es : List CacheEntryKey) → GoInTurn N false es (admitted b)
-        → Keeps N i (without_bodies es (with_body b bodies)) (marked_all es gs) (all_gone N es (admitted b)) (extended now (goes es))
+        → Keeps N i (without_bodies es (with_body j b bodies)) (marked_all es gs) (all_gone N es (admitted b)) (extended now (goes es))
     keeps-room es h = kept (leaves-room false es h)
       where
-        kept : Leaves N i (without_bodies es (with_body b bodies)) (marked_all es gs) (all_gone N es (admitted b)) (extended now (goes es))
-            → Keeps N i (without_bodies es (with_body b bodies)) (marked_all es gs) (all_gone N es (admitted b)) (extended now (goes es))
+        kept : Leaves N i (without_bodies es (with_body j b bodies)) (marked_all es gs) (all_gone N es (admitted b)) (extended now (goes es))
+            → Keeps N i (without_bodies es (with_body j b bodies)) (marked_all es gs) (all_gone N es (admitted b)) (extended now (goes es))
         kept after = record {
           leaves = after;
           within = bodies-within counts (extended now (goes es)) after.orderly after.tracks after.settled (all_gone N es (admitted b)).limit (all_gone N es (admitted b)).watermark
@@ -180,7 +180,7 @@ module _ (N n : ℕ) (bodies : Bodies) (fs : List InFlight) (m : Managed) (chang
         (extended (extended now (goes es)) (clears b.entry))
     keeps-back other over es h =
         let last : Changes Kept = extended (extended now (goes es)) (clears b.entry) in
-        let after = leaves-back N i b es bodies (marked_all es gs) (all_gone N es (admitted b)) (extended now (goes es)) (leaves-room over es h) in
+        let after = leaves-back N i j b es bodies (marked_all es gs) (all_gone N es (admitted b)) (extended now (goes es)) (leaves-room over es h) in
         let fewer : AreWithin counts m.limit m.watermark last = within_fewer m.limit m.watermark changes last l.leaves.orderly after.orderly (fewer_back other es) l.within in
         let limits = gone-limit N es (admitted b) in
         record {

@@ -1,6 +1,6 @@
 -- What a call does to open requests: to the one that it names, and nothing to the others.
-use Rattle.std.proofs.Common.{◌≡◌, ℕ, refl, ap, sym, ◌∙◌, true, false, cond, [], ◌==◌}
-use Rattle.std.specs.Prelude.{Bool, Option, Some, None, option_map, Ok, Err, ◌&&◌}
+use Rattle.std.proofs.Common.{◌≡◌, ℕ, refl, ap, sym, ◌∙◌, true, false, cond, ◌==◌}
+use Rattle.std.specs.Prelude.{Bool, List, Option, Some, None, option_map, Ok, Err}
 use Rattle.std.specs.FinMap.{FinMap, get, insert, remove, get-insert, get-remove}
 use Rattle.std.specs.Ordering.{nat_cmp}
 use Rattle.std.specs.Cmp.{unsigned_tied}
@@ -8,24 +8,21 @@ use Rattle.std.proofs.lemmas.Cmp.{nat_cmp_total, eq_by_cmp_equiv}
 use Rattle.std.proofs.lemmas.Bool.{eqb-true, eq-eqb}
 use Rattle.cache_words.specs.Time.{MomentValue}
 use Rattle.cache_words.specs.Key.{CacheKeyValue}
-use Rattle.cache_changes.specs.Changes.{Write}
+use Rattle.cache_changes.specs.Changes.{Change, Changes}
 use Rattle.response_parse.specs.Response.{Reading}
 use Rattle.tier_model.specs.declared.event.Action.{Action}
 use Rattle.tier_model.specs.declared.event.Action.TheVariants.{Open, LookUp, Poll, Begin, Piece, Finish, Read, Drop, Purge, Put}
 use Rattle.tier_model.specs.declared.event.Answer.{Answer}
-use Rattle.tier_model.specs.declared.event.Answer.TheVariants.{Opened, Found, Absent, Waited, Begun, Dropped, Finished}
-use Rattle.tier_model.specs.declared.event.Answer.TheVariants as answer
+use Rattle.tier_model.specs.declared.event.Answer.TheVariants.{Waited, Finished}
 use Rattle.tier_model.specs.declared.event.Done.{Done}
 use Rattle.tier_model.specs.declared.event.TierFault.{TierFault}
-use Rattle.tier_model.specs.Keys.{Entry, entry_of, stored_key_of}
+use Rattle.tier_model.specs.Keys.{entry_of, stored_key_of}
 use Rattle.tier_model.specs.Shelf.{is_there, look}
-use Rattle.tier_model.specs.Calls.{Call, Outcome, done_of, judged_of, finished_by, entry_after, asks_after, is_end_of_reader, bytes_given, bytes_answered}
-use Rattle.tier_model.specs.Histories.{Kept, is_landing, write_after}
+use Rattle.tier_model.specs.Calls.{Call, History, Outcome, done_of, judged_of, finished_by}
+use Rattle.tier_model.specs.Histories.{Kept, Opening, is_landing, changes_in, write_held, begun_by}
 use Rattle.tier_model.specs.Response.{Judged, kept}
 use Rattle.tier_model.specs.Rows.{FinishedBody}
-use Rattle.tier_model.specs.Own.{no_lock, Wait, no_wait, hold_given, wait_polled, wait_after}
-use Rattle.tier_model.specs.Own.{Own, own_opened, own_looked, own_begun, phase_found, phase_absent, reads_found, no_reader, as_it_comes, reads_on, own_after}
-use Rattle.tier_model.specs.State.{begun, disabled, nothing, closed, Request, State}
+use Rattle.tier_model.specs.State.{disabled, nothing, closed, Request, State}
 use Rattle.tier_model.specs.Answers.{look_for, finishing}
 use Rattle.tier_model.specs.After.{by_request, on_request, with_request, opened_request, looked, after_look, after_wait, after_begin, writing, after_flight, on_write, pieced, after_put}
 use Rattle.tier_model.specs.After.{after_finish, finished_state, taken_back, undone, after_purge, without_request, read_on, answered, refused, after_outcome, after}
@@ -38,6 +35,10 @@ pub record Inside : Type 0 where
 
 abbrev pub call_at : MomentValue → Action → Inside → Outcome → Call
 call_at t action i outcome = record { event = record { moment = t; action = action }; outcome = outcome; reading = i.reading; began = i.began; asked = i.asked }
+
+-- what a call changes, in the light of the calls before it
+abbrev pub changes_at : Opening → Action → Outcome → Call → History → Changes Kept → List (Change Kept)
+changes_at start action o c h before = changes_in start (λ id. begun_by start id c h) (λ id. write_held start id h) action o c h before
 
 -- the request that an event names
 abbrev pub named_by : Action → Option ℕ
@@ -59,93 +60,11 @@ is_named id (Some r) = r == id
 pub itself : (i : ℕ) → (i == i) ≡ true
 itself i = eq-eqb i i refl
 
--- ---- nothing of another request changes
-
--- the words on a request's calls leave what another's call finds
-pub record IsOther (id : ℕ) (t : MomentValue) (action : Action) (o : Outcome) : Type 0 where
-  pub key : (old : Option Entry) → entry_after id action o old ≡ old
-  pub asks : (old : Bool) → asks_after id action o old ≡ old
-  pub write : (new old : Option (Write Kept)) → write_after id new action o old ≡ old
-  pub own : (old : Own) → own_after id action o old ≡ old
-  pub wait : (old : Wait) → wait_after id t action o old ≡ old
-  pub reader : is_end_of_reader id action o ≡ false
-  pub bytes : bytes_given id action o ≡ []
-
-other_key : (id : ℕ) (action : Action) (o : Outcome) (old : Option Entry) → is_named id (named_by action) ≡ false → entry_after id action o old ≡ old
-other_key id (Open r key asks) (Ok Opened) old e = ap (λ v. cond v (Some (entry_of key)) old) e
-other_key id (Drop r) (Ok Dropped) old e = ap (λ v. cond v None old) e
-other_key id _ _ old e = refl
-
-other_asks : (id : ℕ) (action : Action) (o : Outcome) (old : Bool) → is_named id (named_by action) ≡ false → asks_after id action o old ≡ old
-other_asks id (Open r key asks) (Ok Opened) old e = ap (λ v. cond v asks old) e
-other_asks id _ _ old e = refl
-
-other_write : (id : ℕ) (action : Action) (o : Outcome) (new old : Option (Write Kept)) → is_named id (named_by action) ≡ false → write_after id new action o old ≡ old
-other_write id (Begin r head) (Ok Begun) new old e = ap (λ v. cond v new old) e
-other_write id (Finish r) o new old e = ap (λ v. cond (v && is_landing o) None old) e
-other_write id (Drop r) (Ok a) new old e = ap (λ v. cond v None old) e
-other_write id _ _ new old e = refl
-
-other_own : (id : ℕ) (action : Action) (o : Outcome) (old : Own) → is_named id (named_by action) ≡ false → own_after id action o old ≡ old
-other_own id (Open r key asks) (Ok Opened) old e = ap (λ v. cond v own_opened old) e
-other_own id (LookUp r) (Ok (Found fresh complete given)) old e = ap (λ v. cond v (own_looked (phase_found fresh) (reads_found complete) given) old) e
-other_own id (LookUp r) (Ok (Absent given)) old e = ap (λ v. cond v (own_looked (phase_absent given old.phase) no_reader given) old) e
-other_own id (Begin r head) (Ok Begun) old e = ap (λ v. cond v (own_begun begun as_it_comes old) old) e
-other_own id (Begin r head) (Ok (answer.Uncacheable reason)) old e = ap (λ v. cond v (own_begun disabled no_reader old) old) e
-other_own id (Read r) (Ok a) old e = ap (λ v. cond v (record old { reads = reads_on old.reads }) old) e
-other_own id _ _ old e = refl
-
-other_wait : (id : ℕ) (t : MomentValue) (action : Action) (o : Outcome) (old : Wait) → is_named id (named_by action) ≡ false → wait_after id t action o old ≡ old
-other_wait id t (Open r key asks) (Ok Opened) old e = ap (λ v. cond v no_wait old) e
-other_wait id t (LookUp r) (Ok (Found fresh complete given)) old e = ap (λ v. cond v (record old { hold = hold_given given old.hold }) old) e
-other_wait id t (LookUp r) (Ok (Absent given)) old e = ap (λ v. cond v (record old { hold = hold_given given old.hold }) old) e
-other_wait id t (Poll r) (Ok (Waited told)) old e = ap (λ v. cond v (wait_polled t told old.hold old) old) e
-other_wait id t (Begin r head) (Ok a) old e = ap (λ v. cond v (record old { hold = no_lock }) old) e
-other_wait id t _ _ old e = refl
-
-other_reader : (id : ℕ) (action : Action) (o : Outcome) → is_named id (named_by action) ≡ false → is_end_of_reader id action o ≡ false
-other_reader id (LookUp r) (Ok a) e = e
-other_reader id (Begin r head) (Ok a) e = e
-other_reader id (Drop r) (Ok a) e = e
-other_reader id _ _ e = refl
-
-other_bytes : (id : ℕ) (action : Action) (o : Outcome) → is_named id (named_by action) ≡ false → bytes_given id action o ≡ []
-other_bytes id (Read r) (Ok a) e = ap (λ v. cond v (bytes_answered a) []) e
-other_bytes id _ _ e = refl
-
-pub other-call : (id : ℕ) (t : MomentValue) (action : Action) (o : Outcome) → is_named id (named_by action) ≡ false → IsOther id t action o
-other-call id t action o e = record {
-  key = λ old. other_key id action o old e;
-  asks = λ old. other_asks id action o old e;
-  write = λ new old. other_write id action o new old e;
-  own = λ old. other_own id action o old e;
-  wait = λ old. other_wait id t action o old e;
-  reader = other_reader id action o e;
-  bytes = other_bytes id action o e;
-}
-
--- a refusal but of a finish leaves all requests alone
-abbrev pub is_finish : Action → Bool
-is_finish (Finish r) = true
-is_finish _ = false
-
-pub quiet-call : (t : MomentValue) (action : Action) (f : TierFault) (id : ℕ) → is_finish action ≡ false → IsOther id t action (Err f)
-quiet-call t (Finish r) f id e = absurd cc
-quiet-call t (Open k key asks) f id e = record { key = λ old. refl; asks = λ old. refl; write = λ new old. refl; own = λ old. refl; wait = λ old. refl; reader = refl; bytes = refl }
-quiet-call t (LookUp k) f id e = record { key = λ old. refl; asks = λ old. refl; write = λ new old. refl; own = λ old. refl; wait = λ old. refl; reader = refl; bytes = refl }
-quiet-call t (Poll k) f id e = record { key = λ old. refl; asks = λ old. refl; write = λ new old. refl; own = λ old. refl; wait = λ old. refl; reader = refl; bytes = refl }
-quiet-call t (Begin k head) f id e = record { key = λ old. refl; asks = λ old. refl; write = λ new old. refl; own = λ old. refl; wait = λ old. refl; reader = refl; bytes = refl }
-quiet-call t (Piece k bytes last) f id e = record { key = λ old. refl; asks = λ old. refl; write = λ new old. refl; own = λ old. refl; wait = λ old. refl; reader = refl; bytes = refl }
-quiet-call t (Read k) f id e = record { key = λ old. refl; asks = λ old. refl; write = λ new old. refl; own = λ old. refl; wait = λ old. refl; reader = refl; bytes = refl }
-quiet-call t (Drop k) f id e = record { key = λ old. refl; asks = λ old. refl; write = λ new old. refl; own = λ old. refl; wait = λ old. refl; reader = refl; bytes = refl }
-quiet-call t (Purge key) f id e = record { key = λ old. refl; asks = λ old. refl; write = λ new old. refl; own = λ old. refl; wait = λ old. refl; reader = refl; bytes = refl }
-quiet-call t (Put key pieces) f id e = record { key = λ old. refl; asks = λ old. refl; write = λ new old. refl; own = λ old. refl; wait = λ old. refl; reader = refl; bytes = refl }
-
 -- ---- the request that is named
 
 abbrev pub begin_turn : State → Option Judged → Request → Request
 begin_turn s (Some (kept meta)) q = writing s.shelf.writes q
-begin_turn s _ q = record q { phase = disabled; held = nothing; reader = closed }
+begin_turn s _ q = record q { phase = disabled; held = nothing; seen = None; reader = closed }
 
 abbrev pub land_turn : Bool → Request → Request
 land_turn true q = record q { write = None }
@@ -172,10 +91,10 @@ pub at-remove : {X : Type 0} (m : FinMap nat_cmp X) (i : ℕ) (id : ℕ) → get
 at-remove m i id = get-remove nat_cmp_total m i id ∙ ap (λ t. cond t None (get m id)) ((eq_by_cmp_equiv nat_cmp_total).symm id i ∙ unsigned_tied i id)
 
 -- what stores a body or takes it back leaves the requests alone
-put_requests : (s : State) (b : Option FinishedBody) (a : Answer) → (after_put s b a).requests ≡ s.requests
-put_requests s (Some b) (Finished n es) = refl
-put_requests s (Some b) _ = refl
-put_requests s None a = refl
+put_requests : (s : State) (n : Option ℕ) (b : Option FinishedBody) (a : Answer) → (after_put s n b a).requests ≡ s.requests
+put_requests s n (Some b) (Finished told es) = refl
+put_requests s n (Some b) _ = refl
+put_requests s n None a = refl
 
 back_requests : (v : Bool) (s : State) (b : FinishedBody) (done : Done) → (taken_back v s b done).requests ≡ s.requests
 back_requests false s b done = refl
@@ -185,9 +104,9 @@ undone_requests : (s : State) (b : Option FinishedBody) (done : Done) → (undon
 undone_requests s (Some b) done = back_requests done.stored s b done
 undone_requests s None done = refl
 
-finish_requests : (s : State) (b : Option FinishedBody) (o : Outcome) → (after_finish s b o).requests ≡ s.requests
-finish_requests s b (Ok a) = put_requests s b a
-finish_requests s b (Err f) = undone_requests s b (done_of f)
+finish_requests : (s : State) (n : Option ℕ) (b : Option FinishedBody) (o : Outcome) → (after_finish s n b o).requests ≡ s.requests
+finish_requests s n b (Ok a) = put_requests s n b a
+finish_requests s n b (Err f) = undone_requests s b (done_of f)
 
 purge_requests : (s : State) (key : CacheKeyValue) (v : Bool) → (after_purge s key v).requests ≡ s.requests
 purge_requests s key false = refl
@@ -244,9 +163,9 @@ finish_turned s r id outcome = by_landing (is_landing outcome)
     kept_all None v = by_same v (get s.requests id)
     kept_all (Some q) v = by_same v (get s.requests id)
 
-    by_landing : (l : Bool) → get (on_request s r (λ q. cond l (after_finish (after_flight s r q) (finishing q s.shelf) outcome) s)).requests id
+    by_landing : (l : Bool) → get (on_request s r (λ q. cond l (after_finish (after_flight s r q) q.write (finishing q s.shelf) outcome) s)).requests id
         ≡ cond (r == id) (option_map (land_turn l) (get s.requests id)) (get s.requests id)
-    by_landing true = placed_as s r id (land_turn true) (λ q. after_finish (after_flight s r q) (finishing q s.shelf) outcome) (λ q. finish_requests (after_flight s r q) (finishing q s.shelf) outcome)
+    by_landing true = placed_as s r id (land_turn true) (λ q. after_finish (after_flight s r q) q.write (finishing q s.shelf) outcome) (λ q. finish_requests (after_flight s r q) q.write (finishing q s.shelf) outcome)
     by_landing false = kept_all (get s.requests r) (r == id)
 
 drop_turned : (s : State) (r id : ℕ) (o : Option Request) → get s.requests r ≡ o → get (by_request s o (λ q. without_request s r q)).requests id ≡ cond (r == id) None (get s.requests id)
@@ -272,7 +191,7 @@ answer_turned s t (Finish r) c a id = finish_turned s r id (Ok a)
 answer_turned s t (Read r) c a id = placed s r id (read_turn a) (get s.requests r) refl
 answer_turned s t (Drop r) c a id = drop_turned s r id (get s.requests r) refl
 answer_turned s t (Purge key) c a id = ap (λ (m : FinMap nat_cmp Request). get m id) (purge_requests s key (is_there (look (stored_key_of key) s.shelf)))
-answer_turned s t (Put key pieces) c a id = ap (λ (m : FinMap nat_cmp Request). get m id) (put_requests s (finished_by c) a)
+answer_turned s t (Put key pieces) c a id = ap (λ (m : FinMap nat_cmp Request). get m id) (put_requests s (Some s.shelf.writes) (finished_by c) a)
 
 refused_turned : (s : State) (t : MomentValue) (action : Action) (c : Call) (f : TierFault) (id : ℕ) → Turned s t action (judged_of c) (Err f) id (refused s action c f)
 refused_turned s t (Open r key asks) c f id = same_either (r == id) (get s.requests id)

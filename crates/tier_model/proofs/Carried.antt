@@ -1,13 +1,14 @@
 -- Lawful histories hold the headline, and runs carry it on.
-use Rattle.std.proofs.Common.{◌≡◌, ℕ, ◌<◌, refl, ap, sym, ◌∙◌, true, false, subst, [], ◌∷◌, arith}
-use Rattle.std.specs.Prelude.{Bool, List, Option, Some, None, Ok, Err, is_some, cond, MatchOption, replicate}
+use Rattle.std.proofs.Common.{◌≡◌, ℕ, ◌<◌, refl, ap, sym, ◌∙◌, true, false, subst, [], ◌∷◌, length, arith}
+use Rattle.std.specs.Prelude.{Bool, List, Option, Some, None, option_map, Ok, Err, is_some, cond, MatchOption, replicate, map}
 use Rattle.std.proofs.lemmas.List.{ext_get_or}
-use Rattle.std.specs.List.{AllByRecursion}
+use Rattle.std.specs.List.{AllByRecursion, sum_by}
 use Rattle.std.specs.FinMap.{get, entries, len-entries}
 use Rattle.cache_words.specs.Time.{MomentValue}
+use Rattle.cache_heads.specs.Meta.{meta_length}
 use Rattle.cache_entries.specs.declared.rows.Tracked.{Tracked}
 use Rattle.cache_changes.specs.Changes.{StoredKey, Write, Changes}
-use Rattle.cache_changes.specs.Writes.{IsBody}
+use Rattle.cache_changes.specs.Writes.{bytes_of, meta_of, IsBody}
 use Rattle.cache_changes.specs.Uses.{EvictsLawfully, AreShardsOf, rows_of}
 use Rattle.cache_changes.proofs.ManyShards.{AreShardsOf-none, weights-shards, length-shards}
 use Rattle.cache_changes.proofs.UseLaws.{IsOrderOfUse-rows_of}
@@ -26,7 +27,7 @@ use Rattle.tier_model.specs.declared.whole.Whole.TheVariants as whole
 use Rattle.tier_model.specs.Headline.{AreRight, Headline}
 use Rattle.tier_model.specs.Answers.{IsPutAnswer}
 use Rattle.tier_model.specs.Histories.{Kept, Opening, empty_opening, counts, told_of, writes_begun, changes_of}
-use Rattle.tier_model.specs.Rows.{FinishedBody, body_of}
+use Rattle.tier_model.specs.Rows.{Numbered, FinishedBody, body_of}
 use Rattle.tier_model.specs.Reports.{IsReport, report_of}
 use Rattle.tier_model.specs.State.{Settings, Request, State, shards_of, empty_state}
 use Rattle.tier_model.specs.Shelf.{Readers}
@@ -40,7 +41,7 @@ use Rattle.tier_model.proofs.WriteLaws.{flies-of}
 use Rattle.tier_model.proofs.GrantedLaws.{LocksFit-lawful}
 use Rattle.tier_model.proofs.OwnedLaws.{Owned-lawful}
 use Rattle.tier_model.proofs.OpenLaws.{begun-told}
-use Rattle.tier_model.proofs.OwnLaws.{OpenFits}
+use Rattle.tier_model.proofs.OwnTurns.{OpenFits}
 use Rattle.tier_model.proofs.PartLaws.{IsRight-joined}
 use Rattle.tier_model.proofs.HeadlineLaws.{IsRightApart-allowed}
 use Rattle.tier_model.proofs.LockLaws.{lock-is}
@@ -137,7 +138,7 @@ start-some start h s past = subst (λ (n : ℕ). 0 < n) past.made.shards past.ho
 IsRequestOf-fits : (start : Opening) (id : ℕ) (o : Option Request) (h : History) → OpenFits start id o h → ReadsFit start id o h
     → MatchOption o (opened_for id h ≡ None) (λ q. IsRequestOf start id q h)
 IsRequestOf-fits start id None h fits reads = fits
-IsRequestOf-fits start id (Some q) h fits reads = record { key = fits.0.key; entry = fits.0.entry; asks = fits.3; own = fits.1; wait = fits.2; write = fits.0.write; reader = reads }
+IsRequestOf-fits start id (Some q) h fits reads = record { key = fits.0.key; entry = fits.0.entry; asks = fits.3; own = fits.1; wait = fits.2; seen = fits.0.seen; write = fits.0.write; reader = reads }
 
 count_is : (n : ℕ) (o : Option Readers) (k : ℕ) (changes : Changes Kept) → CountFits n o k changes → count_of o ≡ k
 count_is n None k changes fits = sym fits
@@ -199,12 +200,15 @@ CarriesHeadline-taken old (c ∷ calls) new taken start past h = CarriesHeadline
 -- the report of a state that a history says is the history's
 pub IsReport-matches : (s : State) (start : Opening) (h : History) → MatchesHistory s start h → IsReport (report_of s) start h
 IsReport-matches s start h m =
-    let same = sums (changes_of start h) (entries s.shelf.bodies) m.bodies.0 m.bodies.2 in
+    let same = sums (λ b. length b.bytes) (changes_of start h) (entries s.shelf.bodies) m.bodies.0 m.bodies.2 in
+    let bytes : sum_by (λ (x : Numbered). length x.body.bytes) (map (λ e. e.1) (entries s.shelf.bodies)) ≡ sum_by (λ (w : Write Kept). length (bytes_of w.number (changes_of start h))) m.bodies.0 = same.0 in
+    let metas : sum_by (λ (x : Numbered). meta_length x.body.meta) (map (λ e. e.1) (entries s.shelf.bodies)) ≡ sum_by (λ (w : Write Kept). counts (meta_of w (changes_of start h))) m.bodies.0 =
+    (sums (λ b. meta_length b.meta) (changes_of start h) (entries s.shelf.bodies) m.bodies.0 m.bodies.2).0 in
     record {
       found = m.found;
       absent = m.absent;
       evicted = m.evicted;
-      bodies = (m.bodies.0, m.bodies.1, len-entries s.shelf.bodies ∙ same.1, omega (arith, same.0));
+      bodies = (m.bodies.0, m.bodies.1, len-entries s.shelf.bodies ∙ same.1, omega (arith, bytes), omega (arith, metas));
       tracked = (
         m.order.1.0,
         m.order.1.1,
@@ -220,10 +224,17 @@ stands-past start s h p = subst (λ (x : State). Stands start x h) (sym p.state)
 -- each body of a past is held, with its bytes and its meta
 pub held-past : (start : Opening) (s : State) (h : History) → HasPast start s h → (k : StoredKey) (w : Write Kept) → IsBody k w (changes_of start h)
     → (b : Body) × (body_of k s.shelf.bodies ≡ Some b) × (b ≡ told_of (changes_of start h) w)
-held-past start s h p k w i = is_held (shards_of s) (writes_begun start h) s.shelf.bodies s.shelf.flying s.managed (changes_of start h) (stands-past start s h p).holds.leaves k w i
+held-past start s h p k w i =
+    let x = is_held (shards_of s) (writes_begun start h) s.shelf.bodies s.shelf.flying s.managed (changes_of start h) (stands-past start s h p).holds.leaves k w i in
+    (x.0.body, ap (option_map (λ (y : Numbered). y.body)) x.1, ap (λ (y : Numbered). y.body) x.2)
 
 -- and what is held is one
+held_with : (o : Option Numbered) (b : Body) → option_map (λ x. x.body) o ≡ Some b → (x : Numbered) × (o ≡ Some x)
+held_with None b e = absurd cc
+held_with (Some x) b e = (x, refl)
+
 pub body-past : (start : Opening) (s : State) (h : History) → HasPast start s h → (k : StoredKey) (b : Body) → body_of k s.shelf.bodies ≡ Some b → (w : Write Kept) × IsBody k w (changes_of start h)
 body-past start s h p k b e =
-    let x = shows (shards_of s) (writes_begun start h) s.shelf.bodies s.shelf.flying s.managed (changes_of start h) (stands-past start s h p).holds.leaves k b e in
+    let y = held_with (get s.shelf.bodies k) b e in
+    let x = shows (shards_of s) (writes_begun start h) s.shelf.bodies s.shelf.flying s.managed (changes_of start h) (stands-past start s h p).holds.leaves k y.0 y.1 in
     (x.write, x.body)

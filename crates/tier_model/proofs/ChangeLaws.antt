@@ -2,6 +2,7 @@
 use Rattle.std.proofs.Common.{◌≡◌, ℕ, ◌≤◌, ◌<◌, refl, ap, sym, ◌∙◌, true, cond, [], ◌∷◌}
 use Rattle.std.specs.Prelude.{Bool, List, Option, Some, None, option_map, map, ◌++◌}
 use Rattle.std.specs.List.{AllByRecursion}
+use Rattle.std.specs.FinMap.{get}
 use Rattle.cache_entries.specs.declared.entry.CacheEntryKey.{CacheEntryKey}
 use Rattle.cache_entries.specs.Keys.{same_bytes}
 use Rattle.cache_changes.specs.Changes.{StoredKey, stored_key, key_alone, is_key, Write, Change, Changes, begins, finishes, renews, removes, uses, departs, evicts}
@@ -22,8 +23,8 @@ use Rattle.tier_model.specs.Histories.{Kept, counts, goes, clears}
 use Rattle.tier_model.specs.Shelf.{InFlight, marked as put_mark, marked_all}
 use Rattle.tier_model.specs.Past.{plain}
 use Rattle.tier_model.proofs.FlightLaws.{plain-marked}
-use Rattle.tier_model.specs.Rows.{Bodies, body_of, without_body, without_key, without_bodies}
-use Rattle.tier_model.proofs.BodyLaws.{body_of-without_key, body_at-without, view, AreSame, both_gone}
+use Rattle.tier_model.specs.Rows.{Bodies, without_body, without_key, without_bodies}
+use Rattle.tier_model.proofs.BodyLaws.{held-without_key, body_at-without, view, AreSame, both_gone}
 use Rattle.tier_model.proofs.RowSteps.{over-rows, last-rows}
 
 abbrev pub more_bytes : List ℕ → InFlight → InFlight
@@ -37,7 +38,7 @@ pub record Leaves (N n : ℕ) (held : Bodies) (fs : List InFlight) (m : Managed)
   pub orderly : IsOrderly changes
   pub below : AllByRecursion (BeginsBelow n) changes
   pub flights : fs ≡ map plain (store_of changes).flying
-  pub bodies : (k : StoredKey) → AreSame (body_of k held) (body_at k (store_of changes))
+  pub bodies : (k : StoredKey) → AreSame (get held k) (body_at k (store_of changes))
   pub some : 0 < N
   pub rows : AreShardsOf N m.shards (rows_of changes)
   pub lawful : EvictsLawfully N m.limit m.watermark changes
@@ -77,7 +78,7 @@ module _ (N : ℕ) where
   }
 
   -- other bodies that are the same
-  pub leaves-same : (n : ℕ) (old new : Bodies) (fs : List InFlight) (m : Managed) (changes : Changes Kept) → ((k : StoredKey) → body_of k new ≡ body_of k old) → Leaves N n old fs m changes
+  pub leaves-same : (n : ℕ) (old new : Bodies) (fs : List InFlight) (m : Managed) (changes : Changes Kept) → ((k : StoredKey) → get new k ≡ get old k) → Leaves N n old fs m changes
       → Leaves N n new fs m changes
   leaves-same n old new fs m changes f l = record {
     orderly = l.orderly;
@@ -91,10 +92,10 @@ module _ (N : ℕ) where
     settled = l.settled;
   }
 
-  without_same : (j : Option StoredKey) (bodies : Bodies) (s : Store Kept) → ((k : StoredKey) → AreSame (body_of k bodies) (body_at k s))
-      → (k : StoredKey) → AreSame (body_of k (without_key j bodies)) (body_at k (removed_from j s))
+  without_same : (j : Option StoredKey) (bodies : Bodies) (s : Store Kept) → ((k : StoredKey) → AreSame (get bodies k) (body_at k s))
+      → (k : StoredKey) → AreSame (get (without_key j bodies) k) (body_at k (removed_from j s))
   without_same j bodies s f k =
-      body_of-without_key k j bodies ∙ both_gone (is_key k j) (body_of k bodies) (body_at k s) (f k) ∙ sym (ap (option_map view) (body_at-without k j s.bodies))
+      held-without_key k j bodies ∙ both_gone (is_key k j) (get bodies k) (body_at k s) (f k) ∙ sym (ap (option_map view) (body_at-without k j s.bodies))
 
   pub marked_same : (k : Option StoredKey) (fs : List InFlight) (flying : List (Flying Kept)) → fs ≡ map plain flying → map (put_mark k) fs ≡ map plain (map (marked k) flying)
   marked_same k fs flying e = ap (map (put_mark k)) e ∙ sym (plain-marked k flying)

@@ -116,13 +116,13 @@ begin_counts s r q (Some not_read) o h = quiet s (after_begin s r q (Some not_re
 begin_counts s r q None o h = quiet s (after_begin s r q None) o refl refl refl h
 
 -- a body that is stored, in a state with the same order of use
-stored_counts : (s new : State) (b : FinishedBody) (a : Answer) → new.found ≡ s.found → new.absent ≡ s.absent → new.managed ≡ s.managed → IsStored s b a → Counts s (after_put new (Some b) a) (Ok a)
-stored_counts s new b (Finished n es) f e m p = record {
+stored_counts : (s new : State) (n : Option ℕ) (b : FinishedBody) (a : Answer) → new.found ≡ s.found → new.absent ≡ s.absent → new.managed ≡ s.managed → IsStored s b a → Counts s (after_put new n (Some b) a) (Ok a)
+stored_counts s new n b (Finished told es) f e m p = record {
   found = f;
   absent = e;
   evicted = λ k is. gone-count (shards_of new) k es (admitted new b) (ap (λ x. x.evicted_items) m ∙ is);
 }
-stored_counts s new b _ f e m p = absurd p
+stored_counts s new n b _ f e m p = absurd p
 
 until_count : (v : Bool) (s : State) (b : FinishedBody) → (until v s b).evicted_items ≡ s.managed.evicted_items
 until_count false s b = refl
@@ -146,25 +146,25 @@ pub quiet_undone : (s : State) (b : Option FinishedBody) (done : Done) → done 
 quiet_undone s (Some b) done e = rw e refl
 quiet_undone s None done e = refl
 
-put_counts : (s : State) (b : Option FinishedBody) (w : Option Whole) (a : Answer) → IsPutAnswer s b w a → Counts s (after_put s b a) (Ok a)
-put_counts s (Some b) w a p = stored_counts s s b a refl refl refl p
-put_counts s None (Some (whole.Uncacheable reason)) (answer.Uncacheable shown) p = quiet s s (Ok (answer.Uncacheable shown)) refl refl refl (record { found = refl; absent = refl; evicted = refl })
-put_counts s None (Some (whole.Uncacheable reason)) _ p = absurd p
-put_counts s None (Some (whole.Stored body)) a p = absurd p
-put_counts s None (Some whole.Incomplete) a p = absurd p
-put_counts s None (Some whole.BadHead) a p = absurd p
-put_counts s None (Some whole.BeforeEpoch) a p = absurd p
-put_counts s None None a p = absurd p
+put_counts : (s : State) (n : Option ℕ) (b : Option FinishedBody) (w : Option Whole) (a : Answer) → IsPutAnswer s b w a → Counts s (after_put s n b a) (Ok a)
+put_counts s n (Some b) w a p = stored_counts s s n b a refl refl refl p
+put_counts s n None (Some (whole.Uncacheable reason)) (answer.Uncacheable shown) p = quiet s s (Ok (answer.Uncacheable shown)) refl refl refl (record { found = refl; absent = refl; evicted = refl })
+put_counts s n None (Some (whole.Uncacheable reason)) _ p = absurd p
+put_counts s n None (Some (whole.Stored body)) a p = absurd p
+put_counts s n None (Some whole.Incomplete) a p = absurd p
+put_counts s n None (Some whole.BadHead) a p = absurd p
+put_counts s n None (Some whole.BeforeEpoch) a p = absurd p
+put_counts s n None None a p = absurd p
 
-finish_counts : (s new : State) (b : Option FinishedBody) (a : Answer) → new.found ≡ s.found → new.absent ≡ s.absent → new.managed ≡ s.managed → MatchOption b ⊥ (λ b. IsStored s b a)
-    → Counts s (after_put new b a) (Ok a)
-finish_counts s new None a f e m p = absurd p
-finish_counts s new (Some b) a f e m p = stored_counts s new b a f e m p
+finish_counts : (s new : State) (n : Option ℕ) (b : Option FinishedBody) (a : Answer) → new.found ≡ s.found → new.absent ≡ s.absent → new.managed ≡ s.managed → MatchOption b ⊥ (λ b. IsStored s b a)
+    → Counts s (after_put new n b a) (Ok a)
+finish_counts s new n None a f e m p = absurd p
+finish_counts s new n (Some b) a f e m p = stored_counts s new n b a f e m p
 
 finishes_counts : (s : State) (r : ℕ) (x : Option Request) (a : Answer) → MatchOption x ⊥ (λ q. MatchOption (finishing q s.shelf) ⊥ (λ b. IsStored s b a))
     → Counts s (by_request s x (λ q. finished_state s r q (Ok a))) (Ok a)
 finishes_counts s r None a p = absurd p
-finishes_counts s r (Some q) a p = finish_counts s (after_flight s r q) (finishing q s.shelf) a refl refl refl p
+finishes_counts s r (Some q) a p = finish_counts s (after_flight s r q) q.write (finishing q s.shelf) a refl refl refl p
 
 purge_counts : (s : State) (key : CacheKeyValue) (v : Bool) → Counts s (after_purge s key v) (Ok (Purged v))
 purge_counts s key true = quiet s (after_purge s key true) (Ok (Purged true)) refl refl refl (record { found = refl; absent = refl; evicted = refl })
@@ -193,4 +193,4 @@ answer_counts s t (Drop r) c a p =
     request_quiet s (get s.requests r) _ (Ok a) h (λ y. quiet s _ (Ok a) refl refl refl h)
 answer_counts s t (Purge key) c a p =
     subst (λ (y : Answer). Counts s (answered s t (Purge key) c y) (Ok y)) (sym p) (purge_counts s key (is_there (look (stored_key_of key) s.shelf)))
-answer_counts s t (Put key pieces) c a p = put_counts s (finished_by c) (read_by c) a p
+answer_counts s t (Put key pieces) c a p = put_counts s (Some s.shelf.writes) (finished_by c) (read_by c) a p

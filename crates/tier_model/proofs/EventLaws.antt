@@ -19,23 +19,23 @@ use Rattle.tier_model.specs.declared.event.TierFault.TheVariants.{WrongPhase, Af
 use Rattle.tier_model.specs.Keys.{Entry, entry_of, alone, stored_key_of}
 use Rattle.tier_model.specs.Response.{Judged, kept, not_kept}
 use Rattle.tier_model.specs.Calls.{Call, History, Outcome, extended, done_of, judged_of, read_by, finished_by, is_begun, writes_after}
-use Rattle.tier_model.specs.Histories.{Kept, Opening, writes_begun, look_changes, begun_by, write_begun, is_landing, write_held, begin_changes, finished_of, settles_back, finish_changes}
+use Rattle.tier_model.specs.Histories.{Kept, Opening, writes_begun, look_changes, is_landing, write_held, begin_changes, finished_of, settles_back, finish_changes}
 use Rattle.tier_model.specs.Histories.{piece_changes, changes_of}
-use Rattle.tier_model.specs.Rows.{FinishedBody, body_of, weight_for}
+use Rattle.tier_model.specs.Rows.{FinishedBody, weight_for}
 use Rattle.tier_model.specs.declared.event.LockGiven.{LockGiven}
 use Rattle.tier_model.specs.Shelf.{InFlight, flying_at, flies_for, Look, absent, in_flight, finished, look, is_there, landed, on_flying}
 use Rattle.tier_model.specs.State.{Request, State, shards_of}
 use Rattle.tier_model.specs.Checks.{refusal, unless, unless_open, piece_refusal, has_ended as ended_at}
 use Rattle.tier_model.specs.Answers.{key_for, look_for, lock_given, look_answer, IsStored, IsBeginAnswer, IsFinishFault, finishing}
 use Rattle.tier_model.specs.Step.{UseFits, IsAnswer, IsFault, AllowsBy, BeginsWrite, may_begin, tells_of_write, Allows}
-use Rattle.tier_model.specs.After.{by_request, on_request, with_request, on_write, pieced, read_on, after_wait, after_look, after_begin, after_flight, undone, after_finish, finished_state}
+use Rattle.tier_model.specs.After.{meta_for, by_request, on_request, with_request, on_write, pieced, read_on, after_wait, after_look, after_begin, after_flight, after_put, undone, after_finish, finished_state}
 use Rattle.tier_model.specs.After.{after_purge, without_request, answered, refused, after_outcome}
 use Rattle.tier_model.proofs.CallLaws.{Inside, call_at}
 use Rattle.tier_model.proofs.WriteLaws.{WritesFit, flies_on}
 use Rattle.tier_model.proofs.ChangeLaws.{more_bytes}
 use Rattle.tier_model.proofs.ShownLaws.{shows}
 use Rattle.tier_model.proofs.BoundLaws.{Keeps, keeps-used, keeps-cleared, keeps-begun, keeps-appended, keeps-ended, keeps-left}
-use Rattle.tier_model.proofs.OpenLaws.{Holds, HoldsNext, begun-told, look_finished, hit_uses, FlightAt, flight-at, IsOpen, Written, the-write, no-write, finishing-is, passed, test_passed}
+use Rattle.tier_model.proofs.OpenLaws.{Holds, HoldsNext, begun-told, begun-is, look_finished, hit_uses, FlightAt, flight-at, IsOpen, Written, the-write, no-write, finishing-is, passed, test_passed}
 use Rattle.tier_model.proofs.OpenLaws.{not_false, unrefused}
 use Rattle.tier_model.proofs.StoredLaws.{idle, put_holds, quiet_holds, put_fault_holds, finish_holds, gone_holds, back_holds, fault-stored, landing-stored, finish_check}
 
@@ -56,12 +56,12 @@ module _ (start : Opening) (s : State) (h : History) (l : Holds start s h) (coun
   look_holds t i r q (finished b) a given opens is e =
       let key = key_of q.entry in
       let n = writes_begun start h in
-      let there = look_finished (find (flies_for (key_for q)) s.shelf.flying) (body_of (key_for q) s.shelf.bodies) b is in
+      let there = look_finished (find (flies_for (key_for q)) s.shelf.flying) (get s.shelf.bodies (key_for q)) b is in
       let x = shows (shards_of s) n s.shelf.bodies s.shelf.flying s.managed (changes_of start h) l.leaves (stored_key key) b there.1 in
-      let now = ap (λ (o : Option Entry). look_changes o (changes_of start h)) opens.key ∙ hit_uses key b (changes_of start h) l.leaves.orderly x ∙ ap (λ (o : CacheEntryKey). uses o (weight_for b) ∷ []) (sym opens.entry) in
+      let now = ap (λ (o : Option Entry). look_changes o (changes_of start h)) opens.key ∙ hit_uses key b (changes_of start h) l.leaves.orderly x ∙ ap (λ (o : CacheEntryKey). uses o (weight_for b.body) ∷ []) (sym opens.entry) in
       subst (λ (y : Answer). Next (after_look s t r q (finished b)) (call_at t (LookUp r) i (Ok y))) (sym e)
       (subst (λ (cs : List (Change Kept)). HoldsNext s n i.began (after_look s t r q (finished b)) (extended (changes_of start h) cs)) (sym now)
-      (keeps-used (shards_of s) (writes_after n i.began) s.shelf.bodies s.shelf.flying s.managed (changes_of start h) (still i.began) q.entry (weight_for b)))
+      (keeps-used (shards_of s) (writes_after n i.began) s.shelf.bodies s.shelf.flying s.managed (changes_of start h) (still i.began) q.entry (weight_for b.body)))
 
   request_holds : (t : MomentValue) (i : Inside) (r : ℕ) (a : Answer) (o : Option Request) → get s.requests r ≡ o
       → MatchOption o ⊥ (λ q. (a ≡ look_answer t (lock_given t q (look_for q s.shelf) s.lock) (look_for q s.shelf)) × UseFits s q (look_for q s.shelf))
@@ -80,12 +80,10 @@ module _ (start : Opening) (s : State) (h : History) (l : Holds start s h) (coun
   begin_holds t i r head q a (Some (kept meta)) may opens is p x =
       let n = writes_begun start h in
       let k : StoredKey = stored_key (key_of q.entry) in
-      let w : Write Kept = record { number = n; key = k; meta = record { entry = alone (key_of q.entry); meta = meta } } in
-      let new : InFlight = record { number = n; key = k; meta = meta; bytes = []; ended = false; removed = false } in
-      let begins_it : begun_by start r (call_at t (Begin r head) i (Ok Begun)) h ≡ Some w =
-      ap (λ (o : Option Entry). write_begun n o (judged_of (call_at t (Begin r head) i (Ok Begun)))) opens.key ∙ ap (write_begun n (Some (key_of q.entry))) is in
+      let new : InFlight = record { number = n; key = k; meta = meta_for q meta; bytes = []; ended = false; removed = false } in
+      let begins_it = begun-is start r q h (call_at t (Begin r head) i (Ok Begun)) opens meta is in
       let began : i.began ≡ true = begun-told s may (is_begun (Ok a)) i.began x (ap (λ (y : Answer). is_begun (Ok y)) p) in
-      let done = keeps-begun (shards_of s) n s.shelf.bodies s.shelf.flying s.managed (changes_of start h) l k (record { entry = alone (key_of q.entry); meta = meta }) in
+      let done = keeps-begun (shards_of s) n s.shelf.bodies s.shelf.flying s.managed (changes_of start h) l k (record { entry = alone (key_of q.entry); meta = meta_for q meta }) in
       rw (p, began, count) (subst (λ (o : Option (Write Kept)). Keeps (shards_of s) (n + 1) s.shelf.bodies (s.shelf.flying ++ new ∷ []) s.managed (extended (changes_of start h) (begin_changes o))) (sym begins_it) done)
   begin_holds t i r head q a (Some (not_kept reason)) may opens is p x = subst (λ (y : Answer). Next s (call_at t (Begin r head) i (Ok y))) (sym p) (still i.began)
   begin_holds t i r head q a (Some _) may opens is p x = absurd p
@@ -131,7 +129,7 @@ module _ (start : Opening) (s : State) (h : History) (l : Holds start s h) (coun
 
   kept_state : (o : Option Request) (r : ℕ) (f : TierFault) → is_landing (Err f) ≡ false → by_request s o (λ q. finished_state s r q (Err f)) ≡ s
   kept_state None r f e = refl
-  kept_state (Some q) r f e = ap (λ v. cond v (after_finish (after_flight s r q) (finishing q s.shelf) (Err f)) s) e
+  kept_state (Some q) r f e = ap (λ v. cond v (after_finish (after_flight s r q) q.write (finishing q s.shelf) (Err f)) s) e
 
   quiet_finish_holds : (t : MomentValue) (i : Inside) (r : ℕ) (f : TierFault) → is_landing (Err f) ≡ false → Next (on_request s r (λ q. finished_state s r q (Err f))) (call_at t (Finish r) i (Err f))
   quiet_finish_holds t i r f e = rw (kept_state (get s.requests r) r f e, quiet_finish (write_held start r h) f e) (still i.began)
@@ -159,10 +157,18 @@ module _ (start : Opening) (s : State) (h : History) (l : Holds start s h) (coun
       is : finishing q s.shelf ≡ cond (f t i r q x).flight.removed None (Some b)
       is = finishing-is start r q h s.shelf x (f t i r q x)
 
+      state_is : (f t i r q x).flight.removed ≡ false
+          → finished_state s r q (Ok a) ≡ after_put (record s { shelf = landed x.write.number s.shelf; requests = rs t i r q x }) (Some x.write.number) (Some b) a
+      state_is e =
+          ap (λ (y : State). after_put y q.write (finishing q s.shelf) a) (landed_is t i r q x)
+          ∙ ap (λ (n : Option ℕ). after_put (record s { shelf = landed x.write.number s.shelf; requests = rs t i r q x }) n (finishing q s.shelf) a) x.number
+          ∙ ap (λ (o : Option FinishedBody). after_put (record s { shelf = landed x.write.number s.shelf; requests = rs t i r q x }) (Some x.write.number) o a)
+          (is ∙ ap (λ v. cond v None (Some b)) e)
+
       by_removed : (v : Bool) → (f t i r q x).flight.removed ≡ v → MatchOption (cond v None (Some b)) ⊥ (λ b. IsStored s b a) → Next (finished_state s r q (Ok a)) (call_at t (Finish r) i (Ok a))
       by_removed true e p = absurd p
       by_removed false e p =
-          rw (landed_is t i r q x, is, e, x.held)
+          rw (state_is e, x.held)
           (finish_holds s (writes_begun start h) (changes_of start h) l x.write (key_of q.entry) x.flies x.of_key (x.of_entry ∙ opens.entry) (rs t i r q x) a i.began ((f t i r q x).alive.0 e) p)
 
   finish_refused : (t : MomentValue) (i : Inside) (r : ℕ) (q : Request) (g : TierFault) → IsOpen start r q h → (x : Written start r q h) → IsFinishFault s (finishing q s.shelf) g
@@ -234,7 +240,9 @@ module _ (start : Opening) (s : State) (h : History) (l : Holds start s h) (coun
   answer_holds t i (Purge key) a n p x =
       subst (λ (y : Answer). Next (answered s t (Purge key) (call_at t (Purge key) i (Ok y)) y) (call_at t (Purge key) i (Ok y))) (sym p) (purged t i key (is_there (look (stored_key_of key) s.shelf)))
   answer_holds t i (Put key pieces) a n p x =
-      put_holds s (writes_begun start h) (changes_of start h) l (finished_by (call_at t (Put key pieces) i (Ok a))) (read_by (call_at t (Put key pieces) i (Ok a))) a i.began (may_begin s (call_at t (Put key pieces) i (Ok a))) p x
+      let c : Call = call_at t (Put key pieces) i (Ok a) in
+      subst (λ (m : ℕ). Next (after_put s (Some m) (finished_by c) a) c) (sym count)
+      (put_holds s (writes_begun start h) (changes_of start h) l (finished_by c) (read_by c) a i.began (may_begin s c) p x)
 
   finish_fault_holds : (t : MomentValue) (i : Inside) (r : ℕ) (g : TierFault) (o : Option TierFault) → refusal s (Finish r) ≡ o → AllowsBy o s t (Finish r) (call_at t (Finish r) i (Err g)) (Err g)
       → Next (on_request s r (λ q. finished_state s r q (Err g))) (call_at t (Finish r) i (Err g))

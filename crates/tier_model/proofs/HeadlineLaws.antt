@@ -34,7 +34,7 @@ use Rattle.tier_model.proofs.WriteLaws.{WritesFit}
 use Rattle.tier_model.proofs.OpenLaws.{Holds, IsOpen, Written, FlightAt, flight-at, finishing-is, unrefused}
 use Rattle.tier_model.proofs.EventLaws.{there_open, has_write}
 use Rattle.tier_model.proofs.StoredLaws.{ends_over, finish_stored}
-use Rattle.tier_model.proofs.OwnLaws.{OpenFits}
+use Rattle.tier_model.proofs.OwnTurns.{OpenFits}
 use Rattle.tier_model.proofs.ReportLaws.{did_nothing}
 use Rattle.tier_model.proofs.RightLaws.{opened, looks_right, purge_right, put_right, put_fault_right, begin_right, checked, begin_refused, piece_right, piece_refused}
 
@@ -63,7 +63,7 @@ module _ (start : Opening) (s : State) (h : History) (made : IsMade start.settin
 
     room : IsAlive x.write changes → (over : Bool) (es : List CacheEntryKey) → GoInTurn N over es (admitted s b) → EndsOver start.settings over (extended changes (finishes x.write ∷ settles b es))
     room alive over es go =
-        ends_over s n changes l n b (filter (λ g. not (has_number x.write.number g)) s.shelf.flying) (extended changes (finishes x.write ∷ settles b []))
+        ends_over s n changes l n x.write.number b (filter (λ g. not (has_number x.write.number g)) s.shelf.flying) (extended changes (finishes x.write ∷ settles b []))
         (finish_stored s n changes l x.write (key_of q.entry) x.flies x.of_key (x.of_entry ∙ opens.entry) alive) start.settings over es made go
 
     stored_right : (a : Answer) → IsAlive x.write changes → IsStored s b a → FinishIsRight start.settings (write_held start r h) (Ok a) changes

@@ -10,7 +10,7 @@ use Rattle.std.specs.FinMap as finite
 use Rattle.std.proofs.lemmas.List.Sums.{sum_by-cons}
 use Rattle.cache_entries.specs.Keys.{same_bytes}
 use Rattle.cache_changes.specs.Changes.{StoredKey, Write, Changes}
-use Rattle.cache_changes.specs.Writes.{bytes_of, IsBody}
+use Rattle.cache_changes.specs.Writes.{IsBody}
 use Rattle.cache_changes.specs.Bound as writes
 use Rattle.cache_entries.specs.SameEntry.{same_bytes-tells, same-sym}
 use Rattle.cache_evict.specs.Managed.{Managed}
@@ -18,31 +18,35 @@ use Rattle.tier_model.specs.declared.state.Body.{Body}
 use Rattle.tier_model.specs.Histories.{Kept, told_of}
 use Rattle.tier_model.specs.Reports.{AreAllBodies}
 use Rattle.tier_model.specs.Past.{told_at}
-use Rattle.tier_model.specs.Rows.{Bodies}
+use Rattle.tier_model.specs.Rows.{Numbered, Bodies}
 use Rattle.tier_model.specs.Shelf.{InFlight}
 use Rattle.tier_model.proofs.BodyLaws.{ties-same}
 use Rattle.tier_model.proofs.ChangeLaws.{Leaves}
-use Rattle.tier_model.proofs.ShownLaws.{shows, is_held}
+use Rattle.tier_model.proofs.ShownLaws.{Shows, shows, is_held}
 use Rattle.cache_changes.proofs.LaterLaws.{one_body}
 
 abbrev Rows : Type 0
-Rows = List (StoredKey × Body)
+Rows = List (StoredKey × Numbered)
+
+-- the body that changes say of a write, with its number
+abbrev numbered : Changes Kept → Write Kept → Numbered
+numbered changes w = record { number = w.number; body = told_of changes w }
 
 -- sums over them
-pub sums : (changes : Changes Kept) (ys : Rows) (ws : List (Write Kept)) → ys ≡ map (told_at changes) ws
-    → (sum_by (λ b. length b.bytes) (map (λ e. e.1) ys) ≡ sum_by (λ w. length (bytes_of w.number changes)) ws) × (length ys ≡ length ws)
-sums changes [] [] e = (refl, refl)
-sums changes (b ∷ bs) (w ∷ ws) e =
+pub sums : (f : Body → ℕ) (changes : Changes Kept) (ys : Rows) (ws : List (Write Kept)) → ys ≡ map (told_at changes) ws
+    → (sum_by (λ x. f x.body) (map (λ e. e.1) ys) ≡ sum_by (λ w. f (told_of changes w)) ws) × (length ys ≡ length ws)
+sums f changes [] [] e = (refl, refl)
+sums f changes (b ∷ bs) (w ∷ ws) e =
     let one : b ≡ told_at changes w = cc in
     let more : bs ≡ map (told_at changes) ws = cc in
-    let rest = sums changes bs ws more in (
-      sum_by-cons (λ (x : Body). length x.bytes) b.1 (map (λ e. e.1) bs) ∙ ap (λ m. length b.1.bytes + m) rest.0
-          ∙ ap (λ (x : StoredKey × Body). length x.1.bytes + sum_by (λ w. length (bytes_of w.number changes)) ws) one
-          ∙ sym (sum_by-cons (λ (x : Write Kept). length (bytes_of x.number changes)) w ws),
+    let rest = sums f changes bs ws more in (
+      sum_by-cons (λ (x : Numbered). f x.body) b.1 (map (λ e. e.1) bs) ∙ ap (λ m. f b.1.body + m) rest.0
+          ∙ ap (λ (x : StoredKey × Numbered). f x.1.body + sum_by (λ w. f (told_of changes w)) ws) one
+          ∙ sym (sum_by-cons (λ (x : Write Kept). f (told_of changes x)) w ws),
       omega (arith, rest.1),
     )
-sums changes [] (w ∷ ws) e = absurd cc
-sums changes (b ∷ bs) [] e = absurd cc
+sums f changes [] (w ∷ ws) e = absurd cc
+sums f changes (b ∷ bs) [] e = absurd cc
 
 -- ---- the keys of a finite map differ
 
@@ -72,7 +76,7 @@ sorted_distinct [] h = tt
 sorted_distinct (y ∷ ys) h = (below_apart y.0 ys (first _ _ h), sorted_distinct ys (second _ _ h))
 
 -- the first body of a key
-abbrev found_at : StoredKey → Rows → Option Body
+abbrev found_at : StoredKey → Rows → Option Numbered
 found_at k ys = finite.find (slice_cmp nat_cmp) k ys
 
 -- each of them is found by its key
@@ -90,7 +94,7 @@ module _ (N n : ℕ) (bodies : Bodies) (fs : List InFlight) (m : Managed) (chang
   -- each body with its write
   abbrev ArePairs : Rows → List (Write Kept) → Type 0
   ArePairs [] [] = Unit {0}
-  ArePairs (b ∷ bs) (w ∷ ws) = IsBody b.0 w changes × (b.1 ≡ told_of changes w) × ArePairs bs ws
+  ArePairs (b ∷ bs) (w ∷ ws) = IsBody b.0 w changes × (b.1 ≡ numbered changes w) × ArePairs bs ws
   ArePairs _ _ = ⊥
 
   one_key : (k : StoredKey) (w : Write Kept) → IsBody k w changes → w.key ≡ k
@@ -101,7 +105,10 @@ module _ (N n : ℕ) (bodies : Bodies) (fs : List InFlight) (m : Managed) (chang
   with_writes (b ∷ bs) h =
       let x = shows N n bodies fs m changes l b.0 b.1 (get-entries bodies b.0 ∙ h.0) in
       let rest = with_writes bs h.1 in
-      (x.write ∷ rest.0, (x.body, sym x.tells, rest.1))
+      (x.write ∷ rest.0, (x.body, same x, rest.1))
+    where
+      same : {k : StoredKey} {y : Numbered} → (x : Shows k y changes) → y ≡ numbered changes x.write
+      same {y = y} x = ap (λ (n : ℕ). record { number = n; body = y.body }) (sym x.number) ∙ ap (λ (p : Body). record { number = x.write.number; body = p }) (sym x.tells)
 
   -- one key each
   apart_writes : (j k : StoredKey) (ys : Rows) (ws : List (Write Kept)) → j ≡ k → ArePairs ys ws → AllByRecursion (λ c. same_bytes c.0 j ≡ false) ys
@@ -121,7 +128,7 @@ module _ (N n : ℕ) (bodies : Bodies) (fs : List InFlight) (m : Managed) (chang
   all_told : (ys : Rows) (ws : List (Write Kept)) → ArePairs ys ws → ys ≡ map (told_at changes) ws
   all_told [] [] p = refl
   all_told (b ∷ bs) (w ∷ ws) p =
-      ap (λ (x : Body). (b.0, x) ∷ bs) p.1 ∙ ap (λ (k : StoredKey). (k, told_of changes w) ∷ bs) (sym (one_key b.0 w p.0))
+      ap (λ (x : Numbered). (b.0, x) ∷ bs) p.1 ∙ ap (λ (k : StoredKey). (k, numbered changes w) ∷ bs) (sym (one_key b.0 w p.0))
       ∙ ap (λ (xs : Rows). told_at changes w ∷ xs) (all_told bs ws p.2)
   all_told [] (w ∷ ws) p = absurd p
   all_told (b ∷ bs) [] p = absurd p
@@ -132,7 +139,7 @@ module _ (N n : ℕ) (bodies : Bodies) (fs : List InFlight) (m : Managed) (chang
   all_bodies [] (w ∷ ws) p = absurd p
   all_bodies (b ∷ bs) [] p = absurd p
 
-  found_in : (k : StoredKey) (w : Write Kept) (b : Body) (ys : Rows) (ws : List (Write Kept)) → ArePairs ys ws → IsBody k w changes → found_at k ys ≡ Some b
+  found_in : (k : StoredKey) (w : Write Kept) (b : Numbered) (ys : Rows) (ws : List (Write Kept)) → ArePairs ys ws → IsBody k w changes → found_at k ys ≡ Some b
       → find (λ v. same_bytes v.key k) ws ≡ Some w
   found_in k w b [] [] p i e = absurd cc
   found_in k w b (y ∷ ys) (v ∷ ws) p i e = by_test (found_in k w b ys ws p.2 i) (eq_by_cmp (slice_cmp nat_cmp) k y.0) refl e

@@ -9,6 +9,7 @@ pub mod WrittenLaws
 pub mod ShownLaws
 pub mod BoundLaws
 pub mod CallLaws
+pub mod OtherLaws
 pub mod LandLaws
 pub mod WriteLaws
 pub mod OpenLaws
@@ -16,6 +17,7 @@ pub mod StoredLaws
 pub mod EventLaws
 pub mod StepLaws
 pub mod OwnSteps
+pub mod OwnTurns
 pub mod OwnLaws
 pub mod HeldLaws
 pub mod ReaderLaws

@@ -24,7 +24,7 @@ use Rattle.tier_model.specs.Past.{state_of, lock_changes_of, IsLawful}
 use Rattle.tier_model.proofs.PartLaws.{IsGivenRight, LockIsRight}
 use Rattle.tier_model.proofs.CallLaws.{Inside, call_at}
 use Rattle.tier_model.proofs.OpenLaws.{unrefused}
-use Rattle.tier_model.proofs.OwnLaws.{OpenFits}
+use Rattle.tier_model.proofs.OwnTurns.{OpenFits}
 use Rattle.tier_model.proofs.StandLaws.{Stands-lawful}
 use Rattle.tier_model.proofs.GrantSteps.{waits-from, waits-for}
 use Rattle.tier_model.proofs.EffectLaws.{grip_at, hold_at}
@@ -84,7 +84,7 @@ module _ (start : Opening) (h : History) (lawful : IsLawful start h) where
     look_right : (l : Look) → LockIsRight (LookUp r) (Ok (look_answer t (lock_given t q l s.lock) l)) h
     look_right absent = given_right absent refl
     look_right (in_flight f) = found_right false (is_fresh t f.meta) (in_flight f) refl
-    look_right (finished b) = found_right true (is_fresh t b.meta) (finished b) refl
+    look_right (finished b) = found_right true (is_fresh t b.body.meta) (finished b) refl
 
   request_right : (t : MomentValue) (r : ℕ) (a : Answer) (o : Option Request) → get s.requests r ≡ o
       → MatchOption o ⊥ (λ q. (a ≡ look_answer t (lock_given t q (look_for q s.shelf) s.lock) (look_for q s.shelf)) × UseFits s q (look_for q s.shelf)) → LockIsRight (LookUp r) (Ok a) h

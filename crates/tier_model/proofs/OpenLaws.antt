@@ -1,10 +1,11 @@
 -- What a state says of an open request and of its write.
 use Rattle.std.proofs.Common.{◌≡◌, ℕ, ◌≤◌, refl, ap, sym, ◌∙◌, true, false, subst, cond, [], ◌∷◌, ◌++◌, arith}
 use Rattle.std.specs.Prelude.{Bool, List, Option, Some, None, option_map, Ok, not, find, ◌↔◌}
+use Rattle.cache_heads.specs.Merged.{with_provenance_of}
 use Rattle.cache_words.specs.Time.{MomentValue}
 use Rattle.cache_changes.specs.Changes.{stored_key, Write, Change, Changes, uses}
 use Rattle.cache_changes.specs.Writes.{bytes_of, has_ended, meta_of, IsOrderly, IsInFlight, IsAlive, body_now}
-use Rattle.cache_changes.specs.Store.{store_of, has_number as held_number}
+use Rattle.cache_changes.specs.Store.{Stored, store_of, has_number as held_number}
 use Rattle.cache_changes.proofs.BodyLaws.{body_now-of}
 use Rattle.cache_changes.proofs.FlightLaws.{flight, flying_of, flying_at-is}
 use Rattle.cache_changes.proofs.StateLaws.{flying-tells}
@@ -19,15 +20,17 @@ use Rattle.tier_model.specs.declared.event.Done.{Done}
 use Rattle.tier_model.specs.declared.event.TierFault.{TierFault}
 use Rattle.tier_model.specs.declared.event.TierFault.TheVariants.{TooHeavy, TooLong, NumbersSpent, Memory}
 use Rattle.tier_model.specs.Keys.{Entry, alone}
-use Rattle.tier_model.specs.Calls.{Call, History, extended, done_of, writes_after, opened_for}
-use Rattle.tier_model.specs.Histories.{Kept, Opening, writes_begun, hit_changes, write_held, finished_of, changes_of}
-use Rattle.tier_model.specs.Rows.{Bodies, weight_for}
+use Rattle.tier_model.specs.Calls.{Call, History, extended, done_of, judged_of, writes_after, opened_for}
+use Rattle.tier_model.specs.Histories.{Kept, Opening, writes_begun, hit_changes, write_begun, begun_by, write_held, seen_by, finished_of, changes_of}
+use Rattle.tier_model.specs.Response.{kept}
+use Rattle.tier_model.specs.Rows.{Numbered, Bodies, weight_for}
 use Rattle.cache_heads.specs.declared.meta.CacheMeta.{CacheMeta}
 use Rattle.tier_model.specs.Shelf.{InFlight, Shelf, has_number, flying_at, absent, in_flight, finished, look_by}
-use Rattle.tier_model.specs.State.{Request, State, shards_of}
-use Rattle.tier_model.specs.Past.{plain}
+use Rattle.tier_model.specs.State.{Seen, Request, State, shards_of}
+use Rattle.tier_model.specs.Past.{plain, plain_seen}
 use Rattle.tier_model.specs.Checks.{refusal, unless, unless_open}
 use Rattle.tier_model.specs.Answers.{IsKeptOut, body_under, flight_of, finishing}
+use Rattle.tier_model.specs.After.{meta_for}
 use Rattle.tier_model.specs.Step.{IsAnswer, AllowsBy, BeginsWrite}
 use Rattle.tier_model.proofs.WriteLaws.{WritesFit, IsWriteOf}
 use Rattle.tier_model.proofs.FlightLaws.{find-plain}
@@ -66,17 +69,17 @@ kept_out-done s e w done _ p = absurd p
 
 -- ---- what is found
 
-pub look_finished : (o : Option InFlight) (p : Option Body) (b : Body) → look_by o p ≡ finished b → (o ≡ None) × (p ≡ Some b)
+pub look_finished : (o : Option InFlight) (p : Option Numbered) (b : Numbered) → look_by o p ≡ finished b → (o ≡ None) × (p ≡ Some b)
 look_finished (Some f) p b e = absurd cc
-look_finished None (Some c) b e = (refl, let same : c ≡ b = cc in ap (λ (x : Body). Some x) same)
+look_finished None (Some c) b e = (refl, let same : c ≡ b = cc in ap (λ (x : Numbered). Some x) same)
 look_finished None None b e = absurd cc
 
-pub look_flight : (o : Option InFlight) (p : Option Body) (f : InFlight) → look_by o p ≡ in_flight f → o ≡ Some f
+pub look_flight : (o : Option InFlight) (p : Option Numbered) (f : InFlight) → look_by o p ≡ in_flight f → o ≡ Some f
 look_flight (Some g) p f e = let same : g ≡ f = cc in ap (λ (x : InFlight). Some x) same
 look_flight None (Some c) f e = absurd cc
 look_flight None None f e = absurd cc
 
-pub look_absent : (o : Option InFlight) (p : Option Body) → look_by o p ≡ absent → (o ≡ None) × (p ≡ None)
+pub look_absent : (o : Option InFlight) (p : Option Numbered) → look_by o p ≡ absent → (o ≡ None) × (p ≡ None)
 look_absent (Some f) p e = absurd cc
 look_absent None (Some c) e = absurd cc
 look_absent None None e = (refl, refl)
@@ -85,8 +88,8 @@ abbrev use_of : Entry → Body → List (Change Kept)
 use_of e b = uses (alone e) (weight_for b) ∷ []
 
 -- what a hit changes: its entry is used
-pub hit_uses : (e : Entry) (b : Body) (changes : Changes Kept) → IsOrderly changes → Shows (stored_key e) b changes
-    → hit_changes e (body_now (stored_key e) changes) changes ≡ uses (alone e) (weight_for b) ∷ []
+pub hit_uses : (e : Entry) (b : Numbered) (changes : Changes Kept) → IsOrderly changes → Shows (stored_key e) b changes
+    → hit_changes e (body_now (stored_key e) changes) changes ≡ uses (alone e) (weight_for b.body) ∷ []
 hit_uses e b changes o x =
     ap (λ (w : Option (Write Kept)). hit_changes e w changes) (body_now-of (stored_key e) changes x.write o x.body) ∙ ap (λ (p : Body). use_of e p) x.tells
 
@@ -120,7 +123,25 @@ flight-at N n bodies fs m changes l w flies =
 pub record IsOpen (start : Opening) (id : ℕ) (q : Request) (h : History) : Type 0 where
   pub key : opened_for id h ≡ Some (key_of q.entry)
   pub entry : q.entry ≡ alone (key_of q.entry)
+  pub seen : q.seen ≡ option_map plain_seen (seen_by start id h)
   pub write : q.write ≡ option_map (λ w. w.number) (write_held start id h)
+
+-- the meta of what it has seen
+seen_alone : (o : Option Seen) (x : Option (Stored Kept)) → o ≡ option_map plain_seen x → option_map (λ y. y.meta) o ≡ option_map (λ y. y.meta.meta) x
+seen_alone o x e = ap (option_map (λ (y : Seen). y.meta)) e ∙ twice x
+  where
+    twice : (x : Option (Stored Kept)) → option_map (λ (y : Seen). y.meta) (option_map plain_seen x) ≡ option_map (λ y. y.meta.meta) x
+    twice None = refl
+    twice (Some y) = refl
+
+-- the write that it begins
+pub begun-is : (start : Opening) (id : ℕ) (q : Request) (h : History) (c : Call) → IsOpen start id q h → (meta : CacheMeta) → judged_of c ≡ Some (kept meta)
+    → begun_by start id c h ≡ Some (record { number = writes_begun start h; key = stored_key (key_of q.entry); meta = record { entry = alone (key_of q.entry); meta = meta_for q meta } })
+begun-is start id q h c opens meta is =
+    ap (λ (e : Option Entry). write_begun (writes_begun start h) e (seen_by start id h) (judged_of c)) opens.key
+    ∙ ap (write_begun (writes_begun start h) (Some (key_of q.entry)) (seen_by start id h)) is
+    ∙ ap (λ (o : Option CacheMeta). Some (record { number = writes_begun start h; key = stored_key (key_of q.entry); meta = record { entry = alone (key_of q.entry); meta = with_provenance_of o meta } }))
+    (sym (seen_alone q.seen (seen_by start id h) opens.seen))
 
 -- the write of a request that has one
 pub record Written (start : Opening) (id : ℕ) (q : Request) (h : History) : Type 0 where

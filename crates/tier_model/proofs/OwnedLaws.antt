@@ -30,7 +30,7 @@ use Rattle.tier_model.specs.Past.{state_of, IsLawful}
 use Rattle.tier_model.proofs.CallLaws.{Inside, call_at}
 use Rattle.tier_model.proofs.LandLaws.{Spares}
 use Rattle.tier_model.proofs.OpenLaws.{no-write, passed, test_passed, unrefused}
-use Rattle.tier_model.proofs.OwnLaws.{OpenFits}
+use Rattle.tier_model.proofs.OwnTurns.{OpenFits}
 use Rattle.tier_model.proofs.PartLaws.{IsRightApart}
 use Rattle.tier_model.proofs.HeadlineLaws.{IsRightApart-allowed}
 use Rattle.tier_model.proofs.StandLaws.{Stands, Stands-lawful}

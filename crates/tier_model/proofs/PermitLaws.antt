@@ -22,7 +22,7 @@ use Rattle.tier_model.specs.State.{Held, nothing, permit, waits, Request, State}
 use Rattle.tier_model.specs.Answers.{key_for}
 use Rattle.tier_model.specs.After.{lock_changes}
 use Rattle.tier_model.specs.Past.{state_of, lock_changes_of, IsLawful}
-use Rattle.tier_model.proofs.OwnLaws.{OpenFits}
+use Rattle.tier_model.proofs.OwnTurns.{OpenFits}
 use Rattle.tier_model.proofs.StandLaws.{Stands-lawful}
 use Rattle.tier_model.proofs.LockLaws.{IsSound-of}
 use Rattle.tier_model.proofs.GripLaws.{free, grips, by_permit, grip_key, Moves, moved-now, differ, key-itself}

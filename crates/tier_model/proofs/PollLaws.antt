@@ -36,7 +36,7 @@ use Rattle.tier_model.specs.Past.{hold_in, state_of, lock_changes_of, IsLawful}
 use Rattle.tier_model.proofs.PartLaws.{PollIsRight}
 use Rattle.tier_model.proofs.CallLaws.{Inside, call_at}
 use Rattle.tier_model.proofs.OpenLaws.{passed, test_passed, unrefused}
-use Rattle.tier_model.proofs.OwnLaws.{OpenFits}
+use Rattle.tier_model.proofs.OwnTurns.{OpenFits}
 use Rattle.tier_model.proofs.StandLaws.{Stands-lawful}
 use Rattle.tier_model.proofs.TurnLaws.{AllOf}
 use Rattle.tier_model.proofs.LockLaws.{lock-is}

@@ -19,7 +19,8 @@ use Rattle.tier_model.specs.Step.{UseFits, IsAnswer, AllowsBy, Allows}
 use Rattle.tier_model.specs.After.{reader_of, looked, after_wait, after}
 use Rattle.tier_model.specs.Past.{HasToRead}
 use Rattle.tier_model.proofs.PartLaws.{ReadIsRight}
-use Rattle.tier_model.proofs.CallLaws.{Inside, call_at, named_by, is_named, other-call, begin_turn, land_turn, read_turn, turn, requests-after}
+use Rattle.tier_model.proofs.OtherLaws.{other-call}
+use Rattle.tier_model.proofs.CallLaws.{Inside, call_at, named_by, is_named, begin_turn, land_turn, read_turn, turn, requests-after}
 use Rattle.tier_model.proofs.OpenLaws.{Holds, IsOpen, passed, test_passed, unrefused}
 use Rattle.tier_model.proofs.StreamLaws.{Counted, wait_reader, land_reader}
 use Rattle.tier_model.proofs.ReadLaws.{ReadsFit, carry, carry_all, looked_fits, begun_fits, read_fits, read_right}

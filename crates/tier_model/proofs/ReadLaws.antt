@@ -16,23 +16,22 @@ use Rattle.tier_model.specs.declared.event.Action.TheVariants.{LookUp, Begin, Re
 use Rattle.tier_model.specs.declared.event.Answer.{Answer}
 use Rattle.tier_model.specs.declared.event.Answer.TheVariants.{Begun, Bytes, End}
 use Rattle.tier_model.specs.declared.event.LockGiven.{LockGiven}
-use Rattle.tier_model.specs.Keys.{Entry, alone}
+use Rattle.tier_model.specs.Keys.{alone}
 use Rattle.tier_model.specs.Response.{Judged, kept, not_kept, too_early, not_read}
 use Rattle.tier_model.specs.Calls.{Call, History, extended, judged_of, ends_reader, bytes_given, bytes_read, bytes_answered}
-use Rattle.tier_model.specs.Histories.{Kept, Opening, writes_begun, write_begun, changes_in, changes_of, HasHit}
+use Rattle.tier_model.specs.Histories.{Kept, Opening, writes_begun, changes_of, HasHit}
 use Rattle.tier_model.specs.Reads.{HasStream, ReadsFront, IsOver}
-use Rattle.tier_model.specs.Rows.{body_of}
 use Rattle.tier_model.specs.Shelf.{InFlight, Readers, has_number, flying_at, flies_for, Look, absent, in_flight, finished, readable, past_place}
 use Rattle.tier_model.specs.State.{Reader, closed, unread, spent, streaming, Request, State, shards_of}
 use Rattle.tier_model.specs.Checks.{has_reader}
 use Rattle.tier_model.specs.Answers.{key_for, look_for, look_answer, next_by, next_of, read_answer, IsBeginAnswer}
-use Rattle.tier_model.specs.After.{reader_of, read_on}
+use Rattle.tier_model.specs.After.{reader_of, meta_for, read_on}
 use Rattle.tier_model.specs.Past.{plain, streams_by, streams, streamers, IsReadable, HasToRead}
 use Rattle.tier_model.proofs.PartLaws.{ReadIsRight}
 use Rattle.tier_model.proofs.ShownLaws.{shows, shows_flight, body_shown}
 use Rattle.tier_model.proofs.FlightLaws.{find-plain}
-use Rattle.tier_model.proofs.CallLaws.{Inside, call_at, itself, begin_turn}
-use Rattle.tier_model.proofs.OpenLaws.{Holds, IsOpen, flight-at, look_finished, look_flight}
+use Rattle.tier_model.proofs.CallLaws.{Inside, call_at, changes_at, itself, begin_turn}
+use Rattle.tier_model.proofs.OpenLaws.{Holds, IsOpen, begun-is, flight-at, look_finished, look_flight}
 use Rattle.tier_model.specs.Shelf.{readable_of}
 use Rattle.tier_model.proofs.ReaderLaws.{sum-taken, CountFits, LeftBy}
 use Rattle.tier_model.proofs.StreamLaws.{Counted}
@@ -77,7 +76,7 @@ module _ (start : Opening) where
   carry id (unread bytes) c h e b fits = (fits.0, c ∷ fits.1, longer_hit id fits.0 fits.1 c h e fits.2, same_bytes_read id fits.1 c b ∙ fits.3, fits.4)
   carry id spent c h e b fits = (fits.0, c ∷ fits.1, longer_hit id fits.0 fits.1 c h e fits.2, same_bytes_read id fits.1 c b ∙ fits.3)
   carry id (streaming n place) c h e b fits =
-      let new = grown n (changes_in start c.event.action c.outcome c h (changes_of start h)) (changes_of start h) in
+      let new = grown n (changes_at start c.event.action c.outcome c h (changes_of start h)) (changes_of start h) in
       let same = same_bytes_read id fits.1 c b in (
         fits.0,
         c ∷ fits.1,
@@ -157,7 +156,7 @@ module _ (start : Opening) where
     looked_fits t i r q absent given opens e = tt
     looked_fits t i r q (in_flight f) given opens e =
         let x = shows_flight (shards_of s) (writes_begun start h) s.shelf.bodies s.shelf.flying s.managed (changes_of start h) l.leaves (key_for q) f
-        (look_flight (find (flies_for (key_for q)) s.shelf.flying) (body_of (key_for q) s.shelf.bodies) f e) in (
+        (look_flight (find (flies_for (key_for q)) s.shelf.flying) (get s.shelf.bodies (key_for q)) f e) in (
           x.write,
           [],
           record { call = call_at t (LookUp r) i (Ok (look_answer t given (in_flight f))); before = h; split = refl; streams = inl (ap (λ v. v && true) (itself r), (key_of q.entry, opens.key, x.shown)); last = tt },
@@ -166,7 +165,7 @@ module _ (start : Opening) where
           (bytes_of f.number (changes_of start h), refl),
         )
     looked_fits t i r q (finished b) given opens e =
-        let there = look_finished (find (flies_for (key_for q)) s.shelf.flying) (body_of (key_for q) s.shelf.bodies) b e in
+        let there = look_finished (find (flies_for (key_for q)) s.shelf.flying) (get s.shelf.bodies (key_for q)) b e in
         let x = shows (shards_of s) (writes_begun start h) s.shelf.bodies s.shelf.flying s.managed (changes_of start h) l.leaves (key_for q) b there.1 in (
           x.write,
           [],
@@ -189,13 +188,13 @@ module _ (start : Opening) where
         → HasToRead start r (begin_turn s j q).reader (call_at t (Begin r head) i (Ok a) ∷ h)
     begun_fits t i r head q a (Some (kept meta)) opens is p =
         subst (λ (y : Answer). HasToRead start r (streaming s.shelf.writes 0) (call_at t (Begin r head) i (Ok y) ∷ h)) (sym p) (
-          record { number = writes_begun start h; key = stored_key (key_of q.entry); meta = record { entry = alone (key_of q.entry); meta = meta } },
+          record { number = writes_begun start h; key = stored_key (key_of q.entry); meta = record { entry = alone (key_of q.entry); meta = meta_for q meta } },
           [],
           record {
             call = call_at t (Begin r head) i (Ok Begun);
             before = h;
             split = refl;
-            streams = inr (itself r, ap (λ (o : Option Entry). write_begun (writes_begun start h) o (judged_of (call_at t (Begin r head) i (Ok Begun)))) opens.key ∙ ap (write_begun (writes_begun start h) (Some (key_of q.entry))) is);
+            streams = inr (itself r, begun-is start r q h (call_at t (Begin r head) i (Ok Begun)) opens meta is);
             last = tt;
           },
           sym count,

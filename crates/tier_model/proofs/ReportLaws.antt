@@ -70,7 +70,7 @@ begin_nothing s None f p = absurd p
 used_nothing : (s : State) (q : Request) (l : Look) (f : TierFault) → IsUseFault s q l f → done_of f ≡ nothing_done
 used_nothing s q absent f p = absurd p
 used_nothing s q (in_flight x) f p = absurd p
-used_nothing s q (finished b) f p = kept_out-done s q.entry (weight_for b) nothing_done f p.1
+used_nothing s q (finished b) f p = kept_out-done s q.entry (weight_for b.body) nothing_done f p.1
 
 looks_nothing : (s : State) (t : MomentValue) (x : Option Request) (f : TierFault) → MatchOption x ⊥ (λ q. IsUseFault s q (look_for q s.shelf) f ⊎ IsLockFault s t q f) → done_of f ≡ nothing_done
 looks_nothing s t None f p = absurd p
@@ -114,7 +114,7 @@ put_fault_counts s None None f p = absurd p
 
 -- a finish that did nothing, or found its write removed
 nothing_finished : (s : State) (r : ℕ) (q : Request) (f : TierFault) (v : Bool) → done_of f ≡ nothing_done
-    → Counts s (cond v (after_finish (after_flight s r q) (finishing q s.shelf) (Err f)) s) (Err f)
+    → Counts s (cond v (after_finish (after_flight s r q) q.write (finishing q s.shelf) (Err f)) s) (Err f)
 nothing_finished s r q f false d = quiet s s (Err f) refl refl refl (fault_quiet f d)
 nothing_finished s r q f true d =
     rw (quiet_undone (after_flight s r q) (finishing q s.shelf) (done_of f) d) (quiet s (after_flight s r q) (Err f) refl refl refl (fault_quiet f d))
@@ -128,8 +128,8 @@ finish_fault_counts s r q f (Some b) e p = elim p [
       (subst (λ (x : Option FinishedBody). Counts s (undone (after_flight s r q) x (done_of f)) (Err f)) (sym e) (back_counts s (after_flight s r q) b f refl refl refl (fault-stored s b f late)))
 ]
   where
-    by_landing : (v : Bool) → v ≡ true → Counts s (after_finish (after_flight s r q) (finishing q s.shelf) (Err f)) (Err f)
-        → Counts s (cond v (after_finish (after_flight s r q) (finishing q s.shelf) (Err f)) s) (Err f)
+    by_landing : (v : Bool) → v ≡ true → Counts s (after_finish (after_flight s r q) q.write (finishing q s.shelf) (Err f)) (Err f)
+        → Counts s (cond v (after_finish (after_flight s r q) q.write (finishing q s.shelf) (Err f)) s) (Err f)
     by_landing true l k = k
     by_landing false l k = absurd cc
 

@@ -6,7 +6,7 @@ use Rattle.cache_words.specs.Time.{MomentValue, at_most}
 use Rattle.cache_heads.specs.declared.meta.CacheMeta.{CacheMeta}
 use Rattle.cache_entries.specs.Entry.{key_of}
 use Rattle.cache_changes.specs.Changes.{StoredKey, stored_key, Changes}
-use Rattle.tier_model.specs.Keys.{Entry, alone}
+use Rattle.tier_model.specs.Keys.{alone}
 use Rattle.tier_model.specs.declared.whole.Whole.{Whole}
 use Rattle.tier_model.specs.declared.whole.Whole.TheVariants as whole
 use Rattle.tier_model.specs.declared.state.Body.{Body}
@@ -20,23 +20,24 @@ use Rattle.tier_model.specs.declared.event.TierFault.TheVariants.{NoRequest, Wro
 use Rattle.tier_model.specs.declared.event.Done.{Done}
 use Rattle.tier_model.specs.Response.{Judged, kept, not_kept, too_early, not_read}
 use Rattle.tier_model.specs.Calls.{Call, History, judged_of, extended}
-use Rattle.tier_model.specs.Histories.{Kept, Opening, writes_begun, stores, write_begun, write_held, changes_of}
+use Rattle.tier_model.specs.Histories.{Kept, Opening, writes_begun, stores, write_held, changes_of}
 use Rattle.tier_model.specs.Headline.{PurgesRight, PutsRight, BeginsRight, PieceIsRight}
-use Rattle.tier_model.specs.Rows.{FinishedBody, body_of, weight_for}
+use Rattle.tier_model.specs.Rows.{FinishedBody, weight_for}
 use Rattle.tier_model.specs.Shelf.{Look, absent, in_flight, finished, look, flies_for, flying_at, is_there}
 use Rattle.tier_model.specs.State.{Request, State, shards_of}
 use Rattle.tier_model.specs.Checks.{refusal, unless, unless_open, piece_refusal, has_ended as ended_at}
 use Rattle.tier_model.specs.Answers.{key_for, look_for, lock_given, look_answer, stored_alone, IsPutAnswer, IsKeptOut, IsPutFault, IsBeginAnswer, IsBeginFault}
 use Rattle.tier_model.specs.Step.{UseFits, AllowsBy}
+use Rattle.tier_model.specs.After.{meta_for}
 use Rattle.tier_model.proofs.RowSteps.{IsMade}
 use Rattle.tier_model.proofs.PartLaws.{ShowsRight}
 use Rattle.tier_model.proofs.ShownLaws.{shows, shows_flight, none_in_flight, body_shown, not_found}
 use Rattle.tier_model.proofs.CallLaws.{Inside}
 use Rattle.tier_model.proofs.WriteLaws.{WritesFit}
-use Rattle.tier_model.proofs.OpenLaws.{Holds, IsOpen, look_finished, look_flight, look_absent, test_passed, not_false}
+use Rattle.tier_model.proofs.OpenLaws.{Holds, IsOpen, begun-is, look_finished, look_flight, look_absent, test_passed, not_false}
 use Rattle.tier_model.proofs.EventLaws.{the-piece}
 use Rattle.tier_model.proofs.StoredLaws.{ends_over, put_stored}
-use Rattle.tier_model.proofs.OwnLaws.{OpenFits}
+use Rattle.tier_model.proofs.OwnTurns.{OpenFits}
 
 module _ (start : Opening) (s : State) (h : History) (made : IsMade start.settings s.managed) (l : Holds start s h) (count : s.shelf.writes ≡ writes_begun start h)
     (fits : (id : ℕ) → OpenFits start id (get s.requests id) h) (writes : WritesFit start h) where
@@ -56,13 +57,13 @@ module _ (start : Opening) (s : State) (h : History) (made : IsMade start.settin
 
   look_right : (t : MomentValue) (r : ℕ) (q : Request) (given : LockGiven) (x : Look) → IsOpen start r q h → look_for q s.shelf ≡ x → ShowsRight r t (look_answer t given x) h changes
   look_right t r q given absent opens e =
-      let there = look_absent (find (flies_for (key_for q)) s.shelf.flying) (body_of (key_for q) s.shelf.bodies) e in
+      let there = look_absent (find (flies_for (key_for q)) s.shelf.flying) (get s.shelf.bodies (key_for q)) e in
       (key_of q.entry, opens.key, not_found N n s.shelf.bodies s.shelf.flying s.managed changes l.leaves (key_for q) there.0 there.1)
   look_right t r q given (in_flight f) opens e =
-      let x = shows_flight N n s.shelf.bodies s.shelf.flying s.managed changes l.leaves (key_for q) f (look_flight (find (flies_for (key_for q)) s.shelf.flying) (body_of (key_for q) s.shelf.bodies) f e) in
+      let x = shows_flight N n s.shelf.bodies s.shelf.flying s.managed changes l.leaves (key_for q) f (look_flight (find (flies_for (key_for q)) s.shelf.flying) (get s.shelf.bodies (key_for q)) f e) in
       (key_of q.entry, x.write, opens.key, x.shown, ap (λ (m : CacheMeta). at_most t m.internal.fresh_until) x.meta, (λ c. absurd cc, λ none. absurd (none x.write x.flying)))
   look_right t r q given (finished b) opens e =
-      let there = look_finished (find (flies_for (key_for q)) s.shelf.flying) (body_of (key_for q) s.shelf.bodies) b e in
+      let there = look_finished (find (flies_for (key_for q)) s.shelf.flying) (get s.shelf.bodies (key_for q)) b e in
       let x = shows N n s.shelf.bodies s.shelf.flying s.managed changes l.leaves (key_for q) b there.1 in (
         key_of q.entry,
         x.write,
@@ -80,13 +81,13 @@ module _ (start : Opening) (s : State) (h : History) (made : IsMade start.settin
 
   pub purge_right : (k : StoredKey) (x : Look) → look k s.shelf ≡ x → PurgesRight k (Purged (is_there x)) changes
   purge_right k absent e =
-      let there = look_absent (find (flies_for k) s.shelf.flying) (body_of k s.shelf.bodies) e in
+      let there = look_absent (find (flies_for k) s.shelf.flying) (get s.shelf.bodies k) e in
       (λ t. absurd cc, λ found. absurd (not_found N n s.shelf.bodies s.shelf.flying s.managed changes l.leaves k there.0 there.1 found))
   purge_right k (in_flight f) e =
-      let x = shows_flight N n s.shelf.bodies s.shelf.flying s.managed changes l.leaves k f (look_flight (find (flies_for k) s.shelf.flying) (body_of k s.shelf.bodies) f e) in
+      let x = shows_flight N n s.shelf.bodies s.shelf.flying s.managed changes l.leaves k f (look_flight (find (flies_for k) s.shelf.flying) (get s.shelf.bodies k) f e) in
       (λ t. (x.write, x.flying.of_key, x.flying.alive), λ f. refl)
   purge_right k (finished b) e =
-      let there = look_finished (find (flies_for k) s.shelf.flying) (body_of k s.shelf.bodies) b e in
+      let there = look_finished (find (flies_for k) s.shelf.flying) (get s.shelf.bodies k) b e in
       let x = shows N n s.shelf.bodies s.shelf.flying s.managed changes l.leaves k b there.1 in
       (λ t. (x.write, x.body.of_key, x.body.alive), λ f. refl)
 
@@ -94,7 +95,7 @@ module _ (start : Opening) (s : State) (h : History) (made : IsMade start.settin
 
   pub put_right : (g : Option FinishedBody) (w : Option Whole) (a : Answer) → IsPutAnswer s g w a → PutsRight start.settings n g w (Ok a) changes
   put_right (Some b) w (Finished m es) p =
-      (b, refl, p.0, ends_over s n changes l (n + 1) b s.shelf.flying (extended changes (stores n b [])) (put_stored s n changes l b) start.settings false es made p.2)
+      (b, refl, p.0, ends_over s n changes l (n + 1) n b s.shelf.flying (extended changes (stores n b [])) (put_stored s n changes l b) start.settings false es made p.2)
   put_right (Some b) w _ p = absurd p
   put_right None (Some (whole.Uncacheable reason)) (answer.Uncacheable shown) p = ap (λ r. Some (whole.Uncacheable r)) (sym p)
   put_right None (Some (whole.Uncacheable reason)) _ p = absurd p
@@ -117,7 +118,7 @@ module _ (start : Opening) (s : State) (h : History) (made : IsMade start.settin
     | inr late ↦ elim late [
       | inl out ↦ kept_out_right b w f out
       | inr cut ↦ subst (λ (x : TierFault). PutsRight start.settings n (Some b) w (Err x) changes) (sym cut.1)
-          (b, refl, ends_over s n changes l (n + 1) b s.shelf.flying (extended changes (stores n b [])) (put_stored s n changes l b) start.settings true cut.0 made cut.3)
+          (b, refl, ends_over s n changes l (n + 1) n b s.shelf.flying (extended changes (stores n b [])) (put_stored s n changes l b) start.settings true cut.0 made cut.3)
     ]
   ]
   put_fault_right None (Some whole.Incomplete) f p = subst (λ (x : TierFault). PutsRight start.settings n None (Some whole.Incomplete) (Err x) changes) (sym p) refl
@@ -133,8 +134,8 @@ module _ (start : Opening) (s : State) (h : History) (made : IsMade start.settin
       → IsBeginAnswer j a → BeginsRight start r c (Ok a) h
   begin_right t i r head q a c (Some (kept meta)) opens is p =
       subst (λ (y : Answer). BeginsRight start r c (Ok y) h) (sym p) (
-        record { number = n; key = stored_key (key_of q.entry); meta = record { entry = alone (key_of q.entry); meta = meta } },
-        ap (λ (o : Option Entry). write_begun n o (judged_of c)) opens.key ∙ ap (write_begun n (Some (key_of q.entry))) is,
+        record { number = n; key = stored_key (key_of q.entry); meta = record { entry = alone (key_of q.entry); meta = meta_for q meta } },
+        begun-is start r q h c opens meta is,
       )
   begin_right t i r head q a c (Some (not_kept reason)) opens is p = subst (λ (y : Answer). BeginsRight start r c (Ok y) h) (sym p) is
   begin_right t i r head q a c (Some too_early) opens is p = absurd p

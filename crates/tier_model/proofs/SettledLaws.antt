@@ -6,7 +6,7 @@ use Rattle.std.specs.Ordering.{nat_cmp}
 use Rattle.std.proofs.lemmas.Bool.{eq-eqb}
 use Rattle.cache_words.specs.Time.{MomentValue}
 use Rattle.cache_changes.specs.Changes.{StoredKey}
-use Rattle.cache_lock.specs.Changes.{Changes, gives, lends, stores, takes_out, spends}
+use Rattle.cache_lock.specs.Changes.{Changes, gives, lends, stores, spends}
 use Rattle.cache_lock.specs.Answers.{to_wait_for, locked_by, lock_change, release_changes, leave_changes, wait_outcome, poll_changes, released_by}
 use Rattle.cache_lock.specs.State.{IsSound, status_of, is_number}
 use Rattle.cache_lock.specs.Status.{is_aged, is_end}

@@ -1,6 +1,7 @@
 -- What the bodies and the writes in flight that are left report of writes.
-use Rattle.std.proofs.Common.{◌≡◌, ℕ, refl, ap, sym, ◌∙◌, true, false, inl, inr}
-use Rattle.std.specs.Prelude.{List, Option, Some, None, option_map, is_some, find}
+use Rattle.std.proofs.Common.{◌≡◌, ℕ, refl, ap, sym, ◌∙◌, true, false, subst, cond, inl, inr}
+use Rattle.std.specs.Prelude.{Bool, List, Option, Some, None, option_map, is_some, find}
+use Rattle.std.specs.FinMap.{get}
 use Rattle.cache_entries.specs.Keys.{same_bytes}
 use Rattle.cache_changes.specs.Changes.{StoredKey, Write, Changes}
 use Rattle.cache_changes.specs.Writes.{bytes_of, has_ended, meta_of, IsOrderly, IsAliveInFlight, IsFound, IsShown, IsBody}
@@ -11,12 +12,12 @@ use Rattle.cache_changes.proofs.OrderLaws.{flights-rise, found_number}
 use Rattle.cache_changes.proofs.RowLaws.{find-some, find-passes, was_false}
 use Rattle.cache_changes.proofs.WriteLaws.{and_true, both_true}
 use Rattle.cache_evict.specs.Managed.{Managed}
-use Rattle.tier_model.specs.declared.state.Body.{Body}
 use Rattle.tier_model.specs.Histories.{Kept, told_of}
-use Rattle.tier_model.specs.Shelf.{InFlight, flies_for as flies_in}
-use Rattle.tier_model.specs.Past.{plain}
+use Rattle.tier_model.specs.Shelf.{InFlight, Look, absent, in_flight, finished, look_by, flies_for as flies_in}
+use Rattle.tier_model.specs.State.{Seen}
+use Rattle.tier_model.specs.Past.{plain, plain_seen}
 use Rattle.tier_model.proofs.FlightLaws.{find-plain}
-use Rattle.tier_model.specs.Rows.{Bodies, body_of}
+use Rattle.tier_model.specs.Rows.{Numbered, Bodies}
 use Rattle.tier_model.proofs.BodyLaws.{view, AreSame}
 use Rattle.tier_model.proofs.ChangeLaws.{Leaves}
 
@@ -46,7 +47,7 @@ shown_first k g changes e = ap (λ (o : Option (Flying Kept)). option_or (option
 shown_body : (k : StoredKey) (changes : Changes Kept) → find (flies_for k) (store_of changes).flying ≡ None → shown_at k (store_of changes) ≡ body_at k (store_of changes)
 shown_body k changes e = ap (λ (o : Option (Flying Kept)). option_or (option_map (λ f. f.stored) o) (body_at k (store_of changes))) e
 
-held_there : (o : Option Body) (b : Body) (x : Option (Stored Kept)) → o ≡ Some b → AreSame o x → (y : Stored Kept) × (x ≡ Some y) × (view y ≡ b)
+held_there : (o : Option Numbered) (b : Numbered) (x : Option (Stored Kept)) → o ≡ Some b → AreSame o x → (y : Stored Kept) × (x ≡ Some y) × (view y ≡ b)
 held_there None b x there e = absurd cc
 held_there (Some c) b None there e = absurd cc
 held_there (Some c) b (Some y) there e =
@@ -54,12 +55,12 @@ held_there (Some c) b (Some y) there e =
     let pair : c ≡ view y = cc in
     (y, refl, sym pair ∙ same)
 
-held_none : (o : Option Body) (x : Option (Stored Kept)) → o ≡ None → AreSame o x → x ≡ None
+held_none : (o : Option Numbered) (x : Option (Stored Kept)) → o ≡ None → AreSame o x → x ≡ None
 held_none None None there e = refl
 held_none None (Some y) there e = absurd cc
 held_none (Some c) x there e = absurd cc
 
-held_back : (o : Option Body) (x : Option (Stored Kept)) (y : Stored Kept) → x ≡ Some y → AreSame o x → (b : Body) × (o ≡ Some b) × (b ≡ view y)
+held_back : (o : Option Numbered) (x : Option (Stored Kept)) (y : Stored Kept) → x ≡ Some y → AreSame o x → (b : Numbered) × (o ≡ Some b) × (b ≡ view y)
 held_back None (Some z) y there e = absurd cc
 held_back None None y there e = absurd cc
 held_back (Some b) None y there e = absurd cc
@@ -69,11 +70,12 @@ held_back (Some b) (Some z) y there e =
     (b, refl, pair ∙ ap view same)
 
 -- the write of a body that is held
-pub record Shows (k : StoredKey) (b : Body) (changes : Changes Kept) : Type 0 where
+pub record Shows (k : StoredKey) (b : Numbered) (changes : Changes Kept) : Type 0 where
   pub write : Write Kept
   pub body : IsBody k write changes
   pub at : body_at k (store_of changes) ≡ Some (stored_of write changes)
-  pub tells : told_of changes write ≡ b
+  pub number : write.number ≡ b.number
+  pub tells : told_of changes write ≡ b.body
 
 -- the write in flight that is found
 pub record ShowsFlight (k : StoredKey) (f : InFlight) (changes : Changes Kept) : Type 0 where
@@ -84,6 +86,21 @@ pub record ShowsFlight (k : StoredKey) (f : InFlight) (changes : Changes Kept) :
   pub meta : f.meta ≡ (meta_of write changes).meta
   pub bytes : f.bytes ≡ bytes_of write.number changes
 
+-- what a look-up finds is what changes show
+abbrev pub IsSeen : Look → Option (Stored Kept) → Type 0
+IsSeen absent shown = Unit {0}
+IsSeen (in_flight f) shown = option_map plain_seen shown ≡ Some (record { number = f.number; meta = f.meta })
+IsSeen (finished x) shown = option_map plain_seen shown ≡ Some (record { number = x.number; meta = x.body.meta })
+
+pub seen_found : (fresh : Bool) (shown : Option (Stored Kept)) (x : Seen) → option_map plain_seen shown ≡ Some x → cond fresh None (Some x) ≡ option_map plain_seen (cond fresh None shown)
+seen_found true shown x e = refl
+seen_found false shown x e = sym e
+
+sees_by : (f : Option (Flying Kept)) (x : Option (Stored Kept)) → IsSeen (look_by (option_map plain f) (option_map view x)) (option_or (option_map (λ f. f.stored) f) x)
+sees_by (Some g) x = refl
+sees_by None (Some y) = refl
+sees_by None None = tt
+
 plain_back : (o : Option (Flying Kept)) (f : InFlight) → option_map plain o ≡ Some f → (g : Flying Kept) × (o ≡ Some g) × (plain g ≡ f)
 plain_back None f e = absurd cc
 plain_back (Some g) f e = (g, refl, cc)
@@ -93,21 +110,33 @@ plain_none None e = refl
 plain_none (Some g) e = absurd cc
 
 module _ (N n : ℕ) (bodies : Bodies) (fs : List InFlight) (m : Managed) (changes : Changes Kept) (l : Leaves N n bodies fs m changes) where
-  pub shows : (k : StoredKey) (b : Body) → body_of k bodies ≡ Some b → Shows k b changes
+  pub shows : (k : StoredKey) (b : Numbered) → get bodies k ≡ Some b → Shows k b changes
   shows k b e =
-      let there = held_there (body_of k bodies) b (body_at k (store_of changes)) e (l.bodies k) in
+      let there = held_there (get bodies k) b (body_at k (store_of changes)) e (l.bodies k) in
       let x : Stored Kept = there.0 in
       let body = ((store_of-is changes l.orderly).bodies k x).0 there.1 in
-      record { write = x.write; body = body.0; at = there.1 ∙ ap (λ (y : Stored Kept). Some y) body.1; tells = ap view (sym body.1) ∙ there.2 }
+      record {
+        write = x.write;
+        body = body.0;
+        at = there.1 ∙ ap (λ (y : Stored Kept). Some y) body.1;
+        number = ap (λ (y : Numbered). y.number) there.2;
+        tells = ap (λ (y : Stored Kept). (view y).body) (sym body.1) ∙ ap (λ (y : Numbered). y.body) there.2;
+      }
 
   -- the body of a write is held
-  pub is_held : (k : StoredKey) (w : Write Kept) → IsBody k w changes → (b : Body) × (body_of k bodies ≡ Some b) × (b ≡ told_of changes w)
+  pub is_held : (k : StoredKey) (w : Write Kept) → IsBody k w changes → (b : Numbered) × (get bodies k ≡ Some b) × (b ≡ view (stored_of w changes))
   is_held k w i =
       let at = ((store_of-is changes l.orderly).bodies k (stored_of w changes)).1 (i, refl) in
-      held_back (body_of k bodies) (body_at k (store_of changes)) (stored_of w changes) at (l.bodies k)
+      held_back (get bodies k) (body_at k (store_of changes)) (stored_of w changes) at (l.bodies k)
 
   first_in : (k : StoredKey) → find (flies_in k) fs ≡ option_map plain (find (flies_for k) (store_of changes).flying)
   first_in k = ap (find (flies_in k)) l.flights ∙ find-plain (flies_for k) (flies_in k) (store_of changes).flying (λ f. refl)
+
+  pub sees : (k : StoredKey) (x : Look) → look_by (find (flies_in k) fs) (get bodies k) ≡ x → IsSeen x (shown_at k (store_of changes))
+  sees k x e =
+      subst (λ (y : Look). IsSeen y (shown_at k (store_of changes)))
+      (sym (ap (λ (o : Option InFlight). look_by o (get bodies k)) (first_in k) ∙ ap (look_by (option_map plain (find (flies_for k) (store_of changes).flying))) (l.bodies k)) ∙ e)
+      (sees_by (find (flies_for k) (store_of changes).flying) (body_at k (store_of changes)))
 
   pub shows_flight : (k : StoredKey) (f : InFlight) → find (flies_in k) fs ≡ Some f → ShowsFlight k f changes
   shows_flight k f e =
@@ -131,12 +160,12 @@ module _ (N n : ℕ) (bodies : Bodies) (fs : List InFlight) (m : Managed) (chang
     pub none_in_flight : (v : Write Kept) → IsAliveInFlight k v changes → ⊥
     none_in_flight v f = none_flies k v changes l.orderly none_first f
 
-    pub body_shown : (b : Body) (x : Shows k b changes) → IsShown k x.write changes
+    pub body_shown : (b : Numbered) (x : Shows k b changes) → IsShown k x.write changes
     body_shown b x = inr (none_in_flight, x.body)
 
-    pub not_found : body_of k bodies ≡ None → ¬ IsFound k changes
+    pub not_found : get bodies k ≡ None → ¬ IsFound k changes
     not_found e f =
-        let gone : body_at k (store_of changes) ≡ None = held_none (body_of k bodies) (body_at k (store_of changes)) e (l.bodies k) in
+        let gone : body_at k (store_of changes) ≡ None = held_none (get bodies k) (body_at k (store_of changes)) e (l.bodies k) in
         let there = ((store_of-is changes l.orderly).found k).1 f in
         let not_there : is_found_at k (store_of changes) ≡ false = ap is_some (shown_body k changes none_first ∙ gone) in
         absurd cc

@@ -35,7 +35,8 @@ use Rattle.tier_model.proofs.CallLaws.{Inside, call_at}
 use Rattle.tier_model.proofs.WriteLaws.{WritesFit, IsPlain, WritesFit-after}
 use Rattle.tier_model.proofs.OpenLaws.{Holds, IsOpen, unrefused}
 use Rattle.tier_model.proofs.EventLaws.{Holds-after}
-use Rattle.tier_model.proofs.OwnLaws.{OpenFits, OpenFits-after}
+use Rattle.tier_model.proofs.OwnLaws.{OpenFits-after}
+use Rattle.tier_model.proofs.OwnTurns.{OpenFits}
 use Rattle.tier_model.proofs.ReaderLaws.{CountFits}
 use Rattle.tier_model.proofs.StreamLaws.{Counted}
 use Rattle.tier_model.proofs.StreamEvents.{Counted-after}
@@ -170,7 +171,7 @@ Stands-lawful start (c ∷ h) l =
     record {
       made = made-after (state_of start h) c start.settings past.made;
       holds = Holds-next start (state_of start h) h past c l.0;
-      opens = OpenFits-after start (state_of start h) c h past.count past.writes past.opens l.0;
+      opens = OpenFits-after start (state_of start h) c h past.holds past.count past.writes past.opens l.0;
       writes = WritesFit-after start c.event.moment (record { reading = c.reading; began = c.began; asked = c.asked }) h past.writes past.holds.leaves.below c.event.action c.outcome (is-plain start (state_of start h) h past c l.0);
       count = ap (λ (n : ℕ). writes_after n c.began) past.count;
       tallies = Tallies-after (state_of start h) c h l.0 past.tallies;

@@ -18,7 +18,7 @@ use Rattle.cache_changes.specs.Changes.{StoredKey, Write, Changes, begins}
 use Rattle.cache_changes.specs.Writes.{IsFound}
 use Rattle.cache_changes.specs.Uses.{admissions, in_shard}
 use Rattle.cache_evict.specs.Managed.{Managed, IsSharded, fresh, rows_at, shard_of}
-use Rattle.tier_model.specs.declared.state.Body.{Body}
+use Rattle.tier_model.specs.Rows.{Numbered}
 use Rattle.tier_model.specs.Histories.{changes_of}
 use Rattle.tier_model.specs.Shelf.{Readers}
 use Rattle.tier_model.specs.Past.{HasPast, in_shards}
@@ -167,7 +167,7 @@ no_row (suc n) = no_row n
 pub empty-new : (settings : Settings) → IsNew (empty_state settings)
 empty-new settings = record {
   nothing_else = record {
-    bodies = len-empty (slice_cmp nat_cmp) Body;
+    bodies = len-empty (slice_cmp nat_cmp) Numbered;
     flying = refl;
     readers = len-empty nat_cmp Readers;
     lock = refl;

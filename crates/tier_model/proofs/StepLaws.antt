@@ -24,10 +24,10 @@ use Rattle.tier_model.specs.After.{answered, refused, after_outcome, after}
 use Rattle.tier_model.proofs.RowSteps.{IsMade, made-put, made-used, made-out, made-gone}
 
 module _ (x : Settings) where
-  put_made : (s : State) (b : Option FinishedBody) (a : Answer) → IsMade x s.managed → IsMade x (after_put s b a).managed
-  put_made s (Some b) (Finished n es) m = made-gone x (shards_of s) es (admitted s b) (made-put x (shards_of s) (alone b.entry) (weight_for b.body) s.managed m)
-  put_made s (Some b) _ m = m
-  put_made s None a m = m
+  put_made : (s : State) (n : Option ℕ) (b : Option FinishedBody) (a : Answer) → IsMade x s.managed → IsMade x (after_put s n b a).managed
+  put_made s n (Some b) (Finished told es) m = made-gone x (shards_of s) es (admitted s b) (made-put x (shards_of s) (alone b.entry) (weight_for b.body) s.managed m)
+  put_made s n (Some b) _ m = m
+  put_made s n None a m = m
 
   until_made : (v : Bool) (s : State) (b : FinishedBody) → IsMade x s.managed → IsMade x (until v s b)
   until_made false s b m = m
@@ -41,12 +41,12 @@ module _ (x : Settings) where
   undone_made s (Some b) done m = back_made done.stored s b done m
   undone_made s None done m = m
 
-  finish_made : (s : State) (b : Option FinishedBody) (o : Outcome) → IsMade x s.managed → IsMade x (after_finish s b o).managed
-  finish_made s b (Ok a) m = put_made s b a m
-  finish_made s b (Err f) m = undone_made s b (done_of f) m
+  finish_made : (s : State) (n : Option ℕ) (b : Option FinishedBody) (o : Outcome) → IsMade x s.managed → IsMade x (after_finish s n b o).managed
+  finish_made s n b (Ok a) m = put_made s n b a m
+  finish_made s n b (Err f) m = undone_made s b (done_of f) m
 
-  landing_made : (v : Bool) (s : State) (r : ℕ) (q : Request) (o : Outcome) → IsMade x s.managed → IsMade x (cond v (after_finish (after_flight s r q) (finishing q s.shelf) o) s).managed
-  landing_made true s r q o m = finish_made (after_flight s r q) (finishing q s.shelf) o m
+  landing_made : (v : Bool) (s : State) (r : ℕ) (q : Request) (o : Outcome) → IsMade x s.managed → IsMade x (cond v (after_finish (after_flight s r q) q.write (finishing q s.shelf) o) s).managed
+  landing_made true s r q o m = finish_made (after_flight s r q) q.write (finishing q s.shelf) o m
   landing_made false s r q o m = m
 
   purge_made : (s : State) (key : CacheKeyValue) (v : Bool) → IsMade x s.managed → IsMade x (after_purge s key v).managed
@@ -56,7 +56,7 @@ module _ (x : Settings) where
   look_made : (s : State) (q : Request) (l : Look) → IsMade x s.managed → IsMade x (managed_after s q l)
   look_made s q absent m = m
   look_made s q (in_flight f) m = m
-  look_made s q (finished b) m = made-used x (shards_of s) q.entry (weight_for b) s.managed m
+  look_made s q (finished b) m = made-used x (shards_of s) q.entry (weight_for b.body) s.managed m
 
   begin_made : (s : State) (r : ℕ) (q : Request) (j : Option Judged) → IsMade x s.managed → IsMade x (after_begin s r q j).managed
   begin_made s r q (Some (kept meta)) m = m
@@ -78,7 +78,7 @@ module _ (x : Settings) where
   answer_made s t (Read r) c a m = request_made s (get s.requests r) _ m (λ q. m)
   answer_made s t (Drop r) c a m = request_made s (get s.requests r) _ m (λ q. m)
   answer_made s t (Purge key) c a m = purge_made s key (is_there (look (stored_key_of key) s.shelf)) m
-  answer_made s t (Put key pieces) c a m = put_made s (finished_by c) a m
+  answer_made s t (Put key pieces) c a m = put_made s (Some s.shelf.writes) (finished_by c) a m
 
   refused_made : (s : State) (action : Action) (c : Call) (f : TierFault) → IsMade x s.managed → IsMade x (refused s action c f).managed
   refused_made s (Finish r) c f m = request_made s (get s.requests r) (λ q. finished_state s r q (Err f)) m (λ q. landing_made (is_landing (Err f)) s r q (Err f) m)

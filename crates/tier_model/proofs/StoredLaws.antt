@@ -42,14 +42,14 @@ module _ (s : State) (n : ℕ) (changes : Changes Kept) (l : Keeps (shards_of s)
   idle began = keeps-later (shards_of s) n s.shelf.bodies s.shelf.flying s.managed changes l (writes_after n began) (no-fewer n began)
 
   -- after an admission
-  module _ (i : ℕ) (b : FinishedBody) (gs : List InFlight) (now : Changes Kept) (st : Leaves (shards_of s) i (with_body b s.shelf.bodies) gs (admitted s b) now) where
+  module _ (i j : ℕ) (b : FinishedBody) (gs : List InFlight) (now : Changes Kept) (st : Leaves (shards_of s) i (with_body j b s.shelf.bodies) gs (admitted s b) now) where
     pub ends_over : (settings : Settings) (over : Bool) (es : List CacheEntryKey) → IsMade settings s.managed → GoInTurn (shards_of s) over es (admitted s b)
         → EndsOver settings over (extended now (goes es))
     ends_over settings over es made h =
         let N = shards_of s in
         let left : Managed = all_gone N es (admitted s b) in
         let last : Changes Kept = extended now (goes es) in
-        let after = leaves-room N n s.shelf.bodies s.shelf.flying s.managed changes l i b gs now st over es h in
+        let after = leaves-room N n s.shelf.bodies s.shelf.flying s.managed changes l i j b gs now st over es h in
         let limits = gone-limit N es (admitted s b) in
         record {
           rows = rows_of last;
@@ -59,14 +59,14 @@ module _ (s : State) (n : ℕ) (changes : Changes Kept) (l : Keeps (shards_of s)
         }
 
   -- a put's
-  pub put_stored : (b : FinishedBody) → Leaves (shards_of s) (n + 1) (with_body b s.shelf.bodies) s.shelf.flying (admitted s b) (extended changes (stores n b []))
+  pub put_stored : (b : FinishedBody) → Leaves (shards_of s) (n + 1) (with_body n b s.shelf.bodies) s.shelf.flying (admitted s b) (extended changes (stores n b []))
   put_stored b = leaves-stored (shards_of s) n b s.shelf.bodies s.shelf.flying s.managed changes l.leaves
 
   pub put_holds : (g : Option FinishedBody) (w : Option Whole) (a : Answer) (began may : Bool) → IsPutAnswer s g w a → BeginsWrite s may (cond (is_some g) (has_stored (Ok a)) (is_begun (Ok a))) began
-      → HoldsNext s n began (after_put s g a) (extended changes (put_changes n g (Ok a)))
+      → HoldsNext s n began (after_put s (Some n) g a) (extended changes (put_changes n g (Ok a)))
   put_holds (Some b) w (Finished m es) began may p x =
-      subst (λ (v : Bool). HoldsNext s n v (after_put s (Some b) (Finished m es)) (extended changes (stores n b es))) (sym (begun-told s may true began x refl))
-      (keeps-room (shards_of s) n s.shelf.bodies s.shelf.flying s.managed changes l (n + 1) b s.shelf.flying (extended changes (stores n b [])) (put_stored b) es p.2)
+      subst (λ (v : Bool). HoldsNext s n v (after_put s (Some n) (Some b) (Finished m es)) (extended changes (stores n b es))) (sym (begun-told s may true began x refl))
+      (keeps-room (shards_of s) n s.shelf.bodies s.shelf.flying s.managed changes l (n + 1) n b s.shelf.flying (extended changes (stores n b [])) (put_stored b) es p.2)
   put_holds (Some b) w _ began may p x = absurd p
   put_holds None w a began may p x = idle began
 
@@ -86,7 +86,7 @@ module _ (s : State) (n : ℕ) (changes : Changes Kept) (l : Keeps (shards_of s)
   cut_holds b f es began may d h x =
       subst (λ (v : Bool). BackHolds (Some b) f v) (sym (begun-told s may (has_stored (Err f)) began x (ap (λ (done : Done). done.stored) d)))
       (rw (d, extended-append changes (stores n b es) (clears b.entry))
-      (keeps-back (shards_of s) n s.shelf.bodies s.shelf.flying s.managed changes l (n + 1) b s.shelf.flying (extended changes (stores n b [])) (put_stored b)
+      (keeps-back (shards_of s) n s.shelf.bodies s.shelf.flying s.managed changes l (n + 1) n b s.shelf.flying (extended changes (stores n b [])) (put_stored b)
       (put_changes_key (shards_of s) n s.shelf.bodies s.shelf.flying s.managed changes l b) true es h))
 
   pub put_fault_holds : (g : Option FinishedBody) (w : Option Whole) (f : TierFault) (began may : Bool) → IsPutFault s g w f
@@ -112,21 +112,21 @@ module _ (s : State) (n : ℕ) (changes : Changes Kept) (l : Keeps (shards_of s)
     abbrev without_flight : List InFlight
     without_flight = filter (λ f. not (has_number w.number f)) s.shelf.flying
 
-    pub finish_stored : IsAlive w changes → Leaves (shards_of s) n (with_body the_body s.shelf.bodies) without_flight (admitted s the_body) (extended changes (finishes w ∷ settles the_body []))
+    pub finish_stored : IsAlive w changes → Leaves (shards_of s) n (with_body w.number the_body s.shelf.bodies) without_flight (admitted s the_body) (extended changes (finishes w ∷ settles the_body []))
     finish_stored alive = leaves-finished (shards_of s) n w s.shelf.bodies s.shelf.flying s.managed changes flies alive under l.leaves
 
     abbrev landed_state : FinMap nat_cmp Request → State
     landed_state rs = record s { shelf = landed w.number s.shelf; requests = rs }
 
     pub finish_holds : (rs : FinMap nat_cmp Request) (a : Answer) (began : Bool) → IsAlive w changes → IsStored s the_body a
-        → HoldsNext s n began (after_put (landed_state rs) (Some the_body) a) (extended changes (finish_changes (Some w) (Ok a) changes))
+        → HoldsNext s n began (after_put (landed_state rs) (Some w.number) (Some the_body) a) (extended changes (finish_changes (Some w) (Ok a) changes))
     finish_holds rs (Finished m es) began alive p =
-        later (keeps-room (shards_of s) n s.shelf.bodies s.shelf.flying s.managed changes l n the_body without_flight (extended changes (finishes w ∷ settles the_body [])) (finish_stored alive) es p.2)
+        later (keeps-room (shards_of s) n s.shelf.bodies s.shelf.flying s.managed changes l n w.number the_body without_flight (extended changes (finishes w ∷ settles the_body [])) (finish_stored alive) es p.2)
       where
-        later : HoldsNext s n false (after_put (landed_state rs) (Some the_body) (Finished m es)) (extended changes (finishes w ∷ settles the_body es))
-            → HoldsNext s n began (after_put (landed_state rs) (Some the_body) (Finished m es)) (extended changes (finishes w ∷ settles the_body es))
-        later k = keeps-later (shards_of s) n (after_put (landed_state rs) (Some the_body) (Finished m es)).shelf.bodies (after_put (landed_state rs) (Some the_body) (Finished m es)).shelf.flying
-            (after_put (landed_state rs) (Some the_body) (Finished m es)).managed (extended changes (finishes w ∷ settles the_body es)) k (writes_after n began) (no-fewer n began)
+        later : HoldsNext s n false (after_put (landed_state rs) (Some w.number) (Some the_body) (Finished m es)) (extended changes (finishes w ∷ settles the_body es))
+            → HoldsNext s n began (after_put (landed_state rs) (Some w.number) (Some the_body) (Finished m es)) (extended changes (finishes w ∷ settles the_body es))
+        later k = keeps-later (shards_of s) n (after_put (landed_state rs) (Some w.number) (Some the_body) (Finished m es)).shelf.bodies (after_put (landed_state rs) (Some w.number) (Some the_body) (Finished m es)).shelf.flying
+            (after_put (landed_state rs) (Some w.number) (Some the_body) (Finished m es)).managed (extended changes (finishes w ∷ settles the_body es)) k (writes_after n began) (no-fewer n began)
     finish_holds rs _ began alive p = absurd p
 
     -- it was removed
@@ -150,7 +150,7 @@ module _ (s : State) (n : ℕ) (changes : Changes Kept) (l : Keeps (shards_of s)
         rw (back_changes f (ap (λ (x : Done). x.stored) d), d, extended-append (finishes w ∷ changes) (settles the_body es) (clears the_body.entry))
         (keeps-later (shards_of s) n (undone (landed_state rs) (Some the_body) (all_done es)).shelf.bodies (undone (landed_state rs) (Some the_body) (all_done es)).shelf.flying
         (undone (landed_state rs) (Some the_body) (all_done es)).managed (extended (extended changes (finishes w ∷ settles the_body es)) (clears the_body.entry))
-        (keeps-back (shards_of s) n s.shelf.bodies s.shelf.flying s.managed changes l n the_body without_flight (extended changes (finishes w ∷ settles the_body [])) (finish_stored alive)
+        (keeps-back (shards_of s) n s.shelf.bodies s.shelf.flying s.managed changes l n w.number the_body without_flight (extended changes (finishes w ∷ settles the_body [])) (finish_stored alive)
         (finish_changes_key (shards_of s) n s.shelf.bodies s.shelf.flying s.managed changes l w (key_of w.meta.entry) under the_body) true es h) (writes_after n began) (no-fewer n began))
 
     pub back_holds : (f : TierFault) (began : Bool) (rs : FinMap nat_cmp Request) → IsAlive w changes → IsStoreFault s the_body f

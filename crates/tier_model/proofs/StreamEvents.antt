@@ -18,23 +18,23 @@ use Rattle.tier_model.specs.declared.event.TierFault.{TierFault}
 use Rattle.tier_model.specs.declared.event.TierFault.TheVariants.{IdInUse, WriteRemoved}
 use Rattle.tier_model.specs.Response.{Judged, kept, not_kept, too_early, not_read}
 use Rattle.tier_model.specs.Calls.{Call, History, Outcome, extended, done_of, judged_of, finished_by}
-use Rattle.tier_model.specs.Histories.{Kept, Opening, writes_begun, is_landing, write_begun, begun_by, begin_changes, drop_changes, settles, settles_back}
-use Rattle.tier_model.specs.Histories.{finished_of, changes_in, changes_of}
-use Rattle.tier_model.specs.Rows.{FinishedBody, body_of}
+use Rattle.tier_model.specs.Histories.{Kept, Opening, writes_begun, is_landing, begun_by, begin_changes, drop_changes, settles, settles_back}
+use Rattle.tier_model.specs.Histories.{finished_of, changes_of}
+use Rattle.tier_model.specs.Rows.{FinishedBody}
 use Rattle.tier_model.specs.Shelf.{Readers, flies_for, Look, absent, in_flight, finished, look, is_there, landed}
 use Rattle.tier_model.specs.State.{closed, streaming, Request, State, shards_of}
 use Rattle.tier_model.specs.Checks.{refusal, unless}
 use Rattle.tier_model.specs.Answers.{key_for, look_for, lock_given, look_answer, polled, finishing, IsStored, IsBeginAnswer, IsFinishFault}
 use Rattle.tier_model.specs.Step.{IsAnswer, AllowsBy, Allows}
-use Rattle.tier_model.specs.Keys.{Entry, alone, stored_key_of}
+use Rattle.tier_model.specs.Keys.{alone, stored_key_of}
 use Rattle.tier_model.specs.declared.event.LockGiven.{LockGiven}
 use Rattle.tier_model.proofs.ShownLaws.{shows_flight}
-use Rattle.tier_model.specs.After.{with_reader, without_reader, by_request, on_write, without_request, reader_of, after_wait, after_look, after_begin}
+use Rattle.tier_model.specs.After.{meta_for, with_reader, without_reader, by_request, on_write, without_request, reader_of, after_wait, after_look, after_begin}
 use Rattle.tier_model.specs.After.{after}
 use Rattle.tier_model.specs.Past.{streams_by, streams, streamers}
-use Rattle.tier_model.proofs.CallLaws.{Inside, call_at, begin_turn, read_turn, requests-after}
+use Rattle.tier_model.proofs.CallLaws.{Inside, call_at, changes_at, begin_turn, read_turn, requests-after}
 use Rattle.tier_model.proofs.WriteLaws.{WritesFit}
-use Rattle.tier_model.proofs.OpenLaws.{Holds, IsOpen, Written, the-write, no-write, look_flight, passed, unrefused}
+use Rattle.tier_model.proofs.OpenLaws.{Holds, IsOpen, Written, the-write, no-write, look_flight, passed, unrefused, begun-is}
 use Rattle.tier_model.proofs.EventLaws.{there_open, has_write}
 use Rattle.tier_model.proofs.StoredLaws.{fault-stored, landing-stored, finish_check}
 use Rattle.tier_model.proofs.ReaderLaws.{share, CountFits, turned_fits, CanStream}
@@ -49,7 +49,7 @@ module _ (start : Opening) (s : State) (h : History) (l : Holds start s h) (open
   look_streams q (finished b) e n = tt
   look_streams q (in_flight f) e n = λ same.
       let x = shows_flight (shards_of s) (writes_begun start h) s.shelf.bodies s.shelf.flying s.managed (changes_of start h) l.leaves (key_for q) f
-      (look_flight (find (flies_for (key_for q)) s.shelf.flying) (body_of (key_for q) s.shelf.bodies) f e) in
+      (look_flight (find (flies_for (key_for q)) s.shelf.flying) (get s.shelf.bodies (key_for q)) f e) in
       let known = life-flies x.write (changes_of start h) l.leaves.orderly x.flying.flies in
       let one : x.write.number ≡ n = sym x.number ∙ eqb-true f.number n same in
       (record { write = x.write; flies = true; alive = known.0 }, ap (λ (m : ℕ). life m (changes_of start h)) (sym one) ∙ known.1, refl)
@@ -85,13 +85,13 @@ module _ (start : Opening) (s : State) (h : History) (l : Holds start s h) (open
       c = call_at t (Begin r head) i (Ok a)
 
       w : Write Kept
-      w = record { number = writes_begun start h; key = stored_key (key_of q.entry); meta = record { entry = alone (key_of q.entry); meta = meta } }
+      w = record { number = writes_begun start h; key = stored_key (key_of q.entry); meta = record { entry = alone (key_of q.entry); meta = meta_for q meta } }
 
       begins_it : begun_by start r c h ≡ Some w
-      begins_it = ap (λ (o : Option Entry). write_begun (writes_begun start h) o (judged_of c)) opens.key ∙ ap (write_begun (writes_begun start h) (Some (key_of q.entry))) is
+      begins_it = begun-is start r q h c opens meta is
 
       past : changes_of start (c ∷ h) ≡ begins w ∷ changes_of start h
-      past = ap (λ (y : Answer). extended (changes_of start h) (changes_in start (Begin r head) (Ok y) (call_at t (Begin r head) i (Ok a)) h (changes_of start h))) p
+      past = ap (λ (y : Answer). extended (changes_of start h) (changes_at start (Begin r head) (Ok y) (call_at t (Begin r head) i (Ok a)) h (changes_of start h))) p
           ∙ ap (λ (o : Option (Write Kept)). extended (changes_of start h) (begin_changes o)) begins_it
 
       can : (n : ℕ) → CanStream n (streaming s.shelf.writes 0) (changes_of start (c ∷ h))
@@ -199,7 +199,7 @@ module _ (start : Opening) (s : State) (h : History) (l : Holds start s h) (open
         kept_counts start s h l opened fits counts (call_at t (Purge key) i (Ok a)) (after s (call_at t (Purge key) i (Ok a))) orderly refl (purge_readers s key (is_there (look (stored_key_of key) s.shelf)))
         (same_requests start s h l opened fits counts (after s (call_at t (Purge key) i (Ok a))).requests (requests-after s (call_at t (Purge key) i (Ok a))))
     answer_counted t i (Put key pieces) a e p orderly =
-        kept_counts start s h l opened fits counts (call_at t (Put key pieces) i (Ok a)) (after s (call_at t (Put key pieces) i (Ok a))) orderly refl (put_readers s (finished_by (call_at t (Put key pieces) i (Ok a))) a)
+        kept_counts start s h l opened fits counts (call_at t (Put key pieces) i (Ok a)) (after s (call_at t (Put key pieces) i (Ok a))) orderly refl (put_readers s (Some s.shelf.writes) (finished_by (call_at t (Put key pieces) i (Ok a))) a)
         (same_requests start s h l opened fits counts (after s (call_at t (Put key pieces) i (Ok a))).requests (requests-after s (call_at t (Put key pieces) i (Ok a))))
 
     late_finish : (t : MomentValue) (i : Inside) (r : ℕ) (q : Request) (f : TierFault) (b : Option FinishedBody) → get s.requests r ≡ Some q → IsOpen start r q h → Written start r q h

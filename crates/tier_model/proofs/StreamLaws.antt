@@ -18,7 +18,7 @@ use Rattle.tier_model.specs.declared.event.TierFault.{TierFault}
 use Rattle.tier_model.specs.declared.event.Done.{Done}
 use Rattle.tier_model.specs.Calls.{Call, History, Outcome, extended, done_of, judged_of}
 use Rattle.tier_model.specs.Histories.{Kept, Opening, writes_begun, is_landing, write_held, finish_changes}
-use Rattle.tier_model.specs.Histories.{changes_in, changes_of}
+use Rattle.tier_model.specs.Histories.{changes_of}
 use Rattle.tier_model.specs.Rows.{FinishedBody}
 use Rattle.tier_model.specs.Shelf.{InFlight, Readers, landed, readers_left}
 use Rattle.tier_model.specs.State.{Held, nothing, permit, waits, Reader, closed, unread, spent, streaming, Request, State, shards_of}
@@ -26,7 +26,7 @@ use Rattle.tier_model.specs.Answers.{finishing}
 use Rattle.tier_model.specs.After.{with_reader, without_reader, by_request, on_write, pieced, after_wait, read_on, after_flight}
 use Rattle.tier_model.specs.After.{after_put, taken_back, undone, after_finish, finished_state, after_purge, after_outcome, after}
 use Rattle.tier_model.specs.Past.{streams_by, streams, streamers}
-use Rattle.tier_model.proofs.CallLaws.{Inside, call_at, named_by, is_named, land_turn, turn, requests-after}
+use Rattle.tier_model.proofs.CallLaws.{changes_at, Inside, call_at, named_by, is_named, land_turn, turn, requests-after}
 use Rattle.tier_model.proofs.WriteLaws.{WritesFit, changes_spare}
 use Rattle.tier_model.proofs.LandLaws.{lander}
 use Rattle.tier_model.proofs.OpenLaws.{Holds, IsOpen, Written, FlightAt, flight-at}
@@ -37,10 +37,11 @@ abbrev pub Counted : State → Changes Kept → Type 0
 Counted s changes = (n : ℕ) → CountFits n (get s.shelf.readers n) (streamers n s.requests) changes
 
 -- what leaves the readers of a shelf alone
-pub put_readers : (s : State) (b : Option FinishedBody) (a : Answer) → (after_put s b a).shelf.readers ≡ s.shelf.readers
-put_readers s (Some b) (Finished n es) = refl
-put_readers s (Some b) _ = refl
-put_readers s None a = refl
+pub put_readers : (s : State) (n : Option ℕ) (b : Option FinishedBody) (a : Answer) → (after_put s n b a).shelf.readers ≡ s.shelf.readers
+put_readers s None (Some b) (Finished told es) = refl
+put_readers s (Some n) (Some b) (Finished told es) = refl
+put_readers s n (Some b) _ = refl
+put_readers s n None a = refl
 
 back_readers : (v : Bool) (s : State) (b : FinishedBody) (done : Done) → (taken_back v s b done).shelf.readers ≡ s.shelf.readers
 back_readers false s b done = refl
@@ -50,9 +51,9 @@ pub undone_readers : (s : State) (b : Option FinishedBody) (done : Done) → (un
 undone_readers s (Some b) done = back_readers done.stored s b done
 undone_readers s None done = refl
 
-finish_readers : (s : State) (b : Option FinishedBody) (o : Outcome) → (after_finish s b o).shelf.readers ≡ s.shelf.readers
-finish_readers s b (Ok a) = put_readers s b a
-finish_readers s b (Err f) = undone_readers s b (done_of f)
+finish_readers : (s : State) (n : Option ℕ) (b : Option FinishedBody) (o : Outcome) → (after_finish s n b o).shelf.readers ≡ s.shelf.readers
+finish_readers s n b (Ok a) = put_readers s n b a
+finish_readers s n b (Err f) = undone_readers s b (done_of f)
 
 pub purge_readers : (s : State) (key : CacheKeyValue) (v : Bool) → (after_purge s key v).shelf.readers ≡ s.shelf.readers
 purge_readers s key false = refl
@@ -95,7 +96,7 @@ module _ (start : Opening) (s : State) (h : History) (l : Holds start s h) (open
   kept_counts c new o none readers same n =
       subst (λ (m : FinMap nat_cmp Readers). CountFits n (get m n) (streamers n new.requests) (changes_of start (c ∷ h))) (sym readers)
       (subst (λ (k : ℕ). CountFits n (get s.shelf.readers n) k (changes_of start (c ∷ h))) (sym (same n))
-      (count_on n (changes_in start c.event.action c.outcome c h (changes_of start h)) (changes_of start h) (get s.shelf.readers n) (streamers n s.requests) o
+      (count_on n (changes_at start c.event.action c.outcome c h (changes_of start h)) (changes_of start h) (get s.shelf.readers n) (streamers n s.requests) o
       (λ x e. changes_spare start n c.event.action c.outcome c h (known_below n x e) (λ r l. absurd cc)) (counts n)))
 
   -- where nothing lands, and a reader takes the place of another
@@ -105,7 +106,7 @@ module _ (start : Opening) (s : State) (h : History) (l : Holds start s h) (open
   turned_counts c new old fresh o none readers can same n =
       subst (λ (m : FinMap nat_cmp Readers). CountFits n (get m n) (streamers n new.requests) (changes_of start (c ∷ h))) (sym readers)
       (turned_fits n old fresh s.shelf.readers (streamers n s.requests) (streamers n new.requests) (changes_of start (c ∷ h)) (can n) (same n)
-      (count_on n (changes_in start c.event.action c.outcome c h (changes_of start h)) (changes_of start h) (get s.shelf.readers n) (streamers n s.requests) o
+      (count_on n (changes_at start c.event.action c.outcome c h (changes_of start h)) (changes_of start h) (get s.shelf.readers n) (streamers n s.requests) o
       (λ x e. changes_spare start n c.event.action c.outcome c h (known_below n x e) (λ r l. absurd cc)) (counts n)))
 
   -- the sum over the requests, by the one that is named
@@ -159,15 +160,15 @@ module _ (start : Opening) (s : State) (h : History) (l : Holds start s h) (open
             (landed_on n d cs (changes_of start h) (get s.shelf.readers n) (streamers n s.requests) flight.flight.bytes (subst IsOrderly is o) (subst (λ (m : ℕ). lands m d ≡ true) one land) (same n)
             (flight.bytes ∙ ap (λ (m : ℕ). bytes_of m (changes_of start h)) one) (counts n))
         by_number false e =
-            count_on n (changes_in start c.event.action c.outcome c h (changes_of start h)) (changes_of start h) (get s.shelf.readers n) (streamers n s.requests) o
+            count_on n (changes_at start c.event.action c.outcome c h (changes_of start h)) (changes_of start h) (get s.shelf.readers n) (streamers n s.requests) o
             (λ y known. changes_spare start n c.event.action c.outcome c h (known_below n y known)
             (λ k lands_k v held. let one : k ≡ r = let both : Some k ≡ Some r = sym lands_k ∙ lander_is in cc in
             let same_write : v ≡ x.write = let both : Some v ≡ Some x.write = sym held ∙ ap (λ (j : ℕ). write_held start j h) one ∙ x.held in cc in
             ap (λ (w : Write Kept). w.number == n) same_write ∙ e)) (counts n)
 
   -- a finish: its state, by whether the write lands
-  landed_readers : (r : ℕ) (q : Request) (o : Outcome) → (after_finish (after_flight s r q) (finishing q s.shelf) o).shelf.readers ≡ (on_write q.write landed s.shelf).readers
-  landed_readers r q o = finish_readers (after_flight s r q) (finishing q s.shelf) o
+  landed_readers : (r : ℕ) (q : Request) (o : Outcome) → (after_finish (after_flight s r q) q.write (finishing q s.shelf) o).shelf.readers ≡ (on_write q.write landed s.shelf).readers
+  landed_readers r q o = finish_readers (after_flight s r q) q.write (finishing q s.shelf) o
 
   finish_same : (t : MomentValue) (i : Inside) (r : ℕ) (o : Outcome) (x : Option Request) → get s.requests r ≡ x → (n : ℕ)
       → streamers n (after s (call_at t (Finish r) i o)).requests ≡ streamers n s.requests
@@ -195,7 +196,7 @@ module _ (start : Opening) (s : State) (h : History) (l : Holds start s h) (open
       c = call_at t (Finish r) i o
 
       by_outcome : (o : Outcome) → is_landing o ≡ true → (by_request s (Some q) (λ y. finished_state s r y o)).shelf.readers ≡ (on_write q.write landed s.shelf).readers
-      by_outcome o l = ap (λ v. (cond v (after_finish (after_flight s r q) (finishing q s.shelf) o) s).shelf.readers) l ∙ landed_readers r q o
+      by_outcome o l = ap (λ v. (cond v (after_finish (after_flight s r q) q.write (finishing q s.shelf) o) s).shelf.readers) l ∙ landed_readers r q o
 
       answered_is : (o : Outcome) → (after_outcome s t (Finish r) (call_at t (Finish r) i o) o).shelf.readers ≡ (by_request s (get s.requests r) (λ y. finished_state s r y o)).shelf.readers
       answered_is (Ok a) = refl
@@ -212,7 +213,7 @@ module _ (start : Opening) (s : State) (h : History) (l : Holds start s h) (open
     where
       readers : (o : Option Request) → (by_request s o (λ q. finished_state s r q (Err f))).shelf.readers ≡ s.shelf.readers
       readers None = refl
-      readers (Some q) = ap (λ v. (cond v (after_finish (after_flight s r q) (finishing q s.shelf) (Err f)) s).shelf.readers) stays
+      readers (Some q) = ap (λ v. (cond v (after_finish (after_flight s r q) q.write (finishing q s.shelf) (Err f)) s).shelf.readers) stays
 
   -- an event of an open request that leaves its reader, and the readers, alone
   pub quiet_request : (c : Call) (r : ℕ) → IsOrderly (changes_of start (c ∷ h)) → lander c.event.action c.outcome ≡ None → named_by c.event.action ≡ Some r

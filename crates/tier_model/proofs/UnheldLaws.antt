@@ -8,7 +8,7 @@ use Rattle.std.proofs.lemmas.Bool.{eq-eqb}
 use Rattle.std.proofs.lemmas.Cmp.{nat_cmp_total}
 use Rattle.cache_words.specs.Time.{MomentValue}
 use Rattle.cache_lock.specs.Answers.{to_wait_for, locked_by, lock_change, leave_changes, poll_changes, wait_outcome, released_by}
-use Rattle.cache_lock.specs.Changes.{Changes, gives, lends, stores, takes_out, spends}
+use Rattle.cache_lock.specs.Changes.{Changes, gives, lends, stores, spends}
 use Rattle.cache_lock.specs.State.{LockState, IsSound, named, unnamed, with_status, with_core, without_core, spent, is_number, status_of, after as changed, after_all, empty_lock}
 use Rattle.cache_lock.specs.Status.{is_aged}
 use Rattle.cache_lock.specs.Waits.{same_key}

@@ -27,10 +27,10 @@ use Rattle.tier_model.proofs.TurnLaws.{AllOf, Turns, all-turned}
 
 -- ---- no call changes it
 
-put_wait : (s : State) (b : Option FinishedBody) (a : Answer) → (after_put s b a).wait ≡ s.wait
-put_wait s (Some b) (Finished n es) = refl
-put_wait s (Some b) _ = refl
-put_wait s None a = refl
+put_wait : (s : State) (n : Option ℕ) (b : Option FinishedBody) (a : Answer) → (after_put s n b a).wait ≡ s.wait
+put_wait s n (Some b) (Finished told es) = refl
+put_wait s n (Some b) _ = refl
+put_wait s n None a = refl
 
 back_wait : (v : Bool) (s : State) (b : FinishedBody) (done : Done) → (taken_back v s b done).wait ≡ s.wait
 back_wait false s b done = refl
@@ -40,12 +40,12 @@ undone_wait : (s : State) (b : Option FinishedBody) (done : Done) → (undone s 
 undone_wait s (Some b) done = back_wait done.stored s b done
 undone_wait s None done = refl
 
-finish_wait : (s : State) (b : Option FinishedBody) (o : Outcome) → (after_finish s b o).wait ≡ s.wait
-finish_wait s b (Ok a) = put_wait s b a
-finish_wait s b (Err f) = undone_wait s b (done_of f)
+finish_wait : (s : State) (n : Option ℕ) (b : Option FinishedBody) (o : Outcome) → (after_finish s n b o).wait ≡ s.wait
+finish_wait s n b (Ok a) = put_wait s n b a
+finish_wait s n b (Err f) = undone_wait s b (done_of f)
 
-landing_wait : (v : Bool) (s : State) (r : ℕ) (q : Request) (o : Outcome) → (cond v (after_finish (after_flight s r q) (finishing q s.shelf) o) s).wait ≡ s.wait
-landing_wait true s r q o = finish_wait (after_flight s r q) (finishing q s.shelf) o
+landing_wait : (v : Bool) (s : State) (r : ℕ) (q : Request) (o : Outcome) → (cond v (after_finish (after_flight s r q) q.write (finishing q s.shelf) o) s).wait ≡ s.wait
+landing_wait true s r q o = finish_wait (after_flight s r q) q.write (finishing q s.shelf) o
 landing_wait false s r q o = refl
 
 purge_wait : (s : State) (key : CacheKeyValue) (v : Bool) → (after_purge s key v).wait ≡ s.wait
@@ -72,7 +72,7 @@ answer_wait s t (Finish r) c a = request_wait s (get s.requests r) (λ q. finish
 answer_wait s t (Read r) c a = request_wait s (get s.requests r) _ (λ q. refl)
 answer_wait s t (Drop r) c a = request_wait s (get s.requests r) _ (λ q. refl)
 answer_wait s t (Purge key) c a = purge_wait s key (is_there (look (stored_key_of key) s.shelf))
-answer_wait s t (Put key pieces) c a = put_wait s (finished_by c) a
+answer_wait s t (Put key pieces) c a = put_wait s (Some s.shelf.writes) (finished_by c) a
 
 refused_wait : (s : State) (action : Action) (c : Call) (f : TierFault) → (refused s action c f).wait ≡ s.wait
 refused_wait s (Finish r) c f = request_wait s (get s.requests r) (λ q. finished_state s r q (Err f)) (λ q. landing_wait (is_landing (Err f)) s r q (Err f))

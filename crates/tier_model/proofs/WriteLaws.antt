@@ -1,6 +1,7 @@
 -- The writes that open requests have are in flight, each under its request's key, and no two share a number.
 use Rattle.std.proofs.Common.{◌≡◌, ℕ, ◌<◌, refl, ap, sym, ◌∙◌, true, false, subst, cond, [], ◌∷◌, ◌==◌, arith, inl, inr}
-use Rattle.std.specs.Prelude.{Bool, List, Option, Some, None, Ok, ◌&&◌, ◌⊎◌}
+use Rattle.std.specs.Prelude.{Bool, List, Option, Some, None, option_map, Ok, ◌&&◌, ◌⊎◌}
+use Rattle.cache_heads.specs.Merged.{with_provenance_of}
 use Rattle.std.specs.List.{AllByRecursion}
 use Rattle.std.proofs.lemmas.Bool.{eqb-true}
 use Rattle.cache_words.specs.Time.{MomentValue}
@@ -13,14 +14,15 @@ use Rattle.tier_model.specs.declared.event.Answer.TheVariants.{Opened, Found, Be
 use Rattle.tier_model.specs.Keys.{Entry, entry_of, alone}
 use Rattle.tier_model.specs.Response.{Judged, kept}
 use Rattle.tier_model.specs.Calls.{Call, History, Outcome, extended, judged_of, finished_by, opened_for, entry_after, is_begin_of}
-use Rattle.tier_model.specs.Histories.{Kept, Opening, writes_begun, write_begun, begun_by, is_landing, write_after, write_held, begin_changes, changes_in, changes_of}
-use Rattle.tier_model.proofs.CallLaws.{Inside, call_at, itself}
+use Rattle.cache_changes.specs.Store.{Stored}
+use Rattle.tier_model.specs.Histories.{Kept, Opening, writes_begun, write_begun, begun_by, is_landing, write_after, write_held, seen_by, begin_changes, changes_of}
+use Rattle.tier_model.proofs.CallLaws.{Inside, call_at, changes_at, itself}
 use Rattle.tier_model.proofs.LandLaws.{Spares, clears_spare, look_spare, begin_spare, piece_spare, IsApart, finish_spare, drop_spare, put_spare, lander}
 
 module _ (start : Opening) where
   -- a call lands no write but that of its request
   pub changes_spare : (n : ℕ) (action : Action) (o : Outcome) (c : Call) (h : History) → n < writes_begun start h → ((r : ℕ) → lander action o ≡ Some r → IsApart n (write_held start r h))
-      → AllByRecursion (Spares n) (changes_in start action o c h (changes_of start h))
+      → AllByRecursion (Spares n) (changes_at start action o c h (changes_of start h))
   changes_spare n (LookUp id) (Ok (Found fresh true given)) c h below apart = look_spare n (opened_for id h) (changes_of start h)
   changes_spare n (Begin id head) (Ok Begun) c h below apart = begin_spare n (begun_by start id c h)
   changes_spare n (Piece id bytes last) (Ok Written) c h below apart = piece_spare n (write_held start id h) bytes last
@@ -100,11 +102,13 @@ module _ (start : Opening) where
       by_test false is e same = ap (λ (y : ℕ). y == id) (sym same) ∙ is
   survivor id r new _ _ old w e l = absurd cc
 
-  number_begun : (n : ℕ) (e : Option Entry) (j : Option Judged) (w : Write Kept) → write_begun n e j ≡ Some w → w.number ≡ n
-  number_begun n (Some e) (Some (kept meta)) w p = let same : record { number = n; key = stored_key e; meta = record { entry = alone e; meta = meta } } ≡ w = cc in ap (λ (v : Write Kept). v.number) (sym same)
-  number_begun n (Some e) (Some _) w p = absurd cc
-  number_begun n (Some e) None w p = absurd cc
-  number_begun n None j w p = absurd cc
+  number_begun : (n : ℕ) (e : Option Entry) (x : Option (Stored Kept)) (j : Option Judged) (w : Write Kept) → write_begun n e x j ≡ Some w → w.number ≡ n
+  number_begun n (Some e) x (Some (kept meta)) w p =
+      let same : record { number = n; key = stored_key e; meta = record { entry = alone e; meta = with_provenance_of (option_map (λ y. y.meta.meta) x) meta } } ≡ w = cc in
+      ap (λ (v : Write Kept). v.number) (sym same)
+  number_begun n (Some e) x (Some _) w p = absurd cc
+  number_begun n (Some e) x None w p = absurd cc
+  number_begun n None x j w p = absurd cc
 
   one_begins : (i j : ℕ) (action : Action) (o : Outcome) → is_begin_of i action o ≡ true → is_begin_of j action o ≡ true → i ≡ j
   one_begins i j (Begin r head) (Ok Begun) p q = sym (eqb-true r i p) ∙ eqb-true r j q
@@ -152,7 +156,7 @@ module _ (start : Opening) where
             let is : (r == id) ≡ true = ap (λ (x : ℕ). x == id) one ∙ itself id in absurd cc)
 
         on : IsInFlight w (changes_of start h) → IsInFlight w (changes_of start (c ∷ h))
-        on f = flies_on w (changes_of start h) (changes_in start action o c h (changes_of start h)) (changes_spare w.number action o c h (held_below id w was) apart) f
+        on f = flies_on w (changes_of start h) (changes_at start action o c h (changes_of start h)) (changes_spare w.number action o c h (held_below id w was) apart) f
 
         moved : (x : Option Entry) → IsWriteOf w x (changes_of start h) → opened_for id h ≡ x → IsWriteOf w (opened_for id (c ∷ h)) (changes_of start (c ∷ h))
         moved None q is = absurd q
@@ -162,21 +166,22 @@ module _ (start : Opening) where
             (on q.0, q.1, q.2)
 
     -- one that begins
-    new_fits : (n : ℕ) (e : Option Entry) (j : Option Judged) (w : Write Kept) → write_begun n e j ≡ Some w → IsWriteOf w e (extended (changes_of start h) (begin_changes (write_begun n e j)))
-    new_fits n (Some e) (Some (kept meta)) w p =
-        let v : Write Kept = record { number = n; key = stored_key e; meta = record { entry = alone e; meta = meta } } in
+    new_fits : (n : ℕ) (e : Option Entry) (x : Option (Stored Kept)) (j : Option Judged) (w : Write Kept) → write_begun n e x j ≡ Some w
+        → IsWriteOf w e (extended (changes_of start h) (begin_changes (write_begun n e x j)))
+    new_fits n (Some e) y (Some (kept meta)) w p =
+        let v : Write Kept = record { number = n; key = stored_key e; meta = record { entry = alone e; meta = with_provenance_of (option_map (λ x. x.meta.meta) y) meta } } in
         let same : v ≡ w = cc in
         subst (λ (x : Write Kept). IsWriteOf x (Some e) (begins v ∷ changes_of start h)) same
         (record { since = []; before = changes_of start h; split = refl; flies = tt }, refl, refl)
-    new_fits n (Some e) (Some _) w p = absurd cc
-    new_fits n (Some e) None w p = absurd cc
-    new_fits n None j w p = absurd cc
+    new_fits n (Some e) y (Some _) w p = absurd cc
+    new_fits n (Some e) y None w p = absurd cc
+    new_fits n None y j w p = absurd cc
 
     begun_fits : (action : Action) (o : Outcome) (id : ℕ) (w : Write Kept) → is_begin_of id action o ≡ true → begun_by start id (call_at t action i o) h ≡ Some w
         → IsWriteOf w (opened_for id (call_at t action i o ∷ h)) (changes_of start (call_at t action i o ∷ h))
     begun_fits (Begin r head) (Ok Begun) id w is e =
         subst (λ (x : ℕ). IsWriteOf w (opened_for id h) (extended (changes_of start h) (begin_changes (begun_by start x (call_at t (Begin r head) i (Ok Begun)) h)))) (sym (eqb-true r id is))
-        (new_fits (writes_begun start h) (opened_for id h) (judged_of (call_at t (Begin r head) i (Ok Begun))) w e)
+        (new_fits (writes_begun start h) (opened_for id h) (seen_by start id h) (judged_of (call_at t (Begin r head) i (Ok Begun))) w e)
     begun_fits _ _ id w is e = absurd cc
 
     pub WritesFit-after : (action : Action) (o : Outcome) → IsPlain action o h → WritesFit (call_at t action i o ∷ h)
@@ -195,7 +200,7 @@ module _ (start : Opening) where
         ]
 
         new_number : (id : ℕ) (w : Write Kept) → begun_by start id c h ≡ Some w → w.number ≡ writes_begun start h
-        new_number id w e = number_begun (writes_begun start h) (opened_for id h) (judged_of c) w e
+        new_number id w e = number_begun (writes_begun start h) (opened_for id h) (seen_by start id h) (judged_of c) w e
 
         apart : (k j : ℕ) (v w : Write Kept) → write_held start k (c ∷ h) ≡ Some v → write_held start j (c ∷ h) ≡ Some w → v.number ≡ w.number → k ≡ j
         apart k j v w e f same = elim (from k v e) [

@@ -1,6 +1,7 @@
 -- What the changes of one write leave is what a tier's state holds.
 use Rattle.std.proofs.Common.{◌≡◌, ℕ, ◌+◌, ◌≤◌, refl, ap, sym, ◌∙◌, true, false, subst, cond, [], ◌∷◌, length, arith}
 use Rattle.std.specs.Prelude.{Bool, List, Option, Some, None, option_map, map, find, filter, not, ◌++◌}
+use Rattle.std.specs.FinMap.{get}
 use Rattle.std.proofs.Math.Nat.{le-max_right}
 use Rattle.cache_entries.specs.declared.entry.CacheEntryKey.{CacheEntryKey}
 use Rattle.cache_entries.specs.Keys.{same_bytes}
@@ -23,13 +24,13 @@ use Rattle.tier_model.specs.Shelf.{InFlight, has_number, on_flying, marked as pu
 use Rattle.tier_model.specs.Past.{plain}
 use Rattle.cache_entries.specs.Entry.{key_of}
 use Rattle.tier_model.proofs.FlightLaws.{plain-append, plain-on, plain-landed, find-plain, landed-new}
-use Rattle.tier_model.specs.Rows.{Bodies, FinishedBody, body_of, with_body as put_body, without_body, without_bodies, weight_for}
-use Rattle.tier_model.proofs.BodyLaws.{has_key, body_of-without, body_of-with, body_of-without_all, body_at-without, body_at-with, view, both_gone, both_there}
+use Rattle.tier_model.specs.Rows.{Numbered, Bodies, FinishedBody, with_body as put_body, without_body, without_bodies, weight_for}
+use Rattle.tier_model.proofs.BodyLaws.{has_key, held-without, held-with, held-without_all, body_at-without, body_at-with, view, both_gone, both_there}
 use Rattle.tier_model.proofs.ChangeLaws.{more_bytes, no_more, Leaves, unbound, just_began, no_body, leaves-same, marked_same, leaves-cleared}
 
 -- a body counts no more than it weighs
 counted_fits : (x : Stored Kept) → length x.bytes + counts x.meta ≤ weight_for (record { bytes = x.bytes; meta = x.meta.meta })
-counted_fits x = omega (arith, le-max_right 1 (length x.bytes))
+counted_fits x = le-max_right 1 (length x.bytes + counts x.meta)
 
 module _ (N : ℕ) where
   -- a write begins, under the next number
@@ -106,14 +107,14 @@ module _ (N : ℕ) where
   pub leaves-finished : (n : ℕ) (w : Write Kept) (bodies : Bodies) (fs : List InFlight) (m : Managed) (changes : Changes Kept) → IsInFlight w changes → IsAlive w changes
       → w.key ≡ stored_key (key_of w.meta.entry)
       → Leaves N n bodies fs m changes
-      → Leaves N n (put_body (finished_of changes w) bodies) (filter (λ f. not (has_number w.number f)) fs) (put_first N (alone (key_of w.meta.entry)) (weight_for (told_of changes w)) m)
+      → Leaves N n (put_body w.number (finished_of changes w) bodies) (filter (λ f. not (has_number w.number f)) fs) (put_first N (alone (key_of w.meta.entry)) (weight_for (told_of changes w)) m)
       (extended changes (finishes w ∷ settles (finished_of changes w) []))
   leaves-finished n w bodies fs m changes flies alive key l = record {
     orderly = (tt, orderly);
     below = (tt, (tt, l.below));
     flights = ap (filter (λ f. not (has_number w.number f))) l.flights ∙ sym (plain-landed w.number (store_of changes).flying);
-    bodies = λ k. body_of-with k b bodies
-        ∙ both_there (same_bytes (stored_key b.entry) k) b.body x (body_of k bodies) (body_at k (store_of changes)) refl (l.bodies k)
+    bodies = λ k. held-with k w.number b bodies
+        ∙ both_there (same_bytes (stored_key b.entry) k) (record { number = w.number; body = b.body }) x (get bodies k) (body_at k (store_of changes)) refl (l.bodies k)
         ∙ ap (λ (j : StoredKey). option_map view (cond (same_bytes j k) (Some x) (body_at k (store_of changes)))) (sym key)
         ∙ sym (ap (option_map view) (left k));
     some = l.some;
@@ -156,7 +157,7 @@ module _ (N : ℕ) where
     below = (tt, (tt, (tt, l.below)));
     flights = marked_same N (Some (stored_key e)) (filter (λ f. not (has_number w.number f)) fs) (store_of (finishes w ∷ changes)).flying
         (ap (filter (λ f. not (has_number w.number f))) l.flights ∙ sym (plain-landed w.number (store_of changes).flying));
-    bodies = λ k. body_of-without k (stored_key e) bodies ∙ both_gone (same_bytes (stored_key e) k) (body_of k bodies) (body_at k (store_of changes)) (l.bodies k)
+    bodies = λ k. held-without k (stored_key e) bodies ∙ both_gone (same_bytes (stored_key e) k) (get bodies k) (body_at k (store_of changes)) (l.bodies k)
         ∙ ap (option_map view) (hidden (same_bytes (stored_key e) k) (Some (stored_of w changes)) (body_at k (store_of changes))
         ∙ ap (λ (j : StoredKey). cond (same_bytes (stored_key e) k) None (cond (same_bytes j k) (Some (stored_of w changes)) (body_at k (store_of changes)))) (sym key)
         ∙ ap (cond (same_bytes (stored_key e) k) None) (sym (left k)) ∙ sym (body_at-without k (Some (stored_key e)) (store_of (finishes w ∷ changes)).bodies));
@@ -200,11 +201,11 @@ module _ (N : ℕ) where
 
   -- a body is written whole and its entry admitted
   pub leaves-stored : (n : ℕ) (b : FinishedBody) (bodies : Bodies) (fs : List InFlight) (m : Managed) (changes : Changes Kept)
-      → Leaves N n bodies fs m changes → Leaves N (n + 1) (put_body b bodies) fs (put_first N (alone b.entry) (weight_for b.body) m) (extended changes (stores n b []))
+      → Leaves N n bodies fs m changes → Leaves N (n + 1) (put_body n b bodies) fs (put_first N (alone b.entry) (weight_for b.body) m) (extended changes (stores n b []))
   leaves-stored n b bodies fs m changes l =
-      subst (λ (gs : List InFlight). Leaves N (n + 1) (put_body b bodies) gs (put_first N (alone b.entry) (weight_for b.body) m) (extended changes (stores n b [])))
+      subst (λ (gs : List InFlight). Leaves N (n + 1) (put_body n b bodies) gs (put_first N (alone b.entry) (weight_for b.body) m) (extended changes (stores n b [])))
       (landed-new n (more_bytes b.body.bytes) new fs (none_new n bodies fs m changes l) (same_number n) (same_number n))
-      (subst (λ (y : Body). Leaves N (n + 1) (put_body (record { entry = b.entry; body = y }) bodies) landed (put_first N (alone b.entry) (weight_for y) m)
+      (subst (λ (y : Body). Leaves N (n + 1) (put_body n (record { entry = b.entry; body = y }) bodies) landed (put_first N (alone b.entry) (weight_for y) m)
       (admits (alone b.entry) (weight_for y) ∷ finishes (write_of n b) ∷ written)) (told_whole n b bodies fs m changes l)
       (leaves-finished (n + 1) (write_of n b) bodies (on_flying n (more_bytes b.body.bytes) (fs ++ new ∷ [])) m written flies alive refl
       (leaves-appended (n + 1) (write_of n b) b.body.bytes bodies (fs ++ new ∷ []) m (begins (write_of n b) ∷ changes) (just_began (write_of n b) changes) (fresh_end n changes l.below l.orderly)
@@ -226,21 +227,21 @@ module _ (N : ℕ) where
       alive = record { since = appends n b.body.bytes ∷ []; before = changes; split = refl; kept = (refl, tt); held = (refl, tt) }
 
   -- a body that is taken back leaves what was there, without what went
-  pub leaves-back : (n : ℕ) (b : FinishedBody) (es : List CacheEntryKey) (bodies : Bodies) (fs : List InFlight) (m : Managed) (changes : Changes Kept)
-      → Leaves N n (without_bodies es (put_body b bodies)) fs m changes
+  pub leaves-back : (n i : ℕ) (b : FinishedBody) (es : List CacheEntryKey) (bodies : Bodies) (fs : List InFlight) (m : Managed) (changes : Changes Kept)
+      → Leaves N n (without_bodies es (put_body i b bodies)) fs m changes
       → Leaves N n (without_body (stored_key b.entry) (without_bodies es bodies)) (map (put_mark (Some (stored_key b.entry))) fs) (taken_out N (alone b.entry) m) (extended changes (clears b.entry))
-  leaves-back n b es bodies fs m changes l =
-      leaves-same N n (without_body (stored_key b.entry) (without_bodies es (put_body b bodies))) (without_body (stored_key b.entry) (without_bodies es bodies))
+  leaves-back n i b es bodies fs m changes l =
+      leaves-same N n (without_body (stored_key b.entry) (without_bodies es (put_body i b bodies))) (without_body (stored_key b.entry) (without_bodies es bodies))
       (map (put_mark (Some (stored_key b.entry))) fs) (taken_out N (alone b.entry) m) (extended changes (clears b.entry)) same
-      (leaves-cleared N n b.entry (without_bodies es (put_body b bodies)) fs m changes l)
+      (leaves-cleared N n b.entry (without_bodies es (put_body i b bodies)) fs m changes l)
     where
-      none : (v w : Bool) (o p : Option Body) → cond v None (cond w None o) ≡ cond v None (cond w None (cond v p o))
+      none : (v w : Bool) (o p : Option Numbered) → cond v None (cond w None o) ≡ cond v None (cond w None (cond v p o))
       none true w o p = refl
       none false w o p = refl
 
-      same : (k : StoredKey) → body_of k (without_body (stored_key b.entry) (without_bodies es bodies)) ≡ body_of k (without_body (stored_key b.entry) (without_bodies es (put_body b bodies)))
+      same : (k : StoredKey) → get (without_body (stored_key b.entry) (without_bodies es bodies)) k ≡ get (without_body (stored_key b.entry) (without_bodies es (put_body i b bodies))) k
       same k =
-          body_of-without k (stored_key b.entry) (without_bodies es bodies) ∙ ap (cond (same_bytes (stored_key b.entry) k) None) (body_of-without_all k es bodies)
-          ∙ none (same_bytes (stored_key b.entry) k) (has_key k es) (body_of k bodies) (Some b.body)
-          ∙ sym (body_of-without k (stored_key b.entry) (without_bodies es (put_body b bodies)) ∙ ap (cond (same_bytes (stored_key b.entry) k) None) (body_of-without_all k es (put_body b bodies)
-          ∙ ap (cond (has_key k es) None) (body_of-with k b bodies)))
+          held-without k (stored_key b.entry) (without_bodies es bodies) ∙ ap (cond (same_bytes (stored_key b.entry) k) None) (held-without_all k es bodies)
+          ∙ none (same_bytes (stored_key b.entry) k) (has_key k es) (get bodies k) (Some (record { number = i; body = b.body }))
+          ∙ sym (held-without k (stored_key b.entry) (without_bodies es (put_body i b bodies)) ∙ ap (cond (same_bytes (stored_key b.entry) k) None) (held-without_all k es (put_body i b bodies)
+          ∙ ap (cond (has_key k es) None) (held-with k i b bodies)))

@@ -1,9 +1,11 @@
 -- The state after one event.
-use Rattle.std.specs.Prelude.{ℕ, ◌+◌, Bool, true, false, List, [], ◌∷◌, ◌++◌, length, if◌then◌else◌, Option, Some, None, unwrap_or, Ok, Err}
+use Rattle.std.specs.Prelude.{ℕ, ◌+◌, Bool, true, false, List, [], ◌∷◌, ◌++◌, length, if◌then◌else◌, Option, Some, None, option_map, unwrap_or, Ok, Err}
 use Rattle.std.specs.FinMap.{FinMap, get, insert, remove}
 use Rattle.std.specs.Ordering.{nat_cmp}
 use Rattle.cache_words.specs.Time.{MomentValue, DurationValue}
 use Rattle.cache_words.specs.Key.{CacheKeyValue}
+use Rattle.cache_heads.specs.declared.meta.CacheMeta.{CacheMeta}
+use Rattle.cache_heads.specs.Merged.{with_provenance_of}
 use Rattle.cache_entries.specs.declared.entry.CacheEntryKey.{CacheEntryKey}
 use Rattle.cache_changes.specs.Changes.{stored_key}
 use Rattle.cache_evict.specs.Managed.{Managed, saturated, taken_out}
@@ -33,8 +35,8 @@ use Rattle.tier_model.specs.Shelf.{Readers, Shelf, Look, absent, in_flight, fini
 use Rattle.tier_model.specs.Own.{phase_absent, phase_found}
 use Rattle.tier_model.specs.Own.{in_all, time_waited}
 use Rattle.tier_model.specs.Locks.{is_wait}
-use Rattle.tier_model.specs.State.{Phase, cache_key, begun, disabled, Held, nothing, permit, waits, Reader, closed, unread, spent, streaming, Request, State, shards_of}
-use Rattle.tier_model.specs.Answers.{key_for, look_for, finds_fresh, asks_now, lock_given, admitted, used, finishing}
+use Rattle.tier_model.specs.State.{Phase, cache_key, begun, disabled, Held, nothing, permit, waits, Reader, closed, unread, spent, streaming, Seen, Request, State, shards_of}
+use Rattle.tier_model.specs.Answers.{key_for, look_for, is_fresh, finds_fresh, asks_now, lock_given, admitted, used, finishing}
 
 abbrev pub by_request : {X : Type 0} → X → Option Request → (Request → X) → X
 by_request none None f = none
@@ -51,7 +53,7 @@ with_request id q s = record s { requests = insert s.requests id q }
 -- a request that was just opened
 abbrev pub opened_request : Option DurationValue → Entry → Bool → Request
 opened_request wait entry asks =
-    record { entry = alone entry; asks = asks; wait = wait; phase = cache_key; held = nothing; waited = None; gave_read = false; write = None; reader = closed }
+    record { entry = alone entry; asks = asks; wait = wait; phase = cache_key; held = nothing; waited = None; gave_read = false; seen = None; write = None; reader = closed }
 
 -- a count that stops at 2^64 - 1
 abbrev pub counted : ℕ → ℕ → ℕ
@@ -79,7 +81,7 @@ turned old new shelf = record shelf { readers = without_reader old (with_reader 
 abbrev pub reader_of : Look → Reader
 reader_of absent = closed
 reader_of (in_flight f) = streaming f.number 0
-reader_of (finished b) = unread b.bytes
+reader_of (finished x) = unread x.body.bytes
 
 -- a reader after a read: all that was there is read
 abbrev pub read_on : Answer → Reader → Reader
@@ -139,17 +141,27 @@ abbrev pub phase_of : MomentValue → LockGiven → Look → Phase → Phase
 phase_of t given absent old = phase_absent given old
 phase_of t given l old = phase_found (finds_fresh t l)
 
+-- what a look-up at t found that is past its moment
+abbrev pub seen_past : MomentValue → ℕ → CacheMeta → Option Seen
+seen_past t n meta = if is_fresh t meta then None else Some (record { number = n; meta = meta })
+
+abbrev pub seen_in : MomentValue → Look → Option Seen
+seen_in t absent = None
+seen_in t (in_flight f) = seen_past t f.number f.meta
+seen_in t (finished x) = seen_past t x.number x.body.meta
+
 -- a request after its look-up
 abbrev pub looked : MomentValue → Request → Look → LockState → Request
 looked t q l locks = record q {
   phase = phase_of t (lock_given t q l locks) l q.phase;
   held = held_of (lock_given t q l locks) (to_wait_for (key_for q) locks) locks q.held;
   gave_read = is_wait (lock_given t q l locks);
+  seen = seen_in t l;
   reader = reader_of l;
 }
 
 abbrev pub managed_after : State → Request → Look → Managed
-managed_after s q (finished b) = used s q.entry b
+managed_after s q (finished x) = used s q.entry x.body
 managed_after s q _ = s.managed
 
 abbrev pub after_look : State → MomentValue → ℕ → Request → Look → State
@@ -168,18 +180,25 @@ after_wait t outcome _ q = q
 
 -- a request that began the write of that number
 abbrev pub writing : ℕ → Request → Request
-writing n q = record q { phase = begun; held = nothing; write = Some n; reader = streaming n 0 }
+writing n q = record q { phase = begun; held = nothing; seen = None; write = Some n; reader = streaming n 0 }
 
--- the state after a begin with a head that is kept, and with one that isn't. The meta is that of a new response. Where a store lets a write
--- that begins from something stale keep the provenance of that, the state doesn't show it, as no answer shows it
+-- the meta of what it has seen
+abbrev pub seen_meta : Request → Option CacheMeta
+seen_meta q = option_map (λ x. x.meta) q.seen
+
+-- the meta of a write that it begins: with the provenance of what it has seen
+abbrev pub meta_for : Request → CacheMeta → CacheMeta
+meta_for q meta = with_provenance_of (seen_meta q) meta
+
+-- the state after a begin with a head that is kept, and with one that isn't
 abbrev pub after_begin : State → ℕ → Request → Option Judged → State
 after_begin s id q (Some (kept meta)) = record s {
-  shelf = turned q.reader (streaming s.shelf.writes 0) (shelf.begun (key_for q) meta s.shelf);
+  shelf = turned q.reader (streaming s.shelf.writes 0) (shelf.begun (key_for q) (meta_for q meta) s.shelf);
   requests = insert s.requests id (writing s.shelf.writes q);
 }
 after_begin s id q _ = record s {
   shelf = turned q.reader closed s.shelf;
-  requests = insert s.requests id (record q { phase = disabled; held = nothing; reader = closed });
+  requests = insert s.requests id (record q { phase = disabled; held = nothing; seen = None; reader = closed });
 }
 
 abbrev pub on_write : Option ℕ → (ℕ → Shelf → Shelf) → Shelf → Shelf
@@ -204,10 +223,10 @@ emptied n es s = record s { shelf = cleared es s.shelf; managed = all_gone n es 
 abbrev pub taken : ℕ → Entry → State → State
 taken n e s = record s { shelf = removed (stored_key e) s.shelf; managed = taken_out n (alone e) s.managed }
 
--- the state after a body is stored with these evictions
-abbrev pub after_put : State → Option FinishedBody → Answer → State
-after_put s (Some b) (Finished n evicted) = emptied (shards_of s) evicted (record s { shelf = stored b s.shelf; managed = admitted s b })
-after_put s _ _ = s
+-- the state after a body is stored as the write of that number, with these evictions
+abbrev pub after_put : State → Option ℕ → Option FinishedBody → Answer → State
+after_put s n (Some b) (Finished told evicted) = emptied (shards_of s) evicted (record s { shelf = on_write n (λ m. stored m b) s.shelf; managed = admitted s b })
+after_put s n _ _ = s
 
 -- the order of use at a refusal: with the body's entry, if that was admitted
 abbrev pub until : Bool → State → FinishedBody → Managed
@@ -224,9 +243,9 @@ undone s (Some b) done = taken_back done.stored s b done
 undone s None done = s
 
 -- the state after a finish that ended the flight
-abbrev pub after_finish : State → Option FinishedBody → Outcome → State
-after_finish s b (Ok a) = after_put s b a
-after_finish s b (Err f) = undone s b (done_of f)
+abbrev pub after_finish : State → Option ℕ → Option FinishedBody → Outcome → State
+after_finish s n b (Ok a) = after_put s n b a
+after_finish s n b (Err f) = undone s b (done_of f)
 
 -- the state after a purge that found something, or nothing
 abbrev pub after_purge : State → CacheKeyValue → Bool → State
@@ -235,7 +254,7 @@ after_purge s key true = taken (shards_of s) (entry_of key) s
 
 -- the state after a finish: as before, where it was refused with nothing done
 abbrev pub finished_state : State → ℕ → Request → Outcome → State
-finished_state s id q outcome = if is_landing outcome then after_finish (after_flight s id q) (finishing q s.shelf) outcome else s
+finished_state s id q outcome = if is_landing outcome then after_finish (after_flight s id q) q.write (finishing q s.shelf) outcome else s
 
 abbrev pub without_request : State → ℕ → Request → State
 without_request s id q = record s { shelf = turned q.reader closed (on_write q.write landed s.shelf); requests = remove s.requests id }
@@ -251,7 +270,7 @@ answered s t (Finish id) c a = on_request s id (λ q. finished_state s id q (Ok 
 answered s t (Read id) c a = on_request s id (λ q. with_request id (record q { reader = read_on a q.reader }) s)
 answered s t (Drop id) c a = on_request s id (λ q. without_request s id q)
 answered s t (Purge key) c a = after_purge s key (is_there (look (stored_key_of key) s.shelf))
-answered s t (Put key pieces) c a = after_put s (finished_by c) a
+answered s t (Put key pieces) c a = after_put s (Some s.shelf.writes) (finished_by c) a
 answered s t _ c a = s
 
 -- the state after a refusal, but for the lock

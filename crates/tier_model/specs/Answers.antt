@@ -49,7 +49,7 @@ is_fresh t meta = at_most t meta.internal.fresh_until
 abbrev pub finds_fresh : MomentValue → Look → Bool
 finds_fresh t absent = false
 finds_fresh t (in_flight f) = is_fresh t f.meta
-finds_fresh t (finished b) = is_fresh t b.meta
+finds_fresh t (finished x) = is_fresh t x.body.meta
 
 -- the lock is asked: the request asks for it, and finds nothing, or something past its moment
 abbrev pub asks_now : MomentValue → Request → Look → Bool
@@ -70,7 +70,7 @@ lock_given t q l locks = given_if (asks_now t q l) (to_wait_for (key_for q) lock
 abbrev pub look_answer : MomentValue → LockGiven → Look → Answer
 look_answer t given absent = Absent given
 look_answer t given (in_flight f) = Found (is_fresh t f.meta) false given
-look_answer t given (finished b) = Found (is_fresh t b.meta) true given
+look_answer t given (finished x) = Found (is_fresh t x.body.meta) true given
 
 -- ---- waits
 

@@ -121,7 +121,7 @@ AreRight start (c ∷ h) = IsRight start c.event.moment c.event.action c.outcome
 
 -- the headline of a tier that began so: what was read of each put and begin is a reading of its own bytes, each write that an answer
 -- reports has a number of its own, each call is answered right, finished bodies keep both limits, each body's entry is tracked with at least its
--- length, and what went to make room went lawfully
+-- length and that of its meta, and what went to make room went lawfully
 pub record Headline (start : Opening) (h : History) : Type 0 where
   pub readings : AllByRecursion (λ c. IsRead c.event.action c.reading) h
   pub numbers : AllByRecursion CountsItsWrite h

@@ -1,17 +1,20 @@
 -- What a history of calls changes: the writes of bodies, and the entries in the order of use.
-use Rattle.std.specs.Prelude.{◌≡◌, ℕ, ◌==◌, Bool, true, false, ◌&&◌, List, [], ◌∷◌, ◌++◌, map, if◌then◌else◌, Option, Some, None, Ok, Err}
+use Rattle.std.specs.Prelude.{◌≡◌, ℕ, ◌==◌, Bool, true, false, ◌&&◌, List, [], ◌∷◌, ◌++◌, map, if◌then◌else◌, Option, Some, None, option_map, Ok, Err}
 use Rattle.std.specs.List.{AllByRecursion}
 use Rattle.cache_heads.specs.declared.meta.CacheMeta.{CacheMeta}
+use Rattle.cache_heads.specs.Meta.{meta_length}
+use Rattle.cache_heads.specs.Merged.{with_provenance_of}
 use Rattle.cache_entries.specs.declared.entry.CacheEntryKey.{CacheEntryKey}
 use Rattle.cache_entries.specs.declared.rows.Tracked.{Tracked}
 use Rattle.cache_entries.specs.Entry.{key_of}
 use Rattle.cache_changes.specs.Changes.{stored_key, Write, Change, Changes, begins, appends, ends, finishes, leaves, removes, admits, uses, departs, evicts}
 use Rattle.cache_changes.specs.Writes.{bytes_of, meta_of, body_now, IsShown}
+use Rattle.cache_changes.specs.Store.{Stored, store_of, shown_at}
 use Rattle.cache_changes.specs.Uses.{admissions}
 use Rattle.tier_model.specs.declared.state.Body.{Body}
 use Rattle.tier_model.specs.declared.event.Action.{Action}
-use Rattle.tier_model.specs.declared.event.Action.TheVariants.{LookUp, Begin, Piece, Finish, Drop, Purge, Put}
-use Rattle.tier_model.specs.declared.event.Answer.TheVariants.{Found, Begun, Written, Purged, Finished}
+use Rattle.tier_model.specs.declared.event.Action.TheVariants.{Open, LookUp, Begin, Piece, Finish, Drop, Purge, Put}
+use Rattle.tier_model.specs.declared.event.Answer.TheVariants.{Opened, Found, Absent, Begun, Written, Purged, Finished}
 use Rattle.tier_model.specs.declared.event.TierFault.TheVariants.{WriteRemoved}
 use Rattle.tier_model.specs.declared.event.Done.{Done}
 use Rattle.tier_model.specs.Keys.{Entry, entry_of, alone}
@@ -25,9 +28,9 @@ pub record Kept : Type 0 where
   pub entry : CacheEntryKey
   pub meta : CacheMeta
 
--- what a body counts for beside its bytes: its meta counts for nothing
+-- what a body counts for beside its bytes: its meta as it is written
 abbrev pub counts : Kept → ℕ
-counts k = 0
+counts k = meta_length k.meta
 
 -- the body that changes say of a write
 abbrev pub told_of : Changes Kept → Write Kept → Body
@@ -95,14 +98,28 @@ look_changes (Some e) before = hit_changes e (body_now (stored_key e) before) be
 
 -- ---- writes that come in pieces
 
--- the write that is begun for an entry, before which n others began, by what its head gives
-abbrev pub write_begun : ℕ → Option Entry → Option Judged → Option (Write Kept)
-write_begun n (Some e) (Some (kept meta)) = Some (record { number = n; key = stored_key e; meta = record { entry = alone e; meta = meta } })
-write_begun n _ _ = None
+-- what changes say that a look-up of an entry shows
+abbrev pub shown_for : Option Entry → Changes Kept → Option (Stored Kept)
+shown_for None changes = None
+shown_for (Some e) changes = shown_at (stored_key e) (store_of changes)
 
--- the same of a begin of that request; h are the calls before it
-abbrev pub begun_by : Opening → ℕ → Call → History → Option (Write Kept)
-begun_by start id c h = write_begun (writes_begun start h) (opened_for id h) (judged_of c)
+-- what a request has seen: what its look-up showed, where that was past its moment, until it looks up anew or begins
+abbrev pub seen_after : ℕ → Option (Stored Kept) → Action → Outcome → Option (Stored Kept) → Option (Stored Kept)
+seen_after id shown (Open request key asks) (Ok Opened) old = if request == id then None else old
+seen_after id shown (LookUp request) (Ok (Found fresh complete lock)) old = if request == id then (if fresh then None else shown) else old
+seen_after id shown (LookUp request) (Ok (Absent lock)) old = if request == id then None else old
+seen_after id shown (Begin request head) (Ok answer) old = if request == id then None else old
+seen_after id shown _ _ old = old
+
+-- the write that is begun for an entry, before which n others began, by what its head gives: with the provenance of what was seen
+abbrev pub write_begun : ℕ → Option Entry → Option (Stored Kept) → Option Judged → Option (Write Kept)
+write_begun n (Some e) seen (Some (kept meta)) =
+    Some (record { number = n; key = stored_key e; meta = record { entry = alone e; meta = with_provenance_of (option_map (λ x. x.meta.meta) seen) meta } })
+write_begun n _ seen _ = None
+
+-- the same of a begin of a request that has seen that; h are the calls before it
+abbrev pub begun_from : Opening → ℕ → Option (Stored Kept) → Call → History → Option (Write Kept)
+begun_from start id seen c h = write_begun (writes_begun start h) (opened_for id h) seen (judged_of c)
 
 -- the answer to a finish, or the fault, ended the flight of the write
 abbrev pub is_landing : Outcome → Bool
@@ -115,11 +132,6 @@ write_after id new (Begin request head) (Ok Begun) old = if request == id then n
 write_after id new (Finish request) outcome old = if (request == id) && is_landing outcome then None else old
 write_after id new (Drop request) (Ok answer) old = if request == id then None else old
 write_after id new _ _ old = old
-
--- the write of a request: it began it, and neither finished nor lost nor left it
-abbrev pub write_held : Opening → ℕ → History → Option (Write Kept)
-write_held start id [] = None
-write_held start id (c ∷ h) = write_after id (begun_by start id c h) c.event.action c.outcome (write_held start id h)
 
 abbrev pub begin_changes : Option (Write Kept) → List (Change Kept)
 begin_changes None = []
@@ -150,24 +162,39 @@ abbrev pub drop_changes : Option (Write Kept) → List (Change Kept)
 drop_changes None = []
 drop_changes (Some w) = leaves w.number ∷ []
 
-abbrev pub changes_in : Opening → Action → Outcome → Call → History → Changes Kept → List (Change Kept)
-changes_in start (LookUp id) (Ok (Found fresh true lock)) c h before = look_changes (opened_for id h) before
-changes_in start (Begin id head) (Ok Begun) c h before = begin_changes (begun_by start id c h)
-changes_in start (Piece id bytes last) (Ok Written) c h before = piece_changes (write_held start id h) bytes last
-changes_in start (Finish id) outcome c h before = finish_changes (write_held start id h) outcome before
-changes_in start (Drop id) (Ok answer) c h before = drop_changes (write_held start id h)
-changes_in start (Purge key) (Ok (Purged true)) c h before = clears (entry_of key)
-changes_in start (Put key pieces) outcome c h before = put_changes (writes_begun start h) (finished_by c) outcome
-changes_in start _ _ c h before = []
+-- what a call changes, in the order in which it happens, where each request would begin that write and has this one; h are the calls before it,
+-- and `before` what those changed
+abbrev pub changes_in : Opening → (ℕ → Option (Write Kept)) → (ℕ → Option (Write Kept)) → Action → Outcome → Call → History → Changes Kept → List (Change Kept)
+changes_in start begun held (LookUp id) (Ok (Found fresh true lock)) c h before = look_changes (opened_for id h) before
+changes_in start begun held (Begin id head) (Ok Begun) c h before = begin_changes (begun id)
+changes_in start begun held (Piece id bytes last) (Ok Written) c h before = piece_changes (held id) bytes last
+changes_in start begun held (Finish id) outcome c h before = finish_changes (held id) outcome before
+changes_in start begun held (Drop id) (Ok answer) c h before = drop_changes (held id)
+changes_in start begun held (Purge key) (Ok (Purged true)) c h before = clears (entry_of key)
+changes_in start begun held (Put key pieces) outcome c h before = put_changes (writes_begun start h) (finished_by c) outcome
+changes_in start begun held _ _ c h before = []
 
--- what a call changes, in the order in which it happens; h are the calls before it, and `before` what those changed
-abbrev pub changes_by : Opening → Call → History → Changes Kept → List (Change Kept)
-changes_by start c h before = changes_in start c.event.action c.outcome c h before
+abbrev mutual
+  -- what a history changed, the latest change first. What was loaded was admitted before any call
+  pub changes_of : Opening → History → Changes Kept
+  changes_of start [] = admissions start.loaded
+  changes_of start (c ∷ h) =
+      extended (changes_of start h)
+      (changes_in start (λ id. begun_from start id (seen_by start id h) c h) (λ id. write_held start id h) c.event.action c.outcome c h (changes_of start h))
 
--- what a history changed, the latest change first. What was loaded was admitted before any call
-abbrev pub changes_of : Opening → History → Changes Kept
-changes_of start [] = admissions start.loaded
-changes_of start (c ∷ h) = extended (changes_of start h) (changes_by start c h (changes_of start h))
+  -- the write of a request: it began it, and neither finished nor lost nor left it
+  pub write_held : Opening → ℕ → History → Option (Write Kept)
+  write_held start id [] = None
+  write_held start id (c ∷ h) = write_after id (begun_from start id (seen_by start id h) c h) c.event.action c.outcome (write_held start id h)
+
+  -- what a request has seen, as it was then: what its last look-up found that was past its moment
+  pub seen_by : Opening → ℕ → History → Option (Stored Kept)
+  seen_by start id [] = None
+  seen_by start id (c ∷ h) = seen_after id (shown_for (opened_for id h) (changes_of start h)) c.event.action c.outcome (seen_by start id h)
+
+-- the write that a begin of that request begins; h are the calls before it
+abbrev pub begun_by : Opening → ℕ → Call → History → Option (Write Kept)
+begun_by start id c h = begun_from start id (seen_by start id h) c h
 
 -- the request's last look-up found all of w; since are the calls after it
 pub record HasHit (start : Opening) (id : ℕ) (w : Write Kept) (since h : History) : Type 0 where

@@ -7,21 +7,21 @@ use Rattle.cache_entries.specs.declared.rows.Tracked.{Tracked}
 use Rattle.cache_entries.specs.Entry.{key_of}
 use Rattle.cache_entries.specs.Rows.{AreDistinct}
 use Rattle.cache_changes.specs.Changes.{StoredKey, Write, Changes}
-use Rattle.cache_changes.specs.Store.{Flying, store_of}
+use Rattle.cache_changes.specs.Store.{Stored, Flying, store_of}
 use Rattle.cache_changes.specs.Writes.{bytes_of, IsInFlight}
 use Rattle.cache_changes.specs.Uses.{IsOrderOfUse, in_shard, AreShardsOf}
 use Rattle.cache_evict.specs.Managed.{Managed, fresh, saturated}
-use Rattle.tier_model.specs.declared.state.Body.{Body}
 use Rattle.tier_model.specs.Keys.{alone}
+use Rattle.tier_model.specs.Rows.{Numbered}
 use Rattle.tier_model.specs.Calls.{Call, History, opened_for, asks_lock, bytes_read, extended}
-use Rattle.tier_model.specs.Histories.{Kept, Opening, told_of, writes_begun, write_held, changes_of, HasHit}
+use Rattle.tier_model.specs.Histories.{Kept, Opening, told_of, writes_begun, write_held, seen_by, changes_of, HasHit}
 use Rattle.tier_model.specs.Reads.{HasStream, IsOver}
 use Rattle.tier_model.specs.Headline.{Headline}
 use Rattle.tier_model.specs.Own.{Hold, no_lock, a_permit, a_wait, Wait, wait_of}
 use Rattle.tier_model.specs.Own.{Reads, no_reader, all_of_body, read_body, as_it_comes, Own, own_of}
 use Rattle.tier_model.specs.Reports.{AreAllBodies, found_answers, absent_answers, evictions}
 use Rattle.tier_model.specs.Shelf.{InFlight, Readers, Shelf, empty_shelf, readable}
-use Rattle.tier_model.specs.State.{Held, nothing, permit, waits, Reader, closed, unread, spent, streaming, Request, State, empty_state}
+use Rattle.tier_model.specs.State.{Held, nothing, permit, waits, Reader, closed, unread, spent, streaming, Seen, Request, State, empty_state}
 use Rattle.tier_model.specs.Step.{Allows}
 use Rattle.tier_model.specs.After.{lock_changes, after}
 use Rattle.cache_lock.specs.Changes.{Changes as LockChanges}
@@ -57,11 +57,11 @@ IsLawful start (c ∷ h) = Allows (state_of start h) c × IsLawful start h
 
 -- ---- what a state says of its history
 
--- the body that changes say of a write, with its key
-abbrev pub told_at : Changes Kept → Write Kept → StoredKey × Body
-told_at changes w = (w.key, told_of changes w)
+-- the body that changes say of a write, with its key and its number
+abbrev pub told_at : Changes Kept → Write Kept → StoredKey × Numbered
+told_at changes w = (w.key, record { number = w.number; body = told_of changes w })
 
--- the state's bodies are all that the history has, one a key, each under its key with its bytes and its meta
+-- the state's bodies are all that the history has, one a key, each under its key with its number, its bytes and its meta
 abbrev pub HoldsBodies : State → Opening → History → Type 0
 HoldsBodies s start h =
     (writes : List (Write Kept)) × AreAllBodies writes (changes_of start h)
@@ -143,6 +143,10 @@ own_in q = record { phase = q.phase; gave_read = q.gave_read; reads = reads_in q
 abbrev pub wait_in : Request → Wait
 wait_in q = record { hold = hold_in q.held; waited = q.waited }
 
+-- what a request has seen, as a state has it: with the number alone beside its meta
+abbrev pub plain_seen : Stored Kept → Seen
+plain_seen x = record { number = x.write.number; meta = x.meta.meta }
+
 -- q is what the calls of the open request say
 pub record IsRequestOf (start : Opening) (id : ℕ) (q : Request) (h : History) : Type 0 where
   pub key : opened_for id h ≡ Some (key_of q.entry)
@@ -150,6 +154,7 @@ pub record IsRequestOf (start : Opening) (id : ℕ) (q : Request) (h : History) 
   pub asks : q.asks ≡ asks_lock id h
   pub own : own_in q ≡ own_of id h
   pub wait : wait_in q ≡ wait_of id h
+  pub seen : q.seen ≡ option_map plain_seen (seen_by start id h)
   pub write : q.write ≡ option_map (λ w. w.number) (write_held start id h)
   pub reader : HasToRead start id q.reader h
 

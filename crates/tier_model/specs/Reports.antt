@@ -2,28 +2,30 @@
 use Rattle.std.specs.Prelude.{◌≡◌, ℕ, ◌+◌, Bool, true, false, List, [], ◌∷◌, length, find, if◌then◌else◌, Some, Ok}
 use Rattle.std.specs.List.{sum_by, AllByRecursion}
 use Rattle.std.specs.FinMap.{len, values}
+use Rattle.cache_heads.specs.Meta.{meta_length}
 use Rattle.cache_entries.specs.Keys.{same_bytes}
 use Rattle.cache_entries.specs.declared.rows.Tracked.{Tracked}
 use Rattle.cache_entries.specs.Rows.{all_weights}
 use Rattle.cache_evict.specs.Managed.{saturated, total_size, total_items}
 use Rattle.cache_changes.specs.Changes.{StoredKey, Write, Changes}
-use Rattle.cache_changes.specs.Writes.{bytes_of, IsBody}
+use Rattle.cache_changes.specs.Writes.{bytes_of, meta_of, IsBody}
 use Rattle.cache_changes.specs.Uses.{IsOrderOfUse}
 use Rattle.cache_changes.specs.Bound.{HasDistinctKeys}
 use Rattle.tier_model.specs.declared.event.Answer.TheVariants.{Found, Absent}
 use Rattle.tier_model.specs.declared.report.Report.{Report}
 use Rattle.tier_model.specs.Calls.{History, Outcome, evicted_by}
-use Rattle.tier_model.specs.Histories.{Kept, Opening, changes_of}
+use Rattle.tier_model.specs.Histories.{Kept, Opening, counts, changes_of}
 use Rattle.tier_model.specs.State.{State}
 use Rattle.tier_model.specs.After.{counted}
 
--- the answers counted, the bodies with their bytes, the tracked entries with their weights
+-- the answers counted, the bodies with their bytes and their metas as they are written, the tracked entries with their weights
 abbrev pub report_of : State → Report
 report_of s = record {
   found = s.found;
   absent = s.absent;
   bodies = len s.shelf.bodies;
-  bytes = counted 0 (sum_by (λ b. length b.bytes) (values s.shelf.bodies));
+  bytes = counted 0 (sum_by (λ x. length x.body.bytes) (values s.shelf.bodies));
+  meta = counted 0 (sum_by (λ x. meta_length x.body.meta) (values s.shelf.bodies));
   tracked = total_items s.managed;
   weight = total_size s.managed;
   evicted = s.managed.evicted_items;
@@ -65,4 +67,5 @@ pub record IsReport (r : Report) (start : Opening) (h : History) : Type 0 where
   pub evicted : r.evicted ≡ saturated (evictions h)
   pub bodies : (writes : List (Write Kept)) × AreAllBodies writes (changes_of start h) × (r.bodies ≡ length writes)
       × (r.bytes ≡ saturated (sum_by (λ w. length (bytes_of w.number (changes_of start h))) writes))
+      × (r.meta ≡ saturated (sum_by (λ w. counts (meta_of w (changes_of start h))) writes))
   pub tracked : (rows : List Tracked) × IsOrderOfUse rows (changes_of start h) × (r.tracked ≡ length rows) × (r.weight ≡ all_weights rows)

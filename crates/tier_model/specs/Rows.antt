@@ -1,20 +1,30 @@
 -- Words on finished bodies, each under its stored key.
-use Rattle.std.specs.Prelude.{ℕ, max, List, [], ◌∷◌, length, Option, Some, None}
+use Rattle.std.specs.Prelude.{ℕ, ◌+◌, max, List, [], ◌∷◌, length, Option, Some, None, option_map}
 use Rattle.std.specs.Ordering.{nat_cmp}
 use Rattle.std.specs.Cmp.Lexicographic.{slice_cmp}
 use Rattle.std.specs.FinMap.{FinMap, get, insert, remove}
+use Rattle.cache_heads.specs.Meta.{meta_length}
 use Rattle.cache_entries.specs.declared.entry.CacheEntryKey.{CacheEntryKey}
 use Rattle.cache_changes.specs.Changes.{StoredKey, stored_key, key_alone}
 use Rattle.tier_model.specs.declared.state.Body.{Body}
 use Rattle.tier_model.specs.Keys.{Entry}
 
+-- a body as it is held: with the number of its write
+pub record Numbered : Type 0 where
+  pub number : ℕ
+  pub body : Body
+
 -- finished bodies by their stored keys, which are in the order of their bytes
 abbrev pub Bodies : Type 0
-Bodies = FinMap (slice_cmp nat_cmp) Body
+Bodies = FinMap (slice_cmp nat_cmp) Numbered
 
 -- the body of a key
 abbrev pub body_of : StoredKey → Bodies → Option Body
-body_of k bodies = get bodies k
+body_of k bodies = option_map (λ x. x.body) (get bodies k)
+
+-- the number of its write
+abbrev pub number_at : StoredKey → Bodies → Option ℕ
+number_at k bodies = option_map (λ x. x.number) (get bodies k)
 
 abbrev pub without_body : StoredKey → Bodies → Bodies
 without_body k bodies = remove bodies k
@@ -34,10 +44,10 @@ pub record FinishedBody : Type 0 where
   pub entry : Entry
   pub body : Body
 
--- it takes the place of the one before it
-abbrev pub with_body : FinishedBody → Bodies → Bodies
-with_body b bodies = insert bodies (stored_key b.entry) b.body
+-- it takes the place of the one before it, with the number of its write
+abbrev pub with_body : ℕ → FinishedBody → Bodies → Bodies
+with_body n b bodies = insert bodies (stored_key b.entry) (record { number = n; body = b.body })
 
--- what a body weighs
+-- what a body weighs: its bytes, and its meta as it is written
 abbrev pub weight_for : Body → ℕ
-weight_for b = max 1 (length b.bytes)
+weight_for b = max 1 (length b.bytes + meta_length b.meta)

@@ -7,8 +7,7 @@ use Rattle.cache_heads.specs.declared.meta.CacheMeta.{CacheMeta}
 use Rattle.cache_entries.specs.Keys.{same_bytes}
 use Rattle.cache_entries.specs.declared.entry.CacheEntryKey.{CacheEntryKey}
 use Rattle.cache_changes.specs.Changes.{StoredKey, key_alone, is_key}
-use Rattle.tier_model.specs.declared.state.Body.{Body}
-use Rattle.tier_model.specs.Rows.{Bodies, FinishedBody, body_of, with_body, without_body, without_bodies}
+use Rattle.tier_model.specs.Rows.{Numbered, Bodies, FinishedBody, with_body, without_body, without_bodies}
 
 -- a write in flight: its number, its key, its meta and the bytes so far; whether it had its last piece, and whether it met a removal
 pub record InFlight : Type 0 where
@@ -51,16 +50,16 @@ flies_for k f = same_bytes f.key k && not f.removed
 pub data Look : Type 0 where
   absent : Look
   in_flight : InFlight → Look
-  finished : Body → Look
+  finished : Numbered → Look
 
-abbrev pub look_by : Option InFlight → Option Body → Look
+abbrev pub look_by : Option InFlight → Option Numbered → Look
 look_by (Some f) body = in_flight f
-look_by None (Some b) = finished b
+look_by None (Some x) = finished x
 look_by None None = absent
 
 -- the first write of k in flight that met no removal; without one the body
 abbrev pub look : StoredKey → Shelf → Look
-look k shelf = look_by (find (flies_for k) shelf.flying) (body_of k shelf.bodies)
+look k shelf = look_by (find (flies_for k) shelf.flying) (get shelf.bodies k)
 
 abbrev pub is_there : Look → Bool
 is_there absent = false
@@ -128,9 +127,9 @@ landed n shelf = record shelf {
   readers = readers_left n (flying_at n shelf.flying) shelf.readers;
 }
 
--- a body is finished
-abbrev pub stored : FinishedBody → Shelf → Shelf
-stored b shelf = record shelf { bodies = with_body b shelf.bodies }
+-- the write of that number is finished, with that body
+abbrev pub stored : ℕ → FinishedBody → Shelf → Shelf
+stored n b shelf = record shelf { bodies = with_body n b shelf.bodies }
 
 -- marked where its key is that one
 abbrev pub marked : Option StoredKey → InFlight → InFlight

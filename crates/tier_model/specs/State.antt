@@ -3,6 +3,7 @@ use Rattle.std.specs.Prelude.{ℕ, Bool, List, length, Option}
 use Rattle.std.specs.FinMap.{FinMap, empty}
 use Rattle.std.specs.Ordering.{nat_cmp}
 use Rattle.cache_words.specs.Time.{MomentValue, DurationValue}
+use Rattle.cache_heads.specs.declared.meta.CacheMeta.{CacheMeta}
 use Rattle.cache_entries.specs.declared.entry.CacheEntryKey.{CacheEntryKey}
 use Rattle.cache_evict.specs.Managed.{Managed, fresh}
 use Rattle.cache_lock.specs.State.{LockState, empty_lock}
@@ -49,8 +50,14 @@ pub data Reader : Type 0 where
   -- the write of that number, from a place on
   streaming : ℕ → ℕ → Reader
 
+-- what a look-up found that is past its moment: the number of its write, and its meta then
+pub record Seen : Type 0 where
+  pub number : ℕ
+  pub meta : CacheMeta
+
 -- an open request: the entry for which it was opened, whether it asks for the lock, and the longest that it waits in all; its phase; what it
--- holds of the lock, how long all its waits that ended took, if some did, and whether its last look-up gave it a wait; the number of its write; its reader
+-- holds of the lock, how long all its waits that ended took, if some did, and whether its last look-up gave it a wait; what that found past its moment,
+-- until it begins a write; the number of its write; its reader
 pub record Request : Type 0 where
   pub entry : CacheEntryKey
   pub asks : Bool
@@ -59,6 +66,7 @@ pub record Request : Type 0 where
   pub held : Held
   pub waited : Option DurationValue
   pub gave_read : Bool
+  pub seen : Option Seen
   pub write : Option ℕ
   pub reader : Reader
 

@@ -25,7 +25,7 @@ use Rattle.tier_model.specs.Answers.{IsBeginFault, finishing, IsFinishFault}
 
 -- each shard is within its bound after the use of what a request found
 abbrev pub UseFits : State → Request → Look → Type 0
-UseFits s q (finished b) = Fits (shards_of s) (used s q.entry b)
+UseFits s q (finished x) = Fits (shards_of s) (used s q.entry x.body)
 UseFits s q _ = Unit {0}
 
 -- what is said of an open request
@@ -80,7 +80,7 @@ MayTakeMemory s t _ c = ⊥
 
 -- why the entry of what a request found isn't used: it isn't tracked, and is kept out
 abbrev pub IsUseFault : State → Request → Look → TierFault → Type 0
-IsUseFault s q (finished b) f = (weight_of q.entry (rows_of (shards_of s) q.entry s.managed) ≡ None) × IsKeptOut s q.entry (weight_for b) nothing_done f
+IsUseFault s q (finished x) f = (weight_of q.entry (rows_of (shards_of s) q.entry s.managed) ≡ None) × IsKeptOut s q.entry (weight_for x.body) nothing_done f
 IsUseFault s q _ f = ⊥
 
 -- the lock has no number left for what is asked of it

@@ -11,6 +11,8 @@ pub struct Report {
     pub bodies: u64,
     /// Their bytes.
     pub bytes: u64,
+    /// Bytes of their metas, as they are written.
+    pub meta: u64,
     /// Tracked entries.
     pub tracked: u64,
     /// The sum of their weights.

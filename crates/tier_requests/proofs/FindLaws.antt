@@ -23,14 +23,14 @@ use Rattle.http_cache.specs.Founds.{entry_at}
 use Rattle.http_cache.specs.Request.{stored_at}
 use Rattle.tier_model.specs.Shelf as shelf
 use Rattle.tier_model.specs.Shelf.{InFlight, Look, absent, in_flight, finished, is_there, look_by}
-use Rattle.tier_model.specs.declared.state.Body.{Body}
+use Rattle.tier_model.specs.Rows.{Numbered}
 use Rattle.tier_model.specs.Answers.{finds_fresh}
 use Rattle.tier_model.specs.State as tier
 use Rattle.tier_model.specs.After as after_event
 use Rattle.tier_model.specs.After.{with_reader}
-use Rattle.tier_requests.specs.Shelves.{own_meta, found_in, flight_of, shelf_of}
+use Rattle.tier_requests.specs.Shelves.{found_in, flight_of, shelf_of}
 use Rattle.tier_requests.specs.Plain.{reader_in}
-use Rattle.tier_requests.specs.Finds.{TakeAnswer, IsReadBy}
+use Rattle.tier_requests.specs.Finds.{TakeAnswer, IsReadBy, meta_of}
 use Rattle.tier_requests.proofs.ShelfLaws.{shelf-same, shelf-joined, look-of}
 
 -- ---- what a look-up shows
@@ -42,7 +42,7 @@ key-stored (Some key) = refl
 -- a look-up of the state finds what one of the store shows
 abbrev pub IsShownAs : Option store.Look → Look → Type 0
 IsShownAs None l = l ≡ absent
-IsShownAs (Some (store.in_flight x)) l = (f : InFlight) × (l ≡ in_flight f) × (f.number ≡ x.write.number) × (f.meta ≡ own_meta x.meta)
+IsShownAs (Some (store.in_flight x)) l = (f : InFlight) × (l ≡ in_flight f) × (f.number ≡ x.write.number) × (f.meta ≡ x.meta)
 IsShownAs (Some (store.finished x)) l = l ≡ finished (found_in x)
 
 shown_as : (f : Option (Flying CacheMeta)) (b : Option (Stored CacheMeta)) → IsShownAs (look_of f b) (look_by (option_map flight_of f) (option_map found_in b))
@@ -71,10 +71,11 @@ look-some key h e = shown_there (shows true (stored_at key) h.store) (shelf.look
 abbrev pub Counts : Look → Held → Held → Type 0
 Counts absent old new = ⊥
 Counts (in_flight f) old new = IsJoined f.number old new
-Counts (finished b) old new = new ≡ old
+Counts (finished x) old new = new ≡ old
 
 pub record FindsOne (t : MomentValue) (l : Look) (meta : CacheMeta) (hit : MemHitHandler) (old new : Held) : Type 0 where
   pub reads : IsReadBy l hit
+  pub meta_is : meta_of l ≡ Some meta
   pub fresh : finds_fresh t l ≡ at_most t meta.internal.fresh_until
   pub counts : Counts l old new
 
@@ -86,11 +87,13 @@ finds_one : (t : MomentValue) (o : Option store.Look) (l : Look) (meta : CacheMe
 finds_one t None l meta hit old new s a = let never : true ≡ false = ap is_found a.0 in absurd cc
 finds_one t (Some (store.in_flight x)) l meta hit old new s a = subst (λ k. FindsOne t k meta hit old new) (sym s.1) (record {
   reads = a.0.1 ∙ ap (λ n. streaming (record { number = n; place = 0 })) (sym s.2);
-  fresh = ap (λ (m : CacheMeta). at_most t m.internal.fresh_until) s.3 ∙ ap (λ (m : CacheMeta). at_most t m.internal.fresh_until) (sym a.0.0);
+  meta_is = ap Some (s.3 ∙ sym a.0.0);
+  fresh = ap (λ (m : CacheMeta). at_most t m.internal.fresh_until) (s.3 ∙ sym a.0.0);
   counts = subst (λ n. IsJoined n old new) (sym s.2) a.1;
 })
 finds_one t (Some (store.finished x)) l meta hit old new s a = subst (λ k. FindsOne t k meta hit old new) (sym s) (record {
-  reads = (x.write.number, a.0.1);
+  reads = a.0.1;
+  meta_is = ap Some (sym a.0.0);
   fresh = ap (λ (m : CacheMeta). at_most t m.internal.fresh_until) (sym a.0.0);
   counts = a.1;
 })
@@ -140,7 +143,7 @@ joined-parted n old mid new j p = record { store = p.store ∙ j.store; next = p
 pub shelf-counted : (l : Look) (old new : Held) → Counts l old new → shelf_of new ≡ record (shelf_of old) { readers = with_reader (after_event.reader_of l) (shelf_of old).readers }
 shelf-counted absent old new c = absurd c
 shelf-counted (in_flight f) old new c = shelf-joined f.number old new c
-shelf-counted (finished b) old new c = ap shelf_of c
+shelf-counted (finished x) old new c = ap shelf_of c
 
 -- a reader that isn't taken is spent
 pub shelf-spared : (l : Look) (hit : MemHitHandler) (old mid new : Held) → IsReadBy l hit → Counts l old mid → Parts (reader_of hit) mid new → shelf_of new ≡ shelf_of old
@@ -148,8 +151,8 @@ shelf-spared absent hit old mid new f c p = absurd c
 shelf-spared (in_flight g) hit old mid new f c p =
     let parts : IsParted g.number mid new = subst (λ (r : Reader). Parts r mid new) f p in
     shelf-same old new (joined-parted g.number old mid new c parts)
-shelf-spared (finished b) hit old mid new f c p =
-    let same : new ≡ mid = subst (λ (r : Reader). Parts r mid new) f.1 p in
+shelf-spared (finished x) hit old mid new f c p =
+    let same : new ≡ mid = subst (λ (r : Reader). Parts r mid new) f p in
     ap shelf_of (same ∙ c)
 
 -- ---- what was found
@@ -179,8 +182,8 @@ pub taken-from : (l : Look) (before hit : MemHitHandler) (bytes : Option (List �
 taken-from absent before hit bytes f a = absurd f
 taken-from (in_flight g) (Complete h) hit bytes f a = let never : whole h.number h.body _ ≡ streaming _ = f in absurd cc
 taken-from (in_flight g) (Partial h) hit bytes f a = rw a.1 (ap (λ (r : Reader). tier.streaming (number_of r) (place_of r)) f)
-taken-from (finished b) (Complete h) hit bytes f a = rw (a.1, a.0) (ap (λ (r : Reader). tier.unread (bytes_of r)) f.1)
-taken-from (finished b) (Partial h) hit bytes f a = let never : streaming h ≡ whole _ _ _ = f.1 in absurd cc
+taken-from (finished x) (Complete h) hit bytes f a = rw (a.1, a.0) (ap (λ (r : Reader). tier.unread (bytes_of r)) f)
+taken-from (finished x) (Partial h) hit bytes f a = let never : streaming h ≡ whole _ _ _ = f in absurd cc
 
 -- nothing is taken out of a reader of a write, and memory runs out only at a body: then all is still there
 pub taken-none : (l : Look) (meta : CacheMeta) (before hit : MemHitHandler) (f : StoreFault) → TakeAnswer before (Err f) hit → reader_of hit ≡ reader_of before
@@ -194,26 +197,26 @@ taken-parts (Partial h) hit bytes old new a p = subst (λ (x : MemHitHandler). P
 
 -- whether all of a body was found
 abbrev pub is_whole : Look → Bool
-is_whole (finished b) = true
+is_whole (finished x) = true
 is_whole _ = false
 
 pub whole-found : (l : Look) (hit : MemHitHandler) → IsReadBy l hit → is_complete hit ≡ is_whole l
 whole-found absent hit f = absurd f
 whole-found (in_flight g) (Complete h) f = let never : whole h.number h.body _ ≡ streaming _ = f in absurd cc
 whole-found (in_flight g) (Partial h) f = refl
-whole-found (finished b) (Complete h) f = refl
-whole-found (finished b) (Partial h) f = let never : streaming h ≡ whole _ _ _ = f.1 in absurd cc
+whole-found (finished x) (Complete h) f = refl
+whole-found (finished x) (Partial h) f = let never : streaming h ≡ whole _ _ _ = f in absurd cc
 
 pub whole-taken : (before hit : MemHitHandler) (bytes : Option (List ℕ)) → TakeAnswer before (Ok bytes) hit → is_complete hit ≡ is_complete before
 whole-taken (Complete h) hit bytes a = ap is_complete a.1
 whole-taken (Partial h) hit bytes a = ap is_complete a.1
 
 -- what a body weighs that was found
-pub weight-found : (b : Body) (before hit : MemHitHandler) (bytes : Option (List ℕ)) → IsReadBy (finished b) before → TakeAnswer before (Ok bytes) hit → weight_of hit ≡ length b.bytes
-weight-found b (Complete h) hit bytes f a = ap weight_of a.1 ∙ ap (λ (r : Reader). length (body_of r)) f.1
-weight-found b (Partial h) hit bytes f a = let never : streaming h ≡ whole _ _ _ = f.1 in absurd cc
+pub weight-found : (x : Numbered) (before hit : MemHitHandler) (bytes : Option (List ℕ)) → IsReadBy (finished x) before → TakeAnswer before (Ok bytes) hit → weight_of hit ≡ length x.body.bytes
+weight-found x (Complete h) hit bytes f a = ap weight_of a.1 ∙ ap (λ (r : Reader). length (body_of r)) f
+weight-found x (Partial h) hit bytes f a = let never : streaming h ≡ whole _ _ _ = f in absurd cc
 
 pub found-there : (l : Look) (hit : MemHitHandler) → IsReadBy l hit → is_there l ≡ true
 found-there absent hit f = absurd f
 found-there (in_flight g) hit f = refl
-found-there (finished b) hit f = refl
+found-there (finished x) hit f = refl

@@ -1,5 +1,4 @@
 pub mod PlainLaws
-pub mod ForgetLaws
 pub mod FlightLaws
 pub mod ReadingLaws
 pub mod ShelfLaws
@@ -15,7 +14,9 @@ pub mod StepLaws
 pub mod BelowLaws
 pub mod TableLaws
 pub mod FindLaws
+pub mod SeenLaws
 pub mod LookLaws
+pub mod MissedLaws
 pub mod ToldLaws
 pub mod GivenLaws
 pub mod LookUpLaws

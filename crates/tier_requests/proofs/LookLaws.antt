@@ -90,9 +90,9 @@ pub record IsFree (r : Driven) (asks : Bool) (wait : Option DurationValue) (gave
   pub free : held_by r.lock ≡ nothing
   pub none : held r.lock ≡ None
 
-pub free-of : (r : Driven) (asks : Bool) (wait : Option DurationValue) (gave : Bool) (bytes : Option (List ℕ)) → IsDriven r asks wait gave bytes → look_refusal (plain_of r asks wait gave bytes) ≡ None → IsFree r asks wait gave bytes
-free-of r asks wait gave bytes d e =
-    let may = looks (plain_of r asks wait gave bytes) e in
+pub free-of : (r : Driven) (asks : Bool) (wait : Option DurationValue) (gave : Bool) (n : ℕ) (bytes : Option (List ℕ)) → IsDriven r asks wait gave bytes → look_refusal (plain_of r asks wait gave n bytes) ≡ None → IsFree r asks wait gave bytes
+free-of r asks wait gave n bytes d e =
+    let may = looks (plain_of r asks wait gave n bytes) e in
     record { looking = looking r asks wait gave bytes d may.0; free = may.1; none = holds_none (held r.lock) r.lock.polled may.1 }
 
 abbrev lock_with : Option LockCtx → Option MomentValue → RequestLock

@@ -29,7 +29,6 @@ use Rattle.mem_cache.specs.Looks.{tag_number}
 use Rattle.mem_cache.specs.Misses.{are_numbers_spent}
 use Rattle.mem_cache.specs.Readings as readings
 use Rattle.request_store.specs.Begins as begins
-use Rattle.cache_heads.specs.Merged.{with_provenance_of}
 use Rattle.request_store.specs.Spends.{Spends}
 use Rattle.http_cache.specs.Request.{stored_at}
 use Rattle.http_cache.specs.Writes as writes
@@ -39,14 +38,16 @@ use Rattle.tier_model.specs.Shelf as shelf
 use Rattle.tier_model.specs.Shelf.{Shelf, joined}
 use Rattle.tier_model.specs.State.{begun, closed, streaming, Request}
 use Rattle.tier_model.specs.Checks.{can_begin}
+use Rattle.tier_model.specs.Answers.{key_for}
 use Rattle.tier_model.specs.After.{turned, writing}
-use Rattle.tier_requests.specs.Shelves.{own_meta, shelf_of}
-use Rattle.tier_requests.specs.Plain.{Driven, phase_in, held_in, reader_in, plain_of, IsDriven}
+use Rattle.tier_requests.specs.Shelves.{shelf_of}
+use Rattle.tier_requests.specs.Plain.{Driven, phase_in, held_in, reader_in, seen_in, plain_of, IsDriven}
 use Rattle.tier_requests.specs.Rows.{Begins}
 use Rattle.tier_requests.proofs.LockLaws.{let-go-none, set-let-go, key-same, released-as}
 use Rattle.tier_requests.proofs.BeginLaws.{is-on, not-waiting}
 use Rattle.tier_requests.proofs.EndLaws.{shelf-spent}
 use Rattle.tier_requests.proofs.ShelfLaws.{shelf-joined, shelf-begun}
+use Rattle.tier_requests.proofs.SeenLaws.{meta-kept}
 
 -- ---- the reader of its own write
 
@@ -127,12 +128,7 @@ has-begun k meta n own old new named b =
           (subst (λ (o : Option ℕ). TagAnswer readings.reader_of o (asked true k o b.mid.store) b.mid (found_own b.read.0 b.read.1) new) named b.read.3);
     }
 
--- ---- metas
-
-own-meta : (old : Option CacheMeta) (meta : CacheMeta) (t : Bool) → own_meta (cond t (with_provenance_of old meta) meta) ≡ own_meta meta
-own-meta None meta true = refl
-own-meta (Some old) meta true = refl
-own-meta old meta false = refl
+-- ---- the request while its write begins
 
 -- how the request is while its write begins
 pub record IsAt (stored : CacheMeta) (d : Driven) : Type 0 where
@@ -141,6 +137,8 @@ pub record IsAt (stored : CacheMeta) (d : Driven) : Type 0 where
   pub on : is_disabled phase ≡ false
   pub used : is_never_enabled phase ≡ false
   pub plain : phase_in phase true ≡ begun
+  pub unstale : is_stale_phase phase ≡ false
+  pub unseen : (n : ℕ) → seen_in phase n (Some stored) ≡ None
   pub same : with_meta stored d ≡ record d { phase = phase; meta = Some stored; stale_variance = variance }
 
 abbrev stale_with : CacheMeta → Driven → Driven
@@ -156,6 +154,8 @@ at-begin stored d gave phases.Miss e may = record {
   on = refl;
   used = refl;
   plain = refl;
+  unstale = refl;
+  unseen = λ n. refl;
   same = ap (λ (p : CachePhase). cond (is_stale_phase p) (stale_with stored d) (miss_with stored d)) e ∙ ap (λ (p : CachePhase). record (miss_with stored d) { phase = p }) e;
 }
 at-begin stored d gave phases.Stale e may = record {
@@ -164,48 +164,50 @@ at-begin stored d gave phases.Stale e may = record {
   on = refl;
   used = refl;
   plain = refl;
+  unstale = refl;
+  unseen = λ n. refl;
   same = ap (λ (p : CachePhase). cond (is_stale_phase p) (stale_with stored d) (miss_with stored d)) e;
 }
 at-begin stored d gave _ e may = absurd cc
 
 -- ---- the request
 
-module _ (d : Driven) (asks : Bool) (wait : Option DurationValue) (gave : Bool) (bytes : Option (List ℕ)) (i : IsDriven d asks wait gave bytes) (may : can_begin (phase_in d.phase (is_some d.meta)) gave ≡ true) where
+module _ (d : Driven) (asks : Bool) (wait : Option DurationValue) (gave : Bool) (k : ℕ) (bytes : Option (List ℕ)) (i : IsDriven d asks wait gave bytes) (may : can_begin (phase_in d.phase (is_some d.meta)) gave ≡ true) where
   abbrev own_of : ℕ → MemHitHandler
   own_of n = Partial (record { number = n; place = 0 })
 
   abbrev at_work : CachePhase → Option (List ℕ) → CacheMeta → ℕ → Driven
   at_work phase variance stored n = record d { phase = phase; meta = Some stored; stale_variance = variance; writer = Some n; reader = Some (own_of n); lock = let_go d.lock }
 
-  worked : (phase : CachePhase) (variance : Option (List ℕ)) (stored : CacheMeta) (n : ℕ) → phase_in phase true ≡ begun
-      → plain_of (at_work phase variance stored n) asks wait gave None ≡ writing n (plain_of d asks wait gave bytes)
-  worked phase variance stored n plain = λ j. record (writing n (plain_of d asks wait gave bytes)) { phase = plain j; held = held_in (let-go-none d.lock j) None }
+  worked : (phase : CachePhase) (variance : Option (List ℕ)) (stored : CacheMeta) (n : ℕ) → phase_in phase true ≡ begun → seen_in phase k (Some stored) ≡ None
+      → plain_of (at_work phase variance stored n) asks wait gave k None ≡ writing n (plain_of d asks wait gave k bytes)
+  worked phase variance stored n plain unseen = λ j. record (writing n (plain_of d asks wait gave k bytes)) { phase = plain j; held = held_in (let-go-none d.lock j) None; seen = unseen j }
 
-  driven-worked : (phase : CachePhase) (variance : Option (List ℕ)) (stored : CacheMeta) (n : ℕ) → is_disabled phase ≡ false → is_never_enabled phase ≡ false → phase_in phase true ≡ begun
+  driven-worked : (phase : CachePhase) (variance : Option (List ℕ)) (stored : CacheMeta) (n : ℕ) → is_disabled phase ≡ false → is_never_enabled phase ≡ false → phase_in phase true ≡ begun → is_stale_phase phase ≡ false
       → IsDriven (at_work phase variance stored n) asks wait gave None
-  driven-worked phase variance stored n on used plain = record {
+  driven-worked phase variance stored n on used plain unstale = record {
     used = used;
     key = i.key;
     admits = i.admits;
     shown = i.shown;
-    evicts = λ e. i.evicts (is-on d asks wait gave bytes i may);
-    lock = λ e. set-let-go asks wait d.lock (i.lock (is-on d asks wait gave bytes i may));
+    evicts = λ e. i.evicts (is-on d asks wait gave k bytes i may);
+    lock = λ e. set-let-go asks wait d.lock (i.lock (is-on d asks wait gave k bytes i may));
     idle = λ off. let never : false ≡ true = sym on ∙ off in absurd cc;
     writes = λ there. plain;
     released = λ there. let-go-none d.lock;
     waits = λ reads. let never : false ≡ true = sym (ap is_read (let-go-none d.lock)) ∙ reads in absurd cc;
+    sees = λ stale given. let never : false ≡ true = sym unstale ∙ stale in absurd cc;
     gone = λ reads. refl;
   }
 
   -- what the store did, as the shelf has it
-  shelf-own : (k : StoredKey) (meta stored : CacheMeta) (n : ℕ) (own : MemHitHandler) (h0 mid seen h : Held) → own_meta stored ≡ own_meta meta → misses.IsBegun k stored n h0 mid → IsOwn n own mid seen
-      → Spends readings.reader_of d.reader seen h → shelf_of h ≡ record (turned (reader_in bytes d.reader) (streaming h0.next 0) (shelf.begun k (own_meta meta) (shelf_of h0))) { writes = h0.next + 1 }
-  shelf-own k meta stored n own h0 mid seen h same b o spends =
+  shelf-own : (at : StoredKey) (stored : CacheMeta) (n : ℕ) (own : MemHitHandler) (h0 mid seen h : Held) → misses.IsBegun at stored n h0 mid → IsOwn n own mid seen
+      → Spends readings.reader_of d.reader seen h → shelf_of h ≡ record (turned (reader_in bytes d.reader) (streaming h0.next 0) (shelf.begun at stored (shelf_of h0))) { writes = h0.next + 1 }
+  shelf-own at stored n own h0 mid seen h b o spends =
       shelf-spent bytes d.reader seen h spends
       ∙ ap (turned (reader_in bytes d.reader) closed) (shelf-joined n mid seen o.counted)
-      ∙ ap (λ (s : Shelf). turned (reader_in bytes d.reader) (streaming n 0) s) (ap shelf_of b.begun ∙ shelf-begun k stored h0)
-      ∙ ap (λ (m : CacheMeta). turned (reader_in bytes d.reader) (streaming n 0) (record (shelf.begun k m (shelf_of h0)) { writes = h0.next + 1 })) same
-      ∙ ap (λ (m : ℕ). turned (reader_in bytes d.reader) (streaming m 0) (record (shelf.begun k (own_meta meta) (shelf_of h0)) { writes = h0.next + 1 })) b.number
+      ∙ ap (λ (s : Shelf). turned (reader_in bytes d.reader) (streaming n 0) s) (ap shelf_of b.begun ∙ shelf-begun at stored h0)
+      ∙ ap (λ (m : ℕ). turned (reader_in bytes d.reader) (streaming m 0) (record (shelf.begun at stored (shelf_of h0)) { writes = h0.next + 1 })) b.number
 
   -- what began, with all that is known of it
   record Began (meta : CacheMeta) (h0 h : Held) (s s' : LockState) (new : Driven) : Type 0 where
@@ -245,18 +247,19 @@ module _ (d : Driven) (asks : Bool) (wait : Option DurationValue) (gave : Bool) 
   pub driven-begun : (meta : CacheMeta) (h0 h : Held) (s s' : LockState) (new : Driven) → IfSome new.writer IsNamed → Writes meta h0 h s s' new → IsDriven new asks wait gave None
   driven-begun meta h0 h s s' new named b0 =
       let b = began meta h0 h s s' new named b0 in
-      subst (λ (r : Driven). IsDriven r asks wait gave None) (sym b.request) (driven-worked b.at.phase b.at.variance (meta_for meta d) b.number b.at.on b.at.used b.at.plain)
+      subst (λ (r : Driven). IsDriven r asks wait gave None) (sym b.request) (driven-worked b.at.phase b.at.variance (meta_for meta d) b.number b.at.on b.at.used b.at.plain b.at.unstale)
 
   -- and the plain record of what began
   pub begun-as : (meta : CacheMeta) (h0 h : Held) (s s' : LockState) (new : Driven) → IfSome new.writer IsNamed → Writes meta h0 h s s' new
-      → Begins meta (plain_of d asks wait gave bytes) (shelf_of h0) s (plain_of new asks wait gave None) (shelf_of h) s'
+      → Begins meta (plain_of d asks wait gave k bytes) (shelf_of h0) s (plain_of new asks wait gave k None) (shelf_of h) s'
   begun-as meta h0 h s s' new named b0 =
       let b = began meta h0 h s s' new named b0 in
-      let q : Request = plain_of d asks wait gave bytes in
+      let q : Request = plain_of d asks wait gave k bytes in
       record {
         number = b.has.free;
-        request = ap (λ (r : Driven). plain_of r asks wait gave None) b.request ∙ worked b.at.phase b.at.variance (meta_for meta d) b.number b.at.plain ∙ ap (λ (n : ℕ). writing n q) b.has.write.number;
-        shelf = shelf-own (stored_at d.key) meta (meta_for meta d) b.number b.has.reader h0 b.has.mid b.seen h (own-meta d.meta meta (is_stale_phase d.phase)) b.has.write b.has.reads b.store
-            ∙ ap (λ (k : StoredKey). record (turned q.reader (streaming h0.next 0) (shelf.begun k (own_meta meta) (shelf_of h0))) { writes = h0.next + 1 }) (key-same d.key i.key);
-        lock = b.lock ∙ released-as d.key (locks.held d.lock) d.lock.polled status.Done q s i.key refl (not-waiting d asks wait gave bytes i may);
+        request = ap (λ (r : Driven). plain_of r asks wait gave k None) b.request ∙ worked b.at.phase b.at.variance (meta_for meta d) b.number b.at.plain (b.at.unseen k) ∙ ap (λ (n : ℕ). writing n q) b.has.write.number;
+        shelf = shelf-own (stored_at d.key) (meta_for meta d) b.number b.has.reader h0 b.has.mid b.seen h b.has.write b.has.reads b.store
+            ∙ ap (λ (at : StoredKey). record (turned q.reader (streaming h0.next 0) (shelf.begun at (meta_for meta d) (shelf_of h0))) { writes = h0.next + 1 }) (key-same d.key i.key)
+            ∙ ap (λ (m : CacheMeta). record (turned q.reader (streaming h0.next 0) (shelf.begun (key_for q) m (shelf_of h0))) { writes = h0.next + 1 }) (meta-kept d.phase k d.meta meta);
+        lock = b.lock ∙ released-as d.key (locks.held d.lock) d.lock.polled status.Done q s i.key refl (not-waiting d asks wait gave k bytes i may);
       }

@@ -76,7 +76,7 @@ on_with : (ctx : Option LockCtx) (first : Option MomentValue) → is_read (held 
 on_with None first reads = absurd cc
 on_with (Some c) first reads = refl
 
-module _ (d : Driven) (asks : Bool) (wait : Option DurationValue) (gave : Bool) (bytes : Option (List ℕ)) (i : IsDriven d asks wait gave bytes) (reads : is_read (held d.lock) ≡ true) where
+module _ (d : Driven) (asks : Bool) (wait : Option DurationValue) (gave : Bool) (k : ℕ) (bytes : Option (List ℕ)) (i : IsDriven d asks wait gave bytes) (reads : is_read (held d.lock) ≡ true) where
   -- it is no disabled one
   waits-on : is_disabled d.phase ≡ false
   waits-on = by_test (is_disabled d.phase) refl
@@ -87,7 +87,7 @@ module _ (d : Driven) (asks : Bool) (wait : Option DurationValue) (gave : Bool) 
 
   -- what it is answered, where no fill is unusable
   pub wait-told : (fills : List UnusableFill) (o : Option LockWaitOutcome) (t : MomentValue) (s : LockState) → fills ≡ [] → o ≡ wait_told d.lock d.digest fills t s
-      → option_map status_of_outcome o ≡ polled s t (plain_of d asks wait gave bytes) (held_in (held d.lock) d.lock.polled)
+      → option_map status_of_outcome o ≡ polled s t (plain_of d asks wait gave k bytes) (held_in (held d.lock) d.lock.polled)
   wait-told fills o t s none e =
       ap (option_map status_of_outcome) (e ∙ ap (λ (fs : List UnusableFill). wait_told d.lock d.digest fs t s) none)
-      ∙ poll-told d.lock.ctx d.lock.polled d.digest (plain_of d asks wait gave bytes) t s reads ((i.lock waits-on).timeout (on_with d.lock.ctx d.lock.polled reads)) refl
+      ∙ poll-told d.lock.ctx d.lock.polled d.digest (plain_of d asks wait gave k bytes) t s reads ((i.lock waits-on).timeout (on_with d.lock.ctx d.lock.polled reads)) refl

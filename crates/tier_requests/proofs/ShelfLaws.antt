@@ -3,7 +3,7 @@ use Rattle.std.proofs.Common.{◌≡◌, ℕ, ◌+◌, refl, ap, sym, ◌∙◌,
 use Rattle.std.specs.Prelude.{Bool, List, Option, Some, None, option_map, option_and_then, find, map, nat_eq}
 use Rattle.std.specs.Ordering.{nat_cmp}
 use Rattle.std.specs.Cmp.Lexicographic.{pointwise, slice_cmp, nat_list_cmp_total}
-use Rattle.std.specs.FinMap.{IsAntisymmetric, same_map, get-remove, nat_cmp-IsAntisymmetric, slice_cmp-IsAntisymmetric}
+use Rattle.std.specs.FinMap.{get, IsAntisymmetric, same_map, get-remove, nat_cmp-IsAntisymmetric, slice_cmp-IsAntisymmetric}
 use Rattle.std.specs.Map.{lookup}
 use Rattle.cache_entries.specs.Keys.{same_bytes}
 use Rattle.cache_entries.specs.SameEntry.{same_bytes-tells, same-sym}
@@ -17,13 +17,13 @@ use Rattle.cache_store.specs.Held.{Reading, Held}
 use Rattle.cache_store.specs.Misses.{begun}
 use Rattle.cache_store.specs.Readers as readers
 use Rattle.cache_store.specs.Readers.{Reader, SameHeld, IsJoined, IsParted, Parts}
-use Rattle.tier_model.specs.Rows.{Bodies, body_of, without_body}
+use Rattle.tier_model.specs.Rows.{Bodies, without_body}
 use Rattle.tier_model.specs.Shelf as shelf
 use Rattle.tier_model.specs.Shelf.{InFlight, Shelf, Look, look, look_by, readable, joined, parted, landed, removed}
 use Rattle.tier_model.specs.After.{pieced}
 use Rattle.tier_model.proofs.BodyLaws.{ties-same, body_at-without}
 use Rattle.tier_model.proofs.Tables.{bytes_tied, get-keyed}
-use Rattle.tier_requests.specs.Shelves.{own_meta, found_in, row_of, bodies_in, flight_of, readers_of, shelf_of}
+use Rattle.tier_requests.specs.Shelves.{found_in, row_of, bodies_in, flight_of, readers_of, shelf_of}
 use Rattle.tier_requests.proofs.FlightLaws.{flights-append, flights-marked, flights-on, flights-landed, flights-found, flight-at, flights-agree}
 use Rattle.tier_requests.proofs.ReadingLaws.{table_of, reading-found, table-same, table-joined, table-parted, table-left}
 
@@ -33,7 +33,7 @@ apart : IsAntisymmetric (slice_cmp nat_cmp)
 apart = slice_cmp-IsAntisymmetric nat_cmp-IsAntisymmetric
 
 -- bodies that answer alike are one map
-pub same-bodies : (m n : Bodies) → ((k : StoredKey) → body_of k m ≡ body_of k n) → m ≡ n
+pub same-bodies : (m n : Bodies) → ((k : StoredKey) → get m k ≡ get n k) → m ≡ n
 same-bodies = same_map nat_list_cmp_total apart
 
 found_row : (k : StoredKey) (xs : List (Stored CacheMeta)) → lookup (pointwise nat_eq k) (map row_of xs) ≡ option_map found_in (find (is_of k) xs)
@@ -46,7 +46,7 @@ found_row k (x ∷ xs) = ap (λ t. cond t (Some (found_in x)) (lookup (pointwise
     by_test false ih = ih
 
 -- the body of a key in a store
-pub body-found : (k : StoredKey) (s : Store CacheMeta) → body_of k (bodies_in s.bodies) ≡ option_map found_in (body_at k s)
+pub body-found : (k : StoredKey) (s : Store CacheMeta) → get (bodies_in s.bodies) k ≡ option_map found_in (body_at k s)
 body-found k s = get-keyed (pointwise nat_eq) nat_list_cmp_total bytes_tied (map row_of s.bodies) k ∙ found_row k s.bodies
 
 unsettled : (o : Option (Stored CacheMeta)) → option_map found_in o ≡ option_map found_in (option_map settled o)
@@ -77,7 +77,7 @@ shelf-parted n h0 h e = only-readers h0 h e.store e.next ∙ ap (λ t. record (s
 
 -- ---- writes in flight
 
-pub shelf-begun : (k : StoredKey) (meta : CacheMeta) (h : Held) → shelf_of (begun k meta h) ≡ record (shelf.begun k (own_meta meta) (shelf_of h)) { writes = h.next + 1 }
+pub shelf-begun : (k : StoredKey) (meta : CacheMeta) (h : Held) → shelf_of (begun k meta h) ≡ record (shelf.begun k meta (shelf_of h)) { writes = h.next + 1 }
 shelf-begun k meta h = ap (λ (fs : List InFlight). record (shelf_of h) { flying = fs; writes = h.next + 1 }) (flights-append h.store.flying (store.begun (record { number = h.next; key = k; meta = meta })))
 
 -- bytes came to a write, and maybe its last
@@ -132,7 +132,7 @@ shelf-removed k h0 h agree next readings = λ i. record {
   writes = next i;
 }
   where
-    removed_body : (j : StoredKey) → option_map found_in (body_at j (after (removes k) h0.store)) ≡ cond (same_bytes k j) None (body_of j (bodies_in h0.store.bodies))
+    removed_body : (j : StoredKey) → option_map found_in (body_at j (after (removes k) h0.store)) ≡ cond (same_bytes k j) None (get (bodies_in h0.store.bodies) j)
     removed_body j = ap (option_map found_in) (body_at-without j (Some k) h0.store.bodies) ∙ by_test (same_bytes k j) ∙ ap (cond (same_bytes k j) None) (sym (body-found j h0.store))
       where
         by_test : (t : Bool) → option_map found_in (cond t None (body_at j h0.store)) ≡ cond t None (option_map found_in (body_at j h0.store))
@@ -142,4 +142,4 @@ shelf-removed k h0 h agree next readings = λ i. record {
     bodies : bodies_in h.store.bodies ≡ without_body k (bodies_in h0.store.bodies)
     bodies = same-bodies (bodies_in h.store.bodies) (without_body k (bodies_in h0.store.bodies))
         (λ j. body-found j h.store ∙ agreed h.store (after (removes k) h0.store) agree j ∙ removed_body j
-        ∙ sym (get-remove nat_list_cmp_total (bodies_in h0.store.bodies) k j ∙ ap (λ v. cond v None (body_of j (bodies_in h0.store.bodies))) (ties-same j k)))
+        ∙ sym (get-remove nat_list_cmp_total (bodies_in h0.store.bodies) k j ∙ ap (λ v. cond v None (get (bodies_in h0.store.bodies) j)) (ties-same j k)))

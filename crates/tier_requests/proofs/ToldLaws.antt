@@ -22,18 +22,27 @@ use Rattle.http_cache.specs.Points.{point}
 use Rattle.http_cache.specs.Lookups.{FindsNothing, LookUpAnswer}
 use Rattle.http_cache.specs.Freshes.{LookUpAtAnswer}
 use Rattle.tier_requests.specs.Plain.{Driven}
-use Rattle.tier_requests.specs.Finds.{is_told_fresh, hit_told}
+use Rattle.tier_requests.specs.Finds.{hit_told}
 
--- with this reader a meta was found that is fresh at the moment, or isn't
-pub record FindsAs (t : MomentValue) (v : Bool) (look : Option store.Look) (hit : MemHitHandler) (r r1 : Driven) (h mid : Held) (s s1 : LockState) : Type 0 where
+-- a meta is fresh at the moment, or is told as it is
+abbrev pub IsToldAs : MomentValue → CacheMeta → FoundAt MemHitHandler → Type 0
+IsToldAs t meta (Fresh until hit) = at_most t meta.internal.fresh_until ≡ true
+IsToldAs t meta (Stale told hit) = (at_most t meta.internal.fresh_until ≡ false) × (meta ≡ told)
+
+-- with the reader that is told a meta was found
+pub record FindsAs (t : MomentValue) (look : Option store.Look) (told : FoundAt MemHitHandler) (r r1 : Driven) (h mid : Held) (s s1 : LockState) : Type 0 where
   pub meta : CacheMeta
-  pub fresh : at_most t meta.internal.fresh_until ≡ v
-  pub found : LookAnswer reader_of (valid_look r.valid_after look) h (Ok (Some (meta, hit))) mid
+  pub told_as : IsToldAs t meta told
+  pub found : LookAnswer reader_of (valid_look r.valid_after look) h (Ok (Some (meta, hit_told told))) mid
   pub request : r1 ≡ r
   pub lock : s1 ≡ s
 
 abbrev Told : Type 0
 Told = Result (Option (FoundAt MemHitHandler)) LookUpFault
+
+abbrev meta_in : CacheMeta → Told → CacheMeta
+meta_in other (Ok (Some (Stale meta hit))) = meta
+meta_in other _ = other
 
 abbrev hit_of : MemHitHandler → Told → MemHitHandler
 hit_of other (Ok (Some (Fresh until hit))) = hit
@@ -55,36 +64,36 @@ module _ (weight : MemHitHandler → ℕ) (id : MemHitHandler → Option CacheEn
   abbrev Answers : Result (Option (CacheMeta × MemHitHandler)) LookUpFault → Type 0
   Answers res = LookUpAnswer reader_of (λ n. n) custom decides t look (point r h s) res (point r1 mid s1)
 
-  found_as : (v : Bool) (meta : CacheMeta) (hit found : MemHitHandler) → at_most t meta.internal.fresh_until ≡ v → hit ≡ found → Answers (Ok (Some (meta, found))) → FindsAs t v look hit r r1 h mid s s1
-  found_as v meta hit found fresh same a = record {
+  found_as : (told : FoundAt MemHitHandler) (meta : CacheMeta) (found : MemHitHandler) → IsToldAs t meta told → hit_told told ≡ found → Answers (Ok (Some (meta, found))) → FindsAs t look told r r1 h mid s s1
+  found_as told meta found is same a = record {
     meta = meta;
-    fresh = fresh;
+    told_as = is;
     found = subst (λ (x : MemHitHandler). LookAnswer reader_of (valid_look r.valid_after look) h (Ok (Some (meta, x))) mid) (sym same) a.0;
     request = a.1;
     lock = a.2;
   }
 
   -- a response that is fresh
-  told-fresh : (until : MomentValue) (hit : MemHitHandler) → Tells (Ok (Some (Fresh until hit))) → FindsAs t true look hit r r1 h mid s s1
+  told-fresh : (until : MomentValue) (hit : MemHitHandler) → Tells (Ok (Some (Fresh until hit))) → FindsAs t look (Fresh until hit) r r1 h mid s s1
   told-fresh until hit (Ok (Some (meta, found)), a, tells, e) = by_test (at_most t meta.internal.fresh_until) refl e
     where
-      by_test : (v : Bool) → at_most t meta.internal.fresh_until ≡ v → told_ok (Fresh until hit) ≡ told_ok (cond v (Fresh meta.internal.fresh_until found) (Stale meta found)) → FindsAs t true look hit r r1 h mid s s1
-      by_test true fresh e = found_as true meta hit found fresh (ap (hit_of hit) e) a
+      by_test : (v : Bool) → at_most t meta.internal.fresh_until ≡ v → told_ok (Fresh until hit) ≡ told_ok (cond v (Fresh meta.internal.fresh_until found) (Stale meta found)) → FindsAs t look (Fresh until hit) r r1 h mid s s1
+      by_test true fresh e = found_as (Fresh until hit) meta found fresh (ap (hit_of hit) e) a
       by_test false fresh e = absurd cc
   told-fresh until hit (Ok None, a, tells, e) = absurd cc
   told-fresh until hit (Err fault, a, tells, e) = absurd cc
 
   -- one that is fresh no more
-  told-stale : (meta : CacheMeta) (hit : MemHitHandler) → Tells (Ok (Some (Stale meta hit))) → FindsAs t false look hit r r1 h mid s s1
+  told-stale : (meta : CacheMeta) (hit : MemHitHandler) → Tells (Ok (Some (Stale meta hit))) → FindsAs t look (Stale meta hit) r r1 h mid s s1
   told-stale told hit (Ok (Some (meta, found)), a, tells, e) = by_test (at_most t meta.internal.fresh_until) refl e
     where
-      by_test : (v : Bool) → at_most t meta.internal.fresh_until ≡ v → told_ok (Stale told hit) ≡ told_ok (cond v (Fresh meta.internal.fresh_until found) (Stale meta found)) → FindsAs t false look hit r r1 h mid s s1
+      by_test : (v : Bool) → at_most t meta.internal.fresh_until ≡ v → told_ok (Stale told hit) ≡ told_ok (cond v (Fresh meta.internal.fresh_until found) (Stale meta found)) → FindsAs t look (Stale told hit) r r1 h mid s s1
       by_test true fresh e = absurd cc
-      by_test false fresh e = found_as false meta hit found fresh (ap (hit_of hit) e) a
+      by_test false fresh e = found_as (Stale told hit) meta found (fresh, sym (ap (meta_in told) e)) (ap (hit_of hit) e) a
   told-stale told hit (Ok None, a, tells, e) = absurd cc
   told-stale told hit (Err fault, a, tells, e) = absurd cc
 
-  pub told-found : (found : FoundAt MemHitHandler) → Tells (Ok (Some found)) → FindsAs t (is_told_fresh found) look (hit_told found) r r1 h mid s s1
+  pub told-found : (found : FoundAt MemHitHandler) → Tells (Ok (Some found)) → FindsAs t look found r r1 h mid s s1
   told-found (Fresh until hit) x = told-fresh until hit x
   told-found (Stale meta hit) x = told-stale meta hit x
 

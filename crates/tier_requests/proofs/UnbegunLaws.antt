@@ -18,7 +18,7 @@ use Rattle.request_store.specs.Begins.{IsLeftAgain, IsNotBegun}
 use Rattle.tier_model.specs.declared.event.TierFault.TheVariants.{NumbersSpent}
 use Rattle.tier_model.specs.Calls.{nothing_done}
 use Rattle.tier_model.specs.Shelf.{InFlight, Shelf, has_number, flying_at, begun, left_with, readers_left, landed}
-use Rattle.tier_requests.specs.Shelves.{own_meta, shelf_of, IsBelow}
+use Rattle.tier_requests.specs.Shelves.{shelf_of, IsBelow}
 use Rattle.tier_requests.specs.Faults.{out_of_memory, begin_fault_for}
 use Rattle.tier_requests.specs.Rows.{BeginsNot}
 use Rattle.tier_requests.proofs.ShelfLaws.{shelf-begun, shelf-left}
@@ -96,7 +96,7 @@ module _ (k : StoredKey) (meta : CacheMeta) (f : StoreFault) (h0 h : Held) (belo
   left-again : Left → shelf_of h ≡ record (shelf_of h0) { writes = h0.next + 1 }
   left-again a =
       let b = (begun-in k meta a.miss (are_numbers_spent h0) h0 a.mid a.begun).0 in
-      ap shelf_of a.left ∙ shelf-left a.miss a.mid ∙ ap (λ (n : ℕ). landed n (shelf_of a.mid)) b.number ∙ ap (landed h0.next) (ap shelf_of b.begun ∙ shelf-begun k meta h0) ∙ landed-new k (own_meta meta) (shelf_of h0) below
+      ap shelf_of a.left ∙ shelf-left a.miss a.mid ∙ ap (λ (n : ℕ). landed n (shelf_of a.mid)) b.number ∙ ap (landed h0.next) (ap shelf_of b.begun ∙ shelf-begun k meta h0) ∙ landed-new k meta (shelf_of h0) below
 
   -- and else there was no memory
   refused-else : (f ≡ fault.WriteNumbersSpent → ⊥) → IsRefused → BeginsNot (shelf_of h0) out_of_memory (shelf_of h)

@@ -15,9 +15,10 @@ use Rattle.cache_evict.specs.Managed.{Managed}
 use Rattle.cache_lock.specs.State.{LockState}
 use Rattle.cache_lock.specs.StateCode as lock
 use Rattle.tier_model.specs.contracts.state.Body.{the_row as body_row}
-use Rattle.tier_model.specs.Rows.{Bodies}
+use Rattle.tier_model.specs.declared.state.Body.{Body}
+use Rattle.tier_model.specs.Rows.{Numbered, Bodies}
 use Rattle.tier_model.specs.Shelf.{InFlight, Readers, Shelf}
-use Rattle.tier_model.specs.State.{Phase, cache_key, hit, stale, miss, begun, disabled, Held, nothing, permit, waits, Reader, closed, unread, spent, streaming, Request, State}
+use Rattle.tier_model.specs.State.{Phase, cache_key, hit, stale, miss, begun, disabled, Held, nothing, permit, waits, Reader, closed, unread, spent, streaming, Seen, Request, State}
 
 abbrev pub span_code : Coded DurationValue
 span_code = code_by (ℕ × ℕ) (coded× coded_ℕ coded_ℕ) (λ s. (s.seconds, s.nanoseconds)) (λ p. record { seconds = p.0; nanoseconds = p.1 }) (λ _. refl)
@@ -99,12 +100,28 @@ reader_back (streaming n place) = refl
 abbrev pub reader_code : Coded Reader
 reader_code = code_by Reads (coded⊎ (coded_option (coded_list coded_ℕ)) (coded_option (coded× coded_ℕ coded_ℕ))) parts_of_reader reader_by reader_back
 
+abbrev pub seen_code : Coded Seen
+seen_code = code_by (ℕ × CacheMeta) (coded× coded_ℕ meta_row.coded) (λ x. (x.number, x.meta)) (λ p. record { number = p.0; meta = p.1 }) (λ _. refl)
+
+-- what a request has of its own, and how it stands
+abbrev pub Opened : Type 0
+Opened = CacheEntryKey × (Bool × (Option DurationValue × (Phase × (Held × Option DurationValue))))
+
+abbrev pub opened_code : Coded Opened
+opened_code = coded× entry_row.coded (coded× coded_bool (coded× (coded_option span_code) (coded× phase_code (coded× held_code (coded_option span_code)))))
+
+-- what its look-ups and its write gave it
+abbrev pub Given : Type 0
+Given = Bool × (Option Seen × (Option ℕ × Reader))
+
+abbrev pub given_code : Coded Given
+given_code = coded× coded_bool (coded× (coded_option seen_code) (coded× (coded_option coded_ℕ) reader_code))
+
 abbrev pub request_code : Coded Request
 request_code =
-    code_by (CacheEntryKey × (Bool × (Option DurationValue × (Phase × (Held × (Option DurationValue × (Bool × (Option ℕ × Reader))))))))
-    (coded× entry_row.coded (coded× coded_bool (coded× (coded_option span_code) (coded× phase_code (coded× held_code (coded× (coded_option span_code) (coded× coded_bool (coded× (coded_option coded_ℕ) reader_code))))))))
-    (λ q. (q.entry, (q.asks, (q.wait, (q.phase, (q.held, (q.waited, (q.gave_read, (q.write, q.reader)))))))))
-    (λ p. record { entry = p.0; asks = p.1.0; wait = p.1.1.0; phase = p.1.1.1.0; held = p.1.1.1.1.0; waited = p.1.1.1.1.1.0; gave_read = p.1.1.1.1.1.1.0; write = p.1.1.1.1.1.1.1.0; reader = p.1.1.1.1.1.1.1.1 }) (λ _. refl)
+    code_by (Opened × Given) (coded× opened_code given_code)
+    (λ q. ((q.entry, (q.asks, (q.wait, (q.phase, (q.held, q.waited))))), (q.gave_read, (q.seen, (q.write, q.reader)))))
+    (λ p. record { entry = p.0.0; asks = p.0.1.0; wait = p.0.1.1.0; phase = p.0.1.1.1.0; held = p.0.1.1.1.1.0; waited = p.0.1.1.1.1.1; gave_read = p.1.0; seen = p.1.1.0; write = p.1.1.1.0; reader = p.1.1.1.1 }) (λ _. refl)
 
 abbrev pub requests_code : Coded (finite.FinMap nat_cmp Request)
 requests_code = finite.code coded_ℕ request_code
@@ -126,10 +143,13 @@ flight_code =
 abbrev pub readers_code : Coded Readers
 readers_code = code_by (ℕ × Option (List ℕ)) (coded× coded_ℕ (coded_option (coded_list coded_ℕ))) (λ r. (r.count, r.left)) (λ p. record { count = p.0; left = p.1 }) (λ _. refl)
 
+abbrev pub numbered_code : Coded Numbered
+numbered_code = code_by (ℕ × Body) (coded× coded_ℕ body_row.coded) (λ x. (x.number, x.body)) (λ p. record { number = p.0; body = p.1 }) (λ _. refl)
+
 abbrev pub shelf_code : Coded Shelf
 shelf_code =
     code_by (Bodies × (List InFlight × (finite.FinMap nat_cmp Readers × ℕ)))
-    (coded× (finite.code (coded_list coded_ℕ) body_row.coded) (coded× (coded_list flight_code) (coded× (finite.code coded_ℕ readers_code) coded_ℕ)))
+    (coded× (finite.code (coded_list coded_ℕ) numbered_code) (coded× (coded_list flight_code) (coded× (finite.code coded_ℕ readers_code) coded_ℕ)))
     (λ s. (s.bodies, (s.flying, (s.readers, s.writes)))) (λ p. record { bodies = p.0; flying = p.1.0; readers = p.1.1.0; writes = p.1.1.1 }) (λ _. refl)
 
 abbrev pub state_code : Coded State

@@ -1,6 +1,7 @@
 -- What a look-up of a request does with what the store gave it.
-use Rattle.std.specs.Prelude.{◌≡◌, ◌⊎◌, ℕ, Bool, true, false, List, Option, Some, None, Result, Ok, Err, MatchResult}
+use Rattle.std.specs.Prelude.{◌≡◌, ◌⊎◌, ℕ, true, false, List, if◌then◌else◌, Option, Some, None, Result, Ok, Err, MatchResult}
 use Rattle.cache_words.specs.Time.{MomentValue}
+use Rattle.cache_heads.specs.declared.meta.CacheMeta.{CacheMeta}
 use Rattle.cache_evict.specs.Managed.{Managed}
 use Rattle.cache_lock.specs.State.{LockState, after_all}
 use Rattle.cache_store.specs.declared.storage.StoreFault.{StoreFault}
@@ -8,17 +9,19 @@ use Rattle.cache_store.specs.declared.storage.StoreFault.TheVariants.{Memory}
 use Rattle.cache_store.specs.declared.storage.store.FoundAt.{FoundAt}
 use Rattle.cache_store.specs.declared.storage.store.FoundAt.TheVariants.{Fresh, Stale}
 use Rattle.cache_store.specs.Readers.{whole, streaming}
+use Rattle.cache_phases.specs.declared.phase.CachePhase.TheVariants.{Miss}
+use Rattle.cache_phases.specs.Phases.{has_reader_phase}
+use Rattle.cache_phases.specs.Locks.{is_read, held}
 use Rattle.mem_cache.specs.declared.handlers.MemHitHandler.{MemHitHandler}
 use Rattle.mem_cache.specs.declared.handlers.MemHitHandler.TheVariants.{Complete, Partial}
 use Rattle.mem_cache.specs.Hits.{WholeHit, next_bytes}
 use Rattle.mem_cache.specs.Readings.{reader_of}
 use Rattle.tier_model.specs.Calls.{Outcome}
 use Rattle.tier_model.specs.Shelf.{Look, absent, in_flight, finished}
-use Rattle.tier_model.specs.State.{closed, Request}
-use Rattle.tier_model.specs.Own.{phase_absent}
+use Rattle.tier_model.specs.State.{Request}
 use Rattle.tier_model.specs.Answers.{finds_fresh, lock_given, look_answer}
 use Rattle.tier_model.specs.After.{looked, given_changes}
-use Rattle.tier_requests.specs.Plain.{given_of}
+use Rattle.tier_requests.specs.Plain.{Driven}
 use Rattle.tier_requests.specs.Looks.{used_by, UseRefused, LockRefused, RunsOut, LeavesLock}
 
 -- a reader of a body once its bytes are taken out
@@ -35,25 +38,30 @@ TakeAnswer (Partial h) r new = (r ≡ Ok None) × (new ≡ Partial h)
 abbrev pub IsReadBy : Look → MemHitHandler → Type 0
 IsReadBy absent hit = ⊥
 IsReadBy (in_flight f) hit = reader_of hit ≡ streaming (record { number = f.number; place = 0 })
-IsReadBy (finished b) hit = (n : ℕ) × (reader_of hit ≡ whole n b.bytes b.bytes)
+IsReadBy (finished x) hit = reader_of hit ≡ whole x.number x.body.bytes x.body.bytes
 
--- the same, and at moment t it is fresh or isn't
-pub record IsFoundBy (t : MomentValue) (fresh : Bool) (l : Look) (hit : MemHitHandler) : Type 0 where
-  pub freshness : finds_fresh t l ≡ fresh
-  pub reads : IsReadBy l hit
+-- the meta of what is found
+abbrev pub meta_of : Look → Option CacheMeta
+meta_of absent = None
+meta_of (in_flight f) = Some f.meta
+meta_of (finished x) = Some x.body.meta
 
--- what a look-up at a moment reported: whether it is fresh then, and its reader
-abbrev pub is_told_fresh : FoundAt MemHitHandler → Bool
-is_told_fresh (Fresh until hit) = true
-is_told_fresh (Stale meta hit) = false
+-- that is found, and is reported at moment t: it is fresh then, or past its moment and has this meta
+abbrev pub IsFoundBy : MomentValue → Look → FoundAt MemHitHandler → Type 0
+IsFoundBy t l (Fresh until hit) = (finds_fresh t l ≡ true) × IsReadBy l hit
+IsFoundBy t l (Stale meta hit) = (finds_fresh t l ≡ false) × (meta_of l ≡ Some meta) × IsReadBy l hit
 
+-- the reader that is reported
 abbrev pub hit_told : FoundAt MemHitHandler → MemHitHandler
 hit_told (Fresh until hit) = hit
 hit_told (Stale meta hit) = hit
 
--- the request, answered that nothing was found, with what the lock gave it
-abbrev pub missed_by : Request → Request
-missed_by q = record q { phase = phase_absent (given_of q.held) q.phase; reader = closed }
+-- a request that found nothing goes on to a miss. With a wait it stays in its phase, and forgets the meta of what it found before
+abbrev pub missed_by : Driven → Driven
+missed_by r =
+    if is_read (held r.lock)
+    then record r { meta = if has_reader_phase r.phase then None else r.meta }
+    else record r { phase = Miss; meta = None; stale_variance = None }
 
 module _ (n : ℕ) (weighed : ℕ → ℕ) where
   -- what is answered to a request that found something, and what that leaves of the request, of the order of use in n shards, and of the lock

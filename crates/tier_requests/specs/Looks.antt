@@ -36,13 +36,13 @@ pub record LeavesLock (t : MomentValue) (q : Request) (l : Look) (old new : Lock
 module _ (n : ℕ) (weighed : ℕ → ℕ) where
   -- the order of use after a use of what was found, in n shards
   abbrev pub used_by : Request → Look → Managed → Managed
-  used_by q (finished b) m = use_first n q.entry (weighed (length b.bytes)) m
+  used_by q (finished x) m = use_first n q.entry (weighed (length x.body.bytes)) m
   used_by q _ m = m
 
   -- why the entry of what was found isn't used: it isn't tracked, and is kept out
   abbrev pub UseRefused : Request → Look → Managed → TierFault → Type 0
-  UseRefused q (finished b) m f =
-      (weight_of q.entry (rows_of n q.entry m) ≡ None) × ((cause : EvictFault) × IsPutRefused n q.entry (weighed (length b.bytes)) m cause × (f ≡ fault_for cause nothing_done))
+  UseRefused q (finished x) m f =
+      (weight_of q.entry (rows_of n q.entry m) ≡ None) × ((cause : EvictFault) × IsPutRefused n q.entry (weighed (length x.body.bytes)) m cause × (f ≡ fault_for cause nothing_done))
   UseRefused q _ m f = ⊥
 
   abbrev pub LockRefused : MomentValue → Request → Look → LockState → TierFault → Type 0

@@ -2,12 +2,13 @@
 use Rattle.std.specs.Prelude.{◌≡◌, ℕ, Bool, true, false, List, if◌then◌else◌, Option, Some, None, is_some, option_map, unwrap_or}
 use Rattle.cache_words.specs.Time.{MomentValue, DurationValue}
 use Rattle.cache_words.specs.Key.{CacheKeyValue}
+use Rattle.cache_heads.specs.declared.meta.CacheMeta.{CacheMeta}
 use Rattle.cache_lock.specs.declared.tokens.Locked.{Locked}
 use Rattle.cache_lock.specs.declared.tokens.Locked.TheVariants.{Write, Read}
 use Rattle.cache_phases.specs.declared.phase.CachePhase.{CachePhase}
 use Rattle.cache_phases.specs.declared.phase.CachePhase.TheVariants as phases
 use Rattle.cache_phases.specs.declared.request_lock.RequestLock.{RequestLock}
-use Rattle.cache_phases.specs.Phases.{is_disabled, is_never_enabled}
+use Rattle.cache_phases.specs.Phases.{is_disabled, is_never_enabled, is_stale_phase}
 use Rattle.cache_phases.specs.Locks.{is_on, is_read, timeout_of, lock_set, held as lock_held}
 use Rattle.mem_cache.specs.declared.handlers.MemHitHandler.{MemHitHandler}
 use Rattle.mem_cache.specs.declared.handlers.MemHitHandler.TheVariants.{Complete, Partial}
@@ -16,7 +17,7 @@ use Rattle.http_cache.specs.Founds.{entry_at}
 use Rattle.tier_model.specs.declared.event.LockGiven.{LockGiven}
 use Rattle.tier_model.specs.declared.event.LockGiven.TheVariants as given
 use Rattle.tier_model.specs.Checks.{can_begin}
-use Rattle.tier_model.specs.State.{Phase, cache_key, hit, stale, miss, begun, disabled, Held, nothing, permit, waits, Reader, closed, unread, spent, streaming, Request}
+use Rattle.tier_model.specs.State.{Phase, cache_key, hit, stale, miss, begun, disabled, Held, nothing, permit, waits, Reader, closed, unread, spent, streaming, Seen, Request}
 
 -- a request to the store in memory: its readers are handlers, and its writer is the number of its write
 abbrev pub Driven : Type 0
@@ -60,8 +61,16 @@ reader_in bytes None = if is_some bytes then spent else closed
 reader_in bytes (Some (Complete h)) = unwrap_or (option_map unread bytes) spent
 reader_in bytes (Some (Partial h)) = streaming h.number h.place
 
-abbrev pub plain_of : Driven → Bool → Option DurationValue → Bool → Option (List ℕ) → Request
-plain_of r asks wait gave_read bytes = record {
+-- what it has seen: of a stale request the meta of what it found, and the number of that write beside it
+abbrev pub as_seen : ℕ → CacheMeta → Seen
+as_seen number meta = record { number = number; meta = meta }
+
+abbrev pub seen_in : CachePhase → ℕ → Option CacheMeta → Option Seen
+seen_in phases.Stale number meta = option_map (as_seen number) meta
+seen_in _ number meta = None
+
+abbrev pub plain_of : Driven → Bool → Option DurationValue → Bool → ℕ → Option (List ℕ) → Request
+plain_of r asks wait gave_read seen bytes = record {
   entry = entry_at r.key None;
   asks = asks;
   wait = wait;
@@ -69,6 +78,7 @@ plain_of r asks wait gave_read bytes = record {
   held = held_in (lock_held r.lock) r.lock.polled;
   waited = r.digest.lock_duration;
   gave_read = gave_read;
+  seen = seen_in r.phase seen r.meta;
   write = r.writer;
   reader = reader_in bytes r.reader;
 }
@@ -87,7 +97,8 @@ reads_a_write _ = false
 
 -- a request has a key and uses the manager and the lock until it is disabled, when it holds nothing. It has a write only where one
 -- began, and then nothing of the lock. One that waits may not begin a write: its last look-up gave it the wait. No policy is asked, and
--- nothing is hidden from it. One that reads a write, as its own once it began, has let go of the body that it found before
+-- nothing is hidden from it. A stale one that got no wait has the meta of what it found. One that reads a write, as its own once it began, has let
+-- go of the body that it found before
 pub record IsDriven (r : Driven) (asks : Bool) (wait : Option DurationValue) (gave_read : Bool) (bytes : Option (List ℕ)) : Type 0 where
   pub used : is_never_enabled r.phase ≡ false
   pub key : is_some r.key ≡ true
@@ -99,4 +110,5 @@ pub record IsDriven (r : Driven) (asks : Bool) (wait : Option DurationValue) (ga
   pub writes : is_some r.writer ≡ true → phase_in r.phase (is_some r.meta) ≡ begun
   pub released : is_some r.writer ≡ true → lock_held r.lock ≡ None
   pub waits : is_read (lock_held r.lock) ≡ true → can_begin (phase_in r.phase (is_some r.meta)) gave_read ≡ false
+  pub sees : is_stale_phase r.phase ≡ true → gave_read ≡ false → is_some r.meta ≡ true
   pub gone : reads_a_write r.reader ≡ true → bytes ≡ None

@@ -14,10 +14,9 @@ use Rattle.tier_model.specs.Shelf.{Shelf, flying_at, begun}
 use Rattle.tier_model.specs.State.{Held, Reader, closed, streaming, disabled, nothing, Request}
 use Rattle.tier_model.specs.Checks.{is_waiting, has_reader, has_ended}
 use Rattle.tier_model.specs.Answers.{key_for, polled, read_answer}
-use Rattle.tier_model.specs.After.{poll_of, after_wait, read_on, pieced, turned, writing, release_of}
+use Rattle.tier_model.specs.After.{poll_of, after_wait, read_on, pieced, turned, writing, meta_for, release_of}
 use Rattle.tier_model.specs.Step.{HasNews}
 use Rattle.tier_requests.specs.Faults.{out_of_memory}
-use Rattle.tier_requests.specs.Shelves.{own_meta}
 
 -- a poll, by whether the request waits
 abbrev pub PollAnswer : Bool → MomentValue → Request → LockState → Outcome → Request → LockState → Type 0
@@ -41,16 +40,17 @@ abbrev pub PieceAnswer : Option ℕ → List ℕ → Bool → Shelf → Outcome 
 PieceAnswer None bytes last shelf r new = (r ≡ Err WrongPhase) × (new ≡ shelf)
 PieceAnswer (Some n) bytes last shelf r new = AddAnswer (has_ended (flying_at n shelf.flying)) bytes last n shelf r new
 
--- a write began, with a number of its own: its request reads it, and has let go of its permit and of its earlier reader
+-- a write began, with a number of its own, and keeps the provenance of what its request has seen: this reads it, and has let go of its permit and of its
+-- earlier reader
 pub record Begins (meta : CacheMeta) (q : Request) (old : Shelf) (s : LockState) (new : Request) (left : Shelf) (s' : LockState) : Type 0 where
   pub number : old.writes ≢ 2 ^ 64 - 1
   pub request : new ≡ writing old.writes q
-  pub shelf : left ≡ record (turned q.reader (streaming old.writes 0) (begun (key_for q) (own_meta meta) old)) { writes = old.writes + 1 }
+  pub shelf : left ≡ record (turned q.reader (streaming old.writes 0) (begun (key_for q) (meta_for q meta) old)) { writes = old.writes + 1 }
   pub lock : s' ≡ after_all (release_of status.Done q q.held s) s
 
 -- a request stops using the cache: it lets go of its permit, and its reader ends
 pub record GivesUp (q : Request) (old : Shelf) (s : LockState) (new : Request) (left : Shelf) (s' : LockState) : Type 0 where
-  pub request : new ≡ record q { phase = disabled; held = nothing; reader = closed }
+  pub request : new ≡ record q { phase = disabled; held = nothing; seen = None; reader = closed }
   pub shelf : left ≡ turned q.reader closed old
   pub lock : s' ≡ after_all (release_of status.GiveUp q q.held s) s
 

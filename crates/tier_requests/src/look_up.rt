@@ -1,17 +1,20 @@
 //! Look-ups of a request.
-ghost use Rattle.std.specs.Prelude.{◌≡◌, true, false, None, MatchResult};
+ghost use Rattle.std.specs.Prelude.{◌≡◌, true, None, MatchResult};
 ghost use Rattle.cache_words.specs.Time.{MomentValue};
+ghost use Rattle.cache_phases.specs.Phases as phases;
+ghost use Rattle.cache_phases.specs.Locks.{is_read, held};
+ghost use Rattle.cache_store.specs.declared.storage.store.FoundAt.TheVariants.{Fresh, Stale};
 ghost use Rattle.cache_store.specs.Readers.{Parts};
 ghost use Rattle.mem_cache.specs.Readings.{reader_of};
 ghost use Rattle.tier_model.specs.declared.event.Answer.TheVariants.{Absent};
 ghost use Rattle.tier_model.specs.Shelf.{Look};
 ghost use Rattle.tier_model.specs.State.{closed};
-ghost use Rattle.tier_model.specs.Checks.{can_look_up, is_waiting, look_refusal};
+ghost use Rattle.tier_model.specs.Checks.{look_refusal};
 ghost use Rattle.tier_model.specs.After.{turned};
 ghost use Rattle.tier_requests.specs.Shelves.{shelf_of};
 ghost use Rattle.tier_requests.specs.Plain.{given_of};
 ghost use Rattle.tier_requests.specs.Looks.{LookAnswer, lent};
-ghost use Rattle.tier_requests.specs.Finds.{TakeAnswer, IsFoundBy, is_told_fresh, hit_told, FoundAnswer, missed_by};
+ghost use Rattle.tier_requests.specs.Finds.{TakeAnswer, IsFoundBy, hit_told, FoundAnswer, missed_by};
 
 use crate::faults::{fault_for, lock_fault_for, nothing_done, out_of_memory};
 use crate::request::{Request, TierParts};
@@ -21,7 +24,8 @@ use cache_heads::CacheMeta;
 use cache_phases::{CachePhase, HitStatus};
 use cache_store::storage::{FoundAt, HandleHit, ReadStep, StoreFault};
 use cache_words::time::Moment;
-use http_cache::{FoundFault, LookUpFault};
+use http_cache::{FoundFault, HttpCache, LookUpFault};
+use mem_cache::MemCache;
 use mem_cache::handlers::MemHitHandler;
 use std::alloc::Global;
 use std::hash::BuildHasher;
@@ -39,6 +43,21 @@ fn take_body(hit: &mut MemHitHandler) -> Result<Option<Bytes>, StoreFault>
         },
         MemHitHandler::Partial(_) => Ok(None),
     }
+}
+
+// Goes on where nothing was found and the lock has answered, and returns whether it gave a wait. Only what was found keeps a meta.
+fn go_without<S: BuildHasher>(cache: &mut HttpCache<MemCache<S>>) -> bool
+    requires { phases.can_look_up cache.old.phase ≡ true }
+    ensures waits { result ≡ is_read (held cache.old.lock) }
+    ensures request { cache.new ≡ missed_by cache.old }
+{
+    let waits = cache.is_cache_locked();
+    if !waits {
+        cache.cache_miss();
+    } else if cache.phase().has_reader_phase() {
+        cache.forget_cache_meta();
+    }
+    waits
 }
 
 impl<S: BuildHasher> Request<S> {
@@ -59,19 +78,14 @@ impl<S: BuildHasher> Request<S> {
         None
     }
 
-    // Nothing was found, and the lock was asked, if it is to be: `gave_read` says so. With a wait the phase stays.
+    // Nothing was found.
     fn missed<E>(&mut self, parts: &mut TierParts<S, E>) -> Answer
-        requires phase { can_look_up self.old.phase ≡ true }
-        requires told { self.old.gave_read ≡ is_waiting self.old.held }
         ensures answer { result ≡ Absent (given_of self.old.held) }
-        ensures request { self.new ≡ missed_by self.old }
+        ensures request { self.new ≡ record self.old { reader = closed } }
         ensures shelf { shelf_of parts.new.store ≡ turned self.old.reader closed (shelf_of parts.old.store) }
         ensures parts { parts.new ≡ record parts.old { store = parts.new.store } }
     {
         let lock = self.given();
-        if !self.gave_read {
-            self.cache.cache_miss();
-        }
         self.spend_reader(parts);
         Answer::Absent { lock }
     }
@@ -85,7 +99,7 @@ impl<S: BuildHasher> Request<S> {
         fresh_until: Moment,
     ) -> Result<Answer, TierFault>
         requires { look_refusal self.old ≡ None }
-        ensures answer { (t : MomentValue) (l : Look) → IsFoundBy t true l hit → FoundAnswer E.shard_count E.weighed t self.old l (E.managed parts.old.manager) parts.old.lock
+        ensures answer { (t : MomentValue) (l : Look) → IsFoundBy t l (Fresh fresh_until hit) → FoundAnswer E.shard_count E.weighed t self.old l (E.managed parts.old.manager) parts.old.lock
             result self.new (E.managed parts.new.manager) parts.new.lock }
         ensures shelf { MatchResult result (λ _. shelf_of parts.new.store ≡ turned self.old.reader closed (shelf_of parts.old.store))
             (λ _. Parts (reader_of hit) parts.old.store parts.new.store) }
@@ -114,7 +128,7 @@ impl<S: BuildHasher> Request<S> {
         })
     }
 
-    // Something was found that is fresh no more. A reader that isn't taken is spent.
+    // Something was found that is fresh no more: the request keeps its meta and the number of its write. A reader that isn't taken is spent.
     fn found_stale<E: EvictionManager>(
         &mut self,
         alloc: Global,
@@ -124,13 +138,14 @@ impl<S: BuildHasher> Request<S> {
         moment: Moment,
     ) -> Result<Answer, TierFault>
         requires { look_refusal self.old ≡ None }
-        ensures answer { (l : Look) → IsFoundBy moment false l hit → FoundAnswer E.shard_count E.weighed moment self.old l (E.managed parts.old.manager) parts.old.lock
+        ensures answer { (l : Look) → IsFoundBy moment l (Stale meta hit) → FoundAnswer E.shard_count E.weighed moment self.old l (E.managed parts.old.manager) parts.old.lock
             result self.new (E.managed parts.new.manager) parts.new.lock }
         ensures shelf { MatchResult result (λ _. shelf_of parts.new.store ≡ turned self.old.reader closed (shelf_of parts.old.store))
             (λ _. Parts (reader_of hit) parts.old.store parts.new.store) }
         ensures parts { parts.new ≡ record parts.old { store = parts.new.store; manager = parts.new.manager; lock = parts.new.lock } }
     {
         let mut hit = hit;
+        let seen = hit.write_number();
         let complete = hit.can_seek();
         let unread = match take_body(&mut hit) {
             Ok(unread) => unread,
@@ -148,6 +163,7 @@ impl<S: BuildHasher> Request<S> {
             Err(FoundFault::Evict(fault)) => return Err(fault_for(fault, nothing_done(alloc))),
         }
         self.unread = unread;
+        self.seen = seen;
         self.gave_read = self.cache.is_cache_locked();
         Ok(Answer::Found {
             fresh: false,
@@ -165,7 +181,7 @@ impl<S: BuildHasher> Request<S> {
         moment: Moment,
     ) -> Result<Answer, TierFault>
         requires { look_refusal self.old ≡ None }
-        ensures answer { (l : Look) → IsFoundBy moment (is_told_fresh found) l (hit_told found) → FoundAnswer E.shard_count E.weighed moment self.old l (E.managed parts.old.manager) parts.old.lock
+        ensures answer { (l : Look) → IsFoundBy moment l found → FoundAnswer E.shard_count E.weighed moment self.old l (E.managed parts.old.manager) parts.old.lock
             result self.new (E.managed parts.new.manager) parts.new.lock }
         ensures shelf { MatchResult result (λ _. shelf_of parts.new.store ≡ turned self.old.reader closed (shelf_of parts.old.store))
             (λ _. Parts (reader_of (hit_told found)) parts.old.store parts.new.store) }
@@ -173,11 +189,7 @@ impl<S: BuildHasher> Request<S> {
     {
         match found {
             FoundAt::Fresh(fresh_until, hit) => self.found_fresh(alloc, parts, hit, fresh_until),
-            FoundAt::Stale(meta, hit) => {
-                let answered = self.found_stale(alloc, parts, meta, hit, moment);
-                self.forget_meta();
-                answered
-            }
+            FoundAt::Stale(meta, hit) => self.found_stale(alloc, parts, meta, hit, moment),
         }
     }
 
@@ -198,7 +210,7 @@ impl<S: BuildHasher> Request<S> {
         match self.cache.cache_lookup_at(parts, moment) {
             Ok(Some(found)) => self.found(alloc, parts, found, moment),
             Ok(None) => {
-                self.gave_read = self.cache.is_cache_locked();
+                self.gave_read = go_without(&mut self.cache);
                 Ok(self.missed(parts))
             }
             Err(LookUpFault::Store(_)) => Err(out_of_memory(alloc)),

@@ -36,6 +36,8 @@ pub struct Request<S: BuildHasher> {
     pub(crate) wait: Option<Duration>,
     // Its last look-up gave it a wait.
     pub(crate) gave_read: bool,
+    // The number of the write that it found past its moment, of use while it has the meta of that.
+    pub(crate) seen: u64,
     // A whole body that was found, until it is read: to read it then takes no memory. Once it was read its reader is gone, and no
     // bytes stand here: nothing keeps the body.
     pub(crate) unread: Option<Bytes>,
@@ -51,7 +53,7 @@ impl<S: BuildHasher> Model for Request<S> {
 
     ghost use Rattle.tier_requests.specs.Plain.{plain_of, IsDriven};
 
-    ghost view = { λ r. plain_of r.cache r.asks r.wait r.gave_read r.unread };
+    ghost view = { λ r. plain_of r.cache r.asks r.wait r.gave_read r.seen r.unread };
 
     ghost invariant = { λ r. IsDriven r.cache r.asks r.wait r.gave_read r.unread };
 }
@@ -89,6 +91,7 @@ fn opened_request<S: BuildHasher>(key: CacheKey, asks: bool, wait: Option<Durati
         asks,
         wait,
         gave_read: false,
+        seen: 0,
         unread: None,
     }
 }
@@ -124,6 +127,7 @@ impl<S: BuildHasher> Request<S> {
             asks: _,
             wait: _,
             gave_read: _,
+            seen: _,
             unread: _,
         } = self;
         cache.end(parts);
@@ -163,15 +167,6 @@ impl<S: BuildHasher> Request<S> {
         self.unread = None;
         if let Some(hit) = self.cache.take_reader() {
             hit.finish(&mut parts.store);
-        }
-    }
-
-    // Lets go of the meta of what was found, which the store has: the phase is enough. So an open request keeps no head of what it found.
-    pub(crate) fn forget_meta(&mut self)
-        ensures { self.new ≡ self.old }
-    {
-        if self.cache.phase().has_reader_phase() {
-            self.cache.forget_cache_meta();
         }
     }
 

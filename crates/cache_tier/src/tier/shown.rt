@@ -3,7 +3,6 @@ ghost use Rattle.std.specs.Prelude.{◌≡◌, option_map};
 ghost use Rattle.mem_cache.specs.Shown.{meta_shown};
 ghost use Rattle.tier_model.specs.Keys.{stored_key_of};
 ghost use Rattle.tier_model.specs.Shelf.{look};
-ghost use Rattle.tier_requests.specs.Shelves.{own_meta};
 ghost use Rattle.cache_tier.specs.Shown.{meta_found};
 
 use super::Tier;
@@ -17,9 +16,9 @@ impl<const N: usize, S: BuildHasher> Tier<N, S> {
     /// windows in which it may be served stale. Of a write in flight it is that of its head, of a finished body the one that is stored
     /// with it; None where nothing is found. Right after a look-up answered Found it is the head of what was found.
     ///
-    /// The tier's state has no provenance of a meta; all else is as there. It takes no memory, counts no look-up, and is no use.
+    /// It takes no memory, counts no look-up, and is no use.
     pub fn shown(&self, key: &CacheKey) -> Option<ShownMeta<'_>>
-        ensures { option_map (λ m. own_meta (meta_shown m)) result ≡ meta_found (look (stored_key_of key.now) self.now.shelf) }
+        ensures { option_map meta_shown result ≡ meta_found (look (stored_key_of key.now) self.now.shelf) }
     {
         let (_, stored) = parts_of(key);
         self.parts.store.shown_meta(&stored)

@@ -5,7 +5,7 @@ pub returns-clause-found : goal.returns-clause-found
 returns-clause-found c = λ in_use weight limit watermark steps m bodies k b apart h u f. holds-found in_use apart weight limit watermark steps m bodies k b h u f
 
 pub returns-clause-put : goal.returns-clause-put
-returns-clause-put c = λ in_use weight limit watermark steps m bodies b es apart h u w g. holds-put in_use apart weight limit watermark steps m bodies b es h u w g
+returns-clause-put c = λ in_use weight limit watermark steps m bodies n b es apart h u w g. holds-put in_use apart weight limit watermark steps m bodies n b es h u w g
 
 pub returns-clause-purged : goal.returns-clause-purged
 returns-clause-purged c = λ in_use weight limit watermark steps m bodies k apart h u. holds-purged in_use apart weight limit watermark steps m bodies k h u

@@ -7,7 +7,7 @@ use Rattle.tier_model.specs.declared.event.Answer.TheVariants.{Begun, Uncacheabl
 use Rattle.tier_model.specs.Calls.{Outcome}
 use Rattle.tier_model.specs.Response.{kept, not_kept}
 use Rattle.tier_model.specs.State.{State}
-use Rattle.tier_requests.specs.Shelves.{own_meta, shelf_of}
+use Rattle.tier_requests.specs.Shelves.{shelf_of}
 use Rattle.cache_tier.specs.States.{state_by}
 use Rattle.cache_tier.specs.Acts.{Took}
 use Rattle.cache_tier.specs.Heads.{JudgesTo}
@@ -41,14 +41,14 @@ invariant_of-self g c =
     let i = c.self.inside in
     let s : State = state_by i.parts.manager i.wait (shelf_of i.parts.store) i.parts.lock i.requests i.found i.absent in
     let may : may_begin (get i.requests c.args.id) ≡ Some true = cc (c.can_begin.ensures, c.in-Some-true.is, c.in-Some-true.field-0-test) in
-    let j : JudgesTo c.args.moment c.args.head.now (kept c.in-Ok-Kept.meta) × (own_meta c.in-Ok-Kept.meta ≡ c.in-Ok-Kept.meta) = rw c.in-Ok-Kept.field-0-is at c.in-Ok-Kept.ensures in
+    let j : JudgesTo c.args.moment c.args.head.now (kept c.in-Ok-Kept.meta) = rw c.in-Ok-Kept.field-0-is at c.in-Ok-Kept.ensures in
     let left : State = state_by c.begin.new.parts.manager i.wait (shelf_of c.begin.new.parts.store) c.begin.new.parts.lock c.begin.new.self i.found i.absent in
     let f = c.in_err-begin-in-Ok-Kept.field-0.0 in
     let to : State = record s { shelf = shelf_of c.begin.new.parts.store } in
     let is : left ≡ to =
     λ k. state_by (c.begin.ensures.parts k).manager i.wait (shelf_of (c.begin.ensures.parts k).store) (c.in_err-begin-in-Ok-Kept.ensures.err.1 k) (c.in_err-begin-in-Ok-Kept.ensures.err.0 k) i.found i.absent in
     let took : Took s c.args.moment (Begin c.args.id c.args.head.now) (Err f) left = Took-to s c.args.moment (Begin c.args.id c.args.head.now) (Err f) to left is
-    (begin-not s c.args.moment c.args.id c.args.head.now may c.in-Ok-Kept.meta j.0 f (shelf_of c.begin.new.parts.store) c.in_err-begin-in-Ok-Kept.ensures.refused) in
+    (begin-not s c.args.moment c.args.id c.args.head.now may c.in-Ok-Kept.meta j f (shelf_of c.begin.new.parts.store) c.in_err-begin-in-Ok-Kept.ensures.refused) in
     kept-took g.row.N c.self.inside.watermark c.self.inside.age s c.args.moment (Begin c.args.id c.args.head.now) (Err f) left c.self.invariant took
 
 pub returns-in_err-begin-in-Ok-Kept : goal.returns-in_err-begin-in-Ok-Kept
@@ -56,14 +56,14 @@ returns-in_err-begin-in-Ok-Kept g c =
     let i = c.self.inside in
     let s : State = state_by i.parts.manager i.wait (shelf_of i.parts.store) i.parts.lock i.requests i.found i.absent in
     let may : may_begin (get i.requests c.args.id) ≡ Some true = cc (c.can_begin.ensures, c.in-Some-true.is, c.in-Some-true.field-0-test) in
-    let j : JudgesTo c.args.moment c.args.head.now (kept c.in-Ok-Kept.meta) × (own_meta c.in-Ok-Kept.meta ≡ c.in-Ok-Kept.meta) = rw c.in-Ok-Kept.field-0-is at c.in-Ok-Kept.ensures in
+    let j : JudgesTo c.args.moment c.args.head.now (kept c.in-Ok-Kept.meta) = rw c.in-Ok-Kept.field-0-is at c.in-Ok-Kept.ensures in
     let left : State = state_by c.begin.new.parts.manager i.wait (shelf_of c.begin.new.parts.store) c.begin.new.parts.lock c.begin.new.self i.found i.absent in
     let f = c.in_err-begin-in-Ok-Kept.field-0.0 in
     let to : State = record s { shelf = shelf_of c.begin.new.parts.store } in
     let is : left ≡ to =
     λ k. state_by (c.begin.ensures.parts k).manager i.wait (shelf_of (c.begin.ensures.parts k).store) (c.in_err-begin-in-Ok-Kept.ensures.err.1 k) (c.in_err-begin-in-Ok-Kept.ensures.err.0 k) i.found i.absent in
     let took : Took s c.args.moment (Begin c.args.id c.args.head.now) (Err f) left = Took-to s c.args.moment (Begin c.args.id c.args.head.now) (Err f) to left is
-    (begin-not s c.args.moment c.args.id c.args.head.now may c.in-Ok-Kept.meta j.0 f (shelf_of c.begin.new.parts.store) c.in_err-begin-in-Ok-Kept.ensures.refused) in
+    (begin-not s c.args.moment c.args.id c.args.head.now may c.in-Ok-Kept.meta j f (shelf_of c.begin.new.parts.store) c.in_err-begin-in-Ok-Kept.ensures.refused) in
     let p = err_from_is_err_and c.from_residual.result c.from_residual.ensures.1 in
     rw (← c.self.view_is, p.1, p.2) took
 
@@ -72,12 +72,12 @@ invariant_of-self-in-Ok-Kept g c =
     let i = c.self.inside in
     let s : State = state_by i.parts.manager i.wait (shelf_of i.parts.store) i.parts.lock i.requests i.found i.absent in
     let may : may_begin (get i.requests c.args.id) ≡ Some true = cc (c.can_begin.ensures, c.in-Some-true.is, c.in-Some-true.field-0-test) in
-    let j : JudgesTo c.args.moment c.args.head.now (kept c.in-Ok-Kept.meta) × (own_meta c.in-Ok-Kept.meta ≡ c.in-Ok-Kept.meta) = rw c.in-Ok-Kept.field-0-is at c.in-Ok-Kept.ensures in
+    let j : JudgesTo c.args.moment c.args.head.now (kept c.in-Ok-Kept.meta) = rw c.in-Ok-Kept.field-0-is at c.in-Ok-Kept.ensures in
     let left : State = state_by c.begin.new.parts.manager i.wait (shelf_of c.begin.new.parts.store) c.begin.new.parts.lock c.begin.new.self i.found i.absent in
     let to : State = record s { requests = c.begin.new.self; shelf = shelf_of c.begin.new.parts.store; lock = c.begin.new.parts.lock } in
     let is : left ≡ to = λ k. state_by (c.begin.ensures.parts k).manager i.wait (shelf_of (c.begin.ensures.parts k).store) (c.begin.ensures.parts k).lock c.begin.new.self i.found i.absent in
     let took : Took s c.args.moment (Begin c.args.id c.args.head.now) (Ok Begun) left = Took-to s c.args.moment (Begin c.args.id c.args.head.now) (Ok Begun) to left is
-    (begin-begun s c.args.moment c.args.id c.args.head.now may c.in-Ok-Kept.meta j.0 c.begin.new.self (shelf_of c.begin.new.parts.store) c.begin.new.parts.lock j.1 c.in_ok-begin-in-Ok-Kept.ensures.begun) in
+    (begin-begun s c.args.moment c.args.id c.args.head.now may c.in-Ok-Kept.meta j c.begin.new.self (shelf_of c.begin.new.parts.store) c.begin.new.parts.lock c.in_ok-begin-in-Ok-Kept.ensures.begun) in
     kept-took g.row.N c.self.inside.watermark c.self.inside.age s c.args.moment (Begin c.args.id c.args.head.now) (Ok Begun) left c.self.invariant took
 
 pub returns-in_ok-begin-in-Ok-Kept : goal.returns-in_ok-begin-in-Ok-Kept
@@ -85,12 +85,12 @@ returns-in_ok-begin-in-Ok-Kept g c =
     let i = c.self.inside in
     let s : State = state_by i.parts.manager i.wait (shelf_of i.parts.store) i.parts.lock i.requests i.found i.absent in
     let may : may_begin (get i.requests c.args.id) ≡ Some true = cc (c.can_begin.ensures, c.in-Some-true.is, c.in-Some-true.field-0-test) in
-    let j : JudgesTo c.args.moment c.args.head.now (kept c.in-Ok-Kept.meta) × (own_meta c.in-Ok-Kept.meta ≡ c.in-Ok-Kept.meta) = rw c.in-Ok-Kept.field-0-is at c.in-Ok-Kept.ensures in
+    let j : JudgesTo c.args.moment c.args.head.now (kept c.in-Ok-Kept.meta) = rw c.in-Ok-Kept.field-0-is at c.in-Ok-Kept.ensures in
     let left : State = state_by c.begin.new.parts.manager i.wait (shelf_of c.begin.new.parts.store) c.begin.new.parts.lock c.begin.new.self i.found i.absent in
     let to : State = record s { requests = c.begin.new.self; shelf = shelf_of c.begin.new.parts.store; lock = c.begin.new.parts.lock } in
     let is : left ≡ to = λ k. state_by (c.begin.ensures.parts k).manager i.wait (shelf_of (c.begin.ensures.parts k).store) (c.begin.ensures.parts k).lock c.begin.new.self i.found i.absent in
     let took : Took s c.args.moment (Begin c.args.id c.args.head.now) (Ok Begun) left = Took-to s c.args.moment (Begin c.args.id c.args.head.now) (Ok Begun) to left is
-    (begin-begun s c.args.moment c.args.id c.args.head.now may c.in-Ok-Kept.meta j.0 c.begin.new.self (shelf_of c.begin.new.parts.store) c.begin.new.parts.lock j.1 c.in_ok-begin-in-Ok-Kept.ensures.begun) in
+    (begin-begun s c.args.moment c.args.id c.args.head.now may c.in-Ok-Kept.meta j c.begin.new.self (shelf_of c.begin.new.parts.store) c.begin.new.parts.lock c.in_ok-begin-in-Ok-Kept.ensures.begun) in
     rw (← c.self.view_is) took
 
 pub invariant_of-self-in-Ok-NotKept : goal.invariant_of-self-in-Ok-NotKept
@@ -99,12 +99,12 @@ invariant_of-self-in-Ok-NotKept g c =
     let s : State = state_by i.parts.manager i.wait (shelf_of i.parts.store) i.parts.lock i.requests i.found i.absent in
     let may : may_begin (get i.requests c.args.id) ≡ Some true = cc (c.can_begin.ensures, c.in-Some-true.is, c.in-Some-true.field-0-test) in
     let left : State = state_by c.give_up.new.parts.manager i.wait (shelf_of c.give_up.new.parts.store) c.give_up.new.parts.lock c.give_up.new.self i.found i.absent in
-    let j : JudgesTo c.args.moment c.args.head.now (not_kept c.in-Ok-NotKept.reason) × Unit {0} = rw c.in-Ok-NotKept.field-0-is at c.in-Ok-NotKept.ensures in
+    let j : JudgesTo c.args.moment c.args.head.now (not_kept c.in-Ok-NotKept.reason) = rw c.in-Ok-NotKept.field-0-is at c.in-Ok-NotKept.ensures in
     let o : Outcome = Ok (Uncacheable c.in-Ok-NotKept.reason) in
     let to : State = record s { requests = c.give_up.new.self; shelf = shelf_of c.give_up.new.parts.store; lock = c.give_up.new.parts.lock } in
     let is : left ≡ to = λ k. state_by (c.give_up.ensures.parts k).manager i.wait (shelf_of (c.give_up.ensures.parts k).store) (c.give_up.ensures.parts k).lock c.give_up.new.self i.found i.absent in
     let took : Took s c.args.moment (Begin c.args.id c.args.head.now) o left = Took-to s c.args.moment (Begin c.args.id c.args.head.now) o to left is
-    (begin-given-up s c.args.moment c.args.id c.args.head.now may c.in-Ok-NotKept.reason c.give_up.new.self (shelf_of c.give_up.new.parts.store) c.give_up.new.parts.lock j.0 c.give_up.ensures.given_up) in
+    (begin-given-up s c.args.moment c.args.id c.args.head.now may c.in-Ok-NotKept.reason c.give_up.new.self (shelf_of c.give_up.new.parts.store) c.give_up.new.parts.lock j c.give_up.ensures.given_up) in
     kept-took g.row.N c.self.inside.watermark c.self.inside.age s c.args.moment (Begin c.args.id c.args.head.now) o left c.self.invariant took
 
 pub returns-in-Ok-NotKept : goal.returns-in-Ok-NotKept
@@ -113,10 +113,10 @@ returns-in-Ok-NotKept g c =
     let s : State = state_by i.parts.manager i.wait (shelf_of i.parts.store) i.parts.lock i.requests i.found i.absent in
     let may : may_begin (get i.requests c.args.id) ≡ Some true = cc (c.can_begin.ensures, c.in-Some-true.is, c.in-Some-true.field-0-test) in
     let left : State = state_by c.give_up.new.parts.manager i.wait (shelf_of c.give_up.new.parts.store) c.give_up.new.parts.lock c.give_up.new.self i.found i.absent in
-    let j : JudgesTo c.args.moment c.args.head.now (not_kept c.in-Ok-NotKept.reason) × Unit {0} = rw c.in-Ok-NotKept.field-0-is at c.in-Ok-NotKept.ensures in
+    let j : JudgesTo c.args.moment c.args.head.now (not_kept c.in-Ok-NotKept.reason) = rw c.in-Ok-NotKept.field-0-is at c.in-Ok-NotKept.ensures in
     let o : Outcome = Ok (Uncacheable c.in-Ok-NotKept.reason) in
     let to : State = record s { requests = c.give_up.new.self; shelf = shelf_of c.give_up.new.parts.store; lock = c.give_up.new.parts.lock } in
     let is : left ≡ to = λ k. state_by (c.give_up.ensures.parts k).manager i.wait (shelf_of (c.give_up.ensures.parts k).store) (c.give_up.ensures.parts k).lock c.give_up.new.self i.found i.absent in
     let took : Took s c.args.moment (Begin c.args.id c.args.head.now) o left = Took-to s c.args.moment (Begin c.args.id c.args.head.now) o to left is
-    (begin-given-up s c.args.moment c.args.id c.args.head.now may c.in-Ok-NotKept.reason c.give_up.new.self (shelf_of c.give_up.new.parts.store) c.give_up.new.parts.lock j.0 c.give_up.ensures.given_up) in
+    (begin-given-up s c.args.moment c.args.id c.args.head.now may c.in-Ok-NotKept.reason c.give_up.new.self (shelf_of c.give_up.new.parts.store) c.give_up.new.parts.lock j c.give_up.ensures.given_up) in
     rw (← c.self.view_is) took

@@ -11,6 +11,6 @@ pub returns-clause-given_up : goal.returns-clause-given_up
 returns-clause-given_up g c =
     let r = c.self.inside in
     let may = ap (λ (q : Request). can_begin q.phase q.gave_read) c.self.view_is ∙ c.requires in
-    let new = plain_of c.disable.new.self r.asks r.wait r.gave_read None in
+    let new = plain_of c.disable.new.self r.asks r.wait r.gave_read r.seen None in
     subst (λ (q : Request). GivesUp q (shelf_of c.args.parts.now.store) c.args.parts.now.lock new (shelf_of c.disable.new.parts.store) c.disable.new.parts.lock) c.self.view_is
-    (given-up r.cache r.asks r.wait r.gave_read r.unread c.self.invariant may _ c.args.parts.now.store c.disable.new.parts.store c.args.parts.now.lock c.disable.new.parts.lock c.disable.new.self c.disable.ensures.disabled)
+    (given-up r.cache r.asks r.wait r.gave_read r.seen r.unread c.self.invariant may _ c.args.parts.now.store c.disable.new.parts.store c.args.parts.now.lock c.disable.new.parts.lock c.disable.new.self c.disable.ensures.disabled)

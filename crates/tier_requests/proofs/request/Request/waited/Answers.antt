@@ -13,7 +13,7 @@ returns-in-Some-clause-outcome g c =
     let reads = sym (waits-in (held d.lock) d.lock.polled) ∙ ap (λ (q : Request). is_waiting q.held) c.self.view_is ∙ c.requires in
     let none = ap (λ v. v.items) c.new-unusable.ensures ∙ c.new.ensures.items in
     ap Some c.lock_status.ensures
-    ∙ wait-told d c.self.inside.asks c.self.inside.wait c.self.inside.gave_read c.self.inside.unread c.self.invariant reads _ (Some c.in-Some.outcome) c.args.moment c.args.parts.now.lock none c.in-Some.ensures.outcome
+    ∙ wait-told d c.self.inside.asks c.self.inside.wait c.self.inside.gave_read c.self.inside.seen c.self.inside.unread c.self.invariant reads _ (Some c.in-Some.outcome) c.args.moment c.args.parts.now.lock none c.in-Some.ensures.outcome
     ∙ ap (λ (q : Request). polled c.args.parts.now.lock c.args.moment q q.held) c.self.view_is
 
 pub returns-clause-outcome : goal.returns-clause-outcome
@@ -21,5 +21,5 @@ returns-clause-outcome g c =
     let d = c.self.inside.cache in
     let reads = sym (waits-in (held d.lock) d.lock.polled) ∙ ap (λ (q : Request). is_waiting q.held) c.self.view_is ∙ c.requires in
     let none = ap (λ v. v.items) c.new-unusable.ensures ∙ c.new.ensures.items in
-    wait-told d c.self.inside.asks c.self.inside.wait c.self.inside.gave_read c.self.inside.unread c.self.invariant reads _ None c.args.moment c.args.parts.now.lock none c.in-None.ensures.outcome
+    wait-told d c.self.inside.asks c.self.inside.wait c.self.inside.gave_read c.self.inside.seen c.self.inside.unread c.self.invariant reads _ None c.args.moment c.args.parts.now.lock none c.in-None.ensures.outcome
     ∙ ap (λ (q : Request). polled c.args.parts.now.lock c.args.moment q q.held) c.self.view_is

@@ -1,0 +1,133 @@
+-- A request that found nothing, as the plain record has it.
+use Rattle.std.proofs.Common.{◌≡◌, ℕ, refl, ap, sym, ◌∙◌, subst, Bool, true, false, cond, List, Some, None, Option}
+use Rattle.std.specs.Prelude.{not, is_some}
+use Rattle.cache_words.specs.Time.{MomentValue, DurationValue}
+use Rattle.cache_heads.specs.declared.meta.CacheMeta.{CacheMeta}
+use Rattle.cache_lock.specs.declared.tokens.Locked.{Locked}
+use Rattle.cache_lock.specs.declared.tokens.Locked.TheVariants.{Write, Read}
+use Rattle.cache_phases.specs.declared.phase.CachePhase.{CachePhase}
+use Rattle.cache_phases.specs.declared.phase.CachePhase.TheVariants as phases
+use Rattle.cache_phases.specs.declared.request_lock.RequestLock.{RequestLock}
+use Rattle.cache_phases.specs.Phases.{can_look_up, has_reader_phase, is_disabled, is_never_enabled, is_stale_phase}
+use Rattle.cache_phases.specs.Locks.{is_read, held, now_holding}
+use Rattle.mem_cache.specs.declared.handlers.MemHitHandler.{MemHitHandler}
+use Rattle.tier_model.specs.State.{Phase, Seen, miss, Request}
+use Rattle.tier_model.specs.Own.{phase_absent}
+use Rattle.tier_model.specs.Checks.{can_begin, look_refusal}
+use Rattle.tier_requests.specs.Plain.{Driven, phase_in, held_in, given_of, reads_a_write, seen_in, plain_of, IsDriven}
+use Rattle.tier_requests.specs.Finds.{missed_by}
+use Rattle.tier_requests.proofs.LookLaws.{IsFree, free-of, set-held}
+
+-- what it keeps of a meta that it had, with a wait
+abbrev kept : CachePhase → Option CacheMeta → Option CacheMeta
+kept p meta = cond (has_reader_phase p) None meta
+
+-- in a phase in which it looked up a wait leaves its phase and nothing that it has seen
+phase_kept : (p : CachePhase) (meta : Option CacheMeta) → can_look_up p ≡ true → phase_in p (is_some (kept p meta)) ≡ phase_in p (is_some meta)
+phase_kept phases.CacheKey meta e = refl
+phase_kept phases.Stale meta e = refl
+phase_kept _ meta e = absurd cc
+
+seen_kept : (p : CachePhase) (n : ℕ) (meta : Option CacheMeta) → can_look_up p ≡ true → seen_in p n (kept p meta) ≡ None
+seen_kept phases.CacheKey n meta e = refl
+seen_kept phases.Stale n meta e = refl
+seen_kept _ n meta e = absurd cc
+
+begins_not : (p : CachePhase) (meta : Bool) → can_look_up p ≡ true → can_begin (phase_in p meta) true ≡ false
+begins_not phases.CacheKey meta e = refl
+begins_not phases.Stale meta e = refl
+begins_not _ meta e = absurd cc
+
+-- what is given that isn't a wait leads to a miss
+phase_given : (l : Option Locked) (polled : Option MomentValue) (p : Phase) → is_read l ≡ false → miss ≡ phase_absent (given_of (held_in l polled)) p
+phase_given None polled p e = refl
+phase_given (Some (Write w)) polled p e = refl
+phase_given (Some (Read w)) polled p e = absurd cc
+
+phase_waits : (l : Option Locked) (polled : Option MomentValue) (p : Phase) → is_read l ≡ true → p ≡ phase_absent (given_of (held_in l polled)) p
+phase_waits None polled p e = absurd cc
+phase_waits (Some (Write w)) polled p e = absurd cc
+phase_waits (Some (Read w)) polled p e = refl
+
+-- what becomes of it by whether it waits
+abbrev waiting : Driven → Driven
+waiting r = record r { meta = kept r.phase r.meta }
+
+abbrev going_on : Driven → Driven
+going_on r = record r { phase = phases.Miss; meta = None; stale_variance = None }
+
+pub missed-lock-same : (r : Driven) → (missed_by r).lock ≡ r.lock
+missed-lock-same r = by_wait (is_read (held r.lock))
+  where
+    by_wait : (w : Bool) → (cond w (waiting r) (going_on r)).lock ≡ r.lock
+    by_wait true = refl
+    by_wait false = refl
+
+pub missed-reader-same : (r : Driven) → (missed_by r).reader ≡ r.reader
+missed-reader-same r = by_wait (is_read (held r.lock))
+  where
+    by_wait : (w : Bool) → (cond w (waiting r) (going_on r)).reader ≡ r.reader
+    by_wait true = refl
+    by_wait false = refl
+
+pub plain-missed : (r : Driven) (asks : Bool) (wait : Option DurationValue) (n : ℕ) (bytes : Option (List ℕ)) → can_look_up r.phase ≡ true
+    → plain_of (missed_by r) asks wait (is_read (held r.lock)) n bytes
+    ≡ record (plain_of r asks wait (is_read (held r.lock)) n bytes) { phase = phase_absent (given_of (held_in (held r.lock) r.lock.polled)) (phase_in r.phase (is_some r.meta)); seen = None }
+plain-missed r asks wait n bytes looks = by_wait (is_read (held r.lock)) refl
+  where
+    old : Phase
+    old = phase_in r.phase (is_some r.meta)
+
+    by_wait : (w : Bool) → is_read (held r.lock) ≡ w → plain_of (cond w (waiting r) (going_on r)) asks wait w n bytes
+        ≡ record (plain_of r asks wait w n bytes) { phase = phase_absent (given_of (held_in (held r.lock) r.lock.polled)) old; seen = None }
+    by_wait true e = λ i. record (plain_of r asks wait true n bytes) {
+      phase = (phase_kept r.phase r.meta looks ∙ phase_waits (held r.lock) r.lock.polled old e) i;
+      seen = seen_kept r.phase n r.meta looks i;
+    }
+    by_wait false e = λ i. record (plain_of r asks wait false n bytes) { phase = phase_given (held r.lock) r.lock.polled old e i; seen = None }
+
+-- what is left of a request that looked up and found nothing
+pub driven-missed : (r r' r2 : Driven) (asks : Bool) (wait : Option DurationValue) (gave gave' : Bool) (n : ℕ) (bytes : Option (List ℕ)) (g : Option Locked) → IsDriven r asks wait gave bytes
+    → look_refusal (plain_of r asks wait gave n bytes) ≡ None → r' ≡ record r { lock = now_holding g r.lock } → r2 ≡ missed_by r' → gave' ≡ is_read (held r'.lock) → IsDriven r2 asks wait gave' bytes
+driven-missed r r' r2 asks wait gave gave' n bytes g d may got without told =
+    subst (λ (v : Bool). IsDriven r2 asks wait v bytes) (sym told) (subst (λ (x : Driven). IsDriven x asks wait (is_read (held r'.lock)) bytes) (sym without)
+    (subst (λ (x : Driven). IsDriven (missed_by x) asks wait (is_read (held x.lock)) bytes) (sym got) (by_wait (is_read (held asked)) refl)))
+  where
+    free : IsFree r asks wait gave bytes
+    free = free-of r asks wait gave n bytes d may
+
+    asked : RequestLock
+    asked = now_holding g r.lock
+
+    after : Driven
+    after = record r { lock = asked }
+
+    by_wait : (w : Bool) → is_read (held asked) ≡ w → IsDriven (cond w (waiting after) (going_on after)) asks wait w bytes
+    by_wait true e = record {
+      used = d.used;
+      key = d.key;
+      admits = d.admits;
+      shown = d.shown;
+      evicts = d.evicts;
+      lock = λ on. set-held asks wait g r.lock.ctx r.lock.polled (d.lock on);
+      idle = λ off. let never : true ≡ false = sym off ∙ free.looking.enabled in absurd cc;
+      writes = λ there. let never : true ≡ false = sym there ∙ free.looking.writer in absurd cc;
+      released = λ there. let never : true ≡ false = sym there ∙ free.looking.writer in absurd cc;
+      waits = λ reads. begins_not r.phase (is_some (kept r.phase r.meta)) free.looking.phase;
+      sees = λ stale not_given. absurd cc;
+      gone = d.gone;
+    }
+    by_wait false e = record {
+      used = refl;
+      key = d.key;
+      admits = d.admits;
+      shown = d.shown;
+      evicts = λ on. d.evicts free.looking.enabled;
+      lock = λ on. set-held asks wait g r.lock.ctx r.lock.polled (d.lock free.looking.enabled);
+      idle = λ off. absurd cc;
+      writes = λ there. let never : true ≡ false = sym there ∙ free.looking.writer in absurd cc;
+      released = λ there. let never : true ≡ false = sym there ∙ free.looking.writer in absurd cc;
+      waits = λ reads. let never : false ≡ true = sym e ∙ reads in absurd cc;
+      sees = λ stale given. absurd cc;
+      gone = d.gone;
+    }
