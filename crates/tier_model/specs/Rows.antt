@@ -48,6 +48,10 @@ pub record FinishedBody : Type 0 where
 abbrev pub with_body : ℕ → FinishedBody → Bodies → Bodies
 with_body n b bodies = insert bodies (stored_key b.entry) (record { number = n; body = b.body })
 
--- what a body weighs: its bytes, and its meta as it is written
+-- what a body takes: its bytes, and its meta as it is written
+abbrev pub size_of : Body → ℕ
+size_of b = length b.bytes + meta_length b.meta
+
+-- what a body weighs
 abbrev pub weight_for : Body → ℕ
-weight_for b = max 1 (length b.bytes + meta_length b.meta)
+weight_for b = max 1 (size_of b)
