@@ -1,6 +1,7 @@
 //! Each refused growth in turn.
 mod files;
 mod over_bodies;
+mod over_tags;
 mod over_writes;
 mod served;
 

@@ -55,6 +55,47 @@ fn are_as_told(alloc: Global) -> bool {
     all
 }
 
+// What is asked of an empty tier, and until when the head is fresh that a look-up finds then: of the write in flight, without one of
+// the finished body.
+const SHOWN: &[(&[Ask], Option<i64>)] = &[
+    (&[Ask::Open(1, b'a')], None),
+    (&[Ask::Put(b'a', b"xx")], Some(107)),
+    (&[Ask::PutStale(b'a', b"xx")], Some(6)),
+    (&[Ask::Put(b'b', b"xx")], None),
+    (&[Ask::Put(b'a', b"xx"), Ask::Purge(b'a')], None),
+    (
+        &[
+            Ask::PutStale(b'a', b"xx"),
+            Ask::Open(1, b'a'),
+            Ask::Look(1),
+            Ask::Begin(1),
+        ],
+        Some(107),
+    ),
+    (
+        &[
+            Ask::Open(1, b'a'),
+            Ask::Look(1),
+            Ask::Begin(1),
+            Ask::Purge(b'a'),
+        ],
+        None,
+    ),
+];
+
+fn are_shown(alloc: Global) -> bool {
+    let mut all = true;
+    for &(asks, until) in SHOWN {
+        all = try_out(alloc, 4, Trial::Shown(asks, until)) == Held::Answered && all;
+    }
+    all
+}
+
+#[test]
+fn the_head_of_what_is_found_is_shown(rt: HostRuntime) {
+    assert!(rt; are_shown(rt.alloc()));
+}
+
 // An entry that stays tracked after its body went under another tag is a past.
 #[test]
 fn a_new_tier_tracks_nothing(rt: HostRuntime) {

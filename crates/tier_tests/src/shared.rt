@@ -2,4 +2,5 @@
 mod asks;
 mod meeting;
 mod refusals;
+mod started;
 mod threads;

@@ -1,5 +1,5 @@
 //! Trials of a tier without a file: what is asked of it, and how that goes.
-use crate::asks::{Ask, event};
+use crate::asks::{Ask, event, key};
 use crate::outcomes::{Outcome, is_answer, outcome_of};
 use cache_evict::EvictionManager;
 use cache_store::storage::Storage;
@@ -40,6 +40,8 @@ pub(crate) enum Trial {
     New(&'static [Ask], bool, bool),
     // What has these outcomes, with what is tracked then weighs, and what was evicted.
     Weights(&'static [(Ask, Outcome, u64, usize)]),
+    // What is asked, and until which second the head is fresh that a look-up of the key `a` finds then.
+    Shown(&'static [Ask], Option<i64>),
     // The store is lent: it has the body of a put, and shows writes in flight.
     Store,
 }
@@ -191,6 +193,25 @@ fn weigh(alloc: Global, tier: &mut Tier<1>, asks: &[(Ask, Outcome, u64, usize)])
     Held::Answered
 }
 
+// Whether the head of what is found under the key `a` is shown, which is fresh until that second.
+fn shows(alloc: Global, tier: &Tier<1>, until: Option<i64>) -> Held {
+    let Some(key) = key(alloc, b'a') else {
+        return Held::Elsewhere;
+    };
+    let seconds = match tier.shown(&key) {
+        Some(shown) => match shown.to_meta(alloc) {
+            Ok(meta) => Some(meta.internal.fresh_until.seconds()),
+            Err(AllocError) => return Held::Refused,
+        },
+        None => None,
+    };
+    if seconds == until {
+        Held::Answered
+    } else {
+        Held::Broken
+    }
+}
+
 fn try_on(alloc: Global, tier: &mut Tier<1>, trial: Trial) -> Held {
     match trial {
         Trial::Call(row) => {
@@ -223,6 +244,13 @@ fn try_on(alloc: Global, tier: &mut Tier<1>, trial: Trial) -> Held {
                 Held::Answered
             } else {
                 Held::Broken
+            }
+        }
+        Trial::Shown(asks, until) => {
+            if is_ready(alloc, tier, asks) {
+                shows(alloc, tier, until)
+            } else {
+                Held::Elsewhere
             }
         }
         Trial::Store => {

@@ -1,6 +1,8 @@
 //! Passes, calls and gathers that memory is refused, each made again.
 ghost use Rattle.std.specs.Prelude.{◌≡◌};
 
+mod counted;
+
 use crate::shared::asks::{Ask, event};
 use crate::shared::threads::{Shared, shared};
 use cache_tier::TierFault;
