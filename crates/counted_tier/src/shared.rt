@@ -11,10 +11,12 @@ ghost use Rattle.counted_tier.specs.Counted.{IsCounted};
 
 use crate::counted::{CallPass, Counted};
 use cache_tier::{Answer, Event, Report, Tier, TierFault};
+use cache_heads::CacheMeta;
+use cache_words::key::CacheKey;
 use rand_core::Rng;
 use recorded_tier::{PassFault, Snapshot, TierOptions};
 use shared_tier::NotShared;
-use std::alloc::Global;
+use std::alloc::{AllocError, Global};
 use std::hash::{BuildHasher, BuildHasherDefault, FoldHasher};
 use std::sync::ledger::{Blank, Ledger};
 use std::sync::{Mutex, Wait};
@@ -107,6 +109,21 @@ impl<const N: usize, R: Rng, L: Ledger, S: BuildHasher> CountedTier<N, R, L, S> 
     /// Returns the report of the tier as it is in one turn of the lock.
     pub fn report<W: Wait>(&self, rt: &W) -> Report {
         self.lock.lock(rt).tier().report()
+    }
+
+    /// Returns a copy of the head of what a look-up of that key finds as the tier is in one turn of the lock, of a write in flight too
+    /// (`Tier::shown`): its status, lines and moments; `None` where nothing is found. The call isn't counted.
+    ///
+    /// # Errors
+    ///
+    /// `AllocError` where there is no memory for the copy.
+    pub fn shown_meta<W: Wait>(
+        &self,
+        rt: &W,
+        alloc: Global,
+        key: &CacheKey,
+    ) -> Result<Option<CacheMeta>, AllocError> {
+        self.lock.lock(rt).tier().shown_meta(alloc, key)
     }
 
     /// Takes a pass back, with the calls that were made with it.

@@ -10,11 +10,13 @@ ghost use Rattle.recorded_tier.specs.Recorded.{MatchRecorded, IsClosed, IsReplay
 ghost use Rattle.recorded_tier.specs.Seats.{total};
 
 use cache_evict::PackWriteFault;
+use cache_heads::CacheMeta;
 use cache_tier::{Answer, Event, Tier, TierFault};
+use cache_words::key::CacheKey;
 use rand_core::Rng;
 use recorded_tier::event::HeldTwice;
 use recorded_tier::{Gathered, NotGathered, Pass, PassFault, Recorded, Snapshot, TierOptions};
-use std::alloc::Global;
+use std::alloc::{AllocError, Global};
 use std::hash::{BuildHasher, BuildHasherDefault, FoldHasher};
 use std::sync::ledger::{Blank, Ledger};
 use std::sync::{Mutex, Wait};
@@ -117,6 +119,21 @@ impl<const N: usize, R: Rng, L: Ledger, S: BuildHasher> SharedTier<N, R, L, S> {
             return Err(TierFault::NoRecord);
         };
         pass.step(&mut *self.lock.lock(rt), event)
+    }
+
+    /// Returns a copy of the head of what a look-up of that key finds as the tier is in one turn of the lock, of a write in flight too
+    /// (`Tier::shown`): its status, lines and moments; `None` where nothing is found. The call is in no record.
+    ///
+    /// # Errors
+    ///
+    /// `AllocError` where there is no memory for the copy.
+    pub fn shown_meta<W: Wait>(
+        &self,
+        rt: &W,
+        alloc: Global,
+        key: &CacheKey,
+    ) -> Result<Option<CacheMeta>, AllocError> {
+        self.lock.lock(rt).tier().shown_meta(alloc, key)
     }
 
     /// Takes passes back, and keeps their records, if each is what the history has of its caller. So the history has no fewer records than

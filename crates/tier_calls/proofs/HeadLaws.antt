@@ -1,22 +1,12 @@
 -- The meta that a tier shows, as it is told.
-use Rattle.std.proofs.Common.{◌≡◌, Option, Some, None, refl, sym, ap, ◌∙◌, subst}
-use Rattle.std.specs.Prelude.{option_map, IsSome, Result, Ok, Err, MatchResult}
+use Rattle.std.proofs.Common.{◌≡◌, Option, None, sym, subst}
+use Rattle.std.specs.Prelude.{IsSome, Result, Ok, Err, MatchResult}
 use Rattle.cache_heads.specs.declared.meta.CacheMeta.{CacheMeta}
 use Rattle.cache_words.specs.Key.{CacheKeyValue}
-use Rattle.mem_cache.specs.declared.meta.ShownMeta.{ShownMeta}
-use Rattle.mem_cache.specs.Shown.{meta_shown}
 use Rattle.tier_model.specs.State.{State}
 use Rattle.tier_calls.specs.Heads.{meta_for, IsMetaOf}
 
 module _ (s : State) (key : CacheKeyValue) where
-  -- a copy of what is shown
-  pub copy-shown : (m : ShownMeta) (meta : CacheMeta) → option_map meta_shown (Some m) ≡ meta_for s key → meta ≡ meta_shown m → IsMetaOf s key (Some meta)
-  copy-shown m meta shown e = ap (λ (x : CacheMeta). Some x) e ∙ shown
-
-  -- something is shown
-  pub is-shown : (m : ShownMeta) → option_map meta_shown (Some m) ≡ meta_for s key → IsSome (meta_for s key)
-  is-shown m shown = subst (λ (o : Option CacheMeta). IsSome o) shown refl
-
   -- where there is no meta nothing is found
   pub none-shown : IsMetaOf s key None → meta_for s key ≡ None
   none-shown h = sym h

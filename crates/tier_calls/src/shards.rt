@@ -137,9 +137,9 @@ impl Shards {
     {
         match self {
             Shards::NoMemory | Shards::NoSuchCount => None,
-            Shards::One(tier) => Some(meta_in(alloc, tier, key)),
-            Shards::Four(tier) => Some(meta_in(alloc, tier, key)),
-            Shards::Sixteen(tier) => Some(meta_in(alloc, tier, key)),
+            Shards::One(tier) => Some(tier.shown_meta(alloc, key)),
+            Shards::Four(tier) => Some(tier.shown_meta(alloc, key)),
+            Shards::Sixteen(tier) => Some(tier.shown_meta(alloc, key)),
         }
     }
 
@@ -182,23 +182,6 @@ fn made<const N: usize>(alloc: Global, settings: &Settings) -> Option<Tier<N, Se
         wait,
     } = *settings;
     Tier::with_hasher(alloc, hasher, limit, watermark, age, wait).ok()
-}
-
-// The meta of what a look-up of a key finds. The key is hashed once.
-fn meta_in<const N: usize>(
-    alloc: Global,
-    tier: &Tier<N, SeededState>,
-    key: &CacheKey,
-) -> Result<Option<CacheMeta>, AllocError>
-    ensures { MatchResult result (λ found. IsMetaOf tier.now key.now found) (λ e. IsSome (meta_for tier.now key.now)) }
-{
-    let Some(shown) = tier.shown(key) else {
-        return Ok(None);
-    };
-    match shown.to_meta(alloc) {
-        Ok(meta) => Ok(Some(meta)),
-        Err(fault) => Err(fault),
-    }
 }
 
 fn save_one<const N: usize>(

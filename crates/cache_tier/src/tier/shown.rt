@@ -1,5 +1,5 @@
 //! The head of what is found.
-ghost use Rattle.std.specs.Prelude.{◌≡◌, option_map};
+ghost use Rattle.std.specs.Prelude.{◌≡◌, MatchResult, IsSome, option_map};
 ghost use Rattle.mem_cache.specs.Shown.{meta_shown};
 ghost use Rattle.tier_model.specs.Keys.{stored_key_of};
 ghost use Rattle.tier_model.specs.Shelf.{look};
@@ -7,8 +7,10 @@ ghost use Rattle.cache_tier.specs.Shown.{meta_found};
 
 use super::Tier;
 use crate::keys::parts_of;
+use cache_heads::CacheMeta;
 use cache_words::key::CacheKey;
 use mem_cache::ShownMeta;
+use std::alloc::{AllocError, Global};
 use std::hash::BuildHasher;
 
 impl<const N: usize, S: BuildHasher> Tier<N, S> {
@@ -22,5 +24,23 @@ impl<const N: usize, S: BuildHasher> Tier<N, S> {
     {
         let (_, stored) = parts_of(key);
         self.parts.store.shown_meta(&stored)
+    }
+
+    /// Returns a copy of the meta that `shown` lends, as for a caller that hands the tier back to others before it sends the head.
+    ///
+    /// # Errors
+    ///
+    /// `AllocError` where something is found and there is no memory for its copy.
+    pub fn shown_meta(&self, alloc: Global, key: &CacheKey) -> Result<Option<CacheMeta>, AllocError>
+        ensures { MatchResult result (λ found. found ≡ meta_found (look (stored_key_of key.now) self.now.shelf))
+            (λ _. IsSome (meta_found (look (stored_key_of key.now) self.now.shelf))) }
+    {
+        let Some(shown) = self.shown(key) else {
+            return Ok(None);
+        };
+        match shown.to_meta(alloc) {
+            Ok(meta) => Ok(Some(meta)),
+            Err(fault) => Err(fault),
+        }
     }
 }
