@@ -132,6 +132,13 @@ impl Kept {
         &self.body
     }
 
+    // Returns until when the body is fresh.
+    pub(crate) fn fresh_until(&self) -> Moment
+        ensures { result ≡ self.now.meta.internal.fresh_until }
+    {
+        self.body.meta.packed().fresh_until()
+    }
+
     // Returns how many bytes its meta takes as it is written.
     pub(crate) fn meta_len(&self) -> usize
         ensures { result ≡ meta_length self.now.meta }

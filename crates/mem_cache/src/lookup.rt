@@ -62,7 +62,7 @@ fn found_body(alloc: Global, kept: &Kept) -> Result<Found<MemHitHandler>, StoreF
 fn fresh_body(kept: &Kept) -> Result<Option<FoundAt<MemHitHandler>>, StoreFault>
     ensures { MatchResult result (λ found. found ≡ Some (FreshAt kept.now.meta.internal.fresh_until (Handler.Complete (unread kept.now.number kept.now.bytes (weight_with kept.now.meta kept.now.bytes))))) (λ f. f ≡ Fault.Memory) }
 {
-    let until = kept.body().meta.packed().fresh_until();
+    let until = kept.fresh_until();
     match reader_of(kept) {
         Ok(hit) => Ok(Some(FoundAt::Fresh(until, hit))),
         Err(fault) => Err(fault),
@@ -90,7 +90,7 @@ impl<S: BuildHasher> MemCache<S> {
         ensures { (found : Result (Option (Meta × Handler)) Fault) × MemLookAnswer (look_up key.now self.old.store) self.old found self.new × (result ≡ answer_at moment found) }
     {
         if let Some(Shown::Body(kept)) = self.shown(key)
-            && moment.is_at_most(&kept.body().meta.packed().fresh_until())
+            && moment.is_at_most(&kept.fresh_until())
         {
             return fresh_body(kept);
         }
