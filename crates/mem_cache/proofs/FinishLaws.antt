@@ -1,6 +1,6 @@
 -- Writes that land: given up, or finished.
 use Rattle.std.proofs.Common.{◌≡◌, ℕ, refl, ap, sym, ◌∙◌, true, false, subst, cond, [], ◌∷◌, nat_eq}
-use Rattle.std.specs.Prelude.{Bool, List, Option, Some, None, option_map, not, find, length, ◌&&◌}
+use Rattle.std.specs.Prelude.{Bool, List, Option, Some, None, option_map, not, find, ◌&&◌}
 use Rattle.std.specs.Map.{lookup, remove_entry}
 use Rattle.std.specs.BTreeMap as tree
 use Rattle.std.specs.BTreeMap.{BTreeMap, is_at}
@@ -13,9 +13,10 @@ use Rattle.mem_cache.specs.declared.flight.Body.{Body}
 use Rattle.mem_cache.specs.declared.flight.Flight.{Flight}
 use Rattle.cache_store.specs.Agree.{Agree}
 use Rattle.cache_store.specs.Held.{Reading, Held, left_with}
-use Rattle.cache_store.specs.Answers.{alive_key, left_behind, left, FinishesWith}
+use Rattle.cache_store.specs.Answers.{alive_key, left_behind, left}
 use Rattle.mem_cache.specs.Alive.{is_pair}
-use Rattle.mem_cache.specs.Kept.{seen, flights_of, body_of, bodies_of, key_at}
+use Rattle.mem_cache.specs.Kept.{seen, flights_of, body_of, bodies_of, key_at, weight_with}
+use Rattle.mem_cache.specs.Misses.{FinishesWith}
 use Rattle.mem_cache.proofs.HeldLaws.{held}
 use Rattle.mem_cache.proofs.RowLaws.{ascends}
 use Rattle.mem_cache.proofs.SeenLaws.{Alive, seen-landed}
@@ -94,15 +95,15 @@ pub alive-flight : (alive : Alive) (n : ℕ) (k : StoredKey) (flights : BTreeMap
 alive-flight alive n k flights e = alive-option alive n k (tree.get nat_cmp flights n) (sym (ap alive_key (flying-seen alive n flights.entries)) ∙ e)
 
 -- a write that was alive is finished: its bytes were joined, it was taken out, and its readers are left with what was joined
-pub finished-is : (a b : Alive) (n : ℕ) (key : StoredKey) (flights rest : BTreeMap ℕ Flight) (taken : Flight) (meta : CacheMeta) (bytes : List ℕ) (size next : ℕ) (olds news : List (StoredKey × Body)) (rs after_rs : List Reading)
+pub finished-is : (a b : Alive) (n : ℕ) (key : StoredKey) (flights rest : BTreeMap ℕ Flight) (taken : Flight) (meta : CacheMeta) (bytes : List ℕ) (weight next : ℕ) (olds news : List (StoredKey × Body)) (rs after_rs : List Reading)
     → tree.IsOrdered nat_cmp flights → alive_key (find (has_number n) (flights_of a flights.entries)) ≡ Some key
     → bytes ≡ taken.pieces → tree.get nat_cmp flights n ≡ Some taken → meta ≡ taken.meta → rest.entries ≡ remove_entry (is_at (nat_cmp n)) flights.entries
     → ((j : StoredKey) (m : ℕ) → b j m ≡ (a j m && not (is_pair key n j m))) → after_rs ≡ left_with n bytes rs
-    → ((k : StoredKey) → lookup (pointwise nat_eq k) news ≡ cond (pointwise nat_eq key k) (Some (record { number = n; meta = meta; bytes = bytes })) (lookup (pointwise nat_eq k) olds)) → size ≡ length bytes
-    → FinishesWith n size (held (bodies_of olds) (flights_of a flights.entries) next rs) (held (bodies_of news) (flights_of b rest.entries) next after_rs)
-finished-is a b n key flights rest taken meta bytes size next olds news rs after_rs ordered alive bytes_are there same_meta removed gone leaving put sized = (
+    → ((k : StoredKey) → lookup (pointwise nat_eq k) news ≡ cond (pointwise nat_eq key k) (Some (record { number = n; meta = meta; bytes = bytes })) (lookup (pointwise nat_eq k) olds)) → weight ≡ weight_with meta bytes
+    → FinishesWith n weight (held (bodies_of olds) (flights_of a flights.entries) next rs) (held (bodies_of news) (flights_of b rest.entries) next after_rs)
+finished-is a b n key flights rest taken meta bytes weight next olds news rs after_rs ordered alive bytes_are there same_meta removed gone leaving put weighed = (
   (seen a (n, taken)).stored,
-  sized ∙ ap length bytes_are,
+  weighed ∙ (λ i. weight_with (same_meta i) (bytes_are i)),
   record {
     shown = ap (option_map (λ (f : Flying CacheMeta). f.stored)) flight;
     store = finished-agree n key (record { number = n; meta = taken.meta; bytes = bytes }) olds news (flights_of a flights.entries) (flights_of b rest.entries) (seen a (n, taken)) flight stored put_taken

@@ -16,12 +16,12 @@ use Rattle.mem_cache.specs.declared.flight.Body.{Body}
 use Rattle.mem_cache.specs.declared.handlers.MemHitHandler.{MemHitHandler}
 use Rattle.mem_cache.specs.declared.handlers.MemHitHandler.TheVariants.{Complete}
 use Rattle.mem_cache.specs.Hits.{unread}
-use Rattle.mem_cache.specs.Kept.{body_of}
+use Rattle.mem_cache.specs.Kept.{body_of, weight_with}
 use Rattle.mem_cache.specs.Looks.{MemLookAnswer}
 
 module _ (k : StoredKey) (b : Body) (moment : MomentValue) (look : Option Look) (old : Held) where
   abbrev hit : MemHitHandler
-  hit = Complete (unread b.number b.bytes)
+  hit = Complete (unread b.number b.bytes (weight_with b.meta b.bytes))
 
   abbrev Told : Option Look → Result (Option (FoundAt MemHitHandler)) StoreFault → Type 0
   Told l r = (found : Result (Option (CacheMeta × MemHitHandler)) StoreFault) × MemLookAnswer l old found old × (r ≡ answer_at moment found)

@@ -7,6 +7,7 @@ mod FirstLaws
 mod FlightLaws
 mod FoundLaws
 mod HeldLaws
+mod LengthLaws
 mod PieceLaws
 mod ReadLaws
 mod ReaderLaws

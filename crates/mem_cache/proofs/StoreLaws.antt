@@ -16,7 +16,7 @@ use Rattle.cache_store.specs.Readers.{whole, streaming, ReadsSame}
 use Rattle.mem_cache.specs.declared.flight.Flight.{Flight}
 use Rattle.mem_cache.specs.declared.handlers.MemHitHandler.{MemHitHandler}
 use Rattle.mem_cache.specs.Hits.{unread}
-use Rattle.mem_cache.specs.Kept.{flights_of}
+use Rattle.mem_cache.specs.Kept.{flights_of, weigh}
 use Rattle.mem_cache.specs.declared.handlers.MemHitHandler.TheVariants.{Complete, Partial}
 use Rattle.mem_cache.specs.Looks.{MemLookAnswer, MemStreamAnswer, MemTagAnswer}
 use Rattle.mem_cache.specs.Readings.{HitRead, reader_of, weight_of}
@@ -42,9 +42,9 @@ look-told (Some (in_flight x)) old new (Ok found) a =
     (subst (IsFoundAs reader_of x.meta (streaming (record { number = x.write.number; place = 0 }))) (sym a.0) (refl, refl), a.1)
 look-told (Some (in_flight x)) old new (Err f) a = a
 
-pub look-tells : (l : Option Look) (old new : Held) (r : Result (Option (CacheMeta × MemHitHandler)) StoreFault) → MemLookAnswer l old r new → Tells weight_of (λ _. None) (λ x. length x.bytes) None l r
+pub look-tells : (l : Option Look) (old new : Held) (r : Result (Option (CacheMeta × MemHitHandler)) StoreFault) → MemLookAnswer l old r new → Tells weight_of (λ _. None) weigh None l r
 look-tells (Some (finished x)) old new (Ok (Some found)) a =
-    let same : found ≡ (x.meta, Complete (unread x.write.number x.bytes)) = let one = a.0 in cc in
+    let same : found ≡ (x.meta, Complete (unread x.write.number x.bytes (weigh x))) = let one = a.0 in cc in
     (ap (λ (f : CacheMeta × MemHitHandler). weight_of f.1) same, refl)
 look-tells (Some (finished x)) old new (Ok None) a = tt
 look-tells (Some (finished x)) old new (Err f) a = tt
@@ -60,7 +60,7 @@ pub tag-told : (o : Option ℕ) (l : Option Look) (old new : Held) (r : Result (
 tag-told None l old new r a = look-told l old new r a
 tag-told (Some n) l old new r a = stream-told l old new r a
 
-pub tag-tells : (o : Option ℕ) (l : Option Look) (old new : Held) (r : Result (Option (CacheMeta × MemHitHandler)) StoreFault) → MemTagAnswer o l old r new → Tells weight_of (λ _. None) (λ x. length x.bytes) None l r
+pub tag-tells : (o : Option ℕ) (l : Option Look) (old new : Held) (r : Result (Option (CacheMeta × MemHitHandler)) StoreFault) → MemTagAnswer o l old r new → Tells weight_of (λ _. None) weigh None l r
 tag-tells None l old new r a = look-tells l old new r a
 tag-tells (Some n) None old new r a = tt
 tag-tells (Some n) (Some x) old new r a = look-tells (Some x) old new r a

@@ -6,10 +6,11 @@ use Rattle.cache_store.specs.declared.storage.StoreFault.{StoreFault}
 use Rattle.cache_store.specs.declared.storage.StoreFault.TheVariants.{Memory, SeekRange}
 use Rattle.cache_store.specs.Readers.{StreamHit}
 
--- a reader of the whole body of a write: what of it comes next, unless that was read
+-- a reader of the whole body of a write: what that weighs, and what of it comes next, unless that was read
 pub record WholeHit : Type 0 where
   pub number : ℕ
   pub body : List ℕ
+  pub weight : ℕ
   pub start : ℕ
   pub stop : ℕ
   pub done : Bool
@@ -24,9 +25,9 @@ abbrev pub ReadAnswer : Option (List ℕ × Bool) → ℕ → Result ReadStep St
 ReadAnswer None place r = r ≡ Ok End
 ReadAnswer (Some p) place r = StepAnswer (nat_lt place (length p.0)) p.0 p.1 place r
 
--- the reader of the body of a write that has read nothing
-abbrev pub unread : ℕ → List ℕ → WholeHit
-unread n body = record { number = n; body = body; start = 0; stop = length body; done = false }
+-- the reader of the body of a write, which weighs so much, that has read nothing
+abbrev pub unread : ℕ → List ℕ → ℕ → WholeHit
+unread n body weight = record { number = n; body = body; weight = weight; start = 0; stop = length body; done = false }
 
 -- what such a reader reads next
 abbrev pub next_bytes : WholeHit → List ℕ

@@ -1,9 +1,10 @@
 -- What is kept of bodies, of writes in flight and of their readers, as a plain state.
-use Rattle.std.specs.Prelude.{◌≡◌, ℕ, ◌<◌, Bool, true, false, not, cond, ◌+◌, ◌-◌, nat_lt, List, Option, Some, None, option_map, map}
+use Rattle.std.specs.Prelude.{◌≡◌, ℕ, ◌<◌, Bool, true, false, not, cond, ◌+◌, ◌-◌, nat_lt, List, length, Option, Some, None, option_map, map}
 use Rattle.std.specs.List.{AllByRecursion}
 use Rattle.std.specs.Ordering.{nat_cmp}
 use Rattle.std.specs.BTreeMap as tree
 use Rattle.std.specs.BTreeMap.{BTreeMap}
+use Rattle.cache_heads.specs.Meta.{meta_length}
 use Rattle.cache_heads.specs.declared.meta.CacheMeta.{CacheMeta}
 use Rattle.cache_changes.specs.Changes.{StoredKey}
 use Rattle.cache_changes.specs.Store.{Stored, Flying, on_flying, with_bytes, ended}
@@ -13,6 +14,14 @@ use Rattle.mem_cache.specs.declared.flight.Buffer.TheVariants.{InPieces, Whole}
 use Rattle.mem_cache.specs.declared.flight.Flight.{Flight}
 use Rattle.mem_cache.specs.declared.flight.Body.{Body}
 use Rattle.mem_cache.specs.declared.flight.Readers.{Readers}
+
+-- what bytes weigh with a meta: how many they are, and how many the meta takes as it is written
+abbrev pub weight_with : CacheMeta → List ℕ → ℕ
+weight_with meta bytes = length bytes + meta_length meta
+
+-- what a stored body weighs
+abbrev pub weigh : Stored CacheMeta → ℕ
+weigh x = weight_with x.meta x.bytes
 
 abbrev pub bytes_in : Buffer → List ℕ
 bytes_in (InPieces bytes) = bytes

@@ -1,5 +1,5 @@
 -- What readers are answered, of a body and of a write.
-use Rattle.std.specs.Prelude.{◌≡◌, ℕ, Bool, true, false, length, Option, Result, Err}
+use Rattle.std.specs.Prelude.{◌≡◌, ℕ, Bool, true, false, Option, Result, Err}
 use Rattle.cache_store.specs.declared.storage.ReadStep.{ReadStep}
 use Rattle.cache_store.specs.declared.storage.StoreFault.{StoreFault}
 use Rattle.cache_store.specs.declared.storage.StoreFault.TheVariants.{SeekRange}
@@ -13,9 +13,9 @@ abbrev pub is_complete : MemHitHandler → Bool
 is_complete (Complete h) = true
 is_complete (Partial h) = false
 
--- a body weighs its length
+-- a body weighs what it weighed when it was found
 abbrev pub weight_of : MemHitHandler → ℕ
-weight_of (Complete h) = length h.body
+weight_of (Complete h) = h.weight
 weight_of (Partial h) = 0
 
 -- what a reader is to read

@@ -3,14 +3,15 @@ ghost use Rattle.std.specs.Prelude.{◌≡◌, ◌<◌, ◌-◌, ◌^◌, List, 
 ghost use Rattle.std.specs.Cmp.Lexicographic.{pointwise};
 ghost use Rattle.std.specs.HashMap.{get, spare, values};
 ghost use Rattle.std.specs.List.{sum_by};
+ghost use Rattle.cache_heads.specs.Meta.{meta_length};
 ghost use Rattle.cache_store.specs.Renewals.{expired};
 ghost use Rattle.mem_cache.specs.Renewals.{body_with};
 
-use crate::flight::{Body, Kept};
+use crate::counted_meta::CountedMeta;
+use crate::flight::Kept;
 use crate::stored_key::StoredKey;
 use cache_words::key::HashBinary;
 use cache_words::time::Moment;
-use packed_meta::PackedMeta;
 use std::alloc::AllocError;
 use std::collections::HashMap;
 use std::hash::BuildHasher;
@@ -36,10 +37,10 @@ pub(crate) fn make_room<S: BuildHasher>(bodies: &mut Bodies<S>) -> Result<(), Al
 }
 
 // Returns the body of a key.
-pub(crate) fn get<'a, S: BuildHasher>(bodies: &'a Bodies<S>, key: &HashBinary) -> Option<&'a Body>
+pub(crate) fn get<'a, S: BuildHasher>(bodies: &'a Bodies<S>, key: &HashBinary) -> Option<&'a Kept>
     ensures { option_copied result ≡ get (pointwise nat_eq) bodies.now key.now }
 {
-    Some(bodies.get(&StoredKey::new(*key))?.body())
+    bodies.get(&StoredKey::new(*key))
 }
 
 // Returns whether a key has a body.
@@ -79,7 +80,7 @@ pub(crate) fn expire<S: BuildHasher>(
 pub(crate) fn set_meta<S: BuildHasher>(
     bodies: &mut Bodies<S>,
     key: &HashBinary,
-    meta: PackedMeta,
+    meta: CountedMeta,
 ) -> bool
     ensures found { result ≡ is_some (get (pointwise nat_eq) bodies.old key.now) }
     ensures after { (k : List ℕ) → get (pointwise nat_eq) bodies.new k ≡ cond (pointwise nat_eq key.now k) (option_map (body_with (λ _. meta)) (get (pointwise nat_eq) bodies.old key.now)) (get (pointwise nat_eq) bodies.old k) }
@@ -100,6 +101,17 @@ pub(crate) fn bytes_of_all<S: BuildHasher>(bodies: &Bodies<S>) -> u64
     let mut count: u64 = 0;
     for body in bodies.values() {
         count = count.saturating_add(body.body().bytes.len() as u64);
+    }
+    count
+}
+
+// Returns how many bytes the metas of all bodies take as they are written, counted up to 2^64 - 1.
+pub(crate) fn meta_of_all<S: BuildHasher>(bodies: &Bodies<S>) -> u64
+    ensures { result ≡ min (sum_by (λ b. meta_length b.meta) (values bodies.now)) (2 ^ 64 - 1) }
+{
+    let mut count: u64 = 0;
+    for body in bodies.values() {
+        count = count.saturating_add(body.meta_len() as u64);
     }
     count
 }

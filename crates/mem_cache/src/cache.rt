@@ -4,7 +4,7 @@ ghost use Rattle.cache_changes.specs.Changes.{begins, removes};
 ghost use Rattle.cache_changes.specs.Store.{after, empty_store, flying_at, is_found_at};
 ghost use Rattle.cache_store.specs.declared.storage.StoreFault.{StoreFault as Fault};
 ghost use Rattle.cache_store.specs.Agree.{Agree};
-ghost use Rattle.cache_store.specs.Answers.{WriteAnswer, after_write, alive_key, left, IsFinished, FinishAnswer, in_flight, look_up, streamed};
+ghost use Rattle.cache_store.specs.Answers.{WriteAnswer, after_write, alive_key, left, IsFinished, in_flight, look_up, streamed};
 ghost use Rattle.mem_cache.specs.Kept.{stored_flight};
 ghost use Rattle.cache_store.specs.Misses.{BeginAnswer};
 ghost use Rattle.cache_store.specs.Readers.{readable, IsJoined, IsParted};
@@ -107,7 +107,7 @@ impl<S: BuildHasher> MemCache<S> {
                 self.flights.get(&number).unwrap().flight(),
             )),
             None => match bodies::get(&self.bodies, key) {
-                Some(body) => Some(Shown::Body(body)),
+                Some(kept) => Some(Shown::Body(kept)),
                 None => None,
             },
         }

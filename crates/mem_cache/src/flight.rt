@@ -1,13 +1,15 @@
 //! What is kept of writes.
 ghost use Rattle.std.specs.Prelude.{◌≡◌, ◌++◌, IfOk, OnOk, OnErr};
+ghost use Rattle.cache_heads.specs.Meta.{meta_length};
 ghost use Rattle.cache_store.specs.Renewals.{expired};
+ghost use Rattle.mem_cache.specs.Kept.{weight_with};
 
+use crate::counted_meta::{CountedMeta, TOO_LONG};
 use crate::pieces::Pieces;
 use bytes::Bytes;
 use cache_heads::CacheMeta;
 use cache_words::key::HashBinary;
 use cache_words::time::Moment;
-use packed_meta::PackedMeta;
 use std::alloc::{AllocError, Global};
 use std::marker::Model;
 
@@ -86,17 +88,19 @@ impl InFlight {
 #[derive(Drop)]
 pub(crate) struct Body {
     pub(crate) number: u64,
-    pub(crate) meta: PackedMeta,
+    pub(crate) meta: CountedMeta,
     pub(crate) bytes: Bytes,
 }
 
-// A finished body as the table of bodies keeps it: apart, so that the table's own rows are short.
+// A finished body as the table of bodies keeps it: apart, so that the table's own rows are short. It has few enough bytes that it can be
+// weighed with any meta.
 #[derive(Drop)]
 pub(crate) struct Kept {
     body: Box<Body>,
 }
 
 impl Model for Kept {
+    ghost use Rattle.std.specs.Prelude.{◌<◌, ◌^◌, length};
     ghost use Rattle.mem_cache.specs.declared.flight.Body.{Body};
     ghost use Rattle.mem_cache.specs.contracts.flight.Body.{the_row};
 
@@ -105,13 +109,18 @@ impl Model for Kept {
     ghost coded = { the_row.coded };
 
     ghost view = { λ k. k.body.value };
+
+    ghost invariant = { λ k. length k.body.value.bytes < 2 ^ 62 };
 }
 
 impl Kept {
-    // Keeps a body.
+    // Keeps a body, unless it has too many bytes.
     pub(crate) fn new(alloc: Global, body: Body) -> Result<Kept, AllocError>
         ensures { IfOk result (λ kept. kept ≡ body) }
     {
+        if body.bytes.len() >= TOO_LONG {
+            return Err(AllocError);
+        }
         let body = Box::new(alloc, body)?;
         Ok(Kept { body })
     }
@@ -123,8 +132,36 @@ impl Kept {
         &self.body
     }
 
+    // Returns until when the body is fresh.
+    pub(crate) fn fresh_until(&self) -> Moment
+        ensures { result ≡ self.now.meta.internal.fresh_until }
+    {
+        self.body.meta.packed().fresh_until()
+    }
+
+    // Returns how many bytes its meta takes as it is written.
+    pub(crate) fn meta_len(&self) -> usize
+        ensures { result ≡ meta_length self.now.meta }
+    {
+        self.body.meta.len()
+    }
+
+    // Returns what the body weighs.
+    pub(crate) fn weight(&self) -> usize
+        ensures { result ≡ weight_with self.now.meta self.now.bytes }
+    {
+        self.weight_with(&self.body.meta)
+    }
+
+    // Returns what the body would weigh with that meta.
+    pub(crate) fn weight_with(&self, meta: &CountedMeta) -> usize
+        ensures { result ≡ weight_with meta.now self.now.bytes }
+    {
+        self.body.bytes.len() + meta.len()
+    }
+
     // Gives the body another meta.
-    pub(crate) fn set_meta(&mut self, meta: PackedMeta)
+    pub(crate) fn set_meta(&mut self, meta: CountedMeta)
         ensures { self.new ≡ record self.old { meta = meta } }
     {
         self.body.meta = meta;
@@ -149,5 +186,5 @@ pub(crate) struct Readers {
 #[derive(Clone, Copy)]
 pub(crate) enum Shown<'a> {
     Flying(u64, &'a Flight),
-    Body(&'a Body),
+    Body(&'a Kept),
 }

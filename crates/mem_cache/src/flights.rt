@@ -9,11 +9,11 @@ ghost use Rattle.mem_cache.specs.declared.flight.Flight.{Flight as FlightValue};
 ghost use Rattle.mem_cache.specs.Kept.{key_at, written, ChangesAt};
 ghost use Rattle.cache_store.specs.Answers.{WriteAnswer};
 
+use crate::counted_meta::CountedMeta;
 use crate::flight::{Flight, InFlight};
 use bytes::Bytes;
 use cache_store::storage::StoreFault;
 use cache_words::key::HashBinary;
-use packed_meta::PackedMeta;
 use std::alloc::{AllocError, Global};
 use std::collections::BTreeMap;
 
@@ -91,12 +91,12 @@ pub(crate) fn packed_meta(
     flights: &Flights,
     alloc: Global,
     number: u64,
-) -> Result<PackedMeta, AllocError>
+) -> Result<CountedMeta, AllocError>
     requires { is_some (get nat_cmp flights.now number) ≡ true }
     ensures { IfOk result (λ meta. (f : FlightValue) → get nat_cmp flights.now number ≡ Some f → meta ≡ f.meta) }
 {
     let kept = flights.get(&number).unwrap();
-    PackedMeta::pack(alloc, &kept.flight().meta)
+    CountedMeta::pack(alloc, &kept.flight().meta)
 }
 
 // Returns the key of a write.

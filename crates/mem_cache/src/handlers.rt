@@ -26,6 +26,7 @@ pub enum MemHitHandler {
 pub struct CompleteHit {
     number: u64,
     body: Bytes,
+    weight: usize,
     start: usize,
     stop: usize,
     done: bool,
@@ -37,20 +38,21 @@ impl Model for CompleteHit {
 
     ghost Value = { WholeHit };
 
-    ghost view = { λ h. record { number = h.number; body = h.body; start = h.start; stop = h.stop; done = h.done } };
+    ghost view = { λ h. record { number = h.number; body = h.body; weight = h.weight; start = h.start; stop = h.stop; done = h.done } };
 
     ghost invariant = { λ h. (h.start ≤ h.stop) × (h.stop ≤ length h.body) };
 }
 
 impl CompleteHit {
-    // Returns a reader of the body of that write that has read nothing.
-    pub(crate) fn new(number: u64, body: Bytes) -> CompleteHit
-        ensures { result ≡ unread number body }
+    // Returns a reader of the body of that write, which weighs so much, that has read nothing.
+    pub(crate) fn new(number: u64, body: Bytes, weight: usize) -> CompleteHit
+        ensures { result ≡ unread number body weight }
     {
         let stop = body.len();
         CompleteHit {
             number,
             body,
+            weight,
             start: 0,
             stop,
             done: false,
@@ -62,6 +64,13 @@ impl CompleteHit {
         ensures { result ≡ self.now.number }
     {
         self.number
+    }
+
+    // Returns what the body weighed when it was found.
+    pub(crate) fn weight(&self) -> usize
+        ensures { result ≡ self.now.weight }
+    {
+        self.weight
     }
 
     /// Returns how many bytes the body has.

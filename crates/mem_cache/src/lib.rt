@@ -4,6 +4,7 @@
 mod alive;
 mod bodies;
 mod cache;
+mod counted_meta;
 mod flight;
 mod flights;
 pub mod handlers;

@@ -7,10 +7,11 @@ ghost use Rattle.cache_store.specs.declared.storage.StoreFault.{StoreFault as Fa
 ghost use Rattle.mem_cache.specs.declared.handlers.MemHitHandler.{MemHitHandler as Handler};
 ghost use Rattle.cache_store.specs.Answers.{look_up, streamed};
 ghost use Rattle.mem_cache.specs.Hits.{unread};
+ghost use Rattle.mem_cache.specs.Kept.{weight_with};
 ghost use Rattle.mem_cache.specs.Looks.{MemLookAnswer, MemStreamAnswer, tag_number};
 
 use crate::MemCache;
-use crate::flight::{Body, Shown};
+use crate::flight::{Kept, Shown};
 use crate::handlers::{CompleteHit, MemHitHandler, PartialHit};
 use crate::meta::{copy_of, unpacked};
 use cache_heads::CacheMeta;
@@ -31,33 +32,40 @@ pub(crate) fn number_of(tag: Option<&[u8]>) -> Option<u64>
     }
 }
 
-// Returns what a look-up found where that is a body, which is shared.
-fn found_body(alloc: Global, body: &Body) -> Result<Found<MemHitHandler>, StoreFault>
-    ensures { MatchResult result (λ found. found ≡ Some (body.now.meta, Handler.Complete (unread body.now.number body.now.bytes))) (λ f. f ≡ Fault.Memory) }
+// Returns a reader of a body that is found, which is shared.
+fn reader_of(kept: &Kept) -> Result<MemHitHandler, StoreFault>
+    ensures { MatchResult result (λ hit. hit ≡ Handler.Complete (unread kept.now.number kept.now.bytes (weight_with kept.now.meta kept.now.bytes))) (λ f. f ≡ Fault.Memory) }
 {
-    let meta = unpacked(alloc, &body.meta)?;
+    let body = kept.body();
     let shared: Result<_, _> = body.bytes.clone();
     match shared {
         Ok(bytes) => {
-            let hit = CompleteHit::new(body.number, bytes);
-            Ok(Some((meta, MemHitHandler::Complete(hit))))
+            let hit = CompleteHit::new(body.number, bytes, kept.weight());
+            Ok(MemHitHandler::Complete(hit))
         }
         Err(_) => Err(StoreFault::Memory),
     }
 }
 
-// Returns a body that is found, which is shared, with how long it is fresh.
-fn fresh_body(body: &Body) -> Result<Option<FoundAt<MemHitHandler>>, StoreFault>
-    ensures { MatchResult result (λ found. found ≡ Some (FreshAt body.now.meta.internal.fresh_until (Handler.Complete (unread body.now.number body.now.bytes)))) (λ f. f ≡ Fault.Memory) }
+// Returns what a look-up found where that is a body.
+fn found_body(alloc: Global, kept: &Kept) -> Result<Found<MemHitHandler>, StoreFault>
+    ensures { MatchResult result (λ found. found ≡ Some (kept.now.meta, Handler.Complete (unread kept.now.number kept.now.bytes (weight_with kept.now.meta kept.now.bytes)))) (λ f. f ≡ Fault.Memory) }
 {
-    let until = body.meta.fresh_until();
-    let shared: Result<_, _> = body.bytes.clone();
-    match shared {
-        Ok(bytes) => {
-            let hit = CompleteHit::new(body.number, bytes);
-            Ok(Some(FoundAt::Fresh(until, MemHitHandler::Complete(hit))))
-        }
-        Err(_) => Err(StoreFault::Memory),
+    let meta = unpacked(alloc, kept.body().meta.packed())?;
+    match reader_of(kept) {
+        Ok(hit) => Ok(Some((meta, hit))),
+        Err(fault) => Err(fault),
+    }
+}
+
+// Returns a body that is found, with how long it is fresh.
+fn fresh_body(kept: &Kept) -> Result<Option<FoundAt<MemHitHandler>>, StoreFault>
+    ensures { MatchResult result (λ found. found ≡ Some (FreshAt kept.now.meta.internal.fresh_until (Handler.Complete (unread kept.now.number kept.now.bytes (weight_with kept.now.meta kept.now.bytes))))) (λ f. f ≡ Fault.Memory) }
+{
+    let until = kept.fresh_until();
+    match reader_of(kept) {
+        Ok(hit) => Ok(Some(FoundAt::Fresh(until, hit))),
+        Err(fault) => Err(fault),
     }
 }
 
@@ -81,10 +89,10 @@ impl<S: BuildHasher> MemCache<S> {
     ) -> Result<Option<FoundAt<MemHitHandler>>, StoreFault>
         ensures { (found : Result (Option (Meta × Handler)) Fault) × MemLookAnswer (look_up key.now self.old.store) self.old found self.new × (result ≡ answer_at moment found) }
     {
-        if let Some(Shown::Body(body)) = self.shown(key)
-            && moment.is_at_most(&body.meta.fresh_until())
+        if let Some(Shown::Body(kept)) = self.shown(key)
+            && moment.is_at_most(&kept.fresh_until())
         {
-            return fresh_body(body);
+            return fresh_body(kept);
         }
         self.look_told(key, moment)
     }
@@ -111,7 +119,7 @@ impl<S: BuildHasher> MemCache<S> {
     {
         let (meta, number) = match self.shown(key) {
             None => return Ok(None),
-            Some(Shown::Body(body)) => return found_body(self.alloc, body),
+            Some(Shown::Body(kept)) => return found_body(self.alloc, kept),
             Some(Shown::Flying(number, flight)) => match copy_of(&flight.meta) {
                 Ok(meta) => (meta, number),
                 Err(fault) => return Err(fault),

@@ -5,6 +5,7 @@ ghost use Rattle.cache_store.specs.declared.storage.StoreFault.{StoreFault as Fa
 ghost use Rattle.cache_store.specs.Renewals.{Refused};
 ghost use Rattle.mem_cache.specs.Shown.{meta_shown};
 
+use crate::counted_meta::CountedMeta;
 use cache_heads::CacheMeta;
 use cache_metas::versions::InternalMetaV2;
 use cache_store::storage::StoreFault;
@@ -48,7 +49,7 @@ impl ShownMeta<'_> {
 #[derive(Drop)]
 pub struct NewMeta {
     pub(crate) key: HashBinary,
-    pub(crate) meta: PackedMeta,
+    pub(crate) meta: CountedMeta,
 }
 
 // Returns a copy of a meta, whose head shares its values.
@@ -99,14 +100,14 @@ pub(crate) fn written_copy(meta: &CacheMeta) -> Result<CacheMeta, StoreFault>
 }
 
 // Returns a meta that can be written, packed.
-pub(crate) fn written_packed(alloc: Global, meta: &CacheMeta) -> Result<PackedMeta, StoreFault>
+pub(crate) fn written_packed(alloc: Global, meta: &CacheMeta) -> Result<CountedMeta, StoreFault>
     ensures value { IfOk result (λ packed. (packed ≡ meta.now) × IsWritable meta.now.internal) }
     ensures fault { IfErr result (Refused meta.now) }
 {
     if !is_writable(&meta.internal) {
         return Err(StoreFault::MetaMoment);
     }
-    match PackedMeta::pack(alloc, meta) {
+    match CountedMeta::pack(alloc, meta) {
         Ok(packed) => Ok(packed),
         Err(_) => Err(StoreFault::Memory),
     }

@@ -1,11 +1,12 @@
 //! The store, as what a cache asks of one.
-ghost use Rattle.std.specs.Prelude.{◌≡◌, ⊤, true, None, length, option_map, IfOk, IsOk, MatchResult};
+ghost use Rattle.std.specs.Prelude.{◌≡◌, ⊤, true, None, option_map, IfOk, IsOk, MatchResult};
 ghost use Rattle.cache_words.specs.Key.{combined, key_of};
 ghost use Rattle.cache_store.specs.Answers.{look_up};
 ghost use Rattle.cache_store.specs.Looks.{LookAnswer, LookAtAnswer, TagAnswer, Tells, asked, shows};
 ghost use Rattle.cache_store.specs.Purges.{target_key, id_at};
 ghost use Rattle.cache_store.specs.Renewals.{ExpireAnswer, StaleAnswer};
 ghost use Rattle.cache_store.specs.declared.storage.StoreFault.{StoreFault as Fault};
+ghost use Rattle.mem_cache.specs.Kept.{weigh};
 ghost use Rattle.mem_cache.specs.Looks.{MemLookAnswer, MemTagAnswer, tag_number};
 ghost use Rattle.mem_cache.specs.Misses.{are_numbers_spent};
 ghost use Rattle.mem_cache.specs.Readings.{reader_of, weight_of};
@@ -30,7 +31,7 @@ impl<S: BuildHasher> Contents for MemCache<S> {
 
     ghost ids = { λ _ _. None };
 
-    ghost weigh = { λ x. length x.bytes };
+    ghost weigh = { weigh };
 
     ghost tagged = { tag_number };
 }
@@ -55,7 +56,7 @@ impl<S: BuildHasher> Storage for MemCache<S> {
     fn lookup(&mut self, key: &CacheKey) -> Result<Found<MemHitHandler>, StoreFault>
         ensures answer { MemLookAnswer (look_up (combined (key_of key.now)) self.old.store) self.old result self.new }
         ensures look { LookAnswer reader_of (shows true (combined (key_of key.now)) self.old.store) self.old result self.new }
-        ensures tells { Tells weight_of (λ _. None) (λ x. length x.bytes) None (shows true (combined (key_of key.now)) self.old.store) result }
+        ensures tells { Tells weight_of (λ _. None) weigh None (shows true (combined (key_of key.now)) self.old.store) result }
     {
         self.look(&key.combined_bin())
     }
@@ -66,7 +67,7 @@ impl<S: BuildHasher> Storage for MemCache<S> {
         key: &CacheKey,
         moment: Moment,
     ) -> Result<Option<FoundAt<MemHitHandler>>, StoreFault>
-        ensures look { LookAtAnswer reader_of weight_of (λ _. None) (λ x. length x.bytes) None moment (shows true (combined (key_of key.now)) self.old.store) self.old result self.new }
+        ensures look { LookAtAnswer reader_of weight_of (λ _. None) weigh None moment (shows true (combined (key_of key.now)) self.old.store) self.old result self.new }
     {
         self.look_fresh(&key.combined_bin(), moment)
     }
@@ -81,7 +82,7 @@ impl<S: BuildHasher> Storage for MemCache<S> {
         ensures stream { let named = tag_number (option_map (λ t. t.now) tag.entry) in
             TagAnswer reader_of named (asked true (combined (key_of key.now)) named self.old.store) self.old result self.new }
         ensures tells { let named = tag_number (option_map (λ t. t.now) tag.entry) in
-            Tells weight_of (λ _. None) (λ x. length x.bytes) None (asked true (combined (key_of key.now)) named self.old.store) result }
+            Tells weight_of (λ _. None) weigh None (asked true (combined (key_of key.now)) named self.old.store) result }
     {
         let key = key.combined_bin();
         match number_of(tag) {
@@ -113,9 +114,8 @@ impl<S: BuildHasher> Storage for MemCache<S> {
         meta: CacheMeta,
         body: Bytes,
     ) -> Result<(MissFinishType, Option<CacheEntryId>), StoreFault> {
-        let len = body.len();
         match self.put_whole(key.combined_bin(), &meta, body) {
-            Ok(()) => Ok((MissFinishType::Created(len), None)),
+            Ok(weight) => Ok((MissFinishType::Created(weight), None)),
             Err(fault) => Err(fault),
         }
     }

@@ -9,7 +9,7 @@ mod rows;
 use bench::run;
 use cuts::{CUTS, are_alike};
 use refused::keeps_pieces;
-use rows::{COUNTED, ELSEWHERE, ENDED, PURGED, RENEWED, SOUGHT, STREAMED, TAGGED, WHOLE};
+use rows::{COUNTED, ELSEWHERE, ENDED, PURGED, RENEWED, SOUGHT, STREAMED, TAGGED, WEIGHED, WHOLE};
 
 #[test]
 fn steps_give_what_they_must(rt: HostRuntime) {
@@ -19,6 +19,7 @@ fn steps_give_what_they_must(rt: HostRuntime) {
     assert!(rt; run(rt.alloc(), SOUGHT));
     assert!(rt; run(rt.alloc(), RENEWED));
     assert!(rt; run(rt.alloc(), WHOLE));
+    assert!(rt; run(rt.alloc(), WEIGHED));
     assert!(rt; run(rt.alloc(), TAGGED));
     assert!(rt; run(rt.alloc(), ELSEWHERE));
     assert!(rt; run(rt.alloc(), COUNTED));

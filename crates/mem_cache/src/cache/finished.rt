@@ -3,12 +3,14 @@ ghost use Rattle.std.specs.Prelude.{◌≡◌, ◌-◌, ◌^◌, List, ℕ, leng
 ghost use Rattle.std.specs.Cmp.Lexicographic.{pointwise};
 ghost use Rattle.std.specs.List.{IsDistinct, sum_by};
 ghost use Rattle.cache_changes.specs.Store.{body_at, shown_at};
+ghost use Rattle.cache_heads.specs.Meta.{meta_length};
 ghost use Rattle.cache_heads.specs.declared.meta.CacheMeta.{CacheMeta as Meta};
+ghost use Rattle.mem_cache.specs.Kept.{body_of};
 ghost use Rattle.mem_cache.specs.Shown.{meta_shown};
 
 use super::MemCache;
 use crate::bodies;
-use crate::flight::Shown;
+use crate::flight::{Kept, Shown};
 use crate::meta::ShownMeta;
 use bytes::Bytes;
 use cache_words::key::HashBinary;
@@ -16,12 +18,19 @@ use packed_meta::PackedMeta;
 use std::hash::BuildHasher;
 
 impl<S: BuildHasher> MemCache<S> {
+    // Lends what is kept of the finished body of a stored key.
+    pub(crate) fn kept(&self, key: &HashBinary) -> Option<&Kept>
+        ensures { option_map (λ b. body_of (key.now, b.now)) result ≡ body_at key.now self.now.store }
+    {
+        bodies::get(&self.bodies, key)
+    }
+
     /// Lends the finished body of a stored key, with its meta. Writes in flight are not looked at, and no memory is taken.
     pub fn finished(&self, key: &HashBinary) -> Option<(&PackedMeta, &Bytes)>
         ensures { option_map {U = Meta × List ℕ} (λ f. (f.0.now, f.1.now)) result ≡ option_map (λ x. (x.meta, x.bytes)) (body_at key.now self.now.store) }
     {
-        match bodies::get(&self.bodies, key) {
-            Some(body) => Some((&body.meta, &body.bytes)),
+        match self.kept(key) {
+            Some(kept) => Some((kept.body().meta.packed(), &kept.body().bytes)),
             None => None,
         }
     }
@@ -33,7 +42,7 @@ impl<S: BuildHasher> MemCache<S> {
     {
         match self.shown(key)? {
             Shown::Flying(_, flight) => Some(ShownMeta::InFlight(&flight.meta)),
-            Shown::Body(body) => Some(ShownMeta::Finished(&body.meta)),
+            Shown::Body(kept) => Some(ShownMeta::Finished(kept.body().meta.packed())),
         }
     }
 
@@ -41,8 +50,8 @@ impl<S: BuildHasher> MemCache<S> {
     pub fn body_number(&self, key: &HashBinary) -> Option<u64>
         ensures { result ≡ option_map (λ x. x.write.number) (body_at key.now self.now.store) }
     {
-        match bodies::get(&self.bodies, key) {
-            Some(body) => Some(body.number),
+        match self.kept(key) {
+            Some(kept) => Some(kept.body().number),
             None => None,
         }
     }
@@ -60,5 +69,12 @@ impl<S: BuildHasher> MemCache<S> {
         ensures { result ≡ min (sum_by (λ x. length x.bytes) self.now.store.bodies) (2 ^ 64 - 1) }
     {
         bodies::bytes_of_all(&self.bodies)
+    }
+
+    /// Returns how many bytes the metas of all finished bodies take as they are written, counted up to 2^64 - 1. It looks at each body.
+    pub fn finished_meta(&self) -> u64
+        ensures { result ≡ min (sum_by (λ x. meta_length x.meta) self.now.store.bodies) (2 ^ 64 - 1) }
+    {
+        bodies::meta_of_all(&self.bodies)
     }
 }

@@ -1,16 +1,17 @@
 //! Other metas for bodies.
-ghost use Rattle.std.specs.Prelude.{◌≡◌, length, is_some};
+ghost use Rattle.std.specs.Prelude.{◌≡◌, is_some};
 ghost use Rattle.cache_changes.specs.Store.{body_at};
 ghost use Rattle.cache_store.specs.Renewals.{expired, IsRenewed, PrepareAnswer, UpdateAnswer};
+ghost use Rattle.mem_cache.specs.Kept.{weigh};
 
 use super::MemCache;
 use crate::bodies;
+use crate::counted_meta::CountedMeta;
 use crate::meta::{NewMeta, written_packed};
 use cache_heads::CacheMeta;
 use cache_store::storage::StoreFault;
 use cache_words::key::HashBinary;
 use cache_words::time::Moment;
-use packed_meta::PackedMeta;
 use std::hash::BuildHasher;
 
 impl<S: BuildHasher> MemCache<S> {
@@ -23,7 +24,7 @@ impl<S: BuildHasher> MemCache<S> {
     }
 
     // Gives the body of a key another meta, and returns whether there is one.
-    fn set_meta(&mut self, key: &HashBinary, meta: PackedMeta) -> bool
+    fn set_meta(&mut self, key: &HashBinary, meta: CountedMeta) -> bool
         ensures found { result ≡ is_some (body_at key.now self.old.store) }
         ensures renewed { IsRenewed key.now (λ _. meta) self.old self.new }
     {
@@ -63,13 +64,16 @@ impl<S: BuildHasher> MemCache<S> {
         key: HashBinary,
         meta: &CacheMeta,
     ) -> Result<(NewMeta, usize), StoreFault>
-        ensures { PrepareAnswer (λ n. n.key) (λ n. n.meta) (λ x. length x.bytes) (body_at key self.now.store) key meta.now result }
+        ensures { PrepareAnswer (λ n. n.key) (λ n. n.meta) weigh (body_at key self.now.store) key meta.now result }
     {
-        let Some((_meta, bytes)) = self.finished(&key) else {
+        let Some(kept) = self.kept(&key) else {
             return Err(StoreFault::NoMeta);
         };
         match written_packed(self.alloc, meta) {
-            Ok(meta) => Ok((NewMeta { key, meta }, bytes.len())),
+            Ok(meta) => {
+                let weight = kept.weight_with(&meta);
+                Ok((NewMeta { key, meta }, weight))
+            }
             Err(fault) => Err(fault),
         }
     }

@@ -3,6 +3,7 @@ ghost use Rattle.std.specs.Prelude.{◌≡◌, false, IfOk, IfErr, OnOk, OnErr, 
 ghost use Rattle.cache_metas.specs.Internal.{IsWritable};
 ghost use Rattle.cache_store.specs.declared.storage.StoreFault.{StoreFault as Fault};
 ghost use Rattle.cache_store.specs.Wholes.{Stores, IsWriteFault};
+ghost use Rattle.mem_cache.specs.Kept.{weight_with};
 ghost use Rattle.mem_cache.specs.Misses.{are_numbers_spent};
 
 use super::MemCache;
@@ -36,14 +37,15 @@ fn owned(alloc: Global, body: Bytes) -> Result<Bytes, AllocError>
 }
 
 impl<S: BuildHasher> MemCache<S> {
-    // Stores a body, in a buffer of its own, under the next number.
+    // Stores a body, in a buffer of its own, under the next number, and returns what it weighs.
     pub(crate) fn put_whole(
         &mut self,
         key: HashBinary,
         meta: &CacheMeta,
         body: Bytes,
-    ) -> Result<(), StoreFault>
-        ensures { let spent = are_numbers_spent self.old in
+    ) -> Result<usize, StoreFault>
+        ensures weight { IfOk result (λ weight. weight ≡ weight_with meta.now body) }
+        ensures stored { let spent = are_numbers_spent self.old in
             MatchResult result (λ _. Stores spent key meta.now body self.old self.new) (λ fault. IsWriteFault spent meta.now fault self.old self.new) }
     {
         let number = self.next;
@@ -67,11 +69,12 @@ impl<S: BuildHasher> MemCache<S> {
         )
     }
 
-    // Stores a body under the next number.
-    fn put_body(&mut self, key: HashBinary, body: Body) -> Result<(), StoreFault>
+    // Stores a body under the next number, and returns what it weighs.
+    fn put_body(&mut self, key: HashBinary, body: Body) -> Result<usize, StoreFault>
         requires number { body.number ≡ self.old.next }
         requires left { are_numbers_spent self.old ≡ false }
         requires written { IsWritable body.meta.internal }
+        ensures weight { IfOk result (λ weight. weight ≡ weight_with body.meta body.bytes) }
         ensures ok { OnOk result (Stores false key body.meta body.bytes self.old self.new) }
         ensures err { OnErr result (self.new ≡ self.old) }
         ensures fault { IfErr result (λ f. f ≡ Fault.Memory) }
@@ -83,12 +86,13 @@ impl<S: BuildHasher> MemCache<S> {
         let Ok(kept) = Kept::new(self.alloc, body) else {
             return Err(StoreFault::Memory);
         };
+        let weight = kept.weight();
         let Ok(()) = bodies::make_room(&mut self.bodies) else {
             return Err(StoreFault::Memory);
         };
         self.next = number + 1;
         readers::leave_share(&mut self.readers, number, share);
         bodies::put(&mut self.bodies, key, kept);
-        Ok(())
+        Ok(weight)
     }
 }

@@ -3,9 +3,9 @@ ghost use Rattle.std.specs.Prelude.{◌≡◌, ◌+◌, false, length, Some, Non
 ghost use Rattle.cache_changes.specs.Changes.{begins};
 ghost use Rattle.cache_changes.specs.Store.{after, flying_at};
 ghost use Rattle.cache_store.specs.declared.storage.StoreFault.{StoreFault as Fault};
-ghost use Rattle.cache_store.specs.Answers.{WriteAnswer, after_write, alive_key, left, FinishesWith, FinishAnswer};
+ghost use Rattle.cache_store.specs.Answers.{WriteAnswer, after_write, alive_key, left};
 ghost use Rattle.cache_store.specs.Misses.{BeginAnswer};
-ghost use Rattle.mem_cache.specs.Misses.{are_numbers_spent};
+ghost use Rattle.mem_cache.specs.Misses.{are_numbers_spent, FinishesWith, FinishAnswer};
 
 use super::MemCache;
 use crate::flight::{Body, Buffer, Flight, Kept};
@@ -140,12 +140,12 @@ impl<S: BuildHasher> MemCache<S> {
         }
     }
 
-    // Finishes a write that no removal met, and returns its length.
+    // Finishes a write that no removal met, and returns what its body weighs.
     fn store_body(&mut self, key: HashBinary, number: u64) -> Result<usize, StoreFault>
         requires { alive_key (flying_at number self.old.store) ≡ Some key }
         ensures fault { IfErr result (λ f. f ≡ Fault.Memory) }
         ensures err { OnErr result (self.new ≡ self.old) }
-        ensures ok { IfOk result (λ length. FinishesWith number length self.old self.new) }
+        ensures ok { IfOk result (λ weight. FinishesWith number weight self.old self.new) }
     {
         let Ok(bytes) = flights::join(&self.flights, self.alloc, number) else {
             return Err(StoreFault::Memory);
@@ -156,7 +156,6 @@ impl<S: BuildHasher> MemCache<S> {
         let Ok(meta) = flights::packed_meta(&self.flights, self.alloc, number) else {
             return Err(StoreFault::Memory);
         };
-        let length = bytes.len();
         let body = Body {
             number,
             meta,
@@ -165,6 +164,7 @@ impl<S: BuildHasher> MemCache<S> {
         let Ok(kept) = Kept::new(self.alloc, body) else {
             return Err(StoreFault::Memory);
         };
+        let weight = kept.weight();
         let Ok(()) = bodies::make_room(&mut self.bodies) else {
             return Err(StoreFault::Memory);
         };
@@ -172,10 +172,10 @@ impl<S: BuildHasher> MemCache<S> {
         alive::take_out(&mut self.alive, &key, number);
         readers::leave_share(&mut self.readers, number, share);
         bodies::put(&mut self.bodies, key, kept);
-        Ok(length)
+        Ok(weight)
     }
 
-    // Finishes a write, and returns its length.
+    // Finishes a write, and returns what its body weighs.
     pub(crate) fn finish(&mut self, number: u64) -> Result<usize, StoreFault>
         ensures { FinishAnswer number self.old result self.new (alive_key (flying_at number self.old.store)) }
     {

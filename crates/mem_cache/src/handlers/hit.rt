@@ -92,7 +92,7 @@ impl<S: BuildHasher> HandleHit<MemCache<S>> for MemHitHandler {
 
     fn get_eviction_weight(&self) -> usize {
         match self {
-            MemHitHandler::Complete(hit) => hit.len(),
+            MemHitHandler::Complete(hit) => hit.weight(),
             MemHitHandler::Partial(_) => 0,
         }
     }

@@ -1,7 +1,8 @@
 //! Writers.
-ghost use Rattle.std.specs.Prelude.{◌≡◌, Some, None, length};
+ghost use Rattle.std.specs.Prelude.{◌≡◌, Some, None};
 ghost use Rattle.std.specs.Int.{w64, to_be_bytes};
 ghost use Rattle.cache_store.specs.declared.storage.MissFinishType.TheVariants.{Created};
+ghost use Rattle.mem_cache.specs.Kept.{weigh};
 
 use crate::MemCache;
 use bytes::Bytes;
@@ -56,7 +57,7 @@ impl<S: BuildHasher> HandleMiss<MemCache<S>> for MemMissHandler {
 
     ghost id = { λ _. None };
 
-    ghost told = { λ x. Created (length x.bytes) };
+    ghost told = { λ x. Created (weigh x) };
 
     /// The bytes are kept as they came, with the whole buffer that they share, while the write is in flight; but a later piece of
     /// fewer than 64 bytes is copied. A finished body takes no more than its length.
@@ -72,7 +73,7 @@ impl<S: BuildHasher> HandleMiss<MemCache<S>> for MemMissHandler {
     fn finish(self, store: &mut MemCache<S>) -> Result<MissFinishType, MissFault<MemMissHandler>> {
         let number = self.spend();
         match store.finish(number) {
-            Ok(size) => Ok(MissFinishType::Created(size)),
+            Ok(weight) => Ok(MissFinishType::Created(weight)),
             Err(StoreFault::WriteRemoved) => Err(MissFault::WriteRemoved),
             Err(_) => Err(MissFault::Memory(MemMissHandler::new(number))),
         }

@@ -95,14 +95,14 @@ impl Bench {
         }
     }
 
-    // Whether a writer that finishes reports this size, which it had before, or that it was removed.
-    fn finish(&mut self, size: Option<usize>) -> bool {
+    // Whether a writer has this length and reports this weight as it finishes, or that it was removed.
+    fn finish(&mut self, size: Option<(usize, usize)>) -> bool {
         let Some(writer) = self.writer.take() else {
             return false;
         };
         let len = writer.len(&self.store);
         match writer.finish(&mut self.store) {
-            Ok(MissFinishType::Created(created)) => size == Some(created) && len == created,
+            Ok(MissFinishType::Created(weight)) => size == Some((len, weight)),
             Ok(_) => false,
             Err(MissFault::WriteRemoved) => size.is_none(),
             Err(MissFault::Memory(writer)) => {
@@ -136,34 +136,38 @@ impl Bench {
         self.store.purge(names.target(target), cause) == outcome
     }
 
-    // Lets the body go stale at 1000.
-    fn expire(&mut self, names: &Names, target: Target, outcome: PurgeOutcome) -> bool {
-        let moment = Moment::from_seconds(1000);
-        match self.store.expire(names.target(target), moment) {
+    // Lets the body go stale at a second.
+    fn expire(&mut self, names: &Names, target: Target, at: i64, outcome: PurgeOutcome) -> bool {
+        match self
+            .store
+            .expire(names.target(target), Moment::from_seconds(at))
+        {
             Ok(found) => found == outcome,
             Err(_) => false,
         }
     }
 
-    // Gives the body another meta, once that is ready, and with it the weight that the body has.
-    fn update(&mut self, names: &Names, until: i64, fault: Option<StoreFault>) -> bool {
+    // Gives the body another meta, once that is ready, and with it the weight that the body then has.
+    fn update(&mut self, names: &Names, until: i64, want: Result<usize, StoreFault>) -> bool {
         let meta = meta(names.alloc, until);
         match self.store.prepare_meta(&names.aa, &meta) {
             Ok((new, weight)) => {
-                let key = names.aa.combined_bin();
-                let has_weight = match self.store.finished(&key) {
-                    Some((_, bytes)) => bytes.len() == weight,
-                    None => false,
-                };
                 self.store.install_meta(new);
-                has_weight && fault.is_none()
+                want == Ok(weight)
             }
-            Err(refused) => fault == Some(refused),
+            Err(fault) => want == Err(fault),
         }
     }
 
-    // Whether there are so many finished bodies with so many bytes, and this one of the key, of a meta that is fresh until 1300.
-    fn counts(&self, names: &Names, len: usize, bytes: u64, body: Option<&[u8]>) -> bool {
+    // Whether there are so many finished bodies with so many bytes in them and their metas, and this one of the key, of a meta that is fresh
+    // until 1300.
+    fn counts(
+        &self,
+        names: &Names,
+        len: usize,
+        (bytes, metas): (u64, u64),
+        body: Option<&[u8]>,
+    ) -> bool {
         let is_right = match self.store.finished(&names.aa.combined_bin()) {
             Some((meta, found)) => {
                 meta.fresh_until() == Moment::from_seconds(1300) && body == Some(found.as_slice())
@@ -181,6 +185,7 @@ impl Bench {
             && self.store.body_number(&key).is_some() == body.is_some()
             && self.store.finished_len() == len
             && self.store.finished_bytes() == bytes
+            && self.store.finished_meta() == metas
     }
 
     // Whether a step comes out as said.
@@ -202,11 +207,11 @@ impl Bench {
             Step::End(late) => self.reads(late, None, false),
             Step::Seek(start, end, fault) => self.seek(false, start, end, fault),
             Step::SeekPart(start, end, fault) => self.seek(true, start, end, fault),
-            Step::Weighs(late, weight) => self.weighs(late, weight),
+            Step::Weighs(late, len, weight) => self.weighs(late, len, weight),
             Step::Purge(target, outcome) => self.purge(names, target, outcome),
-            Step::Expire(target, outcome) => self.expire(names, target, outcome),
-            Step::Update(until, fault) => self.update(names, until, fault),
-            Step::Counts(len, bytes, body) => self.counts(names, len, bytes, body),
+            Step::Expire(target, at, outcome) => self.expire(names, target, at, outcome),
+            Step::Update(until, want) => self.update(names, until, want),
+            Step::Counts(len, bytes, metas, body) => self.counts(names, len, (bytes, metas), body),
             Step::MoveOn => self.move_on(names.alloc),
         }
     }

@@ -110,16 +110,16 @@ impl Bench {
         is_read(self.read(late), bytes, waits)
     }
 
-    pub(super) fn weighs(&self, late: bool, weight: usize) -> bool {
+    pub(super) fn weighs(&self, late: bool, len: usize, weight: usize) -> bool {
         let reader = if late { &self.late } else { &self.early };
         match reader {
             Some(reader) => {
-                let len = match reader {
+                let found = match reader {
                     MemHitHandler::Complete(hit) => hit.len(),
                     MemHitHandler::Partial(_) => 0,
                 };
                 let weighed = <MemHitHandler as HandleHit<MemCache>>::get_eviction_weight(reader);
-                len == weight && weighed == weight
+                found == len && weighed == weight
             }
             None => false,
         }

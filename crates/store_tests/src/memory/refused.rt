@@ -164,10 +164,10 @@ fn a_refused_begin_leaves_the_body(rt: HostRuntime) {
     assert!(rt; begins_or_leaves(&mut store, &key, &meta));
 }
 
-// Whether a finish stores two bytes.
+// Whether a finish stores two bytes, which weigh 32 with their meta.
 fn creates(store: &mut MemCache, writer: MemMissHandler) -> bool {
     match writer.finish(store) {
-        Ok(MissFinishType::Created(size)) => size == 2,
+        Ok(MissFinishType::Created(weight)) => weight == 32,
         Ok(_) => false,
         Err(MissFault::Memory(back)) => {
             back.leave(store);
@@ -189,7 +189,7 @@ fn creates_or_leaves(
     left: &[u8],
 ) -> bool {
     match writer.finish(store) {
-        Ok(MissFinishType::Created(size)) => size == 2,
+        Ok(MissFinishType::Created(weight)) => weight == 32,
         Ok(_) => false,
         Err(MissFault::Memory(back)) => {
             let is_left = is_left(store, key, left);

@@ -14,7 +14,7 @@ returns-in-Some g c =
 
 pub returns-in-Some-get : goal.returns-in-Some-get
 returns-in-Some-get g c =
-    rw (← c.self.view_is) (shown-rest (has c.self.inside.alive) c.self.inside.flights.entries c.args.key.now c.self.inside.bodies.entries (Some c.in-Some-get.body.now) c.in-None.ensures.none (sym c.in-Some-get.ensures))
+    rw (← c.self.view_is) (shown-rest (has c.self.inside.alive) c.self.inside.flights.entries c.args.key.now c.self.inside.bodies.entries (Some c.in-Some-get.kept.now) c.in-None.ensures.none (sym c.in-Some-get.ensures))
 
 pub returns-in-None-get : goal.returns-in-None-get
 returns-in-None-get g c =

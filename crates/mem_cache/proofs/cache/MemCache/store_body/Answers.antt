@@ -3,7 +3,7 @@ use Rattle.std.specs.Prelude.{Some}
 use Rattle.std.specs.Cmp.Lexicographic.{pointwise}
 use Rattle.std.specs.HashMap as hash
 use Rattle.mem_cache.specs.Alive.{has}
-use Rattle.mem_cache.specs.Kept.{readings_of}
+use Rattle.mem_cache.specs.Kept.{readings_of, weight_with}
 use Rattle.mem_cache.specs.declared.flight.Body.{Body}
 use Rattle.mem_cache.proofs.SoundLaws.{sound-landed}
 use Rattle.mem_cache.proofs.FinishLaws.{alive-flight, key-alive, finished-is}
@@ -32,7 +32,7 @@ invariant_of-self-2 g c =
 
 pub returns-clause-ok : goal.returns-clause-ok
 returns-clause-ok g c =
-    rw (← c.self.view_is) (finished-is (has c.self.inside.alive) (has c.take_out.new.alive) c.args.number c.args.key c.self.inside.flights c.take-pieces.new.flights c.take-pieces.result c.in-Ok-packed_meta.meta c.in-Ok.bytes c.len-length.result c.self.inside.next
+    rw (← c.self.view_is) (finished-is (has c.self.inside.alive) (has c.take_out.new.alive) c.args.number c.args.key c.self.inside.flights c.take-pieces.new.flights c.take-pieces.result c.in-Ok-packed_meta.meta c.in-Ok.bytes c.weight-weight.result c.self.inside.next
     c.self.inside.bodies.entries c.put.new.bodies.entries (readings_of c.self.inside.readers.entries) (readings_of c.leave_share.new.readers.entries) c.self.invariant.ordered (rw (← c.self.view_is) at c.requires)
     (c.in-Ok.ensures c.take-pieces.result c.take-pieces.ensures.value) c.take-pieces.ensures.value (c.in-Ok-packed_meta.ensures c.take-pieces.result c.take-pieces.ensures.value) c.take-pieces.ensures.entries c.take_out.ensures (c.leave_share.ensures c.in-Ok.bytes c.in-Ok-share_for.ensures)
-    (λ k. c.put.ensures k ∙ ap (λ (x : Body). cond (pointwise nat_eq c.args.key k) (Some x) (hash.get (pointwise nat_eq) c.make_room.new.bodies k)) c.in-Ok-new.ensures ∙ ap (cond (pointwise nat_eq c.args.key k) (Some (record { number = c.args.number; meta = c.in-Ok-packed_meta.meta; bytes = c.in-Ok.bytes }))) (c.make_room.ensures.same k)) c.len-length.ensures.value)
+    (λ k. c.put.ensures k ∙ ap (λ (x : Body). cond (pointwise nat_eq c.args.key k) (Some x) (hash.get (pointwise nat_eq) c.make_room.new.bodies k)) c.in-Ok-new.ensures ∙ ap (cond (pointwise nat_eq c.args.key k) (Some (record { number = c.args.number; meta = c.in-Ok-packed_meta.meta; bytes = c.in-Ok.bytes }))) (c.make_room.ensures.same k)) (c.weight-weight.ensures ∙ ap (λ (b : Body). weight_with b.meta b.bytes) c.in-Ok-new.ensures))

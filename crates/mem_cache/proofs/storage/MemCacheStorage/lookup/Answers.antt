@@ -1,8 +1,9 @@
 use Rattle.std.proofs.Common.{subst}
 use Rattle.cache_changes.specs.Changes.{StoredKey}
 use Rattle.cache_store.specs.Answers.{look_up}
-use Rattle.std.specs.Prelude.{None, length}
+use Rattle.std.specs.Prelude.{None}
 use Rattle.cache_store.specs.Looks.{LookAnswer, Tells}
+use Rattle.mem_cache.specs.Kept.{weigh}
 use Rattle.mem_cache.specs.Readings.{reader_of, weight_of}
 use Rattle.mem_cache.proofs.StoreLaws.{look-told, look-tells}
 use Rattle.mem_cache.proofs.storage.MemCacheStorage.lookup.Goals as goal
@@ -14,5 +15,5 @@ returns-clause-look g c =
 
 pub returns-clause-tells : goal.returns-clause-tells
 returns-clause-tells g c =
-    subst (λ (k : StoredKey). Tells weight_of (λ _. None) (λ x. length x.bytes) None (look_up k c.args.self.now.store) c.look.result) c.combined_bin.ensures
+    subst (λ (k : StoredKey). Tells weight_of (λ _. None) weigh None (look_up k c.args.self.now.store) c.look.result) c.combined_bin.ensures
     (look-tells (look_up c.combined_bin.result c.args.self.now.store) c.args.self.now c.look.new.self c.look.result c.look.ensures)
