@@ -30,7 +30,8 @@ use Rattle.tier_model.specs.After as after_event
 use Rattle.tier_model.specs.After.{with_reader}
 use Rattle.tier_requests.specs.Shelves.{found_in, flight_of, shelf_of}
 use Rattle.tier_requests.specs.Plain.{reader_in}
-use Rattle.tier_requests.specs.Finds.{TakeAnswer, IsReadBy, meta_of}
+use Rattle.tier_requests.specs.Finds.{TakeAnswer, IsReadBy}
+use Rattle.tier_requests.specs.Shown.{meta_found}
 use Rattle.tier_requests.proofs.ShelfLaws.{shelf-same, shelf-joined, look-of}
 
 -- ---- what a look-up shows
@@ -75,7 +76,7 @@ Counts (finished x) old new = new ≡ old
 
 pub record FindsOne (t : MomentValue) (l : Look) (meta : CacheMeta) (hit : MemHitHandler) (old new : Held) : Type 0 where
   pub reads : IsReadBy l hit
-  pub meta_is : meta_of l ≡ Some meta
+  pub meta_is : meta_found l ≡ Some meta
   pub fresh : finds_fresh t l ≡ at_most t meta.internal.fresh_until
   pub counts : Counts l old new
 

@@ -22,6 +22,7 @@ use Rattle.tier_model.specs.State.{Request}
 use Rattle.tier_model.specs.Answers.{finds_fresh, lock_given, look_answer}
 use Rattle.tier_model.specs.After.{looked, given_changes}
 use Rattle.tier_requests.specs.Plain.{Driven}
+use Rattle.tier_requests.specs.Shown.{meta_found}
 use Rattle.tier_requests.specs.Looks.{used_by, UseRefused, LockRefused, RunsOut, LeavesLock}
 
 -- a reader of a body once its bytes are taken out
@@ -40,16 +41,10 @@ IsReadBy absent hit = ⊥
 IsReadBy (in_flight f) hit = reader_of hit ≡ streaming (record { number = f.number; place = 0 })
 IsReadBy (finished x) hit = reader_of hit ≡ whole x.number x.body.bytes x.body.bytes
 
--- the meta of what is found
-abbrev pub meta_of : Look → Option CacheMeta
-meta_of absent = None
-meta_of (in_flight f) = Some f.meta
-meta_of (finished x) = Some x.body.meta
-
 -- that is found, and is reported at moment t: it is fresh then, or past its moment and has this meta
 abbrev pub IsFoundBy : MomentValue → Look → FoundAt MemHitHandler → Type 0
 IsFoundBy t l (Fresh until hit) = (finds_fresh t l ≡ true) × IsReadBy l hit
-IsFoundBy t l (Stale meta hit) = (finds_fresh t l ≡ false) × (meta_of l ≡ Some meta) × IsReadBy l hit
+IsFoundBy t l (Stale meta hit) = (finds_fresh t l ≡ false) × (meta_found l ≡ Some meta) × IsReadBy l hit
 
 -- the reader that is reported
 abbrev pub hit_told : FoundAt MemHitHandler → MemHitHandler
