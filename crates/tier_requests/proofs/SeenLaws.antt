@@ -39,7 +39,7 @@ seen-stale t (in_flight f) meta hit stale is reads =
     (λ i. Some (as_seen (number_read (reads i)) (sym same i))) ∙ past_stale t f.number f.meta stale
 seen-stale t (finished x) meta hit stale is reads =
     let same : x.body.meta ≡ meta = cc in
-    (λ i. Some (as_seen (number_read (reads i)) (sym same i))) ∙ past_stale t x.number x.body.meta stale
+    (λ i. Some (as_seen (number_read (reads.0 i)) (sym same i))) ∙ past_stale t x.number x.body.meta stale
 
 -- a write keeps the provenance of what its request has seen
 pub meta-kept : (p : CachePhase) (n : ℕ) (old : Option CacheMeta) (meta : CacheMeta) → cond (is_stale_phase p) (with_provenance_of old meta) meta ≡ with_provenance_of (option_map (λ (x : Seen). x.meta) (seen_in p n old)) meta

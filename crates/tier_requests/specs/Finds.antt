@@ -15,8 +15,9 @@ use Rattle.cache_phases.specs.Locks.{is_read, held}
 use Rattle.mem_cache.specs.declared.handlers.MemHitHandler.{MemHitHandler}
 use Rattle.mem_cache.specs.declared.handlers.MemHitHandler.TheVariants.{Complete, Partial}
 use Rattle.mem_cache.specs.Hits.{WholeHit, next_bytes}
-use Rattle.mem_cache.specs.Readings.{reader_of}
+use Rattle.mem_cache.specs.Readings.{reader_of, weight_of}
 use Rattle.tier_model.specs.Calls.{Outcome}
+use Rattle.tier_model.specs.Rows.{size_of}
 use Rattle.tier_model.specs.Shelf.{Look, absent, in_flight, finished}
 use Rattle.tier_model.specs.State.{Request}
 use Rattle.tier_model.specs.Answers.{finds_fresh, lock_given, look_answer}
@@ -35,11 +36,11 @@ abbrev pub TakeAnswer : MemHitHandler → Result (Option (List ℕ)) StoreFault 
 TakeAnswer (Complete h) r new = MatchResult r (λ bytes. bytes ≡ Some (next_bytes h)) (λ f. f ≡ Memory) × (new ≡ Complete (taken h r))
 TakeAnswer (Partial h) r new = (r ≡ Ok None) × (new ≡ Partial h)
 
--- that is found with this reader, which has read nothing
+-- that is found with this reader, which has read nothing; one of a body weighs what that takes
 abbrev pub IsReadBy : Look → MemHitHandler → Type 0
 IsReadBy absent hit = ⊥
 IsReadBy (in_flight f) hit = reader_of hit ≡ streaming (record { number = f.number; place = 0 })
-IsReadBy (finished x) hit = reader_of hit ≡ whole x.number x.body.bytes x.body.bytes
+IsReadBy (finished x) hit = (reader_of hit ≡ whole x.number x.body.bytes x.body.bytes) × (weight_of hit ≡ size_of x.body)
 
 -- that is found, and is reported at moment t: it is fresh then, or past its moment and has this meta
 abbrev pub IsFoundBy : MomentValue → Look → FoundAt MemHitHandler → Type 0
