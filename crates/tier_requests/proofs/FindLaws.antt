@@ -1,5 +1,5 @@
 -- What a look-up finds, as the plain record has it.
-use Rattle.std.proofs.Common.{arith, ◌≡◌, ℕ, refl, ap, sym, ◌∙◌, subst, Bool, true, false, cond, Some, None, Option, List, [], length}
+use Rattle.std.proofs.Common.{arith, ◌≡◌, ℕ, refl, ap, sym, ◌∙◌, subst, Bool, true, false, cond, Some, None, Option, List, []}
 use Rattle.std.specs.Prelude.{◌==◌, ◌+◌, ◌-◌, nat_lt, is_some, option_map, find, Result, Ok, Err}
 use Rattle.std.proofs.lemmas.Bool.{eqb-true}
 use Rattle.std.proofs.lemmas.Bool.Decides.{nat_tests}
@@ -13,24 +13,26 @@ use Rattle.cache_store.specs.declared.storage.StoreFault.{StoreFault}
 use Rattle.cache_store.specs.Answers.{look_of}
 use Rattle.cache_store.specs.Answers as store
 use Rattle.cache_store.specs.Held.{Reading, Held}
-use Rattle.cache_store.specs.Looks.{LookAnswer, shows}
+use Rattle.cache_store.specs.Looks.{LookAnswer, Tells, shows}
 use Rattle.cache_store.specs.Readers.{Reader, whole, streaming, SameHeld, IsJoined, IsParted, Parts, reading_at, one_more, one_less}
 use Rattle.mem_cache.specs.declared.handlers.MemHitHandler.{MemHitHandler}
 use Rattle.mem_cache.specs.declared.handlers.MemHitHandler.TheVariants.{Complete, Partial}
+use Rattle.mem_cache.specs.Kept.{weigh}
 use Rattle.mem_cache.specs.Readings.{reader_of, is_complete, weight_of}
 use Rattle.request_store.specs.Looks.{valid_look}
 use Rattle.http_cache.specs.Founds.{entry_at}
 use Rattle.http_cache.specs.Request.{stored_at}
 use Rattle.tier_model.specs.Shelf as shelf
 use Rattle.tier_model.specs.Shelf.{InFlight, Look, absent, in_flight, finished, is_there, look_by}
-use Rattle.tier_model.specs.Rows.{Numbered}
+use Rattle.tier_model.specs.Rows.{Numbered, size_of}
 use Rattle.tier_model.specs.Answers.{finds_fresh}
 use Rattle.tier_model.specs.State as tier
 use Rattle.tier_model.specs.After as after_event
 use Rattle.tier_model.specs.After.{with_reader}
 use Rattle.tier_requests.specs.Shelves.{found_in, flight_of, shelf_of}
 use Rattle.tier_requests.specs.Plain.{reader_in}
-use Rattle.tier_requests.specs.Finds.{TakeAnswer, IsReadBy, meta_of}
+use Rattle.tier_requests.specs.Finds.{TakeAnswer, IsReadBy}
+use Rattle.tier_requests.specs.Shown.{meta_found}
 use Rattle.tier_requests.proofs.ShelfLaws.{shelf-same, shelf-joined, look-of}
 
 -- ---- what a look-up shows
@@ -75,24 +77,28 @@ Counts (finished x) old new = new ≡ old
 
 pub record FindsOne (t : MomentValue) (l : Look) (meta : CacheMeta) (hit : MemHitHandler) (old new : Held) : Type 0 where
   pub reads : IsReadBy l hit
-  pub meta_is : meta_of l ≡ Some meta
+  pub meta_is : meta_found l ≡ Some meta
   pub fresh : finds_fresh t l ≡ at_most t meta.internal.fresh_until
   pub counts : Counts l old new
+
+-- what a reader tells of a body that was found: what that weighs
+abbrev pub TellsWeight : Option store.Look → CacheMeta → MemHitHandler → Type 0
+TellsWeight look meta hit = Tells weight_of (λ _. None) weigh None look (Ok (Some (meta, hit)))
 
 abbrev is_found : Result (Option (CacheMeta × MemHitHandler)) StoreFault → Bool
 is_found (Ok (Some found)) = true
 is_found _ = false
 
-finds_one : (t : MomentValue) (o : Option store.Look) (l : Look) (meta : CacheMeta) (hit : MemHitHandler) (old new : Held) → IsShownAs o l → LookAnswer reader_of o old (Ok (Some (meta, hit))) new → FindsOne t l meta hit old new
-finds_one t None l meta hit old new s a = let never : true ≡ false = ap is_found a.0 in absurd cc
-finds_one t (Some (store.in_flight x)) l meta hit old new s a = subst (λ k. FindsOne t k meta hit old new) (sym s.1) (record {
+finds_one : (t : MomentValue) (o : Option store.Look) (l : Look) (meta : CacheMeta) (hit : MemHitHandler) (old new : Held) → IsShownAs o l → LookAnswer reader_of o old (Ok (Some (meta, hit))) new → TellsWeight o meta hit → FindsOne t l meta hit old new
+finds_one t None l meta hit old new s a w = let never : true ≡ false = ap is_found a.0 in absurd cc
+finds_one t (Some (store.in_flight x)) l meta hit old new s a w = subst (λ k. FindsOne t k meta hit old new) (sym s.1) (record {
   reads = a.0.1 ∙ ap (λ n. streaming (record { number = n; place = 0 })) (sym s.2);
   meta_is = ap Some (s.3 ∙ sym a.0.0);
   fresh = ap (λ (m : CacheMeta). at_most t m.internal.fresh_until) (s.3 ∙ sym a.0.0);
   counts = subst (λ n. IsJoined n old new) (sym s.2) a.1;
 })
-finds_one t (Some (store.finished x)) l meta hit old new s a = subst (λ k. FindsOne t k meta hit old new) (sym s) (record {
-  reads = a.0.1;
+finds_one t (Some (store.finished x)) l meta hit old new s a w = subst (λ k. FindsOne t k meta hit old new) (sym s) (record {
+  reads = (a.0.1, w.0);
   meta_is = ap Some (sym a.0.0);
   fresh = ap (λ (m : CacheMeta). at_most t m.internal.fresh_until) (sym a.0.0);
   counts = a.1;
@@ -108,11 +114,11 @@ pub shown-all : (since : Option MomentValue) (look : Option store.Look) → sinc
 shown-all since look none = ap (λ v. valid_look v look) none ∙ all_shown look
 
 pub finds-one : (t : MomentValue) (key : Option CacheKeyValue) (since : Option MomentValue) (meta : CacheMeta) (hit : MemHitHandler) (old new : Held) → since ≡ None
-    → LookAnswer reader_of (valid_look since (shows true (stored_at key) old.store)) old (Ok (Some (meta, hit))) new → FindsOne t (shelf.look (stored_key (key_of (entry_at key None))) (shelf_of old)) meta hit old new
-finds-one t key since meta hit old new none a =
+    → LookAnswer reader_of (valid_look since (shows true (stored_at key) old.store)) old (Ok (Some (meta, hit))) new → TellsWeight (shows true (stored_at key) old.store) meta hit → FindsOne t (shelf.look (stored_key (key_of (entry_at key None))) (shelf_of old)) meta hit old new
+finds-one t key since meta hit old new none a w =
     let look = shows true (stored_at key) old.store in
     finds_one t look (shelf.look (stored_key (key_of (entry_at key None))) (shelf_of old)) meta hit old new (look_shown key old)
-    (subst (λ o. LookAnswer reader_of o old (Ok (Some (meta, hit))) new) (shown-all since look none) a)
+    (subst (λ o. LookAnswer reader_of o old (Ok (Some (meta, hit))) new) (shown-all since look none) a) w
 
 -- ---- readers of it
 
@@ -152,7 +158,7 @@ shelf-spared (in_flight g) hit old mid new f c p =
     let parts : IsParted g.number mid new = subst (λ (r : Reader). Parts r mid new) f p in
     shelf-same old new (joined-parted g.number old mid new c parts)
 shelf-spared (finished x) hit old mid new f c p =
-    let same : new ≡ mid = subst (λ (r : Reader). Parts r mid new) f p in
+    let same : new ≡ mid = subst (λ (r : Reader). Parts r mid new) f.0 p in
     ap shelf_of (same ∙ c)
 
 -- ---- what was found
@@ -161,10 +167,6 @@ shelf-spared (finished x) hit old mid new f c p =
 abbrev bytes_of : Reader → List ℕ
 bytes_of (whole n body bytes) = bytes
 bytes_of (streaming s) = []
-
-abbrev body_of : Reader → List ℕ
-body_of (whole n body bytes) = body
-body_of (streaming s) = []
 
 abbrev number_of : Reader → ℕ
 number_of (whole n body bytes) = n
@@ -182,8 +184,8 @@ pub taken-from : (l : Look) (before hit : MemHitHandler) (bytes : Option (List �
 taken-from absent before hit bytes f a = absurd f
 taken-from (in_flight g) (Complete h) hit bytes f a = let never : whole h.number h.body _ ≡ streaming _ = f in absurd cc
 taken-from (in_flight g) (Partial h) hit bytes f a = rw a.1 (ap (λ (r : Reader). tier.streaming (number_of r) (place_of r)) f)
-taken-from (finished x) (Complete h) hit bytes f a = rw (a.1, a.0) (ap (λ (r : Reader). tier.unread (bytes_of r)) f)
-taken-from (finished x) (Partial h) hit bytes f a = let never : streaming h ≡ whole _ _ _ = f in absurd cc
+taken-from (finished x) (Complete h) hit bytes f a = rw (a.1, a.0) (ap (λ (r : Reader). tier.unread (bytes_of r)) f.0)
+taken-from (finished x) (Partial h) hit bytes f a = let never : streaming h ≡ whole _ _ _ = f.0 in absurd cc
 
 -- nothing is taken out of a reader of a write, and memory runs out only at a body: then all is still there
 pub taken-none : (l : Look) (meta : CacheMeta) (before hit : MemHitHandler) (f : StoreFault) → TakeAnswer before (Err f) hit → reader_of hit ≡ reader_of before
@@ -205,16 +207,16 @@ whole-found absent hit f = absurd f
 whole-found (in_flight g) (Complete h) f = let never : whole h.number h.body _ ≡ streaming _ = f in absurd cc
 whole-found (in_flight g) (Partial h) f = refl
 whole-found (finished x) (Complete h) f = refl
-whole-found (finished x) (Partial h) f = let never : streaming h ≡ whole _ _ _ = f in absurd cc
+whole-found (finished x) (Partial h) f = let never : streaming h ≡ whole _ _ _ = f.0 in absurd cc
 
 pub whole-taken : (before hit : MemHitHandler) (bytes : Option (List ℕ)) → TakeAnswer before (Ok bytes) hit → is_complete hit ≡ is_complete before
 whole-taken (Complete h) hit bytes a = ap is_complete a.1
 whole-taken (Partial h) hit bytes a = ap is_complete a.1
 
 -- what a body weighs that was found
-pub weight-found : (x : Numbered) (before hit : MemHitHandler) (bytes : Option (List ℕ)) → IsReadBy (finished x) before → TakeAnswer before (Ok bytes) hit → weight_of hit ≡ length x.body.bytes
-weight-found x (Complete h) hit bytes f a = ap weight_of a.1 ∙ ap (λ (r : Reader). length (body_of r)) f
-weight-found x (Partial h) hit bytes f a = let never : streaming h ≡ whole _ _ _ = f in absurd cc
+pub weight-found : (x : Numbered) (before hit : MemHitHandler) (bytes : Option (List ℕ)) → IsReadBy (finished x) before → TakeAnswer before (Ok bytes) hit → weight_of hit ≡ size_of x.body
+weight-found x (Complete h) hit bytes f a = ap weight_of a.1 ∙ f.1
+weight-found x (Partial h) hit bytes f a = let never : streaming h ≡ whole _ _ _ = f.0 in absurd cc
 
 pub found-there : (l : Look) (hit : MemHitHandler) → IsReadBy l hit → is_there l ≡ true
 found-there absent hit f = absurd f

@@ -126,7 +126,7 @@ module _ (n : ℕ) (weighed : ℕ → ℕ) (t : MomentValue) (r : Driven) (asks 
       l = look_for (plain r) (shelf_of h)
 
       one : FindsOne t l f.meta hit h mid
-      one = finds-one t r.key r.valid_after f.meta hit h mid shown f.found
+      one = finds-one t r.key r.valid_after f.meta hit h mid shown f.found f.weighs
 
       answered : FoundAnswer n weighed t (plain r) l m s res new m' s'
       answered =

@@ -60,20 +60,6 @@ writes-in phases.Expired meta e = refl
 writes-in phases.Revalidated meta e = absurd cc
 writes-in (phases.RevalidatedNoCache reason) meta e = absurd cc
 
--- where a body is read, the phase doesn't rest on a meta
-pub reads-in : (p : CachePhase) (meta : Bool) → asked.has_reader_phase p ≡ true → phase_in p false ≡ phase_in p meta
-reads-in (phases.Disabled reason) meta e = absurd cc
-reads-in phases.Uninit meta e = absurd cc
-reads-in phases.Bypass meta e = absurd cc
-reads-in phases.CacheKey meta e = absurd cc
-reads-in phases.Hit meta e = refl
-reads-in phases.Miss meta e = absurd cc
-reads-in phases.Stale meta e = refl
-reads-in phases.StaleUpdating meta e = refl
-reads-in phases.Expired meta e = absurd cc
-reads-in phases.Revalidated meta e = refl
-reads-in (phases.RevalidatedNoCache reason) meta e = refl
-
 pub permit-in : (l : Option Locked) (polled : Option MomentValue) → has_permit (held_in l polled) ≡ is_write l
 permit-in None polled = refl
 permit-in (Some (Write p)) polled = refl

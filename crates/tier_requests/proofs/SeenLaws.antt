@@ -15,7 +15,8 @@ use Rattle.tier_model.specs.State.{Seen}
 use Rattle.tier_model.specs.Answers.{is_fresh, finds_fresh}
 use Rattle.tier_model.specs.After as model
 use Rattle.tier_requests.specs.Plain.{as_seen, seen_in}
-use Rattle.tier_requests.specs.Finds.{IsReadBy, meta_of}
+use Rattle.tier_requests.specs.Finds.{IsReadBy}
+use Rattle.tier_requests.specs.Shown.{meta_found}
 
 -- what is past its moment, or isn't
 past_fresh : (t : MomentValue) (n : ℕ) (meta : CacheMeta) → is_fresh t meta ≡ true → None ≡ model.seen_past t n meta
@@ -31,14 +32,14 @@ seen-fresh t (in_flight f) fresh = past_fresh t f.number f.meta fresh
 seen-fresh t (finished x) fresh = past_fresh t x.number x.body.meta fresh
 
 -- of what is past its moment the number of its write and its meta are kept
-pub seen-stale : (t : MomentValue) (l : Look) (meta : CacheMeta) (hit : MemHitHandler) → finds_fresh t l ≡ false → meta_of l ≡ Some meta → IsReadBy l hit → Some (as_seen (number_read (reader_of hit)) meta) ≡ model.seen_in t l
+pub seen-stale : (t : MomentValue) (l : Look) (meta : CacheMeta) (hit : MemHitHandler) → finds_fresh t l ≡ false → meta_found l ≡ Some meta → IsReadBy l hit → Some (as_seen (number_read (reader_of hit)) meta) ≡ model.seen_in t l
 seen-stale t absent meta hit stale is reads = absurd reads
 seen-stale t (in_flight f) meta hit stale is reads =
     let same : f.meta ≡ meta = cc in
     (λ i. Some (as_seen (number_read (reads i)) (sym same i))) ∙ past_stale t f.number f.meta stale
 seen-stale t (finished x) meta hit stale is reads =
     let same : x.body.meta ≡ meta = cc in
-    (λ i. Some (as_seen (number_read (reads i)) (sym same i))) ∙ past_stale t x.number x.body.meta stale
+    (λ i. Some (as_seen (number_read (reads.0 i)) (sym same i))) ∙ past_stale t x.number x.body.meta stale
 
 -- a write keeps the provenance of what its request has seen
 pub meta-kept : (p : CachePhase) (n : ℕ) (old : Option CacheMeta) (meta : CacheMeta) → cond (is_stale_phase p) (with_provenance_of old meta) meta ≡ with_provenance_of (option_map (λ (x : Seen). x.meta) (seen_in p n old)) meta

@@ -4,8 +4,6 @@ use Rattle.std.specs.Prelude.{Result, Ok, Err}
 use Rattle.cache_words.specs.Time.{MomentValue, at_most}
 use Rattle.cache_words.specs.Key.{Key}
 use Rattle.cache_heads.specs.declared.meta.CacheMeta.{CacheMeta}
-use Rattle.cache_entries.specs.declared.entry.CacheEntryId.{CacheEntryId}
-use Rattle.cache_changes.specs.Store.{Stored}
 use Rattle.cache_lock.specs.declared.status.LockStatus.{LockStatus}
 use Rattle.cache_lock.specs.State.{LockState}
 use Rattle.cache_store.specs.declared.admission.Decision.{Decision}
@@ -15,7 +13,8 @@ use Rattle.cache_store.specs.Answers as store
 use Rattle.cache_store.specs.Held.{Held}
 use Rattle.cache_store.specs.Looks.{LookAnswer}
 use Rattle.mem_cache.specs.declared.handlers.MemHitHandler.{MemHitHandler}
-use Rattle.mem_cache.specs.Readings.{reader_of}
+use Rattle.mem_cache.specs.Kept.{weigh}
+use Rattle.mem_cache.specs.Readings.{reader_of, weight_of}
 use Rattle.request_store.specs.declared.faults.LookUpFault.{LookUpFault}
 use Rattle.request_store.specs.Looks.{valid_look}
 use Rattle.http_cache.specs.Points.{point}
@@ -23,6 +22,7 @@ use Rattle.http_cache.specs.Lookups.{FindsNothing, LookUpAnswer}
 use Rattle.http_cache.specs.Freshes.{LookUpAtAnswer}
 use Rattle.tier_requests.specs.Plain.{Driven}
 use Rattle.tier_requests.specs.Finds.{hit_told}
+use Rattle.tier_requests.proofs.FindLaws.{TellsWeight}
 
 -- a meta is fresh at the moment, or is told as it is
 abbrev pub IsToldAs : MomentValue → CacheMeta → FoundAt MemHitHandler → Type 0
@@ -34,6 +34,7 @@ pub record FindsAs (t : MomentValue) (look : Option store.Look) (told : FoundAt 
   pub meta : CacheMeta
   pub told_as : IsToldAs t meta told
   pub found : LookAnswer reader_of (valid_look r.valid_after look) h (Ok (Some (meta, hit_told told))) mid
+  pub weighs : TellsWeight look meta (hit_told told)
   pub request : r1 ≡ r
   pub lock : s1 ≡ s
 
@@ -56,19 +57,20 @@ fault_of other (Err fault) = fault
 abbrev told_ok : FoundAt MemHitHandler → Told
 told_ok found = Ok (Some found)
 
-module _ (weight : MemHitHandler → ℕ) (id : MemHitHandler → Option CacheEntryId) (weigh : Stored CacheMeta → ℕ) (stored : Option CacheEntryId) (custom : List ℕ → LockStatus) (decides : Key → Decision → Type 0)
+module _ (custom : List ℕ → LockStatus) (decides : Key → Decision → Type 0)
     (t : MomentValue) (look : Option store.Look) (r r1 : Driven) (h mid : Held) (s s1 : LockState) where
   abbrev Tells : Told → Type 0
-  Tells res = LookUpAtAnswer reader_of (λ n. n) weight id weigh stored custom decides t look (point r h s) res (point r1 mid s1)
+  Tells res = LookUpAtAnswer reader_of (λ n. n) weight_of (λ _. None) weigh None custom decides t look (point r h s) res (point r1 mid s1)
 
   abbrev Answers : Result (Option (CacheMeta × MemHitHandler)) LookUpFault → Type 0
   Answers res = LookUpAnswer reader_of (λ n. n) custom decides t look (point r h s) res (point r1 mid s1)
 
-  found_as : (told : FoundAt MemHitHandler) (meta : CacheMeta) (found : MemHitHandler) → IsToldAs t meta told → hit_told told ≡ found → Answers (Ok (Some (meta, found))) → FindsAs t look told r r1 h mid s s1
-  found_as told meta found is same a = record {
+  found_as : (told : FoundAt MemHitHandler) (meta : CacheMeta) (found : MemHitHandler) → IsToldAs t meta told → hit_told told ≡ found → Answers (Ok (Some (meta, found))) → TellsWeight look meta found → FindsAs t look told r r1 h mid s s1
+  found_as told meta found is same a w = record {
     meta = meta;
     told_as = is;
     found = subst (λ (x : MemHitHandler). LookAnswer reader_of (valid_look r.valid_after look) h (Ok (Some (meta, x))) mid) (sym same) a.0;
+    weighs = subst (λ (x : MemHitHandler). TellsWeight look meta x) (sym same) w;
     request = a.1;
     lock = a.2;
   }
@@ -78,7 +80,7 @@ module _ (weight : MemHitHandler → ℕ) (id : MemHitHandler → Option CacheEn
   told-fresh until hit (Ok (Some (meta, found)), a, tells, e) = by_test (at_most t meta.internal.fresh_until) refl e
     where
       by_test : (v : Bool) → at_most t meta.internal.fresh_until ≡ v → told_ok (Fresh until hit) ≡ told_ok (cond v (Fresh meta.internal.fresh_until found) (Stale meta found)) → FindsAs t look (Fresh until hit) r r1 h mid s s1
-      by_test true fresh e = found_as (Fresh until hit) meta found fresh (ap (hit_of hit) e) a
+      by_test true fresh e = found_as (Fresh until hit) meta found fresh (ap (hit_of hit) e) a tells
       by_test false fresh e = absurd cc
   told-fresh until hit (Ok None, a, tells, e) = absurd cc
   told-fresh until hit (Err fault, a, tells, e) = absurd cc
@@ -89,7 +91,7 @@ module _ (weight : MemHitHandler → ℕ) (id : MemHitHandler → Option CacheEn
     where
       by_test : (v : Bool) → at_most t meta.internal.fresh_until ≡ v → told_ok (Stale told hit) ≡ told_ok (cond v (Fresh meta.internal.fresh_until found) (Stale meta found)) → FindsAs t look (Stale told hit) r r1 h mid s s1
       by_test true fresh e = absurd cc
-      by_test false fresh e = found_as (Stale told hit) meta found (fresh, sym (ap (meta_in told) e)) (ap (hit_of hit) e) a
+      by_test false fresh e = found_as (Stale told hit) meta found (fresh, sym (ap (meta_in told) e)) (ap (hit_of hit) e) a tells
   told-stale told hit (Ok None, a, tells, e) = absurd cc
   told-stale told hit (Err fault, a, tells, e) = absurd cc
 

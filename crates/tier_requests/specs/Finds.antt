@@ -15,13 +15,15 @@ use Rattle.cache_phases.specs.Locks.{is_read, held}
 use Rattle.mem_cache.specs.declared.handlers.MemHitHandler.{MemHitHandler}
 use Rattle.mem_cache.specs.declared.handlers.MemHitHandler.TheVariants.{Complete, Partial}
 use Rattle.mem_cache.specs.Hits.{WholeHit, next_bytes}
-use Rattle.mem_cache.specs.Readings.{reader_of}
+use Rattle.mem_cache.specs.Readings.{reader_of, weight_of}
 use Rattle.tier_model.specs.Calls.{Outcome}
+use Rattle.tier_model.specs.Rows.{size_of}
 use Rattle.tier_model.specs.Shelf.{Look, absent, in_flight, finished}
 use Rattle.tier_model.specs.State.{Request}
 use Rattle.tier_model.specs.Answers.{finds_fresh, lock_given, look_answer}
 use Rattle.tier_model.specs.After.{looked, given_changes}
 use Rattle.tier_requests.specs.Plain.{Driven}
+use Rattle.tier_requests.specs.Shown.{meta_found}
 use Rattle.tier_requests.specs.Looks.{used_by, UseRefused, LockRefused, RunsOut, LeavesLock}
 
 -- a reader of a body once its bytes are taken out
@@ -34,22 +36,16 @@ abbrev pub TakeAnswer : MemHitHandler → Result (Option (List ℕ)) StoreFault 
 TakeAnswer (Complete h) r new = MatchResult r (λ bytes. bytes ≡ Some (next_bytes h)) (λ f. f ≡ Memory) × (new ≡ Complete (taken h r))
 TakeAnswer (Partial h) r new = (r ≡ Ok None) × (new ≡ Partial h)
 
--- that is found with this reader, which has read nothing
+-- that is found with this reader, which has read nothing; one of a body weighs what that takes
 abbrev pub IsReadBy : Look → MemHitHandler → Type 0
 IsReadBy absent hit = ⊥
 IsReadBy (in_flight f) hit = reader_of hit ≡ streaming (record { number = f.number; place = 0 })
-IsReadBy (finished x) hit = reader_of hit ≡ whole x.number x.body.bytes x.body.bytes
-
--- the meta of what is found
-abbrev pub meta_of : Look → Option CacheMeta
-meta_of absent = None
-meta_of (in_flight f) = Some f.meta
-meta_of (finished x) = Some x.body.meta
+IsReadBy (finished x) hit = (reader_of hit ≡ whole x.number x.body.bytes x.body.bytes) × (weight_of hit ≡ size_of x.body)
 
 -- that is found, and is reported at moment t: it is fresh then, or past its moment and has this meta
 abbrev pub IsFoundBy : MomentValue → Look → FoundAt MemHitHandler → Type 0
 IsFoundBy t l (Fresh until hit) = (finds_fresh t l ≡ true) × IsReadBy l hit
-IsFoundBy t l (Stale meta hit) = (finds_fresh t l ≡ false) × (meta_of l ≡ Some meta) × IsReadBy l hit
+IsFoundBy t l (Stale meta hit) = (finds_fresh t l ≡ false) × (meta_found l ≡ Some meta) × IsReadBy l hit
 
 -- the reader that is reported
 abbrev pub hit_told : FoundAt MemHitHandler → MemHitHandler

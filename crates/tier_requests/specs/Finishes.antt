@@ -1,5 +1,5 @@
 -- What the finish of a request's write answers, and what it leaves.
-use Rattle.std.specs.Prelude.{◌≡◌, ⊤, ℕ, true, false, List, length, if◌then◌else◌, Option, Some, None, is_some, Result, Ok, Err}
+use Rattle.std.specs.Prelude.{◌≡◌, ⊤, ℕ, true, false, List, if◌then◌else◌, Option, Some, None, is_some, Result, Ok, Err}
 use Rattle.rand_core.specs.Stream.{Stream}
 use Rattle.cache_words.specs.Key.{CacheKeyValue}
 use Rattle.cache_entries.specs.declared.rows.Tracked.{Tracked}
@@ -19,7 +19,9 @@ use Rattle.tier_model.specs.declared.event.Done.{Done}
 use Rattle.tier_model.specs.declared.event.TierFault.{TierFault}
 use Rattle.tier_model.specs.declared.event.TierFault.TheVariants.{WrongPhase, WriteRemoved, NumbersSpent, TooHeavy, TooLong, Memory}
 use Rattle.tier_model.specs.Calls.{Outcome}
+use Rattle.tier_model.specs.Rows.{size_of}
 use Rattle.tier_model.specs.State.{Request}
+use Rattle.tier_requests.specs.Shelves.{found_in}
 
 -- what a finish did, as the tier reports it
 abbrev pub done_as : StoreDone → Done
@@ -42,7 +44,7 @@ told_of (Err fault) = Err (told_as fault)
 module _ (n : ℕ) (weighed : ℕ → ℕ) (pick : List (List Tracked) → Stream → ℕ × Stream) where
   -- what is known of the store and of the order of use, in n shards
   abbrev pub rules : Rules Held
-  rules = rules_of (λ h. h) (λ h k. None) (λ h cause h'. ⊤) are_numbers_spent (λ x. Created (length x.bytes)) n weighed pick
+  rules = rules_of (λ h. h) (λ h k. None) (λ h cause h'. ⊤) are_numbers_spent (λ x. Created (size_of (found_in x).body)) n weighed pick
 
   -- the finish of the write of a request, with what it came to in the store and in the order of use
   pub record Ends (write : ℕ) (q : Request) (old : Cache Held) (r : Outcome) (new : Request) (left : Cache Held) : Type 0 where

@@ -1,6 +1,7 @@
 pub mod Codes
 pub mod Faults
 pub mod Shelves
+pub mod Shown
 pub mod Plain
 pub mod Rows
 pub mod Ends

@@ -1,5 +1,5 @@
 -- What a look-up of a request answers, and what it leaves of it and of what it is lent.
-use Rattle.std.specs.Prelude.{◌≡◌, ◌≢◌, ◌⊎◌, ℕ, ◌-◌, ◌^◌, Bool, true, length, if◌then◌else◌, None, Ok, Err, MatchOption}
+use Rattle.std.specs.Prelude.{◌≡◌, ◌≢◌, ◌⊎◌, ℕ, ◌-◌, ◌^◌, Bool, true, if◌then◌else◌, None, Ok, Err, MatchOption}
 use Rattle.cache_words.specs.Time.{MomentValue}
 use Rattle.cache_entries.specs.Rows.{weight_of}
 use Rattle.cache_evict.specs.Managed.{Managed, rows_of, use_first}
@@ -11,6 +11,7 @@ use Rattle.tier_model.specs.declared.event.TierFault.{TierFault}
 use Rattle.tier_model.specs.declared.event.TierFault.TheVariants.{NumbersSpent}
 use Rattle.tier_model.specs.declared.event.LockGiven.TheVariants as given
 use Rattle.tier_model.specs.Calls.{Outcome, nothing_done}
+use Rattle.tier_model.specs.Rows.{size_of}
 use Rattle.tier_model.specs.Shelf.{Shelf, Look, finished, is_there}
 use Rattle.tier_model.specs.State.{Request}
 use Rattle.tier_model.specs.Checks.{look_refusal}
@@ -36,13 +37,13 @@ pub record LeavesLock (t : MomentValue) (q : Request) (l : Look) (old new : Lock
 module _ (n : ℕ) (weighed : ℕ → ℕ) where
   -- the order of use after a use of what was found, in n shards
   abbrev pub used_by : Request → Look → Managed → Managed
-  used_by q (finished x) m = use_first n q.entry (weighed (length x.body.bytes)) m
+  used_by q (finished x) m = use_first n q.entry (weighed (size_of x.body)) m
   used_by q _ m = m
 
   -- why the entry of what was found isn't used: it isn't tracked, and is kept out
   abbrev pub UseRefused : Request → Look → Managed → TierFault → Type 0
   UseRefused q (finished x) m f =
-      (weight_of q.entry (rows_of n q.entry m) ≡ None) × ((cause : EvictFault) × IsPutRefused n q.entry (weighed (length x.body.bytes)) m cause × (f ≡ fault_for cause nothing_done))
+      (weight_of q.entry (rows_of n q.entry m) ≡ None) × ((cause : EvictFault) × IsPutRefused n q.entry (weighed (size_of x.body)) m cause × (f ≡ fault_for cause nothing_done))
   UseRefused q _ m f = ⊥
 
   abbrev pub LockRefused : MomentValue → Request → Look → LockState → TierFault → Type 0

@@ -17,7 +17,7 @@ returns-in-Ok-Some-clause-answer g c =
     (look-found g.E.EvictionManager.shard_count g.E.EvictionManager.weighed c.args.moment r.cache r.asks r.wait r.gave_read r.seen r.unread c.args.parts.now.store c.cache_lookup_at.new.parts.store c.found.new.parts.store
     (g.E.EvictionManager.managed c.args.parts.now.manager) (g.E.EvictionManager.managed c.cache_lookup_at.new.parts.manager) (g.E.EvictionManager.managed c.found.new.parts.manager)
     c.args.parts.now.lock c.cache_lookup_at.new.parts.lock c.found.new.parts.lock c.cache_lookup_at.new.self c.in-Ok-Some.found c.found.result c.found.new.self c.self.invariant.shown may
-    (told-found _ _ _ _ _ _ c.args.moment _ r.cache c.cache_lookup_at.new.self c.args.parts.now.store c.cache_lookup_at.new.parts.store c.args.parts.now.lock c.cache_lookup_at.new.parts.lock
+    (told-found _ _ c.args.moment _ r.cache c.cache_lookup_at.new.self c.args.parts.now.store c.cache_lookup_at.new.parts.store c.args.parts.now.lock c.cache_lookup_at.new.parts.lock
     c.in-Ok-Some.found look)
     (ap (λ p. g.E.EvictionManager.managed p.manager) c.cache_lookup_at.ensures.parts) c.found.ensures.answer c.found.ensures.shelf)
 
@@ -28,7 +28,7 @@ returns-in-Ok-None-clause-answer g c =
     let look = rw c.in-Ok-None.field-0-is at c.in-Ok-None.ensures.look in
     let none = finds-none _ _ c.args.moment _ r.cache c.args.parts.now.store c.args.parts.now.lock (Ok tt) c.cache_lookup_at.new.self c.cache_lookup_at.new.parts.store c.cache_lookup_at.new.parts.lock
     c.self.invariant.admits c.self.invariant.shown
-    (told-none _ _ _ _ _ _ c.args.moment _ r.cache c.cache_lookup_at.new.self c.args.parts.now.store c.cache_lookup_at.new.parts.store c.args.parts.now.lock c.cache_lookup_at.new.parts.lock look) in
+    (told-none _ _ c.args.moment _ r.cache c.cache_lookup_at.new.self c.args.parts.now.store c.cache_lookup_at.new.parts.store c.args.parts.now.lock c.cache_lookup_at.new.parts.lock look) in
     rw (← c.self.view_is)
     (look-missed g.E.EvictionManager.shard_count g.E.EvictionManager.weighed c.args.moment r.cache r.asks r.wait r.gave_read r.seen r.unread c.args.parts.now.store c.cache_lookup_at.new.parts.store c.missed.new.parts.store
     (g.E.EvictionManager.managed c.args.parts.now.manager) (g.E.EvictionManager.managed c.missed.new.parts.manager) c.args.parts.now.lock c.cache_lookup_at.new.parts.lock c.missed.new.parts.lock
@@ -44,7 +44,7 @@ invariant_of-self-in-Ok-None g c =
     let look = rw c.in-Ok-None.field-0-is at c.in-Ok-None.ensures.look in
     let none = finds-none _ _ c.args.moment _ r.cache c.args.parts.now.store c.args.parts.now.lock (Ok tt) c.cache_lookup_at.new.self c.cache_lookup_at.new.parts.store c.cache_lookup_at.new.parts.lock
     c.self.invariant.admits c.self.invariant.shown
-    (told-none _ _ _ _ _ _ c.args.moment _ r.cache c.cache_lookup_at.new.self c.args.parts.now.store c.cache_lookup_at.new.parts.store c.args.parts.now.lock c.cache_lookup_at.new.parts.lock look) in
+    (told-none _ _ c.args.moment _ r.cache c.cache_lookup_at.new.self c.args.parts.now.store c.cache_lookup_at.new.parts.store c.args.parts.now.lock c.cache_lookup_at.new.parts.lock look) in
     driven-missed r.cache c.cache_lookup_at.new.self c.go_without-self-inside.new.cache r.asks r.wait r.gave_read c.go_without-self-inside.result r.seen r.unread _ c.self.invariant may none.lock.0
     c.go_without-self-inside.ensures.request c.go_without-self-inside.ensures.waits
 
@@ -53,7 +53,7 @@ returns-in-Err-Store-clause-answer g c =
     let r = c.self.inside in
     let may = rw (← c.self.view_is) at (sym c.look_refusal.ensures ∙ c.in_default.is) in
     let told = rw c.in-Err-Store.field-0-is at c.in-Err-Store.ensures.look in
-    let look = told-fault _ _ _ _ _ _ c.args.moment _ r.cache c.cache_lookup_at.new.self c.args.parts.now.store c.cache_lookup_at.new.parts.store c.args.parts.now.lock c.cache_lookup_at.new.parts.lock _ told in
+    let look = told-fault _ _ c.args.moment _ r.cache c.cache_lookup_at.new.self c.args.parts.now.store c.cache_lookup_at.new.parts.store c.args.parts.now.lock c.cache_lookup_at.new.parts.lock _ told in
     rw (c.out_of_memory.ensures, ← c.self.view_is)
     (look-unshown g.E.EvictionManager.shard_count g.E.EvictionManager.weighed c.args.moment r.cache r.asks r.wait r.gave_read r.seen r.unread c.args.parts.now.store c.cache_lookup_at.new.parts.store
     (g.E.EvictionManager.managed c.args.parts.now.manager) (g.E.EvictionManager.managed c.cache_lookup_at.new.parts.manager) c.args.parts.now.lock c.cache_lookup_at.new.parts.lock c.cache_lookup_at.new.self may look.1 look.2
@@ -64,7 +64,7 @@ returns-in-Err-Lock-clause-answer g c =
     let r = c.self.inside in
     let may = rw (← c.self.view_is) at (sym c.look_refusal.ensures ∙ c.in_default.is) in
     let told = rw c.in-Err-Lock.field-0-is at c.in-Err-Lock.ensures.look in
-    let look = told-fault _ _ _ _ _ _ c.args.moment _ r.cache c.cache_lookup_at.new.self c.args.parts.now.store c.cache_lookup_at.new.parts.store c.args.parts.now.lock c.cache_lookup_at.new.parts.lock (fault.Lock c.in-Err-Lock.fault) told in
+    let look = told-fault _ _ c.args.moment _ r.cache c.cache_lookup_at.new.self c.args.parts.now.store c.cache_lookup_at.new.parts.store c.args.parts.now.lock c.cache_lookup_at.new.parts.lock (fault.Lock c.in-Err-Lock.fault) told in
     let none = finds-none _ _ c.args.moment _ r.cache c.args.parts.now.store c.args.parts.now.lock (Err c.in-Err-Lock.fault) c.cache_lookup_at.new.self c.cache_lookup_at.new.parts.store c.cache_lookup_at.new.parts.lock
     c.self.invariant.admits c.self.invariant.shown look in
     rw (c.lock_fault_for.ensures, c.in-Err-Lock.field-0-is, ← c.self.view_is)
@@ -76,7 +76,7 @@ pub invariant_of-self-in-Err-Lock : goal.invariant_of-self-in-Err-Lock
 invariant_of-self-in-Err-Lock g c =
     let r = c.self.inside in
     let told = rw c.in-Err-Lock.field-0-is at c.in-Err-Lock.ensures.look in
-    let look = told-fault _ _ _ _ _ _ c.args.moment _ r.cache c.cache_lookup_at.new.self c.args.parts.now.store c.cache_lookup_at.new.parts.store c.args.parts.now.lock c.cache_lookup_at.new.parts.lock (fault.Lock c.in-Err-Lock.fault) told in
+    let look = told-fault _ _ c.args.moment _ r.cache c.cache_lookup_at.new.self c.args.parts.now.store c.cache_lookup_at.new.parts.store c.args.parts.now.lock c.cache_lookup_at.new.parts.lock (fault.Lock c.in-Err-Lock.fault) told in
     let none = finds-none _ _ c.args.moment _ r.cache c.args.parts.now.store c.args.parts.now.lock (Err c.in-Err-Lock.fault) c.cache_lookup_at.new.self c.cache_lookup_at.new.parts.store c.cache_lookup_at.new.parts.lock
     c.self.invariant.admits c.self.invariant.shown look in
     subst (λ (x : Driven). IsDriven x r.asks r.wait r.gave_read r.unread) (sym none.lock.2) c.self.invariant
