@@ -1,5 +1,5 @@
 -- Lists of what is kept of finished bodies.
-use Rattle.std.proofs.Common.{◌≡◌, refl, ap, sym, ◌∙◌, [], ◌∷◌, ℕ, nat_eq, Bor}
+use Rattle.std.proofs.Common.{◌≡◌, refl, ap, sym, ◌∙◌, [], ◌∷◌, nat_eq, Bor}
 use Rattle.std.specs.Option.{option_copied}
 use Rattle.std.specs.Prelude.{◌+◌, List, Option, Some, None, length, map, option_map, find}
 use Rattle.std.specs.Map.{lookup, keys_of, values_of}

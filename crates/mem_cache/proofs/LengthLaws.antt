@@ -1,5 +1,5 @@
 -- Metas whose moments take as many bytes are as long as they are written.
-use Rattle.std.proofs.Common.{◌≡◌, ℕ, ℤ, List, ◌++◌, ◌∷◌, length, refl, sym, ap, ◌∙◌}
+use Rattle.std.proofs.Common.{◌≡◌, ℕ, List, ◌++◌, ◌∷◌, length, refl, sym, ap, ◌∙◌}
 use Rattle.std.specs.Prelude.{◌+◌, suc, nat_abs, Option}
 use Rattle.std.proofs.lemmas.List.{length-append}
 use Rattle.cache_words.specs.Forms.{shortest, numbers, arrays}

@@ -11,7 +11,18 @@ enum Step {
     Find(u8, Option<&'static [u8]>),
 }
 
-// The limit is 4.
+// A body weighs its bytes and 58 of its meta: 26 of moments and numbers, and 32 of the head.
+const META: usize = 58;
+
+// Room for three bodies with four bytes.
+const LIMIT: usize = 3 * META + 4;
+
+// With its meta one byte more than the limit.
+const LARGE: &[u8] = &[b'x'; LIMIT - META + 1];
+
+// With its meta so many that only an empty body with its meta would be too many beside it.
+const LONG: &[u8] = &[b'f'; LIMIT - 2 * META + 1];
+
 const LIMITED: &[Step] = &[
     Step::Put(b'a', b"a", 1000, Got::Stored(1, 0)),
     Step::Put(b'b', b"bb", 1000, Got::Stored(2, 0)),
@@ -22,12 +33,12 @@ const LIMITED: &[Step] = &[
     Step::Find(b'c', Some(b"c")),
     Step::Find(b'd', Some(b"dd")),
     // A body that is larger than the limit evicts all, and itself.
-    Step::Put(b'x', b"xxxxx", 1000, Got::Stored(5, 3)),
+    Step::Put(b'x', LARGE, 1000, Got::Stored(LIMIT - META + 1, 3)),
     Step::Find(b'c', None),
     Step::Find(b'x', None),
-    // An empty body weighs 1.
+    // An empty body weighs its meta.
     Step::Put(b'e', b"", 1000, Got::Stored(0, 0)),
-    Step::Put(b'f', b"ffff", 1000, Got::Stored(4, 1)),
+    Step::Put(b'f', LONG, 1000, Got::Stored(LIMIT - 2 * META + 1, 1)),
     Step::Find(b'e', None),
     // A later body takes the place of an earlier one.
     Step::Put(b'f', b"f", 1000, Got::Stored(1, 0)),
@@ -75,14 +86,14 @@ fn all_done(alloc: Global, cache: &mut Cache, steps: &[Step]) -> bool {
 
 #[test]
 fn puts_evict_and_purge(rt: HostRuntime) {
-    let done = match cache(rt.alloc(), 4) {
+    let done = match cache(rt.alloc(), LIMIT) {
         Some(mut cache) => all_done(rt.alloc(), &mut cache, LIMITED),
         None => false,
     };
     assert!(rt; done);
 }
 
-// Whether, after a put of `b` with a limit of 4, `a` and `b` are found as what came of it says.
+// Whether, after a put of `b` with room for one of both, `a` and `b` are found as what came of it says.
 fn is_left_so(alloc: Global, cache: &mut Cache, got: Got) -> Option<bool> {
     match got {
         Got::Stored(..) => Some(
@@ -106,7 +117,7 @@ fn put_two(alloc: Global, cache: &mut Cache) -> Option<bool> {
 
 #[test]
 fn a_put_that_memory_cuts_short_is_taken_back(rt: HostRuntime) {
-    let left = match cache(rt.alloc(), 4) {
+    let left = match cache(rt.alloc(), META + 4) {
         Some(mut cache) => put_two(rt.alloc(), &mut cache),
         None => None,
     };

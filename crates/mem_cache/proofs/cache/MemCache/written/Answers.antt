@@ -1,4 +1,4 @@
-use Rattle.std.proofs.Common.{◌∙◌, ap, sym, length}
+use Rattle.std.proofs.Common.{◌∙◌, ap, length}
 use Rattle.mem_cache.specs.declared.flight.Flight.{Flight}
 use Rattle.mem_cache.specs.Alive.{has}
 use Rattle.mem_cache.proofs.FirstLaws.{written-none, written-some}

@@ -4,7 +4,6 @@ use Rattle.std.proofs.lemmas.List.{length-drop, drop_all}
 use Rattle.cache_store.specs.declared.storage.ReadStep.{ReadStep}
 use Rattle.cache_store.specs.declared.storage.ReadStep.TheVariants.{Bytes, Pending, End}
 use Rattle.cache_store.specs.declared.storage.StoreFault.{StoreFault}
-use Rattle.cache_store.specs.Held.{Held}
 use Rattle.cache_store.specs.Readers.{StreamHit, IsStep, past_place, readable}
 use Rattle.mem_cache.specs.Hits.{StepAnswer, ReadAnswer, moved}
 use Rattle.mem_cache.proofs.handlers.hit.MemHitHandlerHandleHitMemCache.read_body.Goals as goal
