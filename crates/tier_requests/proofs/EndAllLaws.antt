@@ -1,9 +1,9 @@
 -- How the open requests end one after another.
-use Rattle.std.proofs.Common.{◌≡◌, ℕ, List, [], ◌∷◌, ◌++◌, Some, None, Option, Bool, true, false, cond, refl, ap, sym, ◌∙◌, subst, Ordering, Less, Equal, Greater, arith}
+use Rattle.std.proofs.Common.{◌≡◌, ℕ, List, [], ◌∷◌, ◌++◌, Some, None, Bool, true, false, cond, refl, ap, sym, ◌∙◌, subst, Ordering, Less, Equal, Greater, arith}
 use Rattle.std.specs.Prelude.{◌==◌, nat_eq, map}
 use Rattle.std.specs.List.{fold}
 use Rattle.std.specs.List.Sorted.{IsPermutation}
-use Rattle.std.specs.FinMap.{FinMap, empty, entries, values, get, insert, remove, find, put, from_entries, same_map, get-insert, get-remove, get-entries, entries-insert, len-entries, len-empty, nat_cmp-IsAntisymmetric}
+use Rattle.std.specs.FinMap.{FinMap, empty, entries, values, get, insert, remove, find, put, same_map, get-insert, get-remove, get-entries, entries-insert, len-entries, len-empty, nat_cmp-IsAntisymmetric}
 use Rattle.std.specs.FinMap.Entries.{by_order}
 use Rattle.std.specs.Ordering.{nat_cmp, is_eq, eq_by_cmp}
 use Rattle.std.specs.Cmp.{unsigned_tied}

@@ -1,6 +1,6 @@
 -- A request that found nothing, as the plain record has it.
-use Rattle.std.proofs.Common.{◌≡◌, ℕ, refl, ap, sym, ◌∙◌, subst, Bool, true, false, cond, List, Some, None, Option}
-use Rattle.std.specs.Prelude.{not, is_some}
+use Rattle.std.proofs.Common.{◌≡◌, ℕ, refl, sym, ◌∙◌, subst, Bool, true, false, cond, List, Some, None, Option}
+use Rattle.std.specs.Prelude.{is_some}
 use Rattle.cache_words.specs.Time.{MomentValue, DurationValue}
 use Rattle.cache_heads.specs.declared.meta.CacheMeta.{CacheMeta}
 use Rattle.cache_lock.specs.declared.tokens.Locked.{Locked}
@@ -8,13 +8,12 @@ use Rattle.cache_lock.specs.declared.tokens.Locked.TheVariants.{Write, Read}
 use Rattle.cache_phases.specs.declared.phase.CachePhase.{CachePhase}
 use Rattle.cache_phases.specs.declared.phase.CachePhase.TheVariants as phases
 use Rattle.cache_phases.specs.declared.request_lock.RequestLock.{RequestLock}
-use Rattle.cache_phases.specs.Phases.{can_look_up, has_reader_phase, is_disabled, is_never_enabled, is_stale_phase}
+use Rattle.cache_phases.specs.Phases.{can_look_up, has_reader_phase}
 use Rattle.cache_phases.specs.Locks.{is_read, held, now_holding}
-use Rattle.mem_cache.specs.declared.handlers.MemHitHandler.{MemHitHandler}
-use Rattle.tier_model.specs.State.{Phase, Seen, miss, Request}
+use Rattle.tier_model.specs.State.{Phase, miss}
 use Rattle.tier_model.specs.Own.{phase_absent}
 use Rattle.tier_model.specs.Checks.{can_begin, look_refusal}
-use Rattle.tier_requests.specs.Plain.{Driven, phase_in, held_in, given_of, reads_a_write, seen_in, plain_of, IsDriven}
+use Rattle.tier_requests.specs.Plain.{Driven, phase_in, held_in, given_of, seen_in, plain_of, IsDriven}
 use Rattle.tier_requests.specs.Finds.{missed_by}
 use Rattle.tier_requests.proofs.LookLaws.{IsFree, free-of, set-held}
 

@@ -41,7 +41,7 @@ use Rattle.tier_model.specs.After as model
 use Rattle.tier_model.specs.After.{phase_of, looked}
 use Rattle.tier_requests.specs.Faults.{out_of_memory, fault_for, lock_fault_for}
 use Rattle.tier_requests.specs.Looks.{used_by, UseRefused}
-use Rattle.tier_requests.specs.Plain.{Driven, phase_in, held_in, given_of, reader_in, seen_in, plain_of, reads_a_write, IsDriven}
+use Rattle.tier_requests.specs.Plain.{Driven, phase_in, held_in, given_of, seen_in, plain_of, reads_a_write, IsDriven}
 use Rattle.tier_requests.specs.Finds.{TakeAnswer, IsReadBy, FoundAnswer}
 use Rattle.tier_requests.proofs.PlainLaws.{waits-in}
 use Rattle.tier_requests.proofs.FindLaws.{key-stored, taken-from, is_whole, whole-found, whole-taken, weight-found, found-there}

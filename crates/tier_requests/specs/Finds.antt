@@ -1,7 +1,6 @@
 -- What a look-up of a request does with what the store gave it.
 use Rattle.std.specs.Prelude.{◌≡◌, ◌⊎◌, ℕ, true, false, List, if◌then◌else◌, Option, Some, None, Result, Ok, Err, MatchResult}
 use Rattle.cache_words.specs.Time.{MomentValue}
-use Rattle.cache_heads.specs.declared.meta.CacheMeta.{CacheMeta}
 use Rattle.cache_evict.specs.Managed.{Managed}
 use Rattle.cache_lock.specs.State.{LockState, after_all}
 use Rattle.cache_store.specs.declared.storage.StoreFault.{StoreFault}

@@ -1,5 +1,5 @@
 -- What the finish of a request's write answers, and what it leaves.
-use Rattle.std.specs.Prelude.{◌≡◌, ⊤, ℕ, true, false, List, if◌then◌else◌, Option, Some, None, is_some, Result, Ok, Err}
+use Rattle.std.specs.Prelude.{◌≡◌, ⊤, ℕ, true, List, if◌then◌else◌, Option, Some, None, is_some, Result, Ok, Err}
 use Rattle.rand_core.specs.Stream.{Stream}
 use Rattle.cache_words.specs.Key.{CacheKeyValue}
 use Rattle.cache_entries.specs.declared.rows.Tracked.{Tracked}

@@ -1,5 +1,5 @@
 -- What the events of a request answer, and what they leave of it and of what it is lent.
-use Rattle.std.specs.Prelude.{◌≡◌, ◌≢◌, ◌⊎◌, ℕ, ◌+◌, ◌-◌, ◌^◌, Bool, true, false, List, Option, Some, None, Result, Ok, Err, MatchResult, MatchOption}
+use Rattle.std.specs.Prelude.{◌≡◌, ◌≢◌, ◌⊎◌, ℕ, ◌+◌, ◌-◌, ◌^◌, Bool, true, false, List, Option, Some, None, Ok, Err, MatchResult, MatchOption}
 use Rattle.std.specs.FinMap.{FinMap, get, insert}
 use Rattle.std.specs.Ordering.{nat_cmp}
 use Rattle.cache_words.specs.Time.{MomentValue}
@@ -11,8 +11,8 @@ use Rattle.tier_model.specs.declared.event.TierFault.{TierFault}
 use Rattle.tier_model.specs.declared.event.TierFault.TheVariants.{WrongPhase, AfterEnd, NumbersSpent}
 use Rattle.tier_model.specs.Calls.{Outcome, nothing_done}
 use Rattle.tier_model.specs.Shelf.{Shelf, flying_at, begun}
-use Rattle.tier_model.specs.State.{Held, Reader, closed, streaming, disabled, nothing, Request}
-use Rattle.tier_model.specs.Checks.{is_waiting, has_reader, has_ended}
+use Rattle.tier_model.specs.State.{closed, streaming, disabled, nothing, Request}
+use Rattle.tier_model.specs.Checks.{has_ended}
 use Rattle.tier_model.specs.Answers.{key_for, polled, read_answer}
 use Rattle.tier_model.specs.After.{poll_of, after_wait, read_on, pieced, turned, writing, meta_for, release_of}
 use Rattle.tier_model.specs.Step.{HasNews}
