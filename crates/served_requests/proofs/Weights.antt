@@ -1,6 +1,6 @@
 -- Which responses are stored, that their metas can be written, and what their bodies weigh.
 use Rattle.std.proofs.Common.{◌≡◌, ℕ, Bool, true, false, cond, not, T, List, Option, Some, None, refl, ap, sym, ◌∙◌, subst}
-use Rattle.std.specs.Prelude.{◌||◌, option_map, IfSome, codes}
+use Rattle.std.specs.Prelude.{◌||◌, option_map, IfSome, codes, Result, Ok, Err, IfOk}
 use Rattle.std.specs.Int.Signed.{lt_z_no}
 use Rattle.cache_words.specs.Time.{MomentValue}
 use Rattle.cache_metas.specs.Internal.{IsSinceEpoch, IsWritable}
@@ -71,6 +71,7 @@ pub weighed : (bytes : List ℕ) (j : Judged) (o meta : Option CacheMeta) → o 
 weighed bytes j o meta is some = ap (kept_weight bytes) (sym some ∙ is) ∙ sym (weight-is bytes j)
 
 -- what is stored of a whole response
-pub stored-is : (bytes : List ℕ) (t : MomentValue) (p : Parsed) (whole : Response) (n : Option ℕ) → Gives bytes p → p ≡ Complete whole → n ≡ stored_weight (whole_with whole.body (judged t whole.header))
-    → (r : Reading) × IsReading bytes r × (n ≡ stored_weight (whole_of t r))
-stored-is bytes t p whole n g is here = (g.0, g.1, here ∙ ap (λ (x : Parsed). stored_weight (whole_by t x)) (sym is ∙ g.2))
+pub stored-is : {E : Type 0} (bytes : List ℕ) (t : MomentValue) (p : Parsed) (whole : Response) (r : Result (Option ℕ) E) → Gives bytes p → p ≡ Complete whole
+    → IfOk r (λ n. n ≡ stored_weight (whole_with whole.body (judged t whole.header))) → IfOk r (λ n. (x : Reading) × IsReading bytes x × (n ≡ stored_weight (whole_of t x)))
+stored-is bytes t p whole (Ok n) g is here = (g.0, g.1, here ∙ ap (λ (x : Parsed). stored_weight (whole_by t x)) (sym is ∙ g.2))
+stored-is bytes t p whole (Err e) g is here = tt
