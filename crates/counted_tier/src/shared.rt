@@ -10,8 +10,8 @@ ghost use Rattle.recorded_tier.specs.Recorded.{MatchRecorded};
 ghost use Rattle.counted_tier.specs.Counted.{IsCounted};
 
 use crate::counted::{CallPass, Counted};
-use cache_tier::{Answer, Event, Report, Tier, TierFault};
 use cache_heads::CacheMeta;
+use cache_tier::{Answer, Event, Report, Tier, TierFault};
 use cache_words::key::CacheKey;
 use rand_core::Rng;
 use recorded_tier::{PassFault, Snapshot, TierOptions};

@@ -69,7 +69,7 @@ finish-fault s (Some b) f p = elim p [ inl memory ↦ ap is_unrecorded memory | 
 use-fault : (s : State) (q : Request) (l : Look) (f : TierFault) → IsUseFault s q l f → is_unrecorded f ≡ false
 use-fault s q absent f p = absurd p
 use-fault s q (in_flight w) f p = absurd p
-use-fault s q (finished b) f p = kept-out s q.entry (weight_for b) nothing_done f p.1
+use-fault s q (finished x) f p = kept-out s q.entry (weight_for x.body) nothing_done f p.1
 
 look-fault : (s : State) (t : MomentValue) (o : Option Request) (f : TierFault) → MatchOption o ⊥ (λ q. IsUseFault s q (look_for q s.shelf) f ⊎ IsLockFault s t q f) → is_unrecorded f ≡ false
 look-fault s t None f p = absurd p

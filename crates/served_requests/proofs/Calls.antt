@@ -131,7 +131,7 @@ module _ (old : State) (t : MomentValue) (new : State) where
     after_look-is : (x : Look) → after_look old t id q0 x ≡ then_of x
     after_look-is absent = refl
     after_look-is (in_flight f) = refl
-    after_look-is (finished b) = refl
+    after_look-is (finished x) = refl
 
     unasked : (asked : Bool) → AsksLock old t (LookUp id) asked → asked ≡ false
     unasked false h = refl
@@ -247,10 +247,10 @@ module _ (old : State) (t : MomentValue) (new : State) where
 
   -- ---- put
 
-  put_after-requests : (b : Option FinishedBody) (a : Answer) → (after_put old b a).requests ≡ old.requests
-  put_after-requests None a = refl
-  put_after-requests (Some b) (Finished n evicted) = refl
-  put_after-requests (Some b) _ = refl
+  put_after-requests : (n : Option ℕ) (b : Option FinishedBody) (a : Answer) → (after_put old n b a).requests ≡ old.requests
+  put_after-requests n None a = refl
+  put_after-requests n (Some b) (Finished told evicted) = refl
+  put_after-requests n (Some b) _ = refl
 
   taken_back-requests : (b : FinishedBody) (done : Done) (stored : Bool) → (taken_back stored old b done).requests ≡ old.requests
   taken_back-requests b done false = refl
@@ -267,7 +267,7 @@ module _ (old : State) (t : MomentValue) (new : State) where
     pub put_aside : (o : Outcome) → IsCall old t put o new → IsAside old new
     put_aside (Ok a) h =
         let x = said put (Ok a) h in
-        record { requests = ap (λ (y : State). y.requests) x.state ∙ put_after-requests (finished_in put (whole_in t put x.reading)) a; lock = ap (λ (y : State). y.lock) x.state }
+        record { requests = ap (λ (y : State). y.requests) x.state ∙ put_after-requests (Some old.shelf.writes) (finished_in put (whole_in t put x.reading)) a; lock = ap (λ (y : State). y.lock) x.state }
     put_aside (Err f) h =
         let x = said put (Err f) h in
         record { requests = ap (λ (y : State). y.requests) x.state ∙ undone-requests (finished_in put (whole_in t put x.reading)) (done_of f); lock = ap (λ (y : State). y.lock) x.state }

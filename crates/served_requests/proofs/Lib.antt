@@ -6,5 +6,5 @@ pub mod Looking
 pub mod LookedUp
 pub mod Serving
 pub mod Alike
-pub mod Lengths
+pub mod Weights
 pub mod Seeing

@@ -52,7 +52,7 @@ module _ (old : State) (s : Stream) (t : MomentValue) (id : ℕ) (mid : State) (
     pub unread : (new : (e : Entry) × IsNew old id e) → (bytes : List ℕ) × IsUnread mid id bytes
     unread new =
         let r = hit-unread old s t id new.0 new.1 a mid left whole takes in
-        (r.0.bytes, r.3)
+        (r.0.body.bytes, r.3)
 
     -- and was read
     pub looked-whole : (e : Entry) → IsNew old id e → (body : List ℕ) (new : State) (rest : Stream) → Reads mid left t id body new rest → Looks old s t id e (Ok (Fresh body)) new rest

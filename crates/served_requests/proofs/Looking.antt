@@ -8,7 +8,6 @@ use Rattle.rand_core.specs.Stream.{Stream}
 use Rattle.cache_words.specs.Time.{MomentValue}
 use Rattle.cache_words.specs.Key.{CacheKeyValue}
 use Rattle.cache_lock.specs.State.{LockState, after_all}
-use Rattle.tier_model.specs.declared.state.Body.{Body}
 use Rattle.tier_model.specs.declared.event.Action.{Action}
 use Rattle.tier_model.specs.declared.event.Action.TheVariants.{Open, LookUp, Read, Drop}
 use Rattle.tier_model.specs.declared.event.Answer.{Answer}
@@ -20,6 +19,7 @@ use Rattle.tier_model.specs.declared.event.TierFault.{TierFault}
 use Rattle.tier_model.specs.declared.event.TierFault.TheVariants.{IdInUse}
 use Rattle.tier_model.specs.Keys.{Entry, entry_of}
 use Rattle.tier_model.specs.Calls.{Outcome}
+use Rattle.tier_model.specs.Rows.{Numbered}
 use Rattle.tier_model.specs.Shelf.{Shelf, Look, absent, in_flight, finished, is_there, landed}
 use Rattle.tier_model.specs.State.{Held, closed, unread, spent, Request, State}
 use Rattle.tier_model.specs.Answers.{is_fresh, look_answer}
@@ -132,7 +132,7 @@ bytes_same e = cc
 found-is : (t : MomentValue) (given : LockGiven) (l : Look) → is_found (look_answer t given l) ≡ is_there l
 found-is t given absent = refl
 found-is t given (in_flight f) = refl
-found-is t given (finished b) = refl
+found-is t given (finished x) = refl
 
 hit-is : (t : MomentValue) (given : LockGiven) (l : Look) → is_hit (look_answer t given l) ≡ gives_hit t l
 hit-is t given absent = refl
@@ -141,21 +141,21 @@ hit-is t given (in_flight f) = by (is_fresh t f.meta)
     by : (v : Bool) → (v && false) ≡ false
     by true = refl
     by false = refl
-hit-is t given (finished b) = by (is_fresh t b.meta)
+hit-is t given (finished x) = by (is_fresh t x.body.meta)
   where
     by : (v : Bool) → (v && true) ≡ v
     by true = refl
     by false = refl
 
 -- what is found fresh and whole is a body
-fresh-body : (t : MomentValue) (l : Look) → gives_hit t l ≡ true → (b : Body) × (l ≡ finished b) × (is_fresh t b.meta ≡ true)
+fresh-body : (t : MomentValue) (l : Look) → gives_hit t l ≡ true → (x : Numbered) × (l ≡ finished x) × (is_fresh t x.body.meta ≡ true)
 fresh-body t absent h = absurd (false≢true h)
 fresh-body t (in_flight f) h = absurd (false≢true h)
-fresh-body t (finished b) h = (b, refl, h)
+fresh-body t (finished x) h = (x, refl, h)
 
 -- the reader of a body that was read goes as one that wasn't
-read_whole : (l : Look) (b : Body) (shelf : Shelf) → l ≡ finished b → turned spent closed (joined_by l shelf) ≡ turned (reader_of l) closed (joined_by l shelf)
-read_whole l b shelf is = subst (λ (x : Look). turned spent closed (joined_by x shelf) ≡ turned (reader_of x) closed (joined_by x shelf)) (sym is) refl
+read_whole : (l : Look) (x : Numbered) (shelf : Shelf) → l ≡ finished x → turned spent closed (joined_by l shelf) ≡ turned (reader_of l) closed (joined_by l shelf)
+read_whole l x shelf is = subst (λ (y : Look). turned spent closed (joined_by y shelf) ≡ turned (reader_of y) closed (joined_by y shelf)) (sym is) refl
 
 module _ (old : State) (s : Stream) (t : MomentValue) (id : ℕ) (e : Entry) (is_new : IsNew old id e) where
   abbrev l : Look
@@ -177,11 +177,11 @@ module _ (old : State) (s : Stream) (t : MomentValue) (id : ℕ) (e : Entry) (is
 
   -- a fresh and complete body is there, and all of it to be read
   pub hit-unread : (a : Answer) (mid : State) (left : Stream) → is_hit a ≡ true → Takes old s (event_at t (LookUp id) ∷ []) (Ok a ∷ []) mid left
-      → (b : Body) × (l ≡ finished b) × (is_fresh t b.meta ≡ true) × IsUnread mid id b.bytes × (mid ≡ with_request id q mid_of)
+      → (x : Numbered) × (l ≡ finished x) × (is_fresh t x.body.meta ≡ true) × IsUnread mid id x.body.bytes × (mid ≡ with_request id q mid_of)
   hit-unread a mid left hit takes =
       let r = looks a mid left takes in
-      let b = fresh-body t l (sym (hit-is t lock.None l) ∙ ap is_hit (sym r.0) ∙ hit) in
-      (b.0, b.1, b.2, (q, is_open mid r.1, ap reader_of b.1), r.1)
+      let f = fresh-body t l (sym (hit-is t lock.None l) ∙ ap is_hit (sym r.0) ∙ hit) in
+      (f.0, f.1, f.2, (q, is_open mid r.1, ap reader_of f.1), r.1)
 
   pub looked-fresh : (a : Answer) (mid new : State) (left rest : Stream) (body : List ℕ) → is_hit a ≡ true → a ≡ Found true true lock.None → Takes old s (event_at t (LookUp id) ∷ []) (Ok a ∷ []) mid left
       → Reads mid left t id body new rest → Looks old s t id e (Ok (Fresh body)) new rest

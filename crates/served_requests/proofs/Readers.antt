@@ -28,6 +28,6 @@ module _ (m : FinMap nat_cmp Readers) (n : ℕ) (some : (r : Readers) → get m 
 
 pub went-same : (s : State) (l : Look) → HasAPast s → came_and_went l s.shelf ≡ s.shelf
 went-same s absent past = refl
-went-same s (finished b) past = refl
+went-same s (finished x) past = refl
 went-same s (in_flight f) past =
     ap (λ (m : FinMap nat_cmp Readers). record s.shelf { readers = m }) (came_and_parted s.shelf.readers f.number (λ r is. past.2.matches.kept f.number r is))

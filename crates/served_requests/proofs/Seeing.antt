@@ -11,7 +11,7 @@ use Rattle.tier_model.specs.Keys.{Entry, entry_of, alone}
 use Rattle.tier_model.specs.Response.{whole_of}
 use Rattle.tier_loads.specs.Requests.{PlainRequest, purges}
 use Rattle.served_requests.specs.Uniform.{asks_for, IsSeenBy, IsSeenAs}
-use Rattle.served_requests.specs.Known.{shown, stored_length}
+use Rattle.served_requests.specs.Known.{shown, stored_weight}
 use Rattle.served_requests.specs.declared.seen.Seen.{Seen}
 use Rattle.served_requests.specs.declared.request.Request.{Request}
 use Rattle.served_requests.specs.declared.request.Method.{Method}
@@ -22,13 +22,13 @@ entry-is : (c : Entry) (k : CacheKeyValue) → compact_view c ≡ key_of k → c
 entry-is c k h = ap (λ (x : Key). record { primary = x.primary; variance = x.variance; user_tag = x.user_tag }) h
 
 abbrev pub the_seen : CacheEntryKey → Option ℕ → Seen
-the_seen e n = record { entry = e; length = n }
+the_seen e n = record { entry = e; weight = n }
 
--- what is seen of a response, by the length that is stored
+-- what is seen of a response, by what the body weighs that is stored
 abbrev pub seen_as : CacheEntryKey → Option ℕ → Option Seen
 seen_as e n = option_map (λ k. the_seen e (Some k)) n
 
-asked-shown : (e : Entry) (w : Whole) → seen_as (alone e) (stored_length w) ≡ option_map shown (asks_for e w)
+asked-shown : (e : Entry) (w : Whole) → seen_as (alone e) (stored_weight w) ≡ option_map shown (asks_for e w)
 asked-shown e (Stored body) = refl
 asked-shown e (NotKept reason) = refl
 asked-shown e Incomplete = refl
@@ -46,7 +46,7 @@ module _ (r : Request) (c : Entry) (e : CacheEntryKey) (kept : compact_view c �
     ap (λ (x : CacheEntryKey). Some (the_seen x None)) entry,
   )
 
-  pub seen-get : (response : List ℕ) (n : Option ℕ) → r.method ≡ Get response → (x : Reading) × IsReading response x × (n ≡ stored_length (whole_of r.moment x))
+  pub seen-get : (response : List ℕ) (n : Option ℕ) → r.method ≡ Get response → (x : Reading) × IsReading response x × (n ≡ stored_weight (whole_of r.moment x))
       → (p : Option PlainRequest) × IsSeenAs r p × (seen_as e n ≡ option_map shown p)
   seen-get response n is s =
       let p : Option PlainRequest = asks_for (entry_of r.key) (whole_of r.moment s.0) in (

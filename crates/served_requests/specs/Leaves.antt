@@ -4,11 +4,11 @@ use Rattle.cache_words.specs.Time.{MomentValue}
 use Rattle.cache_words.specs.Key.{CacheKeyValue}
 use Rattle.cache_changes.specs.Changes.{stored_key}
 use Rattle.cache_evict.specs.Managed.{Managed}
-use Rattle.tier_model.specs.declared.state.Body.{Body}
 use Rattle.tier_model.specs.declared.event.Action.TheVariants.{Put}
 use Rattle.tier_model.specs.declared.event.TierFault.{TierFault}
 use Rattle.tier_model.specs.Keys.{Entry, entry_of, alone}
 use Rattle.tier_model.specs.Calls.{Call}
+use Rattle.tier_model.specs.Rows.{Numbered}
 use Rattle.tier_model.specs.Shelf.{Shelf, Look, finished, look, is_there}
 use Rattle.tier_model.specs.State.{closed, State}
 use Rattle.tier_model.specs.Answers.{is_fresh, used}
@@ -29,12 +29,12 @@ found_at e s = look (stored_key e) s.shelf
 
 -- all of a body is found, and it is fresh; of a write in flight not all is found
 abbrev pub gives_hit : MomentValue → Look → Bool
-gives_hit t (finished b) = is_fresh t b.meta
+gives_hit t (finished x) = is_fresh t x.body.meta
 gives_hit t _ = false
 
 -- the order of use after a use of what was found of an entry's key: a finished body is used
 abbrev pub used_by : State → Entry → Look → Managed
-used_by s e (finished b) = used s (alone e) b
+used_by s e (finished x) = used s (alone e) x.body
 used_by s e _ = s.managed
 
 -- a reader came to what is found
@@ -63,7 +63,7 @@ LeavesPut mid t key response found told new =
 -- a fresh body was found whole: its bytes are answered
 abbrev pub LeavesHit : State → MomentValue → Entry → Result Served TierFault → State → Type 0
 LeavesHit old t e told new =
-    (b : Body) × (found_at e old ≡ finished b) × (is_fresh t b.meta ≡ true) × (told ≡ Ok (Hit b.bytes)) × (new ≡ looked_up old e (finished b))
+    (x : Numbered) × (found_at e old ≡ finished x) × (is_fresh t x.body.meta ≡ true) × (told ≡ Ok (Hit x.body.bytes)) × (new ≡ looked_up old e (finished x))
 
 -- no such body was found, and the response was put
 abbrev pub LeavesFill : State → MomentValue → CacheKeyValue → List ℕ → Result Served TierFault → State → Type 0

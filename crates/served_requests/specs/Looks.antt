@@ -5,7 +5,6 @@ use Rattle.rand_core.specs.Stream.{Stream}
 use Rattle.cache_words.specs.Time.{MomentValue}
 use Rattle.cache_words.specs.Key.{CacheKeyValue}
 use Rattle.cache_lock.specs.State.{after_all}
-use Rattle.tier_model.specs.declared.state.Body.{Body}
 use Rattle.tier_model.specs.declared.event.Action.TheVariants.{Open, LookUp, Read, Drop, Put}
 use Rattle.tier_model.specs.declared.event.Answer.{Answer}
 use Rattle.tier_model.specs.declared.event.Answer.TheVariants.{Opened, Found, Bytes, Dropped, Finished, Uncacheable}
@@ -14,6 +13,7 @@ use Rattle.tier_model.specs.declared.event.TierFault.{TierFault}
 use Rattle.tier_model.specs.declared.event.TierFault.TheVariants.{IdInUse}
 use Rattle.tier_model.specs.Calls.{Outcome}
 use Rattle.tier_model.specs.Keys.{Entry, entry_of}
+use Rattle.tier_model.specs.Rows.{Numbered}
 use Rattle.tier_model.specs.Shelf.{finished, is_there}
 use Rattle.tier_model.specs.State.{nothing, closed, unread, spent, Request, State}
 use Rattle.tier_model.specs.Answers.{is_fresh}
@@ -89,7 +89,7 @@ pub record IsLooked (old : State) (id : ℕ) (e : Entry) (new : State) : Type 0 
 -- the look-up of a request that was opened for an entry
 abbrev pub Looks : State → Stream → MomentValue → ℕ → Entry → Result Looked TierFault → State → Stream → Type 0
 Looks old s t id e (Ok (Fresh body)) new rest =
-    ((b : Body) × (found_at e old ≡ finished b) × (is_fresh t b.meta ≡ true) × (body ≡ b.bytes)) × IsLooked old id e new
+    ((x : Numbered) × (found_at e old ≡ finished x) × (is_fresh t x.body.meta ≡ true) × (body ≡ x.body.bytes)) × IsLooked old id e new
     × Takes old s (event_at t (LookUp id) ∷ event_at t (Read id) ∷ []) (Ok (Found true true lock.None) ∷ Ok (Bytes body) ∷ []) new rest
 Looks old s t id e (Ok (Missed found)) new rest =
     (found ≡ is_there (found_at e old)) × (gives_hit t (found_at e old) ≡ false) × IsLooked old id e new
@@ -105,7 +105,7 @@ Ends old s t id new rest =
 -- a key was looked up under a number of which no request was open
 abbrev pub Finds : State → Stream → MomentValue → CacheKeyValue → Result Looked TierFault → State → Stream → Type 0
 Finds old s t key (Ok (Fresh body)) new rest =
-    ((b : Body) × (found_at (entry_of key) old ≡ finished b) × (is_fresh t b.meta ≡ true) × (body ≡ b.bytes) × (new ≡ looked_up old (entry_of key) (finished b)))
+    ((x : Numbered) × (found_at (entry_of key) old ≡ finished x) × (is_fresh t x.body.meta ≡ true) × (body ≡ x.body.bytes) × (new ≡ looked_up old (entry_of key) (finished x)))
     × ((id : ℕ) × (get old.requests id ≡ None)
     × Takes old s (event_at t (Open id key false) ∷ event_at t (LookUp id) ∷ event_at t (Read id) ∷ event_at t (Drop id) ∷ [])
     (Ok Opened ∷ Ok (Found true true lock.None) ∷ Ok (Bytes body) ∷ Ok Dropped ∷ []) new rest)

@@ -1,16 +1,15 @@
--- Uniform requests: what their responses give is stored, each stored key has one entry, and its bodies one length.
-use Rattle.std.specs.Prelude.{◌≡◌, ◌≤◌, ℕ, true, List, [], ◌∷◌, length, Option, Some, None}
+-- Uniform requests: what their responses give is stored, each stored key has one entry, and its bodies one weight.
+use Rattle.std.specs.Prelude.{◌≡◌, ◌≤◌, ℕ, List, [], ◌∷◌, length, Option, Some, None}
 use Rattle.std.specs.List.{AllByRecursion}
 use Rattle.cache_words.specs.Time.{MomentValue}
-use Rattle.cache_entries.specs.Keys.{same_bytes}
-use Rattle.cache_changes.specs.Changes.{stored_key}
 use Rattle.httparse.specs.Grammar.{ResponseHead, ReadsResponse}
 use Rattle.response_parse.specs.Response.{Reading, IsReading}
 use Rattle.tier_model.specs.declared.whole.Whole.{Whole}
 use Rattle.tier_model.specs.declared.whole.Whole.TheVariants.{Stored}
 use Rattle.tier_model.specs.Keys.{Entry, entry_of}
 use Rattle.tier_model.specs.Response.{whole_of}
-use Rattle.tier_loads.specs.Requests.{PlainRequest, asks, purges, entry_of as plain_entry}
+use Rattle.tier_loads.specs.Requests.{PlainRequest, asks, purges}
+use Rattle.tier_loads.specs.Uniform.{AreAlike}
 use Rattle.served_requests.specs.declared.request.Request.{Request}
 use Rattle.served_requests.specs.declared.request.Method.{Method}
 use Rattle.served_requests.specs.declared.request.Method.TheVariants.{Get, Purge}
@@ -33,24 +32,12 @@ AreSeenAs [] [] = Unit {0}
 AreSeenAs (r ∷ requests) (s ∷ seen) = IsSeenAs r s × AreSeenAs requests seen
 AreSeenAs _ _ = ⊥
 
--- the length of the body that is asked for
-abbrev pub length_of : PlainRequest → Option ℕ
-length_of (asks b) = Some (length b.body.bytes)
-length_of (purges k) = None
-
-abbrev pub AreSame : Option ℕ → Option ℕ → Type 0
-AreSame (Some m) (Some n) = m ≡ n
-AreSame _ _ = Unit {0}
-
--- of one stored key, they are of one entry and, where both ask, of one length
-abbrev pub AreAlike : PlainRequest → PlainRequest → Type 0
-AreAlike p q = same_bytes (stored_key (plain_entry p)) (stored_key (plain_entry q)) ≡ true → (plain_entry p ≡ plain_entry q) × AreSame (length_of p) (length_of q)
-
 abbrev pub IsAlike : PlainRequest → Option PlainRequest → Type 0
 IsAlike p None = Unit {0}
 IsAlike p (Some q) = AreAlike p q
 
--- each request asks for a body that is stored, or purges; and any two of them are alike
+-- each request asks for a body that is stored, or purges; and any two of them are alike: of one stored key, they are of one entry and, where both
+-- ask, of one weight
 abbrev pub IsUniform : List (Option PlainRequest) → Type 0
 IsUniform [] = Unit {0}
 IsUniform (None ∷ seen) = ⊥

@@ -6,19 +6,19 @@ ghost use Rattle.tier_loads.specs.Requests.{PlainRequest};
 ghost use Rattle.served_requests.specs.Uniform.{IsSeenAs};
 ghost use Rattle.served_requests.specs.Known.{shown, fits, fits_all, fitting, AreNoted, Knows};
 
-use crate::length::stored_length;
 use crate::request::{Method, Request};
+use crate::weight::stored_weight;
 use cache_entries::entry::CacheEntryKey;
 use cache_words::key::{CacheHashKey, HashBinary};
 use std::alloc::{AllocError, Global};
 use std::collections::HashMap;
 use std::hash::BuildHasher;
 
-// The entry of requests, and the length of the bodies that they ask for, where one asks.
+// The entry of requests, and what the bodies weigh that they ask for, where one asks.
 #[derive(Drop)]
 pub(crate) struct Seen {
     pub(crate) entry: CacheEntryKey,
-    pub(crate) length: Option<usize>,
+    pub(crate) weight: Option<usize>,
 }
 
 // What is known of each stored key.
@@ -32,30 +32,30 @@ pub(crate) fn see(alloc: Global, request: &Request) -> Result<Option<Seen>, Allo
     match &request.method {
         Method::Purge => Ok(Some(Seen {
             entry,
-            length: None,
+            weight: None,
         })),
-        Method::Get { response } => match stored_length(alloc, request.moment, response)? {
-            Some(length) => Ok(Some(Seen {
+        Method::Get { response } => match stored_weight(alloc, request.moment, response)? {
+            Some(weight) => Ok(Some(Seen {
                 entry,
-                length: Some(length),
+                weight: Some(weight),
             })),
             None => Ok(None),
         },
     }
 }
 
-// Whether both are of one entry and, where both ask, of one length.
+// Whether both are of one entry and, where both ask, of one weight.
 fn fits(known: &Seen, seen: &Seen) -> bool
     ensures { result ≡ fits known.now seen.now }
 {
     known.entry == seen.entry
-        && match (known.length, seen.length) {
+        && match (known.weight, seen.weight) {
             (Some(a), Some(b)) => a == b,
             _ => true,
         }
 }
 
-// The length that is known of a stored key with what was seen; nothing where that doesn't fit.
+// The weight that is known of a stored key with what was seen; nothing where that doesn't fit.
 fn fitting<S: BuildHasher>(
     table: &Table<S>,
     stored: &HashBinary,
@@ -64,12 +64,12 @@ fn fitting<S: BuildHasher>(
     ensures { result ≡ fitting (get (pointwise ◌==◌) table.now stored.now) seen.now }
 {
     let Some(known) = table.get(stored) else {
-        return Some(seen.length);
+        return Some(seen.weight);
     };
     if !fits(known, seen) {
         return None;
     }
-    Some(known.length.or(seen.length))
+    Some(known.weight.or(seen.weight))
 }
 
 // Notes what was seen of a request, where it fits what is known, and returns whether it does.
@@ -78,11 +78,11 @@ fn note<S: BuildHasher>(table: &mut Table<S>, seen: Seen) -> Result<bool, AllocE
         → IfOk result (λ yes. (yes ≡ fits_all p known) × (yes ≡ true → Knows table.new (p ∷ known))) }
 {
     let stored = seen.entry.key().combined_bin();
-    let Some(length) = fitting(table, &stored, &seen) else {
+    let Some(weight) = fitting(table, &stored, &seen) else {
         return Ok(false);
     };
     let entry = seen.entry;
-    table.insert(stored, Seen { entry, length })?;
+    table.insert(stored, Seen { entry, weight })?;
     Ok(true)
 }
 

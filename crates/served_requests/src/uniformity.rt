@@ -10,14 +10,14 @@ use std::collections::HashMap;
 use std::hash::BuildHasher;
 
 /// Returns whether requests are uniform: each response is whole and gives a meta that can be written at its moment, and
-/// each stored key has one entry, also where it is purged, and one body length. The answer goes by what the parser makes of each response; where its default options read all the
-/// heads, there is only one such reading.
+/// each stored key has one entry, also where it is purged, and one weight: what its body takes with that meta. The answer goes by what the parser makes of each response; where its
+/// default options read all the heads, there is only one such reading.
 ///
 /// In time that grows as the requests and their responses do; stored keys, which are digests, are found by their hashes, from a start of the caller's.
 ///
 /// # Errors
 ///
-/// `AllocError` where memory runs out.
+/// `AllocError` where memory runs out, and where a `usize` can't count a weight.
 pub fn uniform<S: BuildHasher + Drop>(
     alloc: Global,
     hasher: S,

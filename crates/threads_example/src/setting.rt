@@ -7,7 +7,7 @@ use cache_tier::{Duration, Tier};
 use shared_tier::TierOptions;
 use std::alloc::{AllocError, Global};
 
-// Room for all bodies of four threads, 400,000 bytes, so that nothing is evicted.
+// Room for all that four threads store, 732,000 bytes with its metas, so that nothing is evicted.
 fn settings() -> TierOptions {
     TierOptions {
         limit: 1_000_000,

@@ -120,9 +120,9 @@ refusal_text refusal = codes "refused " ++ reason_text refusal
 abbrev pub look_ups_text : Report → List ℕ
 look_ups_text r = codes "found=" ++ (decimal r.found ++ (codes " absent=" ++ decimal r.absent))
 
--- the bodies and their bytes
+-- the bodies with their bytes and their metas
 abbrev pub bodies_text : Report → List ℕ
-bodies_text r = codes "bodies=" ++ (decimal r.bodies ++ (codes " bytes=" ++ decimal r.bytes))
+bodies_text r = codes "bodies=" ++ (decimal r.bodies ++ (codes " bytes=" ++ (decimal r.bytes ++ (codes " meta=" ++ decimal r.meta))))
 
 -- the entries, their weights, and how many went
 abbrev pub entries_text : Report → List ℕ

@@ -254,8 +254,13 @@ fn look_ups(alloc: Global, report: &Report) -> Result<String, AllocError>
 fn bodies(alloc: Global, report: &Report) -> Result<String, AllocError>
     ensures { IfOk result (λ text. string_bytes text ≡ bodies_text report.now) }
 {
-    let Report { bodies, bytes, .. } = *report;
-    format!(in alloc; "bodies={bodies} bytes={bytes}")
+    let Report {
+        bodies,
+        bytes,
+        meta,
+        ..
+    } = *report;
+    format!(in alloc; "bodies={bodies} bytes={bytes} meta={meta}")
 }
 
 fn entries(alloc: Global, report: &Report) -> Result<String, AllocError>

@@ -1,5 +1,5 @@
 -- Two tiers, request by request.
-use Rattle.std.proofs.Common.{◌≡◌, ℕ, Bool, true, List, ◌∷◌, [], ◌++◌, length, max, Option, Some, None, Ok, ap, sym, ◌∙◌, subst}
+use Rattle.std.proofs.Common.{◌≡◌, ℕ, Bool, true, List, ◌∷◌, [], ◌++◌, length, Option, Some, None, Ok, ap, sym, ◌∙◌, subst}
 use Rattle.std.specs.Prelude.{◌↔◌}
 use Rattle.std.specs.List.{AllByRecursion}
 use Rattle.rand_core.specs.Stream.{Stream}
@@ -15,14 +15,14 @@ use Rattle.manager_loads.proofs.InTurn.{front-two}
 use Rattle.tier_model.specs.Keys.{Entry, alone}
 use Rattle.tier_model.specs.State.{Settings, State, shards_of, empty_state}
 use Rattle.tier_loads.specs.Holds.{AreApart, Holds}
-use Rattle.tier_loads.specs.Requests.{PlainRequest, asks, purges, entry_of as plain_entry, step_of}
+use Rattle.tier_loads.specs.Requests.{PlainRequest, entry_of as plain_entry, step_of}
 use Rattle.tier_loads.specs.Uniform.{IsWeighed, used_in, weight_in}
 use Rattle.tier_loads.specs.Uniform as plain
 use Rattle.tier_loads.proofs.OneRequest.{holds-request}
 use Rattle.tier_loads.proofs.AllRequests.{uniform-held}
 use Rattle.tier_loads.proofs.Chosen.{chosen-uniform}
 use Rattle.served_requests.specs.Requests.{entry_for, step_for}
-use Rattle.served_requests.specs.Uniform.{AreSame, IsAlike, IsUniform, IsSeenAs, AreSeenAs, IsPlain, length_of}
+use Rattle.served_requests.specs.Uniform.{IsAlike, IsUniform, IsSeenAs, AreSeenAs, IsPlain}
 use Rattle.served_requests.specs.Leaves.{Leaves}
 use Rattle.two_tiers.specs.Two.{ServesBoth, AreComparable, AreUniform, found_by, all_seen, AreFound}
 use Rattle.served_requests.specs.declared.request.Request.{Request}
@@ -30,18 +30,12 @@ use Rattle.served_requests.specs.declared.request.Served.{Served}
 use Rattle.two_tiers.specs.declared.side_by_side.Pair.{Pair}
 use Rattle.two_tiers.proofs.Doing.{done}
 
--- ---- uniform requests have one weight an entry
-
-weigh : (p q : PlainRequest) → AreSame (length_of p) (length_of q) → plain.WeighTheSame p q
-weigh (asks b) (asks c) h = ap (max 1) h
-weigh (asks b) (purges k) h = tt
-weigh (purges k) (asks c) h = tt
-weigh (purges k) (purges j) h = tt
+-- ---- of uniform requests each asks for something
 
 all-alike : (p : PlainRequest) (seen : List (Option PlainRequest)) → AllByRecursion (IsAlike p) seen → AllByRecursion (plain.AreAlike p) (all_seen seen)
 all-alike p [] h = tt
 all-alike p (None ∷ seen) h = all-alike p seen h.1
-all-alike p (Some q ∷ seen) h = (λ s. let both = h.0 s in (both.0, weigh p q both.1), all-alike p seen h.1)
+all-alike p (Some q ∷ seen) h = (h.0, all-alike p seen h.1)
 
 pub uniform-plain : (seen : List (Option PlainRequest)) → IsUniform seen → plain.IsUniform (all_seen seen)
 uniform-plain [] h = tt

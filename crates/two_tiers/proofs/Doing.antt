@@ -1,6 +1,7 @@
 -- What one request leaves, as the laws of loads see it, of a tier in which no write is in flight.
 use Rattle.std.proofs.Common.{◌≡◌, ℕ, Bool, true, false, List, ◌∷◌, [], map, Option, Some, None, Ok, Err, refl, ap, sym, ◌∙◌, subst, inl, inr}
-use Rattle.std.specs.Prelude.{Result, is_some, find, MatchOption}
+use Rattle.std.specs.Prelude.{Result, is_some, find, option_map, MatchOption}
+use Rattle.std.specs.FinMap.{get}
 use Rattle.std.proofs.lemmas.List.{append-nil, length-set}
 use Rattle.cache_words.specs.Time.{MomentValue}
 use Rattle.cache_words.specs.Key.{CacheKeyValue}
@@ -19,7 +20,7 @@ use Rattle.tier_model.specs.declared.event.TierFault.{TierFault}
 use Rattle.tier_model.specs.Keys.{Entry, entry_of, alone}
 use Rattle.tier_model.specs.Calls.{Outcome, finished_in, writes_after}
 use Rattle.tier_model.specs.Response.{whole_of, whole_in, joined, IsRead}
-use Rattle.tier_model.specs.Rows.{FinishedBody, body_of, with_body, without_body, without_bodies, weight_for}
+use Rattle.tier_model.specs.Rows.{Numbered, FinishedBody, body_of, with_body, without_body, without_bodies, weight_for}
 use Rattle.tier_model.specs.Evictions.{all_gone, GoInTurn}
 use Rattle.tier_model.specs.Shelf.{InFlight, Look, absent, finished, look_by, is_there, flies_for, marked, marked_all}
 use Rattle.tier_model.specs.State.{State, shards_of}
@@ -73,14 +74,14 @@ module _ (mid : State) (t : MomentValue) (key : CacheKeyValue) (response : List 
     pub is : a ≡ Finished n es
     pub turns : GoInTurn (shards_of mid) false es first_put
     pub managed : new.managed ≡ all_gone (shards_of mid) es first_put
-    pub bodies : new.shelf.bodies ≡ without_bodies es (with_body kept_body mid.shelf.bodies)
+    pub bodies : new.shelf.bodies ≡ without_bodies es (with_body mid.shelf.writes kept_body mid.shelf.bodies)
     pub flying : new.shelf.flying ≡ marked_all es mid.shelf.flying
 
   -- what the call says, by what the response gives
   abbrev Gives : Option Whole → Answer → Type 0
   Gives w a =
       IsPutAnswer mid (finished_in (Put key (response ∷ [])) w) w a → (began : Bool) (k : LockState)
-      → new ≡ with_counts (writes_after mid.shelf.writes began) k (after_put mid (finished_in (Put key (response ∷ [])) w) a) → Puts a
+      → new ≡ with_counts (writes_after mid.shelf.writes began) k (after_put mid (Some mid.shelf.writes) (finished_in (Put key (response ∷ [])) w) a) → Puts a
 
   finishes : (a : Answer) → Gives (Some (Stored body)) a
   finishes (Finished n es) allowed began k is = record {
@@ -110,7 +111,7 @@ module _ (mid : State) (t : MomentValue) (key : CacheKeyValue) (response : List 
   stores one a p = (
     subst (λ (n : ℕ). GoInTurn n false p.es (put_first n (alone (entry_of key)) (weight_for body) mid.managed)) one p.turns,
     subst (λ (n : ℕ). new.managed ≡ all_gone n p.es (put_first n (alone (entry_of key)) (weight_for body) mid.managed)) one p.managed,
-    p.bodies,
+    (mid.shelf.writes, p.bodies),
   )
 
 -- ---- a request
@@ -121,28 +122,28 @@ pub record Did (p : PlainRequest) (old : State) (told : Served) (new : State) : 
   pub found : found_by told ≡ is_some (body_of (stored_key (plain_entry p)) old.shelf.bodies)
   pub grounded : new.shelf.flying ≡ []
 
-a_body : (o : Option Body) (b : Body) → look_by None o ≡ finished b → o ≡ Some b
-a_body None b h = absurd cc
-a_body (Some x) b h = cc
+a_body : (o : Option Numbered) (x : Numbered) → look_by None o ≡ finished x → o ≡ Some x
+a_body None x h = absurd cc
+a_body (Some y) x h = cc
 
-some-there : (o : Option Body) → is_there (look_by None o) ≡ is_some o
-some-there None = refl
-some-there (Some b) = refl
+-- the body of what is kept
+abbrev body_in : Option Numbered → Option Body
+body_in o = option_map (λ x. x.body) o
 
 module _ (old : State) (grounded : old.shelf.flying ≡ []) (one : shards_of old ≡ 1) (t : MomentValue) (key : CacheKeyValue) (new : State) (told : Served) where
   abbrev e : Entry
   e = entry_of key
 
-  abbrev kept : Option Body
-  kept = body_of (stored_key e) old.shelf.bodies
+  abbrev kept : Option Numbered
+  kept = get old.shelf.bodies (stored_key e)
 
   -- what is found is a body
   look_is : found_at e old ≡ look_by None kept
   look_is = ap (λ (fs : List InFlight). look_by (find (flies_for (stored_key e)) fs) kept) grounded
 
-  abbrev Purges : Option Body → Type 0
+  abbrev Purges : Option Numbered → Type 0
   Purges o =
-      MatchOption o ((new.managed ≡ old.managed) × (new.shelf.bodies ≡ old.shelf.bodies))
+      MatchOption (body_in o) ((new.managed ≡ old.managed) × (new.shelf.bodies ≡ old.shelf.bodies))
       (λ found. (new.managed ≡ taken_out 1 (alone e) old.managed) × (new.shelf.bodies ≡ without_body (stored_key e) old.shelf.bodies))
 
   purged : LeavesPurge old key (Ok told) new → Did (purges e) old told new
@@ -152,19 +153,19 @@ module _ (old : State) (grounded : old.shelf.flying ≡ []) (one : shards_of old
         by kept refl (told_same gone.0 ∙ ap (λ (l : Look). Purged (is_there l)) look_is) (gone.1 ∙ ap (λ (l : Look). after_purge old key (is_there l)) look_is)
   ]
     where
-      by : (o : Option Body) → kept ≡ o → told ≡ Purged (is_there (look_by None o)) → new ≡ after_purge old key (is_there (look_by None o)) → Did (purges e) old told new
+      by : (o : Option Numbered) → kept ≡ o → told ≡ Purged (is_there (look_by None o)) → new ≡ after_purge old key (is_there (look_by None o)) → Did (purges e) old told new
       by None is says n = record {
         does = subst Purges (sym is) (ap (λ (y : State). y.managed) n, ap (λ (y : State). y.shelf.bodies) n);
-        found = ap found_by says ∙ sym (ap (λ (x : Option Body). is_some x) is);
+        found = ap found_by says ∙ sym (ap (λ (o : Option Numbered). is_some (body_in o)) is);
         grounded = ap (λ (y : State). y.shelf.flying) n ∙ grounded;
       }
-      by (Some b) is says n = record {
+      by (Some x) is says n = record {
         does = subst Purges (sym is) (ap (λ (y : State). y.managed) n ∙ ap (λ (k : ℕ). taken_out k (alone e) old.managed) one, ap (λ (y : State). y.shelf.bodies) n);
-        found = ap found_by says ∙ sym (ap (λ (x : Option Body). is_some x) is);
+        found = ap found_by says ∙ sym (ap (λ (o : Option Numbered). is_some (body_in o)) is);
         grounded = ap (λ (y : State). y.shelf.flying) n ∙ ap (λ (fs : List InFlight). map (marked (Some (stored_key e))) fs) grounded;
       }
 
-  module _ (response : List ℕ) (plain : IsPlainBy (Get response)) (x : Reading) (reads : IsReading response x) (body : Body) (gives : whole_of t x ≡ Stored body) where
+  module _ (response : List ℕ) (plain : IsPlainBy (Get response)) (r : Reading) (reads : IsReading response r) (body : Body) (gives : whole_of t r ≡ Stored body) where
     abbrev asked : FinishedBody
     asked = record { entry = e; body = body }
 
@@ -181,7 +182,7 @@ module _ (old : State) (grounded : old.shelf.flying ≡ []) (one : shards_of old
         by : (o : Outcome) → IsPutTold found o (Ok told) → IsCall mid t (Put key (response ∷ [])) o new → DidPut mid found
         by (Err f) says call = absurd (not_refused says)
         by (Ok a) says call =
-            let y = put_stores mid t key response body new a plain x reads gives call in
+            let y = put_stores mid t key response body new a plain r reads gives call in
             let s : told ≡ Filled found y.n y.es = told_same (subst (λ (b : Answer). IsPutTold found (Ok b) (Ok told)) y.is says) in record {
               es = y.es;
               stores = stores mid t key response body new is a y;
@@ -189,13 +190,13 @@ module _ (old : State) (grounded : old.shelf.flying ≡ []) (one : shards_of old
               none_flies = y.flying ∙ ap (λ (fs : List InFlight). marked_all y.es fs) ground ∙ none_marked y.es;
             }
 
-    mid-one : (o : Option Body) → shards_of (looked_up old e (look_by None o)) ≡ 1
+    mid-one : (o : Option Numbered) → shards_of (looked_up old e (look_by None o)) ≡ 1
     mid-one None = one
-    mid-one (Some b) = length-set _ _ _ ∙ one
+    mid-one (Some x) = length-set _ _ _ ∙ one
 
-    abbrev Asks : Option Body → Type 0
+    abbrev Asks : Option Numbered → Type 0
     Asks o =
-        MatchOption o ((es : List CacheEntryKey) × Stores asked es old.managed old.shelf.bodies new.managed new.shelf.bodies)
+        MatchOption (body_in o) ((es : List CacheEntryKey) × Stores asked es old.managed old.shelf.bodies new.managed new.shelf.bodies)
         (λ found. Uses asked found old.managed old.shelf.bodies new.managed new.shelf.bodies)
 
     asked_for : LeavesGet old t key response (Ok told) new → Did (asks asked) old told new
@@ -209,22 +210,22 @@ module _ (old : State) (grounded : old.shelf.flying ≡ []) (one : shards_of old
           ]
     ]
       where
-        by_hit : (b : Body) → kept ≡ Some b → told ≡ Hit b.bytes → new ≡ looked_up old e (finished b) → Did (asks asked) old told new
-        by_hit b is says n = record {
-          does = subst Asks (sym is) (inl (ap (λ (y : State). y.managed) n ∙ ap (λ (k : ℕ). use_first k (alone e) (weight_for b) old.managed) one, ap (λ (y : State). y.shelf.bodies) n));
-          found = ap found_by says ∙ sym (ap (λ (o : Option Body). is_some o) is);
+        by_hit : (x : Numbered) → kept ≡ Some x → told ≡ Hit x.body.bytes → new ≡ looked_up old e (finished x) → Did (asks asked) old told new
+        by_hit x is says n = record {
+          does = subst Asks (sym is) (inl (ap (λ (y : State). y.managed) n ∙ ap (λ (k : ℕ). use_first k (alone e) (weight_for x.body) old.managed) one, ap (λ (y : State). y.shelf.bodies) n));
+          found = ap found_by says ∙ sym (ap (λ (o : Option Numbered). is_some (body_in o)) is);
           grounded = ap (λ (y : State). y.shelf.flying) n ∙ grounded;
         }
 
-        by : (o : Option Body) → kept ≡ o → LeavesPut (looked_up old e (look_by None o)) t key response (is_there (look_by None o)) (Ok told) new → Did (asks asked) old told new
+        by : (o : Option Numbered) → kept ≡ o → LeavesPut (looked_up old e (look_by None o)) t key response (is_there (look_by None o)) (Ok told) new → Did (asks asked) old told new
         by None is h =
             let f = filled (looked_up old e absent) grounded (mid-one None) false h in
-            record { does = subst Asks (sym is) (f.es, f.stores); found = f.tells ∙ sym (ap (λ (o : Option Body). is_some o) is); grounded = f.none_flies }
-        by (Some b) is h =
-            let f = filled (looked_up old e (finished b)) grounded (mid-one (Some b)) true h in
-            let uses : Stores asked f.es (use_first 1 (alone e) (weight_for b) old.managed) old.shelf.bodies new.managed new.shelf.bodies =
-            subst (λ (k : ℕ). Stores asked f.es (use_first k (alone e) (weight_for b) old.managed) old.shelf.bodies new.managed new.shelf.bodies) one f.stores in
-            record { does = subst Asks (sym is) (inr (f.es, uses)); found = f.tells ∙ sym (ap (λ (o : Option Body). is_some o) is); grounded = f.none_flies }
+            record { does = subst Asks (sym is) (f.es, f.stores); found = f.tells ∙ sym (ap (λ (o : Option Numbered). is_some (body_in o)) is); grounded = f.none_flies }
+        by (Some x) is h =
+            let f = filled (looked_up old e (finished x)) grounded (mid-one (Some x)) true h in
+            let uses : Stores asked f.es (use_first 1 (alone e) (weight_for x.body) old.managed) old.shelf.bodies new.managed new.shelf.bodies =
+            subst (λ (k : ℕ). Stores asked f.es (use_first k (alone e) (weight_for x.body) old.managed) old.shelf.bodies new.managed new.shelf.bodies) one f.stores in
+            record { does = subst Asks (sym is) (inr (f.es, uses)); found = f.tells ∙ sym (ap (λ (o : Option Numbered). is_some (body_in o)) is); grounded = f.none_flies }
 
   -- what is seen of a request has its entry and is its step
   pub done_by : (m : Method) (p : PlainRequest) → LeavesBy m old t key (Ok told) new → IsPlainBy m → IsSeenBy t e m (Some p) → Did p old told new × (plain_entry p ≡ e) × (step_of p ≡ step_by (alone e) m)

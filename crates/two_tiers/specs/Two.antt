@@ -87,7 +87,7 @@ AreFound weight a b before (r ∷ requests) (p ∷ pairs) =
     × (found_by p.lesser ≡ true → found_by p.greater ≡ true)
     × AreFound weight a b (step_for r ∷ before) requests pairs
 
--- what each entry weighs: the body's length that requests for it have, at least 1
+-- what each entry weighs: what the bodies weigh that requests for it ask for
 abbrev pub FindsByLoads : Settings → Settings → List (Option PlainRequest) → List Request → List Pair → Type 0
 FindsByLoads a b seen requests pairs = AreFound (weight_in (all_seen seen)) a b [] requests pairs
 

@@ -1,8 +1,8 @@
 //! Two tiers that serve the same requests side by side.
 //!
-//! Requests are uniform where each response is whole and may be kept, each stored key has one entry, and its bodies one length. What a
-//! tier of one shard finds of them follows from the requests alone, so a tier with greater limits finds all that one with lesser
-//! limits finds: see [`run_two`].
+//! Requests are uniform where each response is whole and may be kept, each stored key has one entry, and its bodies one weight, each with
+//! its meta. What a tier of one shard finds of them follows from the requests alone, so a tier with greater limits finds all that one
+//! with lesser limits finds: see [`run_two`].
 #![tactic(auto)]
 
 mod side_by_side;
