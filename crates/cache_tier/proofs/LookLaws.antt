@@ -1,5 +1,5 @@
 -- Look-ups are taken.
-use Rattle.std.proofs.Common.{◌≡◌, ℕ, ◌<◌, ◌^◌, refl, ap, sym, ◌∙◌, arith, Bool, true, false, subst, cond, inl, inr, Some, None, Option, List, [], max, length}
+use Rattle.std.proofs.Common.{◌≡◌, ℕ, ◌<◌, ◌^◌, refl, ap, sym, ◌∙◌, arith, Bool, true, false, subst, cond, inl, inr, Some, None, Option, List, [], max}
 use Rattle.std.specs.Prelude.{Ok, Err, MatchOption, ◌⊎◌, if◌then◌else◌}
 use Rattle.std.specs.FinMap.{FinMap, get, insert}
 use Rattle.std.specs.Ordering.{nat_cmp}
@@ -20,7 +20,7 @@ use Rattle.tier_model.specs.declared.event.LockGiven.{LockGiven}
 use Rattle.tier_model.specs.declared.event.TierFault.{TierFault}
 use Rattle.tier_model.specs.declared.event.TierFault.TheVariants.{NoRequest, Memory, TooHeavy, TooLong, NumbersSpent}
 use Rattle.tier_model.specs.Calls.{Call, Outcome, nothing_done, is_begun}
-use Rattle.tier_model.specs.Rows.{weight_for}
+use Rattle.tier_model.specs.Rows.{size_of, weight_for}
 use Rattle.tier_model.specs.Shelf.{Shelf, Look, absent, in_flight, finished, is_there}
 use Rattle.tier_model.specs.State.{Request, State, shards_of}
 use Rattle.tier_model.specs.Checks.{refusal, unless_open, look_refusal}
@@ -130,7 +130,7 @@ module _ (s : State) (t : MomentValue) (id : ℕ) where
       used_same absent = refl
       used_same (in_flight f) = refl
       used_same (finished y) =
-          ap (λ (w : ℕ). use_first n q.entry w s.managed) (weighs_same (length y.body.bytes)) ∙ ap (λ (x : ℕ). use_first x q.entry (weight_for y.body) s.managed) (sym k.count)
+          ap (λ (w : ℕ). use_first n q.entry w s.managed) (weighs_same (size_of y.body)) ∙ ap (λ (x : ℕ). use_first x q.entry (weight_for y.body) s.managed) (sym k.count)
 
       use_fits : (l : Look) → Fits n (used_by n least_one q l s.managed) → UseFits s q l
       use_fits absent fits = tt
@@ -142,8 +142,8 @@ module _ (s : State) (t : MomentValue) (id : ℕ) where
       use_fault (in_flight f) g p = absurd p
       use_fault (finished y) f p = by_fault p.1.0 (at (λ x w. IsPutRefused x q.entry w s.managed p.1.0) p.1.1) p.1.2
         where
-          at : (P : ℕ → ℕ → Type 0) → P n (max (length y.body.bytes) 1) → P (shards_of s) (weight_for y.body)
-          at P h = subst (λ (w : ℕ). P (shards_of s) w) (weighs_same (length y.body.bytes)) (subst (λ (x : ℕ). P x (max (length y.body.bytes) 1)) (sym k.count) h)
+          at : (P : ℕ → ℕ → Type 0) → P n (max (size_of y.body) 1) → P (shards_of s) (weight_for y.body)
+          at P h = subst (λ (w : ℕ). P (shards_of s) w) (weighs_same (size_of y.body)) (subst (λ (x : ℕ). P x (max (size_of y.body) 1)) (sym k.count) h)
 
           none : weight_of q.entry (rows_of (shards_of s) q.entry s.managed) ≡ None
           none = at (λ x w. weight_of q.entry (rows_of x q.entry s.managed) ≡ None) p.0

@@ -9,8 +9,8 @@ use Rattle.mem_cache.specs.declared.meta.ShownMeta.{ShownMeta}
 use Rattle.mem_cache.specs.Shown.{meta_shown}
 use Rattle.tier_model.specs.Shelf.{look, look_by}
 use Rattle.tier_requests.specs.Shelves.{found_in, flight_of, shelf_of}
+use Rattle.tier_requests.specs.Shown.{meta_found}
 use Rattle.tier_requests.proofs.ShelfLaws.{look-of}
-use Rattle.cache_tier.specs.Shown.{meta_found}
 
 by_store : (f : Option (Flying CacheMeta)) (b : Option (Stored CacheMeta))
     → option_map (λ (x : Stored CacheMeta). x.meta) (option_or (option_map (λ (f : Flying CacheMeta). f.stored) f) b) ≡ meta_found (look_by (option_map flight_of f) (option_map found_in b))
