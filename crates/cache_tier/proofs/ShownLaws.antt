@@ -1,6 +1,7 @@
 -- What a store shows is what a look-up finds.
 use Rattle.std.proofs.Common.{◌≡◌, refl, ap, sym, ◌∙◌, Option, Some, None}
-use Rattle.std.specs.Prelude.{option_map, option_or, find}
+use Rattle.std.specs.Prelude.{option_map, find}
+use Rattle.std.specs.Option.{option_or}
 use Rattle.cache_heads.specs.declared.meta.CacheMeta.{CacheMeta}
 use Rattle.cache_changes.specs.Changes.{StoredKey}
 use Rattle.cache_changes.specs.Store.{Stored, Flying, flies_for, body_at, shown_at}
