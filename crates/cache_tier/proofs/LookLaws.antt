@@ -1,33 +1,30 @@
 -- Look-ups are taken.
-use Rattle.std.proofs.Common.{◌≡◌, ℕ, ◌<◌, ◌^◌, refl, ap, sym, ◌∙◌, arith, Bool, true, false, subst, cond, inl, inr, Some, None, Option, List, [], max}
+use Rattle.std.proofs.Common.{◌≡◌, ℕ, refl, ap, sym, ◌∙◌, arith, Bool, true, false, subst, inl, inr, Some, None, Option, List, [], max}
 use Rattle.std.specs.Prelude.{Ok, Err, MatchOption, ◌⊎◌, if◌then◌else◌}
 use Rattle.std.specs.FinMap.{FinMap, get, insert}
 use Rattle.std.specs.Ordering.{nat_cmp}
 use Rattle.cache_words.specs.Time.{MomentValue}
 use Rattle.cache_entries.specs.Rows.{weight_of}
-use Rattle.cache_entries.specs.declared.entry.CacheEntryKey.{CacheEntryKey}
 use Rattle.cache_evict.specs.declared.fault.EvictFault.{EvictFault}
 use Rattle.cache_evict.specs.declared.fault.EvictFault.TheVariants as evict
 use Rattle.cache_evict.specs.Faults.{IsPutRefused}
-use Rattle.cache_evict.specs.Managed.{Managed, rows_of, use_first, Fits, IsSharded, IsHeavy, IsLong, IsFull}
+use Rattle.cache_evict.specs.Managed.{rows_of, use_first, Fits, IsSharded}
 use Rattle.cache_lock.specs.Changes.{Change}
 use Rattle.cache_lock.specs.State.{LockState, after_all}
-use Rattle.tier_model.specs.declared.state.Body.{Body}
 use Rattle.tier_model.specs.declared.event.Action.TheVariants.{LookUp}
 use Rattle.tier_model.specs.declared.event.Answer.{Answer}
-use Rattle.tier_model.specs.declared.event.Answer.TheVariants.{Found, Absent}
 use Rattle.tier_model.specs.declared.event.LockGiven.{LockGiven}
 use Rattle.tier_model.specs.declared.event.TierFault.{TierFault}
-use Rattle.tier_model.specs.declared.event.TierFault.TheVariants.{NoRequest, Memory, TooHeavy, TooLong, NumbersSpent}
-use Rattle.tier_model.specs.Calls.{Call, Outcome, nothing_done, is_begun}
+use Rattle.tier_model.specs.declared.event.TierFault.TheVariants.{NoRequest, Memory}
+use Rattle.tier_model.specs.Calls.{Outcome, nothing_done, is_begun}
 use Rattle.tier_model.specs.Rows.{size_of, weight_for}
-use Rattle.tier_model.specs.Shelf.{Shelf, Look, absent, in_flight, finished, is_there}
+use Rattle.tier_model.specs.Shelf.{Look, absent, in_flight, finished, is_there}
 use Rattle.tier_model.specs.State.{Request, State, shards_of}
 use Rattle.tier_model.specs.Checks.{refusal, unless_open, look_refusal}
 use Rattle.tier_model.specs.Answers.{look_for, asks_now, lock_given, look_answer, used}
 use Rattle.tier_model.specs.Step.{AllowsBy, Allows, AsksLock, UseFits, IsDue, IsUseFault, IsLockFault, OfRequest}
-use Rattle.tier_model.specs.After.{by_request, turned, reader_of, looked, given_changes, back_changes, managed_after, after_look, counted, counted_if, with_counts, lock_changes, lock_changes_in, after}
-use Rattle.tier_requests.specs.Faults.{out_of_memory, fault_for}
+use Rattle.tier_model.specs.After.{by_request, given_changes, back_changes, managed_after, after_look, counted, counted_if, with_counts, after}
+use Rattle.tier_requests.specs.Faults.{fault_for}
 use Rattle.tier_requests.specs.Looks.{Lent, lent, LeavesLock, used_by, UseRefused, LockRefused, RunsOut, LooksBy, LookAnswer}
 use Rattle.tier_requests.specs.Rows.{OnOpen}
 use Rattle.cache_tier.specs.Acts.{Took}
