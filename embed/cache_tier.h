@@ -8,7 +8,7 @@
 extern "C" {
 #endif
 
-#define CACHE_TIER_VERSION 3
+#define CACHE_TIER_VERSION 4
 #define CACHE_TIER_NONE UINT64_MAX /* no watermark; no longest wait */
 #define CACHE_TIER_ALIGN 16
 
@@ -75,9 +75,10 @@ typedef struct {
 /* ---- the library's own calls; cache_tier_c proves each of them */
 
 size_t cache_tier_size(void);
-/* Makes a tier in the room: ask cache_tier_state, which is READY, MEMORY or BAD_CALL. `limit` bounds the sum of the bodies' bytes, `watermark`
-   their number. `age`: how long a permit holds, `wait`: how long a request waits in all, in seconds. `shards`: 1, 4 or 16. `seed` starts the
-   words that choose the shards of evictions. `hash_start`: random and secret where strangers choose keys. */
+/* Makes a tier in the room: ask cache_tier_state, which is READY, MEMORY or BAD_CALL. `limit` bounds the sum of the entries' weights: the bytes
+   of a body and of its head as that is kept. `watermark` bounds their number. `age`: how long a permit holds, `wait`: how long a request waits
+   in all, in seconds. `shards`: 1, 4 or 16. `seed` starts the words that choose the shards of evictions. `hash_start`: random and secret where
+   strangers choose keys. */
 void cache_tier_init(cache_tier *room, uint64_t limit, uint64_t watermark, uint64_t age, uint64_t wait, uint64_t shards, uint64_t seed,
                      uint64_t hash_start);
 /* Frees all that it holds; the room is the caller's again. Drop each request first. */
@@ -181,8 +182,8 @@ CT cache_tier_admitted(cache_tier *t) { return cache_tier_call(t, 26, 0, 0, 0); 
 CT cache_tier_second(cache_tier *t) { return cache_tier_call(t, 27, 0, 0, 0); }
 CT cache_tier_third(cache_tier *t) { return cache_tier_call(t, 28, 0, 0, 0); }
 
-/* 0 found, 1 absent, 2 bodies, 3 bytes, 4 tracked, 5 weight, 6 evicted */
-CT cache_tier_report(cache_tier *t, unsigned which) { return which > 6 ? (uint64_t)CACHE_TIER_BAD_CALL : cache_tier_call(t, 40 + which, 0, 0, 0); }
+/* 0 found, 1 absent, 2 bodies, 3 bytes, 4 tracked, 5 weight, 6 evicted, 7 meta: the bytes of the heads as they are kept */
+CT cache_tier_report(cache_tier *t, unsigned which) { return which > 7 ? (uint64_t)CACHE_TIER_BAD_CALL : cache_tier_call(t, 40 + which, 0, 0, 0); }
 #undef CT
 
 #ifdef __cplusplus

@@ -22,7 +22,8 @@ FAULTS = (
     "Ready NoRequest IdInUse WrongPhase Waiting AfterEnd BadHead WriteRemoved BeforeEpoch Incomplete NumbersSpent TooHeavy TooLong Memory Folder"
     " NoRecord"
 ).split()
-REPORT = ("found", "absent", "bodies", "bytes", "tracked", "weight", "evicted")
+# What a report tells, as tier-replay writes it, with the number of its question.
+REPORT = {"found": 40, "absent": 41, "bodies": 42, "bytes": 43, "meta": 47, "tracked": 44, "weight": 45, "evicted": 46}
 
 
 class Refused(Exception):
@@ -60,7 +61,7 @@ def _load(path):
 
 
 class Tier:
-    """A tier. `limit` bounds the sum of the bodies' bytes, `watermark` their number; `age` and `wait` are seconds."""
+    """A tier. `limit` bounds the sum of the entries' weights, the bytes of bodies and heads, `watermark` their number; `age` and `wait` are seconds."""
 
     def __init__(self, path, limit, watermark=None, age=10, wait=None, shards=16, seed=0, hash_start=None):
         self._lib = _load(path)
@@ -212,7 +213,7 @@ class Tier:
         return self.ask(28)
 
     def report(self):
-        return {name: self.ask(40 + at) for at, name in enumerate(REPORT)}
+        return {name: self.ask(op) for name, op in REPORT.items()}
 
     def request(self, moment, key, lock=False, tag=""):
         return Request(self, moment, key, lock, tag)

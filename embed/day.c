@@ -23,7 +23,7 @@ static int is(uint64_t got, uint64_t want, const char *what) {
     return 0;
 }
 static void made(uint64_t shards) {
-    cache_tier_init(tier, 100, CACHE_TIER_NONE, 10, CACHE_TIER_NONE, shards, 1, 2);
+    cache_tier_init(tier, 3000, CACHE_TIER_NONE, 10, CACHE_TIER_NONE, shards, 1, 2);
 }
 /* A piece of the body: what was written is what is to be read. */
 static char body[8];

@@ -1,8 +1,7 @@
 -- Begins are taken.
-use Rattle.std.proofs.Common.{◌≡◌, ◌≢◌, ℕ, ◌+◌, ◌-◌, ◌^◌, refl, ap, sym, ◌∙◌, Bool, true, false, subst, cond, inl, inr, Some, None, Option, List, []}
-use Rattle.std.specs.Prelude.{Ok, Err, ◌&&◌, not, is_some, MatchOption, ◌⊎◌}
-use Rattle.std.specs.FinMap.{FinMap, get, insert}
-use Rattle.std.specs.Ordering.{nat_cmp}
+use Rattle.std.proofs.Common.{◌≡◌, ◌≢◌, ℕ, ◌+◌, ◌-◌, ◌^◌, refl, ap, sym, ◌∙◌, Bool, true, false, subst, inl, inr, Some, None, Option, List, []}
+use Rattle.std.specs.Prelude.{Ok, Err, ◌&&◌, not, is_some}
+use Rattle.std.specs.FinMap.{get, insert}
 use Rattle.cache_words.specs.Time.{MomentValue}
 use Rattle.cache_heads.specs.declared.meta.CacheMeta.{CacheMeta}
 use Rattle.cache_heads.specs.declared.reason.NoCacheReason.{NoCacheReason}
@@ -11,14 +10,13 @@ use Rattle.cache_lock.specs.State.{LockState, after_all}
 use Rattle.cache_lock.specs.declared.status.LockStatus.TheVariants as status
 use Rattle.response_parse.specs.Response.{Reading, IsReading, head_of}
 use Rattle.tier_model.specs.declared.event.Action.TheVariants.{Begin}
-use Rattle.tier_model.specs.declared.event.Answer.{Answer}
 use Rattle.tier_model.specs.declared.event.Answer.TheVariants.{Begun, Uncacheable}
 use Rattle.tier_model.specs.declared.event.TierFault.{TierFault}
 use Rattle.tier_model.specs.declared.event.TierFault.TheVariants.{NoRequest, WrongPhase, BadHead, BeforeEpoch, NumbersSpent, Memory}
 use Rattle.tier_model.specs.Response.{Judged, kept, not_kept, too_early, not_read, judged_alone}
 use Rattle.tier_model.specs.Calls.{Call, Outcome, nothing_done}
 use Rattle.tier_model.specs.Shelf.{Shelf}
-use Rattle.tier_model.specs.State.{Reader, closed, streaming, nothing, disabled, Request, State}
+use Rattle.tier_model.specs.State.{closed, nothing, disabled, Request, State}
 use Rattle.tier_model.specs.Checks.{refusal, unless, unless_open, can_begin}
 use Rattle.tier_model.specs.Answers.{IsBeginAnswer, IsBeginFault}
 use Rattle.tier_model.specs.Step.{AllowsBy, Allows, BeginTakes, BeginsWrite, may_begin, is_kept}

@@ -1,5 +1,5 @@
 -- The bodies of a store: how many there are, what they have together, a purge of one, and what the store shows of a history.
-use Rattle.std.proofs.Common.{◌≡◌, ℕ, ◌+◌, refl, ap, sym, ◌∙◌, arith, true, false, subst, cond, [], ◌∷◌, length}
+use Rattle.std.proofs.Common.{◌≡◌, ℕ, ◌+◌, ◌-◌, ◌^◌, min, refl, ap, sym, ◌∙◌, arith, true, false, subst, cond, [], ◌∷◌, length}
 use Rattle.std.specs.Prelude.{Bool, List, Option, Some, None, option_map, is_some, find, map, nat_eq}
 use Rattle.std.specs.Option.{option_or}
 use Rattle.std.specs.List.{IsDistinct, sum_by}
@@ -16,6 +16,8 @@ use Rattle.cache_store.specs.Held.{Held}
 use Rattle.cache_store.specs.Purges.{PurgeAnswer}
 use Rattle.cache_store.specs.declared.storage.PurgeOutcome.{PurgeOutcome}
 use Rattle.cache_store.specs.declared.storage.PurgeOutcome.TheVariants.{Purged, NotFound}
+use Rattle.tier_model.specs.declared.state.Body.{Body}
+use Rattle.tier_model.specs.After.{counted}
 use Rattle.tier_model.specs.Calls.{History}
 use Rattle.tier_model.specs.Histories.{Kept, Opening, told_of, writes_begun, changes_of}
 use Rattle.tier_model.specs.Past.{HasPast}
@@ -40,10 +42,14 @@ rows_many : (xs : List (Stored CacheMeta)) → length (map row_of xs) ≡ length
 rows_many [] = refl
 rows_many (x ∷ xs) = omega (arith, rows_many xs)
 
-rows_sum : (xs : List (Stored CacheMeta)) → sum_by (λ (b : Numbered). length b.body.bytes) (values_of (map row_of xs)) ≡ sum_by (λ (x : Stored CacheMeta). length x.bytes) xs
-rows_sum [] = refl
-rows_sum (x ∷ xs) =
-    sum_by-cons (λ (b : Numbered). length b.body.bytes) (found_in x) (values_of (map row_of xs)) ∙ ap (λ (n : ℕ). length x.bytes + n) (rows_sum xs) ∙ sym (sum_by-cons (λ (x : Stored CacheMeta). length x.bytes) x xs)
+rows_sum : (f : Body → ℕ) (xs : List (Stored CacheMeta)) → sum_by (λ (b : Numbered). f b.body) (values_of (map row_of xs)) ≡ sum_by (λ (x : Stored CacheMeta). f (found_in x).body) xs
+rows_sum f [] = refl
+rows_sum f (x ∷ xs) =
+    sum_by-cons (λ (b : Numbered). f b.body) (found_in x) (values_of (map row_of xs)) ∙ ap (λ (n : ℕ). f (found_in x).body + n) (rows_sum f xs) ∙ sym (sum_by-cons (λ (y : Stored CacheMeta). f (found_in y).body) x xs)
+
+-- a sum that a store counts up to 2^64 - 1
+pub counted-from : (n : ℕ) → min n (2 ^ 64 - 1) ≡ counted 0 n
+counted-from n = omega arith
 
 module _ (xs : List (Stored CacheMeta)) (unique : IsDistinct (pointwise nat_eq) (map (λ (x : Stored CacheMeta). x.write.key) xs)) where
   rows_unique : IsDistinct (pointwise nat_eq) (keys_of (map row_of xs))
@@ -52,8 +58,8 @@ module _ (xs : List (Stored CacheMeta)) (unique : IsDistinct (pointwise nat_eq) 
   pub bodies-count : len (bodies_in xs) ≡ length xs
   bodies-count = len-keyed (pointwise nat_eq) nat_list_cmp_total bytes_tied (map row_of xs) rows_unique ∙ rows_many xs
 
-  pub bodies-sum : sum_by (λ (b : Numbered). length b.body.bytes) (values (bodies_in xs)) ≡ sum_by (λ (x : Stored CacheMeta). length x.bytes) xs
-  bodies-sum = sum-keyed (pointwise nat_eq) nat_list_cmp_total bytes_tied (λ (b : Numbered). length b.body.bytes) (map row_of xs) rows_unique ∙ rows_sum xs
+  pub bodies-sum : (f : Body → ℕ) → sum_by (λ (b : Numbered). f b.body) (values (bodies_in xs)) ≡ sum_by (λ (x : Stored CacheMeta). f (found_in x).body) xs
+  bodies-sum f = sum-keyed (pointwise nat_eq) nat_list_cmp_total bytes_tied (λ (b : Numbered). f b.body) (map row_of xs) rows_unique ∙ rows_sum f xs
 
 -- ---- a purge
 

@@ -33,7 +33,7 @@ use Rattle.tier_model.specs.declared.event.Done.{Done}
 use Rattle.tier_model.specs.declared.event.TierFault.{TierFault}
 use Rattle.tier_model.specs.declared.event.TierFault.TheVariants as tier
 use Rattle.tier_model.specs.Calls.{Outcome, nothing_done}
-use Rattle.tier_model.specs.Rows.{FinishedBody}
+use Rattle.tier_model.specs.Rows.{FinishedBody, size_of}
 use Rattle.tier_model.specs.Shelf as shelf
 use Rattle.tier_model.specs.Shelf.{InFlight, landed}
 use Rattle.tier_model.specs.State.{Request, State}
@@ -109,7 +109,7 @@ module _ (n : ℕ) (s : State) (t : MomentValue) (id : ℕ) (c0 : Cache Held) (k
     record IsShelved (kind : MissFinishType) (size : ℕ) (mid : Held) : Type 0 where
       body : FinishedBody
       finishes : finishing q old.shelf ≡ Some body
-      kind_is : kind ≡ Created (length body.body.bytes)
+      kind_is : kind ≡ Created (size_of body.body)
       size_is : size ≡ length body.body.bytes
       entry : alone body.entry ≡ q.entry
       shelf : shelf_of mid ≡ shelf.stored m body (landed m old.shelf)
@@ -121,7 +121,7 @@ module _ (n : ℕ) (s : State) (t : MomentValue) (id : ℕ) (c0 : Cache Held) (k
     abbrev body_for : Stored CacheMeta → FinishedBody
     body_for x = record { entry = key_of q.entry; body = (found_in x).body }
 
-    shelved : (kind : MissFinishType) (size : ℕ) (mid : Held) → IsStored (λ (h : Held). h) (λ h k. None) number no_id (λ x. Created (length x.bytes)) m kind size c0.store mid → IsShelved kind size mid
+    shelved : (kind : MissFinishType) (size : ℕ) (mid : Held) → IsStored (rules n).held (rules n).ids number no_id (rules n).told m kind size c0.store mid → IsShelved kind size mid
     shelved kind size mid stores = by_flight (store.flying_at m c0.store.store) refl (sym (flight-at m c0.store.store.flying) ∙ flies.at) stores.alive
       where
         x : Stored CacheMeta
@@ -208,13 +208,13 @@ module _ (n : ℕ) (s : State) (t : MomentValue) (id : ℕ) (c0 : Cache Held) (k
         → AdmitAnswer (rules n) number no_id true kind size (entry_at key None) came (record c0 { store = mid }) c → (is_some (finish_status came) ≡ true) × IsTaken (told_of came) c rest
     admitted (Ok (Some f)) key entry mid kind size c x a =
         let told : f.length ≡ length x.body.body.bytes = a.1 ∙ x.size_is in
-        let b : IsAdmitted (rules n) (Created (length x.body.body.bytes)) (alone x.body.entry) f.evicted.items (record c0 { store = mid }) c =
+        let b : IsAdmitted (rules n) (Created (size_of x.body.body)) (alone x.body.entry) f.evicted.items (record c0 { store = mid }) c =
         subst (λ (y : MissFinishType). IsAdmitted (rules n) y (alone x.body.entry) f.evicted.items (record c0 { store = mid }) c) x.kind_is
         (subst (λ (e : CacheEntryKey). IsAdmitted (rules n) kind e f.evicted.items (record c0 { store = mid }) c) (sym entry ∙ sym x.entry) a.2) in
         (refl, kept_so (told_of (Ok (Some f))) c mid kind size x (kept-admitted n over m x.body kept c0.words mid x.shelf f.length f.evicted.items c told b))
     admitted (Ok None) key entry mid kind size c x a = absurd a
     admitted (Err fault) key entry mid kind size c x a =
-        let b : IsTakenBack (rules n) IsToldAs (Created (length x.body.body.bytes)) (alone x.body.entry) fault (record c0 { store = mid }) c =
+        let b : IsTakenBack (rules n) IsToldAs (Created (size_of x.body.body)) (alone x.body.entry) fault (record c0 { store = mid }) c =
         subst (λ (y : MissFinishType). IsTakenBack (rules n) IsToldAs y (alone x.body.entry) fault (record c0 { store = mid }) c) x.kind_is
         (subst (λ (e : CacheEntryKey). IsTakenBack (rules n) IsToldAs kind e fault (record c0 { store = mid }) c) (sym entry ∙ sym x.entry) a) in
         let was : Bool = was_admitted n (alone x.body.entry) b.cause b.left in (

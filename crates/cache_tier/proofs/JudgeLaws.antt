@@ -1,5 +1,5 @@
 -- What the head of a begin gives.
-use Rattle.std.proofs.Common.{◌≡◌, ℕ, refl, ap, sym, ◌∙◌, subst, Some, None, Option, true, false, cond}
+use Rattle.std.proofs.Common.{◌≡◌, ℕ, refl, ap, sym, subst, Some, None, Option, true, false, cond}
 use Rattle.std.specs.Prelude.{Bool, List, ◌||◌, codes}
 use Rattle.cache_words.specs.Time.{MomentValue}
 use Rattle.cache_directives.specs.Written.{Written}

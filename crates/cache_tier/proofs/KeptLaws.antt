@@ -1,6 +1,6 @@
 -- A body that is stored is admitted, or taken back: what that leaves of a state.
 use Rattle.std.proofs.Common.{◌≡◌, ℕ, ap, sym, ◌∙◌, arith, true, false, subst, max, length, List, Ok, Err}
-use Rattle.std.specs.Prelude.{Bool, ⊤, None}
+use Rattle.std.specs.Prelude.{Bool}
 use Rattle.rand_core.specs.Stream.{Stream}
 use Rattle.cache_entries.specs.declared.entry.CacheEntryKey.{CacheEntryKey}
 use Rattle.cache_changes.specs.Changes.{stored_key}
@@ -9,18 +9,18 @@ use Rattle.cache_evict.specs.Faults.{evicted_of}
 use Rattle.cache_evict.specs.Managed.{Managed, IsSharded, pick_by_draws}
 use Rattle.cache_store.specs.Held.{Held}
 use Rattle.cache_store.specs.declared.storage.MissFinishType.TheVariants.{Created}
-use Rattle.cache_parts.specs.Admissions.{Rules, Cache, rules_of, cache_of, was_admitted, IsAdmitted, IsTakenBack}
-use Rattle.mem_cache.specs.Misses.{are_numbers_spent}
+use Rattle.cache_parts.specs.Admissions.{Rules, Cache, cache_of, was_admitted, IsAdmitted, IsTakenBack}
 use Rattle.tier_model.specs.Keys.{alone}
 use Rattle.tier_model.specs.declared.event.Answer.TheVariants.{Finished}
 use Rattle.tier_model.specs.declared.event.TierFault.{TierFault}
 use Rattle.tier_model.specs.Calls.{Outcome, done_of}
-use Rattle.tier_model.specs.Rows.{FinishedBody}
+use Rattle.tier_model.specs.Rows.{FinishedBody, size_of, weight_for}
 use Rattle.tier_model.specs.Shelf as shelf
 use Rattle.tier_model.specs.Shelf.{Shelf, stored, removed}
 use Rattle.tier_model.specs.State.{State}
 use Rattle.tier_model.specs.After.{taken_back}
 use Rattle.tier_requests.specs.Faults.{fault_for}
+use Rattle.tier_requests.specs.Finishes as finishes
 use Rattle.tier_requests.specs.Shelves.{shelf_of, IsBelow}
 use Rattle.tier_requests.proofs.BelowLaws.{below-cleared, below-removed}
 use Rattle.cache_tier.proofs.StoreLaws.{after_store, StoresOver, HasEvicted, has_evicted, cleared, refused-put, kept-stopped, put_in, stores-refused, stores-kept}
@@ -28,10 +28,10 @@ use Rattle.cache_tier.proofs.StoredLaws.{shelf-purged, shelf-taken}
 
 -- what is known of the tier's store and of its order of use, of n shards
 abbrev pub rules : ℕ → Rules Held
-rules n = rules_of (λ h. h) (λ h k. None) (λ h cause h'. ⊤) are_numbers_spent (λ x. Created (length x.bytes)) n (λ size. max size 1) (pick_by_draws n)
+rules n = finishes.rules n (λ size. max size 1) (pick_by_draws n)
 
-weighed : (len : ℕ) → max len 1 ≡ max 1 len
-weighed len = omega arith
+weighed : (size : ℕ) → max size 1 ≡ max 1 size
+weighed size = omega arith
 
 -- a state with what a cache holds
 abbrev pub with_cache : State → Cache Held → State
@@ -44,21 +44,21 @@ module _ (n : ℕ) (s : State) (m : ℕ) (b : FinishedBody) (k : IsSharded n s.m
     pub sharded : IsSharded n c.managed
 
   pub kept-admitted : (size : ℕ) (es : List CacheEntryKey) (c : Cache Held) → size ≡ length b.body.bytes
-      → IsAdmitted (rules n) (Created (length b.body.bytes)) (alone b.entry) es (cache_of mid s.managed st) c → IsKept (Ok (Finished size es)) c
+      → IsAdmitted (rules n) (Created (size_of b.body)) (alone b.entry) es (cache_of mid s.managed st) c → IsKept (Ok (Finished size es)) c
   kept-admitted size es c sized a =
       let gone : shelf_of c.store ≡ shelf.cleared es (stored m b s.shelf) = shelf-purged es mid c.store a.purged ∙ ap (shelf.cleared es) shelved in
-      let h : HasEvicted n s b false es c.managed st c.words = has_evicted n (max (length b.body.bytes) 1) s b false es c.managed st c.words k (weighed (length b.body.bytes)) a.fits a.evicts a.within in
+      let h : HasEvicted n s b false es c.managed st c.words = has_evicted n (max (size_of b.body) 1) s b false es c.managed st c.words k (weighed (size_of b.body)) a.fits a.evicts a.within in
       record {
         stores = stores-kept s m b st size es (with_cache s c) c.words n c.managed sized h (ap (λ (x : Shelf). record s { shelf = x; managed = c.managed }) gone);
         sharded = h.kept;
       }
 
   pub kept-back : {F : Type 0} (tells : Bool → EvictFault → F → Type 0) (fault : F) (f : TierFault) (c : Cache Held)
-      → (back : IsTakenBack (rules n) tells (Created (length b.body.bytes)) (alone b.entry) fault (cache_of mid s.managed st) c)
+      → (back : IsTakenBack (rules n) tells (Created (size_of b.body)) (alone b.entry) fault (cache_of mid s.managed st) c)
       → f ≡ fault_for back.cause (record { stored = true; admitted = was_admitted n (alone b.entry) back.cause back.left; evicted = evicted_of back.cause }) → IsKept (Err f) c
   kept-back tells fault f c back told =
-      let w : ℕ = max (length b.body.bytes) 1 in
-      let weighs : w ≡ max 1 (length b.body.bytes) = weighed (length b.body.bytes) in
+      let w : ℕ = max (size_of b.body) 1 in
+      let weighs : w ≡ weight_for b.body = weighed (size_of b.body) in
       let es : List CacheEntryKey = evicted_of back.cause in
       let gone : shelf_of back.purged ≡ shelf.cleared es (stored m b s.shelf) = shelf-purged es mid back.purged back.purges ∙ ap (shelf.cleared es) shelved in
       let left : shelf_of c.store ≡ removed (stored_key b.entry) (shelf.cleared es (stored m b s.shelf)) = shelf-taken (stored_key b.entry) back.purged c.store back.removes ∙ ap (removed (stored_key b.entry)) gone in

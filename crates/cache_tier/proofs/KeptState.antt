@@ -10,7 +10,7 @@ use Rattle.cache_words.specs.Time.{DurationValue, MomentValue}
 use Rattle.cache_entries.specs.declared.entry.CacheEntryKey.{CacheEntryKey}
 use Rattle.cache_entries.specs.declared.rows.Tracked.{Tracked}
 use Rattle.cache_entries.specs.Entry.{same_entry}
-use Rattle.cache_entries.specs.Rows.{row_of, weight_of, without_row, admitted, AreDistinct}
+use Rattle.cache_entries.specs.Rows.{row_of, weight_of, admitted, AreDistinct}
 use Rattle.cache_entries.specs.SameEntry.{same_entry-tells}
 use Rattle.cache_changes.specs.Changes.{Write, Change, Changes, begins, admits, uses, reweighs, departs, evicts}
 use Rattle.cache_changes.specs.Writes.{BeginsBelow, IsOrderly}

@@ -1,33 +1,30 @@
 -- Look-ups are taken.
-use Rattle.std.proofs.Common.{◌≡◌, ℕ, ◌<◌, ◌^◌, refl, ap, sym, ◌∙◌, arith, Bool, true, false, subst, cond, inl, inr, Some, None, Option, List, [], max, length}
+use Rattle.std.proofs.Common.{◌≡◌, ℕ, refl, ap, sym, ◌∙◌, arith, Bool, true, false, subst, inl, inr, Some, None, Option, List, [], max}
 use Rattle.std.specs.Prelude.{Ok, Err, MatchOption, ◌⊎◌, if◌then◌else◌}
 use Rattle.std.specs.FinMap.{FinMap, get, insert}
 use Rattle.std.specs.Ordering.{nat_cmp}
 use Rattle.cache_words.specs.Time.{MomentValue}
 use Rattle.cache_entries.specs.Rows.{weight_of}
-use Rattle.cache_entries.specs.declared.entry.CacheEntryKey.{CacheEntryKey}
 use Rattle.cache_evict.specs.declared.fault.EvictFault.{EvictFault}
 use Rattle.cache_evict.specs.declared.fault.EvictFault.TheVariants as evict
 use Rattle.cache_evict.specs.Faults.{IsPutRefused}
-use Rattle.cache_evict.specs.Managed.{Managed, rows_of, use_first, Fits, IsSharded, IsHeavy, IsLong, IsFull}
+use Rattle.cache_evict.specs.Managed.{rows_of, use_first, Fits, IsSharded}
 use Rattle.cache_lock.specs.Changes.{Change}
 use Rattle.cache_lock.specs.State.{LockState, after_all}
-use Rattle.tier_model.specs.declared.state.Body.{Body}
 use Rattle.tier_model.specs.declared.event.Action.TheVariants.{LookUp}
 use Rattle.tier_model.specs.declared.event.Answer.{Answer}
-use Rattle.tier_model.specs.declared.event.Answer.TheVariants.{Found, Absent}
 use Rattle.tier_model.specs.declared.event.LockGiven.{LockGiven}
 use Rattle.tier_model.specs.declared.event.TierFault.{TierFault}
-use Rattle.tier_model.specs.declared.event.TierFault.TheVariants.{NoRequest, Memory, TooHeavy, TooLong, NumbersSpent}
-use Rattle.tier_model.specs.Calls.{Call, Outcome, nothing_done, is_begun}
-use Rattle.tier_model.specs.Rows.{weight_for}
-use Rattle.tier_model.specs.Shelf.{Shelf, Look, absent, in_flight, finished, is_there}
+use Rattle.tier_model.specs.declared.event.TierFault.TheVariants.{NoRequest, Memory}
+use Rattle.tier_model.specs.Calls.{Outcome, nothing_done, is_begun}
+use Rattle.tier_model.specs.Rows.{size_of, weight_for}
+use Rattle.tier_model.specs.Shelf.{Look, absent, in_flight, finished, is_there}
 use Rattle.tier_model.specs.State.{Request, State, shards_of}
 use Rattle.tier_model.specs.Checks.{refusal, unless_open, look_refusal}
 use Rattle.tier_model.specs.Answers.{look_for, asks_now, lock_given, look_answer, used}
 use Rattle.tier_model.specs.Step.{AllowsBy, Allows, AsksLock, UseFits, IsDue, IsUseFault, IsLockFault, OfRequest}
-use Rattle.tier_model.specs.After.{by_request, turned, reader_of, looked, given_changes, back_changes, managed_after, after_look, counted, counted_if, with_counts, lock_changes, lock_changes_in, after}
-use Rattle.tier_requests.specs.Faults.{out_of_memory, fault_for}
+use Rattle.tier_model.specs.After.{by_request, given_changes, back_changes, managed_after, after_look, counted, counted_if, with_counts, after}
+use Rattle.tier_requests.specs.Faults.{fault_for}
 use Rattle.tier_requests.specs.Looks.{Lent, lent, LeavesLock, used_by, UseRefused, LockRefused, RunsOut, LooksBy, LookAnswer}
 use Rattle.tier_requests.specs.Rows.{OnOpen}
 use Rattle.cache_tier.specs.Acts.{Took}
@@ -130,7 +127,7 @@ module _ (s : State) (t : MomentValue) (id : ℕ) where
       used_same absent = refl
       used_same (in_flight f) = refl
       used_same (finished y) =
-          ap (λ (w : ℕ). use_first n q.entry w s.managed) (weighs_same (length y.body.bytes)) ∙ ap (λ (x : ℕ). use_first x q.entry (weight_for y.body) s.managed) (sym k.count)
+          ap (λ (w : ℕ). use_first n q.entry w s.managed) (weighs_same (size_of y.body)) ∙ ap (λ (x : ℕ). use_first x q.entry (weight_for y.body) s.managed) (sym k.count)
 
       use_fits : (l : Look) → Fits n (used_by n least_one q l s.managed) → UseFits s q l
       use_fits absent fits = tt
@@ -142,8 +139,8 @@ module _ (s : State) (t : MomentValue) (id : ℕ) where
       use_fault (in_flight f) g p = absurd p
       use_fault (finished y) f p = by_fault p.1.0 (at (λ x w. IsPutRefused x q.entry w s.managed p.1.0) p.1.1) p.1.2
         where
-          at : (P : ℕ → ℕ → Type 0) → P n (max (length y.body.bytes) 1) → P (shards_of s) (weight_for y.body)
-          at P h = subst (λ (w : ℕ). P (shards_of s) w) (weighs_same (length y.body.bytes)) (subst (λ (x : ℕ). P x (max (length y.body.bytes) 1)) (sym k.count) h)
+          at : (P : ℕ → ℕ → Type 0) → P n (max (size_of y.body) 1) → P (shards_of s) (weight_for y.body)
+          at P h = subst (λ (w : ℕ). P (shards_of s) w) (weighs_same (size_of y.body)) (subst (λ (x : ℕ). P x (max (size_of y.body) 1)) (sym k.count) h)
 
           none : weight_of q.entry (rows_of (shards_of s) q.entry s.managed) ≡ None
           none = at (λ x w. weight_of q.entry (rows_of x q.entry s.managed) ≡ None) p.0

@@ -1,17 +1,16 @@
 -- Openings and drops are taken.
-use Rattle.std.proofs.Common.{◌≡◌, ℕ, refl, ap, sym, ◌∙◌, Bool, true, false, subst, inl, inr, Some, None, Option, List, []}
-use Rattle.std.specs.Prelude.{Ok, Err, not, is_some, MatchOption}
-use Rattle.std.specs.FinMap.{FinMap, get, insert, remove}
-use Rattle.std.specs.Ordering.{nat_cmp}
+use Rattle.std.proofs.Common.{◌≡◌, ℕ, refl, ap, sym, ◌∙◌, Bool, true, false, subst, inl, Some, None, Option, List, []}
+use Rattle.std.specs.Prelude.{Ok, Err, not, is_some}
+use Rattle.std.specs.FinMap.{get, insert, remove}
 use Rattle.cache_words.specs.Time.{MomentValue}
 use Rattle.cache_words.specs.Key.{CacheKeyValue}
 use Rattle.cache_lock.specs.Changes.{Change}
-use Rattle.cache_lock.specs.State.{LockState, after_all}
+use Rattle.cache_lock.specs.State.{after_all}
 use Rattle.tier_model.specs.declared.event.Action.TheVariants.{Open, Drop}
 use Rattle.tier_model.specs.declared.event.Answer.TheVariants.{Opened, Dropped}
 use Rattle.tier_model.specs.declared.event.TierFault.TheVariants.{NoRequest, IdInUse, Memory}
 use Rattle.tier_model.specs.Keys.{entry_of}
-use Rattle.tier_model.specs.Calls.{Outcome, nothing_done}
+use Rattle.tier_model.specs.Calls.{nothing_done}
 use Rattle.tier_model.specs.Shelf.{Shelf, landed}
 use Rattle.tier_model.specs.State.{Reader, closed, Request, State}
 use Rattle.tier_model.specs.Checks.{refusal, unless, unless_open}

@@ -1,6 +1,6 @@
 -- Pieces are taken.
-use Rattle.std.proofs.Common.{◌≡◌, ℕ, refl, ap, sym, ◌∙◌, Bool, true, false, subst, inl, inr, Some, None, Option, List}
-use Rattle.std.specs.Prelude.{Ok, Err, not, MatchOption, MatchResult}
+use Rattle.std.proofs.Common.{◌≡◌, ℕ, refl, ap, sym, ◌∙◌, Bool, true, false, subst, inl, Some, None, Option, List}
+use Rattle.std.specs.Prelude.{Ok, Err, not, MatchOption}
 use Rattle.std.specs.FinMap.{FinMap, get, insert}
 use Rattle.std.specs.Ordering.{nat_cmp}
 use Rattle.cache_words.specs.Time.{MomentValue}

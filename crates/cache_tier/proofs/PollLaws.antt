@@ -14,7 +14,7 @@ use Rattle.tier_model.specs.Calls.{Outcome}
 use Rattle.tier_model.specs.State.{Request, State}
 use Rattle.tier_model.specs.Checks.{refusal, unless, unless_open, is_waiting}
 use Rattle.tier_model.specs.Answers.{polled}
-use Rattle.tier_model.specs.Step.{AllowsBy, OfRequest}
+use Rattle.tier_model.specs.Step.{AllowsBy}
 use Rattle.tier_model.specs.After.{by_request, with_request, after_wait, poll_of, with_counts}
 use Rattle.tier_requests.specs.Rows.{PollAnswer, OnOpen}
 use Rattle.cache_tier.specs.Acts.{Took}

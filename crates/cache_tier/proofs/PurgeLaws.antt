@@ -16,7 +16,7 @@ use Rattle.tier_model.specs.declared.event.Action.TheVariants.{Purge}
 use Rattle.tier_model.specs.declared.event.Answer.TheVariants.{Purged}
 use Rattle.tier_model.specs.Keys.{entry_of, alone, stored_key_of}
 use Rattle.tier_model.specs.Shelf.{InFlight, Shelf, flies_for, look, look_by, is_there, marked, removed}
-use Rattle.tier_model.specs.State.{State, shards_of}
+use Rattle.tier_model.specs.State.{State}
 use Rattle.tier_model.specs.After.{after_purge, with_counts}
 use Rattle.cache_tier.specs.Acts.{Took}
 use Rattle.cache_tier.proofs.TookLaws.{plain_call}

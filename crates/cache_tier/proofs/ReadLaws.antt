@@ -1,18 +1,17 @@
 -- Reads are taken.
-use Rattle.std.proofs.Common.{◌≡◌, ℕ, refl, ap, sym, ◌∙◌, Bool, true, false, subst, inl, inr, Some, None, Option, List, [], ◌∷◌}
-use Rattle.std.specs.Prelude.{Ok, Err, MatchOption, MatchResult}
+use Rattle.std.proofs.Common.{◌≡◌, ℕ, refl, ap, sym, ◌∙◌, Bool, true, false, subst, inl, Some, None, Option, List, [], ◌∷◌}
+use Rattle.std.specs.Prelude.{Ok, Err, MatchOption}
 use Rattle.std.specs.FinMap.{FinMap, get, insert}
 use Rattle.std.specs.Ordering.{nat_cmp}
 use Rattle.cache_words.specs.Time.{MomentValue}
 use Rattle.tier_model.specs.declared.event.Action.TheVariants.{Read}
-use Rattle.tier_model.specs.declared.event.Answer.{Answer}
 use Rattle.tier_model.specs.declared.event.TierFault.{TierFault}
 use Rattle.tier_model.specs.declared.event.TierFault.TheVariants.{NoRequest, WrongPhase, Memory}
 use Rattle.tier_model.specs.Calls.{Outcome, nothing_done, is_begun}
 use Rattle.tier_model.specs.Shelf.{Shelf, readable, past_place}
 use Rattle.tier_model.specs.State.{Reader, closed, unread, spent, streaming, Request, State}
 use Rattle.tier_model.specs.Checks.{refusal, unless, unless_open, has_reader}
-use Rattle.tier_model.specs.Answers.{next_by, next_of, read_answer}
+use Rattle.tier_model.specs.Answers.{next_by, read_answer}
 use Rattle.tier_model.specs.Step.{AllowsBy, HasNews}
 use Rattle.tier_model.specs.After.{by_request, with_request, read_on, with_counts}
 use Rattle.tier_requests.specs.Rows.{ReadAnswer, OnOpen}

@@ -1,6 +1,7 @@
 -- What a store shows is what a look-up finds.
 use Rattle.std.proofs.Common.{◌≡◌, refl, ap, sym, ◌∙◌, Option, Some, None}
-use Rattle.std.specs.Prelude.{option_map, option_or, find}
+use Rattle.std.specs.Prelude.{option_map, find}
+use Rattle.std.specs.Option.{option_or}
 use Rattle.cache_heads.specs.declared.meta.CacheMeta.{CacheMeta}
 use Rattle.cache_changes.specs.Changes.{StoredKey}
 use Rattle.cache_changes.specs.Store.{Stored, Flying, flies_for, body_at, shown_at}
@@ -9,8 +10,8 @@ use Rattle.mem_cache.specs.declared.meta.ShownMeta.{ShownMeta}
 use Rattle.mem_cache.specs.Shown.{meta_shown}
 use Rattle.tier_model.specs.Shelf.{look, look_by}
 use Rattle.tier_requests.specs.Shelves.{found_in, flight_of, shelf_of}
+use Rattle.tier_requests.specs.Shown.{meta_found}
 use Rattle.tier_requests.proofs.ShelfLaws.{look-of}
-use Rattle.cache_tier.specs.Shown.{meta_found}
 
 by_store : (f : Option (Flying CacheMeta)) (b : Option (Stored CacheMeta))
     → option_map (λ (x : Stored CacheMeta). x.meta) (option_or (option_map (λ (f : Flying CacheMeta). f.stored) f) b) ≡ meta_found (look_by (option_map flight_of f) (option_map found_in b))

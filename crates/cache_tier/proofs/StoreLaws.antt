@@ -1,8 +1,7 @@
 -- What the storing of a body leaves: its evictions, and its taking back.
-use Rattle.std.proofs.Common.{◌≡◌, ◌≢◌, ℕ, ◌<◌, ◌^◌, Bool, true, false, List, [], ◌∷◌, refl, ap, sym, ◌∙◌, Some, None, Option, Err, inl, inr, subst, cond, length}
-use Rattle.std.specs.Prelude.{◌⊎◌, ◌||◌, not, is_some, Ok, MatchResult}
+use Rattle.std.proofs.Common.{◌≡◌, ◌≢◌, ℕ, Bool, true, false, List, [], ◌∷◌, refl, ap, sym, ◌∙◌, Some, None, Option, Err, inl, inr, subst, cond, length}
+use Rattle.std.specs.Prelude.{◌||◌, not, is_some, Ok, MatchResult}
 use Rattle.std.specs.FinMap.{get}
-use Rattle.std.specs.Global.{Vec}
 use Rattle.rand_core.specs.Stream.{Stream}
 use Rattle.cache_entries.specs.Keys.{same_bytes}
 use Rattle.cache_entries.specs.declared.entry.CacheEntryKey.{CacheEntryKey}

@@ -11,7 +11,7 @@ use Rattle.cache_changes.specs.Changes.{StoredKey, stored_key, key_alone}
 use Rattle.cache_changes.specs.Store as store
 use Rattle.cache_changes.specs.Store.{Stored, Store, is_of, body_at}
 use Rattle.cache_store.specs.Agree.{Agree}
-use Rattle.cache_store.specs.Answers.{IsFinished, left}
+use Rattle.cache_store.specs.Answers.{IsFinished}
 use Rattle.cache_store.specs.Held.{Held, left_with}
 use Rattle.cache_store.specs.Purges.{PurgeAnswer, entry_key, id_at}
 use Rattle.cache_store.specs.Wholes.{Stores, GivenUp, whole_of}

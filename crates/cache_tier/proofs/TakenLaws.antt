@@ -35,7 +35,7 @@ use Rattle.tier_model.specs.declared.event.TierFault.TheVariants as tier
 use Rattle.tier_model.specs.declared.whole.Whole.TheVariants as whole
 use Rattle.tier_model.specs.Calls.{Outcome, nothing_done, writes_after}
 use Rattle.tier_model.specs.Response.{joined, whole_of}
-use Rattle.tier_model.specs.Rows.{FinishedBody}
+use Rattle.tier_model.specs.Rows.{FinishedBody, size_of}
 use Rattle.tier_model.specs.Shelf as shelf
 use Rattle.tier_model.specs.State.{State}
 use Rattle.tier_model.specs.Step.{BeginsWrite}
@@ -168,11 +168,11 @@ module _ (n : ℕ) (s : State) (t : MomentValue) (key : CacheKeyValue) (pieces :
         }
 
         admitted : (size : ℕ) (evicted : Vec CacheEntryKey) (c : Cache Held) → size ≡ length body
-            → IsAdmitted (rules n) (Created (length body)) (alone (entry_of key)) evicted.items (record c0 { store = mid }) c → IsTaken (Ok (Stored size evicted)) c
+            → IsAdmitted (rules n) (Created (size_of b.body)) (alone (entry_of key)) evicted.items (record c0 { store = mid }) c → IsTaken (Ok (Stored size evicted)) c
         admitted size evicted c sized a =
             taken_so (Ok (Stored size evicted)) (Ok (answer.Finished size evicted.items)) c tt (λ x told. told) (kept-admitted n over c0.store.next b kept c0.words mid shelved size evicted.items c sized a)
 
-        taken_back : (fault : PutFault) (c : Cache Held) → IsTakenBack (rules n) (Created (length body)) (alone (entry_of key)) fault (record c0 { store = mid }) c → IsTaken (Err fault) c
+        taken_back : (fault : PutFault) (c : Cache Held) → IsTakenBack (rules n) (Created (size_of b.body)) (alone (entry_of key)) fault (record c0 { store = mid }) c → IsTaken (Err fault) c
         taken_back fault c back =
             let was : Bool = was_admitted n (alone b.entry) back.cause back.left in
             let f : TierFault = fault_for back.cause (record { stored = true; admitted = was; evicted = evicted_of back.cause }) in

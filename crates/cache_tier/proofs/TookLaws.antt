@@ -1,21 +1,19 @@
 -- An event that is taken: a refusal by a check, and the events that need no reading and draw no word.
-use Rattle.std.proofs.Common.{◌≡◌, ◌≢◌, ℕ, refl, ap, sym, ◌∙◌, Bool, true, false, subst, cond, Some, None, Option}
-use Rattle.std.specs.Prelude.{◌==◌, pos, Ok, Err, is_some}
+use Rattle.std.proofs.Common.{◌≡◌, ℕ, refl, sym, ◌∙◌, Bool, true, false, subst, cond, Some, None, Option}
+use Rattle.std.specs.Prelude.{◌==◌, pos, Err, is_some}
 use Rattle.std.specs.FinMap.{FinMap, get, insert, remove, same_map, nat_cmp-IsAntisymmetric}
 use Rattle.std.specs.Ordering.{nat_cmp}
 use Rattle.std.proofs.lemmas.Cmp.{nat_cmp_total}
 use Rattle.std.proofs.lemmas.Bool.{eqb-true}
 use Rattle.cache_words.specs.Time.{MomentValue}
-use Rattle.cache_lock.specs.Changes.{Change}
-use Rattle.cache_lock.specs.State.{LockState}
 use Rattle.tier_model.specs.declared.event.Action.{Action}
 use Rattle.tier_model.specs.declared.event.TierFault.{TierFault}
 use Rattle.tier_model.specs.Calls.{Call, Outcome}
 use Rattle.tier_model.specs.Response.{IsRead}
 use Rattle.tier_model.specs.State.{Request, State}
 use Rattle.tier_model.specs.Checks.{refusal}
-use Rattle.tier_model.specs.Step.{AllowsBy, BeginsWrite, may_begin, tells_of_write, AsksLock}
-use Rattle.tier_model.specs.After.{lock_changes_in, after_outcome, with_counts, after}
+use Rattle.tier_model.specs.Step.{AllowsBy, tells_of_write, AsksLock}
+use Rattle.tier_model.specs.After.{after}
 use Rattle.tier_model.proofs.CallLaws.{at-insert, at-remove}
 use Rattle.cache_tier.specs.Acts.{Took}
 

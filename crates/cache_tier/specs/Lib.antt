@@ -8,4 +8,3 @@ pub mod Counts
 pub mod Takes
 pub mod Restarts
 pub mod Options
-pub mod Shown

@@ -4,7 +4,7 @@ use Rattle.cache_words.specs.Time.{MomentValue, DurationValue}
 use Rattle.cache_headers.specs.declared.header.ResponseHeader.{ResponseHeader}
 use Rattle.cache_heads.specs.declared.defaults.CacheMetaDefaults.{CacheMetaDefaults}
 use Rattle.cache_heads.specs.declared.defaults.NeverByStatus.{NeverByStatus}
-use Rattle.cache_heads.specs.declared.reason.NoCacheReason.TheVariants.{OriginNotCache, StorageError}
+use Rattle.cache_heads.specs.declared.reason.NoCacheReason.TheVariants.{StorageError}
 use Rattle.cache_heads.specs.declared.reason.RespCacheable.{RespCacheable}
 use Rattle.cache_heads.specs.declared.reason.RespCacheable.TheVariants as verdict
 use Rattle.pingora_cache.specs.Response.{verdict_by_headers}

@@ -2,6 +2,7 @@
 ghost use Rattle.std.specs.Prelude.{◌≡◌, length};
 ghost use Rattle.std.specs.List.{sum_by};
 ghost use Rattle.std.specs.FinMap.{len, values};
+ghost use Rattle.cache_heads.specs.Meta.{meta_length};
 ghost use Rattle.cache_store.specs.Purges.{PurgeAnswer, id_at, target_key};
 ghost use Rattle.tier_model.specs.Shelf.{look, is_there, removed};
 ghost use Rattle.tier_model.specs.After.{counted};
@@ -58,4 +59,13 @@ pub(crate) fn all_bytes<S: BuildHasher>(store: &MemCache<S>) -> u64
     // No key has two bodies.
     let _count = store.finished_len();
     store.finished_bytes()
+}
+
+// The bytes of their metas as they are written, counted up to 2^64 - 1.
+pub(crate) fn all_metas<S: BuildHasher>(store: &MemCache<S>) -> u64
+    ensures { result ≡ counted 0 (sum_by (λ x. meta_length x.body.meta) (values (bodies_in store.now.store.bodies))) }
+{
+    // No key has two bodies.
+    let _count = store.finished_len();
+    store.finished_meta()
 }

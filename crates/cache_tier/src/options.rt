@@ -5,7 +5,7 @@ use cache_words::time::Duration;
 /// What a tier was made with: the arguments of `Tier::new`.
 #[derive(Clone, Copy, PartialEq, Eq, Debug)]
 pub struct TierOptions {
-    /// The most that the entries may weigh together: the bytes of their bodies, 1 at least for each.
+    /// The most that the entries may weigh together: each the bytes of its body and those of its meta as it is written.
     pub limit: usize,
     /// The most entries there may be; any number if `None`.
     pub watermark: Option<usize>,

@@ -25,7 +25,7 @@ mod read;
 mod restarts;
 mod shown;
 
-use crate::bodies::{all_bytes, count};
+use crate::bodies::{all_bytes, all_metas, count};
 use crate::options::TierOptions;
 use cache_evict::EvictionManager;
 use cache_evict::lru::Manager;
@@ -245,6 +245,7 @@ impl<const N: usize, S: BuildHasher> Tier<N, S> {
             absent: self.absent,
             bodies: count(&self.parts.store),
             bytes: all_bytes(&self.parts.store),
+            meta: all_metas(&self.parts.store),
             tracked: self.parts.manager.total_items() as u64,
             weight: self.parts.manager.total_size() as u64,
             evicted: self.parts.manager.evicted_items() as u64,

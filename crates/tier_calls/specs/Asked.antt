@@ -30,8 +30,9 @@ head_numbers m =
     seconds_since m.internal.fresh_until.seconds ∷ m.internal.fresh_until.nanoseconds ∷ seconds_since m.internal.created.seconds
     ∷ m.internal.created.nanoseconds ∷ m.internal.stale_while_revalidate_sec ∷ m.internal.stale_if_error_sec ∷ []
 
+-- in the order of its questions, of which the last came later
 abbrev pub report_numbers : Report → List ℕ
-report_numbers r = r.found ∷ r.absent ∷ r.bodies ∷ r.bytes ∷ r.tracked ∷ r.weight ∷ r.evicted ∷ []
+report_numbers r = r.found ∷ r.absent ∷ r.bodies ∷ r.bytes ∷ r.tracked ∷ r.weight ∷ r.evicted ∷ r.meta ∷ []
 
 -- of the head that is shown; 0 where none is
 abbrev pub head_number : Option CacheMeta → ℕ → ℕ
@@ -46,13 +47,13 @@ report_number tier (Some s) place = slice_index (report_numbers (report_of s)) p
 abbrev pub is_within : ℕ → ℕ → ℕ → Bool
 is_within first last op = nat_le first op && nat_le op last
 
--- what a question is answered: 20 to 28 are of what was told, 29 is the tier's state, 30 the version, 31 to 36 are of the head, 40 to 46 of the
+-- what a question is answered: 20 to 28 are of what was told, 29 is the tier's state, 30 the version, 31 to 36 are of the head, 40 to 47 of the
 -- report; any other number is no call
 abbrev pub asked : Held → ℕ → ℕ
 asked h op =
     if is_within 20 28 op then slice_index (told_numbers h.told) (op - 20)
     else if op == 29 then status_of h.tier
-    else if op == 30 then 3
+    else if op == 30 then 4
     else if is_within 31 36 op then head_number h.head (op - 31)
-    else if is_within 40 46 op then report_number h.tier (state_of h.tier) (op - 40)
+    else if is_within 40 47 op then report_number h.tier (state_of h.tier) (op - 40)
     else 16

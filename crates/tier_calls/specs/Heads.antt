@@ -7,7 +7,7 @@ use Rattle.cache_heads.specs.declared.meta.CacheMeta.{CacheMeta}
 use Rattle.tier_model.specs.Keys.{stored_key_of}
 use Rattle.tier_model.specs.Shelf.{look}
 use Rattle.tier_model.specs.State.{State}
-use Rattle.cache_tier.specs.Shown.{meta_found}
+use Rattle.tier_requests.specs.Shown.{meta_found}
 use Rattle.tier_calls.specs.Answered.{plain}
 use Rattle.tier_calls.specs.Events.{key_in}
 use Rattle.tier_calls.specs.Tiers.{state_of, status_of}

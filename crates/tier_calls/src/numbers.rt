@@ -91,6 +91,8 @@ pub const REPORT_WEIGHT: u64 = 45;
 
 pub const REPORT_EVICTED: u64 = 46;
 
+pub const REPORT_META: u64 = 47;
+
 /// What bytes are that are handed in. From `FILES` on they are the files of the shards.
 pub const KEY: u64 = 0;
 
@@ -150,7 +152,7 @@ pub const STARTED: u64 = 48;
 pub const SHOWN: u64 = 49;
 
 /// Of these calls and their numbers.
-pub const THE_VERSION: u64 = 3;
+pub const THE_VERSION: u64 = 4;
 
 /// No watermark, or no longest wait.
 pub const NONE: u64 = u64::MAX;

@@ -1,5 +1,5 @@
 //! A tier of one, four or sixteen shards.
-ghost use Rattle.std.specs.Prelude.{◌≡◌, ◌<◌, ◌↔◌, [], Some, None, IfOk, IfErr, IfSome, IfNone, IsSome, MatchResult, replicate};
+ghost use Rattle.std.specs.Prelude.{◌≡◌, ◌<◌, ◌↔◌, [], Some, None, IfOk, IfErr, IfSome, IfNone, IsSome, MatchResult, replicate, option_map};
 ghost use Rattle.tier_calls.specs.Heads.{IsMetaOf, meta_for};
 ghost use Rattle.tier_calls.specs.Restarts.{SavesAs, SavesIn, Starts, StartsIn};
 ghost use Rattle.tier_calls.specs.Tiers.{state_of, status_of, IsCount, made_with, Steps};

@@ -173,6 +173,9 @@ const DAY: &[Step] = &[
     ),
     (numbers::TAG, NOTHING, numbers::EVICTED, 0, 0, 0),
     (numbers::TAG, NOTHING, numbers::REPORT_BODIES, 0, 0, 2),
+    (numbers::TAG, NOTHING, numbers::REPORT_BYTES, 0, 0, 8),
+    (numbers::TAG, NOTHING, numbers::REPORT_META, 0, 0, 140),
+    (numbers::TAG, NOTHING, numbers::REPORT_WEIGHT, 0, 0, 148),
     (
         numbers::KEY,
         b"/a",
@@ -261,7 +264,7 @@ const DAY: &[Step] = &[
 ];
 
 fn made(alloc: Global, shards: u64) -> Held {
-    make(alloc, 100, numbers::NONE, 10, numbers::NONE, shards, 0, 99)
+    make(alloc, 200, numbers::NONE, 10, numbers::NONE, shards, 0, 99)
 }
 
 // Whether a step answers as it should.

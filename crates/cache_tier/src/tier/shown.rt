@@ -3,7 +3,7 @@ ghost use Rattle.std.specs.Prelude.{◌≡◌, MatchResult, IsSome, option_map};
 ghost use Rattle.mem_cache.specs.Shown.{meta_shown};
 ghost use Rattle.tier_model.specs.Keys.{stored_key_of};
 ghost use Rattle.tier_model.specs.Shelf.{look};
-ghost use Rattle.cache_tier.specs.Shown.{meta_found};
+ghost use Rattle.tier_requests.specs.Shown.{meta_found};
 
 use super::Tier;
 use crate::keys::parts_of;

@@ -31,7 +31,7 @@ fn of_told(told: &Told, op: u64) -> u64
 // A number of the report.
 fn of_report(report: &Report, op: u64) -> u64
     requires first { 40 ≤ op }
-    requires last { op ≤ 46 }
+    requires last { op ≤ 47 }
     ensures { result ≡ slice_index (report_numbers report.now) (op - 40) }
 {
     match op {
@@ -41,7 +41,8 @@ fn of_report(report: &Report, op: u64) -> u64
         numbers::REPORT_BYTES => report.bytes,
         numbers::REPORT_TRACKED => report.tracked,
         numbers::REPORT_WEIGHT => report.weight,
-        _ => report.evicted,
+        numbers::REPORT_EVICTED => report.evicted,
+        _ => report.meta,
     }
 }
 
@@ -55,7 +56,7 @@ impl Held {
             numbers::STATE => self.tier.status(),
             numbers::VERSION => numbers::THE_VERSION,
             numbers::FRESH_UNTIL..=numbers::STALE_IF_ERROR => self.ask_head(op),
-            numbers::REPORT_FOUND..=numbers::REPORT_EVICTED => self.ask_report(op),
+            numbers::REPORT_FOUND..=numbers::REPORT_META => self.ask_report(op),
             _ => numbers::BAD_CALL,
         }
     }
@@ -75,7 +76,7 @@ impl Held {
     // A number of the tier's report; without a tier why none is there.
     fn ask_report(&self, op: u64) -> u64
         requires first { 40 ≤ op }
-        requires last { op ≤ 46 }
+        requires last { op ≤ 47 }
         ensures { result ≡ report_number self.now.tier (state_of self.now.tier) (op - 40) }
     {
         match self.tier.report() {

@@ -1,8 +1,7 @@
 use Rattle.std.proofs.Common.{◌≡◌, sym, ◌∙◌}
-use Rattle.std.specs.Prelude.{Ok, Err}
+use Rattle.std.specs.Prelude.{Ok}
 use Rattle.tier_model.specs.declared.event.Action.TheVariants.{Drop}
 use Rattle.tier_model.specs.declared.event.Answer.TheVariants.{Dropped}
-use Rattle.tier_model.specs.declared.event.TierFault.TheVariants.{NoRequest}
 use Rattle.tier_model.specs.State.{State}
 use Rattle.tier_requests.specs.Shelves.{shelf_of}
 use Rattle.cache_tier.specs.States.{state_by}

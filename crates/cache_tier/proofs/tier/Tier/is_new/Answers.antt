@@ -1,4 +1,4 @@
-use Rattle.std.proofs.Common.{◌≡◌, ◌<◌, ◌^◌, ℕ, [], refl, sym, subst, length, ◌∙◌}
+use Rattle.std.proofs.Common.{◌≡◌, ◌<◌, ◌^◌, [], refl, sym, subst, length, ◌∙◌}
 use denote.Param.{layout, number, param}
 use mir.Syntax.{Ty}
 use prog.Memory.{size}
