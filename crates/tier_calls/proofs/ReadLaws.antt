@@ -1,22 +1,21 @@
 -- Bytes are answered to a read alone.
-use Rattle.std.proofs.Common.{◌≡◌, ℕ, Bool, true, false, List, [], ◌∷◌, Option, Some, None, refl, sym, subst}
-use Rattle.std.specs.Prelude.{Result, Ok, Err, MatchOption}
+use Rattle.std.proofs.Common.{◌≡◌, ℕ, true, List, [], ◌∷◌, Option, Some, None, refl, subst}
+use Rattle.std.specs.Prelude.{Ok, MatchOption}
 use Rattle.std.specs.FinMap.{get}
 use Rattle.rand_core.specs.Stream.{Stream}
 use Rattle.cache_words.specs.Time.{MomentValue}
 use Rattle.cache_tier.specs.Takes.{Takes}
-use Rattle.tier_model.specs.Answers.{IsBeginAnswer, IsPutAnswer, lock_given, look_answer, look_for, read_answer, finishing}
+use Rattle.tier_model.specs.Answers.{IsBeginAnswer, IsPutAnswer, lock_given, look_answer, look_for, finishing}
 use Rattle.tier_model.specs.Calls.{Call, Outcome, AreCallsOf, finished_by, judged_of, read_by}
 use Rattle.tier_model.specs.Checks.{refusal}
 use Rattle.tier_model.specs.Past.{AreTaken}
 use Rattle.tier_model.specs.Response.{Judged, kept, not_kept, too_early, not_read}
 use Rattle.tier_model.specs.Rows.{FinishedBody}
 use Rattle.tier_model.specs.Shelf.{Look, absent, in_flight, finished}
-use Rattle.tier_model.specs.State.{Request, State}
+use Rattle.tier_model.specs.State.{State}
 use Rattle.tier_model.specs.Step.{AllowsBy, IsAnswer}
 use Rattle.tier_model.specs.declared.event.Action.{Action}
 use Rattle.tier_model.specs.declared.event.Action.TheVariants.{Open, LookUp, Poll, Begin, Piece, Finish, Read, Drop, Purge, Put}
-use Rattle.tier_model.specs.declared.event.Answer.{Answer}
 use Rattle.tier_model.specs.declared.event.Answer.TheVariants as answer
 use Rattle.tier_model.specs.declared.event.Event.{Event}
 use Rattle.tier_model.specs.declared.event.LockGiven.{LockGiven}

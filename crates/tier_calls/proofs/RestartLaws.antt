@@ -1,5 +1,5 @@
 -- A start and a save, of the tier that is there.
-use Rattle.std.proofs.Common.{◌≡◌, ℕ, zero, suc, List, [], ◌∷◌, ◌++◌, Option, Some, None, refl, sym, ap, ◌∙◌, subst}
+use Rattle.std.proofs.Common.{◌≡◌, ℕ, List, [], ◌∷◌, ◌++◌, refl, sym, ap, ◌∙◌, subst}
 use Rattle.std.specs.Prelude.{Result, Ok, Err, length, replicate}
 use Rattle.lru_files.specs.Folder.{IsSame}
 use Rattle.lru_files.specs.MemFolder.{files_of}
@@ -9,7 +9,6 @@ use Rattle.lru_files.specs.declared.fault.ShardSaveReport.{ShardSaveReport}
 use Rattle.cache_words.specs.declared.pack.fault.PackWriteFault.{PackWriteFault}
 use Rattle.cache_entries.specs.declared.rows.Tracked.{Tracked}
 use Rattle.cache_evict.specs.Managed.{Managed, fresh}
-use Rattle.cache_evict.specs.declared.fault.EvictFault.{EvictFault}
 use Rattle.cache_evict.specs.declared.fault.EvictFault.TheVariants as evict
 use Rattle.cache_evict.specs.declared.load_fault.LoadFault.{LoadFault}
 use Rattle.tier_model.specs.Started.{IsNew, all_rows}

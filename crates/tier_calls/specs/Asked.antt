@@ -1,6 +1,5 @@
 -- What questions are answered.
 use Rattle.std.specs.Prelude.{ℕ, ◌-◌, ◌==◌, ◌&&◌, Bool, true, false, nat_le, ℤ, pos, negsuc, List, [], ◌∷◌, slice_index, if◌then◌else◌, Option, Some, None}
-use Rattle.cache_words.specs.Time.{MomentValue}
 use Rattle.cache_heads.specs.declared.meta.CacheMeta.{CacheMeta}
 use Rattle.tier_model.specs.Reports.{report_of}
 use Rattle.tier_model.specs.State.{State}

@@ -1,5 +1,5 @@
 -- What the calls of a held tier do.
-use Rattle.std.specs.Prelude.{◌≡◌, ◌⊎◌, ◌↔◌, ◌≤◌, ◌<◌, ◌==◌, ◌&&◌, ◌^◌, ◌-◌, ◌+◌, ◌++◌, ℕ, pos, Bool, List, [], length, take, drop, min, nat_lt, nat_eq, cond, if◌then◌else◌, Option, Some, None, option_map, IsSome, slice_get, Result, Ok, Err, string_bytes}
+use Rattle.std.specs.Prelude.{◌≡◌, ◌⊎◌, ◌↔◌, ◌≤◌, ◌<◌, ◌==◌, ◌&&◌, ◌^◌, ◌-◌, ◌++◌, ℕ, pos, Bool, List, [], length, take, drop, min, nat_lt, nat_eq, cond, if◌then◌else◌, Option, Some, None, option_map, IsSome, slice_get, Result, Ok, Err, string_bytes}
 use Rattle.std.specs.HashMap.{get}
 use Rattle.std.specs.Str.{IsUtf8}
 use Rattle.rand_core.specs.Stream.{Stream}

@@ -13,7 +13,6 @@ use Rattle.cache_tier.specs.Restarts.{SavesOrder, LoadsOrder}
 use Rattle.tier_model.specs.Started.{IsNew}
 use Rattle.tier_model.specs.State.{State, shards_of}
 use Rattle.tier_model.specs.declared.event.TierFault.{TierFault}
-use Rattle.tier_model.specs.declared.event.TierFault.TheVariants.{Folder}
 use Rattle.tier_calls.specs.Tiers.{state_of, StartsAs}
 use Rattle.tier_calls.specs.declared.shards.Loaded.{Loaded}
 use Rattle.tier_calls.specs.declared.shards.Saved.{Saved}

@@ -1,5 +1,5 @@
 -- The tier that is there, whatever the number of its shards.
-use Rattle.std.specs.Prelude.{◌≡◌, ◌⊎◌, ℕ, List, [], ◌∷◌, Option, Some, None}
+use Rattle.std.specs.Prelude.{◌≡◌, ◌⊎◌, ℕ, [], ◌∷◌, Option, Some, None}
 use Rattle.rand_core.specs.Stream.{Stream}
 use Rattle.tier_model.specs.declared.event.Event.{Event}
 use Rattle.tier_model.specs.Calls.{Outcome}

@@ -1,8 +1,8 @@
 use Rattle.std.proofs.Common.{rules, refl, subst}
-use Rattle.std.specs.Prelude.{◌≡◌, Some, []}
+use Rattle.std.specs.Prelude.{◌≡◌, []}
 use Rattle.tier_model.specs.Histories.{empty_opening}
 use Rattle.tier_model.specs.Past.{HasPast}
-use Rattle.tier_model.specs.State.{Settings, State, empty_state}
+use Rattle.tier_model.specs.State.{Settings, empty_state}
 use Rattle.tier_calls.proofs.held.make.Goals as goal
 
 pub returns : goal.returns

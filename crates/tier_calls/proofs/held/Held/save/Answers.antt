@@ -1,4 +1,4 @@
-use Rattle.std.proofs.Common.{◌≡◌, refl, sym, ap, ◌∙◌, subst, inl, inr}
+use Rattle.std.proofs.Common.{refl, sym, ap, ◌∙◌, subst, inl, inr}
 use Rattle.std.specs.Prelude.{Result}
 use Rattle.tier_model.specs.declared.event.TierFault.{TierFault}
 use Rattle.tier_calls.specs.Answered.{plain}

@@ -1,4 +1,4 @@
-use Rattle.std.proofs.Common.{◌≡◌, refl, sym, ap, subst, inl, inr}
+use Rattle.std.proofs.Common.{refl, sym, ap, subst, inl, inr}
 use Rattle.std.specs.Prelude.{Result, Err}
 use Rattle.tier_calls.specs.Called.{IsStarted}
 use Rattle.tier_calls.specs.Restarts.{StartsIn}

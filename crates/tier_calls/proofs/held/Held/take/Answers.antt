@@ -1,4 +1,4 @@
-use Rattle.std.proofs.Common.{◌≡◌, ℕ, ap, sym, ◌∙◌, subst, inl, nat_eq}
+use Rattle.std.proofs.Common.{ap, sym, ◌∙◌, subst, inl, nat_eq}
 use Rattle.tier_calls.specs.declared.held.Held.{Held}
 use Rattle.tier_calls.specs.declared.told.Told.{Told}
 use Rattle.tier_calls.specs.Called.{words_of, read_in, read_with}
