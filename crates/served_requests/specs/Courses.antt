@@ -10,8 +10,8 @@ use Rattle.tier_model.specs.declared.event.Answer.{Answer}
 use Rattle.tier_model.specs.declared.event.Answer.TheVariants.{Opened, Found, Bytes, Dropped, Finished, Uncacheable, Purged}
 use Rattle.tier_model.specs.declared.event.LockGiven.TheVariants as lock
 use Rattle.tier_model.specs.declared.event.TierFault.{TierFault}
-use Rattle.tier_model.specs.declared.event.TierFault.TheVariants.{IdInUse, Memory}
-use Rattle.tier_model.specs.Calls.{Outcome, nothing_done}
+use Rattle.tier_model.specs.declared.event.TierFault.TheVariants.{IdInUse}
+use Rattle.tier_model.specs.Calls.{Outcome}
 use Rattle.tier_model.specs.State.{State}
 use Rattle.tier_requests.specs.Faults.{out_of_memory}
 use Rattle.cache_tier.specs.Takes.{Takes}

@@ -1,4 +1,4 @@
-use Rattle.std.proofs.Common.{◌≡◌, ◌∙◌, ℕ, None, Some, ap}
+use Rattle.std.proofs.Common.{◌∙◌, ℕ, None, Some, ap}
 use Rattle.tier_model.specs.Response.{judged}
 use Rattle.served_requests.proofs.Weights.{can-write, weighed}
 use Rattle.served_requests.proofs.weight.weight_of.Goals as goal
