@@ -94,7 +94,7 @@ def packed_moment(at):
 
 
 def packed_internal(meta):
-    """The numbers of a meta: its version, when it is fresh to, was created and updated, both windows, no variance, no override, and its origin."""
+    """The version of a meta, until when it is fresh, when it was created and updated, both windows, no variance, no override, and its origin."""
     moments = packed_moment(meta.until) + 2 * packed_moment(meta.created)
     return packed_array(9) + packed(2) + moments + b"".join(map(packed, meta.windows)) + 2 * b"\xc0" + packed_moment(meta.origin)
 
@@ -394,7 +394,7 @@ def listed(found):
 
 
 class Meta:
-    """What is kept of a head. `origin` is when what it stands in for was created: it goes back to the first of those that were begun over something stale."""
+    """What is kept of a head, and how long that is as it is written. `origin` is when it came; begun over something stale, it has the origin of that."""
 
     def __init__(self, head, until, now, origin):
         found = directives(head.values("cache-control"))

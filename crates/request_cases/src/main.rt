@@ -8,7 +8,7 @@
 //! |---|---|
 //! | `enable`, `enable lock` | with all parts of the cache, or with its lock alone; waits take 3 seconds in all, and are tried again twice |
 //! | `end` | the request ends, and another begins in its place |
-//! | `look SECOND STATUS` | looks up, and takes what is found with that status: `body` and its length, or `passed` as a miss, or `too-heavy` for the manager |
+//! | `look SECOND STATUS` | looks up, and takes what is found with that status: `body` and its weight, or `passed` as a miss, or `too-heavy` for the manager |
 //! | `look-at SECOND` | the same of what is fresh or stale by itself at that second |
 //! | `vary SECOND VARIANCE` | looks up, leaves what is found and goes on to a variant of it; whether that was found |
 //! | `meta`, `begin`, `revalidate` `UNTIL CREATED` | with a meta that is fresh until a second, made at another (else at 1000), with stale windows of 30 and 60 seconds |
