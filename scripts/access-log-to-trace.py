@@ -41,7 +41,11 @@ MOST_ANSWERS, ANSWERS_EACH = 2**20, 69
 
 
 def put_of(moment, key, size, options):
-    head = f"HTTP/1.1 200 OK\r\nCache-Control: max-age={options.lifetime}\r\nContent-Length: {size}\r\n\r\n"
+    lines = f"Cache-Control: max-age={options.lifetime}\r\nContent-Length: {size}\r\n"
+    lacking = options.head - len(lines) - len("x:\r\n")
+    if lacking >= 0:
+        lines += "x:" + "x" * lacking + "\r\n"
+    head = f"HTTP/1.1 200 OK\r\n{lines}\r\n"
     return {"op": "put", "at": moment, "key": key, "pieces": [head.encode().hex(), "78" * size]}
 
 
@@ -184,7 +188,8 @@ def options_of(words):
     what.add_argument("--cases", metavar="FOLDER", help="write the trace for each of --limits into this new folder, for `rt try --cases`")
     what.add_argument("--answers", metavar="FILE", help="read what the runs of the cases wrote, and print hit ratios")
     parser.add_argument("--limits", metavar="BYTES,..", default="", help="the sizes of --cases, of the cache as it is to be")
-    parser.add_argument("--scale", type=float, default=1, help="divide each body's length by this, to keep the trace small (default 1)")
+    parser.add_argument("--head", type=int, default=0, metavar="BYTES", help="how long the header lines of the origin's responses are, which count against the limit: those of the trace are padded to that (default: two short lines)")
+    parser.add_argument("--scale", type=float, default=1, help="divide each body's length by this, to keep the trace small (default 1); heads stay as long as they are, so --sample tells more of small bodies")
     parser.add_argument("--sample", type=int, default=1, help="take one key in so many, by its hash, to keep the trace short (default 1)")
     parser.add_argument("--longest", type=int, default=2**26, help="the longest body, after --scale, that is taken (default 64 MiB)")
     parser.add_argument("--lifetime", type=int, default=3600, help="how long a response is fresh, in seconds (default 3600)")

@@ -124,7 +124,7 @@ def options_of(words):
     parser.add_argument("log", help="the log: combined or common format, or lines 'time key bytes'")
     parser.add_argument("--sizes", required=True, help="the sizes, as 2M..200M or 1M,10M,100M")
     parser.add_argument("--steps", type=int, default=40, help="how many sizes between two ends (default 40)")
-    parser.add_argument("--overhead", type=int, default=0, help="what each entry takes beside its body, in bytes (default 0)")
+    parser.add_argument("--overhead", type=int, default=0, help="what each entry weighs beside its body, in bytes: its header lines and some 38 (default 0)")
     parser.add_argument("--lifetime", type=int, help="how long a response is fresh, in seconds (default 3600)")
     parser.add_argument("--whole", action="store_true", help="take bodies of any length; else those past 64 MiB are passed over")
     parser.add_argument("--no-query", action="store_true", help="leave the query out of the key")

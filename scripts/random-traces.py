@@ -22,6 +22,7 @@ IDS = (0, 1, 2, 3, 18446744073709551615)
 STATUS = ("200 OK", "200 OK", "200 OK", "200", "404 Not Found", "204 No Content", "304 Not Modified", "099 x")
 CONTROLS = ("max-age=100", "max-age=100", "max-age=10", "max-age=2", "max-age=0", "no-store", "no-cache", "public", "private", 'private="x-a"')
 CONTROLS += ("s-maxage=5, max-age=1", "max-age=x", "s-maxage=x, max-age=9", 'max-age="7"', "max-age=9223372036854775807", "a=b;max-age=3", "max-age=1, max-age=4")
+CONTROLS += ("max-age=9, stale-while-revalidate=300, stale-if-error=70000", 'max-age=9, no-cache="x-a, x-nnn"', "max-age=9, must-revalidate, stale-if-error=60")
 EXPIRES = ("0", "Thu, 01 Jan 1970 00:16:45 GMT", "Thursday, 01-Jan-70 00:16:50 GMT", "Thu Jan  1 00:17:00 1970", "Fri, 01 Jan 1970 00:16:45 GMT")
 ODD = ('{"op":"look","at":1', "[]", "", "{}", '{"op":"looks","at":1,"id":1}', '{"op":"look","at":-1,"id":1}', '{"op":"look","at":1,"id":1.0}', '"open"', "\xff{}")
 ODD += ('{"op":"open","at":1,"id":1,"key":"6"}', '{"op":"open","at":1,"id":9,"key":"61","lock":1}', '{"op":"piece","at":1,"id":1,"bytes":"6g"}', '{"op":"begin","at":1,"id":1}')
@@ -39,6 +40,9 @@ def head(r):
         lines.append(f"Content-Length: {r.choice(('0', '1', '2', '+3', '5', 'x'))}")
     if r.random() < 0.05:
         lines.append(r.choice(("x-a: 1" + end + " 2", "x-a : 1", "bad line", "x-a:")))
+    if r.random() < 0.1:
+        # names and values that are written in the shortest form and in the next one
+        lines.append(f"x-{'n' * r.choice((1, 3, 29, 30))}: {'v' * r.choice((0, 1, 255, 256))}")
     text = r.choice(("", "", "", end)) + end.join(lines) + end * 2
     data = text.encode()
     if r.random() < 0.05:
@@ -88,7 +92,7 @@ def event(r, tier, at, asks):
 
 
 def options(r):
-    words = ["--limit", str(r.choice((0, 1, 3, 4, 8, 20, 100, 2**64 - 1)))]
+    words = ["--limit", str(r.choice((0, 58, 60, 100, 120, 180, 250, 400, 1000, 2**64 - 1)))]
     words += ["--watermark", str(r.choice((0, 1, 2, 5)))] if r.random() < 0.3 else []
     words += ["--shards", r.choice(("1", "4", "16")), "--seed", str(r.choice((0, 2, 77, 2**64 - 1, r.randrange(2**64))))] if r.random() < 0.5 else []
     words += ["--age", str(r.choice((0, 1, 2, 3, 10, 2**64 - 1)))] if r.random() < 0.6 else []

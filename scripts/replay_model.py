@@ -44,7 +44,7 @@ class Words:
         return (word >> turn | word << (64 - turn)) % 2**64
 
 
-# MessagePack, as far as files of the order of use go.
+# MessagePack, as far as files of the order of use and metas go.
 
 
 def packed(number):
@@ -65,6 +65,13 @@ def packed_text(text):
             return bytes([mark]) + size.to_bytes(width, "big") + data
 
 
+def packed_bytes(data):
+    size = len(data)
+    for mark, width in ((0xC4, 1), (0xC5, 2), (0xC6, 4)):
+        if size < 256**width:
+            return bytes([mark]) + size.to_bytes(width, "big") + data
+
+
 def packed_array(count):
     if count < 16:
         return bytes([0x90 | count])
@@ -80,6 +87,21 @@ def packed_entry(entry):
     primary, variance, tag, number = entry
     key = packed_array(3) + packed_hash(primary) + (b"\xc0" if variance is None else packed_hash(variance)) + packed_text(tag)
     return key if number is None else packed_array(2) + key + packed(number)
+
+
+def packed_moment(at):
+    return packed_array(2) + packed(at) + packed(0)
+
+
+def packed_internal(meta):
+    """The version of a meta, until when it is fresh, when it was created and updated, both windows, no variance, no override, and its origin."""
+    moments = packed_moment(meta.until) + 2 * packed_moment(meta.created)
+    return packed_array(9) + packed(2) + moments + b"".join(map(packed, meta.windows)) + 2 * b"\xc0" + packed_moment(meta.origin)
+
+
+def packed_head(meta):
+    lines = b"".join(packed_array(2) + packed_text(name) + packed_bytes(value) for name, value in meta.lines)
+    return packed_array(2) + packed(meta.status) + packed_array(len(meta.lines)) + lines
 
 
 class Faulty(Exception):
@@ -321,7 +343,9 @@ def date(text):
             if "%y" in form and read.year < 1970:
                 read = read.replace(year=read.year + 100)
             again = read.strftime(form)
-            if text == (again.replace(" 0", "  ", 1) if "%Y" in form[-2:] else again) and read.year >= 1970:
+            # the third form may pad a day below 10 with a space
+            padded = re.sub("^(.{7}) 0", r"\1  ", again) if form.endswith("%Y") else again
+            if text in (again, padded) and read.year >= 1970:
                 return int(read.replace(tzinfo=timezone.utc).timestamp())
     return 0
 
@@ -351,6 +375,35 @@ def kept_until(head, now):
     return expires(head.values("expires"))
 
 
+def windows(found):
+    """How long the response may be used stale: while it is revalidated, and after an error."""
+    if any(name in found for name in (b"must-revalidate", b"proxy-revalidate", b"s-maxage")):
+        return 0, 0
+    given = [found.get(name) for name in (b"stale-while-revalidate", b"stale-if-error")]
+    return tuple(value and seconds(value) or 0 for value in given)
+
+
+def listed(found):
+    """The names that `private` and `no-cache` list: lines of these aren't kept."""
+    names = set()
+    for value in (found.get(b"private"), found.get(b"no-cache")):
+        if value is not None:
+            bare = value[1:-1] if len(value) > 1 and value[:1] == value[-1:] == b'"' else value
+            names |= {name.strip(b" \t").lower() for name in bare.split(b",")}
+    return names
+
+
+class Meta:
+    """What is kept of a head, and how long that is as it is written. `origin` is when it came; begun over something stale, it has the origin of that."""
+
+    def __init__(self, head, until, now, origin):
+        found = directives(head.values("cache-control"))
+        self.until, self.created, self.origin, self.windows = until, now, now if origin is None else origin, windows(found)
+        gone = listed(found)
+        self.status, self.lines = head.status, [line for line in head.lines if line[0].encode() not in gone]
+        self.length = len(packed_internal(self)) + len(packed_head(self))
+
+
 def body_length(head):
     if head.status in (204, 304):
         return 0
@@ -371,9 +424,12 @@ class Fault(Exception):
 
 
 class Write:
-    def __init__(self, entry, until):
-        self.entry, self.until, self.data = entry, until, b""
+    def __init__(self, entry, meta):
+        self.entry, self.meta, self.data = entry, meta, b""
         self.ended = self.removed = self.flies = False
+
+    def weight(self):
+        return max(1, len(self.data) + self.meta.length)
 
 
 class Permit:
@@ -385,7 +441,7 @@ class Request:
     def __init__(self, entry, asks):
         self.entry, self.asks = entry, asks
         self.phase, self.permit, self.wait, self.first, self.waited = "CacheKey", None, None, None, 0
-        self.gave_read, self.write, self.reader = False, None, None
+        self.gave_read, self.write, self.reader, self.origin = False, None, None, None
 
 
 class Reading:
@@ -483,7 +539,7 @@ class Tier:
 
     def finished(self, write):
         self.bodies[key_of(write.entry)] = write
-        self.track(write.entry, max(1, len(write.data)))
+        self.track(write.entry, write.weight())
         return f"finished {len(write.data)} evicted={self.evict()}"
 
     # Events.
@@ -520,14 +576,15 @@ class Tier:
         write = self.shown(key_of(request.entry))
         if write is None:
             self.absent += 1
-            lock, request.reader = self.ask(request, at), None
+            lock, request.reader, request.origin = self.ask(request, at), None, None
             request.phase = request.phase if lock == "read" else "Miss"
             request.gave_read = lock == "read"
             return f"absent lock={lock}"
-        fresh, whole = write.until >= at, not write.flies
+        fresh, whole = write.meta.until >= at, not write.flies
         if whole:
-            self.use(request.entry, max(1, len(write.data)))
+            self.use(request.entry, write.weight())
         self.found += 1
+        request.origin = None if fresh else write.meta.origin
         lock = "none" if fresh else self.ask(request, at)
         request.gave_read, request.phase, request.reader = lock == "read", "Hit" if fresh else "Stale", Reading(write, whole)
         return f"found {'fresh' if fresh else 'stale'} {'complete' if whole else 'partial'} lock={lock}"
@@ -572,7 +629,7 @@ class Tier:
             return "uncacheable OriginNotCache"
         if until < 0:
             raise Fault("BeforeEpoch")
-        write = Write(request.entry, until)
+        write = Write(request.entry, Meta(read, until, at, request.origin))
         write.flies = True
         self.flying.append(write)
         self.release(request, "done")
@@ -638,7 +695,7 @@ class Tier:
             return "uncacheable OriginNotCache"
         if until < 0:
             raise Fault("BeforeEpoch")
-        write = Write(entry, until)
+        write = Write(entry, Meta(head, until, at, None))
         write.data = body if length is None else body[:length]
         return self.finished(write)
 
@@ -646,7 +703,7 @@ class Tier:
         bodies = self.bodies.values()
         return (
             f"report found={self.found} absent={self.absent} bodies={len(bodies)} bytes={sum(len(it.data) for it in bodies)}"
-            f" tracked={len(self.rows())} weight={sum(row[1] for row in self.rows())} evicted={self.evicted}"
+            f" meta={sum(it.meta.length for it in bodies)} tracked={len(self.rows())} weight={sum(row[1] for row in self.rows())} evicted={self.evicted}"
         )
 
     # A folder is a map from names to bytes.

@@ -80,7 +80,7 @@ done > "$room/answers"
 python3 scripts/access-log-to-trace.py --scale 10 --answers "$room/answers" < "$room/plain" > "$room/ratios" 2> "$room/told"
 printf '%s\n' '== 1000' 'requests=3 found=0 absent=3' 'hit ratio 0.0 % of requests, 0.0 % of bytes' \
     '== 20000' 'requests=3 found=1 absent=2' 'hit ratio 33.3 % of requests, 40.0 % of bytes' | diff - "$room/ratios"
-# driven by the plain model, line by line: a 304 before a body that is too long for the limit is no hit
+# driven by the plain model, line by line: a 304 before a body that is too heavy for the limit with its meta is no hit
 cat > "$room/model.py" << 'END'
 import sys
 
@@ -96,8 +96,13 @@ driven() {
     { line 1 GET a '304 0'; line 2 GET a '200 1000'; } |
         python3 scripts/access-log-to-trace.py --drive "python3 $room/model.py --limit $1" 2> "$room/told" | sed -n 2p
 }
-[ "$(driven 100)" = "hit ratio 0.0 % of requests, 0.0 % of bytes" ]
-[ "$(driven 1000)" = "hit ratio 50.0 % of requests, 50.0 % of bytes" ]
+[ "$(driven 1074)" = "hit ratio 0.0 % of requests, 0.0 % of bytes" ]
+[ "$(driven 1075)" = "hit ratio 50.0 % of requests, 50.0 % of bytes" ]
+# header lines as long as the origin's: padded by one line, of four bytes at least
+for length in 300 53 52 40; do
+    head=$(line 1 GET a '200 10' | python3 scripts/access-log-to-trace.py --head $length 2> "$room/told" | sed -n 's/.*"pieces":\["\([0-9a-f]*\)".*/\1/p')
+    echo "$length: $((${#head} / 2 - 19))"
+done | tr '\n' ' ' | grep -qx "300: 300 53: 53 52: 49 40: 49 "
 # a response as curl prints it: the last of several heads, with a status line of HTTP/1.1
 printf 'HTTP/1.1 301 Moved\r\nLocation: /b\r\n\r\nHTTP/2 200 \r\ncache-control: max-age=5\r\n\r\nabc' |
     python3 scripts/response-to-trace.py --at 1000 --look 6 /a 2> "$room/told" > "$room/trace"

@@ -112,14 +112,15 @@ python3 scripts/merge-curves.py "$room/one" "$room/other" | diff "$room/sum" -
 # the limits of a part between two ends are those of all parts together
 run --from 8 --to 8000 --steps 5 --part 3/8 < "$room/requests" | cut -d, -f1 | sed -n 2,6p | tr '\n' ' ' | grep -q '^8 48 256 1424 8000 $'
 run --limits 8,81 --part 0/8 < /dev/null 2>&1 > /dev/null | grep -q 'each limit must be a multiple of K' || [ ! -x "$program" ]
-# what a tier finds of three traces at three limits, where its program is built
+# what a tier finds of three traces at three limits, where its program is built: an entry weighs its body and its meta, which takes 85 bytes and
+# the digits of the body's length
 if [ -x "$replay" ]; then
     for seed in 1 2 4; do
-        python3 scripts/plain_curve.py --make "$seed" | awk 'NF == 3 && $3 ~ /^[1-9][0-9]*$/ && length($3) < 9' > "$room/log"
+        python3 scripts/plain_curve.py --make "$seed" | awk 'NF == 3 && $3 ~ /^[1-9][0-9]*$/ && length($3) < 9 { print $1 + 100000, $2, $3 }' > "$room/log"
         python3 scripts/access-log-to-trace.py < "$room/log" > "$room/trace" 2> /dev/null
-        python3 scripts/access-log-to-trace.py --requests < "$room/log" > "$room/requests" 2> /dev/null
-        run --limits 100,300,1200 < "$room/requests" > "$room/told"
-        for limit in 100 300 1200; do
+        python3 scripts/access-log-to-trace.py --requests < "$room/log" 2> /dev/null | awk '{ print $1, $2, $3 + 85 + length($3) }' > "$room/requests"
+        run --limits 300,900,3500 < "$room/requests" > "$room/told"
+        for limit in 300 900 3500; do
             finds=$("$replay" --limit "$limit" < "$room/trace" | grep -c '^found') || true
             grep -q "^$limit,$finds," "$room/told" || { echo "a tier finds $finds at $limit" >&2; exit 1; }
         done

@@ -75,7 +75,7 @@ def traces(program, place):
 
 def others(program, place):
     """A directory that isn't there yet is made; a file in its place can't be one, and nothing is saved."""
-    report = b"report found=0 absent=0 bodies=0 bytes=0 tracked=0 weight=0 evicted=0\n"
+    report = b"report found=0 absent=0 bodies=0 bytes=0 meta=0 tracked=0 weight=0 evicted=0\n"
     new = os.path.join(place, "new")
     made = b"recency loaded=0 missing=4 errored=0\n" + report + b"recency saved=4 failed=0\n"
     same("a new directory", replay(program, ["--limit", "1", "--shards", "4"], new, b""), (0, made))

@@ -14,6 +14,9 @@ import json, os, random, resource, subprocess, sys, tempfile
 program = sys.argv[1]
 CALLS = 100_000
 
+# What a body of one byte weighs with its meta.
+WEIGHT = 108
+
 
 def line(**fields):
     return json.dumps(fields, separators=(",", ":")) + "\n"
@@ -64,8 +67,9 @@ for bodies in (1_000, 10_000, 100_000, 1_000_000):
         "puts that evict": lambda: (put(bodies + n) for n in range(CALLS)),
         "purges with puts": lambda: (line(op="purge", at=1000, key=key(i)) + put(i) for i in some),
     }
-    filled = seconds([fill], bodies)
-    told = ", ".join(f"{kind} {seconds([fill, calls], bodies) - filled:.2f}" for kind, calls in kinds.items())
+    limit = bodies * WEIGHT
+    filled = seconds([fill], limit)
+    told = ", ".join(f"{kind} {seconds([fill, calls], limit) - filled:.2f}" for kind, calls in kinds.items())
     print(f"{bodies} bodies: {told} (filling {filled:.2f})", flush=True)
 
 piece, many = bytes(65536).hex(), 50

@@ -1,14 +1,14 @@
 //! Does rows of calls of requests to a cache, and writes after each call what it answers and the phase that it leaves.
 //!
 //! A row of `rows.txt` is a name and then a step a line, of the first or the second of two requests; an empty line ends it. Both use one cache, which begins
-//! empty with each row: a store in memory, a manager of one shard that may hold 10 bytes and notes what it is told, a predictor of 4 keys, a lock whose permits may be held for 5
+//! empty with each row: a store in memory, a manager of one shard that may hold 200 bytes and notes what it is told, a predictor of 4 keys, a lock whose permits may be held for 5
 //! seconds, and a boxed policy that defers the key `d` and counts how often it is asked. A call that isn't allowed is `refused`: what it requires is tested first, by the public tests of it.
 //!
 //! | Step | Means |
 //! |---|---|
 //! | `enable`, `enable lock` | with all parts of the cache, or with its lock alone; waits take 3 seconds in all, and are tried again twice |
 //! | `end` | the request ends, and another begins in its place |
-//! | `look SECOND STATUS` | looks up, and takes what is found with that status: `body` and its length, or `passed` as a miss, or `too-heavy` for the manager |
+//! | `look SECOND STATUS` | looks up, and takes what is found with that status: `body` and its weight, or `passed` as a miss, or `too-heavy` for the manager |
 //! | `look-at SECOND` | the same of what is fresh or stale by itself at that second |
 //! | `vary SECOND VARIANCE` | looks up, leaves what is found and goes on to a variant of it; whether that was found |
 //! | `meta`, `begin`, `revalidate` `UNTIL CREATED` | with a meta that is fresh until a second, made at another (else at 1000), with stale windows of 30 and 60 seconds |
@@ -28,10 +28,10 @@
 //! | `add-time SECONDS`, `time` | how long look-ups took |
 //! | `limit`, `track` `BYTES` | the most bytes that a body may have, and bytes that come |
 //! | `told-until` | no call of a request: until when the response was fresh of which the manager was told last |
-//! | `tracked KEY`, `burden KEY` | no calls of a request: whether the manager tracks the key's entry; it goes, and another comes that leaves room for one byte |
+//! | `tracked KEY`, `burden KEY` | no calls of a request: whether the manager tracks the key's entry; it goes, and another comes that leaves room for a body of one byte |
 //!
 //! The rows of `one-body.txt` are over a store of one body, which shows no write before its end, gives ids and reports an
-//! addition, with a lock that lets another request try where a permit ends for a custom reason.
+//! addition, where the manager may hold 10 bytes, with a lock that lets another request try where a permit ends for a custom reason.
 //!
 //! Then two tiers serve requests side by side, and what they answer is compared with a table of runs, whose outcomes come from another program or were
 //! worked by hand. A line of `runs.txt` is a run, ` => ` and its outcome; lines that differ are shown.
@@ -77,10 +77,11 @@ fn push_done<S: Storage + Drop, L: CacheKeyLock + Drop, A: AdmissionPolicy + Dro
     store: S,
     lock: L,
     policy: A,
+    limit: usize,
     row: &str,
     text: &mut Text,
 ) {
-    match world::cache(alloc, store, lock, policy) {
+    match world::cache(alloc, store, lock, policy, limit) {
         Some(mut parts) => rows::push_row(alloc, &mut parts, row, text),
         None => text.push("memory"),
     }
@@ -90,11 +91,12 @@ fn done<S: Storage + Drop, L: CacheKeyLock + Drop>(
     alloc: Global,
     store: S,
     lock: L,
+    limit: usize,
     row: &str,
 ) -> Result<String, AllocError> {
     let mut text = Text::new(alloc);
     let policy: BoxedPolicy = Box::new(alloc, DefersD::new())?;
-    push_done(alloc, store, lock, policy, row, &mut text);
+    push_done(alloc, store, lock, policy, limit, row, &mut text);
     text.finish()
 }
 
@@ -103,13 +105,13 @@ fn do_rows(rt: &HostRuntime) -> io::Result<()> {
     let alloc = rt.alloc();
     let rows = fs::read_to_string(rt, "rows.txt")?;
     for row in rows.as_str().split("\n\n") {
-        let text = done(alloc, MemCache::new(alloc), lock(alloc), row)?;
+        let text = done(alloc, MemCache::new(alloc), lock(alloc), 200, row)?;
         println!(rt; "{text}")?;
     }
     let rows = fs::read_to_string(rt, "one-body.txt")?;
     for row in rows.as_str().split("\n\n") {
         let lock = TryingLock { lock: lock(alloc) };
-        let text = done(alloc, OneBody::new(alloc), lock, row)?;
+        let text = done(alloc, OneBody::new(alloc), lock, 10, row)?;
         println!(rt; "{text}")?;
     }
     Ok(())

@@ -48,23 +48,21 @@ impl AdmissionPolicy for DefersD {
 
 type Cache<S, L, A> = Parts<S, Noting, Predictor<1>, L, A>;
 
-// The most that bodies may weigh in all.
-const LIMIT: usize = 10;
-
 /// The lock whose permits may be held for 5 seconds.
 pub fn lock(alloc: Global) -> CacheLock {
     CacheLock::new(alloc, Duration::from_seconds(5))
 }
 
-/// The cache over a store, with a lock and a policy.
+/// The cache over a store, with a lock and a policy, whose bodies may weigh so much in all.
 pub fn cache<S: Drop, L: Drop, A: Drop>(
     alloc: Global,
     store: S,
     lock: L,
     policy: A,
+    limit: usize,
 ) -> Option<Cache<S, L, A>> {
     let predictor = Predictor::<1>::new(alloc, 4, None).ok()?;
-    let manager = Manager::<1>::with_capacity(alloc, LIMIT, 0).ok()?;
+    let manager = Manager::<1>::with_capacity(alloc, limit, 0).ok()?;
     Some(Parts {
         store,
         manager: Noting {
@@ -113,14 +111,17 @@ pub fn told_until<S, E: Notes, P, L, A>(parts: &Parts<S, E, P, L, A>) -> Answer 
     }
 }
 
-// Tracks an entry that leaves room for one byte.
+// What a body of one byte weighs with its meta, which takes 77.
+const ONE: usize = 78;
+
+// Tracks an entry that leaves room for such a body.
 fn weigh_down<E: EvictionManager>(alloc: Global, manager: &mut E, key: CompactCacheKey) -> Answer {
     let entry = CacheEntryKey::from_entry_id(key, None);
     let moment = Moment::from_seconds(1000);
     match manager.access(
         alloc,
         CacheEntryKeyRef::from(&entry),
-        usize::MAX - 1,
+        usize::MAX - ONE,
         moment,
     ) {
         Ok(_) => DONE,
@@ -139,7 +140,7 @@ fn replace<E: EvictionManager>(alloc: Global, manager: &mut E, key: &CompactCach
     }
 }
 
-/// Takes the entry of a key out of the order of use, and tracks another there that leaves room for one byte.
+/// Takes the entry of a key out of the order of use, and tracks another there that leaves room for a body of one byte.
 pub fn burden<S: Storage, E: EvictionManager, P, L, A>(
     alloc: Global,
     parts: &mut Parts<S, E, P, L, A>,

@@ -13,7 +13,7 @@ use std::alloc::Global;
 use tier_model::event::LockGiven;
 
 const PUT: Row = Row {
-    limit: 4,
+    limit: 54,
     before: &[Ask::Put(b'a', b"xx"), Ask::Open(1, b'a')],
     ask: Ask::Put(b'b', b"xxxxx"),
     want: Outcome::Finished(5, 2),
@@ -32,7 +32,7 @@ const PUT: Row = Row {
 };
 
 const OPEN: Row = Row {
-    limit: 4,
+    limit: 104,
     before: &[],
     ask: Ask::OpenLocked(1, b'a'),
     want: Outcome::Opened,
@@ -48,7 +48,7 @@ const OPEN: Row = Row {
 };
 
 const LOOK: Row = Row {
-    limit: 8,
+    limit: 208,
     before: &[Ask::Put(b'a', b"xx"), Ask::Open(1, b'a')],
     ask: Ask::Look(1),
     want: Outcome::Found,
@@ -61,7 +61,7 @@ const LOOK: Row = Row {
 
 // A refused look gives no permit away: the next one gets it.
 const LOOK_LOCKED: Row = Row {
-    limit: 8,
+    limit: 208,
     before: &[Ask::OpenLocked(1, b'a'), Ask::OpenLocked(2, b'a')],
     ask: Ask::Look(1),
     want: Outcome::Absent(LockGiven::Write),
@@ -80,7 +80,7 @@ const LOOK_LOCKED: Row = Row {
 
 // A refused begin keeps the permit.
 const BEGIN: Row = Row {
-    limit: 8,
+    limit: 208,
     before: &[
         Ask::OpenLocked(1, b'a'),
         Ask::OpenLocked(2, b'a'),
@@ -101,7 +101,7 @@ const BEGIN: Row = Row {
 };
 
 const PIECE: Row = Row {
-    limit: 8,
+    limit: 208,
     before: &[Ask::Open(1, b'a'), Ask::Look(1), Ask::Begin(1)],
     ask: Ask::Piece(1, b"xx"),
     want: Outcome::Written,
@@ -116,7 +116,7 @@ const PIECE: Row = Row {
 };
 
 const READ: Row = Row {
-    limit: 8,
+    limit: 208,
     before: &[
         Ask::Open(1, b'a'),
         Ask::Look(1),
@@ -134,7 +134,7 @@ const READ: Row = Row {
 
 // After a refusal that did nothing the write goes on; else the request has none any more.
 const FINISH: Row = Row {
-    limit: 4,
+    limit: 54,
     before: &[
         Ask::Put(b'b', b"xx"),
         Ask::Open(1, b'a'),
@@ -220,7 +220,7 @@ fn a_refused_finish_leaves_all(rt: HostRuntime) {
 
 #[test]
 fn polls_reads_and_drops_take_no_memory(rt: HostRuntime) {
-    let held = try_out(rt.alloc(), 4, Trial::Steps(WAITING, FREE));
+    let held = try_out(rt.alloc(), 104, Trial::Steps(WAITING, FREE));
     assert!(rt; matches!(held, Held::Answered | Held::Refused));
 }
 
@@ -228,6 +228,6 @@ fn polls_reads_and_drops_take_no_memory(rt: HostRuntime) {
 // it meets a refusal: so a run with one allocation failing in which it passes met none.
 #[test]
 fn ample_memory_meets_no_refusal(rt: HostRuntime) {
-    let ran = try_out(rt.alloc(), 8, Trial::Run(FOUR, ASKS));
+    let ran = try_out(rt.alloc(), 208, Trial::Run(FOUR, ASKS));
     assert!(rt; ran == Held::Answered && row_held(rt.alloc(), FINISH) == Held::Answered);
 }

@@ -36,7 +36,7 @@ const ROWS: &[Row] = &[
         ],
         more: &[],
         calls: EVER,
-        limit: 3,
+        limit: 153,
         asks: &[
             (Ask::Put(b'd', b"x"), Outcome::Finished(1, 1)),
             (Ask::Open(1, b'a'), Outcome::Opened),

@@ -9,12 +9,12 @@ const LOOK: &[(Ask, Outcome)] = &[(Ask::Look(1), Outcome::NoRequest)];
 
 #[test]
 fn a_run_without_memory_does_nothing(rt: HostRuntime) {
-    assert!(rt; try_out(rt.alloc(), 4, Trial::Run(&[], LOOK)) != Held::Broken);
+    assert!(rt; try_out(rt.alloc(), 104, Trial::Run(&[], LOOK)) != Held::Broken);
 }
 
 #[test]
 fn a_store_is_lent(rt: HostRuntime) {
-    assert!(rt; try_out(rt.alloc(), 4, Trial::Store) != Held::Broken);
+    assert!(rt; try_out(rt.alloc(), 104, Trial::Store) != Held::Broken);
 }
 
 // An event that is refused leaves no trace.
@@ -25,7 +25,7 @@ const OPENED: &[(Ask, Outcome)] = &[
 
 #[test]
 fn a_tier_that_started_is_new_until_an_event(rt: HostRuntime) {
-    assert!(rt; try_out(rt.alloc(), 4, Trial::Start(OPENED)) == Held::Answered);
+    assert!(rt; try_out(rt.alloc(), 104, Trial::Start(OPENED)) == Held::Answered);
 }
 
 // What is asked of an empty tier, and whether it is new then, and holds nothing but its order of use.
@@ -50,7 +50,7 @@ const NEW: &[(&[Ask], bool, bool)] = &[
 fn are_as_told(alloc: Global) -> bool {
     let mut all = true;
     for &(asks, is_new, has_only_order) in NEW {
-        all = try_out(alloc, 4, Trial::New(asks, is_new, has_only_order)) == Held::Answered && all;
+        all = try_out(alloc, 104, Trial::New(asks, is_new, has_only_order)) == Held::Answered && all;
     }
     all
 }
@@ -126,21 +126,22 @@ const READERS: &[(Ask, Outcome)] = &[
 
 #[test]
 fn a_reader_waits_for_each_piece(rt: HostRuntime) {
-    assert!(rt; try_out(rt.alloc(), 4, Trial::Steps(&[], READERS)) == Held::Answered);
+    assert!(rt; try_out(rt.alloc(), 104, Trial::Steps(&[], READERS)) == Held::Answered);
 }
 
-// A body that is hit under another tag: what is tracked weighs its bytes twice. By what weighs too much then the first is evicted.
+// A body that is hit under another tag: what is tracked weighs it twice, its bytes with the 50 of its meta. By what weighs too much then the first
+// is evicted.
 const WEIGHTS: &[(Ask, Outcome, u64, usize)] = &[
-    (Ask::Put(b'a', b"xxx"), Outcome::Finished(3, 0), 3, 0),
-    (Ask::OpenTagged(1, b'a'), Outcome::Opened, 3, 0),
-    (Ask::Look(1), Outcome::Found, 6, 0),
-    (Ask::Read(1), Outcome::Read(false), 6, 0),
-    (Ask::Put(b'b', b"x"), Outcome::Finished(1, 1), 4, 3),
+    (Ask::Put(b'a', b"xxx"), Outcome::Finished(3, 0), 53, 0),
+    (Ask::OpenTagged(1, b'a'), Outcome::Opened, 53, 0),
+    (Ask::Look(1), Outcome::Found, 106, 0),
+    (Ask::Read(1), Outcome::Read(false), 106, 0),
+    (Ask::Put(b'b', b"x"), Outcome::Finished(1, 1), 104, 53),
 ];
 
 #[test]
 fn an_entry_weighs_what_its_body_does(rt: HostRuntime) {
-    assert!(rt; try_out(rt.alloc(), 4, Trial::Weights(WEIGHTS)) == Held::Answered);
+    assert!(rt; try_out(rt.alloc(), 104, Trial::Weights(WEIGHTS)) == Held::Answered);
 }
 
 pub(crate) const FOUR: &[Ask] = &[
@@ -152,7 +153,7 @@ pub(crate) const FOUR: &[Ask] = &[
 
 // What is asked of a tier with four bodies in one run, and what comes of each.
 pub(crate) const ASKS: &[(Ask, Outcome)] = &[
-    (Ask::Put(b'e', b"xxxxx"), Outcome::Finished(5, 3)),
+    (Ask::Put(b'e', &[b'x'; 106]), Outcome::Finished(106, 3)),
     (Ask::Open(2, b'e'), Outcome::Opened),
     (Ask::Look(2), Outcome::Found),
     (Ask::Read(2), Outcome::Read(false)),

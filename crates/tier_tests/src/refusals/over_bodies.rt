@@ -8,7 +8,7 @@ use tier_model::event::LockGiven;
 
 // The body that is there is kept, and then replaced.
 const PUT_OVER: Row = Row {
-    limit: 8,
+    limit: 208,
     before: &[Ask::Put(b'a', b"xx"), Ask::Open(1, b'a')],
     ask: Ask::Put(b'a', b"xxxxx"),
     want: Outcome::Finished(5, 0),
@@ -28,7 +28,7 @@ const PUT_OVER: Row = Row {
 
 // A refused look at something stale hands the permit back: the same look gets it.
 const LOOK_STALE: Row = Row {
-    limit: 8,
+    limit: 208,
     before: &[
         Ask::PutStale(b'a', b"xx"),
         Ask::OpenLocked(1, b'a'),
@@ -53,7 +53,7 @@ const LOOK_STALE: Row = Row {
 
 // A refused begin over something stale keeps the permit and what was found.
 const BEGIN_STALE: Row = Row {
-    limit: 8,
+    limit: 208,
     before: &[
         Ask::PutStale(b'a', b"xx"),
         Ask::OpenLocked(1, b'a'),
@@ -75,9 +75,12 @@ const BEGIN_STALE: Row = Row {
     cut_short: &[],
 };
 
-// Six evictions for a body of six bytes. The list of those evicted grows at the fifth, and what it has then is gone: the others stay.
+// What weighs as much as six bodies of one byte, each with the 50 of its meta.
+const HEAVY: &[u8] = &[b'x'; 256];
+
+// Six evictions for it. The list of those evicted grows at the fifth, and what it has then is gone: the others stay.
 const FINISH_OVER_EIGHT: Row = Row {
-    limit: 8,
+    limit: 408,
     before: &[
         Ask::Put(b'a', b"x"),
         Ask::Put(b'b', b"x"),
@@ -90,20 +93,20 @@ const FINISH_OVER_EIGHT: Row = Row {
         Ask::Open(1, b'i'),
         Ask::Look(1),
         Ask::Begin(1),
-        Ask::Piece(1, b"xxxxxx"),
+        Ask::Piece(1, HEAVY),
     ],
     ask: Ask::Finish(1),
-    want: Outcome::Finished(6, 6),
+    want: Outcome::Finished(256, 6),
     after: &[
         (Ask::Purge(b'f'), Outcome::Purged(false)),
         (Ask::Purge(b'g'), Outcome::Purged(true)),
         (Ask::Purge(b'h'), Outcome::Purged(true)),
         (Ask::Purge(b'i'), Outcome::Purged(true)),
     ],
-    refused: &[(Ask::Finish(1), Outcome::Finished(6, 6))],
+    refused: &[(Ask::Finish(1), Outcome::Finished(256, 6))],
     taken_back: &[
         (Ask::Finish(1), Outcome::WrongPhase),
-        (Ask::Put(b'i', b"xxxxxx"), Outcome::Finished(6, 6)),
+        (Ask::Put(b'i', HEAVY), Outcome::Finished(256, 6)),
     ],
     evicted: 4,
     cut_short: &[
@@ -112,7 +115,7 @@ const FINISH_OVER_EIGHT: Row = Row {
         (Ask::Purge(b'd'), Outcome::Purged(false)),
         (Ask::Open(2, b'e'), Outcome::Opened),
         (Ask::Look(2), Outcome::Found),
-        (Ask::Put(b'i', b"xxxxxx"), Outcome::Finished(6, 2)),
+        (Ask::Put(b'i', HEAVY), Outcome::Finished(256, 2)),
         (Ask::Purge(b'e'), Outcome::Purged(true)),
         (Ask::Purge(b'h'), Outcome::Purged(true)),
         (Ask::Purge(b'g'), Outcome::Purged(false)),

@@ -7,7 +7,7 @@ use std::alloc::Global;
 
 // A refused look at a write leaves the request in its phase, without a reader.
 const LOOK: Row = Row {
-    limit: 8,
+    limit: 208,
     before: &[
         Ask::Open(1, b'a'),
         Ask::Look(1),
@@ -33,7 +33,7 @@ const LOOK: Row = Row {
 
 // The finish of a write that was removed says so whatever memory there is: what would follow a refusal can't come.
 const FINISH_REMOVED: Row = Row {
-    limit: 8,
+    limit: 208,
     before: &[
         Ask::OpenTagged(1, b'a'),
         Ask::Look(1),

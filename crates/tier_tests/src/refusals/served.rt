@@ -19,6 +19,9 @@ const TWO: &[u8] = b"HTTP/1.1 200 OK\r\nCache-Control: max-age=100\r\n\r\nxx";
 
 const THREE: &[u8] = b"HTTP/1.1 200 OK\r\nCache-Control: max-age=100\r\n\r\nxxx";
 
+// Of the length of the first, and with a shorter head.
+const LIGHT: &[u8] = b"HTTP/1.1 200 OK\r\nCache-Control: max-age=10\r\n\r\nxx";
+
 // What serving a request gave: a body of so many bytes, or whether the key was found, how many bytes were stored then, and after how
 // many evictions.
 #[derive(Clone, Copy, PartialEq, Eq)]
@@ -108,7 +111,7 @@ fn serve_again(alloc: Global, tier: &mut Tier<1>, asked: Asked) -> Gave {
     }
 }
 
-// What is asked of an empty tier of four bytes, and what it gives.
+// What is asked of an empty tier of 104 bytes, two bodies of two with their metas, and what it gives.
 const SERVED: &[(Asked, Gave)] = &[
     ((b'a', TWO), Gave::Filled(false, 2, 0)),
     ((b'a', TWO), Gave::Hit(2)),
@@ -129,7 +132,7 @@ fn all_served(alloc: Global, tier: &mut Tier<1>) -> bool {
 }
 
 fn serves(alloc: Global) -> bool {
-    match tier(alloc, 4) {
+    match tier(alloc, 104) {
         Some(mut tier) => all_served(alloc, &mut tier),
         None => true,
     }
@@ -140,7 +143,7 @@ fn a_refused_serve_keeps_its_look_up_alone(rt: HostRuntime) {
     assert!(rt; serves(rt.alloc()));
 }
 
-// What is asked of two tiers, of two bytes and of 100.
+// What is asked of two tiers, of 103 bytes and of 104.
 const ASKED: &[Asked] = &[(b'a', TWO), (b'b', TWO), (b'a', TWO)];
 
 const WANTED: &[(Gave, Gave)] = &[
@@ -207,7 +210,7 @@ fn run(alloc: Global, lesser: &mut Tier<1>, greater: &mut Tier<1>, requests: &[R
 }
 
 fn run_beside(alloc: Global, lesser: &mut Tier<1>, requests: &[Request]) -> Held {
-    match tier(alloc, 100) {
+    match tier(alloc, 104) {
         Some(mut greater) => run(alloc, lesser, &mut greater, requests),
         None => Held::Elsewhere,
     }
@@ -215,7 +218,7 @@ fn run_beside(alloc: Global, lesser: &mut Tier<1>, requests: &[Request]) -> Held
 
 // A run of two tiers that are empty.
 fn run_fresh(alloc: Global, requests: &[Request]) -> Held {
-    match tier(alloc, 2) {
+    match tier(alloc, 103) {
         Some(mut lesser) => run_beside(alloc, &mut lesser, requests),
         None => Held::Elsewhere,
     }
@@ -246,6 +249,8 @@ fn a_refused_run_of_two_gives_the_pairs_before_it(rt: HostRuntime) {
 
 const UNLIKE: &[Asked] = &[(b'a', TWO), (b'a', THREE)];
 
+const UNLIKE_HEADS: &[Asked] = &[(b'a', TWO), (b'a', LIGHT)];
+
 // Whether requests are uniform, by a second try where the first is refused.
 fn is_uniform(alloc: Global, requests: &[Request]) -> bool {
     let hasher = SeededState { word: 3 };
@@ -267,6 +272,7 @@ fn are_uniform(alloc: Global, all: &[Asked], want: bool) -> bool {
 fn a_refused_question_is_answered_when_asked_again(rt: HostRuntime) {
     let alike = are_uniform(rt.alloc(), ASKED, true);
     assert!(rt; alike && are_uniform(rt.alloc(), UNLIKE, false));
+    assert!(rt; are_uniform(rt.alloc(), UNLIKE_HEADS, false));
 }
 
 #[test]

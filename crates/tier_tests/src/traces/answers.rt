@@ -78,13 +78,14 @@ const REPORT: Report = Report {
     absent: 18446744073709551615,
     bodies: 4,
     bytes: 3,
+    meta: 7,
     tracked: 5,
     weight: 6,
     evicted: 0,
 };
 
 const REPORT_LINE: &[u8] =
-    b"report found=2 absent=18446744073709551615 bodies=4 bytes=3 tracked=5 weight=6 evicted=0\n";
+    b"report found=2 absent=18446744073709551615 bodies=4 bytes=3 meta=7 tracked=5 weight=6 evicted=0\n";
 
 fn outcome(alloc: Global, given: Given) -> Option<Result<Answer, TierFault>> {
     match given {

@@ -14,24 +14,24 @@ pub(crate) const FILE: &str = "dir/lru.data.0";
 
 const TEMP: &str = "dir/lru.data.0.d4e2bc53.tmp";
 
-// What a file has: no entry, or those of keys of one letter, each of weight 1, the latest used first.
+// What a file has: no entry, or those of keys of one letter, each of weight 51, that of a body of one byte, the latest used first.
 pub(crate) const NONE: &[u8] = b"\x90";
 
 pub(crate) const BA: &[u8] =
-    b"\x92\x92\x93\xdc\x00\x10\xcc\x96\x17+LS7,\xcc\xd1\x0f\xcc\xad\xcc\xdc\xcc\x82\x1b\xcc\xfe\x03\x18\xc0\xa0\x01\x92\x93\xdc\x00\x10'\xcc\xc3^n\xcc\x93s\xcc\x87\x7f)\xcc\xe5bFNFI~\xc0\xa0\x01";
+    b"\x92\x92\x93\xdc\x00\x10\xcc\x96\x17+LS7,\xcc\xd1\x0f\xcc\xad\xcc\xdc\xcc\x82\x1b\xcc\xfe\x03\x18\xc0\xa03\x92\x93\xdc\x00\x10'\xcc\xc3^n\xcc\x93s\xcc\x87\x7f)\xcc\xe5bFNFI~\xc0\xa03";
 
 pub(crate) const CBA: &[u8] =
-    b"\x93\x92\x93\xdc\x00\x10\xcc\xca\xcc\xec\x17\xcc\xf4\xcc\xb8\x15\xcc\x9dHl\xcc\xa3R \xcc\x9a\x0f\xcc\xc2\xcc\xd5\xc0\xa0\x01\x92\x93\xdc\x00\x10\xcc\x96\x17+LS7,\xcc\xd1\x0f\xcc\xad\xcc\xdc\xcc\x82\x1b\xcc\xfe\x03\x18\xc0\xa0\x01\x92\x93\xdc\x00\x10'\xcc\xc3^n\xcc\x93s\xcc\x87\x7f)\xcc\xe5bFNFI~\xc0\xa0\x01";
+    b"\x93\x92\x93\xdc\x00\x10\xcc\xca\xcc\xec\x17\xcc\xf4\xcc\xb8\x15\xcc\x9dHl\xcc\xa3R \xcc\x9a\x0f\xcc\xc2\xcc\xd5\xc0\xa03\x92\x93\xdc\x00\x10\xcc\x96\x17+LS7,\xcc\xd1\x0f\xcc\xad\xcc\xdc\xcc\x82\x1b\xcc\xfe\x03\x18\xc0\xa03\x92\x93\xdc\x00\x10'\xcc\xc3^n\xcc\x93s\xcc\x87\x7f)\xcc\xe5bFNFI~\xc0\xa03";
 
 pub(crate) const DCB: &[u8] =
-    b"\x93\x92\x93\xdc\x00\x10\x0d\xcc\xf334\xcc\x8b\xcc\xb2\xcc\xc4\xcc\xf0`^\x01\x0bg\x06\xcc\xf5\xcc\xbb\xc0\xa0\x01\x92\x93\xdc\x00\x10\xcc\xca\xcc\xec\x17\xcc\xf4\xcc\xb8\x15\xcc\x9dHl\xcc\xa3R \xcc\x9a\x0f\xcc\xc2\xcc\xd5\xc0\xa0\x01\x92\x93\xdc\x00\x10\xcc\x96\x17+LS7,\xcc\xd1\x0f\xcc\xad\xcc\xdc\xcc\x82\x1b\xcc\xfe\x03\x18\xc0\xa0\x01";
+    b"\x93\x92\x93\xdc\x00\x10\x0d\xcc\xf334\xcc\x8b\xcc\xb2\xcc\xc4\xcc\xf0`^\x01\x0bg\x06\xcc\xf5\xcc\xbb\xc0\xa03\x92\x93\xdc\x00\x10\xcc\xca\xcc\xec\x17\xcc\xf4\xcc\xb8\x15\xcc\x9dHl\xcc\xa3R \xcc\x9a\x0f\xcc\xc2\xcc\xd5\xc0\xa03\x92\x93\xdc\x00\x10\xcc\x96\x17+LS7,\xcc\xd1\x0f\xcc\xad\xcc\xdc\xcc\x82\x1b\xcc\xfe\x03\x18\xc0\xa03";
 
 // BA without its last byte, and what is loaded of it.
 const CUT: &[u8] =
-    b"\x92\x92\x93\xdc\x00\x10\xcc\x96\x17+LS7,\xcc\xd1\x0f\xcc\xad\xcc\xdc\xcc\x82\x1b\xcc\xfe\x03\x18\xc0\xa0\x01\x92\x93\xdc\x00\x10'\xcc\xc3^n\xcc\x93s\xcc\x87\x7f)\xcc\xe5bFNFI~\xc0\xa0";
+    b"\x92\x92\x93\xdc\x00\x10\xcc\x96\x17+LS7,\xcc\xd1\x0f\xcc\xad\xcc\xdc\xcc\x82\x1b\xcc\xfe\x03\x18\xc0\xa03\x92\x93\xdc\x00\x10'\xcc\xc3^n\xcc\x93s\xcc\x87\x7f)\xcc\xe5bFNFI~\xc0\xa0";
 
 pub(crate) const B: &[u8] =
-    b"\x91\x92\x93\xdc\x00\x10\xcc\x96\x17+LS7,\xcc\xd1\x0f\xcc\xad\xcc\xdc\xcc\x82\x1b\xcc\xfe\x03\x18\xc0\xa0\x01";
+    b"\x91\x92\x93\xdc\x00\x10\xcc\x96\x17+LS7,\xcc\xd1\x0f\xcc\xad\xcc\xdc\xcc\x82\x1b\xcc\xfe\x03\x18\xc0\xa03";
 
 // A put of one byte, and looks.
 const PUT_C: &[u8] =
@@ -124,7 +124,7 @@ const ROWS: &[Row] = &[
             limit: 1_000_000,
             shards: ShardCount::One,
             trace: b"",
-            written: b"recency loaded=0 missing=1 errored=0\nreport found=0 absent=0 bodies=0 bytes=0 tracked=0 weight=0 evicted=0\nrecency saved=1 failed=0\n",
+            written: b"recency loaded=0 missing=1 errored=0\nreport found=0 absent=0 bodies=0 bytes=0 meta=0 tracked=0 weight=0 evicted=0\nrecency saved=1 failed=0\n",
             status: 0,
         },
         after: &[(FILE, NONE)],
@@ -138,7 +138,7 @@ const ROWS: &[Row] = &[
             limit: 1_000_000,
             shards: ShardCount::One,
             trace: b"",
-            written: b"recency loaded=1 missing=0 errored=0\nreport found=0 absent=0 bodies=0 bytes=0 tracked=0 weight=0 evicted=0\nrecency saved=1 failed=0\n",
+            written: b"recency loaded=1 missing=0 errored=0\nreport found=0 absent=0 bodies=0 bytes=0 meta=0 tracked=0 weight=0 evicted=0\nrecency saved=1 failed=0\n",
             status: 0,
         },
         after: &[(FILE, NONE)],
@@ -149,10 +149,10 @@ const ROWS: &[Row] = &[
         fails: Fails::Never,
         way: Way::Whole,
         replay: Replay {
-            limit: 3,
+            limit: 153,
             shards: ShardCount::One,
             trace: PUT_D_LOOK_ABCD,
-            written: b"recency loaded=1 missing=0 errored=0\nfinished 1 evicted=1\nopened\nabsent lock=none\nopened\nabsent lock=none\nopened\nabsent lock=none\nopened\nfound fresh complete lock=none\nreport found=1 absent=3 bodies=1 bytes=1 tracked=3 weight=3 evicted=1\nrecency saved=1 failed=0\n",
+            written: b"recency loaded=1 missing=0 errored=0\nfinished 1 evicted=1\nopened\nabsent lock=none\nopened\nabsent lock=none\nopened\nabsent lock=none\nopened\nfound fresh complete lock=none\nreport found=1 absent=3 bodies=1 bytes=1 meta=50 tracked=3 weight=153 evicted=1\nrecency saved=1 failed=0\n",
             status: 0,
         },
         after: &[(FILE, DCB)],
@@ -166,7 +166,7 @@ const ROWS: &[Row] = &[
             limit: 1_000_000,
             shards: ShardCount::One,
             trace: b"",
-            written: b"recency loaded=0 missing=0 errored=1\nreport found=0 absent=0 bodies=0 bytes=0 tracked=1 weight=1 evicted=0\nrecency saved=1 failed=0\n",
+            written: b"recency loaded=0 missing=0 errored=1\nreport found=0 absent=0 bodies=0 bytes=0 meta=0 tracked=1 weight=51 evicted=0\nrecency saved=1 failed=0\n",
             status: 0,
         },
         after: &[(FILE, B)],
@@ -181,7 +181,7 @@ const ROWS: &[Row] = &[
             limit: 1_000_000,
             shards: ShardCount::One,
             trace: b"",
-            written: b"recency loaded=1 missing=0 errored=0\nreport found=0 absent=0 bodies=0 bytes=0 tracked=0 weight=0 evicted=0\nrecency saved=1 failed=0\n",
+            written: b"recency loaded=1 missing=0 errored=0\nreport found=0 absent=0 bodies=0 bytes=0 meta=0 tracked=0 weight=0 evicted=0\nrecency saved=1 failed=0\n",
             status: 0,
         },
         after: &[(FILE, NONE)],
@@ -195,7 +195,7 @@ const ROWS: &[Row] = &[
             limit: 1_000_000,
             shards: ShardCount::One,
             trace: b"",
-            written: b"recency loaded=0 missing=0 errored=1\nreport found=0 absent=0 bodies=0 bytes=0 tracked=0 weight=0 evicted=0\nrecency saved=1 failed=0\n",
+            written: b"recency loaded=0 missing=0 errored=1\nreport found=0 absent=0 bodies=0 bytes=0 meta=0 tracked=0 weight=0 evicted=0\nrecency saved=1 failed=0\n",
             status: 0,
         },
         after: &[(FILE, NONE)],
@@ -209,7 +209,7 @@ const ROWS: &[Row] = &[
             limit: 1_000_000,
             shards: ShardCount::One,
             trace: b"",
-            written: b"recency loaded=0 missing=0 errored=1\nreport found=0 absent=0 bodies=0 bytes=0 tracked=0 weight=0 evicted=0\nrecency saved=1 failed=0\n",
+            written: b"recency loaded=0 missing=0 errored=1\nreport found=0 absent=0 bodies=0 bytes=0 meta=0 tracked=0 weight=0 evicted=0\nrecency saved=1 failed=0\n",
             status: 0,
         },
         after: &[(FILE, NONE)],
@@ -233,7 +233,7 @@ const NOT_SAVED: &[Row] = &[
             limit: 1_000_000,
             shards: ShardCount::One,
             trace: b"",
-            written: b"recency loaded=0 missing=1 errored=0\nreport found=0 absent=0 bodies=0 bytes=0 tracked=0 weight=0 evicted=0\nrecency saved=0 failed=1\n",
+            written: b"recency loaded=0 missing=1 errored=0\nreport found=0 absent=0 bodies=0 bytes=0 meta=0 tracked=0 weight=0 evicted=0\nrecency saved=0 failed=1\n",
             status: 1,
         },
         after: &[(TEMP, NONE)],
@@ -247,7 +247,7 @@ const NOT_SAVED: &[Row] = &[
             limit: 1_000_000,
             shards: ShardCount::Four,
             trace: b"",
-            written: b"recency loaded=0 missing=4 errored=0\nreport found=0 absent=0 bodies=0 bytes=0 tracked=0 weight=0 evicted=0\nrecency saved=3 failed=1\n",
+            written: b"recency loaded=0 missing=4 errored=0\nreport found=0 absent=0 bodies=0 bytes=0 meta=0 tracked=0 weight=0 evicted=0\nrecency saved=3 failed=1\n",
             status: 0,
         },
         after: &[
@@ -275,7 +275,7 @@ const STOPPED: &[Row] = &[
             limit: 1_000_000,
             shards: ShardCount::One,
             trace: PUT_C,
-            written: b"recency loaded=1 missing=0 errored=0\nfinished 1 evicted=0\nreport found=0 absent=0 bodies=1 bytes=1 tracked=3 weight=3 evicted=0\nrecency saved=0 failed=1\n",
+            written: b"recency loaded=1 missing=0 errored=0\nfinished 1 evicted=0\nreport found=0 absent=0 bodies=1 bytes=1 meta=50 tracked=3 weight=153 evicted=0\nrecency saved=0 failed=1\n",
             status: 1,
         },
         after: &[(FILE, BA), (TEMP, CBA)],
@@ -289,7 +289,7 @@ const STOPPED: &[Row] = &[
             limit: 1_000_000,
             shards: ShardCount::One,
             trace: LOOK_ABC,
-            written: b"recency loaded=1 missing=0 errored=0\nopened\nabsent lock=none\nopened\nabsent lock=none\nopened\nabsent lock=none\nreport found=0 absent=3 bodies=0 bytes=0 tracked=2 weight=2 evicted=0\nrecency saved=1 failed=0\n",
+            written: b"recency loaded=1 missing=0 errored=0\nopened\nabsent lock=none\nopened\nabsent lock=none\nopened\nabsent lock=none\nreport found=0 absent=3 bodies=0 bytes=0 meta=0 tracked=2 weight=102 evicted=0\nrecency saved=1 failed=0\n",
             status: 0,
         },
         after: &[(FILE, BA)],

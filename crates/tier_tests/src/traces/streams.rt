@@ -81,7 +81,7 @@ const QUESTIONS: Replay = Replay {
     limit: 1,
     shards: ShardCount::One,
     trace: b"{}\n{\"op\":\"look\",\"at\":1,\"id\":9}\n[]\n{\"op\":\"drop\",\"at\":1,\"id\":9}\n",
-    written: b"refused Op\nfault 1 NoRequest\nrefused NotObject\nfault 1 NoRequest\nreport found=0 absent=0 bodies=0 bytes=0 tracked=0 weight=0 evicted=0\n",
+    written: b"refused Op\nfault 1 NoRequest\nrefused NotObject\nfault 1 NoRequest\nreport found=0 absent=0 bodies=0 bytes=0 meta=0 tracked=0 weight=0 evicted=0\n",
     status: 0,
 };
 
@@ -95,7 +95,7 @@ const PUT: Replay = Replay {
     limit: 100,
     shards: ShardCount::One,
     trace: b"{\"op\":\"put\",\"at\":1000,\"key\":\"00000000000000000000000000000061\",\"pieces\":[\"485454502f312e3120323030204f4b0d0a43616368652d436f6e74726f6c3a206d61782d6167653d31300d0a0d0a616263\"]}\n{\"op\":\"open\",\"at\":1005,\"id\":1,\"key\":\"00000000000000000000000000000061\"}\n{\"op\":\"look\",\"at\":1005,\"id\":1}\n{\"op\":\"read\",\"at\":1005,\"id\":1}\n",
-    written: b"finished 3 evicted=0\nopened\nfound fresh complete lock=none\nbytes 616263\nreport found=1 absent=0 bodies=1 bytes=3 tracked=1 weight=3 evicted=0\n",
+    written: b"finished 3 evicted=0\nopened\nfound fresh complete lock=none\nbytes 616263\nreport found=1 absent=0 bodies=1 bytes=3 meta=57 tracked=1 weight=60 evicted=0\n",
     status: 0,
 };
 

@@ -43,7 +43,7 @@ fn a_fault_of_the_reader_saves_nothing(rt: HostRuntime) {
 
 // All lines, of which the last reports the save.
 const LINES: &[u8] =
-    b"recency loaded=1 missing=0 errored=0\nfinished 1 evicted=0\nreport found=0 absent=0 bodies=1 bytes=1 tracked=3 weight=3 evicted=0\nrecency saved=1 failed=0\n";
+    b"recency loaded=1 missing=0 errored=0\nfinished 1 evicted=0\nreport found=0 absent=0 bodies=1 bytes=1 meta=50 tracked=3 weight=153 evicted=0\nrecency saved=1 failed=0\n";
 
 const UNWRITTEN: Replay = Replay {
     limit: 1_000_000,
@@ -81,7 +81,7 @@ const WRITES: &[Row] = &[
     Row {
         before: TWO,
         fails: Fails::Never,
-        way: Way::Writes(127, true),
+        way: Way::Writes(137, true),
         replay: UNWRITTEN,
         after: &[(FILE, BA)],
         count: 1,
@@ -89,7 +89,7 @@ const WRITES: &[Row] = &[
     Row {
         before: TWO,
         fails: Fails::Never,
-        way: Way::Writes(128, true),
+        way: Way::Writes(138, true),
         replay: UNWRITTEN,
         after: &[(FILE, CBA)],
         count: 1,
@@ -97,7 +97,7 @@ const WRITES: &[Row] = &[
     Row {
         before: TWO,
         fails: Fails::Never,
-        way: Way::Writes(152, true),
+        way: Way::Writes(162, true),
         replay: UNWRITTEN,
         after: &[(FILE, CBA)],
         count: 1,
@@ -105,7 +105,7 @@ const WRITES: &[Row] = &[
     Row {
         before: TWO,
         fails: Fails::Never,
-        way: Way::Writes(153, true),
+        way: Way::Writes(163, true),
         replay: SAVED,
         after: &[(FILE, CBA)],
         count: 1,
@@ -118,10 +118,10 @@ fn a_fault_of_the_writer_saves_nothing_before_the_last_line(rt: HostRuntime) {
 }
 
 const CB: &[u8] =
-    b"\x92\x92\x93\xdc\x00\x10\xcc\xca\xcc\xec\x17\xcc\xf4\xcc\xb8\x15\xcc\x9dHl\xcc\xa3R \xcc\x9a\x0f\xcc\xc2\xcc\xd5\xc0\xa0\x01\x92\x93\xdc\x00\x10\xcc\x96\x17+LS7,\xcc\xd1\x0f\xcc\xad\xcc\xdc\xcc\x82\x1b\xcc\xfe\x03\x18\xc0\xa0\x01";
+    b"\x92\x92\x93\xdc\x00\x10\xcc\xca\xcc\xec\x17\xcc\xf4\xcc\xb8\x15\xcc\x9dHl\xcc\xa3R \xcc\x9a\x0f\xcc\xc2\xcc\xd5\xc0\xa03\x92\x93\xdc\x00\x10\xcc\x96\x17+LS7,\xcc\xd1\x0f\xcc\xad\xcc\xdc\xcc\x82\x1b\xcc\xfe\x03\x18\xc0\xa03";
 
 const C: &[u8] =
-    b"\x91\x92\x93\xdc\x00\x10\xcc\xca\xcc\xec\x17\xcc\xf4\xcc\xb8\x15\xcc\x9dHl\xcc\xa3R \xcc\x9a\x0f\xcc\xc2\xcc\xd5\xc0\xa0\x01";
+    b"\x91\x92\x93\xdc\x00\x10\xcc\xca\xcc\xec\x17\xcc\xf4\xcc\xb8\x15\xcc\x9dHl\xcc\xa3R \xcc\x9a\x0f\xcc\xc2\xcc\xd5\xc0\xa03";
 
 const ROOMY: Row = Row {
     before: TWO,
