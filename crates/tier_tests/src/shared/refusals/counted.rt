@@ -97,8 +97,9 @@ const ONE_FOUND: Report = Report {
     absent: 0,
     bodies: 1,
     bytes: 2,
+    meta: 50,
     tracked: 1,
-    weight: 2,
+    weight: 52,
     evicted: 0,
 };
 
