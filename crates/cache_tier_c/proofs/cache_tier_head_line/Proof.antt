@@ -1,21 +1,20 @@
-use Rattle.std.proofs.Common.{◌≡◌, ℕ, [], ◌∷◌, ◌++◌, refl, w64}
+use Rattle.std.proofs.Common.{ℕ, [], ◌∷◌, ◌++◌, refl, w64}
 use Rattle.std.proofs.raw_atomic.Walks.{proved}
 use base.Fraction.{full_share}
-use base.Logic.{SProp, ent, sep, emp, emp∗, ex, ex_i, mono_l, via, id⊢}
+use base.Logic.{SProp, sep, emp, ex, ex_i, id⊢}
 use types.Logic.{sem}
-use base.Fml.{ftrue, flft, flent, fres}
+use base.Fml.{ftrue, flft, flent}
 use mir.Syntax.{named}
 use mir.Val.{vint, vptr}
 use prog.Wp.{WpFn}
 use contract.Monad.{fact, fact_i}
 use contract.Running.{tables}
-use types.Kit.{‵, raw, use0, ◌⊛◌, some, later, prop, at_ret, ◌$◌, ◌∵◌, !, qed, done, move, keep, drop, use1, use2, use3, split, join, fsplit, pick, await, regoal, rewrite, fjoin, feq_l, suffices, group}
-use types.Run.{enter, of_opd, addr, stop, no_more, and_then, first, blocks, exec, returns, from, fld, hop}
-use types.Part.{agg, sub, whole}
-use types.ByLocal.{alloc_all, pass_all, free_all, look_at, look_in_at, get, get_in, through, sets, sets_last, lands_as, env}
+use types.Kit.{‵, raw, use0, ◌⊛◌, some, later, prop, at_ret, ◌$◌, ◌∵◌, !, qed, done, move, keep, drop, use1, use2, use3, split, join, fsplit, pick, await, regoal, suffices, group}
+use types.Run.{enter, of_opd, addr, stop, no_more, and_then, first, blocks, exec, returns}
+use types.ByLocal.{alloc_all, pass_all, free_all, look_at, get, through, sets, sets_last, lands_as, env}
 use types.SemTy.{Body}
 use types.Tokens.{lft_new, lft_end}
-use denote.Builtin.{u8, u64}
+use denote.Builtin.{u64}
 use denote.Exit.{yes}
 use denote.Laws.{Is, shows}
 use denote.Plain.{uint_vals, uint_Tells, uint_Lawful}
