@@ -10,12 +10,17 @@ use Rattle.std.specs.declared.hash.BuildHasher as build
 use Rattle.std.specs.declared.hash.Hasher as hasher
 use Rattle.std.specs.declared.sync.ledger.Ledger as ledger
 use Rattle.rand_core.specs.declared.Rng as rng
+use Rattle.cache_tier.specs.contracts.tier.Tier.{the_row as tier_row}
 use Rattle.recorded_tier.specs.contracts.recorded.Recorded.{the_row as recorded_row}
 use Rattle.shared_tier.specs.contracts.shared.SharedTier.{the_row as shared_row}
 
 module _ (N R L S H : RattleType) (r : rng.Ghosts R.Denot) (l : ledger.Ghosts L.Denot) (s : build.Ghosts S.Denot H.Denot) (h : hasher.Ghosts H.Denot) where
   abbrev recorded : RattleType
   recorded = recorded_row N R L S H r l s h
+
+  -- the tier that is recorded
+  pub tier_room : size (layout recorded) < 2 ^ 63 → size (layout (tier_row N S H s h)) < 2 ^ 63
+  tier_room fits = field_room (layout recorded) 2 _ _ refl fits
 
   -- what is under the lock
   pub locked_room : size (layout (shared_row N R L S H r l s h)) < 2 ^ 63 → size (layout recorded) < 2 ^ 63

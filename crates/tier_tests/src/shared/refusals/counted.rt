@@ -21,8 +21,8 @@ type Unshared = NotShared<4, Pcg64>;
 
 // A tier that wasn't shared, once more.
 fn again<L: Ledger>(alloc: Global, set: TierOptions, back: Unshared) -> Option<Counted<L>>
-    requires { HasOnlyOrder back.tier × (settings_of back.tier ≡ settings_with 4 set) }
-    requires { (back.blank.name ≡ L.name) × (back.blank.parts ≡ L.parts) × (L.parts ≡ 4294967296) }
+    requires tier { HasOnlyOrder back.tier × (settings_of back.tier ≡ settings_with 4 set) }
+    requires blank { (back.blank.name ≡ L.name) × (back.blank.parts ≡ L.parts) × (L.parts ≡ 4294967296) }
 {
     CountedTier::new(alloc, back.blank, set, back.tier, back.rng).ok()
 }
