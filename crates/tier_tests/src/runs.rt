@@ -50,7 +50,8 @@ const NEW: &[(&[Ask], bool, bool)] = &[
 fn are_as_told(alloc: Global) -> bool {
     let mut all = true;
     for &(asks, is_new, has_only_order) in NEW {
-        all = try_out(alloc, 104, Trial::New(asks, is_new, has_only_order)) == Held::Answered && all;
+        all = try_out(alloc, 104, Trial::New(asks, is_new, has_only_order)) == Held::Answered
+            && all;
     }
     all
 }
