@@ -33,7 +33,7 @@ const OPTIONS: &[Described] = &[
         name: "limit",
         value: "BYTES",
         required: true,
-        help: "The most bytes that the bodies in the tier weigh together; an empty body weighs 1",
+        help: "The most bytes that the bodies in the tier and their heads take together",
     },
     Described {
         name: "watermark",

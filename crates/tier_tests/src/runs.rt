@@ -87,7 +87,7 @@ const SHOWN: &[(&[Ask], Option<i64>)] = &[
 fn are_shown(alloc: Global) -> bool {
     let mut all = true;
     for &(asks, until) in SHOWN {
-        all = try_out(alloc, 4, Trial::Shown(asks, until)) == Held::Answered && all;
+        all = try_out(alloc, 104, Trial::Shown(asks, until)) == Held::Answered && all;
     }
     all
 }

@@ -7,7 +7,7 @@ use crate::trials::{Held, Row};
 // A look that finds something fresh takes memory where its entry isn't tracked yet, as that of another tag isn't. A refused one
 // leaves it untracked.
 const LOOK_TAGGED: Row = Row {
-    limit: 8,
+    limit: 208,
     before: &[Ask::Put(b'a', b"xx"), Ask::OpenTagged(1, b'a')],
     ask: Ask::Look(1),
     want: Outcome::Found,

@@ -1,0 +1,312 @@
+-- Begins: each is answered by its row, and leaves what the promise says then.
+use Rattle.std.proofs.Common.{◌≡◌, ℕ, ◌+◌, ◌≤◌, ◌<◌, refl, ap, sym, ◌∙◌, true, false, subst, cond, [], ◌∷◌, ◌++◌, ◌==◌, length, arith, inl, inr}
+use Rattle.std.specs.Prelude.{◌&&◌, Bool, List, Option, Some, None, option_map, is_some, Ok, Err, not, ◌⊎◌}
+use Rattle.std.specs.FinMap.{get, insert}
+use Rattle.cache_words.specs.Time.{MomentValue}
+use Rattle.cache_changes.specs.Changes.{StoredKey, stored_key}
+use Rattle.cache_entries.specs.Entry.{key_of}
+use Rattle.cache_entries.specs.declared.entry.CacheEntryKey.{CacheEntryKey}
+use Rattle.cache_heads.specs.Merged.{with_provenance_of}
+use Rattle.cache_heads.specs.declared.meta.CacheMeta.{CacheMeta}
+use Rattle.cache_heads.specs.declared.reason.NoCacheReason.{NoCacheReason}
+use Rattle.cache_lock.specs.Changes.{Changes as LockChanges}
+use Rattle.cache_lock.specs.State.{LockState, after_all}
+use Rattle.cache_lock.specs.declared.status.LockStatus.TheVariants as status
+use Rattle.tier_model.specs.declared.event.Action.TheVariants.{Begin}
+use Rattle.tier_model.specs.declared.event.Answer.{Answer}
+use Rattle.tier_model.specs.declared.event.Answer.TheVariants.{Begun, Uncacheable}
+use Rattle.tier_model.specs.declared.event.TierFault.{TierFault}
+use Rattle.tier_model.specs.declared.event.TierFault.TheVariants.{NoRequest, WrongPhase, Memory, NumbersSpent, BadHead, BeforeEpoch, NoRecord}
+use Rattle.tier_model.specs.Response.{Judged, kept, not_kept, too_early, not_read}
+use Rattle.tier_model.specs.Calls.{Outcome, writes_after, nothing_done, extended, judged_of, is_begun}
+use Rattle.tier_model.specs.Shelf.{InFlight, Readers, Shelf, readable_of}
+use Rattle.tier_model.specs.Shelf as shelf_is
+use Rattle.tier_model.specs.State.{Settings, Phase, cache_key, hit, stale, miss, begun, disabled, Held, nothing, Reader, closed, streaming, State}
+use Rattle.tier_model.specs.State as state
+use Rattle.tier_model.specs.Checks.{can_begin, unless, unless_open}
+use Rattle.tier_model.specs.Answers.{key_for, IsBeginAnswer, IsBeginFault}
+use Rattle.tier_model.specs.Step.{AllowsBy, Allows, BeginsWrite, BeginTakes, is_kept}
+use Rattle.tier_model.specs.After.{with_counts, by_request, on_request, turned, release_of, meta_for, writing, after_begin, lock_changes_in, after_outcome, after}
+use Rattle.tier_promise.specs.Promise.{Write, Changes, Request, Row, Now, no_lock, begins, bytes_of, is_done, released, begin_row, begin_by, refused, row_closed, row_of, Whether, ran_out, may_run_out, came}
+use Rattle.tier_model.proofs.CallLaws.{Inside, call_at, at-insert, begin_turn, requests-after}
+use Rattle.tier_model.proofs.OpenLaws.{begun-told, no-fewer}
+use Rattle.tier_promise.proofs.NowFits.{RequestFits, OpenFits, NowFits}
+use Rattle.tier_promise.proofs.NowRequests.{IsSound, flying-read}
+use Rattle.tier_promise.proofs.NowSteps.{Step, same-count, refused-fits, closed-fits, counted-fits, later-fits}
+use Rattle.tier_promise.proofs.NowPolls.{IsLocked}
+use Rattle.tier_promise.proofs.NowOthers.{OtherFits, other-start, other-turned, other-closed}
+use Rattle.tier_promise.proofs.NowBeginSteps.{seen_same, shelf_then, more, flight, other-begins, flight-number, flight-at, release-left}
+
+module _ (x : Settings) (s : State) (locks : LockChanges) (now : Now) (fits : NowFits x s locks now) (locked : IsLocked x.age s locks) (t : MomentValue) (i : Inside) where
+  abbrev c : Changes
+  c = now.changes
+
+  module _ (id : ℕ) (q : state.Request) (r : Request) (is : get s.requests id ≡ Some q) (at : now.request id ≡ Some r) (f : RequestFits x fits.numbers fits.permits s.shelf c q r) where
+    abbrev n : ℕ
+    n = s.shelf.writes
+
+    -- readers are there still
+    abbrev pub StillThere : Reader → Shelf → Type 0
+    StillThere reader shelf = (j m place : ℕ) (p : state.Request) → (id == j) ≡ false → get s.requests j ≡ Some p → p.reader ≡ streaming m place → (y : Readers) × (get (turned q.reader reader shelf).readers m ≡ Some y)
+
+    -- ---- a head that is kept
+
+    module _ (meta : CacheMeta) where
+      abbrev stored_meta : CacheMeta
+      stored_meta = with_provenance_of (option_map (λ y. y.meta) r.seen) meta
+
+      abbrev w : Write
+      w = record { number = length c; entry = r.entry; meta = stored_meta }
+
+      abbrev state_with : StoredKey → CacheMeta → State
+      state_with key m = record s { shelf = turned q.reader (streaming n 0) (shelf_is.begun key m s.shelf); requests = insert s.requests id (writing n q) }
+
+      abbrev then : Changes
+      then = extended (begins w ∷ c) (released status.Done r.hold c)
+
+      abbrev begun_shelf : Shelf
+      begun_shelf = shelf_then x s now id fits.numbers fits.permits s.managed s.shelf locks s.lock.next c (other-start x s now id locks fits) r.entry stored_meta
+
+      kept_others : StillThere (streaming n 0) begun_shelf
+          → OtherFits x (more x s now id fits.numbers fits.permits s.managed s.shelf locks s.lock.next c (other-start x s now id locks fits) r.entry stored_meta) fits.permits s now id s.managed
+          (turned q.reader (streaming n 0) begun_shelf) (release_of status.Done q q.held s.lock ++ locks) (after_all (release_of status.Done q q.held s.lock) s.lock).next then
+      kept_others there =
+          let o = other-start x s now id locks fits in
+          let b = other-begins x s now id fits.numbers fits.permits s.managed s.shelf locks s.lock.next c o r.entry stored_meta in
+          let into = more x s now id fits.numbers fits.permits s.managed s.shelf locks s.lock.next c o r.entry stored_meta in
+          let d = other-turned x s now id into fits.permits s.managed begun_shelf locks s.lock.next (begins w ∷ c) b q.reader (streaming n 0) there in
+          release-left x s locks now fits locked id q is status.Done refl refl into s.managed (turned q.reader (streaming n 0) begun_shelf) (begins w ∷ c) (λ m. refl) d q.held r.hold refl f.hold
+
+      kept-fits : StillThere (streaming n 0) begun_shelf
+          → NowFits x (with_counts (n + 1) (after_all (release_of status.Done q q.held s.lock) s.lock) (state_with (stored_key r.entry) stored_meta)) (release_of status.Done q q.held s.lock ++ locks)
+          (came id (begin_row (Some (kept meta)) r c) now).now
+      kept-fits there =
+          let o = other-start x s now id locks fits in
+          let into = more x s now id fits.numbers fits.permits s.managed s.shelf locks s.lock.next c o r.entry stored_meta in
+          let named = flight-number x s now id fits.numbers fits.permits s.managed s.shelf locks s.lock.next c o r.entry stored_meta in
+          let there_at = flight-at x s now id fits.numbers fits.permits s.managed s.shelf locks s.lock.next c o r.entry stored_meta in
+          let g : InFlight = flight x s now id fits.numbers fits.permits s.managed s.shelf locks s.lock.next c o r.entry stored_meta in
+          let all = kept_others there in
+          let read = flying-read into (turned q.reader (streaming n 0) begun_shelf) (n + 1) then all.stored n (length c) named g there_at in
+          other-closed x s (with_counts (n + 1) (after_all (release_of status.Done q q.held s.lock) s.lock) (state_with (stored_key r.entry) stored_meta)) now id into fits.permits (release_of status.Done q q.held s.lock ++ locks) then
+          (Some (writing n q)) (Some (record r { phase = begun; hold = no_lock; seen = None; write = Some w; reader = streaming w.number 0 })) fits.wait fits.some (at-insert s.requests id (writing n q))
+          (record {
+            entry = f.entry;
+            asks = f.asks;
+            wait = f.wait;
+            phase = refl;
+            waited = f.waited;
+            gave_read = f.gave_read;
+            hold = tt;
+            seen = tt;
+            write = (named, refl, (g, there_at, refl, refl));
+            reader = (
+              named,
+              refl,
+              ap (λ (y : Option InFlight). readable_of y (get (turned q.reader (streaming n 0) begun_shelf).readers n)) there_at
+                  ∙ ap (λ (b : List ℕ). let said : List ℕ × Bool = (b, g.ended) in Some said) read.0 ∙ ap (λ (d : Bool). let said : List ℕ × Bool = (bytes_of (length c) then, d) in Some said) read.1,
+              omega arith,
+            );
+          })
+          all
+
+      meta_is : meta_for q meta ≡ stored_meta
+      meta_is = ap (λ (y : Option CacheMeta). with_provenance_of y meta) (seen_same fits.numbers q.seen r.seen f.seen)
+
+      key_is : key_for q ≡ stored_key r.entry
+      key_is = ap (λ (e : CacheEntryKey). stored_key (key_of e)) f.entry
+
+      pub kept-leaves : StillThere (streaming n 0) begun_shelf
+          → NowFits x (with_counts (n + 1) (after_all (release_of status.Done q q.held s.lock) s.lock) (after_begin s id q (Some (kept meta)))) (release_of status.Done q q.held s.lock ++ locks)
+          (came id (begin_row (Some (kept meta)) r c) now).now
+      kept-leaves there = subst (λ (k : StoredKey). NowFits x (with_counts (n + 1) (after_all (release_of status.Done q q.held s.lock) s.lock) (state_with k (meta_for q meta))) (release_of status.Done q q.held s.lock ++ locks)
+          (came id (begin_row (Some (kept meta)) r c) now).now) (sym key_is)
+          (subst (λ (m : CacheMeta). NowFits x (with_counts (n + 1) (after_all (release_of status.Done q q.held s.lock) s.lock) (state_with (stored_key r.entry) m)) (release_of status.Done q q.held s.lock ++ locks)
+          (came id (begin_row (Some (kept meta)) r c) now).now) (sym meta_is) (kept-fits there))
+
+    -- ---- a head that may not be kept
+
+    pub not-kept-leaves : (reason : NoCacheReason) → StillThere closed s.shelf → (k : ℕ) → k ≡ n
+        → NowFits x (with_counts k (after_all (release_of status.GiveUp q q.held s.lock) s.lock) (after_begin s id q (Some (not_kept reason)))) (release_of status.GiveUp q q.held s.lock ++ locks)
+        (came id (begin_row (Some (not_kept reason)) r c) now).now
+    not-kept-leaves reason there k same = subst (λ (m : ℕ). NowFits x (with_counts m (after_all (release_of status.GiveUp q q.held s.lock) s.lock) (after_begin s id q (Some (not_kept reason))))
+        (release_of status.GiveUp q q.held s.lock ++ locks) (came id (begin_row (Some (not_kept reason)) r c) now).now) (sym same)
+        (other-closed x s (with_counts n (after_all (release_of status.GiveUp q q.held s.lock) s.lock) (after_begin s id q (Some (not_kept reason)))) now id fits.numbers fits.permits
+        (release_of status.GiveUp q q.held s.lock ++ locks) (extended c (released status.GiveUp r.hold c)) (Some (record q { phase = disabled; held = nothing; seen = None; reader = closed }))
+        (Some (record r { phase = disabled; hold = no_lock; seen = None; reader = closed })) fits.wait fits.some (at-insert s.requests id (record q { phase = disabled; held = nothing; seen = None; reader = closed }))
+        (record { entry = f.entry; asks = f.asks; wait = f.wait; phase = refl; waited = f.waited; gave_read = f.gave_read; hold = tt; seen = tt; write = f.write; reader = tt })
+        (let d = other-turned x s now id fits.numbers fits.permits s.managed s.shelf locks s.lock.next c (other-start x s now id locks fits) q.reader closed there in
+        release-left x s locks now fits locked id q is status.GiveUp refl refl fits.numbers s.managed (turned q.reader closed s.shelf) c (λ m. refl) d q.held r.hold refl f.hold))
+
+    -- ---- the checks
+
+    pub begin-passed : (phase : Phase) (gave : Bool) (j : Option Judged) → can_begin phase gave ≡ true → begin_by phase gave j r c ≡ begin_row j r c
+    begin-passed miss gave j e = refl
+    begin-passed stale false j e = refl
+    begin-passed stale true j e = absurd cc
+    begin-passed _ gave j e = absurd cc
+
+    pub begin-failed : (phase : Phase) (gave : Bool) (j : Option Judged) → can_begin phase gave ≡ false → begin_by phase gave j r c ≡ refused r WrongPhase
+    begin-failed miss gave j e = absurd cc
+    begin-failed stale true j e = refl
+    begin-failed stale false j e = absurd cc
+    begin-failed cache_key gave j e = refl
+    begin-failed hit gave j e = refl
+    begin-failed begun gave j e = refl
+    begin-failed disabled gave j e = refl
+
+    -- ---- what comes of it
+
+    abbrev state_then : Option Judged → Outcome → State
+    state_then j (Ok a) = on_request s id (λ q. after_begin s id q j)
+    state_then j (Err g) = s
+
+    abbrev locks_then : List ℕ → Outcome → LockChanges
+    locks_then head o = lock_changes_in s t (Begin id head) o i.asked
+
+    abbrev BeginComes : List ℕ → Option Judged → Outcome → ℕ → Row → Type 0
+    BeginComes head j o k row =
+        Whether (ran_out o) (may_run_out (Begin id head) row.outcome ≡ true) ((o ≡ row.outcome) × Unit {0})
+        × NowFits x (with_counts k (after_all (locks_then head o) s.lock) (state_then j o)) (locks_then head o ++ locks) (cond (ran_out o) now (came id row now).now)
+
+    abbrev pub There : Option Judged → Type 0
+    There (Some (kept meta)) = StillThere (streaming n 0) (begun_shelf meta)
+    There j = StillThere closed s.shelf
+
+    begin_ok : (head : List ℕ) (j : Option Judged) (a : Answer) (k : ℕ) → IsBeginAnswer j a → There j → (is_kept j ≡ false → k ≡ n) → (is_begun (Ok a) ≡ true → k ≡ n + 1) → BeginComes head j (Ok a) k (begin_row j r c)
+    begin_ok head (Some (kept meta)) a k p there same counts = subst (λ (y : Answer). (is_begun (Ok y) ≡ true → k ≡ n + 1) → BeginComes head (Some (kept meta)) (Ok y) k (begin_row (Some (kept meta)) r c)) (sym p) (λ one. (
+      (refl, tt),
+      subst (λ (o : Option state.Request). NowFits x (with_counts k (after_all (by_request [] o (λ q. release_of status.Done q q.held s.lock)) s.lock) (by_request s o (λ q. after_begin s id q (Some (kept meta)))))
+          (by_request [] o (λ q. release_of status.Done q q.held s.lock) ++ locks) (came id (begin_row (Some (kept meta)) r c) now).now) (sym is)
+          (subst (λ (m : ℕ). NowFits x (with_counts m (after_all (release_of status.Done q q.held s.lock) s.lock) (after_begin s id q (Some (kept meta)))) (release_of status.Done q q.held s.lock ++ locks)
+          (came id (begin_row (Some (kept meta)) r c) now).now) (sym (one refl)) (kept-leaves meta there)),
+    )) counts
+    begin_ok head (Some (not_kept reason)) a k p there same more = subst (λ (y : Answer). BeginComes head (Some (not_kept reason)) (Ok y) k (begin_row (Some (not_kept reason)) r c)) (sym p) (
+      (refl, tt),
+      subst (λ (o : Option state.Request). NowFits x (with_counts k (after_all (by_request [] o (λ q. release_of status.GiveUp q q.held s.lock)) s.lock) (by_request s o (λ q. after_begin s id q (Some (not_kept reason)))))
+          (by_request [] o (λ q. release_of status.GiveUp q q.held s.lock) ++ locks) (came id (begin_row (Some (not_kept reason)) r c) now).now) (sym is) (not-kept-leaves reason there k (same refl)),
+    )
+    begin_ok head (Some too_early) a k p there same more = absurd p
+    begin_ok head (Some not_read) a k p there same more = absurd p
+    begin_ok head None a k p there same more = absurd p
+
+    begin_err : (head : List ℕ) (j : Option Judged) (g : TierFault) (k : ℕ) → ((g ≡ Memory nothing_done) × BeginTakes s j) ⊎ IsBeginFault s j g → n ≤ k → (is_kept j ≡ false → k ≡ n) → BeginComes head j (Err g) k (begin_row j r c)
+    begin_err head (Some (kept meta)) g k p later same = elim p [
+      | inl h ↦ subst (λ (y : TierFault). BeginComes head (Some (kept meta)) (Err y) k (begin_row (Some (kept meta)) r c)) (sym h.0) (refl, later-fits x s locks now fits k later)
+      | inr h ↦ subst (λ (y : TierFault). BeginComes head (Some (kept meta)) (Err y) k (begin_row (Some (kept meta)) r c)) (sym h.0) (refl, later-fits x s locks now fits k later)
+    ]
+    begin_err head (Some (not_kept reason)) g k p later same = elim p [
+      | inl h ↦ absurd h.1
+      | inr h ↦ absurd h
+    ]
+    begin_err head (Some too_early) g k p later same = elim p [
+      | inl h ↦ absurd h.1
+      | inr h ↦ subst (λ (y : TierFault). BeginComes head (Some too_early) (Err y) k (begin_row (Some too_early) r c)) (sym h)
+          ((refl, tt), counted-fits x s locks (came id (refused r BeforeEpoch) now).now k s.lock (same refl) refl (refused-fits x s locks now fits id r BeforeEpoch at))
+    ]
+    begin_err head (Some not_read) g k p later same = elim p [
+      | inl h ↦ absurd h.1
+      | inr h ↦ subst (λ (y : TierFault). BeginComes head (Some not_read) (Err y) k (begin_row (Some not_read) r c)) (sym h)
+          ((refl, tt), counted-fits x s locks (came id (refused r BadHead) now).now k s.lock (same refl) refl (refused-fits x s locks now fits id r BadHead at))
+    ]
+    begin_err head None g k p later same = elim p [
+      | inl h ↦ subst (λ (y : TierFault). BeginComes head None (Err y) k (begin_row None r c)) (sym h.0) (refl, later-fits x s locks now fits k later)
+      | inr h ↦ absurd h
+    ]
+
+    abbrev Judging : List ℕ → Outcome → Option Judged
+    Judging head o = judged_of (call_at t (Begin id head) i o)
+
+    abbrev RowBy : List ℕ → Outcome → Row
+    RowBy head o = begin_by r.phase r.gave_read (Judging head o) r c
+
+    row_is : (head : List ℕ) (o : Outcome) → RowBy head o ≡ begin_by q.phase q.gave_read (Judging head o) r c
+    row_is head o = ap (λ (y : Phase). begin_by y r.gave_read (Judging head o) r c) (sym f.phase) ∙ ap (λ (y : Bool). begin_by q.phase y (Judging head o) r c) (sym f.gave_read)
+
+    pub begin-at : (head : List ℕ) (o : Outcome) → ((a : Answer) → o ≡ Ok a → There (Judging head o)) → (v : Bool) → can_begin q.phase q.gave_read ≡ v
+        → BeginsWrite s (is_kept (Judging head o) && not (is_some (unless v WrongPhase))) (is_begun o) i.began
+        → AllowsBy (unless v WrongPhase) s t (Begin id head) (call_at t (Begin id head) i o) o → BeginComes head (Judging head o) o (writes_after n i.began) (RowBy head o)
+    begin-at head (Ok a) there false e began p = absurd cc
+    begin-at head (Err g) there false e began p =
+        subst (λ (y : Row). BeginComes head (Judging head (Err g)) (Err g) (writes_after n i.began) y) (sym (row_is head (Err g) ∙ begin-failed q.phase q.gave_read (Judging head (Err g)) e))
+        (subst (λ (y : TierFault). BeginComes head (Judging head (Err y)) (Err y) (writes_after n i.began) (refused r WrongPhase)) (let one : WrongPhase ≡ g = cc in one) (
+          (refl, tt),
+          counted-fits x s locks (came id (refused r WrongPhase) now).now (writes_after n i.began) s.lock
+              (same-count s false i.began (subst (λ (b : Bool). BeginsWrite s b false i.began) (none (is_kept (Judging head (Err g)))) began)) refl (refused-fits x s locks now fits id r WrongPhase at),
+        ))
+      where
+        none : (b : Bool) → (b && false) ≡ false
+        none true = refl
+        none false = refl
+    begin-at head (Ok a) there true e began p =
+        subst (λ (y : Row). BeginComes head (Judging head (Ok a)) (Ok a) (writes_after n i.began) y) (sym (row_is head (Ok a) ∙ begin-passed q.phase q.gave_read (Judging head (Ok a)) e))
+        (begin_ok head (Judging head (Ok a)) a (writes_after n i.began) p (there a refl)
+        (λ no. same-count s (is_begun (Ok a)) i.began (subst (λ (b : Bool). BeginsWrite s (b && true) (is_begun (Ok a)) i.began) no began))
+        (λ one. ap (writes_after n) (begun-told s (is_kept (Judging head (Ok a)) && true) (is_begun (Ok a)) i.began began one)))
+    begin-at head (Err g) there true e began p =
+        subst (λ (y : Row). BeginComes head (Judging head (Err g)) (Err g) (writes_after n i.began) y) (sym (row_is head (Err g) ∙ begin-passed q.phase q.gave_read (Judging head (Err g)) e))
+        (begin_err head (Judging head (Err g)) g (writes_after n i.began) p (no-fewer n i.began)
+        (λ no. same-count s false i.began (subst (λ (b : Bool). BeginsWrite s (b && true) false i.began) no began)))
+
+  -- ---- the event
+
+  abbrev BeginRow : List ℕ → ℕ → Outcome → Option Request → Row
+  BeginRow head id o v = row_of v (λ r. begin_by r.phase r.gave_read (judged_of (call_at t (Begin id head) i o)) r c)
+
+  abbrev Comes : List ℕ → ℕ → Outcome → Row → Type 0
+  Comes head id o row =
+      Whether (ran_out o) (may_run_out (Begin id head) row.outcome ≡ true) ((o ≡ row.outcome) × Unit {0})
+      × NowFits x (with_counts (writes_after s.shelf.writes i.began) (after_all (lock_changes_in s t (Begin id head) o i.asked) s.lock) (after_outcome s t (Begin id head) (call_at t (Begin id head) i o) o))
+      (lock_changes_in s t (Begin id head) o i.asked ++ locks) (cond (ran_out o) now (came id row now).now)
+
+  begin_open : (head : List ℕ) (id : ℕ) (o : Outcome) (q : Option state.Request) (v : Option Request) → get s.requests id ≡ q → (at : now.request id ≡ v) → (f : OpenFits x fits.numbers fits.permits s.shelf c q v)
+      → ((p : state.Request) (r : Request) (is : get s.requests id ≡ Some p) (at : now.request id ≡ Some r) (f : RequestFits x fits.numbers fits.permits s.shelf c p r) (a : Answer) → o ≡ Ok a
+      → There id p r is at f (judged_of (call_at t (Begin id head) i o)))
+      → BeginsWrite s (is_kept (judged_of (call_at t (Begin id head) i o)) && not (is_some (unless_open q (λ q. unless (can_begin q.phase q.gave_read) WrongPhase)))) (is_begun o) i.began
+      → AllowsBy (unless_open q (λ q. unless (can_begin q.phase q.gave_read) WrongPhase)) s t (Begin id head) (call_at t (Begin id head) i o) o → Comes head id o (BeginRow head id o v)
+  begin_open head id o (Some q) None is at f there began p = absurd f
+  begin_open head id o None (Some r) is at f there began p = absurd f
+  begin_open head id (Ok a) None None is at f there began p = absurd cc
+  begin_open head id (Err g) None None is at f there began p =
+      subst (λ (y : TierFault). Comes head id (Err y) row_closed) (let one : NoRequest ≡ g = cc in one) (
+        (refl, tt),
+        counted-fits x s locks (came id row_closed now).now (writes_after s.shelf.writes i.began) s.lock
+            (same-count s false i.began (subst (λ (b : Bool). BeginsWrite s b false i.began) (none (is_kept (judged_of (call_at t (Begin id head) i (Err g))))) began)) refl (closed-fits x s locks now fits id at),
+      )
+    where
+      none : (b : Bool) → (b && false) ≡ false
+      none true = refl
+      none false = refl
+  begin_open head id (Ok a) (Some q) (Some r) is at f there began p =
+      begin-at id q r is at f head (Ok a) (λ b e. there q r is at f b e) (can_begin q.phase q.gave_read) refl began p
+  begin_open head id (Err g) (Some q) (Some r) is at f there began p =
+      begin-at id q r is at f head (Err g) (λ b e. there q r is at f b e) (can_begin q.phase q.gave_read) refl began p
+
+  -- readers are there after the event
+  there_at : (head : List ℕ) (id : ℕ) (a : Answer) (p : state.Request) → get s.requests id ≡ Some p → IsSound (after s (call_at t (Begin id head) i (Ok a))) → (k m place : ℕ) (y : state.Request) → (id == k) ≡ false
+      → get s.requests k ≡ Some y → y.reader ≡ streaming m place → (z : Readers) × (get (after_begin s id p (judged_of (call_at t (Begin id head) i (Ok a)))).shelf.readers m ≡ Some z)
+  there_at head id a p is new k m place y apart here read =
+      let z = new.readers k m place y (requests-after s (call_at t (Begin id head) i (Ok a)) k
+      ∙ ap (λ (v : Bool). cond v (option_map (begin_turn s (judged_of (call_at t (Begin id head) i (Ok a)))) (get s.requests k)) (get s.requests k)) apart ∙ here) read in
+      subst (λ (o : Option state.Request). (z : Readers) × (get (by_request s o (λ q. after_begin s id q (judged_of (call_at t (Begin id head) i (Ok a))))).shelf.readers m ≡ Some z)) is z
+
+  there_by : (head : List ℕ) (id : ℕ) (a : Answer) (p : state.Request) (r : Request) (is : get s.requests id ≡ Some p) (at : now.request id ≡ Some r) (f : RequestFits x fits.numbers fits.permits s.shelf c p r)
+      → IsSound (after s (call_at t (Begin id head) i (Ok a))) → (j : Option Judged) → judged_of (call_at t (Begin id head) i (Ok a)) ≡ j → There id p r is at f j
+  there_by head id a p r is at f new (Some (kept meta)) e = λ k m place y apart here read.
+      subst (λ (j : Option Judged). (z : Readers) × (get (after_begin s id p j).shelf.readers m ≡ Some z)) e (there_at head id a p is new k m place y apart here read)
+  there_by head id a p r is at f new (Some (not_kept reason)) e = λ k m place y apart here read.
+      subst (λ (j : Option Judged). (z : Readers) × (get (after_begin s id p j).shelf.readers m ≡ Some z)) e (there_at head id a p is new k m place y apart here read)
+  there_by head id a p r is at f new (Some too_early) e = λ k m place y apart here read.
+      subst (λ (j : Option Judged). (z : Readers) × (get (after_begin s id p j).shelf.readers m ≡ Some z)) e (there_at head id a p is new k m place y apart here read)
+  there_by head id a p r is at f new (Some not_read) e = λ k m place y apart here read.
+      subst (λ (j : Option Judged). (z : Readers) × (get (after_begin s id p j).shelf.readers m ≡ Some z)) e (there_at head id a p is new k m place y apart here read)
+  there_by head id a p r is at f new None e = λ k m place y apart here read.
+      subst (λ (j : Option Judged). (z : Readers) × (get (after_begin s id p j).shelf.readers m ≡ Some z)) e (there_at head id a p is new k m place y apart here read)
+
+  pub begin-step : (id : ℕ) (head : List ℕ) (o : Outcome) → Allows s (call_at t (Begin id head) i o) → IsSound (after s (call_at t (Begin id head) i o)) → Step x s locks (call_at t (Begin id head) i o) now
+  begin-step id head o p new =
+      let all = begin_open head id o (get s.requests id) (now.request id) refl refl (fits.requests id)
+      (λ q r is at f a e. subst (λ (y : Outcome). There id q r is at f (judged_of (call_at t (Begin id head) i y))) (sym e)
+      (there_by head id a q r is at f (subst (λ (y : Outcome). IsSound (after s (call_at t (Begin id head) i y))) e new) (judged_of (call_at t (Begin id head) i (Ok a))) refl))
+      p.begins p.outcome in
+      record { right = record { read = p.read; outcome = all.0 }; fits = all.1 }

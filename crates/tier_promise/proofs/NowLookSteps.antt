@@ -1,0 +1,162 @@
+-- A look-up's checks, what it finds, and its step.
+use Rattle.std.proofs.Common.{◌≡◌, ℕ, ◌≤◌, refl, ap, sym, ◌∙◌, true, false, subst, cond, [], ◌∷◌, ◌++◌, ◌==◌, length, arith, inl, inr}
+use Rattle.std.specs.Prelude.{◌&&◌, Bool, List, Option, Some, None, option_map, is_some, not, find, Ok, Err, ◌⊎◌}
+use Rattle.std.specs.FinMap.{get}
+use Rattle.std.specs.Option.{option_or}
+use Rattle.cache_words.specs.Time.{MomentValue}
+use Rattle.cache_changes.specs.Changes.{StoredKey, stored_key}
+use Rattle.cache_entries.specs.Entry.{key_of}
+use Rattle.cache_entries.specs.declared.entry.CacheEntryKey.{CacheEntryKey}
+use Rattle.cache_heads.specs.declared.meta.CacheMeta.{CacheMeta}
+use Rattle.cache_lock.specs.Answers.{to_wait_for}
+use Rattle.cache_lock.specs.Changes.{Changes as LockChanges}
+use Rattle.tier_model.specs.declared.event.Answer.{Answer}
+use Rattle.tier_model.specs.declared.event.Answer.TheVariants.{Found, Absent}
+use Rattle.tier_model.specs.declared.event.LockGiven.{LockGiven}
+use Rattle.tier_model.specs.declared.event.TierFault.{TierFault}
+use Rattle.tier_model.specs.declared.event.TierFault.TheVariants.{WrongPhase, Waiting}
+use Rattle.tier_model.specs.Calls.{Outcome}
+use Rattle.tier_model.specs.Rows.{Numbered}
+use Rattle.tier_model.specs.Shelf.{InFlight, Shelf, Look, absent, in_flight, finished, look, look_by as found_by, flies_for}
+use Rattle.tier_model.specs.State.{Settings, Phase, cache_key, hit, stale, miss, begun, disabled, Held, nothing, permit, State}
+use Rattle.tier_model.specs.State as state
+use Rattle.tier_model.specs.Checks.{can_look_up, has_permit, is_waiting, unless}
+use Rattle.tier_model.specs.Answers.{key_for, asks_now, is_fresh, finds_fresh, look_answer}
+use Rattle.tier_promise.specs.Promise.{Write, Changes, Request, Row, Now, Hold, no_lock, holds, waits, bytes_of, is_done, flying, body_of, first_of, shown, asked, told, refused, look_found, look_absent, look_row, look_by}
+use Rattle.tier_promise.proofs.NowFits.{Told, told_write, told_flight, BodyFits, HoldFits, RequestFits, OpenFits, NowFits}
+use Rattle.tier_promise.proofs.NowRequests.{IsSound, first-flight}
+use Rattle.tier_promise.proofs.NowPolls.{IsLocked}
+use Rattle.tier_promise.proofs.NowLookUps.{ThereStill, Leaves, leaves-absent, leaves-flight, leaves-body, flight-meta, body-meta}
+
+module _ (x : Settings) (s : State) (locks : LockChanges) (now : Now) (fits : NowFits x s locks now) (t : MomentValue) (r : Request) where
+  abbrev c : Changes
+  c = now.changes
+
+  abbrev k : StoredKey
+  k = stored_key r.entry
+
+  abbrev checks : Phase → Held → Option TierFault
+  checks phase held = cond (can_look_up phase && not (has_permit held)) (unless (not (is_waiting held)) Waiting) (Some WrongPhase)
+
+  -- ---- the checks
+
+  abbrev Passed : Phase → Held → Hold → Type 0
+  Passed phase held hold = (held ≡ nothing) × (look_by phase hold t r c ≡ look_row t r (shown k c) c)
+
+  pub passed : (phase : Phase) (held : Held) (hold : Hold) → HoldFits fits.permits held hold → checks phase held ≡ None → Passed phase held hold
+  passed cache_key nothing no_lock h e = (refl, refl)
+  passed stale nothing no_lock h e = (refl, refl)
+  passed cache_key (permit n) hold h e = absurd cc
+  passed stale (permit n) hold h e = absurd cc
+  passed cache_key (state.waits n first) hold h e = absurd cc
+  passed stale (state.waits n first) hold h e = absurd cc
+  passed cache_key nothing (holds p) h e = absurd h
+  passed cache_key nothing (waits p since) h e = absurd h
+  passed stale nothing (holds p) h e = absurd h
+  passed stale nothing (waits p since) h e = absurd h
+  passed _ held hold h e = absurd cc
+
+  abbrev Failed : TierFault → Phase → Hold → Type 0
+  Failed g phase hold = ((g ≡ WrongPhase) ⊎ (g ≡ Waiting)) × (look_by phase hold t r c ≡ refused r g)
+
+  wrong : (g : TierFault) (phase : Phase) (hold : Hold) → look_by phase hold t r c ≡ refused r WrongPhase → Some WrongPhase ≡ Some g → Failed g phase hold
+  wrong g phase hold is e = let same : WrongPhase ≡ g = cc in (inl (sym same), is ∙ ap (refused r) same)
+
+  waiting_still : (g : TierFault) (phase : Phase) (hold : Hold) → look_by phase hold t r c ≡ refused r Waiting → Some Waiting ≡ Some g → Failed g phase hold
+  waiting_still g phase hold is e = let same : Waiting ≡ g = cc in (inr (sym same), is ∙ ap (refused r) same)
+
+  pub failed : (g : TierFault) (phase : Phase) (held : Held) (hold : Hold) → HoldFits fits.permits held hold → checks phase held ≡ Some g → Failed g phase hold
+  failed g cache_key nothing hold h e = absurd cc
+  failed g stale nothing hold h e = absurd cc
+  failed g cache_key (permit n) (holds p) h e = wrong g cache_key (holds p) refl e
+  failed g stale (permit n) (holds p) h e = wrong g stale (holds p) refl e
+  failed g cache_key (state.waits n first) (waits p since) h e = waiting_still g cache_key (waits p since) refl e
+  failed g stale (state.waits n first) (waits p since) h e = waiting_still g stale (waits p since) refl e
+  failed g cache_key (permit n) no_lock h e = absurd h
+  failed g cache_key (permit n) (waits p since) h e = absurd h
+  failed g stale (permit n) no_lock h e = absurd h
+  failed g stale (permit n) (waits p since) h e = absurd h
+  failed g cache_key (state.waits n first) no_lock h e = absurd h
+  failed g cache_key (state.waits n first) (holds p) h e = absurd h
+  failed g stale (state.waits n first) no_lock h e = absurd h
+  failed g stale (state.waits n first) (holds p) h e = absurd h
+  failed g hit held hold h e = wrong g hit hold refl e
+  failed g miss held hold h e = wrong g miss hold refl e
+  failed g begun held hold h e = wrong g begun hold refl e
+  failed g disabled held hold h e = wrong g disabled hold refl e
+
+-- ---- what is found
+
+and_true : (a : Bool) → (a && true) ≡ a
+and_true true = refl
+and_true false = refl
+
+module _ (x : Settings) (s : State) (locks : LockChanges) (now : Now) (fits : NowFits x s locks now) (locked : IsLocked x.age s locks) (sound : IsSound s) (t : MomentValue) (id : ℕ) (q : state.Request) (r : Request)
+    (f : RequestFits x fits.numbers fits.permits s.shelf now.changes q r) where
+  abbrev changes : Changes
+  changes = now.changes
+
+  abbrev key : StoredKey
+  key = stored_key r.entry
+
+  -- what a look-up finds, and its row
+  pub record Finds : Type 0 where
+    pub finds : Look
+    pub asks : Bool
+    pub row : Row
+    pub is : look key s.shelf ≡ finds
+    pub asks_is : asks_now t q finds ≡ asks
+    pub row_is : look_row t r (shown key changes) changes ≡ row
+    pub says : row.outcome ≡ Ok (look_answer t (told (asked asks t r changes)) finds)
+    pub leaves : ThereStill x s locks now fits locked sound t id q r f finds → (n : ℕ) → n ≡ s.shelf.writes → Leaves x s locks now fits locked sound t id q r f asks key nothing finds n row
+
+  row_found : (o : Option Write) → shown key changes ≡ o → (u : Option Write) → first_of (flying key changes) ≡ u → (w : Write) → o ≡ Some w
+      → look_row t r (shown key changes) changes ≡ look_found t (not (is_some u)) (asked (r.asks && not (is_fresh t w.meta)) t r changes) w r changes
+  row_found o e u first w is =
+      ap (λ (y : Option Write). look_row t r y changes) (e ∙ is) ∙ ap (λ (y : Option Write). look_found t (not (is_some y)) (asked (r.asks && not (is_fresh t w.meta)) t r changes) w r changes) first
+
+  finds_by : (o : Option InFlight) (w : Option Write) (b : Option Numbered) (v : Option Write) → find (flies_for key) s.shelf.flying ≡ o → first_of (flying key changes) ≡ w → get s.shelf.bodies key ≡ b → body_of key changes ≡ v
+      → option_map told_write w ≡ option_map (told_flight fits.numbers) o → BodyFits fits.numbers (λ m. bytes_of m changes) (λ m. is_done m changes) key b v → Finds
+  finds_by (Some g) (Some w) b v eo ew eb ev sees body =
+      let seen : told_write w ≡ told_flight fits.numbers g = cc in
+      let meta = flight-meta x s locks now fits locked sound t id q r f g w eo seen in
+      record {
+        finds = in_flight g;
+        asks = r.asks && not (is_fresh t w.meta);
+        row = look_found t false (asked (r.asks && not (is_fresh t w.meta)) t r changes) w r changes;
+        is = ap (λ (y : Option InFlight). found_by y (get s.shelf.bodies key)) eo;
+        asks_is = ap (λ (y : Bool). y && not (is_fresh t g.meta)) f.asks ∙ ap (λ (m : CacheMeta). r.asks && not (is_fresh t m)) meta;
+        row_is = row_found (Some w) (ap (λ (y : Option Write). option_or y (body_of key changes)) ew) (Some w) ew w refl;
+        says = ap (λ (m : CacheMeta). let said : Outcome = Ok (Found (is_fresh t m) false (told (asked (r.asks && not (is_fresh t w.meta)) t r changes))) in said) (sym meta);
+        leaves = λ there n same. leaves-flight x s locks now fits locked sound t id q r f g w eo seen there (r.asks && not (is_fresh t w.meta)) n same;
+      }
+  finds_by None None (Some y) (Some w) eo ew eb ev sees body =
+      let meta = body-meta x s locks now fits locked sound t id q r f y w body in
+      record {
+        finds = finished y;
+        asks = r.asks && not (is_fresh t w.meta);
+        row = look_found t true (asked (r.asks && not (is_fresh t w.meta)) t r changes) w r changes;
+        is = ap (λ (z : Option InFlight). found_by z (get s.shelf.bodies key)) eo ∙ ap (found_by None) eb;
+        asks_is = ap (λ (z : Bool). z && not (is_fresh t y.body.meta)) f.asks ∙ ap (λ (m : CacheMeta). r.asks && not (is_fresh t m)) meta;
+        row_is = row_found (Some w) (ap (λ (z : Option Write). option_or z (body_of key changes)) ew ∙ ev) None ew w refl;
+        says = ap (λ (m : CacheMeta). let said : Outcome = Ok (Found (is_fresh t m) true (told (asked (r.asks && not (is_fresh t w.meta)) t r changes))) in said) (sym meta);
+        leaves = λ there n same. leaves-body x s locks now fits locked sound t id q r f y w body there (r.asks && not (is_fresh t w.meta)) n same;
+      }
+  finds_by None None None None eo ew eb ev sees body = record {
+    finds = absent;
+    asks = r.asks;
+    row = look_absent (asked r.asks t r changes) r;
+    is = ap (λ (z : Option InFlight). found_by z (get s.shelf.bodies key)) eo ∙ ap (found_by None) eb;
+    asks_is = and_true q.asks ∙ f.asks;
+    row_is = ap (λ (z : Option Write). look_row t r z changes) (ap (λ (z : Option Write). option_or z (body_of key changes)) ew ∙ ev);
+    says = refl;
+    leaves = λ there n same. leaves-absent x s locks now fits locked sound t id q r f there r.asks n same;
+  }
+  finds_by (Some g) None b v eo ew eb ev sees body = absurd cc
+  finds_by None (Some w) b v eo ew eb ev sees body = absurd cc
+  finds_by None None (Some y) None eo ew eb ev sees body = absurd body
+  finds_by None None None (Some w) eo ew eb ev sees body = absurd body
+
+  pub look-finds : Finds
+  look-finds = finds_by (find (flies_for key) s.shelf.flying) (first_of (flying key changes)) (get s.shelf.bodies key) (body_of key changes) refl refl refl refl
+      (first-flight fits.numbers s.shelf.bodies s.shelf.flying s.shelf.writes changes fits.shelf key) (fits.shelf.bodies key)
