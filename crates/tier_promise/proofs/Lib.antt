@@ -26,3 +26,10 @@ mod NowBeginEvents
 mod NowStart
 mod NowFinishSteps
 mod NowAll
+mod NowOrder
+mod NowAlive
+mod NowKeeps
+mod NowKept
+mod NowCalls
+mod NowWithin
+mod NowPromise

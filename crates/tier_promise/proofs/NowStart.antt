@@ -39,7 +39,7 @@ none_fly : (k : StoredKey) (l : List Tracked) → flying k (loading l) ≡ []
 none_fly k [] = refl
 none_fly k (r ∷ l) = none_fly k l
 
-no_body : (k : StoredKey) (l : List Tracked) → body_of k (loading l) ≡ None
+pub no_body : (k : StoredKey) (l : List Tracked) → body_of k (loading l) ≡ None
 no_body k [] = refl
 no_body k (r ∷ l) = no_body k l
 

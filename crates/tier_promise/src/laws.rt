@@ -2,9 +2,10 @@
 ghost use Rattle.tier_model.specs.Calls.{History};
 ghost use Rattle.tier_model.specs.Histories.{Opening};
 ghost use Rattle.tier_model.specs.Past.{IsLawful};
-ghost use Rattle.tier_promise.specs.Promise.{AreRight};
+ghost use Rattle.tier_promise.specs.Promise.{Promise};
 
-/// Whatever a tier's state allows, call by call from its opening, each call is answered by its event's row, by the calls before it.
-pub fn each_call_is_answered_by_its_row()
-    ensures { (start : Opening) (h : History) → IsLawful start h → AreRight start.settings start.loaded h }
+/// Whatever a tier's state allows, call by call from its opening, keeps the promise: each call is answered by its event's row, by the
+/// calls before it; a key is found exactly where a write of it is alive; bodies keep both limits, and each is tracked with what it takes.
+pub fn lawful_histories_keep_the_promise()
+    ensures { (start : Opening) (h : History) → IsLawful start h → Promise start.settings start.loaded h }
 {}

@@ -1,11 +1,12 @@
 //! The whole promise of a tier in one file.
 //!
 //! `specs/Promise` says, with few words from elsewhere, what a tier answers: what calls change, what an open request is, and for each event
-//! its row, the one answer and the changes that it makes, by the calls before it. The law here says that each call of a lawful history
-//! (`IsLawful` of `tier_model`, which `Tier::step` and `Tier::run` keep) is answered by its row.
+//! its row, the one answer and the changes that it makes, by the calls before it. The law here says that each lawful history (`IsLawful` of
+//! `tier_model`, which `Tier::step` and `Tier::run` keep) keeps all of its `Promise`: each call is answered by its row, a key is found
+//! exactly where a write of it is alive, bodies keep both limits, and each body's entry is tracked with at least what the body takes.
 //!
-//! What `Promise` says further, of all finds, of both limits and of tracking, is proved of the same history in the words of `tier_model`
-//! (`Headline`), and not yet in these.
+//! That a key is found so, and that bodies are tracked, holds after whatever calls (`proofs/NowCalls`). The limits are kept since they are
+//! in the headline of `tier_model`, whose bodies are the same (`proofs/NowWithin`).
 #![tactic(auto)]
 
 pub mod laws;

@@ -1,0 +1,130 @@
+-- After whatever calls, a tier's changes are in order, and each body's entry is tracked with at least the body's size.
+use Rattle.std.proofs.Common.{◌≡◌, ℕ, ◌≤◌, ◌<◌, refl, ap, sym, ◌∙◌, true, false, subst, cond, [], ◌∷◌, ◌++◌, ◌==◌, length, arith}
+use Rattle.std.specs.Prelude.{◌&&◌, Bool, List, Option, Some, None, Ok, Err, is_some, not, map, find, max, unwrap_or, option_map}
+use Rattle.std.specs.List.{AllByRecursion}
+use Rattle.std.specs.Option.{option_or}
+use Rattle.std.proofs.lemmas.Bool.{eqb-true, eq-eqb}
+use Rattle.cache_entries.specs.declared.entry.CacheEntryKey.{CacheEntryKey}
+use Rattle.cache_entries.specs.declared.rows.Tracked.{Tracked}
+use Rattle.cache_entries.specs.Entry.{same_entry}
+use Rattle.cache_entries.specs.Keys.{same_bytes}
+use Rattle.cache_entries.specs.Rows.{weight_of}
+use Rattle.cache_entries.specs.SameEntry.{same_bytes-tells, same_entry-tells}
+use Rattle.cache_words.specs.Time.{MomentValue, at_least, elapsed}
+use Rattle.cache_words.specs.Key.{CacheKeyValue}
+use Rattle.cache_heads.specs.Merged.{with_provenance_of}
+use Rattle.cache_changes.specs.Changes.{StoredKey, stored_key}
+use Rattle.cache_lock.specs.declared.status.LockStatus.{LockStatus}
+use Rattle.cache_lock.specs.declared.status.LockStatus.TheVariants as status
+use Rattle.tier_model.specs.declared.event.Action.{Action}
+use Rattle.tier_model.specs.declared.event.Action.TheVariants as on
+use Rattle.tier_model.specs.declared.event.Answer.TheVariants as answer
+use Rattle.tier_model.specs.declared.event.TierFault.{TierFault}
+use Rattle.tier_model.specs.declared.event.TierFault.TheVariants as fault
+use Rattle.tier_model.specs.declared.state.Body.{Body}
+use Rattle.tier_model.specs.declared.whole.Whole.{Whole}
+use Rattle.tier_model.specs.declared.whole.Whole.TheVariants as whole
+use Rattle.tier_model.specs.Keys.{Entry, entry_of, alone}
+use Rattle.tier_model.specs.Calls.{Call, History, Outcome, extended, done_of, judged_of, read_by}
+use Rattle.tier_model.specs.Response.{Judged, kept, not_kept, too_early, not_read}
+use Rattle.tier_model.specs.Rows.{size_of, weight_for}
+use Rattle.tier_model.specs.State.{Settings, Phase, cache_key, hit, stale, miss, begun, disabled, Reader, closed, unread, spent, streaming}
+use Rattle.tier_promise.specs.Promise.{Write, Permit, Change, Changes, begins, appends, lands, puts, takes, gives, ends, has_number, bytes_of, flying, body_of, first_of, shown, rows, ended, is_done, is_alive, as_body, Hold, no_lock, holds, waits}
+use Rattle.tier_promise.specs.Promise.{Request, Now, Row, Came, refused, open_row, opened, asked, permits_in, use_of, look_absent, look_found, look_row, look_by, after_poll, poll_row, poll_by, released, dropped, begin_row, begin_by, piece_by, read_by_reader}
+use Rattle.tier_promise.specs.Promise.{left, drop_row, purge_row, admits, settled, put_row, finish_by, ran_out, came, row_closed, row_of, of_open, of_key, after, came_of, now_of}
+use Rattle.tier_model.specs.Own.{time_waited}
+use Rattle.tier_model.specs.Polls.{told_in_time}
+use Rattle.tier_model.specs.Answers.{is_fresh, is_past}
+use Rattle.tier_promise.proofs.NowLists.{all-pushed}
+use Rattle.tier_promise.proofs.NowStart.{no_body}
+use Rattle.tier_promise.proofs.NowShelf.{apart_number}
+use Rattle.tier_promise.proofs.NowOrder.{IsOrderly, IsOpen, no-bytes, open-new, open-later}
+use Rattle.tier_promise.proofs.NowAlive.{found_last}
+use Rattle.tier_promise.proofs.NowKeeps.{IsTracked, Tracks, Keeps, write_of, with_request, with_changes, IsFree, IsCalm, keeps-more, keeps-turned, keeps-begun, keeps-calm, keeps-left, keeps-whole}
+use Rattle.tier_promise.proofs.NowKept.{settled-keeps, look_by-keeps, poll-keeps, begin_by-keeps, piece-keeps, finish-keeps, read-keeps, drop-keeps, open-keeps, of-open-keeps}
+
+-- ---- puts and purges
+
+module _ (now : Now) (k : Keeps now) (e : Entry) where
+  purge-keeps : Keeps (of_key (purge_row e now.changes) now).now
+  purge-keeps = by_found (is_some (shown (stored_key e) now.changes))
+    where
+      by_found : (v : Bool) → Keeps (with_changes (extended now.changes (cond v (takes (alone e) ∷ []) [])) now)
+      by_found true = keeps-calm (takes (alone e) ∷ []) now k (tt, tt)
+      by_found false = k
+
+  module _ (b : Body) where
+    abbrev w : Write
+    w = record { number = length now.changes; entry = e; meta = b.meta }
+
+    apart_now : IsFree (length now.changes) now
+    apart_now i v h = let l = (k.held i v h).below in apart_number (length now.changes) v.number (λ same. absurd (omega (arith, l, same)))
+
+    begun_now : Keeps (with_changes (begins w ∷ now.changes) now)
+    begun_now = keeps-more now k (begins w) refl tt (λ i v h. refl)
+
+    yet : IsOpen w (begins w ∷ now.changes)
+    yet = open-new w now.changes k.order refl
+
+    abbrev written : Changes
+    written = appends w.number b.bytes true ∷ begins w ∷ now.changes
+
+    written_now : Keeps (with_changes written now)
+    written_now = keeps-more (with_changes (begins w ∷ now.changes) now) begun_now (appends w.number b.bytes true) (yet.below, yet.yet) tt (λ i v h. refl)
+
+    alive_now : is_alive w written ≡ true
+    alive_now =
+        ap (λ (v : Bool). is_some (find (has_number w.number) (cond v (flying (stored_key e) now.changes ++ w ∷ []) (flying (stored_key e) now.changes)))) (same_bytes-tells.itself (stored_key e))
+        ∙ found_last (has_number w.number) (flying (stored_key e) now.changes) w (eq-eqb w.number w.number refl)
+
+    -- all its bytes came in one piece
+    bytes_now : bytes_of w.number written ≡ b.bytes
+    bytes_now =
+        ap (λ (v : Bool). cond v (bytes_of w.number now.changes ++ b.bytes) (bytes_of w.number now.changes)) (eq-eqb w.number w.number refl)
+        ∙ ap (λ (l : List ℕ). l ++ b.bytes) (no-bytes w.number now.changes k.order (omega arith))
+
+    enough : size_of (as_body w written) ≤ weight_for b
+    enough = let same = ap (λ (l : List ℕ). length l) bytes_now in omega (arith, same)
+
+    stored-keeps : (outcome : Outcome) → Keeps (of_key (put_row e (Some (whole.Stored b)) outcome now.changes) now).now
+    stored-keeps outcome =
+        settled-keeps (with_changes written now) written_now w (open-later w (appends w.number b.bytes true) (begins w ∷ now.changes) begun_now.order (yet.below, yet.yet) refl yet) apart_now alive_now (weight_for b) enough outcome
+
+  put-keeps : (o : Option Whole) (outcome : Outcome) → Keeps (of_key (put_row e o outcome now.changes) now).now
+  put-keeps (Some (whole.Stored b)) outcome = stored-keeps b outcome
+  put-keeps (Some (whole.Uncacheable reason)) outcome = k
+  put-keeps (Some whole.Incomplete) outcome = k
+  put-keeps (Some whole.BadHead) outcome = k
+  put-keeps (Some whole.BeforeEpoch) outcome = k
+  put-keeps None outcome = k
+
+-- ---- all events
+
+after-keeps : (s : Settings) (now : Now) → Keeps now → (call : Call) (t : MomentValue) (action : Action) → Keeps (after s call t action now).now
+after-keeps s now k call t (on.Open id key asks) = open-keeps now k id (now.request id) refl (entry_of key) asks
+after-keeps s now k call t (on.LookUp id) = of-open-keeps now k id (λ q. look_by q.phase q.hold t q) (λ q at. look_by-keeps now k id q at t q.phase q.hold)
+after-keeps s now k call t (on.Poll id) = of-open-keeps now k id (λ q. poll_by s q.hold t q) (λ q at. poll-keeps now k id q at s t q.hold)
+after-keeps s now k call t (on.Begin id head) = of-open-keeps now k id (λ q. begin_by q.phase q.gave_read (judged_of call) q) (λ q at. begin_by-keeps now k id q at (judged_of call) q.phase q.gave_read)
+after-keeps s now k call t (on.Piece id bytes last) = of-open-keeps now k id (λ q. piece_by q.write bytes last q) (λ q at. piece-keeps now k id q at q.write bytes last refl)
+after-keeps s now k call t (on.Finish id) = of-open-keeps now k id (λ q. finish_by q.write call.outcome q) (λ q at. finish-keeps now k id q at q.write call.outcome refl)
+after-keeps s now k call t (on.Read id) = of-open-keeps now k id (λ q. read_by_reader q.reader q) (λ q at. read-keeps now k id q at q.reader)
+after-keeps s now k call t (on.Drop id) = of-open-keeps now k id (λ q c. drop_row q) (λ q at. drop-keeps now k id q at)
+after-keeps s now k call t (on.Purge key) = purge-keeps now k (entry_of key)
+after-keeps s now k call t (on.Put key pieces) = put-keeps now k (entry_of key) (read_by call) call.outcome
+
+loading-orderly : (l : List Tracked) → IsOrderly (map (λ r. puts r.entry r.weight) l)
+loading-orderly [] = tt
+loading-orderly (r ∷ l) = (tt, loading-orderly l)
+
+pub keeps-all : (s : Settings) (loaded : List Tracked) (h : History) → Keeps (now_of s loaded h)
+keeps-all s loaded [] = record {
+  order = loading-orderly loaded;
+  held = λ id w e. absurd cc;
+  apart = λ i j v w e f h. absurd cc;
+  tracks = λ j w e. let none : None ≡ Some w = sym (no_body j loaded) ∙ e in absurd cc;
+}
+keeps-all s loaded (call ∷ h) = by_room (ran_out call.outcome) (keeps-all s loaded h)
+  where
+    by_room : (v : Bool) → Keeps (now_of s loaded h) → Keeps (cond v (now_of s loaded h) (came_of s call (now_of s loaded h)).now)
+    by_room true k = k
+    by_room false k = after-keeps s (now_of s loaded h) k call call.event.moment call.event.action
