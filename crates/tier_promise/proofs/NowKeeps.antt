@@ -99,7 +99,7 @@ tracks-whole w v c o i alive enough t k u e = by_found (find (has_number w.numbe
         let one : y ≡ w = one_write k w y c o i is in
         let same : w ≡ u = cc in
         subst (λ (x : Write). IsTracked x now) same
-            (v, weighs w ∙ ap (λ (b : Bool). cond b (Some v) (weight_of (alone w.entry) (rows c))) (same_entry-tells.itself (alone w.entry)), enough)
+        (v, weighs w ∙ ap (λ (b : Bool). cond b (Some v) (weight_of (alone w.entry) (rows c))) (same_entry-tells.itself (alone w.entry)), enough)
     by_found None is e =
         let j = t k u e in
         (j.0, weighs u ∙ ap (λ (b : Bool). cond b (Some v) (weight_of (alone u.entry) (rows c))) (other u is e (same_entry (alone w.entry) (alone u.entry)) refl) ∙ j.1, j.2)

@@ -148,7 +148,7 @@ flights-of k (begins w ∷ c) o =
     by_key false t old = old
 flights-of k (lands n whole ∷ c) o =
     all-filtered (IsFlightOf k c) (IsFlightOf k (lands n whole ∷ c)) (λ w. not (has_number n w)) (flying k c)
-        (λ w t i. let apart = was_not (n == w.number) t in flight-later k (lands n whole) c o.1 o.0 w apart (ap (λ (v : Bool). v && not whole) apart) i) (flights-of k c o.1)
+    (λ w t i. let apart = was_not (n == w.number) t in flight-later k (lands n whole) c o.1 o.0 w apart (ap (λ (v : Bool). v && not whole) apart) i) (flights-of k c o.1)
 flights-of k (takes e ∷ c) o = by_key (is_entry_of k e) refl (flights-of k c o.1)
   where
     by_key : (t : Bool) → is_entry_of k e ≡ t → AllByRecursion (IsFlightOf k c) (flying k c) → AllByRecursion (IsFlightOf k (takes e ∷ c)) (cond t [] (flying k c))

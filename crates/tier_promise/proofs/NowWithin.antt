@@ -66,19 +66,21 @@ module _ (start : Opening) (h : History) (l : IsLawful start h) where
       let past : Stands start s h = Stands-lawful start h l in
       let fits = NowFits-lawful start h l in
       let held = both_held fits.numbers (λ m. bytes_of m c) (λ m. is_done m c) k (get s.shelf.bodies k) w
-          (subst (λ (o : Option Write). BodyFits fits.numbers (λ m. bytes_of m c) (λ m. is_done m c) k (get s.shelf.bodies k) o) e (fits.shelf.bodies k)) in
+      (subst (λ (o : Option Write). BodyFits fits.numbers (λ m. bytes_of m c) (λ m. is_done m c) k (get s.shelf.bodies k) o) e (fits.shelf.bodies k)) in
       let b : Numbered = held.0 in
       let there = held_there b (body_at k (store_of told)) (sym held.1 ∙ past.holds.leaves.bodies k) in
       let y : Stored Kept = there.0 in
       let is = ((store_of-is told past.holds.leaves.orderly).bodies k y).0 there.1 in
       let key : y.write.key ≡ k = same_bytes-tells.equal y.write.key k is.0.of_key in
       let taken : length y.bytes + meta_length y.meta.meta ≡ size_of b.body = ap (λ (x : Numbered). size_of x.body) there.2 in
-      let bytes : size_of b.body ≡ length (bytes_of w.number c) + meta_length b.body.meta = ap (λ (x : List ℕ). length x + meta_length b.body.meta) held.2 in
-      (y.write, record {
-        key = key;
-        body = subst (λ (j : StoredKey). IsBody j y.write told) (sym key) is.0;
-        size = sym (ap (λ (x : Stored Kept). length x.bytes + meta_length x.meta.meta) is.1) ∙ taken ∙ bytes ∙ ap (λ m. length (bytes_of w.number c) + meta_length m) held.3;
-      })
+      let bytes : size_of b.body ≡ length (bytes_of w.number c) + meta_length b.body.meta = ap (λ (x : List ℕ). length x + meta_length b.body.meta) held.2 in (
+        y.write,
+        record {
+          key = key;
+          body = subst (λ (j : StoredKey). IsBody j y.write told) (sym key) is.0;
+          size = sym (ap (λ (x : Stored Kept). length x.bytes + meta_length x.meta.meta) is.1) ∙ taken ∙ bytes ∙ ap (λ m. length (bytes_of w.number c) + meta_length m) held.3;
+        },
+      )
 
   -- the same of all
   record AreSameBodies (keys : List StoredKey) (ws : List Write) (vs : List (kept.Write Kept)) : Type 0 where
@@ -97,22 +99,23 @@ module _ (start : Opening) (h : History) (l : IsLawful start h) where
       let one = same-of k w head in
       let rest = all-same keys ws tail in
       let v : kept.Write Kept = one.0 in
-      let vs : List (kept.Write Kept) = rest.0 in
-      (v ∷ vs, record {
-        keys_of = ap (λ (j : StoredKey). j ∷ map (λ u. u.key) vs) one.1.key ∙ ap (λ (js : List StoredKey). k ∷ js) rest.1.keys_of;
-        bodies = (one.1.body, rest.1.bodies);
-        sum = sum_by-cons (λ (u : kept.Write Kept). measure_of counts u told) v vs
-            ∙ ap (λ (n : ℕ). n + sum_by (λ u. measure_of counts u told) vs) one.1.size ∙ ap (λ n. size_of (as_body w c) + n) rest.1.sum
-            ∙ sym (sum_by-cons (λ (u : Write). size_of (as_body u c)) w ws);
-        count = ap suc rest.1.count;
-      })
+      let vs : List (kept.Write Kept) = rest.0 in (
+        v ∷ vs,
+        record {
+          keys_of = ap (λ (j : StoredKey). j ∷ map (λ u. u.key) vs) one.1.key ∙ ap (λ (js : List StoredKey). k ∷ js) rest.1.keys_of;
+          bodies = (one.1.body, rest.1.bodies);
+          sum = sum_by-cons (λ (u : kept.Write Kept). measure_of counts u told) v vs
+              ∙ ap (λ (n : ℕ). n + sum_by (λ u. measure_of counts u told) vs) one.1.size ∙ ap (λ n. size_of (as_body w c) + n) rest.1.sum
+              ∙ sym (sum_by-cons (λ (u : Write). size_of (as_body u c)) w ws);
+          count = ap suc rest.1.count;
+        },
+      )
 
   pub within-lawful : AreWithin start.settings c
   within-lawful keys apart ws e =
       let same = all-same keys ws e in
       let vs : List (kept.Write Kept) = same.0 in
-      let kept_limits = (Headline-lawful start h l).within vs (distinct vs (subst AreApart (sym same.1.keys_of) apart)) same.1.bodies in
-      (
+      let kept_limits = (Headline-lawful start h l).within vs (distinct vs (subst AreApart (sym same.1.keys_of) apart)) same.1.bodies in (
         subst (λ (n : ℕ). n ≤ start.settings.limit) same.1.sum kept_limits.0,
         subst (λ (n : ℕ). IfSome start.settings.watermark (λ mark. n ≤ mark)) same.1.count kept_limits.1,
       )
