@@ -1,6 +1,7 @@
 mod NowLists
 mod NowFits
 mod NowShelf
+mod NowLands
 mod NowRequests
 mod NowSteps
 mod NowEvents
@@ -25,6 +26,7 @@ mod NowFinishes
 mod NowBeginEvents
 mod NowStart
 mod NowFinishSteps
+mod NowFinishEvents
 mod NowAll
 mod NowOrder
 mod NowAlive

@@ -6,10 +6,9 @@ use Rattle.std.specs.Option.{option_or}
 use Rattle.std.proofs.lemmas.Bool.{eqb-true, eq-eqb}
 use Rattle.cache_entries.specs.Keys.{same_bytes}
 use Rattle.cache_entries.specs.SameEntry.{same_bytes-tells}
-use Rattle.cache_changes.specs.Bound.{is_entry_of}
 use Rattle.cache_changes.specs.Changes.{StoredKey, stored_key}
 use Rattle.cache_changes.proofs.RowLaws.{find-kept}
-use Rattle.tier_promise.specs.Promise.{Write, Change, Changes, begins, appends, lands, puts, takes, gives, ends, has_number, flying, body_of, first_of, shown, ends_life, IsAlive}
+use Rattle.tier_promise.specs.Promise.{Write, Change, Changes, begins, lands, takes, has_number, flying, body_of, first_of, shown, ends_life, IsAlive}
 use Rattle.tier_promise.proofs.NowShelf.{apart_number}
 use Rattle.tier_promise.proofs.NowOrder.{IsOrderly, IsFlightOf, flights-of, body-of}
 

@@ -23,7 +23,7 @@ use Rattle.tier_promise.proofs.NowPolls.{IsLocked, poll-step}
 use Rattle.tier_promise.proofs.NowDrops.{drop-step}
 use Rattle.tier_promise.proofs.NowLookEvents.{look-step}
 use Rattle.tier_promise.proofs.NowBeginEvents.{begin-step}
-use Rattle.tier_promise.proofs.NowFinishSteps.{finish-step}
+use Rattle.tier_promise.proofs.NowFinishEvents.{finish-step}
 use Rattle.tier_promise.proofs.NowSound.{IsSound-stands}
 use Rattle.tier_promise.proofs.NowStart.{start-fits, IsLocked-lawful}
 

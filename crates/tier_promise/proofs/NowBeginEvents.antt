@@ -1,5 +1,5 @@
 -- Begins: each is answered by its row, and leaves what the promise says then.
-use Rattle.std.proofs.Common.{◌≡◌, ℕ, ◌+◌, ◌≤◌, ◌<◌, refl, ap, sym, ◌∙◌, true, false, subst, cond, [], ◌∷◌, ◌++◌, ◌==◌, length, arith, inl, inr}
+use Rattle.std.proofs.Common.{◌≡◌, ℕ, ◌+◌, ◌≤◌, refl, ap, sym, ◌∙◌, true, false, subst, cond, [], ◌∷◌, ◌++◌, ◌==◌, length, arith, inl, inr}
 use Rattle.std.specs.Prelude.{◌&&◌, Bool, List, Option, Some, None, option_map, is_some, Ok, Err, not, ◌⊎◌}
 use Rattle.std.specs.FinMap.{get, insert}
 use Rattle.cache_words.specs.Time.{MomentValue}
@@ -10,13 +10,12 @@ use Rattle.cache_heads.specs.Merged.{with_provenance_of}
 use Rattle.cache_heads.specs.declared.meta.CacheMeta.{CacheMeta}
 use Rattle.cache_heads.specs.declared.reason.NoCacheReason.{NoCacheReason}
 use Rattle.cache_lock.specs.Changes.{Changes as LockChanges}
-use Rattle.cache_lock.specs.State.{LockState, after_all}
+use Rattle.cache_lock.specs.State.{after_all}
 use Rattle.cache_lock.specs.declared.status.LockStatus.TheVariants as status
 use Rattle.tier_model.specs.declared.event.Action.TheVariants.{Begin}
 use Rattle.tier_model.specs.declared.event.Answer.{Answer}
-use Rattle.tier_model.specs.declared.event.Answer.TheVariants.{Begun, Uncacheable}
 use Rattle.tier_model.specs.declared.event.TierFault.{TierFault}
-use Rattle.tier_model.specs.declared.event.TierFault.TheVariants.{NoRequest, WrongPhase, Memory, NumbersSpent, BadHead, BeforeEpoch, NoRecord}
+use Rattle.tier_model.specs.declared.event.TierFault.TheVariants.{NoRequest, WrongPhase, Memory, BadHead, BeforeEpoch}
 use Rattle.tier_model.specs.Response.{Judged, kept, not_kept, too_early, not_read}
 use Rattle.tier_model.specs.Calls.{Outcome, writes_after, nothing_done, extended, judged_of, is_begun}
 use Rattle.tier_model.specs.Shelf.{InFlight, Readers, Shelf, readable_of}
@@ -27,7 +26,7 @@ use Rattle.tier_model.specs.Checks.{can_begin, unless, unless_open}
 use Rattle.tier_model.specs.Answers.{key_for, IsBeginAnswer, IsBeginFault}
 use Rattle.tier_model.specs.Step.{AllowsBy, Allows, BeginsWrite, BeginTakes, is_kept}
 use Rattle.tier_model.specs.After.{with_counts, by_request, on_request, turned, release_of, meta_for, writing, after_begin, lock_changes_in, after_outcome, after}
-use Rattle.tier_promise.specs.Promise.{Write, Changes, Request, Row, Now, no_lock, begins, bytes_of, is_done, released, begin_row, begin_by, refused, row_closed, row_of, Whether, ran_out, may_run_out, came}
+use Rattle.tier_promise.specs.Promise.{Write, Changes, Request, Row, Now, no_lock, begins, bytes_of, released, begin_row, begin_by, refused, row_closed, row_of, Whether, ran_out, may_run_out, came}
 use Rattle.tier_model.proofs.CallLaws.{Inside, call_at, at-insert, begin_turn, requests-after}
 use Rattle.tier_model.proofs.OpenLaws.{begun-told, no-fewer}
 use Rattle.tier_promise.proofs.NowFits.{RequestFits, OpenFits, NowFits}
@@ -181,14 +180,14 @@ module _ (x : Settings) (s : State) (locks : LockChanges) (now : Now) (fits : No
           (subst (λ (m : ℕ). NowFits x (with_counts m (after_all (release_of status.Done q q.held s.lock) s.lock) (after_begin s id q (Some (kept meta)))) (release_of status.Done q q.held s.lock ++ locks)
           (came id (begin_row (Some (kept meta)) r c) now).now) (sym (one refl)) (kept-leaves meta there)),
     )) counts
-    begin_ok head (Some (not_kept reason)) a k p there same more = subst (λ (y : Answer). BeginComes head (Some (not_kept reason)) (Ok y) k (begin_row (Some (not_kept reason)) r c)) (sym p) (
+    begin_ok head (Some (not_kept reason)) a k p there same _ = subst (λ (y : Answer). BeginComes head (Some (not_kept reason)) (Ok y) k (begin_row (Some (not_kept reason)) r c)) (sym p) (
       (refl, tt),
       subst (λ (o : Option state.Request). NowFits x (with_counts k (after_all (by_request [] o (λ q. release_of status.GiveUp q q.held s.lock)) s.lock) (by_request s o (λ q. after_begin s id q (Some (not_kept reason)))))
           (by_request [] o (λ q. release_of status.GiveUp q q.held s.lock) ++ locks) (came id (begin_row (Some (not_kept reason)) r c) now).now) (sym is) (not-kept-leaves reason there k (same refl)),
     )
-    begin_ok head (Some too_early) a k p there same more = absurd p
-    begin_ok head (Some not_read) a k p there same more = absurd p
-    begin_ok head None a k p there same more = absurd p
+    begin_ok head (Some too_early) a k p there same _ = absurd p
+    begin_ok head (Some not_read) a k p there same _ = absurd p
+    begin_ok head None a k p there same _ = absurd p
 
     begin_err : (head : List ℕ) (j : Option Judged) (g : TierFault) (k : ℕ) → ((g ≡ Memory nothing_done) × BeginTakes s j) ⊎ IsBeginFault s j g → n ≤ k → (is_kept j ≡ false → k ≡ n) → BeginComes head j (Err g) k (begin_row j r c)
     begin_err head (Some (kept meta)) g k p later same = elim p [

@@ -1,43 +1,33 @@
 -- Begins: each is answered by its row, and leaves what the promise says then.
-use Rattle.std.proofs.Common.{◌≡◌, ℕ, ◌+◌, ◌≤◌, ◌<◌, refl, ap, sym, ◌∙◌, true, false, subst, cond, [], ◌∷◌, ◌++◌, ◌==◌, length, arith, inl, inr}
-use Rattle.std.specs.Prelude.{◌&&◌, Bool, List, Option, Some, None, option_map, is_some, Ok, Err, not, ◌⊎◌}
-use Rattle.std.specs.List.{AllByRecursion}
-use Rattle.std.specs.FinMap.{get, insert}
+use Rattle.std.proofs.Common.{◌≡◌, ℕ, ◌+◌, refl, ap, false, subst, cond, [], ◌∷◌, ◌++◌, length, arith}
+use Rattle.std.specs.Prelude.{Option, Some, None, option_map, is_some}
+use Rattle.std.specs.FinMap.{get}
 use Rattle.std.proofs.lemmas.Bool.{eq-eqb}
-use Rattle.cache_words.specs.Time.{MomentValue}
-use Rattle.cache_changes.specs.Changes.{StoredKey, stored_key}
-use Rattle.cache_entries.specs.Entry.{key_of}
-use Rattle.cache_entries.specs.declared.entry.CacheEntryKey.{CacheEntryKey}
+use Rattle.cache_changes.specs.Changes.{stored_key}
 use Rattle.cache_evict.specs.Managed.{Managed}
-use Rattle.cache_heads.specs.Merged.{with_provenance_of}
 use Rattle.cache_heads.specs.declared.meta.CacheMeta.{CacheMeta}
-use Rattle.cache_heads.specs.declared.reason.NoCacheReason.{NoCacheReason}
 use Rattle.cache_lock.specs.Changes.{Changes as LockChanges}
-use Rattle.cache_lock.specs.State.{LockState, after_all}
+use Rattle.cache_lock.specs.State.{after_all}
 use Rattle.cache_lock.specs.Status.{is_waiting}
 use Rattle.cache_lock.specs.declared.status.LockStatus.{LockStatus}
-use Rattle.cache_lock.specs.declared.status.LockStatus.TheVariants as status
-use Rattle.tier_model.specs.declared.event.Answer.{Answer}
 use Rattle.tier_model.specs.Keys.{Entry}
-use Rattle.tier_model.specs.Calls.{Outcome, extended}
+use Rattle.tier_model.specs.Calls.{extended}
 use Rattle.tier_model.specs.Shelf.{InFlight, Readers, Shelf, has_number, flying_at, readable_of}
 use Rattle.tier_model.specs.Shelf as shelf_is
 use Rattle.tier_model.specs.State.{Settings, Held, nothing, permit, Reader, closed, streaming, Seen, begun, disabled, State}
 use Rattle.tier_model.specs.State as state
-use Rattle.tier_model.specs.Answers.{key_for}
-use Rattle.tier_model.specs.After.{with_counts, turned, release_of, seen_meta, meta_for, writing}
+use Rattle.tier_model.specs.After.{release_of}
 use Rattle.tier_promise.specs.Promise.{Write, Permit, Changes, Request, Now, Hold, no_lock, holds, waits, begins, bytes_of, is_done, ended, released}
 use Rattle.tier_promise.specs.Promise as now_is
-use Rattle.tier_model.proofs.CallLaws.{at-insert}
 use Rattle.tier_promise.proofs.NowLists.{all-mapped}
-use Rattle.tier_promise.proofs.NowFits.{Numbers, Permits, end_of, IsFlight, ShelfFits, HoldFits, SeenFits, RequestFits, OpenFits, NowFits}
+use Rattle.tier_promise.proofs.NowFits.{Numbers, Permits, end_of, IsFlight, ShelfFits, HoldFits, SeenFits, NowFits}
 use Rattle.tier_promise.proofs.NowShelf.{apart_number, with_number, new_flight, named-more, named-new, shelf-begins}
 use Rattle.tier_promise.proofs.NowLock.{lock-same}
 use Rattle.tier_promise.proofs.NowPut.{find-last, find-pushed}
-use Rattle.tier_promise.proofs.NowRequests.{open-carried, reads-on, flying-read, write-carried, Carries}
+use Rattle.tier_promise.proofs.NowRequests.{open-carried, reads-on, Carries}
 use Rattle.tier_promise.proofs.NowSteps.{no_longer}
 use Rattle.tier_promise.proofs.NowPolls.{IsLocked}
-use Rattle.tier_promise.proofs.NowOthers.{OtherFits, other-start, other-turned, other-closed}
+use Rattle.tier_promise.proofs.NowOthers.{OtherFits}
 use Rattle.tier_promise.proofs.NowBegins.{permit-left}
 
 pub seen_same : (numbers : Numbers) (a b : Option Seen) → SeenFits numbers a b → option_map (λ y. y.meta) a ≡ option_map (λ y. y.meta) b

@@ -1,9 +1,9 @@
 -- What a begin leaves of the lock: a permit that it held is released.
-use Rattle.std.proofs.Common.{◌≡◌, ℕ, ◌≤◌, ◌<◌, refl, ap, sym, ◌∙◌, true, false, subst, cond, [], ◌∷◌, ◌++◌, ◌==◌, length, arith, inl, inr}
-use Rattle.std.specs.Prelude.{Bool, List, Option, Some, None, is_some, ◌⊎◌}
+use Rattle.std.proofs.Common.{◌≡◌, ℕ, refl, ap, sym, ◌∙◌, true, false, subst, cond, [], ◌∷◌, ◌++◌, ◌==◌, inl, inr}
+use Rattle.std.specs.Prelude.{Bool, List, Some, is_some}
 use Rattle.std.specs.FinMap.{get}
 use Rattle.std.proofs.lemmas.Bool.{eq-eqb}
-use Rattle.cache_changes.specs.Changes.{StoredKey, stored_key}
+use Rattle.cache_changes.specs.Changes.{StoredKey}
 use Rattle.cache_lock.specs.Answers.{release_changes, released_by}
 use Rattle.cache_lock.specs.Changes.{Changes as LockChanges, spends, stores, takes_out}
 use Rattle.cache_lock.specs.State.{LockState, status_of, is_number, with_status, after_all}
@@ -17,13 +17,12 @@ use Rattle.tier_model.specs.State as state
 use Rattle.tier_model.specs.Answers.{key_for}
 use Rattle.tier_model.specs.Calls.{extended}
 use Rattle.tier_model.specs.Shelf.{Shelf}
-use Rattle.tier_model.specs.After.{release_of}
 use Rattle.cache_evict.specs.Managed.{Managed}
-use Rattle.tier_promise.specs.Promise.{Permit, Change, Changes, Request, Now, ends, ended, released}
+use Rattle.tier_promise.specs.Promise.{Permit, Change, Changes, Now, ends, ended}
 use Rattle.tier_model.proofs.EffectLaws.{grip_in, grip_of, grip_at, hold_at}
 use Rattle.tier_model.proofs.GripLaws.{grips, next-kept, next-spent}
-use Rattle.tier_model.proofs.GrantSteps.{Granted, Stands, status-held}
-use Rattle.tier_promise.proofs.NowFits.{Numbers, Permits, end_of, LockFits, HoldFits, NowFits}
+use Rattle.tier_model.proofs.GrantSteps.{status-held}
+use Rattle.tier_promise.proofs.NowFits.{Numbers, end_of, LockFits, NowFits}
 use Rattle.tier_promise.proofs.NowShelf.{shelf-ends}
 use Rattle.tier_promise.proofs.NowLock.{lock-spent, lock-stores, lock-takes, lock-swap}
 use Rattle.tier_promise.proofs.NowPolls.{IsLocked, open-quiet}

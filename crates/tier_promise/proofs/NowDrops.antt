@@ -1,6 +1,6 @@
 -- Drops: each is answered by its row, and leaves what the promise says then.
-use Rattle.std.proofs.Common.{◌≡◌, ℕ, ◌≤◌, ◌<◌, refl, ap, sym, ◌∙◌, true, false, subst, cond, [], ◌∷◌, ◌++◌, ◌==◌, length, arith, inl, inr}
-use Rattle.std.specs.Prelude.{Bool, List, Option, Some, None, is_some, Ok, Err, ◌⊎◌}
+use Rattle.std.proofs.Common.{◌≡◌, ℕ, refl, ap, sym, ◌∙◌, true, false, subst, cond, [], ◌∷◌, ◌++◌, ◌==◌, inl, inr}
+use Rattle.std.specs.Prelude.{Bool, Option, Some, None, Ok, Err}
 use Rattle.std.specs.FinMap.{get}
 use Rattle.std.proofs.lemmas.Bool.{eq-eqb}
 use Rattle.cache_words.specs.Time.{MomentValue}
@@ -10,22 +10,21 @@ use Rattle.cache_lock.specs.State as lock_state
 use Rattle.cache_lock.specs.declared.status.LockStatus.TheVariants.{Dangling}
 use Rattle.tier_model.specs.declared.event.Action.TheVariants.{Drop}
 use Rattle.tier_model.specs.declared.event.Answer.{Answer}
-use Rattle.tier_model.specs.declared.event.Answer.TheVariants.{Dropped}
 use Rattle.tier_model.specs.declared.event.TierFault.{TierFault}
 use Rattle.tier_model.specs.declared.event.TierFault.TheVariants.{NoRequest}
 use Rattle.tier_model.specs.Calls.{Outcome, writes_after, extended}
-use Rattle.tier_model.specs.Shelf.{InFlight, Readers, Shelf, landed}
+use Rattle.tier_model.specs.Shelf.{Readers, Shelf, landed}
 use Rattle.tier_model.specs.State.{Settings, Held, nothing, permit, Reader, closed, streaming, State}
 use Rattle.tier_model.specs.State as state
 use Rattle.tier_model.specs.Checks.{unless_open}
 use Rattle.tier_model.specs.Step.{AllowsBy, Allows, tells_of_write}
-use Rattle.tier_model.specs.After.{with_counts, by_request, on_request, on_write, turned, without_request, leave_of, lock_changes_in, after}
-use Rattle.tier_promise.specs.Promise.{Write, Changes, Request, Row, Now, Hold, no_lock, holds, waits, left, dropped, drop_row, came, row_closed, row_of}
+use Rattle.tier_model.specs.After.{with_counts, by_request, on_write, turned, without_request, leave_of, after}
+use Rattle.tier_promise.specs.Promise.{Write, Changes, Request, Now, Hold, no_lock, holds, waits, left, dropped, drop_row, came, row_closed, row_of}
 use Rattle.tier_model.proofs.CallLaws.{Inside, call_at, at-remove, requests-after}
 use Rattle.tier_model.proofs.GripLaws.{next-kept, next-spent}
 use Rattle.tier_promise.proofs.NowFits.{HoldFits, WriteFits, RequestFits, OpenFits, NowFits}
 use Rattle.tier_promise.proofs.NowRequests.{IsSound}
-use Rattle.tier_promise.proofs.NowSteps.{Step, on-open, same-count, closed-fits, counted-fits}
+use Rattle.tier_promise.proofs.NowSteps.{Step, same-count, closed-fits, counted-fits}
 use Rattle.tier_promise.proofs.NowPolls.{ComesLocked}
 use Rattle.tier_promise.proofs.NowOthers.{OtherFits, other-start, other-spent, other-ends, other-turned, other-left, other-closed}
 

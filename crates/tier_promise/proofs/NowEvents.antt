@@ -1,36 +1,31 @@
 -- Purges, opens, reads and pieces: each is answered by its row, and leaves what the promise says then.
-use Rattle.std.proofs.Common.{◌≡◌, ℕ, ◌+◌, ◌≤◌, ◌<◌, refl, ap, sym, ◌∙◌, true, false, subst, cond, [], ◌∷◌, ◌++◌, ◌||◌, ◌==◌, length, arith, inl, inr}
-use Rattle.std.specs.Prelude.{Bool, List, Option, Some, None, option_map, is_some, Ok, Err, not, max, drop, ◌-◌, MatchOption, ◌⊎◌}
+use Rattle.std.proofs.Common.{◌≡◌, ℕ, refl, ap, sym, true, false, subst, cond, [], ◌∷◌, ◌==◌, inl, inr}
+use Rattle.std.specs.Prelude.{Bool, Option, Some, None, is_some, Ok, Err, not}
 use Rattle.std.specs.FinMap.{get}
-use Rattle.std.proofs.lemmas.List.{length-drop, length-append}
 use Rattle.cache_words.specs.Time.{MomentValue}
 use Rattle.cache_words.specs.Key.{CacheKeyValue}
-use Rattle.cache_changes.specs.Changes.{StoredKey, stored_key}
-use Rattle.tier_model.specs.declared.event.Action.TheVariants.{Open, Piece, Read, Purge}
+use Rattle.cache_changes.specs.Changes.{stored_key}
+use Rattle.tier_model.specs.declared.event.Action.TheVariants.{Open, Purge}
 use Rattle.cache_lock.specs.Changes.{Changes as LockChanges}
 use Rattle.tier_model.specs.declared.event.Answer.{Answer}
-use Rattle.tier_model.specs.declared.event.Answer.TheVariants.{Opened, Written, Purged, Bytes, Pending, End}
+use Rattle.tier_model.specs.declared.event.Answer.TheVariants.{Purged}
 use Rattle.tier_model.specs.declared.event.TierFault.{TierFault}
-use Rattle.tier_model.specs.declared.event.TierFault.TheVariants.{IdInUse, Memory, NoRequest, WrongPhase, AfterEnd}
+use Rattle.tier_model.specs.declared.event.TierFault.TheVariants.{IdInUse}
 use Rattle.tier_model.specs.Keys.{Entry, entry_of, alone, stored_key_of}
-use Rattle.tier_model.specs.Calls.{Call, Outcome, writes_after, nothing_done, bytes_answered, extended}
-use Rattle.tier_model.specs.Shelf.{Shelf, look, is_there, readable, removed}
+use Rattle.tier_model.specs.Calls.{Outcome, writes_after, extended}
+use Rattle.tier_model.specs.Shelf.{look, is_there}
 use Rattle.tier_model.specs.State.{Settings, Reader, closed, unread, spent, streaming, State, shards_of}
 use Rattle.tier_model.specs.State as state
-use Rattle.tier_model.specs.Checks.{refusal, unless, has_reader}
-use Rattle.tier_model.specs.Answers.{read_answer, next_by}
-use Rattle.tier_model.specs.Step.{AllowsBy, Allows, HasNews, tells_of_write}
+use Rattle.tier_model.specs.Checks.{unless}
+use Rattle.tier_model.specs.Step.{AllowsBy, Allows, tells_of_write}
 use Rattle.tier_model.specs.After.{with_counts, with_request, opened_request, after_purge, after}
 use Rattle.tier_model.specs.After as state_after
-use Rattle.tier_promise.specs.Promise.{Changes, Request, Row, Now, IsRight, Whether, ran_out, may_run_out, bytes_of, is_done, flying, shown, takes, rows, ended, waiting, opened, open_row, read_on, reader_after, came, refused, row_closed}
-use Rattle.tier_model.proofs.RowSteps.{made-out}
-use Rattle.tier_model.proofs.CallLaws.{Inside, call_at, at-insert, itself}
-use Rattle.tier_promise.proofs.NowLock.{lock-same}
-use Rattle.tier_promise.proofs.NowFits.{Numbers, Permits, ReaderFits, RequestFits, OpenFits, NowFits}
-use Rattle.tier_promise.proofs.NowShelf.{shelf-takes}
+use Rattle.tier_promise.specs.Promise.{Changes, Request, Row, Now, shown, takes, opened, open_row, came, refused}
+use Rattle.tier_model.proofs.CallLaws.{Inside, call_at, at-insert}
+use Rattle.tier_promise.proofs.NowFits.{OpenFits, NowFits}
 use Rattle.tier_promise.proofs.NowGone.{taken-fits}
-use Rattle.tier_promise.proofs.NowRequests.{IsSound, open-carried, reads-on, found-there, marked-stays, marked-none}
-use Rattle.tier_promise.proofs.NowSteps.{Step, Comes, same-count, turned-fits, same-requests, refused-fits, closed-fits, later-fits, counted-fits, both_open, both_closed}
+use Rattle.tier_promise.proofs.NowRequests.{found-there}
+use Rattle.tier_promise.proofs.NowSteps.{Step, Comes, same-count, turned-fits, refused-fits, counted-fits}
 
 module _ (x : Settings) (s : State) (locks : LockChanges) (now : Now) (fits : NowFits x s locks now) (t : MomentValue) (i : Inside) where
   abbrev c : Changes

@@ -1,6 +1,6 @@
 -- Finishes: each is answered by its row, and leaves what the promise says then.
-use Rattle.std.proofs.Common.{◌≡◌, ℕ, ◌≤◌, ◌<◌, refl, ap, sym, ◌∙◌, true, false, subst, cond, [], ◌∷◌, ◌++◌, ◌==◌, length, arith, inl, inr}
-use Rattle.std.specs.Prelude.{Bool, List, Option, Some, None, option_and_then, is_some, Ok, Err, not, map, MatchOption, MatchResult, ◌⊎◌}
+use Rattle.std.proofs.Common.{◌≡◌, ℕ, refl, ap, sym, true, false, subst, cond, [], ◌∷◌, ◌++◌, ◌==◌, arith, inl, inr}
+use Rattle.std.specs.Prelude.{Bool, List, Option, Some, None, Ok, Err, not, map, MatchOption, MatchResult}
 use Rattle.std.specs.FinMap.{get, insert}
 use Rattle.std.proofs.lemmas.Bool.{eq-eqb}
 use Rattle.cache_words.specs.Time.{MomentValue}
@@ -12,28 +12,25 @@ use Rattle.tier_model.specs.declared.event.Answer.{Answer}
 use Rattle.tier_model.specs.declared.event.Answer.TheVariants.{Finished}
 use Rattle.tier_model.specs.declared.event.Done.{Done}
 use Rattle.tier_model.specs.declared.event.TierFault.{TierFault}
-use Rattle.tier_model.specs.declared.event.TierFault.TheVariants.{NoRequest, WrongPhase, WriteRemoved, Memory, TooHeavy, TooLong, NumbersSpent}
-use Rattle.tier_model.specs.declared.state.Body.{Body}
+use Rattle.tier_model.specs.declared.event.TierFault.TheVariants.{WriteRemoved, Memory, TooHeavy, TooLong, NumbersSpent}
 use Rattle.tier_model.specs.Keys.{Entry, alone}
-use Rattle.tier_model.specs.Calls.{Outcome, writes_after, nothing_done, extended}
+use Rattle.tier_model.specs.Calls.{Outcome, extended}
 use Rattle.tier_model.specs.Evictions as shards
 use Rattle.tier_model.specs.Histories.{is_landing}
 use Rattle.tier_model.specs.Rows.{FinishedBody, weight_for, without_body, without_bodies}
 use Rattle.tier_model.specs.Shelf.{InFlight, Readers, Shelf, landed, stored}
 use Rattle.tier_model.specs.State.{Settings, streaming, State, shards_of}
 use Rattle.tier_model.specs.State as state
-use Rattle.tier_model.specs.Checks.{unless, unless_open}
 use Rattle.tier_model.specs.Answers.{admitted, stored_alone, finishing, IsKeptOut, IsCutShort, IsStored, IsStoreFault, IsFinishFault}
-use Rattle.tier_model.specs.Step.{AllowsBy, Allows, OfRequest, tells_of_write}
-use Rattle.tier_model.specs.After.{with_counts, by_request, on_request, on_write, after_finish, finished_state, emptied, taken}
-use Rattle.tier_promise.specs.Promise.{Write, Changes, Request, Row, Now, Whether, FinishIsLawful, Settles, settled, lands, puts, takes, as_body, rows, GoInTurn, is_alive, finish_by, ran_out, may_run_out, refused, row_closed, row_of, came}
-use Rattle.tier_model.proofs.CallLaws.{Inside, call_at, at-insert}
+use Rattle.tier_model.specs.After.{with_counts, on_write, after_finish, emptied, taken}
+use Rattle.tier_promise.specs.Promise.{Write, Changes, Request, Row, Now, Whether, Settles, settled, lands, puts, takes, as_body, rows, GoInTurn, is_alive, ran_out, may_run_out, came}
+use Rattle.tier_model.proofs.CallLaws.{Inside, at-insert}
 use Rattle.tier_model.proofs.RowSteps.{made-put}
-use Rattle.tier_promise.proofs.NowFits.{WriteFits, RequestFits, OpenFits, NowFits}
-use Rattle.tier_promise.proofs.NowShelf.{shelf-lands}
+use Rattle.tier_promise.proofs.NowFits.{WriteFits, RequestFits, NowFits}
+use Rattle.tier_promise.proofs.NowLands.{shelf-lands}
 use Rattle.tier_promise.proofs.NowLock.{lock-same}
 use Rattle.tier_promise.proofs.NowRequests.{IsSound, Carries, request-carried, open-carried}
-use Rattle.tier_promise.proofs.NowSteps.{Step, of-open, same-count, turned-fits, refused-fits, closed-fits, counted-fits}
+use Rattle.tier_promise.proofs.NowSteps.{turned-fits, counted-fits}
 use Rattle.tier_promise.proofs.NowGone.{rows-put, taken-fits, emptied-fits}
 use Rattle.tier_promise.proofs.NowPut.{put-fits}
 use Rattle.tier_promise.proofs.NowPuts.{same-bodies, gone-again, in_turn}
@@ -244,68 +241,3 @@ module _ (x : Settings) (s : State) (locks : LockChanges) (now : Now) (fits : No
         let done = by_removed o k same g.removed refl (subst (λ (y : Option FinishedBody). MatchResult o (λ a. MatchOption y ⊥ (λ z. IsStored s z a)) (λ e. IsFinishFault s y e)) fin p) in
         subst (λ (v : Bool). All v q.write (finishing q s.shelf) o k) (sym (alive-is x s locks now fits sound q r f n w held h))
         (subst (λ (u : Option ℕ). All (not g.removed) u (finishing q s.shelf) o k) (sym held) (subst (λ (y : Option FinishedBody). All (not g.removed) (Some n) y o k) (sym fin) done))
-
-  -- ---- the event
-
-  abbrev FinishComes : ℕ → Outcome → ℕ → Option Request → Type 0
-  FinishComes id o k v =
-      Whether (ran_out o) (may_run_out (Finish id) (row_of v (λ r. finish_by r.write o r c)).outcome ≡ true)
-      ((o ≡ (row_of v (λ r. finish_by r.write o r c)).outcome) × FinishIsLawful x (option_and_then (λ r. r.write) v) o c)
-      × NowFits x (with_counts k s.lock (on_request s id (λ q. finished_state s id q o))) locks (cond (ran_out o) now (came id (row_of v (λ r. finish_by r.write o r c)) now).now)
-
-  abbrev RowComes : ℕ → Outcome → ℕ → Request → Option Write → State → Type 0
-  RowComes id o k r v new =
-      Whether (ran_out o) (may_run_out (Finish id) (finish_by v o r c).outcome ≡ true) ((o ≡ (finish_by v o r c).outcome) × FinishIsLawful x v o c)
-      × NowFits x (with_counts k s.lock new) locks (cond (ran_out o) now (came id (finish_by v o r c) now).now)
-
-  -- a refusal by a check changes nothing
-  check_state : (id : ℕ) (o : Option state.Request) → by_request s o (λ q. finished_state s id q (Err WrongPhase)) ≡ s
-  check_state id None = refl
-  check_state id (Some q) = refl
-
-  closed_state : (id : ℕ) (o : Option state.Request) → by_request s o (λ q. finished_state s id q (Err NoRequest)) ≡ s
-  closed_state id None = refl
-  closed_state id (Some q) = refl
-
-  finish_write : (id : ℕ) (q : state.Request) (r : Request) (is : get s.requests id ≡ Some q) (at : now.request id ≡ Some r) (f : RequestFits x fits.numbers fits.permits s.shelf c q r) (o : Outcome) (k : ℕ) → k ≡ s.shelf.writes
-      → (u : Option ℕ) (v : Option Write) → q.write ≡ u → r.write ≡ v → WriteFits fits.numbers s.shelf.flying r.entry u v → AllowsBy (unless (is_some u) WrongPhase) s t (Finish id) (call_at t (Finish id) i o) o
-      → RowComes id o k r v (on_request s id (λ q. finished_state s id q o))
-  finish_write id q r is at f (Ok a) k same None None held has h p = absurd cc
-  finish_write id q r is at f (Err e) k same None None held has h p =
-      subst (λ (y : TierFault). RowComes id (Err y) k r None (on_request s id (λ q. finished_state s id q (Err y)))) (let one : WrongPhase ≡ e = cc in one) (
-        (refl, tt),
-        subst (λ (new : State). NowFits x (with_counts k s.lock new) locks (came id (refused r WrongPhase) now).now) (sym (check_state id (get s.requests id)))
-            (counted-fits x s locks (came id (refused r WrongPhase) now).now k s.lock same refl (refused-fits x s locks now fits id r WrongPhase at)),
-      )
-  finish_write id q r is at f (Ok a) k same (Some n) (Some w) held has h p =
-      subst (λ (y : Option state.Request). RowComes id (Ok a) k r (Some w) (by_request s y (λ q. finished_state s id q (Ok a)))) (sym is)
-      (finish-leaves id q r is at f n w held has h (Ok a) k same (of-open s id q (λ q. MatchOption (finishing q s.shelf) ⊥ (λ y. IsStored s y a)) is p))
-  finish_write id q r is at f (Err e) k same (Some n) (Some w) held has h p =
-      subst (λ (y : Option state.Request). RowComes id (Err e) k r (Some w) (by_request s y (λ q. finished_state s id q (Err e)))) (sym is)
-      (finish-leaves id q r is at f n w held has h (Err e) k same (elim p [
-        | inl m ↦ absurd m.1
-        | inr late ↦ of-open s id q (λ q. IsFinishFault s (finishing q s.shelf) e) is late
-      ]))
-  finish_write id q r is at f o k same (Some n) None held has h p = absurd h
-  finish_write id q r is at f o k same None (Some w) held has h p = absurd h
-
-  finish_open : (id : ℕ) (o : Outcome) (q : Option state.Request) (v : Option Request) (k : ℕ) → get s.requests id ≡ q → now.request id ≡ v → OpenFits x fits.numbers fits.permits s.shelf c q v → k ≡ s.shelf.writes
-      → AllowsBy (unless_open q (λ q. unless (is_some q.write) WrongPhase)) s t (Finish id) (call_at t (Finish id) i o) o → FinishComes id o k v
-  finish_open id o (Some q) None k is at f same p = absurd f
-  finish_open id o None (Some r) k is at f same p = absurd f
-  finish_open id (Ok a) None None k is at f same p = absurd cc
-  finish_open id (Err e) None None k is at f same p =
-      subst (λ (y : TierFault). FinishComes id (Err y) k None) (let one : NoRequest ≡ e = cc in one) (
-        (refl, tt),
-        subst (λ (new : State). NowFits x (with_counts k s.lock new) locks (came id row_closed now).now) (sym (closed_state id (get s.requests id)))
-            (counted-fits x s locks (came id row_closed now).now k s.lock same refl (closed-fits x s locks now fits id at)),
-      )
-  finish_open id o (Some q) (Some r) k is at f same p = finish_write id q r is at f o k same q.write r.write refl refl f.write p
-
-  pub finish-step : (id : ℕ) (o : Outcome) → Allows s (call_at t (Finish id) i o) → Step x s locks (call_at t (Finish id) i o) now
-  finish-step id (Ok a) p =
-      let all = finish_open id (Ok a) (get s.requests id) (now.request id) (writes_after s.shelf.writes i.began) refl refl (fits.requests id) (same-count s (tells_of_write (call_at t (Finish id) i (Ok a))) i.began p.begins) p.outcome in
-      record { right = record { read = p.read; outcome = all.0 }; fits = all.1 }
-  finish-step id (Err e) p =
-      let all = finish_open id (Err e) (get s.requests id) (now.request id) (writes_after s.shelf.writes i.began) refl refl (fits.requests id) (same-count s (tells_of_write (call_at t (Finish id) i (Err e))) i.began p.begins) p.outcome in
-      record { right = record { read = p.read; outcome = all.0 }; fits = all.1 }

@@ -1,38 +1,24 @@
 -- Finishes: each is answered by its row, and leaves what the promise says then.
-use Rattle.std.proofs.Common.{◌≡◌, ℕ, ◌≤◌, ◌<◌, refl, ap, sym, ◌∙◌, true, false, subst, cond, [], ◌∷◌, ◌++◌, ◌==◌, length, arith, inl, inr}
-use Rattle.std.specs.Prelude.{◌&&◌, Bool, List, Option, Some, None, option_map, is_some, not, map, filter, find}
-use Rattle.std.specs.FinMap.{get}
-use Rattle.std.proofs.lemmas.Bool.{eqb-true, eq-eqb}
-use Rattle.cache_words.specs.Time.{MomentValue}
+use Rattle.std.proofs.Common.{◌≡◌, ℕ, refl, ap, sym, ◌∙◌, true, false, cond}
+use Rattle.std.specs.Prelude.{◌&&◌, Bool, List, Option, Some, None, option_map, is_some, not, filter, find}
+use Rattle.std.proofs.lemmas.Bool.{eqb-true}
 use Rattle.cache_changes.specs.Changes.{StoredKey, stored_key}
 use Rattle.cache_entries.specs.Entry.{key_of}
-use Rattle.cache_entries.specs.Keys.{same_bytes}
 use Rattle.cache_entries.specs.SameEntry.{same_bytes-tells}
 use Rattle.cache_entries.specs.declared.entry.CacheEntryKey.{CacheEntryKey}
 use Rattle.cache_heads.specs.declared.meta.CacheMeta.{CacheMeta}
 use Rattle.cache_changes.proofs.RowLaws.{find-passes}
-use Rattle.cache_evict.specs.Managed.{Managed}
 use Rattle.cache_lock.specs.Changes.{Changes as LockChanges}
-use Rattle.tier_model.specs.declared.event.Action.TheVariants.{Finish}
-use Rattle.tier_model.specs.declared.event.Answer.{Answer}
-use Rattle.tier_model.specs.declared.event.Answer.TheVariants.{Finished}
-use Rattle.tier_model.specs.declared.event.Done.{Done}
-use Rattle.tier_model.specs.declared.event.TierFault.{TierFault}
-use Rattle.tier_model.specs.declared.event.TierFault.TheVariants.{NoRequest, WrongPhase, WriteRemoved, Memory, TooHeavy, TooLong, NumbersSpent}
 use Rattle.tier_model.specs.declared.state.Body.{Body}
-use Rattle.tier_model.specs.Keys.{Entry, alone}
-use Rattle.tier_model.specs.Calls.{Outcome, writes_after, nothing_done, done_of, extended}
-use Rattle.tier_model.specs.Evictions as shards
-use Rattle.tier_model.specs.Rows.{Numbered, FinishedBody, weight_for, with_body, without_body, without_bodies}
-use Rattle.tier_model.specs.Shelf.{InFlight, Readers, Shelf, has_number, flies_for, flying_at, landed, stored}
+use Rattle.tier_model.specs.Shelf.{InFlight, has_number, flies_for, flying_at}
 use Rattle.tier_model.specs.State.{Settings, Reader, streaming, State, shards_of}
 use Rattle.tier_model.specs.State as state
-use Rattle.tier_model.specs.Answers.{admitted, finishing, flight_of, body_under}
+use Rattle.tier_model.specs.Answers.{finishing, flight_of, body_under}
 use Rattle.tier_promise.specs.Promise.{Write, Changes, Request, Now, lands, flying, as_body, bytes_of, is_done, is_alive}
 use Rattle.tier_promise.specs.Promise as now_is
 use Rattle.tier_promise.proofs.NowLists.{seen-found, found-kept, found-holds, all-filtered}
-use Rattle.tier_promise.proofs.NowFits.{Told, told_write, told_flight, IsFlight, ShelfFits, WriteFits, RequestFits, OpenFits, NowFits}
-use Rattle.tier_promise.proofs.NowShelf.{same-place}
+use Rattle.tier_promise.proofs.NowFits.{Told, told_write, told_flight, IsFlight, WriteFits, RequestFits, NowFits}
+use Rattle.tier_promise.proofs.NowLands.{same-place}
 use Rattle.tier_promise.proofs.NowRequests.{IsSound, flying-read}
 
 -- ---- a write is alive exactly where its flight met no removal

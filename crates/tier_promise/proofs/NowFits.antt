@@ -4,7 +4,7 @@
 -- number that no write or permit got. No two have one. Writes in flight and bodies are compared by what is seen of them: number, key and meta; their
 -- bytes, and whether more may come, by number. The lock is compared by what was changed in it: the last status of each permit's core, and each key's.
 use Rattle.std.proofs.Common.{◌≡◌, ℕ, ◌≤◌, ◌<◌, true, false, [], length}
-use Rattle.std.specs.Prelude.{Bool, List, Option, Some, None, option_map, map, filter, cond}
+use Rattle.std.specs.Prelude.{Bool, List, Option, Some, None, map, filter, cond}
 use Rattle.std.specs.List.{AllByRecursion}
 use Rattle.std.specs.FinMap.{get}
 use Rattle.cache_heads.specs.declared.meta.CacheMeta.{CacheMeta}

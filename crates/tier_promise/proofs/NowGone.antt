@@ -1,14 +1,14 @@
 -- Entries go, and what is stored of them goes along: the relation holds after each, and what goes in turn from the shards goes in turn from the rows.
-use Rattle.std.proofs.Common.{◌≡◌, ℕ, ◌≤◌, ◌<◌, refl, ap, sym, ◌∙◌, true, false, subst, cond, [], ◌∷◌, length, arith}
-use Rattle.std.specs.Prelude.{Bool, List, Option, Some, None, map}
+use Rattle.std.proofs.Common.{◌≡◌, ℕ, ◌<◌, refl, ap, sym, ◌∙◌, subst, [], ◌∷◌, length, arith}
+use Rattle.std.specs.Prelude.{Bool, List, Option, map}
 use Rattle.std.specs.FinMap.{get}
-use Rattle.cache_changes.specs.Changes.{StoredKey, stored_key, key_alone, departs, admits, uses}
+use Rattle.cache_changes.specs.Changes.{key_alone, departs, admits}
 use Rattle.cache_changes.specs.Uses.{AreShardsOf}
 use Rattle.cache_changes.proofs.ManyShards.{AreShardsOf-after}
 use Rattle.cache_entries.specs.declared.entry.CacheEntryKey.{CacheEntryKey}
 use Rattle.cache_entries.specs.declared.rows.Tracked.{Tracked}
 use Rattle.cache_entries.specs.Rows as entry_rows
-use Rattle.cache_evict.specs.Managed.{Managed, taken_out, put_first, use_first, is_over}
+use Rattle.cache_evict.specs.Managed.{Managed, taken_out, put_first}
 use Rattle.cache_lock.specs.Changes.{Changes as LockChanges}
 use Rattle.tier_model.specs.Keys.{Entry, alone}
 use Rattle.tier_model.specs.Calls.{extended}

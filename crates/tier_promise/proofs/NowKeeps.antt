@@ -1,9 +1,9 @@
 -- A tier's changes stay in order, and each body's entry tracked with at least the body's size, change by change.
-use Rattle.std.proofs.Common.{◌≡◌, ℕ, ◌+◌, ◌≤◌, ◌<◌, refl, ap, sym, ◌∙◌, true, false, subst, cond, [], ◌∷◌, ◌++◌, ◌==◌, length, arith}
+use Rattle.std.proofs.Common.{◌≡◌, ℕ, ◌+◌, ◌≤◌, refl, ap, sym, ◌∙◌, true, false, subst, cond, [], ◌∷◌, ◌++◌, ◌==◌, length, arith}
 use Rattle.std.specs.Prelude.{Bool, List, Option, Some, None, option_and_then, is_some, find}
 use Rattle.std.specs.List.{AllByRecursion}
 use Rattle.std.specs.Option.{option_or}
-use Rattle.std.proofs.lemmas.Bool.{eqb-true, eq-eqb}
+use Rattle.std.proofs.lemmas.Bool.{eqb-true}
 use Rattle.cache_entries.specs.declared.entry.CacheEntryKey.{CacheEntryKey}
 use Rattle.cache_entries.specs.Entry.{same_entry}
 use Rattle.cache_entries.specs.Keys.{same_bytes}
@@ -14,12 +14,11 @@ use Rattle.cache_changes.specs.Bound.{is_entry_of}
 use Rattle.cache_changes.specs.Changes.{StoredKey, stored_key}
 use Rattle.cache_changes.proofs.RowLaws.{find-passes, weight_of-admitted, weight_of-without}
 use Rattle.tier_model.specs.Calls.{extended}
-use Rattle.tier_model.specs.Keys.{Entry, alone}
+use Rattle.tier_model.specs.Keys.{alone}
 use Rattle.tier_model.specs.Rows.{size_of}
 use Rattle.tier_promise.specs.Promise.{Write, Change, Changes, begins, appends, lands, puts, takes, gives, ends, has_number, bytes_of, as_body, flying, body_of, rows, is_alive, Request, Now}
 use Rattle.tier_promise.proofs.NowLists.{found-holds}
-use Rattle.tier_promise.proofs.NowShelf.{apart_number}
-use Rattle.tier_promise.proofs.NowOrder.{has_landed, begun_at, Follows, IsOrderly, IsOpen, lands_it, open-later, open-new, IsFlightOf, flights-of, body-of, landed-other}
+use Rattle.tier_promise.proofs.NowOrder.{begun_at, Follows, IsOrderly, IsOpen, lands_it, open-later, open-new, IsFlightOf, flights-of, body-of, landed-other}
 
 -- ---- each body is tracked
 

@@ -1,46 +1,36 @@
 -- An event of a request leaves changes in order, and each body's entry tracked with at least the body's size.
-use Rattle.std.proofs.Common.{◌≡◌, ℕ, ◌≤◌, ◌<◌, refl, ap, sym, ◌∙◌, true, false, subst, cond, [], ◌∷◌, ◌++◌, ◌==◌, length, arith}
-use Rattle.std.specs.Prelude.{◌&&◌, Bool, List, Option, Some, None, Ok, Err, is_some, not, map, find, max, unwrap_or, option_map}
+use Rattle.std.proofs.Common.{◌≡◌, ℕ, ◌≤◌, refl, ap, sym, ◌∙◌, true, false, cond, [], ◌∷◌, ◌++◌, ◌==◌, length, arith}
+use Rattle.std.specs.Prelude.{◌&&◌, Bool, List, Option, Some, None, Ok, Err, is_some, not, map, unwrap_or, option_map}
 use Rattle.std.specs.List.{AllByRecursion}
 use Rattle.std.specs.Option.{option_or}
 use Rattle.std.proofs.lemmas.Bool.{eqb-true, eq-eqb}
 use Rattle.cache_entries.specs.declared.entry.CacheEntryKey.{CacheEntryKey}
-use Rattle.cache_entries.specs.declared.rows.Tracked.{Tracked}
 use Rattle.cache_entries.specs.Entry.{same_entry}
-use Rattle.cache_entries.specs.Keys.{same_bytes}
 use Rattle.cache_entries.specs.Rows.{weight_of}
-use Rattle.cache_entries.specs.SameEntry.{same_bytes-tells, same_entry-tells}
+use Rattle.cache_entries.specs.SameEntry.{same_entry-tells}
 use Rattle.cache_words.specs.Time.{MomentValue, at_least, elapsed}
-use Rattle.cache_words.specs.Key.{CacheKeyValue}
 use Rattle.cache_heads.specs.Merged.{with_provenance_of}
-use Rattle.cache_changes.specs.Changes.{StoredKey, stored_key}
+use Rattle.cache_changes.specs.Changes.{stored_key}
 use Rattle.cache_lock.specs.declared.status.LockStatus.{LockStatus}
 use Rattle.cache_lock.specs.declared.status.LockStatus.TheVariants as status
-use Rattle.tier_model.specs.declared.event.Action.{Action}
-use Rattle.tier_model.specs.declared.event.Action.TheVariants as on
 use Rattle.tier_model.specs.declared.event.Answer.TheVariants as answer
 use Rattle.tier_model.specs.declared.event.TierFault.{TierFault}
 use Rattle.tier_model.specs.declared.event.TierFault.TheVariants as fault
 use Rattle.tier_model.specs.declared.state.Body.{Body}
-use Rattle.tier_model.specs.declared.whole.Whole.{Whole}
-use Rattle.tier_model.specs.declared.whole.Whole.TheVariants as whole
-use Rattle.tier_model.specs.Keys.{Entry, entry_of, alone}
-use Rattle.tier_model.specs.Calls.{Call, History, Outcome, extended, done_of, judged_of, read_by}
+use Rattle.tier_model.specs.Keys.{Entry, alone}
+use Rattle.tier_model.specs.Calls.{Outcome, extended, done_of}
 use Rattle.tier_model.specs.Response.{Judged, kept, not_kept, too_early, not_read}
 use Rattle.tier_model.specs.Rows.{size_of, weight_for}
-use Rattle.tier_model.specs.State.{Settings, Phase, cache_key, hit, stale, miss, begun, disabled, Reader, closed, unread, spent, streaming}
-use Rattle.tier_promise.specs.Promise.{Write, Permit, Change, Changes, begins, appends, lands, puts, takes, gives, ends, has_number, bytes_of, flying, body_of, first_of, shown, rows, ended, is_done, is_alive, as_body, Hold, no_lock, holds, waits}
-use Rattle.tier_promise.specs.Promise.{Request, Now, Row, Came, refused, open_row, opened, asked, permits_in, use_of, look_absent, look_found, look_row, look_by, after_poll, poll_row, poll_by, released, dropped, begin_row, begin_by, piece_by, read_by_reader}
-use Rattle.tier_promise.specs.Promise.{left, drop_row, purge_row, admits, settled, put_row, finish_by, ran_out, came, row_closed, row_of, of_open, of_key, after, came_of, now_of}
+use Rattle.tier_model.specs.State.{Settings, Phase, cache_key, stale, miss, begun, Reader, closed, unread, spent, streaming}
+use Rattle.tier_promise.specs.Promise.{Write, Permit, Changes, begins, appends, lands, puts, takes, ends, flying, first_of, shown, rows, ended, is_done, is_alive, as_body, Hold, no_lock, holds, waits}
+use Rattle.tier_promise.specs.Promise.{Request, Now, Row, refused, open_row, opened, asked, permits_in, look_absent, look_found, look_row, look_by, after_poll, poll_row, poll_by, released, dropped, begin_row, begin_by, piece_by, read_by_reader}
+use Rattle.tier_promise.specs.Promise.{left, drop_row, admits, settled, finish_by, came, row_closed, row_of, of_open}
 use Rattle.tier_model.specs.Own.{time_waited}
 use Rattle.tier_model.specs.Polls.{told_in_time}
 use Rattle.tier_model.specs.Answers.{is_fresh, is_past}
 use Rattle.tier_promise.proofs.NowLists.{all-pushed}
-use Rattle.tier_promise.proofs.NowStart.{no_body}
-use Rattle.tier_promise.proofs.NowShelf.{apart_number}
-use Rattle.tier_promise.proofs.NowOrder.{IsOrderly, IsOpen, no-bytes, open-new, open-later}
-use Rattle.tier_promise.proofs.NowAlive.{found_last}
-use Rattle.tier_promise.proofs.NowKeeps.{IsTracked, Tracks, Keeps, write_of, with_request, with_changes, IsFree, IsCalm, keeps-more, keeps-turned, keeps-begun, keeps-calm, keeps-left, keeps-whole}
+use Rattle.tier_promise.proofs.NowOrder.{IsOpen}
+use Rattle.tier_promise.proofs.NowKeeps.{IsTracked, Keeps, write_of, with_request, with_changes, IsFree, IsCalm, keeps-more, keeps-turned, keeps-begun, keeps-calm, keeps-left, keeps-whole}
 
 -- ---- lists of changes
 

@@ -1,6 +1,6 @@
 -- Lists that are changed and filtered, and what is seen of them.
-use Rattle.std.proofs.Common.{◌≡◌, ℕ, refl, ap, sym, ◌∙◌, true, false, subst, cond, [], ◌∷◌, ◌++◌}
-use Rattle.std.specs.Prelude.{Bool, List, Option, Some, None, option_map, not, map, filter, find}
+use Rattle.std.proofs.Common.{◌≡◌, refl, ap, sym, ◌∙◌, true, false, subst, cond, [], ◌∷◌, ◌++◌}
+use Rattle.std.specs.Prelude.{Bool, List, Some, option_map, map, filter, find}
 use Rattle.std.specs.List.{AllByRecursion}
 
 -- what is seen of those that a change leaves as they are seen, and what passes a test

@@ -1,8 +1,7 @@
 -- Permits are what the changes of the lock leave of them, change by change.
-use Rattle.std.proofs.Common.{◌≡◌, ℕ, ◌+◌, ◌≤◌, ◌<◌, refl, ap, sym, ◌∙◌, true, false, subst, cond, [], ◌∷◌, ◌++◌, ◌==◌, length, arith}
-use Rattle.std.specs.Prelude.{Bool, List, Option, Some, None}
+use Rattle.std.proofs.Common.{◌≡◌, ℕ, ◌+◌, ◌≤◌, ◌<◌, refl, ap, sym, ◌∙◌, true, false, cond, ◌∷◌, ◌==◌, length, arith}
+use Rattle.std.specs.Prelude.{Bool, Option, Some, None}
 use Rattle.std.proofs.lemmas.Bool.{eqb-true, eq-eqb}
-use Rattle.cache_words.specs.Time.{MomentValue}
 use Rattle.cache_changes.specs.Changes.{StoredKey}
 use Rattle.cache_entries.specs.Keys.{same_bytes}
 use Rattle.cache_entries.specs.SameEntry.{same_bytes-tells, same-sym}

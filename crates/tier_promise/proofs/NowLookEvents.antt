@@ -1,6 +1,6 @@
 -- Look-ups: each is answered by its row, and leaves what the promise says then, though it was refused after it was given a lock.
-use Rattle.std.proofs.Common.{◌≡◌, ℕ, ◌+◌, ◌≤◌, ◌<◌, refl, ap, sym, ◌∙◌, true, false, subst, cond, [], ◌∷◌, ◌++◌, ◌==◌, length, arith, inl, inr}
-use Rattle.std.specs.Prelude.{Bool, List, Option, Some, None, option_map, Ok, Err, not, ◌⊎◌}
+use Rattle.std.proofs.Common.{◌≡◌, ℕ, ◌+◌, refl, ap, sym, ◌∙◌, true, false, subst, cond, [], ◌∷◌, ◌++◌, ◌==◌, inl, inr}
+use Rattle.std.specs.Prelude.{Bool, Option, Some, None, option_map, Ok, Err, not, ◌⊎◌}
 use Rattle.std.specs.FinMap.{get}
 use Rattle.cache_words.specs.Time.{MomentValue}
 use Rattle.cache_changes.specs.Changes.{StoredKey, stored_key}
@@ -26,14 +26,14 @@ use Rattle.tier_model.specs.State as state
 use Rattle.tier_model.specs.Checks.{unless_open, look_refusal}
 use Rattle.tier_model.specs.Answers.{key_for, look_for, asks_now, given_if, lock_given, look_answer, IsKeptOut}
 use Rattle.tier_model.specs.Step.{AllowsBy, Allows, UseFits, IsUseFault, IsLockFault, AsksLock, tells_of_write}
-use Rattle.tier_model.specs.After.{with_counts, by_request, on_request, turned, reader_of, given_changes, back_changes, after_look, looked, lock_changes_in, after_outcome, after}
+use Rattle.tier_model.specs.After.{with_counts, by_request, turned, reader_of, given_changes, back_changes, after_look, looked, lock_changes_in, after_outcome, after}
 use Rattle.tier_promise.specs.Promise.{Permit, Changes, Request, Row, Now, waiting, asked, told, refused, row_closed, row_of, look_by, Whether, ran_out, may_run_out, came}
 use Rattle.tier_model.proofs.CallLaws.{Inside, call_at, requests-after}
 use Rattle.tier_model.proofs.GripLaws.{next-kept, next-spent}
 use Rattle.tier_promise.proofs.NowFits.{LockFits, RequestFits, OpenFits, NowFits}
 use Rattle.tier_promise.proofs.NowLock.{lock-lent, lock-spent}
 use Rattle.tier_promise.proofs.NowRequests.{IsSound}
-use Rattle.tier_promise.proofs.NowSteps.{Step, of-open, same-count, refused-fits, closed-fits, counted-fits, open-same}
+use Rattle.tier_promise.proofs.NowSteps.{Step, of-open, same-count, refused-fits, closed-fits, counted-fits}
 use Rattle.tier_promise.proofs.NowPolls.{IsLocked, ComesLocked}
 use Rattle.tier_promise.proofs.NowWaits.{WaitMatches, wait-matches, lock-back}
 use Rattle.tier_promise.proofs.NowLooks.{told-is}

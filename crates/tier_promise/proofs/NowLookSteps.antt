@@ -1,29 +1,24 @@
 -- A look-up's checks, what it finds, and its step.
-use Rattle.std.proofs.Common.{◌≡◌, ℕ, ◌≤◌, refl, ap, sym, ◌∙◌, true, false, subst, cond, [], ◌∷◌, ◌++◌, ◌==◌, length, arith, inl, inr}
-use Rattle.std.specs.Prelude.{◌&&◌, Bool, List, Option, Some, None, option_map, is_some, not, find, Ok, Err, ◌⊎◌}
+use Rattle.std.proofs.Common.{◌≡◌, ℕ, refl, ap, sym, ◌∙◌, true, false, cond, inl, inr}
+use Rattle.std.specs.Prelude.{◌&&◌, Bool, Option, Some, None, option_map, is_some, not, find, Ok, ◌⊎◌}
 use Rattle.std.specs.FinMap.{get}
 use Rattle.std.specs.Option.{option_or}
 use Rattle.cache_words.specs.Time.{MomentValue}
 use Rattle.cache_changes.specs.Changes.{StoredKey, stored_key}
-use Rattle.cache_entries.specs.Entry.{key_of}
-use Rattle.cache_entries.specs.declared.entry.CacheEntryKey.{CacheEntryKey}
 use Rattle.cache_heads.specs.declared.meta.CacheMeta.{CacheMeta}
-use Rattle.cache_lock.specs.Answers.{to_wait_for}
 use Rattle.cache_lock.specs.Changes.{Changes as LockChanges}
-use Rattle.tier_model.specs.declared.event.Answer.{Answer}
-use Rattle.tier_model.specs.declared.event.Answer.TheVariants.{Found, Absent}
-use Rattle.tier_model.specs.declared.event.LockGiven.{LockGiven}
+use Rattle.tier_model.specs.declared.event.Answer.TheVariants.{Found}
 use Rattle.tier_model.specs.declared.event.TierFault.{TierFault}
 use Rattle.tier_model.specs.declared.event.TierFault.TheVariants.{WrongPhase, Waiting}
 use Rattle.tier_model.specs.Calls.{Outcome}
 use Rattle.tier_model.specs.Rows.{Numbered}
-use Rattle.tier_model.specs.Shelf.{InFlight, Shelf, Look, absent, in_flight, finished, look, look_by as found_by, flies_for}
+use Rattle.tier_model.specs.Shelf.{InFlight, Look, absent, in_flight, finished, look, look_by as found_by, flies_for}
 use Rattle.tier_model.specs.State.{Settings, Phase, cache_key, hit, stale, miss, begun, disabled, Held, nothing, permit, State}
 use Rattle.tier_model.specs.State as state
 use Rattle.tier_model.specs.Checks.{can_look_up, has_permit, is_waiting, unless}
-use Rattle.tier_model.specs.Answers.{key_for, asks_now, is_fresh, finds_fresh, look_answer}
+use Rattle.tier_model.specs.Answers.{asks_now, is_fresh, look_answer}
 use Rattle.tier_promise.specs.Promise.{Write, Changes, Request, Row, Now, Hold, no_lock, holds, waits, bytes_of, is_done, flying, body_of, first_of, shown, asked, told, refused, look_found, look_absent, look_row, look_by}
-use Rattle.tier_promise.proofs.NowFits.{Told, told_write, told_flight, BodyFits, HoldFits, RequestFits, OpenFits, NowFits}
+use Rattle.tier_promise.proofs.NowFits.{told_write, told_flight, BodyFits, HoldFits, RequestFits, NowFits}
 use Rattle.tier_promise.proofs.NowRequests.{IsSound, first-flight}
 use Rattle.tier_promise.proofs.NowPolls.{IsLocked}
 use Rattle.tier_promise.proofs.NowLookUps.{ThereStill, Leaves, leaves-absent, leaves-flight, leaves-body, flight-meta, body-meta}

@@ -1,45 +1,40 @@
 -- Look-ups: each is answered by its row, and leaves what the promise says then.
-use Rattle.std.proofs.Common.{◌≡◌, ℕ, ◌+◌, ◌≤◌, ◌<◌, refl, ap, sym, ◌∙◌, true, false, subst, cond, [], ◌∷◌, ◌++◌, ◌==◌, length, arith, inl, inr}
-use Rattle.std.specs.Prelude.{◌&&◌, Bool, List, Option, Some, None, option_map, is_some, not, find, Ok, Err, unwrap_or, ◌⊎◌}
+use Rattle.std.proofs.Common.{◌≡◌, ℕ, ◌≤◌, refl, ap, sym, ◌∙◌, true, false, subst, cond, ◌∷◌, ◌++◌, ◌==◌, length, arith}
+use Rattle.std.specs.Prelude.{Bool, List, Option, Some, None, find, unwrap_or}
 use Rattle.std.specs.FinMap.{get, insert}
-use Rattle.std.specs.Option.{option_or}
 use Rattle.cache_words.specs.Time.{MomentValue}
 use Rattle.cache_changes.specs.Changes.{StoredKey, stored_key}
 use Rattle.cache_changes.specs.Uses.{AreShardsOf}
-use Rattle.cache_entries.specs.Entry.{key_of}
 use Rattle.cache_entries.specs.Rows.{weight_of}
 use Rattle.cache_entries.specs.declared.entry.CacheEntryKey.{CacheEntryKey}
-use Rattle.cache_evict.specs.Managed.{Managed}
 use Rattle.cache_heads.specs.declared.meta.CacheMeta.{CacheMeta}
 use Rattle.cache_lock.specs.Answers.{to_wait_for}
 use Rattle.cache_lock.specs.Changes.{Changes as LockChanges}
-use Rattle.cache_lock.specs.State.{LockState, after_all}
-use Rattle.tier_model.specs.declared.event.Answer.{Answer}
-use Rattle.tier_model.specs.declared.event.Answer.TheVariants.{Found, Absent}
+use Rattle.cache_lock.specs.State.{after_all}
 use Rattle.tier_model.specs.declared.event.LockGiven.{LockGiven}
 use Rattle.tier_model.specs.declared.state.Body.{Body}
-use Rattle.tier_model.specs.Keys.{Entry, alone}
-use Rattle.tier_model.specs.Calls.{Outcome, extended}
+use Rattle.tier_model.specs.Keys.{alone}
+use Rattle.tier_model.specs.Calls.{extended}
 use Rattle.tier_model.specs.Rows.{Numbered, weight_for}
-use Rattle.tier_model.specs.Shelf.{InFlight, Readers, Shelf, Look, absent, in_flight, finished, is_there, flies_for, flying_at, readable, readable_of}
+use Rattle.tier_model.specs.Shelf.{InFlight, Readers, Look, absent, in_flight, finished, is_there, flies_for, flying_at, readable, readable_of}
 use Rattle.tier_model.specs.State.{Settings, Phase, hit, stale, miss, Held, nothing, permit, Reader, closed, unread, streaming, Seen, State, shards_of}
 use Rattle.tier_model.specs.State as state
 use Rattle.tier_model.specs.Own.{phase_absent, phase_found}
 use Rattle.tier_model.specs.Locks as locks_said
-use Rattle.tier_model.specs.Answers.{given_if, is_fresh, finds_fresh, used, look_answer}
+use Rattle.tier_model.specs.Answers.{given_if, is_fresh, used}
 use Rattle.tier_model.specs.After.{with_counts, turned, held_of, phase_of, seen_in, seen_past, reader_of, managed_after, counted, counted_if}
 use Rattle.tier_promise.specs.Promise.{Write, Permit, Changes, Request, Row, Now, Hold, no_lock, holds, waits, puts, bytes_of, is_done, flying, rows, asked, told, permits_in, as_body, is_wait, use_of, look_found, look_absent, came}
 use Rattle.tier_promise.specs.Promise as now_is
 use Rattle.tier_model.proofs.CallLaws.{at-insert}
-use Rattle.tier_model.proofs.RowSteps.{IsMade, made-used}
+use Rattle.tier_model.proofs.RowSteps.{made-used}
 use Rattle.tier_promise.proofs.NowLists.{found-holds}
-use Rattle.tier_promise.proofs.NowFits.{Numbers, Permits, Told, told_write, told_flight, told_body, BodyFits, HoldFits, SeenFits, ReaderFits, RequestFits, OpenFits, NowFits}
+use Rattle.tier_promise.proofs.NowFits.{Told, told_write, told_flight, BodyFits, SeenFits, ReaderFits, RequestFits, NowFits}
 use Rattle.tier_promise.proofs.NowShelf.{shelf-puts}
 use Rattle.tier_promise.proofs.NowLock.{lock-same}
 use Rattle.tier_promise.proofs.NowRequests.{IsSound, flying-read}
 use Rattle.tier_promise.proofs.NowPolls.{IsLocked, open-quiet}
 use Rattle.tier_promise.proofs.NowOthers.{OtherFits, other-start, other-turned, other-closed}
-use Rattle.tier_promise.proofs.NowLooks.{changes_at, held_at, Given, told-is, given-fits, rows-used}
+use Rattle.tier_promise.proofs.NowLooks.{changes_at, Given, told-is, given-fits, rows-used}
 
 is_wait_told : (h : Hold) → locks_said.is_wait (told h) ≡ is_wait h
 is_wait_told no_lock = refl

@@ -1,37 +1,31 @@
 -- What a look-up that is answered leaves: the permit or the wait that it gives, and what it finds.
-use Rattle.std.proofs.Common.{◌≡◌, ℕ, ◌+◌, ◌≤◌, ◌<◌, refl, ap, sym, ◌∙◌, true, false, subst, cond, [], ◌∷◌, ◌++◌, ◌==◌, length, arith}
-use Rattle.std.specs.Prelude.{◌&&◌, Bool, List, Option, Some, None, option_map, is_some, not, find, Ok, unwrap_or}
+use Rattle.std.proofs.Common.{◌≡◌, ℕ, ◌≤◌, ◌<◌, refl, ap, sym, ◌∙◌, true, false, subst, cond, [], ◌∷◌, ◌++◌, length, arith}
+use Rattle.std.specs.Prelude.{Bool, Option, Some, None, unwrap_or}
 use Rattle.std.specs.FinMap.{get}
-use Rattle.std.specs.Option.{option_or}
 use Rattle.cache_words.specs.Time.{MomentValue}
 use Rattle.cache_changes.specs.Changes.{StoredKey, stored_key, uses}
 use Rattle.cache_changes.specs.Uses.{AreShardsOf}
 use Rattle.cache_changes.proofs.ManyShards.{AreShardsOf-after}
-use Rattle.cache_entries.specs.Entry.{key_of}
 use Rattle.cache_entries.specs.Rows.{weight_of}
 use Rattle.cache_evict.specs.Managed.{Managed, use_first}
-use Rattle.cache_heads.specs.declared.meta.CacheMeta.{CacheMeta}
 use Rattle.cache_lock.specs.Answers.{to_wait_for, lock_change}
 use Rattle.cache_lock.specs.Changes.{Changes as LockChanges, lends}
-use Rattle.cache_lock.specs.Changes as lock
 use Rattle.cache_lock.specs.State.{LockState, named, after_all}
 use Rattle.cache_lock.specs.Waits.{core_of}
 use Rattle.tier_model.specs.declared.state.Body.{Body}
 use Rattle.tier_model.specs.Keys.{Entry, alone}
 use Rattle.tier_model.specs.Calls.{extended}
 use Rattle.tier_model.specs.Histories.{Kept}
-use Rattle.tier_model.specs.Rows.{Numbered, weight_for}
-use Rattle.tier_model.specs.Shelf.{InFlight, Readers, Shelf, Look, absent, in_flight, finished, is_there, flies_for, flying_at, readable}
-use Rattle.tier_model.specs.State.{Settings, Held, nothing, permit, Reader, closed, unread, streaming, State, shards_of}
-use Rattle.tier_model.specs.State as state
-use Rattle.tier_model.specs.Answers.{given_for, given_if, is_fresh, used}
-use Rattle.tier_model.specs.After.{held_of, turned}
-use Rattle.tier_promise.specs.Promise.{Write, Permit, Changes, Request, Now, Hold, no_lock, holds, waits, gives, puts, bytes_of, is_done, flying, ended, waiting, rows, asked, hold_given, told, permits_in, as_body}
+use Rattle.tier_model.specs.Rows.{weight_for}
+use Rattle.tier_model.specs.Shelf.{Shelf}
+use Rattle.tier_model.specs.State.{Settings, Held, nothing, State, shards_of}
+use Rattle.tier_model.specs.Answers.{given_for, given_if, used}
+use Rattle.tier_model.specs.After.{held_of}
+use Rattle.tier_promise.specs.Promise.{Permit, Changes, Request, Now, Hold, holds, waits, gives, puts, bytes_of, is_done, ended, waiting, rows, asked, hold_given, told, permits_in}
 use Rattle.tier_model.proofs.GripLaws.{next-kept}
-use Rattle.tier_model.proofs.RowSteps.{IsMade, made-used}
-use Rattle.tier_promise.proofs.NowFits.{Numbers, Permits, LockFits, HoldFits, RequestFits, OpenFits, NowFits}
-use Rattle.tier_promise.proofs.NowShelf.{shelf-gives, shelf-puts}
-use Rattle.tier_promise.proofs.NowLock.{lock-same, lock-lent, with_permit, permit-more, permit-new, lock-gives}
+use Rattle.tier_promise.proofs.NowFits.{Permits, LockFits, HoldFits, NowFits}
+use Rattle.tier_promise.proofs.NowShelf.{shelf-gives}
+use Rattle.tier_promise.proofs.NowLock.{lock-lent, with_permit, permit-more, permit-new, lock-gives}
 use Rattle.tier_promise.proofs.NowPolls.{IsLocked, open-quiet}
 use Rattle.tier_promise.proofs.NowWaits.{WaitMatches, wait-matches}
 use Rattle.tier_promise.proofs.NowOthers.{OtherFits}

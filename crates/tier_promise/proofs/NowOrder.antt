@@ -1,7 +1,7 @@
 -- Changes in order: a write has as its number how many changes came before it, lands once, and gets nothing after that. Then what is shown of a key is
 -- alive, and what is alive is shown.
-use Rattle.std.proofs.Common.{◌≡◌, ℕ, ◌≤◌, ◌<◌, refl, ap, sym, ◌∙◌, true, false, subst, cond, [], ◌∷◌, ◌++◌, ◌||◌, ◌==◌, length, arith, inl, inr}
-use Rattle.std.specs.Prelude.{◌≢◌, ◌↔◌, ◌⊎◌, ◌&&◌, Bool, List, Option, Some, None, is_some, not, filter, find}
+use Rattle.std.proofs.Common.{◌≡◌, ℕ, ◌≤◌, ◌<◌, refl, ap, sym, ◌∙◌, true, false, subst, cond, [], ◌∷◌, ◌++◌, ◌||◌, ◌==◌, length, arith}
+use Rattle.std.specs.Prelude.{◌&&◌, Bool, Option, Some, None, not, find}
 use Rattle.std.specs.List.{AllByRecursion}
 use Rattle.std.specs.Option.{option_or}
 use Rattle.std.proofs.lemmas.Bool.{eqb-true, eq-eqb}
@@ -9,8 +9,8 @@ use Rattle.cache_entries.specs.Keys.{same_bytes}
 use Rattle.cache_entries.specs.SameEntry.{same_bytes-tells}
 use Rattle.cache_changes.specs.Bound.{is_entry_of}
 use Rattle.cache_changes.specs.Changes.{StoredKey, stored_key}
-use Rattle.cache_changes.proofs.RowLaws.{find-kept, find-passes}
-use Rattle.tier_promise.specs.Promise.{Write, Change, Changes, begins, appends, lands, puts, takes, gives, ends, has_number, bytes_of, flying, body_of, first_of, shown, ends_life, IsAlive}
+use Rattle.cache_changes.proofs.RowLaws.{find-passes}
+use Rattle.tier_promise.specs.Promise.{Write, Change, Changes, begins, appends, lands, takes, has_number, bytes_of, flying, body_of, ends_life, IsAlive}
 use Rattle.tier_promise.proofs.NowLists.{all-mapped, all-pushed, all-filtered, found-holds}
 use Rattle.tier_promise.proofs.NowShelf.{apart_number, or_true}
 

@@ -1,6 +1,6 @@
 -- All requests but one: what a state is to the promise while that one turns, part by part.
-use Rattle.std.proofs.Common.{◌≡◌, ℕ, ◌≤◌, ◌<◌, refl, ap, sym, ◌∙◌, true, false, subst, cond, [], ◌∷◌, ◌++◌, ◌||◌, ◌==◌, length, arith}
-use Rattle.std.specs.Prelude.{◌-◌, nat_le, Bool, List, Option, Some, None, option_map, option_and_then, not, map, filter, find}
+use Rattle.std.proofs.Common.{◌≡◌, ℕ, ◌<◌, refl, ap, sym, ◌∙◌, true, false, subst, cond, ◌∷◌, ◌||◌, ◌==◌, length, arith}
+use Rattle.std.specs.Prelude.{◌-◌, nat_le, Bool, List, Option, Some, None, not, filter}
 use Rattle.std.specs.FinMap.{FinMap, get}
 use Rattle.std.specs.Ordering.{nat_cmp}
 use Rattle.std.proofs.lemmas.Bool.{eqb-true, eq-eqb}
@@ -17,10 +17,11 @@ use Rattle.tier_model.specs.After.{turned, with_reader, without_reader}
 use Rattle.tier_promise.specs.Promise.{Permit, Changes, Request, Now, lands, ends, bytes_of, is_done, rows}
 use Rattle.tier_model.proofs.ReaderLaws.{up, down, left_entry, at-with, at-without, at-left}
 use Rattle.tier_model.proofs.RowSteps.{IsMade}
-use Rattle.tier_promise.proofs.NowFits.{Numbers, Permits, end_of, ShelfFits, LockFits, RequestFits, OpenFits, NowFits}
-use Rattle.tier_promise.proofs.NowShelf.{apart_number, or_true, shelf-left, shelf-ends, same-place}
+use Rattle.tier_promise.proofs.NowFits.{Numbers, Permits, end_of, ShelfFits, LockFits, OpenFits, NowFits}
+use Rattle.tier_promise.proofs.NowShelf.{apart_number, shelf-ends}
+use Rattle.tier_promise.proofs.NowLands.{shelf-left, same-place}
 use Rattle.tier_promise.proofs.NowLock.{lock-same, lock-spent, lock-stores}
-use Rattle.tier_promise.proofs.NowRequests.{IsSound, Carries, ReadsOn, open-carried, left_of, flying-read}
+use Rattle.tier_promise.proofs.NowRequests.{Carries, open-carried, flying-read}
 use Rattle.tier_promise.proofs.NowSteps.{no_longer, turned-fits}
 use Rattle.tier_promise.proofs.NowPolls.{open-quiet}
 

@@ -1,27 +1,26 @@
 -- Pieces: each is answered by its row, and leaves what the promise says then.
-use Rattle.std.proofs.Common.{◌≡◌, ℕ, ◌≤◌, refl, ap, sym, ◌∙◌, true, false, subst, cond, [], ◌∷◌, ◌++◌, ◌||◌, ◌==◌, length, arith, inl, inr}
-use Rattle.std.specs.Prelude.{Bool, List, Option, Some, None, is_some, Ok, Err, not, map}
+use Rattle.std.proofs.Common.{◌≡◌, ℕ, refl, ap, sym, ◌∙◌, true, false, subst, cond, [], ◌∷◌, ◌++◌, ◌==◌, arith, inl, inr}
+use Rattle.std.specs.Prelude.{Bool, List, Option, Some, None, Ok, Err, not}
 use Rattle.std.specs.FinMap.{get}
-use Rattle.std.proofs.lemmas.Bool.{eqb-true, eq-eqb}
 use Rattle.cache_words.specs.Time.{MomentValue}
-use Rattle.cache_changes.specs.Changes.{stored_key}
 use Rattle.cache_lock.specs.Changes.{Changes as LockChanges}
 use Rattle.tier_model.specs.declared.event.Action.TheVariants.{Piece}
 use Rattle.tier_model.specs.declared.event.Answer.{Answer}
 use Rattle.tier_model.specs.declared.event.Answer.TheVariants.{Written}
 use Rattle.tier_model.specs.declared.event.TierFault.{TierFault}
-use Rattle.tier_model.specs.declared.event.TierFault.TheVariants.{Memory, NoRequest, WrongPhase, AfterEnd}
-use Rattle.tier_model.specs.Calls.{Outcome, writes_after, nothing_done}
-use Rattle.tier_model.specs.Shelf.{InFlight, Shelf, has_number, flying_at, on_flying}
+use Rattle.tier_model.specs.declared.event.TierFault.TheVariants.{NoRequest, WrongPhase, AfterEnd}
+use Rattle.tier_model.specs.Calls.{Outcome, writes_after}
+use Rattle.tier_model.specs.Shelf.{InFlight, has_number, on_flying}
 use Rattle.tier_model.specs.State.{Settings, State}
 use Rattle.tier_model.specs.State as state
 use Rattle.tier_model.specs.Checks.{unless, unless_open, has_ended, piece_refusal}
 use Rattle.tier_model.specs.Step.{AllowsBy, Allows, tells_of_write}
 use Rattle.tier_model.specs.After.{with_counts, on_write, pieced}
-use Rattle.tier_promise.specs.Promise.{Write, Changes, Request, Row, Now, bytes_of, is_done, appends, piece_by, came, refused, row_closed, row_of}
+use Rattle.tier_promise.specs.Promise.{Write, Changes, Request, Row, Now, is_done, appends, piece_by, came, refused, row_closed, row_of}
 use Rattle.tier_model.proofs.CallLaws.{Inside, call_at}
-use Rattle.tier_promise.proofs.NowFits.{WriteFits, RequestFits, OpenFits, NowFits}
-use Rattle.tier_promise.proofs.NowShelf.{shelf-more, shelf-last, or_true}
+use Rattle.tier_promise.proofs.NowFits.{WriteFits, OpenFits, NowFits}
+use Rattle.tier_promise.proofs.NowShelf.{or_true}
+use Rattle.tier_promise.proofs.NowLands.{shelf-more, shelf-last}
 use Rattle.tier_promise.proofs.NowLock.{lock-same}
 use Rattle.tier_promise.proofs.NowRequests.{open-carried, flying-read}
 use Rattle.tier_promise.proofs.NowSteps.{Step, Comes, on-open, same-count, same-requests, as-before, refused-fits, closed-fits, counted-fits}

@@ -1,10 +1,9 @@
 -- Polls: each is answered by its row, and leaves what the promise says then.
-use Rattle.std.proofs.Common.{◌≡◌, ℕ, ◌≤◌, ◌<◌, refl, ap, sym, ◌∙◌, true, false, subst, cond, [], ◌∷◌, ◌++◌, ◌==◌, length, arith, inl, inr}
-use Rattle.std.specs.Prelude.{◌&&◌, Bool, List, Option, Some, None, option_map, is_some, unwrap_or, Ok, Err, not, ◌⊎◌}
+use Rattle.std.proofs.Common.{◌≡◌, ℕ, ◌≤◌, refl, ap, sym, ◌∙◌, true, false, subst, cond, [], ◌∷◌, ◌++◌, ◌==◌, length, inl, inr}
+use Rattle.std.specs.Prelude.{◌&&◌, Bool, List, Option, Some, None, option_map, is_some, unwrap_or, Ok, Err, not}
 use Rattle.std.specs.FinMap.{get}
 use Rattle.std.specs.Option.{option_or}
 use Rattle.cache_words.specs.Time.{MomentValue, DurationValue, at_least, elapsed}
-use Rattle.cache_changes.specs.Changes.{StoredKey, stored_key}
 use Rattle.cache_lock.specs.Changes.{Changes as LockChanges, spends, stores}
 use Rattle.cache_lock.specs.Answers.{outcome, wait_outcome, poll_changes, is_over_age}
 use Rattle.cache_lock.specs.Fills.{fill_among}
@@ -23,9 +22,9 @@ use Rattle.tier_model.specs.declared.event.Action.TheVariants.{Poll}
 use Rattle.tier_model.specs.declared.event.Answer.{Answer}
 use Rattle.tier_model.specs.declared.event.Answer.TheVariants.{Waited}
 use Rattle.tier_model.specs.declared.event.TierFault.{TierFault}
-use Rattle.tier_model.specs.declared.event.TierFault.TheVariants.{Memory, NoRequest, WrongPhase}
-use Rattle.tier_model.specs.Calls.{Outcome, writes_after, nothing_done, extended}
-use Rattle.tier_model.specs.Shelf.{Shelf, readable}
+use Rattle.tier_model.specs.declared.event.TierFault.TheVariants.{NoRequest, WrongPhase}
+use Rattle.tier_model.specs.Calls.{Outcome, writes_after, extended}
+use Rattle.tier_model.specs.Shelf.{Shelf}
 use Rattle.tier_model.specs.State.{Settings, Held, nothing, permit, State}
 use Rattle.tier_model.specs.State as state
 use Rattle.tier_model.specs.Own.{in_all, time_waited}
@@ -47,7 +46,7 @@ use Rattle.tier_promise.proofs.NowFits.{Numbers, Permits, end_of, ShelfFits, Loc
 use Rattle.tier_promise.proofs.NowShelf.{shelf-ends}
 use Rattle.tier_promise.proofs.NowLock.{lock-spent, lock-stores}
 use Rattle.tier_promise.proofs.NowRequests.{open-carried}
-use Rattle.tier_promise.proofs.NowSteps.{Step, of-open, on-open, no_longer, same-count, turned-fits, refused-fits, closed-fits, counted-fits}
+use Rattle.tier_promise.proofs.NowSteps.{Step, of-open, no_longer, same-count, turned-fits, refused-fits, closed-fits, counted-fits}
 
 -- what a lock is in itself, after those changes: its cores are held by the requests, and each that is there has that age, from when its permit was given
 pub record IsLocked (age : DurationValue) (s : State) (locks : LockChanges) : Type 0 where

@@ -1,32 +1,29 @@
 -- A put: its write begins, gets its bytes, and is a body, or is given up; then its entry is admitted, and entries go.
-use Rattle.std.proofs.Common.{◌≡◌, ℕ, ◌+◌, ◌≤◌, ◌<◌, refl, ap, sym, ◌∙◌, true, false, subst, cond, [], ◌∷◌, ◌++◌, ◌||◌, ◌==◌, length, arith, inl, inr}
-use Rattle.std.specs.Prelude.{Bool, List, Option, Some, None, option_map, option_and_then, is_some, Ok, Err, not, map, filter, find, ◌⊎◌}
+use Rattle.std.proofs.Common.{◌≡◌, ℕ, ◌+◌, refl, ap, sym, ◌∙◌, true, false, subst, cond, [], ◌∷◌, ◌++◌, ◌||◌, ◌==◌, length, arith}
+use Rattle.std.specs.Prelude.{Bool, List, Some, None, option_and_then, not, filter}
 use Rattle.std.specs.List.{AllByRecursion}
 use Rattle.std.specs.FinMap.{get}
-use Rattle.std.proofs.lemmas.Bool.{eqb-true, eq-eqb}
-use Rattle.cache_changes.specs.Changes.{StoredKey, stored_key}
+use Rattle.std.proofs.lemmas.Bool.{eq-eqb}
+use Rattle.cache_changes.specs.Changes.{stored_key}
 use Rattle.cache_changes.specs.Uses.{AreShardsOf}
-use Rattle.cache_entries.specs.declared.entry.CacheEntryKey.{CacheEntryKey}
 use Rattle.cache_evict.specs.Managed.{Managed}
-use Rattle.cache_heads.specs.declared.meta.CacheMeta.{CacheMeta}
 use Rattle.cache_lock.specs.Changes.{Changes as LockChanges}
 use Rattle.tier_model.specs.declared.state.Body.{Body}
 use Rattle.tier_model.specs.Keys.{Entry, alone}
-use Rattle.tier_model.specs.Rows.{Numbered, Bodies, FinishedBody, weight_for, with_body}
-use Rattle.tier_model.specs.Shelf.{InFlight, Readers, Shelf, has_number, flying_at, on_flying, readable, stored}
+use Rattle.tier_model.specs.Rows.{Bodies, FinishedBody, with_body}
+use Rattle.tier_model.specs.Shelf.{InFlight, Readers, Shelf, has_number, flying_at, on_flying, stored}
 use Rattle.tier_model.specs.State.{Settings, State, shards_of}
 use Rattle.tier_model.specs.State as state
-use Rattle.tier_model.specs.Answers.{admitted}
 use Rattle.tier_model.specs.After.{with_counts}
-use Rattle.tier_promise.specs.Promise.{Write, Changes, Now, begins, appends, lands, puts, takes, bytes_of, is_done, body_of, rows}
-use Rattle.tier_model.proofs.RowSteps.{IsMade, made-put}
+use Rattle.tier_promise.specs.Promise.{Write, Changes, Now, begins, appends, lands, puts, bytes_of, is_done, rows}
+use Rattle.tier_model.proofs.RowSteps.{IsMade}
 use Rattle.tier_promise.proofs.NowLists.{all-mapped}
-use Rattle.tier_promise.proofs.NowFits.{Numbers, IsFlight, BodyFits, ShelfFits, NowFits}
-use Rattle.tier_promise.proofs.NowShelf.{apart_number, with_number, new_flight, named-more, named-new, shelf-begins, shelf-last, shelf-left, shelf-lands, shelf-puts}
+use Rattle.tier_promise.proofs.NowFits.{Numbers, IsFlight, ShelfFits, NowFits}
+use Rattle.tier_promise.proofs.NowShelf.{apart_number, with_number, new_flight, named-more, named-new, shelf-begins, shelf-puts}
+use Rattle.tier_promise.proofs.NowLands.{shelf-last, shelf-left, shelf-lands}
 use Rattle.tier_promise.proofs.NowLock.{lock-same}
-use Rattle.tier_promise.proofs.NowRequests.{Carries, ReadsOn, IsSound, open-carried, reads-on}
+use Rattle.tier_promise.proofs.NowRequests.{Carries, IsSound, open-carried, reads-on}
 use Rattle.tier_promise.proofs.NowSteps.{no_longer}
-use Rattle.tier_promise.proofs.NowGone.{rows-put}
 
 -- ---- a write that comes last, under a number that no other has
 

@@ -1,6 +1,6 @@
 -- Puts: each is answered by its row, and leaves what the promise says then.
-use Rattle.std.proofs.Common.{◌≡◌, ℕ, ◌+◌, ◌≤◌, ◌<◌, refl, ap, sym, ◌∙◌, true, false, subst, cond, [], ◌∷◌, ◌++◌, ◌||◌, length, arith, inl, inr}
-use Rattle.std.specs.Prelude.{◌&&◌, Bool, List, Option, Some, None, is_some, Ok, Err, not, map, ◌⊎◌}
+use Rattle.std.proofs.Common.{◌≡◌, ℕ, ◌+◌, ◌≤◌, refl, ap, sym, ◌∙◌, true, false, subst, cond, [], ◌∷◌, ◌++◌, length, inl, inr}
+use Rattle.std.specs.Prelude.{Bool, List, Option, Some, None, is_some, Ok, Err, map, ◌⊎◌}
 use Rattle.std.specs.FinMap.{get}
 use Rattle.cache_words.specs.Time.{MomentValue}
 use Rattle.cache_words.specs.Key.{CacheKeyValue}
@@ -16,7 +16,6 @@ use Rattle.tier_model.specs.declared.event.Answer.TheVariants as answer
 use Rattle.tier_model.specs.declared.event.Done.{Done}
 use Rattle.tier_model.specs.declared.event.TierFault.{TierFault}
 use Rattle.tier_model.specs.declared.event.TierFault.TheVariants.{NumbersSpent, TooHeavy, TooLong, Memory}
-use Rattle.tier_model.specs.declared.event.TierFault.TheVariants as fault
 use Rattle.tier_model.specs.declared.state.Body.{Body}
 use Rattle.tier_model.specs.declared.whole.Whole.{Whole}
 use Rattle.tier_model.specs.declared.whole.Whole.TheVariants as whole
@@ -24,19 +23,19 @@ use Rattle.tier_model.specs.Keys.{Entry, entry_of, alone}
 use Rattle.tier_model.specs.Calls.{Outcome, writes_after, nothing_done, done_of, finished_in, read_by, has_stored, is_begun, extended}
 use Rattle.tier_model.specs.Evictions as shards
 use Rattle.tier_model.specs.Rows.{Numbered, FinishedBody, Bodies, weight_for, with_body, without_body, without_bodies}
-use Rattle.tier_model.specs.Shelf.{Shelf, readable, stored}
+use Rattle.tier_model.specs.Shelf.{stored}
 use Rattle.tier_model.specs.State.{Settings, State, shards_of}
-use Rattle.tier_model.specs.Answers.{admitted, stored_alone, all_done, IsKeptOut, IsCutShort, IsStored, IsStoreFault, IsPutAnswer, IsPutFault}
+use Rattle.tier_model.specs.Answers.{admitted, stored_alone, IsKeptOut, IsCutShort, IsPutAnswer, IsPutFault}
 use Rattle.tier_model.specs.Step.{Allows, BeginsWrite, PutTakes}
 use Rattle.tier_model.specs.After.{with_counts, emptied, taken, after_put, undone}
-use Rattle.tier_promise.specs.Promise.{Write, Changes, Now, Whether, IsSettled, PutIsLawful, GoInTurn, begins, appends, lands, puts, takes, rows, bytes_of, is_done, body_of, ran_out, may_run_out, put_row, of_key}
+use Rattle.tier_promise.specs.Promise.{Write, Changes, Now, Whether, PutIsLawful, GoInTurn, begins, appends, lands, puts, takes, rows, bytes_of, is_done, body_of, ran_out, may_run_out, put_row, of_key}
 use Rattle.tier_model.proofs.RowSteps.{made-put}
 use Rattle.tier_model.proofs.CallLaws.{Inside, call_at}
 use Rattle.tier_model.proofs.BodyLaws.{has_key, held-without, held-with, held-without_all}
 use Rattle.tier_model.proofs.OpenLaws.{begun-told, kept_out-done, no-fewer}
-use Rattle.tier_promise.proofs.NowFits.{ShelfFits, BodyFits, NowFits}
+use Rattle.tier_promise.proofs.NowFits.{BodyFits, NowFits}
 use Rattle.tier_promise.proofs.NowRequests.{IsSound}
-use Rattle.tier_promise.proofs.NowSteps.{Step, same-count, counted-fits, later-fits, open-same}
+use Rattle.tier_promise.proofs.NowSteps.{Step, later-fits, open-same}
 use Rattle.tier_promise.proofs.NowGone.{rows-put, turn-rows, taken-fits, emptied-fits}
 use Rattle.tier_promise.proofs.NowPut.{given-up-fits, whole-fits, put-fits}
 

@@ -1,33 +1,31 @@
 -- Reads and pieces: each is answered by its row, and leaves what the promise says then.
-use Rattle.std.proofs.Common.{◌≡◌, ℕ, ◌+◌, ◌≤◌, ◌<◌, refl, ap, sym, ◌∙◌, true, false, subst, cond, [], ◌∷◌, ◌++◌, ◌||◌, ◌==◌, length, arith, inl, inr}
-use Rattle.std.specs.Prelude.{Bool, List, Option, Some, None, option_map, option_and_then, is_some, Ok, Err, not, max, drop, ◌-◌, MatchOption, ◌⊎◌, map}
+use Rattle.std.proofs.Common.{◌≡◌, ℕ, ◌+◌, ◌≤◌, refl, ap, sym, ◌∙◌, true, false, subst, cond, [], ◌∷◌, ◌++◌, ◌==◌, length, arith, inl, inr}
+use Rattle.std.specs.Prelude.{Bool, List, Option, Some, None, option_map, option_and_then, Ok, Err, max, drop, ◌-◌}
 use Rattle.std.specs.FinMap.{get}
 use Rattle.std.proofs.lemmas.List.{length-drop, length-append}
 use Rattle.cache_words.specs.Time.{MomentValue}
-use Rattle.cache_changes.specs.Changes.{StoredKey, stored_key}
 use Rattle.cache_changes.proofs.RowLaws.{find-map}
-use Rattle.tier_model.specs.declared.event.Action.TheVariants.{Piece, Read}
-use Rattle.tier_model.specs.declared.event.Action.{Action}
+use Rattle.tier_model.specs.declared.event.Action.TheVariants.{Read}
 use Rattle.cache_lock.specs.Changes.{Changes as LockChanges}
 use Rattle.tier_model.specs.declared.event.Answer.{Answer}
-use Rattle.tier_model.specs.declared.event.Answer.TheVariants.{Written, Bytes, Pending, End}
+use Rattle.tier_model.specs.declared.event.Answer.TheVariants.{Bytes}
 use Rattle.tier_model.specs.declared.event.TierFault.{TierFault}
-use Rattle.tier_model.specs.declared.event.TierFault.TheVariants.{Memory, NoRequest, WrongPhase, AfterEnd}
-use Rattle.tier_model.specs.Calls.{Call, Outcome, writes_after, nothing_done, bytes_answered}
+use Rattle.tier_model.specs.declared.event.TierFault.TheVariants.{NoRequest, WrongPhase}
+use Rattle.tier_model.specs.Calls.{Outcome, writes_after, bytes_answered}
 use Rattle.tier_model.specs.Shelf.{InFlight, Readers, Shelf, readable, has_number, flying_at, on_flying, past_place}
 use Rattle.tier_model.specs.State.{Settings, Reader, closed, unread, spent, streaming, State}
 use Rattle.tier_model.specs.State as state
-use Rattle.tier_model.specs.Checks.{unless, unless_open, has_reader, has_ended, piece_refusal}
+use Rattle.tier_model.specs.Checks.{unless, unless_open, has_reader}
 use Rattle.tier_model.specs.Answers.{read_answer, next_by, next_of}
-use Rattle.tier_model.specs.Step.{AllowsBy, Allows, HasNews, OfRequest, tells_of_write}
+use Rattle.tier_model.specs.Step.{AllowsBy, Allows, tells_of_write}
 use Rattle.tier_model.specs.After.{with_counts, with_request, by_request, on_request, on_write, pieced, after_outcome}
 use Rattle.tier_model.specs.After as state_after
-use Rattle.tier_promise.specs.Promise.{Write, Changes, Request, Row, Now, Whether, ran_out, may_run_out, bytes_of, is_done, appends, read_on, reader_after, read_by_reader, piece_by, came, refused, row_closed, row_of}
+use Rattle.tier_promise.specs.Promise.{Changes, Request, Row, Now, may_run_out, bytes_of, is_done, reader_after, read_by_reader, came, refused, row_closed, row_of}
 use Rattle.tier_model.proofs.CallLaws.{Inside, call_at, at-insert}
-use Rattle.tier_promise.proofs.NowFits.{Numbers, Permits, WriteFits, ReaderFits, RequestFits, OpenFits, NowFits, ShelfFits}
-use Rattle.tier_promise.proofs.NowShelf.{shelf-more, shelf-last, apart_number}
-use Rattle.tier_promise.proofs.NowRequests.{Stays, ReadsOn, Carries, open-carried, reads-on, flying-read}
-use Rattle.tier_promise.proofs.NowSteps.{Step, Comes, of-open, on-open, no_longer, same-count, turned-fits, same-requests, refused-fits, closed-fits, counted-fits, both_open, both_closed}
+use Rattle.tier_promise.proofs.NowFits.{ReaderFits, RequestFits, OpenFits, NowFits, ShelfFits}
+use Rattle.tier_promise.proofs.NowShelf.{apart_number}
+use Rattle.tier_promise.proofs.NowRequests.{Stays, Carries, reads-on}
+use Rattle.tier_promise.proofs.NowSteps.{Step, Comes, of-open, on-open, same-count, turned-fits, refused-fits, closed-fits, counted-fits}
 
 module _ (x : Settings) (s : State) (locks : LockChanges) (now : Now) (fits : NowFits x s locks now) (t : MomentValue) (i : Inside) where
   abbrev c : Changes

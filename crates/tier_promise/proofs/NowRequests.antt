@@ -1,19 +1,19 @@
 -- Open requests stay what the promise says of them, where another event changes what is stored.
-use Rattle.std.proofs.Common.{◌≡◌, ℕ, ◌≤◌, ◌<◌, refl, ap, sym, ◌∙◌, true, false, subst, cond, [], ◌∷◌, ◌++◌, ◌==◌, length, arith}
-use Rattle.std.specs.Prelude.{Bool, List, Option, Some, None, option_map, option_and_then, not, map, filter, find, is_some}
+use Rattle.std.proofs.Common.{◌≡◌, ℕ, ◌≤◌, refl, ap, sym, ◌∙◌, true, false, cond, [], ◌∷◌, length, arith}
+use Rattle.std.specs.Prelude.{Bool, List, Option, Some, None, option_map, option_and_then, map, filter, find, is_some}
 use Rattle.std.specs.List.{AllByRecursion}
 use Rattle.std.specs.FinMap.{get}
 use Rattle.std.specs.Option.{option_or}
 use Rattle.std.proofs.lemmas.Bool.{eqb-true}
-use Rattle.cache_changes.specs.Changes.{StoredKey, stored_key}
+use Rattle.cache_changes.specs.Changes.{StoredKey}
 use Rattle.cache_changes.proofs.RowLaws.{find-map, find-passes}
 use Rattle.tier_model.specs.Keys.{Entry}
 use Rattle.tier_model.specs.Rows.{Numbered, Bodies}
-use Rattle.tier_model.specs.Shelf.{InFlight, Readers, Shelf, Look, absent, in_flight, finished, look_by, is_there, has_number, flies_for, flying_at, marked, readable, readable_of}
+use Rattle.tier_model.specs.Shelf.{InFlight, Readers, Shelf, look_by, is_there, has_number, flies_for, flying_at, marked, readable, readable_of}
 use Rattle.tier_model.specs.State.{Settings, Held, nothing, permit, Reader, closed, unread, spent, streaming, Seen, State}
 use Rattle.tier_model.specs.State as state
 use Rattle.tier_promise.specs.Promise.{Write, Permit, Hold, no_lock, holds, waits, Changes, Request, bytes_of, is_done, flying, body_of, first_of, shown}
-use Rattle.tier_promise.proofs.NowLists.{all-filtered, found-holds}
+use Rattle.tier_promise.proofs.NowLists.{found-holds}
 use Rattle.tier_promise.proofs.NowFits.{Numbers, Permits, Told, told_write, told_flight, IsFlight, BodyFits, ShelfFits, SeenFits, WriteFits, ReaderFits, HoldFits, RequestFits, OpenFits}
 
 -- what a state is in itself, whatever the changes: a write in flight is found by its number, no two requests have one write, and the readers of a write

@@ -1,6 +1,6 @@
 -- A tier before its first call is what the promise says then, and its lock is sound after each lawful history.
-use Rattle.std.proofs.Common.{◌≡◌, ℕ, ◌≤◌, ◌<◌, refl, ap, sym, ◌∙◌, true, false, subst, [], ◌∷◌, length}
-use Rattle.std.specs.Prelude.{Bool, List, Option, Some, None, option_map, map}
+use Rattle.std.proofs.Common.{◌≡◌, ℕ, refl, ap, sym, ◌∙◌, false, subst, [], ◌∷◌}
+use Rattle.std.specs.Prelude.{List, Option, None, option_map, map}
 use Rattle.std.specs.Cmp.Lexicographic.{slice_cmp}
 use Rattle.std.specs.FinMap.{get, get-empty}
 use Rattle.std.specs.Ordering.{nat_cmp}
@@ -9,19 +9,18 @@ use Rattle.cache_changes.specs.Uses.{AreShardsOf, admissions, rows_of}
 use Rattle.cache_entries.specs.Rows.{admitted}
 use Rattle.cache_entries.specs.declared.rows.Tracked.{Tracked}
 use Rattle.cache_lock.specs.State.{LockState}
-use Rattle.cache_lock.specs.declared.status.LockStatus.{LockStatus}
 use Rattle.tier_model.specs.Calls.{History}
 use Rattle.tier_model.specs.Histories.{Kept, Opening}
 use Rattle.tier_model.specs.Rows.{Numbered}
 use Rattle.tier_model.specs.State.{State}
 use Rattle.tier_model.specs.State as state
 use Rattle.tier_model.specs.Past.{state_of, lock_changes_of, IsLawful}
-use Rattle.tier_promise.specs.Promise.{Write, Permit, Change, Changes, puts, bytes_of, is_done, flying, body_of, rows, ended, waiting, now_of}
+use Rattle.tier_promise.specs.Promise.{Write, Changes, puts, bytes_of, is_done, flying, body_of, rows, ended, waiting, now_of}
 use Rattle.tier_model.proofs.BeganLaws.{ages, began-there}
 use Rattle.tier_model.proofs.LockLaws.{lock-is, IsSound-of}
 use Rattle.tier_model.proofs.GrantedLaws.{LocksFit-lawful}
 use Rattle.tier_model.proofs.StandLaws.{Stands, Stands-lawful}
-use Rattle.tier_promise.proofs.NowFits.{Told, told_write, BodyFits, OpenFits, NowFits}
+use Rattle.tier_promise.proofs.NowFits.{told_write, BodyFits, OpenFits, NowFits}
 use Rattle.tier_promise.proofs.NowPolls.{IsLocked}
 
 abbrev loading : List Tracked → Changes

@@ -1,6 +1,6 @@
 -- What an event leaves of the relation between a state and the promise, said for all events: refusals, requests that turn, and what leaves the lock alone.
-use Rattle.std.proofs.Common.{◌≡◌, ℕ, ◌≤◌, ◌<◌, refl, ap, sym, ◌∙◌, true, false, subst, cond, [], ◌∷◌, ◌++◌, ◌==◌, length, arith, inl, inr}
-use Rattle.std.specs.Prelude.{Bool, List, Option, Some, None, option_map, is_some, Ok, Err, not, MatchOption}
+use Rattle.std.proofs.Common.{◌≡◌, ℕ, ◌≤◌, refl, ap, sym, ◌∙◌, true, false, subst, cond, ◌++◌, ◌==◌, length, arith}
+use Rattle.std.specs.Prelude.{Bool, Option, Some, None, MatchOption}
 use Rattle.std.specs.FinMap.{get}
 use Rattle.std.proofs.lemmas.Bool.{eqb-true, eq-eqb}
 use Rattle.cache_lock.specs.State.{LockState}
@@ -9,16 +9,16 @@ use Rattle.tier_model.specs.declared.event.TierFault.{TierFault}
 use Rattle.tier_model.specs.Calls.{Call, Outcome, writes_after}
 use Rattle.cache_words.specs.Time.{MomentValue}
 use Rattle.tier_model.specs.declared.event.Action.{Action}
-use Rattle.tier_model.specs.Shelf.{InFlight, Shelf, flying_at, readable}
+use Rattle.tier_model.specs.Shelf.{Shelf, flying_at, readable}
 use Rattle.tier_model.specs.State.{Settings, Reader, streaming, State, shards_of}
 use Rattle.tier_model.specs.State as state
 use Rattle.tier_model.specs.Step.{BeginsWrite, OfRequest}
 use Rattle.tier_model.specs.After.{with_counts, by_request, on_request, after_outcome, lock_changes, after}
-use Rattle.tier_promise.specs.Promise.{Permit, Changes, Request, Row, Now, Whether, IsRight, bytes_of, is_done, ran_out, may_run_out, refused, row_closed, came, came_of}
+use Rattle.tier_promise.specs.Promise.{Changes, Request, Row, Now, Whether, IsRight, bytes_of, ran_out, may_run_out, refused, row_closed, came, came_of}
 use Rattle.tier_model.proofs.CallLaws.{Inside, call_at}
-use Rattle.tier_promise.proofs.NowFits.{Numbers, Permits, ShelfFits, LockFits, RequestFits, OpenFits, NowFits}
+use Rattle.tier_promise.proofs.NowFits.{Numbers, Permits, RequestFits, OpenFits, NowFits}
 use Rattle.tier_promise.proofs.NowShelf.{shelf-later}
-use Rattle.tier_promise.proofs.NowRequests.{Carries, ReadsOn, Stays, open-carried}
+use Rattle.tier_promise.proofs.NowRequests.{open-carried}
 
 -- what the promise says after a call
 abbrev pub now_after : Settings → Call → Now → Now

@@ -1,29 +1,27 @@
 -- Who asks for the lock is to wait exactly where a permit of the key waits, and a lock that is handed back at once leaves the permits alone.
-use Rattle.std.proofs.Common.{◌≡◌, ℕ, ◌+◌, ◌≤◌, ◌<◌, refl, ap, sym, ◌∙◌, true, false, subst, cond, [], ◌∷◌, ◌++◌, ◌==◌, length, arith}
-use Rattle.std.specs.Prelude.{Bool, List, Option, Some, None}
+use Rattle.std.proofs.Common.{◌≡◌, ℕ, ◌+◌, ◌<◌, refl, ap, sym, ◌∙◌, true, false, subst, cond, ◌∷◌, ◌==◌, arith}
+use Rattle.std.specs.Prelude.{Bool, Option, Some, None}
 use Rattle.std.specs.FinMap.{get}
 use Rattle.std.proofs.lemmas.Bool.{eq-eqb}
 use Rattle.cache_words.specs.Time.{MomentValue}
 use Rattle.cache_changes.specs.Changes.{StoredKey}
 use Rattle.cache_entries.specs.SameEntry.{same_bytes-tells}
-use Rattle.cache_lock.specs.Answers.{to_wait_for, locked_by, lock_change, leave_changes}
+use Rattle.cache_lock.specs.Answers.{to_wait_for}
 use Rattle.cache_lock.specs.Changes.{Changes as LockChanges, stores, spends, lends}
 use Rattle.cache_lock.specs.Changes as lock
-use Rattle.cache_lock.specs.State.{LockState}
 use Rattle.cache_lock.specs.Status.{is_waiting}
 use Rattle.cache_lock.specs.Waits.{same_key, last_status, core_of}
 use Rattle.cache_lock.specs.declared.status.LockStatus.{LockStatus}
 use Rattle.cache_lock.specs.declared.status.LockStatus.TheVariants as status
 use Rattle.tier_model.specs.State.{Settings, Held, nothing, permit, State}
 use Rattle.tier_model.specs.State as state
-use Rattle.tier_model.specs.Shelf.{Shelf}
 use Rattle.tier_model.specs.Answers.{key_for}
-use Rattle.tier_promise.specs.Promise.{Permit, Changes, Request, Now, Hold, no_lock, holds, waits, ended, waiting}
+use Rattle.tier_promise.specs.Promise.{Permit, Changes, Request, Now, Hold, no_lock, holds, waits, waiting}
 use Rattle.tier_model.proofs.BeganLaws.{began_at}
 use Rattle.tier_model.proofs.EffectLaws.{grip_in, grip_of, grip_at, hold_at}
-use Rattle.tier_model.proofs.GripLaws.{Grip, free, grips, by_permit, grip_number}
-use Rattle.tier_model.proofs.GrantSteps.{Granted, only_waiting, waits-from, waits-for}
-use Rattle.tier_promise.proofs.NowFits.{Permits, Numbers, end_of, waiting_of, LockFits, HoldFits, OpenFits, NowFits}
+use Rattle.tier_model.proofs.GripLaws.{grips, by_permit, grip_number}
+use Rattle.tier_model.proofs.GrantSteps.{only_waiting, waits-from, waits-for}
+use Rattle.tier_promise.proofs.NowFits.{Permits, end_of, waiting_of, LockFits, HoldFits, OpenFits, NowFits}
 use Rattle.tier_promise.proofs.NowShelf.{apart_number}
 use Rattle.tier_promise.proofs.NowPolls.{IsLocked}
 

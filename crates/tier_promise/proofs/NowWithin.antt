@@ -1,6 +1,6 @@
 -- The bodies that a lawful history leaves keep both limits: they are those of which the headline says so.
-use Rattle.std.proofs.Common.{◌≡◌, ℕ, ◌+◌, ◌≤◌, refl, ap, sym, ◌∙◌, true, false, subst, [], ◌∷◌, length}
-use Rattle.std.specs.Prelude.{suc, Bool, List, Option, Some, None, option_map, map, IfSome}
+use Rattle.std.proofs.Common.{◌≡◌, ℕ, ◌+◌, ◌≤◌, refl, ap, sym, ◌∙◌, false, subst, [], ◌∷◌, length}
+use Rattle.std.specs.Prelude.{suc, Bool, List, Option, Some, None, map, IfSome}
 use Rattle.std.specs.FinMap.{get}
 use Rattle.std.specs.List.{AllByRecursion, sum_by}
 use Rattle.std.proofs.lemmas.List.Sums.{sum_by-cons}
@@ -11,19 +11,19 @@ use Rattle.cache_changes.specs.Changes.{StoredKey, Changes}
 use Rattle.cache_changes.specs.Changes as kept
 use Rattle.cache_changes.specs.Writes.{IsBody}
 use Rattle.cache_changes.specs.Bound.{measure_of, HasDistinctKeys}
-use Rattle.cache_changes.specs.Store.{Stored, store_of, body_at, stored_of}
+use Rattle.cache_changes.specs.Store.{Stored, store_of, body_at}
 use Rattle.cache_changes.proofs.FoundLaws.{store_of-is}
 use Rattle.tier_model.specs.Calls.{History}
 use Rattle.tier_model.specs.Histories.{Kept, Opening, counts, changes_of}
 use Rattle.tier_model.specs.Past.{state_of, IsLawful}
 use Rattle.tier_model.specs.Rows.{Numbered, size_of}
-use Rattle.tier_model.specs.State.{Settings, State}
+use Rattle.tier_model.specs.State.{State}
 use Rattle.tier_model.proofs.BodyLaws.{view, AreSame}
 use Rattle.tier_model.proofs.Carried.{Headline-lawful}
 use Rattle.tier_model.proofs.StandLaws.{Stands, Stands-lawful}
 use Rattle.tier_promise.specs.Promise as promise
 use Rattle.tier_promise.specs.Promise.{Write, as_body, bytes_of, is_done, body_of, now_of, AreApart, AreWithin}
-use Rattle.tier_promise.proofs.NowFits.{Numbers, Told, told_body, told_write, BodyFits, NowFits}
+use Rattle.tier_promise.proofs.NowFits.{Numbers, Told, BodyFits}
 use Rattle.tier_promise.proofs.NowAll.{NowFits-lawful}
 
 held_there : (b : Numbered) (x : Option (Stored Kept)) → AreSame (Some b) x → (y : Stored Kept) × (x ≡ Some y) × (view y ≡ b)
@@ -89,6 +89,15 @@ module _ (start : Opening) (h : History) (l : IsLawful start h) where
     sum : sum_by (λ v. measure_of counts v told) vs ≡ sum_by (λ w. size_of (as_body w c)) ws
     count : length vs ≡ length ws
 
+  keys-both : (k : StoredKey) (keys : List StoredKey) (v : kept.Write Kept) (vs : List (kept.Write Kept)) → v.key ≡ k → map (λ u. u.key) vs ≡ keys → map (λ u. u.key) (v ∷ vs) ≡ k ∷ keys
+  keys-both k keys v vs one rest = ap (λ (j : StoredKey). j ∷ map (λ u. u.key) vs) one ∙ ap (λ (js : List StoredKey). k ∷ js) rest
+
+  sum-both : (v : kept.Write Kept) (vs : List (kept.Write Kept)) (w : Write) (ws : List Write) → measure_of counts v told ≡ size_of (as_body w c)
+      → sum_by (λ u. measure_of counts u told) vs ≡ sum_by (λ u. size_of (as_body u c)) ws → sum_by (λ u. measure_of counts u told) (v ∷ vs) ≡ sum_by (λ u. size_of (as_body u c)) (w ∷ ws)
+  sum-both v vs w ws one rest =
+      sum_by-cons (λ (u : kept.Write Kept). measure_of counts u told) v vs ∙ ap (λ (n : ℕ). n + sum_by (λ u. measure_of counts u told) vs) one
+      ∙ ap (λ n. size_of (as_body w c) + n) rest ∙ sym (sum_by-cons (λ (u : Write). size_of (as_body u c)) w ws)
+
   all-same : (keys : List StoredKey) (ws : List Write) → map (λ k. body_of k c) keys ≡ map Some ws → (vs : List (kept.Write Kept)) × AreSameBodies keys ws vs
   all-same [] [] e = ([], record { keys_of = refl; bodies = tt; sum = refl; count = refl })
   all-same [] (w ∷ ws) e = absurd cc
@@ -102,11 +111,9 @@ module _ (start : Opening) (h : History) (l : IsLawful start h) where
       let vs : List (kept.Write Kept) = rest.0 in (
         v ∷ vs,
         record {
-          keys_of = ap (λ (j : StoredKey). j ∷ map (λ u. u.key) vs) one.1.key ∙ ap (λ (js : List StoredKey). k ∷ js) rest.1.keys_of;
+          keys_of = keys-both k keys v vs one.1.key rest.1.keys_of;
           bodies = (one.1.body, rest.1.bodies);
-          sum = sum_by-cons (λ (u : kept.Write Kept). measure_of counts u told) v vs
-              ∙ ap (λ (n : ℕ). n + sum_by (λ u. measure_of counts u told) vs) one.1.size ∙ ap (λ n. size_of (as_body w c) + n) rest.1.sum
-              ∙ sym (sum_by-cons (λ (u : Write). size_of (as_body u c)) w ws);
+          sum = sum-both v vs w ws one.1.size rest.1.sum;
           count = ap suc rest.1.count;
         },
       )

@@ -4,7 +4,6 @@ use Rattle.std.specs.Prelude.{Option, Some, None, option_map, option_and_then, u
 use Rattle.std.specs.Option.{option_or}
 use Rattle.std.specs.List.{sum_by, AllByRecursion}
 use Rattle.cache_words.specs.Time.{MomentValue, DurationValue, at_least, elapsed}
-use Rattle.cache_words.specs.Key.{CacheKeyValue}
 use Rattle.cache_heads.specs.Merged.{with_provenance_of}
 use Rattle.cache_heads.specs.declared.meta.CacheMeta.{CacheMeta}
 use Rattle.cache_entries.specs.declared.entry.CacheEntryKey.{CacheEntryKey}
