@@ -1,15 +1,13 @@
 //! A counted tier that memory is refused: what was refused is asked for again, and then answers as if it had come first.
 ghost use Rattle.std.specs.Prelude.{◌≡◌};
-ghost use Rattle.tier_model.specs.Started.{HasOnlyOrder, settings_of};
-ghost use Rattle.cache_tier.specs.Options.{settings_with};
 
 use crate::shared::asks::{Ask, event};
 use crate::shared::threads::empty;
 use cache_tier::{Answer, Report, TierFault};
-use counted_tier::{CallPass, CountedTier, NotShared};
+use counted_tier::{CallPass, CountedTier};
 use rand_core::SeedableRng;
 use rand_pcg::Pcg64;
-use shared_tier::{LEDGER_PARTS, TierOptions};
+use shared_tier::LEDGER_PARTS;
 use std::alloc::Global;
 use std::marker::Brand;
 use std::sync::Wait;
@@ -17,25 +15,12 @@ use std::sync::ledger::{Blank, Ledger};
 
 type Counted<L> = CountedTier<4, Pcg64, L>;
 
-type Unshared = NotShared<4, Pcg64>;
-
-// A tier that wasn't shared, once more.
-fn again<L: Ledger>(alloc: Global, set: TierOptions, back: Unshared) -> Option<Counted<L>>
-    requires tier { HasOnlyOrder back.tier × (settings_of back.tier ≡ settings_with 4 set) }
-    requires blank { (back.blank.name ≡ L.name) × (back.blank.parts ≡ L.parts) × (L.parts ≡ 4294967296) }
-{
-    CountedTier::new(alloc, back.blank, set, back.tier, back.rng).ok()
-}
-
-// An empty tier, shared; where that is refused, by what comes back.
+// An empty tier, shared.
 fn counted<L: Ledger>(alloc: Global, blank: Blank) -> Option<Counted<L>>
     requires { (blank.name ≡ L.name) × (blank.parts ≡ L.parts) × (L.parts ≡ 4294967296) }
 {
     let (set, tier) = empty(alloc)?;
-    match CountedTier::new(alloc, blank, set, tier, Pcg64::seed_from_u64(1)) {
-        Ok(tier) => Some(tier),
-        Err(back) => again(alloc, set, back),
-    }
+    CountedTier::new(alloc, blank, set, tier, Pcg64::seed_from_u64(1)).ok()
 }
 
 // What came of a call.
